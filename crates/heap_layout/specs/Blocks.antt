@@ -1,0 +1,56 @@
+-- Block words: what a block is used for, and the number that says so.
+use Rattle.std.specs.Prelude.{ℕ, ◌+◌, ◌*◌, ◌/◌, ◌%◌, Bool, false, ◌&&◌, nat_eq, nat_le, IsTrue, List, [], ◌∷◌, Option, Some, None, slice_get}
+use Rattle.heap_layout.specs.declared.block.Kind.{Kind}
+use Rattle.heap_layout.specs.declared.block.Kind.TheVariants.{Free, Bump, Young, Mature, Immix, Cells, LargeHead, LargeTail, Kept}
+use Rattle.heap_layout.specs.declared.block.BlockWord.{BlockWord}
+
+-- the number that stands for a kind
+abbrev pub kind_code : Kind → ℕ
+kind_code Free = 0
+kind_code Bump = 1
+kind_code Young = 2
+kind_code Mature = 3
+kind_code Immix = 4
+kind_code Cells = 5
+kind_code LargeHead = 6
+kind_code LargeTail = 7
+kind_code Kept = 8
+
+-- the kinds, in the order of their numbers
+abbrev pub all_kinds : List Kind
+all_kinds = Free ∷ Bump ∷ Young ∷ Mature ∷ Immix ∷ Cells ∷ LargeHead ∷ LargeTail ∷ Kept ∷ []
+
+-- the kind that a number stands for
+abbrev pub kind_of_code : ℕ → Option Kind
+kind_of_code n = slice_get all_kinds n
+
+-- a block word's code
+abbrev pub code_of : BlockWord → ℕ
+code_of w = kind_code w.kind + 256 * w.class + 65536 * w.owner
+
+-- Of cells the class is that of the cells' size, of a large head the number of blocks of its run.
+-- Owner 0 is nobody, 1 to 16 a mutator, 17 to 32 a tracing worker.
+
+-- the kind may have this class and this owner
+abbrev pub is_valid_for : Kind → ℕ → ℕ → Bool
+is_valid_for Free class owner = nat_eq class 0 && nat_eq owner 0
+is_valid_for Bump class owner = nat_eq class 0 && nat_le owner 32
+is_valid_for Young class owner = nat_eq class 0 && nat_le owner 32
+is_valid_for Mature class owner = nat_eq class 0 && nat_le owner 32
+is_valid_for Immix class owner = nat_eq class 0 && nat_le owner 32
+is_valid_for Cells class owner = nat_le class 18 && nat_le owner 32
+is_valid_for LargeHead class owner = nat_le 1 class && nat_le class 15 && nat_eq owner 0
+is_valid_for LargeTail class owner = nat_eq class 0 && nat_eq owner 0
+is_valid_for Kept class owner = nat_eq class 0 && nat_eq owner 0
+
+abbrev pub IsValid : BlockWord → Type 0
+IsValid w = IsTrue (is_valid_for w.kind w.class w.owner)
+
+-- there is such a kind, and it may have this class and this owner
+abbrev pub is_valid_for_some : Option Kind → ℕ → ℕ → Bool
+is_valid_for_some None class owner = false
+is_valid_for_some (Some kind) class owner = is_valid_for kind class owner
+
+-- v is the code of a valid block word
+abbrev pub is_block_code : ℕ → Bool
+is_block_code v = is_valid_for_some (kind_of_code (v % 256)) (v / 256 % 256) (v / 65536)
