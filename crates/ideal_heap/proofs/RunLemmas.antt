@@ -1,0 +1,24 @@
+-- Runs by induction on their entries.
+use Rattle.std.proofs.Common.{◌≡◌, refl, List, [], ◌∷◌, ◌++◌}
+use Rattle.ideal_heap.specs.Ideal.{IdealHeap}
+use Rattle.ideal_heap.specs.Runs.{Entry, IsRun, Answers, after, after_entry}
+
+pub after-append : (h : IdealHeap) (es more : List Entry) → after h (es ++ more) ≡ after (after h es) more
+after-append h [] more = refl
+after-append h (e ∷ es) more = after-append (after_entry h e) es more
+
+pub longer : (h : IdealHeap) (es more : List Entry) → IsRun h es → IsRun (after h es) more → IsRun h (es ++ more)
+longer h [] more run next = next
+longer h (e ∷ es) more run next = (run.0, longer (after_entry h e) es more run.1 next)
+
+pub front : (h : IdealHeap) (es more : List Entry) → IsRun h (es ++ more) → IsRun h es
+front h [] more run = tt
+front h (e ∷ es) more run = (run.0, front (after_entry h e) es more run.1)
+
+pub rest : (h : IdealHeap) (es more : List Entry) → IsRun h (es ++ more) → IsRun (after h es) more
+rest h [] more run = run
+rest h (e ∷ es) more run = rest (after_entry h e) es more run.1
+
+-- one entry more
+pub extended : (h : IdealHeap) (es : List Entry) (e : Entry) → IsRun h es → Answers (after h es) e → IsRun h (es ++ e ∷ [])
+extended h es e run answers = longer h es (e ∷ []) run (answers, tt)

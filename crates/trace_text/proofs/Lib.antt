@@ -1,0 +1,9 @@
+mod CommandTexts
+mod DigitLemmas
+mod LineLemmas
+mod NumeralLemmas
+mod PartLemmas
+mod Spelled
+mod ValidLemmas
+mod WholeLines
+mod WholeTraces

@@ -1,0 +1,53 @@
+-- What is printed.
+use Rattle.std.specs.Prelude.{ℕ, List, [], ◌∷◌, ◌++◌, codes}
+use Rattle.std.specs.List.{flat_map}
+use Rattle.std.specs.Fmt.{decimal}
+use Rattle.ideal_heap.specs.declared.name.Name.{Name}
+use Rattle.ideal_heap.specs.declared.command.Command.{Command}
+use Rattle.ideal_heap.specs.declared.reply.Reply.{Reply}
+use Rattle.ideal_heap.specs.declared.reply.Reply.TheVariants as r
+use Rattle.trace_text.specs.Words.{Sort, word_of, mark_of, sorts_of, op_in, arguments_in}
+use Rattle.trace_text.specs.Grammar.{header}
+
+-- each argument behind a space
+abbrev pub arguments_text : List Sort → List ℕ → List ℕ
+arguments_text [] xs = []
+arguments_text (sort ∷ sorts) [] = []
+arguments_text (sort ∷ sorts) (x ∷ xs) = 32 ∷ mark_of sort ++ decimal x ++ arguments_text sorts xs
+
+abbrev pub command_text : Command → List ℕ
+command_text c = word_of (op_in c) ++ arguments_text (sorts_of (op_in c)) (arguments_in c)
+
+-- a line and its newline
+abbrev pub ended : List ℕ → List ℕ
+ended text = text ++ 10 ∷ []
+
+-- the header under which these commands are read
+abbrev pub header_of : List Command → List ℕ
+header_of cs = header
+
+abbrev pub trace_text : List Command → List ℕ
+trace_text cs = ended (header_of cs) ++ flat_map (λ c. ended (command_text c)) cs
+
+abbrev pub name_text : Name → List ℕ
+name_text n = decimal n.mutator ++ codes "." ++ decimal n.birth
+
+abbrev pub reply_text : Reply → List ℕ
+reply_text (r.New n) = codes "new " ++ name_text n
+reply_text r.Full = codes "full"
+reply_text (r.Ref n) = codes "ref " ++ name_text n
+reply_text r.Nil = codes "nil"
+reply_text (r.Num n) = codes "num " ++ decimal n
+reply_text r.Done = codes "ok"
+reply_text r.Yes = codes "yes"
+reply_text r.No = codes "no"
+reply_text r.Null = codes "null"
+reply_text r.Range = codes "range"
+
+-- each reply on a line
+abbrev pub replies_text : List Reply → List ℕ
+replies_text rs = flat_map (λ x. ended (reply_text x)) rs
+
+-- the line of a mutator, and its replies
+abbrev pub mutator_text : ℕ → List Reply → List ℕ
+mutator_text m rs = ended (codes "mutator " ++ decimal m) ++ replies_text rs
