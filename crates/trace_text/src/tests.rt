@@ -58,7 +58,7 @@ fn line_fault(alloc: Global, line: &[u8]) -> Result<Option<Why>, Fail> {
 
 #[test]
 fn bad_lines(rt: HostRuntime) -> Result<(), Fail> {
-    let table: [(&[u8], Option<Why>); 38] = [
+    let table: [(&[u8], Option<Why>); 39] = [
         (b"new r0 1024 0", None),
         (b"new r0 1025 0", Some(Why::Range)),
         (b"new r15 0 60000", None),
