@@ -1,0 +1,17 @@
+//! Metadata beside a heap: a field of bits for each region, packed in a row of words.
+#![tactic(auto)]
+
+mod bits;
+mod fields;
+mod places;
+mod row;
+mod spec;
+
+pub use bits::{clear, set, test};
+pub use fields::{field, set_field};
+pub use places::place;
+pub use row::Words;
+pub use spec::Spec;
+
+#[cfg(test)]
+mod tests;

@@ -1,0 +1,38 @@
+ghost use Rattle.std.specs.Prelude.{◌≡◌, ℕ, ◌<◌, ◌^◌, List, length, slice_index, slice_set};
+
+/// A row of words, each of 64 bits.
+pub trait Words {
+    // The words in their order.
+    ghost words: { Self → List ℕ };
+
+    /// How many words the row has.
+    fn len(&self) -> usize
+        ensures { result ≡ length (words self.now) };
+
+    /// Word `i`.
+    fn get(&self, i: u32) -> u64
+        requires { i < length (words self.now) }
+        ensures { result ≡ slice_index (words self.now) i };
+
+    /// Puts `v` in place of word `i`.
+    fn set(&mut self, i: u32, v: u64)
+        requires { i < length (words self.old) }
+        ensures words { words self.new ≡ slice_set (words self.old) i v }
+        ensures fit { (k : ℕ) → slice_index (words self.new) k < 2 ^ 64 };
+}
+
+impl Words for Vec<u64> {
+    ghost words = { λ v. v.items };
+
+    fn len(&self) -> usize {
+        self.as_slice().len()
+    }
+
+    fn get(&self, i: u32) -> u64 {
+        self[i as usize]
+    }
+
+    fn set(&mut self, i: u32, v: u64) {
+        self[i as usize] = v;
+    }
+}
