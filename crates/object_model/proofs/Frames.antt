@@ -1,0 +1,217 @@
+-- A heap whose objects, blocks and bits stay is lawful as before, where references are references and pins stand at objects.
+use Rattle.std.proofs.Common.{◌≡◌, sym, ◌∙◌, ap, subst, ℕ, ◌+◌, ◌/◌, ◌%◌, ◌^◌, ◌<◌, ◌≤◌, inl, inr, arith, false, ◌&&◌, ◌||◌, IsTrue, List, nat_eq, nat_lt, add-zero}
+use Rattle.std.specs.List.{range_with_len, list_any}
+use Rattle.std.proofs.Math.Path.{fun_ext}
+use Rattle.std.proofs.Math.Logic.{∥∥₁_map}
+use Rattle.std.proofs.lemmas.Bool.{cases_lt, and_parts, and_left, le-ltb, ltb-true, or_cases, or_left, or_right}
+use Rattle.heap_layout.specs.Zones.{words_of, heap_of, block_at, offset_at, IsAddress}
+use Rattle.heap_layout.specs.declared.block.Kind.{Kind}
+use Rattle.heap_layout.specs.declared.block.Kind.TheVariants as kinds
+use Rattle.heap_layout.specs.Blocks.{is_block_code, kind_code}
+use Rattle.object_model.specs.Objects.{HeapState, with_words, word_at, global_at, block_word, has_kind, HasKind, class_at, is_start, is_pinned, is_unlogged, IsHeld, IsInExtent, name_at, refs_at, nums_at, size_at, ref_at, size_of, blocks_for, cell_words}
+use Rattle.object_model.specs.Lawful.{IsLawful, HasLawfulObjects, HasHeader, Lies, IsRunOfBlocks, IsReference, is_in_run, has_small, IsClear, IsTouched, AreLinesRight}
+use Rattle.ideal_heap.specs.Names.{IsName, name_of}
+use Rattle.object_model.specs.Changes.{KeepsObjects}
+
+-- the object begins with a cell of this class that it fits
+pub record LiesInCellOf (s : HeapState) (a size class : ℕ) : Type 0 where
+  pub start : offset_at s.blocks a % cell_words class ≡ 0
+  pub room : size ≤ cell_words class
+  pub within : offset_at s.blocks a + cell_words class ≤ 4096
+
+beyond : (x : HeapState) (h k : ℕ) → x.blocks ≤ h → (has_kind x h kinds.LargeHead && nat_lt k (h + class_at x h)) ≡ false
+beyond x h k past = and_left (has_kind x h kinds.LargeHead) _ (and_left (nat_lt h x.blocks) _ (le-ltb h x.blocks past))
+
+-- block words alone decide kinds and classes
+module _ (s : HeapState) (w : List ℕ) (same : (k : ℕ) → k < s.blocks → block_word (with_words s w) k ≡ block_word s k) where
+  abbrev new : HeapState
+  new = with_words s w
+
+  pub has_kind-same : (k : ℕ) (kind : Kind) → has_kind new k kind ≡ has_kind s k kind
+  has_kind-same k kind = elim (cases_lt k s.blocks) as (λ _. has_kind new k kind ≡ has_kind s k kind) [
+    | inl h ↦ ap (λ v. nat_lt k s.blocks && nat_eq (v % 256) (kind_code kind)) (same k h)
+    | inr h ↦ and_left (nat_lt k s.blocks) _ (le-ltb k s.blocks h) ∙ sym (and_left (nat_lt k s.blocks) _ (le-ltb k s.blocks h))
+  ]
+
+  pub HasKind-from : (k : ℕ) (kind : Kind) → HasKind s k kind → HasKind new k kind
+  HasKind-from k kind is = has_kind-same k kind ∙ is
+
+  pub HasKind-back : (k : ℕ) (kind : Kind) → HasKind new k kind → HasKind s k kind
+  HasKind-back k kind is = sym (has_kind-same k kind) ∙ is
+
+  pub kind-in : (k : ℕ) (kind : Kind) → HasKind s k kind → k < s.blocks
+  kind-in k kind is = ltb-true k s.blocks (and_parts (nat_lt k s.blocks) _ is).0
+
+  pub class-same : (k : ℕ) → k < s.blocks → class_at new k ≡ class_at s k
+  class-same k h = ap (λ v. v / 256 % 256) (same k h)
+
+  pub small-same : (k : ℕ) → has_small new k ≡ has_small s k
+  small-same k = ap (λ f. f kinds.Bump || f kinds.Young || f kinds.Mature || f kinds.Immix || f kinds.Cells || f kinds.Kept) (fun_ext (has_kind-same k))
+
+  pub in_run-same : (k : ℕ) → is_in_run new k ≡ is_in_run s k
+  in_run-same k = ap (λ f. list_any f (range_with_len 0 k)) (fun_ext covers)
+    where
+      covers : (h : ℕ) → (has_kind new h kinds.LargeHead && nat_lt k (h + class_at new h)) ≡ (has_kind s h kinds.LargeHead && nat_lt k (h + class_at s h))
+      covers h = elim (cases_lt h s.blocks) as (λ _. (has_kind new h kinds.LargeHead && nat_lt k (h + class_at new h)) ≡ (has_kind s h kinds.LargeHead && nat_lt k (h + class_at s h))) [
+        | inl there ↦ ap (λ v. (nat_lt h s.blocks && nat_eq (v % 256) (kind_code kinds.LargeHead)) && nat_lt k (h + v / 256 % 256)) (same h there)
+        | inr past ↦ beyond new h k past ∙ sym (beyond s h k past)
+      ]
+
+  pub run-from : (k n : ℕ) → IsRunOfBlocks s k n → IsRunOfBlocks new k n
+  run-from k n run = record {
+    head = HasKind-from k kinds.LargeHead run.head;
+    class = class-same k (kind-in k kinds.LargeHead run.head) ∙ run.class;
+    inside = run.inside;
+    tails = λ j some less. HasKind-from (k + j) kinds.LargeTail (run.tails j some less);
+  }
+
+  pub lies-from : (a size : ℕ) → block_at s.blocks a < s.blocks → Lies s a size → Lies new a size
+  lies-from a size there lies = record {
+    small = λ small. let old = lies.small small in record {
+      within = old.within;
+      kind = small-same (block_at s.blocks a) ∙ old.kind;
+      cell = λ is. let cell = old.cell (HasKind-back _ kinds.Cells is) in
+          let e : class_at new (block_at s.blocks a) ≡ class_at s (block_at s.blocks a) = class-same _ there in
+          let P : ℕ → Type 0 = λ class. LiesInCellOf s a size class in
+          let moved : P (class_at new (block_at s.blocks a)) = subst P (sym e) (record { start = cell.start; room = cell.room; within = cell.within }) in
+          record { start = moved.start; room = moved.room; within = moved.within };
+    };
+    large = λ large. let old = lies.large large in record {
+      start = old.start;
+      run = run-from (block_at s.blocks a) (blocks_for size) old.run;
+    };
+  }
+
+-- objects stay, and all words are of 64 bits
+module _ (s : HeapState) (w : List ℕ) (keeps : KeepsObjects s (with_words s w)) where
+  abbrev after : HeapState
+  after = with_words s w
+
+  pub held-after : (a : ℕ) → IsHeld s a → IsHeld after a
+  held-after a h = record { address = h.address; start = keeps.starts a ∙ h.start }
+
+  pub held-before : (a : ℕ) → IsHeld after a → IsHeld s a
+  held-before a h = record { address = h.address; start = sym (keeps.starts a) ∙ h.start }
+
+  shape-after : (a : ℕ) → IsHeld s a → word_at after (a + 1) ≡ word_at s (a + 1)
+  shape-after a h = keeps.headers a 1 h (omega arith)
+
+  pub refs-after : (a : ℕ) → IsHeld s a → refs_at after a ≡ refs_at s a
+  refs-after a h = ap (λ v. v % 65536) (shape-after a h)
+
+  pub nums-after : (a : ℕ) → IsHeld s a → nums_at after a ≡ nums_at s a
+  nums-after a h = ap (λ v. v / 65536) (shape-after a h)
+
+  pub size-after : (a : ℕ) → IsHeld s a → size_at after a ≡ size_at s a
+  size-after a h = ap (λ v. size_of (v % 65536) (v / 65536)) (shape-after a h)
+
+  pub name-after : (a : ℕ) → IsHeld s a → name_at after a ≡ name_at s a
+  name-after a h = ap name_of (ap (word_at after) (sym (add-zero a)) ∙ keeps.headers a 0 h (omega arith) ∙ ap (word_at s) (add-zero a))
+
+  pub extent-before : (a i : ℕ) → IsHeld s a → IsInExtent after a i → IsInExtent s a i
+  extent-before a i h x = record { from = x.from; below = subst (λ (n : ℕ). i < a + n) (size-after a h) x.below }
+
+  pub reference-after : (v : ℕ) → IsReference s v → IsReference after v
+  reference-after v r some = held-after v (r some)
+
+  header-after : (a : ℕ) → IsHeld s a → HasHeader s a → HasHeader after a
+  header-after a h old =
+      let collector : word_at after (a + 2) ≡ word_at s (a + 2) = keeps.headers a 2 h (omega arith) in
+      record {
+        object = record {
+          name = subst IsName (sym (name-after a h)) old.object.name;
+          refs = subst (λ (n : ℕ). n ≤ 1024) (sym (refs-after a h)) old.object.refs;
+          nums = subst (λ (n : ℕ). n ≤ 60000) (sym (nums-after a h)) old.object.nums;
+        };
+        number = subst (λ (v : ℕ). v / 2 ^ 24 ≤ s.number) (sym collector) old.number;
+        target = subst (λ (v : ℕ). 0 < v / 2 ^ 24 → v % 2 ^ 24 ≡ a) (sym collector) old.target;
+      }
+
+  module _ (lawful : IsLawful s) where
+    address-in-block : (a : ℕ) → IsAddress s.blocks a → block_at s.blocks a < s.blocks
+    address-in-block a there = (let from : heap_of s.blocks ≤ a = there.from in let below : a < words_of s.blocks = there.below in omega arith)
+
+    objects-after : ((a : ℕ) → IsTrue (is_pinned after a) → IsHeld s a)
+        → ((a i : ℕ) → IsHeld s a → i < refs_at s a → IsReference s (ref_at after a i))
+        → ((g : ℕ) → g < 16 → IsReference s (global_at after g)) → HasLawfulObjects after
+    objects-after pins fields globals = let old = lawful.objects in record {
+      headers = λ a h. header-after a (held-before a h) (old.headers a (held-before a h));
+      marks = λ a h. elim (or_cases (is_pinned after a) (is_unlogged after a) h) as (λ _. IsHeld after a) [
+        | inl p ↦ held-after a (pins a p)
+        | inr u ↦ held-after a (old.marks a (or_right (is_pinned s a) (is_unlogged s a) (sym (keeps.unlogs a) ∙ u)))
+      ];
+      lies = λ a h. let before = held-before a h in
+          subst (Lies after a) (sym (size-after a before)) (lies-from s w keeps.block_words a (size_at s a) (address-in-block a h.address) (old.lies a before));
+      apart = λ a x i ha hx ia ix. let ba = held-before a ha in let bx = held-before x hx in
+          old.apart a x i ba bx (extent-before a i ba ia) (extent-before x i bx ix);
+      heads = λ k is. let before = old.heads k (HasKind-back s w keeps.block_words k kinds.LargeHead is) in
+          (held-after _ before.0, subst (λ (n : ℕ). 2048 < n) (sym (size-after _ before.0)) before.1);
+      tails = λ k is. in_run-same s w keeps.block_words k ∙ old.tails k (HasKind-back s w keeps.block_words k kinds.LargeTail is);
+      references = λ a i h less. let before = held-before a h in
+          reference-after _ (fields a i before (subst (λ (n : ℕ). i < n) (refs-after a before) less));
+      globals = λ g small. reference-after _ (globals g small);
+      names = λ a x ha hx e. let ba = held-before a ha in let bx = held-before x hx in
+          old.names a x ba bx (sym (name-after a ba) ∙ e ∙ name-after x bx);
+    }
+
+    clear-after : ((a : ℕ) → IsTrue (is_pinned after a) → IsHeld s a) → (k : ℕ) → k < s.blocks → IsClear s k → IsClear after k
+    clear-after pins k there old = record {
+      empty = λ a i h inside. let before = held-before a h in old.empty a i before (extent-before a i before inside);
+      lines = λ line small marked. old.lines line small (sym (keeps.lines k line there small) ∙ marked);
+      marks = λ a in_block h. old.marks a in_block
+          (elim (or_cases (is_start after a || is_pinned after a) (is_unlogged after a) h) as (λ _. IsTrue (is_start s a || is_pinned s a || is_unlogged s a)) [
+            | inl either ↦ or_left (is_start s a || is_pinned s a) (is_unlogged s a) (or_left (is_start s a) (is_pinned s a)
+                (elim (or_cases (is_start after a) (is_pinned after a) either) as (λ _. IsTrue (is_start s a)) [
+                  | inl start ↦ sym (keeps.starts a) ∙ start
+                  | inr pin ↦ (pins a pin).start
+                ]))
+            | inr unlog ↦ or_right (is_start s a || is_pinned s a) (is_unlogged s a) (sym (keeps.unlogs a) ∙ unlog)
+          ]);
+    }
+
+    touched-after : (k line : ℕ) → IsTouched s k line → IsTouched after k line
+    touched-after k line t = record {
+      object = t.object;
+      word = t.word;
+      held = held-after t.object t.held;
+      inside = record { from = t.inside.from; below = subst (λ (n : ℕ). t.word < t.object + n) (sym (size-after t.object t.held)) t.inside.below };
+      from = t.from;
+      below = t.below;
+    }
+
+    touched-before : (k line : ℕ) → IsTouched after k line → IsTouched s k line
+    touched-before k line t = let before = held-before t.object t.held in record {
+      object = t.object;
+      word = t.word;
+      held = before;
+      inside = extent-before t.object t.word before t.inside;
+      from = t.from;
+      below = t.below;
+    }
+
+    lines-after : (k : ℕ) → AreLinesRight s k → AreLinesRight after k
+    lines-after k old = record {
+      marked = λ line is small marked.
+          let before : HasKind s k kinds.Immix = HasKind-back s w keeps.block_words k kinds.Immix is in
+          let there : k < s.blocks = kind-in s w keeps.block_words k kinds.Immix before in
+          ∥∥₁_map (old.marked line before small (sym (keeps.lines k line there small) ∙ marked)) (touched-after k line);
+      touched = λ line is small t.
+          let before : HasKind s k kinds.Immix = HasKind-back s w keeps.block_words k kinds.Immix is in
+          let there : k < s.blocks = kind-in s w keeps.block_words k kinds.Immix before in
+          keeps.lines k line there small ∙ old.touched line before small (touched-before k line t);
+    }
+
+    -- the row is lawful after, too
+    pub lawful-after : ((i : ℕ) → word_at after i < 2 ^ 64)
+        → ((a : ℕ) → IsTrue (is_pinned after a) → IsHeld s a)
+        → ((a i : ℕ) → IsHeld s a → i < refs_at s a → IsReference s (ref_at after a i))
+        → ((g : ℕ) → g < 16 → IsReference s (global_at after g)) → IsLawful after
+    lawful-after words pins fields globals = record {
+      row = record { least = lawful.row.least; most = lawful.row.most; extent = keeps.extent ∙ lawful.row.extent; words = words; base = lawful.row.base };
+      objects = objects-after pins fields globals;
+      blocks = λ k there. subst (λ (v : ℕ). IsTrue (is_block_code v)) (sym (keeps.block_words k there)) (lawful.blocks k there);
+      owners = λ k there. ap (λ v. v / 65536) (keeps.block_words k there) ∙ lawful.owners k there;
+      free = λ k is. let before : HasKind s k kinds.Free = HasKind-back s w keeps.block_words k kinds.Free is in
+          clear-after pins k (kind-in s w keeps.block_words k kinds.Free before) (lawful.free k before);
+      lines = λ k. lines-after k (lawful.lines k);
+    }

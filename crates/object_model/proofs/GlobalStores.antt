@@ -1,0 +1,142 @@
+-- A global is set, in the heap and in the ideal heap.
+use Rattle.std.proofs.Common.{◌≡◌, ◌≢◌, refl, sym, ◌∙◌, ap, subst, ℕ, ◌+◌, ◌*◌, ◌-◌, ◌/◌, ◌%◌, ◌^◌, ◌<◌, ◌≤◌, inl, inr, arith, Bool, IsTrue, List, length, Some, None, Option, nat_eq, slice_set, ◌↔◌}
+use Rattle.std.specs.Int.{bit_at}
+use Rattle.std.specs.List.{Any}
+use Rattle.std.proofs.lemmas.Bool.{cases_eq, or_left}
+use Rattle.std.proofs.lemmas.List.{get_or-set_same, get_or-set_other, length-set}
+use Rattle.heap_layout.specs.Zones.{Zone, StartBits, PinBits, UnlogBits, LineWords, BlockWords, Globals, words_of, heap_of, first, bit_of, mark_of}
+use Rattle.ideal_heap.specs.declared.name.Name.{Name}
+use Rattle.ideal_heap.specs.Ideal.{IdealHeap, set_global, at_number}
+use Rattle.ideal_heap.proofs.UpdateLemmas.{at_number-other}
+use Rattle.object_model.specs.Objects.{HeapState, with_words, word_at, global_at, is_pinned, is_unlogged, IsHeld, name_at, refs_at, ref_at, record_at, field_of_word}
+use Rattle.object_model.specs.Lawful.{IsLawful, IsReference}
+use Rattle.object_model.specs.Graphs.{MutatorState, Points}
+use Rattle.object_model.specs.Mirrors.{Models}
+use Rattle.object_model.specs.Changes.{KeepsObjects}
+use Rattle.object_model.proofs.Marks.{mark-same}
+use Rattle.object_model.proofs.Frames.{lawful-after, held-after, held-before, refs-after, name-after}
+use Rattle.object_model.proofs.Records.{record-same, field-same, number-place}
+use Rattle.object_model.proofs.Numbers.{points-after, registers-after}
+use Rattle.object_model.proofs.Updates.{at_number-same}
+
+-- nil and addresses are of 64 bits
+pub reference-fits : (s : HeapState) → IsLawful s → (v : ℕ) → IsReference s v → v < 2 ^ 64
+reference-fits s lawful v reference = elim (cases_eq v 0) as (λ _. v < 2 ^ 64) [
+  | inl nil ↦ omega arith
+  | inr some ↦ let below : v < words_of s.blocks = (reference some).address.below in let most : s.blocks ≤ 1024 = lawful.row.most in omega arith
+]
+
+-- what a word that points somewhere is: nil, or a held object
+pub points-reference : (s : HeapState) (v : ℕ) (o : Option Name) → Points s v o → IsReference s v
+points-reference s v None nil some = absurd (some nil)
+points-reference s v (Some n) there some = there.1
+
+module _ (s : HeapState) (g v : ℕ) (small : g < 16) where
+  abbrev pub shared : HeapState
+  shared = with_words s (slice_set s.words (first s.blocks Globals + g) v)
+
+  pub word-behind : (i : ℕ) → 18 ≤ i → word_at shared i ≡ word_at s i
+  word-behind i behind = get_or-set_other s.words (first s.blocks Globals + g) i v 0 (λ same. omega arith)
+
+  bit-behind : (z : Zone) (n : ℕ) → 18 ≤ first s.blocks z → bit_of s.blocks z shared.words n ≡ bit_of s.blocks z s.words n
+  bit-behind z n behind = ap (λ word. nat_eq (bit_at word (n % 64)) 1) (word-behind (first s.blocks z + n / 64) (omega arith))
+
+  marks : (z : Zone) (x : ℕ) → 18 ≤ first s.blocks z → mark_of s.blocks z shared.words x ≡ mark_of s.blocks z s.words x
+  marks z x behind = mark-same s.blocks z s.words shared.words x (λ there. bit-behind z (x - heap_of s.blocks) behind)
+
+  pub keeps : KeepsObjects s shared
+  keeps = record {
+    blocks = refl;
+    number = refl;
+    base = refl;
+    extent = length-set s.words (first s.blocks Globals + g) v;
+    starts = λ x. marks StartBits x (omega arith);
+    unlogs = λ x. marks UnlogBits x (omega arith);
+    lines = λ k line there few. bit-behind LineWords (256 * k + line) (omega arith);
+    block_words = λ k there. word-behind (first s.blocks BlockWords + k) (omega arith);
+    headers = λ x i holds few. word-behind (x + i) (let from : heap_of s.blocks ≤ x = holds.address.from in omega arith);
+  }
+
+  pub pins-same : (x : ℕ) → is_pinned shared x ≡ is_pinned s x
+  pins-same x = marks PinBits x (omega arith)
+
+  pub global-other : (k : ℕ) → k ≢ g → global_at shared k ≡ global_at s k
+  global-other k other = get_or-set_other s.words (first s.blocks Globals + g) (first s.blocks Globals + k) v 0 (λ same. other (omega arith))
+
+  pub global-own : IsLawful s → (k : ℕ) → k ≡ g → global_at shared k ≡ v
+  global-own lawful k same = ap (global_at shared) same
+      ∙ get_or-set_same s.words (first s.blocks Globals + g) v 0 (let many : length s.words ≡ words_of s.blocks = lawful.row.extent in omega arith)
+
+  pub words-fit : IsLawful s → v < 2 ^ 64 → (i : ℕ) → word_at shared i < 2 ^ 64
+  words-fit lawful fits i = elim (cases_eq i (first s.blocks Globals + g)) as (λ _. word_at shared i < 2 ^ 64) [
+    | inl same ↦ subst (λ (x : ℕ). x < 2 ^ 64)
+        (sym (ap (word_at shared) same ∙ get_or-set_same s.words (first s.blocks Globals + g) v 0 (let many : length s.words ≡ words_of s.blocks = lawful.row.extent in omega arith))) fits
+    | inr other ↦ subst (λ (x : ℕ). x < 2 ^ 64) (sym (get_or-set_other s.words (first s.blocks Globals + g) i v 0 other)) (lawful.row.words i)
+  ]
+
+module _ (s : HeapState) (ms : List MutatorState) (h : IdealHeap) (set : ℕ → Type 0) (model : Models s ms h set)
+    (g v : ℕ) (o : Option Name) (small : g < 16) (points : Points s v o) (inset : v ≢ 0 → set v) where
+  abbrev w : List ℕ
+  w = slice_set s.words (first s.blocks Globals + g) v
+
+  abbrev after : HeapState
+  after = with_words s w
+
+  kept : KeepsObjects s after
+  kept = keeps s g v small
+
+  by-global : (P : ℕ → ℕ → Type 0) (k : ℕ) → (k ≡ g → P k v) → (k ≢ g → P k (global_at s k)) → P k (global_at after k)
+  by-global P k own other = elim (cases_eq k g) as (λ _. P k (global_at after k)) [
+    | inl same ↦ subst (P k) (sym (global-own s g v small model.lawful k same)) (own same)
+    | inr differ ↦ subst (P k) (sym (global-other s g v small k differ)) (other differ)
+  ]
+
+  ref-kept : (x i : ℕ) → IsHeld s x → ref_at after x i ≡ ref_at s x i
+  ref-kept x i holds = word-behind s g v small (x + 3 + i) (let from : heap_of s.blocks ≤ x = holds.address.from in omega arith)
+
+  record-kept : (x : ℕ) → IsHeld s x → record_at after x ≡ record_at s x
+  record-kept x holds = record-same s w kept x holds
+      (λ i less. ap (field_of_word after) (ref-kept x i holds) ∙ field-same s w kept (ref_at s x i) (model.lawful.objects.references x i holds less))
+      (λ j less. number-place s w kept x j holds
+      ∙ word-behind s g v small (x + 3 + refs_at s x + j) (let from : heap_of s.blocks ≤ x = holds.address.from in omega arith))
+
+  pub global-set : Models after ms (set_global h g o) set
+  global-set = record {
+    lawful = lawful-after s w kept model.lawful
+        (words-fit s g v small model.lawful (reference-fits s model.lawful v (points-reference s v o points)))
+        (λ a pin. model.lawful.objects.marks a (or_left (is_pinned s a) (is_unlogged s a) (sym (pins-same s g v small a) ∙ pin)))
+        (λ a i holds less. subst (IsReference s) (sym (ref-kept a i holds)) (model.lawful.objects.references a i holds less))
+        (λ k few. by-global (λ q. IsReference s) k (λ same. points-reference s v o points) (λ other. model.lawful.objects.globals k few));
+    mutators = model.mutators;
+    pointers = record {
+      registers = registers-after s w kept h ms model.pointers.registers;
+      globals = λ k few. by-global (λ q x. Points after x (at_number h.globals g o q)) k
+          (λ same. subst (Points after v) (sym (at_number-same h.globals g o k same)) (points-after s w kept v o points))
+          (λ other. subst (Points after (global_at s k)) (sym (at_number-other h.globals g o k other)) (points-after s w kept (global_at s k) (h.globals k) (model.pointers.globals k few)));
+      confined = record {
+        registers = model.pointers.confined.registers;
+        globals = λ k n is. elim (cases_eq k g) as (λ _. k < 16) [
+          | inl same ↦ omega arith
+          | inr other ↦ model.pointers.confined.globals k n (sym (at_number-other h.globals g o k other) ∙ is)
+        ];
+      };
+    };
+    births = record {
+      births = model.births.births;
+      held = λ a there. let before = held-before s w kept a there in
+          subst (λ (k : Name). Any (λ m. (k.mutator ≡ m.number) × (k.birth ≤ m.births)) ms) (sym (name-after s w kept a before)) (model.births.held a before);
+      pinned = model.births.pinned;
+    };
+    mirrors = record {
+      held = λ a there. held-after s w kept a (model.mirrors.held a there);
+      fields = λ a i there less some. let holds = model.mirrors.held a there in
+          subst set (sym (ref-kept a i holds)) (model.mirrors.fields a i there (subst (λ (k : ℕ). i < k) (refs-after s w kept a holds) less) (λ nil. some (ref-kept a i holds ∙ nil)));
+      registers = model.mirrors.registers;
+      globals = λ k few. by-global (λ q x. x ≢ 0 → set x) k (λ same. inset) (λ other. model.mirrors.globals k few);
+      records = λ a there. let holds = model.mirrors.held a there in
+          ap h.records (name-after s w kept a holds) ∙ model.mirrors.records a there ∙ ap (λ x. Some x) (sym (record-kept a holds));
+      pins = λ a there. let e : name_at after a ≡ name_at s a = name-after s w kept a (model.mirrors.held a there) in
+          subst (λ (k : Name). IsTrue (is_pinned after a) ↔ IsTrue (h.pinned k)) (sym e)
+          (subst (λ (b : Bool). IsTrue b ↔ IsTrue (h.pinned (name_at s a))) (sym (pins-same s g v small a)) (model.mirrors.pins a there));
+    };
+  }

@@ -1,0 +1,148 @@
+-- A pin bit is set or cleared, in the heap and in the ideal heap.
+use Rattle.std.proofs.Common.{◌≡◌, ◌≢◌, refl, sym, ◌∙◌, ap, subst, ℕ, suc, ◌+◌, ◌*◌, ◌-◌, ◌/◌, ◌%◌, ◌<◌, ◌≤◌, ◌⊎◌, inl, inr, arith, Bool, IsTrue, List, [], ◌∷◌, length, get_or, Some, nat_eq, ◌↔◌}
+use Rattle.std.specs.Int.{bit_at}
+use Rattle.std.specs.List.{AllByRecursion, Any}
+use Rattle.std.proofs.lemmas.Bool.{cases_eq, or_left}
+use Rattle.std.proofs.lemmas.List.{get_or_default, get_or-map, length-map}
+use Rattle.heap_layout.specs.Zones.{Zone, StartBits, PinBits, UnlogBits, LineWords, BlockWords, Globals, words_of, heap_of, first, bit_of}
+use Rattle.ideal_heap.specs.declared.name.Name.{Name}
+use Rattle.ideal_heap.specs.Names.{name}
+use Rattle.ideal_heap.specs.Ideal.{IdealHeap, set_pinned, at_name}
+use Rattle.ideal_heap.proofs.UpdateLemmas.{at_name-same, at_name-other}
+use Rattle.object_model.specs.Objects.{HeapState, with_words, word_at, global_at, is_pinned, is_unlogged, IsHeld, name_at, refs_at, ref_at, record_at, field_of_word}
+use Rattle.object_model.specs.Lawful.{IsLawful, IsReference}
+use Rattle.object_model.specs.Graphs.{MutatorState, AreDifferent, Points, numbers_of}
+use Rattle.object_model.specs.Mirrors.{Models}
+use Rattle.object_model.specs.Changes.{KeepsObjects, SetsPin}
+use Rattle.object_model.proofs.Marks.{mark-same}
+use Rattle.object_model.proofs.Frames.{lawful-after, held-after, held-before, refs-after, name-after}
+use Rattle.object_model.proofs.Records.{record-same, field-same, number-place}
+use Rattle.object_model.proofs.Numbers.{points-after, registers-after}
+
+-- what holds of the element at each place holds of each element
+pub all-from : {X : Type 0} (P : X → Type 0) (xs : List X) → ((i : ℕ) (x : X) → i < length xs → get_or xs i x ≡ x → P x) → AllByRecursion P xs
+all-from P [] each = tt
+all-from P (x ∷ xs) each = (each 0 x (omega arith) refl, all-from P xs (λ i y within is. each (suc i) y (omega arith) is))
+
+-- one number belongs to one mutator
+pub one-number : (P : MutatorState → Type 0) (k : ℕ) (ms : List MutatorState) → AreDifferent (numbers_of ms) → Any (λ m. (k ≡ m.number) × P m) ms
+    → AllByRecursion (λ m. k ≡ m.number → P m) ms
+one-number P k ms differ any = all-from (λ m. k ≡ m.number → P m) ms (λ i x within is same.
+    let many : length (numbers_of ms) ≡ length ms = length-map ms (λ m. m.number) in
+    let there : any.0 < length ms = any.2 in
+    let here : get_or (numbers_of ms) i 0 ≡ k = get_or_default (numbers_of ms) i 0 x.number (omega arith) ∙ get_or-map (λ m. m.number) ms i x x.number within ∙ ap (λ m. m.number) is ∙ sym same in
+    let other : get_or (numbers_of ms) any.0 0 ≡ k = get_or_default (numbers_of ms) any.0 0 any.1.number (omega arith) ∙ get_or-map (λ m. m.number) ms any.0 any.1 any.1.number any.2 ∙ ap (λ m. m.number) any.3 ∙ sym any.4.0 in
+    let place : any.0 ≡ i = differ any.0 i (omega arith) (omega arith) (other ∙ sym here) in
+    let element : any.1 ≡ x = sym any.3 ∙ get_or_default ms any.0 any.1 x any.2 ∙ ap (λ j. get_or ms j x) place ∙ is in
+    subst P element any.4.1)
+
+-- two names are equal or not
+pub name-cases : (n k : Name) → (n ≡ k) ⊎ (n ≢ k)
+name-cases n k = elim (cases_eq n.mutator k.mutator) as (λ _. (n ≡ k) ⊎ (n ≢ k)) [
+  | inl m ↦ elim (cases_eq n.birth k.birth) as (λ _. (n ≡ k) ⊎ (n ≢ k)) [
+    | inl b ↦ inl (ap (λ x. name x n.birth) m ∙ ap (λ x. name k.mutator x) b)
+    | inr other ↦ inr (λ e. other (ap (λ x. x.birth) e))
+  ]
+  | inr other ↦ inr (λ e. other (ap (λ x. x.mutator) e))
+]
+
+-- equal truths are equivalent
+pub iff-both : (p q b : Bool) → p ≡ b → q ≡ b → IsTrue p ↔ IsTrue q
+iff-both p q b left right = (λ is. right ∙ sym left ∙ is, λ is. left ∙ sym right ∙ is)
+
+module _ (s : HeapState) (w : List ℕ) (a : ℕ) (b : Bool) (sets : SetsPin s (with_words s w) a b) where
+  abbrev pinned : HeapState
+  pinned = with_words s w
+
+  bit-before : (z : Zone) (n : ℕ) → first s.blocks z + n / 64 < first s.blocks PinBits → bit_of s.blocks z w n ≡ bit_of s.blocks z s.words n
+  bit-before z n before = ap (λ word. nat_eq (bit_at word (n % 64)) 1) (sets.rest (first s.blocks z + n / 64) (inl before))
+
+  heap-word : (x i : ℕ) → IsHeld s x → word_at pinned (x + i) ≡ word_at s (x + i)
+  heap-word x i holds = sets.rest (x + i) (inr (let from : heap_of s.blocks ≤ x = holds.address.from in omega arith))
+
+  pub keeps : KeepsObjects s pinned
+  keeps = record {
+    blocks = refl;
+    number = refl;
+    base = refl;
+    extent = sets.extent;
+    starts = λ x. mark-same s.blocks StartBits s.words w x (λ there. bit-before StartBits (x - heap_of s.blocks)
+        (let from : heap_of s.blocks ≤ x = there.from in let below : x < words_of s.blocks = there.below in omega arith));
+    unlogs = λ x. mark-same s.blocks UnlogBits s.words w x (λ there.
+        ap (λ word. nat_eq (bit_at word ((x - heap_of s.blocks) % 64)) 1) (sets.rest (first s.blocks UnlogBits + (x - heap_of s.blocks) / 64) (inr (omega arith))));
+    lines = λ k line there few. bit-before LineWords (256 * k + line) (omega arith);
+    block_words = λ k there. sets.rest (first s.blocks BlockWords + k) (inl (omega arith));
+    headers = λ x i holds few. heap-word x i holds;
+  }
+
+  pub globals-same : (g : ℕ) → g < 16 → global_at pinned g ≡ global_at s g
+  globals-same g few = sets.rest (first s.blocks Globals + g) (inl (omega arith))
+
+  pub pins-held : IsLawful s → IsHeld s a → (x : ℕ) → IsTrue (is_pinned pinned x) → IsHeld s x
+  pins-held lawful held x pin = elim (cases_eq x a) as (λ _. IsHeld s x) [
+    | inl same ↦ subst (IsHeld s) (sym same) held
+    | inr other ↦ lawful.objects.marks x (or_left (is_pinned s x) (is_unlogged s x) (sym (sets.others x other) ∙ pin))
+  ]
+
+  ref-kept : (x i : ℕ) → IsHeld s x → ref_at pinned x i ≡ ref_at s x i
+  ref-kept x i holds = sets.rest (x + 3 + i) (inr (let from : heap_of s.blocks ≤ x = holds.address.from in omega arith))
+
+  record-kept : IsLawful s → (x : ℕ) → IsHeld s x → record_at pinned x ≡ record_at s x
+  record-kept lawful x holds = record-same s w keeps x holds
+      (λ i less. ap (field_of_word pinned) (ref-kept x i holds) ∙ field-same s w keeps (ref_at s x i) (lawful.objects.references x i holds less))
+      (λ j less. number-place s w keeps x j holds
+      ∙ sets.rest (x + 3 + refs_at s x + j) (inr (let from : heap_of s.blocks ≤ x = holds.address.from in omega arith)))
+
+  module _ (ms : List MutatorState) (h : IdealHeap) (set : ℕ → Type 0) (model : Models s ms h set) (there : set a) where
+    held : IsHeld s a
+    held = model.mirrors.held a there
+
+    -- a pinned name was pinned, or is that of the object
+    pinned-births : (n : Name) → IsTrue (at_name h.pinned (name_at s a) b n) → AllByRecursion (λ m. n.mutator ≡ m.number → n.birth ≤ m.births) ms
+    pinned-births n is = elim (name-cases n (name_at s a)) as (λ _. AllByRecursion (λ m. n.mutator ≡ m.number → n.birth ≤ m.births) ms) [
+      | inl same ↦ subst (λ (k : Name). AllByRecursion (λ m. k.mutator ≡ m.number → k.birth ≤ m.births) ms) (sym same)
+          (one-number (λ m. (name_at s a).birth ≤ m.births) (name_at s a).mutator ms model.mutators.differ (model.births.held a held))
+      | inr other ↦ model.births.pinned n (sym (at_name-other h.pinned (name_at s a) b n other) ∙ is)
+    ]
+
+    pins-each : (x : ℕ) → set x → IsTrue (is_pinned pinned x) ↔ IsTrue (at_name h.pinned (name_at s a) b (name_at s x))
+    pins-each x inside = elim (cases_eq x a) as (λ _. IsTrue (is_pinned pinned x) ↔ IsTrue (at_name h.pinned (name_at s a) b (name_at s x))) [
+      | inl same ↦ iff-both (is_pinned pinned x) (at_name h.pinned (name_at s a) b (name_at s x)) b (ap (is_pinned pinned) same ∙ sets.pin)
+          (ap (λ y. at_name h.pinned (name_at s a) b (name_at s y)) same ∙ at_name-same h.pinned (name_at s a) b)
+      | inr other ↦
+          let left : is_pinned pinned x ≡ is_pinned s x = sets.others x other in
+          let right : at_name h.pinned (name_at s a) b (name_at s x) ≡ h.pinned (name_at s x) =
+          at_name-other h.pinned (name_at s a) b (name_at s x) (λ e. other (model.lawful.objects.names x a (model.mirrors.held x inside) held e)) in
+          let old = model.mirrors.pins x inside in
+          (λ is. right ∙ old.0 (sym left ∙ is), λ is. left ∙ old.1 (sym right ∙ is))
+    ]
+
+    pub pin-models : Models pinned ms (set_pinned h (name_at s a) b) set
+    pin-models = record {
+      lawful = lawful-after s w keeps model.lawful sets.words (pins-held model.lawful held)
+          (λ x i holds less. subst (IsReference s) (sym (ref-kept x i holds)) (model.lawful.objects.references x i holds less))
+          (λ g few. subst (IsReference s) (sym (globals-same g few)) (model.lawful.objects.globals g few));
+      mutators = model.mutators;
+      pointers = record {
+        registers = registers-after s w keeps h ms model.pointers.registers;
+        globals = λ g few. subst (λ v. Points pinned v (h.globals g)) (sym (globals-same g few)) (points-after s w keeps (global_at s g) (h.globals g) (model.pointers.globals g few));
+        confined = record { registers = model.pointers.confined.registers; globals = model.pointers.confined.globals };
+      };
+      births = record {
+        births = model.births.births;
+        held = λ x inside. let before = held-before s w keeps x inside in
+            subst (λ (k : Name). Any (λ m. (k.mutator ≡ m.number) × (k.birth ≤ m.births)) ms) (sym (name-after s w keeps x before)) (model.births.held x before);
+        pinned = pinned-births;
+      };
+      mirrors = record {
+        held = λ x inside. held-after s w keeps x (model.mirrors.held x inside);
+        fields = λ x i inside less some. let holds = model.mirrors.held x inside in
+            subst set (sym (ref-kept x i holds)) (model.mirrors.fields x i inside (subst (λ (k : ℕ). i < k) (refs-after s w keeps x holds) less) (λ nil. some (ref-kept x i holds ∙ nil)));
+        registers = model.mirrors.registers;
+        globals = λ g few some. subst set (sym (globals-same g few)) (model.mirrors.globals g few (λ nil. some (globals-same g few ∙ nil)));
+        records = λ x inside. let holds = model.mirrors.held x inside in
+            ap h.records (name-after s w keeps x holds) ∙ model.mirrors.records x inside ∙ ap (λ y. Some y) (sym (record-kept model.lawful x holds));
+        pins = λ x inside. subst (λ (k : Name). IsTrue (is_pinned pinned x) ↔ IsTrue (at_name h.pinned (name_at s a) b k))
+            (sym (name-after s w keeps x (model.mirrors.held x inside))) (pins-each x inside);
+      };
+    }

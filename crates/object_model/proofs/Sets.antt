@@ -1,0 +1,30 @@
+-- A heap mirrors an ideal heap by any two sets of the same addresses alike.
+use Rattle.std.proofs.Common.{◌≢◌, ℕ, ◌<◌, List, [], ◌∷◌}
+use Rattle.std.specs.List.{AllByRecursion}
+use Rattle.ideal_heap.specs.Ideal.{IdealHeap}
+use Rattle.object_model.specs.Objects.{HeapState}
+use Rattle.object_model.specs.Graphs.{MutatorState, register_at}
+use Rattle.object_model.specs.Mirrors.{Models}
+
+registers-in : (set other : ℕ → Type 0) → ((a : ℕ) → set a → other a) → (ms : List MutatorState)
+    → AllByRecursion (λ m. (d : ℕ) → d < 16 → register_at m d ≢ 0 → set (register_at m d)) ms
+    → AllByRecursion (λ m. (d : ℕ) → d < 16 → register_at m d ≢ 0 → other (register_at m d)) ms
+registers-in set other to [] all = tt
+registers-in set other to (m ∷ ms) all = (λ d small some. to (register_at m d) (all.0 d small some), registers-in set other to ms all.1)
+
+pub models-by : (s : HeapState) (ms : List MutatorState) (h : IdealHeap) (set other : ℕ → Type 0) → ((a : ℕ) → set a → other a) → ((a : ℕ) → other a → set a)
+    → Models s ms h set → Models s ms h other
+models-by s ms h set other to back model = record {
+  lawful = model.lawful;
+  mutators = model.mutators;
+  pointers = model.pointers;
+  births = model.births;
+  mirrors = record {
+    held = λ a there. model.mirrors.held a (back a there);
+    fields = λ a i there less some. to _ (model.mirrors.fields a i (back a there) less some);
+    registers = registers-in set other to ms model.mirrors.registers;
+    globals = λ g small some. to _ (model.mirrors.globals g small some);
+    records = λ a there. model.mirrors.records a (back a there);
+    pins = λ a there. model.mirrors.pins a (back a there);
+  };
+}

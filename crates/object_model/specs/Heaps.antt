@@ -1,0 +1,6 @@
+-- A heap, as the definitions see it.
+use Rattle.object_model.specs.declared.heap.Heap.{Heap}
+use Rattle.object_model.specs.Objects.{HeapState, state_of}
+
+abbrev pub heap_state : Heap → HeapState
+heap_state h = state_of h.row

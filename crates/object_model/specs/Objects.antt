@@ -1,0 +1,134 @@
+-- Objects in a row of words.
+use Rattle.std.specs.Prelude.{ℕ, ◌+◌, ◌*◌, ◌/◌, ◌%◌, ◌^◌, ◌<◌, ◌≤◌, Bool, ◌&&◌, List, [], ◌∷◌, map, replicate, slice_index, nat_eq, nat_lt, IsTrue, if◌then◌else◌, count_by}
+use Rattle.std.specs.List.{range_with_len}
+use Rattle.heap_layout.specs.Zones.{words_of, first, Globals, BlockWords, LineWords, StartBits, PinBits, UnlogBits, bit_of, mark_of, IsAddress}
+use Rattle.heap_layout.specs.declared.block.Kind.{Kind}
+use Rattle.heap_layout.specs.Blocks.{kind_code}
+use Rattle.ideal_heap.specs.declared.name.Name.{Name}
+use Rattle.ideal_heap.specs.Names.{name_of}
+use Rattle.ideal_heap.specs.Ideal.{Record, Field, Nil, At}
+use Rattle.object_model.specs.declared.row.Row.{Row}
+
+-- a heap as the definitions see it: its row of words, its blocks, the number of the last collection and of the last full one
+pub record HeapState : Type 0 where
+  pub words : List ℕ
+  pub blocks : ℕ
+  pub number : ℕ
+  pub base : ℕ
+
+abbrev pub state_of : Row → HeapState
+state_of r = record { words = r.words.items; blocks = r.layout.blocks; number = r.number; base = r.base }
+
+-- the heap of a row of zeros
+abbrev pub empty_heap : ℕ → HeapState
+empty_heap b = record { words = replicate (words_of b) 0; blocks = b; number = 0; base = 0 }
+
+-- the same heap with other words
+abbrev pub with_words : HeapState → List ℕ → HeapState
+with_words s words = record s { words = words }
+
+abbrev pub word_at : HeapState → ℕ → ℕ
+word_at s i = slice_index s.words i
+
+abbrev pub global_at : HeapState → ℕ → ℕ
+global_at s g = word_at s (first s.blocks Globals + g)
+
+-- the word of a block, and its parts
+abbrev pub block_word : HeapState → ℕ → ℕ
+block_word s k = word_at s (first s.blocks BlockWords + k)
+
+-- block k, which is one of the heap's, has this kind
+abbrev pub has_kind : HeapState → ℕ → Kind → Bool
+has_kind s k kind = nat_lt k s.blocks && nat_eq (block_word s k % 256) (kind_code kind)
+
+abbrev pub HasKind : HeapState → ℕ → Kind → Type 0
+HasKind s k kind = IsTrue (has_kind s k kind)
+
+abbrev pub class_at : HeapState → ℕ → ℕ
+class_at s k = block_word s k / 256 % 256
+
+abbrev pub owner_at : HeapState → ℕ → ℕ
+owner_at s k = block_word s k / 65536
+
+-- the bit of a line of block k
+abbrev pub line_marked : HeapState → ℕ → ℕ → Bool
+line_marked s k line = bit_of s.blocks LineWords s.words (256 * k + line)
+
+-- the bits of an address
+abbrev pub is_start : HeapState → ℕ → Bool
+is_start s a = mark_of s.blocks StartBits s.words a
+
+abbrev pub is_pinned : HeapState → ℕ → Bool
+is_pinned s a = mark_of s.blocks PinBits s.words a
+
+abbrev pub is_unlogged : HeapState → ℕ → Bool
+is_unlogged s a = mark_of s.blocks UnlogBits s.words a
+
+-- an object begins at a, and is held
+pub record IsHeld (s : HeapState) (a : ℕ) : Type 0 where
+  pub address : IsAddress s.blocks a
+  pub start : IsTrue (is_start s a)
+
+-- the words of an object with so many fields
+abbrev pub size_of : ℕ → ℕ → ℕ
+size_of refs nums = 3 + refs + nums
+
+-- the code of a shape
+abbrev pub shape_code : ℕ → ℕ → ℕ
+shape_code refs nums = refs + 65536 * nums
+
+-- the parts of an object
+abbrev pub name_at : HeapState → ℕ → Name
+name_at s a = name_of (word_at s a)
+
+abbrev pub refs_at : HeapState → ℕ → ℕ
+refs_at s a = word_at s (a + 1) % 65536
+
+abbrev pub nums_at : HeapState → ℕ → ℕ
+nums_at s a = word_at s (a + 1) / 65536
+
+abbrev pub size_at : HeapState → ℕ → ℕ
+size_at s a = size_of (refs_at s a) (nums_at s a)
+
+abbrev pub number_at : HeapState → ℕ → ℕ
+number_at s a = word_at s (a + 2) / 2 ^ 24
+
+abbrev pub target_at : HeapState → ℕ → ℕ
+target_at s a = word_at s (a + 2) % 2 ^ 24
+
+abbrev pub ref_at : HeapState → ℕ → ℕ → ℕ
+ref_at s a i = word_at s (a + 3 + i)
+
+abbrev pub num_at : HeapState → ℕ → ℕ → ℕ
+num_at s a j = word_at s (a + 3 + refs_at s a + j)
+
+-- the word at i is one of the object's at a
+pub record IsInExtent (s : HeapState) (a i : ℕ) : Type 0 where
+  pub from : a ≤ i
+  pub below : i < a + size_at s a
+
+-- what a reference field says, by names
+abbrev pub field_of_word : HeapState → ℕ → Field
+field_of_word s v = if nat_eq v 0 then Nil else At (name_at s v)
+
+-- the record that is read at an address
+abbrev pub record_at : HeapState → ℕ → Record
+record_at s a = record {
+  refs = map (λ i. field_of_word s (ref_at s a i)) (range_with_len 0 (refs_at s a));
+  nums = map (λ j. num_at s a j) (range_with_len 0 (nums_at s a));
+}
+
+-- the words of a cell of a class
+abbrev pub cell_words : ℕ → ℕ
+cell_words class = slice_index (4 ∷ 6 ∷ 8 ∷ 12 ∷ 16 ∷ 24 ∷ 32 ∷ 48 ∷ 64 ∷ 96 ∷ 128 ∷ 192 ∷ 256 ∷ 384 ∷ 512 ∷ 768 ∷ 1024 ∷ 1536 ∷ 2048 ∷ []) class
+
+-- how many blocks, and how many lines, hold so many words
+abbrev pub blocks_for : ℕ → ℕ
+blocks_for size = (size + 4095) / 4096
+
+abbrev pub lines_for : ℕ → ℕ
+lines_for size = (size + 15) / 16
+
+-- how many blocks pass a test
+abbrev pub block_count : HeapState → (ℕ → Bool) → ℕ
+block_count s test = count_by test (range_with_len 0 s.blocks)
