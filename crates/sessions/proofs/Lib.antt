@@ -1,0 +1,8 @@
+pub mod Tails
+pub mod Quiet
+pub mod Placing
+pub mod Bearing
+pub mod Driving
+pub mod Stops
+pub mod Histories
+pub mod Beginning

@@ -1,0 +1,216 @@
+-- A small object under the plan that collects nothing: where it fits, where it is placed, and when it does not fit.
+use Rattle.std.proofs.Common.{◌≡◌, ◌≢◌, refl, sym, ◌∙◌, ap, subst, ℕ, zero, suc, ◌+◌, ◌<◌, ◌≤◌, ◌⊎◌, inl, inr, arith, Bool, true, false, ◌||◌, IsTrue, List, [], ◌∷◌, length, slice_index, cond, zero-add}
+use Rattle.std.specs.Prelude.{MatchBool, count_by}
+use Rattle.std.specs.List.{range_with_len}
+use Rattle.std.proofs.lemmas.Bool.{cases_lt, cases_eq, false≢true, le-leb, lt-leb, or_left, or_right, false_from_ne_true}
+use Rattle.std.proofs.lemmas.List.Sums.{sum_by-cons}
+use Rattle.std.proofs.lemmas.List.FromFn.{get_or-range_with_len, length-range_with_len}
+use Rattle.heap_layout.specs.Zones.{BlockWords, first, heap_of, block_at, offset_at, block_start}
+use Rattle.heap_layout.specs.declared.block.Kind.TheVariants as kinds
+use Rattle.ideal_heap.specs.declared.name.Name.{Name}
+use Rattle.object_model.specs.Objects.{HeapState, with_words, word_at, block_word, has_kind, HasKind, is_pinned, is_unlogged, IsHeld, name_at, size_of, blocks_for}
+use Rattle.object_model.specs.Lawful.{IsLawful}
+use Rattle.object_model.specs.Changes.{WritesObject}
+use Rattle.object_model.proofs.Births as births
+use Rattle.object_model.proofs.Births.{IsRoom}
+use Rattle.object_model.proofs.Blocks as blocks
+use Rattle.object_model.proofs.Blocks.{SameHeap}
+use Rattle.object_model.proofs.OneKind.{kind-within, one-kind, has_small-bump}
+use Rattle.ideal_heap.specs.Names.{IsName}
+use Rattle.sessions.specs.Plans.{NoGc, rules_of}
+use Rattle.sessions.specs.Fitting.{IsTail, HasHole, HasSomeHole, Fits, FitsSmall, FitsLarge, free_of}
+use Rattle.sessions.specs.Sessions.{PlacesSmall, ChangesBlocks, AddsObject}
+use Rattle.sessions.specs.Bumping.{AreTails, ArePast}
+use Rattle.sessions.proofs.Tails.{tail-unique, place-block, place-offset, place-address, place-apart}
+
+-- an element that passes is counted, and where none passes the count is 0
+abbrev pub one_if : Bool → ℕ
+one_if b = cond b 1 0
+
+pub count-cons : (p : ℕ → Bool) (x : ℕ) (xs : List ℕ) → count_by p (x ∷ xs) ≡ one_if (p x) + count_by p xs
+count-cons p x xs = sum_by-cons (λ y. one_if (p y)) x xs
+
+pub count-some : (p : ℕ → Bool) (xs : List ℕ) (i : ℕ) → i < length xs → p (slice_index xs i) ≡ true → 1 ≤ count_by p xs
+count-some p [] i within is = absurd (omega arith)
+count-some p (x ∷ xs) zero within is = (let e : count_by p (x ∷ xs) ≡ one_if (p x) + count_by p xs = count-cons p x xs in let f : one_if (p x) ≡ 1 = ap one_if is in omega arith)
+count-some p (x ∷ xs) (suc i) within is = (let e : count_by p (x ∷ xs) ≡ one_if (p x) + count_by p xs = count-cons p x xs in let rest : 1 ≤ count_by p xs = count-some p xs i (omega arith) is in omega arith)
+
+pub count-none : (p : ℕ → Bool) (xs : List ℕ) → ((i : ℕ) → i < length xs → p (slice_index xs i) ≡ false) → count_by p xs ≡ 0
+count-none p [] none = refl
+count-none p (x ∷ xs) none =
+    let e : count_by p (x ∷ xs) ≡ one_if (p x) + count_by p xs = count-cons p x xs in
+    let f : one_if (p x) ≡ 0 = ap one_if (none 0 (omega arith)) in
+    let rest : count_by p xs ≡ 0 = count-none p xs (λ i less. none (suc i) (omega arith)) in
+    omega arith
+
+pub free-some : (s : HeapState) (k : ℕ) → HasKind s k kinds.Free → 1 ≤ free_of s
+free-some s k is =
+    let there : k < s.blocks = kind-within s k kinds.Free is in
+    let e : slice_index (range_with_len 0 s.blocks) k ≡ k = get_or-range_with_len 0 s.blocks k 0 there ∙ zero-add k in
+    count-some (λ q. has_kind s q kinds.Free) (range_with_len 0 s.blocks) k (let many : length (range_with_len 0 s.blocks) ≡ s.blocks = length-range_with_len 0 s.blocks in omega arith)
+    (ap (λ q. has_kind s q kinds.Free) e ∙ is)
+
+pub free-none : (s : HeapState) → ((k : ℕ) → k < s.blocks → HasKind s k kinds.Free → ⊥) → free_of s ≡ 0
+free-none s none = count-none (λ q. has_kind s q kinds.Free) (range_with_len 0 s.blocks)
+    (λ i less. let there : i < s.blocks = (let many : length (range_with_len 0 s.blocks) ≡ s.blocks = length-range_with_len 0 s.blocks in omega arith) in
+    let e : slice_index (range_with_len 0 s.blocks) i ≡ i = get_or-range_with_len 0 s.blocks i 0 there ∙ zero-add i in
+    ap (λ q. has_kind s q kinds.Free) e ∙ false_from_ne_true (has_kind s i kinds.Free) (none i there))
+
+-- holes, where the tails of all Bump blocks are known
+module _ (s : HeapState) (ends : List ℕ) (tails : AreTails s ends) (size : ℕ) where
+  pub hole-is : (k from : ℕ) → HasHole kinds.Bump s k from size → (k < length ends) × (from ≡ slice_index ends k) × (from + size ≤ 4096)
+  hole-is k from hole = elim (cases_lt k (length ends)) as (λ _. (k < length ends) × (from ≡ slice_index ends k) × (from + size ≤ 4096)) [
+    | inl less ↦ (less, tail-unique s k from (slice_index ends k) hole.1 (tails.tail k less), hole.2)
+    | inr past ↦ absurd (let same = one-kind s k kinds.Bump kinds.Free hole.0 (tails.free k past (kind-within s k kinds.Bump hole.0)) in cc)
+  ]
+
+  -- a hole is not in a block that lacks room
+  pub hole-above : (low k from : ℕ) → ArePast ends size low → HasHole kinds.Bump s k from size → low ≤ k
+  hole-above low k from past hole = elim (cases_lt k low) as (λ _. low ≤ k) [
+    | inl less ↦ absurd (let is = hole-is k from hole in let full : 4096 < slice_index ends k + size = past k less in let e : from ≡ slice_index ends k = is.1 in let fits : from + size ≤ 4096 = is.2 in omega arith)
+    | inr above ↦ above
+  ]
+
+  -- where no block has room there is no hole
+  pub no-hole : ArePast ends size (length ends) → HasSomeHole kinds.Bump s size → ⊥
+  no-hole past hole = (let above : length ends ≤ hole.block = hole-above (length ends) hole.block hole.offset past hole.hole in
+      let below : hole.block < length ends = (hole-is hole.block hole.offset hole.hole).0 in omega arith)
+
+-- whether a size fits
+pub fits-from : (s : HeapState) (size : ℕ) → size ≤ 2048 → FitsSmall (rules_of NoGc) s size → Fits (rules_of NoGc) s size
+fits-from s size small fits = subst (λ (b : Bool). MatchBool b (FitsSmall (rules_of NoGc) s size) (FitsLarge (rules_of NoGc) s (blocks_for size))) (sym (le-leb size 2048 small)) fits
+
+pub fits-small : (s : HeapState) (size : ℕ) → size ≤ 2048 → Fits (rules_of NoGc) s size → FitsSmall (rules_of NoGc) s size
+fits-small s size small fits = subst (λ (b : Bool). MatchBool b (FitsSmall (rules_of NoGc) s size) (FitsLarge (rules_of NoGc) s (blocks_for size))) (le-leb size 2048 small) fits
+
+pub large-never : (s : HeapState) (size : ℕ) → 2048 < size → Fits (rules_of NoGc) s size → ⊥
+large-never s size large fits =
+    let found : FitsLarge (rules_of NoGc) s (blocks_for size) =
+    subst (λ (b : Bool). MatchBool b (FitsSmall (rules_of NoGc) s size) (FitsLarge (rules_of NoGc) s (blocks_for size))) (lt-leb size 2048 large) fits in
+    false≢true found.placed
+
+-- where all blocks are Bump blocks without room, a size does not fit
+pub full-never : (s : HeapState) (ends : List ℕ) (tails : AreTails s ends) (size : ℕ) → size ≤ 2048 → s.blocks ≤ length ends → ArePast ends size (length ends)
+    → Fits (rules_of NoGc) s size → ⊥
+full-never s ends tails size small all past fits =
+    elim (fits-small s size small fits) as (λ _. ⊥) [
+      | inl hole ↦ no-hole s ends tails size past hole
+      | inr some ↦ (let none : free_of s ≡ 0 = free-none s (λ k there is. let same = one-kind s k kinds.Bump kinds.Free (tails.bump k (omega arith)) is in cc) in omega arith)
+    ]
+
+-- A small object that is written at the front of the tail of block low, from a heap in which that block is what it was, or was Free.
+module _ (s : HeapState) (w1 w2 : List ℕ) (same : SameHeap s w1) (unlogs : (x : ℕ) → is_unlogged (with_words s w1) x ≡ is_unlogged s x)
+    (low : ℕ) (front : (i : ℕ) → i < first s.blocks BlockWords → word_at (with_words s w1) i ≡ word_at s i)
+    (others : (k : ℕ) → k < s.blocks → k ≢ low → block_word (with_words s w1) k ≡ block_word s k)
+    (a : ℕ) (n : Name) (refs nums : ℕ) (writes : WritesObject (with_words s w1) (with_words s w2) a n refs nums)
+    (lawful : IsLawful (with_words s w1)) (room : IsRoom (with_words s w1) a n refs nums) (in_low : block_at s.blocks a ≡ low) where
+  abbrev between : HeapState
+  between = with_words s w1
+
+  abbrev after : HeapState
+  after = with_words s w2
+
+  held-between : (x : ℕ) → IsHeld s x → IsHeld between x
+  held-between x holds = blocks.held-after s w1 same x holds
+
+  fresh : IsHeld s a → ⊥
+  fresh holds = births.not-held between w2 a n refs nums writes lawful room (held-between a holds)
+
+  unmarked : (x : ℕ) → IsTrue (is_pinned between x || is_unlogged between x) → x ≢ a
+  unmarked x h e = births.not-held between w2 a n refs nums writes lawful room (subst (IsHeld between) e (lawful.objects.marks x h))
+
+  pub adds : AddsObject s after a refs nums
+  adds = record {
+    held = births.held-new between w2 a n refs nums writes lawful room;
+    fresh = fresh;
+    others = λ x other. (
+      (λ holds. births.held-after between w2 a n refs nums writes lawful room x (held-between x holds)),
+      (λ holds. blocks.held-before s w1 same x (births.held-before between w2 a n refs nums writes lawful room x other holds)),
+    );
+    shape = writes.shape;
+    blank = writes.blank;
+    unmarked = (
+      (λ is. unmarked a (or_left (is_pinned between a) (is_unlogged between a) (sym (births.pins-same between w2 a n refs nums writes lawful room a) ∙ is)) refl),
+      (λ is. unmarked a (or_right (is_pinned between a) (is_unlogged between a) (sym (births.unlogs-same between w2 a n refs nums writes lawful room a) ∙ is)) refl),
+    );
+    words = λ x i holds less. births.object-word between w2 a n refs nums writes lawful room x i (held-between x holds)
+        (subst (λ (q : ℕ). i < q) (sym (blocks.size-same s w1 same x holds)) less) ∙ blocks.at s w1 same x i holds;
+    bits = λ x holds. (births.pins-same between w2 a n refs nums writes lawful room x ∙ same.pins x, births.unlogs-same between w2 a n refs nums writes lawful room x ∙ unlogs x);
+  }
+
+  pub block-same : (k : ℕ) → k < s.blocks → block_word after k ≡ block_word between k
+  block-same = births.block_words between w2 a n refs nums writes lawful room
+
+  pub block-other : (k : ℕ) → k < s.blocks → k ≢ low → block_word after k ≡ block_word s k
+  block-other k there other = block-same k there ∙ others k there other
+
+  pub changes : ChangesBlocks s after low 1
+  changes = record {
+    front = λ i before. births.zone-word between w2 a n refs nums writes lawful room i (omega arith) (λ e. omega arith) ∙ front i before;
+    elsewhere = λ i address away.
+        let base : heap_of s.blocks ≤ i = address.from in
+        let base' : heap_of s.blocks ≤ a = room.address.from in
+        let within : offset_at s.blocks a + size_of refs nums ≤ 4096 = room.place.within in
+        let in_block : block_at s.blocks a ≡ low = in_low in
+        let outside : (i < a) ⊎ (a + size_of refs nums ≤ i) = elim away as (λ _. (i < a) ⊎ (a + size_of refs nums ≤ i)) [ inl before ↦ inl (omega arith) | inr behind ↦ inr (omega arith) ] in
+        writes.others i outside (λ e. let zone = (births.start-in-zone between w2 a n refs nums writes lawful room).0 in omega arith) ∙ same.words i base;
+  }
+
+-- the front of a tail with room is room for the object
+pub room-in-tail : (s : HeapState) (lawful : IsLawful s) (k at : ℕ) (bump : HasKind s k kinds.Bump) (tail : IsTail s k at) (n : Name) (refs nums : ℕ)
+    → at + size_of refs nums ≤ 4096 → size_of refs nums ≤ 2048 → refs ≤ 1024 → nums ≤ 60000 → IsName n → ((x : ℕ) → IsHeld s x → name_at s x ≢ n)
+    → IsRoom s (block_start s.blocks k + at) n refs nums
+room-in-tail s lawful k at bump tail n refs nums fits small few_refs few_nums named fresh =
+    let block : block_at s.blocks (block_start s.blocks k + at) ≡ k = place-block s lawful k at (size_of refs nums) bump tail fits (omega arith) in
+    let offset : offset_at s.blocks (block_start s.blocks k + at) ≡ at = place-offset s lawful k at (size_of refs nums) bump tail fits (omega arith) in
+    let bump' : HasKind s (block_at s.blocks (block_start s.blocks k + at)) kinds.Bump = subst (λ (q : ℕ). HasKind s q kinds.Bump) (sym block) bump in
+    record {
+      address = place-address s lawful k at (size_of refs nums) bump tail fits (omega arith);
+      named = named;
+      few_refs = few_refs;
+      few_nums = few_nums;
+      small = small;
+      place = record {
+        within = omega arith;
+        kind = has_small-bump s _ bump';
+        cell = λ is. absurd (let same = one-kind s _ kinds.Bump kinds.Cells bump' is in cc);
+      };
+      lines = λ is. let same = one-kind s _ kinds.Bump kinds.Immix bump' is in cc;
+      apart = place-apart s lawful k at (size_of refs nums) bump tail fits (omega arith);
+      fresh = fresh;
+    }
+
+-- a placement in the lowest block with room
+pub places-hole : (s : HeapState) (lawful : IsLawful s) (ends : List ℕ) (tails : AreTails s ends) (size k : ℕ) → 1 ≤ size → k < length ends → slice_index ends k + size ≤ 4096 → ArePast ends size k
+    → PlacesSmall (rules_of NoGc) s (block_start s.blocks k + slice_index ends k) size
+places-hole s lawful ends tails size k some less fits past =
+    let at : ℕ = slice_index ends k in
+    let bump : HasKind s k kinds.Bump = tails.bump k less in
+    let tail : IsTail s k at = tails.tail k less in
+    let block : block_at s.blocks (block_start s.blocks k + at) ≡ k = place-block s lawful k at size bump tail fits some in
+    let offset : offset_at s.blocks (block_start s.blocks k + at) ≡ at = place-offset s lawful k at size bump tail fits some in
+    record {
+      spot = inl (subst (λ (q : ℕ). HasHole kinds.Bump s q (offset_at s.blocks (block_start s.blocks k + at)) size) (sym block)
+          (subst (λ (o : ℕ). HasHole kinds.Bump s k o size) (sym offset) (bump, tail, fits)));
+      lowest = λ j from hole. elim (cases_eq j k) as (λ _. (block_at s.blocks (block_start s.blocks k + at) < j) ⊎ ((block_at s.blocks (block_start s.blocks k + at) ≡ j) × (offset_at s.blocks (block_start s.blocks k + at) ≤ from))) [
+        | inl e ↦ inr (block ∙ sym e, (let front : from ≡ slice_index ends j = (hole-is s ends tails size j from hole).1 in let f : slice_index ends j ≡ at = ap (slice_index ends) e in omega arith))
+        | inr other ↦ inl (let above : k ≤ j = hole-above s ends tails size k j from past hole in omega arith)
+      ];
+      lowest_free = λ is. absurd (let free : HasKind s k kinds.Free = subst (λ (q : ℕ). HasKind s q kinds.Free) block is in
+          let same = one-kind s k kinds.Bump kinds.Free bump free in cc);
+    }
+
+-- and in the lowest Free block, where no block has room
+pub places-free : (s : HeapState) (lawful : IsLawful s) (ends : List ℕ) (tails : AreTails s ends) (size : ℕ) → length ends < s.blocks → ArePast ends size (length ends)
+    → PlacesSmall (rules_of NoGc) s (block_start s.blocks (length ends) + 0) size
+places-free s lawful ends tails size room past =
+    let block : block_at s.blocks (block_start s.blocks (length ends) + 0) ≡ length ends = omega arith in
+    let offset : offset_at s.blocks (block_start s.blocks (length ends) + 0) ≡ 0 = omega arith in
+    record {
+      spot = inr (subst (λ (q : ℕ). HasKind s q kinds.Free) (sym block) (tails.free (length ends) (omega arith) room), offset, no-hole s ends tails size past);
+      lowest = λ k from hole. absurd (no-hole s ends tails size past (record { block = k; offset = from; hole = hole }));
+      lowest_free = λ is k free. elim (cases_lt k (length ends)) as (λ _. block_at s.blocks (block_start s.blocks (length ends) + 0) ≤ k) [
+        | inl less ↦ absurd (let same = one-kind s k kinds.Bump kinds.Free (tails.bump k less) free in cc)
+        | inr past' ↦ omega arith
+      ];
+    }

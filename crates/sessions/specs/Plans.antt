@@ -1,0 +1,39 @@
+-- The plans as data: what each fills, whether it moves objects, and what it holds back.
+use Rattle.std.specs.Prelude.{Bool, true, false}
+use Rattle.heap_layout.specs.declared.block.Kind.{Kind}
+use Rattle.heap_layout.specs.declared.block.Kind.TheVariants as kinds
+
+pub data Plan : Type 0 where
+  NoGc : Plan
+  MarkSweep : Plan
+  SemiSpace : Plan
+  GenCopy : Plan
+  Immix : Plan
+  StickyImmix : Plan
+
+-- What is held back of the blocks when one is granted: nothing, room for a copy of all that is used, or a headroom.
+pub data Reserve : Type 0 where
+  Nothing : Reserve
+  Copies : Reserve
+  Headroom : Reserve
+
+pub record Rules : Type 0 where
+  -- whether a collection reclaims anything
+  pub collects : Bool
+  pub moves : Bool
+  -- whether there are young and old objects
+  pub young : Bool
+  -- whether objects above 2,048 words are placed at all
+  pub large : Bool
+  -- the kinds of the blocks that mutators and tracers fill; Free where tracers fill none
+  pub fill : Kind
+  pub copy : Kind
+  pub reserve : Reserve
+
+abbrev pub rules_of : Plan → Rules
+rules_of NoGc = record { collects = false; moves = false; young = false; large = false; fill = kinds.Bump; copy = kinds.Free; reserve = Nothing }
+rules_of MarkSweep = record { collects = true; moves = false; young = false; large = false; fill = kinds.Cells; copy = kinds.Free; reserve = Nothing }
+rules_of SemiSpace = record { collects = true; moves = true; young = false; large = false; fill = kinds.Bump; copy = kinds.Bump; reserve = Copies }
+rules_of GenCopy = record { collects = true; moves = true; young = true; large = false; fill = kinds.Young; copy = kinds.Mature; reserve = Copies }
+rules_of Immix = record { collects = true; moves = true; young = false; large = false; fill = kinds.Immix; copy = kinds.Immix; reserve = Headroom }
+rules_of StickyImmix = record { collects = true; moves = true; young = true; large = false; fill = kinds.Immix; copy = kinds.Immix; reserve = Headroom }
