@@ -6,23 +6,16 @@ use Rattle.std.proofs.lemmas.Bool.{cases_eq, or_cases, or_left, or_right, true�
 use Rattle.heap_layout.specs.Zones.{Zone, StartBits, PinBits, UnlogBits, LineWords, BlockWords, Globals, words_of, heap_of, first, bit_of, block_at, offset_at, block_start, IsAddress}
 use Rattle.heap_layout.specs.Blocks.{is_block_code}
 use Rattle.heap_layout.specs.declared.block.Kind.TheVariants as kinds
+use Rattle.heap_layout.proofs.ZoneLemmas.{block_at_within}
 use Rattle.ideal_heap.specs.declared.name.Name.{Name}
-use Rattle.ideal_heap.specs.Names.{IsName, name, name_code, name_of}
+use Rattle.ideal_heap.specs.Names.{IsName, name_of}
+use Rattle.ideal_heap.proofs.NameLemmas.{name-code}
 use Rattle.object_model.specs.Objects.{HeapState, with_words, word_at, global_at, block_word, HasKind, is_start, is_pinned, is_unlogged, line_marked, IsHeld, IsInExtent, name_at, refs_at, nums_at, size_at, ref_at, size_of}
 use Rattle.object_model.specs.Lawful.{IsLawful, HasLawfulObjects, HasHeader, Lies, LiesInBlock, IsReference, IsClear, AreLinesRight}
 use Rattle.object_model.specs.Changes.{WritesObject}
 use Rattle.object_model.proofs.Marks.{mark-same, mark-from}
-use Rattle.object_model.proofs.ObjectReads.{block_in_heap}
 use Rattle.object_model.proofs.OneKind.{has_small-free}
 use Rattle.object_model.proofs.Frames.{HasKind-back, kind-in, lies-from, in_run-same}
-
--- a name is read back from its word
-pub coded : (n : Name) → IsName n → name_of (name_code n) ≡ n
-coded n is =
-    let most : n.mutator ≤ 16 = is.most in
-    let m : (32 * n.birth + n.mutator) % 32 ≡ n.mutator = omega arith in
-    let b : (32 * n.birth + n.mutator) / 32 ≡ n.birth = omega arith in
-    ap (λ x. name x ((32 * n.birth + n.mutator) / 32)) m ∙ ap (λ x. name n.mutator x) b
 
 -- where a new object of a name and shape may be written
 pub record IsRoom (s : HeapState) (a : ℕ) (n : Name) (refs nums : ℕ) : Type 0 where
@@ -108,7 +101,7 @@ module _ (s : HeapState) (w : List ℕ) (a : ℕ) (n : Name) (refs nums : ℕ) (
 
   -- the parts of the new object
   pub new-name : name_at after a ≡ n
-  new-name = ap name_of writes.name ∙ coded n room.named
+  new-name = ap name_of writes.name ∙ name-code n room.named
 
   pub new-refs : refs_at after a ≡ refs
   new-refs = ap (λ v. v % 65536) writes.shape ∙ (let few : refs ≤ 1024 = room.few_refs in let e : (refs + 65536 * nums) % 65536 ≡ refs = omega arith in e)
@@ -181,12 +174,12 @@ module _ (s : HeapState) (w : List ℕ) (a : ℕ) (n : Name) (refs nums : ℕ) (
 
   new-lies : Lies after a (size_at after a)
   new-lies = subst (Lies after a) (sym new-size)
-      (lies-from s w block_words a (size_of refs nums) (block_in_heap s.blocks a room.address)
+      (lies-from s w block_words a (size_of refs nums) (block_at_within s.blocks a room.address)
       (record { small = λ fits. room.place; large = λ large. absurd (let fits : size_of refs nums ≤ 2048 = room.small in omega arith) }))
 
   old-lies : (x : ℕ) → IsHeld s x → Lies after x (size_at after x)
   old-lies x holds = subst (Lies after x) (sym (size-same x holds))
-      (lies-from s w block_words x (size_at s x) (block_in_heap s.blocks x holds.address) (lawful.objects.lies x holds))
+      (lies-from s w block_words x (size_at s x) (block_at_within s.blocks x holds.address) (lawful.objects.lies x holds))
 
   -- a word of the new object is none of one that was held
   not-both : (x i : ℕ) → IsHeld s x → IsInExtent s x i → IsInExtent after a i → ⊥

@@ -1,11 +1,9 @@
 -- What a mark says: its address is one of the heap's, and its bit is set.
 use Rattle.std.proofs.Common.{◌≡◌, sym, ◌∙◌, ap, inl, inr, ℕ, ◌-◌, IsTrue, List, nat_le, nat_lt, ◌&&◌}
-use Rattle.std.proofs.lemmas.Bool.{and_parts, and_from, leb-true, ltb-true, le-leb, lt-ltb, cases_Bool, and_left}
+use Rattle.std.proofs.lemmas.Bool.{and_parts, leb-true, ltb-true, cases_Bool, and_left}
 use Rattle.heap_layout.specs.Zones.{Zone, StartBits, IsAddress, heap_of, words_of, bit_of, mark_of}
+use Rattle.heap_layout.proofs.MarkLemmas.{is-address_from_mark, mark_of-at_address}
 use Rattle.object_model.specs.Objects.{HeapState, is_start, IsHeld}
-
-pub mark-bit : (b : ℕ) (z : Zone) (w : List ℕ) (a : ℕ) → IsTrue (mark_of b z w a) → IsTrue (bit_of b z w (a - heap_of b))
-mark-bit b z w a h = (and_parts (nat_le (heap_of b) a && nat_lt a (words_of b)) _ h).1
 
 pub address-from : (b a : ℕ) → IsTrue (nat_le (heap_of b) a && nat_lt a (words_of b)) → IsAddress b a
 address-from b a range = record {
@@ -13,18 +11,12 @@ address-from b a range = record {
   below = ltb-true a (words_of b) (and_parts (nat_le (heap_of b) a) _ range).1;
 }
 
-pub mark-address : (b : ℕ) (z : Zone) (w : List ℕ) (a : ℕ) → IsTrue (mark_of b z w a) → IsAddress b a
-mark-address b z w a h = address-from b a (and_parts (nat_le (heap_of b) a && nat_lt a (words_of b)) _ h).0
-
 pub mark-from : (b : ℕ) (z : Zone) (w : List ℕ) (a : ℕ) → IsAddress b a → IsTrue (bit_of b z w (a - heap_of b)) → IsTrue (mark_of b z w a)
-mark-from b z w a there bit =
-    and_from (nat_le (heap_of b) a && nat_lt a (words_of b)) _
-    (and_from (nat_le (heap_of b) a) (nat_lt a (words_of b)) (le-leb (heap_of b) a there.from) (lt-ltb a (words_of b) there.below))
-    bit
+mark-from b z w a there bit = mark_of-at_address b z w a there ∙ bit
 
 -- a start bit makes an object held
 pub held : (s : HeapState) (a : ℕ) → IsTrue (is_start s a) → IsHeld s a
-held s a start = record { address = mark-address s.blocks StartBits s.words a start; start = start }
+held s a start = record { address = is-address_from_mark s.blocks StartBits s.words a start; start = start }
 
 -- a mark is the same where its bit is the same, if the address is one of the heap's
 pub mark-same : (b : ℕ) (z : Zone) (w w' : List ℕ) (a : ℕ) → (IsAddress b a → bit_of b z w' (a - heap_of b) ≡ bit_of b z w (a - heap_of b))

@@ -10,9 +10,6 @@ use Rattle.object_model.specs.Lawful.{IsLawful, IsRow, LiesInBlock, LiesInRun, L
 pub place_of_address : (b a : ℕ) → IsAddress b a → (block_at b a < b) × (offset_at b a < 4096) × (a ≡ heap_of b + 4096 * block_at b a + offset_at b a)
 place_of_address b a at = (omega arith, omega arith, omega arith)
 
-pub block_in_heap : (b a : ℕ) → IsAddress b a → block_at b a < b
-block_in_heap b a at = (place_of_address b a at).0
-
 -- what lies in one block, or in its run, lies in the row
 block_in_row : (s : HeapState) (a size : ℕ) → IsAddress s.blocks a → LiesInBlock s a size → a + size ≤ words_of s.blocks
 block_in_row s a size at lies =

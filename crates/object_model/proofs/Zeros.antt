@@ -11,6 +11,7 @@ use Rattle.heap_layout.specs.Zones.{Zone, StartBits, PinBits, UnlogBits, LineWor
 use Rattle.heap_layout.specs.Blocks.{is_block_code, kind_code}
 use Rattle.heap_layout.specs.declared.block.Kind.{Kind}
 use Rattle.heap_layout.specs.declared.block.Kind.TheVariants as kinds
+use Rattle.heap_layout.proofs.MarkLemmas.{bit_from_mark}
 use Rattle.ideal_heap.specs.declared.name.Name.{Name}
 use Rattle.ideal_heap.specs.Ideal.{empty}
 use Rattle.ideal_heap.specs.Reach.{Reaches, from_register, from_global, from_field}
@@ -19,7 +20,6 @@ use Rattle.object_model.specs.Lawful.{IsLawful}
 use Rattle.object_model.specs.Graphs as graphs
 use Rattle.object_model.specs.Graphs.{Stands, Arrives, MutatorState, IsMutatorState, AreDifferent, beginner, numbers_of, roots_of, register_at, Points}
 use Rattle.object_model.specs.Mirrors.{Models}
-use Rattle.object_model.proofs.Marks.{mark-bit}
 
 abbrev pub zeros : ℕ → HeapState
 zeros b = empty_heap b
@@ -44,7 +44,7 @@ no_bit_of : (b : ℕ) (z : Zone) (n : ℕ) → IsTrue (bit_of b z (zeros b).word
 no_bit_of b z n h = no_bit _ (n % 64) (zero_word b (first b z + n / 64)) h
 
 no_mark : (b : ℕ) (z : Zone) (a : ℕ) → IsTrue (mark_of b z (zeros b).words a) → ⊥
-no_mark b z a h = no_bit_of b z _ (mark-bit b z (zeros b).words a h)
+no_mark b z a h = no_bit_of b z _ (bit_from_mark b z (zeros b).words a h)
 
 pub none_held : (b a : ℕ) → IsHeld (zeros b) a → ⊥
 none_held b a held = no_mark b StartBits a held.start
