@@ -27,26 +27,13 @@ use Rattle.object_model.proofs.Standing as standing
 use Rattle.object_model.proofs.Counts as counts
 use Rattle.object_model.proofs.Sets as sets
 use Rattle.object_model.proofs.Zeros as zeros
+use Rattle.object_model.proofs.StepCases.{keeps-self}
 use Rattle.sessions.specs.Fitting.{Fits}
 use Rattle.sessions.specs.Plans.{NoGc, rules_of}
 use Rattle.sessions.specs.Sessions
 use Rattle.sessions.specs.Alone.{alone_under_nogc}
 use Rattle.sessions.specs.Driving.{IsQuiet, IsWithin, IsServed, Driven}
 use Rattle.sessions.proofs.Quiet.{quiet-stopped, remembers}
-
--- nothing changes
-pub keeps-self : (s : HeapState) → KeepsObjects s s
-keeps-self s = record {
-  blocks = refl;
-  number = refl;
-  base = refl;
-  extent = refl;
-  starts = λ a. refl;
-  unlogs = λ a. refl;
-  lines = λ k line there small. refl;
-  block_words = λ k there. refl;
-  headers = λ a i holds small. refl;
-}
 
 -- not a `meet`
 abbrev pub NotMeet : Option Command → Type 0

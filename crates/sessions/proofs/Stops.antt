@@ -17,11 +17,12 @@ use Rattle.object_model.specs.Mirrors.{Models}
 use Rattle.object_model.specs.Changes.{KeepsObjects}
 use Rattle.object_model.proofs.Counts as counts
 use Rattle.object_model.proofs.Sets as sets
+use Rattle.object_model.proofs.StepCases.{keeps-self}
 use Rattle.sessions.specs.Sessions
 use Rattle.sessions.specs.Alone.{alone_under_nogc}
 use Rattle.sessions.specs.Driving.{IsWithin, IsServed, Driven}
 use Rattle.sessions.proofs.Driving as driving
-use Rattle.sessions.proofs.Driving.{NotMeet, keeps-self}
+use Rattle.sessions.proofs.Driving.{NotMeet}
 
 -- `gc` and `meet` answer `ok` and change no ideal heap
 gc-answers : (h : IdealHeap) → Answers h (entry 1 c.Gc r.Done)
