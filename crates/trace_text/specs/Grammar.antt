@@ -1,5 +1,5 @@
 -- The grammar of a trace, and what is refused: the first bad line, and in it the first fault from the left.
-use Rattle.std.specs.Prelude.{◌≡◌, ℕ, ◌+◌, Bool, ◌&&◌, ◌||◌, not, List, [], ◌∷◌, length, Option, None, Some, Result, Ok, Err, nat_eq, nat_lt, nat_le, if◌then◌else◌, slice_index, codes, find, is_some, IsTrue}
+use Rattle.std.specs.Prelude.{◌≡◌, ℕ, ◌+◌, Bool, ◌&&◌, ◌||◌, not, List, [], ◌∷◌, length, Option, None, Some, Result, Ok, Err, nat_eq, nat_lt, nat_le, if◌then◌else◌, slice_index, codes, find}
 use Rattle.std.specs.List.{list_all, slice_split}
 use Rattle.std.specs.Char.{is_ascii_digit}
 use Rattle.std.specs.Str.{bytes_eq}
@@ -10,7 +10,7 @@ use Rattle.trace_text.specs.declared.fault.Why.{Why}
 use Rattle.trace_text.specs.declared.fault.Why.TheVariants as why
 use Rattle.trace_text.specs.declared.fault.TraceFault.{TraceFault}
 use Rattle.trace_text.specs.declared.fault.TraceFault.TheVariants.{Line, TooMany, OutOfMemory}
-use Rattle.trace_text.specs.Words.{Sort, most_of, mark_of, word_of, accepted, sorts_of, command_of, op_in}
+use Rattle.trace_text.specs.Words.{Sort, most_of, mark_of, word_of, all_ops, sorts_of, command_of}
 
 -- go on with a value
 infixl 10 ◌>>=◌
@@ -107,7 +107,7 @@ header = codes "mmtrace 1"
 
 -- the first line says which commands there are
 abbrev pub opened_by : List ℕ → Option (List Op)
-opened_by l = if bytes_eq l header then Some accepted else None
+opened_by l = if bytes_eq l header then Some all_ops else None
 
 abbrev pub lines_under : Option (List Op) → List (List ℕ) → Result (List Command) TraceFault
 lines_under None ls = Err (Line 1 why.Header)
@@ -120,10 +120,6 @@ with_header (l ∷ ls) = lines_under (opened_by l) ls
 -- the commands of a text, or why it is no trace
 unfoldable pub trace : List ℕ → Result (List Command) TraceFault
 trace bytes = with_header (lines_of bytes)
-
--- a trace may have the command
-abbrev pub IsAccepted : Command → Type 0
-IsAccepted c = IsTrue (is_some (op_of accepted (word_of (op_in c))))
 
 -- what a call returned, seen by view, is what reading gives, unless memory ran out
 abbrev pub Gives : {X Y : Type 0} → (X → Y) → Result X TraceFault → Result Y TraceFault → Type 0

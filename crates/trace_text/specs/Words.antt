@@ -57,10 +57,6 @@ word_of Meet = codes "meet"
 abbrev pub all_ops : List Op
 all_ops = New ∷ Get ∷ Put ∷ Read ∷ Write ∷ Add ∷ Swap ∷ Move ∷ DropReg ∷ Load ∷ Share ∷ Pin ∷ Unpin ∷ Gc ∷ Meet ∷ []
 
--- the commands that a trace may have
-abbrev pub accepted : List Op
-accepted = all_ops
-
 -- the arguments behind a command's word
 abbrev pub sorts_of : Op → List Sort
 sorts_of New = Register ∷ RefCount ∷ NumCount ∷ []

@@ -7,7 +7,7 @@ ghost use Rattle.ideal_heap.specs.Names.{name};
 ghost use Rattle.trace_text.specs.declared.fault.Why.TheVariants as why;
 ghost use Rattle.trace_text.specs.declared.fault.TraceFault.TheVariants as fault;
 ghost use Rattle.trace_text.specs.Words.{all_ops};
-ghost use Rattle.trace_text.specs.Grammar.{line, lines_from, trace, most_commands, IsAccepted};
+ghost use Rattle.trace_text.specs.Grammar.{line, lines_from, trace, most_commands};
 ghost use Rattle.trace_text.specs.Text.{trace_text, replies_text};
 
 /// Whatever is read lies in its range, and there is not too much of it.
@@ -18,8 +18,8 @@ pub fn traces_are_valid()
 
 /// What is printed is read again, and of the texts that end with a newline no other is read so.
 pub fn traces_have_one_text()
-    ensures again { (cs : List Command) → All IsValid cs → All IsAccepted cs
-        → length cs ≤ most_commands → trace (trace_text cs) ≡ Ok cs }
+    ensures again { (cs : List Command) → All IsValid cs → length cs ≤ most_commands
+        → trace (trace_text cs) ≡ Ok cs }
     ensures alone { (front : List ℕ) (cs : List Command)
         → trace (front ++ 10 ∷ []) ≡ Ok cs → front ++ 10 ∷ [] ≡ trace_text cs }
 {}
@@ -40,7 +40,7 @@ pub fn worked_traces()
         ≡ codes "mmtrace 1\nnew r0 1 1\nput r3 0 r15\ngc\n" }
 {}
 
-/// What some lines are read as, all commands allowed.
+/// What some lines are read as.
 pub fn worked_lines()
     ensures swap { line all_ops (codes "swap r1 2 3 18446744073709551615")
         ≡ Ok (command.Swap 1 2 3 18446744073709551615) }

@@ -1,5 +1,5 @@
 ghost use Rattle.std.specs.Prelude.{◌≡◌};
-ghost use Rattle.trace_text.specs.Words.{accepted};
+ghost use Rattle.trace_text.specs.Words.{all_ops};
 ghost use Rattle.trace_text.specs.Grammar.{Gives, line, lines_from, lines_of, op_of as read_op};
 
 use crate::commands::command;
@@ -11,7 +11,7 @@ use std::alloc::Global;
 
 // The command that a line begins with.
 fn op_of(word: &[u8]) -> Option<Op>
-    ensures { result ≡ read_op accepted word.now }
+    ensures { result ≡ read_op all_ops word.now }
 {
     if word == b"new".as_slice() {
         Some(Op::New)
@@ -50,7 +50,7 @@ fn op_of(word: &[u8]) -> Option<Op>
 
 #[tactic(auto, unfolding(crate::specs::Grammar::line))]
 fn command_of(bytes: &[u8]) -> Result<Command, Why>
-    ensures { result ≡ line accepted bytes.now }
+    ensures { result ≡ line all_ops bytes.now }
 {
     let (word, words) = next_part(bytes, b' ');
     match op_of(word) {
@@ -61,7 +61,7 @@ fn command_of(bytes: &[u8]) -> Result<Command, Why>
 
 // The commands of the lines behind the header.
 pub(crate) fn commands_of(alloc: Global, bytes: &[u8]) -> Result<Vec<Command>, TraceFault>
-    ensures { Gives (λ v. v.items) result (lines_from (line accepted) 2 (lines_of bytes.now)) }
+    ensures { Gives (λ v. v.items) result (lines_from (line all_ops) 2 (lines_of bytes.now)) }
 {
     let mut commands = Vec::new(alloc);
     let mut rest = bytes;

@@ -2,7 +2,7 @@ ghost use Rattle.std.specs.Prelude.{◌≡◌, ◌≤◌, ℕ, List, [], ◌∷�
 ghost use Rattle.std.specs.List.{flat_map};
 ghost use Rattle.ideal_heap.specs.Commands.{IsValid};
 ghost use Rattle.trace_text.specs.Arguments.{argument_bytes};
-ghost use Rattle.trace_text.specs.Grammar.{trace, most_commands, IsAccepted};
+ghost use Rattle.trace_text.specs.Grammar.{trace, most_commands};
 ghost use Rattle.trace_text.specs.Text.{command_text, ended, trace_text};
 
 use crate::argument::Argument;
@@ -81,8 +81,7 @@ pub fn print_trace(alloc: Global, commands: &[Command]) -> Result<Vec<u8>, Alloc
     requires valid { All IsValid commands.now }
     requires few { length commands.now ≤ most_commands }
     ensures text { IfOk result (λ v. v.items ≡ trace_text commands.now) }
-    ensures again { All IsAccepted commands.now
-        → IfOk result (λ v. trace v.items ≡ Ok commands.now) }
+    ensures again { IfOk result (λ v. trace v.items ≡ Ok commands.now) }
     // No other text that ends with a newline is read so.
     ensures alone { (front : List ℕ) → trace (front ++ 10 ∷ []) ≡ Ok commands.now
         → IfOk result (λ v. v.items ≡ front ++ 10 ∷ []) }
