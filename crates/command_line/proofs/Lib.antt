@@ -1,0 +1,7 @@
+mod Numerals
+mod Settings
+mod Walks
+mod Options
+mod Matches
+mod Taking
+mod Spelled

@@ -1,0 +1,128 @@
+-- Words are cut to what they spell.
+use Rattle.std.proofs.Common.{◌≡◌, refl, ◌∙◌, sym, ap, ap₂, subst, cond, ℕ, Bool, true, false, ◌&&◌, not, nat_lt, List, [], ◌∷◌, ◌++◌, length, codes, inl, inr, arith, lt-ltb}
+use Rattle.std.specs.Prelude.{Option, None, Some, option_map, option_and_then}
+use Rattle.std.specs.List.{list_all}
+use Rattle.command_line.specs.Words.{GivenOption, Line, cut, has_dash, if_takes_value, in_one_word, in_two_words, is_file, only_files, setting_or, takes_value, with_setting}
+use Rattle.command_line.specs.Spelling.{Spells, SpellsLine}
+use Rattle.command_line.proofs.Options.{valued_cases}
+use Rattle.command_line.proofs.Walks.{behind, both, not_false, one_word_is, two_words_are}
+
+-- ---- what is cut is spelled so
+
+spelled_one : (word : List ℕ) (s : GivenOption) → in_one_word word ≡ Some s → Spells s (word ∷ [])
+spelled_one word s e =
+    one_word_is word s e (λ w t. Spells t (w ∷ [])) (inl (record { name = refl; value = refl; words_are = refl }))
+    (λ name value takes. inr (inl (record { name = takes; words_are = refl })))
+
+spelled_two : (name value : List ℕ) (s : GivenOption) → in_two_words name value ≡ Some s → Spells s (name ∷ value ∷ [])
+spelled_two name value s e = two_words_are name value s e (λ t. Spells t (name ∷ value ∷ [])) (λ takes plain. inr (inr (record { name = takes; value = plain; words_are = refl })))
+
+abbrev IsSpelled : Line → List (List ℕ) → Type 0
+IsSpelled l words = SpellsLine l.settings l.files words
+
+spelled_files : (words : List (List ℕ)) (l : Line) → only_files words ≡ Some l → IsSpelled l words
+spelled_files words l e = go (list_all is_file words) refl e
+  where
+    go : (b : Bool) → list_all is_file words ≡ b → cond b (Some (record { settings = []; files = words })) None ≡ Some l → IsSpelled l words
+    go true files same =
+        let mine : record { settings = []; files = words } ≡ l = cc in
+        subst (λ k. IsSpelled k words) mine (refl, files)
+    go false files same = cc
+
+spelled_front : (front rest : List (List ℕ)) (s : GivenOption) (l : Line) → Spells s front → option_map (with_setting s) (cut rest) ≡ Some l → ((m : Line) → cut rest ≡ Some m → IsSpelled m rest) → IsSpelled l (front ++ rest)
+spelled_front front rest s l spells e next =
+    let found = behind (cut rest) s l e in
+    let m : Line = found.0 in
+    subst (λ k. IsSpelled k (front ++ rest)) found.2 (front, rest, spells, next m found.1, refl)
+
+pub spelled : (words : List (List ℕ)) (l : Line) → cut words ≡ Some l → IsSpelled l words
+spelled [] l e = spelled_files [] l e
+spelled (word ∷ []) l e = go (in_one_word word) refl e (spelled [])
+  where
+    go : (o : Option GivenOption) → in_one_word word ≡ o → setting_or o (cut []) (only_files (word ∷ [])) ≡ Some l → ((m : Line) → cut [] ≡ Some m → IsSpelled m []) → IsSpelled l (word ∷ [])
+    go (Some s) given same none = spelled_front (word ∷ []) [] s l (spelled_one word s given) same none
+    go None given same none = spelled_files (word ∷ []) l same
+spelled (word ∷ next ∷ words) l e = go (in_one_word word) refl e (spelled (next ∷ words)) (spelled words)
+  where
+    second : (o : Option GivenOption) → in_two_words word next ≡ o → setting_or o (cut words) (only_files (word ∷ next ∷ words)) ≡ Some l → ((m : Line) → cut words ≡ Some m → IsSpelled m words) → IsSpelled l (word ∷ next ∷ words)
+    second (Some s) given same rest = spelled_front (word ∷ next ∷ []) words s l (spelled_two word next s given) same rest
+    second None given same rest = spelled_files (word ∷ next ∷ words) l same
+
+    go : (o : Option GivenOption) → in_one_word word ≡ o → setting_or o (cut (next ∷ words)) (setting_or (in_two_words word next) (cut words) (only_files (word ∷ next ∷ words))) ≡ Some l
+        → ((m : Line) → cut (next ∷ words) ≡ Some m → IsSpelled m (next ∷ words)) → ((m : Line) → cut words ≡ Some m → IsSpelled m words) → IsSpelled l (word ∷ next ∷ words)
+    go (Some s) given same others rest = spelled_front (word ∷ []) (next ∷ words) s l (spelled_one word s given) same others
+    go None given same others rest = second (in_two_words word next) refl same rest
+
+-- ---- what is spelled so is cut
+
+dashed_name : (name : List ℕ) → takes_value name ≡ true → has_dash name ≡ true
+dashed_name name e = valued_cases (λ word. has_dash word ≡ true) name e refl refl refl refl
+
+dashed_one : (word : List ℕ) (s : GivenOption) → in_one_word word ≡ Some s → has_dash word ≡ true
+dashed_one word s e =
+    one_word_is word s e (λ w t. has_dash w ≡ true) refl (λ name value takes. valued_cases (λ w. has_dash (w ++ 61 ∷ value) ≡ true) name takes refl refl refl refl)
+
+plain_file : (word : List ℕ) → is_file word ≡ true → has_dash word ≡ false
+plain_file word e = not_false (has_dash word) (both (nat_lt 0 (length word)) (not (has_dash word)) e).1
+
+no_one_word : (word : List ℕ) → has_dash word ≡ false → in_one_word word ≡ None
+no_one_word word plain = go (in_one_word word) refl
+  where
+    go : (o : Option GivenOption) → in_one_word word ≡ o → o ≡ None
+    go None is = refl
+    go (Some s) is = let bad : true ≡ false = sym (dashed_one word s is) ∙ plain in cc
+
+no_two_words : (name value : List ℕ) → has_dash name ≡ false → in_two_words name value ≡ None
+no_two_words name value plain = go (in_two_words name value) refl
+  where
+    go : (o : Option GivenOption) → in_two_words name value ≡ o → o ≡ None
+    go None is = refl
+    go (Some s) is =
+        let dash : has_dash name ≡ true = two_words_are name value s is (λ t. has_dash name ≡ true) (λ takes no_dash. dashed_name name takes) in
+        let bad : true ≡ false = sym dash ∙ plain in cc
+
+files_cut : (words : List (List ℕ)) → list_all is_file words ≡ true → cut words ≡ Some (record { settings = []; files = words })
+files_cut [] all = refl
+files_cut (word ∷ []) all =
+    let plain = plain_file word (both (is_file word) true all).0 in
+    ap (λ o. setting_or o (cut []) (only_files (word ∷ []))) (no_one_word word plain) ∙ ap (λ b. cond b (Some (record { settings = []; files = word ∷ [] })) None) all
+files_cut (word ∷ next ∷ words) all =
+    let plain = plain_file word (both (is_file word) (list_all is_file (next ∷ words)) all).0 in
+    ap (λ o. setting_or o (cut (next ∷ words)) (setting_or (in_two_words word next) (cut words) (only_files (word ∷ next ∷ words)))) (no_one_word word plain)
+    ∙ ap (λ o. setting_or o (cut words) (only_files (word ∷ next ∷ words))) (no_two_words word next plain)
+    ∙ ap (λ b. cond b (Some (record { settings = []; files = word ∷ next ∷ words })) None) all
+
+one_cut : (word : List ℕ) (rest : List (List ℕ)) (s : GivenOption) → in_one_word word ≡ Some s → cut (word ∷ rest) ≡ option_map (with_setting s) (cut rest)
+one_cut word [] s e = ap (λ o. setting_or o (cut []) (only_files (word ∷ []))) e
+one_cut word (next ∷ words) s e = ap (λ o. setting_or o (cut (next ∷ words)) (setting_or (in_two_words word next) (cut words) (only_files (word ∷ next ∷ words)))) e
+
+two_cut : (name value : List ℕ) (words : List (List ℕ)) → takes_value name ≡ true → has_dash value ≡ false → cut (name ∷ value ∷ words) ≡ option_map (with_setting (record { name = name; value = value })) (cut words)
+two_cut name value words takes plain =
+    let none : in_one_word name ≡ None = valued_cases (λ w. in_one_word w ≡ None) name takes refl refl refl refl in
+    let some : in_two_words name value ≡ Some (record { name = name; value = value }) =
+    ap (λ b. cond (b && not (has_dash value)) (Some (record { name = name; value = value })) None) takes ∙ ap (λ b. cond (not b) (Some (record { name = name; value = value })) None) plain in
+    ap (λ o. setting_or o (cut (value ∷ words)) (setting_or (in_two_words name value) (cut words) (only_files (name ∷ value ∷ words)))) none
+    ∙ ap (λ o. setting_or o (cut words) (only_files (name ∷ value ∷ words))) some
+
+joined_read : (name value : List ℕ) → takes_value name ≡ true → in_one_word (name ++ 61 ∷ value) ≡ Some (record { name = name; value = value })
+joined_read name value e =
+    let P : List ℕ → Type 0 = λ w. in_one_word (w ++ 61 ∷ value) ≡ Some (record { name = w; value = value }) in
+    let at : (w : List ℕ) → Bool → Option GivenOption = λ w b. option_and_then if_takes_value (cond b (Some (record { name = w; value = value })) None) in
+    let behind_six : nat_lt 6 (length (codes "--plan" ++ 61 ∷ value)) ≡ true = lt-ltb 6 (length (codes "--plan" ++ 61 ∷ value)) (omega arith) in
+    let behind_nine : nat_lt 9 (length (codes "--workers" ++ 61 ∷ value)) ≡ true = lt-ltb 9 (length (codes "--workers" ++ 61 ∷ value)) (omega arith) in
+    valued_cases P name e (ap (at (codes "--plan")) behind_six) (ap (at (codes "--heap")) behind_six) (ap (at (codes "--workers")) behind_nine) (ap (at (codes "--make")) behind_six)
+
+front_cut : (front rest : List (List ℕ)) (s : GivenOption) → Spells s front → cut (front ++ rest) ≡ option_map (with_setting s) (cut rest)
+front_cut front rest s (inl flag) =
+    let of_map : cut (codes "--map" ∷ rest) ≡ option_map (with_setting (record { name = codes "--map"; value = [] })) (cut rest) = one_cut (codes "--map") rest (record { name = codes "--map"; value = [] }) refl in
+    let made : List ℕ → List ℕ → GivenOption = λ name value. record { name = name; value = value } in
+    let same : made (codes "--map") [] ≡ made s.name s.value = ap₂ made (sym flag.name) (sym flag.value) in
+    ap (λ f. cut (f ++ rest)) flag.words_are ∙ of_map ∙ ap (λ t. option_map (with_setting t) (cut rest)) same
+front_cut front rest s (inr (inl one)) =
+    ap (λ f. cut (f ++ rest)) one.words_are ∙ one_cut (s.name ++ 61 ∷ s.value) rest s (joined_read s.name s.value one.name)
+front_cut front rest s (inr (inr two)) = ap (λ f. cut (f ++ rest)) two.words_are ∙ two_cut s.name s.value rest two.name two.value
+
+pub cut_of_spelled : (ss : List GivenOption) (files words : List (List ℕ)) → SpellsLine ss files words → cut words ≡ Some (record { settings = ss; files = files })
+cut_of_spelled [] files words spells = ap cut spells.0 ∙ files_cut files spells.1
+cut_of_spelled (s ∷ ss) files words spells =
+    ap cut spells.4 ∙ front_cut spells.0 spells.1 s spells.2 ∙ ap (option_map (with_setting s)) (cut_of_spelled ss files spells.1 spells.3)

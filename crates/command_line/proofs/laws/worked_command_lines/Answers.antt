@@ -1,0 +1,67 @@
+use Rattle.std.proofs.Common.{refl}
+use Rattle.command_line.specs.Words.{form_of, job_of}
+use Rattle.command_line.proofs.laws.worked_command_lines.Goals as goal
+
+pub returns-clause-words : goal.returns-clause-words
+unfolding form_of job_of
+returns-clause-words c = refl
+
+pub returns-clause-joined : goal.returns-clause-joined
+unfolding form_of job_of
+returns-clause-joined c = refl
+
+pub returns-clause-mixed : goal.returns-clause-mixed
+unfolding form_of job_of
+returns-clause-mixed c = refl
+
+pub returns-clause-made : goal.returns-clause-made
+unfolding form_of job_of
+returns-clause-made c = refl
+
+pub returns-clause-nothing : goal.returns-clause-nothing
+unfolding form_of job_of
+returns-clause-nothing c = refl
+
+pub returns-clause-help : goal.returns-clause-help
+unfolding form_of job_of
+returns-clause-help c = refl
+
+pub returns-clause-no_plan : goal.returns-clause-no_plan
+unfolding form_of job_of
+returns-clause-no_plan c = refl
+
+pub returns-clause-other_plan : goal.returns-clause-other_plan
+unfolding form_of job_of
+returns-clause-other_plan c = refl
+
+pub returns-clause-no_file : goal.returns-clause-no_file
+unfolding form_of job_of
+returns-clause-no_file c = refl
+
+pub returns-clause-small_heap : goal.returns-clause-small_heap
+unfolding form_of job_of
+returns-clause-small_heap c = refl
+
+pub returns-clause-twice : goal.returns-clause-twice
+unfolding form_of job_of
+returns-clause-twice c = refl
+
+pub returns-clause-both : goal.returns-clause-both
+unfolding form_of job_of
+returns-clause-both c = refl
+
+pub returns-clause-behind_a_file : goal.returns-clause-behind_a_file
+unfolding form_of job_of
+returns-clause-behind_a_file c = refl
+
+pub returns-clause-empty_word : goal.returns-clause-empty_word
+unfolding form_of job_of
+returns-clause-empty_word c = refl
+
+pub returns-clause-unserved : goal.returns-clause-unserved
+unfolding form_of job_of
+returns-clause-unserved c = refl
+
+pub returns-clause-served : goal.returns-clause-served
+unfolding form_of job_of
+returns-clause-served c = refl

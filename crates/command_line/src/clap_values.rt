@@ -1,0 +1,97 @@
+ghost use Rattle.std.specs.Prelude.{◌≡◌, IfOk, Some, true, false, alloc_error, is_some};
+ghost use Rattle.clap.specs.Words.{app_of, kind_of, rule_of};
+ghost use Rattle.command_line.specs.Words.{Line, line_of, values_in};
+ghost use Rattle.command_line.specs.Orders.{texts, values_seen};
+ghost use Rattle.command_line.specs.Reader.{bare as bare_app, files_rule, map_rule, option_rule, reader};
+
+use clap::error::ErrorKind;
+use clap::{Arg, ArgAction, Command, Error};
+use std::alloc::{AllocError, Global};
+
+// The values of the options.
+#[derive(Drop)]
+pub(crate) struct Found<'a> {
+    pub(crate) plan: Option<&'a str>,
+    pub(crate) heap: Option<&'a str>,
+    pub(crate) workers: Option<&'a str>,
+    pub(crate) make: Option<&'a str>,
+    pub(crate) map: bool,
+}
+
+fn option<'a>(alloc: Global, name: &'a str) -> Arg<'a>
+    ensures rule { rule_of result ≡ option_rule name.entry.now }
+    ensures own { result.global ≡ false }
+{
+    Arg::new(alloc, name).long(name)
+}
+
+fn map_flag<'a>(alloc: Global) -> Arg<'a>
+    ensures rule { rule_of result ≡ map_rule }
+    ensures own { result.global ≡ false }
+{
+    Arg::new(alloc, "map")
+        .long("map")
+        .action(ArgAction::SetTrue)
+}
+
+fn files<'a>(alloc: Global) -> Arg<'a>
+    ensures rule { rule_of result ≡ files_rule }
+    ensures own { result.global ≡ false }
+{
+    Arg::new(alloc, "files")
+        .action(ArgAction::Append)
+        .num_args(1..)
+}
+
+fn bare<'a>(alloc: Global) -> Command<'a>
+    ensures { app_of result ≡ bare_app }
+{
+    Command::new(alloc, "mm_drive")
+        .no_binary_name(true)
+        .disable_help_flag(true)
+}
+
+// The command whose last positional takes the files.
+fn command<'a>(alloc: Global) -> Result<Command<'a>, AllocError>
+    ensures { IfOk result (λ c. app_of c ≡ reader) }
+{
+    bare(alloc)
+        .arg(option(alloc, "plan"))?
+        .arg(option(alloc, "heap"))?
+        .arg(option(alloc, "workers"))?
+        .arg(option(alloc, "make"))?
+        .arg(map_flag(alloc))?
+        .arg(files(alloc))
+}
+
+// The one reason for which clap refuses words of the form.
+fn refused(error: &Error) -> AllocError
+    requires { kind_of error.now ≡ ErrorKind.OutOfMemory }
+    ensures { result ≡ alloc_error }
+{
+    AllocError
+}
+
+// Reads words of the form, which clap takes.
+pub(crate) fn read_values<'a>(alloc: Global, words: &'a [String]) -> Result<Found<'a>, AllocError>
+    requires { is_some (line_of (texts words.now)) ≡ true }
+    ensures { IfOk result (λ v. (l : Line) → line_of (texts words.now) ≡ Some l → values_seen v ≡ values_in l.settings) }
+{
+    let command = command(alloc)?;
+    let matches = match command.try_get_matches_from(words) {
+        Ok(matches) => matches,
+        Err(error) => return Err(refused(&error)),
+    };
+    let plan = matches.get_str("plan");
+    let heap = matches.get_str("heap");
+    let workers = matches.get_str("workers");
+    let make = matches.get_str("make");
+    let map = matches.get_flag("map");
+    Ok(Found {
+        plan,
+        heap,
+        workers,
+        make,
+        map,
+    })
+}

@@ -1,0 +1,80 @@
+ghost use Rattle.std.specs.Prelude.{◌≡◌, ◌≤◌, ◌<◌, ◌^◌, map, option_map, length, is_some};
+ghost use Rattle.command_line.specs.Words.{number_in, plan_of, work_of as work_with, workers_of as workers_with};
+ghost use Rattle.command_line.specs.Orders.{plan_in, texts, work_in};
+
+use crate::order::{PlanName, Target};
+
+// The number of a numeral that lies within the bounds.
+#[tactic(auto, using(crate::proofs::Numerals::numerals))]
+pub(crate) fn number_within(word: &str, least: u32, most: u32) -> Option<u32>
+    ensures { result ≡ number_in least most word.now }
+{
+    let bytes = word.as_bytes();
+    if bytes.is_empty() {
+        return None;
+    }
+    if bytes[0] == b'0' && bytes.len() > 1 {
+        return None;
+    }
+    // Past `most` the number only grows, so its digits are no longer added.
+    let mut value: u64 = 0;
+    for b in bytes {
+        if !b.is_ascii_digit() {
+            return None;
+        }
+        if value <= u64::from(most) {
+            value = value * 10 + u64::from(*b - b'0');
+        }
+    }
+    if value < u64::from(least) || value > u64::from(most) {
+        return None;
+    }
+    Some(value as u32)
+}
+
+pub(crate) fn plan_named(word: &str) -> Option<PlanName>
+    ensures { option_map plan_in result ≡ plan_of word.now }
+{
+    if word == "nogc" {
+        Some(PlanName::NoGc)
+    } else if word == "marksweep" {
+        Some(PlanName::MarkSweep)
+    } else if word == "semispace" {
+        Some(PlanName::SemiSpace)
+    } else if word == "gencopy" {
+        Some(PlanName::GenCopy)
+    } else if word == "immix" {
+        Some(PlanName::Immix)
+    } else if word == "stickyimmix" {
+        Some(PlanName::StickyImmix)
+    } else {
+        None
+    }
+}
+
+pub(crate) fn workers_of(word: Option<&str>) -> Option<u32>
+    ensures { result ≡ workers_with (option_map (λ w. w.now) word.entry) }
+{
+    match word {
+        None => Some(1),
+        Some(word) => number_within(word, 1, 16),
+    }
+}
+
+pub(crate) fn work_of<'a>(made: Option<&str>, map: bool, files: &'a [String]) -> Option<Target<'a>>
+    ensures { option_map work_in result ≡ work_with (option_map (λ w. w.now) made.entry) map (texts files.now) }
+{
+    let Some(word) = made else {
+        if files.is_empty() || files.len() > 16 {
+            return None;
+        }
+        return Some(Target::Files(files));
+    };
+    if map || !files.is_empty() {
+        return None;
+    }
+    match number_within(word, 1, 1_000_000) {
+        Some(n) => Some(Target::Made(n)),
+        None => None,
+    }
+}
