@@ -64,6 +64,13 @@ pub record Lies (s : HeapState) (a size : ℕ) : Type 0 where
 abbrev pub IsReference : HeapState → ℕ → Type 0
 IsReference s v = v ≢ 0 → IsHeld s v
 
+-- what a reference field may hold, and what a register or a global may hold
+abbrev pub IsRefField : HeapState → ℕ → Type 0
+IsRefField s v = IsReference s v
+
+abbrev pub IsRoot : HeapState → ℕ → Type 0
+IsRoot s v = IsReference s v
+
 -- some run that begins before block k has it
 abbrev pub is_in_run : HeapState → ℕ → Bool
 is_in_run s k = list_any (λ h. has_kind s h kinds.LargeHead && nat_lt k (h + class_at s h)) (range_with_len 0 k)
@@ -78,8 +85,8 @@ pub record HasLawfulObjects (s : HeapState) : Type 0 where
   pub apart : (a x i : ℕ) → IsHeld s a → IsHeld s x → IsInExtent s a i → IsInExtent s x i → a ≡ x
   pub heads : (k : ℕ) → HasKind s k kinds.LargeHead → IsHeld s (block_start s.blocks k) × (2048 < size_at s (block_start s.blocks k))
   pub tails : (k : ℕ) → HasKind s k kinds.LargeTail → IsTrue (is_in_run s k)
-  pub references : (a i : ℕ) → IsHeld s a → i < refs_at s a → IsReference s (ref_at s a i)
-  pub globals : (g : ℕ) → g < 16 → IsReference s (global_at s g)
+  pub references : (a i : ℕ) → IsHeld s a → i < refs_at s a → IsRefField s (ref_at s a i)
+  pub globals : (g : ℕ) → g < 16 → IsRoot s (global_at s g)
   pub names : (a x : ℕ) → IsHeld s a → IsHeld s x → name_at s a ≡ name_at s x → a ≡ x
 
 -- no word of block k is an object's, and no bit is set there

@@ -102,10 +102,14 @@ ref_at s a i = word_at s (a + 3 + i)
 abbrev pub num_at : HeapState → ℕ → ℕ → ℕ
 num_at s a j = word_at s (a + 3 + refs_at s a + j)
 
--- the word at i is one of the object's at a
-pub record IsInExtent (s : HeapState) (a i : ℕ) : Type 0 where
+-- the word at i is one of an object's of this size at a
+pub record IsInExtentOf (a size i : ℕ) : Type 0 where
   pub from : a ≤ i
-  pub below : i < a + size_at s a
+  pub below : i < a + size
+
+-- the word at i is one of the object's at a
+abbrev pub IsInExtent : HeapState → ℕ → ℕ → Type 0
+IsInExtent s a i = IsInExtentOf a (size_at s a) i
 
 -- what a reference field says, by names
 abbrev pub field_of_word : HeapState → ℕ → Field

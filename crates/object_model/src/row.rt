@@ -9,7 +9,7 @@ use side_meta::{clear, set, test};
 
 /// A heap as plain data, for who changes its words and knows what that leaves lawful.
 ///
-/// Its methods read and write one object's words. An object has its name at its address, then its
+/// Its methods read and write objects, globals and the words of blocks. An object has its name at its address, then its
 /// shape, the collector's word, its references and its numbers.
 #[derive(Debug, Drop)]
 pub struct Row {
@@ -127,7 +127,7 @@ impl Row {
     }
 
     /// Sets the word of block `k`.
-    pub fn take_block(&mut self, k: u32, word: &BlockWord)
+    pub fn set_block(&mut self, k: u32, word: &BlockWord)
         requires extent { length self.old.words.items ≡ words_of (state_of self.old).blocks }
         requires block { k < (state_of self.old).blocks }
         requires valid { IsValid word.now }

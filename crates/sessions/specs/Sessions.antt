@@ -242,7 +242,7 @@ pub record AddsObject (old new : HeapState) (a refs nums : ℕ) : Type 0 where
   pub words : (x i : ℕ) → IsHeld old x → i < size_at old x → word_at new (x + i) ≡ word_at old (x + i)
   pub bits : (x : ℕ) → IsHeld old x → (is_pinned new x ≡ is_pinned old x) × (is_unlogged new x ≡ is_unlogged old x)
 
--- nothing changes before the block words, nor in other blocks than the n from this one on
+-- no word before the block words changes, and of the heap's words those of the n blocks from this one on alone
 pub record ChangesBlocks (old new : HeapState) (used n : ℕ) : Type 0 where
   pub front : (i : ℕ) → i < first old.blocks BlockWords → word_at new i ≡ word_at old i
   pub elsewhere : (i : ℕ) → IsAddress old.blocks i → (block_at old.blocks i < used) ⊎ (used + n ≤ block_at old.blocks i) → word_at new i ≡ word_at old i
