@@ -1,0 +1,81 @@
+-- What is known of a job that words name.
+use Rattle.std.proofs.Common.{◌≡◌, refl, sym, ◌∙◌, ap, subst, ℕ, ◌≤◌, Bool, true, false, ◌&&◌, List, [], ◌∷◌, nat_eq}
+use Rattle.std.specs.Prelude.{Option, None, Some, option_and_then, unwrap_or, nat_le, not, if◌then◌else◌}
+use Rattle.std.proofs.lemmas.Bool.{true≢false, leb-true, eqb-true}
+use Rattle.std.proofs.lemmas.Option.{none-some}
+use Rattle.ideal_heap.specs.declared.command.Command.{Command}
+use Rattle.trace_text.specs.Grammar.{numeral}
+use Rattle.sessions.specs.Plans.{Plan, NoGc, MarkSweep, SemiSpace, GenCopy, Immix, StickyImmix}
+use Rattle.sessions.specs.Alone.{alone_under_nogc}
+use Rattle.command_line.specs.Words.{Job, Work, Line, Values, job_of, form_of, line_of, job_in, job_with, plan_of, number_in, if_within, workers_of, work_of, values_in, is_served, if_served, is_nogc, is_one_file}
+use Rattle.mm_drive.specs.Printed.{setting_of}
+
+both : (a b : Bool) → (a && b) ≡ true → (a ≡ true) × (b ≡ true)
+both true b e = (refl, e)
+both false b e = absurd (true≢false (sym e))
+
+picked : {X : Type 0} (b : Bool) (x y : X) → (if b then Some x else None) ≡ Some y → (b ≡ true) × (x ≡ y)
+picked true x y e = (refl, ap (λ o. unwrap_or o x) e)
+picked false x y e = absurd (none-some y e)
+
+served-in : (o : Option Job) (job : Job) → option_and_then if_served o ≡ Some job → (is_served job ≡ true) × (o ≡ Some job)
+served-in None job e = absurd (none-some job e)
+served-in (Some j) job e =
+    let p = picked (is_served j) j job e in
+    (subst (λ (x : Job). is_served x ≡ true) p.1 p.0, ap (λ x. Some x) p.1)
+
+-- the job is served, and named by words of the form
+pub job-served : (words : List (List ℕ)) (job : Job) → Some job ≡ job_of words → (is_served job ≡ true) × (form_of words ≡ Some job)
+unfolding job_of
+job-served words job e = served-in (form_of words) job (sym e)
+
+within-bounds : (least most : ℕ) (o : Option ℕ) (n : ℕ) → option_and_then (if_within least most) o ≡ Some n → (least ≤ n) × (n ≤ most)
+within-bounds least most None n e = absurd (none-some n e)
+within-bounds least most (Some k) n e =
+    let p = picked (nat_le least k && nat_le k most) k n e in
+    let q = both (nat_le least k) (nat_le k most) p.0 in
+    (subst (λ (x : ℕ). least ≤ x) p.1 (leb-true least k q.0), subst (λ (x : ℕ). x ≤ most) p.1 (leb-true k most q.1))
+
+read-bounds : (least most : ℕ) (o : Option (List ℕ)) (n : ℕ) → option_and_then (number_in least most) o ≡ Some n → (least ≤ n) × (n ≤ most)
+read-bounds least most None n e = absurd (none-some n e)
+read-bounds least most (Some word) n e = within-bounds least most (numeral word) n e
+
+with-blocks : (has_map : Bool) (p : Option Plan) (b w : Option ℕ) (k : Option Work) (job : Job) → job_with has_map p b w k ≡ Some job → b ≡ Some job.blocks
+with-blocks has_map None b w k job e = absurd (none-some job e)
+with-blocks has_map (Some plan) None w k job e = absurd (none-some job e)
+with-blocks has_map (Some plan) (Some blocks) None k job e = absurd (none-some job e)
+with-blocks has_map (Some plan) (Some blocks) (Some workers) None job e = absurd (none-some job e)
+with-blocks has_map (Some plan) (Some blocks) (Some workers) (Some work) job e =
+    let first : Job = record { plan = plan; blocks = blocks; workers = workers; map = has_map; work = work } in
+    ap (λ o. Some (unwrap_or o first).blocks) e
+
+line-bounds : (o : Option Line) (job : Job) → option_and_then job_in o ≡ Some job → (4 ≤ job.blocks) × (job.blocks ≤ 1024)
+line-bounds None job e = absurd (none-some job e)
+line-bounds (Some line) job e =
+    let v : Values = values_in line.settings in
+    read-bounds 4 1024 v.heap job.blocks
+    (with-blocks v.has_map (option_and_then plan_of v.plan) (option_and_then (number_in 4 1024) v.heap) (workers_of v.workers) (work_of v.make v.has_map line.files) job e)
+
+-- its blocks are as many as a heap may have
+pub job-blocks : (words : List (List ℕ)) (job : Job) → form_of words ≡ Some job → (4 ≤ job.blocks) × (job.blocks ≤ 1024)
+unfolding form_of
+job-blocks words job e = line-bounds (line_of words) job e
+
+nogc-is : (p : Plan) → is_nogc p ≡ true → p ≡ NoGc
+nogc-is NoGc e = refl
+nogc-is MarkSweep e = absurd (true≢false (sym e))
+nogc-is SemiSpace e = absurd (true≢false (sym e))
+nogc-is GenCopy e = absurd (true≢false (sym e))
+nogc-is Immix e = absurd (true≢false (sym e))
+nogc-is StickyImmix e = absurd (true≢false (sym e))
+
+-- its session with one trace
+pub served-setting : (job : Job) (b : ℕ) (t : List Command) → is_served job ≡ true → b ≡ job.blocks → setting_of job (t ∷ []) ≡ alone_under_nogc b t
+served-setting job b t served same =
+    let parts = both (is_nogc job.plan && nat_eq job.workers 1 && not job.map) (is_one_file job.work) served in
+    let rest = both (is_nogc job.plan && nat_eq job.workers 1) (not job.map) parts.0 in
+    let first = both (is_nogc job.plan) (nat_eq job.workers 1) rest.0 in
+    let one : job.workers ≡ 1 = eqb-true job.workers 1 first.1 in
+    ap (λ p. setting_of (record job { plan = p }) (t ∷ [])) (nogc-is job.plan first.0)
+    ∙ ap (λ k. setting_of (record job { plan = NoGc; blocks = k }) (t ∷ [])) (sym same)
+    ∙ ap (λ w. setting_of (record job { plan = NoGc; blocks = b; workers = w }) (t ∷ [])) one

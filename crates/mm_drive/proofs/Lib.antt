@@ -1,0 +1,4 @@
+mod Pieces
+mod Running
+pub mod Jobs
+pub mod Outcomes

@@ -1,0 +1,77 @@
+//! `mm_drive`: runs traces of commands on a managed heap, and prints the replies.
+#![tactic(auto)]
+
+mod births;
+mod driver;
+mod engine;
+mod fields;
+mod file_sources;
+mod files;
+mod gate;
+mod memory_sinks;
+mod memory_sources;
+mod outside;
+mod reading;
+mod roots;
+mod status;
+mod stream_sinks;
+mod tails;
+mod telling;
+#[cfg(test)]
+mod tests;
+mod text;
+mod top;
+#[cfg(test)]
+mod top_tests;
+mod writing;
+
+use crate::telling::{tell_memory, tell_usage};
+pub use file_sources::FileSources;
+pub use gate::{Gate, OpenGate, Point};
+pub use memory_sinks::{MemSink, SureSink};
+pub use memory_sources::{MemSources, SureSources};
+pub use outside::{Failed, OpenFault, Sink, Sources};
+pub use status::Status;
+use std::io::ErrorKind;
+use std::process::ExitCode;
+use std::{env, io};
+pub use stream_sinks::{ErrSink, OutSink, StreamSink};
+pub use top::run;
+
+// The words behind the program's name.
+fn command_words(rt: &HostRuntime) -> io::Result<Vec<String>> {
+    let mut words = Vec::new(rt.alloc());
+    for word in env::args(rt)?.skip(1) {
+        words.push(word)?;
+    }
+    Ok(words)
+}
+
+fn main(rt: HostRuntime) -> ExitCode {
+    let mut err = ErrSink::new(rt.stderr());
+    let status = match command_words(&rt) {
+        Ok(words) => {
+            let mut sources = FileSources::new(&rt, rt.alloc());
+            let mut out = OutSink::new(rt.stdout());
+            run(
+                &rt,
+                rt.alloc(),
+                &words,
+                &mut sources,
+                &mut out,
+                &mut err,
+                &OpenGate,
+            )
+        }
+        Err(e) if e.kind() == ErrorKind::OutOfMemory => {
+            tell_memory(&mut err);
+            Status::OutOfMemory
+        }
+        // A word that is not UTF-8.
+        Err(_) => {
+            tell_usage(&mut err);
+            Status::Usage
+        }
+    };
+    ExitCode::from(status.number())
+}

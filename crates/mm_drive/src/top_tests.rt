@@ -1,0 +1,417 @@
+// Whole runs: what is printed, what is told, and how they end.
+use crate::gate::OpenGate;
+use crate::memory_sinks::{MemSink, SureSink};
+use crate::memory_sources::{MemSources, SureSources};
+use crate::status::Status;
+use crate::top::run;
+use ideal_heap::Ideal;
+use std::alloc::{AllocError, Global};
+use std::fmt::Write;
+use std::test::Fail;
+use std::thread::Threads;
+use trace_text::{print_mutator, print_reply, read_trace};
+
+const FIRST: &str = "new r0 1 1;write r0 0 7;read r0 0;get r1 r0 0";
+
+const FIRST_TEXT: &[u8] = b"mutator 1\nnew 1.1\nok\nnum 7\nnil\n";
+
+// A word before each space, and one behind the last.
+fn words_in(alloc: Global, line: &str) -> Result<Vec<String>, AllocError> {
+    let mut words = Vec::new(alloc);
+    for word in line.split(' ') {
+        words.push(String::from_str(alloc, word)?)?;
+    }
+    Ok(words)
+}
+
+// A trace whose commands stand between semicolons.
+fn trace_in(alloc: Global, commands: &str) -> Result<Vec<u8>, AllocError> {
+    let mut text = Vec::from_slice(alloc, b"mmtrace 1\n")?;
+    for command in commands.split(';') {
+        text.extend_from_slice(command.as_bytes())?;
+        text.push(b'\n')?;
+    }
+    Ok(text)
+}
+
+// The one file that there is.
+fn file_of(
+    alloc: Global,
+    name: &str,
+    content: Vec<u8>,
+) -> Result<Vec<(String, Vec<u8>)>, AllocError> {
+    let mut files = Vec::new(alloc);
+    files.push((String::from_str(alloc, name)?, content))?;
+    Ok(files)
+}
+
+// What a run printed, what it told, and how it ended.
+#[derive(Drop)]
+struct Ran {
+    status: Status,
+    out: Vec<u8>,
+    err: Vec<u8>,
+}
+
+// Runs the words, where file `a` has this content.
+fn run_words<R: Threads + Sync>(
+    rt: &R,
+    alloc: Global,
+    line: &str,
+    content: Vec<u8>,
+) -> Result<Ran, AllocError> {
+    let words = words_in(alloc, line)?;
+    let mut sources = MemSources::new(alloc, file_of(alloc, "a", content)?, Vec::new(alloc));
+    let mut out = MemSink::new(alloc, 8_000_000, 65_536, Vec::new(alloc))?;
+    let mut err = MemSink::new(alloc, 1000, 1000, Vec::new(alloc))?;
+    let status = run(
+        rt,
+        alloc,
+        &words,
+        &mut sources,
+        &mut out,
+        &mut err,
+        &OpenGate,
+    );
+    Ok(Ran {
+        status,
+        out: out.bytes().to_vec(alloc)?,
+        err: err.bytes().to_vec(alloc)?,
+    })
+}
+
+#[test]
+fn replies(rt: HostRuntime) -> Result<(), Fail> {
+    let alloc = rt.alloc();
+    let table = [
+        (FIRST, "new 1.1;ok;num 7;nil"),
+        (
+            "new r0 0 2045;new r0 0 2045;new r0 0 2045;new r0 0 2045;new r0 0 2045;new r0 0 2045;new r0 0 2045;new r0 0 2045;new r0 0 2045",
+            "new 1.1;new 1.2;new 1.3;new 1.4;new 1.5;new 1.6;new 1.7;new 1.8;full",
+        ),
+        (
+            "read r3 0;new r0 1 2;read r0 9;read r0 2;get r1 r0 1;pin r3",
+            "null;new 1.1;range;range;range;null",
+        ),
+        (
+            "new r0 0 1;write r0 0 18446744073709551615;add r0 0 1;read r0 0;swap r0 0 1 5;swap r0 0 0 5;read r0 0",
+            "new 1.1;ok;num 18446744073709551615;num 0;no;yes;num 5",
+        ),
+        (
+            "new r0 1 0;new r1 1 0;put r0 0 r1;put r1 0 r0;drop r1;gc;get r2 r0 0;get r3 r2 0;drop r0;drop r2;drop r3;gc",
+            "new 1.1;new 1.2;ok;ok;ok;ok;ref 1.2;ref 1.1;ok;ok;ok;ok",
+        ),
+        (
+            "new r0 1 0;gc;new r1 0 1;write r1 0 9;put r0 0 r1;drop r1;get r3 r0 0;read r3 0",
+            "new 1.1;ok;new 1.2;ok;ok;ok;ref 1.2;num 9",
+        ),
+        (
+            "new r0 1024 0;get r1 r0 1023;put r0 1023 r0;get r1 r0 1023",
+            "new 1.1;nil;ok;ref 1.1",
+        ),
+        (
+            "new r0 0 2046;new r0 0 60000;new r0 0 0;new r0 0 2045",
+            "full;full;new 1.1;new 1.2",
+        ),
+        (
+            "load r1 g0;new r0 0 0;share g15 r0;drop r0;pin r0;load r2 g15;move r3 r2;pin r3;pin r2;unpin r3;unpin r2;meet;share g15 r0;load r2 g15",
+            "nil;new 1.1;ok;ok;null;ref 1.1;ok;yes;no;yes;no;ok;ok;nil",
+        ),
+    ];
+    for (commands, want) in table {
+        let ran = run_words(
+            &rt,
+            alloc,
+            "--plan nogc --heap 4 a",
+            trace_in(alloc, commands)?,
+        )?;
+        let mut text = Vec::from_slice(alloc, b"mutator 1\n")?;
+        for reply in want.split(';') {
+            text.extend_from_slice(reply.as_bytes())?;
+            text.push(b'\n')?;
+        }
+        assert_eq!(rt; ran.status, Status::Ok, "{commands}");
+        assert_eq!(rt; ran.out.as_slice(), text.as_slice(), "{commands}");
+        assert!(rt; ran.err.is_empty());
+    }
+    let ran = run_words(
+        &rt,
+        alloc,
+        "--plan nogc --heap 1024 a",
+        b"mmtrace 1".to_vec(alloc)?,
+    )?;
+    assert_eq!(rt; ran.status, Status::Ok);
+    assert_eq!(rt; ran.out.as_slice(), b"mutator 1\n".as_slice());
+    Ok(())
+}
+
+#[test]
+fn refusals(rt: HostRuntime) -> Result<(), Fail> {
+    let alloc = rt.alloc();
+    let usage =
+        "mm_drive: usage: mm_drive --plan P --heap B [--workers W] [--map] FILE... | mm_drive --plan P --heap B [--workers W] --make N\n";
+    let good = "--plan nogc --heap 4 a";
+    let table = [
+        ("--plan lisp2 --heap 4 a", "", 2, usage),
+        ("--heap 4 a", "", 2, usage),
+        ("--plan nogc --heap 3 a", "", 2, usage),
+        ("--help", "", 2, usage),
+        ("--plan nogc --heap 4 b", "", 3, "mm_drive: cannot read b\n"),
+        (good, "", 5, "mm_drive: a: line 1: header\n"),
+        (good, "mmtrace 1\n\n", 5, "mm_drive: a: line 2: word\n"),
+        (
+            good,
+            "mmtrace 1\nnew r0 1025 0\n",
+            5,
+            "mm_drive: a: line 2: range\n",
+        ),
+        (
+            good,
+            "mmtrace 1\nread r00 0\n",
+            5,
+            "mm_drive: a: line 2: number\n",
+        ),
+        (
+            good,
+            "mmtrace 1\nread r0 0\nread r0\n",
+            5,
+            "mm_drive: a: line 3: count\n",
+        ),
+    ];
+    for (line, content, number, told) in table {
+        let ran = run_words(&rt, alloc, line, content.as_bytes().to_vec(alloc)?)?;
+        assert_eq!(rt; ran.status.number(), number, "{line}");
+        assert!(rt; ran.out.is_empty(), "{line}");
+        assert_eq!(rt; ran.err.as_slice(), told.as_bytes(), "{line}");
+    }
+    Ok(())
+}
+
+#[test]
+fn limits(rt: HostRuntime) -> Result<(), Fail> {
+    let alloc = rt.alloc();
+    let line = "--plan nogc --heap 4 a";
+    let ran = run_words(&rt, alloc, line, vec![in alloc; 10u8; 16_777_217]?)?;
+    assert_eq!(rt; ran.status, Status::TooLong);
+    assert_eq!(rt;
+        ran.err.as_slice(),
+        b"mm_drive: a is longer than 16777216 bytes\n".as_slice()
+    );
+    let ran = run_words(&rt, alloc, line, vec![in alloc; 10u8; 16_777_216]?)?;
+    assert_eq!(rt; ran.status, Status::BadTrace);
+    let mut text = Vec::from_slice(alloc, b"mmtrace 1\n")?;
+    for _ in 0..1_000_000 {
+        text.extend_from_slice(b"gc\n")?;
+    }
+    let full = text.as_slice().to_vec(alloc)?;
+    text.extend_from_slice(b"x\n")?;
+    let ran = run_words(&rt, alloc, line, text)?;
+    assert_eq!(rt; ran.status, Status::BadTrace);
+    assert_eq!(rt;
+        ran.err.as_slice(),
+        b"mm_drive: a: more than 1000000 commands\n".as_slice()
+    );
+    let ran = run_words(&rt, alloc, line, full)?;
+    assert_eq!(rt; ran.status, Status::Ok);
+    assert_eq!(rt; ran.out.len(), 3_000_010);
+    Ok(())
+}
+
+// A failure at each call of the source, of the sink, and of standard error.
+#[test]
+fn failures(rt: HostRuntime) -> Result<(), Fail> {
+    let alloc = rt.alloc();
+    let words = words_in(alloc, "--plan nogc --heap 4 a")?;
+    for k in 1..40u64 {
+        let files = file_of(alloc, "a", trace_in(alloc, FIRST)?)?;
+        let mut sources = MemSources::new(alloc, files, [k].to_vec(alloc)?);
+        let mut out = MemSink::new(alloc, 100, 1, [k].to_vec(alloc)?)?;
+        let mut err = MemSink::new(alloc, 100, 100, Vec::new(alloc))?;
+        let status = run(
+            &rt,
+            alloc,
+            &words,
+            &mut sources,
+            &mut out,
+            &mut err,
+            &OpenGate,
+        );
+        // An opening, a piece and the end.
+        if k <= 3 {
+            assert_eq!(rt; status, Status::ReadFault, "call {k}");
+            assert!(rt; out.bytes().is_empty());
+            assert_eq!(rt; err.bytes(), b"mm_drive: cannot read a\n".as_slice());
+        } else if k <= FIRST_TEXT.len() as u64 {
+            assert_eq!(rt; status, Status::WriteFault, "call {k}");
+            assert_eq!(rt; out.bytes().len() as u64, k - 1);
+            assert!(rt; FIRST_TEXT.starts_with(out.bytes()));
+            assert_eq!(rt; err.bytes(), b"mm_drive: write failed\n".as_slice());
+        } else {
+            assert_eq!(rt; status, Status::Ok, "call {k}");
+            assert_eq!(rt; out.bytes(), FIRST_TEXT);
+            assert!(rt; err.bytes().is_empty());
+        }
+    }
+    for k in 1..4u64 {
+        let mut sources = MemSources::new(alloc, Vec::new(alloc), Vec::new(alloc));
+        let mut err = MemSink::new(alloc, 100, 100, [k].to_vec(alloc)?)?;
+        let status = run(
+            &rt,
+            alloc,
+            &words,
+            &mut sources,
+            &mut SureSink,
+            &mut err,
+            &OpenGate,
+        );
+        assert_eq!(rt; status, Status::ReadFault);
+        assert!(rt;
+            err.bytes().len() < 24 && b"mm_drive: cannot read a\n".starts_with(err.bytes())
+        );
+    }
+    Ok(())
+}
+
+// Eight bytes a call, and a failure at the third.
+#[test]
+fn front(rt: HostRuntime) -> Result<(), Fail> {
+    let alloc = rt.alloc();
+    let words = words_in(alloc, "--plan nogc --heap 4 a")?;
+    let files = file_of(alloc, "a", trace_in(alloc, FIRST)?)?;
+    let mut sources = MemSources::new(alloc, files, Vec::new(alloc));
+    let mut out = MemSink::new(alloc, 100, 8, [3u64].to_vec(alloc)?)?;
+    let status = run(
+        &rt,
+        alloc,
+        &words,
+        &mut sources,
+        &mut out,
+        &mut SureSink,
+        &OpenGate,
+    );
+    assert_eq!(rt; status, Status::WriteFault);
+    assert_eq!(rt; out.bytes(), b"mutator 1\nnew 1.".as_slice());
+    Ok(())
+}
+
+#[test]
+fn sure(rt: HostRuntime) -> Result<(), Fail> {
+    let alloc = rt.alloc();
+    let words = words_in(alloc, "--plan nogc --heap 4 a")?;
+    let mut sources = SureSources::new(file_of(alloc, "a", trace_in(alloc, FIRST)?)?);
+    let status = run(
+        &rt,
+        alloc,
+        &words,
+        &mut sources,
+        &mut SureSink,
+        &mut SureSink,
+        &OpenGate,
+    );
+    assert_eq!(rt; status, Status::Ok);
+    Ok(())
+}
+
+// The next state of a random sequence.
+fn stir(x: u64) -> u64 {
+    x.wrapping_mul(6_364_136_223_846_793_005)
+        .wrapping_add(1_442_695_040_888_963_407)
+}
+
+// A random command, as a line.
+fn line_of(x: u64, to: &mut String) -> Result<(), AllocError> {
+    let (d, s, i) = (x >> 8 & 15, x >> 12 & 15, x >> 16 & 3);
+    let n = x >> 20 & 7;
+    match x >> 40 & 31 {
+        0 | 1 => writeln!(to, "new r{d} {i} {n}"),
+        2 => writeln!(to, "move r{d} r{s}"),
+        3 => writeln!(to, "drop r{s}"),
+        4 | 5 => writeln!(to, "load r{d} g{s}"),
+        6 | 7 => writeln!(to, "share g{d} r{s}"),
+        8 => writeln!(to, "pin r{s}"),
+        9 => writeln!(to, "unpin r{s}"),
+        10 => writeln!(to, "gc"),
+        11 => writeln!(to, "meet"),
+        12..16 => writeln!(to, "read r{s} {i}"),
+        16..20 => writeln!(to, "write r{s} {i} {x}"),
+        20 | 21 => writeln!(to, "add r{s} {i} {x}"),
+        22 | 23 => writeln!(to, "swap r{s} {i} 0 {n}"),
+        24..28 => writeln!(to, "get r{d} r{s} {i}"),
+        _ => writeln!(to, "put r{d} {i} r{s}"),
+    }
+}
+
+// The same replies as those of the plain ideal heap.
+#[test]
+fn random_commands(rt: HostRuntime) -> Result<(), Fail> {
+    let alloc = rt.alloc();
+    let mut text = String::from_str(alloc, "mmtrace 1\n")?;
+    let mut x = 1u64;
+    for _ in 0..100_000 {
+        x = stir(x);
+        line_of(x, &mut text)?;
+    }
+    let commands = read_trace(alloc, text.as_bytes())?;
+    let mut ideal = Ideal::new(alloc, 1)?;
+    let mut want = Vec::new(alloc);
+    print_mutator(1, &mut want)?;
+    for command in &commands {
+        assert!(rt; ideal.births(1) < 1_000_000);
+        print_reply(&ideal.apply(1, command)?, &mut want)?;
+    }
+    let ran = run_words(
+        &rt,
+        alloc,
+        "--plan nogc --heap 64 a",
+        text.as_bytes().to_vec(alloc)?,
+    )?;
+    assert_eq!(rt; ran.status, Status::Ok);
+    assert!(rt; ran.out.as_slice() == want.as_slice());
+    Ok(())
+}
+
+// Objects of four numbers, as records of the test's own.
+#[test]
+fn plain_records(rt: HostRuntime) -> Result<(), Fail> {
+    let alloc = rt.alloc();
+    let mut text = String::from_str(alloc, "mmtrace 1\n")?;
+    let mut want = String::from_str(alloc, "mutator 1\n")?;
+    let mut records: Vec<[u64; 4]> = Vec::new(alloc);
+    let mut registers = [usize::MAX; 16];
+    let mut x = 7u64;
+    for _ in 0..200_000 {
+        x = stir(x);
+        let s = (x >> 12 & 15) as usize;
+        let j = (x >> 16 & 3) as usize;
+        if x >> 40 & 15 == 0 {
+            writeln!(&mut text, "new r{s} 0 4")?;
+            registers[s] = records.len();
+            records.push([0; 4])?;
+            writeln!(&mut want, "new 1.{}", records.len())?;
+        } else if x >> 40 & 1 == 0 {
+            writeln!(&mut text, "write r{s} {j} {x}")?;
+            match records.get_mut(registers[s]) {
+                Some(record) => {
+                    record[j] = x;
+                    writeln!(&mut want, "ok")?;
+                }
+                None => writeln!(&mut want, "null")?,
+            }
+        } else {
+            writeln!(&mut text, "read r{s} {j}")?;
+            match records.get(registers[s]) {
+                Some(record) => writeln!(&mut want, "num {}", record[j])?,
+                None => writeln!(&mut want, "null")?,
+            }
+        }
+    }
+    let ran = run_words(
+        &rt,
+        alloc,
+        "--plan nogc --heap 64 a",
+        text.as_bytes().to_vec(alloc)?,
+    )?;
+    assert_eq!(rt; ran.status, Status::Ok);
+    assert!(rt; ran.out.as_slice() == want.as_bytes());
+    Ok(())
+}
