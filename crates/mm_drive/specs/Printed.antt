@@ -135,6 +135,7 @@ memory_line = codes "mm_drive: out of memory\n"
 -- count rose.
 pub record Tells (before after : Option (List ℕ)) (count count' : ℕ) (line : List ℕ) : Type 0 where
   pub told : Adds before after line ⊎ (HasRisen count count' × AddsFront before after line)
+  pub later : count ≤ count'
 
 -- A file could not be read: the last asking of a name, since the count of faults was `before`, was for this file, and from it
 -- on the count rose. The line names the file.

@@ -60,8 +60,15 @@ pub fn run<R: Threads + Sync, S: Sources, O: Sink, E: Sink, G: Gate>(
     ensures memory_told { result ≡ Status.OutOfMemory → Tells (E.written err.old) (E.written err.new) (E.faults err.old) (E.faults err.new) memory_line }
 
     // At all but two of the answers nothing was written, and at Ok nothing is told.
-    ensures unwritten { result ≢ Status.Ok → result ≢ Status.WriteFault → O.written out.new ≡ O.written out.old }
+    ensures unwritten { result ≢ Status.Ok → result ≢ Status.WriteFault → (O.written out.new ≡ O.written out.old) × (O.faults out.new ≡ O.faults out.old) }
     ensures silent { result ≡ Status.Ok → E.written err.new ≡ E.written err.old }
+
+    // Words without the form are refused before a name is asked.
+    ensures unasked { result ≡ Status.Usage → (S.asked sources.new ≡ S.asked sources.old) × (S.faults sources.new ≡ S.faults sources.old) }
+
+    // No content changes, and no count of faults falls.
+    ensures same { S.content sources.new ≡ S.content sources.old }
+    ensures later { (S.faults sources.old ≤ S.faults sources.new) × (O.faults out.old ≤ O.faults out.new) × (E.faults err.old ≤ E.faults err.new) }
 
     // Where there is cause for an answer, it comes, but for want of memory and what may come before.
     ensures no_form { job_of (texts words.now) ≡ None → (result ≡ Status.Usage) ⊎ (result ≡ Status.OutOfMemory) }
