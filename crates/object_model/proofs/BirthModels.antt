@@ -9,7 +9,7 @@ use Rattle.ideal_heap.specs.Names.{name}
 use Rattle.ideal_heap.specs.Ideal.{IdealHeap, Nil, At, set_record, with_new, born, at_number}
 use Rattle.ideal_heap.proofs.UpdateLemmas.{at_name-same, at_name-other, at_number-other}
 use Rattle.object_model.specs.Objects.{HeapState, with_words, word_at, is_pinned, is_unlogged, IsHeld, name_at, refs_at, nums_at, ref_at, num_at, record_at, global_at, field_of_word}
-use Rattle.object_model.specs.Lawful.{IsLawful}
+use Rattle.object_model.specs.Lawful.{IsOrderly}
 use Rattle.object_model.specs.Graphs.{MutatorState, IsMutatorState, AreDifferent, Points, register_at, numbers_of, with_birth, add_birth, set_register_of}
 use Rattle.object_model.specs.Mirrors.{Models}
 use Rattle.object_model.specs.Changes.{WritesObject}
@@ -53,15 +53,15 @@ module _ (s : HeapState) (w : List ℕ) (ms : List MutatorState) (h : IdealHeap)
   abbrev pub joined : ℕ → Type 0
   joined x = set x ⊎ (x ≡ a)
 
-  lawful : IsLawful s
-  lawful = model.lawful
+  order : IsOrderly s
+  order = model.order
 
   in-set-held : (x : ℕ) → set x → IsHeld s x
   in-set-held x there = model.mirrors.held x there
 
   points-after : (v : ℕ) (o : Option Name) → Points s v o → Points after v o
   points-after v None p = p
-  points-after v (Some k) p = (p.0, births.held-after s w a n refs nums writes lawful room v p.1, births.name-same s w a n refs nums writes lawful room v p.1 ∙ p.2)
+  points-after v (Some k) p = (p.0, births.held-after s w a n refs nums writes order room v p.1, births.name-same s w a n refs nums writes order room v p.1 ∙ p.2)
 
   births-each : (x : MutatorState) → h.births x.number ≡ x.births → with_record.births (changed m with_birth x).number ≡ (changed m with_birth x).births
   births-each x e =
@@ -77,13 +77,13 @@ module _ (s : HeapState) (w : List ℕ) (ms : List MutatorState) (h : IdealHeap)
 
   old-births : (x : ℕ) → IsHeld s x → Any (λ y. ((name_at after x).mutator ≡ y.number) × ((name_at after x).birth ≤ y.births)) (add_birth ms m)
   old-births x holds =
-      subst (λ (k : Name). Any (λ y. (k.mutator ≡ y.number) × (k.birth ≤ y.births)) (add_birth ms m)) (sym (births.name-same s w a n refs nums writes lawful room x holds))
+      subst (λ (k : Name). Any (λ y. (k.mutator ≡ y.number) × (k.birth ≤ y.births)) (add_birth ms m)) (sym (births.name-same s w a n refs nums writes order room x holds))
       (any-map (λ y. ((name_at s x).mutator ≡ y.number) × ((name_at s x).birth ≤ y.births)) (λ y. ((name_at s x).mutator ≡ y.number) × ((name_at s x).birth ≤ y.births))
       (changed m with_birth) (within-each (name_at s x)) ms (model.births.held x holds))
 
   new-births : Any (λ y. ((name_at after a).mutator ≡ y.number) × ((name_at after a).birth ≤ y.births)) (add_birth ms m)
   new-births =
-      subst (λ (k : Name). Any (λ y. (k.mutator ≡ y.number) × (k.birth ≤ y.births)) (add_birth ms m)) (sym (births.new-name s w a n refs nums writes lawful room))
+      subst (λ (k : Name). Any (λ y. (k.mutator ≡ y.number) × (k.birth ≤ y.births)) (add_birth ms m)) (sym (births.new-name s w a n refs nums writes order room))
       (any-map (λ x. (h.births x.number ≡ x.births) × (x.number ≡ m)) (λ y. (m ≡ y.number) × (h.births m + 1 ≤ y.births)) (changed m with_birth) one-more ms
       (any-number (λ x. h.births x.number ≡ x.births) m ms known model.births.births))
     where
@@ -95,46 +95,46 @@ module _ (s : HeapState) (w : List ℕ) (ms : List MutatorState) (h : IdealHeap)
   record-old x holds = record-parts (fields_at after x) (fields_at s x) (numbers_at after x) (numbers_at s x) fields numbers
     where
       field : (i : ℕ) → i < refs_at s x → field_of_word after (ref_at after x i) ≡ field_of_word s (ref_at s x i)
-      field i less = ap (field_of_word after) (births.ref-same s w a n refs nums writes lawful room x i holds less)
+      field i less = ap (field_of_word after) (births.ref-same s w a n refs nums writes order room x i holds less)
           ∙ elim (cases_eq (ref_at s x i) 0) as (λ _. field_of_word after (ref_at s x i) ≡ field_of_word s (ref_at s x i)) [
             | inl nil ↦ nil-word after (ref_at s x i) nil ∙ sym (nil-word s (ref_at s x i) nil)
             | inr some ↦ word-named after (ref_at s x i) some
-                ∙ ap (λ k. At k) (births.name-same s w a n refs nums writes lawful room (ref_at s x i) (lawful.objects.references x i holds less some))
+                ∙ ap (λ k. At k) (births.name-same s w a n refs nums writes order room (ref_at s x i) (order.objects.references x i holds less some))
                 ∙ sym (word-named s (ref_at s x i) some)
           ]
 
       fields : fields_at after x ≡ fields_at s x
-      fields = ap (λ k. map (λ i. field_of_word after (ref_at after x i)) (range_with_len 0 k)) (births.refs-same s w a n refs nums writes lawful room x holds)
+      fields = ap (λ k. map (λ i. field_of_word after (ref_at after x i)) (range_with_len 0 k)) (births.refs-same s w a n refs nums writes order room x holds)
           ∙ map-range-same Nil (λ i. field_of_word after (ref_at after x i)) (λ i. field_of_word s (ref_at s x i)) (refs_at s x) field
 
       number : (j : ℕ) → j < nums_at s x → num_at after x j ≡ num_at s x j
       number j less =
           let e : x + 3 + refs_at s x + j ≡ x + (3 + refs_at s x + j) = omega arith in
-          ap (λ k. word_at after (x + 3 + k + j)) (births.refs-same s w a n refs nums writes lawful room x holds)
-          ∙ ap (word_at after) e ∙ births.object-word s w a n refs nums writes lawful room x (3 + refs_at s x + j) holds (omega arith) ∙ ap (word_at s) (sym e)
+          ap (λ k. word_at after (x + 3 + k + j)) (births.refs-same s w a n refs nums writes order room x holds)
+          ∙ ap (word_at after) e ∙ births.object-word s w a n refs nums writes order room x (3 + refs_at s x + j) holds (omega arith) ∙ ap (word_at s) (sym e)
 
       numbers : numbers_at after x ≡ numbers_at s x
-      numbers = ap (λ k. map (λ j. num_at after x j) (range_with_len 0 k)) (births.nums-same s w a n refs nums writes lawful room x holds)
+      numbers = ap (λ k. map (λ j. num_at after x j) (range_with_len 0 k)) (births.nums-same s w a n refs nums writes order room x holds)
           ∙ map-range-same 0 (λ j. num_at after x j) (λ j. num_at s x j) (nums_at s x) number
 
   record-new : record_at after a ≡ born refs nums
   record-new = record-parts (fields_at after a) (replicate refs Nil) (numbers_at after a) (replicate nums 0) fields numbers
     where
       field : (i : ℕ) → i < refs → field_of_word after (ref_at after a i) ≡ Nil
-      field i less = nil-word after (ref_at after a i) (births.new-ref s w a n refs nums writes lawful room i less)
+      field i less = nil-word after (ref_at after a i) (births.new-ref s w a n refs nums writes order room i less)
 
       fields : fields_at after a ≡ replicate refs Nil
-      fields = ap (λ k. map (λ i. field_of_word after (ref_at after a i)) (range_with_len 0 k)) (births.new-refs s w a n refs nums writes lawful room)
+      fields = ap (λ k. map (λ i. field_of_word after (ref_at after a i)) (range_with_len 0 k)) (births.new-refs s w a n refs nums writes order room)
           ∙ map-range-all Nil (λ i. field_of_word after (ref_at after a i)) refs field
 
       number : (j : ℕ) → j < nums → num_at after a j ≡ 0
       number j less =
           let e : a + 3 + refs + j ≡ a + (3 + refs + j) = omega arith in
-          ap (λ k. word_at after (a + 3 + k + j)) (births.new-refs s w a n refs nums writes lawful room)
+          ap (λ k. word_at after (a + 3 + k + j)) (births.new-refs s w a n refs nums writes order room)
           ∙ ap (word_at after) e ∙ writes.blank (3 + refs + j) (omega arith) (omega arith)
 
       numbers : numbers_at after a ≡ replicate nums 0
-      numbers = ap (λ k. map (λ j. num_at after a j) (range_with_len 0 k)) (births.new-nums s w a n refs nums writes lawful room)
+      numbers = ap (λ k. map (λ j. num_at after a j) (range_with_len 0 k)) (births.new-nums s w a n refs nums writes order room)
           ∙ map-range-all 0 (λ j. num_at after a j) nums number
 
   -- no name of the set is the new one
@@ -151,8 +151,8 @@ module _ (s : HeapState) (w : List ℕ) (ms : List MutatorState) (h : IdealHeap)
       omega arith
 
   not-marked : IsTrue (is_pinned after a) → ⊥
-  not-marked is = births.not-held s w a n refs nums writes lawful room
-      (lawful.objects.marks a (or_left (is_pinned s a) (is_unlogged s a) (sym (births.pins-same s w a n refs nums writes lawful room a) ∙ is)))
+  not-marked is = births.not-held s w a n refs nums writes order room
+      (order.objects.marks a (or_left (is_pinned s a) (is_unlogged s a) (sym (births.pins-same s w a n refs nums writes order room a) ∙ is)))
 
   joined-each : (P : ℕ → Type 0) → ((x : ℕ) → set x → P x) → P a → (x : ℕ) → joined x → P x
   joined-each P old new x (inl there) = old x there
@@ -169,7 +169,7 @@ module _ (s : HeapState) (w : List ℕ) (ms : List MutatorState) (h : IdealHeap)
   -- the object and the birth, before the register is set
   recorded : Models after (add_birth ms m) with_record joined
   recorded = record {
-    lawful = births.lawful-after s w a n refs nums writes lawful room;
+    order = births.orderly-after s w a n refs nums writes order room;
     mutators = record {
       each = all-map IsMutatorState IsMutatorState (changed m with_birth)
           (changed-from m with_birth IsMutatorState (λ x is. record { least = is.least; most = is.most; registers = is.registers })) ms model.mutators.each;
@@ -178,7 +178,7 @@ module _ (s : HeapState) (w : List ℕ) (ms : List MutatorState) (h : IdealHeap)
     pointers = record {
       registers = all-map (λ x. (e : ℕ) → e < 16 → Points s (register_at x e) (h.registers x.number e)) (λ x. (e : ℕ) → e < 16 → Points after (register_at x e) (h.registers x.number e))
           (changed m with_birth) points-each ms model.pointers.registers;
-      globals = λ g few. subst (λ (v : ℕ). Points after v (h.globals g)) (sym (births.globals-same s w a n refs nums writes lawful room g few)) (points-after (global_at s g) (h.globals g) (model.pointers.globals g few));
+      globals = λ g few. subst (λ (v : ℕ). Points after v (h.globals g)) (sym (births.globals-same s w a n refs nums writes order room g few)) (points-after (global_at s g) (h.globals g) (model.pointers.globals g few));
       confined = record {
         registers = λ k e q is. subst (λ (ns : List ℕ). (e < 16) × Contains ns k) (sym (numbers-changed m with_birth (λ x. refl) ms)) (model.pointers.confined.registers k e q is);
         globals = model.pointers.confined.globals;
@@ -186,36 +186,36 @@ module _ (s : HeapState) (w : List ℕ) (ms : List MutatorState) (h : IdealHeap)
     };
     births = record {
       births = all-map (λ x. h.births x.number ≡ x.births) (λ x. with_record.births x.number ≡ x.births) (changed m with_birth) births-each ms model.births.births;
-      held = births.either s w a n refs nums writes lawful room (λ x. Any (λ y. ((name_at after x).mutator ≡ y.number) × ((name_at after x).birth ≤ y.births)) (add_birth ms m)) new-births old-births;
+      held = births.either s w a n refs nums writes order room (λ x. Any (λ y. ((name_at after x).mutator ≡ y.number) × ((name_at after x).birth ≤ y.births)) (add_birth ms m)) new-births old-births;
       pinned = λ k is. all-map (λ x. k.mutator ≡ x.number → k.birth ≤ x.births) (λ x. k.mutator ≡ x.number → k.birth ≤ x.births) (changed m with_birth)
           (changed-from m with_birth (λ x. k.mutator ≡ x.number → k.birth ≤ x.births) (λ x f same. let least : k.birth ≤ x.births = f same in omega arith)) ms (model.births.pinned k is);
     };
     mirrors = record {
-      held = joined-each (IsHeld after) (λ x there. births.held-after s w a n refs nums writes lawful room x (in-set-held x there)) (births.held-new s w a n refs nums writes lawful room);
+      held = joined-each (IsHeld after) (λ x there. births.held-after s w a n refs nums writes order room x (in-set-held x there)) (births.held-new s w a n refs nums writes order room);
       fields = λ x i there. joined-each (λ y. i < refs_at after y → ref_at after y i ≢ 0 → joined (ref_at after y i))
-          (λ y inset less some. let few : i < refs_at s y = subst (λ (k : ℕ). i < k) (births.refs-same s w a n refs nums writes lawful room y (in-set-held y inset)) less in
-          let same : ref_at after y i ≡ ref_at s y i = births.ref-same s w a n refs nums writes lawful room y i (in-set-held y inset) few in
+          (λ y inset less some. let few : i < refs_at s y = subst (λ (k : ℕ). i < k) (births.refs-same s w a n refs nums writes order room y (in-set-held y inset)) less in
+          let same : ref_at after y i ≡ ref_at s y i = births.ref-same s w a n refs nums writes order room y i (in-set-held y inset) few in
           inl (subst set (sym same) (model.mirrors.fields y i inset few (λ nil. some (same ∙ nil)))))
-          (λ less some. absurd (some (births.new-ref s w a n refs nums writes lawful room i (subst (λ (k : ℕ). i < k) (births.new-refs s w a n refs nums writes lawful room) less))))
+          (λ less some. absurd (some (births.new-ref s w a n refs nums writes order room i (subst (λ (k : ℕ). i < k) (births.new-refs s w a n refs nums writes order room) less))))
           x there;
       registers = all-map (λ x. (e : ℕ) → e < 16 → register_at x e ≢ 0 → set (register_at x e)) (λ x. (e : ℕ) → e < 16 → register_at x e ≢ 0 → joined (register_at x e))
           (changed m with_birth) registers-each ms model.mirrors.registers;
-      globals = λ g few some. let same : global_at after g ≡ global_at s g = births.globals-same s w a n refs nums writes lawful room g few in
+      globals = λ g few some. let same : global_at after g ≡ global_at s g = births.globals-same s w a n refs nums writes order room g few in
           inl (subst set (sym same) (model.mirrors.globals g few (λ nil. some (same ∙ nil))));
       records = joined-each (λ x. with_record.records (name_at after x) ≡ Some (record_at after x))
-          (λ x there. ap with_record.records (births.name-same s w a n refs nums writes lawful room x (in-set-held x there))
+          (λ x there. ap with_record.records (births.name-same s w a n refs nums writes order room x (in-set-held x there))
           ∙ at_name-other h.records n (Some (born refs nums)) (name_at s x) (other-name x there)
           ∙ model.mirrors.records x there ∙ ap (λ r. Some r) (sym (record-old x (in-set-held x there))))
-          (ap with_record.records (births.new-name s w a n refs nums writes lawful room) ∙ at_name-same h.records n (Some (born refs nums)) ∙ ap (λ r. Some r) (sym record-new));
+          (ap with_record.records (births.new-name s w a n refs nums writes order room) ∙ at_name-same h.records n (Some (born refs nums)) ∙ ap (λ r. Some r) (sym record-new));
       pins = joined-each (λ x. IsTrue (is_pinned after x) ↔ IsTrue (h.pinned (name_at after x)))
-          (λ x there. subst (λ (k : Name). IsTrue (is_pinned after x) ↔ IsTrue (h.pinned k)) (sym (births.name-same s w a n refs nums writes lawful room x (in-set-held x there)))
-          (subst (λ (b : Bool). IsTrue b ↔ IsTrue (h.pinned (name_at s x))) (sym (births.pins-same s w a n refs nums writes lawful room x)) (model.mirrors.pins x there)))
-          ((λ is. absurd (not-marked is)), (λ is. absurd (not-pinned (sym (ap h.pinned (births.new-name s w a n refs nums writes lawful room)) ∙ is))));
+          (λ x there. subst (λ (k : Name). IsTrue (is_pinned after x) ↔ IsTrue (h.pinned k)) (sym (births.name-same s w a n refs nums writes order room x (in-set-held x there)))
+          (subst (λ (b : Bool). IsTrue b ↔ IsTrue (h.pinned (name_at s x))) (sym (births.pins-same s w a n refs nums writes order room x)) (model.mirrors.pins x there)))
+          ((λ is. absurd (not-marked is)), (λ is. absurd (not-pinned (sym (ap h.pinned (births.new-name s w a n refs nums writes order room)) ∙ is))));
     };
   }
 
   pub birth-models : Models after (set_register_of (add_birth ms m) m d a) (with_new h m d refs nums) joined
   birth-models = register-models after (add_birth ms m) with_record joined recorded m d a (Some n) small
       (subst (λ (ns : List ℕ). Contains ns m) (sym (numbers-changed m with_birth (λ x. refl) ms)) known)
-      ((let from : heap_of s.blocks ≤ a = room.address.from in omega arith), births.held-new s w a n refs nums writes lawful room, births.new-name s w a n refs nums writes lawful room)
+      ((let from : heap_of s.blocks ≤ a = room.address.from in omega arith), births.held-new s w a n refs nums writes order room, births.new-name s w a n refs nums writes order room)
       (λ some. inr refl)

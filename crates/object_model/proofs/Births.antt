@@ -11,7 +11,7 @@ use Rattle.ideal_heap.specs.declared.name.Name.{Name}
 use Rattle.ideal_heap.specs.Names.{IsName, name_of}
 use Rattle.ideal_heap.proofs.NameLemmas.{name-code}
 use Rattle.object_model.specs.Objects.{HeapState, with_words, word_at, global_at, block_word, HasKind, is_start, is_pinned, is_unlogged, line_marked, IsHeld, IsInExtent, name_at, refs_at, nums_at, size_at, ref_at, size_of}
-use Rattle.object_model.specs.Lawful.{IsLawful, HasLawfulObjects, HasHeader, Lies, LiesInBlock, IsReference, IsClear, AreLinesRight}
+use Rattle.object_model.specs.Lawful.{IsLawful, IsOrderly, HasLawfulObjects, HasHeader, Lies, LiesInBlock, IsReference, IsClear, AreLinesRight}
 use Rattle.object_model.specs.Changes.{WritesObject}
 use Rattle.object_model.proofs.Marks.{mark-same, mark-from}
 use Rattle.object_model.proofs.OneKind.{has_small-free}
@@ -35,7 +35,7 @@ line-block : (s : HeapState) (k line word : ℕ) → line < 256 → block_start 
 line-block s k line word small from below = omega arith
 
 module _ (s : HeapState) (w : List ℕ) (a : ℕ) (n : Name) (refs nums : ℕ) (writes : WritesObject s (with_words s w) a n refs nums)
-    (lawful : IsLawful s) (room : IsRoom s a n refs nums) where
+    (order : IsOrderly s) (room : IsRoom s a n refs nums) where
   abbrev pub after : HeapState
   after = with_words s w
 
@@ -156,7 +156,7 @@ module _ (s : HeapState) (w : List ℕ) (a : ℕ) (n : Name) (refs nums : ℕ) (
 
   old-header : (x : ℕ) → IsHeld s x → HasHeader after x
   old-header x holds =
-      let old = lawful.objects.headers x holds in
+      let old = order.objects.headers x holds in
       let collector : word_at after (x + 2) ≡ word_at s (x + 2) = object-word x 2 holds (omega arith) in
       record {
         object = record {
@@ -179,7 +179,7 @@ module _ (s : HeapState) (w : List ℕ) (a : ℕ) (n : Name) (refs nums : ℕ) (
 
   old-lies : (x : ℕ) → IsHeld s x → Lies after x (size_at after x)
   old-lies x holds = subst (Lies after x) (sym (size-same x holds))
-      (lies-from s w block_words x (size_at s x) (block_at_within s.blocks x holds.address) (lawful.objects.lies x holds))
+      (lies-from s w block_words x (size_at s x) (block_at_within s.blocks x holds.address) (order.objects.lies x holds))
 
   -- a word of the new object is none of one that was held
   not-both : (x i : ℕ) → IsHeld s x → IsInExtent s x i → IsInExtent after a i → ⊥
@@ -196,7 +196,7 @@ module _ (s : HeapState) (w : List ℕ) (a : ℕ) (n : Name) (refs nums : ℕ) (
     ]
     | inr bx ↦ elim (held-cases y hy) as (λ _. x ≡ y) [
       | inl ey ↦ absurd (not-both x i bx (extent-before x i bx ix) (subst (λ (k : ℕ). IsInExtent after k i) ey iy))
-      | inr by ↦ lawful.objects.apart x y i bx by (extent-before x i bx ix) (extent-before y i by iy)
+      | inr by ↦ order.objects.apart x y i bx by (extent-before x i bx ix) (extent-before y i by iy)
     ]
   ]
 
@@ -208,29 +208,29 @@ module _ (s : HeapState) (w : List ℕ) (a : ℕ) (n : Name) (refs nums : ℕ) (
     ]
     | inr bx ↦ elim (held-cases y hy) as (λ _. x ≡ y) [
       | inl ey ↦ absurd (room.fresh x bx (sym (name-same x bx) ∙ e ∙ ap (name_at after) ey ∙ new-name))
-      | inr by ↦ lawful.objects.names x y bx by (sym (name-same x bx) ∙ e ∙ name-same y by)
+      | inr by ↦ order.objects.names x y bx by (sym (name-same x bx) ∙ e ∙ name-same y by)
     ]
   ]
 
   objects-after : HasLawfulObjects after
   objects-after = record {
     headers = either (HasHeader after) new-header old-header;
-    marks = λ x h. held-after x (lawful.objects.marks x
+    marks = λ x h. held-after x (order.objects.marks x
         (elim (or_cases (is_pinned after x) (is_unlogged after x) h) as (λ _. IsTrue (is_pinned s x || is_unlogged s x)) [
           | inl p ↦ or_left (is_pinned s x) (is_unlogged s x) (sym (pins-same x) ∙ p)
           | inr u ↦ or_right (is_pinned s x) (is_unlogged s x) (sym (unlogs-same x) ∙ u)
         ]));
     lies = either (λ x. Lies after x (size_at after x)) new-lies old-lies;
     apart = apart-after;
-    heads = λ k is. let before = lawful.objects.heads k (HasKind-back s w block_words k kinds.LargeHead is) in
+    heads = λ k is. let before = order.objects.heads k (HasKind-back s w block_words k kinds.LargeHead is) in
         (held-after _ before.0, subst (λ (n : ℕ). 2048 < n) (sym (size-same _ before.0)) before.1);
-    tails = λ k is. in_run-same s w block_words k ∙ lawful.objects.tails k (HasKind-back s w block_words k kinds.LargeTail is);
+    tails = λ k is. in_run-same s w block_words k ∙ order.objects.tails k (HasKind-back s w block_words k kinds.LargeTail is);
     references = λ x i holds. either (λ y. i < refs_at after y → IsReference after (ref_at after y i))
         (λ less. subst (IsReference after) (sym (new-ref i (subst (λ (k : ℕ). i < k) new-refs less))) (λ some. absurd (some refl)))
         (λ y before less. let few : i < refs_at s y = subst (λ (k : ℕ). i < k) (refs-same y before) less in
-        subst (IsReference after) (sym (ref-same y i before few)) (reference-after _ (lawful.objects.references y i before few)))
+        subst (IsReference after) (sym (ref-same y i before few)) (reference-after _ (order.objects.references y i before few)))
         x holds;
-    globals = λ g small. subst (IsReference after) (sym (globals-same g small)) (reference-after _ (lawful.objects.globals g small));
+    globals = λ g small. subst (IsReference after) (sym (globals-same g small)) (reference-after _ (order.objects.globals g small));
     names = names-after;
   }
 
@@ -268,12 +268,12 @@ module _ (s : HeapState) (w : List ℕ) (a : ℕ) (n : Name) (refs nums : ℕ) (
             ]);
       }
 
-  lines-after : (k : ℕ) → AreLinesRight after k
-  lines-after k = record {
+  lines-after : (k : ℕ) → AreLinesRight s k → AreLinesRight after k
+  lines-after k old = record {
     marked = λ line is small marked.
         let before : HasKind s k kinds.Immix = HasKind-back s w block_words k kinds.Immix is in
         let there : k < s.blocks = kind-in s w block_words k kinds.Immix before in
-        ∥∥₁_map ((lawful.lines k).marked line before small (sym (lines-same k line there small) ∙ marked)) (λ t. record {
+        ∥∥₁_map (old.marked line before small (sym (lines-same k line there small) ∙ marked)) (λ t. record {
           object = t.object;
           word = t.word;
           held = held-after t.object t.held;
@@ -287,17 +287,23 @@ module _ (s : HeapState) (w : List ℕ) (a : ℕ) (n : Name) (refs nums : ℕ) (
         lines-same k line there small ∙ elim (held-cases t.object t.held) as (λ _. IsTrue (line_marked s k line)) [
           | inl e ↦ absurd (room.lines (subst (λ (q : ℕ). HasKind s q kinds.Immix)
               (sym (line-block s k line t.word small t.from t.below) ∙ new-block t.word (subst (λ (q : ℕ). IsInExtent after q t.word) e t.inside)) before))
-          | inr holds ↦ (lawful.lines k).touched line before small (record { object = t.object; word = t.word; held = holds; inside = extent-before t.object t.word holds t.inside; from = t.from; below = t.below })
+          | inr holds ↦ old.touched line before small (record { object = t.object; word = t.word; held = holds; inside = extent-before t.object t.word holds t.inside; from = t.from; below = t.below })
         ];
   }
 
-  -- the heap is lawful with the new object
-  pub lawful-after : IsLawful after
-  lawful-after = record {
-    row = record { least = lawful.row.least; most = lawful.row.most; extent = writes.extent ∙ lawful.row.extent; words = writes.words; base = lawful.row.base };
+  -- the heap is in order with the new object
+  pub orderly-after : IsOrderly after
+  orderly-after = record {
+    row = record { least = order.row.least; most = order.row.most; extent = writes.extent ∙ order.row.extent; words = writes.words; base = order.row.base };
     objects = objects-after;
+  }
+
+  -- and lawful if it was
+  pub lawful-after : IsLawful s → IsLawful after
+  lawful-after lawful = record {
+    order = orderly-after;
     blocks = λ k there. subst (λ (v : ℕ). IsTrue (is_block_code v)) (sym (block_words k there)) (lawful.blocks k there);
     owners = λ k there. ap (λ v. v / 65536) (block_words k there) ∙ lawful.owners k there;
     free = λ k is. let before : HasKind s k kinds.Free = HasKind-back s w block_words k kinds.Free is in free-after k before (lawful.free k before);
-    lines = lines-after;
+    lines = λ k. lines-after k (lawful.lines k);
   }

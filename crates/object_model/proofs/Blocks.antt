@@ -14,7 +14,7 @@ use Rattle.ideal_heap.specs.declared.name.Name.{Name}
 use Rattle.ideal_heap.specs.Names.{IsName, name_of}
 use Rattle.ideal_heap.specs.Ideal.{IdealHeap, Nil, At}
 use Rattle.object_model.specs.Objects.{HeapState, with_words, word_at, global_at, block_word, has_kind, HasKind, class_at, owner_at, is_start, is_pinned, is_unlogged, line_marked, IsHeld, IsInExtent, name_at, refs_at, nums_at, size_at, ref_at, num_at, record_at, field_of_word, size_of, blocks_for}
-use Rattle.object_model.specs.Lawful.{IsLawful, HasLawfulObjects, HasHeader, Lies, IsRunOfBlocks, IsReference, IsClear, IsTouched, AreLinesRight, has_small, is_in_run}
+use Rattle.object_model.specs.Lawful.{IsLawful, IsOrderly, HasLawfulObjects, HasHeader, Lies, IsRunOfBlocks, IsReference, IsClear, IsTouched, AreLinesRight, has_small, is_in_run}
 use Rattle.object_model.specs.Graphs.{MutatorState, Points, register_at}
 use Rattle.object_model.specs.Mirrors.{Models}
 use Rattle.object_model.proofs.Marks.{mark-same}
@@ -68,15 +68,15 @@ module _ (s : HeapState) (w : List ℕ) (same : SameHeap s w) where
   registers-after h [] all = tt
   registers-after h (m ∷ ms) all = (λ d small. points-after (register_at m d) (h.registers m.number d) (all.0 d small), registers-after h ms all.1)
 
-  record-same : IsLawful s → (x : ℕ) → IsHeld s x → record_at after x ≡ record_at s x
-  record-same lawful x holds = record-parts (fields_at after x) (fields_at s x) (numbers_at after x) (numbers_at s x) fields numbers
+  record-same : IsOrderly s → (x : ℕ) → IsHeld s x → record_at after x ≡ record_at s x
+  record-same order x holds = record-parts (fields_at after x) (fields_at s x) (numbers_at after x) (numbers_at s x) fields numbers
     where
       field : (i : ℕ) → i < refs_at s x → field_of_word after (ref_at after x i) ≡ field_of_word s (ref_at s x i)
       field i less = ap (field_of_word after) (ref-same x i holds)
           ∙ elim (cases_eq (ref_at s x i) 0) as (λ _. field_of_word after (ref_at s x i) ≡ field_of_word s (ref_at s x i)) [
             | inl nil ↦ nil-word after (ref_at s x i) nil ∙ sym (nil-word s (ref_at s x i) nil)
             | inr some ↦ word-named after (ref_at s x i) some
-                ∙ ap (λ n. At n) (name-same (ref_at s x i) (lawful.objects.references x i holds less some))
+                ∙ ap (λ n. At n) (name-same (ref_at s x i) (order.objects.references x i holds less some))
                 ∙ sym (word-named s (ref_at s x i) some)
           ]
 
@@ -92,9 +92,9 @@ module _ (s : HeapState) (w : List ℕ) (same : SameHeap s w) where
       numbers = ap (λ k. map (λ j. num_at after x j) (range_with_len 0 k)) (nums-same x holds)
           ∙ map-range-same 0 (λ j. num_at after x j) (λ j. num_at s x j) (nums_at s x) number
 
-  pub models-after : (ms : List MutatorState) (h : IdealHeap) (set : ℕ → Type 0) → Models s ms h set → IsLawful after → Models after ms h set
-  models-after ms h set model lawful = record {
-    lawful = lawful;
+  pub models-after : (ms : List MutatorState) (h : IdealHeap) (set : ℕ → Type 0) → Models s ms h set → IsOrderly after → Models after ms h set
+  models-after ms h set model order = record {
+    order = order;
     mutators = model.mutators;
     pointers = record {
       registers = registers-after h ms model.pointers.registers;
@@ -114,7 +114,7 @@ module _ (s : HeapState) (w : List ℕ) (same : SameHeap s w) where
       registers = model.mirrors.registers;
       globals = λ g small some. subst set (sym (same.globals g small)) (model.mirrors.globals g small (λ nil. some (same.globals g small ∙ nil)));
       records = λ a there. let holds = model.mirrors.held a there in
-          ap h.records (name-same a holds) ∙ model.mirrors.records a there ∙ ap (λ r. Some r) (sym (record-same model.lawful a holds));
+          ap h.records (name-same a holds) ∙ model.mirrors.records a there ∙ ap (λ r. Some r) (sym (record-same model.order a holds));
       pins = λ a there. let holds = model.mirrors.held a there in
           subst (λ (k : Name). IsTrue (is_pinned after a) ↔ IsTrue (h.pinned k)) (sym (name-same a holds))
           (subst (λ (b : Bool). IsTrue b ↔ IsTrue (h.pinned (name_at s a))) (sym (same.pins a)) (model.mirrors.pins a there));
@@ -140,7 +140,7 @@ module _ (s : HeapState) (lawful : IsLawful s) (k : ℕ) (is : HasKind s k kinds
   word-other i other = get_or-set_other s.words place i 1 0 other
 
   pub block-taken : block_word taken k ≡ 1
-  block-taken = get_or-set_same s.words place 1 0 (let many : length s.words ≡ words_of s.blocks = lawful.row.extent in let below : k < s.blocks = there in omega arith)
+  block-taken = get_or-set_same s.words place 1 0 (let many : length s.words ≡ words_of s.blocks = lawful.order.row.extent in let below : k < s.blocks = there in omega arith)
 
   pub block-other : (j : ℕ) → j ≢ k → block_word taken j ≡ block_word s j
   block-other j other = word-other (first s.blocks BlockWords + j) (λ e. other (omega arith))
@@ -262,20 +262,20 @@ module _ (s : HeapState) (lawful : IsLawful s) (k : ℕ) (is : HasKind s k kinds
 
   objects-taken : HasLawfulObjects taken
   objects-taken = record {
-    headers = λ x holds. header-after x (before x holds) (lawful.objects.headers x (before x holds));
-    marks = λ x h. held-after s (slice_set s.words place 1) same_heap x (lawful.objects.marks x
+    headers = λ x holds. header-after x (before x holds) (lawful.order.objects.headers x (before x holds));
+    marks = λ x h. held-after s (slice_set s.words place 1) same_heap x (lawful.order.objects.marks x
         (sym (ap (λ t. t || is_unlogged taken x) (marks PinBits x (omega arith)) ∙ ap (λ t. is_pinned s x || t) (unlogs-taken x)) ∙ h));
     lies = λ x holds. let old = before x holds in
-        subst (Lies taken x) (sym (size-same s (slice_set s.words place 1) same_heap x old)) (lies-after x (size_at s x) (object-away x old) (lawful.objects.lies x old));
-    apart = λ x y i hx hy ix iy. lawful.objects.apart x y i (before x hx) (before y hy) (extent-before x i (before x hx) ix) (extent-before y i (before y hy) iy);
-    heads = λ j now. let old = lawful.objects.heads j (kind-before j kinds.LargeHead (λ e. omega arith) now).1 in
+        subst (Lies taken x) (sym (size-same s (slice_set s.words place 1) same_heap x old)) (lies-after x (size_at s x) (object-away x old) (lawful.order.objects.lies x old));
+    apart = λ x y i hx hy ix iy. lawful.order.objects.apart x y i (before x hx) (before y hy) (extent-before x i (before x hx) ix) (extent-before y i (before y hy) iy);
+    heads = λ j now. let old = lawful.order.objects.heads j (kind-before j kinds.LargeHead (λ e. omega arith) now).1 in
         (held-after s (slice_set s.words place 1) same_heap _ old.0, subst (λ (q : ℕ). 2048 < q) (sym (size-same s (slice_set s.words place 1) same_heap _ old.0)) old.1);
-    tails = λ j now. in_run-after j ∙ lawful.objects.tails j (kind-before j kinds.LargeTail (λ e. omega arith) now).1;
+    tails = λ j now. in_run-after j ∙ lawful.order.objects.tails j (kind-before j kinds.LargeTail (λ e. omega arith) now).1;
     references = λ x i holds less. let old = before x holds in
         subst (IsReference taken) (sym (ref-same s (slice_set s.words place 1) same_heap x i old))
-        (reference-taken _ (lawful.objects.references x i old (subst (λ (q : ℕ). i < q) (refs-same s (slice_set s.words place 1) same_heap x old) less)));
-    globals = λ g small. subst (IsReference taken) (sym (same_heap.globals g small)) (reference-taken _ (lawful.objects.globals g small));
-    names = λ x y hx hy e. lawful.objects.names x y (before x hx) (before y hy)
+        (reference-taken _ (lawful.order.objects.references x i old (subst (λ (q : ℕ). i < q) (refs-same s (slice_set s.words place 1) same_heap x old) less)));
+    globals = λ g small. subst (IsReference taken) (sym (same_heap.globals g small)) (reference-taken _ (lawful.order.objects.globals g small));
+    names = λ x y hx hy e. lawful.order.objects.names x y (before x hx) (before y hy)
         (sym (name-same s (slice_set s.words place 1) same_heap x (before x hx)) ∙ e ∙ name-same s (slice_set s.words place 1) same_heap y (before y hy));
   }
 
@@ -307,13 +307,15 @@ module _ (s : HeapState) (lawful : IsLawful s) (k : ℕ) (is : HasKind s k kinds
   words-fit : (i : ℕ) → word_at taken i < 2 ^ 64
   words-fit i = elim (cases_eq i place) as (λ _. word_at taken i < 2 ^ 64) [
     | inl e ↦ subst (λ (v : ℕ). v < 2 ^ 64) (sym (ap (word_at taken) e ∙ block-taken)) (lit< tt)
-    | inr other ↦ subst (λ (v : ℕ). v < 2 ^ 64) (sym (word-other i other)) (lawful.row.words i)
+    | inr other ↦ subst (λ (v : ℕ). v < 2 ^ 64) (sym (word-other i other)) (lawful.order.row.words i)
   ]
 
   pub lawful-taken : IsLawful taken
   lawful-taken = record {
-    row = record { least = lawful.row.least; most = lawful.row.most; extent = length-set s.words place 1 ∙ lawful.row.extent; words = words-fit; base = lawful.row.base };
-    objects = objects-taken;
+    order = record {
+      row = record { least = lawful.order.row.least; most = lawful.order.row.most; extent = length-set s.words place 1 ∙ lawful.order.row.extent; words = words-fit; base = lawful.order.row.base };
+      objects = objects-taken;
+    };
     blocks = λ j here. elim (cases_eq j k) as (λ _. IsTrue (is_block_code (block_word taken j))) [
       | inl e ↦ subst (λ (v : ℕ). IsTrue (is_block_code v)) (sym (ap (block_word taken) e ∙ block-taken)) refl
       | inr away ↦ subst (λ (v : ℕ). IsTrue (is_block_code v)) (sym (block-other j away)) (lawful.blocks j here)
@@ -327,4 +329,4 @@ module _ (s : HeapState) (lawful : IsLawful s) (k : ℕ) (is : HasKind s k kinds
   }
 
   pub models-taken : (ms : List MutatorState) (h : IdealHeap) (set : ℕ → Type 0) → Models s ms h set → Models taken ms h set
-  models-taken ms h set model = models-after s (slice_set s.words place 1) same_heap ms h set model lawful-taken
+  models-taken ms h set model = models-after s (slice_set s.words place 1) same_heap ms h set model lawful-taken.order

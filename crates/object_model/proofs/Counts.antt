@@ -5,7 +5,7 @@ use Rattle.std.proofs.Math.Logic.{∥∥₁_map}
 use Rattle.ideal_heap.specs.declared.name.Name.{Name}
 use Rattle.ideal_heap.specs.Ideal.{IdealHeap}
 use Rattle.object_model.specs.Objects.{HeapState, number_at, IsHeld, IsInExtent}
-use Rattle.object_model.specs.Lawful.{IsLawful, Lies}
+use Rattle.object_model.specs.Lawful.{IsLawful, IsOrderly, Lies}
 use Rattle.object_model.specs.Graphs.{MutatorState, Points, register_at}
 use Rattle.object_model.specs.Mirrors.{Models}
 
@@ -35,9 +35,9 @@ module _ (s : HeapState) where
     };
   }
 
-  pub lawful-counted : IsLawful s → IsLawful counted
-  lawful-counted lawful = let old = lawful.objects in record {
-    row = record { least = lawful.row.least; most = lawful.row.most; extent = lawful.row.extent; words = lawful.row.words; base = (let below : s.base ≤ s.number = lawful.row.base in omega arith) };
+  order-counted : IsOrderly s → IsOrderly counted
+  order-counted order = let old = order.objects in record {
+    row = record { least = order.row.least; most = order.row.most; extent = order.row.extent; words = order.row.words; base = (let below : s.base ≤ s.number = order.row.base in omega arith) };
     objects = record {
       headers = λ a h. let header = old.headers a (held-back a h) in record {
         object = record { name = header.object.name; refs = header.object.refs; nums = header.object.nums };
@@ -53,6 +53,11 @@ module _ (s : HeapState) where
       globals = λ g small some. held-counted _ (old.globals g small some);
       names = λ a x ha hx e. old.names a x (held-back a ha) (held-back x hx) e;
     };
+  }
+
+  pub lawful-counted : IsLawful s → IsLawful counted
+  lawful-counted lawful = record {
+    order = order-counted lawful.order;
     blocks = lawful.blocks;
     owners = lawful.owners;
     free = λ k is. let clear = lawful.free k is in record {
@@ -91,7 +96,7 @@ module _ (s : HeapState) where
 
   pub models-counted : (ms : List MutatorState) (h : IdealHeap) (set : ℕ → Type 0) → Models s ms h set → Models counted ms h set
   models-counted ms h set model = record {
-    lawful = lawful-counted model.lawful;
+    order = order-counted model.order;
     mutators = model.mutators;
     pointers = record {
       registers = registers-counted h ms model.pointers.registers;

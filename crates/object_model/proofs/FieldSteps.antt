@@ -6,12 +6,12 @@ use Rattle.ideal_heap.specs.declared.reply.Reply.TheVariants as r
 use Rattle.ideal_heap.specs.Ideal.{At, step, record_of, set_record, put_field, field_of}
 use Rattle.ideal_heap.proofs.StepLemmas.{ref-within, putting}
 use Rattle.object_model.specs.Objects.{HeapState, with_words, IsHeld, name_at, refs_at, field_of_word}
-use Rattle.object_model.specs.Lawful.{IsLawful}
+use Rattle.object_model.specs.Lawful.{IsOrderly}
 use Rattle.object_model.specs.Graphs.{MutatorState, Points, register_at}
-use Rattle.object_model.specs.Steps.{TakesStep}
+use Rattle.object_model.specs.Steps.{IsStep}
 use Rattle.object_model.proofs.FieldStores.{field-set}
 use Rattle.object_model.proofs.Standing.{word-named, nil-word}
-use Rattle.object_model.proofs.StepCases.{outcome, register-named, count-fields}
+use Rattle.object_model.proofs.StepCases.{outcome, register-points, register-in, register-named, count-fields}
 use Rattle.object_model.proofs.Stores as stores
 use Rattle.object_model.proofs.WordSteps.{word-step}
 
@@ -21,18 +21,18 @@ points-field s v None nil = sym (nil-word s v nil)
 points-field s v (Some n) there = ap (λ k. At k) (sym there.2) ∙ sym (word-named s v (let some : 0 < v = there.0 in omega arith))
 
 -- a field gets what register q holds
-pub put-field : (s : HeapState) (m : MutatorState) (e i q : ℕ) → IsLawful s → IsHeld s (register_at m e) → e < 16 → q < 16 → register_at m e ≢ 0 → i < refs_at s (register_at m e)
-    → TakesStep s m (c.Put e i q) r.Done (with_words s (slice_set s.words (register_at m e + 3 + i) (register_at m q))) m
+pub put-field : (s : HeapState) (m : MutatorState) (e i q : ℕ) → IsOrderly s → IsHeld s (register_at m e) → e < 16 → q < 16 → register_at m e ≢ 0 → i < refs_at s (register_at m e)
+    → IsStep s m (c.Put e i q) r.Done (with_words s (slice_set s.words (register_at m e + 3 + i) (register_at m q))) m
 unfolding step
-put-field s m e i q lawful held small low some less =
+put-field s m e i q order held small low some less =
     let a : ℕ = register_at m e in
     let v : ℕ = register_at m q in
     let at : a + 3 + i ≡ a + (3 + i) = omega arith in
-    subst (λ (k : ℕ). TakesStep s m (c.Put e i q) r.Done (with_words s (slice_set s.words k v)) m) (sym at)
+    subst (λ (k : ℕ). IsStep s m (c.Put e i q) r.Done (with_words s (slice_set s.words k v)) m) (sym at)
     (word-step s (slice_set s.words (a + (3 + i)) v) m (c.Put e i q) r.Done (λ h. set_record h (name_at s a) (put_field (record_of h (name_at s a)) i (field_of_word s v)))
-    (stores.keeps s lawful a (3 + i) v held (omega arith) (omega arith))
-    (λ h model. ref-within h (h.registers m.number e) i (putting h m.number i q) (name_at s a) (register-named s m h model e small some)
-    (let many : length (record_of h (name_at s a)).refs ≡ refs_at s a = count-fields s m h model e small some in omega arith)
-    ∙ ap (λ f. outcome r.Done (set_record h (name_at s a) (put_field (record_of h (name_at s a)) i f))) (points-field s v (h.registers m.number q) (model.pointers.registers.0 q low)))
-    (λ h model. field-set s (m ∷ []) h (IsHeld s) model a i v held less (model.mirrors.registers.0 q low))
+    (stores.keeps s order a (3 + i) v held (omega arith) (omega arith))
+    (λ ms h set model among. ref-within h (h.registers m.number e) i (putting h m.number i q) (name_at s a) (register-named s ms h set model m among e small some)
+    (let many : length (record_of h (name_at s a)).refs ≡ refs_at s a = count-fields s ms h set model m among e small some in omega arith)
+    ∙ ap (λ f. outcome r.Done (set_record h (name_at s a) (put_field (record_of h (name_at s a)) i f))) (points-field s v (h.registers m.number q) (register-points s ms h set model m among q low)))
+    (λ ms h set model among. field-set s ms h set model a i v (register-in s ms h set model m among e small some) less (register-in s ms h set model m among q low))
     (λ n same. cc))

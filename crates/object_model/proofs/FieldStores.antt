@@ -36,18 +36,18 @@ module _ (s : HeapState) (ms : List MutatorState) (h : IdealHeap) (set : ℕ →
   reference some = model.mirrors.held v (inset some)
 
   keeps : KeepsObjects s put
-  keeps = stores.keeps s model.lawful a place v held (omega arith) (omega arith)
+  keeps = stores.keeps s model.order a place v held (omega arith) (omega arith)
 
   other-word : (x k : ℕ) → IsHeld s x → k < size_at s x → x ≢ a → word_at put (x + k) ≡ word_at s (x + k)
-  other-word x k holds small other = stores.word-other s model.lawful a place v held (omega arith) (omega arith) (x + k)
-      (stores.apart-from s model.lawful a place v held (omega arith) (omega arith) x k holds small other)
+  other-word x k holds small other = stores.word-other s model.order a place v held (omega arith) (omega arith) (x + k)
+      (stores.apart-from s model.order a place v held (omega arith) (omega arith) x k holds small other)
 
   own-ref : ref_at put a i ≡ v
-  own-ref = stores.word-same s model.lawful a place v held (omega arith) (omega arith) (a + 3 + i) (omega arith)
+  own-ref = stores.word-same s model.order a place v held (omega arith) (omega arith) (a + 3 + i) (omega arith)
 
   ref-other : (x k : ℕ) → IsHeld s x → k < refs_at s x → (x ≡ a → k ≢ i) → ref_at put x k ≡ ref_at s x k
   ref-other x k holds less differ = elim (cases_eq x a) as (λ _. ref_at put x k ≡ ref_at s x k) [
-    | inl same ↦ stores.word-other s model.lawful a place v held (omega arith) (omega arith) (x + 3 + k) (λ e. differ same (omega arith))
+    | inl same ↦ stores.word-other s model.order a place v held (omega arith) (omega arith) (x + 3 + k) (λ e. differ same (omega arith))
     | inr other ↦ ap (word_at put) (add_assoc x 3 k) ∙ other-word x (3 + k) holds (omega arith) other ∙ ap (word_at s) (sym (add_assoc x 3 k))
   ]
 
@@ -66,14 +66,14 @@ module _ (s : HeapState) (ms : List MutatorState) (h : IdealHeap) (set : ℕ →
   numbers-kept x j holds less =
       number-place s w keeps x j holds
       ∙ elim (cases_eq x a) as (λ _. word_at put (x + 3 + refs_at s x + j) ≡ word_at s (x + 3 + refs_at s x + j)) [
-        | inl same ↦ stores.word-other s model.lawful a place v held (omega arith) (omega arith) (x + 3 + refs_at s x + j)
+        | inl same ↦ stores.word-other s model.order a place v held (omega arith) (omega arith) (x + 3 + refs_at s x + j)
             (λ e. let refs : refs_at s x ≡ refs_at s a = ap (refs_at s) same in omega arith)
         | inr other ↦ (let e : x + 3 + refs_at s x + j ≡ x + (3 + refs_at s x + j) = omega arith in
             ap (word_at put) e ∙ other-word x (3 + refs_at s x + j) holds (omega arith) other ∙ ap (word_at s) (sym e))
       ]
 
   field-kept : (x k : ℕ) → IsHeld s x → k < refs_at s x → (x ≡ a → k ≢ i) → field_of_word put (ref_at put x k) ≡ field_of_word s (ref_at s x k)
-  field-kept x k holds less differ = ap (field_of_word put) (ref-other x k holds less differ) ∙ field-same s w keeps (ref_at s x k) (model.lawful.objects.references x k holds less)
+  field-kept x k holds less differ = ap (field_of_word put) (ref-other x k holds less differ) ∙ field-same s w keeps (ref_at s x k) (model.order.objects.references x k holds less)
 
   own-fields : fields_at put a ≡ slice_set (fields_at s a) i (field_of_word s v)
   own-fields =
@@ -92,17 +92,17 @@ module _ (s : HeapState) (ms : List MutatorState) (h : IdealHeap) (set : ℕ →
 
   pub field-set : Models put ms (set_record h (name_at s a) (put_field (record_of h (name_at s a)) i (field_of_word s v))) set
   field-set = store-models s w keeps ms h set model (name_at s a) (put_field (record_of h (name_at s a)) i (field_of_word s v))
-      (stores.words-fit s model.lawful a place v held (omega arith) (omega arith) (reference-fits s model.lawful v reference))
-      (stores.pins-same s model.lawful a place v held (omega arith) (omega arith))
-      (stores.globals-same s model.lawful a place v held (omega arith) (omega arith))
-      (λ x k holds less. by-place (IsReference s) x k holds less reference (model.lawful.objects.references x k holds less))
+      (stores.words-fit s model.order a place v held (omega arith) (omega arith) (reference-fits s model.order v reference))
+      (stores.pins-same s model.order a place v held (omega arith) (omega arith))
+      (stores.globals-same s model.order a place v held (omega arith) (omega arith))
+      (λ x k holds less. by-place (IsReference s) x k holds less reference (model.order.objects.references x k holds less))
       (λ x k in_set less. by-place (λ q. q ≢ 0 → set q) x k (model.mirrors.held x in_set) less inset (model.mirrors.fields x k in_set less))
       (λ x in_set. elim (cases_eq x a) as (λ _. at_name h.records (name_at s a) (Some (put_field (record_of h (name_at s a)) i (field_of_word s v))) (name_at s x) ≡ Some (record_at put x)) [
         | inl same ↦ ap (λ y. at_name h.records (name_at s a) (Some (put_field (record_of h (name_at s a)) i (field_of_word s v))) (name_at s y)) same
             ∙ at_name-same h.records (name_at s a) (Some (put_field (record_of h (name_at s a)) i (field_of_word s v)))
             ∙ ap (λ r. Some r) (own-record ∙ ap (record_at put) (sym same))
         | inr other ↦ at_name-other h.records (name_at s a) (Some (put_field (record_of h (name_at s a)) i (field_of_word s v))) (name_at s x)
-            (λ e. other (model.lawful.objects.names x a (model.mirrors.held x in_set) held e))
+            (λ e. other (model.order.objects.names x a (model.mirrors.held x in_set) held e))
             ∙ model.mirrors.records x in_set
             ∙ ap (λ r. Some r) (sym (other-record x (model.mirrors.held x in_set) other))
       ])

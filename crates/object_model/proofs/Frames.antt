@@ -1,5 +1,5 @@
 -- A heap whose objects, blocks and bits stay is lawful as before, where references are references and pins stand at objects.
-use Rattle.std.proofs.Common.{◌≡◌, sym, ◌∙◌, ap, subst, ℕ, ◌+◌, ◌/◌, ◌%◌, ◌^◌, ◌<◌, ◌≤◌, inl, inr, arith, false, ◌&&◌, ◌||◌, IsTrue, List, nat_eq, nat_lt, add-zero}
+use Rattle.std.proofs.Common.{◌≡◌, sym, ◌∙◌, ap, subst, ℕ, ◌+◌, ◌/◌, ◌%◌, ◌^◌, ◌<◌, ◌≤◌, inl, inr, arith, false, ◌&&◌, ◌||◌, IsTrue, List, nat_eq, nat_lt, add-zero, ◌↔◌}
 use Rattle.std.specs.List.{range_with_len, list_any}
 use Rattle.std.proofs.Math.Path.{fun_ext}
 use Rattle.std.proofs.Math.Logic.{∥∥₁_map}
@@ -9,7 +9,7 @@ use Rattle.heap_layout.specs.declared.block.Kind.{Kind}
 use Rattle.heap_layout.specs.declared.block.Kind.TheVariants as kinds
 use Rattle.heap_layout.specs.Blocks.{is_block_code, kind_code}
 use Rattle.object_model.specs.Objects.{HeapState, with_words, word_at, global_at, block_word, has_kind, HasKind, class_at, is_start, is_pinned, is_unlogged, IsHeld, IsInExtent, name_at, refs_at, nums_at, size_at, ref_at, size_of, blocks_for, cell_words}
-use Rattle.object_model.specs.Lawful.{IsLawful, HasLawfulObjects, HasHeader, Lies, IsRunOfBlocks, IsReference, is_in_run, has_small, IsClear, IsTouched, AreLinesRight}
+use Rattle.object_model.specs.Lawful.{IsLawful, IsOrderly, HasLawfulObjects, HasHeader, Lies, IsRunOfBlocks, IsReference, is_in_run, has_small, IsClear, IsTouched, AreLinesRight}
 use Rattle.ideal_heap.specs.Names.{IsName, name_of}
 use Rattle.object_model.specs.Changes.{KeepsObjects}
 
@@ -127,14 +127,14 @@ module _ (s : HeapState) (w : List ℕ) (keeps : KeepsObjects s (with_words s w)
         target = subst (λ (v : ℕ). 0 < v / 2 ^ 24 → v % 2 ^ 24 ≡ a) (sym collector) old.target;
       }
 
-  module _ (lawful : IsLawful s) where
+  module _ (order : IsOrderly s) where
     address-in-block : (a : ℕ) → IsAddress s.blocks a → block_at s.blocks a < s.blocks
     address-in-block a there = (let from : heap_of s.blocks ≤ a = there.from in let below : a < words_of s.blocks = there.below in omega arith)
 
     objects-after : ((a : ℕ) → IsTrue (is_pinned after a) → IsHeld s a)
         → ((a i : ℕ) → IsHeld s a → i < refs_at s a → IsReference s (ref_at after a i))
         → ((g : ℕ) → g < 16 → IsReference s (global_at after g)) → HasLawfulObjects after
-    objects-after pins fields globals = let old = lawful.objects in record {
+    objects-after pins fields globals = let old = order.objects in record {
       headers = λ a h. header-after a (held-before a h) (old.headers a (held-before a h));
       marks = λ a h. elim (or_cases (is_pinned after a) (is_unlogged after a) h) as (λ _. IsHeld after a) [
         | inl p ↦ held-after a (pins a p)
@@ -154,64 +154,91 @@ module _ (s : HeapState) (w : List ℕ) (keeps : KeepsObjects s (with_words s w)
           old.names a x ba bx (sym (name-after a ba) ∙ e ∙ name-after x bx);
     }
 
-    clear-after : ((a : ℕ) → IsTrue (is_pinned after a) → IsHeld s a) → (k : ℕ) → k < s.blocks → IsClear s k → IsClear after k
-    clear-after pins k there old = record {
-      empty = λ a i h inside. let before = held-before a h in old.empty a i before (extent-before a i before inside);
-      lines = λ line small marked. old.lines line small (sym (keeps.lines k line there small) ∙ marked);
-      marks = λ a in_block h. old.marks a in_block
-          (elim (or_cases (is_start after a || is_pinned after a) (is_unlogged after a) h) as (λ _. IsTrue (is_start s a || is_pinned s a || is_unlogged s a)) [
-            | inl either ↦ or_left (is_start s a || is_pinned s a) (is_unlogged s a) (or_left (is_start s a) (is_pinned s a)
-                (elim (or_cases (is_start after a) (is_pinned after a) either) as (λ _. IsTrue (is_start s a)) [
-                  | inl start ↦ sym (keeps.starts a) ∙ start
-                  | inr pin ↦ (pins a pin).start
-                ]))
-            | inr unlog ↦ or_right (is_start s a || is_pinned s a) (is_unlogged s a) (sym (keeps.unlogs a) ∙ unlog)
-          ]);
-    }
-
-    touched-after : (k line : ℕ) → IsTouched s k line → IsTouched after k line
-    touched-after k line t = record {
-      object = t.object;
-      word = t.word;
-      held = held-after t.object t.held;
-      inside = record { from = t.inside.from; below = subst (λ (n : ℕ). t.word < t.object + n) (sym (size-after t.object t.held)) t.inside.below };
-      from = t.from;
-      below = t.below;
-    }
-
-    touched-before : (k line : ℕ) → IsTouched after k line → IsTouched s k line
-    touched-before k line t = let before = held-before t.object t.held in record {
-      object = t.object;
-      word = t.word;
-      held = before;
-      inside = extent-before t.object t.word before t.inside;
-      from = t.from;
-      below = t.below;
-    }
-
-    lines-after : (k : ℕ) → AreLinesRight s k → AreLinesRight after k
-    lines-after k old = record {
-      marked = λ line is small marked.
-          let before : HasKind s k kinds.Immix = HasKind-back s w keeps.block_words k kinds.Immix is in
-          let there : k < s.blocks = kind-in s w keeps.block_words k kinds.Immix before in
-          ∥∥₁_map (old.marked line before small (sym (keeps.lines k line there small) ∙ marked)) (touched-after k line);
-      touched = λ line is small t.
-          let before : HasKind s k kinds.Immix = HasKind-back s w keeps.block_words k kinds.Immix is in
-          let there : k < s.blocks = kind-in s w keeps.block_words k kinds.Immix before in
-          keeps.lines k line there small ∙ old.touched line before small (touched-before k line t);
-    }
-
-    -- the row is lawful after, too
-    pub lawful-after : ((i : ℕ) → word_at after i < 2 ^ 64)
+    -- the row is in order after, too
+    pub orderly-after : ((i : ℕ) → word_at after i < 2 ^ 64)
         → ((a : ℕ) → IsTrue (is_pinned after a) → IsHeld s a)
         → ((a i : ℕ) → IsHeld s a → i < refs_at s a → IsReference s (ref_at after a i))
-        → ((g : ℕ) → g < 16 → IsReference s (global_at after g)) → IsLawful after
-    lawful-after words pins fields globals = record {
-      row = record { least = lawful.row.least; most = lawful.row.most; extent = keeps.extent ∙ lawful.row.extent; words = words; base = lawful.row.base };
+        → ((g : ℕ) → g < 16 → IsReference s (global_at after g)) → IsOrderly after
+    orderly-after words pins fields globals = record {
+      row = record { least = order.row.least; most = order.row.most; extent = keeps.extent ∙ order.row.extent; words = words; base = order.row.base };
       objects = objects-after pins fields globals;
-      blocks = λ k there. subst (λ (v : ℕ). IsTrue (is_block_code v)) (sym (keeps.block_words k there)) (lawful.blocks k there);
-      owners = λ k there. ap (λ v. v / 65536) (keeps.block_words k there) ∙ lawful.owners k there;
-      free = λ k is. let before : HasKind s k kinds.Free = HasKind-back s w keeps.block_words k kinds.Free is in
-          clear-after pins k (kind-in s w keeps.block_words k kinds.Free before) (lawful.free k before);
-      lines = λ k. lines-after k (lawful.lines k);
     }
+
+  clear-after : ((a : ℕ) → IsTrue (is_pinned after a) → IsHeld s a) → (k : ℕ) → k < s.blocks → IsClear s k → IsClear after k
+  clear-after pins k there old = record {
+    empty = λ a i h inside. let before = held-before a h in old.empty a i before (extent-before a i before inside);
+    lines = λ line small marked. old.lines line small (sym (keeps.lines k line there small) ∙ marked);
+    marks = λ a in_block h. old.marks a in_block
+        (elim (or_cases (is_start after a || is_pinned after a) (is_unlogged after a) h) as (λ _. IsTrue (is_start s a || is_pinned s a || is_unlogged s a)) [
+          | inl either ↦ or_left (is_start s a || is_pinned s a) (is_unlogged s a) (or_left (is_start s a) (is_pinned s a)
+              (elim (or_cases (is_start after a) (is_pinned after a) either) as (λ _. IsTrue (is_start s a)) [
+                | inl start ↦ sym (keeps.starts a) ∙ start
+                | inr pin ↦ (pins a pin).start
+              ]))
+          | inr unlog ↦ or_right (is_start s a || is_pinned s a) (is_unlogged s a) (sym (keeps.unlogs a) ∙ unlog)
+        ]);
+  }
+
+  touched-after : (k line : ℕ) → IsTouched s k line → IsTouched after k line
+  touched-after k line t = record {
+    object = t.object;
+    word = t.word;
+    held = held-after t.object t.held;
+    inside = record { from = t.inside.from; below = subst (λ (n : ℕ). t.word < t.object + n) (sym (size-after t.object t.held)) t.inside.below };
+    from = t.from;
+    below = t.below;
+  }
+
+  touched-before : (k line : ℕ) → IsTouched after k line → IsTouched s k line
+  touched-before k line t = let before = held-before t.object t.held in record {
+    object = t.object;
+    word = t.word;
+    held = before;
+    inside = extent-before t.object t.word before t.inside;
+    from = t.from;
+    below = t.below;
+  }
+
+  lines-after : (k : ℕ) → AreLinesRight s k → AreLinesRight after k
+  lines-after k old = record {
+    marked = λ line is small marked.
+        let before : HasKind s k kinds.Immix = HasKind-back s w keeps.block_words k kinds.Immix is in
+        let there : k < s.blocks = kind-in s w keeps.block_words k kinds.Immix before in
+        ∥∥₁_map (old.marked line before small (sym (keeps.lines k line there small) ∙ marked)) (touched-after k line);
+    touched = λ line is small t.
+        let before : HasKind s k kinds.Immix = HasKind-back s w keeps.block_words k kinds.Immix is in
+        let there : k < s.blocks = kind-in s w keeps.block_words k kinds.Immix before in
+        keeps.lines k line there small ∙ old.touched line before small (touched-before k line t);
+  }
+
+  -- and where it is in order after, it is lawful if it was
+  lawful-words : IsLawful s → IsOrderly after → IsLawful after
+  lawful-words lawful order =
+      let pins : (a : ℕ) → IsTrue (is_pinned after a) → IsHeld s a = λ a pin. held-before a (order.objects.marks a (or_left (is_pinned after a) (is_unlogged after a) pin)) in
+      record {
+        order = order;
+        blocks = λ k there. subst (λ (v : ℕ). IsTrue (is_block_code v)) (sym (keeps.block_words k there)) (lawful.blocks k there);
+        owners = λ k there. ap (λ v. v / 65536) (keeps.block_words k there) ∙ lawful.owners k there;
+        free = λ k is. let before : HasKind s k kinds.Free = HasKind-back s w keeps.block_words k kinds.Free is in
+            clear-after pins k (kind-in s w keeps.block_words k kinds.Free before) (lawful.free k before);
+        lines = λ k. lines-after k (lawful.lines k);
+      }
+
+-- a heap with the layout and the numbers of another has other words alone
+pub same-layout : (s t : HeapState) → t.blocks ≡ s.blocks → t.number ≡ s.number → t.base ≡ s.base → t ≡ with_words s t.words
+same-layout s t blocks number base =
+    let at : ℕ → ℕ → ℕ → HeapState = λ x y z. record { words = t.words; blocks = x; number = y; base = z } in
+    ap (λ x. at x t.number t.base) blocks ∙ ap (λ y. at s.blocks y t.base) number ∙ ap (λ z. at s.blocks s.number z) base
+
+-- where the objects stay and the heap is in order, it is lawful if it was
+pub lawful-kept : (s t : HeapState) → KeepsObjects s t → IsLawful s → IsOrderly t → IsLawful t
+lawful-kept s t keeps lawful order =
+    let same : t ≡ with_words s t.words = same-layout s t keeps.blocks keeps.number keeps.base in
+    subst IsLawful (sym same) (lawful-words s t.words (subst (KeepsObjects s) same keeps) lawful (subst IsOrderly same order))
+
+-- what is held before is held after, and the other way round
+pub held-kept : (s t : HeapState) → KeepsObjects s t → (a : ℕ) → IsHeld s a ↔ IsHeld t a
+held-kept s t keeps a = (
+  λ h. record { address = subst (λ (b : ℕ). IsAddress b a) (sym keeps.blocks) h.address; start = keeps.starts a ∙ h.start },
+  λ h. record { address = subst (λ (b : ℕ). IsAddress b a) keeps.blocks h.address; start = sym (keeps.starts a) ∙ h.start },
+)

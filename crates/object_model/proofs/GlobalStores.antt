@@ -9,21 +9,21 @@ use Rattle.ideal_heap.specs.declared.name.Name.{Name}
 use Rattle.ideal_heap.specs.Ideal.{IdealHeap, set_global, at_number}
 use Rattle.ideal_heap.proofs.UpdateLemmas.{at_number-other}
 use Rattle.object_model.specs.Objects.{HeapState, with_words, word_at, global_at, is_pinned, is_unlogged, IsHeld, name_at, refs_at, ref_at, record_at, field_of_word}
-use Rattle.object_model.specs.Lawful.{IsLawful, IsReference}
+use Rattle.object_model.specs.Lawful.{IsOrderly, IsReference}
 use Rattle.object_model.specs.Graphs.{MutatorState, Points}
 use Rattle.object_model.specs.Mirrors.{Models}
 use Rattle.object_model.specs.Changes.{KeepsObjects}
 use Rattle.object_model.proofs.Marks.{mark-same}
-use Rattle.object_model.proofs.Frames.{lawful-after, held-after, held-before, refs-after, name-after}
+use Rattle.object_model.proofs.Frames.{orderly-after, held-after, held-before, refs-after, name-after}
 use Rattle.object_model.proofs.Records.{record-same, field-same, number-place}
 use Rattle.object_model.proofs.Numbers.{points-after, registers-after}
 use Rattle.object_model.proofs.Updates.{at_number-same}
 
 -- nil and addresses are of 64 bits
-pub reference-fits : (s : HeapState) → IsLawful s → (v : ℕ) → IsReference s v → v < 2 ^ 64
-reference-fits s lawful v reference = elim (cases_eq v 0) as (λ _. v < 2 ^ 64) [
+pub reference-fits : (s : HeapState) → IsOrderly s → (v : ℕ) → IsReference s v → v < 2 ^ 64
+reference-fits s order v reference = elim (cases_eq v 0) as (λ _. v < 2 ^ 64) [
   | inl nil ↦ omega arith
-  | inr some ↦ let below : v < words_of s.blocks = (reference some).address.below in let most : s.blocks ≤ 1024 = lawful.row.most in omega arith
+  | inr some ↦ let below : v < words_of s.blocks = (reference some).address.below in let most : s.blocks ≤ 1024 = order.row.most in omega arith
 ]
 
 -- what a word that points somewhere is: nil, or a held object
@@ -63,15 +63,15 @@ module _ (s : HeapState) (g v : ℕ) (small : g < 16) where
   pub global-other : (k : ℕ) → k ≢ g → global_at shared k ≡ global_at s k
   global-other k other = get_or-set_other s.words (first s.blocks Globals + g) (first s.blocks Globals + k) v 0 (λ same. other (omega arith))
 
-  pub global-own : IsLawful s → (k : ℕ) → k ≡ g → global_at shared k ≡ v
-  global-own lawful k same = ap (global_at shared) same
-      ∙ get_or-set_same s.words (first s.blocks Globals + g) v 0 (let many : length s.words ≡ words_of s.blocks = lawful.row.extent in omega arith)
+  pub global-own : IsOrderly s → (k : ℕ) → k ≡ g → global_at shared k ≡ v
+  global-own order k same = ap (global_at shared) same
+      ∙ get_or-set_same s.words (first s.blocks Globals + g) v 0 (let many : length s.words ≡ words_of s.blocks = order.row.extent in omega arith)
 
-  pub words-fit : IsLawful s → v < 2 ^ 64 → (i : ℕ) → word_at shared i < 2 ^ 64
-  words-fit lawful fits i = elim (cases_eq i (first s.blocks Globals + g)) as (λ _. word_at shared i < 2 ^ 64) [
+  pub words-fit : IsOrderly s → v < 2 ^ 64 → (i : ℕ) → word_at shared i < 2 ^ 64
+  words-fit order fits i = elim (cases_eq i (first s.blocks Globals + g)) as (λ _. word_at shared i < 2 ^ 64) [
     | inl same ↦ subst (λ (x : ℕ). x < 2 ^ 64)
-        (sym (ap (word_at shared) same ∙ get_or-set_same s.words (first s.blocks Globals + g) v 0 (let many : length s.words ≡ words_of s.blocks = lawful.row.extent in omega arith))) fits
-    | inr other ↦ subst (λ (x : ℕ). x < 2 ^ 64) (sym (get_or-set_other s.words (first s.blocks Globals + g) i v 0 other)) (lawful.row.words i)
+        (sym (ap (word_at shared) same ∙ get_or-set_same s.words (first s.blocks Globals + g) v 0 (let many : length s.words ≡ words_of s.blocks = order.row.extent in omega arith))) fits
+    | inr other ↦ subst (λ (x : ℕ). x < 2 ^ 64) (sym (get_or-set_other s.words (first s.blocks Globals + g) i v 0 other)) (order.row.words i)
   ]
 
 module _ (s : HeapState) (ms : List MutatorState) (h : IdealHeap) (set : ℕ → Type 0) (model : Models s ms h set)
@@ -87,7 +87,7 @@ module _ (s : HeapState) (ms : List MutatorState) (h : IdealHeap) (set : ℕ →
 
   by-global : (P : ℕ → ℕ → Type 0) (k : ℕ) → (k ≡ g → P k v) → (k ≢ g → P k (global_at s k)) → P k (global_at after k)
   by-global P k own other = elim (cases_eq k g) as (λ _. P k (global_at after k)) [
-    | inl same ↦ subst (P k) (sym (global-own s g v small model.lawful k same)) (own same)
+    | inl same ↦ subst (P k) (sym (global-own s g v small model.order k same)) (own same)
     | inr differ ↦ subst (P k) (sym (global-other s g v small k differ)) (other differ)
   ]
 
@@ -96,17 +96,17 @@ module _ (s : HeapState) (ms : List MutatorState) (h : IdealHeap) (set : ℕ →
 
   record-kept : (x : ℕ) → IsHeld s x → record_at after x ≡ record_at s x
   record-kept x holds = record-same s w kept x holds
-      (λ i less. ap (field_of_word after) (ref-kept x i holds) ∙ field-same s w kept (ref_at s x i) (model.lawful.objects.references x i holds less))
+      (λ i less. ap (field_of_word after) (ref-kept x i holds) ∙ field-same s w kept (ref_at s x i) (model.order.objects.references x i holds less))
       (λ j less. number-place s w kept x j holds
       ∙ word-behind s g v small (x + 3 + refs_at s x + j) (let from : heap_of s.blocks ≤ x = holds.address.from in omega arith))
 
   pub global-set : Models after ms (set_global h g o) set
   global-set = record {
-    lawful = lawful-after s w kept model.lawful
-        (words-fit s g v small model.lawful (reference-fits s model.lawful v (points-reference s v o points)))
-        (λ a pin. model.lawful.objects.marks a (or_left (is_pinned s a) (is_unlogged s a) (sym (pins-same s g v small a) ∙ pin)))
-        (λ a i holds less. subst (IsReference s) (sym (ref-kept a i holds)) (model.lawful.objects.references a i holds less))
-        (λ k few. by-global (λ q. IsReference s) k (λ same. points-reference s v o points) (λ other. model.lawful.objects.globals k few));
+    order = orderly-after s w kept model.order
+        (words-fit s g v small model.order (reference-fits s model.order v (points-reference s v o points)))
+        (λ a pin. model.order.objects.marks a (or_left (is_pinned s a) (is_unlogged s a) (sym (pins-same s g v small a) ∙ pin)))
+        (λ a i holds less. subst (IsReference s) (sym (ref-kept a i holds)) (model.order.objects.references a i holds less))
+        (λ k few. by-global (λ q. IsReference s) k (λ same. points-reference s v o points) (λ other. model.order.objects.globals k few));
     mutators = model.mutators;
     pointers = record {
       registers = registers-after s w kept h ms model.pointers.registers;

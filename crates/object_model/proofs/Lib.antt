@@ -6,6 +6,8 @@ pub mod Stores
 pub mod OneKind
 pub mod Counts
 pub mod Sets
+pub mod Among
+pub mod Alone
 pub mod StepCases
 pub mod Blocks
 pub mod BirthModels

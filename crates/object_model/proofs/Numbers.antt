@@ -11,7 +11,7 @@ use Rattle.object_model.specs.Lawful.{IsReference}
 use Rattle.object_model.specs.Graphs.{MutatorState, Points, register_at}
 use Rattle.object_model.specs.Mirrors.{Models}
 use Rattle.object_model.specs.Changes.{KeepsObjects}
-use Rattle.object_model.proofs.Frames.{lawful-after, held-after, held-before, refs-after, nums-after, name-after}
+use Rattle.object_model.proofs.Frames.{orderly-after, held-after, held-before, refs-after, nums-after, name-after}
 use Rattle.object_model.proofs.Records.{record-same, record-parts, fields-same, field-same, number-place, fields_at, numbers_at}
 use Rattle.object_model.proofs.Stores as stores
 use Rattle.object_model.proofs.Updates.{map-range-set}
@@ -41,10 +41,10 @@ module _ (s : HeapState) (w : List ℕ) (keeps : KeepsObjects s (with_words s w)
       → ((a : ℕ) → set a → at_name h.records n (Some r) (name_at s a) ≡ Some (record_at after a))
       → Models after ms (set_record h n r) set
   store-models words pins globals references closed records = record {
-    lawful = lawful-after s w keeps model.lawful words
-        (λ a pin. model.lawful.objects.marks a (or_left (is_pinned s a) (is_unlogged s a) (sym (pins a) ∙ pin)))
+    order = orderly-after s w keeps model.order words
+        (λ a pin. model.order.objects.marks a (or_left (is_pinned s a) (is_unlogged s a) (sym (pins a) ∙ pin)))
         references
-        (λ g small. subst (IsReference s) (sym (globals g small)) (model.lawful.objects.globals g small));
+        (λ g small. subst (IsReference s) (sym (globals g small)) (model.order.objects.globals g small));
     mutators = model.mutators;
     pointers = record {
       registers = registers-after s w keeps h ms model.pointers.registers;
@@ -82,19 +82,19 @@ module _ (s : HeapState) (ms : List MutatorState) (h : IdealHeap) (set : ℕ →
   held = model.mirrors.held a there
 
   keeps : KeepsObjects s written
-  keeps = stores.keeps s model.lawful a place n held (omega arith) (omega arith)
+  keeps = stores.keeps s model.order a place n held (omega arith) (omega arith)
 
   other-word : (x i : ℕ) → IsHeld s x → i < size_at s x → x ≢ a → word_at written (x + i) ≡ word_at s (x + i)
-  other-word x i holds small other = stores.word-other s model.lawful a place n held (omega arith) (omega arith) (x + i)
-      (stores.apart-from s model.lawful a place n held (omega arith) (omega arith) x i holds small other)
+  other-word x i holds small other = stores.word-other s model.order a place n held (omega arith) (omega arith) (x + i)
+      (stores.apart-from s model.order a place n held (omega arith) (omega arith) x i holds small other)
 
   own-word : (i : ℕ) → i ≢ place → word_at written (a + i) ≡ word_at s (a + i)
-  own-word i other = stores.word-other s model.lawful a place n held (omega arith) (omega arith) (a + i) (λ e. other (omega arith))
+  own-word i other = stores.word-other s model.order a place n held (omega arith) (omega arith) (a + i) (λ e. other (omega arith))
 
   -- every reference field is as before
   refs-same : (x i : ℕ) → IsHeld s x → i < refs_at s x → ref_at written x i ≡ ref_at s x i
   refs-same x i holds less = elim (cases_eq x a) as (λ _. ref_at written x i ≡ ref_at s x i) [
-    | inl same ↦ stores.word-other s model.lawful a place n held (omega arith) (omega arith) (x + 3 + i)
+    | inl same ↦ stores.word-other s model.order a place n held (omega arith) (omega arith) (x + 3 + i)
         (λ e. let few : i < refs_at s a = subst (λ (y : ℕ). i < refs_at s y) same less in omega arith)
     | inr other ↦ ap (word_at written) (add_assoc x 3 i) ∙ other-word x (3 + i) holds (omega arith) other ∙ ap (word_at s) (sym (add_assoc x 3 i))
   ]
@@ -103,7 +103,7 @@ module _ (s : HeapState) (ms : List MutatorState) (h : IdealHeap) (set : ℕ →
   number-other x k holds less differ =
       number-place s (slice_set s.words (a + place) n) keeps x k holds
       ∙ elim (cases_eq x a) as (λ _. word_at written (x + 3 + refs_at s x + k) ≡ word_at s (x + 3 + refs_at s x + k)) [
-        | inl same ↦ stores.word-other s model.lawful a place n held (omega arith) (omega arith) (x + 3 + refs_at s x + k)
+        | inl same ↦ stores.word-other s model.order a place n held (omega arith) (omega arith) (x + 3 + refs_at s x + k)
             (λ e. let refs : refs_at s x ≡ refs_at s a = ap (refs_at s) same in differ same (omega arith))
         | inr other ↦ (let e : x + 3 + refs_at s x + k ≡ x + (3 + refs_at s x + k) = omega arith in
             ap (word_at written) e ∙ other-word x (3 + refs_at s x + k) holds (omega arith) other ∙ ap (word_at s) (sym e))
@@ -111,12 +111,12 @@ module _ (s : HeapState) (ms : List MutatorState) (h : IdealHeap) (set : ℕ →
 
   own-number : num_at written a j ≡ n
   own-number = number-place s (slice_set s.words (a + place) n) keeps a j held
-      ∙ stores.word-same s model.lawful a place n held (omega arith) (omega arith) (a + 3 + refs_at s a + j) (omega arith)
+      ∙ stores.word-same s model.order a place n held (omega arith) (omega arith) (a + 3 + refs_at s a + j) (omega arith)
 
   own-fields : (x : ℕ) → IsHeld s x → fields_at written x ≡ fields_at s x
   own-fields x holds = fields-same s (slice_set s.words (a + place) n) keeps x holds
       (λ i less. ap (field_of_word written) (refs-same x i holds less)
-      ∙ field-same s (slice_set s.words (a + place) n) keeps (ref_at s x i) (model.lawful.objects.references x i holds less))
+      ∙ field-same s (slice_set s.words (a + place) n) keeps (ref_at s x i) (model.order.objects.references x i holds less))
 
   own-numbers : numbers_at written a ≡ slice_set (numbers_at s a) j n
   own-numbers =
@@ -132,15 +132,15 @@ module _ (s : HeapState) (ms : List MutatorState) (h : IdealHeap) (set : ℕ →
   other-record : (x : ℕ) → IsHeld s x → x ≢ a → record_at written x ≡ record_at s x
   other-record x holds other = record-same s (slice_set s.words (a + place) n) keeps x holds
       (λ i less. ap (field_of_word written) (refs-same x i holds less)
-      ∙ field-same s (slice_set s.words (a + place) n) keeps (ref_at s x i) (model.lawful.objects.references x i holds less))
+      ∙ field-same s (slice_set s.words (a + place) n) keeps (ref_at s x i) (model.order.objects.references x i holds less))
       (λ k less. number-other x k holds less (λ same. absurd (other same)))
 
   pub number-set : Models written ms (set_record h (name_at s a) (put_number (record_of h (name_at s a)) j n)) set
   number-set = store-models s (slice_set s.words (a + place) n) keeps ms h set model (name_at s a) (put_number (record_of h (name_at s a)) j n)
-      (stores.words-fit s model.lawful a place n held (omega arith) (omega arith) fits)
-      (stores.pins-same s model.lawful a place n held (omega arith) (omega arith))
-      (stores.globals-same s model.lawful a place n held (omega arith) (omega arith))
-      (λ x i holds less. subst (IsReference s) (sym (refs-same x i holds less)) (model.lawful.objects.references x i holds less))
+      (stores.words-fit s model.order a place n held (omega arith) (omega arith) fits)
+      (stores.pins-same s model.order a place n held (omega arith) (omega arith))
+      (stores.globals-same s model.order a place n held (omega arith) (omega arith))
+      (λ x i holds less. subst (IsReference s) (sym (refs-same x i holds less)) (model.order.objects.references x i holds less))
       (λ x i inset less some. let same : ref_at written x i ≡ ref_at s x i = refs-same x i (model.mirrors.held x inset) less in
       subst set (sym same) (model.mirrors.fields x i inset less (λ nil. some (same ∙ nil))))
       (λ x inset. elim (cases_eq x a) as (λ _. at_name h.records (name_at s a) (Some (put_number (record_of h (name_at s a)) j n)) (name_at s x) ≡ Some (record_at written x)) [
@@ -148,7 +148,7 @@ module _ (s : HeapState) (ms : List MutatorState) (h : IdealHeap) (set : ℕ →
             ∙ at_name-same h.records (name_at s a) (Some (put_number (record_of h (name_at s a)) j n))
             ∙ ap (λ r. Some r) (own-record ∙ ap (record_at written) (sym same))
         | inr other ↦ at_name-other h.records (name_at s a) (Some (put_number (record_of h (name_at s a)) j n)) (name_at s x)
-            (λ e. other (model.lawful.objects.names x a (model.mirrors.held x inset) held e))
+            (λ e. other (model.order.objects.names x a (model.mirrors.held x inset) held e))
             ∙ model.mirrors.records x inset
             ∙ ap (λ r. Some r) (sym (other-record x (model.mirrors.held x inset) other))
       ])

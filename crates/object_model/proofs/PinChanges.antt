@@ -10,31 +10,15 @@ use Rattle.ideal_heap.specs.Names.{name}
 use Rattle.ideal_heap.specs.Ideal.{IdealHeap, set_pinned, at_name}
 use Rattle.ideal_heap.proofs.UpdateLemmas.{at_name-same, at_name-other}
 use Rattle.object_model.specs.Objects.{HeapState, with_words, word_at, global_at, is_pinned, is_unlogged, IsHeld, name_at, refs_at, ref_at, record_at, field_of_word}
-use Rattle.object_model.specs.Lawful.{IsLawful, IsReference}
+use Rattle.object_model.specs.Lawful.{IsOrderly, IsReference}
 use Rattle.object_model.specs.Graphs.{MutatorState, AreDifferent, Points, numbers_of}
 use Rattle.object_model.specs.Mirrors.{Models}
 use Rattle.object_model.specs.Changes.{KeepsObjects, SetsPin}
+use Rattle.object_model.proofs.Among.{one-number}
 use Rattle.object_model.proofs.Marks.{mark-same}
-use Rattle.object_model.proofs.Frames.{lawful-after, held-after, held-before, refs-after, name-after}
+use Rattle.object_model.proofs.Frames.{orderly-after, held-after, held-before, refs-after, name-after}
 use Rattle.object_model.proofs.Records.{record-same, field-same, number-place}
 use Rattle.object_model.proofs.Numbers.{points-after, registers-after}
-
--- what holds of the element at each place holds of each element
-pub all-from : {X : Type 0} (P : X → Type 0) (xs : List X) → ((i : ℕ) (x : X) → i < length xs → get_or xs i x ≡ x → P x) → AllByRecursion P xs
-all-from P [] each = tt
-all-from P (x ∷ xs) each = (each 0 x (omega arith) refl, all-from P xs (λ i y within is. each (suc i) y (omega arith) is))
-
--- one number belongs to one mutator
-pub one-number : (P : MutatorState → Type 0) (k : ℕ) (ms : List MutatorState) → AreDifferent (numbers_of ms) → Any (λ m. (k ≡ m.number) × P m) ms
-    → AllByRecursion (λ m. k ≡ m.number → P m) ms
-one-number P k ms differ any = all-from (λ m. k ≡ m.number → P m) ms (λ i x within is same.
-    let many : length (numbers_of ms) ≡ length ms = length-map ms (λ m. m.number) in
-    let there : any.0 < length ms = any.2 in
-    let here : get_or (numbers_of ms) i 0 ≡ k = get_or_default (numbers_of ms) i 0 x.number (omega arith) ∙ get_or-map (λ m. m.number) ms i x x.number within ∙ ap (λ m. m.number) is ∙ sym same in
-    let other : get_or (numbers_of ms) any.0 0 ≡ k = get_or_default (numbers_of ms) any.0 0 any.1.number (omega arith) ∙ get_or-map (λ m. m.number) ms any.0 any.1 any.1.number any.2 ∙ ap (λ m. m.number) any.3 ∙ sym any.4.0 in
-    let place : any.0 ≡ i = differ any.0 i (omega arith) (omega arith) (other ∙ sym here) in
-    let element : any.1 ≡ x = sym any.3 ∙ get_or_default ms any.0 any.1 x any.2 ∙ ap (λ j. get_or ms j x) place ∙ is in
-    subst P element any.4.1)
 
 -- two names are equal or not
 pub name-cases : (n k : Name) → (n ≡ k) ⊎ (n ≢ k)
@@ -78,18 +62,18 @@ module _ (s : HeapState) (w : List ℕ) (a : ℕ) (b : Bool) (sets : SetsPin s (
   pub globals-same : (g : ℕ) → g < 16 → global_at pinned g ≡ global_at s g
   globals-same g few = sets.rest (first s.blocks Globals + g) (inl (omega arith))
 
-  pub pins-held : IsLawful s → IsHeld s a → (x : ℕ) → IsTrue (is_pinned pinned x) → IsHeld s x
-  pins-held lawful held x pin = elim (cases_eq x a) as (λ _. IsHeld s x) [
+  pub pins-held : IsOrderly s → IsHeld s a → (x : ℕ) → IsTrue (is_pinned pinned x) → IsHeld s x
+  pins-held order held x pin = elim (cases_eq x a) as (λ _. IsHeld s x) [
     | inl same ↦ subst (IsHeld s) (sym same) held
-    | inr other ↦ lawful.objects.marks x (or_left (is_pinned s x) (is_unlogged s x) (sym (sets.others x other) ∙ pin))
+    | inr other ↦ order.objects.marks x (or_left (is_pinned s x) (is_unlogged s x) (sym (sets.others x other) ∙ pin))
   ]
 
   ref-kept : (x i : ℕ) → IsHeld s x → ref_at pinned x i ≡ ref_at s x i
   ref-kept x i holds = sets.rest (x + 3 + i) (inr (let from : heap_of s.blocks ≤ x = holds.address.from in omega arith))
 
-  record-kept : IsLawful s → (x : ℕ) → IsHeld s x → record_at pinned x ≡ record_at s x
-  record-kept lawful x holds = record-same s w keeps x holds
-      (λ i less. ap (field_of_word pinned) (ref-kept x i holds) ∙ field-same s w keeps (ref_at s x i) (lawful.objects.references x i holds less))
+  record-kept : IsOrderly s → (x : ℕ) → IsHeld s x → record_at pinned x ≡ record_at s x
+  record-kept order x holds = record-same s w keeps x holds
+      (λ i less. ap (field_of_word pinned) (ref-kept x i holds) ∙ field-same s w keeps (ref_at s x i) (order.objects.references x i holds less))
       (λ j less. number-place s w keeps x j holds
       ∙ sets.rest (x + 3 + refs_at s x + j) (inr (let from : heap_of s.blocks ≤ x = holds.address.from in omega arith)))
 
@@ -112,16 +96,16 @@ module _ (s : HeapState) (w : List ℕ) (a : ℕ) (b : Bool) (sets : SetsPin s (
       | inr other ↦
           let left : is_pinned pinned x ≡ is_pinned s x = sets.others x other in
           let right : at_name h.pinned (name_at s a) b (name_at s x) ≡ h.pinned (name_at s x) =
-          at_name-other h.pinned (name_at s a) b (name_at s x) (λ e. other (model.lawful.objects.names x a (model.mirrors.held x inside) held e)) in
+          at_name-other h.pinned (name_at s a) b (name_at s x) (λ e. other (model.order.objects.names x a (model.mirrors.held x inside) held e)) in
           let old = model.mirrors.pins x inside in
           (λ is. right ∙ old.0 (sym left ∙ is), λ is. left ∙ old.1 (sym right ∙ is))
     ]
 
     pub pin-models : Models pinned ms (set_pinned h (name_at s a) b) set
     pin-models = record {
-      lawful = lawful-after s w keeps model.lawful sets.words (pins-held model.lawful held)
-          (λ x i holds less. subst (IsReference s) (sym (ref-kept x i holds)) (model.lawful.objects.references x i holds less))
-          (λ g few. subst (IsReference s) (sym (globals-same g few)) (model.lawful.objects.globals g few));
+      order = orderly-after s w keeps model.order sets.words (pins-held model.order held)
+          (λ x i holds less. subst (IsReference s) (sym (ref-kept x i holds)) (model.order.objects.references x i holds less))
+          (λ g few. subst (IsReference s) (sym (globals-same g few)) (model.order.objects.globals g few));
       mutators = model.mutators;
       pointers = record {
         registers = registers-after s w keeps h ms model.pointers.registers;
@@ -141,7 +125,7 @@ module _ (s : HeapState) (w : List ℕ) (a : ℕ) (b : Bool) (sets : SetsPin s (
         registers = model.mirrors.registers;
         globals = λ g few some. subst set (sym (globals-same g few)) (model.mirrors.globals g few (λ nil. some (globals-same g few ∙ nil)));
         records = λ x inside. let holds = model.mirrors.held x inside in
-            ap h.records (name-after s w keeps x holds) ∙ model.mirrors.records x inside ∙ ap (λ y. Some y) (sym (record-kept model.lawful x holds));
+            ap h.records (name-after s w keeps x holds) ∙ model.mirrors.records x inside ∙ ap (λ y. Some y) (sym (record-kept model.order x holds));
         pins = λ x inside. subst (λ (k : Name). IsTrue (is_pinned pinned x) ↔ IsTrue (at_name h.pinned (name_at s a) b k))
             (sym (name-after s w keeps x (model.mirrors.held x inside))) (pins-each x inside);
       };

@@ -1,6 +1,7 @@
 -- The steps that pin and unpin an object.
-use Rattle.std.proofs.Common.{◌≡◌, ◌≢◌, refl, sym, ◌∙◌, ap, subst, ℕ, ◌<◌, Bool, true, false, IsTrue, [], ◌∷◌, ◌↔◌}
+use Rattle.std.proofs.Common.{◌≡◌, ◌≢◌, refl, sym, ◌∙◌, ap, subst, ℕ, ◌<◌, Bool, true, false, IsTrue, List, ◌↔◌}
 use Rattle.std.specs.Prelude.{if◌then◌else◌}
+use Rattle.std.specs.List.{Contains}
 use Rattle.ideal_heap.specs.declared.name.Name.{Name}
 use Rattle.ideal_heap.specs.declared.command.Command.{Command}
 use Rattle.ideal_heap.specs.declared.command.Command.TheVariants as c
@@ -12,9 +13,10 @@ use Rattle.object_model.specs.Objects.{HeapState, with_words, is_pinned, IsHeld,
 use Rattle.object_model.specs.Graphs.{MutatorState, register_at}
 use Rattle.object_model.specs.Mirrors.{Models}
 use Rattle.object_model.specs.Changes.{SetsPin}
-use Rattle.object_model.specs.Steps.{TakesStep}
+use Rattle.object_model.specs.Steps.{IsStep}
+use Rattle.object_model.proofs.Frames.{same-layout}
 use Rattle.object_model.proofs.PinChanges.{keeps, pin-models}
-use Rattle.object_model.proofs.StepCases.{outcome, register-named}
+use Rattle.object_model.proofs.StepCases.{outcome, register-in, register-named}
 use Rattle.object_model.proofs.WordSteps.{word-step}
 
 -- equivalent truths are equal
@@ -24,30 +26,24 @@ same-truth true false both = sym (both.0 refl)
 same-truth false true both = both.1 refl
 same-truth false false both = refl
 
--- a heap whose pin changed has other words alone
-pub pin-words : (old new : HeapState) (a : ℕ) (b : Bool) → SetsPin old new a b → new ≡ with_words old new.words
-pin-words old new a b sets =
-    let at : ℕ → ℕ → ℕ → HeapState = λ x y z. record { words = new.words; blocks = x; number = y; base = z } in
-    ap (λ x. at x new.number new.base) sets.blocks ∙ ap (λ y. at old.blocks y new.base) sets.number ∙ ap (λ z. at old.blocks old.number z) sets.base
-
 -- a step that makes the pin of an object b, whatever it tells
 pin-step : (s s' : HeapState) (m : MutatorState) (command : Command) (reply : Reply) (e : ℕ) (b : Bool) → e < 16 → register_at m e ≢ 0 → SetsPin s s' (register_at m e) b
-    → ((h : IdealHeap) → Models s (m ∷ []) h (IsHeld s) → step h m.number command ≡ outcome reply (set_pinned h (name_at s (register_at m e)) b))
-    → ((n : Name) → reply ≢ r.New n) → TakesStep s m command reply s' m
+    → ((ms : List MutatorState) (h : IdealHeap) (set : ℕ → Type 0) → Models s ms h set → Contains ms m → step h m.number command ≡ outcome reply (set_pinned h (name_at s (register_at m e)) b))
+    → ((n : Name) → reply ≢ r.New n) → IsStep s m command reply s' m
 pin-step s s' m command reply e b small some sets steps no_birth =
     let a : ℕ = register_at m e in
-    let same : s' ≡ with_words s s'.words = pin-words s s' a b sets in
+    let same : s' ≡ with_words s s'.words = same-layout s s' sets.blocks sets.number sets.base in
     let made : SetsPin s (with_words s s'.words) a b = subst (λ (x : HeapState). SetsPin s x a b) same sets in
-    subst (λ (x : HeapState). TakesStep s m command reply x m) (sym same)
+    subst (λ (x : HeapState). IsStep s m command reply x m) (sym same)
     (word-step s s'.words m command reply (λ h. set_pinned h (name_at s a) b) (keeps s s'.words a b made) steps
-    (λ h model. pin-models s s'.words a b made (m ∷ []) h (IsHeld s) model (model.mirrors.registers.0 e small some))
+    (λ ms h set model among. pin-models s s'.words a b made ms h set model (register-in s ms h set model m among e small some))
     no_birth)
 
 -- the ideal heap has the pin of the object that a register holds
-pin-read : (s : HeapState) (m : MutatorState) (e : ℕ) → e < 16 → register_at m e ≢ 0 → (h : IdealHeap) → Models s (m ∷ []) h (IsHeld s)
+pin-read : (s : HeapState) (m : MutatorState) (e : ℕ) → e < 16 → register_at m e ≢ 0 → (ms : List MutatorState) (h : IdealHeap) (set : ℕ → Type 0) → Models s ms h set → Contains ms m
     → h.pinned (name_at s (register_at m e)) ≡ is_pinned s (register_at m e)
-pin-read s m e small some h model =
-    sym (same-truth (is_pinned s (register_at m e)) (h.pinned (name_at s (register_at m e))) (model.mirrors.pins (register_at m e) (model.mirrors.registers.0 e small some)))
+pin-read s m e small some ms h set model among =
+    sym (same-truth (is_pinned s (register_at m e)) (h.pinned (name_at s (register_at m e))) (model.mirrors.pins (register_at m e) (register-in s ms h set model m among e small some)))
 
 no-new : (b : Bool) (x y : Reply) → ((n : Name) → x ≢ r.New n) → ((n : Name) → y ≢ r.New n) → (n : Name) → (if b then x else y) ≢ r.New n
 no-new true x y left right n same = left n same
@@ -55,39 +51,39 @@ no-new false x y left right n same = right n same
 
 -- an object is pinned
 pub pin-object : (s s' : HeapState) (m : MutatorState) (e : ℕ) → e < 16 → register_at m e ≢ 0 → SetsPin s s' (register_at m e) true
-    → TakesStep s m (c.Pin e) (if is_pinned s (register_at m e) then r.No else r.Yes) s' m
+    → IsStep s m (c.Pin e) (if is_pinned s (register_at m e) then r.No else r.Yes) s' m
 unfolding step
 pin-object s s' m e small some sets =
     let a : ℕ = register_at m e in
     pin-step s s' m (c.Pin e) (if is_pinned s a then r.No else r.Yes) e true small some sets
-    (λ h model. object-some h (h.registers m.number e) (pinning h) (name_at s a) (register-named s m h model e small some)
-    ∙ ap (λ p. outcome (if p then r.No else r.Yes) (set_pinned h (name_at s a) true)) (pin-read s m e small some h model))
+    (λ ms h set model among. object-some h (h.registers m.number e) (pinning h) (name_at s a) (register-named s ms h set model m among e small some)
+    ∙ ap (λ p. outcome (if p then r.No else r.Yes) (set_pinned h (name_at s a) true)) (pin-read s m e small some ms h set model among))
     (no-new (is_pinned s a) r.No r.Yes (λ n same. cc) (λ n same. cc))
 
 -- an object is unpinned
 pub unpin-object : (s s' : HeapState) (m : MutatorState) (e : ℕ) → e < 16 → register_at m e ≢ 0 → SetsPin s s' (register_at m e) false
-    → TakesStep s m (c.Unpin e) (if is_pinned s (register_at m e) then r.Yes else r.No) s' m
+    → IsStep s m (c.Unpin e) (if is_pinned s (register_at m e) then r.Yes else r.No) s' m
 unfolding step
 unpin-object s s' m e small some sets =
     let a : ℕ = register_at m e in
     pin-step s s' m (c.Unpin e) (if is_pinned s a then r.Yes else r.No) e false small some sets
-    (λ h model. object-some h (h.registers m.number e) (unpinning h) (name_at s a) (register-named s m h model e small some)
-    ∙ ap (λ p. outcome (if p then r.Yes else r.No) (set_pinned h (name_at s a) false)) (pin-read s m e small some h model))
+    (λ ms h set model among. object-some h (h.registers m.number e) (unpinning h) (name_at s a) (register-named s ms h set model m among e small some)
+    ∙ ap (λ p. outcome (if p then r.Yes else r.No) (set_pinned h (name_at s a) false)) (pin-read s m e small some ms h set model among))
     (no-new (is_pinned s a) r.Yes r.No (λ n same. cc) (λ n same. cc))
 
 -- the replies, by what the pin was
 pub pin-yes : (s s' : HeapState) (m : MutatorState) (e : ℕ) → e < 16 → register_at m e ≢ 0 → is_pinned s (register_at m e) ≡ false → SetsPin s s' (register_at m e) true
-    → TakesStep s m (c.Pin e) r.Yes s' m
-pin-yes s s' m e small some was sets = subst (λ (p : Bool). TakesStep s m (c.Pin e) (if p then r.No else r.Yes) s' m) was (pin-object s s' m e small some sets)
+    → IsStep s m (c.Pin e) r.Yes s' m
+pin-yes s s' m e small some was sets = subst (λ (p : Bool). IsStep s m (c.Pin e) (if p then r.No else r.Yes) s' m) was (pin-object s s' m e small some sets)
 
 pub pin-no : (s s' : HeapState) (m : MutatorState) (e : ℕ) → e < 16 → register_at m e ≢ 0 → is_pinned s (register_at m e) ≡ true → SetsPin s s' (register_at m e) true
-    → TakesStep s m (c.Pin e) r.No s' m
-pin-no s s' m e small some was sets = subst (λ (p : Bool). TakesStep s m (c.Pin e) (if p then r.No else r.Yes) s' m) was (pin-object s s' m e small some sets)
+    → IsStep s m (c.Pin e) r.No s' m
+pin-no s s' m e small some was sets = subst (λ (p : Bool). IsStep s m (c.Pin e) (if p then r.No else r.Yes) s' m) was (pin-object s s' m e small some sets)
 
 pub unpin-yes : (s s' : HeapState) (m : MutatorState) (e : ℕ) → e < 16 → register_at m e ≢ 0 → is_pinned s (register_at m e) ≡ true → SetsPin s s' (register_at m e) false
-    → TakesStep s m (c.Unpin e) r.Yes s' m
-unpin-yes s s' m e small some was sets = subst (λ (p : Bool). TakesStep s m (c.Unpin e) (if p then r.Yes else r.No) s' m) was (unpin-object s s' m e small some sets)
+    → IsStep s m (c.Unpin e) r.Yes s' m
+unpin-yes s s' m e small some was sets = subst (λ (p : Bool). IsStep s m (c.Unpin e) (if p then r.Yes else r.No) s' m) was (unpin-object s s' m e small some sets)
 
 pub unpin-no : (s s' : HeapState) (m : MutatorState) (e : ℕ) → e < 16 → register_at m e ≢ 0 → is_pinned s (register_at m e) ≡ false → SetsPin s s' (register_at m e) false
-    → TakesStep s m (c.Unpin e) r.No s' m
-unpin-no s s' m e small some was sets = subst (λ (p : Bool). TakesStep s m (c.Unpin e) (if p then r.Yes else r.No) s' m) was (unpin-object s s' m e small some sets)
+    → IsStep s m (c.Unpin e) r.No s' m
+unpin-no s s' m e small some was sets = subst (λ (p : Bool). IsStep s m (c.Unpin e) (if p then r.Yes else r.No) s' m) was (unpin-object s s' m e small some sets)

@@ -7,10 +7,10 @@ use Rattle.ideal_heap.specs.declared.reply.Reply.TheVariants as r
 use Rattle.ideal_heap.specs.Ideal.{step, set_register, set_global, told}
 use Rattle.object_model.specs.Objects.{HeapState, with_words, IsHeld, name_at, global_at}
 use Rattle.object_model.specs.Graphs.{MutatorState, Points, register_at, with_register}
-use Rattle.object_model.specs.Steps.{TakesStep}
+use Rattle.object_model.specs.Steps.{IsStep}
 use Rattle.object_model.proofs.GlobalStores as globals
 use Rattle.object_model.proofs.Standing.{pointed}
-use Rattle.object_model.proofs.StepCases.{outcome, register-step}
+use Rattle.object_model.proofs.StepCases.{outcome, register-step, register-points, register-in}
 use Rattle.object_model.proofs.WordSteps.{word-step}
 
 -- what a word that is nil points to
@@ -19,42 +19,42 @@ points-nil s v None p nil = refl
 points-nil s v (Some n) p nil = absurd (let some : 0 < v = p.0 in omega arith)
 
 -- one register gets what another holds
-pub move-register : (s : HeapState) (m : MutatorState) (d e : ℕ) → d < 16 → e < 16 → TakesStep s m (c.Move d e) r.Done s (with_register m d (register_at m e))
+pub move-register : (s : HeapState) (m : MutatorState) (d e : ℕ) → d < 16 → e < 16 → IsStep s m (c.Move d e) r.Done s (with_register m d (register_at m e))
 unfolding step
 move-register s m d e low small = register-step s m (c.Move d e) r.Done d (register_at m e) (λ h. h.registers m.number e) low
-    (λ h model. refl) (λ h model. model.pointers.registers.0 e small) (λ h model some. model.mirrors.registers.0 e small some) (λ n same. cc)
+    (λ ms h set model among. refl) (λ ms h set model among. register-points s ms h set model m among e small) (λ ms h set model among some. register-in s ms h set model m among e small some) (λ n same. cc)
 
 -- a register becomes nil
-pub drop-register : (s : HeapState) (m : MutatorState) (e : ℕ) → e < 16 → TakesStep s m (c.DropReg e) r.Done s (with_register m e 0)
+pub drop-register : (s : HeapState) (m : MutatorState) (e : ℕ) → e < 16 → IsStep s m (c.DropReg e) r.Done s (with_register m e 0)
 unfolding step
 drop-register s m e small = register-step s m (c.DropReg e) r.Done e 0 (λ h. None) small
-    (λ h model. refl) (λ h model. refl) (λ h model some. absurd (some refl)) (λ n same. cc)
+    (λ ms h set model among. refl) (λ ms h set model among. refl) (λ ms h set model among some. absurd (some refl)) (λ n same. cc)
 
 -- a global that is nil
-pub load-nil : (s : HeapState) (m : MutatorState) (d g : ℕ) → d < 16 → g < 16 → global_at s g ≡ 0 → TakesStep s m (c.Load d g) r.Nil s (with_register m d 0)
+pub load-nil : (s : HeapState) (m : MutatorState) (d g : ℕ) → d < 16 → g < 16 → global_at s g ≡ 0 → IsStep s m (c.Load d g) r.Nil s (with_register m d 0)
 unfolding step
 load-nil s m d g low few nil = register-step s m (c.Load d g) r.Nil d 0 (λ h. None) low
-    (λ h model. ap (λ o. outcome (told o) (set_register h m.number d o)) (points-nil s (global_at s g) (h.globals g) (model.pointers.globals g few) nil))
-    (λ h model. refl) (λ h model some. absurd (some refl)) (λ n same. cc)
+    (λ ms h set model among. ap (λ o. outcome (told o) (set_register h m.number d o)) (points-nil s (global_at s g) (h.globals g) (model.pointers.globals g few) nil))
+    (λ ms h set model among. refl) (λ ms h set model among some. absurd (some refl)) (λ n same. cc)
 
 -- and one that names an object
 pub load-ref : (s : HeapState) (m : MutatorState) (d g : ℕ) → d < 16 → g < 16 → global_at s g ≢ 0
-    → TakesStep s m (c.Load d g) (r.Ref (name_at s (global_at s g))) s (with_register m d (global_at s g))
+    → IsStep s m (c.Load d g) (r.Ref (name_at s (global_at s g))) s (with_register m d (global_at s g))
 unfolding step
 load-ref s m d g low few some =
     let v : ℕ = global_at s g in
     register-step s m (c.Load d g) (r.Ref (name_at s v)) d v (λ h. Some (name_at s v)) low
-    (λ h model. ap (λ o. outcome (told o) (set_register h m.number d o)) (pointed s v (h.globals g) (model.pointers.globals g few) some))
-    (λ h model. (omega arith, model.mirrors.globals g few some, refl))
-    (λ h model other. model.mirrors.globals g few some) (λ n same. cc)
+    (λ ms h set model among. ap (λ o. outcome (told o) (set_register h m.number d o)) (pointed s v (h.globals g) (model.pointers.globals g few) some))
+    (λ ms h set model among. (omega arith, model.mirrors.held v (model.mirrors.globals g few some), refl))
+    (λ ms h set model among other. model.mirrors.globals g few some) (λ n same. cc)
 
 -- a global gets what a register holds
 pub share-global : (s : HeapState) (m : MutatorState) (g e : ℕ) → g < 16 → e < 16
-    → TakesStep s m (c.Share g e) r.Done (with_words s (slice_set s.words (first s.blocks Globals + g) (register_at m e))) m
+    → IsStep s m (c.Share g e) r.Done (with_words s (slice_set s.words (first s.blocks Globals + g) (register_at m e))) m
 unfolding step
 share-global s m g e few small =
     word-step s (slice_set s.words (first s.blocks Globals + g) (register_at m e)) m (c.Share g e) r.Done (λ h. set_global h g (h.registers m.number e))
     (globals.keeps s g (register_at m e) few)
-    (λ h model. refl)
-    (λ h model. globals.global-set s (m ∷ []) h (IsHeld s) model g (register_at m e) (h.registers m.number e) few (model.pointers.registers.0 e small) (model.mirrors.registers.0 e small))
+    (λ ms h set model among. refl)
+    (λ ms h set model among. globals.global-set s ms h set model g (register_at m e) (h.registers m.number e) few (register-points s ms h set model m among e small) (register-in s ms h set model m among e small))
     (λ n same. cc)

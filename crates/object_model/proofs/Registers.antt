@@ -142,7 +142,7 @@ module _ (s : HeapState) (ms : List MutatorState) (h : IdealHeap) (set : ℕ →
 
   pub register-models : Models s after after_heap set
   register-models = record {
-    lawful = model.lawful;
+    order = model.order;
     mutators = record {
       each = all-map IsMutatorState IsMutatorState (changed m turned)
           (changed-from m turned IsMutatorState (λ x is. record { least = is.least; most = is.most; registers = length-set x.registers d v ∙ is.registers })) ms model.mutators.each;

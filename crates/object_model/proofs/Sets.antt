@@ -15,7 +15,7 @@ registers-in set other to (m ∷ ms) all = (λ d small some. to (register_at m d
 pub models-by : (s : HeapState) (ms : List MutatorState) (h : IdealHeap) (set other : ℕ → Type 0) → ((a : ℕ) → set a → other a) → ((a : ℕ) → other a → set a)
     → Models s ms h set → Models s ms h other
 models-by s ms h set other to back model = record {
-  lawful = model.lawful;
+  order = model.order;
   mutators = model.mutators;
   pointers = model.pointers;
   births = model.births;

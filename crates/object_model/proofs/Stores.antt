@@ -5,7 +5,7 @@ use Rattle.std.proofs.lemmas.Bool.{cases_eq}
 use Rattle.std.proofs.lemmas.List.{get_or-set_same, get_or-set_other, length-set}
 use Rattle.heap_layout.specs.Zones.{Zone, StartBits, PinBits, UnlogBits, LineWords, BlockWords, Globals, words_of, heap_of, first, bit_of, mark_of}
 use Rattle.object_model.specs.Objects.{HeapState, with_words, word_at, global_at, is_pinned, IsHeld, IsInExtent, size_at}
-use Rattle.object_model.specs.Lawful.{IsLawful}
+use Rattle.object_model.specs.Lawful.{IsOrderly}
 use Rattle.object_model.specs.Changes.{KeepsObjects}
 use Rattle.object_model.proofs.Marks.{mark-same}
 use Rattle.object_model.proofs.ObjectReads.{in_words}
@@ -15,7 +15,7 @@ bit-other : (b : ℕ) (z : Zone) (w : List ℕ) (at v n : ℕ) → first b z + n
 bit-other b z w at v n other = ap (λ word. nat_eq (bit_at word (n % 64)) 1) (get_or-set_other w at (first b z + n / 64) v 0 other)
 
 -- the word with this offset in a held object, behind its header
-module _ (s : HeapState) (lawful : IsLawful s) (a offset v : ℕ) (held : IsHeld s a) (behind : 3 ≤ offset) (within : offset < size_at s a) where
+module _ (s : HeapState) (order : IsOrderly s) (a offset v : ℕ) (held : IsHeld s a) (behind : 3 ≤ offset) (within : offset < size_at s a) where
   abbrev pub stored : HeapState
   stored = with_words s (slice_set s.words (a + offset) v)
 
@@ -29,12 +29,12 @@ module _ (s : HeapState) (lawful : IsLawful s) (a offset v : ℕ) (held : IsHeld
   word-other i other = get_or-set_other s.words (a + offset) i v 0 other
 
   pub word-same : (i : ℕ) → i ≡ a + offset → word_at stored i ≡ v
-  word-same i e = ap (word_at stored) e ∙ get_or-set_same s.words (a + offset) v 0 (in_words s lawful a offset held within)
+  word-same i e = ap (word_at stored) e ∙ get_or-set_same s.words (a + offset) v 0 (in_words s order a offset held within)
 
   -- the words of another object are others
   pub apart-from : (x i : ℕ) → IsHeld s x → i < size_at s x → x ≢ a → x + i ≢ a + offset
   apart-from x i there small other same =
-      other (lawful.objects.apart x a (x + i) there held (record { from = omega arith; below = omega arith })
+      other (order.objects.apart x a (x + i) there held (record { from = omega arith; below = omega arith })
       (subst (IsInExtent s a) (sym same) inside))
 
   header-other : (x i : ℕ) → IsHeld s x → i < 3 → x + i ≢ a + offset
@@ -72,5 +72,5 @@ module _ (s : HeapState) (lawful : IsLawful s) (a offset v : ℕ) (held : IsHeld
   pub words-fit : v < 2 ^ 64 → (i : ℕ) → word_at stored i < 2 ^ 64
   words-fit fits i = elim (cases_eq i (a + offset)) as (λ _. word_at stored i < 2 ^ 64) [
     | inl same ↦ subst (λ (x : ℕ). x < 2 ^ 64) (sym (word-same i same)) fits
-    | inr other ↦ subst (λ (x : ℕ). x < 2 ^ 64) (sym (word-other i other)) (lawful.row.words i)
+    | inr other ↦ subst (λ (x : ℕ). x < 2 ^ 64) (sym (word-other i other)) (order.row.words i)
   ]

@@ -72,23 +72,25 @@ not_kind b k kind h is =
 
 pub lawful : (b : ℕ) → 4 ≤ b → b ≤ 1024 → IsLawful (zeros b)
 lawful b least most = record {
-  row = record {
-    least = least;
-    most = most;
-    extent = length-replicate (words_of b) 0;
-    words = λ i. let zero : word_at (zeros b) i ≡ 0 = zero_word b i in let P : ℕ → Type 0 = λ x. x < 2 ^ 64 in subst P (sym zero) (lit< tt);
-    base = omega arith;
-  };
-  objects = record {
-    headers = λ a held. absurd (none_held b a held);
-    marks = λ a h. absurd (either_mark b a h);
-    lies = λ a held. absurd (none_held b a held);
-    apart = λ a x i held. absurd (none_held b a held);
-    heads = λ k is. absurd (not_kind b k kinds.LargeHead (lit< tt) is);
-    tails = λ k is. absurd (not_kind b k kinds.LargeTail (lit< tt) is);
-    references = λ a i held. absurd (none_held b a held);
-    globals = λ g small some. absurd (some (zero_word b _));
-    names = λ a x held. absurd (none_held b a held);
+  order = record {
+    row = record {
+      least = least;
+      most = most;
+      extent = length-replicate (words_of b) 0;
+      words = λ i. let zero : word_at (zeros b) i ≡ 0 = zero_word b i in let P : ℕ → Type 0 = λ x. x < 2 ^ 64 in subst P (sym zero) (lit< tt);
+      base = omega arith;
+    };
+    objects = record {
+      headers = λ a held. absurd (none_held b a held);
+      marks = λ a h. absurd (either_mark b a h);
+      lies = λ a held. absurd (none_held b a held);
+      apart = λ a x i held. absurd (none_held b a held);
+      heads = λ k is. absurd (not_kind b k kinds.LargeHead (lit< tt) is);
+      tails = λ k is. absurd (not_kind b k kinds.LargeTail (lit< tt) is);
+      references = λ a i held. absurd (none_held b a held);
+      globals = λ g small some. absurd (some (zero_word b _));
+      names = λ a x held. absurd (none_held b a held);
+    };
   };
   blocks = λ k in_row. let P : ℕ → Type 0 = λ v. IsTrue (is_block_code v) in subst P (sym (is_free b k)) refl;
   owners = λ k in_row. ap (λ x. x / 65536) (is_free b k) ∙ zero-div 65536;
@@ -171,7 +173,7 @@ pub models : (b : ℕ) → 4 ≤ b → b ≤ 1024 → (ms : List ℕ) → AllByR
 models b least most ms small differ =
     let standing = stands b ms small differ in
     record {
-      lawful = lawful b least most;
+      order = (lawful b least most).order;
       mutators = standing.mutators;
       pointers = standing.pointers;
       births = standing.births;

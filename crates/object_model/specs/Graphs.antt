@@ -39,6 +39,10 @@ with_register m d v = record m { registers = slice_set m.registers d v }
 abbrev pub set_register_of : List MutatorState → ℕ → ℕ → ℕ → List MutatorState
 set_register_of ms m d v = map (λ x. if nat_eq x.number m then with_register x d v else x) ms
 
+-- the mutators where this one stands in place of the one of its number
+abbrev pub with_mutator : List MutatorState → MutatorState → List MutatorState
+with_mutator ms m = map (λ x. if nat_eq x.number m.number then m else x) ms
+
 -- the mutator with one birth more, and the mutators where m has one more
 abbrev pub with_birth : MutatorState → MutatorState
 with_birth m = record m { births = m.births + 1 }

@@ -112,9 +112,14 @@ pub record AreLinesRight (s : HeapState) (k : ℕ) : Type 0 where
   pub marked : (line : ℕ) → HasKind s k kinds.Immix → line < 256 → IsTrue (line_marked s k line) → ∥ IsTouched s k line ∥₁
   pub touched : (line : ℕ) → HasKind s k kinds.Immix → line < 256 → IsTouched s k line → IsTrue (line_marked s k line)
 
-pub record IsLawful (s : HeapState) : Type 0 where
+-- The row, and its objects, references and names, are in order. Nothing is said of owners, Free blocks and line bits, so this
+-- holds as well while mutators fill blocks of their own.
+pub record IsOrderly (s : HeapState) : Type 0 where
   pub row : IsRow s
   pub objects : HasLawfulObjects s
+
+pub record IsLawful (s : HeapState) : Type 0 where
+  pub order : IsOrderly s
   pub blocks : (k : ℕ) → k < s.blocks → IsTrue (is_block_code (block_word s k))
   pub owners : (k : ℕ) → k < s.blocks → owner_at s k ≡ 0
   pub free : (k : ℕ) → IsFreeRight s k

@@ -4,7 +4,7 @@ use Rattle.std.specs.List.{AllByRecursion}
 use Rattle.ideal_heap.specs.Ideal.{IdealHeap}
 use Rattle.object_model.specs.Objects.{HeapState, global_at, is_pinned, IsHeld, name_at, refs_at, ref_at, record_at}
 use Rattle.object_model.specs.Graphs.{MutatorState, AreMutators, AreBirths, ArePointers, register_at}
-use Rattle.object_model.specs.Lawful.{IsLawful}
+use Rattle.object_model.specs.Lawful.{IsOrderly}
 
 -- The set has all that registers and globals hold, and is closed under fields. Each of its addresses is a held object that
 -- reads as the ideal record of its name.
@@ -16,9 +16,9 @@ pub record Mirrors (s : HeapState) (ms : List MutatorState) (h : IdealHeap) (set
   pub records : (a : ℕ) → set a → h.records (name_at s a) ≡ Some (record_at s a)
   pub pins : (a : ℕ) → set a → IsTrue (is_pinned s a) ↔ IsTrue (h.pinned (name_at s a))
 
--- the heap is lawful, and the set shows that it stands for the ideal heap
+-- the heap is in order, and the set shows that it stands for the ideal heap
 pub record Models (s : HeapState) (ms : List MutatorState) (h : IdealHeap) (set : ℕ → Type 0) : Type 0 where
-  pub lawful : IsLawful s
+  pub order : IsOrderly s
   pub mutators : AreMutators ms
   pub pointers : ArePointers s ms h
   pub births : AreBirths s ms h

@@ -28,12 +28,12 @@ impl Row {
     ghost use Rattle.heap_layout.specs.Blocks.{code_of, IsValid};
     ghost use Rattle.ideal_heap.specs.Names.{IsName};
     ghost use Rattle.object_model.specs.Objects.{state_of, with_words, IsHeld, is_pinned, size_of, name_at, refs_at, nums_at, ref_at as ref_word_at, num_at as num_word_at, global_at};
-    ghost use Rattle.object_model.specs.Lawful.{IsLawful};
+    ghost use Rattle.object_model.specs.Lawful.{IsOrderly};
     ghost use Rattle.object_model.specs.Changes.{WritesObject, SetsPin};
 
     /// The name of the object at `a`.
     pub fn name_at(&self, a: u32) -> Name
-        requires lawful { IsLawful (state_of self.now) }
+        requires order { IsOrderly (state_of self.now) }
         requires held { IsHeld (state_of self.now) a }
         ensures name { result ≡ name_at (state_of self.now) a }
         ensures valid { IsName result }
@@ -47,7 +47,7 @@ impl Row {
 
     /// How many references and numbers the object at `a` has.
     pub fn shape_at(&self, a: u32) -> Shape
-        requires lawful { IsLawful (state_of self.now) }
+        requires order { IsOrderly (state_of self.now) }
         requires held { IsHeld (state_of self.now) a }
         ensures refs { result.refs ≡ refs_at (state_of self.now) a }
         ensures nums { result.nums ≡ nums_at (state_of self.now) a }
@@ -63,7 +63,7 @@ impl Row {
 
     /// Reference `i` of the object at `a`: an address, or 0 for nil.
     pub fn ref_at(&self, a: u32, i: u32) -> u32
-        requires lawful { IsLawful (state_of self.now) }
+        requires order { IsOrderly (state_of self.now) }
         requires held { IsHeld (state_of self.now) a }
         requires field { i < refs_at (state_of self.now) a }
         ensures value { result ≡ ref_word_at (state_of self.now) a i }
@@ -74,7 +74,7 @@ impl Row {
 
     /// Number `j` of the object at `a`.
     pub fn num_at(&self, a: u32, j: u32) -> u64
-        requires lawful { IsLawful (state_of self.now) }
+        requires order { IsOrderly (state_of self.now) }
         requires held { IsHeld (state_of self.now) a }
         requires field { j < nums_at (state_of self.now) a }
         ensures { result ≡ num_word_at (state_of self.now) a j }
@@ -84,7 +84,7 @@ impl Row {
 
     /// Sets reference `i` of the object at `a`, to an address or 0.
     pub fn set_ref(&mut self, a: u32, i: u32, v: u32)
-        requires lawful { IsLawful (state_of self.old) }
+        requires order { IsOrderly (state_of self.old) }
         requires held { IsHeld (state_of self.old) a }
         requires field { i < refs_at (state_of self.old) a }
         ensures { state_of self.new ≡ with_words (state_of self.old)
@@ -95,7 +95,7 @@ impl Row {
 
     /// Sets number `j` of the object at `a`.
     pub fn set_num(&mut self, a: u32, j: u32, n: u64)
-        requires lawful { IsLawful (state_of self.old) }
+        requires order { IsOrderly (state_of self.old) }
         requires held { IsHeld (state_of self.old) a }
         requires field { j < nums_at (state_of self.old) a }
         ensures { state_of self.new ≡ with_words (state_of self.old)
@@ -107,7 +107,7 @@ impl Row {
 
     /// Global `g`: an address, or 0 for nil.
     pub fn global(&self, g: u32) -> u32
-        requires lawful { IsLawful (state_of self.now) }
+        requires order { IsOrderly (state_of self.now) }
         requires global { g < 16 }
         ensures value { result ≡ global_at (state_of self.now) g }
         ensures reference { result ≢ 0 → IsHeld (state_of self.now) result }
@@ -158,7 +158,7 @@ impl Row {
 
     /// Whether the object at `a` is pinned: no collection moves it.
     pub fn pinned(&self, a: u32) -> bool
-        requires lawful { IsLawful (state_of self.now) }
+        requires order { IsOrderly (state_of self.now) }
         requires held { IsHeld (state_of self.now) a }
         ensures { result ≡ is_pinned (state_of self.now) a }
     {
@@ -182,7 +182,7 @@ impl Row {
 
     /// How many references the object at `a` has.
     fn refs(&self, a: u32) -> usize
-        requires lawful { IsLawful (state_of self.now) }
+        requires order { IsOrderly (state_of self.now) }
         requires held { IsHeld (state_of self.now) a }
         ensures { result ≡ refs_at (state_of self.now) a }
     {

@@ -11,6 +11,6 @@ unwrap-requires c =
     let s : HeapState = heap_state c.args.self.now in
     let law = c.args.self.now.lawful in
     let at : ℕ = c.block_at.result in
-    let there : at < length s.words = omega (arith, block_in_words s law.row c.args.b c.requires) in
+    let there : at < length s.words = omega (arith, block_in_words s law.order.row c.args.b c.requires) in
     let word : c.index.result.now ≡ block_word s c.args.b = c.index.ensures ∙ get_or_default s.words at c.index.result.now 0 there ∙ ap (word_at s) c.block_at.ensures in
     c.decode.ensures.code.1 (subst (λ v. IsTrue (is_block_code v)) (sym word) (law.blocks c.args.b c.requires))

@@ -9,6 +9,6 @@ pub returns-clause-reference : goal.returns-clause-reference
 returns-clause-reference c =
     let s : HeapState = state_of c.args.self.now in
     let inside : 3 + c.args.i < size_at s c.args.a = omega (arith, c.requires.field) in
-    let there : c.args.a + 3 + c.args.i < length s.words = omega (arith, in_words s c.requires.lawful c.args.a (3 + c.args.i) c.requires.held inside) in
+    let there : c.args.a + 3 + c.args.i < length s.words = omega (arith, in_words s c.requires.order c.args.a (3 + c.args.i) c.requires.held inside) in
     let value : c.index.result.now ≡ ref_at s c.args.a c.args.i = c.index.ensures ∙ get_or_default s.words (c.args.a + 3 + c.args.i) c.index.result.now 0 there in
-    subst (IsReference s) (sym value) (c.requires.lawful.objects.references c.args.a c.args.i c.requires.held c.requires.field)
+    subst (IsReference s) (sym value) (c.requires.order.objects.references c.args.a c.args.i c.requires.held c.requires.field)
