@@ -18,6 +18,7 @@ use Rattle.object_model.proofs.BirthModels as models
 use Rattle.object_model.proofs.Blocks as blocks
 use Rattle.object_model.proofs.Blocks.{SameHeap}
 use Rattle.object_model.proofs.OneKind.{one-kind}
+use Rattle.object_model.proofs.Frames.{same-layout}
 use Rattle.object_model.proofs.Sets.{models-by}
 use Rattle.sessions.specs.Plans.{NoGc, rules_of}
 use Rattle.sessions.specs.Fitting.{Fits}
@@ -39,12 +40,6 @@ fresh-name s k named x holds e = (let small : (name_at s x).birth ≤ k = (named
 
 name-of-birth : (k : ℕ) → k + 1 < 2 ^ 32 → IsName (name 1 (k + 1))
 name-of-birth k fits = record { least = omega arith; most = omega arith; born = omega arith; fits = fits }
-
--- a heap of the same blocks and counts has other words alone
-pub same-layout : (old new : HeapState) → new.blocks ≡ old.blocks → new.number ≡ old.number → new.base ≡ old.base → new ≡ with_words old new.words
-same-layout old new blocks number base =
-    let at : ℕ → ℕ → ℕ → HeapState = λ x y z. record { words = new.words; blocks = x; number = y; base = z } in
-    ap (λ x. at x new.number new.base) blocks ∙ ap (λ y. at old.blocks y new.base) number ∙ ap (λ z. at old.blocks old.number z) base
 
 named-between : (s : HeapState) (w1 : List ℕ) (same : SameHeap s w1) (count : ℕ) → AreNamed s count → AreNamed (with_words s w1) count
 named-between s w1 same count named x holds =
@@ -78,55 +73,55 @@ module _ (s : HeapState) (w1 w2 ends1 : List ℕ) (same : SameHeap s w1) (unlogs
   bump = tails.bump low used
 
   pub block-is : block_at s.blocks a ≡ low
-  block-is = place-block between lawful low (slice_index ends1 low) (size_of refs nums) bump (tails.tail low used) fits (omega arith)
+  block-is = place-block between lawful.order low (slice_index ends1 low) (size_of refs nums) bump (tails.tail low used) fits (omega arith)
 
   pub offset-is : offset_at s.blocks a ≡ slice_index ends1 low
-  offset-is = place-offset between lawful low (slice_index ends1 low) (size_of refs nums) bump (tails.tail low used) fits (omega arith)
+  offset-is = place-offset between lawful.order low (slice_index ends1 low) (size_of refs nums) bump (tails.tail low used) fits (omega arith)
 
   pub room : IsRoom between a n refs nums
-  room = placing.room-in-tail between lawful low (slice_index ends1 low) bump (tails.tail low used) n refs nums fits small few_refs few_nums (name-of-birth count counted) (fresh-name between count named)
+  room = placing.room-in-tail between lawful.order low (slice_index ends1 low) bump (tails.tail low used) n refs nums fits small few_refs few_nums (name-of-birth count counted) (fresh-name between count named)
 
   pub lawful-after : IsLawful after
-  lawful-after = births.lawful-after between w2 a n refs nums writes lawful room
+  lawful-after = births.lawful-after between w2 a n refs nums writes lawful.order room lawful
 
   pub tails-after : AreTails after (slice_set ends1 low (slice_index ends1 low + size_of refs nums))
   tails-after = subst (λ (k : ℕ). AreTails after (slice_set ends1 k (slice_index ends1 k + size_of refs nums))) block-is
-      (tails-written between w2 a n refs nums writes lawful room ends1 tails (subst (λ (k : ℕ). k < length ends1) (sym block-is) used) (offset-is ∙ ap (slice_index ends1) (sym block-is)))
+      (tails-written between w2 a n refs nums writes lawful.order room ends1 tails (subst (λ (k : ℕ). k < length ends1) (sym block-is) used) (offset-is ∙ ap (slice_index ends1) (sym block-is)))
 
   pub adds : AddsObject s after a refs nums
-  adds = placing.adds s w1 w2 same unlogs low front others a n refs nums writes lawful room block-is
+  adds = placing.adds s w1 w2 same unlogs low front others a n refs nums writes lawful.order room block-is
 
   pub changes : ChangesBlocks s after (block_at s.blocks a) 1
-  changes = subst (λ (k : ℕ). ChangesBlocks s after k 1) (sym block-is) (placing.changes s w1 w2 same unlogs low front others a n refs nums writes lawful room block-is)
+  changes = subst (λ (k : ℕ). ChangesBlocks s after k 1) (sym block-is) (placing.changes s w1 w2 same unlogs low front others a n refs nums writes lawful.order room block-is)
 
   pub block-after : block_word after low ≡ block_word between low
-  block-after = placing.block-same s w1 w2 same unlogs low front others a n refs nums writes lawful room block-is low (let most : length ends1 ≤ s.blocks = tails.most in omega arith)
+  block-after = placing.block-same s w1 w2 same unlogs low front others a n refs nums writes lawful.order room block-is low (let most : length ends1 ≤ s.blocks = tails.most in omega arith)
 
   pub block-others : (k : ℕ) → k < s.blocks → k ≢ low → block_word after k ≡ block_word s k
-  block-others = placing.block-other s w1 w2 same unlogs low front others a n refs nums writes lawful room block-is
+  block-others = placing.block-other s w1 w2 same unlogs low front others a n refs nums writes lawful.order room block-is
 
   pub new-name : name_at after a ≡ n
-  new-name = births.new-name between w2 a n refs nums writes lawful room
+  new-name = births.new-name between w2 a n refs nums writes lawful.order room
 
   pub named-after : AreNamed after (count + 1)
-  named-after x holds = births.either between w2 a n refs nums writes lawful room (λ y. ((name_at after y).mutator ≡ 1) × ((name_at after y).birth ≤ count + 1))
+  named-after x holds = births.either between w2 a n refs nums writes lawful.order room (λ y. ((name_at after y).mutator ≡ 1) × ((name_at after y).birth ≤ count + 1))
       (subst (λ (k : Name). (k.mutator ≡ 1) × (k.birth ≤ count + 1)) (sym new-name) (refl, omega arith))
-      (λ y before. subst (λ (k : Name). (k.mutator ≡ 1) × (k.birth ≤ count + 1)) (sym (births.name-same between w2 a n refs nums writes lawful room y before))
+      (λ y before. subst (λ (k : Name). (k.mutator ≡ 1) × (k.birth ≤ count + 1)) (sym (births.name-same between w2 a n refs nums writes lawful.order room y before))
       ((named y before).0, (let below : (name_at between y).birth ≤ count = (named y before).1 in omega arith)))
       x holds
 
   models-after : (h : IdealHeap) → Models s (m ∷ []) h (IsHeld s) → Models after (bore m d a ∷ []) (with_new h 1 d refs nums) (IsHeld after)
   models-after h model =
-      let old : Models between (m ∷ []) h (IsHeld s) = blocks.models-after s w1 same (m ∷ []) h (IsHeld s) model lawful in
+      let old : Models between (m ∷ []) h (IsHeld s) = blocks.models-after s w1 same (m ∷ []) h (IsHeld s) model lawful.order in
       let e : count ≡ h.births 1 = sym model.births.births.0 in
       let writes' : WritesObject between after a (name 1 (h.births 1 + 1)) refs nums = subst (λ (k : ℕ). WritesObject between after a (name 1 (k + 1)) refs nums) e writes in
       let room' : IsRoom between a (name 1 (h.births 1 + 1)) refs nums = subst (λ (k : ℕ). IsRoom between a (name 1 (k + 1)) refs nums) e room in
       models-by after (bore m d a ∷ []) (with_new h 1 d refs nums) (λ x. IsHeld s x ⊎ (x ≡ a)) (IsHeld after)
       (λ x there. elim there as (λ _. IsHeld after x) [
-        | inl holds ↦ births.held-after between w2 a n refs nums writes lawful room x (blocks.held-after s w1 same x holds)
-        | inr new ↦ subst (IsHeld after) (sym new) (births.held-new between w2 a n refs nums writes lawful room)
+        | inl holds ↦ births.held-after between w2 a n refs nums writes lawful.order room x (blocks.held-after s w1 same x holds)
+        | inr new ↦ subst (IsHeld after) (sym new) (births.held-new between w2 a n refs nums writes lawful.order room)
       ])
-      (λ x holds. elim (births.held-cases between w2 a n refs nums writes lawful room x holds) as (λ _. IsHeld s x ⊎ (x ≡ a)) [
+      (λ x holds. elim (births.held-cases between w2 a n refs nums writes lawful.order room x holds) as (λ _. IsHeld s x ⊎ (x ≡ a)) [
         | inl new ↦ inr new
         | inr before ↦ inl (blocks.held-before s w1 same x before)
       ])
@@ -147,13 +142,13 @@ module _ (s : HeapState) (w1 w2 ends1 : List ℕ) (same : SameHeap s w1) (unlogs
     number = refl;
     births = refl;
     named = new-name;
+    lawful = lawful-after;
     models = models-after;
   }
 
 -- what is so after a birth in the room that was found
 pub record Bears (s : HeapState) (registers : List ℕ) (count d refs nums : ℕ) (s2 : HeapState) (a : ℕ) (ends2 : List ℕ) : Type 0 where
   pub birth : TakesBirth s (record { number = 1; births = count; registers = registers }) d refs nums s2 (bore (record { number = 1; births = count; registers = registers }) d a)
-  pub lawful : IsLawful s2
   pub tails : AreTails s2 ends2
   pub named : AreNamed s2 (count + 1)
   pub held : IsHeld s2 a
@@ -181,7 +176,6 @@ bears s w1 w2 ends1 same unlogs low front others registers count d refs nums law
         hole = λ other. word ∙ hole other;
         others = block-others s w1 w2 ends1 same unlogs low front others registers count d refs nums lawful tails used fits small few_refs few_nums named counted register writes;
       });
-      lawful = lawful-after s w1 w2 ends1 same unlogs low front others registers count d refs nums lawful tails used fits small few_refs few_nums named counted register writes;
       tails = tails-after s w1 w2 ends1 same unlogs low front others registers count d refs nums lawful tails used fits small few_refs few_nums named counted register writes;
       named = named-after s w1 w2 ends1 same unlogs low front others registers count d refs nums lawful tails used fits small few_refs few_nums named counted register writes;
       held = object.held;
@@ -196,7 +190,7 @@ bears-hole : (s : HeapState) (ends w2 registers : List ℕ) (k count d refs nums
 bears-hole s ends w2 registers k count d refs nums lawful tails past less fits small few_refs few_nums named counted register writes =
     let not_free : HasKind s k kinds.Free → ⊥ = λ free. (let both = one-kind s k kinds.Bump kinds.Free (tails.bump k less) free in cc) in
     bears s s.words w2 ends (same-heap s) (λ x. refl) k (λ i before. refl) (λ j there other. refl) registers count d refs nums lawful tails less fits small few_refs few_nums named counted register writes
-    (placing.places-hole s lawful ends tails (size_of refs nums) k (omega arith) less fits past)
+    (placing.places-hole s lawful.order ends tails (size_of refs nums) k (omega arith) less fits past)
     (placing.fits-from s (size_of refs nums) small (inl (record { block = k; offset = slice_index ends k; hole = (tails.bump k less, tails.tail k less, fits) })))
     (λ free. absurd (not_free free)) (λ other. refl)
 
@@ -218,7 +212,7 @@ bears-free s ends w2 registers count d refs nums lawful tails past space small f
     (λ i before. blocks.word-other s lawful k free i (λ e. omega arith)) (λ j there other. blocks.block-other s lawful k free j other)
     registers count d refs nums (blocks.lawful-taken s lawful k free) (tails-taken s lawful ends tails space) (omega arith) (omega arith) small few_refs few_nums
     (named-between s w1 same count named) counted register writes
-    (subst (λ (o : ℕ). PlacesSmall (rules_of NoGc) s (block_start s.blocks k + o) (size_of refs nums)) (sym last) (placing.places-free s lawful ends tails (size_of refs nums) space past))
+    (subst (λ (o : ℕ). PlacesSmall (rules_of NoGc) s (block_start s.blocks k + o) (size_of refs nums)) (sym last) (placing.places-free s ends tails (size_of refs nums) space past))
     (placing.fits-from s (size_of refs nums) small (inr (placing.free-some s k free)))
     (λ is. blocks.block-taken s lawful k free) (λ other. absurd (other free))
 

@@ -3,7 +3,7 @@ use Rattle.std.proofs.Common.{◌≡◌, ◌≢◌, refl, sym, ◌∙◌, ap, su
 use Rattle.std.specs.Prelude.{slice_get}
 use Rattle.std.specs.List.{AllByRecursion}
 use Rattle.std.proofs.lemmas.Bool.{true≢false, cond-false}
-use Rattle.std.proofs.lemmas.List.{append-nil, append_assoc, length-append, take_more, take_all}
+use Rattle.std.proofs.lemmas.List.{append-nil, append_assoc, length-append, map_push, take_more, take_all}
 use Rattle.std.proofs.lemmas.Option.{slice_get_within, slice_get_past, get_or_from_slice_get}
 use Rattle.heap_layout.specs.Zones.{IsAddress, block_at}
 use Rattle.ideal_heap.specs.Names.{name}
@@ -21,10 +21,12 @@ use Rattle.ideal_heap.proofs.OrderLemmas.{of_mutator-all, front_of_one, order_of
 use Rattle.object_model.specs.declared.collect.Collect.TheVariants.{Full}
 use Rattle.object_model.specs.Objects.{HeapState, empty_heap, IsHeld, size_of, name_at}
 use Rattle.object_model.specs.Graphs.{MutatorState, Stands, numbers_of, beginner}
+use Rattle.object_model.specs.Lawful.{IsLawful}
 use Rattle.object_model.specs.Mirrors.{Models}
 use Rattle.object_model.specs.Changes.{KeepsObjects}
 use Rattle.object_model.proofs.Standing as standing
 use Rattle.object_model.proofs.Counts as counts
+use Rattle.object_model.proofs.Frames.{lawful-kept}
 use Rattle.object_model.proofs.Sets as sets
 use Rattle.object_model.proofs.Zeros as zeros
 use Rattle.object_model.proofs.StepCases.{keeps-self}
@@ -52,10 +54,6 @@ keeps-both a s z one two = record {
   block_words = λ k there. two.block_words k (subst (λ (n : ℕ). k < n) (sym one.blocks) there) ∙ one.block_words k there;
   headers = λ x i holds small. two.headers x i (record { address = subst (λ (n : ℕ). IsAddress n x) (sym one.blocks) holds.address; start = one.starts x ∙ holds.start }) small ∙ one.headers x i holds small;
 }
-
-map-more : {X Y : Type 0} (f : X → Y) (xs : List X) (x : X) → map f (xs ++ x ∷ []) ≡ map f xs ++ f x ∷ []
-map-more f [] x = refl
-map-more f (y ∷ ys) x = ap (λ zs. f y ∷ zs) (map-more f ys x)
 
 -- a command that is no birth asks for no words
 no-size : (command : Command) → is_new command ≡ false → size_wanted command ≤ 2048
@@ -170,7 +168,7 @@ module _ (b : ℕ) (trace : List Command) where
   commands-more done e before next =
       let inside : length done < length trace = slice_get_within trace (length done) e.command next in
       let many : length (done ++ e ∷ []) ≡ length done + 1 = length-append done (e ∷ []) in
-      map-more (λ x. x.command) done e ∙ ap (λ xs. xs ++ e.command ∷ []) before
+      map_push (λ x. x.command) done e ∙ ap (λ xs. xs ++ e.command ∷ []) before
       ∙ ap (λ x. take (length done) trace ++ x ∷ []) (sym (get_or_from_slice_get trace (length done) e.command e.command next))
       ∙ sym (take_more trace (length done) e.command inside) ∙ ap (λ n. take n trace) (sym many)
 
@@ -206,6 +204,7 @@ module _ (b : ℕ) (trace : List Command) where
           keeps = keeps-both inside.base.heap s s' inside.keeps keeps;
         });
         run = extended ideal.empty done e driven.run (inl answers);
+        lawful = lawful-kept s s' keeps driven.lawful models.order;
         models = subst (λ (h : IdealHeap). Models s' (m' ∷ []) h (IsHeld s')) (sym (after-more done e ∙ step-entry (after ideal.empty done) command reply not_full)) models;
         number = number;
         entries = all-more (λ x. x.mutator ≡ 1) done e driven.entries refl;
@@ -230,17 +229,17 @@ module _ (b : ℕ) (trace : List Command) where
         each = all-to IsQuiet Sessions.IsOfPart (λ e q. q.of_part) inside.part inside.quiet;
         causes = λ k is. subst (λ (q : ℕ). Sessions.EndsBy t (stop_of s m done inside) (λ _. cause) q cause) (sym (lone k is)) ends;
         stopped = subst (λ (ns : List ℕ). Sessions.Stopped (rules_of NoGc) ns inside.base.heap (Sessions.ideal_at inside.base) inside.part s (m ∷ [])) numbers
-            (quiet-stopped inside.base.heap s (Sessions.ideal_at inside.base) inside.part (m ∷ []) inside.keeps inside.quiet driven.models.lawful
+            (quiet-stopped inside.base.heap s (Sessions.ideal_at inside.base) inside.part (m ∷ []) inside.keeps inside.quiet driven.lawful
             (subst (λ (h : IdealHeap). Stands s (m ∷ []) h) heap (standing.stands s (m ∷ []) (after ideal.empty done) (IsHeld s) driven.models)));
         counts = (refl, refl);
         needs = λ k d refs nums is places. absurd (true≢false (sym places));
         served = λ places. all-to IsQuiet (λ e. is_new e.command ≡ false) (λ e q. q.command) inside.part inside.quiet;
       }
 
-  pub sound-of : (s : HeapState) (m : MutatorState) (done : List Entry) (nursery full : ℕ) → Models s (m ∷ []) (after ideal.empty done) (IsHeld s) → m.number ≡ 1
+  pub sound-of : (s : HeapState) (m : MutatorState) (done : List Entry) (nursery full : ℕ) → IsLawful s → Models s (m ∷ []) (after ideal.empty done) (IsHeld s) → m.number ≡ 1
       → Sessions.IsSound t (record { heap = s; mutators = m ∷ []; done = done; nursery = nursery; full = full })
-  sound-of s m done nursery full models number = record {
-    lawful = models.lawful;
+  sound-of s m done nursery full lawful models number = record {
+    lawful = lawful;
     remembers = remembers s;
     stands = standing.stands s (m ∷ []) (after ideal.empty done) (IsHeld s) models;
     listed = ap (λ k. k ∷ []) number;
@@ -273,15 +272,16 @@ module _ (b : ℕ) (trace : List Command) where
   replied : (s s' : HeapState) (m m' : MutatorState) (done : List Entry) (d refs nums : ℕ) (reply : Reply) (driven : Driven b trace s m done)
       → slice_get trace (length done) ≡ Some (c.New d refs nums) → Answers (after ideal.empty done) (entry 1 (c.New d refs nums) reply)
       → IsServed t s' m' (done ++ entry 1 (c.New d refs nums) reply ∷ [])
-      → Models s' (m' ∷ []) (after ideal.empty (done ++ entry 1 (c.New d refs nums) reply ∷ [])) (IsHeld s')
+      → IsLawful s' → Models s' (m' ∷ []) (after ideal.empty (done ++ entry 1 (c.New d refs nums) reply ∷ [])) (IsHeld s')
       → m'.number ≡ 1 → m'.births ≤ m.births + 1 → s'.number ≤ s.number + 1
       → Driven b trace s' m' (done ++ entry 1 (c.New d refs nums) reply ∷ [])
-  replied s s' m m' done d refs nums reply driven next answers served models number births collections =
+  replied s s' m m' done d refs nums reply driven next answers served lawful models number births collections =
       let e : Entry = entry 1 (c.New d refs nums) reply in
       let many : length (done ++ e ∷ []) ≡ length done + 1 = length-append done (e ∷ []) in
       record {
         phase = inr served;
         run = extended ideal.empty done e driven.run answers;
+        lawful = lawful;
         models = models;
         number = number;
         entries = all-more (λ x. x.mutator ≡ 1) done e driven.entries refl;
@@ -307,14 +307,14 @@ module _ (b : ℕ) (trace : List Command) where
         mutators = refl;
         done = refl;
         counts = refl;
-        sound = sound-of (counts.counted s) m done inside.base.nursery (inside.base.full + 1) held-models driven.number;
+        sound = sound-of (counts.counted s) m done inside.base.nursery (inside.base.full + 1) (counts.lawful-counted s driven.lawful) held-models driven.number;
       } in
       let answers : Answers (after ideal.empty done) e = inr (refl, refl) in
       let same : after ideal.empty (done ++ e ∷ []) ≡ after ideal.empty done = after-more done e in
       replied s (counts.counted s) m m done d refs nums r.Full driven next answers
       (served-by s (counts.counted s) m m done e d refs nums (inside.base.full + 1) driven inside next
       (Sessions.refused stop late no_fit refl collection no_fit_after (record { rest = refl; runs = (answers, tt) })))
-      (subst (λ (h : IdealHeap). Models (counts.counted s) (m ∷ []) h (IsHeld (counts.counted s))) (sym same) held-models)
+      (counts.lawful-counted s driven.lawful) (subst (λ (h : IdealHeap). Models (counts.counted s) (m ∷ []) h (IsHeld (counts.counted s))) (sym same) held-models)
       driven.number (omega arith) (omega arith)
 
   -- a `new` that is placed
@@ -326,10 +326,10 @@ module _ (b : ℕ) (trace : List Command) where
       → Sessions.PlacesSmall (rules_of NoGc) s place (size_of refs nums) → Sessions.UsesBlock (rules_of NoGc) s s' (block_at s.blocks place) (size_of refs nums)
       → Sessions.ChangesBlocks s s' (block_at s.blocks place) 1
       → name_at s' place ≡ name 1 ((after ideal.empty done).births 1 + 1)
-      → Models s' (m' ∷ []) (ideal.with_new (after ideal.empty done) 1 d refs nums) (IsHeld s')
+      → IsLawful s' → Models s' (m' ∷ []) (ideal.with_new (after ideal.empty done) 1 d refs nums) (IsHeld s')
       → m'.number ≡ 1 → m'.births ≡ m.births + 1
       → Driven b trace s' m' (done ++ entry 1 (c.New d refs nums) (r.New (name 1 ((after ideal.empty done).births 1 + 1))) ∷ [])
-  placed-step s s' m m' done d refs nums place driven next small fits layout object spot uses changes named models number births =
+  placed-step s s' m m' done d refs nums place driven next small fits layout object spot uses changes named lawful models number births =
       let inside = within s m done driven (subst NotMeet (sym next) refl) in
       let h : IdealHeap = after ideal.empty done in
       let reply : Reply = r.New (name 1 (h.births 1 + 1)) in
@@ -349,9 +349,9 @@ module _ (b : ℕ) (trace : List Command) where
         counts = (refl, refl);
         done = ap (λ n. done ++ entry 1 (c.New d refs nums) (r.New n) ∷ []) (sym named);
         runs = extended ideal.empty done e driven.run answers;
-        sound = sound-of s' m' (done ++ e ∷ []) inside.base.nursery inside.base.full models_after number;
+        sound = sound-of s' m' (done ++ e ∷ []) inside.base.nursery inside.base.full lawful models_after number;
       })))
-      models_after number (omega arith) (let same : s'.number ≡ s.number = layout.1 in omega arith)
+      lawful models_after number (omega arith) (let same : s'.number ≡ s.number = layout.1 in omega arith)
 
   -- the session is whole where the trace has ended
   pub whole : (s : HeapState) (m : MutatorState) (done : List Entry) → Driven b trace s m done → length trace ≤ length done
@@ -397,6 +397,7 @@ module _ (b : ℕ) (trace : List Command) where
       keeps = keeps-self (empty_heap b);
     });
     run = tt;
+    lawful = zeros.lawful b least most;
     models = zeros.models b least most (1 ∷ []) ((omega arith, omega arith), tt) (λ i j first second e. omega arith);
     number = refl;
     entries = tt;

@@ -9,7 +9,7 @@ use Rattle.heap_layout.specs.Zones.{BlockWords, first, heap_of, block_at, offset
 use Rattle.heap_layout.specs.declared.block.Kind.TheVariants as kinds
 use Rattle.ideal_heap.specs.declared.name.Name.{Name}
 use Rattle.object_model.specs.Objects.{HeapState, with_words, word_at, block_word, has_kind, HasKind, is_pinned, is_unlogged, IsHeld, name_at, size_of, blocks_for}
-use Rattle.object_model.specs.Lawful.{IsLawful}
+use Rattle.object_model.specs.Lawful.{IsOrderly}
 use Rattle.object_model.specs.Changes.{WritesObject}
 use Rattle.object_model.proofs.Births as births
 use Rattle.object_model.proofs.Births.{IsRoom}
@@ -103,7 +103,7 @@ module _ (s : HeapState) (w1 w2 : List ℕ) (same : SameHeap s w1) (unlogs : (x 
     (low : ℕ) (front : (i : ℕ) → i < first s.blocks BlockWords → word_at (with_words s w1) i ≡ word_at s i)
     (others : (k : ℕ) → k < s.blocks → k ≢ low → block_word (with_words s w1) k ≡ block_word s k)
     (a : ℕ) (n : Name) (refs nums : ℕ) (writes : WritesObject (with_words s w1) (with_words s w2) a n refs nums)
-    (lawful : IsLawful (with_words s w1)) (room : IsRoom (with_words s w1) a n refs nums) (in_low : block_at s.blocks a ≡ low) where
+    (order : IsOrderly (with_words s w1)) (room : IsRoom (with_words s w1) a n refs nums) (in_low : block_at s.blocks a ≡ low) where
   abbrev between : HeapState
   between = with_words s w1
 
@@ -114,58 +114,58 @@ module _ (s : HeapState) (w1 w2 : List ℕ) (same : SameHeap s w1) (unlogs : (x 
   held-between x holds = blocks.held-after s w1 same x holds
 
   fresh : IsHeld s a → ⊥
-  fresh holds = births.not-held between w2 a n refs nums writes lawful room (held-between a holds)
+  fresh holds = births.not-held between w2 a n refs nums writes order room (held-between a holds)
 
   unmarked : (x : ℕ) → IsTrue (is_pinned between x || is_unlogged between x) → x ≢ a
-  unmarked x h e = births.not-held between w2 a n refs nums writes lawful room (subst (IsHeld between) e (lawful.objects.marks x h))
+  unmarked x h e = births.not-held between w2 a n refs nums writes order room (subst (IsHeld between) e (order.objects.marks x h))
 
   pub adds : AddsObject s after a refs nums
   adds = record {
-    held = births.held-new between w2 a n refs nums writes lawful room;
+    held = births.held-new between w2 a n refs nums writes order room;
     fresh = fresh;
     others = λ x other. (
-      (λ holds. births.held-after between w2 a n refs nums writes lawful room x (held-between x holds)),
-      (λ holds. blocks.held-before s w1 same x (births.held-before between w2 a n refs nums writes lawful room x other holds)),
+      (λ holds. births.held-after between w2 a n refs nums writes order room x (held-between x holds)),
+      (λ holds. blocks.held-before s w1 same x (births.held-before between w2 a n refs nums writes order room x other holds)),
     );
     shape = writes.shape;
     blank = writes.blank;
     unmarked = (
-      (λ is. unmarked a (or_left (is_pinned between a) (is_unlogged between a) (sym (births.pins-same between w2 a n refs nums writes lawful room a) ∙ is)) refl),
-      (λ is. unmarked a (or_right (is_pinned between a) (is_unlogged between a) (sym (births.unlogs-same between w2 a n refs nums writes lawful room a) ∙ is)) refl),
+      (λ is. unmarked a (or_left (is_pinned between a) (is_unlogged between a) (sym (births.pins-same between w2 a n refs nums writes order room a) ∙ is)) refl),
+      (λ is. unmarked a (or_right (is_pinned between a) (is_unlogged between a) (sym (births.unlogs-same between w2 a n refs nums writes order room a) ∙ is)) refl),
     );
-    words = λ x i holds less. births.object-word between w2 a n refs nums writes lawful room x i (held-between x holds)
+    words = λ x i holds less. births.object-word between w2 a n refs nums writes order room x i (held-between x holds)
         (subst (λ (q : ℕ). i < q) (sym (blocks.size-same s w1 same x holds)) less) ∙ blocks.at s w1 same x i holds;
-    bits = λ x holds. (births.pins-same between w2 a n refs nums writes lawful room x ∙ same.pins x, births.unlogs-same between w2 a n refs nums writes lawful room x ∙ unlogs x);
+    bits = λ x holds. (births.pins-same between w2 a n refs nums writes order room x ∙ same.pins x, births.unlogs-same between w2 a n refs nums writes order room x ∙ unlogs x);
   }
 
   pub block-same : (k : ℕ) → k < s.blocks → block_word after k ≡ block_word between k
-  block-same = births.block_words between w2 a n refs nums writes lawful room
+  block-same = births.block_words between w2 a n refs nums writes order room
 
   pub block-other : (k : ℕ) → k < s.blocks → k ≢ low → block_word after k ≡ block_word s k
   block-other k there other = block-same k there ∙ others k there other
 
   pub changes : ChangesBlocks s after low 1
   changes = record {
-    front = λ i before. births.zone-word between w2 a n refs nums writes lawful room i (omega arith) (λ e. omega arith) ∙ front i before;
+    front = λ i before. births.zone-word between w2 a n refs nums writes order room i (omega arith) (λ e. omega arith) ∙ front i before;
     elsewhere = λ i address away.
         let base : heap_of s.blocks ≤ i = address.from in
         let base' : heap_of s.blocks ≤ a = room.address.from in
         let within : offset_at s.blocks a + size_of refs nums ≤ 4096 = room.place.within in
         let in_block : block_at s.blocks a ≡ low = in_low in
         let outside : (i < a) ⊎ (a + size_of refs nums ≤ i) = elim away as (λ _. (i < a) ⊎ (a + size_of refs nums ≤ i)) [ inl before ↦ inl (omega arith) | inr behind ↦ inr (omega arith) ] in
-        writes.others i outside (λ e. let zone = (births.start-in-zone between w2 a n refs nums writes lawful room).0 in omega arith) ∙ same.words i base;
+        writes.others i outside (λ e. let zone = (births.start-in-zone between w2 a n refs nums writes order room).0 in omega arith) ∙ same.words i base;
   }
 
 -- the front of a tail with room is room for the object
-pub room-in-tail : (s : HeapState) (lawful : IsLawful s) (k at : ℕ) (bump : HasKind s k kinds.Bump) (tail : IsTail s k at) (n : Name) (refs nums : ℕ)
+pub room-in-tail : (s : HeapState) (order : IsOrderly s) (k at : ℕ) (bump : HasKind s k kinds.Bump) (tail : IsTail s k at) (n : Name) (refs nums : ℕ)
     → at + size_of refs nums ≤ 4096 → size_of refs nums ≤ 2048 → refs ≤ 1024 → nums ≤ 60000 → IsName n → ((x : ℕ) → IsHeld s x → name_at s x ≢ n)
     → IsRoom s (block_start s.blocks k + at) n refs nums
-room-in-tail s lawful k at bump tail n refs nums fits small few_refs few_nums named fresh =
-    let block : block_at s.blocks (block_start s.blocks k + at) ≡ k = place-block s lawful k at (size_of refs nums) bump tail fits (omega arith) in
-    let offset : offset_at s.blocks (block_start s.blocks k + at) ≡ at = place-offset s lawful k at (size_of refs nums) bump tail fits (omega arith) in
+room-in-tail s order k at bump tail n refs nums fits small few_refs few_nums named fresh =
+    let block : block_at s.blocks (block_start s.blocks k + at) ≡ k = place-block s order k at (size_of refs nums) bump tail fits (omega arith) in
+    let offset : offset_at s.blocks (block_start s.blocks k + at) ≡ at = place-offset s order k at (size_of refs nums) bump tail fits (omega arith) in
     let bump' : HasKind s (block_at s.blocks (block_start s.blocks k + at)) kinds.Bump = subst (λ (q : ℕ). HasKind s q kinds.Bump) (sym block) bump in
     record {
-      address = place-address s lawful k at (size_of refs nums) bump tail fits (omega arith);
+      address = place-address s order k at (size_of refs nums) bump tail fits (omega arith);
       named = named;
       few_refs = few_refs;
       few_nums = few_nums;
@@ -176,19 +176,19 @@ room-in-tail s lawful k at bump tail n refs nums fits small few_refs few_nums na
         cell = λ is. absurd (let same = one-kind s _ kinds.Bump kinds.Cells bump' is in cc);
       };
       lines = λ is. let same = one-kind s _ kinds.Bump kinds.Immix bump' is in cc;
-      apart = place-apart s lawful k at (size_of refs nums) bump tail fits (omega arith);
+      apart = place-apart s order k at (size_of refs nums) bump tail fits (omega arith);
       fresh = fresh;
     }
 
 -- a placement in the lowest block with room
-pub places-hole : (s : HeapState) (lawful : IsLawful s) (ends : List ℕ) (tails : AreTails s ends) (size k : ℕ) → 1 ≤ size → k < length ends → slice_index ends k + size ≤ 4096 → ArePast ends size k
+pub places-hole : (s : HeapState) (order : IsOrderly s) (ends : List ℕ) (tails : AreTails s ends) (size k : ℕ) → 1 ≤ size → k < length ends → slice_index ends k + size ≤ 4096 → ArePast ends size k
     → PlacesSmall (rules_of NoGc) s (block_start s.blocks k + slice_index ends k) size
-places-hole s lawful ends tails size k some less fits past =
+places-hole s order ends tails size k some less fits past =
     let at : ℕ = slice_index ends k in
     let bump : HasKind s k kinds.Bump = tails.bump k less in
     let tail : IsTail s k at = tails.tail k less in
-    let block : block_at s.blocks (block_start s.blocks k + at) ≡ k = place-block s lawful k at size bump tail fits some in
-    let offset : offset_at s.blocks (block_start s.blocks k + at) ≡ at = place-offset s lawful k at size bump tail fits some in
+    let block : block_at s.blocks (block_start s.blocks k + at) ≡ k = place-block s order k at size bump tail fits some in
+    let offset : offset_at s.blocks (block_start s.blocks k + at) ≡ at = place-offset s order k at size bump tail fits some in
     record {
       spot = inl (subst (λ (q : ℕ). HasHole kinds.Bump s q (offset_at s.blocks (block_start s.blocks k + at)) size) (sym block)
           (subst (λ (o : ℕ). HasHole kinds.Bump s k o size) (sym offset) (bump, tail, fits)));
@@ -201,9 +201,9 @@ places-hole s lawful ends tails size k some less fits past =
     }
 
 -- and in the lowest Free block, where no block has room
-pub places-free : (s : HeapState) (lawful : IsLawful s) (ends : List ℕ) (tails : AreTails s ends) (size : ℕ) → length ends < s.blocks → ArePast ends size (length ends)
+pub places-free : (s : HeapState) (ends : List ℕ) (tails : AreTails s ends) (size : ℕ) → length ends < s.blocks → ArePast ends size (length ends)
     → PlacesSmall (rules_of NoGc) s (block_start s.blocks (length ends) + 0) size
-places-free s lawful ends tails size room past =
+places-free s ends tails size room past =
     let block : block_at s.blocks (block_start s.blocks (length ends) + 0) ≡ length ends = omega arith in
     let offset : offset_at s.blocks (block_start s.blocks (length ends) + 0) ≡ 0 = omega arith in
     record {

@@ -40,12 +40,6 @@ no-birth part quiet n born = at part quiet born.0 born.1 born.2 born.3 born.4
     at (x ∷ xs) all zero e within is new = all.0.reply n (ap (λ y. y.reply) is ∙ new)
     at (x ∷ xs) all (suc k) e within is new = at xs all.1 k e (omega arith) is new
 
--- a heap that keeps the objects of another has other words alone
-pub other-words : (old new : HeapState) → KeepsObjects old new → new ≡ with_words old new.words
-other-words old new keeps =
-    let at : ℕ → ℕ → ℕ → HeapState = λ x y z. record { words = new.words; blocks = x; number = y; base = z } in
-    ap (λ x. at x new.number new.base) keeps.blocks ∙ ap (λ y. at old.blocks y new.base) keeps.number ∙ ap (λ z. at old.blocks old.number z) keeps.base
-
 stopped-words : (old : HeapState) (w : List ℕ) (h : IdealHeap) (part : List Entry) (ms : List MutatorState) → KeepsObjects old (with_words old w) → AllByRecursion IsQuiet part
     → IsLawful (with_words old w) → Stands (with_words old w) ms (after h part) → Stopped (rules_of NoGc) (numbers_of ms) old h part (with_words old w) ms
 stopped-words old w h part ms keeps quiet lawful stands = record {
@@ -71,6 +65,6 @@ stopped-words old w h part ms keeps quiet lawful stands = record {
 pub quiet-stopped : (old new : HeapState) (h : IdealHeap) (part : List Entry) (ms : List MutatorState) → KeepsObjects old new → AllByRecursion IsQuiet part
     → IsLawful new → Stands new ms (after h part) → Stopped (rules_of NoGc) (numbers_of ms) old h part new ms
 quiet-stopped old new h part ms keeps quiet lawful stands =
-    let e : new ≡ with_words old new.words = other-words old new keeps in
+    let e : new ≡ with_words old new.words = frames.same-layout old new keeps.blocks keeps.number keeps.base in
     subst (λ (x : HeapState). Stopped (rules_of NoGc) (numbers_of ms) old h part x ms) (sym e)
     (stopped-words old new.words h part ms (subst (KeepsObjects old) e keeps) quiet (subst IsLawful e lawful) (subst (λ (x : HeapState). Stands x ms (after h part)) e stands))

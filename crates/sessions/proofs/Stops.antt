@@ -13,6 +13,7 @@ use Rattle.ideal_heap.proofs.OrderLemmas.{front_of_one}
 use Rattle.object_model.specs.declared.collect.Collect.TheVariants.{Full}
 use Rattle.object_model.specs.Objects.{HeapState, IsHeld}
 use Rattle.object_model.specs.Graphs.{MutatorState}
+use Rattle.object_model.specs.Lawful.{IsLawful}
 use Rattle.object_model.specs.Mirrors.{Models}
 use Rattle.object_model.specs.Changes.{KeepsObjects}
 use Rattle.object_model.proofs.Counts as counts
@@ -54,12 +55,13 @@ module _ (b : ℕ) (trace : List Command) where
   -- what a driver knows once a command that leaves the ideal heap as it is has its reply
   told : (s s' : HeapState) (m : MutatorState) (done : List Entry) (e : Entry) → Driven b trace s m done → e.mutator ≡ 1 → slice_get trace (length done) ≡ Some e.command
       → IsWithin t s' (done ++ e ∷ []) ⊎ IsServed t s' m (done ++ e ∷ []) → Answers (after ideal.empty done) e → after ideal.empty (done ++ e ∷ []) ≡ after ideal.empty done
-      → Models s' (m ∷ []) (after ideal.empty done) (IsHeld s') → s'.number ≤ s.number + 1 → Driven b trace s' m (done ++ e ∷ [])
-  told s s' m done e driven one next phase answers same models collections =
+      → IsLawful s' → Models s' (m ∷ []) (after ideal.empty done) (IsHeld s') → s'.number ≤ s.number + 1 → Driven b trace s' m (done ++ e ∷ [])
+  told s s' m done e driven one next phase answers same lawful models collections =
       let many : length (done ++ e ∷ []) ≡ length done + 1 = length-append done (e ∷ []) in
       record {
         phase = phase;
         run = extended ideal.empty done e driven.run answers;
+        lawful = lawful;
         models = subst (λ (h : IdealHeap). Models s' (m ∷ []) h (IsHeld s')) (sym same) models;
         number = driven.number;
         entries = driving.all-more b trace (λ x. x.mutator ≡ 1) done e driven.entries one;
@@ -83,7 +85,7 @@ module _ (b : ℕ) (trace : List Command) where
         mutators = refl;
         done = refl;
         counts = refl;
-        sound = driving.sound-of b trace (counts.counted s) m done inside.base.nursery (inside.base.full + 1) held-models driven.number;
+        sound = driving.sound-of b trace (counts.counted s) m done inside.base.nursery (inside.base.full + 1) (counts.lawful-counted s driven.lawful) held-models driven.number;
       } in
       let replies : Sessions.Replies (gc_entry ∷ []) late now = record { rest = refl; runs = (gc-answers (after ideal.empty done), tt) } in
       let served : IsServed t (counts.counted s) m (done ++ gc_entry ∷ []) = record {
@@ -102,7 +104,7 @@ module _ (b : ℕ) (trace : List Command) where
       } in
       told s (counts.counted s) m done gc_entry driven refl next (inr served) (gc-answers (after ideal.empty done))
       (driving.after-more b trace done gc_entry ∙ driving.step-entry b trace (after ideal.empty done) c.Gc r.Done refl ∙ gc-heap (after ideal.empty done))
-      held-models (omega arith)
+      (counts.lawful-counted s driven.lawful) held-models (omega arith)
 
   -- an epoch whose needs are served closes with the `meet` that comes next, and a new part begins
   meets : (s : HeapState) (m : MutatorState) (done : List Entry) → Driven b trace s m done → slice_get trace (length done) ≡ Some c.Meet → IsServed t s m done
@@ -164,4 +166,4 @@ module _ (b : ℕ) (trace : List Command) where
       ] in
       told s s m done meet_entry driven refl next (inl (meets s m done driven next served)) (meet-answers (after ideal.empty done))
       (driving.after-more b trace done meet_entry ∙ driving.step-entry b trace (after ideal.empty done) c.Meet r.Done refl ∙ meet-heap (after ideal.empty done))
-      driven.models (omega arith)
+      driven.lawful driven.models (omega arith)

@@ -7,7 +7,7 @@ use Rattle.heap_layout.specs.Zones.{BlockWords, first, heap_of, block_at, offset
 use Rattle.heap_layout.specs.declared.block.Kind.TheVariants as kinds
 use Rattle.ideal_heap.specs.declared.name.Name.{Name}
 use Rattle.object_model.specs.Objects.{HeapState, empty_heap, with_words, block_word, HasKind, IsHeld, IsInExtent, size_at, size_of, blocks_for}
-use Rattle.object_model.specs.Lawful.{IsLawful, IsRunOfBlocks}
+use Rattle.object_model.specs.Lawful.{IsLawful, IsOrderly, IsRunOfBlocks}
 use Rattle.object_model.specs.Changes.{KeepsObjects, WritesObject}
 use Rattle.object_model.proofs.Frames as frames
 use Rattle.object_model.proofs.Counts as counts
@@ -118,7 +118,7 @@ small-block : (s : HeapState) (x i size : ℕ) → IsAddress s.blocks x → offs
 small-block s x i size there fits from below = (let base : heap_of s.blocks ≤ x = there.from in omega arith)
 
 -- where a Bump block's tail has room, an object may be written
-module _ (s : HeapState) (lawful : IsLawful s) (k at size : ℕ) (bump : HasKind s k kinds.Bump) (tail : IsTail s k at) (fits : at + size ≤ 4096) (some : 1 ≤ size) where
+module _ (s : HeapState) (order : IsOrderly s) (k at size : ℕ) (bump : HasKind s k kinds.Bump) (tail : IsTail s k at) (fits : at + size ≤ 4096) (some : 1 ≤ size) where
   abbrev pub place : ℕ
   place = block_start s.blocks k + at
 
@@ -142,7 +142,7 @@ module _ (s : HeapState) (lawful : IsLawful s) (k at size : ℕ) (bump : HasKind
       let below : i < x + size_at s x = inside.below in
       elim (cases_lt 2048 (size_at s x)) as (λ _. (i < place) ⊎ (place + size ≤ i)) [
         | inl large ↦
-            let run = (lawful.objects.lies x holds).large large in
+            let run = (order.objects.lies x holds).large large in
             let start : offset_at s.blocks x ≡ 0 = run.start in
             let n : ℕ = blocks_for (size_at s x) in
             elim (cases_lt k (block_at s.blocks x)) as (λ _. (i < place) ⊎ (place + size ≤ i)) [
@@ -153,7 +153,7 @@ module _ (s : HeapState) (lawful : IsLawful s) (k at size : ℕ) (bump : HasKind
               ]
             ]
         | inr small ↦
-            let end : offset_at s.blocks x + size_at s x ≤ 4096 = ((lawful.objects.lies x holds).small small).within in
+            let end : offset_at s.blocks x + size_at s x ≤ 4096 = ((order.objects.lies x holds).small small).within in
             elim (cases_eq (block_at s.blocks x) k) as (λ _. (i < place) ⊎ (place + size ≤ i)) [
               | inl e ↦ inl (let behind : offset_at s.blocks x + size_at s x ≤ at = tail.behind x holds e in omega arith)
               | inr other ↦ elim (cases_lt k (block_at s.blocks x)) as (λ _. (i < place) ⊎ (place + size ≤ i)) [ inl before ↦ inr (omega arith) | inr after ↦ inl (omega arith) ]
@@ -170,7 +170,7 @@ module _ (s : HeapState) (lawful : IsLawful s) (k at size : ℕ) (bump : HasKind
 
 -- an object that is written at the front of a tail moves it on
 module _ (s : HeapState) (w : List ℕ) (a : ℕ) (n : Name) (refs nums : ℕ) (writes : WritesObject s (with_words s w) a n refs nums)
-    (lawful : IsLawful s) (room : IsRoom s a n refs nums) (ends : List ℕ) (tails : AreTails s ends)
+    (order : IsOrderly s) (room : IsRoom s a n refs nums) (ends : List ℕ) (tails : AreTails s ends)
     (used : block_at s.blocks a < length ends) (front : offset_at s.blocks a ≡ slice_index ends (block_at s.blocks a)) where
   abbrev grown : HeapState
   grown = with_words s w
@@ -182,40 +182,40 @@ module _ (s : HeapState) (w : List ℕ) (a : ℕ) (n : Name) (refs nums : ℕ) (
   end = slice_index ends block + size_of refs nums
 
   block_words : (j : ℕ) → j < s.blocks → block_word grown j ≡ block_word s j
-  block_words = births.block_words s w a n refs nums writes lawful room
+  block_words = births.block_words s w a n refs nums writes order room
 
   end-fits : end ≤ 4096
   end-fits = (let fits : offset_at s.blocks a + size_of refs nums ≤ 4096 = room.place.within in let e : offset_at s.blocks a ≡ slice_index ends block = front in omega arith)
 
   tail-other : (j at : ℕ) → j ≢ block → IsTail s j at → IsTail grown j at
   tail-other j at other tail = record {
-    behind = λ x holds here. elim (births.held-cases s w a n refs nums writes lawful room x holds) as (λ _. offset_at s.blocks x + size_at grown x ≤ at) [
+    behind = λ x holds here. elim (births.held-cases s w a n refs nums writes order room x holds) as (λ _. offset_at s.blocks x + size_at grown x ≤ at) [
       | inl e ↦ absurd (other (sym here ∙ ap (block_at s.blocks) e))
-      | inr before ↦ subst (λ (q : ℕ). offset_at s.blocks x + q ≤ at) (sym (births.size-same s w a n refs nums writes lawful room x before)) (tail.behind x before here)
+      | inr before ↦ subst (λ (q : ℕ). offset_at s.blocks x + q ≤ at) (sym (births.size-same s w a n refs nums writes order room x before)) (tail.behind x before here)
     ];
     least = elim tail.least as (λ _. (at ≡ 0) ⊎ ((x : ℕ) × IsHeld grown x × (block_at s.blocks x ≡ j) × (offset_at s.blocks x + size_at grown x ≡ at))) [
       | inl zero ↦ inl zero
       | inr last ↦ inr (
         last.0,
-        births.held-after s w a n refs nums writes lawful room last.0 last.1,
+        births.held-after s w a n refs nums writes order room last.0 last.1,
         last.2,
-        ap (λ q. offset_at s.blocks last.0 + q) (births.size-same s w a n refs nums writes lawful room last.0 last.1) ∙ last.3,
+        ap (λ q. offset_at s.blocks last.0 + q) (births.size-same s w a n refs nums writes order room last.0 last.1) ∙ last.3,
       )
     ];
   }
 
   new-size : size_at grown a ≡ size_of refs nums
-  new-size = births.new-size s w a n refs nums writes lawful room
+  new-size = births.new-size s w a n refs nums writes order room
 
   tail-moved : IsTail grown block end
   tail-moved = record {
-    behind = λ x holds here. elim (births.held-cases s w a n refs nums writes lawful room x holds) as (λ _. offset_at s.blocks x + size_at grown x ≤ end) [
+    behind = λ x holds here. elim (births.held-cases s w a n refs nums writes order room x holds) as (λ _. offset_at s.blocks x + size_at grown x ≤ end) [
       | inl e ↦ (let size : size_at grown x ≡ size_of refs nums = ap (size_at grown) e ∙ new-size in
           let at : offset_at s.blocks x ≡ slice_index ends block = ap (offset_at s.blocks) e ∙ front in omega arith)
-      | inr before ↦ (let size : size_at grown x ≡ size_at s x = births.size-same s w a n refs nums writes lawful room x before in
+      | inr before ↦ (let size : size_at grown x ≡ size_at s x = births.size-same s w a n refs nums writes order room x before in
           let behind : offset_at s.blocks x + size_at s x ≤ slice_index ends block = (tails.tail block used).behind x before here in omega arith)
     ];
-    least = inr (a, births.held-new s w a n refs nums writes lawful room, refl, ap (λ q. offset_at s.blocks a + q) new-size ∙ ap (λ q. q + size_of refs nums) front);
+    least = inr (a, births.held-new s w a n refs nums writes order room, refl, ap (λ q. offset_at s.blocks a + q) new-size ∙ ap (λ q. q + size_of refs nums) front);
   }
 
   pub tails-written : AreTails grown (slice_set ends block end)

@@ -5,6 +5,7 @@ use Rattle.ideal_heap.specs.Names.{name}
 use Rattle.ideal_heap.specs.Ideal.{IdealHeap, with_new}
 use Rattle.object_model.specs.Objects.{HeapState, IsHeld, name_at, size_of}
 use Rattle.object_model.specs.Graphs.{MutatorState}
+use Rattle.object_model.specs.Lawful.{IsLawful}
 use Rattle.object_model.specs.Mirrors.{Models}
 use Rattle.sessions.specs.Plans.{NoGc, rules_of}
 use Rattle.sessions.specs.Fitting.{Fits}
@@ -23,4 +24,5 @@ pub record TakesBirth (s : HeapState) (m : MutatorState) (d refs nums : ℕ) (s'
   pub number : m'.number ≡ m.number
   pub births : m'.births ≡ m.births + 1
   pub named : name_at s' place ≡ name m.number (m.births + 1)
+  pub lawful : IsLawful s'
   pub models : (h : IdealHeap) → Models s (m ∷ []) h (IsHeld s) → Models s' (m' ∷ []) (with_new h m.number d refs nums) (IsHeld s')

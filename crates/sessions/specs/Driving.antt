@@ -9,6 +9,7 @@ use Rattle.ideal_heap.specs.Ideal as ideal
 use Rattle.ideal_heap.specs.Runs.{Entry, IsRun, after}
 use Rattle.object_model.specs.Objects.{HeapState, IsHeld}
 use Rattle.object_model.specs.Graphs.{MutatorState}
+use Rattle.object_model.specs.Lawful.{IsLawful}
 use Rattle.object_model.specs.Mirrors.{Models}
 use Rattle.object_model.specs.Changes.{KeepsObjects}
 use Rattle.sessions.specs.Sessions.{Setting, Moment, Cause, is_at_gc, is_at_need, ideal_at, mutators_of, IsOfPart, RunsPart, CollectsFor, ServesAll, InSession}
@@ -49,6 +50,7 @@ pub record IsServed (t : Setting) (s : HeapState) (m : MutatorState) (done : Lis
 pub record Driven (b : ℕ) (trace : List Command) (s : HeapState) (m : MutatorState) (done : List Entry) : Type 0 where
   pub phase : IsWithin (alone_under_nogc b trace) s done ⊎ IsServed (alone_under_nogc b trace) s m done
   pub run : IsRun ideal.empty done
+  pub lawful : IsLawful s
   pub models : Models s (m ∷ []) (after ideal.empty done) (IsHeld s)
   pub number : m.number ≡ 1
   pub entries : AllByRecursion (λ e. e.mutator ≡ 1) done
