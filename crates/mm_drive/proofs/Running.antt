@@ -3,7 +3,7 @@ use Rattle.std.proofs.Common.{◌≡◌, ◌≢◌, refl, sym, ◌∙◌, ap, su
 use Rattle.std.specs.Prelude.{slice_get}
 use Rattle.std.specs.List.{Any}
 use Rattle.std.proofs.lemmas.Bool.{true≢false}
-use Rattle.std.proofs.lemmas.List.{length-map}
+use Rattle.std.proofs.lemmas.List.{length-map, map_push}
 use Rattle.ideal_heap.specs.declared.command.Command.{Command}
 use Rattle.ideal_heap.specs.declared.command.Command.TheVariants as c
 use Rattle.ideal_heap.specs.declared.reply.Reply.{Reply}
@@ -19,13 +19,13 @@ use Rattle.object_model.specs.Graphs.{MutatorState, Stands}
 use Rattle.object_model.specs.Changes.{KeepsObjects}
 use Rattle.object_model.specs.Steps.{TakesStep}
 use Rattle.object_model.proofs.Counts as counts
+use Rattle.object_model.proofs.Frames.{same-layout}
 use Rattle.object_model.proofs.Standing.{stands}
 use Rattle.sessions.specs.Births.{TakesBirth}
 use Rattle.sessions.specs.Bumping.{AreTails, AreLows, AreNamed, LacksRoom}
 use Rattle.sessions.specs.Driving.{Driven}
 use Rattle.sessions.specs.Fitting.{Fits}
 use Rattle.sessions.specs.Plans.{NoGc, rules_of}
-use Rattle.sessions.proofs.Bearing.{same-layout}
 use Rattle.sessions.proofs.Driving as driving
 use Rattle.sessions.proofs.Placing.{large-never, full-never}
 use Rattle.sessions.proofs.Stops as stops
@@ -36,13 +36,9 @@ use Rattle.mm_drive.specs.declared.engine.Engine.{Engine}
 use Rattle.sessions.specs.Sessions.{Moment, ideal_at}
 use Rattle.ideal_heap.proofs.OrderLemmas.{of_mutator-all}
 
-map-more : {X Y : Type 0} (f : X → Y) (xs : List X) (x : X) → map f (xs ++ x ∷ []) ≡ map f xs ++ f x ∷ []
-map-more f [] x = refl
-map-more f (y ∷ ys) x = ap (λ zs. f y ∷ zs) (map-more f ys x)
-
 told-more : (done : List Entry) (replies : List Reply) (command : Command) (reply : Reply) → map (λ x. x.reply) done ≡ replies
     → map (λ x. x.reply) (done ++ entry 1 command reply ∷ []) ≡ replies ++ reply ∷ []
-told-more done replies command reply told = map-more (λ x. x.reply) done (entry 1 command reply) ∙ ap (λ rs. rs ++ reply ∷ []) told
+told-more done replies command reply told = map_push (λ x. x.reply) done (entry 1 command reply) ∙ ap (λ rs. rs ++ reply ∷ []) told
 
 -- a command that is none of the three is quiet
 pub quiet-from : (command : Command) → ((d refs nums : ℕ) → command ≢ c.New d refs nums) → command ≢ c.Gc → command ≢ c.Meet → is_quiet command ≡ true
@@ -181,7 +177,7 @@ module _ (b : ℕ) (trace : List Command) (s : HeapState) (births : ℕ) (regist
   runs-born s' registers' ends' lows' d refs nums next takes tails past =
       let counted : heap.births 1 ≡ births = runs.driven.models.births.births.0 in
       let driven = driving.placed-step b trace s s' (lone births registers) (lone (births + 1) registers') runs.done d refs nums takes.place runs.driven (next-at (c.New d refs nums) next)
-      takes.small takes.fits takes.layout takes.object takes.spot takes.uses takes.changes (takes.named ∙ ap (λ k. name 1 (k + 1)) (sym counted)) (takes.models heap runs.driven.models) refl refl in
+      takes.small takes.fits takes.layout takes.object takes.spot takes.uses takes.changes (takes.named ∙ ap (λ k. name 1 (k + 1)) (sym counted)) takes.lawful (takes.models heap runs.driven.models) refl refl in
       record {
         done = runs.done ++ entry 1 (c.New d refs nums) (r.New (name 1 (births + 1))) ∷ [];
         driven = subst (λ (k : ℕ). Driven b trace s' (lone (births + 1) registers') (runs.done ++ entry 1 (c.New d refs nums) (r.New (name 1 (k + 1))) ∷ [])) counted driven;
@@ -231,7 +227,7 @@ ready b trace e replies runs few room =
     let many : length runs.done ≡ length replies = count b trace (state_of e.row) e.births e.registers e.tails.ends.items e.tails.lows.items replies runs in
     let models = runs.driven.models in
     record {
-      lawful = models.lawful;
+      lawful = runs.driven.lawful;
       held = models.mirrors.registers.0;
       tails = runs.tails;
       lows = runs.low_blocks;

@@ -3,7 +3,7 @@
 ghost use Rattle.std.specs.Prelude.{◌≡◌, ℕ, true};
 ghost use Rattle.ideal_heap.specs.Commands.{IsValid};
 ghost use Rattle.object_model.specs.Objects.{state_of};
-ghost use Rattle.object_model.specs.Lawful.{IsLawful};
+ghost use Rattle.object_model.specs.Lawful.{IsOrderly};
 ghost use Rattle.object_model.specs.Steps.{TakesStep};
 ghost use Rattle.mm_drive.specs.Lone.{AreReferences, lone};
 ghost use Rattle.mm_drive.specs.Running.{is_quiet};
@@ -30,7 +30,7 @@ pub(crate) struct Engine {
 
 // A command that makes no object and stands at no stop.
 fn quiet(row: &mut Row, registers: &mut [u32; 16], command: &Command) -> Reply
-    requires lawful { IsLawful (state_of row.old) }
+    requires order { IsOrderly (state_of row.old) }
     requires held { AreReferences (state_of row.old) registers.old }
     requires valid { IsValid command.now }
     requires quiet { is_quiet command.now ≡ true }
@@ -44,8 +44,8 @@ fn quiet(row: &mut Row, registers: &mut [u32; 16], command: &Command) -> Reply
         Command::Write { s, j, n } => write(row, registers, s, j, n),
         Command::Add { s, j, n } => add(row, registers, s, j, n),
         Command::Swap { s, j, was, next } => swap(row, registers, s, j, was, next),
-        Command::Move { d, s } => move_register(row, registers, d, s),
-        Command::DropReg { s } => drop_register(row, registers, s),
+        Command::Move { d, s } => move_register(registers, d, s),
+        Command::DropReg { s } => drop_register(registers, s),
         Command::Load { d, g } => load(row, registers, d, g),
         Command::Share { g, s } => share(row, registers, g, s),
         Command::Pin { s } => pin(row, registers, s),

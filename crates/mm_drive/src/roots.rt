@@ -3,40 +3,38 @@
 ghost use Rattle.std.specs.Prelude.{◌≡◌, ℕ, ◌<◌, ◌≤◌, List, length};
 ghost use Rattle.heap_layout.specs.Zones.{words_of};
 ghost use Rattle.ideal_heap.specs.declared.command.Command.TheVariants as command;
-ghost use Rattle.object_model.specs.Objects.{state_of};
-ghost use Rattle.object_model.specs.Lawful.{IsLawful};
+ghost use Rattle.object_model.specs.Objects.{HeapState, state_of};
+ghost use Rattle.object_model.specs.Lawful.{IsOrderly};
 ghost use Rattle.object_model.specs.Steps.{TakesStep};
 ghost use Rattle.mm_drive.specs.Lone.{AreReferences, lone};
 
 use ideal_heap::Reply;
 use object_model::Row;
 
-/// Register `d` gets what register `s` holds.
-pub(crate) fn move_register(row: &Row, registers: &mut [u32; 16], d: u32, s: u32) -> Reply
+/// Register `d` gets what register `s` holds, whatever the heap.
+pub(crate) fn move_register(registers: &mut [u32; 16], d: u32, s: u32) -> Reply
     requires target { d < 16 }
     requires source { s < 16 }
-    ensures { (births : ℕ) → TakesStep (state_of row.now) (lone births registers.old) (command.Move d s) result
-        (state_of row.now) (lone births registers.new) }
+    ensures { (heap : HeapState) (births : ℕ) → TakesStep heap (lone births registers.old) (command.Move d s) result
+        heap (lone births registers.new) }
 {
-    let _ = row;
     registers[d as usize] = registers[s as usize];
     Reply::Done
 }
 
-/// Register `s` becomes nil.
-pub(crate) fn drop_register(row: &Row, registers: &mut [u32; 16], s: u32) -> Reply
+/// Register `s` becomes nil, whatever the heap.
+pub(crate) fn drop_register(registers: &mut [u32; 16], s: u32) -> Reply
     requires { s < 16 }
-    ensures { (births : ℕ) → TakesStep (state_of row.now) (lone births registers.old) (command.DropReg s) result
-        (state_of row.now) (lone births registers.new) }
+    ensures { (heap : HeapState) (births : ℕ) → TakesStep heap (lone births registers.old) (command.DropReg s) result
+        heap (lone births registers.new) }
 {
-    let _ = row;
     registers[s as usize] = 0;
     Reply::Done
 }
 
 /// Register `d` gets what global `g` holds.
 pub(crate) fn load(row: &Row, registers: &mut [u32; 16], d: u32, g: u32) -> Reply
-    requires lawful { IsLawful (state_of row.now) }
+    requires order { IsOrderly (state_of row.now) }
     requires target { d < 16 }
     requires source { g < 16 }
     ensures { (births : ℕ) → TakesStep (state_of row.now) (lone births registers.old) (command.Load d g) result
@@ -64,7 +62,7 @@ pub(crate) fn share(row: &mut Row, registers: &[u32; 16], g: u32, s: u32) -> Rep
 
 /// The object in register `s` is pinned.
 pub(crate) fn pin(row: &mut Row, registers: &[u32; 16], s: u32) -> Reply
-    requires lawful { IsLawful (state_of row.old) }
+    requires order { IsOrderly (state_of row.old) }
     requires held { AreReferences (state_of row.old) registers.now }
     requires source { s < 16 }
     ensures { (births : ℕ) → TakesStep (state_of row.old) (lone births registers.now) (command.Pin s) result
@@ -84,7 +82,7 @@ pub(crate) fn pin(row: &mut Row, registers: &[u32; 16], s: u32) -> Reply
 
 /// The object in register `s` is no longer pinned.
 pub(crate) fn unpin(row: &mut Row, registers: &[u32; 16], s: u32) -> Reply
-    requires lawful { IsLawful (state_of row.old) }
+    requires order { IsOrderly (state_of row.old) }
     requires held { AreReferences (state_of row.old) registers.now }
     requires source { s < 16 }
     ensures { (births : ℕ) → TakesStep (state_of row.old) (lone births registers.now) (command.Unpin s) result

@@ -11,8 +11,8 @@ use Rattle.object_model.proofs.Among.{with-alone}
 use Rattle.object_model.proofs.Frames.{held-kept}
 use Rattle.object_model.proofs.Sets.{models-by}
 
-pub alone : (s : HeapState) (m : MutatorState) (command : Command) (reply : Reply) (s' : HeapState) (m' : MutatorState) → IsStep s m command reply s' m' → TakesStep s m command reply s' m'
-alone s m command reply s' m' is = record {
+pub alone : {s : HeapState} {m : MutatorState} {command : Command} {reply : Reply} {s' : HeapState} {m' : MutatorState} → IsStep s m command reply s' m' → TakesStep s m command reply s' m'
+alone {s} {m} {command} {reply} {s'} {m'} is = record {
   keeps = is.keeps;
   number = is.number;
   births = is.births;

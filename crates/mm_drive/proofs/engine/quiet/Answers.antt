@@ -1,3 +1,4 @@
+use Rattle.object_model.specs.Objects.{state_of}
 use Rattle.mm_drive.proofs.engine.quiet.Goals as goal
 
 pub returns-in-Get : goal.returns-in-Get
@@ -19,10 +20,10 @@ pub returns-in-Swap : goal.returns-in-Swap
 returns-in-Swap c births = rw c.in-Swap.is (c.swap.ensures births)
 
 pub returns-in-Move : goal.returns-in-Move
-returns-in-Move c births = rw c.in-Move.is (c.move_register.ensures births)
+returns-in-Move c births = rw c.in-Move.is (c.move_register.ensures (state_of c.args.row.now) births)
 
 pub returns-in-DropReg : goal.returns-in-DropReg
-returns-in-DropReg c births = rw c.in-DropReg.is (c.drop_register.ensures births)
+returns-in-DropReg c births = rw c.in-DropReg.is (c.drop_register.ensures (state_of c.args.row.now) births)
 
 pub returns-in-Load : goal.returns-in-Load
 returns-in-Load c births = rw c.in-Load.is (c.load.ensures births)
