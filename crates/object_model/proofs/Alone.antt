@@ -3,7 +3,7 @@ use Rattle.std.proofs.Common.{refl, arith, subst, List, [], ◌∷◌}
 use Rattle.ideal_heap.specs.declared.command.Command.{Command}
 use Rattle.ideal_heap.specs.declared.reply.Reply.{Reply}
 use Rattle.ideal_heap.specs.Ideal.{step}
-use Rattle.object_model.specs.Objects.{HeapState, with_words, IsHeld}
+use Rattle.object_model.specs.Objects.{HeapState, IsHeld}
 use Rattle.object_model.specs.Graphs.{MutatorState}
 use Rattle.object_model.specs.Mirrors.{Models}
 use Rattle.object_model.specs.Steps.{IsStep, TakesStep}

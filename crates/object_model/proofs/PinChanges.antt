@@ -1,9 +1,8 @@
 -- A pin bit is set or cleared, in the heap and in the ideal heap.
-use Rattle.std.proofs.Common.{◌≡◌, ◌≢◌, refl, sym, ◌∙◌, ap, subst, ℕ, suc, ◌+◌, ◌*◌, ◌-◌, ◌/◌, ◌%◌, ◌<◌, ◌≤◌, ◌⊎◌, inl, inr, arith, Bool, IsTrue, List, [], ◌∷◌, length, get_or, Some, nat_eq, ◌↔◌}
+use Rattle.std.proofs.Common.{◌≡◌, ◌≢◌, refl, sym, ◌∙◌, ap, subst, ℕ, ◌+◌, ◌*◌, ◌-◌, ◌/◌, ◌%◌, ◌<◌, ◌≤◌, ◌⊎◌, inl, inr, arith, Bool, IsTrue, List, Some, nat_eq, ◌↔◌}
 use Rattle.std.specs.Int.{bit_at}
 use Rattle.std.specs.List.{AllByRecursion, Any}
 use Rattle.std.proofs.lemmas.Bool.{cases_eq, or_left}
-use Rattle.std.proofs.lemmas.List.{get_or_default, get_or-map, length-map}
 use Rattle.heap_layout.specs.Zones.{Zone, StartBits, PinBits, UnlogBits, LineWords, BlockWords, Globals, words_of, heap_of, first, bit_of}
 use Rattle.ideal_heap.specs.declared.name.Name.{Name}
 use Rattle.ideal_heap.specs.Names.{name}
@@ -11,7 +10,7 @@ use Rattle.ideal_heap.specs.Ideal.{IdealHeap, set_pinned, at_name}
 use Rattle.ideal_heap.proofs.UpdateLemmas.{at_name-same, at_name-other}
 use Rattle.object_model.specs.Objects.{HeapState, with_words, word_at, global_at, is_pinned, is_unlogged, IsHeld, name_at, refs_at, ref_at, record_at, field_of_word}
 use Rattle.object_model.specs.Lawful.{IsOrderly, IsReference}
-use Rattle.object_model.specs.Graphs.{MutatorState, AreDifferent, Points, numbers_of}
+use Rattle.object_model.specs.Graphs.{MutatorState, Points}
 use Rattle.object_model.specs.Mirrors.{Models}
 use Rattle.object_model.specs.Changes.{KeepsObjects, SetsPin}
 use Rattle.object_model.proofs.Among.{one-number}

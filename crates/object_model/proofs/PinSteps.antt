@@ -9,7 +9,7 @@ use Rattle.ideal_heap.specs.declared.reply.Reply.{Reply}
 use Rattle.ideal_heap.specs.declared.reply.Reply.TheVariants as r
 use Rattle.ideal_heap.specs.Ideal.{IdealHeap, step, set_pinned}
 use Rattle.ideal_heap.proofs.StepLemmas.{object-some, pinning, unpinning}
-use Rattle.object_model.specs.Objects.{HeapState, with_words, is_pinned, IsHeld, name_at}
+use Rattle.object_model.specs.Objects.{HeapState, with_words, is_pinned, name_at}
 use Rattle.object_model.specs.Graphs.{MutatorState, register_at}
 use Rattle.object_model.specs.Mirrors.{Models}
 use Rattle.object_model.specs.Changes.{SetsPin}

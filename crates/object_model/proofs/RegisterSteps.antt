@@ -1,11 +1,11 @@
 -- The steps of the commands between registers and globals.
-use Rattle.std.proofs.Common.{◌≡◌, ◌≢◌, refl, ap, ℕ, ◌<◌, arith, [], ◌∷◌, Some, None, Option, slice_set, ◌+◌}
+use Rattle.std.proofs.Common.{◌≡◌, ◌≢◌, refl, ap, ℕ, ◌<◌, arith, Some, None, Option, slice_set, ◌+◌}
 use Rattle.heap_layout.specs.Zones.{Globals, first}
 use Rattle.ideal_heap.specs.declared.name.Name.{Name}
 use Rattle.ideal_heap.specs.declared.command.Command.TheVariants as c
 use Rattle.ideal_heap.specs.declared.reply.Reply.TheVariants as r
 use Rattle.ideal_heap.specs.Ideal.{step, set_register, set_global, told}
-use Rattle.object_model.specs.Objects.{HeapState, with_words, IsHeld, name_at, global_at}
+use Rattle.object_model.specs.Objects.{HeapState, with_words, name_at, global_at}
 use Rattle.object_model.specs.Graphs.{MutatorState, Points, register_at, with_register}
 use Rattle.object_model.specs.Steps.{IsStep}
 use Rattle.object_model.proofs.GlobalStores as globals

@@ -1,5 +1,5 @@
 -- The steps of commands, case by case, from what the heap holds.
-use Rattle.std.proofs.Common.{◌≡◌, ◌≢◌, refl, sym, ◌∙◌, ap, subst, ℕ, ◌+◌, ◌^◌, ◌<◌, ◌≤◌, arith, List, [], ◌∷◌, length, Some, None, Option, nat_eq, slice_index, slice_set, eq-eqb, zero-add}
+use Rattle.std.proofs.Common.{◌≡◌, ◌≢◌, refl, sym, ◌∙◌, ap, subst, ℕ, ◌<◌, ◌≤◌, arith, List, length, Some, None, Option, slice_index, zero-add}
 use Rattle.std.specs.Prelude.{unwrap_or}
 use Rattle.std.specs.List.{Contains}
 use Rattle.std.proofs.lemmas.Option.{unwrap_or-slice_get}
@@ -9,9 +9,9 @@ use Rattle.ideal_heap.specs.declared.command.Command.{Command}
 use Rattle.ideal_heap.specs.declared.command.Command.TheVariants as c
 use Rattle.ideal_heap.specs.declared.reply.Reply.{Reply}
 use Rattle.ideal_heap.specs.declared.reply.Reply.TheVariants as r
-use Rattle.ideal_heap.specs.Ideal.{IdealHeap, Outcome, Nil, step, record_of, field_at, told_field, name_in, set_record, put_number, set_register, no_fields}
+use Rattle.ideal_heap.specs.Ideal.{IdealHeap, Outcome, Nil, step, record_of, field_at, told_field, name_in, set_register, no_fields}
 use Rattle.ideal_heap.proofs.StepLemmas.{object-null, ref-past, ref-within, num-past, num-within, getting, reading, writing}
-use Rattle.object_model.specs.Objects.{HeapState, with_words, IsHeld, name_at, refs_at, nums_at, ref_at, num_at, record_at, field_of_word}
+use Rattle.object_model.specs.Objects.{HeapState, IsHeld, name_at, refs_at, nums_at, ref_at, num_at, record_at, field_of_word}
 use Rattle.object_model.specs.Graphs.{MutatorState, Points, register_at, with_register, with_mutator}
 use Rattle.object_model.specs.Mirrors.{Models}
 use Rattle.object_model.specs.Changes.{KeepsObjects}

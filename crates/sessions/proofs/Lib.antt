@@ -6,3 +6,5 @@ pub mod Driving
 pub mod Stops
 pub mod Histories
 pub mod Beginning
+pub mod Holes
+pub mod Counting

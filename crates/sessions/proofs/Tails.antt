@@ -114,7 +114,7 @@ module _ (s : HeapState) (lawful : IsLawful s) (ends : List ℕ) (tails : AreTai
       }
 
 -- a word of an object that lies in a block is of that block
-small-block : (s : HeapState) (x i size : ℕ) → IsAddress s.blocks x → offset_at s.blocks x + size ≤ 4096 → x ≤ i → i < x + size → block_at s.blocks i ≡ block_at s.blocks x
+pub small-block : (s : HeapState) (x i size : ℕ) → IsAddress s.blocks x → offset_at s.blocks x + size ≤ 4096 → x ≤ i → i < x + size → block_at s.blocks i ≡ block_at s.blocks x
 small-block s x i size there fits from below = (let base : heap_of s.blocks ≤ x = there.from in omega arith)
 
 -- where a Bump block's tail has room, an object may be written

@@ -1,11 +1,17 @@
-ghost use Rattle.std.specs.Prelude.{◌≡◌, ℕ, ◌≤◌, false, List, ◌∷◌, []};
+ghost use Rattle.std.specs.Prelude.{◌≡◌, ℕ, ◌+◌, ◌<◌, ◌≤◌, false, List, ◌∷◌, []};
 ghost use Rattle.std.specs.List.{AllByRecursion};
 ghost use Rattle.ideal_heap.specs.declared.command.Command.{Command};
 ghost use Rattle.ideal_heap.specs.Ideal.{empty};
 ghost use Rattle.ideal_heap.specs.Runs.{IsRun, is_full, replies_of, alone};
-ghost use Rattle.object_model.specs.Objects.{empty_heap, size_of};
-ghost use Rattle.sessions.specs.Plans.{Plan, rules_of};
-ghost use Rattle.sessions.specs.Fitting.{Fits};
+ghost use Rattle.heap_layout.specs.Zones.{block_at, offset_at};
+ghost use Rattle.heap_layout.specs.declared.block.Kind.{Kind};
+ghost use Rattle.object_model.specs.declared.collect.Collect.{Collect};
+ghost use Rattle.object_model.specs.declared.collect.Collect.TheVariants.{Full};
+ghost use Rattle.object_model.specs.Objects.{HeapState, IsHeld, IsInExtent, empty_heap, size_of};
+ghost use Rattle.object_model.specs.Lawful.{IsLawful};
+ghost use Rattle.sessions.specs.Plans.{Plan, Rules, NoGc, rules_of};
+ghost use Rattle.sessions.specs.Fitting.{Fits, HasHole};
+ghost use Rattle.sessions.specs.Collecting.{IsCollection};
 ghost use Rattle.sessions.specs.Sessions.{Setting, Moment, InSession, IsEpoch, IsWhole, Places, Serves, first_moment};
 
 /// A session begins with the empty heap, and goes on by an epoch. Whatever it collects, all that it
@@ -30,4 +36,17 @@ pub fn sessions_of_one()
 pub fn empty_heap_has_room()
     ensures fits { (p : Plan) (b size : ℕ) → 4 ≤ b → size ≤ 2048 → Fits (rules_of p) (empty_heap b) size }
     ensures served { (t : Setting) (p : Plan) (b m d refs nums : ℕ) (old new : Moment) → 4 ≤ b → t.rules ≡ rules_of p → old.heap ≡ empty_heap b → size_of refs nums ≤ 2048 → Serves t m d refs nums old new → Places t m d refs nums old new }
+{}
+
+/// A hole holds no object, whatever kind of block mutators fill: no word of a held object lies where a new one
+/// may be placed. Of a tail, a free cell and a run of clear lines alike.
+pub fn holes_are_clear()
+    ensures { (fill : Kind) (s : HeapState) (k from size a i : ℕ) → IsLawful s → HasHole fill s k from size → IsHeld s a → IsInExtent s a i → block_at s.blocks i ≡ k → from ≤ offset_at s.blocks i → offset_at s.blocks i < from + size → ⊥ }
+{}
+
+/// Under each plan a collection raises the heap's number by one, and the layout stays. Under `nogc` it is
+/// a full one, and changes nothing else.
+pub fn collections_count()
+    ensures one { (r : Rules) (workers : ℕ) (c : Collect) (old new : HeapState) (roots after : List ℕ) → IsCollection r workers c old roots new after → (new.number ≡ old.number + 1) × (new.blocks ≡ old.blocks) }
+    ensures nogc { (workers : ℕ) (c : Collect) (old new : HeapState) (roots after : List ℕ) → IsCollection (rules_of NoGc) workers c old roots new after → (c ≡ Full) × (new.words ≡ old.words) × (new.base ≡ old.base) × (after ≡ roots) }
 {}

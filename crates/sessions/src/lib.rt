@@ -5,4 +5,6 @@
 
 mod laws;
 
-pub use laws::{empty_heap_has_room, sessions, sessions_of_one};
+pub use laws::{
+    collections_count, empty_heap_has_room, holes_are_clear, sessions, sessions_of_one,
+};
