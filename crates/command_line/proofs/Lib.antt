@@ -1,4 +1,3 @@
-mod Numerals
 mod Settings
 mod Walks
 mod Options

@@ -3,33 +3,18 @@ ghost use Rattle.command_line.specs.Words.{number_in, plan_of, work_of as work_w
 ghost use Rattle.command_line.specs.Orders.{plan_in, texts, work_in};
 
 use crate::order::{PlanName, Target};
+use trace_text::read_numeral;
 
 // The number of a numeral that lies within the bounds.
-#[tactic(auto, using(crate::proofs::Numerals::numerals))]
 pub(crate) fn number_within(word: &str, least: u32, most: u32) -> Option<u32>
     ensures { result ≡ number_in least most word.now }
 {
-    let bytes = word.as_bytes();
-    if bytes.is_empty() {
-        return None;
+    let number = read_numeral(word.as_bytes(), u64::from(most)).ok()?;
+    if number < u64::from(least) {
+        None
+    } else {
+        Some(number as u32)
     }
-    if bytes[0] == b'0' && bytes.len() > 1 {
-        return None;
-    }
-    // Past `most` the number only grows, so its digits are no longer added.
-    let mut value: u64 = 0;
-    for b in bytes {
-        if !b.is_ascii_digit() {
-            return None;
-        }
-        if value <= u64::from(most) {
-            value = value * 10 + u64::from(*b - b'0');
-        }
-    }
-    if value < u64::from(least) || value > u64::from(most) {
-        return None;
-    }
-    Some(value as u32)
 }
 
 pub(crate) fn plan_named(word: &str) -> Option<PlanName>

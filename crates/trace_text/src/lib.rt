@@ -22,6 +22,7 @@ pub use laws::{
     traces_are_valid, traces_have_one_text, worked_limits, worked_lines, worked_replies,
     worked_traces,
 };
+pub use numerals::read_numeral;
 pub use printing::{print_mutator, print_reply};
 pub use reading::read_trace;
 pub use traces::print_trace;

@@ -4,9 +4,11 @@ ghost use Rattle.trace_text.specs.Grammar.{argument, behind, checked, numeral};
 
 use crate::fault::Why;
 
-// The number of a numeral, which is at most `most`.
+/// The number of a numeral: `0`, or decimal digits that do not begin with 0, with no sign.
+///
+/// Another spelling is `Why::Number`, and a numeral past `most` is `Why::Range`, each of any length.
 #[tactic(auto, using(crate::proofs::NumeralLemmas::numerals))]
-fn read_number(word: &[u8], most: u64) -> Result<u64, Why>
+pub fn read_numeral(word: &[u8], most: u64) -> Result<u64, Why>
     ensures value { result ≡ checked most (numeral word.now) }
     ensures bound { IfOk result (λ n. n ≤ most) }
 {
@@ -36,7 +38,7 @@ fn read_small(word: &[u8], most: u32) -> Result<u32, Why>
     ensures value { result ≡ checked most (numeral word.now) }
     ensures bound { IfOk result (λ n. n ≤ most) }
 {
-    Ok(read_number(word, u64::from(most))? as u32)
+    Ok(read_numeral(word, u64::from(most))? as u32)
 }
 
 fn read_marked(mark: u8, word: &[u8], most: u32) -> Result<u32, Why>
@@ -88,5 +90,5 @@ pub(crate) fn num_index(word: &[u8]) -> Result<u32, Why>
 pub(crate) fn value(word: &[u8]) -> Result<u64, Why>
     ensures { result ≡ argument Value word.now }
 {
-    read_number(word, u64::MAX)
+    read_numeral(word, u64::MAX)
 }
