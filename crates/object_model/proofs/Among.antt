@@ -12,6 +12,11 @@ all-at P [] x all known = absurd (let there : known.0 < 0 = known.1 in omega ari
 all-at P (y ∷ ys) x all (zero, within, is) = subst P is all.0
 all-at P (y ∷ ys) x all (suc k, within, is) = all-at P ys x all.1 (k, omega arith, is)
 
+-- what follows of each element follows of each
+pub all-to : {X : Type 0} (P Q : X → Type 0) → ((x : X) → P x → Q x) → (xs : List X) → AllByRecursion P xs → AllByRecursion Q xs
+all-to P Q to [] all = tt
+all-to P Q to (x ∷ xs) all = (to x all.0, all-to P Q to xs all.1)
+
 -- what holds of the element at each place holds of each element
 pub all-from : {X : Type 0} (P : X → Type 0) (xs : List X) → ((i : ℕ) (x : X) → i < length xs → get_or xs i x ≡ x → P x) → AllByRecursion P xs
 all-from P [] each = tt

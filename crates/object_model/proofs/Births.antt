@@ -17,7 +17,7 @@ use Rattle.object_model.proofs.Marks.{mark-same, mark-from}
 use Rattle.object_model.proofs.OneKind.{has_small-free}
 use Rattle.object_model.proofs.Frames.{HasKind-back, kind-in, lies-from, in_run-same}
 
--- where a new object of a name and shape may be written
+-- where a new object of at most 2,048 words, of a name and shape, may be written
 pub record IsRoom (s : HeapState) (a : ℕ) (n : Name) (refs nums : ℕ) : Type 0 where
   pub address : IsAddress s.blocks a
   pub named : IsName n
@@ -25,8 +25,6 @@ pub record IsRoom (s : HeapState) (a : ℕ) (n : Name) (refs nums : ℕ) : Type 
   pub few_nums : nums ≤ 60000
   pub small : size_of refs nums ≤ 2048
   pub place : LiesInBlock s a (size_of refs nums)
-  -- the lines of its block are not kept
-  pub lines : HasKind s (block_at s.blocks a) kinds.Immix → ⊥
   pub apart : (x i : ℕ) → IsHeld s x → IsInExtent s x i → (i < a) ⊎ (a + size_of refs nums ≤ i)
   pub fresh : (x : ℕ) → IsHeld s x → name_at s x ≢ n
 
@@ -268,8 +266,9 @@ module _ (s : HeapState) (w : List ℕ) (a : ℕ) (n : Name) (refs nums : ℕ) (
             ]);
       }
 
-  lines-after : (k : ℕ) → AreLinesRight s k → AreLinesRight after k
-  lines-after k old = record {
+  -- where the lines of its block are not kept
+  lines-after : (HasKind s (block_at s.blocks a) kinds.Immix → ⊥) → (k : ℕ) → AreLinesRight s k → AreLinesRight after k
+  lines-after no_lines k old = record {
     marked = λ line is small marked.
         let before : HasKind s k kinds.Immix = HasKind-back s w block_words k kinds.Immix is in
         let there : k < s.blocks = kind-in s w block_words k kinds.Immix before in
@@ -285,7 +284,7 @@ module _ (s : HeapState) (w : List ℕ) (a : ℕ) (n : Name) (refs nums : ℕ) (
         let before : HasKind s k kinds.Immix = HasKind-back s w block_words k kinds.Immix is in
         let there : k < s.blocks = kind-in s w block_words k kinds.Immix before in
         lines-same k line there small ∙ elim (held-cases t.object t.held) as (λ _. IsTrue (line_marked s k line)) [
-          | inl e ↦ absurd (room.lines (subst (λ (q : ℕ). HasKind s q kinds.Immix)
+          | inl e ↦ absurd (no_lines (subst (λ (q : ℕ). HasKind s q kinds.Immix)
               (sym (line-block s k line t.word small t.from t.below) ∙ new-block t.word (subst (λ (q : ℕ). IsInExtent after q t.word) e t.inside)) before))
           | inr holds ↦ old.touched line before small (record { object = t.object; word = t.word; held = holds; inside = extent-before t.object t.word holds t.inside; from = t.from; below = t.below })
         ];
@@ -298,12 +297,12 @@ module _ (s : HeapState) (w : List ℕ) (a : ℕ) (n : Name) (refs nums : ℕ) (
     objects = objects-after;
   }
 
-  -- and lawful if it was
-  pub lawful-after : IsLawful s → IsLawful after
-  lawful-after lawful = record {
+  -- and lawful if it was, where the lines of its block are not kept
+  pub lawful-after : (HasKind s (block_at s.blocks a) kinds.Immix → ⊥) → IsLawful s → IsLawful after
+  lawful-after no_lines lawful = record {
     order = orderly-after;
     blocks = λ k there. subst (λ (v : ℕ). IsTrue (is_block_code v)) (sym (block_words k there)) (lawful.blocks k there);
     owners = λ k there. ap (λ v. v / 65536) (block_words k there) ∙ lawful.owners k there;
     free = λ k is. let before : HasKind s k kinds.Free = HasKind-back s w block_words k kinds.Free is in free-after k before (lawful.free k before);
-    lines = λ k. lines-after k (lawful.lines k);
+    lines = λ k. lines-after no_lines k (lawful.lines k);
   }

@@ -82,7 +82,7 @@ module _ (s : HeapState) (w : List ℕ) (same : (k : ℕ) → k < s.blocks → b
     };
   }
 
--- objects stay, and all words are of 64 bits
+-- objects stay
 module _ (s : HeapState) (w : List ℕ) (keeps : KeepsObjects s (with_words s w)) where
   abbrev after : HeapState
   after = with_words s w
@@ -164,7 +164,7 @@ module _ (s : HeapState) (w : List ℕ) (keeps : KeepsObjects s (with_words s w)
       objects = objects-after pins fields globals;
     }
 
-  clear-after : ((a : ℕ) → IsTrue (is_pinned after a) → IsHeld s a) → (k : ℕ) → k < s.blocks → IsClear s k → IsClear after k
+  pub clear-after : ((a : ℕ) → IsTrue (is_pinned after a) → IsHeld s a) → (k : ℕ) → k < s.blocks → IsClear s k → IsClear after k
   clear-after pins k there old = record {
     empty = λ a i h inside. let before = held-before a h in old.empty a i before (extent-before a i before inside);
     lines = λ line small marked. old.lines line small (sym (keeps.lines k line there small) ∙ marked);
@@ -199,7 +199,7 @@ module _ (s : HeapState) (w : List ℕ) (keeps : KeepsObjects s (with_words s w)
     below = t.below;
   }
 
-  lines-after : (k : ℕ) → AreLinesRight s k → AreLinesRight after k
+  pub lines-after : (k : ℕ) → AreLinesRight s k → AreLinesRight after k
   lines-after k old = record {
     marked = λ line is small marked.
         let before : HasKind s k kinds.Immix = HasKind-back s w keeps.block_words k kinds.Immix is in

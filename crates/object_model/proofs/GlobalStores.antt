@@ -13,6 +13,7 @@ use Rattle.object_model.specs.Lawful.{IsOrderly, IsReference}
 use Rattle.object_model.specs.Graphs.{MutatorState, Points}
 use Rattle.object_model.specs.Mirrors.{Models}
 use Rattle.object_model.specs.Changes.{KeepsObjects}
+use Rattle.object_model.proofs.Standing.{points-reference}
 use Rattle.object_model.proofs.Marks.{mark-same}
 use Rattle.object_model.proofs.Frames.{orderly-after, held-after, held-before, refs-after, name-after}
 use Rattle.object_model.proofs.Records.{record-same, field-same, number-place}
@@ -25,11 +26,6 @@ reference-fits s order v reference = elim (cases_eq v 0) as (λ _. v < 2 ^ 64) [
   | inl nil ↦ omega arith
   | inr some ↦ let below : v < words_of s.blocks = (reference some).address.below in let most : s.blocks ≤ 1024 = order.row.most in omega arith
 ]
-
--- what a word that points somewhere is: nil, or a held object
-pub points-reference : (s : HeapState) (v : ℕ) (o : Option Name) → Points s v o → IsReference s v
-points-reference s v None nil some = absurd (some nil)
-points-reference s v (Some n) there some = there.1
 
 module _ (s : HeapState) (g v : ℕ) (small : g < 16) where
   abbrev pub shared : HeapState

@@ -7,7 +7,7 @@ pub mod OneKind
 pub mod Counts
 pub mod Sets
 pub mod Among
-pub mod Alone
+pub mod Telling
 pub mod StepCases
 pub mod Blocks
 pub mod BirthModels

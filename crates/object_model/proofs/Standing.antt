@@ -1,4 +1,4 @@
--- A heap that mirrors an ideal heap by a set of addresses stands for it.
+-- A heap that mirrors an ideal heap by a set of addresses stands for it, and one that stands mirrors it by what paths reach.
 use Rattle.std.proofs.Common.{◌≡◌, ◌≢◌, refl, sym, ◌∙◌, ap, subst, ℕ, suc, zero, ◌+◌, ◌-◌, ◌<◌, ◌⊎◌, inl, inr, arith, List, [], ◌∷◌, ◌++◌, length, slice_index, None, Some, Option, nat_eq, zero-add, eq-eqb}
 use Rattle.std.specs.Prelude.{slice_get, unwrap_or, option_map}
 use Rattle.std.specs.List.{AllByRecursion, range_with_len}
@@ -12,10 +12,12 @@ use Rattle.ideal_heap.specs.declared.name.Name.{Name}
 use Rattle.ideal_heap.specs.Ideal.{IdealHeap, Nil, At, record_of, no_fields}
 use Rattle.ideal_heap.specs.Reach as reach
 use Rattle.ideal_heap.specs.Reach.{Reaches}
-use Rattle.object_model.specs.Objects.{HeapState, global_at, name_at, refs_at, ref_at, record_at, field_of_word}
+use Rattle.object_model.specs.Objects.{HeapState, global_at, IsHeld, name_at, refs_at, ref_at, record_at, field_of_word}
 use Rattle.object_model.specs.Graphs as graphs
 use Rattle.object_model.specs.Graphs.{MutatorState, IsMutatorState, AreMutators, ArePointers, Points, Arrives, Stands, numbers_of, roots_of, register_at}
+use Rattle.object_model.specs.Lawful.{IsOrderly, IsReference}
 use Rattle.object_model.specs.Mirrors.{Models}
+use Rattle.object_model.proofs.Among.{all-to}
 
 -- a value of an option, with its equation
 pub option_cases : {X : Type 0} (o : Option X) → (o ≡ None) ⊎ ((x : X) × (o ≡ Some x))
@@ -159,4 +161,59 @@ module _ (s : HeapState) (ms : List MutatorState) (h : IdealHeap) (set : ℕ →
     there = λ a arrives. let found = arrives-found a arrives in (found.1, model.mirrors.records a found.0);
     all = reached-arrives;
     pins = λ a arrives. model.mirrors.pins a (arrives-found a arrives).0;
+  }
+
+-- what points to a name is nil or a held object
+pub points-reference : (s : HeapState) (v : ℕ) (o : Option Name) → Points s v o → IsReference s v
+points-reference s v None nil some = absurd (some nil)
+points-reference s v (Some n) there some = there.1
+
+-- each register is a root
+abbrev HasRoots : List ℕ → MutatorState → Type 0
+HasRoots roots m = (d : ℕ) → d < 16 → (i : ℕ) × (slice_index roots i ≡ register_at m d)
+
+registers-are-roots : (ms : List MutatorState) → AllByRecursion IsMutatorState ms → AllByRecursion (HasRoots (roots_of ms)) ms
+registers-are-roots [] each = tt
+registers-are-roots (m ∷ ms) each = (
+  λ d small. (d, get_or-append m.registers (roots_of ms) 0 d (let full : length m.registers ≡ 16 = each.0.registers in omega arith)),
+  all-to (HasRoots (roots_of ms)) (HasRoots (m.registers ++ roots_of ms))
+      (λ x roots d small. let root = roots d small in (length m.registers + root.0, get_or-append-add m.registers (roots_of ms) root.0 0 ∙ root.1))
+      ms (registers-are-roots ms each.1),
+)
+
+module _ (s : HeapState) (ms : List MutatorState) (h : IdealHeap) (order : IsOrderly s) (standing : Stands s ms h) where
+  root-held : (i : ℕ) → 0 < slice_index (roots_of ms) i → IsHeld s (slice_index (roots_of ms) i)
+  root-held i some =
+      elim (cases_lt i (length (roots_of ms))) as (λ _. IsHeld s (slice_index (roots_of ms) i)) [
+        | inl within ↦ root-register (IsReference s) ms i standing.mutators.each
+            (all-to (λ m. (d : ℕ) → d < 16 → Points s (register_at m d) (h.registers m.number d)) (λ m. (d : ℕ) → d < 16 → IsReference s (register_at m d))
+            (λ m points d small. points-reference s (register_at m d) (h.registers m.number d) (points d small)) ms standing.pointers.registers)
+            within (omega arith)
+        | inr past ↦ absurd (let nil : slice_index (roots_of ms) i ≡ 0 = get_or_past (roots_of ms) i 0 past in omega arith)
+      ]
+
+  arrives-held : (a : ℕ) → Arrives s (roots_of ms) a → IsHeld s a
+  arrives-held a (graphs.from_root i e some) = subst (IsHeld s) e (root-held i (subst (λ (x : ℕ). 0 < x) (sym e) some))
+  arrives-held a (graphs.from_global g small e some) =
+      let there : 0 < global_at s g = subst (λ (x : ℕ). 0 < x) (sym e) some in
+      subst (IsHeld s) e (points-reference s (global_at s g) (h.globals g) (standing.pointers.globals g small) (omega arith))
+  arrives-held a (graphs.from_field x i before within e some) =
+      let there : 0 < ref_at s x i = subst (λ (y : ℕ). 0 < y) (sym e) some in
+      subst (IsHeld s) e (order.objects.references x i (arrives-held x before) within (omega arith))
+
+  pub models : Models s ms h (Arrives s (roots_of ms))
+  models = record {
+    order = order;
+    mutators = standing.mutators;
+    pointers = standing.pointers;
+    births = standing.births;
+    mirrors = record {
+      held = arrives-held;
+      fields = λ a i there less some. graphs.from_field a i there less refl (omega arith);
+      registers = all-to (HasRoots (roots_of ms)) (λ m. (d : ℕ) → d < 16 → register_at m d ≢ 0 → Arrives s (roots_of ms) (register_at m d))
+          (λ m roots d small some. let root = roots d small in graphs.from_root root.0 root.1 (omega arith)) ms (registers-are-roots ms standing.mutators.each);
+      globals = λ g small some. graphs.from_global g small refl (omega arith);
+      records = λ a there. (standing.there a there).1;
+      pins = standing.pins;
+    };
   }

@@ -7,7 +7,7 @@ use Rattle.heap_layout.specs.Blocks.{is_block_code}
 use Rattle.ideal_heap.specs.Names.{IsName}
 use Rattle.object_model.specs.Objects.{HeapState, word_at, global_at, block_word, has_kind, HasKind, class_at, owner_at, line_marked, is_start, is_pinned, is_unlogged, IsHeld, name_at, refs_at, nums_at, size_at, number_at, target_at, ref_at, IsInExtent, cell_words, blocks_for}
 
--- the row of a layout: so many words, each of 64 bits
+-- the row of a layout: so many words, each of 64 bits; and a base that is no later than the number
 pub record IsRow (s : HeapState) : Type 0 where
   pub least : 4 ≤ s.blocks
   pub most : s.blocks ≤ 1024
@@ -31,7 +31,7 @@ pub record HasHeader (s : HeapState) (a : ℕ) : Type 0 where
 abbrev pub has_small : HeapState → ℕ → Bool
 has_small s k = has_kind s k kinds.Bump || has_kind s k kinds.Young || has_kind s k kinds.Mature || has_kind s k kinds.Immix || has_kind s k kinds.Cells || has_kind s k kinds.Kept
 
--- the object begins with a cell that it fits
+-- the object lies at the start of a cell that it fits
 pub record LiesInCell (s : HeapState) (a size : ℕ) : Type 0 where
   pub start : offset_at s.blocks a % cell_words (class_at s (block_at s.blocks a)) ≡ 0
   pub room : size ≤ cell_words (class_at s (block_at s.blocks a))
@@ -112,8 +112,8 @@ pub record AreLinesRight (s : HeapState) (k : ℕ) : Type 0 where
   pub marked : (line : ℕ) → HasKind s k kinds.Immix → line < 256 → IsTrue (line_marked s k line) → ∥ IsTouched s k line ∥₁
   pub touched : (line : ℕ) → HasKind s k kinds.Immix → line < 256 → IsTouched s k line → IsTrue (line_marked s k line)
 
--- The row, and its objects, references and names, are in order. Nothing is said of owners, Free blocks and line bits, so this
--- holds as well while mutators fill blocks of their own.
+-- The row, and its objects, references and names, are in order. Nothing is said of owners, of line bits, and of whether a block
+-- word is a code, so this holds as well while mutators fill blocks of their own.
 pub record IsOrderly (s : HeapState) : Type 0 where
   pub row : IsRow s
   pub objects : HasLawfulObjects s

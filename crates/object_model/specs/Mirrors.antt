@@ -7,7 +7,7 @@ use Rattle.object_model.specs.Graphs.{MutatorState, AreMutators, AreBirths, AreP
 use Rattle.object_model.specs.Lawful.{IsOrderly}
 
 -- The set has all that registers and globals hold, and is closed under fields. Each of its addresses is a held object that
--- reads as the ideal record of its name.
+-- reads as the ideal record of its name, and is pinned where that name is.
 pub record Mirrors (s : HeapState) (ms : List MutatorState) (h : IdealHeap) (set : ℕ → Type 0) : Type 0 where
   pub held : (a : ℕ) → set a → IsHeld s a
   pub fields : (a i : ℕ) → set a → i < refs_at s a → ref_at s a i ≢ 0 → set (ref_at s a i)

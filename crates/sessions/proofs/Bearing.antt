@@ -82,7 +82,8 @@ module _ (s : HeapState) (w1 w2 ends1 : List ℕ) (same : SameHeap s w1) (unlogs
   room = placing.room-in-tail between lawful.order low (slice_index ends1 low) bump (tails.tail low used) n refs nums fits small few_refs few_nums (name-of-birth count counted) (fresh-name between count named)
 
   pub lawful-after : IsLawful after
-  lawful-after = births.lawful-after between w2 a n refs nums writes lawful.order room lawful
+  lawful-after = births.lawful-after between w2 a n refs nums writes lawful.order room
+      (λ is. let same = one-kind between low kinds.Bump kinds.Immix bump (subst (λ (k : ℕ). HasKind between k kinds.Immix) block-is is) in cc) lawful
 
   pub tails-after : AreTails after (slice_set ends1 low (slice_index ends1 low + size_of refs nums))
   tails-after = subst (λ (k : ℕ). AreTails after (slice_set ends1 k (slice_index ends1 k + size_of refs nums))) block-is

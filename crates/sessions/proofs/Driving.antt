@@ -24,6 +24,7 @@ use Rattle.object_model.specs.Graphs.{MutatorState, Stands, numbers_of, beginner
 use Rattle.object_model.specs.Lawful.{IsLawful}
 use Rattle.object_model.specs.Mirrors.{Models}
 use Rattle.object_model.specs.Changes.{KeepsObjects}
+use Rattle.object_model.proofs.Among.{all-to}
 use Rattle.object_model.proofs.Standing as standing
 use Rattle.object_model.proofs.Counts as counts
 use Rattle.object_model.proofs.Frames.{lawful-kept}
@@ -81,10 +82,6 @@ new-reply h m d refs nums = refl
 new-heap : (h : IdealHeap) (m d refs nums : ℕ) → (step h m (c.New d refs nums)).1 ≡ ideal.with_new h m d refs nums
 unfolding step
 new-heap h m d refs nums = refl
-
-all-to : {X : Type 0} (P Q : X → Type 0) → ((x : X) → P x → Q x) → (xs : List X) → AllByRecursion P xs → AllByRecursion Q xs
-all-to P Q to [] all = tt
-all-to P Q to (x ∷ xs) all = (to x all.0, all-to P Q to xs all.1)
 
 module _ (b : ℕ) (trace : List Command) where
   abbrev pub t : Sessions.Setting

@@ -9,10 +9,10 @@ use Rattle.heap_layout.specs.declared.block.Kind.{Kind}
 use Rattle.heap_layout.specs.declared.block.Kind.TheVariants as kinds
 use Rattle.heap_layout.specs.Blocks.{kind_code}
 use Rattle.object_model.specs.Objects.{HeapState, HasKind, class_at, is_start, IsHeld, IsInExtent, size_at, cell_words}
-use Rattle.object_model.specs.Lawful.{IsLawful, IsOrderly, IsRunOfBlocks, LiesInBlock}
+use Rattle.object_model.specs.Lawful.{IsOrderly, IsRunOfBlocks, LiesInBlock, AreLinesRight}
 use Rattle.object_model.proofs.ObjectReads.{place_of_address}
 use Rattle.object_model.proofs.OneKind.{one-kind}
-use Rattle.sessions.specs.Fitting.{IsTail, IsFreeCell, HasLineHole, HasHole, class_of}
+use Rattle.sessions.specs.Fitting.{IsTail, IsFreeCell, HasLineHole, HasHole, LiesInLineHole, LiesInHole, class_of}
 use Rattle.sessions.proofs.Tails.{small-block}
 
 -- what is found passes
@@ -93,28 +93,44 @@ module _ (s : HeapState) (order : IsOrderly s) (k : ℕ) (kind : Kind) (is : Has
       let e : a ≡ block_start s.blocks k + at = omega arith in
       free.free (subst (λ (x : ℕ). IsTrue (is_start s x)) e holds.start)
 
--- no word of a held object lies in a hole
-pub hole-clear : (fill : Kind) (s : HeapState) (k from size a i : ℕ) → IsLawful s → HasHole fill s k from size → IsHeld s a → IsInExtent s a i
+-- no word of a held object lies in the words that a new object takes in a hole
+pub hole-clear : (fill : Kind) (s : HeapState) (k from size a i : ℕ) → IsOrderly s → AreLinesRight s k → LiesInHole fill s k from size → IsHeld s a → IsInExtent s a i
     → block_at s.blocks i ≡ k → from ≤ offset_at s.blocks i → offset_at s.blocks i < from + size → ⊥
-hole-clear kinds.Bump s k from size a i lawful hole holds inside here past below =
-    tail-clear s lawful.order k kinds.Bump hole.0 (λ e. omega arith) (λ e. omega arith) a i holds inside here from hole.1 past
-hole-clear kinds.Young s k from size a i lawful hole holds inside here past below =
-    tail-clear s lawful.order k kinds.Young hole.0 (λ e. omega arith) (λ e. omega arith) a i holds inside here from hole.1 past
-hole-clear kinds.Cells s k from size a i lawful hole holds inside here past below =
-    cell-clear s lawful.order k kinds.Cells hole.0 (λ e. omega arith) (λ e. omega arith) a i holds inside here from hole.0 hole.1 past
-    (let room : size ≤ cell_words (class_at s k) = class-room size (class_at s k) hole.2 in omega arith)
-hole-clear kinds.Immix s k from size a i lawful hole holds inside here past below =
-    let lines : HasLineHole s k from size = hole.1 in
+hole-clear kinds.Bump s k from size a i order right lies holds inside here past below =
+    tail-clear s order k kinds.Bump lies.0 (λ e. omega arith) (λ e. omega arith) a i holds inside here lies.1.at lies.1.tail (let behind : lies.1.at ≤ from = lies.1.behind in omega arith)
+hole-clear kinds.Young s k from size a i order right lies holds inside here past below =
+    tail-clear s order k kinds.Young lies.0 (λ e. omega arith) (λ e. omega arith) a i holds inside here lies.1.at lies.1.tail (let behind : lies.1.at ≤ from = lies.1.behind in omega arith)
+hole-clear kinds.Cells s k from size a i order right lies holds inside here past below =
+    cell-clear s order k kinds.Cells lies.0 (λ e. omega arith) (λ e. omega arith) a i holds inside here from lies.0 lies.1 past
+    (let room : size ≤ cell_words (class_at s k) = class-room size (class_at s k) lies.2 in omega arith)
+hole-clear kinds.Immix s k from size a i order right lies holds inside here past below =
+    let hole : LiesInLineHole s k from size = lies.1 in
     let line : ℕ = offset_at s.blocks i / 16 in
-    let start : from ≡ 16 * lines.line = lines.start in
-    let room : (size + 15) / 16 ≤ lines.len = lines.room in
-    let end : lines.line + lines.len ≤ 256 = lines.hole.inside in
+    let behind : 16 * hole.line ≤ from = hole.behind in
+    let within : from + size ≤ 16 * (hole.line + hole.len) = hole.inside in
+    let end : hole.line + hole.len ≤ 256 = hole.hole.inside in
     let base : heap_of s.blocks ≤ a = holds.address.from in
     let before : a ≤ i = inside.from in
-    lines.hole.clear line (omega arith) (omega arith)
-    ((lawful.lines k).touched line hole.0 (omega arith) (record { object = a; word = i; held = holds; inside = inside; from = omega arith; below = omega arith }))
-hole-clear kinds.Free s k from size a i lawful hole holds inside here past below = hole
-hole-clear kinds.Mature s k from size a i lawful hole holds inside here past below = hole
-hole-clear kinds.LargeHead s k from size a i lawful hole holds inside here past below = hole
-hole-clear kinds.LargeTail s k from size a i lawful hole holds inside here past below = hole
-hole-clear kinds.Kept s k from size a i lawful hole holds inside here past below = hole
+    hole.hole.clear line (omega arith) (omega arith)
+    (right.touched line lies.0 (omega arith) (record { object = a; word = i; held = holds; inside = inside; from = omega arith; below = omega arith }))
+hole-clear kinds.Free s k from size a i order right lies holds inside here past below = lies
+hole-clear kinds.Mature s k from size a i order right lies holds inside here past below = lies
+hole-clear kinds.LargeHead s k from size a i order right lies holds inside here past below = lies
+hole-clear kinds.LargeTail s k from size a i order right lies holds inside here past below = lies
+hole-clear kinds.Kept s k from size a i order right lies holds inside here past below = lies
+
+-- an object at the front of a hole lies in it
+pub hole-front : (fill : Kind) (s : HeapState) (k at size : ℕ) → HasHole fill s k at size → LiesInHole fill s k at size
+hole-front kinds.Bump s k at size hole = (hole.0, record { at = at; tail = hole.1; behind = omega arith; inside = hole.2 })
+hole-front kinds.Young s k at size hole = (hole.0, record { at = at; tail = hole.1; behind = omega arith; inside = hole.2 })
+hole-front kinds.Cells s k at size hole = hole
+hole-front kinds.Immix s k at size hole =
+    let lines : HasLineHole s k at size = hole.1 in
+    let start : at ≡ 16 * lines.line = lines.start in
+    let room : (size + 15) / 16 ≤ lines.len = lines.room in
+    (hole.0, record { line = lines.line; len = lines.len; hole = lines.hole; behind = omega arith; inside = omega arith })
+hole-front kinds.Free s k at size hole = hole
+hole-front kinds.Mature s k at size hole = hole
+hole-front kinds.LargeHead s k at size hole = hole
+hole-front kinds.LargeTail s k at size hole = hole
+hole-front kinds.Kept s k at size hole = hole

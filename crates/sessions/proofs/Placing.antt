@@ -175,7 +175,6 @@ room-in-tail s order k at bump tail n refs nums fits small few_refs few_nums nam
         kind = has_small-bump s _ bump';
         cell = λ is. absurd (let same = one-kind s _ kinds.Bump kinds.Cells bump' is in cc);
       };
-      lines = λ is. let same = one-kind s _ kinds.Bump kinds.Immix bump' is in cc;
       apart = place-apart s order k at (size_of refs nums) bump tail fits (omega arith);
       fresh = fresh;
     }

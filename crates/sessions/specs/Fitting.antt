@@ -129,12 +129,13 @@ LiesInHole kinds.LargeHead s k from size = ⊥
 LiesInHole kinds.LargeTail s k from size = ⊥
 LiesInHole kinds.Kept s k from size = ⊥
 
--- where mutators fill cells, the block has cells of the size's class, and the words from this offset on are one of them
+-- the block has cells of the size's class, and one of them begins at this offset
 pub record IsCellFor (s : HeapState) (k from size : ℕ) : Type 0 where
   pub class : class_of size ≡ Some (class_at s k)
   pub index : ℕ
   pub start : from ≡ index * cell_words (class_at s k)
 
+-- asked where mutators fill cells
 abbrev pub HasCellFor : Kind → HeapState → ℕ → ℕ → ℕ → Type 0
 HasCellFor fill s k from size = fill ≡ kinds.Cells → IsCellFor s k from size
 

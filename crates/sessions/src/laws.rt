@@ -8,9 +8,9 @@ ghost use Rattle.heap_layout.specs.declared.block.Kind.{Kind};
 ghost use Rattle.object_model.specs.declared.collect.Collect.{Collect};
 ghost use Rattle.object_model.specs.declared.collect.Collect.TheVariants.{Full};
 ghost use Rattle.object_model.specs.Objects.{HeapState, IsHeld, IsInExtent, empty_heap, size_of};
-ghost use Rattle.object_model.specs.Lawful.{IsLawful};
+ghost use Rattle.object_model.specs.Lawful.{IsOrderly, AreLinesRight};
 ghost use Rattle.sessions.specs.Plans.{Plan, Rules, NoGc, rules_of};
-ghost use Rattle.sessions.specs.Fitting.{Fits, HasHole};
+ghost use Rattle.sessions.specs.Fitting.{Fits, HasHole, LiesInHole};
 ghost use Rattle.sessions.specs.Collecting.{IsCollection};
 ghost use Rattle.sessions.specs.Sessions.{Setting, Moment, InSession, IsEpoch, IsWhole, Places, Serves, first_moment};
 
@@ -38,10 +38,11 @@ pub fn empty_heap_has_room()
     ensures served { (t : Setting) (p : Plan) (b m d refs nums : ℕ) (old new : Moment) → 4 ≤ b → t.rules ≡ rules_of p → old.heap ≡ empty_heap b → size_of refs nums ≤ 2048 → Serves t m d refs nums old new → Places t m d refs nums old new }
 {}
 
-/// A hole holds no object, whatever kind of block mutators fill: no word of a held object lies where a new one
-/// may be placed. Of a tail, a free cell and a run of clear lines alike.
+/// No word of a held object is among those that a new one takes in a hole, be it a tail, a free cell or
+/// a run of clear lines. An object at the front of a hole lies in it.
 pub fn holes_are_clear()
-    ensures { (fill : Kind) (s : HeapState) (k from size a i : ℕ) → IsLawful s → HasHole fill s k from size → IsHeld s a → IsInExtent s a i → block_at s.blocks i ≡ k → from ≤ offset_at s.blocks i → offset_at s.blocks i < from + size → ⊥ }
+    ensures clear { (fill : Kind) (s : HeapState) (k from size a i : ℕ) → IsOrderly s → AreLinesRight s k → LiesInHole fill s k from size → IsHeld s a → IsInExtent s a i → block_at s.blocks i ≡ k → from ≤ offset_at s.blocks i → offset_at s.blocks i < from + size → ⊥ }
+    ensures front { (fill : Kind) (s : HeapState) (k at size : ℕ) → HasHole fill s k at size → LiesInHole fill s k at size }
 {}
 
 /// Under each plan a collection raises the heap's number by one, and the layout stays. Under `nogc` it is

@@ -1,21 +1,25 @@
--- A step of a mutator that is alone.
+-- What a clause says of a step, from the step.
 use Rattle.std.proofs.Common.{refl, arith, subst, List, [], ◌∷◌}
 use Rattle.ideal_heap.specs.declared.command.Command.{Command}
 use Rattle.ideal_heap.specs.declared.reply.Reply.{Reply}
 use Rattle.ideal_heap.specs.Ideal.{step}
 use Rattle.object_model.specs.Objects.{HeapState, IsHeld}
-use Rattle.object_model.specs.Graphs.{MutatorState}
+use Rattle.object_model.specs.Graphs.{MutatorState, Arrives, roots_of, with_mutator}
 use Rattle.object_model.specs.Mirrors.{Models}
 use Rattle.object_model.specs.Steps.{IsStep, TakesStep}
 use Rattle.object_model.proofs.Among.{with-alone}
 use Rattle.object_model.proofs.Frames.{held-kept}
 use Rattle.object_model.proofs.Sets.{models-by}
+use Rattle.object_model.proofs.Standing as standing
 
-pub alone : {s : HeapState} {m : MutatorState} {command : Command} {reply : Reply} {s' : HeapState} {m' : MutatorState} → IsStep s m command reply s' m' → TakesStep s m command reply s' m'
-alone {s} {m} {command} {reply} {s'} {m'} is = record {
+pub told : {s : HeapState} {m : MutatorState} {command : Command} {reply : Reply} {s' : HeapState} {m' : MutatorState} → IsStep s m command reply s' m' → TakesStep s m command reply s' m'
+told {s} {m} {command} {reply} {s'} {m'} is = record {
   keeps = is.keeps;
   number = is.number;
   births = is.births;
+  tells = λ ms h order stands among. is.answers ms h (Arrives s (roots_of ms)) (standing.models s ms h order stands) among;
+  stands = λ ms h order stands among. let after = is.models ms h (Arrives s (roots_of ms)) (standing.models s ms h order stands) among in
+      (after.order, standing.stands s' (with_mutator ms m') (step h m.number command).1 (Arrives s (roots_of ms)) after);
   answers = λ h model. is.answers (m ∷ []) h (IsHeld s) model (0, omega arith, refl);
   models = λ h model. let held = held-kept s s' is.keeps in
       models-by s' (m' ∷ []) (step h m.number command).1 (IsHeld s) (IsHeld s') (λ a. (held a).0) (λ a. (held a).1)
