@@ -8,6 +8,8 @@ mod fields;
 mod file_sources;
 mod files;
 mod gate;
+#[cfg(test)]
+mod line_tests;
 mod memory_sinks;
 mod memory_sources;
 mod outside;
@@ -17,6 +19,8 @@ mod status;
 mod stream_sinks;
 mod tails;
 mod telling;
+#[cfg(test)]
+mod test_runs;
 #[cfg(test)]
 mod tests;
 mod text;

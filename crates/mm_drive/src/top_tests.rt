@@ -1,84 +1,18 @@
 // Whole runs: what is printed, what is told, and how they end.
+ghost use Rattle.std.specs.Prelude.{None};
+
 use crate::gate::OpenGate;
 use crate::memory_sinks::{MemSink, SureSink};
 use crate::memory_sources::{MemSources, SureSources};
+use crate::outside::{Failed, Sink};
 use crate::status::Status;
+use crate::test_runs::{FIRST, FIRST_TEXT, file_of, run_words, trace_in, words_in};
 use crate::top::run;
 use ideal_heap::Ideal;
-use std::alloc::{AllocError, Global};
+use std::alloc::AllocError;
 use std::fmt::Write;
 use std::test::Fail;
-use std::thread::Threads;
 use trace_text::{print_mutator, print_reply, read_trace};
-
-const FIRST: &str = "new r0 1 1;write r0 0 7;read r0 0;get r1 r0 0";
-
-const FIRST_TEXT: &[u8] = b"mutator 1\nnew 1.1\nok\nnum 7\nnil\n";
-
-// A word before each space, and one behind the last.
-fn words_in(alloc: Global, line: &str) -> Result<Vec<String>, AllocError> {
-    let mut words = Vec::new(alloc);
-    for word in line.split(' ') {
-        words.push(String::from_str(alloc, word)?)?;
-    }
-    Ok(words)
-}
-
-// A trace whose commands stand between semicolons.
-fn trace_in(alloc: Global, commands: &str) -> Result<Vec<u8>, AllocError> {
-    let mut text = Vec::from_slice(alloc, b"mmtrace 1\n")?;
-    for command in commands.split(';') {
-        text.extend_from_slice(command.as_bytes())?;
-        text.push(b'\n')?;
-    }
-    Ok(text)
-}
-
-// The one file that there is.
-fn file_of(
-    alloc: Global,
-    name: &str,
-    content: Vec<u8>,
-) -> Result<Vec<(String, Vec<u8>)>, AllocError> {
-    let mut files = Vec::new(alloc);
-    files.push((String::from_str(alloc, name)?, content))?;
-    Ok(files)
-}
-
-// What a run printed, what it told, and how it ended.
-#[derive(Drop)]
-struct Ran {
-    status: Status,
-    out: Vec<u8>,
-    err: Vec<u8>,
-}
-
-// Runs the words, where file `a` has this content.
-fn run_words<R: Threads + Sync>(
-    rt: &R,
-    alloc: Global,
-    line: &str,
-    content: Vec<u8>,
-) -> Result<Ran, AllocError> {
-    let words = words_in(alloc, line)?;
-    let mut sources = MemSources::new(alloc, file_of(alloc, "a", content)?, Vec::new(alloc));
-    let mut out = MemSink::new(alloc, 8_000_000, 65_536, Vec::new(alloc))?;
-    let mut err = MemSink::new(alloc, 1000, 1000, Vec::new(alloc))?;
-    let status = run(
-        rt,
-        alloc,
-        &words,
-        &mut sources,
-        &mut out,
-        &mut err,
-        &OpenGate,
-    );
-    Ok(Ran {
-        status,
-        out: out.bytes().to_vec(alloc)?,
-        err: err.bytes().to_vec(alloc)?,
-    })
-}
 
 #[test]
 fn replies(rt: HostRuntime) -> Result<(), Fail> {
@@ -148,14 +82,8 @@ fn replies(rt: HostRuntime) -> Result<(), Fail> {
 #[test]
 fn refusals(rt: HostRuntime) -> Result<(), Fail> {
     let alloc = rt.alloc();
-    let usage =
-        "mm_drive: usage: mm_drive --plan P --heap B [--workers W] [--map] FILE... | mm_drive --plan P --heap B [--workers W] --make N\n";
     let good = "--plan nogc --heap 4 a";
     let table = [
-        ("--plan lisp2 --heap 4 a", "", 2, usage),
-        ("--heap 4 a", "", 2, usage),
-        ("--plan nogc --heap 3 a", "", 2, usage),
-        ("--help", "", 2, usage),
         ("--plan nogc --heap 4 b", "", 3, "mm_drive: cannot read b\n"),
         (good, "", 5, "mm_drive: a: line 1: header\n"),
         (good, "mmtrace 1\n\n", 5, "mm_drive: a: line 2: word\n"),
@@ -214,6 +142,54 @@ fn limits(rt: HostRuntime) -> Result<(), Fail> {
     let ran = run_words(&rt, alloc, line, full)?;
     assert_eq!(rt; ran.status, Status::Ok);
     assert_eq!(rt; ran.out.len(), 3_000_010);
+    Ok(())
+}
+
+// Takes each piece whole, and keeps the length of the longest and of all together.
+#[derive(Drop)]
+struct Gauge {
+    longest: usize,
+    total: usize,
+}
+
+impl Sink for Gauge {
+    ghost written = { λ _. None };
+
+    ghost faults = { λ _. 0 };
+
+    fn write(&mut self, bytes: &[u8]) -> Result<usize, Failed> {
+        self.longest = self.longest.max(bytes.len());
+        self.total = self.total.saturating_add(bytes.len());
+        Ok(bytes.len())
+    }
+}
+
+// A line of ten bytes, and three for each command.
+#[test]
+fn longest_piece(rt: HostRuntime) -> Result<(), Fail> {
+    let alloc = rt.alloc();
+    let words = words_in(alloc, "--plan nogc --heap 4 a")?;
+    let mut text = Vec::from_slice(alloc, b"mmtrace 1\n")?;
+    for _ in 0..100_000 {
+        text.extend_from_slice(b"gc\n")?;
+    }
+    let mut sources = SureSources::new(file_of(alloc, "a", text)?);
+    let mut out = Gauge {
+        longest: 0,
+        total: 0,
+    };
+    let status = run(
+        &rt,
+        alloc,
+        &words,
+        &mut sources,
+        &mut out,
+        &mut SureSink,
+        &OpenGate,
+    );
+    assert_eq!(rt; status, Status::Ok);
+    assert_eq!(rt; out.total, 300_010);
+    assert_eq!(rt; out.longest, 65_536);
     Ok(())
 }
 
