@@ -9,12 +9,12 @@ use Rattle.trace_text.specs.declared.fault.TraceFault.TheVariants.{OutOfMemory}
 use Rattle.trace_text.specs.Grammar.{trace}
 use Rattle.sessions.specs.Sessions.{Setting}
 use Rattle.sessions.specs.Alone.{alone_under_nogc}
-use Rattle.command_line.specs.Words.{Job, is_served}
+use Rattle.command_line.specs.Words.{Job, Work, Files, Made, is_served}
 use Rattle.command_line.specs.Orders.{job_of_order}
 use Rattle.command_line.specs.declared.order.Order.{Order}
 use Rattle.mm_drive.specs.Outside.{Asking, HasRisen, Adds, AddsFront}
 use Rattle.mm_drive.specs.Reading.{most_bytes}
-use Rattle.mm_drive.specs.Printed.{Content, files_of, IsPrinted, IsTraceIn, AreTraces, AreTold, Prints, PrintsFront, EndsAt, IsAny, IsLong, IsNoTrace, HasFault, Unread, IsTooLong, IsBad, unread_line, long_line, fault_line}
+use Rattle.mm_drive.specs.Printed.{Content, files_in, files_of, AreReplies, IsTraceIn, AreTraces, AreTracesOf, AreTold, Prints, PrintsFront, EndsAt, IsAny, IsLong, IsNoTrace, HasFault, Unread, IsTooLong, IsBad, unread_line, long_line, fault_line}
 use Rattle.mm_drive.proofs.Jobs.{served-setting}
 
 -- what holds of the job holds where the words have it
@@ -120,23 +120,36 @@ module _ (content : Content) (files : List (List ℕ)) (name : List ℕ) (one : 
       let known = good-bytes told traces good in
       absurd (let much : most_bytes < length known.0 = known-here IsLong known.0 known.1 long in omega (arith, known.2))
 
+-- one file is not none
+no-file : {P : Type 0} (name : List ℕ) → [] ≡ name ∷ [] → P
+no-file name e = absurd (let none : 0 ≡ 1 = ap length e in omega (arith, none))
+
+-- where the work has one file, its trace is that of the file, and the other way round
+file-traces : (content : Content) (work : Work) (name : List ℕ) (t : List Command) → files_in work ≡ name ∷ [] → IsTraceIn (content name) t → AreTracesOf content work (t ∷ [])
+file-traces content (Files files) name t one good = subst (λ (fs : List (List ℕ)). AreTraces content fs (t ∷ [])) (sym one) (good, tt)
+file-traces content (Made n) name t one good = no-file name one
+
+pub traces-in-files : (content : Content) (work : Work) (name : List ℕ) (traces : List (List Command)) → files_in work ≡ name ∷ [] → AreTracesOf content work traces → AreTraces content (files_in work) traces
+traces-in-files content (Files files) name traces one are = are
+traces-in-files content (Made n) name traces one are = no-file name one
+
 -- what was written is the text of a session of the job
 pub prints : (content : Content) (job : Job) (name : List ℕ) (b : ℕ) (t : List Command) (text : List ℕ) (before after : Option (List ℕ)) → files_of job ≡ name ∷ [] → is_served job ≡ true → b ≡ job.blocks
-    → IsTraceIn (content name) t → IsPrinted (alone_under_nogc b t) text → Adds before after text → Prints content job before after
+    → IsTraceIn (content name) t → AreReplies (alone_under_nogc b t) text → Adds before after text → Prints content job before after
 prints content job name b t text before after one served same good printed written = record {
   traces = t ∷ [];
-  read = subst (λ (fs : List (List ℕ)). AreTraces content fs (t ∷ [])) (sym one) (good, tt);
+  read = file-traces content job.work name t one good;
   text = text;
-  printed = subst (λ (s : Setting). IsPrinted s text) (sym (served-setting job b t served same)) printed;
+  printed = subst (λ (s : Setting). AreReplies s text) (sym (served-setting job b t served same)) printed;
   written = written;
 }
 
 pub prints-front : (content : Content) (job : Job) (name : List ℕ) (b : ℕ) (t : List Command) (text : List ℕ) (before after : Option (List ℕ)) → files_of job ≡ name ∷ [] → is_served job ≡ true → b ≡ job.blocks
-    → IsTraceIn (content name) t → IsPrinted (alone_under_nogc b t) text → AddsFront before after text → PrintsFront content job before after
+    → IsTraceIn (content name) t → AreReplies (alone_under_nogc b t) text → AddsFront before after text → PrintsFront content job before after
 prints-front content job name b t text before after one served same good printed written = record {
   traces = t ∷ [];
-  read = subst (λ (fs : List (List ℕ)). AreTraces content fs (t ∷ [])) (sym one) (good, tt);
+  read = file-traces content job.work name t one good;
   text = text;
-  printed = subst (λ (s : Setting). IsPrinted s text) (sym (served-setting job b t served same)) printed;
+  printed = subst (λ (s : Setting). AreReplies s text) (sym (served-setting job b t served same)) printed;
   written = written;
 }

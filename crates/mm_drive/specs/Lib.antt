@@ -9,5 +9,6 @@ pub mod Real
 pub mod Lone
 pub mod Running
 pub mod Texts
+pub mod Made
 pub mod Printed
 pub mod Statuses

@@ -13,7 +13,8 @@ use Rattle.sessions.specs.Sessions.{Setting, Moment, IsWhole}
 use Rattle.command_line.specs.Words.{Job, Work, Files, Made}
 use Rattle.mm_drive.specs.Outside.{Asking, HasRisen, Adds, AddsFront}
 use Rattle.mm_drive.specs.Reading.{most_bytes}
-use Rattle.mm_drive.specs.Texts.{replies_part}
+use Rattle.mm_drive.specs.Texts.{replies_part, IsSessionText, IsSummary}
+use Rattle.mm_drive.specs.Made.{made_trace}
 
 -- the files of a job; a made trace has none
 abbrev pub files_in : Work → List (List ℕ)
@@ -27,11 +28,26 @@ files_of job = files_in job.work
 abbrev pub setting_of : Job → List (List Command) → Setting
 setting_of job traces = record { rules = rules_of job.plan; blocks = job.blocks; workers = job.workers; places = false; traces = traces }
 
--- the text is that of a whole session; for now the replies are all of it
-pub record IsPrinted (t : Setting) (text : List ℕ) : Type 0 where
+-- the text is the replies of a whole session
+pub record AreReplies (t : Setting) (text : List ℕ) : Type 0 where
   pub last : Moment
   pub whole : IsWhole t last
   pub printed : text ≡ replies_part (length t.traces) last
+
+-- the text that belongs to a session of n mutators: of files its replies, report and map, of a made trace its summary
+abbrev pub IsTextOf : Job → Work → ℕ → Moment → List ℕ → Type 0
+IsTextOf job (Files files) n last text = IsSessionText job.plan n job.map last text
+IsTextOf job (Made count) n last text = IsSummary count last text
+
+-- The text of a whole session of the job and these traces: replies, report and map, or the summary of a made trace.
+pub record IsWholeText (job : Job) (traces : List (List Command)) (text : List ℕ) : Type 0 where
+  pub last : Moment
+  pub whole : IsWhole (setting_of job traces) last
+  pub text_is : IsTextOf job job.work (length traces) last text
+
+-- What is printed of it; for now the replies are all.
+abbrev pub IsPrinted : Job → List (List Command) → List ℕ → Type 0
+IsPrinted job traces text = AreReplies (setting_of job traces) text
 
 -- what a name holds, where told
 abbrev pub Content : Type 0
@@ -48,24 +64,29 @@ AreTraces content (file ∷ files) (t ∷ traces) = IsTraceIn (content file) t �
 AreTraces content [] (t ∷ traces) = ⊥
 AreTraces content (file ∷ files) [] = ⊥
 
+-- the traces of a job: those that its files hold, or the made one
+abbrev pub AreTracesOf : Content → Work → List (List Command) → Type 0
+AreTracesOf content (Files files) traces = AreTraces content files traces
+AreTracesOf content (Made n) traces = traces ≡ made_trace n ∷ []
+
 -- the contents of all files are told
 abbrev pub AreTold : Content → List (List ℕ) → Type 0
 AreTold content files = AllByRecursion (λ file. (bytes : List ℕ) × (content file ≡ Some bytes)) files
 
--- the text of a whole session of the job and of the files' traces was written
+-- the text of a whole session of the job and of its traces was written
 pub record Prints (content : Content) (job : Job) (before after : Option (List ℕ)) : Type 0 where
   pub traces : List (List Command)
-  pub read : AreTraces content (files_of job) traces
+  pub read : AreTracesOf content job.work traces
   pub text : List ℕ
-  pub printed : IsPrinted (setting_of job traces) text
+  pub printed : IsPrinted job traces text
   pub written : Adds before after text
 
 -- a front of one was written, and not the whole
 pub record PrintsFront (content : Content) (job : Job) (before after : Option (List ℕ)) : Type 0 where
   pub traces : List (List Command)
-  pub read : AreTraces content (files_of job) traces
+  pub read : AreTracesOf content job.work traces
   pub text : List ℕ
-  pub printed : IsPrinted (setting_of job traces) text
+  pub printed : IsPrinted job traces text
   pub written : AddsFront before after text
 
 -- The file at which reading ends: those before it are traces, and P holds of its content, where told.

@@ -8,6 +8,7 @@ mod fields;
 mod file_sources;
 mod files;
 mod gate;
+mod laws;
 #[cfg(test)]
 mod line_tests;
 mod memory_sinks;
@@ -32,6 +33,7 @@ mod writing;
 use crate::telling::{tell_memory, tell_usage};
 pub use file_sources::FileSources;
 pub use gate::{Gate, OpenGate, Point};
+pub use laws::made_traces;
 pub use memory_sinks::{MemSink, SureSink};
 pub use memory_sources::{MemSources, SureSources};
 pub use outside::{Failed, OpenFault, Sink, Sources};

@@ -8,7 +8,7 @@ ghost use Rattle.trace_text.specs.Grammar.{trace};
 ghost use Rattle.trace_text.specs.Text.{mutator_text};
 ghost use Rattle.sessions.specs.Alone.{alone_under_nogc};
 ghost use Rattle.mm_drive.specs.Outside.{HasRisen};
-ghost use Rattle.mm_drive.specs.Printed.{IsPrinted, IsTraceIn, IsLong, HasFault};
+ghost use Rattle.mm_drive.specs.Printed.{AreReplies, IsTraceIn, IsLong, HasFault};
 
 use crate::driver::run_trace;
 use crate::outside::Sources;
@@ -51,7 +51,7 @@ fn text_of_replies(alloc: Global, replies: &[Reply]) -> Result<Vec<u8>, AllocErr
 
 // The text of a whole session of the trace that the bytes spell.
 fn text_of_bytes(alloc: Global, layout: Layout, bytes: &[u8]) -> Result<Vec<u8>, FileFault>
-    ensures ok { IfOk result (λ v. (t : List Command) × (trace bytes.now ≡ Ok t) × IsPrinted (alone_under_nogc layout.blocks t) v.items) }
+    ensures ok { IfOk result (λ v. (t : List Command) × (trace bytes.now ≡ Ok t) × AreReplies (alone_under_nogc layout.blocks t) v.items) }
     ensures bad { (f : Flaw) → IsErrOf result (FileFault.Bad f) → (f ≡ flaw.OutOfMemory → ⊥) × (trace bytes.now ≡ Err f) }
     ensures read { (IsErrOf result FileFault.Unread → ⊥) × (IsErrOf result FileFault.TooLong → ⊥) }
 {
@@ -71,7 +71,7 @@ pub(crate) fn text_of_file<S: Sources>(
     sources: &mut S,
     name: &str,
 ) -> Result<Vec<u8>, FileFault>
-    ensures ok { IfOk result (λ v. (t : List Command) × IsTraceIn (S.content sources.old name.now) t × IsPrinted (alone_under_nogc layout.blocks t) v.items) }
+    ensures ok { IfOk result (λ v. (t : List Command) × IsTraceIn (S.content sources.old name.now) t × AreReplies (alone_under_nogc layout.blocks t) v.items) }
     ensures unread { IsErrOf result FileFault.Unread → HasRisen (S.faults sources.old) (S.faults sources.new) × (S.asked sources.new ≡ Some (name.now, S.faults sources.old)) }
     ensures too_long { IsErrOf result FileFault.TooLong → IfSome (S.content sources.old name.now) IsLong }
     ensures bad { (f : Flaw) → IsErrOf result (FileFault.Bad f) → (f ≡ flaw.OutOfMemory → ⊥) × IfSome (S.content sources.old name.now) (HasFault f) }

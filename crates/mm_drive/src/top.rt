@@ -5,7 +5,7 @@ ghost use Rattle.ideal_heap.specs.declared.command.Command.{Command};
 ghost use Rattle.command_line.specs.Orders.{texts, job_of_order};
 ghost use Rattle.command_line.specs.Words.{job_of, is_served};
 ghost use Rattle.mm_drive.specs.Outside.{HasRisen};
-ghost use Rattle.mm_drive.specs.Printed.{files_of, Prints, PrintsFront, AreTraces, AreTold, EndsAt, IsLong, IsNoTrace, Tells, Unread, IsTooLong, IsBad, usage_line, write_line, memory_line};
+ghost use Rattle.mm_drive.specs.Printed.{files_of, Prints, PrintsFront, AreTracesOf, AreTold, EndsAt, IsLong, IsNoTrace, Tells, Unread, IsTooLong, IsBad, usage_line, write_line, memory_line};
 
 use crate::gate::Gate;
 use crate::outside::{Sink, Sources};
@@ -78,7 +78,7 @@ pub fn run<R: Threads + Sync, S: Sources, O: Sink, E: Sink, G: Gate>(
         → (result ≡ Status.BadTrace) ⊎ (result ≡ Status.ReadFault) ⊎ (result ≡ Status.OutOfMemory)) }
 
     // A good run does not fail.
-    ensures complete { IfSome (job_of (texts words.now)) (λ job. AreTold (S.content sources.old) (files_of job) → (traces : List (List Command)) → AreTraces (S.content sources.old) (files_of job) traces
+    ensures complete { IfSome (job_of (texts words.now)) (λ job. AreTold (S.content sources.old) (files_of job) → (traces : List (List Command)) → AreTracesOf (S.content sources.old) job.work traces
         → (HasRisen (S.faults sources.old) (S.faults sources.new) → ⊥) → (HasRisen (O.faults out.old) (O.faults out.new) → ⊥) → (result ≡ Status.Ok) ⊎ (result ≡ Status.OutOfMemory)) }
 {
     let (name, layout) = match read_words(alloc, words) {

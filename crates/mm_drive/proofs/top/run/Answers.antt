@@ -1,7 +1,7 @@
 use Rattle.std.proofs.Common.{ap, Err, rules}
 use Rattle.command_line.specs.Orders.{texts, job_of_order}
 use Rattle.mm_drive.proofs.Jobs.{job-served, job-blocks}
-use Rattle.mm_drive.proofs.Outcomes.{of-job, named-job, unread-here, long-here, bad-here, trace-not-long, trace-not-bad, fault-not-long, long-not-bad, good-not-fault, good-not-long, prints, prints-front}
+use Rattle.mm_drive.proofs.Outcomes.{of-job, named-job, unread-here, long-here, bad-here, traces-in-files, trace-not-long, trace-not-bad, fault-not-long, long-not-bad, good-not-fault, good-not-long, prints, prints-front}
 use Rattle.mm_drive.proofs.top.run.Goals as goal
 
 pub named-requires-clause-served : goal.named-requires-clause-served
@@ -30,7 +30,7 @@ returns-in-Err-TooLong-clause-no_trace g c =
 
 pub returns-in-Err-TooLong-clause-complete : goal.returns-in-Err-TooLong-clause-complete
 returns-in-Err-TooLong-clause-complete g c =
-    of-job _ (job_of_order c.in-Ok-Some.order) _ (named-job _ c.in-Ok-Some.order _ c.in-Ok-Some.field-0-is c.in-Ok-Some.ensures) (λ told traces good s o. good-not-long _ _ _ c.named.ensures.file _ (c.in-Err-TooLong.ensures.too_long (ap Err c.in-Err-TooLong.field-0-is)) told traces good)
+    of-job _ (job_of_order c.in-Ok-Some.order) _ (named-job _ c.in-Ok-Some.order _ c.in-Ok-Some.field-0-is c.in-Ok-Some.ensures) (λ told traces good s o. good-not-long _ _ _ c.named.ensures.file _ (c.in-Err-TooLong.ensures.too_long (ap Err c.in-Err-TooLong.field-0-is)) told traces (traces-in-files _ (job_of_order c.in-Ok-Some.order).work _ traces c.named.ensures.file good))
 
 pub returns-in-Err-Bad-clause-bad_trace : goal.returns-in-Err-Bad-clause-bad_trace
 returns-in-Err-Bad-clause-bad_trace g c is =
@@ -45,7 +45,7 @@ returns-in-Err-Bad-clause-long g c =
 pub returns-in-Err-Bad-clause-complete : goal.returns-in-Err-Bad-clause-complete
 returns-in-Err-Bad-clause-complete g c =
     let bad = c.in-Err-Bad.ensures.bad c.in-Err-Bad.fault (ap Err c.in-Err-Bad.field-0-is) in
-    of-job _ (job_of_order c.in-Ok-Some.order) _ (named-job _ c.in-Ok-Some.order _ c.in-Ok-Some.field-0-is c.in-Ok-Some.ensures) (λ told traces good s o. good-not-fault _ _ _ c.named.ensures.file c.in-Err-Bad.fault _ bad.1 told traces good)
+    of-job _ (job_of_order c.in-Ok-Some.order) _ (named-job _ c.in-Ok-Some.order _ c.in-Ok-Some.field-0-is c.in-Ok-Some.ensures) (λ told traces good s o. good-not-fault _ _ _ c.named.ensures.file c.in-Err-Bad.fault _ bad.1 told traces (traces-in-files _ (job_of_order c.in-Ok-Some.order).work _ traces c.named.ensures.file good))
 
 pub returns-then-is_err-clause-write_fault : goal.returns-then-is_err-clause-write_fault
 returns-then-is_err-clause-write_fault g c is =

@@ -1,0 +1,18 @@
+use Rattle.std.proofs.Common.{refl}
+use Rattle.mm_drive.specs.Made.{made_trace}
+use Rattle.mm_drive.proofs.laws.made_traces.Goals as goal
+
+pub returns-clause-front : goal.returns-clause-front
+unfolding made_trace
+returns-clause-front c = refl
+
+pub returns-clause-rest : goal.returns-clause-rest
+unfolding made_trace
+returns-clause-rest c = refl
+
+pub returns-clause-rows : goal.returns-clause-rows
+unfolding made_trace
+returns-clause-rows c = refl
+
+pub returns-clause-later : goal.returns-clause-later
+returns-clause-later c = λ x. (refl, refl, refl)
