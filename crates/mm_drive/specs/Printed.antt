@@ -137,11 +137,11 @@ why_word why.Range = codes "range"
 abbrev pub line_fault : List ℕ → List ℕ → List ℕ → List ℕ
 line_fault file line word = file_line file (codes ": line " ++ (line ++ (codes ": " ++ (word ++ codes "\n"))))
 
--- the end of the line for a text that is no trace
+-- the end of the line for a text that is no trace; want of memory is never told by it
 abbrev pub fault_end : TraceFault → List ℕ
 fault_end (Line n w) = codes "line " ++ (decimal n ++ (codes ": " ++ (why_word w ++ codes "\n")))
 fault_end TooMany = codes "more than 1000000 commands\n"
-fault_end OutOfMemory = codes "out of memory\n"
+fault_end OutOfMemory = []
 
 abbrev pub fault_line : List ℕ → TraceFault → List ℕ
 fault_line file fault = file_line file (codes ": " ++ fault_end fault)

@@ -83,6 +83,7 @@ fn tell_bad_line<'a, E: Sink>(err: &mut E, name: &'a str, line: &'a str, why: &'
 }
 
 pub(crate) fn tell_fault<E: Sink>(err: &mut E, name: &str, fault: TraceFault)
+    requires real { fault ≡ TraceFault.OutOfMemory → ⊥ }
     ensures { Tells (E.written err.old) (E.written err.new) (E.faults err.old) (E.faults err.new) (fault_line name.now fault) }
 {
     match fault {
@@ -90,7 +91,7 @@ pub(crate) fn tell_fault<E: Sink>(err: &mut E, name: &str, fault: TraceFault)
             tell_bad_line(err, name, Buffer::new().format(line), word_of(why));
         }
         TraceFault::TooMany => tell_file(err, name, b": more than 1000000 commands\n"),
-        TraceFault::OutOfMemory => tell_file(err, name, b": out of memory\n"),
+        TraceFault::OutOfMemory => unreachable!(),
     }
 }
 

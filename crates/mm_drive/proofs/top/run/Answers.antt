@@ -32,6 +32,9 @@ pub returns-in-Err-TooLong-clause-complete : goal.returns-in-Err-TooLong-clause-
 returns-in-Err-TooLong-clause-complete g c =
     of-job _ (job_of_order c.in-Ok-Some.order) _ (named-job _ c.in-Ok-Some.order _ c.in-Ok-Some.field-0-is c.in-Ok-Some.ensures) (λ told traces good s o. good-not-long _ _ _ c.named.ensures.file _ (c.in-Err-TooLong.ensures.too_long (ap Err c.in-Err-TooLong.field-0-is)) told traces (traces-in-files _ (job_of_order c.in-Ok-Some.order).work _ traces c.named.ensures.file good))
 
+pub tell_fault-requires : goal.tell_fault-requires
+tell_fault-requires g c = record { real = (c.in-Err-Bad.ensures.bad c.in-Err-Bad.fault (ap Err c.in-Err-Bad.field-0-is)).0 }
+
 pub returns-in-Err-Bad-clause-bad_trace : goal.returns-in-Err-Bad-clause-bad_trace
 returns-in-Err-Bad-clause-bad_trace g c is =
     let bad = c.in-Err-Bad.ensures.bad c.in-Err-Bad.fault (ap Err c.in-Err-Bad.field-0-is) in
