@@ -1,4 +1,3 @@
-mod Pieces
 mod Running
 pub mod Jobs
 pub mod Outcomes

@@ -12,8 +12,8 @@ use Rattle.sessions.specs.Alone.{alone_under_nogc}
 use Rattle.command_line.specs.Words.{Job, Work, Files, Made, is_served}
 use Rattle.command_line.specs.Orders.{job_of_order}
 use Rattle.command_line.specs.declared.order.Order.{Order}
-use Rattle.mm_drive.specs.Outside.{Asking, HasRisen, Adds, AddsFront}
-use Rattle.mm_drive.specs.Reading.{most_bytes}
+use Rattle.outside.specs.Outside.{Asking, HasRisen, Adds, AddsFront}
+use Rattle.outside.specs.Reading.{most_bytes}
 use Rattle.mm_drive.specs.Printed.{Content, files_in, files_of, AreReplies, IsTraceIn, AreTraces, AreTracesOf, AreTold, Prints, PrintsFront, EndsAt, IsAny, IsLong, IsNoTrace, HasFault, Unread, IsTooLong, IsBad, unread_line, long_line, fault_line}
 use Rattle.mm_drive.proofs.Jobs.{served-setting}
 

@@ -1,11 +1,3 @@
-pub mod Outside
-pub mod Reading
-pub mod Files
-pub mod Calls
-pub mod Memory
-pub mod Sure
-pub mod Written
-pub mod Real
 pub mod Lone
 pub mod Running
 pub mod Texts

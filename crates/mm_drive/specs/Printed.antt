@@ -11,8 +11,8 @@ use Rattle.trace_text.specs.Grammar.{trace}
 use Rattle.sessions.specs.Plans.{rules_of}
 use Rattle.sessions.specs.Sessions.{Setting, Moment, IsWhole}
 use Rattle.command_line.specs.Words.{Job, Work, Files, Made}
-use Rattle.mm_drive.specs.Outside.{Asking, HasRisen, Adds, AddsFront}
-use Rattle.mm_drive.specs.Reading.{most_bytes}
+use Rattle.outside.specs.Outside.{Asking, HasRisen, Adds, AddsFront}
+use Rattle.outside.specs.Reading.{most_bytes}
 use Rattle.mm_drive.specs.Texts.{replies_part, IsSessionText, IsSummary}
 use Rattle.mm_drive.specs.Made.{made_trace}
 

@@ -5,43 +5,29 @@ mod births;
 mod driver;
 mod engine;
 mod fields;
-mod file_sources;
-mod files;
 mod gate;
 mod laws;
 #[cfg(test)]
 mod line_tests;
-mod memory_sinks;
-mod memory_sources;
-mod outside;
-mod reading;
 mod roots;
 mod status;
-mod stream_sinks;
 mod tails;
 mod telling;
 #[cfg(test)]
 mod test_runs;
-#[cfg(test)]
-mod tests;
 mod text;
 mod top;
 #[cfg(test)]
 mod top_tests;
-mod writing;
 
 use crate::telling::{tell_memory, tell_usage};
-pub use file_sources::FileSources;
 pub use gate::{Gate, OpenGate, Point};
 pub use laws::made_traces;
-pub use memory_sinks::{MemSink, SureSink};
-pub use memory_sources::{MemSources, SureSources};
-pub use outside::{Failed, OpenFault, Sink, Sources};
+use outside::{ErrSink, FileSources, OutSink};
 pub use status::Status;
 use std::io::ErrorKind;
 use std::process::ExitCode;
 use std::{env, io};
-pub use stream_sinks::{ErrSink, OutSink, StreamSink};
 pub use top::run;
 
 // The words behind the program's name.

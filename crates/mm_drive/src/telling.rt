@@ -5,9 +5,8 @@ ghost use Rattle.std.specs.List.{flat_map};
 ghost use Rattle.trace_text.specs.declared.fault.TraceFault.TheVariants as TraceFault;
 ghost use Rattle.mm_drive.specs.Printed.{Tells, usage_line, unread_line, long_line, file_line, line_fault, fault_line, write_line, memory_line, why_word};
 
-use crate::outside::Sink;
-use crate::writing::write_parts;
 use itoa::Buffer;
+use outside::{Sink, write_parts};
 use trace_text::{TraceFault, Why};
 
 fn tell<E: Sink>(err: &mut E, parts: &[&[u8]])

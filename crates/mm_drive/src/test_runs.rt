@@ -1,9 +1,8 @@
 // Runs of the whole program in memory, for tests.
 use crate::gate::OpenGate;
-use crate::memory_sinks::MemSink;
-use crate::memory_sources::MemSources;
 use crate::status::Status;
 use crate::top::run;
+use outside::{MemSink, MemSources};
 use std::alloc::{AllocError, Global};
 use std::thread::Threads;
 

@@ -7,14 +7,13 @@ ghost use Rattle.trace_text.specs.declared.fault.TraceFault.TheVariants as flaw;
 ghost use Rattle.trace_text.specs.Grammar.{trace};
 ghost use Rattle.trace_text.specs.Text.{mutator_text};
 ghost use Rattle.sessions.specs.Alone.{alone_under_nogc};
-ghost use Rattle.mm_drive.specs.Outside.{HasRisen};
+ghost use Rattle.outside.specs.Outside.{HasRisen};
 ghost use Rattle.mm_drive.specs.Printed.{AreReplies, IsTraceIn, IsLong, HasFault};
 
 use crate::driver::run_trace;
-use crate::outside::Sources;
-use crate::reading::{ReadFault, content_of};
 use heap_layout::Layout;
 use ideal_heap::Reply;
+use outside::{ReadFault, Sources, content_of};
 use std::alloc::{AllocError, Global};
 use trace_text::{TraceFault, print_mutator, print_reply, read_trace};
 

@@ -4,17 +4,16 @@ ghost use Rattle.std.specs.Prelude.{◌≡◌, ◌≢◌, ◌⊎◌, ◌≤◌, 
 ghost use Rattle.ideal_heap.specs.declared.command.Command.{Command};
 ghost use Rattle.command_line.specs.Orders.{texts, job_of_order};
 ghost use Rattle.command_line.specs.Words.{job_of, is_served};
-ghost use Rattle.mm_drive.specs.Outside.{HasRisen};
+ghost use Rattle.outside.specs.Outside.{HasRisen};
 ghost use Rattle.mm_drive.specs.Printed.{files_of, Prints, PrintsFront, AreTracesOf, AreTold, EndsAt, IsLong, IsNoTrace, Tells, Unread, IsTooLong, IsBad, usage_line, write_line, memory_line};
 
 use crate::gate::Gate;
-use crate::outside::{Sink, Sources};
 use crate::status::Status;
 use crate::telling::{tell_fault, tell_long, tell_memory, tell_unread, tell_unwritten, tell_usage};
 use crate::text::{FileFault, text_of_file};
-use crate::writing::write_text;
 use command_line::{Order, Target, read_words};
 use heap_layout::Layout;
+use outside::{Sink, Sources, write_text};
 use std::alloc::Global;
 use std::thread::Threads;
 

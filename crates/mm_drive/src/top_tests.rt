@@ -2,13 +2,11 @@
 ghost use Rattle.std.specs.Prelude.{None};
 
 use crate::gate::OpenGate;
-use crate::memory_sinks::{MemSink, SureSink};
-use crate::memory_sources::{MemSources, SureSources};
-use crate::outside::{Failed, Sink};
 use crate::status::Status;
 use crate::test_runs::{FIRST, FIRST_TEXT, file_of, run_words, trace_in, words_in};
 use crate::top::run;
 use ideal_heap::Ideal;
+use outside::{Failed, MemSink, MemSources, Sink, SureSink, SureSources};
 use std::alloc::AllocError;
 use std::fmt::Write;
 use std::test::Fail;

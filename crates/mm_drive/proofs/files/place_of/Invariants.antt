@@ -1,7 +1,0 @@
-use Rattle.std.proofs.Common.{◌≡◌, drop, map}
-use Rattle.mm_drive.specs.Files.{file_of, content_in}
-use Rattle.mm_drive.proofs.files.place_of.Given as goal
-
--- what is left has the content that all have
-abbrev pub invariant-loop-i : goal.invariant-loop-i
-invariant-loop-i l = content_in (map file_of (drop l.i l.files)) l.name ≡ content_in (map file_of l.files) l.name
