@@ -38,7 +38,7 @@ module _ (b : ℕ) where
   code : (k : ℕ) → block_word s k % 256 ≡ 0
   code k = ap (λ x. x % 256) (zeros.zero_word b _)
 
-  is-free : (k : ℕ) → k < b → HasKind s k kinds.Free
+  pub is-free : (k : ℕ) → k < b → HasKind s k kinds.Free
   is-free k there = kind-from s k kinds.Free there (code k)
 
   not-large : (k : ℕ) → IsTrue (has_kind s k kinds.LargeHead || has_kind s k kinds.LargeTail) → ⊥

@@ -1,4 +1,4 @@
-ghost use Rattle.std.specs.Prelude.{◌≡◌, ℕ, ◌+◌, ◌<◌, ◌≤◌, false, List, ◌∷◌, []};
+ghost use Rattle.std.specs.Prelude.{◌≡◌, ℕ, ◌+◌, ◌<◌, ◌≤◌, false, true, List, ◌∷◌, [], replicate};
 ghost use Rattle.std.specs.List.{AllByRecursion};
 ghost use Rattle.ideal_heap.specs.declared.command.Command.{Command};
 ghost use Rattle.ideal_heap.specs.Ideal.{empty};
@@ -50,4 +50,9 @@ pub fn holes_are_clear()
 pub fn collections_count()
     ensures one { (r : Rules) (workers : ℕ) (c : Collect) (old new : HeapState) (roots after : List ℕ) → IsCollection r workers c old roots new after → (new.number ≡ old.number + 1) × (new.blocks ≡ old.blocks) }
     ensures nogc { (workers : ℕ) (c : Collect) (old new : HeapState) (roots after : List ℕ) → IsCollection (rules_of NoGc) workers c old roots new after → (c ≡ Full) × (new.words ≡ old.words) × (new.base ≡ old.base) × (after ≡ roots) }
+{}
+
+/// An empty heap with nil registers may be collected, under each plan: a full collection leaves it empty.
+pub fn empty_heap_may_be_collected()
+    ensures { (p : Plan) (b workers n : ℕ) → (rules_of p).collects ≡ true → IsCollection (rules_of p) workers Full (empty_heap b) (replicate n 0) (record (empty_heap b) { number = 1; base = 1 }) (replicate n 0) }
 {}

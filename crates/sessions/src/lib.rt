@@ -6,5 +6,6 @@
 mod laws;
 
 pub use laws::{
-    collections_count, empty_heap_has_room, holes_are_clear, sessions, sessions_of_one,
+    collections_count, empty_heap_has_room, empty_heap_may_be_collected, holes_are_clear, sessions,
+    sessions_of_one,
 };
