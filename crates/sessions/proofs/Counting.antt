@@ -1,5 +1,5 @@
 -- What collections count, and the collection of an empty heap.
-use Rattle.std.proofs.Common.{◌≡◌, refl, ap, subst, sym, ℕ, zero, suc, ◌+◌, ◌<◌, ◌↔◌, arith, Bool, true, false, ◌&&◌, not, IsTrue, List, ◌∷◌, map, replicate, slice_index}
+use Rattle.std.proofs.Common.{◌≡◌, refl, ap, subst, sym, ℕ, zero, suc, ◌+◌, arith, Bool, true, false, ◌&&◌, not, IsTrue, List, ◌∷◌, map, replicate, slice_index}
 use Rattle.std.proofs.lemmas.Bool.{and_parts}
 use Rattle.heap_layout.specs.Zones.{StartBits}
 use Rattle.heap_layout.proofs.MarkLemmas.{is-address_from_mark}
