@@ -58,7 +58,7 @@ fn line_fault(alloc: Global, line: &[u8]) -> Result<Option<Why>, Fail> {
 
 #[test]
 fn bad_lines(rt: HostRuntime) -> Result<(), Fail> {
-    let table: [(&[u8], Option<Why>); 39] = [
+    let table: [(&[u8], Option<Why>); 52] = [
         (b"new r0 1024 0", None),
         (b"new r0 1025 0", Some(Why::Range)),
         (b"new r15 0 60000", None),
@@ -97,6 +97,19 @@ fn bad_lines(rt: HostRuntime) -> Result<(), Fail> {
         (b"read r0 \xff", Some(Why::Number)),
         (b"\xc3\xa9 r0 0", Some(Why::Word)),
         (b"put r0 0 r0", None),
+        (b"put r0 1024 r0", Some(Why::Range)),
+        (b"load r15 g15", None),
+        (b"load r0 g16", Some(Why::Range)),
+        (b"load r0 r0", Some(Why::Number)),
+        (b"share g16 r0", Some(Why::Range)),
+        (b"share g0 r16", Some(Why::Range)),
+        (b"swap r0 0 1", Some(Why::Count)),
+        (b"new r0 1 2 3", Some(Why::Count)),
+        (b"gc ", Some(Why::Count)),
+        (b"meet 1", Some(Why::Count)),
+        (b"drop", Some(Why::Count)),
+        (b"", None),
+        (b"mmtrace 1", Some(Why::Word)),
         (b"tag r0 0 1", Some(Why::Word)),
     ];
     for (line, want) in table.iter() {
