@@ -14,7 +14,7 @@ use Rattle.command_line.specs.Orders.{job_of_order}
 use Rattle.command_line.specs.declared.order.Order.{Order}
 use Rattle.outside.specs.Outside.{Asking, HasRisen, Adds, AddsFront}
 use Rattle.outside.specs.Reading.{most_bytes}
-use Rattle.mm_drive.specs.Printed.{Content, files_in, files_of, AreReplies, IsTraceIn, AreTraces, AreTracesOf, AreTold, Prints, PrintsFront, EndsAt, IsAny, IsLong, IsNoTrace, HasFault, Unread, IsTooLong, IsBad, unread_line, long_line, fault_line}
+use Rattle.mm_drive.specs.Printed.{Content, files_in, files_of, AreReplies, IsTraceIn, AreTraces, AreTracesOf, AreTold, Prints, PrintsFront, EndsAt, EndsToldAt, IsAny, IsLong, IsNoTrace, HasFault, Unread, IsTooLong, IsBad, unread_line, long_line, fault_line}
 use Rattle.mm_drive.proofs.Jobs.{served-setting}
 
 -- what holds of the job holds where the words have it
@@ -54,13 +54,17 @@ module _ (content : Content) (files : List (List ℕ)) (name : List ℕ) (one : 
   file-here file [] behind e = sym (ap (λ xs. slice_index_or xs 0 name) e)
   file-here file (x ∷ before) behind e = absurd (let short : 0 ≡ length (before ++ file ∷ behind) = ap (λ xs. length (drop 1 xs)) e in omega (arith, length-append before (file ∷ behind)))
 
+  told-last : (before : List (List ℕ)) (file : List ℕ) → AreTold content (before ++ file ∷ []) → (bytes : List ℕ) × (content file ≡ Some bytes)
+  told-last [] file told = told.0
+  told-last (x ∷ before) file told = told-last before file told.1
+
   -- and what it ends by holds of the content
-  pub content-here : (P : List ℕ → Type 0) → AreTold content files → EndsAt content files P → (bytes : List ℕ) × (content name ≡ Some bytes) × P bytes
-  content-here P told at =
-      let known = told-here told in
-      let same : at.file ≡ name = file-here at.file at.before at.behind (sym one ∙ at.order) in
+  pub content-here : (P : List ℕ → Type 0) → EndsToldAt content files P → (bytes : List ℕ) × (content name ≡ Some bytes) × P bytes
+  content-here P at =
+      let known = told-last at.0.before at.0.file at.1 in
+      let same : at.0.file ≡ name = file-here at.0.file at.0.before at.0.behind (sym one ∙ at.0.order) in
       let Q : Option (List ℕ) → Type 0 = λ o. IfSome o P in
-      (known.0, known.1, subst Q (ap content same ∙ known.1) at.content_is)
+      (known.0, ap content (sym same) ∙ known.1, subst Q known.1 at.0.content_is)
 
   -- what is known of the content where told holds of it
   known-here : (P : List ℕ → Type 0) (bytes : List ℕ) → content name ≡ Some bytes → IfSome (content name) P → P bytes
@@ -73,28 +77,28 @@ module _ (content : Content) (files : List (List ℕ)) (name : List ℕ) (one : 
   fault-is r f e = subst (λ (x : Result (List Command) TraceFault). IsErr x) (sym e) refl
 
   -- a trace is neither too long nor no trace
-  pub trace-not-long : (t : List Command) (P : Type 0) → IsTraceIn (content name) t → AreTold content files → EndsAt content files IsLong → P
-  trace-not-long t P good told at =
-      let known = content-here IsLong told at in
+  pub trace-not-long : (t : List Command) (P : Type 0) → IsTraceIn (content name) t → EndsToldAt content files IsLong → P
+  trace-not-long t P good at =
+      let known = content-here IsLong at in
       let fine : (length known.0 ≤ most_bytes) × (trace known.0 ≡ Ok t) = known-here (λ bytes. (length bytes ≤ most_bytes) × (trace bytes ≡ Ok t)) known.0 known.1 good in
       absurd (let long : most_bytes < length known.0 = known.2 in omega (arith, fine.0))
 
-  pub trace-not-bad : (t : List Command) (P : Type 0) → IsTraceIn (content name) t → AreTold content files → EndsAt content files IsNoTrace → P
-  trace-not-bad t P good told at =
-      let known = content-here IsNoTrace told at in
+  pub trace-not-bad : (t : List Command) (P : Type 0) → IsTraceIn (content name) t → EndsToldAt content files IsNoTrace → P
+  trace-not-bad t P good at =
+      let known = content-here IsNoTrace at in
       let fine : (length known.0 ≤ most_bytes) × (trace known.0 ≡ Ok t) = known-here (λ bytes. (length bytes ≤ most_bytes) × (trace bytes ≡ Ok t)) known.0 known.1 good in
       not-both (trace known.0) t P fine.1 known.2.1
 
   -- what has a fault of a line is not too long
-  pub fault-not-long : (f : TraceFault) (P : Type 0) → IfSome (content name) (HasFault f) → AreTold content files → EndsAt content files IsLong → P
-  fault-not-long f P bad told at =
-      let known = content-here IsLong told at in
+  pub fault-not-long : (f : TraceFault) (P : Type 0) → IfSome (content name) (HasFault f) → EndsToldAt content files IsLong → P
+  fault-not-long f P bad at =
+      let known = content-here IsLong at in
       let flawed : HasFault f known.0 = known-here (HasFault f) known.0 known.1 bad in
       absurd (let long : most_bytes < length known.0 = known.2 in omega (arith, flawed.0))
 
-  pub long-not-bad : (P : Type 0) → IfSome (content name) IsLong → AreTold content files → EndsAt content files IsNoTrace → P
-  long-not-bad P long told at =
-      let known = content-here IsNoTrace told at in
+  pub long-not-bad : (P : Type 0) → IfSome (content name) IsLong → EndsToldAt content files IsNoTrace → P
+  long-not-bad P long at =
+      let known = content-here IsNoTrace at in
       absurd (let much : most_bytes < length known.0 = known-here IsLong known.0 known.1 long in omega (arith, known.2.0))
 
   trace-here : (traces : List (List Command)) → AreTraces content (name ∷ []) traces → (t : List Command) × IsTraceIn (content name) t

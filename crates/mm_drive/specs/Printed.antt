@@ -73,7 +73,7 @@ AreTracesOf content (Made n) traces = traces ≡ made_trace n ∷ []
 abbrev pub AreTold : Content → List (List ℕ) → Type 0
 AreTold content files = AllByRecursion (λ file. (bytes : List ℕ) × (content file ≡ Some bytes)) files
 
--- the text of a whole session of the job and of its traces was written
+-- what is printed of a whole session of the job and of its traces was written
 pub record Prints (content : Content) (job : Job) (before after : Option (List ℕ)) : Type 0 where
   pub traces : List (List Command)
   pub read : AreTracesOf content job.work traces
@@ -98,6 +98,10 @@ pub record EndsAt (content : Content) (files : List (List ℕ)) (P : List ℕ �
   pub traces : List (List Command)
   pub good : AreTraces content before traces
   pub content_is : IfSome (content file) P
+
+-- and the contents up to that file are told
+abbrev pub EndsToldAt : Content → List (List ℕ) → (List ℕ → Type 0) → Type 0
+EndsToldAt content files P = (at : EndsAt content files P) × AreTold content (at.before ++ at.file ∷ [])
 
 abbrev pub IsLong : List ℕ → Type 0
 IsLong bytes = most_bytes < length bytes
@@ -133,7 +137,7 @@ why_word why.Count = codes "count"
 why_word why.Number = codes "number"
 why_word why.Range = codes "range"
 
--- the line for a line that is no command, whose number and fault have these texts
+-- the line for a line that is no command or no header, whose number and fault have these texts
 abbrev pub line_fault : List ℕ → List ℕ → List ℕ → List ℕ
 line_fault file line word = file_line file (codes ": line " ++ (line ++ (codes ": " ++ (word ++ codes "\n"))))
 

@@ -1,9 +1,13 @@
-ghost use Rattle.std.specs.Prelude.{◌≡◌, ℕ, ◌++◌, ◌∷◌, [], map, take, drop};
+ghost use Rattle.std.specs.Prelude.{◌≡◌, ℕ, ◌++◌, ◌∷◌, [], codes, map, take, drop, replicate};
 ghost use Rattle.std.specs.List.{range_with_len};
 ghost use Rattle.ideal_heap.specs.declared.command.Command.TheVariants as command;
+ghost use Rattle.ideal_heap.specs.declared.reply.Reply.TheVariants as reply;
+ghost use Rattle.ideal_heap.specs.Names.{name};
+ghost use Rattle.object_model.specs.Objects.{empty_heap};
 ghost use Rattle.mm_drive.specs.Made.{command_at, made_trace};
+ghost use Rattle.mm_drive.specs.Texts.{summary_part};
 
-/// What some made traces are: how each begins, and commands of each row.
+/// What some made traces are: how one begins, and commands of each row.
 pub fn made_traces()
     ensures front { take 33 (made_trace 40) ≡ map command.DropReg (range_with_len 0 16)
         ++ map (λ g. command.Share g 0) (range_with_len 0 16) ++ command.Gc ∷ [] }
@@ -19,6 +23,24 @@ pub fn made_traces()
         ∷ command.Get 12 2 0 ∷ command.Get 8 3 7 ∷ command.Write 10 16 1281387370
         ∷ command.New 14 1 22 ∷ command.Move 1 15 ∷ command.New 5 3 22 ∷ command.Load 10 11
         ∷ command.New 8 7 24 ∷ command.Get 11 7 5 ∷ command.New 5 3 31 ∷ [] }
+    ensures more { take 20 (drop 33 (made_trace 113)) ≡ command.Share 10 1 ∷ command.Share 13 7
+        ∷ command.Load 11 12 ∷ command.Add 14 29 233140506 ∷ command.Get 0 10 4 ∷ command.Read 5 12
+        ∷ command.Write 10 6 76593114 ∷ command.Put 11 5 10 ∷ command.Get 8 14 4
+        ∷ command.New 10 1 18 ∷ command.Move 8 15 ∷ command.Move 12 1 ∷ command.Get 8 12 5
+        ∷ command.Put 11 0 4 ∷ command.Put 2 4 2 ∷ command.Move 8 3 ∷ command.Load 12 11
+        ∷ command.Swap 3 1 2 1 ∷ command.Read 10 16 ∷ command.New 15 0 22 ∷ [] }
     ensures later { (x : ℕ) → (command_at 1024 x ≡ (command.DropReg 0, x))
-        × (command_at 1056 x ≡ command_at 33 x) × (command_at 65568 x ≡ (command.Gc, x)) }
+        × (command_at 1055 x ≡ (command.Share 15 0, x)) × (command_at 1056 x ≡ command_at 33 x)
+        × (command_at 32800 x ≡ command_at 33 x) × (command_at 65568 x ≡ (command.Gc, x)) }
+{}
+
+/// The summary of a made trace in which each command is told `ok`, and nothing is reached at its end.
+pub fn summary_of_ok()
+    ensures { summary_part 33 (empty_heap 4) [] (replicate 33 reply.Done) ≡ codes "make 33\nnew 0\nfull 0\nref 0\nnil 0\nnum 0 sum 0\nok 33\nyes 0\nno 0\nnull 0\nrange 0\nlive objects 0 words 0\n" }
+{}
+
+/// Each line of a summary counts one kind of reply, and the sum of the numbers goes modulo 2^64.
+pub fn summary_of_each()
+    ensures { summary_part 16 (empty_heap 4) [] (reply.New (name 1 1) ∷ reply.Full ∷ reply.Full ∷ reply.Ref (name 1 1) ∷ reply.Nil ∷ reply.Nil ∷ reply.Nil ∷ reply.Num 18446744073709551615 ∷ reply.Num 3 ∷ reply.Done ∷ reply.Yes ∷ reply.Yes ∷ reply.No ∷ reply.Null ∷ reply.Range ∷ reply.Range ∷ [])
+        ≡ codes "make 16\nnew 1\nfull 2\nref 1\nnil 3\nnum 2 sum 2\nok 1\nyes 2\nno 1\nnull 1\nrange 2\nlive objects 0 words 0\n" }
 {}

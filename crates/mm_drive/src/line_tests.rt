@@ -1,4 +1,5 @@
-// Command lines through whole runs.
+// Command lines through whole runs. Of some faulty ones only the form's own reader tells that they are no more than not served:
+// those stand in its tests too.
 use crate::status::Status;
 use crate::test_runs::{FIRST, FIRST_TEXT, Ran, run_list, run_words, trace_in};
 use std::alloc::{AllocError, Global};
@@ -165,6 +166,8 @@ fn other_values(rt: HostRuntime) -> Result<(), Fail> {
             "--plan nogc --heap 3 a",
             "--plan nogc --heap 1025 a",
             "--plan nogc --heap 04 a",
+            "--heap=04 --plan=nogc a",
+            "--plan nogc --heap 4 --workers 01 a",
             "--plan nogc --heap +4 a",
             "--plan nogc --heap -4 a",
             "--plan nogc --heap=-4 a",

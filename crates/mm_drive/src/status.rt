@@ -7,7 +7,7 @@ ghost use Rattle.std.specs.Prelude.{◌≡◌, ℕ};
 pub enum Status {
     /// Each file was read to its end, each command has its reply, and the whole text was written.
     Ok,
-    /// The words have not the form.
+    /// The words have not the form, or ask for what is not served.
     Usage,
     /// A file could not be opened or read.
     ReadFault,

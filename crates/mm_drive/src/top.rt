@@ -5,7 +5,7 @@ ghost use Rattle.ideal_heap.specs.declared.command.Command.{Command};
 ghost use Rattle.command_line.specs.Orders.{texts, job_of_order};
 ghost use Rattle.command_line.specs.Words.{job_of, is_served};
 ghost use Rattle.outside.specs.Outside.{HasRisen};
-ghost use Rattle.mm_drive.specs.Printed.{files_of, Prints, PrintsFront, AreTracesOf, AreTold, EndsAt, IsLong, IsNoTrace, Tells, Unread, IsTooLong, IsBad, usage_line, write_line, memory_line};
+ghost use Rattle.mm_drive.specs.Printed.{files_of, Prints, PrintsFront, AreTracesOf, AreTold, EndsToldAt, IsLong, IsNoTrace, Tells, Unread, IsTooLong, IsBad, usage_line, write_line, memory_line};
 
 use crate::gate::Gate;
 use crate::status::Status;
@@ -44,7 +44,7 @@ pub fn run<R: Threads + Sync, S: Sources, O: Sink, E: Sink, G: Gate>(
     err: &mut E,
     _gate: &G,
 ) -> Status
-    // What was written is the text of a whole session of the job that the words name and of the files' traces.
+    // What was written is what is printed, for now the replies, of a whole session of the job that the words name and of the files' traces.
     ensures ok { result ≡ Status.Ok → IfSome (job_of (texts words.now)) (λ job. Prints (S.content sources.old) job (O.written out.old) (O.written out.new)) }
 
     // Each other answer has its cause, and standard error its line.
@@ -60,9 +60,9 @@ pub fn run<R: Threads + Sync, S: Sources, O: Sink, E: Sink, G: Gate>(
 
     // At all but two of the answers nothing was written, and at Ok nothing is told.
     ensures unwritten { result ≢ Status.Ok → result ≢ Status.WriteFault → (O.written out.new ≡ O.written out.old) × (O.faults out.new ≡ O.faults out.old) }
-    ensures silent { result ≡ Status.Ok → E.written err.new ≡ E.written err.old }
+    ensures silent { result ≡ Status.Ok → (E.written err.new ≡ E.written err.old) × (E.faults err.new ≡ E.faults err.old) }
 
-    // Words without the form are refused before a name is asked.
+    // Words that ask for nothing that is served are refused before a name is asked.
     ensures unasked { result ≡ Status.Usage → (S.asked sources.new ≡ S.asked sources.old) × (S.faults sources.new ≡ S.faults sources.old) }
 
     // No content changes, and no count of faults falls.
@@ -71,9 +71,9 @@ pub fn run<R: Threads + Sync, S: Sources, O: Sink, E: Sink, G: Gate>(
 
     // Where there is cause for an answer, it comes, but for want of memory and what may come before.
     ensures no_form { job_of (texts words.now) ≡ None → (result ≡ Status.Usage) ⊎ (result ≡ Status.OutOfMemory) }
-    ensures long { IfSome (job_of (texts words.now)) (λ job. AreTold (S.content sources.old) (files_of job) → EndsAt (S.content sources.old) (files_of job) IsLong
+    ensures long { IfSome (job_of (texts words.now)) (λ job. EndsToldAt (S.content sources.old) (files_of job) IsLong
         → (result ≡ Status.TooLong) ⊎ (result ≡ Status.ReadFault) ⊎ (result ≡ Status.OutOfMemory)) }
-    ensures no_trace { IfSome (job_of (texts words.now)) (λ job. AreTold (S.content sources.old) (files_of job) → EndsAt (S.content sources.old) (files_of job) IsNoTrace
+    ensures no_trace { IfSome (job_of (texts words.now)) (λ job. EndsToldAt (S.content sources.old) (files_of job) IsNoTrace
         → (result ≡ Status.BadTrace) ⊎ (result ≡ Status.ReadFault) ⊎ (result ≡ Status.OutOfMemory)) }
 
     // A good run does not fail.

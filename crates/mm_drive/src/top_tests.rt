@@ -74,6 +74,16 @@ fn replies(rt: HostRuntime) -> Result<(), Fail> {
     )?;
     assert_eq!(rt; ran.status, Status::Ok);
     assert_eq!(rt; ran.out.as_slice(), b"mutator 1\n".as_slice());
+    // A last line without its end.
+    let ran = run_words(
+        &rt,
+        alloc,
+        "--plan nogc --heap 4 a",
+        b"mmtrace 1\nread r0 0".to_vec(alloc)?,
+    )?;
+    assert_eq!(rt; ran.status, Status::Ok);
+    assert_eq!(rt; ran.out.as_slice(), b"mutator 1\nnull\n".as_slice());
+    assert!(rt; ran.err.is_empty());
     Ok(())
 }
 
@@ -123,14 +133,19 @@ fn limits(rt: HostRuntime) -> Result<(), Fail> {
         ran.err.as_slice(),
         b"mm_drive: a is longer than 16777216 bytes\n".as_slice()
     );
+    assert!(rt; ran.out.is_empty());
     let ran = run_words(&rt, alloc, line, vec![in alloc; 10u8; 16_777_216]?)?;
     assert_eq!(rt; ran.status, Status::BadTrace);
+    assert_eq!(rt;
+        ran.err.as_slice(),
+        b"mm_drive: a: line 1: header\n".as_slice()
+    );
     let mut text = Vec::from_slice(alloc, b"mmtrace 1\n")?;
     for _ in 0..1_000_000 {
         text.extend_from_slice(b"gc\n")?;
     }
     let full = text.as_slice().to_vec(alloc)?;
-    text.extend_from_slice(b"x\n")?;
+    text.extend_from_slice(b"gc\n")?;
     let ran = run_words(&rt, alloc, line, text)?;
     assert_eq!(rt; ran.status, Status::BadTrace);
     assert_eq!(rt;
@@ -254,17 +269,19 @@ fn front(rt: HostRuntime) -> Result<(), Fail> {
     let files = file_of(alloc, "a", trace_in(alloc, FIRST)?)?;
     let mut sources = MemSources::new(alloc, files, Vec::new(alloc));
     let mut out = MemSink::new(alloc, 100, 8, [3u64].to_vec(alloc)?)?;
+    let mut err = MemSink::new(alloc, 100, 100, Vec::new(alloc))?;
     let status = run(
         &rt,
         alloc,
         &words,
         &mut sources,
         &mut out,
-        &mut SureSink,
+        &mut err,
         &OpenGate,
     );
     assert_eq!(rt; status, Status::WriteFault);
     assert_eq!(rt; out.bytes(), b"mutator 1\nnew 1.".as_slice());
+    assert_eq!(rt; err.bytes(), b"mm_drive: write failed\n".as_slice());
     Ok(())
 }
 

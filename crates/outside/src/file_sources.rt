@@ -1,6 +1,7 @@
 //! Files of the file system.
 
-ghost use Rattle.std.specs.Prelude.{◌≡◌, [], Option, Some, None, option_map, string_bytes};
+ghost use Rattle.std.specs.Prelude.{◌≡◌, ◌≤◌, [], length, Option, Some, None, Ok, IfOk, IfSome, IsErr, option_map, string_bytes};
+ghost use Rattle.outside.specs.Outside.{HasRisen, Moves};
 ghost use Rattle.outside.specs.Real.{left_of_file};
 
 use crate::traits::{Failed, OpenFault, Sources, raise};
@@ -64,7 +65,14 @@ impl<R: Files> Sources for FileSources<'_, R> {
         }
     }
 
-    fn read(&mut self, buf: &mut [u8]) -> Result<usize, Failed> {
+    fn read(&mut self, buf: &mut [u8]) -> Result<usize, Failed>
+        ensures most { IfOk result (λ n. n ≤ length buf.old) }
+        ensures moved { IfOk result (λ n. IfSome (left_of_file self.old.file) (λ bytes. Moves n bytes buf.new (left_of_file self.new.file))) }
+        ensures closed { self.old.file ≡ None → result ≡ Ok 0 }
+        ensures cause { IsErr result → HasRisen self.old.count self.new.count }
+        ensures later { self.old.count ≤ self.new.count }
+        ensures asked { self.new.last ≡ self.old.last }
+    {
         let Some(file) = &mut self.file else {
             return Ok(0);
         };

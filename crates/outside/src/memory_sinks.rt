@@ -40,8 +40,8 @@ pub struct MemSink {
 impl MemSink {
     ghost use Rattle.outside.specs.Written.{bytes_of, room_of, most_of, faults_of, calls_of, fails_of};
 
-    /// At most `room` bytes in all, at most `most` in a call, and a failure at each call whose number is listed.
-    /// Calls are numbered from 1.
+    /// At most `room` bytes in all, at most `most` in a call, and a failure at each call whose number is listed, and at a
+    /// piece that is not empty and finds no room. Calls are numbered from 1.
     pub fn new(
         alloc: Global,
         room: usize,

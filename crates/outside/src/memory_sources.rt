@@ -9,7 +9,8 @@ use crate::files::Shelf;
 use crate::traits::{Failed, OpenFault, Sources, raise};
 use std::alloc::Global;
 
-/// Files in memory, and a failure at each call whose number is listed.
+/// Files in memory, and a failure at each call whose number is listed, but at reads with no open file. An opening for whose
+/// name memory is refused answers that first.
 #[derive(Drop)]
 pub struct MemSources {
     alloc: Global,

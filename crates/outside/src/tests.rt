@@ -129,12 +129,12 @@ fn reads_real_files(rt: HostRuntime) -> Result<(), Fail> {
     let id = process::id(rt.process());
     let path = format!(in alloc; "/tmp/mm_drive_{id}")?;
     let name = path.as_str();
-    fs::write(&rt, name, b"heap-trace 1\n".as_slice())?;
+    fs::write(&rt, name, b"mmtrace 1\n".as_slice())?;
     let mut sources = FileSources::new(&rt, alloc);
     assert_eq!(rt; sources.read(&mut [0u8; 4]), Ok(0));
     let bytes = content_of(alloc, &mut sources, name)?;
     fs::remove_file(&rt, name)?;
-    assert_eq!(rt; bytes.as_slice(), b"heap-trace 1\n".as_slice());
+    assert_eq!(rt; bytes.as_slice(), b"mmtrace 1\n".as_slice());
     assert_eq!(rt;
         content_of(alloc, &mut sources, name).err(),
         Some(ReadFault::Failed)

@@ -14,5 +14,9 @@ pub returns-clause-rows : goal.returns-clause-rows
 unfolding made_trace
 returns-clause-rows c = refl
 
+pub returns-clause-more : goal.returns-clause-more
+unfolding made_trace
+returns-clause-more c = refl
+
 pub returns-clause-later : goal.returns-clause-later
-returns-clause-later c = λ x. (refl, refl, refl)
+returns-clause-later c = λ x. (refl, refl, refl, refl, refl)

@@ -26,7 +26,7 @@ returns-in-Err-TooLong-clause-too_long g c is =
 
 pub returns-in-Err-TooLong-clause-no_trace : goal.returns-in-Err-TooLong-clause-no_trace
 returns-in-Err-TooLong-clause-no_trace g c =
-    of-job _ (job_of_order c.in-Ok-Some.order) _ (named-job _ c.in-Ok-Some.order _ c.in-Ok-Some.field-0-is c.in-Ok-Some.ensures) (λ told at. long-not-bad _ _ _ c.named.ensures.file _ (c.in-Err-TooLong.ensures.too_long (ap Err c.in-Err-TooLong.field-0-is)) told at)
+    of-job _ (job_of_order c.in-Ok-Some.order) _ (named-job _ c.in-Ok-Some.order _ c.in-Ok-Some.field-0-is c.in-Ok-Some.ensures) (λ at. long-not-bad _ _ _ c.named.ensures.file _ (c.in-Err-TooLong.ensures.too_long (ap Err c.in-Err-TooLong.field-0-is)) at)
 
 pub returns-in-Err-TooLong-clause-complete : goal.returns-in-Err-TooLong-clause-complete
 returns-in-Err-TooLong-clause-complete g c =
@@ -43,7 +43,7 @@ returns-in-Err-Bad-clause-bad_trace g c is =
 pub returns-in-Err-Bad-clause-long : goal.returns-in-Err-Bad-clause-long
 returns-in-Err-Bad-clause-long g c =
     let bad = c.in-Err-Bad.ensures.bad c.in-Err-Bad.fault (ap Err c.in-Err-Bad.field-0-is) in
-    of-job _ (job_of_order c.in-Ok-Some.order) _ (named-job _ c.in-Ok-Some.order _ c.in-Ok-Some.field-0-is c.in-Ok-Some.ensures) (λ told at. fault-not-long _ _ _ c.named.ensures.file c.in-Err-Bad.fault _ bad.1 told at)
+    of-job _ (job_of_order c.in-Ok-Some.order) _ (named-job _ c.in-Ok-Some.order _ c.in-Ok-Some.field-0-is c.in-Ok-Some.ensures) (λ at. fault-not-long _ _ _ c.named.ensures.file c.in-Err-Bad.fault _ bad.1 at)
 
 pub returns-in-Err-Bad-clause-complete : goal.returns-in-Err-Bad-clause-complete
 returns-in-Err-Bad-clause-complete g c =
@@ -62,12 +62,12 @@ returns-then-is_err-clause-write_fault g c is =
 pub returns-then-is_err-clause-long : goal.returns-then-is_err-clause-long
 returns-then-is_err-clause-long g c =
     let ok = c.in-Ok.ensures.ok in
-    of-job _ (job_of_order c.in-Ok-Some.order) _ (named-job _ c.in-Ok-Some.order _ c.in-Ok-Some.field-0-is c.in-Ok-Some.ensures) (λ told at. trace-not-long _ _ _ c.named.ensures.file ok.0 _ ok.1 told at)
+    of-job _ (job_of_order c.in-Ok-Some.order) _ (named-job _ c.in-Ok-Some.order _ c.in-Ok-Some.field-0-is c.in-Ok-Some.ensures) (λ at. trace-not-long _ _ _ c.named.ensures.file ok.0 _ ok.1 at)
 
 pub returns-then-is_err-clause-no_trace : goal.returns-then-is_err-clause-no_trace
 returns-then-is_err-clause-no_trace g c =
     let ok = c.in-Ok.ensures.ok in
-    of-job _ (job_of_order c.in-Ok-Some.order) _ (named-job _ c.in-Ok-Some.order _ c.in-Ok-Some.field-0-is c.in-Ok-Some.ensures) (λ told at. trace-not-bad _ _ _ c.named.ensures.file ok.0 _ ok.1 told at)
+    of-job _ (job_of_order c.in-Ok-Some.order) _ (named-job _ c.in-Ok-Some.order _ c.in-Ok-Some.field-0-is c.in-Ok-Some.ensures) (λ at. trace-not-bad _ _ _ c.named.ensures.file ok.0 _ ok.1 at)
 
 pub returns-clause-ok : goal.returns-clause-ok
 returns-clause-ok g c is =
@@ -79,9 +79,9 @@ returns-clause-ok g c is =
 pub returns-clause-long : goal.returns-clause-long
 returns-clause-long g c =
     let ok = c.in-Ok.ensures.ok in
-    of-job _ (job_of_order c.in-Ok-Some.order) _ (named-job _ c.in-Ok-Some.order _ c.in-Ok-Some.field-0-is c.in-Ok-Some.ensures) (λ told at. trace-not-long _ _ _ c.named.ensures.file ok.0 _ ok.1 told at)
+    of-job _ (job_of_order c.in-Ok-Some.order) _ (named-job _ c.in-Ok-Some.order _ c.in-Ok-Some.field-0-is c.in-Ok-Some.ensures) (λ at. trace-not-long _ _ _ c.named.ensures.file ok.0 _ ok.1 at)
 
 pub returns-clause-no_trace : goal.returns-clause-no_trace
 returns-clause-no_trace g c =
     let ok = c.in-Ok.ensures.ok in
-    of-job _ (job_of_order c.in-Ok-Some.order) _ (named-job _ c.in-Ok-Some.order _ c.in-Ok-Some.field-0-is c.in-Ok-Some.ensures) (λ told at. trace-not-bad _ _ _ c.named.ensures.file ok.0 _ ok.1 told at)
+    of-job _ (job_of_order c.in-Ok-Some.order) _ (named-job _ c.in-Ok-Some.order _ c.in-Ok-Some.field-0-is c.in-Ok-Some.ensures) (λ at. trace-not-bad _ _ _ c.named.ensures.file ok.0 _ ok.1 at)
