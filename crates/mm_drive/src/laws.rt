@@ -1,11 +1,14 @@
-ghost use Rattle.std.specs.Prelude.{◌≡◌, ℕ, ◌++◌, ◌∷◌, [], codes, map, take, drop, replicate};
+ghost use Rattle.std.specs.Prelude.{◌≡◌, ℕ, ◌++◌, ◌∷◌, [], List, codes, map, take, drop, replicate};
 ghost use Rattle.std.specs.List.{range_with_len};
 ghost use Rattle.ideal_heap.specs.declared.command.Command.TheVariants as command;
 ghost use Rattle.ideal_heap.specs.declared.reply.Reply.TheVariants as reply;
 ghost use Rattle.ideal_heap.specs.Names.{name};
+ghost use Rattle.ideal_heap.specs.Runs.{entry};
 ghost use Rattle.object_model.specs.Objects.{empty_heap};
+ghost use Rattle.object_model.specs.Graphs.{MutatorState};
+ghost use Rattle.sessions.specs.Plans.{NoGc};
 ghost use Rattle.mm_drive.specs.Made.{command_at, made_trace};
-ghost use Rattle.mm_drive.specs.Texts.{summary_part};
+ghost use Rattle.mm_drive.specs.Texts.{map_line, report_part, summary_part};
 
 /// What some made traces are: how one begins, and commands of each row.
 pub fn made_traces()
@@ -43,4 +46,18 @@ pub fn summary_of_ok()
 pub fn summary_of_each()
     ensures { summary_part 16 (empty_heap 4) [] (reply.New (name 1 1) ∷ reply.Full ∷ reply.Full ∷ reply.Ref (name 1 1) ∷ reply.Nil ∷ reply.Nil ∷ reply.Nil ∷ reply.Num 18446744073709551615 ∷ reply.Num 3 ∷ reply.Done ∷ reply.Yes ∷ reply.Yes ∷ reply.No ∷ reply.Null ∷ reply.Range ∷ reply.Range ∷ [])
         ≡ codes "make 16\nnew 1\nfull 2\nref 1\nnil 3\nnum 2 sum 2\nok 1\nyes 2\nno 1\nnull 1\nrange 2\nlive objects 0 words 0\n" }
+{}
+
+/// The nine lines of a report, on a session of two commands that left a heap of no blocks, and the line of an
+/// object at the first word of a heap.
+pub fn report_and_map()
+    ensures report { (ms : List MutatorState) → report_part NoGc 3 (record {
+      heap = empty_heap 0;
+      mutators = ms;
+      done = entry 1 command.Gc reply.Done ∷ entry 1 (command.New 0 1 2) reply.Full ∷ [];
+      nursery = 4;
+      full = 2;
+    }) [] ≡ codes "plan nogc\nblocks 0\nmutators 3\ncommands 2\nfull 1\ncollections nursery 4 full 2\nlive objects 0 words 0\nheld objects 0 words 0\nkinds free 0 bump 0 young 0 mature 0 immix 0 cells 0 large 0 kept 0\n" }
+    ensures map { map_line (record (empty_heap 0) { words = replicate 18 0 ++ 97 ∷ 131073 ∷ 0 ∷ [] }) 18
+        ≡ codes "map 1.3 block 0 word 0 size 6\n" }
 {}

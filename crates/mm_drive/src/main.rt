@@ -22,7 +22,7 @@ mod top_tests;
 
 use crate::telling::{tell_memory, tell_usage};
 pub use gate::{Gate, OpenGate, Point};
-pub use laws::{made_traces, summary_of_each, summary_of_ok};
+pub use laws::{made_traces, report_and_map, summary_of_each, summary_of_ok};
 use outside::{ErrSink, FileSources, OutSink};
 pub use status::Status;
 use std::io::ErrorKind;
