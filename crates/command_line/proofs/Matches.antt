@@ -1,4 +1,4 @@
--- The values that clap finds on words of the form.
+-- The values that clap finds in words that are options, each given once, and then files.
 use Rattle.std.proofs.Common.{◌≡◌, refl, ◌∙◌, sym, ap, cond, ℕ, Bool, true, false, ◌||◌, List, [], ◌∷◌, ◌++◌, map, drop, codes, append_assoc}
 use Rattle.std.specs.Prelude.{None, Some, is_some}
 use Rattle.std.specs.List.{fold}
@@ -19,7 +19,7 @@ same : (b : Bool) (rows : List Row) → cond b rows rows ≡ rows
 same true rows = refl
 same false rows = refl
 
--- the flag has a row, of its default where it was not given
+-- the flag has a row: that of its default if it is not given
 abbrev flagged : List Row → List Row
 flagged rows = cond (has_row (codes "map") rows) rows (with_values (codes "map") (reading_by (filled map_rule)) DefaultValue (codes "false" ∷ []) rows)
 
@@ -47,7 +47,7 @@ has_map ss files all =
     list_any-append (λ r. bytes_eq r.id (codes "map")) (map row_for ss) (file_rows files) ∙ ap (λ b. has_row (codes "map") (map row_for ss) || b) (no_map_file files)
     ∙ or_false _ ∙ has_row_for (codes "--map") ss refl all
 
--- what stands behind the rows of the settings
+-- the rows after those of the settings
 others_of : (ss : List GivenOption) (files : List Text) → are_options ss ≡ true → is_some (value_of (codes "--map") ss) ≡ false → flagged (map row_for ss ++ file_rows files) ≡ map row_for ss ++ (file_rows files ++ unset ∷ [])
 others_of ss files all none =
     let given : has_row (codes "map") (map row_for ss ++ file_rows files) ≡ false = has_map ss files all ∙ none in

@@ -1,4 +1,4 @@
--- The options, and what clap keeps of each.
+-- The options, and the row that clap stores for each.
 use Rattle.std.proofs.Common.{◌≡◌, refl, ◌∙◌, sym, ap, subst, cond, ℕ, Bool, true, false, ◌&&◌, ◌||◌, List, [], ◌∷◌, ◌++◌, map, drop, codes, append-nil}
 use Rattle.std.specs.Prelude.{Option, None, Some, is_some, option_and_then, slice_get}
 use Rattle.std.specs.List.{list_all, find}
@@ -60,7 +60,7 @@ absent id change missing (r ∷ rs) e = go (bytes_eq r.id id) e (λ none. absent
     go true wrong next = let bad : true ≡ false = wrong in cc
     go false none next = ap (λ rest. r ∷ rest) (next none)
 
--- a setting that is new comes last
+-- the row of a new setting comes last
 pub used_new : (s : GivenOption) (rows : List Row) → is_option s.name ≡ true → has_row (drop 2 s.name) rows ≡ false → used_by s rows ≡ rows ++ row_for s ∷ []
 used_new s rows e new =
     let P : List ℕ → Type 0 = λ name. has_row (drop 2 name) rows ≡ false → used_by (record { name = name; value = s.value }) rows ≡ rows ++ row_for (record { name = name; value = s.value }) ∷ [] in
@@ -69,7 +69,7 @@ used_new s rows e new =
     let valued : Row → List Row = more_values CommandLine (s.value ∷ []) in
     option_cases P s.name e (at _ valued _) (at _ valued _) (at _ valued _) (at _ valued _) (at _ (more_values CommandLine (codes "true" ∷ [])) _) new
 
--- two options have one name where they have one id
+-- two options have the same name if and only if they have the same id
 same_ids : (a b : List ℕ) → is_option a ≡ true → is_option b ≡ true → bytes_eq (drop 2 a) (drop 2 b) ≡ bytes_eq a b
 same_ids a b e f =
     let Q : List ℕ → List ℕ → Type 0 = λ x y. bytes_eq (drop 2 x) (drop 2 y) ≡ bytes_eq x y in
@@ -84,7 +84,7 @@ both : (a b : Bool) → (a && b) ≡ true → (a ≡ true) × (b ≡ true)
 both true b e = (refl, e)
 both false b e = let bad : false ≡ true = e in cc
 
--- an option has a row where it has a value
+-- an option has a row if and only if it has a value
 pub has_row_for : (name : List ℕ) (ss : List GivenOption) → is_option name ≡ true → are_options ss ≡ true → has_row (drop 2 name) (map row_for ss) ≡ is_some (value_of name ss)
 has_row_for name [] e all = refl
 has_row_for name (s ∷ ss) e all =
@@ -125,7 +125,7 @@ first_for name (s ∷ ss) others e all none =
     ] is in
     ap F (same_ids s.name name parts.0 mine) ∙ go (bytes_eq s.name name) refl
 
--- and `--map` reads as true
+-- `--map` reads as true
 pub map_read : (ss : List GivenOption) (others : List Row) → are_options ss ≡ true → is_some (value_of (codes "--map") ss) ≡ true → one_of (codes "map") (map row_for ss ++ others) ≡ Some (codes "true")
 map_read [] others all there = let bad : false ≡ true = there in cc
 map_read (s ∷ ss) others all there =

@@ -1,4 +1,4 @@
--- Settings in front of what is behind them.
+-- Settings, followed by the rest of the command line.
 use Rattle.std.proofs.Common.{◌≡◌, refl, ◌∙◌, sym, ap, cond, ℕ, Bool, true, false, List, [], ◌∷◌, ◌++◌, append_assoc}
 use Rattle.std.specs.Prelude.{Option, None, Some, option_map, option_and_then}
 use Rattle.command_line.specs.Words.{GivenOption, Line, are_single, cut, form_of, if_single, job_in, line_of, with_setting}

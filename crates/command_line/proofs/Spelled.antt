@@ -1,4 +1,4 @@
--- Words are cut to what they spell.
+-- Words are split into the settings and files that they spell.
 use Rattle.std.proofs.Common.{◌≡◌, refl, ◌∙◌, sym, ap, ap₂, subst, cond, ℕ, Bool, true, false, ◌&&◌, not, nat_lt, List, [], ◌∷◌, ◌++◌, length, codes, inl, inr, arith, lt-ltb}
 use Rattle.std.specs.Prelude.{Option, None, Some, option_map, option_and_then}
 use Rattle.std.specs.List.{list_all}
@@ -7,7 +7,7 @@ use Rattle.command_line.specs.Spelling.{Spells, SpellsLine}
 use Rattle.command_line.proofs.Options.{valued_cases}
 use Rattle.command_line.proofs.Walks.{behind, both, not_false, one_word_is, two_words_are}
 
--- ---- what is cut is spelled so
+-- ---- words that are split spell the result
 
 spelled_one : (word : List ℕ) (s : GivenOption) → in_one_word word ≡ Some s → Spells s (word ∷ [])
 spelled_one word s e =
@@ -53,7 +53,7 @@ spelled (word ∷ next ∷ words) l e = go (in_one_word word) refl e (spelled (n
     go (Some s) given same others rest = spelled_front (word ∷ []) (next ∷ words) s l (spelled_one word s given) same others
     go None given same others rest = second (in_two_words word next) refl same rest
 
--- ---- what is spelled so is cut
+-- ---- words that spell settings and files are split into them
 
 dashed_name : (name : List ℕ) → takes_value name ≡ true → has_dash name ≡ true
 dashed_name name e = valued_cases (λ word. has_dash word ≡ true) name e refl refl refl refl

@@ -1,4 +1,4 @@
--- clap takes the words of the form.
+-- clap accepts words that are options, each given once, and then files.
 use Rattle.std.proofs.Common.{◌≡◌, refl, ◌∙◌, sym, ap, subst, cond, arith, ℕ, ◌+◌, ◌≤◌, Bool, true, false, ◌&&◌, not, nat_lt, nat_le, List, [], ◌∷◌, ◌++◌, map, drop, length, codes, nat_eq, append_assoc, length-append, le-leb}
 use Rattle.std.specs.Prelude.{Option, None, Some, is_some, option_map}
 use Rattle.std.specs.List.{list_all, fold}
@@ -22,7 +22,7 @@ settles w = settle_passes rules false w.held
 abbrev turns : Walk → Text → Bool
 turns w word = turn_passes top [] w word
 
--- the words are taken from there on
+-- the words are accepted from this state on
 pub record Taken (from : Walk) (words : List Text) : Type 0 where
   pub passes : walk_passes top [] from words ≡ true
   pub stopped : (fold (walked rules []) from words).stopped ≡ None
@@ -103,7 +103,7 @@ filing_settles rows file files few =
     let all : list_all (λ f. true) files ≡ true = every files in
     simp (some, most, all)
 
--- a list has fewer elements than a machine can count
+-- the length of a list fits in 64 bits
 abbrev IsFew : ℕ → Type 0
 IsFew n = n ≤ 18446744073709551615
 
@@ -201,7 +201,7 @@ cut_taken words l e single few =
     let settled : settle_passes rules false (fold (walked rules []) (resting [] None) words).held ≡ true = all.settled in
     simp (stopped, passes, settled)
 
--- words of the form are taken
+-- words that are options, each given once, and then files are accepted
 pub taken : (words : List Text) → is_some (line_of words) ≡ true → IsFew (length words) → takes reader words ≡ true
 taken words e few = go (line_of words) refl e
   where

@@ -1,4 +1,4 @@
--- What clap makes of the words of the form.
+-- The steps of clap on words that are options, each given once, and then files.
 use Rattle.std.proofs.Common.{◌≡◌, refl, ◌∙◌, sym, ap, subst, cond, ℕ, Bool, true, false, ◌&&◌, ◌||◌, not, nat_lt, ◌<◌, List, [], ◌∷◌, ◌++◌, map, drop, length, get_or, codes, nat_eq, append_assoc, append-nil, ltb-true, eqb-true}
 use Rattle.std.specs.Prelude.{Option, None, Some, is_some, option_map, option_and_then}
 use Rattle.std.specs.List.{list_all, fold, position_or_len, before_first, after_first}
@@ -24,11 +24,11 @@ simple = refl
 abbrev pub Pending : Type 0
 Pending = Option (Text × List Text)
 
--- between two settings
+-- the state between two settings
 abbrev pub resting : List Row → Pending → Walk
 resting rows pending = record { held = record { rows = rows; pending = pending; skip = 0 }; waiting = idle; position = 1; is_trailing = false; stopped = None }
 
--- behind a file
+-- the state after a file
 abbrev pub filing : List Row → List Text → Walk
 filing rows files = record { held = record { rows = rows; pending = Some (codes "files", files); skip = 0 }; waiting = positional; position = 1; is_trailing = false; stopped = None }
 
@@ -72,7 +72,7 @@ pub not_false : (b : Bool) → not b ≡ true → b ≡ false
 not_false true wrong = let bad : false ≡ true = wrong in cc
 not_false false right = refl
 
--- files are being read
+-- the pending argument is a file
 abbrev pub is_filing : Pending → Bool
 is_filing None = false
 is_filing (Some p) = bytes_eq p.0 (codes "files")
@@ -93,7 +93,7 @@ unfolding clap_on_literals
 next_file [] rows files e = let bad : false ≡ true = e in cc
 next_file (b ∷ bs) rows files e = let dash : nat_eq b 45 ≡ false = not_false (nat_eq b 45) (both (nat_lt 0 (length (b ∷ bs))) (not (nat_eq b 45)) e).1 in simp dash
 
--- the rows when the words are read
+-- the rows after the words are read
 abbrev pub rows_at : Walk → List Row
 rows_at w = settled_rows rules w.held.pending w.held.rows
 
@@ -119,7 +119,7 @@ only_files_read rows pending (word ∷ words) not_filing none e =
     let parts = both (is_file word) (list_all is_file words) e in
     ap (λ w. read_from w words) (first_file word rows pending parts.0 not_filing) ∙ files_read (settled_rows rules pending rows) word [] words none parts.1
 
--- what a word says that is a setting
+-- a word that is a setting is `--map` or `--name=value`
 pub one_word_is : (word : List ℕ) (s : GivenOption) → in_one_word word ≡ Some s → (Q : List ℕ → GivenOption → Type 0) → Q (codes "--map") (record { name = codes "--map"; value = [] })
     → ((name value : List ℕ) → takes_value name ≡ true → Q (name ++ 61 ∷ value) (record { name = name; value = value })) → Q word s
 one_word_is word s e Q of_map of_value = go (bytes_eq word (codes "--map")) refl e
@@ -177,7 +177,7 @@ bytes_eq-sym xs ys =
     let back = bytes_eq-Decides ys xs in
     same_from_decides (bytes_eq xs ys) (bytes_eq ys xs) (bytes_eq-Decides xs ys) (λ e. sym (back.0 e), λ p. back.1 (sym p))
 
--- a name with no value is that of no setting
+-- a name without a value is the name of no setting
 other_name : (name : List ℕ) (ss : List GivenOption) (s : GivenOption) (rest : List GivenOption) → is_some (value_of name (ss ++ s ∷ rest)) ≡ false → bytes_eq s.name name ≡ false
 other_name name [] s rest e = go (bytes_eq s.name name) e
   where
@@ -244,7 +244,7 @@ onward words reads ss old rows pending s m not_filing one all single is used e =
       rows = next.rows ∙ ap (λ all_of. map row_for all_of ++ file_rows m.files) more;
     }
 
--- a line with a setting is that of the words behind it
+-- a command line with a setting comes from the one after the setting
 pub behind : (o : Option Line) (s : GivenOption) (l : Line) → option_map (with_setting s) o ≡ Some l → (m : Line) × (o ≡ Some m) × (with_setting s m ≡ l)
 behind None s l e = cc
 behind (Some m) s l e = (m, refl, cc)
@@ -272,7 +272,7 @@ with_two name value words reads s given ss rows pending l all single is e =
     let next = onward words reads ss (settled_rows rules pending rows) (settled_rows rules pending rows) (Some (drop 2 s.name, s.value ∷ [])) s m (no_file_option s.name met.0) met.0 all (ap (λ k. are_single (ss ++ k.settings)) line_is ∙ single) is (met.2 _) rest.1 in
     subst (Read ss (resting rows pending) (name ∷ value ∷ words)) line_is (record { options = next.options; rows = ap (λ w. read_from w words) met.1 ∙ next.rows })
 
--- clap reads the words of the form as they are cut
+-- clap reads the words as they are split
 pub reads : (words : List Text) → Reads words
 reads [] ss rows pending l not_filing all single is e = ended [] ss rows pending l not_filing all is e
 reads (word ∷ []) ss rows pending l not_filing all single is e = go (in_one_word word) refl e (reads [])

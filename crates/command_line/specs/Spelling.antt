@@ -1,4 +1,4 @@
--- How settings and files are spelled as words.
+-- The spelling of settings and files as words.
 use Rattle.std.specs.Prelude.{◌≡◌, ◌⊎◌, ◌++◌, ℕ, List, [], ◌∷◌, true, false, codes}
 use Rattle.std.specs.List.{list_all}
 use Rattle.command_line.specs.Words.{GivenOption, has_dash, is_file, takes_value}
@@ -20,10 +20,12 @@ pub record IsApart (s : GivenOption) (words : List (List ℕ)) : Type 0 where
   pub value : has_dash s.value ≡ false
   pub words_are : words ≡ s.name ∷ s.value ∷ []
 
+-- the words spell the setting in one of the three ways
 abbrev pub Spells : GivenOption → List (List ℕ) → Type 0
 Spells s words = IsFlag s words ⊎ (IsJoined s words ⊎ IsApart s words)
 
--- the settings one after the other, and then the files
+-- the words spell the settings in their order, and after them the files
 abbrev pub SpellsLine : List GivenOption → List (List ℕ) → List (List ℕ) → Type 0
 SpellsLine [] files words = (words ≡ files) × (list_all is_file files ≡ true)
-SpellsLine (s ∷ ss) files words = (front : List (List ℕ)) × (rest : List (List ℕ)) × (Spells s front) × (SpellsLine ss files rest) × (words ≡ front ++ rest)
+SpellsLine (s ∷ ss) files words = (front : List (List ℕ)) × (rest : List (List ℕ)) × (Spells s front)
+    × (SpellsLine ss files rest) × (words ≡ front ++ rest)

@@ -1,28 +1,31 @@
--- The form of the command line: options, then files.
+-- The usage of the command line: options, then files. A word is the list of its bytes.
 use Rattle.std.specs.Prelude.{ℕ, Bool, true, false, ◌&&◌, ◌||◌, not, List, [], ◌∷◌, length, Option, None, Some, nat_le, nat_lt, nat_eq, if◌then◌else◌, codes, slice_index, is_some, option_map, option_and_then}
 use Rattle.std.specs.List.{list_all, position_or_len, before_first, after_first}
 use Rattle.std.specs.Str.{bytes_eq}
 use Rattle.trace_text.specs.Grammar.{numeral}
-use Rattle.sessions.specs.Plans.{Plan, NoGc, MarkSweep, SemiSpace, GenCopy, Immix, StickyImmix}
+use Rattle.sessions.specs.Plans.{Plan, plan_word, NoGc, MarkSweep, SemiSpace, GenCopy, Immix, StickyImmix}
+use Rattle.heap_layout.specs.declared.layout.TheConstants.{MAX_BLOCKS, MIN_BLOCKS}
 
--- what is run: the traces in files, one for each mutator, or a made trace of that many commands
+-- what to run: traces from files, one for each mutator, or a made trace with this number of commands
 pub data Work : Type 0 where
   Files : List (List ℕ) → Work
   Made : ℕ → Work
 
+-- what a command line asks for; `blocks` is the size of the heap
 pub record Job : Type 0 where
   pub plan : Plan
   pub blocks : ℕ
   pub workers : ℕ
-  -- whether the map is printed
+  -- whether to print the map of the heap
   pub map : Bool
   pub work : Work
 
--- a setting: an option that is given, and its value, which is empty for `--map`
+-- a setting: an option that is given, and its value; the value of `--map` is empty
 pub record GivenOption : Type 0 where
   pub name : List ℕ
   pub value : List ℕ
 
+-- a command line, split into settings and files
 pub record Line : Type 0 where
   pub settings : List GivenOption
   pub files : List (List ℕ)
@@ -31,84 +34,101 @@ pub record Line : Type 0 where
 abbrev pub has_dash : List ℕ → Bool
 has_dash word = nat_eq (slice_index word 0) 45
 
+-- the name of a file: a word that is not empty and does not begin with `-`
 abbrev pub is_file : List ℕ → Bool
 is_file word = nat_lt 0 (length word) && not (has_dash word)
 
+-- the options that take a value
 abbrev pub takes_value : List ℕ → Bool
-takes_value name = bytes_eq name (codes "--plan") || bytes_eq name (codes "--heap") || bytes_eq name (codes "--workers") || bytes_eq name (codes "--make")
+takes_value name = bytes_eq name (codes "--plan") || bytes_eq name (codes "--heap") || bytes_eq name (codes "--workers")
+    || bytes_eq name (codes "--make")
 
+-- the byte `=`
 abbrev pub is_equals : ℕ → Bool
 is_equals b = nat_eq b 61
 
--- what stands before the first `=` and behind it
+-- the parts of the word before and after its first `=`
 abbrev pub at_equals : List ℕ → Option GivenOption
 at_equals word = if nat_lt (position_or_len is_equals word) (length word)
     then Some (record { name = before_first is_equals word; value = after_first is_equals word }) else None
 
+-- the setting, if its option takes a value
 abbrev pub if_takes_value : GivenOption → Option GivenOption
 if_takes_value s = if takes_value s.name then Some s else None
 
--- `--map`, or `--name=value`
+-- the setting of one word: `--map` or `--name=value`
 abbrev pub in_one_word : List ℕ → Option GivenOption
-in_one_word word = if bytes_eq word (codes "--map") then Some (record { name = word; value = [] }) else option_and_then if_takes_value (at_equals word)
+in_one_word word = if bytes_eq word (codes "--map") then Some
+    (record { name = word; value = [] }) else option_and_then if_takes_value (at_equals word)
 
--- `--name value`
+-- the setting of two words: `--name value`
 abbrev pub in_two_words : List ℕ → List ℕ → Option GivenOption
-in_two_words name value = if takes_value name && not (has_dash value) then Some (record { name = name; value = value }) else None
+in_two_words name value = if takes_value name && not (has_dash value) then Some (record {
+  name = name;
+  value = value;
+}) else None
 
+-- a command line without settings
 abbrev pub only_files : List (List ℕ) → Option Line
 only_files words = if list_all is_file words then Some (record { settings = []; files = words }) else None
 
+-- the command line with one more setting in front
 abbrev pub with_setting : GivenOption → Line → Line
 with_setting s l = record l { settings = s ∷ l.settings }
 
--- a setting and what is behind it, or else what there is without one
+-- if there is a setting: it and the command line `rest` after it; otherwise the one `without` it
 abbrev pub setting_or : Option GivenOption → Option Line → Option Line → Option Line
-setting_or None behind without = without
-setting_or (Some s) behind without = option_map (with_setting s) behind
+setting_or None rest without = without
+setting_or (Some s) rest without = option_map (with_setting s) rest
 
--- the settings, and the files behind them
+-- the words, split into settings and then files; None if a word is neither
 abbrev pub cut : List (List ℕ) → Option Line
 cut [] = only_files []
 cut (word ∷ []) = setting_or (in_one_word word) (cut []) (only_files (word ∷ []))
-cut (word ∷ next ∷ words) = setting_or (in_one_word word) (cut (next ∷ words)) (setting_or (in_two_words word next) (cut words) (only_files (word ∷ next ∷ words)))
+cut (word ∷ next ∷ words) = setting_or (in_one_word word) (cut (next ∷ words))
+    (setting_or (in_two_words word next) (cut words) (only_files (word ∷ next ∷ words)))
 
+-- the value of the first setting with this name
 abbrev pub value_of : List ℕ → List GivenOption → Option (List ℕ)
 value_of name [] = None
 value_of name (s ∷ ss) = if bytes_eq s.name name then Some s.value else value_of name ss
 
--- each option stands once
+-- no option is given twice
 abbrev pub are_single : List GivenOption → Bool
 are_single [] = true
 are_single (s ∷ ss) = not (is_some (value_of s.name ss)) && are_single ss
 
+-- the plan with this name
 abbrev pub plan_of : List ℕ → Option Plan
 plan_of word =
-    if bytes_eq word (codes "nogc") then Some NoGc
-    else if bytes_eq word (codes "marksweep") then Some MarkSweep
-    else if bytes_eq word (codes "semispace") then Some SemiSpace
-    else if bytes_eq word (codes "gencopy") then Some GenCopy
-    else if bytes_eq word (codes "immix") then Some Immix
-    else if bytes_eq word (codes "stickyimmix") then Some StickyImmix
+    if bytes_eq word (plan_word NoGc) then Some NoGc
+    else if bytes_eq word (plan_word MarkSweep) then Some MarkSweep
+    else if bytes_eq word (plan_word SemiSpace) then Some SemiSpace
+    else if bytes_eq word (plan_word GenCopy) then Some GenCopy
+    else if bytes_eq word (plan_word Immix) then Some Immix
+    else if bytes_eq word (plan_word StickyImmix) then Some StickyImmix
     else None
 
+-- the number, if it lies within the bounds
 abbrev pub if_within : ℕ → ℕ → ℕ → Option ℕ
 if_within least most n = if nat_le least n && nat_le n most then Some n else None
 
+-- the number of a numeral, if it lies within the bounds
 abbrev pub number_in : ℕ → ℕ → List ℕ → Option ℕ
 number_in least most word = option_and_then (if_within least most) (numeral word)
 
--- one worker where nothing is said of them
+-- the number of workers: 1 if the option is not given
 abbrev pub workers_of : Option (List ℕ) → Option ℕ
 workers_of None = Some 1
 workers_of (Some word) = number_in 1 16 word
 
--- 1 to 16 files, or what `--make` says, with neither a map nor a file
+-- 1 to 16 files; or, with `--make`, a made trace, with neither a map nor a file
 abbrev pub work_of : Option (List ℕ) → Bool → List (List ℕ) → Option Work
 work_of None has_map files = if nat_le 1 (length files) && nat_le (length files) 16 then Some (Files files) else None
-work_of (Some word) has_map files = if has_map || nat_lt 0 (length files) then None else option_map Made (number_in 1 1000000 word)
+work_of (Some word) has_map files = if has_map
+    || nat_lt 0 (length files) then None else option_map Made (number_in 1 1000000 word)
 
--- the value of each option
+-- the value of each option, and whether `--map` is given
 pub record Values : Type 0 where
   pub plan : Option (List ℕ)
   pub heap : Option (List ℕ)
@@ -116,6 +136,7 @@ pub record Values : Type 0 where
   pub make : Option (List ℕ)
   pub has_map : Bool
 
+-- the values that these settings give
 abbrev pub values_in : List GivenOption → Values
 values_in settings = record {
   plan = value_of (codes "--plan") settings;
@@ -125,44 +146,52 @@ values_in settings = record {
   has_map = is_some (value_of (codes "--map") settings);
 }
 
+-- the job, if it has all its parts
 abbrev pub job_with : Bool → Option Plan → Option ℕ → Option ℕ → Option Work → Option Job
-job_with has_map (Some plan) (Some blocks) (Some workers) (Some work) = Some (record { plan = plan; blocks = blocks; workers = workers; map = has_map; work = work })
+job_with has_map (Some plan) (Some blocks) (Some workers) (Some work) = Some
+    (record { plan = plan; blocks = blocks; workers = workers; map = has_map; work = work })
 job_with has_map _ _ _ _ = None
 
--- `--plan` and `--heap` are there
+-- the job of these values and files; `--plan` and `--heap` are required
 abbrev pub job_for : Values → List (List ℕ) → Option Job
 job_for v files =
-    job_with v.has_map (option_and_then plan_of v.plan) (option_and_then (number_in 4 1024) v.heap) (workers_of v.workers) (work_of v.make v.has_map files)
+    job_with v.has_map (option_and_then plan_of v.plan) (option_and_then (number_in MIN_BLOCKS MAX_BLOCKS) v.heap)
+    (workers_of v.workers) (work_of v.make v.has_map files)
 
+-- the job of a command line
 abbrev pub job_in : Line → Option Job
 job_in line = job_for (values_in line.settings) line.files
 
+-- the command line, if no option is given twice
 abbrev pub if_single : Line → Option Line
 if_single line = if are_single line.settings then Some line else None
 
--- the settings, of which each option has one, and the files
+-- the words, split into settings, of options that are given once, and files
 abbrev pub line_of : List (List ℕ) → Option Line
 line_of words = option_and_then if_single (cut words)
 
--- the job that words of the form name
+-- the job that the words ask for; None if they do not match the usage
 unfoldable pub form_of : List (List ℕ) → Option Job
 form_of words = option_and_then job_in (line_of words)
 
+-- the plan that never collects
 abbrev pub is_nogc : Plan → Bool
 is_nogc NoGc = true
 is_nogc _ = false
 
+-- the work of one mutator from a file
 abbrev pub is_one_file : Work → Bool
 is_one_file (Files (file ∷ [])) = true
 is_one_file _ = false
 
--- one mutator, under the plan that collects nothing, with one worker and no map
-abbrev pub is_served : Job → Bool
-is_served job = is_nogc job.plan && nat_eq job.workers 1 && not job.map && is_one_file job.work
+-- the jobs that are implemented: one mutator under NoGC, with one worker and no map
+abbrev pub is_supported : Job → Bool
+is_supported job = is_nogc job.plan && nat_eq job.workers 1 && not job.map && is_one_file job.work
 
+-- the job, if it is implemented
 abbrev pub if_served : Job → Option Job
-if_served job = if is_served job then Some job else None
+if_served job = if is_supported job then Some job else None
 
--- the job that words of the form name, where it is served
+-- the job that the words ask for, if it is implemented
 unfoldable pub job_of : List (List ℕ) → Option Job
 job_of words = option_and_then if_served (form_of words)

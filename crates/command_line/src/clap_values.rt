@@ -1,3 +1,5 @@
+//! The values of the options, read by clap.
+
 ghost use Rattle.std.specs.Prelude.{◌≡◌, IfOk, Some, true, false, alloc_error, is_some};
 ghost use Rattle.clap.specs.Words.{app_of, kind_of, rule_of};
 ghost use Rattle.command_line.specs.Words.{Line, line_of, values_in};
@@ -8,7 +10,7 @@ use clap::error::ErrorKind;
 use clap::{Arg, ArgAction, Command, Error};
 use std::alloc::{AllocError, Global};
 
-// The values of the options.
+// The values of the options as they are written: `None` if the option is not given.
 #[derive(Drop)]
 pub(crate) struct Found<'a> {
     pub(crate) plan: Option<&'a str>,
@@ -18,6 +20,7 @@ pub(crate) struct Found<'a> {
     pub(crate) map: bool,
 }
 
+// An option with a value.
 fn option<'a>(alloc: Global, name: &'a str) -> Arg<'a>
     ensures rule { rule_of result ≡ option_rule name.entry.now }
     ensures own { result.global ≡ false }
@@ -25,6 +28,7 @@ fn option<'a>(alloc: Global, name: &'a str) -> Arg<'a>
     Arg::new(alloc, name).long(name)
 }
 
+// The flag `--map`.
 fn map_flag<'a>(alloc: Global) -> Arg<'a>
     ensures rule { rule_of result ≡ map_rule }
     ensures own { result.global ≡ false }
@@ -34,6 +38,7 @@ fn map_flag<'a>(alloc: Global) -> Arg<'a>
         .action(ArgAction::SetTrue)
 }
 
+// One or more files.
 fn files<'a>(alloc: Global) -> Arg<'a>
     ensures rule { rule_of result ≡ files_rule }
     ensures own { result.global ≡ false }
@@ -43,6 +48,7 @@ fn files<'a>(alloc: Global) -> Arg<'a>
         .num_args(1..)
 }
 
+// A command without arguments, and without `--help`.
 fn bare<'a>(alloc: Global) -> Command<'a>
     ensures { app_of result ≡ bare_app }
 {
@@ -51,7 +57,7 @@ fn bare<'a>(alloc: Global) -> Command<'a>
         .disable_help_flag(true)
 }
 
-// The command whose last positional takes the files.
+// The command with the options, and the files as its positional argument.
 fn command<'a>(alloc: Global) -> Result<Command<'a>, AllocError>
     ensures { IfOk result (λ c. app_of c ≡ reader) }
 {
@@ -64,7 +70,7 @@ fn command<'a>(alloc: Global) -> Result<Command<'a>, AllocError>
         .arg(files(alloc))
 }
 
-// The one reason for which clap refuses words of the form.
+// Converts an error of clap that is known to be out of memory.
 fn refused(error: &Error) -> AllocError
     requires { kind_of error.now ≡ ErrorKind.OutOfMemory }
     ensures { result ≡ alloc_error }
@@ -72,10 +78,13 @@ fn refused(error: &Error) -> AllocError
     AllocError
 }
 
-// Reads words of the form, which clap takes.
+// Reads the values of the options. The words are options, each given once, and then files.
+//
+// Errors: out of memory.
 pub(crate) fn read_values<'a>(alloc: Global, words: &'a [String]) -> Result<Found<'a>, AllocError>
     requires { is_some (line_of (texts words.now)) ≡ true }
-    ensures { IfOk result (λ v. (l : Line) → line_of (texts words.now) ≡ Some l → values_seen v ≡ values_in l.settings) }
+    ensures { IfOk result (λ v. (l : Line) → line_of (texts words.now) ≡ Some l
+        → values_seen v ≡ values_in l.settings) }
 {
     let command = command(alloc)?;
     let matches = match command.try_get_matches_from(words) {

@@ -1,30 +1,81 @@
+//! Laws of the command line, and examples.
+
 ghost use Rattle.std.specs.Prelude.{◌≡◌, ℕ, List, ◌∷◌, [], codes, true, false, Some, None};
 ghost use Rattle.sessions.specs.Plans.{NoGc, Immix, GenCopy, StickyImmix};
 ghost use Rattle.command_line.specs.Spelling.{SpellsLine};
 ghost use Rattle.command_line.specs.Words.{Line, GivenOption, cut, form_of, job_of, Files, Made};
 
-/// What some command lines name.
+/// Examples: the jobs that command lines name.
 pub fn worked_command_lines()
-    ensures words { form_of (codes "--plan" ∷ codes "nogc" ∷ codes "--heap" ∷ codes "4" ∷ codes "a" ∷ []) ≡ Some (record { plan = NoGc; blocks = 4; workers = 1; map = false; work = Files (codes "a" ∷ []) }) }
-    ensures joined { form_of (codes "--heap=4" ∷ codes "--plan=immix" ∷ codes "a" ∷ []) ≡ Some (record { plan = Immix; blocks = 4; workers = 1; map = false; work = Files (codes "a" ∷ []) }) }
-    ensures mixed { form_of (codes "--map" ∷ codes "--workers=16" ∷ codes "--heap" ∷ codes "1024" ∷ codes "--plan=gencopy" ∷ codes "a" ∷ codes "b=c" ∷ []) ≡ Some (record { plan = GenCopy; blocks = 1024; workers = 16; map = true; work = Files (codes "a" ∷ codes "b=c" ∷ []) }) }
-    ensures made { form_of (codes "--make" ∷ codes "1000000" ∷ codes "--plan" ∷ codes "stickyimmix" ∷ codes "--heap=64" ∷ []) ≡ Some (record { plan = StickyImmix; blocks = 64; workers = 1; map = false; work = Made 1000000 }) }
+    ensures words { form_of (codes "--plan" ∷ codes "nogc" ∷ codes "--heap" ∷ codes "4"
+        ∷ codes "a" ∷ []) ≡ Some (record {
+          plan = NoGc;
+          blocks = 4;
+          workers = 1;
+          map = false;
+          work = Files (codes "a" ∷ []);
+        }) }
+    ensures joined { form_of (codes "--heap=4" ∷ codes "--plan=immix" ∷ codes "a" ∷ [])
+        ≡ Some (record {
+          plan = Immix;
+          blocks = 4;
+          workers = 1;
+          map = false;
+          work = Files (codes "a" ∷ []);
+        }) }
+    ensures mixed { form_of (codes "--map" ∷ codes "--workers=16" ∷ codes "--heap"
+        ∷ codes "1024" ∷ codes "--plan=gencopy" ∷ codes "a" ∷ codes "b=c" ∷ [])
+        ≡ Some (record {
+          plan = GenCopy;
+          blocks = 1024;
+          workers = 16;
+          map = true;
+          work = Files (codes "a" ∷ codes "b=c" ∷ []);
+        }) }
+    ensures made { form_of (codes "--make" ∷ codes "1000000" ∷ codes "--plan"
+        ∷ codes "stickyimmix" ∷ codes "--heap=64" ∷ [])
+        ≡ Some (record {
+          plan = StickyImmix;
+          blocks = 64;
+          workers = 1;
+          map = false;
+          work = Made 1000000;
+        }) }
     ensures nothing { form_of [] ≡ None }
     ensures help { form_of (codes "--help" ∷ []) ≡ None }
     ensures no_plan { form_of (codes "--heap" ∷ codes "4" ∷ codes "a" ∷ []) ≡ None }
-    ensures other_plan { form_of (codes "--plan" ∷ codes "lisp2" ∷ codes "--heap" ∷ codes "4" ∷ codes "a" ∷ []) ≡ None }
-    ensures no_file { form_of (codes "--plan" ∷ codes "immix" ∷ codes "--heap" ∷ codes "4" ∷ []) ≡ None }
-    ensures small_heap { form_of (codes "--plan" ∷ codes "immix" ∷ codes "--heap" ∷ codes "3" ∷ codes "a" ∷ []) ≡ None }
-    ensures twice { form_of (codes "--plan" ∷ codes "immix" ∷ codes "--plan=immix" ∷ codes "--heap" ∷ codes "4" ∷ codes "a" ∷ []) ≡ None }
-    ensures both { form_of (codes "--plan" ∷ codes "immix" ∷ codes "--heap" ∷ codes "4" ∷ codes "--make" ∷ codes "5" ∷ codes "a" ∷ []) ≡ None }
-    ensures behind_a_file { form_of (codes "--plan" ∷ codes "immix" ∷ codes "a" ∷ codes "--heap" ∷ codes "4" ∷ []) ≡ None }
-    ensures empty_word { form_of (codes "--plan=immix" ∷ codes "--heap=4" ∷ [] ∷ []) ≡ None }
-    ensures unserved { job_of (codes "--heap=4" ∷ codes "--plan=immix" ∷ codes "a" ∷ []) ≡ None }
-    ensures served { job_of (codes "--heap=4" ∷ codes "--plan=nogc" ∷ codes "--workers" ∷ codes "1" ∷ codes "a" ∷ []) ≡ Some (record { plan = NoGc; blocks = 4; workers = 1; map = false; work = Files (codes "a" ∷ []) }) }
+    ensures other_plan { form_of (codes "--plan" ∷ codes "lisp2" ∷ codes "--heap" ∷ codes "4"
+        ∷ codes "a" ∷ []) ≡ None }
+    ensures no_file { form_of (codes "--plan" ∷ codes "immix" ∷ codes "--heap" ∷ codes "4"
+        ∷ []) ≡ None }
+    ensures small_heap { form_of (codes "--plan" ∷ codes "immix" ∷ codes "--heap" ∷ codes "3"
+        ∷ codes "a" ∷ []) ≡ None }
+    ensures twice { form_of (codes "--plan" ∷ codes "immix" ∷ codes "--plan=immix"
+        ∷ codes "--heap" ∷ codes "4" ∷ codes "a" ∷ []) ≡ None }
+    ensures both { form_of (codes "--plan" ∷ codes "immix" ∷ codes "--heap" ∷ codes "4"
+        ∷ codes "--make" ∷ codes "5" ∷ codes "a" ∷ []) ≡ None }
+    ensures after_a_file { form_of (codes "--plan" ∷ codes "immix" ∷ codes "a"
+        ∷ codes "--heap" ∷ codes "4" ∷ []) ≡ None }
+    ensures empty_word { form_of (codes "--plan=immix" ∷ codes "--heap=4" ∷ [] ∷ [])
+        ≡ None }
+    ensures unserved { job_of (codes "--heap=4" ∷ codes "--plan=immix" ∷ codes "a" ∷ [])
+        ≡ None }
+    ensures served { job_of (codes "--heap=4" ∷ codes "--plan=nogc" ∷ codes "--workers"
+        ∷ codes "1" ∷ codes "a" ∷ [])
+        ≡ Some (record {
+          plan = NoGc;
+          blocks = 4;
+          workers = 1;
+          map = false;
+          work = Files (codes "a" ∷ []);
+        }) }
 {}
 
-/// Words are cut to settings and files exactly where they spell them.
+/// Words are split into settings and files if and only if they spell them.
 pub fn spelled_command_lines()
-    ensures spelled { (words : List (List ℕ)) (l : Line) → cut words ≡ Some l → SpellsLine l.settings l.files words }
-    ensures read { (settings : List GivenOption) (files words : List (List ℕ)) → SpellsLine settings files words → cut words ≡ Some (record { settings = settings; files = files }) }
+    ensures spelled { (words : List (List ℕ)) (l : Line) → cut words ≡ Some l
+        → SpellsLine l.settings l.files words }
+    ensures read { (settings : List GivenOption) (files words : List (List ℕ))
+        → SpellsLine settings files words
+        → cut words ≡ Some (record { settings = settings; files = files }) }
 {}

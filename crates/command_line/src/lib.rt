@@ -1,14 +1,15 @@
-//! The words of the command line: their one form, and what they ask for.
+//! The arguments of the command line: their usage, and what they ask for.
 //!
-//! Options come first, in any order and each once, as `--name value` or `--name=value`: `--plan`,
-//! `--heap` (blocks, 4 to 1024), `--workers` (1 to 16, else 1) and the flag `--map`. Behind them
-//! come 1 to 16 files, or none where `--make` says how many commands a made trace has.
+//! Options come first, in any order and each at most once, as `--name value` or `--name=value`.
+//! `--plan` and `--heap` (in blocks, 4 to 1024) are required. `--workers` (1 to 16) is 1 by
+//! default. `--map` is a flag. After the options come 1 to 16 files, or none with `--make`: its
+//! value is the number of commands of a made trace, 1 to 1,000,000. `--make` excludes `--map`.
 #![tactic(auto)]
 
 mod clap_values;
-mod cutting;
 mod laws;
 mod order;
+mod splitter;
 #[cfg(test)]
 mod tests;
 mod values;

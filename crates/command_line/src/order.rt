@@ -1,32 +1,42 @@
-/// A plan by the word that names it.
+//! What the command line asks for.
+
+/// A plan, named by a word of the command line. The plans are those of MMTk.
 #[derive(Clone, Copy, Drop)]
 pub enum PlanName {
+    /// `nogc`: never collects.
     NoGc,
+    /// `marksweep`: mark-sweep.
     MarkSweep,
+    /// `semispace`: copying between two spaces.
     SemiSpace,
+    /// `gencopy`: generational copying.
     GenCopy,
+    /// `immix`: mark-region, Immix.
     Immix,
+    /// `stickyimmix`: generational Immix with sticky mark bits.
     StickyImmix,
 }
 
-/// What is run: the traces in files, one for each mutator, or one made trace.
+/// What to run: traces from files, one for each mutator, or one made trace.
 #[derive(Drop)]
 pub enum Target<'a> {
     /// The names of the files, 1 to 16.
     Files(&'a [String]),
-    /// How many commands the made trace has, 1 to 1,000,000.
+    /// The number of commands of the made trace, 1 to 1,000,000.
     Made(u32),
 }
 
-/// What the words of the command line ask for.
+/// What the arguments of the command line ask for.
 #[derive(Drop)]
 pub struct Order<'a> {
+    /// The plan that manages the heap.
     pub plan: PlanName,
     /// The size of the heap in blocks, 4 to 1024.
     pub blocks: u32,
-    /// How many workers collect, 1 to 16.
+    /// The number of GC workers, 1 to 16.
     pub workers: u32,
-    /// Whether the map of the heap is printed.
+    /// Whether to print the map of the heap.
     pub map: bool,
+    /// What to run.
     pub work: Target<'a>,
 }

@@ -1,9 +1,11 @@
+//! Tests of the command line.
+
 use crate::order::Target;
 use crate::words::{read_form, read_words};
 use std::alloc::{AllocError, Global};
 use std::test::Fail;
 
-// A word before each space, and one behind the last.
+// The words of a line, separated by single spaces.
 fn words_in(alloc: Global, line: &str) -> Result<Vec<String>, AllocError> {
     let mut words = Vec::new(alloc);
     for word in line.split(' ') {
@@ -17,7 +19,7 @@ fn has_form(alloc: Global, line: &str) -> Result<bool, AllocError> {
     Ok(read_form(alloc, words.as_slice())?.is_some())
 }
 
-fn is_served(alloc: Global, line: &str) -> Result<bool, AllocError> {
+fn is_supported(alloc: Global, line: &str) -> Result<bool, AllocError> {
     let words = words_in(alloc, line)?;
     Ok(read_words(alloc, words.as_slice())?.is_some())
 }
@@ -72,13 +74,14 @@ fn serves_one_mutator_under_nogc(rt: HostRuntime) -> Result<(), Fail> {
     ];
     for line in unserved {
         let has_form = has_form(alloc, line)?;
-        let is_served = is_served(alloc, line)?;
-        assert!(rt; has_form && !is_served, "{line}");
+        let is_supported = is_supported(alloc, line)?;
+        assert!(rt; has_form && !is_supported, "{line}");
     }
     Ok(())
 }
 
-// Most of these would not be served even with the form: `read_words` does not tell the two apart.
+// These do not match the usage. The test asks `read_form`, because `read_words` answers `None` for
+// features that are not implemented, too.
 #[test]
 fn has_not_the_form(rt: HostRuntime) -> Result<(), Fail> {
     let alloc = rt.alloc();

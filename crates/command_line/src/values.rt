@@ -1,3 +1,5 @@
+//! The meaning of the values of options.
+
 ghost use Rattle.std.specs.Prelude.{◌≡◌, ◌≤◌, ◌<◌, ◌^◌, map, option_map, length, is_some};
 ghost use Rattle.command_line.specs.Words.{number_in, plan_of, work_of as work_with, workers_of as workers_with};
 ghost use Rattle.command_line.specs.Orders.{plan_in, texts, work_in};
@@ -5,7 +7,7 @@ ghost use Rattle.command_line.specs.Orders.{plan_in, texts, work_in};
 use crate::order::{PlanName, Target};
 use trace_text::read_numeral;
 
-// The number of a numeral that lies within the bounds.
+// The number of a numeral. `None` if the word is no numeral or its number is out of bounds.
 pub(crate) fn number_within(word: &str, least: u32, most: u32) -> Option<u32>
     ensures { result ≡ number_in least most word.now }
 {
@@ -17,6 +19,7 @@ pub(crate) fn number_within(word: &str, least: u32, most: u32) -> Option<u32>
     }
 }
 
+// The plan with this name.
 pub(crate) fn plan_named(word: &str) -> Option<PlanName>
     ensures { option_map plan_in result ≡ plan_of word.now }
 {
@@ -37,6 +40,7 @@ pub(crate) fn plan_named(word: &str) -> Option<PlanName>
     }
 }
 
+// The number of workers: 1 if the option is not given.
 pub(crate) fn workers_of(word: Option<&str>) -> Option<u32>
     ensures { result ≡ workers_with (option_map (λ w. w.now) word.entry) }
 {
@@ -46,8 +50,10 @@ pub(crate) fn workers_of(word: Option<&str>) -> Option<u32>
     }
 }
 
+// What to run: 1 to 16 files, or a made trace with neither a map nor files.
 pub(crate) fn work_of<'a>(made: Option<&str>, map: bool, files: &'a [String]) -> Option<Target<'a>>
-    ensures { option_map work_in result ≡ work_with (option_map (λ w. w.now) made.entry) map (texts files.now) }
+    ensures { option_map work_in result ≡ work_with (option_map
+        (λ w. w.now) made.entry) map (texts files.now) }
 {
     let Some(word) = made else {
         if files.is_empty() || files.len() > 16 {

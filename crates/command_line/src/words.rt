@@ -1,21 +1,22 @@
-//! What the words of the command line ask for.
+//! The order that the words of the command line ask for.
 
 ghost use Rattle.std.specs.Prelude.{◌≡◌, IfOk, option_map};
-ghost use Rattle.command_line.specs.Words.{form_of, is_served as can_run, job_for, job_of};
+ghost use Rattle.command_line.specs.Words.{form_of, is_supported as can_run, job_for, job_of};
 ghost use Rattle.command_line.specs.Orders.{job_of_order, texts, values_seen};
 
 use crate::clap_values::{Found, read_values};
-use crate::cutting::{are_all_single, cut_words};
 use crate::order::{Order, PlanName, Target};
+use crate::splitter::{are_all_single, cut_words};
 use crate::values::{number_within, plan_named, work_of, workers_of};
+use heap_layout::{MAX_BLOCKS, MIN_BLOCKS};
 use std::alloc::{AllocError, Global};
 
-// What the values ask for.
+// The order of these values and files. `None` if a value is missing or bad.
 fn order_of<'a>(found: &Found<'a>, files: &'a [String]) -> Option<Order<'a>>
     ensures { option_map job_of_order result ≡ job_for (values_seen found.now) (texts files.now) }
 {
     let plan = plan_named(found.plan?)?;
-    let blocks = number_within(found.heap?, 4, 1024)?;
+    let blocks = number_within(found.heap?, MIN_BLOCKS, MAX_BLOCKS)?;
     let workers = workers_of(found.workers)?;
     let work = work_of(found.make, found.map, files)?;
     Some(Order {
@@ -27,7 +28,9 @@ fn order_of<'a>(found: &Found<'a>, files: &'a [String]) -> Option<Order<'a>>
     })
 }
 
-// What words of the form ask for.
+// The order that the words ask for, implemented or not. `None` if they do not match the usage.
+//
+// Errors: out of memory.
 #[tactic(auto, unfolding(crate::specs::Words::form_of))]
 pub(crate) fn read_form<'a>(
     alloc: Global,
@@ -45,8 +48,8 @@ pub(crate) fn read_form<'a>(
     Ok(order_of(&found, parts.files))
 }
 
-// One mutator under the plan that collects nothing, with one worker and no map.
-fn is_served(order: &Order) -> bool
+// Whether the order is implemented: `nogc`, one file, one worker and no map.
+fn is_supported(order: &Order) -> bool
     ensures { result ≡ can_run (job_of_order order.now) }
 {
     matches!(order.plan, PlanName::NoGc)
@@ -55,10 +58,13 @@ fn is_served(order: &Order) -> bool
         && matches!(order.work, Target::Files([_]))
 }
 
-/// What the words behind the program's name ask for: `None` where they have not the form, or where
-/// they ask for another plan than `nogc`, several files, several workers, a map or a made trace.
+/// What the arguments after the program's name ask for.
 ///
-/// It fails only for want of memory. The order borrows the names of its files from the words.
+/// `None` if the arguments do not match the usage, or ask for a feature that is not implemented
+/// yet: a plan other than `nogc`, several files, several workers, a map or a made trace. The order
+/// borrows the names of its files from the arguments.
+///
+/// Errors: out of memory.
 #[tactic(auto, unfolding(crate::specs::Words::job_of))]
 pub fn read_words<'a>(alloc: Global, words: &'a [String]) -> Result<Option<Order<'a>>, AllocError>
     ensures { IfOk result (λ r. option_map job_of_order r ≡ job_of (texts words.now)) }
@@ -66,7 +72,7 @@ pub fn read_words<'a>(alloc: Global, words: &'a [String]) -> Result<Option<Order
     let Some(order) = read_form(alloc, words)? else {
         return Ok(None);
     };
-    if is_served(&order) {
+    if is_supported(&order) {
         Ok(Some(order))
     } else {
         Ok(None)

@@ -5,7 +5,7 @@ use Rattle.heap_layout.specs.declared.block.Kind.TheVariants.{Free, Bump, Young,
 use Rattle.heap_layout.specs.declared.block.BlockWord.{BlockWord}
 use Rattle.heap_layout.specs.Blocks.{kind_code, kind_of_code, code_of, is_valid_for, is_valid_for_some, IsValid, is_block_code}
 
--- a kind's number stands for it
+-- a kind's number decodes to it
 pub kind_of_code-kind_code : (k : Kind) → kind_of_code (kind_code k) ≡ Some k
 kind_of_code-kind_code Free = refl
 kind_of_code-kind_code Bump = refl
@@ -21,7 +21,7 @@ kind_of_code-kind_code Kept = refl
 pub kind_code_most : (k : Kind) → kind_code k ≤ 8
 kind_code_most k = grind arith
 
--- what a valid class and owner are at most
+-- the upper bounds of a valid class and owner
 pub valid_most : (k : Kind) (class owner : ℕ) → IsTrue (is_valid_for k class owner) → (class ≤ 18) × (owner ≤ 32)
 valid_most k class owner h = grind arith
 
@@ -55,27 +55,6 @@ block_word_of_code kind owner v w there high valid same =
     let is : kind ≡ w.kind = cc in
     block_word_same (record { kind = kind; class = v / 256 % 256; owner = owner }) w is parts.1 (high ∙ parts.2)
 
--- a code has one valid block word
-pub code_of_unique : (x y : BlockWord) → IsValid x → IsValid y → code_of x ≡ code_of y → x ≡ y
-code_of_unique x y p q same =
-    let px = parts_of_code x (code_of y) p same in
-    let py = parts_of_code y (code_of y) q refl in
-    let kind : x.kind ≡ y.kind = cc in
-    let class : x.class ≡ y.class = cc in
-    let owner : x.owner ≡ y.owner = cc in
-    block_word_same x y kind class owner
-
--- a number that stands for a kind is the kind's
+-- a number that represents a kind is the code of that kind
 pub kind_code_of : (n : ℕ) (k : Kind) → kind_of_code n ≡ Some k → kind_code k ≡ n
 kind_code_of n k there = grind arith
-
--- the block word that a code's three parts make
-word_of_parts : (o : Option Kind) (v : ℕ) → kind_of_code (v % 256) ≡ o → IsTrue (is_valid_for_some o (v / 256 % 256) (v / 65536)) → (w : BlockWord) × IsValid w × (code_of w ≡ v)
-word_of_parts None v there valid = let wrong : false ≡ true = valid in absurd (cc)
-word_of_parts (Some k) v there valid =
-    let low : kind_code k ≡ v % 256 = kind_code_of (v % 256) k there in
-    (record { kind = k; class = v / 256 % 256; owner = v / 65536 }, valid, omega arith)
-
--- a code that stands for a block word is the code of a valid one
-pub word_of_block_code : (v : ℕ) → IsTrue (is_block_code v) → (w : BlockWord) × IsValid w × (code_of w ≡ v)
-word_of_block_code v valid = word_of_parts (kind_of_code (v % 256)) v refl valid

@@ -1,10 +1,10 @@
--- Block words: what a block is used for, and the number that says so.
+-- Block words, and the numbers that encode them.
 use Rattle.std.specs.Prelude.{ℕ, ◌+◌, ◌*◌, ◌/◌, ◌%◌, Bool, false, ◌&&◌, nat_eq, nat_le, IsTrue, List, [], ◌∷◌, Option, Some, None, slice_get}
 use Rattle.heap_layout.specs.declared.block.Kind.{Kind}
 use Rattle.heap_layout.specs.declared.block.Kind.TheVariants.{Free, Bump, Young, Mature, Immix, Cells, LargeHead, LargeTail, Kept}
 use Rattle.heap_layout.specs.declared.block.BlockWord.{BlockWord}
 
--- the number that stands for a kind
+-- the number that encodes a kind
 abbrev pub kind_code : Kind → ℕ
 kind_code Free = 0
 kind_code Bump = 1
@@ -20,18 +20,15 @@ kind_code Kept = 8
 abbrev pub all_kinds : List Kind
 all_kinds = Free ∷ Bump ∷ Young ∷ Mature ∷ Immix ∷ Cells ∷ LargeHead ∷ LargeTail ∷ Kept ∷ []
 
--- the kind that a number stands for
+-- the kind that a number encodes
 abbrev pub kind_of_code : ℕ → Option Kind
 kind_of_code n = slice_get all_kinds n
 
--- a block word's code
+-- the number that encodes a block word
 abbrev pub code_of : BlockWord → ℕ
 code_of w = kind_code w.kind + 256 * w.class + 65536 * w.owner
 
--- Of cells the class is that of the cells' size, of a large head the number of blocks of its run.
--- Owner 0 is nobody, 1 to 16 a mutator, 17 to 32 a tracing worker.
-
--- the kind may have this class and this owner
+-- The kind allows this class and this owner. BlockWord in src/block.rt lists their values.
 abbrev pub is_valid_for : Kind → ℕ → ℕ → Bool
 is_valid_for Free class owner = nat_eq class 0 && nat_eq owner 0
 is_valid_for Bump class owner = nat_eq class 0 && nat_le owner 32
@@ -46,11 +43,11 @@ is_valid_for Kept class owner = nat_eq class 0 && nat_eq owner 0
 abbrev pub IsValid : BlockWord → Type 0
 IsValid w = IsTrue (is_valid_for w.kind w.class w.owner)
 
--- there is such a kind, and it may have this class and this owner
+-- there is a kind, and it allows this class and this owner
 abbrev pub is_valid_for_some : Option Kind → ℕ → ℕ → Bool
 is_valid_for_some None class owner = false
 is_valid_for_some (Some kind) class owner = is_valid_for kind class owner
 
--- v is the code of a valid block word
+-- v encodes a valid block word
 abbrev pub is_block_code : ℕ → Bool
 is_block_code v = is_valid_for_some (kind_of_code (v % 256)) (v / 256 % 256) (v / 65536)

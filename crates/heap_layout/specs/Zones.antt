@@ -1,6 +1,7 @@
--- Where each part of a heap's row of words lies. b is the number of blocks.
+-- The zones of a heap's row of words. b is the number of blocks. Indexes and sizes are in words.
 use Rattle.std.specs.Prelude.{ℕ, ◌+◌, ◌*◌, ◌-◌, ◌/◌, ◌%◌, ◌<◌, ◌≤◌, List, slice_index, nat_eq, nat_le, nat_lt, ◌&&◌, Bool}
 use Rattle.std.specs.Int.{bit_at}
+use Rattle.heap_layout.specs.declared.layout.TheConstants.{BLOCK_WORDS}
 
 -- the parts of the row, in order
 pub data Zone : Type 0 where
@@ -26,7 +27,7 @@ first b PinBits = 18 + 69 * b
 first b UnlogBits = 18 + 133 * b
 first b HeapWords = 18 + 197 * b
 
--- how many words a zone has
+-- the number of words of a zone
 abbrev pub extent : ℕ → Zone → ℕ
 extent b StopWord = 1
 extent b BudgetWord = 1
@@ -36,44 +37,44 @@ extent b LineWords = 4 * b
 extent b StartBits = 64 * b
 extent b PinBits = 64 * b
 extent b UnlogBits = 64 * b
-extent b HeapWords = 4096 * b
+extent b HeapWords = BLOCK_WORDS * b
 
--- how many words the row has
-abbrev pub words_of : ℕ → ℕ
-words_of b = 18 + 4293 * b
+-- the number of words of the row
+abbrev pub row_words : ℕ → ℕ
+row_words b = 18 + 4293 * b
 
 -- the index i lies in the zone
 pub record InZone (b : ℕ) (z : Zone) (i : ℕ) : Type 0 where
   pub from : first b z ≤ i
   pub below : i < first b z + extent b z
 
--- the first word of the heap
+-- the first address of the heap
 abbrev pub heap_of : ℕ → ℕ
 heap_of b = first b HeapWords
 
 -- a is an address: the index of a word of the heap
 pub record IsAddress (b a : ℕ) : Type 0 where
   pub from : heap_of b ≤ a
-  pub below : a < words_of b
+  pub below : a < row_words b
 
--- the block of an address, its offset there, and its line counted from the heap's first
+-- the block of an address, its offset in the block, and its line, counted from the first line of the heap
 abbrev pub block_at : ℕ → ℕ → ℕ
-block_at b a = (a - heap_of b) / 4096
+block_at b a = (a - heap_of b) / BLOCK_WORDS
 
 abbrev pub offset_at : ℕ → ℕ → ℕ
-offset_at b a = (a - heap_of b) % 4096
+offset_at b a = (a - heap_of b) % BLOCK_WORDS
 
 abbrev pub line_at : ℕ → ℕ → ℕ
 line_at b a = (a - heap_of b) / 16
 
 -- the first address of block k
 abbrev pub block_start : ℕ → ℕ → ℕ
-block_start b k = heap_of b + 4096 * k
+block_start b k = heap_of b + BLOCK_WORDS * k
 
 -- bit n of a zone, in the row w: bit n mod 64 of the zone's word n / 64
 abbrev pub bit_of : ℕ → Zone → List ℕ → ℕ → Bool
 bit_of b z w n = nat_eq (bit_at (slice_index w (first b z + n / 64)) (n % 64)) 1
 
--- the bit of an address in a zone with a bit for each word of the heap; no other index is marked
-abbrev pub mark_of : ℕ → Zone → List ℕ → ℕ → Bool
-mark_of b z w a = nat_le (heap_of b) a && nat_lt a (words_of b) && bit_of b z w (a - heap_of b)
+-- the bit of an address in a zone with a bit for each word of the heap; false if the index is no address
+abbrev pub address_bit : ℕ → Zone → List ℕ → ℕ → Bool
+address_bit b z w a = nat_le (heap_of b) a && nat_lt a (row_words b) && bit_of b z w (a - heap_of b)

@@ -1,15 +1,17 @@
-/// What a block is used for.
+//! Block words: the use of each block.
+
+/// The use of a block.
 #[derive(Clone, Copy, Debug, PartialEq, Eq)]
 pub enum Kind {
-    /// Nothing lies in it.
+    /// No object lies in it.
     Free,
-    /// Objects side by side from its first word, as in a copy space.
+    /// Objects side by side from the first word on, as in MMTk's copy space.
     Bump,
-    /// The same, of a nursery.
+    /// Objects side by side, in the nursery of a generational plan.
     Young,
-    /// The same, of what has left the nursery.
+    /// Objects side by side that were copied out of the nursery.
     Mature,
-    /// Lines, taken through the holes between the marked ones (Immix).
+    /// Lines. Objects are allocated in the holes between marked lines (Immix).
     Immix,
     /// Cells of one size.
     Cells,
@@ -17,17 +19,18 @@ pub enum Kind {
     LargeHead,
     /// A further block of a large object.
     LargeTail,
-    /// Objects that a copying collection left where they were.
+    /// Objects that a copying collection left in place.
     Kept,
 }
 
-/// A block's kind, its class and its owner.
-///
-/// The class is that of the cells' size, or of a large head the blocks of its run, and else 0.
-/// Owner 0 is nobody, 1 to 16 a mutator, 17 to 32 a tracing worker.
+/// A block's kind, class and owner.
 #[derive(Clone, Copy, Debug, PartialEq, Eq)]
 pub struct BlockWord {
+    /// The use of the block.
     pub kind: Kind,
+    /// Of `Cells` the size class, 0 to 18. Of `LargeHead` the number of blocks of the large object,
+    /// 1 to 15. Else 0.
     pub class: u32,
+    /// 0 is nobody, 1 to 16 a mutator, 17 to 32 a tracing worker.
     pub owner: u32,
 }

@@ -1,57 +1,69 @@
+//! The positions of all parts of a heap in its row of words.
+
 ghost use Rattle.std.specs.Prelude.{◌≡◌, ◌+◌, ◌*◌, ◌<◌, ◌≤◌, ◌↔◌, IsOk, IfOk, IfErr};
+ghost use Rattle.heap_layout.specs.declared.layout.TheConstants.{MIN_BLOCKS, MAX_BLOCKS};
 
 use thiserror::Error;
 
-/// How many blocks a heap has, 4 to 1,024, and so where each part of its row of words lies.
+/// The number of words of a block: 32 KB, as in Immix.
+pub const BLOCK_WORDS: u32 = 4096;
+
+/// The minimum number of blocks of a heap.
+pub const MIN_BLOCKS: u32 = 4;
+
+/// The maximum number of blocks of a heap.
+pub const MAX_BLOCKS: u32 = 1024;
+
+/// The number of blocks of a heap, which determines where each part of its row of words lies.
 ///
 /// A word has 8 bytes, a line 16 words, a block 256 lines (the sizes of Immix), a chunk 128 blocks.
-/// The row holds the heap's side metadata first and the heap last; its indexes are word indexes.
+/// The side metadata comes first in the row, the heap last. An address is the index of a heap word.
 #[derive(Clone, Copy, Debug, PartialEq, Eq)]
 pub struct Layout {
     blocks: u32,
-    pub ghost least: { 4 ≤ blocks },
-    pub ghost most: { blocks ≤ 1024 },
+    pub ghost least: { MIN_BLOCKS ≤ blocks },
+    pub ghost most: { blocks ≤ MAX_BLOCKS },
 }
 
-/// Why there is no such layout.
+/// Why a layout was refused.
 #[derive(Clone, Copy, Debug, PartialEq, Eq, Error)]
 pub enum LayoutFault {
-    /// No heap has so many blocks.
+    /// The number of blocks is out of range.
     #[error("a heap has 4 to 1024 blocks, not {0}")]
     Size(u32),
 }
 
 impl Layout {
-    ghost use Rattle.heap_layout.specs.Zones.{first, words_of, heap_of, block_start};
+    ghost use Rattle.heap_layout.specs.Zones.{first, row_words, heap_of, block_start};
     ghost use Rattle.heap_layout.specs.Zones.Zone.{Globals, BlockWords, LineWords, StartBits, PinBits, UnlogBits};
 
-    /// The layout of a heap with so many blocks.
+    /// The layout of a heap of `blocks` blocks. Fails with `Size` unless `blocks` is 4 to 1,024.
     pub fn new(blocks: u32) -> Result<Layout, LayoutFault>
-        ensures ok { IsOk result ↔ ((4 ≤ blocks) × (blocks ≤ 1024)) }
+        ensures ok { IsOk result ↔ ((MIN_BLOCKS ≤ blocks) × (blocks ≤ MAX_BLOCKS)) }
         ensures blocks { IfOk result (λ l. l.blocks ≡ blocks) }
         ensures size { IfErr result (λ e. e ≡ LayoutFault.Size blocks) }
     {
-        if blocks < 4 || blocks > 1024 {
+        if blocks < MIN_BLOCKS || blocks > MAX_BLOCKS {
             return Err(LayoutFault::Size(blocks));
         }
         Ok(Layout { blocks })
     }
 
-    /// How many blocks the heap has.
+    /// The number of blocks of the heap.
     pub fn blocks(&self) -> u32
         ensures { result ≡ self.now.blocks }
     {
         self.blocks
     }
 
-    /// How many words the row has.
+    /// The number of words of the row.
     pub fn words(&self) -> u32
-        ensures { result ≡ words_of self.now.blocks }
+        ensures { result ≡ row_words self.now.blocks }
     {
         18 + 4293 * self.blocks
     }
 
-    /// The index of global `g`.
+    /// The index of global `g`, 0 to 15.
     pub fn global_at(&self, g: u32) -> u32
         requires { g ≤ 15 }
         ensures { result ≡ first self.now.blocks Globals + g }
@@ -59,7 +71,7 @@ impl Layout {
         2 + g
     }
 
-    /// The index of block `b`'s block word.
+    /// The index of the block word of block `b`.
     pub fn block_at(&self, b: u32) -> u32
         requires { b < self.now.blocks }
         ensures { result ≡ first self.now.blocks BlockWords + b }
@@ -67,7 +79,7 @@ impl Layout {
         18 + b
     }
 
-    /// The index of the first of block `b`'s four line words.
+    /// The index of the first of the four line words of block `b`.
     pub fn line_at(&self, b: u32) -> u32
         requires { b < self.now.blocks }
         ensures { result ≡ first self.now.blocks LineWords + 4 * b }
@@ -75,28 +87,28 @@ impl Layout {
         18 + self.blocks + 4 * b
     }
 
-    /// The index of the first word of object-start bits.
+    /// The index of the first word of start bits. There is one bit for each word of the heap.
     pub fn start_base(&self) -> u32
         ensures { result ≡ first self.now.blocks StartBits }
     {
         18 + 5 * self.blocks
     }
 
-    /// The index of the first word of pin bits.
+    /// The index of the first word of pin bits. There is one bit for each word of the heap.
     pub fn pin_base(&self) -> u32
         ensures { result ≡ first self.now.blocks PinBits }
     {
         18 + 69 * self.blocks
     }
 
-    /// The index of the first word of unlog bits.
+    /// The index of the first word of unlog bits. There is one bit for each word of the heap.
     pub fn unlog_base(&self) -> u32
         ensures { result ≡ first self.now.blocks UnlogBits }
     {
         18 + 133 * self.blocks
     }
 
-    /// The heap's first address.
+    /// The first address of the heap.
     pub fn heap_base(&self) -> u32
         ensures { result ≡ heap_of self.now.blocks }
     {
@@ -106,9 +118,9 @@ impl Layout {
     /// The address of word `w` of block `b`.
     pub fn address(&self, b: u32, w: u32) -> u32
         requires block { b < self.now.blocks }
-        requires word { w < 4096 }
+        requires word { w < BLOCK_WORDS }
         ensures { result ≡ block_start self.now.blocks b + w }
     {
-        self.heap_base() + 4096 * b + w
+        self.heap_base() + BLOCK_WORDS * b + w
     }
 }

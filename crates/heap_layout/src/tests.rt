@@ -1,3 +1,5 @@
+//! Tests against values computed by hand.
+
 use crate::{
     BlockWord, Kind, Layout, LayoutFault, Region, block_of, bump, chunk_of, decode, encode, line_of,
 };

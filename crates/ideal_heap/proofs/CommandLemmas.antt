@@ -1,4 +1,4 @@
--- The step of each command, from what a program that carries it out reads: the reply and the heap behind it.
+-- The step of each command, from what a program that executes it reads: the reply and the heap after it.
 use Rattle.std.proofs.Common.{◌≡◌, ℕ, ◌+◌, ◌%◌, ◌^◌, ◌<◌, ◌≤◌, true, false, nat_eq, nat_lt, eq-eqb, refl, ap, sym, ◌∙◌, inl, inr, Option, Some, None, List, length, get_or, slice_get, slice_index, map, unwrap_or, if◌then◌else◌, arith}
 use Rattle.std.proofs.lemmas.Bool.Decides.{eqb_tells}
 use Rattle.std.proofs.lemmas.List.{length-map, get_or_read}
@@ -9,7 +9,7 @@ use Rattle.ideal_heap.specs.declared.command.Command.TheVariants as c
 use Rattle.ideal_heap.specs.declared.reply.Reply.{Reply}
 use Rattle.ideal_heap.specs.declared.reply.Reply.TheVariants as r
 use Rattle.ideal_heap.specs.Names.{name}
-use Rattle.ideal_heap.specs.Ideal.{IdealHeap, Record, Nil, Outcome, set_register, set_global, set_record, set_pinned, record_of, field_at, field_of, put_field, put_number, name_in, told, told_field, born, with_object, with_new, step}
+use Rattle.ideal_heap.specs.Ideal.{IdealHeap, Record, Nil, Outcome, set_register, set_global, set_record, set_pinned, record_of, field_at, field_of, put_field, put_number, name_in, global_reply, field_reply, born, with_object, with_new, step}
 use Rattle.ideal_heap.proofs.UpdateLemmas.{nat_lt-cases, at_number-same}
 use Rattle.ideal_heap.proofs.StepLemmas.{object-null, object-some, ref-past, ref-within, num-past, num-within, getting, putting, reading, writing, adding, swapping, pinning, unpinning}
 
@@ -19,7 +19,7 @@ below-from a b is = elim (nat_lt-cases a b) [ inl yes' ↦ yes'.1 | inr not ↦ 
 pub past-from : (a b : ℕ) → false ≡ nat_lt a b → b ≤ a
 past-from a b is = elim (nat_lt-cases a b) [ inl yes' ↦ let wrong : false ≡ true = is ∙ yes'.0 in absurd cc | inr not ↦ not.1 ]
 
--- a reply and the heap behind it, where the heap is known by an equation
+-- a reply and the heap after it, if an equation gives the heap
 pub with_heap : (x : Reply) (a b : IdealHeap) → a ≡ b → (let o : Outcome = (x, a) in o) ≡ (x, b)
 with_heap x a b is = ap (λ k. let o : Outcome = (x, k) in o) is
 
@@ -108,9 +108,9 @@ swap-yes h k m s j u v n xs x is nums within x_is same heap =
 
 -- fields: `xs` are what the references hold
 
-told-field : (v : Option Name) → told v ≡ told_field (field_of v)
-told-field None = refl
-told-field (Some n) = refl
+global_reply-field : (v : Option Name) → global_reply v ≡ field_reply (field_of v)
+global_reply-field None = refl
+global_reply-field (Some n) = refl
 
 name_in-field : (v : Option Name) → name_in (field_of v) ≡ v
 name_in-field None = refl
@@ -132,14 +132,14 @@ unfolding step
 get-past h m d s i n xs is refs past = sym (ref-past h (h.registers m s) i (getting h m d i) n is (omega (arith, past, ap length refs, length-map xs field_of)))
 
 pub get-done : (h k : IdealHeap) (m d s i : ℕ) (n : Name) (xs : List (Option Name)) (v : Option Name) (x : Reply) → h.registers m s ≡ Some n → map field_of xs ≡ (record_of h n).refs → i < length xs
-    → v ≡ get_or xs i v → x ≡ told v → k ≡ set_register h m d v → (let o : Outcome = (x, k) in o) ≡ step h m (c.Get d s i)
+    → v ≡ get_or xs i v → x ≡ global_reply v → k ≡ set_register h m d v → (let o : Outcome = (x, k) in o) ≡ step h m (c.Get d s i)
 unfolding step
 get-done h k m d s i n xs v x is refs within v_is reply heap =
     let field : field_at (record_of h n) i ≡ field_of v = field-read (record_of h n) xs i v refs within v_is in
     with_heap x k (set_register h m d v) heap
-    ∙ ap (λ y. let o : Outcome = (y, set_register h m d v) in o) (reply ∙ told-field v)
-    ∙ ap (λ w. let o : Outcome = (told_field (field_of v), set_register h m d w) in o) (sym (name_in-field v))
-    ∙ ap (λ f. let o : Outcome = (told_field f, set_register h m d (name_in f)) in o) (sym field)
+    ∙ ap (λ y. let o : Outcome = (y, set_register h m d v) in o) (reply ∙ global_reply-field v)
+    ∙ ap (λ w. let o : Outcome = (field_reply (field_of v), set_register h m d w) in o) (sym (name_in-field v))
+    ∙ ap (λ f. let o : Outcome = (field_reply f, set_register h m d (name_in f)) in o) (sym field)
     ∙ sym (ref-within h (h.registers m s) i (getting h m d i) n is (omega (arith, within, ap length refs, length-map xs field_of)))
 
 pub put-null : (h : IdealHeap) (m s i v : ℕ) → h.registers m s ≡ None → (let o : Outcome = (r.Null, h) in o) ≡ step h m (c.Put s i v)
@@ -169,11 +169,11 @@ pub drop-done : (h k : IdealHeap) (m s : ℕ) → k ≡ set_register h m s None 
 unfolding step
 drop-done h k m s heap = with_heap r.Done k (set_register h m s None) heap
 
-pub load-done : (h k : IdealHeap) (m d g : ℕ) (v : Option Name) (x : Reply) → v ≡ h.globals g → x ≡ told v → k ≡ set_register h m d v → (let o : Outcome = (x, k) in o) ≡ step h m (c.Load d g)
+pub load-done : (h k : IdealHeap) (m d g : ℕ) (v : Option Name) (x : Reply) → v ≡ h.globals g → x ≡ global_reply v → k ≡ set_register h m d v → (let o : Outcome = (x, k) in o) ≡ step h m (c.Load d g)
 unfolding step
 load-done h k m d g v x v_is reply heap =
     with_heap x k (set_register h m d (h.globals g)) (heap ∙ ap (λ y. set_register h m d y) v_is)
-    ∙ ap (λ y. let o : Outcome = (y, set_register h m d (h.globals g)) in o) (reply ∙ ap told v_is)
+    ∙ ap (λ y. let o : Outcome = (y, set_register h m d (h.globals g)) in o) (reply ∙ ap global_reply v_is)
 
 pub share-done : (h k : IdealHeap) (m g s : ℕ) (v : Option Name) → v ≡ h.registers m s → k ≡ set_global h g v → (let o : Outcome = (r.Done, k) in o) ≡ step h m (c.Share g s)
 unfolding step
@@ -213,7 +213,7 @@ unpin-was_not h k m s n is was heap =
     with_heap r.No k (set_pinned h n false) heap
     ∙ sym (object-some h (h.registers m s) (unpinning h) n is ∙ ap (λ b. let o : Outcome = ((if b then r.Yes else r.No), set_pinned h n false) in o) was)
 
--- a new object: its name, and the heap behind its birth and the register
+-- a new object: its name, and the heap after its allocation and the change of the register
 
 pub new-birth : (h k : IdealHeap) (m birth : ℕ) (x : Record) → k ≡ with_object h m x → birth ≡ k.births m → birth ≡ h.births m + 1
 new-birth h k m birth x stored is = is ∙ ap (λ q. q.births m) stored ∙ at_number-same h.births m (h.births m + 1)

@@ -1,4 +1,4 @@
--- Ideal heaps stay ideal heaps, closed heaps closed, and records stay.
+-- Steps preserve ideal heaps, closed heaps and records.
 use Rattle.std.proofs.Common.{IsTrue, Result, Ok, Err, MatchResult, ◌≡◌, ℕ, ◌+◌, ◌≤◌, Bool, true, false, refl, ap, sym, ◌∙◌, subst, inl, inr, Option, Some, None, List, [], ◌∷◌, is_some, IsSome, Contains, IsSomeAnd, unwrap_or, if◌then◌else◌, arith}
 use Rattle.std.specs.List.{AllByRecursion}
 use Rattle.ideal_heap.specs.declared.name.Name.{Name}
@@ -6,20 +6,20 @@ use Rattle.ideal_heap.specs.declared.command.Command.{Command}
 use Rattle.ideal_heap.specs.declared.reply.Reply.{Reply}
 use Rattle.ideal_heap.specs.Names.{name, same_name}
 use Rattle.ideal_heap.specs.Commands.{IsValid}
-use Rattle.ideal_heap.specs.Ideal.{Outcome, IdealHeap, Record, Nil, At, empty, at_number, set_register, set_global, set_record, set_pinned, record_of, no_fields, field_at, born, with_new, step, IsBorn, IsClosed, IsIdeal, HasShapeOf}
+use Rattle.ideal_heap.specs.Ideal.{Outcome, IdealHeap, Record, Nil, At, empty, at_number, set_register, set_global, set_record, set_pinned, record_of, no_fields, field_at, born, with_new, step, HasRecord, IsClosed, IsIdeal, HasShapeOf}
 use Rattle.ideal_heap.specs.Reach.{Reaches, from_register, from_global, from_field}
 use Rattle.ideal_heap.specs.Runs.{Entry, after, after_entry, is_full}
 use Rattle.ideal_heap.proofs.UpdateLemmas.{at_number-cases, at_number-same, at_name-cases, at_name-same, register-cases, at-nils}
 use Rattle.ideal_heap.proofs.StepLemmas.{by_step}
 
--- no update of a record takes a record out
-pub born-kept : (h : IdealHeap) (n : Name) (x : Record) (k : Name) → IsBorn h k → IsBorn (set_record h n x) k
+-- no update of a record removes a record
+pub born-kept : (h : IdealHeap) (n : Name) (x : Record) (k : Name) → HasRecord h k → HasRecord (set_record h n x) k
 born-kept h n x k is = elim (same_name k n) as (λ b. IsSome (if b then Some x else h.records k)) [ true ↦ refl | false ↦ is ]
 
-pub born-here : (h : IdealHeap) (n : Name) (x : Record) → IsBorn (set_record h n x) n
+pub born-here : (h : IdealHeap) (n : Name) (x : Record) → HasRecord (set_record h n x) n
 born-here h n x = rw (at_name-same h.records n (Some x)) refl
 
-closed-register : (h : IdealHeap) → IsClosed h → (m d : ℕ) (v : Option Name) → ((n : Name) → v ≡ Some n → IsBorn h n) → IsClosed (set_register h m d v)
+closed-register : (h : IdealHeap) → IsClosed h → (m d : ℕ) (v : Option Name) → ((n : Name) → v ≡ Some n → HasRecord h n) → IsClosed (set_register h m d v)
 closed-register h closed m d v new = record {
   registers = λ m' d' n is. elim (register-cases h m d v m' d') [
     | inl set ↦ new n (sym set.2 ∙ is)
@@ -30,7 +30,7 @@ closed-register h closed m d v new = record {
   pins = closed.pins;
 }
 
-closed-global : (h : IdealHeap) → IsClosed h → (g : ℕ) (v : Option Name) → ((n : Name) → v ≡ Some n → IsBorn h n) → IsClosed (set_global h g v)
+closed-global : (h : IdealHeap) → IsClosed h → (g : ℕ) (v : Option Name) → ((n : Name) → v ≡ Some n → HasRecord h n) → IsClosed (set_global h g v)
 closed-global h closed g v new = record {
   registers = closed.registers;
   globals = λ g' n is. elim (at_number-cases h.globals g v g') [
@@ -41,7 +41,7 @@ closed-global h closed g v new = record {
   pins = closed.pins;
 }
 
-closed-record : (h : IdealHeap) → IsClosed h → (n : Name) (x : Record) → ((i : ℕ) (to : Name) → field_at x i ≡ At to → IsBorn (set_record h n x) to) → IsClosed (set_record h n x)
+closed-record : (h : IdealHeap) → IsClosed h → (n : Name) (x : Record) → ((i : ℕ) (to : Name) → field_at x i ≡ At to → HasRecord (set_record h n x) to) → IsClosed (set_record h n x)
 closed-record h closed n x new = record {
   registers = λ m d k is. born-kept h n x k (closed.registers m d k is);
   globals = λ g k is. born-kept h n x k (closed.globals g k is);
@@ -52,13 +52,13 @@ closed-record h closed n x new = record {
   pins = λ k is. born-kept h n x k (closed.pins k is);
 }
 
-closed-pinned : (h : IdealHeap) → IsClosed h → (n : Name) (b : Bool) → IsBorn h n → IsClosed (set_pinned h n b)
+closed-pinned : (h : IdealHeap) → IsClosed h → (n : Name) (b : Bool) → HasRecord h n → IsClosed (set_pinned h n b)
 closed-pinned h closed n b is_born = record {
   registers = closed.registers;
   globals = closed.globals;
   fields = closed.fields;
   pins = λ k is. elim (at_name-cases h.pinned n b k) [
-    | inl set ↦ subst (λ q. IsBorn h q) (sym set.0) is_born
+    | inl set ↦ subst (λ q. HasRecord h q) (sym set.0) is_born
     | inr kept ↦ closed.pins k (sym kept.1 ∙ is)
   ];
 }
@@ -73,10 +73,10 @@ closed-new : (h : IdealHeap) → IsClosed h → (m d refs nums : ℕ) → IsClos
 closed-new h closed m d refs nums =
     let n : Name = name m (h.births m + 1) in
     let made : IdealHeap = set_record h n (born refs nums) in
-    let counted : IdealHeap = record made { births = at_number h.births m (h.births m + 1) } in
-    closed-register counted
+    let nth_from_one : IdealHeap = record made { births = at_number h.births m (h.births m + 1) } in
+    closed-register nth_from_one
     (closed-births made (closed-record h closed n (born refs nums) (λ i to is. absurd (nil-field refs nums i to is))) (at_number h.births m (h.births m + 1)))
-    m d (Some n) (λ k is. let same : n ≡ k = cc in subst (λ q. IsBorn counted q) same (born-here h n (born refs nums)))
+    m d (Some n) (λ k is. let same : n ≡ k = cc in subst (λ q. HasRecord nth_from_one q) same (born-here h n (born refs nums)))
 
 pub step-closed : (h : IdealHeap) (m : ℕ) (c : Command) → IsClosed h → IsClosed (step h m c).1
 step-closed h m c closed = by_step IsClosed h m c closed (record {
@@ -88,14 +88,14 @@ step-closed h m c closed = by_step IsClosed h m c closed (record {
   pin = λ n b is. closed-pinned h closed n b is;
 })
 
--- A record that is written where one is, or a pin, makes no name; an ideal heap's other parts are as they were.
-born-back : (h : IdealHeap) (n : Name) (x : Record) → IsBorn h n → (k : Name) → IsBorn (set_record h n x) k → IsBorn h k
+-- An update of an existing record or of a pin adds no name and changes no other part of an ideal heap.
+born-back : (h : IdealHeap) (n : Name) (x : Record) → HasRecord h n → (k : Name) → HasRecord (set_record h n x) k → HasRecord h k
 born-back h n x is_born k is = elim (at_name-cases h.records n (Some x) k) [
-  | inl set ↦ subst (λ q. IsBorn h q) (sym set.0) is_born
+  | inl set ↦ subst (λ q. HasRecord h q) (sym set.0) is_born
   | inr kept ↦ sym (ap is_some kept.1) ∙ is
 ]
 
-ideal-register : (ms : List ℕ) (h : IdealHeap) → IsIdeal ms h → (m d : ℕ) → Contains ms m → d ≤ 15 → (v : Option Name) → ((n : Name) → v ≡ Some n → IsBorn h n) → IsIdeal ms (set_register h m d v)
+ideal-register : (ms : List ℕ) (h : IdealHeap) → IsIdeal ms h → (m d : ℕ) → Contains ms m → d ≤ 15 → (v : Option Name) → ((n : Name) → v ≡ Some n → HasRecord h n) → IsIdeal ms (set_register h m d v)
 ideal-register ms h ideal m d one low v new = record {
   places = record {
     registers = λ m' d' n is. elim (register-cases h m d v m' d') [
@@ -108,7 +108,7 @@ ideal-register ms h ideal m d one low v new = record {
   closed = closed-register h ideal.closed m d v new;
 }
 
-ideal-global : (ms : List ℕ) (h : IdealHeap) → IsIdeal ms h → (g : ℕ) → g ≤ 15 → (v : Option Name) → ((n : Name) → v ≡ Some n → IsBorn h n) → IsIdeal ms (set_global h g v)
+ideal-global : (ms : List ℕ) (h : IdealHeap) → IsIdeal ms h → (g : ℕ) → g ≤ 15 → (v : Option Name) → ((n : Name) → v ≡ Some n → HasRecord h n) → IsIdeal ms (set_global h g v)
 ideal-global ms h ideal g low v new = record {
   places = record {
     registers = ideal.places.registers;
@@ -121,7 +121,7 @@ ideal-global ms h ideal g low v new = record {
   closed = closed-global h ideal.closed g v new;
 }
 
--- the new name, and the older ones, under the count that has risen
+-- the new name and the older ones are within the incremented count
 born-count : (h : IdealHeap) (m : ℕ) (k : Name) → k ≡ name m (h.births m + 1) → (1 ≤ k.birth) × (k.birth ≤ at_number h.births m (h.births m + 1) k.mutator)
 born-count h m k is =
     let birth : k.birth ≡ h.births m + 1 = ap (λ q. q.birth) is in
@@ -129,8 +129,8 @@ born-count h m k is =
     ap (λ q. at_number h.births m (h.births m + 1) q.mutator) is ∙ at_number-same h.births m (h.births m + 1) in
     (omega arith, omega arith)
 
-counted-above : (h : IdealHeap) (m : ℕ) (k : Name) → (1 ≤ k.birth) × (k.birth ≤ h.births k.mutator) → (1 ≤ k.birth) × (k.birth ≤ at_number h.births m (h.births m + 1) k.mutator)
-counted-above h m k was = elim (at_number-cases h.births m (h.births m + 1) k.mutator) [
+nth_from_one-above : (h : IdealHeap) (m : ℕ) (k : Name) → (1 ≤ k.birth) × (k.birth ≤ h.births k.mutator) → (1 ≤ k.birth) × (k.birth ≤ at_number h.births m (h.births m + 1) k.mutator)
+nth_from_one-above h m k was = elim (at_number-cases h.births m (h.births m + 1) k.mutator) [
   | inl risen ↦ (was.0, let count : h.births k.mutator ≡ h.births m = ap h.births risen.0 in omega (arith, risen.1, was.1, count))
   | inr kept ↦ (was.0, omega (arith, kept.1, was.1))
 ]
@@ -139,10 +139,10 @@ ideal-new : (ms : List ℕ) (h : IdealHeap) → IsIdeal ms h → (m d refs nums 
 ideal-new ms h ideal m d refs nums one low =
     let n : Name = name m (h.births m + 1) in
     let made : IdealHeap = set_record h n (born refs nums) in
-    let counted : IdealHeap = record made { births = at_number h.births m (h.births m + 1) } in
+    let nth_from_one : IdealHeap = record made { births = at_number h.births m (h.births m + 1) } in
     record {
       places = record {
-        registers = λ m' d' k is. elim (register-cases counted m d (Some n) m' d') [
+        registers = λ m' d' k is. elim (register-cases nth_from_one m d (Some n) m' d') [
           | inl set ↦ (omega (arith, low, set.1), subst (λ q. Contains ms q) (sym set.0) one)
           | inr kept ↦ ideal.places.registers m' d' k (sym kept ∙ is)
         ];
@@ -150,7 +150,7 @@ ideal-new ms h ideal m d refs nums one low =
       };
       births = λ k is. elim (at_name-cases h.records n (Some (born refs nums)) k) [
         | inl set ↦ born-count h m k set.0
-        | inr kept ↦ counted-above h m k (ideal.births k (sym (ap is_some kept.1) ∙ is))
+        | inr kept ↦ nth_from_one-above h m k (ideal.births k (sym (ap is_some kept.1) ∙ is))
       ];
       closed = closed-new h ideal.closed m d refs nums;
     }
@@ -257,7 +257,7 @@ after-stays ms h (e ∷ es) n x ideal all is =
     and-then ((after h (e ∷ es)).records n) x next.0 next.2
     (after-stays ms (after_entry h e) es n next.0 (after-entry-ideal ms h e ideal all.0.0 all.0.1) all.1 next.1)
 
--- what a step that may be refused for want of memory leaves
+-- a fact of the heap after a step that may fail for lack of memory
 pub outcome-closed : {E : Type 0} (h k : IdealHeap) (m : ℕ) (c : Command) (r : Result Reply E) → IsClosed h → MatchResult r (λ x. (let o : Outcome = (x, k) in o) ≡ step h m c) (λ _. k ≡ h) → IsClosed k
 outcome-closed h k m c (Ok x) closed made = subst IsClosed (sym (ap (λ o. o.1) made)) (step-closed h m c closed)
 outcome-closed h k m c (Err e) closed same = subst IsClosed (sym same) closed
@@ -265,12 +265,12 @@ outcome-closed h k m c (Err e) closed same = subst IsClosed (sym same) closed
 pub empty-closed : (h : IdealHeap) → h ≡ empty → IsClosed h
 empty-closed h is = subst IsClosed (sym is) ((empty-ideal []).closed)
 
--- what a path reaches is an object
-pub reached-born : (h : IdealHeap) → IsClosed h → (n : Name) → Reaches h n → IsBorn h n
+-- a name that a path reaches is an object's
+pub reached-born : (h : IdealHeap) → IsClosed h → (n : Name) → Reaches h n → HasRecord h n
 reached-born h closed n (from_register m d is) = closed.registers m d n is
 reached-born h closed n (from_global g is) = closed.globals g n is
 reached-born h closed n (from_field k i reached is) = closed.fields k n i (ap (λ o. unwrap_or o Nil) is)
 
--- what is pinned was born
+-- a pinned object was allocated
 pub pinned-birth : (ms : List ℕ) (h : IdealHeap) → IsIdeal ms h → (n : Name) → IsTrue (h.pinned n) → n.birth ≤ h.births n.mutator
 pinned-birth ms h ideal n pinned = (ideal.births n (ideal.closed.pins n pinned)).1

@@ -6,9 +6,9 @@ use Rattle.std.proofs.lemmas.List.Elements.{filter-append}
 use Rattle.ideal_heap.specs.declared.command.Command.{Command}
 use Rattle.ideal_heap.specs.Commands.{is_meet}
 use Rattle.ideal_heap.specs.Ideal.{IdealHeap, step}
-use Rattle.ideal_heap.specs.Runs.{Entry, IsRun, Answers, after_entry, is_full, of_mutator, commands_of, replies_of, meets, level_of, level_behind, RisesFrom, last_level, trace_of, IsMutator, next_of, IsFront, IsOrder, alone}
+use Rattle.ideal_heap.specs.Runs.{Entry, IsRun, Answers, after_entry, is_full, of_mutator, commands_of, replies_of, meets, level_of, level_after, RisesFrom, last_level, trace_of, IsMutator, next_of, IsOrderPrefix, IsOrder, alone}
 
--- one mutator's part of a list that is longer by one entry, of its own or of another
+-- the entries of one mutator in a list with one more entry, of that mutator or of another
 
 pub of_mutator-append : (m : ℕ) (es more : List Entry) → of_mutator m (es ++ more) ≡ of_mutator m es ++ of_mutator m more
 of_mutator-append m es more = filter-append (λ e. nat_eq e.mutator m) es more
@@ -19,24 +19,10 @@ of_mutator-one m e is = rw (eq-eqb e.mutator m is) refl
 pub of_mutator-own : (m : ℕ) (es : List Entry) (e : Entry) → e.mutator ≡ m → of_mutator m (es ++ e ∷ []) ≡ of_mutator m es ++ e ∷ []
 of_mutator-own m es e is = of_mutator-append m es (e ∷ []) ∙ ap (λ l. of_mutator m es ++ l) (of_mutator-one m e is)
 
-pub of_mutator-other : (m : ℕ) (es : List Entry) (e : Entry) → nat_eq e.mutator m ≡ false → of_mutator m (es ++ e ∷ []) ≡ of_mutator m es
-of_mutator-other m es e is =
-    let none : of_mutator m (e ∷ []) ≡ [] = rw is refl in
-    of_mutator-append m es (e ∷ []) ∙ ap (λ l. of_mutator m es ++ l) none ∙ append-nil (of_mutator m es)
-
 pub commands_of-own : (m : ℕ) (es : List Entry) (e : Entry) → e.mutator ≡ m → commands_of m (es ++ e ∷ []) ≡ commands_of m es ++ e.command ∷ []
 commands_of-own m es e is = ap (λ l. map (λ x. x.command) l) (of_mutator-own m es e is) ∙ map-append (λ x. x.command) (of_mutator m es) (e ∷ [])
 
-pub commands_of-other : (m : ℕ) (es : List Entry) (e : Entry) → nat_eq e.mutator m ≡ false → commands_of m (es ++ e ∷ []) ≡ commands_of m es
-commands_of-other m es e is = ap (λ l. map (λ x. x.command) l) (of_mutator-other m es e is)
-
-pub replies_of-own : (m : ℕ) (es : List Entry) (e : Entry) → e.mutator ≡ m → replies_of m (es ++ e ∷ []) ≡ replies_of m es ++ e.reply ∷ []
-replies_of-own m es e is = ap (λ l. map (λ x. x.reply) l) (of_mutator-own m es e is) ∙ map-append (λ x. x.reply) (of_mutator m es) (e ∷ [])
-
-pub replies_of-other : (m : ℕ) (es : List Entry) (e : Entry) → nat_eq e.mutator m ≡ false → replies_of m (es ++ e ∷ []) ≡ replies_of m es
-replies_of-other m es e is = ap (λ l. map (λ x. x.reply) l) (of_mutator-other m es e is)
-
--- a list of one mutator's entries is its part
+-- of_mutator keeps a list of one mutator's entries whole
 
 pub of_mutator-all : (m : ℕ) (es : List Entry) → AllByRecursion (λ e. e.mutator ≡ m) es → of_mutator m es ≡ es
 of_mutator-all m [] all = refl
@@ -57,17 +43,14 @@ pub rises-append : (least : ℕ) (done es more : List Entry) → RisesFrom least
 rises-append least done [] more rises next = subst (λ l. RisesFrom least l more) (append-nil done) next
 rises-append least done (e ∷ es) more rises next = (
   rises.0,
-  rises-append (level_behind done e.mutator e.command) (done ++ e ∷ []) es more rises.1
-      (subst (λ l. RisesFrom (last_level (level_behind done e.mutator e.command) (done ++ e ∷ []) es) l more) (sym (append_assoc done (e ∷ []) es)) next),
+  rises-append (level_after done e.mutator e.command) (done ++ e ∷ []) es more rises.1
+      (subst (λ l. RisesFrom (last_level (level_after done e.mutator e.command) (done ++ e ∷ []) es) l more) (sym (append_assoc done (e ∷ []) es)) next),
 )
 
-pub rises-one : (least : ℕ) (done es : List Entry) (e : Entry) → RisesFrom least done es → last_level least done es ≤ level_behind (done ++ es) e.mutator e.command → RisesFrom least done (es ++ e ∷ [])
-rises-one least done es e rises above = rises-append least done es (e ∷ []) rises (above, tt)
-
-pub last_level-one : (least : ℕ) (done es : List Entry) (e : Entry) → last_level least done (es ++ e ∷ []) ≡ level_behind (done ++ es) e.mutator e.command
-last_level-one least done [] e = ap (λ l. level_behind l e.mutator e.command) (sym (append-nil done))
+pub last_level-one : (least : ℕ) (done es : List Entry) (e : Entry) → last_level least done (es ++ e ∷ []) ≡ level_after (done ++ es) e.mutator e.command
+last_level-one least done [] e = ap (λ l. level_after l e.mutator e.command) (sym (append-nil done))
 last_level-one least done (x ∷ es) e =
-    last_level-one (level_behind done x.mutator x.command) (done ++ x ∷ []) es e ∙ ap (λ l. level_behind l e.mutator e.command) (append_assoc done (x ∷ []) es)
+    last_level-one (level_after done x.mutator x.command) (done ++ x ∷ []) es e ∙ ap (λ l. level_after l e.mutator e.command) (append_assoc done (x ∷ []) es)
 
 -- one mutator's entries: their levels never fall
 
@@ -77,30 +60,30 @@ level-low j c = elim (is_meet c) as (λ b. 2 * j ≤ (if b then 2 * j + 1 else 2
 level-high : (j : ℕ) (c : Command) → level_of j c ≤ 2 * (j + meets (c ∷ []))
 level-high j c = elim (is_meet c) as (λ b. (if b then 2 * j + 1 else 2 * j) ≤ 2 * (j + (if b then 1 + 0 else 0))) [ true ↦ omega arith | false ↦ omega arith ]
 
-level-next : (m : ℕ) (done : List Entry) (e : Entry) → e.mutator ≡ m → level_behind done e.mutator e.command ≤ 2 * meets (commands_of m (done ++ e ∷ []))
+level-next : (m : ℕ) (done : List Entry) (e : Entry) → e.mutator ≡ m → level_after done e.mutator e.command ≤ 2 * meets (commands_of m (done ++ e ∷ []))
 level-next m done e is =
     let count : meets (commands_of m (done ++ e ∷ [])) ≡ meets (commands_of m done) + meets (e.command ∷ []) =
     ap meets (commands_of-own m done e is) ∙ meets-append (commands_of m done) (e.command ∷ []) in
-    let level : level_behind done e.mutator e.command ≡ level_of (meets (commands_of m done)) e.command =
+    let level : level_after done e.mutator e.command ≡ level_of (meets (commands_of m done)) e.command =
     ap (λ k. level_of (meets (commands_of k done)) e.command) is in
     omega (arith, count, level, level-high (meets (commands_of m done)) e.command)
 
-level-least : (m least : ℕ) (done : List Entry) (e : Entry) → e.mutator ≡ m → least ≤ 2 * meets (commands_of m done) → least ≤ level_behind done e.mutator e.command
+level-least : (m least : ℕ) (done : List Entry) (e : Entry) → e.mutator ≡ m → least ≤ 2 * meets (commands_of m done) → least ≤ level_after done e.mutator e.command
 level-least m least done e is low =
-    let level : level_behind done e.mutator e.command ≡ level_of (meets (commands_of m done)) e.command =
+    let level : level_after done e.mutator e.command ≡ level_of (meets (commands_of m done)) e.command =
     ap (λ k. level_of (meets (commands_of k done)) e.command) is in
     omega (arith, low, level, level-low (meets (commands_of m done)) e.command)
 
 pub rises-alone : (m least : ℕ) (done es : List Entry) → least ≤ 2 * meets (commands_of m done) → AllByRecursion (λ e. e.mutator ≡ m) es → RisesFrom least done es
 rises-alone m least done [] low all = tt
 rises-alone m least done (e ∷ es) low all =
-    (level-least m least done e all.0 low, rises-alone m (level_behind done e.mutator e.command) (done ++ e ∷ []) es (level-next m done e all.0) all.1)
+    (level-least m least done e all.0 low, rises-alone m (level_after done e.mutator e.command) (done ++ e ∷ []) es (level-next m done e all.0) all.1)
 
 pub last_level-alone : (m least : ℕ) (done es : List Entry) → least ≤ 2 * meets (commands_of m done) → AllByRecursion (λ e. e.mutator ≡ m) es → last_level least done es ≤ 2 * meets (commands_of m (done ++ es))
 last_level-alone m least done [] low all = subst (λ l. least ≤ 2 * meets (commands_of m l)) (sym (append-nil done)) low
 last_level-alone m least done (e ∷ es) low all =
-    subst (λ l. last_level (level_behind done e.mutator e.command) (done ++ e ∷ []) es ≤ 2 * meets (commands_of m l)) (append_assoc done (e ∷ []) es)
-    (last_level-alone m (level_behind done e.mutator e.command) (done ++ e ∷ []) es (level-next m done e all.0) all.1)
+    subst (λ l. last_level (level_after done e.mutator e.command) (done ++ e ∷ []) es ≤ 2 * meets (commands_of m l)) (append_assoc done (e ∷ []) es)
+    (last_level-alone m (level_after done e.mutator e.command) (done ++ e ∷ []) es (level-next m done e all.0) all.1)
 
 -- one mutator, one trace
 
@@ -117,7 +100,7 @@ each : {X : Type 0} (o : Option X) (P : X → Type 0) → ((x : X) → P x) → 
 each None P all = tt
 each (Some x) P all = all x
 
-pub front_of_one : (t : List Command) (es : List Entry) → AllByRecursion (λ e. e.mutator ≡ 1) es → map (λ e. e.command) es ≡ take (length es) t → IsFront (t ∷ []) es
+pub front_of_one : (t : List Command) (es : List Entry) → AllByRecursion (λ e. e.mutator ≡ 1) es → map (λ e. e.command) es ≡ take (length es) t → IsOrderPrefix (t ∷ []) es
 front_of_one t es all commands =
     let part : of_mutator 1 es ≡ es = of_mutator-all 1 es all in
     let mine : commands_of 1 es ≡ take (length (of_mutator 1 es)) t = ap (λ l. map (λ e. e.command) l) part ∙ commands ∙ ap (λ l. take (length l) t) (sym part) in
@@ -126,8 +109,8 @@ front_of_one t es all commands =
       mutators = mutators-of-one t es all;
       commands = λ m is. subst (λ k. commands_of k es ≡ take (length (of_mutator k es)) (trace_of (t ∷ []) k)) (sym (only-one t m is)) mine;
       rises = rises-alone 1 0 [] es (omega arith) all;
-      waits = λ m is. subst (λ k. IfSome (next_of (t ∷ []) es k) (λ c. last_level 0 [] es ≤ level_behind es k c)) (sym (only-one t m is))
-          (each (next_of (t ∷ []) es 1) (λ c. last_level 0 [] es ≤ level_behind es 1 c) (λ c. omega (arith, last, level-low (meets (commands_of 1 es)) c)));
+      waits = λ m is. subst (λ k. IfSome (next_of (t ∷ []) es k) (λ c. last_level 0 [] es ≤ level_after es k c)) (sym (only-one t m is))
+          (each (next_of (t ∷ []) es 1) (λ c. last_level 0 [] es ≤ level_after es 1 c) (λ c. omega (arith, last, level-low (meets (commands_of 1 es)) c)));
     }
 
 pub order_of_one : (t : List Command) (es : List Entry) → AllByRecursion (λ e. e.mutator ≡ 1) es → map (λ e. e.command) es ≡ t → IsOrder (t ∷ []) es

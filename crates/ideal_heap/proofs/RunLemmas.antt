@@ -19,6 +19,6 @@ pub rest : (h : IdealHeap) (es more : List Entry) → IsRun h (es ++ more) → I
 rest h [] more run = run
 rest h (e ∷ es) more run = rest (after_entry h e) es more run.1
 
--- one entry more
+-- one more entry
 pub extended : (h : IdealHeap) (es : List Entry) (e : Entry) → IsRun h es → Answers (after h es) e → IsRun h (es ++ e ∷ [])
 extended h es e run answers = longer h es (e ∷ []) run (answers, tt)

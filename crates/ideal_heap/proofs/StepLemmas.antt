@@ -1,11 +1,11 @@
--- What a step keeps, from what each of its changes keeps.
+-- What a step preserves, from what each of its changes preserves.
 use Rattle.std.proofs.Common.{ap, arith, ◌≡◌, ℕ, ◌+◌, ◌%◌, ◌^◌, ◌<◌, ◌≤◌, Bool, true, false, nat_eq, refl, sym, ◌∙◌, subst, inl, inr, Option, Some, None, length, slice_index, if◌then◌else◌, length-set}
 use Rattle.ideal_heap.specs.declared.name.Name.{Name}
 use Rattle.ideal_heap.specs.declared.command.Command.{Command}
 use Rattle.ideal_heap.specs.declared.command.Command.TheVariants as c
 use Rattle.ideal_heap.specs.declared.reply.Reply.TheVariants as r
 use Rattle.ideal_heap.specs.Commands.{IsValid}
-use Rattle.ideal_heap.specs.Ideal.{IdealHeap, Record, Field, Nil, At, Outcome, set_register, set_global, set_record, set_pinned, record_of, field_at, field_of, put_field, put_number, name_in, told, told_field, on_object, in_range, on_ref, on_num, with_new, step, IsBorn, IsClosed, HasShapeOf}
+use Rattle.ideal_heap.specs.Ideal.{IdealHeap, Record, Field, Nil, At, Outcome, set_register, set_global, set_record, set_pinned, record_of, field_at, field_of, put_field, put_number, name_in, global_reply, field_reply, on_object, in_range, on_ref, on_num, with_new, step, HasRecord, IsClosed, HasShapeOf}
 use Rattle.ideal_heap.specs.Runs.{is_full}
 use Rattle.ideal_heap.proofs.UpdateLemmas.{nat_lt-cases, field-cases, name_in-at, field_of-at, field-born, number-born}
 
@@ -35,10 +35,10 @@ by_test : (P : Outcome → Type 0) (b : Bool) (x y : Outcome) → P x → P y �
 by_test P true x y px py = px
 by_test P false x y px py = py
 
--- what a command makes of an object, as the step says it
+-- the outcome of a command on an object, as in the step
 
 abbrev pub getting : IdealHeap → ℕ → ℕ → ℕ → Name → Record → Outcome
-getting h m d i n x = (told_field (field_at x i), set_register h m d (name_in (field_at x i)))
+getting h m d i n x = (field_reply (field_at x i), set_register h m d (name_in (field_at x i)))
 
 abbrev pub putting : IdealHeap → ℕ → ℕ → ℕ → Name → Record → Outcome
 putting h m i v n x = (r.Done, set_record h n (put_field x i (field_of (h.registers m v))))
@@ -63,13 +63,13 @@ unpinning h n = ((if h.pinned n then r.Yes else r.No), set_pinned h n false)
 
 -- a step never refuses
 
-told-answers : (o : Option Name) → is_full (told o) ≡ false
-told-answers None = refl
-told-answers (Some n) = refl
+global_reply-answers : (o : Option Name) → is_full (global_reply o) ≡ false
+global_reply-answers None = refl
+global_reply-answers (Some n) = refl
 
-told_field-answers : (f : Field) → is_full (told_field f) ≡ false
-told_field-answers Nil = refl
-told_field-answers (At n) = refl
+field_reply-answers : (f : Field) → is_full (field_reply f) ≡ false
+field_reply-answers Nil = refl
+field_reply-answers (At n) = refl
 
 pin-answers : (b : Bool) → is_full (if b then r.No else r.Yes) ≡ false
 pin-answers true = refl
@@ -85,7 +85,7 @@ Answered o = is_full o.0 ≡ false
 pub never_full : (h : IdealHeap) (m : ℕ) (c : Command) → is_full (step h m c).0 ≡ false
 unfolding step
 never_full h m (c.New d refs nums) = refl
-never_full h m (c.Get d s i) = by_ref Answered h (h.registers m s) i (getting h m d i) refl refl (λ n is l. told_field-answers (field_at (record_of h n) i))
+never_full h m (c.Get d s i) = by_ref Answered h (h.registers m s) i (getting h m d i) refl refl (λ n is l. field_reply-answers (field_at (record_of h n) i))
 never_full h m (c.Put s i v) = by_ref Answered h (h.registers m s) i (putting h m i v) refl refl (λ n is l. refl)
 never_full h m (c.Read s j) = by_num Answered h (h.registers m s) j (reading h j) refl refl (λ n is l. refl)
 never_full h m (c.Write s j v) = by_num Answered h (h.registers m s) j (writing h j v) refl refl (λ n is l. refl)
@@ -94,25 +94,25 @@ never_full h m (c.Swap s j u v) = by_num Answered h (h.registers m s) j (swappin
     (λ n is l. by_test Answered (nat_eq (slice_index (record_of h n).nums j) u) (r.Yes, set_record h n (put_number (record_of h n) j v)) (r.No, h) refl refl)
 never_full h m (c.Move d s) = refl
 never_full h m (c.DropReg s) = refl
-never_full h m (c.Load d g) = told-answers (h.globals g)
+never_full h m (c.Load d g) = global_reply-answers (h.globals g)
 never_full h m (c.Share g s) = refl
 never_full h m (c.Pin s) = by_object Answered h (h.registers m s) (pinning h) refl (λ n is. pin-answers (h.pinned n))
 never_full h m (c.Unpin s) = by_object Answered h (h.registers m s) (unpinning h) refl (λ n is. unpin-answers (h.pinned n))
 never_full h m c.Gc = refl
 never_full h m c.Meet = refl
 
--- A fact of the heap behind a step, from what each change that a step makes leaves.
--- IsValid stands in a premise, so that a fact that needs no valid command asks for none.
+-- A fact of the heap after a step, from facts of each change that a step makes.
+-- IsValid is a premise of the cases, so that a fact that holds for every command needs no valid one.
 pub record Changes (P : IdealHeap → Type 0) (h : IdealHeap) (m : ℕ) (c : Command) : Type 0 where
   pub same : P h
   pub created : (d refs nums : ℕ) → (IsValid c → d ≤ 15) → P (with_new h m d refs nums)
-  pub register : (d : ℕ) (v : Option Name) → (IsValid c → d ≤ 15) → ((n : Name) → v ≡ Some n → IsBorn h n) → P (set_register h m d v)
-  pub global : (g : ℕ) (v : Option Name) → (IsValid c → g ≤ 15) → ((n : Name) → v ≡ Some n → IsBorn h n) → P (set_global h g v)
-  pub replaced : (n : Name) (x : Record) → IsBorn h n → HasShapeOf (record_of h n) x → ((i : ℕ) (to : Name) → field_at x i ≡ At to → IsBorn h to) → P (set_record h n x)
-  pub pin : (n : Name) (b : Bool) → IsBorn h n → P (set_pinned h n b)
+  pub register : (d : ℕ) (v : Option Name) → (IsValid c → d ≤ 15) → ((n : Name) → v ≡ Some n → HasRecord h n) → P (set_register h m d v)
+  pub global : (g : ℕ) (v : Option Name) → (IsValid c → g ≤ 15) → ((n : Name) → v ≡ Some n → HasRecord h n) → P (set_global h g v)
+  pub replaced : (n : Name) (x : Record) → HasRecord h n → HasShapeOf (record_of h n) x → ((i : ℕ) (to : Name) → field_at x i ≡ At to → HasRecord h to) → P (set_record h n x)
+  pub pin : (n : Name) (b : Bool) → HasRecord h n → P (set_pinned h n b)
 
 put-fields : (h : IdealHeap) → IsClosed h → (m : ℕ) (n : Name) (i v : ℕ) (j : ℕ) (to : Name)
-    → field_at (put_field (record_of h n) i (field_of (h.registers m v))) j ≡ At to → IsBorn h to
+    → field_at (put_field (record_of h n) i (field_of (h.registers m v))) j ≡ At to → HasRecord h to
 put-fields h closed m n i v j to is = elim (field-cases (record_of h n) i (field_of (h.registers m v)) j) [
   | inl stored ↦ closed.registers m v to (field_of-at (h.registers m v) to (sym stored ∙ is))
   | inr kept ↦ closed.fields n to j (sym kept ∙ is)

@@ -1,9 +1,9 @@
--- What an update leaves at its place, and elsewhere.
+-- What an update sets at its key, and that it changes no other.
 use Rattle.std.proofs.Common.{◌≡◌, ℕ, ◌<◌, ◌≤◌, true, false, nat_lt, eq-eqb, refl, ap, sym, ◌∙◌, ◌⊎◌, inl, inr, Option, Some, None, List, [], ◌∷◌, length, slice_get, slice_set, unwrap_or, replicate, IsSome, suc, zero, arith}
 use Rattle.std.proofs.lemmas.Bool.Decides.{eqb_tells, leb_tells, nat_tests}
 use Rattle.ideal_heap.specs.declared.name.Name.{Name}
 use Rattle.ideal_heap.specs.Names.{same_name, name}
-use Rattle.ideal_heap.specs.Ideal.{IdealHeap, Record, Field, Nil, At, at_number, at_name, set_register, record_of, no_fields, field_at, put_field, name_in, field_of, IsBorn}
+use Rattle.ideal_heap.specs.Ideal.{IdealHeap, Record, Field, Nil, At, at_number, at_name, set_register, record_of, no_fields, field_at, put_field, name_in, field_of, HasRecord}
 
 pub same_name-same : (n : Name) → same_name n n ≡ true
 same_name-same n = grind (arith, nat_tests)
@@ -90,9 +90,9 @@ born_number : (o : Option Record) (i : ℕ) → i < length (unwrap_or o no_field
 born_number None i l = absurd (omega (arith, l))
 born_number (Some x) i l = refl
 
--- what has a field or a number is an object
-pub field-born : (h : IdealHeap) (n : Name) (i : ℕ) → i < length (record_of h n).refs → IsBorn h n
+-- a name whose record has a field or a number is an object's
+pub field-born : (h : IdealHeap) (n : Name) (i : ℕ) → i < length (record_of h n).refs → HasRecord h n
 field-born h n i l = born_default (h.records n) i l
 
-pub number-born : (h : IdealHeap) (n : Name) (i : ℕ) → i < length (record_of h n).nums → IsBorn h n
+pub number-born : (h : IdealHeap) (n : Name) (i : ℕ) → i < length (record_of h n).nums → HasRecord h n
 number-born h n i l = born_number (h.records n) i l

@@ -1,4 +1,4 @@
--- The ideal heap: a map of names to records, with no addresses and no collections. No record is ever taken out.
+-- The ideal heap: a map from names to records, without addresses or collections. No record is ever removed.
 use Rattle.std.specs.Prelude.{◌≡◌, ℕ, ◌+◌, ◌%◌, ◌^◌, Bool, true, false, List, length, Option, None, Some, nat_eq, nat_lt, if◌then◌else◌, slice_index, slice_get, slice_set, replicate, unwrap_or, ◌≤◌, ◌<◌, IsSome, IsTrue, Contains}
 use Rattle.ideal_heap.specs.declared.name.Name.{Name}
 use Rattle.ideal_heap.specs.declared.command.Command.{Command}
@@ -16,8 +16,8 @@ pub record Record : Type 0 where
   pub refs : List Field
   pub nums : List ℕ
 
--- A map is a function here, so that an update has one law at the place and one elsewhere.
--- Registers go by mutator and number.
+-- Maps are functions, so that an update has one law for its key and one for all other keys.
+-- A register is given by mutator and number. births counts the objects that each mutator has allocated.
 pub record IdealHeap : Type 0 where
   pub records : Name → Option Record
   pub pinned : Name → Bool
@@ -26,9 +26,15 @@ pub record IdealHeap : Type 0 where
   pub births : ℕ → ℕ
 
 abbrev pub empty : IdealHeap
-empty = record { records = λ _. None; pinned = λ _. false; globals = λ _. None; registers = λ _ _. None; births = λ _. 0 }
+empty = record {
+  records = λ _. None;
+  pinned = λ _. false;
+  globals = λ _. None;
+  registers = λ _ _. None;
+  births = λ _. 0;
+}
 
--- a function changed at one place
+-- a function changed at one argument
 abbrev pub at_number : {X : Type 0} → (ℕ → X) → ℕ → X → ℕ → X
 at_number f k x q = if nat_eq q k then x else f q
 
@@ -57,31 +63,31 @@ abbrev pub field_of : Option Name → Field
 field_of None = Nil
 field_of (Some n) = At n
 
--- what a register gets from a field
+-- the name that a register gets from a field
 abbrev pub name_in : Field → Option Name
 name_in Nil = None
 name_in (At n) = Some n
 
--- what is told of a field that is read
-abbrev pub told_field : Field → Reply
-told_field Nil = r.Nil
-told_field (At n) = r.Ref n
+-- the reply to the read of a field
+abbrev pub field_reply : Field → Reply
+field_reply Nil = r.Nil
+field_reply (At n) = r.Ref n
 
--- what is told of a global that is read
-abbrev pub told : Option Name → Reply
-told None = r.Nil
-told (Some n) = r.Ref n
+-- the reply to the read of a global
+abbrev pub global_reply : Option Name → Reply
+global_reply None = r.Nil
+global_reply (Some n) = r.Ref n
 
--- what a command answers, and the heap after it
+-- the reply to a command, and the heap after it
 abbrev pub Outcome : Type 0
 Outcome = Reply × IdealHeap
 
--- `null` where there is no object, else what f makes of it
+-- `null` if there is no object, else the outcome that f gives for it
 abbrev pub on_object : IdealHeap → Option Name → (Name → Outcome) → Outcome
 on_object h None f = (r.Null, h)
 on_object h (Some n) f = f n
 
--- `range` where the list has no place i
+-- `range` if i is no index of a list of length len
 abbrev pub in_range : IdealHeap → ℕ → ℕ → Outcome → Outcome
 in_range h i len o = if nat_lt i len then o else (r.Range, h)
 
@@ -91,7 +97,7 @@ on_ref h o i f = on_object h o (λ n. in_range h i (length (record_of h n).refs)
 abbrev pub on_num : IdealHeap → Option Name → ℕ → (Name → Record → Outcome) → Outcome
 on_num h o j f = on_object h o (λ n. in_range h j (length (record_of h n).nums) (f n (record_of h n)))
 
--- what field i holds, nil where there is none
+-- what field i holds, nil if there is none
 abbrev pub field_at : Record → ℕ → Field
 field_at x i = unwrap_or (slice_get x.refs i) Nil
 
@@ -101,47 +107,52 @@ put_field x i v = record x { refs = slice_set x.refs i v }
 abbrev pub put_number : Record → ℕ → ℕ → Record
 put_number x j n = record x { nums = slice_set x.nums j n }
 
+-- the record of a new object
 abbrev pub born : ℕ → ℕ → Record
 born refs nums = record { refs = replicate refs Nil; nums = replicate nums 0 }
 
--- mutator m's next object, with that record
+-- the heap with one more object of mutator m, which has the record x
 abbrev pub with_object : IdealHeap → ℕ → Record → IdealHeap
 with_object h m x = record (set_record h (name m (h.births m + 1)) x) { births = at_number h.births m (h.births m + 1) }
 
--- a new object of mutator m, which register d then names
+-- the heap with a new object of mutator m, which register d names
 abbrev pub with_new : IdealHeap → ℕ → ℕ → ℕ → ℕ → IdealHeap
 with_new h m d refs nums = set_register (with_object h m (born refs nums)) m d (Some (name m (h.births m + 1)))
 
--- the step of mutator m's command
+-- the step of mutator m's command: the reply, and the heap after it
 unfoldable pub step : IdealHeap → ℕ → Command → Outcome
 step h m (c.New d refs nums) = (r.New (name m (h.births m + 1)), with_new h m d refs nums)
-step h m (c.Get d s i) = on_ref h (h.registers m s) i (λ n x. (told_field (field_at x i), set_register h m d (name_in (field_at x i))))
-step h m (c.Put s i v) = on_ref h (h.registers m s) i (λ n x. (r.Done, set_record h n (put_field x i (field_of (h.registers m v)))))
+step h m (c.Get d s i) = on_ref h (h.registers m s) i (λ n x.
+    (field_reply (field_at x i), set_register h m d (name_in (field_at x i))))
+step h m (c.Put s i v) = on_ref h (h.registers m s) i (λ n x.
+    (r.Done, set_record h n (put_field x i (field_of (h.registers m v)))))
 step h m (c.Read s j) = on_num h (h.registers m s) j (λ n x. (r.Num (slice_index x.nums j), h))
 step h m (c.Write s j v) = on_num h (h.registers m s) j (λ n x. (r.Done, set_record h n (put_number x j v)))
-step h m (c.Add s j v) = on_num h (h.registers m s) j (λ n x. (r.Num (slice_index x.nums j), set_record h n (put_number x j ((slice_index x.nums j + v) % 2 ^ 64))))
-step h m (c.Swap s j u v) = on_num h (h.registers m s) j (λ n x. if nat_eq (slice_index x.nums j) u then (r.Yes, set_record h n (put_number x j v)) else (r.No, h))
+step h m (c.Add s j v) = on_num h (h.registers m s) j (λ n x.
+    (r.Num (slice_index x.nums j), set_record h n (put_number x j ((slice_index x.nums j + v) % 2 ^ 64))))
+step h m (c.Swap s j u v) = on_num h (h.registers m s) j
+    (λ n x. if nat_eq (slice_index x.nums j) u then (r.Yes, set_record h n (put_number x j v)) else (r.No, h))
 step h m (c.Move d s) = (r.Done, set_register h m d (h.registers m s))
 step h m (c.DropReg s) = (r.Done, set_register h m s None)
-step h m (c.Load d g) = (told (h.globals g), set_register h m d (h.globals g))
+step h m (c.Load d g) = (global_reply (h.globals g), set_register h m d (h.globals g))
 step h m (c.Share g s) = (r.Done, set_global h g (h.registers m s))
 step h m (c.Pin s) = on_object h (h.registers m s) (λ n. ((if h.pinned n then r.No else r.Yes), set_pinned h n true))
 step h m (c.Unpin s) = on_object h (h.registers m s) (λ n. ((if h.pinned n then r.Yes else r.No), set_pinned h n false))
 step h m c.Gc = (r.Done, h)
 step h m c.Meet = (r.Done, h)
 
--- an object has the name
-abbrev pub IsBorn : IdealHeap → Name → Type 0
-IsBorn h n = IsSome (h.records n)
+-- n is the name of an object
+abbrev pub HasRecord : IdealHeap → Name → Type 0
+HasRecord h n = IsSome (h.records n)
 
--- whatever is named anywhere has a record
+-- all names in registers, globals and fields, and all pinned names, have records
 pub record IsClosed (h : IdealHeap) : Type 0 where
-  pub registers : (m d : ℕ) (n : Name) → h.registers m d ≡ Some n → IsBorn h n
-  pub globals : (g : ℕ) (n : Name) → h.globals g ≡ Some n → IsBorn h n
-  pub fields : (n to : Name) (i : ℕ) → field_at (record_of h n) i ≡ At to → IsBorn h to
-  pub pins : (n : Name) → IsTrue (h.pinned n) → IsBorn h n
+  pub registers : (m d : ℕ) (n : Name) → h.registers m d ≡ Some n → HasRecord h n
+  pub globals : (g : ℕ) (n : Name) → h.globals g ≡ Some n → HasRecord h n
+  pub fields : (n to : Name) (i : ℕ) → field_at (record_of h n) i ≡ At to → HasRecord h to
+  pub pins : (n : Name) → IsTrue (h.pinned n) → HasRecord h n
 
--- there are 16 globals, and only the mutators ms have registers, 16 each
+-- all but the 16 globals and the 16 registers of each mutator in ms are nil
 pub record IsConfined (ms : List ℕ) (h : IdealHeap) : Type 0 where
   pub registers : (m d : ℕ) (n : Name) → h.registers m d ≡ Some n → (d < 16) × Contains ms m
   pub globals : (g : ℕ) (n : Name) → h.globals g ≡ Some n → g < 16
@@ -149,10 +160,10 @@ pub record IsConfined (ms : List ℕ) (h : IdealHeap) : Type 0 where
 -- an ideal heap of the mutators ms
 pub record IsIdeal (ms : List ℕ) (h : IdealHeap) : Type 0 where
   pub places : IsConfined ms h
-  pub births : (n : Name) → IsBorn h n → (1 ≤ n.birth) × (n.birth ≤ h.births n.mutator)
+  pub births : (n : Name) → HasRecord h n → (1 ≤ n.birth) × (n.birth ≤ h.births n.mutator)
   pub closed : IsClosed h
 
--- as many references and numbers
+-- y has as many references as x, and as many numbers
 pub record HasShapeOf (x y : Record) : Type 0 where
   pub refs : length y.refs ≡ length x.refs
   pub nums : length y.nums ≡ length x.nums

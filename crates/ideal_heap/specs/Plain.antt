@@ -1,4 +1,4 @@
--- The ideal heap that a plain heap stands for, and how many mutators it has.
+-- The ideal heap that an executable one represents, and its number of mutators.
 use Rattle.std.specs.Prelude.{ℕ}
 use Rattle.ideal_heap.specs.declared.plain.Ideal.{Ideal}
 use Rattle.ideal_heap.specs.Ideal.{IdealHeap}

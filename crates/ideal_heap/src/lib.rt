@@ -1,28 +1,30 @@
-//! Commands on a heap whose objects never move and are never collected, and their replies.
+//! The reference semantics of a managed heap: commands and their replies on an ideal heap, whose
+//! objects never move and are never collected.
 //!
-//! It is what a managed heap is measured against: whatever a collector does, each mutator's
-//! replies are those of this ideal heap, except that a `new` may be refused.
+//! Whatever a collector does, each mutator's replies are those of the ideal heap, except that a
+//! `new` may be refused.
 #![tactic(auto)]
 
 mod access;
-mod applying;
-mod checking;
+mod allocation;
 mod command;
-mod creating;
 mod examples;
 mod laws;
 mod name;
 mod plain;
+mod ranges;
+mod reference;
 mod reply;
-mod stepping;
+mod semantics;
 mod tables;
 
-pub use checking::valid;
-pub use command::Command;
+pub use command::{Command, MAX_NUMS, MAX_REFS};
 pub use examples::{number_examples, object_examples, register_examples, run_examples};
 pub use laws::{
-    names_and_codes, one_mutator, paths_reach_objects, records_stay, runs_go_on, steps, updates,
+    names_and_codes, names_are_ordered, one_mutator, paths_reach_objects, records_stay, runs_go_on,
+    steps, updates,
 };
 pub use name::Name;
 pub use plain::Ideal;
+pub use ranges::valid;
 pub use reply::Reply;

@@ -1,3 +1,5 @@
+//! The executable ideal heap.
+
 ghost use Rattle.ideal_heap.specs.Tables.{tables_heap};
 ghost use Rattle.ideal_heap.specs.Ideal.{IsClosed};
 
@@ -6,8 +8,10 @@ use crate::reply::Reply;
 use crate::tables::Tables;
 use std::alloc::{AllocError, Global};
 
-/// The ideal heap as it stands, whole, in tables: the plain heap that tests compare a managed heap with.
-/// Nothing is ever freed, and each command takes constant time, but for the fields of a new object.
+/// The ideal heap as tables. Tests compare a managed heap with it.
+///
+/// No object is ever freed. `New` takes time linear in the size of the object, each other command
+/// takes constant time.
 #[derive(Drop)]
 pub struct Ideal {
     pub(crate) alloc: Global,

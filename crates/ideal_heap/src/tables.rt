@@ -1,8 +1,10 @@
+//! The tables that represent an ideal heap.
+
 ghost use Rattle.std.specs.Prelude.{◌<◌, ◌^◌, ◌≤◌, vec_len};
 
 use crate::name::Name;
 
-/// A record, with its pin.
+/// An object: its references, its numbers, and whether it is pinned.
 #[derive(Drop)]
 pub struct Object {
     pub refs: Vec<Option<Name>>,
@@ -10,7 +12,7 @@ pub struct Object {
     pub pinned: bool,
 }
 
-/// What one mutator has: its registers, and the objects that it made, in the order of their births.
+/// A mutator: its registers, and its objects in the order of allocation.
 #[derive(Drop)]
 pub struct Mutator {
     pub registers: [Option<Name>; 16],
@@ -18,7 +20,7 @@ pub struct Mutator {
     pub ghost few: { vec_len objects < 2 ^ 32 },
 }
 
-/// Mutator m stands at index m - 1, and its object of birth k at index k - 1.
+/// The tables of a heap. Mutator `m` has index `m - 1`, and its object of birth `k` index `k - 1`.
 #[derive(Drop)]
 pub struct Tables {
     pub mutators: Vec<Mutator>,

@@ -1,4 +1,4 @@
--- What is known of a job that words name.
+-- What is known of a job that arguments name.
 use Rattle.std.proofs.Common.{◌≡◌, refl, sym, ◌∙◌, ap, subst, ℕ, ◌≤◌, Bool, true, false, ◌&&◌, List, [], ◌∷◌, nat_eq}
 use Rattle.std.specs.Prelude.{Option, None, Some, option_and_then, unwrap_or, nat_le, not, if◌then◌else◌}
 use Rattle.std.proofs.lemmas.Bool.{true≢false, leb-true, eqb-true}
@@ -7,7 +7,7 @@ use Rattle.ideal_heap.specs.declared.command.Command.{Command}
 use Rattle.trace_text.specs.Grammar.{numeral}
 use Rattle.sessions.specs.Plans.{Plan, NoGc, MarkSweep, SemiSpace, GenCopy, Immix, StickyImmix}
 use Rattle.sessions.specs.Alone.{alone_under_nogc}
-use Rattle.command_line.specs.Words.{Job, Work, Line, Values, job_of, form_of, line_of, job_in, job_with, plan_of, number_in, if_within, workers_of, work_of, values_in, is_served, if_served, is_nogc, is_one_file}
+use Rattle.command_line.specs.Words.{Job, Work, Line, Values, job_of, form_of, line_of, job_in, job_with, plan_of, number_in, if_within, workers_of, work_of, values_in, is_supported, if_served, is_nogc, is_one_file}
 use Rattle.mm_drive.specs.Printed.{setting_of}
 
 both : (a b : Bool) → (a && b) ≡ true → (a ≡ true) × (b ≡ true)
@@ -18,14 +18,14 @@ picked : {X : Type 0} (b : Bool) (x y : X) → (if b then Some x else None) ≡ 
 picked true x y e = (refl, ap (λ o. unwrap_or o x) e)
 picked false x y e = absurd (none-some y e)
 
-served-in : (o : Option Job) (job : Job) → option_and_then if_served o ≡ Some job → (is_served job ≡ true) × (o ≡ Some job)
+served-in : (o : Option Job) (job : Job) → option_and_then if_served o ≡ Some job → (is_supported job ≡ true) × (o ≡ Some job)
 served-in None job e = absurd (none-some job e)
 served-in (Some j) job e =
-    let p = picked (is_served j) j job e in
-    (subst (λ (x : Job). is_served x ≡ true) p.1 p.0, ap (λ x. Some x) p.1)
+    let p = picked (is_supported j) j job e in
+    (subst (λ (x : Job). is_supported x ≡ true) p.1 p.0, ap (λ x. Some x) p.1)
 
--- the job is served, and named by words of the form
-pub job-served : (words : List (List ℕ)) (job : Job) → Some job ≡ job_of words → (is_served job ≡ true) × (form_of words ≡ Some job)
+-- the job is implemented, and named by arguments that match the usage
+pub job-served : (words : List (List ℕ)) (job : Job) → Some job ≡ job_of words → (is_supported job ≡ true) × (form_of words ≡ Some job)
 unfolding job_of
 job-served words job e = served-in (form_of words) job (sym e)
 
@@ -61,21 +61,6 @@ pub job-blocks : (words : List (List ℕ)) (job : Job) → form_of words ≡ Som
 unfolding form_of
 job-blocks words job e = line-bounds (line_of words) job e
 
-nogc-is : (p : Plan) → is_nogc p ≡ true → p ≡ NoGc
-nogc-is NoGc e = refl
-nogc-is MarkSweep e = absurd (true≢false (sym e))
-nogc-is SemiSpace e = absurd (true≢false (sym e))
-nogc-is GenCopy e = absurd (true≢false (sym e))
-nogc-is Immix e = absurd (true≢false (sym e))
-nogc-is StickyImmix e = absurd (true≢false (sym e))
-
--- its session with one trace
-pub served-setting : (job : Job) (b : ℕ) (t : List Command) → is_served job ≡ true → b ≡ job.blocks → setting_of job (t ∷ []) ≡ alone_under_nogc b t
-served-setting job b t served same =
-    let parts = both (is_nogc job.plan && nat_eq job.workers 1 && not job.map) (is_one_file job.work) served in
-    let rest = both (is_nogc job.plan && nat_eq job.workers 1) (not job.map) parts.0 in
-    let first = both (is_nogc job.plan) (nat_eq job.workers 1) rest.0 in
-    let one : job.workers ≡ 1 = eqb-true job.workers 1 first.1 in
-    ap (λ p. setting_of (record job { plan = p }) (t ∷ [])) (nogc-is job.plan first.0)
-    ∙ ap (λ k. setting_of (record job { plan = NoGc; blocks = k }) (t ∷ [])) (sym same)
-    ∙ ap (λ w. setting_of (record job { plan = NoGc; blocks = b; workers = w }) (t ∷ [])) one
+-- its work is one file
+pub served-work : (job : Job) → is_supported job ≡ true → is_one_file job.work ≡ true
+served-work job served = (both (is_nogc job.plan && nat_eq job.workers 1 && not job.map) (is_one_file job.work) served).1

@@ -1,3 +1,5 @@
+mod Printing
 mod Running
 pub mod Jobs
 pub mod Outcomes
+pub mod Joining

@@ -15,12 +15,12 @@ use Rattle.ideal_heap.specs.Ideal.{IdealHeap, step}
 use Rattle.ideal_heap.specs.Runs.{Entry, entry, after, is_full, replies_of}
 use Rattle.ideal_heap.proofs.StepLemmas.{never_full}
 use Rattle.object_model.specs.Objects.{HeapState, state_of, with_words, IsHeld, name_at, size_of}
-use Rattle.object_model.specs.Graphs.{MutatorState, Stands}
-use Rattle.object_model.specs.Changes.{KeepsObjects}
+use Rattle.object_model.specs.Graphs.{MutatorState, Represents}
+use Rattle.object_model.specs.Changes.{ObjectsStay}
 use Rattle.object_model.specs.Steps.{TakesStep}
 use Rattle.object_model.proofs.Counts as counts
 use Rattle.object_model.proofs.Frames.{same-layout}
-use Rattle.object_model.proofs.Standing.{stands}
+use Rattle.object_model.proofs.Representation.{represents}
 use Rattle.sessions.specs.Births.{TakesBirth}
 use Rattle.sessions.specs.Bumping.{AreTails, AreLows, AreNamed, LacksRoom}
 use Rattle.sessions.specs.Driving.{Driven}
@@ -29,16 +29,16 @@ use Rattle.sessions.specs.Plans.{NoGc, rules_of}
 use Rattle.sessions.proofs.Driving as driving
 use Rattle.sessions.proofs.Placing.{large-never, full-never}
 use Rattle.sessions.proofs.Stops as stops
-use Rattle.sessions.proofs.Tails.{tails-kept, tails-counted}
+use Rattle.sessions.proofs.Tails.{tails-kept, tails-counts_after}
 use Rattle.mm_drive.specs.Lone.{lone}
 use Rattle.mm_drive.specs.Running.{RunsOn, Runs, IsReady, Ends, is_quiet}
 use Rattle.mm_drive.specs.declared.engine.Engine.{Engine}
 use Rattle.sessions.specs.Sessions.{Moment, ideal_at}
 use Rattle.ideal_heap.proofs.OrderLemmas.{of_mutator-all}
 
-told-more : (done : List Entry) (replies : List Reply) (command : Command) (reply : Reply) → map (λ x. x.reply) done ≡ replies
+reported-more : (done : List Entry) (replies : List Reply) (command : Command) (reply : Reply) → map (λ x. x.reply) done ≡ replies
     → map (λ x. x.reply) (done ++ entry 1 command reply ∷ []) ≡ replies ++ reply ∷ []
-told-more done replies command reply told = map_push (λ x. x.reply) done (entry 1 command reply) ∙ ap (λ rs. rs ++ reply ∷ []) told
+reported-more done replies command reply reported = map_push (λ x. x.reply) done (entry 1 command reply) ∙ ap (λ rs. rs ++ reply ∷ []) reported
 
 -- a command that is none of the three is quiet
 pub quiet-from : (command : Command) → ((d refs nums : ℕ) → command ≢ c.New d refs nums) → command ≢ c.Gc → command ≢ c.Meet → is_quiet command ≡ true
@@ -123,7 +123,7 @@ module _ (b : ℕ) (trace : List Command) (s : HeapState) (births : ℕ) (regist
     (runs : RunsOn b trace s (lone births registers) ends lows replies) where
   -- as many entries as replies
   pub count : length runs.done ≡ length replies
-  count = sym (length-map runs.done (λ x. x.reply)) ∙ ap length runs.told
+  count = sym (length-map runs.done (λ x. x.reply)) ∙ ap length runs.reported
 
   next-at : (command : Command) → slice_get trace (length replies) ≡ Some command → slice_get trace (length runs.done) ≡ Some command
   next-at command next = ap (slice_get trace) count ∙ next
@@ -142,8 +142,8 @@ module _ (b : ℕ) (trace : List Command) (s : HeapState) (births : ℕ) (regist
         done = runs.done ++ entry 1 command reply ∷ [];
         driven = driving.quiet-step b trace s s' (lone births registers) (lone births registers') runs.done command reply runs.driven (next-at command next)
             (not-new command quiet) (not-gc command quiet) (not-meet command quiet) answers not_full takes.no_birth takes.keeps refl refl (takes.models heap runs.driven.models);
-        told = told-more runs.done replies command reply runs.told;
-        tails = subst (λ (x : HeapState). AreTails x ends) (sym same) (tails-kept s s'.words (subst (KeepsObjects s) same takes.keeps) ends runs.tails);
+        reported = reported-more runs.done replies command reply runs.reported;
+        tails = subst (λ (x : HeapState). AreTails x ends) (sym same) (tails-kept s s'.words (subst (ObjectsStay s) same takes.keeps) ends runs.tails);
         low_blocks = runs.low_blocks;
         blocks = takes.keeps.blocks ∙ runs.blocks;
       }
@@ -155,9 +155,9 @@ module _ (b : ℕ) (trace : List Command) (s : HeapState) (births : ℕ) (regist
   runs-refused d refs nums next why = record {
     done = runs.done ++ entry 1 (c.New d refs nums) r.Full ∷ [];
     driven = driving.refused-step b trace s (lone births registers) runs.done d refs nums runs.driven (next-at (c.New d refs nums) next)
-        (no-fit s runs.tails why) (no-fit (counts.counted s) (tails-counted s ends runs.tails) (lacks-counted s why));
-    told = told-more runs.done replies (c.New d refs nums) r.Full runs.told;
-    tails = tails-counted s ends runs.tails;
+        (no-fit s runs.tails why) (no-fit (counts.counted s) (tails-counts_after s ends runs.tails) (lacks-counts_after s why));
+    reported = reported-more runs.done replies (c.New d refs nums) r.Full runs.reported;
+    tails = tails-counts_after s ends runs.tails;
     low_blocks = runs.low_blocks;
     blocks = runs.blocks;
   }
@@ -166,22 +166,22 @@ module _ (b : ℕ) (trace : List Command) (s : HeapState) (births : ℕ) (regist
       no-fit x tails (inl large) fits = large-never x (size_of refs nums) large fits
       no-fit x tails (inr lacks) fits = full-never x ends tails (size_of refs nums) lacks.0 lacks.1.all lacks.1.past fits
 
-      lacks-counted : (x : HeapState) → (2048 < size_of refs nums) ⊎ ((size_of refs nums ≤ 2048) × LacksRoom x ends (size_of refs nums)) → (2048 < size_of refs nums) ⊎ ((size_of refs nums ≤ 2048) × LacksRoom (counts.counted x) ends (size_of refs nums))
-      lacks-counted x (inl large) = inl large
-      lacks-counted x (inr lacks) = inr (lacks.0, record { all = lacks.1.all; past = lacks.1.past })
+      lacks-counts_after : (x : HeapState) → (2048 < size_of refs nums) ⊎ ((size_of refs nums ≤ 2048) × LacksRoom x ends (size_of refs nums)) → (2048 < size_of refs nums) ⊎ ((size_of refs nums ≤ 2048) × LacksRoom (counts.counted x) ends (size_of refs nums))
+      lacks-counts_after x (inl large) = inl large
+      lacks-counts_after x (inr lacks) = inr (lacks.0, record { all = lacks.1.all; past = lacks.1.past })
 
   -- a `new` that is placed
   pub runs-born : (s' : HeapState) (registers' ends' lows' : List ℕ) (d refs nums : ℕ) → slice_get trace (length replies) ≡ Some (c.New d refs nums)
       → TakesBirth s (lone births registers) d refs nums s' (lone (births + 1) registers') → AreTails s' ends' → AreLows ends' lows'
       → RunsOn b trace s' (lone (births + 1) registers') ends' lows' (replies ++ r.New (name 1 (births + 1)) ∷ [])
   runs-born s' registers' ends' lows' d refs nums next takes tails past =
-      let counted : heap.births 1 ≡ births = runs.driven.models.births.births.0 in
+      let counts_after : heap.births 1 ≡ births = runs.driven.models.births.births.0 in
       let driven = driving.placed-step b trace s s' (lone births registers) (lone (births + 1) registers') runs.done d refs nums takes.place runs.driven (next-at (c.New d refs nums) next)
-      takes.small takes.fits takes.layout takes.object takes.spot takes.uses takes.changes (takes.named ∙ ap (λ k. name 1 (k + 1)) (sym counted)) takes.lawful (takes.models heap runs.driven.models) refl refl in
+      takes.small takes.fits takes.layout takes.object takes.spot takes.uses takes.changes (takes.named ∙ ap (λ k. name 1 (k + 1)) (sym counts_after)) takes.lawful (takes.models heap runs.driven.models) refl refl in
       record {
         done = runs.done ++ entry 1 (c.New d refs nums) (r.New (name 1 (births + 1))) ∷ [];
-        driven = subst (λ (k : ℕ). Driven b trace s' (lone (births + 1) registers') (runs.done ++ entry 1 (c.New d refs nums) (r.New (name 1 (k + 1))) ∷ [])) counted driven;
-        told = told-more runs.done replies (c.New d refs nums) (r.New (name 1 (births + 1))) runs.told;
+        driven = subst (λ (k : ℕ). Driven b trace s' (lone (births + 1) registers') (runs.done ++ entry 1 (c.New d refs nums) (r.New (name 1 (k + 1))) ∷ [])) counts_after driven;
+        reported = reported-more runs.done replies (c.New d refs nums) (r.New (name 1 (births + 1))) runs.reported;
         tails = tails;
         low_blocks = past;
         blocks = takes.layout.0 ∙ runs.blocks;
@@ -191,8 +191,8 @@ module _ (b : ℕ) (trace : List Command) (s : HeapState) (births : ℕ) (regist
   runs-gc next = record {
     done = runs.done ++ entry 1 c.Gc r.Done ∷ [];
     driven = stops.gc-step b trace s (lone births registers) runs.done runs.driven (next-at c.Gc next);
-    told = told-more runs.done replies c.Gc r.Done runs.told;
-    tails = tails-counted s ends runs.tails;
+    reported = reported-more runs.done replies c.Gc r.Done runs.reported;
+    tails = tails-counts_after s ends runs.tails;
     low_blocks = runs.low_blocks;
     blocks = runs.blocks;
   }
@@ -201,7 +201,7 @@ module _ (b : ℕ) (trace : List Command) (s : HeapState) (births : ℕ) (regist
   runs-meet next = record {
     done = runs.done ++ entry 1 c.Meet r.Done ∷ [];
     driven = stops.meet-step b trace s (lone births registers) runs.done runs.driven (next-at c.Meet next);
-    told = told-more runs.done replies c.Meet r.Done runs.told;
+    reported = reported-more runs.done replies c.Meet r.Done runs.reported;
     tails = runs.tails;
     low_blocks = runs.low_blocks;
     blocks = runs.blocks;
@@ -215,7 +215,7 @@ runs-searched b trace s s' m ends ends' lows lows' replies runs same kept past =
     (record {
       done = runs.done;
       driven = runs.driven;
-      told = runs.told;
+      reported = runs.reported;
       tails = subst (AreTails s) (sym kept) runs.tails;
       low_blocks = past;
       blocks = runs.blocks;
@@ -247,11 +247,11 @@ finished b trace e replies runs all =
     let end = driving.whole b trace s m runs.done runs.driven (omega arith) in
     let last : Moment = end.0 in
     let done_is : last.done ≡ runs.done = end.4 in
-    let there : Stands s (m ∷ []) (after ideal.empty last.done) = subst (λ (es : List Entry). Stands s (m ∷ []) (after ideal.empty es)) (sym done_is) (stands s (m ∷ []) (after ideal.empty runs.done) (IsHeld s) runs.driven.models) in
+    let there : Represents s (m ∷ []) (after ideal.empty last.done) = subst (λ (es : List Entry). Represents s (m ∷ []) (after ideal.empty es)) (sym done_is) (represents s (m ∷ []) (after ideal.empty runs.done) (IsHeld s) runs.driven.models) in
     record {
       last = last;
       whole = end.1;
-      replies_are = sym runs.told ∙ ap (map (λ x. x.reply)) (sym (of_mutator-all 1 runs.done runs.driven.entries)) ∙ ap (replies_of 1) (sym done_is);
+      replies_are = sym runs.reported ∙ ap (map (λ x. x.reply)) (sym (of_mutator-all 1 runs.done runs.driven.entries)) ∙ ap (replies_of 1) (sym done_is);
       heap = end.2;
-      stands = subst (λ (ms : List MutatorState). Stands last.heap ms (ideal_at last)) (sym end.3) (subst (λ (x : HeapState). Stands x (m ∷ []) (ideal_at last)) (sym end.2) there);
+      represents = subst (λ (ms : List MutatorState). Represents last.heap ms (ideal_at last)) (sym end.3) (subst (λ (x : HeapState). Represents x (m ∷ []) (ideal_at last)) (sym end.2) there);
     }

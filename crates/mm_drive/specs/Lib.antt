@@ -3,4 +3,6 @@ pub mod Running
 pub mod Texts
 pub mod Made
 pub mod Printed
+pub mod Reading
 pub mod Statuses
+pub mod Exits

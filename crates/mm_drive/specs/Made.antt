@@ -1,24 +1,24 @@
--- The trace of `--make N`: commands that follow from their number alone.
+-- The trace of `--make N`: its commands depend only on N.
 use Rattle.std.specs.Prelude.{ℕ, zero, suc, ◌+◌, ◌-◌, ◌*◌, ◌/◌, ◌%◌, ◌^◌, List, [], ◌∷◌, nat_lt, nat_eq, if◌then◌else◌}
 use Rattle.ideal_heap.specs.declared.command.Command.{Command}
 use Rattle.ideal_heap.specs.declared.command.Command.TheVariants.{New, Get, Put, Read, Write, Add, Swap, Move, DropReg, Load, Share, Pin, Gc}
 
--- A command that is drawn: for the state before its draws, the command and the state behind them.
+-- A random command: from the generator's state before it is drawn, the command and the state after.
 abbrev pub Drawing : Type 0
 Drawing = ℕ → Command × ℕ
 
--- no more draws
+-- draws nothing more, and returns the command
 abbrev pub give : Command → Drawing
 give command x = (command, x)
 
 abbrev pub next_state : ℕ → ℕ
 next_state x = (x * 6364136223846793005 + 1442695040888963407) % 2 ^ 64
 
--- draws a number and goes on with it
+-- draws a number of 31 bits and continues with it
 abbrev pub draw : (ℕ → Drawing) → Drawing
 draw go x = go (next_state x / 2 ^ 33) (next_state x)
 
--- draws a number, reduces it below n, and goes on with it
+-- draws a number, reduces it modulo n, and continues with it
 abbrev pub draw_below : ℕ → (ℕ → Drawing) → Drawing
 draw_below n go = draw (λ v. go (v % n))
 
@@ -56,7 +56,7 @@ a_share = draw_below 16 (λ g. draw_below 16 (λ s. give (Share g s)))
 abbrev pub a_pin : Drawing
 a_pin = draw_below 16 (λ s. give (Pin s))
 
--- the command of one of sixteen rows
+-- a random command of the row with this number, 0 to 15
 abbrev pub in_row : ℕ → Drawing
 in_row row =
     if nat_lt row 4 then a_new
@@ -71,8 +71,9 @@ in_row row =
     else if nat_eq row 14 then a_share
     else a_pin
 
--- Command k, from 0 on: each register is dropped in turn, each global becomes what register 0 names, which is nil then,
--- once in a long while there is a `gc`, and else a row is drawn.
+-- Command k, from 0 on. At the start of every 1,024 commands, each register is dropped, and then each global is cleared
+-- by sharing register 0, which is nil. At the start of every 65,536, a `gc` follows. All other commands are of a random
+-- row.
 abbrev pub command_at : ℕ → Drawing
 command_at k =
     if nat_lt (k % 1024) 16 then give (DropReg (k % 1024))
@@ -80,11 +81,11 @@ command_at k =
     else if nat_eq (k % 65536) 32 then give Gc
     else draw_below 16 in_row
 
--- the commands from number k on, as many as are left, where this is the state of the draws
+-- the commands from number k on, as many as are left, with x as the generator's state
 abbrev pub made_from : ℕ → ℕ → ℕ → List Command
 made_from k zero x = []
 made_from k (suc left) x = (command_at k x).0 ∷ made_from (k + 1) left (command_at k x).1
 
--- the draws begin with the number of commands
+-- the generator's first state is the number of commands
 unfoldable pub made_trace : ℕ → List Command
 made_trace n = made_from 0 n n

@@ -1,5 +1,5 @@
 -- What a run reads and writes.
-use Rattle.std.specs.Prelude.{◌≡◌, ℕ, ◌<◌, ◌≤◌, ◌⊎◌, false, List, [], ◌∷◌, ◌++◌, length, Option, Some, IfSome, IsErr, Ok, Err, codes}
+use Rattle.std.specs.Prelude.{◌≡◌, ℕ, ◌<◌, ◌≤◌, ◌⊎◌, false, List, [], ◌∷◌, ◌++◌, length, map, take, suc, slice_get, Option, None, Some, IfSome, IsErr, Ok, Err, codes}
 use Rattle.std.specs.List.{AllByRecursion}
 use Rattle.std.specs.Fmt.{decimal}
 use Rattle.ideal_heap.specs.declared.command.Command.{Command}
@@ -11,7 +11,7 @@ use Rattle.trace_text.specs.Grammar.{trace}
 use Rattle.sessions.specs.Plans.{rules_of}
 use Rattle.sessions.specs.Sessions.{Setting, Moment, IsWhole}
 use Rattle.command_line.specs.Words.{Job, Work, Files, Made}
-use Rattle.outside.specs.Outside.{Asking, HasRisen, Adds, AddsFront}
+use Rattle.outside.specs.Outside.{Asked, SourceState, SinkState, HasRisen, Adds, AppendsPrefix}
 use Rattle.outside.specs.Reading.{most_bytes}
 use Rattle.mm_drive.specs.Texts.{replies_part, IsSessionText, IsSummary}
 use Rattle.mm_drive.specs.Made.{made_trace}
@@ -21,20 +21,26 @@ abbrev pub files_in : Work → List (List ℕ)
 files_in (Files files) = files
 files_in (Made n) = []
 
-abbrev pub files_of : Job → List (List ℕ)
-files_of job = files_in job.work
+abbrev pub job_files : Job → List (List ℕ)
+job_files job = files_in job.work
 
--- mutators place objects at stops alone
+-- the setting of a session of the job with these traces; mutators place objects only at stops
 abbrev pub setting_of : Job → List (List Command) → Setting
-setting_of job traces = record { rules = rules_of job.plan; blocks = job.blocks; workers = job.workers; places = false; traces = traces }
+setting_of job traces = record {
+  rules = rules_of job.plan;
+  blocks = job.blocks;
+  workers = job.workers;
+  places = false;
+  traces = traces;
+}
 
--- the text is the replies of a whole session
+-- the text consists of the replies of a whole session
 pub record AreReplies (t : Setting) (text : List ℕ) : Type 0 where
   pub last : Moment
   pub whole : IsWhole t last
   pub printed : text ≡ replies_part (length t.traces) last
 
--- the text that belongs to a session of n mutators: of files its replies, report and map, of a made trace its summary
+-- the text of a session of n mutators: replies, report and map for files, and a summary for a made trace
 abbrev pub IsTextOf : Job → Work → ℕ → Moment → List ℕ → Type 0
 IsTextOf job (Files files) n last text = IsSessionText job.plan n job.map last text
 IsTextOf job (Made count) n last text = IsSummary count last text
@@ -45,68 +51,83 @@ pub record IsWholeText (job : Job) (traces : List (List Command)) (text : List �
   pub whole : IsWhole (setting_of job traces) last
   pub text_is : IsTextOf job job.work (length traces) last text
 
--- What is printed of it; for now the replies are all.
+-- The text that is printed. For now these are the replies alone.
 abbrev pub IsPrinted : Job → List (List Command) → List ℕ → Type 0
 IsPrinted job traces text = AreReplies (setting_of job traces) text
 
--- what a name holds, where told
+-- the content of each file name that is known to the contract
 abbrev pub Content : Type 0
 Content = List ℕ → Option (List ℕ)
 
--- the content, where told, is this trace
+-- the content, if known, encodes this trace
 abbrev pub IsTraceIn : Option (List ℕ) → List Command → Type 0
 IsTraceIn content t = IfSome content (λ bytes. (length bytes ≤ most_bytes) × (trace bytes ≡ Ok t))
 
--- the contents of the files, where told, are the traces, one each
+-- the contents of the files, if known, encode these traces, one each
 abbrev pub AreTraces : Content → List (List ℕ) → List (List Command) → Type 0
 AreTraces content [] [] = Unit {0}
 AreTraces content (file ∷ files) (t ∷ traces) = IsTraceIn (content file) t × AreTraces content files traces
 AreTraces content [] (t ∷ traces) = ⊥
 AreTraces content (file ∷ files) [] = ⊥
 
--- the traces of a job: those that its files hold, or the made one
+-- the traces of a job: those in its files, or the made one
 abbrev pub AreTracesOf : Content → Work → List (List Command) → Type 0
 AreTracesOf content (Files files) traces = AreTraces content files traces
 AreTracesOf content (Made n) traces = traces ≡ made_trace n ∷ []
 
--- the contents of all files are told
-abbrev pub AreTold : Content → List (List ℕ) → Type 0
-AreTold content files = AllByRecursion (λ file. (bytes : List ℕ) × (content file ≡ Some bytes)) files
+-- the contents of all files are known
+abbrev pub AreKnown : Content → List (List ℕ) → Type 0
+AreKnown content files = AllByRecursion (λ file. (bytes : List ℕ) × (content file ≡ Some bytes)) files
 
--- what is printed of a whole session of the job and of its traces was written
-pub record Prints (content : Content) (job : Job) (before after : Option (List ℕ)) : Type 0 where
+-- the contents of a job's files are known, and encode traces
+pub record HasTraces (content : Content) (job : Job) : Type 0 where
+  pub reported : AreKnown content (job_files job)
+  pub traces : List (List Command)
+  pub read : AreTracesOf content job.work traces
+
+-- the text of a whole session of the job and its traces was written
+pub record Prints (content : Content) (job : Job) (before after : SinkState) : Type 0 where
   pub traces : List (List Command)
   pub read : AreTracesOf content job.work traces
   pub text : List ℕ
   pub printed : IsPrinted job traces text
-  pub written : Adds before after text
+  pub written : Adds before.written after.written text
 
--- a front of one was written, and not the whole
-pub record PrintsFront (content : Content) (job : Job) (before after : Option (List ℕ)) : Type 0 where
+-- a prefix of such a text was written, but not the whole text, and the sink failed
+pub record PrintsPrefix (content : Content) (job : Job) (before after : SinkState) : Type 0 where
   pub traces : List (List Command)
   pub read : AreTracesOf content job.work traces
   pub text : List ℕ
   pub printed : IsPrinted job traces text
-  pub written : AddsFront before after text
+  pub written : AppendsPrefix before.written after.written text
+  pub risen : HasRisen before.faults after.faults
 
--- The file at which reading ends: those before it are traces, and P holds of its content, where told.
-pub record EndsAt (content : Content) (files : List (List ℕ)) (P : List ℕ → Type 0) : Type 0 where
+-- Between the two states the first n of these files were asked for, in their order, once each, and no other name.
+pub record AsksFirst (n : ℕ) (files : List (List ℕ)) (before after : Asked) : Type 0 where
+  pub since : Asked
+  pub all : after ≡ before ++ since
+  pub names : map (λ a. a.0) since ≡ take n files
+
+-- a prefix of the files was asked for
+abbrev pub AsksPrefix : List (List ℕ) → Asked → Asked → Type 0
+AsksPrefix files before after = (n : ℕ) × AsksFirst n files before after
+
+-- Reading ends at file k, from 0 on: the files before it have traces, and P holds of its content, if known.
+pub record EndsAt (content : Content) (files : List (List ℕ)) (k : ℕ) (P : List ℕ → Type 0) : Type 0 where
   pub file : List ℕ
-  pub before : List (List ℕ)
-  pub behind : List (List ℕ)
-  pub order : files ≡ before ++ file ∷ behind
+  pub is : slice_get files k ≡ Some file
   pub traces : List (List Command)
-  pub good : AreTraces content before traces
+  pub good : AreTraces content (take k files) traces
   pub content_is : IfSome (content file) P
 
--- and the contents up to that file are told
-abbrev pub EndsToldAt : Content → List (List ℕ) → (List ℕ → Type 0) → Type 0
-EndsToldAt content files P = (at : EndsAt content files P) × AreTold content (at.before ++ at.file ∷ [])
+-- reading ends at some file, and the contents up to it are known
+abbrev pub EndsAtKnown : Content → List (List ℕ) → (List ℕ → Type 0) → Type 0
+EndsAtKnown content files P = (k : ℕ) × EndsAt content files k P × AreKnown content (take (suc k) files)
 
 abbrev pub IsLong : List ℕ → Type 0
 IsLong bytes = most_bytes < length bytes
 
--- short enough, and no trace
+-- short enough, but not a trace
 abbrev pub IsNoTrace : List ℕ → Type 0
 IsNoTrace bytes = (length bytes ≤ most_bytes) × IsErr (trace bytes)
 
@@ -137,11 +158,11 @@ why_word why.Count = codes "count"
 why_word why.Number = codes "number"
 why_word why.Range = codes "range"
 
--- the line for a line that is no command or no header, whose number and fault have these texts
+-- the line for a bad header or command, from the texts of its line number and its fault
 abbrev pub line_fault : List ℕ → List ℕ → List ℕ → List ℕ
 line_fault file line word = file_line file (codes ": line " ++ (line ++ (codes ": " ++ (word ++ codes "\n"))))
 
--- the end of the line for a text that is no trace; want of memory is never told by it
+-- the end of the line for a file that is not a trace; lack of memory is never reported by it
 abbrev pub fault_end : TraceFault → List ℕ
 fault_end (Line n w) = codes "line " ++ (decimal n ++ (codes ": " ++ (why_word w ++ codes "\n")))
 fault_end TooMany = codes "more than 1000000 commands\n"
@@ -156,30 +177,44 @@ write_line = codes "mm_drive: write failed\n"
 abbrev pub memory_line : List ℕ
 memory_line = codes "mm_drive: out of memory\n"
 
--- What standard error got, from its state and its count of faults before and after: the line, or a front of it where the
--- count rose.
-pub record Tells (before after : Option (List ℕ)) (count count' : ℕ) (line : List ℕ) : Type 0 where
-  pub told : Adds before after line ⊎ (HasRisen count count' × AddsFront before after line)
-  pub later : count ≤ count'
+-- Standard error got the line, or a prefix of it if its count of faults has risen.
+pub record WritesFaultLine (before after : SinkState) (line : List ℕ) : Type 0 where
+  pub reported : Adds before.written after.written line
+      ⊎ (HasRisen before.faults after.faults × AppendsPrefix before.written after.written line)
+  pub later : before.faults ≤ after.faults
 
--- A file could not be read: the last asking of a name, since the count of faults was `before`, was for this file, and from it
--- on the count rose. The line names the file.
-pub record Unread (content : Content) (files : List (List ℕ)) (asked : Asking) (before now : ℕ) (Told : List ℕ → Type 0) : Type 0 where
-  pub at : EndsAt content files IsAny
+-- The arguments do not match the usage, or ask for a feature that is not implemented yet: no file is asked for, and the
+-- line is the usage.
+pub record IsUsage (job : Option Job) (before after : SourceState) (Told : List ℕ → Type 0) : Type 0 where
+  pub none : job ≡ None
+  pub unread : after ≡ before
+  pub line : Told usage_line
+
+-- File `place`, from 0 on, could not be read: it was asked for last, when the count of faults was `count`, no less than
+-- at the start, and the count has risen since. The line names the file.
+pub record Unread (files : List (List ℕ)) (before after : SourceState) (Told : List ℕ → Type 0) : Type 0 where
+  pub place : ℕ
+  pub at : EndsAt before.content files place IsAny
+  pub earlier : Asked
+  pub front : AsksFirst place files before.asked earlier
   pub count : ℕ
-  pub last : asked ≡ Some (at.file, count)
-  pub since : before ≤ count
-  pub risen : HasRisen count now
+  pub last : after.asked ≡ earlier ++ (at.file, count) ∷ []
+  pub since : before.faults ≤ count
+  pub risen : HasRisen count after.faults
   pub line : Told (unread_line at.file)
 
--- a file is too long, and the line names it
-pub record IsTooLong (content : Content) (files : List (List ℕ)) (Told : List ℕ → Type 0) : Type 0 where
-  pub at : EndsAt content files IsLong
+-- A file is too long. It was asked for last, and the line names it.
+pub record IsTooLong (files : List (List ℕ)) (before after : SourceState) (Told : List ℕ → Type 0) : Type 0 where
+  pub place : ℕ
+  pub at : EndsAt before.content files place IsLong
+  pub asked : AsksFirst (suc place) files before.asked after.asked
   pub line : Told (long_line at.file)
 
--- a file is no trace, and the line names it and its first fault
-pub record IsBad (content : Content) (files : List (List ℕ)) (Told : List ℕ → Type 0) : Type 0 where
+-- A file is not a trace. It was asked for last, and the line names it and its first fault.
+pub record IsBad (files : List (List ℕ)) (before after : SourceState) (Told : List ℕ → Type 0) : Type 0 where
   pub fault : TraceFault
   pub real : fault ≡ OutOfMemory → ⊥
-  pub at : EndsAt content files (HasFault fault)
+  pub place : ℕ
+  pub at : EndsAt before.content files place (HasFault fault)
+  pub asked : AsksFirst (suc place) files before.asked after.asked
   pub line : Told (fault_line at.file fault)

@@ -1,37 +1,36 @@
 -- The text of a session: the replies of each mutator, the report, and the map.
-use Rattle.std.specs.Prelude.{◌≡◌, ℕ, ◌+◌, ◌*◌, ◌%◌, ◌^◌, ◌<◌, ◌⊎◌, ◌↔◌, Bool, List, [], ◌∷◌, ◌++◌, length, count_by, slice_index, codes, if◌then◌else◌}
+use Rattle.std.specs.Prelude.{◌≡◌, ℕ, ◌+◌, ◌*◌, ◌%◌, ◌^◌, ◌<◌, ◌↔◌, Bool, List, [], ◌∷◌, ◌++◌, length, count_by, slice_index, codes, if◌then◌else◌}
 use Rattle.std.specs.List.{Any, flat_map, range_with_len}
 use Rattle.std.specs.Fmt.{decimal}
 use Rattle.heap_layout.specs.Zones.{heap_of, block_at, offset_at}
 use Rattle.heap_layout.specs.declared.block.Kind.{Kind}
 use Rattle.heap_layout.specs.declared.block.Kind.TheVariants as kinds
-use Rattle.ideal_heap.specs.declared.name.Name.{Name}
+use Rattle.ideal_heap.specs.Names.{IsBefore}
 use Rattle.ideal_heap.specs.declared.reply.Reply.{Reply}
 use Rattle.ideal_heap.specs.declared.reply.Reply.TheVariants as r
 use Rattle.ideal_heap.specs.Runs.{replies_of, is_full}
 use Rattle.object_model.specs.Objects.{HeapState, is_start, name_at, size_at, has_kind, block_count}
-use Rattle.object_model.specs.Graphs.{Arrives, roots_of}
+use Rattle.object_model.specs.Graphs.{IsReachable, roots_of}
 use Rattle.trace_text.specs.Text.{ended, name_text, mutator_text}
-use Rattle.sessions.specs.Plans.{Plan, NoGc, MarkSweep, SemiSpace, GenCopy, Immix, StickyImmix}
+use Rattle.sessions.specs.Plans.{Plan, plan_word}
 use Rattle.sessions.specs.Fitting.{large_of}
 use Rattle.sessions.specs.Sessions.{Moment}
+use Rattle.heap_layout.specs.declared.layout.TheConstants.{BLOCK_WORDS}
 
 -- the replies of mutators 1 to n
 abbrev pub replies_part : ℕ → Moment → List ℕ
 replies_part n last = flat_map (λ m. mutator_text m (replies_of m last.done)) (range_with_len 1 n)
 
--- the order of names
-abbrev pub IsBefore : Name → Name → Type 0
-IsBefore m n = (m.mutator < n.mutator) ⊎ ((m.mutator ≡ n.mutator) × (m.birth < n.birth))
-
--- the objects that registers and globals reach, each once, in rising order of their names
+-- the objects that are reachable from registers and globals, each once, in rising order of names
 pub record AreLive (last : Moment) (live : List ℕ) : Type 0 where
-  pub all : (a : ℕ) → Arrives last.heap (roots_of last.mutators) a ↔ Any (λ x. x ≡ a) live
-  pub rise : (i j : ℕ) → i < j → j < length live → IsBefore (name_at last.heap (slice_index live i)) (name_at last.heap (slice_index live j))
+  pub all : (a : ℕ) → IsReachable last.heap (roots_of last.mutators) a ↔ Any (λ x. x ≡ a) live
+  pub rise : (i j : ℕ) → i < j → j < length live
+      → IsBefore (name_at last.heap (slice_index live i)) (name_at last.heap (slice_index live j))
 
 -- the addresses of the held objects
 abbrev pub held_in : HeapState → List ℕ
-held_in s = flat_map (λ a. if is_start s a then a ∷ [] else []) (range_with_len (heap_of s.blocks) (4096 * s.blocks))
+held_in s = flat_map (λ a. if is_start s a then a ∷ [] else [])
+    (range_with_len (heap_of s.blocks) (BLOCK_WORDS * s.blocks))
 
 -- the words of the objects at these addresses
 abbrev pub words_at : HeapState → List ℕ → ℕ
@@ -41,22 +40,17 @@ words_at s (a ∷ rest) = size_at s a + words_at s rest
 abbrev pub kind_count : HeapState → Kind → ℕ
 kind_count s kind = block_count s (λ k. has_kind s k kind)
 
-abbrev pub plan_word : Plan → List ℕ
-plan_word NoGc = codes "nogc"
-plan_word MarkSweep = codes "marksweep"
-plan_word SemiSpace = codes "semispace"
-plan_word GenCopy = codes "gencopy"
-plan_word Immix = codes "immix"
-plan_word StickyImmix = codes "stickyimmix"
-
 abbrev pub live_line : HeapState → List ℕ → List ℕ
-live_line s live = ended (codes "live objects " ++ decimal (length live) ++ codes " words " ++ decimal (words_at s live))
+live_line s live = ended (codes "live objects " ++ decimal (length live)
+    ++ codes " words " ++ decimal (words_at s live))
 
 abbrev pub held_line : HeapState → List ℕ
-held_line s = ended (codes "held objects " ++ decimal (length (held_in s)) ++ codes " words " ++ decimal (words_at s (held_in s)))
+held_line s = ended (codes "held objects " ++ decimal (length (held_in s))
+    ++ codes " words " ++ decimal (words_at s (held_in s)))
 
 abbrev pub kinds_line : HeapState → List ℕ
-kinds_line s = ended (codes "kinds free " ++ decimal (kind_count s kinds.Free) ++ codes " bump " ++ decimal (kind_count s kinds.Bump)
+kinds_line s = ended (codes "kinds free " ++ decimal (kind_count s kinds.Free)
+    ++ codes " bump " ++ decimal (kind_count s kinds.Bump)
     ++ codes " young " ++ decimal (kind_count s kinds.Young) ++ codes " mature " ++ decimal (kind_count s kinds.Mature)
     ++ codes " immix " ++ decimal (kind_count s kinds.Immix) ++ codes " cells " ++ decimal (kind_count s kinds.Cells)
     ++ codes " large " ++ decimal (large_of s) ++ codes " kept " ++ decimal (kind_count s kinds.Kept))
@@ -74,20 +68,22 @@ report_part plan n last live =
     ++ held_line last.heap
     ++ kinds_line last.heap
 
--- where an object lies
+-- the map line of an object: its name, where it lies, and its size in words
 abbrev pub map_line : HeapState → ℕ → List ℕ
-map_line s a = ended (codes "map " ++ name_text (name_at s a) ++ codes " block " ++ decimal (block_at s.blocks a) ++ codes " word " ++ decimal (offset_at s.blocks a) ++ codes " size " ++ decimal (size_at s a))
+map_line s a = ended (codes "map " ++ name_text (name_at s a) ++ codes " block " ++ decimal (block_at s.blocks a)
+    ++ codes " word " ++ decimal (offset_at s.blocks a) ++ codes " size " ++ decimal (size_at s a))
 
 abbrev pub map_part : Moment → List ℕ → List ℕ
 map_part last live = flat_map (map_line last.heap) live
 
--- the whole text of a session with files, the map where it is asked for
+-- the whole text of a session with files; the map only if it is asked for
 pub record IsSessionText (plan : Plan) (n : ℕ) (has_map : Bool) (last : Moment) (text : List ℕ) : Type 0 where
   pub live : List ℕ
   pub are : AreLive last live
-  pub printed : text ≡ replies_part n last ++ report_part plan n last live ++ (if has_map then map_part last live else [])
+  pub printed : text ≡ replies_part n last ++ report_part plan n last live
+      ++ (if has_map then map_part last live else [])
 
--- the kinds of replies, and the number of one
+-- for each kind of reply, 1 if the reply is of that kind and 0 if not; and the number in a reply
 abbrev pub is_new_reply : Reply → ℕ
 is_new_reply (r.New n) = 1
 is_new_reply _ = 0
@@ -100,9 +96,9 @@ abbrev pub is_num : Reply → ℕ
 is_num (r.Num n) = 1
 is_num _ = 0
 
-abbrev pub number_told : Reply → ℕ
-number_told (r.Num n) = n
-number_told _ = 0
+abbrev pub number_replied : Reply → ℕ
+number_replied (r.Num n) = n
+number_replied _ = 0
 
 abbrev pub is_nil : Reply → ℕ
 is_nil r.Nil = 1
@@ -136,7 +132,7 @@ abbrev pub sum_by : (Reply → ℕ) → List Reply → ℕ
 sum_by f [] = 0
 sum_by f (x ∷ xs) = f x + sum_by f xs
 
--- a line of the summary: how many replies pass
+-- a line of the summary: how many replies are of this kind
 abbrev pub count_line : List ℕ → (Reply → ℕ) → List Reply → List ℕ
 count_line word f replies = ended (word ++ decimal (sum_by f replies))
 
@@ -147,7 +143,8 @@ summary_part n s live replies =
     ++ count_line (codes "full ") is_refused replies
     ++ count_line (codes "ref ") is_ref replies
     ++ count_line (codes "nil ") is_nil replies
-    ++ ended (codes "num " ++ decimal (sum_by is_num replies) ++ codes " sum " ++ decimal (sum_by number_told replies % 2 ^ 64))
+    ++ ended (codes "num " ++ decimal (sum_by is_num replies)
+    ++ codes " sum " ++ decimal (sum_by number_replied replies % 2 ^ 64))
     ++ count_line (codes "ok ") is_done replies
     ++ count_line (codes "yes ") is_yes replies
     ++ count_line (codes "no ") is_no replies

@@ -1,40 +1,49 @@
 //! One mutator's trace under the plan that collects nothing, from its first command to its last.
 
-ghost use Rattle.std.specs.Prelude.{◌≡◌, ◌≤◌, length, All, IfOk};
+ghost use Rattle.std.specs.Prelude.{◌≤◌, length, All, IfOk};
 ghost use Rattle.ideal_heap.specs.Commands.{IsValid};
 ghost use Rattle.object_model.specs.Heaps.{heap_state};
-ghost use Rattle.mm_drive.specs.Running.{Ends};
+ghost use Rattle.mm_drive.specs.Running.{EndsPrinted};
 
 use crate::engine::Engine;
 use heap_layout::Layout;
-use ideal_heap::{Command, Reply};
+use ideal_heap::Command;
 use object_model::Heap;
 use std::alloc::{AllocError, Global};
+use trace_text::{REPLY_BYTES, print_mutator, put_reply};
 
-/// A trace that was run to its end: the replies in its order, and the heap that is left.
+/// A trace that was run to its end: the mutator's line and its replies as text, and the heap that
+/// is left.
 #[derive(Drop)]
 pub(crate) struct Finished {
-    pub(crate) replies: Vec<Reply>,
+    pub(crate) text: Vec<u8>,
     pub(crate) heap: Heap,
 }
 
-/// Runs the commands. It takes all memory before the first of them.
+/// Runs the commands, and writes each reply where it comes, in the memory of `room`, whose bytes are
+/// lost. It takes all memory before the first command.
+#[inline(never)]
 pub(crate) fn run_trace(
     alloc: Global,
     layout: Layout,
     commands: &[Command],
+    room: Vec<u8>,
 ) -> Result<Finished, AllocError>
     requires valid { All IsValid commands.now }
     requires few { length commands.now ≤ 1000000 }
-    ensures { IfOk result (λ f. Ends layout.blocks commands.now f.replies.items (heap_state f.heap)) }
+    ensures { IfOk result (λ f. EndsPrinted layout.blocks commands.now f.text.items
+        (heap_state f.heap)) }
 {
-    let mut replies = Vec::with_capacity(alloc, commands.len())?;
+    let mut text = room;
+    text.clear();
+    print_mutator(1, &mut text)?;
+    text.reserve(REPLY_BYTES * commands.len())?;
     let mut engine = Engine::new(alloc, layout)?;
     for command in commands {
-        replies.push(engine.step(command)).unwrap();
+        put_reply(&engine.step(command), &mut text);
     }
     Ok(Finished {
-        replies,
+        text,
         heap: Heap::from_row(engine.row),
     })
 }

@@ -3,9 +3,10 @@
 ghost use Rattle.std.specs.Prelude.{◌≡◌, ℕ, true};
 ghost use Rattle.ideal_heap.specs.Commands.{IsValid};
 ghost use Rattle.object_model.specs.Objects.{state_of};
-ghost use Rattle.object_model.specs.Lawful.{IsOrderly};
+ghost use Rattle.object_model.specs.Lawful.{IsWellFormed};
+ghost use Rattle.object_model.specs.Graphs.{AreRegisters};
 ghost use Rattle.object_model.specs.Steps.{TakesStep};
-ghost use Rattle.mm_drive.specs.Lone.{AreReferences, lone};
+ghost use Rattle.mm_drive.specs.Lone.{lone};
 ghost use Rattle.mm_drive.specs.Running.{is_quiet};
 
 use crate::births::{bear, find_room};
@@ -30,11 +31,12 @@ pub(crate) struct Engine {
 
 // A command that makes no object and stands at no stop.
 fn quiet(row: &mut Row, registers: &mut [u32; 16], command: &Command) -> Reply
-    requires order { IsOrderly (state_of row.old) }
-    requires held { AreReferences (state_of row.old) registers.old }
+    requires order { IsWellFormed (state_of row.old) }
+    requires held { AreRegisters (state_of row.old) registers.old }
     requires valid { IsValid command.now }
     requires quiet { is_quiet command.now ≡ true }
-    ensures { (births : ℕ) → TakesStep (state_of row.old) (lone births registers.old) command.now result
+    ensures { (births : ℕ)
+        → TakesStep (state_of row.old) (lone births registers.old) command.now result
         (state_of row.new) (lone births registers.new) }
 {
     match *command {
@@ -63,7 +65,8 @@ impl Engine {
 
     /// Nothing has run. It takes the memory for the whole run here, but for the replies.
     pub(crate) fn new(alloc: Global, layout: Layout) -> Result<Engine, AllocError>
-        ensures runs { IfOk result (λ e. (trace : List Command) → Runs layout.blocks trace e []) }
+        ensures runs { IfOk result (λ e. (trace : List Command)
+            → Runs layout.blocks trace e []) }
         ensures room { IfOk result (λ e. layout.blocks ≤ vec_capacity e.tails.ends) }
     {
         let heap = Heap::new(alloc, layout)?;
@@ -79,7 +82,8 @@ impl Engine {
     // A collection under this plan, which only counts.
     fn count(&mut self)
         requires { self.old.row.number < 1000000 }
-        ensures { self.new ≡ record self.old { row = record self.old.row { number = self.old.row.number + 1 } } }
+        ensures { self.new
+            ≡ record self.old { row = record self.old.row { number = self.old.row.number + 1 } } }
     {
         self.row.number += 1;
     }
@@ -90,7 +94,8 @@ impl Engine {
         requires register { d < 16 }
         requires refs { shape.now.refs ≤ 1024 }
         requires nums { shape.now.nums ≤ 60000 }
-        ensures next { GoesOn self.old (command.New d shape.now.refs shape.now.nums) result self.new }
+        ensures next { GoesOn self.old
+            (command.New d shape.now.refs shape.now.nums) result self.new }
         ensures room { (state_of self.old.row).blocks ≤ vec_capacity self.new.tails.ends }
     {
         let size = size_words(shape);

@@ -1,31 +1,32 @@
-//! Where threads can be held, in tests.
+//! Points at which tests can hold threads.
 
-/// Where a gate may stand.
+/// A point at which a thread passes the gate.
 #[derive(Clone, Copy, Debug, PartialEq, Eq)]
 pub enum Point {
     /// Before a mutator polls.
     Poll,
-    /// Before it makes an object.
+    /// Before a mutator allocates an object.
     Alloc,
-    /// After the object was published.
+    /// After a mutator has published a new object.
     Publish,
     /// Before a worker runs a packet.
     Packet,
-    /// Before it serves an item of the packet.
+    /// Before a worker processes an item of the packet.
     Claim,
-    /// After it served the item.
+    /// After a worker has processed the item.
     Claimed,
-    /// Before it steals.
+    /// Before a worker steals.
     Steal,
 }
 
-/// What mutators and workers pass at certain points. It changes nothing that contracts see.
+/// What mutators and workers call at each `Point`. It may delay a thread, and changes nothing that
+/// contracts describe.
 pub trait Gate: Sync {
-    /// A mutator passes with its number, worker `w` with `16 + w`.
+    /// Called before the thread goes on: `who` is a mutator's number, or 16 + w for worker w.
     fn pass(&self, who: u32, point: Point);
 }
 
-/// A gate that is always open.
+/// A gate that delays nobody.
 #[derive(Clone, Copy, Debug)]
 pub struct OpenGate;
 

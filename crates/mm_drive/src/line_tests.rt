@@ -1,5 +1,5 @@
-// Command lines through whole runs. Of some faulty ones only the form's own reader tells that they are no more than not served:
-// those stand in its tests too.
+//! Tests of command lines in whole runs. A run does not show whether a refused line breaks the
+//! usage or asks for a feature that is not implemented. The tests of `command_line` do.
 use crate::status::Status;
 use crate::test_runs::{FIRST, FIRST_TEXT, Ran, run_list, run_words, trace_in};
 use std::alloc::{AllocError, Global};
@@ -10,12 +10,12 @@ use std::thread::Threads;
 const USAGE: &[u8] =
     b"mm_drive: usage: mm_drive --plan P --heap B [--workers W] [--map] FILE... | mm_drive --plan P --heap B [--workers W] --make N\n";
 
-// Nothing is printed, and the usage line alone is told.
+// Nothing is printed, and standard error has the usage line alone.
 fn is_refused(ran: &Ran) -> bool {
     ran.status == Status::Usage && ran.out.is_empty() && ran.err.as_slice() == USAGE
 }
 
-// Each line is refused, where file `a` has a good trace.
+// Each line is refused, though file `a` has a good trace.
 fn refuse<R: Threads + Sync + Abort>(
     rt: &R,
     alloc: Global,
@@ -56,7 +56,7 @@ fn no_word(rt: HostRuntime) -> Result<(), Fail> {
     Ok(())
 }
 
-// Words of the form that ask for what is not served yet.
+// Lines that match the usage, but ask for a feature that is not implemented yet.
 #[test]
 fn unserved(rt: HostRuntime) -> Result<(), Fail> {
     refuse(

@@ -5,26 +5,27 @@ ghost use Rattle.std.specs.Prelude.{◌≡◌, ℕ};
 /// How a run ends.
 #[derive(Clone, Copy, Debug, PartialEq, Eq)]
 pub enum Status {
-    /// Each file was read to its end, each command has its reply, and the whole text was written.
+    /// Each file was read to its end, each command has its reply, and the whole text was written
+    /// (0).
     Ok,
-    /// The words have not the form, or ask for what is not served.
+    /// The arguments do not match the usage, or ask for a feature that is not implemented yet (2).
     Usage,
-    /// A file could not be opened or read.
+    /// A file could not be opened or read (3).
     ReadFault,
-    /// A file has more than 16,777,216 bytes.
+    /// A file has more than 16,777,216 bytes (4).
     TooLong,
-    /// A file is outside the grammar.
+    /// A file is not a trace: it breaks the grammar (5).
     BadTrace,
-    /// The text was not written whole.
+    /// The text was not written whole (6).
     WriteFault,
-    /// Memory was refused.
+    /// Memory ran out (7).
     OutOfMemory,
 }
 
 impl Status {
     ghost use Rattle.mm_drive.specs.Statuses.{number_of};
 
-    /// The status that the process ends with.
+    /// The exit status of the process.
     pub fn number(self) -> u8
         ensures { result ≡ number_of self }
     {

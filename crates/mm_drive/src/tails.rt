@@ -39,7 +39,8 @@ impl Tails {
         requires inside { (k : ℕ) → slice_index self.old.ends.items k ≤ 4096 }
         ensures past { ArePast self.new.ends.items size result }
         ensures within { result ≤ vec_len self.new.ends }
-        ensures room { result < vec_len self.new.ends → slice_index self.new.ends.items result + size ≤ 4096 }
+        ensures room { result < vec_len self.new.ends
+            → slice_index self.new.ends.items result + size ≤ 4096 }
         ensures lows { AreLows self.new.ends.items self.new.lows.items }
         ensures ends { self.new.ends ≡ self.old.ends }
     {

@@ -1,4 +1,4 @@
-// Runs of the whole program in memory, for tests.
+//! Runs of the whole program in memory, for tests.
 use crate::gate::OpenGate;
 use crate::status::Status;
 use crate::top::run;
@@ -10,7 +10,7 @@ pub(crate) const FIRST: &str = "new r0 1 1;write r0 0 7;read r0 0;get r1 r0 0";
 
 pub(crate) const FIRST_TEXT: &[u8] = b"mutator 1\nnew 1.1\nok\nnum 7\nnil\n";
 
-// A word before each space, and one behind the last.
+// The arguments in a line: one before each space, and one after the last.
 pub(crate) fn words_in(alloc: Global, line: &str) -> Result<Vec<String>, AllocError> {
     let mut words = Vec::new(alloc);
     for word in line.split(' ') {
@@ -19,7 +19,7 @@ pub(crate) fn words_in(alloc: Global, line: &str) -> Result<Vec<String>, AllocEr
     Ok(words)
 }
 
-// A trace whose commands stand between semicolons.
+// A trace of the commands that semicolons separate.
 pub(crate) fn trace_in(alloc: Global, commands: &str) -> Result<Vec<u8>, AllocError> {
     let mut text = Vec::from_slice(alloc, b"mmtrace 1\n")?;
     for command in commands.split(';') {
@@ -29,7 +29,7 @@ pub(crate) fn trace_in(alloc: Global, commands: &str) -> Result<Vec<u8>, AllocEr
     Ok(text)
 }
 
-// The one file that there is.
+// A list of a single file.
 pub(crate) fn file_of(
     alloc: Global,
     name: &str,
@@ -40,7 +40,7 @@ pub(crate) fn file_of(
     Ok(files)
 }
 
-// What a run printed, what it told, and how it ended.
+// How a run ended, and what it wrote to standard output and standard error.
 #[derive(Drop)]
 pub(crate) struct Ran {
     pub(crate) status: Status,
@@ -48,14 +48,14 @@ pub(crate) struct Ran {
     pub(crate) err: Vec<u8>,
 }
 
-// Runs a list of words, where file `a` has this content.
+// Runs the program with a list of arguments. File `a` has this content.
 pub(crate) fn run_list<R: Threads + Sync>(
     rt: &R,
     alloc: Global,
     words: &[String],
     content: Vec<u8>,
 ) -> Result<Ran, AllocError> {
-    let mut sources = MemSources::new(alloc, file_of(alloc, "a", content)?, Vec::new(alloc));
+    let mut sources = MemSources::new(file_of(alloc, "a", content)?, Vec::new(alloc));
     let mut out = MemSink::new(alloc, 8_000_000, 65_536, Vec::new(alloc))?;
     let mut err = MemSink::new(alloc, 1000, 1000, Vec::new(alloc))?;
     let status = run(
@@ -74,7 +74,7 @@ pub(crate) fn run_list<R: Threads + Sync>(
     })
 }
 
-// Runs the words of a line.
+// Runs the program with the arguments in a line.
 pub(crate) fn run_words<R: Threads + Sync>(
     rt: &R,
     alloc: Global,

@@ -1,40 +1,47 @@
-//! The top call.
+//! The whole program as one function.
 
-ghost use Rattle.std.specs.Prelude.{◌≡◌, ◌≢◌, ◌⊎◌, ◌≤◌, ◌∷◌, [], true, List, Some, None, IfSome};
-ghost use Rattle.ideal_heap.specs.declared.command.Command.{Command};
+ghost use Rattle.std.specs.Prelude.{◌≡◌, ◌≢◌, ◌⊎◌, ◌≤◌, ◌<◌, length, slice_get, Some, None, IfSome, MatchOption};
 ghost use Rattle.command_line.specs.Orders.{texts, job_of_order};
-ghost use Rattle.command_line.specs.Words.{job_of, is_served};
+ghost use Rattle.command_line.specs.Words.{job_of};
 ghost use Rattle.outside.specs.Outside.{HasRisen};
-ghost use Rattle.mm_drive.specs.Printed.{files_of, Prints, PrintsFront, AreTracesOf, AreTold, EndsToldAt, IsLong, IsNoTrace, Tells, Unread, IsTooLong, IsBad, usage_line, write_line, memory_line};
+ghost use Rattle.mm_drive.specs.Printed.{job_files, HasTraces, Prints, PrintsPrefix, AsksFirst, AsksPrefix, EndsAtKnown, IsLong, IsNoTrace, WritesFaultLine, IsUsage, Unread, IsTooLong, IsBad, write_line, memory_line};
 
+use crate::fault_lines::{
+    write_length_fault, write_memory_fault, write_output_fault, write_read_fault,
+    write_trace_fault, write_usage_fault,
+};
 use crate::gate::Gate;
 use crate::status::Status;
-use crate::telling::{tell_fault, tell_long, tell_memory, tell_unread, tell_unwritten, tell_usage};
-use crate::text::{FileFault, text_of_file};
+use crate::text::text_of_session;
+use crate::traces::{FilesFault, traces_of_files};
 use command_line::{Order, Target, read_words};
-use heap_layout::Layout;
 use outside::{Sink, Sources, write_text};
 use std::alloc::Global;
 use std::thread::Threads;
 
-// The one file of an order that is run for now, and the layout of its heap.
-fn named<'a>(order: &Order<'a>) -> (&'a str, Layout)
-    requires served { is_served (job_of_order order.now) ≡ true }
-    requires least { 4 ≤ order.now.blocks }
-    requires most { order.now.blocks ≤ 1024 }
-    ensures file { files_of (job_of_order order.now) ≡ result.0.now ∷ [] }
-    ensures layout { result.1.blocks ≡ order.now.blocks }
+// The names of the files of an order, none for a made trace.
+fn files_named<'a>(order: &Order<'a>) -> &'a [String]
+    ensures { texts result.now ≡ job_files (job_of_order order.now) }
 {
-    let Target::Files([name]) = order.work else {
-        unreachable!()
-    };
-    (name.as_str(), Layout::new(order.blocks).unwrap())
+    match order.work {
+        Target::Files(files) => files,
+        Target::Made(_) => &[],
+    }
 }
 
-/// Does all that the program does: `words` are those behind the program's name.
+// The name of the file with this index.
+fn name_at(files: &[String], place: usize) -> &str
+    requires { place < length files.now }
+    ensures { slice_get (texts files.now) place ≡ Some result.now }
+{
+    &files[place]
+}
+
+/// Runs the program. `words` are the arguments after the program's name.
 ///
-/// The order is: the words; then for each file in turn its opening and reading, its length, its grammar;
-/// then the run; then the writing. The whole text is built before the first write.
+/// It parses the arguments. Then it opens and reads each file in turn, and checks its length and
+/// its grammar. Then it runs the traces, and builds the whole text before the first write. The
+/// first fault ends the run, with its `Status` and one line on standard error.
 pub fn run<R: Threads + Sync, S: Sources, O: Sink, E: Sink, G: Gate>(
     _rt: &R,
     alloc: Global,
@@ -44,74 +51,115 @@ pub fn run<R: Threads + Sync, S: Sources, O: Sink, E: Sink, G: Gate>(
     err: &mut E,
     _gate: &G,
 ) -> Status
-    // What was written is what is printed, for now the replies, of a whole session of the job that the words name and of the files' traces.
-    ensures ok { result ≡ Status.Ok → IfSome (job_of (texts words.now)) (λ job. Prints (S.content sources.old) job (O.written out.old) (O.written out.new)) }
+    // The output is that of a whole session of the job that the arguments name, on the files'
+    // traces: the replies, for now.
+    ensures ok { result ≡ Status.Ok → IfSome (job_of (texts words.now)) (λ job. Prints
+        (S.state sources.old).content job (O.state out.old) (O.state out.new)) }
 
-    // Each other answer has its cause, and standard error its line.
-    ensures usage { result ≡ Status.Usage → job_of (texts words.now) ≡ None }
-    ensures usage_told { result ≡ Status.Usage → Tells (E.written err.old) (E.written err.new) (E.faults err.old) (E.faults err.new) usage_line }
-    ensures read_fault { result ≡ Status.ReadFault → IfSome (job_of (texts words.now)) (λ job. Unread (S.content sources.old) (files_of job) (S.asked sources.new) (S.faults sources.old) (S.faults sources.new)
-        (Tells (E.written err.old) (E.written err.new) (E.faults err.old) (E.faults err.new))) }
-    ensures too_long { result ≡ Status.TooLong → IfSome (job_of (texts words.now)) (λ job. IsTooLong (S.content sources.old) (files_of job) (Tells (E.written err.old) (E.written err.new) (E.faults err.old) (E.faults err.new))) }
-    ensures bad_trace { result ≡ Status.BadTrace → IfSome (job_of (texts words.now)) (λ job. IsBad (S.content sources.old) (files_of job) (Tells (E.written err.old) (E.written err.new) (E.faults err.old) (E.faults err.new))) }
-    ensures write_fault { result ≡ Status.WriteFault → HasRisen (O.faults out.old) (O.faults out.new) × IfSome (job_of (texts words.now)) (λ job. PrintsFront (S.content sources.old) job (O.written out.old) (O.written out.new)) }
-    ensures write_told { result ≡ Status.WriteFault → Tells (E.written err.old) (E.written err.new) (E.faults err.old) (E.faults err.new) write_line }
-    ensures memory_told { result ≡ Status.OutOfMemory → Tells (E.written err.old) (E.written err.new) (E.faults err.old) (E.faults err.new) memory_line }
+    // Each other status has its cause, and its line on standard error.
+    ensures usage { result ≡ Status.Usage
+        → IsUsage (job_of (texts words.now)) (S.state sources.old) (S.state sources.new)
+        (WritesFaultLine (E.state err.old) (E.state err.new)) }
+    ensures read_fault { result ≡ Status.ReadFault
+        → IfSome (job_of (texts words.now))
+        (λ job. Unread (job_files job) (S.state sources.old) (S.state sources.new)
+        (WritesFaultLine (E.state err.old) (E.state err.new))) }
+    ensures too_long { result ≡ Status.TooLong
+        → IfSome (job_of (texts words.now))
+        (λ job. IsTooLong (job_files job) (S.state sources.old) (S.state sources.new)
+        (WritesFaultLine (E.state err.old) (E.state err.new))) }
+    ensures bad_trace { result ≡ Status.BadTrace
+        → IfSome (job_of (texts words.now))
+        (λ job. IsBad (job_files job) (S.state sources.old) (S.state sources.new)
+        (WritesFaultLine (E.state err.old) (E.state err.new))) }
+    ensures write_fault { result ≡ Status.WriteFault
+        → IfSome (job_of (texts words.now))
+        (λ job. PrintsPrefix (S.state sources.old).content job (O.state out.old)
+        (O.state out.new)) }
+    ensures write_reported { result ≡ Status.WriteFault
+        → WritesFaultLine (E.state err.old) (E.state err.new) write_line }
+    ensures memory_reported { result ≡ Status.OutOfMemory
+        → WritesFaultLine (E.state err.old) (E.state err.new) memory_line }
 
-    // At all but two of the answers nothing was written, and at Ok nothing is told.
-    ensures unwritten { result ≢ Status.Ok → result ≢ Status.WriteFault → (O.written out.new ≡ O.written out.old) × (O.faults out.new ≡ O.faults out.old) }
-    ensures silent { result ≡ Status.Ok → (E.written err.new ≡ E.written err.old) × (E.faults err.new ≡ E.faults err.old) }
+    // Only `Ok` and `WriteFault` write to the output, and `Ok` writes nothing to standard error.
+    ensures unwritten { result ≢ Status.Ok → result ≢ Status.WriteFault
+        → O.state out.new ≡ O.state out.old }
+    ensures silent { result ≡ Status.Ok → E.state err.new ≡ E.state err.old }
 
-    // Words that ask for nothing that is served are refused before a name is asked.
-    ensures unasked { result ≡ Status.Usage → (S.asked sources.new ≡ S.asked sources.old) × (S.faults sources.new ≡ S.faults sources.old) }
+    // Only the job's files are opened, each at most once, in their order. `Ok` opens all.
+    ensures asked { MatchOption (job_of (texts words.now))
+        (S.state sources.new ≡ S.state sources.old)
+        (λ job. AsksPrefix (job_files job) (S.state sources.old).asked
+        (S.state sources.new).asked) }
+    ensures read { result ≡ Status.Ok → IfSome (job_of (texts words.now)) (λ job. AsksFirst
+        (length (job_files job)) (job_files job) (S.state sources.old).asked
+        (S.state sources.new).asked) }
 
     // No content changes, and no count of faults falls.
-    ensures same { S.content sources.new ≡ S.content sources.old }
-    ensures later { (S.faults sources.old ≤ S.faults sources.new) × (O.faults out.old ≤ O.faults out.new) × (E.faults err.old ≤ E.faults err.new) }
+    ensures same { (S.state sources.new).content ≡ (S.state sources.old).content }
+    ensures later { ((S.state sources.old).faults ≤ (S.state sources.new).faults)
+        × ((O.state out.old).faults ≤ (O.state out.new).faults)
+        × ((E.state err.old).faults ≤ (E.state err.new).faults) }
 
-    // Where there is cause for an answer, it comes, but for want of memory and what may come before.
-    ensures no_form { job_of (texts words.now) ≡ None → (result ≡ Status.Usage) ⊎ (result ≡ Status.OutOfMemory) }
-    ensures long { IfSome (job_of (texts words.now)) (λ job. EndsToldAt (S.content sources.old) (files_of job) IsLong
-        → (result ≡ Status.TooLong) ⊎ (result ≡ Status.ReadFault) ⊎ (result ≡ Status.OutOfMemory)) }
-    ensures no_trace { IfSome (job_of (texts words.now)) (λ job. EndsToldAt (S.content sources.old) (files_of job) IsNoTrace
-        → (result ≡ Status.BadTrace) ⊎ (result ≡ Status.ReadFault) ⊎ (result ≡ Status.OutOfMemory)) }
+    // If there is cause for a status, it is reported, unless a read error or lack of memory is
+    // reported first.
+    ensures no_form { job_of (texts words.now) ≡ None
+        → (result ≡ Status.Usage) ⊎ (result ≡ Status.OutOfMemory) }
+    ensures long { IfSome (job_of (texts words.now))
+        (λ job. EndsAtKnown (S.state sources.old).content (job_files job) IsLong
+        → (result ≡ Status.TooLong) ⊎ (result ≡ Status.ReadFault)
+        ⊎ (result ≡ Status.OutOfMemory)) }
+    ensures no_trace { IfSome (job_of (texts words.now))
+        (λ job. EndsAtKnown (S.state sources.old).content (job_files job) IsNoTrace
+        → (result ≡ Status.BadTrace) ⊎ (result ≡ Status.ReadFault)
+        ⊎ (result ≡ Status.OutOfMemory)) }
 
-    // A good run does not fail.
-    ensures complete { IfSome (job_of (texts words.now)) (λ job. AreTold (S.content sources.old) (files_of job) → (traces : List (List Command)) → AreTracesOf (S.content sources.old) job.work traces
-        → (HasRisen (S.faults sources.old) (S.faults sources.new) → ⊥) → (HasRisen (O.faults out.old) (O.faults out.new) → ⊥) → (result ≡ Status.Ok) ⊎ (result ≡ Status.OutOfMemory)) }
+    // If all files are known to be traces, and neither reading nor writing fails, the run ends
+    // with `Ok`, unless memory runs out.
+    ensures complete { IfSome (job_of (texts words.now))
+        (λ job. HasTraces (S.state sources.old).content job
+        → (HasRisen (S.state sources.old).faults (S.state sources.new).faults → ⊥)
+        → (HasRisen (O.state out.old).faults (O.state out.new).faults → ⊥)
+        → (result ≡ Status.Ok) ⊎ (result ≡ Status.OutOfMemory)) }
 {
-    let (name, layout) = match read_words(alloc, words) {
-        Ok(Some(order)) => named(&order),
+    let order = match read_words(alloc, words) {
+        Ok(Some(order)) => order,
         Ok(None) => {
-            tell_usage(err);
+            write_usage_fault(err);
             return Status::Usage;
         }
         Err(_) => {
-            tell_memory(err);
+            write_memory_fault(err);
             return Status::OutOfMemory;
         }
     };
-    let text = match text_of_file(alloc, layout, sources, name) {
-        Ok(text) => text,
-        Err(FileFault::Unread) => {
-            tell_unread(err, name);
+    let files = files_named(&order);
+    let mut room = Vec::new(alloc);
+    let traces = match traces_of_files(alloc, sources, files, &mut room) {
+        Ok(traces) => traces,
+        Err(FilesFault::Unread(place)) => {
+            write_read_fault(err, name_at(files, place));
             return Status::ReadFault;
         }
-        Err(FileFault::TooLong) => {
-            tell_long(err, name);
+        Err(FilesFault::TooLong(place)) => {
+            write_length_fault(err, name_at(files, place));
             return Status::TooLong;
         }
-        Err(FileFault::Bad(fault)) => {
-            tell_fault(err, name, fault);
+        Err(FilesFault::Bad(place, fault)) => {
+            write_trace_fault(err, name_at(files, place), fault);
             return Status::BadTrace;
         }
-        Err(FileFault::OutOfMemory) => {
-            tell_memory(err);
+        Err(FilesFault::OutOfMemory) => {
+            write_memory_fault(err);
             return Status::OutOfMemory;
         }
     };
+    let Ok(text) = text_of_session(alloc, &order, &traces, room) else {
+        write_memory_fault(err);
+        return Status::OutOfMemory;
+    };
     if write_text(out, &text).is_err() {
-        tell_unwritten(err);
+        write_output_fault(err);
         return Status::WriteFault;
     }
     Status::Ok

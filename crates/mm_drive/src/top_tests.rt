@@ -1,4 +1,4 @@
-// Whole runs: what is printed, what is told, and how they end.
+//! Tests of whole runs: output, standard error and status.
 ghost use Rattle.std.specs.Prelude.{None};
 
 use crate::gate::OpenGate;
@@ -74,7 +74,7 @@ fn replies(rt: HostRuntime) -> Result<(), Fail> {
     )?;
     assert_eq!(rt; ran.status, Status::Ok);
     assert_eq!(rt; ran.out.as_slice(), b"mutator 1\n".as_slice());
-    // A last line without its end.
+    // A last line without a newline.
     let ran = run_words(
         &rt,
         alloc,
@@ -114,11 +114,11 @@ fn refusals(rt: HostRuntime) -> Result<(), Fail> {
             "mm_drive: a: line 3: count\n",
         ),
     ];
-    for (line, content, number, told) in table {
+    for (line, content, number, reported) in table {
         let ran = run_words(&rt, alloc, line, content.as_bytes().to_vec(alloc)?)?;
         assert_eq!(rt; ran.status.number(), number, "{line}");
         assert!(rt; ran.out.is_empty(), "{line}");
-        assert_eq!(rt; ran.err.as_slice(), told.as_bytes(), "{line}");
+        assert_eq!(rt; ran.err.as_slice(), reported.as_bytes(), "{line}");
     }
     Ok(())
 }
@@ -158,7 +158,7 @@ fn limits(rt: HostRuntime) -> Result<(), Fail> {
     Ok(())
 }
 
-// Takes each piece whole, and keeps the length of the longest and of all together.
+// A sink that takes each piece whole, and records the longest length and the total.
 #[derive(Drop)]
 struct Gauge {
     longest: usize,
@@ -166,9 +166,7 @@ struct Gauge {
 }
 
 impl Sink for Gauge {
-    ghost written = { λ _. None };
-
-    ghost faults = { λ _. 0 };
+    ghost state = { λ _. record { written = None; faults = 0 } };
 
     fn write(&mut self, bytes: &[u8]) -> Result<usize, Failed> {
         self.longest = self.longest.max(bytes.len());
@@ -177,7 +175,7 @@ impl Sink for Gauge {
     }
 }
 
-// A line of ten bytes, and three for each command.
+// The text has a line of ten bytes, and three bytes for each command.
 #[test]
 fn longest_piece(rt: HostRuntime) -> Result<(), Fail> {
     let alloc = rt.alloc();
@@ -213,7 +211,7 @@ fn failures(rt: HostRuntime) -> Result<(), Fail> {
     let words = words_in(alloc, "--plan nogc --heap 4 a")?;
     for k in 1..40u64 {
         let files = file_of(alloc, "a", trace_in(alloc, FIRST)?)?;
-        let mut sources = MemSources::new(alloc, files, [k].to_vec(alloc)?);
+        let mut sources = MemSources::new(files, [k].to_vec(alloc)?);
         let mut out = MemSink::new(alloc, 100, 1, [k].to_vec(alloc)?)?;
         let mut err = MemSink::new(alloc, 100, 100, Vec::new(alloc))?;
         let status = run(
@@ -242,7 +240,7 @@ fn failures(rt: HostRuntime) -> Result<(), Fail> {
         }
     }
     for k in 1..4u64 {
-        let mut sources = MemSources::new(alloc, Vec::new(alloc), Vec::new(alloc));
+        let mut sources = MemSources::new(Vec::new(alloc), Vec::new(alloc));
         let mut err = MemSink::new(alloc, 100, 100, [k].to_vec(alloc)?)?;
         let status = run(
             &rt,
@@ -267,7 +265,7 @@ fn front(rt: HostRuntime) -> Result<(), Fail> {
     let alloc = rt.alloc();
     let words = words_in(alloc, "--plan nogc --heap 4 a")?;
     let files = file_of(alloc, "a", trace_in(alloc, FIRST)?)?;
-    let mut sources = MemSources::new(alloc, files, Vec::new(alloc));
+    let mut sources = MemSources::new(files, Vec::new(alloc));
     let mut out = MemSink::new(alloc, 100, 8, [3u64].to_vec(alloc)?)?;
     let mut err = MemSink::new(alloc, 100, 100, Vec::new(alloc))?;
     let status = run(
@@ -361,7 +359,7 @@ fn random_commands(rt: HostRuntime) -> Result<(), Fail> {
     Ok(())
 }
 
-// Objects of four numbers, as records of the test's own.
+// Objects of four numbers, against records that the test keeps itself.
 #[test]
 fn plain_records(rt: HostRuntime) -> Result<(), Fail> {
     let alloc = rt.alloc();

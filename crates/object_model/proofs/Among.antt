@@ -1,4 +1,4 @@
--- One of several mutators: what holds of each holds of it, and no other has its number.
+-- One of several mutators: what holds of each mutator holds of it, and no other has its number.
 use Rattle.std.proofs.Common.{◌≡◌, refl, sym, ◌∙◌, ap, subst, ℕ, zero, suc, ◌<◌, inl, inr, arith, List, [], ◌∷◌, length, get_or, map, nat_eq}
 use Rattle.std.specs.Prelude.{if◌then◌else◌}
 use Rattle.std.specs.List.{AllByRecursion, Any, Contains}
@@ -6,18 +6,18 @@ use Rattle.std.proofs.lemmas.Bool.{cases_eq, cond-true, cond-false, eq-eqb, ne_e
 use Rattle.std.proofs.lemmas.List.{get_or_default, get_or-map, length-map}
 use Rattle.object_model.specs.Graphs.{MutatorState, AreDifferent, numbers_of, with_register, set_register_of, with_mutator}
 
--- what holds of each element holds of one of them
+-- what holds of each element of a list holds of one of them
 pub all-at : {X : Type 0} (P : X → Type 0) (xs : List X) (x : X) → AllByRecursion P xs → Contains xs x → P x
 all-at P [] x all known = absurd (let there : known.0 < 0 = known.1 in omega arith)
 all-at P (y ∷ ys) x all (zero, within, is) = subst P is all.0
 all-at P (y ∷ ys) x all (suc k, within, is) = all-at P ys x all.1 (k, omega arith, is)
 
--- what follows of each element follows of each
+-- if P implies Q, P of each element implies Q of each element
 pub all-to : {X : Type 0} (P Q : X → Type 0) → ((x : X) → P x → Q x) → (xs : List X) → AllByRecursion P xs → AllByRecursion Q xs
 all-to P Q to [] all = tt
 all-to P Q to (x ∷ xs) all = (to x all.0, all-to P Q to xs all.1)
 
--- what holds of the element at each place holds of each element
+-- what holds of the element at each index holds of each element
 pub all-from : {X : Type 0} (P : X → Type 0) (xs : List X) → ((i : ℕ) (x : X) → i < length xs → get_or xs i x ≡ x → P x) → AllByRecursion P xs
 all-from P [] each = tt
 all-from P (x ∷ xs) each = (each 0 x (omega arith) refl, all-from P xs (λ i y within is. each (suc i) y (omega arith) is))
@@ -52,11 +52,11 @@ module _ (ms : List MutatorState) (m : MutatorState) (among : Contains ms m) whe
   )
 
   module _ (differ : AreDifferent (numbers_of ms)) where
-    -- who has its number is this one
+    -- the mutator with its number is this one
     only : AllByRecursion (λ x. m.number ≡ x.number → x ≡ m) ms
     only = one-number (λ x. x ≡ m) m.number ms differ (among.0, m, among.1, among.2, (refl, refl))
 
-    -- one that stays as it is
+    -- a mutator that is unchanged
     pub with-itself : with_mutator ms m ≡ ms
     with-itself = map-where (λ x. if nat_eq x.number m.number then m else x) (λ x. x) (λ x. m.number ≡ x.number → x ≡ m)
         (λ x is. elim (cases_eq x.number m.number) as (λ _. (if nat_eq x.number m.number then m else x) ≡ x) [
@@ -65,7 +65,7 @@ module _ (ms : List MutatorState) (m : MutatorState) (among : Contains ms m) whe
         ]) ms only
         ∙ map-self ms
 
-    -- what one of its registers gets
+    -- the value that one of its registers gets
     pub with-register-set : (d v : ℕ) → set_register_of ms m.number d v ≡ with_mutator ms (with_register m d v)
     with-register-set d v = map-where (λ x. if nat_eq x.number m.number then with_register x d v else x) (λ x. if nat_eq x.number m.number then with_register m d v else x) (λ x. m.number ≡ x.number → x ≡ m)
         (λ x is. elim (cases_eq x.number m.number) as (λ _. (if nat_eq x.number m.number then with_register x d v else x) ≡ (if nat_eq x.number m.number then with_register m d v else x)) [
@@ -74,6 +74,6 @@ module _ (ms : List MutatorState) (m : MutatorState) (among : Contains ms m) whe
               ∙ sym (cond-false (nat_eq x.number m.number) (with_register m d v) x (ne_eqb x.number m.number other))
         ]) ms only
 
--- alone, it is the one that is replaced
+-- if the mutator is alone, it is the one that is replaced
 pub with-alone : (m m' : MutatorState) → m'.number ≡ m.number → with_mutator (m ∷ []) m' ≡ m' ∷ []
 with-alone m m' same = ap (λ x. x ∷ []) (cond-true (nat_eq m.number m'.number) m' m (eq-eqb m.number m'.number (sym same)))

@@ -1,111 +1,153 @@
--- A new object is written where no object is: the heap stays lawful.
-use Rattle.std.proofs.Common.{◌≡◌, ◌≢◌, refl, sym, ◌∙◌, ap, subst, ℕ, ◌+◌, ◌*◌, ◌-◌, ◌/◌, ◌%◌, ◌^◌, ◌<◌, ◌≤◌, ◌⊎◌, inl, inr, arith, ◌||◌, IsTrue, List, nat_eq, add-zero}
+-- A new object is written where no object is: the heap stays well formed, and lawful.
+use Rattle.std.proofs.Common.{◌≡◌, ◌≢◌, refl, sym, ◌∙◌, ap, subst, ℕ, ◌+◌, ◌*◌, ◌-◌, ◌/◌, ◌%◌, ◌^◌, ◌<◌, ◌≤◌, ◌⊎◌, inl, inr, arith, ◌||◌, IsTrue, List, length, nat_eq, add-zero}
 use Rattle.std.specs.Int.{bit_at}
 use Rattle.std.proofs.Math.Logic.{∥∥₁_map}
-use Rattle.std.proofs.lemmas.Bool.{cases_eq, or_cases, or_left, or_right, true≢false}
-use Rattle.heap_layout.specs.Zones.{Zone, StartBits, PinBits, UnlogBits, LineWords, BlockWords, Globals, words_of, heap_of, first, bit_of, block_at, offset_at, block_start, IsAddress}
+use Rattle.std.proofs.lemmas.Bool.{cases_eq, true≢false}
+use Rattle.heap_layout.specs.Zones.{Zone, StartBits, PinBits, UnlogBits, LineWords, BlockWords, Globals, row_words, heap_of, first, bit_of, block_at, offset_at, block_start, IsAddress}
 use Rattle.heap_layout.specs.Blocks.{is_block_code}
 use Rattle.heap_layout.specs.declared.block.Kind.TheVariants as kinds
-use Rattle.heap_layout.proofs.ZoneLemmas.{block_at_within}
 use Rattle.ideal_heap.specs.declared.name.Name.{Name}
-use Rattle.ideal_heap.specs.Names.{IsName, name_of}
+use Rattle.ideal_heap.specs.Names.{IsName, name_code, name_of}
 use Rattle.ideal_heap.proofs.NameLemmas.{name-code}
-use Rattle.object_model.specs.Objects.{HeapState, with_words, word_at, global_at, block_word, HasKind, is_start, is_pinned, is_unlogged, line_marked, IsHeld, IsInExtent, name_at, refs_at, nums_at, size_at, ref_at, size_of}
-use Rattle.object_model.specs.Lawful.{IsLawful, IsOrderly, HasLawfulObjects, HasHeader, Lies, LiesInBlock, IsReference, IsClear, AreLinesRight}
+use Rattle.object_model.specs.Objects.{HeapState, with_words, word_at, global_at, block_word, HasKind, is_start, is_pinned, is_unlogged, line_marked, IsHeld, IsInExtent, name_at, refs_at, nums_at, size_at, ref_at, size_of, shape_code}
+use Rattle.object_model.specs.Lawful.{IsLawful, IsLawfulButLines, IsWellFormed, HasHeader, Lies, IsRefField, IsRoot, IsClear, FreeBlockIsClear, IsTouched, LineBitsAreExact, is_in_run}
 use Rattle.object_model.specs.Changes.{WritesObject}
+use Rattle.object_model.specs.Births.{IsVacant, IsRoom}
+use Rattle.object_model.proofs.Blocks.{SameHeap}
+use Rattle.object_model.proofs.ObjectParts.{AreObjectsRight, ArePlacesRight, objects-of, places-of, together, line-block}
+use Rattle.object_model.proofs.UsedBlocks as used
 use Rattle.object_model.proofs.Marks.{mark-same, mark-from}
-use Rattle.object_model.proofs.OneKind.{has_small-free}
-use Rattle.object_model.proofs.Frames.{HasKind-back, kind-in, lies-from, in_run-same}
+use Rattle.object_model.proofs.References.{refers-some}
+use Rattle.object_model.proofs.OneKind.{kind-within, one-kind, has_small-free}
+use Rattle.object_model.proofs.Frames.{HasKind-back, kind-in}
 
--- where a new object of at most 2,048 words, of a name and shape, may be written
-pub record IsRoom (s : HeapState) (a : ℕ) (n : Name) (refs nums : ℕ) : Type 0 where
-  pub address : IsAddress s.blocks a
-  pub named : IsName n
-  pub few_refs : refs ≤ 1024
-  pub few_nums : nums ≤ 60000
-  pub small : size_of refs nums ≤ 2048
-  pub place : LiesInBlock s a (size_of refs nums)
-  pub apart : (x i : ℕ) → IsHeld s x → IsInExtent s x i → (i < a) ⊎ (a + size_of refs nums ≤ i)
-  pub fresh : (x : ℕ) → IsHeld s x → name_at s x ≢ n
+-- a heap has one object more; the words and bits of all others are unchanged
+pub record Adds (s : HeapState) (w : List ℕ) (a : ℕ) (n : Name) (refs nums : ℕ) : Type 0 where
+  pub name : word_at (with_words s w) a ≡ name_code n
+  pub shape : word_at (with_words s w) (a + 1) ≡ shape_code refs nums
+  pub blank : (i : ℕ) → 2 ≤ i → i < size_of refs nums → word_at (with_words s w) (a + i) ≡ 0
+  pub start : IsTrue (is_start (with_words s w) a)
+  pub starts : (x : ℕ) → x ≢ a → is_start (with_words s w) x ≡ is_start s x
+  pub pins : (x : ℕ) → is_pinned (with_words s w) x ≡ is_pinned s x
+  pub unlogs : (x : ℕ) → is_unlogged (with_words s w) x ≡ is_unlogged s x
+  pub globals : (g : ℕ) → g < 16 → global_at (with_words s w) g ≡ global_at s g
+  pub others : (i : ℕ) → heap_of s.blocks ≤ i → (i < a) ⊎ (a + size_of refs nums ≤ i) → word_at (with_words s w) i ≡ word_at s i
 
--- a word of a line lies in the line's block
-line-block : (s : HeapState) (k line word : ℕ) → line < 256 → block_start s.blocks k + 16 * line ≤ word → word < block_start s.blocks k + 16 * (line + 1) → block_at s.blocks word ≡ k
-line-block s k line word small from below = omega arith
+-- words of no object and bits of no address may change before and after
+pub adds-from : (s : HeapState) (w1 w2 : List ℕ) (a : ℕ) (n : Name) (refs nums : ℕ) → SameHeap s w1 → Adds (with_words s w1) w2 a n refs nums → Adds s w2 a n refs nums
+adds-from s w1 w2 a n refs nums before adds = record {
+  name = adds.name;
+  shape = adds.shape;
+  blank = adds.blank;
+  start = adds.start;
+  starts = λ x other. adds.starts x other ∙ before.starts x;
+  pins = λ x. adds.pins x ∙ before.pins x;
+  unlogs = λ x. adds.unlogs x ∙ before.unlogs x;
+  globals = λ g small. adds.globals g small ∙ before.globals g small;
+  others = λ i above outside. adds.others i above outside ∙ before.words i above;
+}
 
-module _ (s : HeapState) (w : List ℕ) (a : ℕ) (n : Name) (refs nums : ℕ) (writes : WritesObject s (with_words s w) a n refs nums)
-    (order : IsOrderly s) (room : IsRoom s a n refs nums) where
-  abbrev pub after : HeapState
-  after = with_words s w
+pub adds-to : (s : HeapState) (w1 w2 : List ℕ) (a : ℕ) (n : Name) (refs nums : ℕ) → IsAddress s.blocks a → Adds s w1 a n refs nums → SameHeap (with_words s w1) w2 → Adds s w2 a n refs nums
+adds-to s w1 w2 a n refs nums address adds behind = record {
+  name = behind.words a address.from ∙ adds.name;
+  shape = behind.words (a + 1) (let from : heap_of s.blocks ≤ a = address.from in omega arith) ∙ adds.shape;
+  blank = λ i least less. behind.words (a + i) (let from : heap_of s.blocks ≤ a = address.from in omega arith) ∙ adds.blank i least less;
+  start = behind.starts a ∙ adds.start;
+  starts = λ x other. behind.starts x ∙ adds.starts x other;
+  pins = λ x. behind.pins x ∙ adds.pins x;
+  unlogs = λ x. behind.unlogs x ∙ adds.unlogs x;
+  globals = λ g small. behind.globals g small ∙ adds.globals g small;
+  others = λ i above outside. behind.words i above ∙ adds.others i above outside;
+}
+
+-- what writing an object changes
+module _ (s : HeapState) (w : List ℕ) (a : ℕ) (n : Name) (refs nums : ℕ) (writes : WritesObject s (with_words s w) a n refs nums) (address : IsAddress s.blocks a) where
+  abbrev written : HeapState
+  written = with_words s w
 
   abbrev pub start_word : ℕ
   start_word = first s.blocks StartBits + (a - heap_of s.blocks) / 64
 
   pub start-in-zone : (start_word < heap_of s.blocks) × (first s.blocks StartBits ≤ start_word) × (start_word < first s.blocks PinBits)
   start-in-zone =
-      let from : heap_of s.blocks ≤ a = room.address.from in let below : a < words_of s.blocks = room.address.below in
+      let from : heap_of s.blocks ≤ a = address.from in let below : a < row_words s.blocks = address.below in
       (omega arith, omega arith, omega arith)
 
   -- words before the heap, but for the one with the start bit
-  pub zone-word : (i : ℕ) → i < heap_of s.blocks → i ≢ start_word → word_at after i ≡ word_at s i
-  zone-word i before other = writes.others i (inl (let from : heap_of s.blocks ≤ a = room.address.from in omega arith)) other
+  pub zone-word : (i : ℕ) → i < heap_of s.blocks → i ≢ start_word → word_at written i ≡ word_at s i
+  zone-word i before other = writes.others i (inl (let from : heap_of s.blocks ≤ a = address.from in omega arith)) other
+
+  pub block_words : (k : ℕ) → k < s.blocks → block_word written k ≡ block_word s k
+  block_words k there = zone-word (first s.blocks BlockWords + k) (omega arith) (λ e. let zone = start-in-zone.1 in omega arith)
+
+  bit-same : (z : Zone) (k : ℕ) → first s.blocks z + k / 64 < heap_of s.blocks → first s.blocks z + k / 64 ≢ start_word → bit_of s.blocks z written.words k ≡ bit_of s.blocks z s.words k
+  bit-same z k below other = ap (λ word. nat_eq (bit_at word (k % 64)) 1) (zone-word (first s.blocks z + k / 64) below other)
+
+  pub lines-same : (k line : ℕ) → k < s.blocks → line < 256 → line_marked written k line ≡ line_marked s k line
+  lines-same k line there small = bit-same LineWords (256 * k + line) (omega arith) (λ e. let zone = start-in-zone.1 in omega arith)
+
+  pub adds : Adds s w a n refs nums
+  adds = record {
+    name = writes.name;
+    shape = writes.shape;
+    blank = writes.blank;
+    start = mark-from s.blocks StartBits written.words a address writes.start;
+    starts = λ x other. mark-same s.blocks StartBits s.words written.words x (λ there.
+        let from : heap_of s.blocks ≤ x = there.from in let end : x < row_words s.blocks = there.below in
+        let base : heap_of s.blocks ≤ a = address.from in
+        writes.starts (x - heap_of s.blocks) (omega arith) (λ e. other (omega arith)));
+    pins = λ x. mark-same s.blocks PinBits s.words written.words x (λ there.
+        let from : heap_of s.blocks ≤ x = there.from in let end : x < row_words s.blocks = there.below in
+        bit-same PinBits (x - heap_of s.blocks) (omega arith) (λ e. let zone = start-in-zone.2 in omega arith));
+    unlogs = λ x. mark-same s.blocks UnlogBits s.words written.words x (λ there.
+        let from : heap_of s.blocks ≤ x = there.from in let end : x < row_words s.blocks = there.below in
+        bit-same UnlogBits (x - heap_of s.blocks) (omega arith) (λ e. let zone = start-in-zone.2 in omega arith));
+    globals = λ g small. zone-word (first s.blocks Globals + g) (omega arith) (λ e. let zone = start-in-zone.1 in omega arith);
+    others = λ i above outside. writes.others i outside (λ e. let zone = start-in-zone.0 in omega arith);
+  }
+
+-- the line has one of the `size` words from a on
+pub record IsCovered (s : HeapState) (a size k line : ℕ) : Type 0 where
+  pub word : ℕ
+  pub from : a ≤ word
+  pub below : word < a + size
+  pub first : block_start s.blocks k + 16 * line ≤ word
+  pub last : word < block_start s.blocks k + 16 * (line + 1)
+
+-- the heap with one object more
+module _ (s : HeapState) (w : List ℕ) (a : ℕ) (n : Name) (refs nums : ℕ) (adds : Adds s w a n refs nums) (vacant : IsVacant s a n refs nums) where
+  abbrev pub after : HeapState
+  after = with_words s w
 
   -- the words of an object that was held
   pub object-word : (x i : ℕ) → IsHeld s x → i < size_at s x → word_at after (x + i) ≡ word_at s (x + i)
-  object-word x i holds within = writes.others (x + i) (room.apart x (x + i) holds (record { from = omega arith; below = omega arith }))
-      (λ e. let zone = start-in-zone.0 in let from : heap_of s.blocks ≤ x = holds.address.from in omega arith)
-
-  pub block_words : (k : ℕ) → k < s.blocks → block_word after k ≡ block_word s k
-  block_words k there = zone-word (first s.blocks BlockWords + k) (omega arith) (λ e. let zone = start-in-zone.1 in omega arith)
-
-  pub globals-same : (g : ℕ) → g < 16 → global_at after g ≡ global_at s g
-  globals-same g small = zone-word (first s.blocks Globals + g) (omega arith) (λ e. let zone = start-in-zone.1 in omega arith)
-
-  bit-same : (z : Zone) (k : ℕ) → first s.blocks z + k / 64 < heap_of s.blocks → first s.blocks z + k / 64 ≢ start_word → bit_of s.blocks z after.words k ≡ bit_of s.blocks z s.words k
-  bit-same z k below other = ap (λ word. nat_eq (bit_at word (k % 64)) 1) (zone-word (first s.blocks z + k / 64) below other)
-
-  pub pins-same : (x : ℕ) → is_pinned after x ≡ is_pinned s x
-  pins-same x = mark-same s.blocks PinBits s.words after.words x (λ there.
-      let from : heap_of s.blocks ≤ x = there.from in let end : x < words_of s.blocks = there.below in
-      bit-same PinBits (x - heap_of s.blocks) (omega arith) (λ e. let zone = start-in-zone.2 in omega arith))
-
-  pub unlogs-same : (x : ℕ) → is_unlogged after x ≡ is_unlogged s x
-  unlogs-same x = mark-same s.blocks UnlogBits s.words after.words x (λ there.
-      let from : heap_of s.blocks ≤ x = there.from in let end : x < words_of s.blocks = there.below in
-      bit-same UnlogBits (x - heap_of s.blocks) (omega arith) (λ e. let zone = start-in-zone.2 in omega arith))
-
-  pub lines-same : (k line : ℕ) → k < s.blocks → line < 256 → line_marked after k line ≡ line_marked s k line
-  lines-same k line there small = bit-same LineWords (256 * k + line) (omega arith) (λ e. let zone = start-in-zone.1 in omega arith)
-
-  pub starts-same : (x : ℕ) → x ≢ a → is_start after x ≡ is_start s x
-  starts-same x other = mark-same s.blocks StartBits s.words after.words x (λ there.
-      let from : heap_of s.blocks ≤ x = there.from in let end : x < words_of s.blocks = there.below in
-      let base : heap_of s.blocks ≤ a = room.address.from in
-      writes.starts (x - heap_of s.blocks) (omega arith) (λ e. other (omega arith)))
+  object-word x i holds within = adds.others (x + i) (let from : heap_of s.blocks ≤ x = holds.address.from in omega arith)
+      (vacant.apart x (x + i) holds (record { from = omega arith; below = omega arith }))
 
   pub held-new : IsHeld after a
-  held-new = record { address = room.address; start = mark-from s.blocks StartBits after.words a room.address writes.start }
+  held-new = record { address = vacant.address; start = adds.start }
 
   pub not-held : IsHeld s a → ⊥
-  not-held holds = elim (room.apart a a holds (record { from = omega arith; below = omega arith })) as (λ _. ⊥) [ inl h ↦ omega arith | inr h ↦ omega arith ]
+  not-held holds = elim (vacant.apart a a holds (record { from = omega arith; below = omega arith })) as (λ _. ⊥) [ inl h ↦ omega arith | inr h ↦ omega arith ]
 
   pub held-after : (x : ℕ) → IsHeld s x → IsHeld after x
-  held-after x holds = record { address = holds.address; start = starts-same x (λ e. not-held (subst (IsHeld s) e holds)) ∙ holds.start }
+  held-after x holds = record { address = holds.address; start = adds.starts x (λ e. not-held (subst (IsHeld s) e holds)) ∙ holds.start }
 
   pub held-before : (x : ℕ) → x ≢ a → IsHeld after x → IsHeld s x
-  held-before x other holds = record { address = holds.address; start = sym (starts-same x other) ∙ holds.start }
+  held-before x other holds = record { address = holds.address; start = sym (adds.starts x other) ∙ holds.start }
 
   pub held-cases : (x : ℕ) → IsHeld after x → (x ≡ a) ⊎ IsHeld s x
   held-cases x holds = elim (cases_eq x a) as (λ _. (x ≡ a) ⊎ IsHeld s x) [ inl e ↦ inl e | inr other ↦ inr (held-before x other holds) ]
 
   -- the parts of the new object
   pub new-name : name_at after a ≡ n
-  new-name = ap name_of writes.name ∙ name-code n room.named
+  new-name = ap name_of adds.name ∙ name-code n vacant.named
 
   pub new-refs : refs_at after a ≡ refs
-  new-refs = ap (λ v. v % 65536) writes.shape ∙ (let few : refs ≤ 1024 = room.few_refs in let e : (refs + 65536 * nums) % 65536 ≡ refs = omega arith in e)
+  new-refs = ap (λ v. v % 65536) adds.shape ∙ (let few : refs ≤ 1024 = vacant.few_refs in let e : (refs + 65536 * nums) % 65536 ≡ refs = omega arith in e)
 
   pub new-nums : nums_at after a ≡ nums
-  new-nums = ap (λ v. v / 65536) writes.shape ∙ (let few : refs ≤ 1024 = room.few_refs in let e : (refs + 65536 * nums) / 65536 ≡ nums = omega arith in e)
+  new-nums = ap (λ v. v / 65536) adds.shape ∙ (let few : refs ≤ 1024 = vacant.few_refs in let e : (refs + 65536 * nums) / 65536 ≡ nums = omega arith in e)
 
   pub new-size : size_at after a ≡ size_of refs nums
   new-size = ap (λ r. size_of r (nums_at after a)) new-refs ∙ ap (λ q. size_of refs q) new-nums
@@ -131,30 +173,32 @@ module _ (s : HeapState) (w : List ℕ) (a : ℕ) (n : Name) (refs nums : ℕ) (
       ap (word_at after) e ∙ object-word x (3 + i) holds (omega arith) ∙ ap (word_at s) (sym e)
 
   pub new-ref : (i : ℕ) → i < refs → ref_at after a i ≡ 0
-  new-ref i less = let e : a + 3 + i ≡ a + (3 + i) = omega arith in ap (word_at after) e ∙ writes.blank (3 + i) (omega arith) (omega arith)
+  new-ref i less = let e : a + 3 + i ≡ a + (3 + i) = omega arith in ap (word_at after) e ∙ adds.blank (3 + i) (omega arith) (omega arith)
 
   extent-before : (x i : ℕ) → IsHeld s x → IsInExtent after x i → IsInExtent s x i
   extent-before x i holds inside = record { from = inside.from; below = subst (λ (k : ℕ). i < x + k) (size-same x holds) inside.below }
 
-  reference-after : (v : ℕ) → IsReference s v → IsReference after v
+  reference-after : (v : ℕ) → IsRefField s v → IsRefField after v
   reference-after v reference some = held-after v (reference some)
+
+  root-after : (v : ℕ) → IsRoot s v → IsRoot after v
+  root-after v root some = held-after v (root some)
 
   new-header : HasHeader after a
   new-header =
-      let blank : word_at after (a + 2) ≡ 0 = writes.blank 2 (omega arith) (omega arith) in
+      let blank : word_at after (a + 2) ≡ 0 = adds.blank 2 (omega arith) (omega arith) in
       record {
         object = record {
-          name = subst IsName (sym new-name) room.named;
-          refs = subst (λ (k : ℕ). k ≤ 1024) (sym new-refs) room.few_refs;
-          nums = subst (λ (k : ℕ). k ≤ 60000) (sym new-nums) room.few_nums;
+          name = subst IsName (sym new-name) vacant.named;
+          refs = subst (λ (k : ℕ). k ≤ 1024) (sym new-refs) vacant.few_refs;
+          nums = subst (λ (k : ℕ). k ≤ 60000) (sym new-nums) vacant.few_nums;
         };
         number = subst (λ (v : ℕ). v / 2 ^ 24 ≤ s.number) (sym blank) (omega arith);
         target = subst (λ (v : ℕ). 0 < v / 2 ^ 24 → v % 2 ^ 24 ≡ a) (sym blank) (λ some. absurd (omega arith));
       }
 
-  old-header : (x : ℕ) → IsHeld s x → HasHeader after x
-  old-header x holds =
-      let old = order.objects.headers x holds in
+  old-header : (x : ℕ) → IsHeld s x → HasHeader s x → HasHeader after x
+  old-header x holds old =
       let collector : word_at after (x + 2) ≡ word_at s (x + 2) = object-word x 2 holds (omega arith) in
       record {
         object = record {
@@ -166,143 +210,223 @@ module _ (s : HeapState) (w : List ℕ) (a : ℕ) (n : Name) (refs nums : ℕ) (
         target = subst (λ (v : ℕ). 0 < v / 2 ^ 24 → v % 2 ^ 24 ≡ x) (sym collector) old.target;
       }
 
-  -- a fact of the new object, and of each that was held, is one of each that is held
+  -- what holds of the new object and of each that was held holds of each that is held now
   pub either : (P : ℕ → Type 0) → P a → ((x : ℕ) → IsHeld s x → P x) → (x : ℕ) → IsHeld after x → P x
   either P new old x holds = elim (held-cases x holds) as (λ _. P x) [ inl e ↦ subst P (sym e) new | inr before ↦ old x before ]
 
-  new-lies : Lies after a (size_at after a)
-  new-lies = subst (Lies after a) (sym new-size)
-      (lies-from s w block_words a (size_of refs nums) (block_at_within s.blocks a room.address)
-      (record { small = λ fits. room.place; large = λ large. absurd (let fits : size_of refs nums ≤ 2048 = room.small in omega arith) }))
-
-  old-lies : (x : ℕ) → IsHeld s x → Lies after x (size_at after x)
-  old-lies x holds = subst (Lies after x) (sym (size-same x holds))
-      (lies-from s w block_words x (size_at s x) (block_at_within s.blocks x holds.address) (order.objects.lies x holds))
-
-  -- a word of the new object is none of one that was held
+  -- a word of the new object does not belong to one that was held
   not-both : (x i : ℕ) → IsHeld s x → IsInExtent s x i → IsInExtent after a i → ⊥
   not-both x i holds inside new =
       let below : i < a + size_of refs nums = subst (λ (k : ℕ). i < a + k) new-size new.below in
       let from : a ≤ i = new.from in
-      elim (room.apart x i holds inside) as (λ _. ⊥) [ inl h ↦ omega arith | inr h ↦ omega arith ]
+      elim (vacant.apart x i holds inside) as (λ _. ⊥) [ inl h ↦ omega arith | inr h ↦ omega arith ]
 
-  apart-after : (x y i : ℕ) → IsHeld after x → IsHeld after y → IsInExtent after x i → IsInExtent after y i → x ≡ y
-  apart-after x y i hx hy ix iy = elim (held-cases x hx) as (λ _. x ≡ y) [
+  apart-after : AreObjectsRight s → (x y i : ℕ) → IsHeld after x → IsHeld after y → IsInExtent after x i → IsInExtent after y i → x ≡ y
+  apart-after old x y i hx hy ix iy = elim (held-cases x hx) as (λ _. x ≡ y) [
     | inl ex ↦ elim (held-cases y hy) as (λ _. x ≡ y) [
       | inl ey ↦ ex ∙ sym ey
       | inr by ↦ absurd (not-both y i by (extent-before y i by iy) (subst (λ (k : ℕ). IsInExtent after k i) ex ix))
     ]
     | inr bx ↦ elim (held-cases y hy) as (λ _. x ≡ y) [
       | inl ey ↦ absurd (not-both x i bx (extent-before x i bx ix) (subst (λ (k : ℕ). IsInExtent after k i) ey iy))
-      | inr by ↦ order.objects.apart x y i bx by (extent-before x i bx ix) (extent-before y i by iy)
+      | inr by ↦ old.apart x y i bx by (extent-before x i bx ix) (extent-before y i by iy)
     ]
   ]
 
-  names-after : (x y : ℕ) → IsHeld after x → IsHeld after y → name_at after x ≡ name_at after y → x ≡ y
-  names-after x y hx hy e = elim (held-cases x hx) as (λ _. x ≡ y) [
+  names-after : AreObjectsRight s → (x y : ℕ) → IsHeld after x → IsHeld after y → name_at after x ≡ name_at after y → x ≡ y
+  names-after old x y hx hy e = elim (held-cases x hx) as (λ _. x ≡ y) [
     | inl ex ↦ elim (held-cases y hy) as (λ _. x ≡ y) [
       | inl ey ↦ ex ∙ sym ey
-      | inr by ↦ absurd (room.fresh y by (sym (name-same y by) ∙ sym e ∙ ap (name_at after) ex ∙ new-name))
+      | inr by ↦ absurd (vacant.fresh y by (sym (name-same y by) ∙ sym e ∙ ap (name_at after) ex ∙ new-name))
     ]
     | inr bx ↦ elim (held-cases y hy) as (λ _. x ≡ y) [
-      | inl ey ↦ absurd (room.fresh x bx (sym (name-same x bx) ∙ e ∙ ap (name_at after) ey ∙ new-name))
-      | inr by ↦ order.objects.names x y bx by (sym (name-same x bx) ∙ e ∙ name-same y by)
+      | inl ey ↦ absurd (vacant.fresh x bx (sym (name-same x bx) ∙ e ∙ ap (name_at after) ey ∙ new-name))
+      | inr by ↦ old.names x y bx by (sym (name-same x bx) ∙ e ∙ name-same y by)
     ]
   ]
 
-  objects-after : HasLawfulObjects after
-  objects-after = record {
-    headers = either (HasHeader after) new-header old-header;
-    marks = λ x h. held-after x (order.objects.marks x
-        (elim (or_cases (is_pinned after x) (is_unlogged after x) h) as (λ _. IsTrue (is_pinned s x || is_unlogged s x)) [
-          | inl p ↦ or_left (is_pinned s x) (is_unlogged s x) (sym (pins-same x) ∙ p)
-          | inr u ↦ or_right (is_pinned s x) (is_unlogged s x) (sym (unlogs-same x) ∙ u)
-        ]));
-    lies = either (λ x. Lies after x (size_at after x)) new-lies old-lies;
-    apart = apart-after;
-    heads = λ k is. let before = order.objects.heads k (HasKind-back s w block_words k kinds.LargeHead is) in
-        (held-after _ before.0, subst (λ (n : ℕ). 2048 < n) (sym (size-same _ before.0)) before.1);
-    tails = λ k is. in_run-same s w block_words k ∙ order.objects.tails k (HasKind-back s w block_words k kinds.LargeTail is);
-    references = λ x i holds. either (λ y. i < refs_at after y → IsReference after (ref_at after y i))
-        (λ less. subst (IsReference after) (sym (new-ref i (subst (λ (k : ℕ). i < k) new-refs less))) (λ some. absurd (some refl)))
+  -- what holds of objects by themselves
+  pub objects-after : AreObjectsRight s → AreObjectsRight after
+  objects-after old = record {
+    headers = either (HasHeader after) new-header (λ x holds. old-header x holds (old.headers x holds));
+    marks = λ x h. held-after x (old.marks x (sym (ap (λ t. t || is_unlogged after x) (adds.pins x) ∙ ap (λ t. is_pinned s x || t) (adds.unlogs x)) ∙ h));
+    apart = apart-after old;
+    references = λ x i holds. either (λ y. i < refs_at after y → IsRefField after (ref_at after y i))
+        (λ less. subst (IsRefField after) (sym (new-ref i (subst (λ (k : ℕ). i < k) new-refs less))) (λ some. absurd (refers-some 0 some refl)))
         (λ y before less. let few : i < refs_at s y = subst (λ (k : ℕ). i < k) (refs-same y before) less in
-        subst (IsReference after) (sym (ref-same y i before few)) (reference-after _ (order.objects.references y i before few)))
+        subst (IsRefField after) (sym (ref-same y i before few)) (reference-after _ (old.references y i before few)))
         x holds;
-    globals = λ g small. subst (IsReference after) (sym (globals-same g small)) (reference-after _ (order.objects.globals g small));
-    names = names-after;
+    globals = λ g small. subst (IsRoot after) (sym (adds.globals g small)) (root-after _ (old.globals g small));
+    names = names-after old;
   }
 
-  -- the block of the new object is none that is Free or has lines
-  block-not-free : HasKind s (block_at s.blocks a) kinds.Free → ⊥
-  block-not-free is = true≢false (sym room.place.kind ∙ has_small-free s (block_at s.blocks a) is)
+  -- and where they lie, if blocks in use keep their words, and those that were Free are in no run but the new object's
+  pub places-after : ((k : ℕ) → k < s.blocks → (HasKind s k kinds.Free → ⊥) → block_word after k ≡ block_word s k)
+      → Lies after a (size_of refs nums)
+      → ((k : ℕ) → HasKind s k kinds.Free → HasKind after k kinds.LargeHead → (block_start s.blocks k ≡ a) × (2048 < size_of refs nums))
+      → ((k : ℕ) → HasKind s k kinds.Free → HasKind after k kinds.LargeTail → IsTrue (is_in_run after k))
+      → ArePlacesRight s → ArePlacesRight after
+  places-after kept lies heads tails old = record {
+    lies = either (λ x. Lies after x (size_at after x)) (subst (Lies after a) (sym new-size) lies)
+        (λ x holds. subst (Lies after x) (sym (size-same x holds)) (used.lies-kept s w kept x (size_at s x) (old.lies x holds)));
+    heads = λ k now. elim (used.kind-before s w kept k kinds.LargeHead now) as (λ _. IsHeld after (block_start s.blocks k) × (2048 < size_at after (block_start s.blocks k))) [
+      | inl is ↦ (let here = old.heads k is in (held-after _ here.0, subst (λ (q : ℕ). 2048 < q) (sym (size-same _ here.0)) here.1))
+      | inr free ↦ (let here = heads k free now in
+          subst (λ (x : ℕ). IsHeld after x × (2048 < size_at after x)) (sym here.0) (held-new, subst (λ (q : ℕ). 2048 < q) (sym new-size) here.1))
+    ];
+    tails = λ k now. elim (used.kind-before s w kept k kinds.LargeTail now) as (λ _. IsTrue (is_in_run after k)) [
+      | inl is ↦ used.in_run-kept s w kept k (old.tails k is)
+      | inr free ↦ tails k free now
+    ];
+  }
 
-  pub new-block : (i : ℕ) → IsInExtent after a i → block_at s.blocks i ≡ block_at s.blocks a
-  new-block i inside =
-      let below : i < a + size_of refs nums = subst (λ (k : ℕ). i < a + k) new-size inside.below in
-      let from : a ≤ i = inside.from in
-      let base : heap_of s.blocks ≤ a = room.address.from in
+  new-inside : (i : ℕ) → IsInExtent after a i → i < a + size_of refs nums
+  new-inside i inside = subst (λ (k : ℕ). i < a + k) new-size inside.below
+
+  -- a block without a word of the new object stays clear, if its line bits are unchanged
+  pub clear-after : (k : ℕ) → ((i : ℕ) → a ≤ i → i < a + size_of refs nums → block_at s.blocks i ≢ k)
+      → ((line : ℕ) → line < 256 → line_marked after k line ≡ line_marked s k line) → IsClear s k → IsClear after k
+  clear-after k away lines old = record {
+    empty = λ x i holds. either (λ y. IsInExtent after y i → block_at s.blocks i ≢ k)
+        (λ inside. away i inside.from (new-inside i inside)) (λ y before inside. old.empty y i before (extent-before y i before inside)) x holds;
+    lines = λ line small marked. old.lines line small (sym (lines line small) ∙ marked);
+    marks = λ x in_block h. old.marks x in_block
+        (let other : x ≢ a = λ e. away a (omega arith) (omega arith) (ap (block_at s.blocks) (sym e) ∙ in_block) in
+        sym (ap (λ t. t || is_pinned after x || is_unlogged after x) (adds.starts x other) ∙ ap (λ t. is_start s x || t || is_unlogged after x) (adds.pins x)
+        ∙ ap (λ t. is_start s x || is_pinned s x || t) (adds.unlogs x)) ∙ h);
+  }
+
+  -- the line bits of a block are exact, if those of the new object's lines are set as well
+  pub lines-after : (k : ℕ) → (HasKind after k kinds.Immix → HasKind s k kinds.Immix)
+      → ((line : ℕ) → line < 256 → IsTrue (line_marked s k line) → IsTrue (line_marked after k line))
+      → ((line : ℕ) → line < 256 → IsTrue (line_marked after k line) → IsTrue (line_marked s k line) ⊎ IsCovered s a (size_of refs nums) k line)
+      → ((line : ℕ) → line < 256 → IsCovered s a (size_of refs nums) k line → IsTrue (line_marked after k line))
+      → LineBitsAreExact s k → LineBitsAreExact after k
+  lines-after k before stay grown covered old = record {
+    marked = λ line now small marked. elim (grown line small marked) as (λ _. ∥ IsTouched after k line ∥₁) [
+      | inl was ↦ ∥∥₁_map (old.marked line (before now) small was) (λ t. record {
+        object = t.object;
+        word = t.word;
+        held = held-after t.object t.held;
+        inside = record { from = t.inside.from; below = subst (λ (q : ℕ). t.word < t.object + q) (sym (size-same t.object t.held)) t.inside.below };
+        from = t.from;
+        below = t.below;
+      })
+      | inr here ↦ ∣ record {
+        object = a;
+        word = here.word;
+        held = held-new;
+        inside = record { from = here.from; below = subst (λ (q : ℕ). here.word < a + q) (sym new-size) here.below };
+        from = here.first;
+        below = here.last;
+      } ∣₁
+    ];
+    touched = λ line now small t. elim (held-cases t.object t.held) as (λ _. IsTrue (line_marked after k line)) [
+      | inl e ↦ (let inside : IsInExtent after a t.word = subst (λ (q : ℕ). IsInExtent after q t.word) e t.inside in
+          covered line small (record { word = t.word; from = inside.from; below = new-inside t.word inside; first = t.from; last = t.below }))
+      | inr holds ↦ stay line small (old.touched line (before now) small
+          (record { object = t.object; word = t.word; held = holds; inside = extent-before t.object t.word holds t.inside; from = t.from; below = t.below }))
+    ];
+  }
+
+-- a small or medium object: no block word changes
+module _ (s : HeapState) (w : List ℕ) (a : ℕ) (n : Name) (refs nums : ℕ) (one_more : Adds s w a n refs nums)
+    (same_words : (k : ℕ) → k < s.blocks → block_word (with_words s w) k ≡ block_word s k) (order : IsWellFormed s) (room : IsRoom s a n refs nums) where
+  abbrev born : HeapState
+  born = with_words s w
+
+  -- the object's words lie in one block, which is not Free
+  pub in-block : (i : ℕ) → a ≤ i → i < a + size_of refs nums → block_at s.blocks i ≡ block_at s.blocks a
+  in-block i from below =
+      let base : heap_of s.blocks ≤ a = room.vacant.address.from in
       let end : offset_at s.blocks a + size_of refs nums ≤ 4096 = room.place.within in
       omega arith
 
-  free-after : (k : ℕ) → HasKind s k kinds.Free → IsClear s k → IsClear after k
-  free-after k is old =
-      let there : k < s.blocks = kind-in s w block_words k kinds.Free is in
-      let other : block_at s.blocks a ≢ k = λ e. block-not-free (subst (λ (q : ℕ). HasKind s q kinds.Free) (sym e) is) in
-      record {
-        empty = λ x i holds. either (λ y. IsInExtent after y i → block_at s.blocks i ≢ k)
-            (λ inside e. other (sym (new-block i inside) ∙ e))
-            (λ y before inside. old.empty y i before (extent-before y i before inside))
-            x holds;
-        lines = λ line small marked. old.lines line small (sym (lines-same k line there small) ∙ marked);
-        marks = λ x in_block h. old.marks x in_block
-            (let away : x ≢ a = λ e. other (ap (block_at s.blocks) (sym e) ∙ in_block) in
-            elim (or_cases (is_start after x || is_pinned after x) (is_unlogged after x) h) as (λ _. IsTrue (is_start s x || is_pinned s x || is_unlogged s x)) [
-              | inl either' ↦ or_left (is_start s x || is_pinned s x) (is_unlogged s x)
-                  (elim (or_cases (is_start after x) (is_pinned after x) either') as (λ _. IsTrue (is_start s x || is_pinned s x)) [
-                    | inl start ↦ or_left (is_start s x) (is_pinned s x) (sym (starts-same x away) ∙ start)
-                    | inr pin ↦ or_right (is_start s x) (is_pinned s x) (sym (pins-same x) ∙ pin)
-                  ])
-              | inr unlog ↦ or_right (is_start s x || is_pinned s x) (is_unlogged s x) (sym (unlogs-same x) ∙ unlog)
-            ]);
-      }
+  block-not-free : HasKind s (block_at s.blocks a) kinds.Free → ⊥
+  block-not-free is = true≢false (sym room.place.kind ∙ has_small-free s (block_at s.blocks a) is)
 
-  -- where the lines of its block are not kept
-  lines-after : (HasKind s (block_at s.blocks a) kinds.Immix → ⊥) → (k : ℕ) → AreLinesRight s k → AreLinesRight after k
-  lines-after no_lines k old = record {
-    marked = λ line is small marked.
-        let before : HasKind s k kinds.Immix = HasKind-back s w block_words k kinds.Immix is in
-        let there : k < s.blocks = kind-in s w block_words k kinds.Immix before in
-        ∥∥₁_map (old.marked line before small (sym (lines-same k line there small) ∙ marked)) (λ t. record {
-          object = t.object;
-          word = t.word;
-          held = held-after t.object t.held;
-          inside = record { from = t.inside.from; below = subst (λ (n : ℕ). t.word < t.object + n) (sym (size-same t.object t.held)) t.inside.below };
-          from = t.from;
-          below = t.below;
-        });
-    touched = λ line is small t.
-        let before : HasKind s k kinds.Immix = HasKind-back s w block_words k kinds.Immix is in
-        let there : k < s.blocks = kind-in s w block_words k kinds.Immix before in
-        lines-same k line there small ∙ elim (held-cases t.object t.held) as (λ _. IsTrue (line_marked s k line)) [
-          | inl e ↦ absurd (no_lines (subst (λ (q : ℕ). HasKind s q kinds.Immix)
-              (sym (line-block s k line t.word small t.from t.below) ∙ new-block t.word (subst (λ (q : ℕ). IsInExtent after q t.word) e t.inside)) before))
-          | inr holds ↦ old.touched line before small (record { object = t.object; word = t.word; held = holds; inside = extent-before t.object t.word holds t.inside; from = t.from; below = t.below })
-        ];
+  pub order-born : length w ≡ length s.words → ((i : ℕ) → word_at born i < 2 ^ 64) → IsWellFormed born
+  order-born extent fits = record {
+    row = record { least = order.row.least; most = order.row.most; extent = extent ∙ order.row.extent; words = fits; base = order.row.base };
+    objects = together born (objects-after s w a n refs nums one_more room.vacant (objects-of s order.objects))
+        (places-after s w a n refs nums one_more room.vacant (λ k there used. same_words k there) new-lies
+        (λ k free now. absurd (let e = one-kind s k kinds.Free kinds.LargeHead free (HasKind-back s w same_words k kinds.LargeHead now) in omega arith))
+        (λ k free now. absurd (let e = one-kind s k kinds.Free kinds.LargeTail free (HasKind-back s w same_words k kinds.LargeTail now) in omega arith))
+        (places-of s order.objects));
+  }
+    where
+      new-lies : Lies born a (size_of refs nums)
+      new-lies = used.lies-kept s w (λ k there in_use. same_words k there) a (size_of refs nums)
+          (record { small = λ fits. room.place; large = λ large. absurd (let fits : size_of refs nums ≤ 2048 = room.small in omega arith) })
+
+  -- if the line bits of other blocks are unchanged
+  free-born : ((k line : ℕ) → k < s.blocks → line < 256 → k ≢ block_at s.blocks a → line_marked born k line ≡ line_marked s k line)
+      → ((k : ℕ) → FreeBlockIsClear s k) → (k : ℕ) → FreeBlockIsClear born k
+  free-born lines old k now =
+      let is : HasKind s k kinds.Free = HasKind-back s w same_words k kinds.Free now in
+      let away : k ≢ block_at s.blocks a = λ e. block-not-free (subst (λ (q : ℕ). HasKind s q kinds.Free) e is) in
+      clear-after s w a n refs nums one_more room.vacant k (λ i from below e. away (sym e ∙ in-block i from below))
+      (λ line small. lines k line (kind-in s w same_words k kinds.Free is) small away) (old k is)
+
+  pub but_lines-born : IsWellFormed born → ((k line : ℕ) → k < s.blocks → line < 256 → k ≢ block_at s.blocks a → line_marked born k line ≡ line_marked s k line)
+      → IsLawfulButLines s → IsLawfulButLines born
+  but_lines-born ordered lines old = record {
+    order = ordered;
+    blocks = λ k there. record {
+      code = subst (λ (v : ℕ). IsTrue (is_block_code v)) (sym (same_words k there)) (old.blocks k there).code;
+      owner = ap (λ v. v / 65536) (same_words k there) ∙ (old.blocks k there).owner;
+    };
+    free = free-born lines old.free;
   }
 
-  -- the heap is in order with the new object
-  pub orderly-after : IsOrderly after
-  orderly-after = record {
-    row = record { least = order.row.least; most = order.row.most; extent = writes.extent ∙ order.row.extent; words = writes.words; base = order.row.base };
-    objects = objects-after;
-  }
+  -- if the line bits of the object's lines are set as well
+  pub lines-born : (k : ℕ)
+      → ((line : ℕ) → HasKind s k kinds.Immix → line < 256 → IsTrue (line_marked s k line) → IsTrue (line_marked born k line))
+      → ((line : ℕ) → HasKind s k kinds.Immix → line < 256 → IsTrue (line_marked born k line) → IsTrue (line_marked s k line) ⊎ IsCovered s a (size_of refs nums) k line)
+      → ((line : ℕ) → HasKind s k kinds.Immix → line < 256 → IsCovered s a (size_of refs nums) k line → IsTrue (line_marked born k line))
+      → LineBitsAreExact s k → LineBitsAreExact born k
+  lines-born k stay grown covered old = record { marked = λ line now. (right now).marked line now; touched = λ line now. (right now).touched line now }
+    where
+      right : HasKind born k kinds.Immix → LineBitsAreExact born k
+      right now =
+          let is : HasKind s k kinds.Immix = HasKind-back s w same_words k kinds.Immix now in
+          lines-after s w a n refs nums one_more room.vacant k (λ again. is) (λ line. stay line is) (λ line. grown line is) (λ line. covered line is) old
 
-  -- and lawful if it was, where the lines of its block are not kept
-  pub lawful-after : (HasKind s (block_at s.blocks a) kinds.Immix → ⊥) → IsLawful s → IsLawful after
-  lawful-after no_lines lawful = record {
-    order = orderly-after;
-    blocks = λ k there. subst (λ (v : ℕ). IsTrue (is_block_code v)) (sym (block_words k there)) (lawful.blocks k there);
-    owners = λ k there. ap (λ v. v / 65536) (block_words k there) ∙ lawful.owners k there;
-    free = λ k is. let before : HasKind s k kinds.Free = HasKind-back s w block_words k kinds.Free is in free-after k before (lawful.free k before);
-    lines = λ k. lines-after no_lines k (lawful.lines k);
+  -- the line of a word of the object belongs to the object's block
+  pub covered-block : (k line : ℕ) → line < 256 → IsCovered s a (size_of refs nums) k line → k ≡ block_at s.blocks a
+  covered-block k line small here = sym (line-block s k line here.word small here.first here.last) ∙ in-block here.word here.from here.below
+
+-- A small or medium object is written: its block is not an Immix block, or its lines are marked.
+module _ (s : HeapState) (w : List ℕ) (a : ℕ) (n : Name) (refs nums : ℕ) (writes : WritesObject s (with_words s w) a n refs nums)
+    (order : IsWellFormed s) (room : IsRoom s a n refs nums) where
+  one_more : Adds s w a n refs nums
+  one_more = adds s w a n refs nums writes room.vacant.address
+
+  same_words : (k : ℕ) → k < s.blocks → block_word (with_words s w) k ≡ block_word s k
+  same_words = block_words s w a n refs nums writes room.vacant.address
+
+  same_lines : (k line : ℕ) → k < s.blocks → line < 256 → line_marked (with_words s w) k line ≡ line_marked s k line
+  same_lines = lines-same s w a n refs nums writes room.vacant.address
+
+  pub order-written : IsWellFormed (with_words s w)
+  order-written = order-born s w a n refs nums one_more same_words order room writes.extent writes.words
+
+  pub but_lines-written : IsLawfulButLines s → IsLawfulButLines (with_words s w)
+  but_lines-written = but_lines-born s w a n refs nums one_more same_words order room order-written (λ k line there small away. same_lines k line there small)
+
+  pub lawful-written : ((line : ℕ) → HasKind s (block_at s.blocks a) kinds.Immix → line < 256 → IsCovered s a (size_of refs nums) (block_at s.blocks a) line → IsTrue (line_marked s (block_at s.blocks a) line))
+      → IsLawful s → IsLawful (with_words s w)
+  lawful-written marked lawful = record {
+    but_lines = but_lines-written lawful.but_lines;
+    lines = λ k. lines-born s w a n refs nums one_more same_words order room k
+        (λ line is small was. same_lines k line (kind-within s k kinds.Immix is) small ∙ was)
+        (λ line is small set. inl (sym (same_lines k line (kind-within s k kinds.Immix is) small) ∙ set))
+        (λ line is small here. same_lines k line (kind-within s k kinds.Immix is) small ∙ own k line is small here)
+        (lawful.lines k);
   }
+    where
+      own : (k line : ℕ) → HasKind s k kinds.Immix → line < 256 → IsCovered s a (size_of refs nums) k line → IsTrue (line_marked s k line)
+      own k line is small here =
+          let e : k ≡ block_at s.blocks a = covered-block s w a n refs nums one_more same_words order room k line small here in
+          subst (λ (q : ℕ). IsTrue (line_marked s q line)) (sym e)
+          (marked line (subst (λ (q : ℕ). HasKind s q kinds.Immix) e is) small (subst (λ (q : ℕ). IsCovered s a (size_of refs nums) q line) e here))

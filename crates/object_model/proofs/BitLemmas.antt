@@ -15,7 +15,7 @@ pub record ChangesBit (old new : List ℕ) (zone n : ℕ) : Type 0 where
   pub bits : (k : ℕ) → k < 64 → (k ≡ n % 64 → ⊥) → bit_at (slice_index new (zone + n / 64)) k ≡ bit_at (slice_index old (zone + n / 64)) k
   pub words : (i : ℕ) → (i ≡ zone + n / 64 → ⊥) → slice_index new i ≡ slice_index old i
 
--- every bit of the zone but n is as before
+-- every bit of the zone but n is unchanged
 pub other_bit : (old new : List ℕ) (zone n m : ℕ) → ChangesBit old new zone n → m ≢ n
     → bit_at (slice_index new (zone + m / 64)) (m % 64) ≡ bit_at (slice_index old (zone + m / 64)) (m % 64)
 other_bit old new zone n m bit other =

@@ -1,27 +1,28 @@
 -- A Free block becomes one for small objects: no object is touched.
-use Rattle.std.proofs.Common.{◌≡◌, ◌≢◌, refl, sym, ◌∙◌, ap, subst, ℕ, ◌+◌, ◌*◌, ◌-◌, ◌/◌, ◌%◌, ◌^◌, ◌<◌, ◌≤◌, inl, inr, arith, Bool, false, ◌&&◌, ◌||◌, IsTrue, List, [], ◌∷◌, length, Some, None, Option, map, nat_eq, nat_lt, slice_set, lit<, ◌↔◌, add-zero}
+use Rattle.std.proofs.Common.{◌≡◌, ◌≢◌, refl, sym, ◌∙◌, ap, subst, ℕ, ◌+◌, ◌*◌, ◌-◌, ◌/◌, ◌%◌, ◌^◌, ◌<◌, ◌≤◌, ◌⊎◌, inl, inr, arith, Bool, true, false, ◌||◌, IsTrue, List, [], ◌∷◌, length, Some, None, Option, map, nat_eq, slice_set, ◌↔◌}
 use Rattle.std.specs.Int.{bit_at}
-use Rattle.std.specs.List.{AllByRecursion, Any, range_with_len, list_any}
-use Rattle.std.proofs.Math.Path.{fun_ext}
+use Rattle.std.specs.List.{AllByRecursion, Any, range_with_len}
 use Rattle.std.proofs.Math.Logic.{∥∥₁_map}
-use Rattle.std.proofs.lemmas.Bool.{cases_eq, and_right, and_left, ne_eqb}
+use Rattle.std.proofs.lemmas.Bool.{cases_eq, true≢false}
 use Rattle.std.proofs.lemmas.List.{get_or-set_same, get_or-set_other, length-set}
-use Rattle.heap_layout.specs.Zones.{Zone, StartBits, PinBits, UnlogBits, LineWords, BlockWords, Globals, words_of, heap_of, first, mark_of, block_at}
+use Rattle.heap_layout.specs.Zones.{Zone, StartBits, PinBits, UnlogBits, LineWords, BlockWords, Globals, row_words, heap_of, first, address_bit, block_at, block_start}
 use Rattle.heap_layout.specs.Blocks.{is_block_code, kind_code}
 use Rattle.heap_layout.specs.declared.block.Kind.{Kind}
 use Rattle.heap_layout.specs.declared.block.Kind.TheVariants as kinds
 use Rattle.ideal_heap.specs.declared.name.Name.{Name}
 use Rattle.ideal_heap.specs.Names.{IsName, name_of}
 use Rattle.ideal_heap.specs.Ideal.{IdealHeap, Nil, At}
-use Rattle.object_model.specs.Objects.{HeapState, with_words, word_at, global_at, block_word, has_kind, HasKind, class_at, owner_at, is_start, is_pinned, is_unlogged, line_marked, IsHeld, IsInExtent, name_at, refs_at, nums_at, size_at, ref_at, num_at, record_at, field_of_word, size_of, blocks_for}
-use Rattle.object_model.specs.Lawful.{IsLawful, IsOrderly, HasLawfulObjects, HasHeader, Lies, IsRunOfBlocks, IsReference, IsClear, IsTouched, AreLinesRight, has_small, is_in_run}
-use Rattle.object_model.specs.Graphs.{MutatorState, Points, register_at}
-use Rattle.object_model.specs.Mirrors.{Models}
+use Rattle.object_model.specs.Objects.{HeapState, with_words, word_at, global_at, block_word, HasKind, is_start, is_pinned, is_unlogged, line_marked, IsHeld, IsInExtent, name_at, refs_at, nums_at, size_at, ref_at, num_at, record_at, field_of_word, size_of, is_reference}
+use Rattle.object_model.specs.Lawful.{IsLawful, IsLawfulButLines, IsWellFormed, HasHeader, Lies, IsRefField, IsRoot, IsClear, FreeBlockIsClear, IsTouched, LineBitsAreExact, is_in_run}
+use Rattle.object_model.specs.Graphs.{MutatorState, PointsTo, register_at}
+use Rattle.object_model.specs.Agreement.{RepresentsOn}
 use Rattle.object_model.proofs.Marks.{mark-same}
-use Rattle.object_model.proofs.OneKind.{kind-code, kind-within, kind-from, one-kind, has_small-bump, is_small_code}
-use Rattle.object_model.proofs.Frames.{LiesInCellOf}
+use Rattle.object_model.proofs.References.{refers-cases}
+use Rattle.object_model.proofs.OneKind.{kind-code, kind-within, kind-from, one-kind, is_small_code}
+use Rattle.object_model.proofs.ObjectParts.{AreObjectsRight, ArePlacesRight, objects-of, places-of, together, line-block}
+use Rattle.object_model.proofs.UsedBlocks as used
 use Rattle.object_model.proofs.Records.{record-parts, fields_at, numbers_at}
-use Rattle.object_model.proofs.Standing.{word-named, nil-word}
+use Rattle.object_model.proofs.Representation.{word-named, nil-word}
 use Rattle.object_model.proofs.Updates.{map-range-same}
 
 -- the words of the heap, and the bits of addresses and lines, are the same
@@ -30,6 +31,7 @@ pub record SameHeap (s : HeapState) (w : List ℕ) : Type 0 where
   pub globals : (g : ℕ) → g < 16 → global_at (with_words s w) g ≡ global_at s g
   pub starts : (x : ℕ) → is_start (with_words s w) x ≡ is_start s x
   pub pins : (x : ℕ) → is_pinned (with_words s w) x ≡ is_pinned s x
+  pub unlogs : (x : ℕ) → is_unlogged (with_words s w) x ≡ is_unlogged s x
 
 module _ (s : HeapState) (w : List ℕ) (same : SameHeap s w) where
   abbrev after : HeapState
@@ -59,21 +61,105 @@ module _ (s : HeapState) (w : List ℕ) (same : SameHeap s w) where
   pub ref-same : (x i : ℕ) → IsHeld s x → ref_at after x i ≡ ref_at s x i
   ref-same x i holds = same.words (x + 3 + i) (let from : heap_of s.blocks ≤ x = holds.address.from in omega arith)
 
-  pub points-after : (v : ℕ) (o : Option Name) → Points s v o → Points after v o
+  pub reference-after : (v : ℕ) → IsRefField s v → IsRefField after v
+  reference-after v reference some = held-after v (reference some)
+
+  pub root-after : (v : ℕ) → IsRoot s v → IsRoot after v
+  root-after v root some = held-after v (root some)
+
+  pub extent-before : (x i : ℕ) → IsHeld s x → IsInExtent after x i → IsInExtent s x i
+  extent-before x i holds inside = record { from = inside.from; below = subst (λ (n : ℕ). i < x + n) (size-same x holds) inside.below }
+
+  extent-after : (x i : ℕ) → IsHeld s x → IsInExtent s x i → IsInExtent after x i
+  extent-after x i holds inside = record { from = inside.from; below = subst (λ (n : ℕ). i < x + n) (sym (size-same x holds)) inside.below }
+
+  header-after : (x : ℕ) → IsHeld s x → HasHeader s x → HasHeader after x
+  header-after x holds old =
+      let collector : word_at after (x + 2) ≡ word_at s (x + 2) = at x 2 holds in
+      record {
+        object = record {
+          name = subst IsName (sym (name-same x holds)) old.object.name;
+          refs = subst (λ (n : ℕ). n ≤ 1024) (sym (refs-same x holds)) old.object.refs;
+          nums = subst (λ (n : ℕ). n ≤ 60000) (sym (nums-same x holds)) old.object.nums;
+        };
+        number = subst (λ (v : ℕ). v / 2 ^ 24 ≤ s.number) (sym collector) old.number;
+        target = subst (λ (v : ℕ). 0 < v / 2 ^ 24 → v % 2 ^ 24 ≡ x) (sym collector) old.target;
+      }
+
+  -- the invariant of each object's own words
+  pub objects-after : AreObjectsRight s → AreObjectsRight after
+  objects-after old = record {
+    headers = λ x holds. let before = held-before x holds in header-after x before (old.headers x before);
+    marks = λ x h. held-after x (old.marks x (sym (ap (λ t. t || is_unlogged after x) (same.pins x) ∙ ap (λ t. is_pinned s x || t) (same.unlogs x)) ∙ h));
+    apart = λ x y i hx hy ix iy. let bx = held-before x hx in let by = held-before y hy in
+        old.apart x y i bx by (extent-before x i bx ix) (extent-before y i by iy);
+    references = λ x i holds less. let before = held-before x holds in
+        subst (IsRefField after) (sym (ref-same x i before)) (reference-after _ (old.references x i before (subst (λ (n : ℕ). i < n) (refs-same x before) less)));
+    globals = λ g small. subst (IsRoot after) (sym (same.globals g small)) (root-after _ (old.globals g small));
+    names = λ x y hx hy e. let bx = held-before x hx in let by = held-before y hy in
+        old.names x y bx by (sym (name-same x bx) ∙ e ∙ name-same y by);
+  }
+
+  -- and where they lie, if blocks in use keep their words and none that was Free is in a run
+  pub places-after : ((k : ℕ) → k < s.blocks → (HasKind s k kinds.Free → ⊥) → block_word after k ≡ block_word s k)
+      → ((k : ℕ) → HasKind s k kinds.Free → (HasKind after k kinds.LargeHead → ⊥) × (HasKind after k kinds.LargeTail → ⊥))
+      → ArePlacesRight s → ArePlacesRight after
+  places-after kept plain old = record {
+    lies = λ x holds. let before = held-before x holds in subst (Lies after x) (sym (size-same x before)) (used.lies-kept s w kept x (size_at s x) (old.lies x before));
+    heads = λ k now. elim (used.kind-before s w kept k kinds.LargeHead now) as (λ _. IsHeld after (block_start s.blocks k) × (2048 < size_at after (block_start s.blocks k))) [
+      | inl is ↦ (let here = old.heads k is in (held-after _ here.0, subst (λ (n : ℕ). 2048 < n) (sym (size-same _ here.0)) here.1))
+      | inr free ↦ absurd ((plain k free).0 now)
+    ];
+    tails = λ k now. elim (used.kind-before s w kept k kinds.LargeTail now) as (λ _. IsTrue (is_in_run after k)) [
+      | inl is ↦ used.in_run-kept s w kept k (old.tails k is)
+      | inr free ↦ absurd ((plain k free).1 now)
+    ];
+  }
+
+  -- a block is clear if its line bits are unchanged as well
+  pub clear-after : (k : ℕ) → ((line : ℕ) → line < 256 → line_marked after k line ≡ line_marked s k line) → IsClear s k → IsClear after k
+  clear-after k lines old = record {
+    empty = λ x i holds inside. let before = held-before x holds in old.empty x i before (extent-before x i before inside);
+    lines = λ line small marked. old.lines line small (sym (lines line small) ∙ marked);
+    marks = λ x in_block h. old.marks x in_block
+        (sym (ap (λ t. t || is_pinned after x || is_unlogged after x) (same.starts x) ∙ ap (λ t. is_start s x || t || is_unlogged after x) (same.pins x) ∙ ap (λ t. is_start s x || is_pinned s x || t) (same.unlogs x)) ∙ h);
+  }
+
+  pub touched-after : (k line : ℕ) → IsTouched s k line → IsTouched after k line
+  touched-after k line t = record {
+    object = t.object;
+    word = t.word;
+    held = held-after t.object t.held;
+    inside = extent-after t.object t.word t.held t.inside;
+    from = t.from;
+    below = t.below;
+  }
+
+  pub touched-before : (k line : ℕ) → IsTouched after k line → IsTouched s k line
+  touched-before k line t = let before = held-before t.object t.held in record {
+    object = t.object;
+    word = t.word;
+    held = before;
+    inside = extent-before t.object t.word before t.inside;
+    from = t.from;
+    below = t.below;
+  }
+
+  pub points-after : (v : ℕ) (o : Option Name) → PointsTo s v o → PointsTo after v o
   points-after v None p = p
   points-after v (Some n) p = (p.0, held-after v p.1, name-same v p.1 ∙ p.2)
 
-  registers-after : (h : IdealHeap) (ms : List MutatorState) → AllByRecursion (λ m. (d : ℕ) → d < 16 → Points s (register_at m d) (h.registers m.number d)) ms
-      → AllByRecursion (λ m. (d : ℕ) → d < 16 → Points after (register_at m d) (h.registers m.number d)) ms
+  registers-after : (h : IdealHeap) (ms : List MutatorState) → AllByRecursion (λ m. (d : ℕ) → d < 16 → PointsTo s (register_at m d) (h.registers m.number d)) ms
+      → AllByRecursion (λ m. (d : ℕ) → d < 16 → PointsTo after (register_at m d) (h.registers m.number d)) ms
   registers-after h [] all = tt
   registers-after h (m ∷ ms) all = (λ d small. points-after (register_at m d) (h.registers m.number d) (all.0 d small), registers-after h ms all.1)
 
-  record-same : IsOrderly s → (x : ℕ) → IsHeld s x → record_at after x ≡ record_at s x
+  record-same : IsWellFormed s → (x : ℕ) → IsHeld s x → record_at after x ≡ record_at s x
   record-same order x holds = record-parts (fields_at after x) (fields_at s x) (numbers_at after x) (numbers_at s x) fields numbers
     where
       field : (i : ℕ) → i < refs_at s x → field_of_word after (ref_at after x i) ≡ field_of_word s (ref_at s x i)
       field i less = ap (field_of_word after) (ref-same x i holds)
-          ∙ elim (cases_eq (ref_at s x i) 0) as (λ _. field_of_word after (ref_at s x i) ≡ field_of_word s (ref_at s x i)) [
+          ∙ elim (refers-cases (ref_at s x i)) as (λ _. field_of_word after (ref_at s x i) ≡ field_of_word s (ref_at s x i)) [
             | inl nil ↦ nil-word after (ref_at s x i) nil ∙ sym (nil-word s (ref_at s x i) nil)
             | inr some ↦ word-named after (ref_at s x i) some
                 ∙ ap (λ n. At n) (name-same (ref_at s x i) (order.objects.references x i holds less some))
@@ -92,13 +178,13 @@ module _ (s : HeapState) (w : List ℕ) (same : SameHeap s w) where
       numbers = ap (λ k. map (λ j. num_at after x j) (range_with_len 0 k)) (nums-same x holds)
           ∙ map-range-same 0 (λ j. num_at after x j) (λ j. num_at s x j) (nums_at s x) number
 
-  pub models-after : (ms : List MutatorState) (h : IdealHeap) (set : ℕ → Type 0) → Models s ms h set → IsOrderly after → Models after ms h set
+  pub models-after : (ms : List MutatorState) (h : IdealHeap) (set : ℕ → Type 0) → RepresentsOn s ms h set → IsWellFormed after → RepresentsOn after ms h set
   models-after ms h set model order = record {
     order = order;
     mutators = model.mutators;
     pointers = record {
       registers = registers-after h ms model.pointers.registers;
-      globals = λ g small. subst (λ (v : ℕ). Points after v (h.globals g)) (sym (same.globals g small)) (points-after (global_at s g) (h.globals g) (model.pointers.globals g small));
+      globals = λ g small. subst (λ (v : ℕ). PointsTo after v (h.globals g)) (sym (same.globals g small)) (points-after (global_at s g) (h.globals g) (model.pointers.globals g small));
       confined = model.pointers.confined;
     };
     births = record {
@@ -110,7 +196,7 @@ module _ (s : HeapState) (w : List ℕ) (same : SameHeap s w) where
     mirrors = record {
       held = λ a there. held-after a (model.mirrors.held a there);
       fields = λ a i there less some. let holds = model.mirrors.held a there in
-          subst set (sym (ref-same a i holds)) (model.mirrors.fields a i there (subst (λ (k : ℕ). i < k) (refs-same a holds) less) (λ nil. some (ref-same a i holds ∙ nil)));
+          subst set (sym (ref-same a i holds)) (model.mirrors.fields a i there (subst (λ (k : ℕ). i < k) (refs-same a holds) less) (subst (λ (y : ℕ). IsTrue (is_reference y)) (ref-same a i holds) some));
       registers = model.mirrors.registers;
       globals = λ g small some. subst set (sym (same.globals g small)) (model.mirrors.globals g small (λ nil. some (same.globals g small ∙ nil)));
       records = λ a there. let holds = model.mirrors.held a there in
@@ -121,212 +207,148 @@ module _ (s : HeapState) (w : List ℕ) (same : SameHeap s w) where
     };
   }
 
--- another code than that of a large run's head
-no-head : (x : HeapState) (h code : ℕ) → block_word x h % 256 ≡ code → code ≢ 6 → has_kind x h kinds.LargeHead ≡ false
-no-head x h code e other = and_right (nat_lt h x.blocks) _ (ne_eqb (block_word x h % 256) 6 (λ six. other (sym e ∙ six)))
+-- block k has this word, and all else is unchanged
+abbrev pub set_block : HeapState → ℕ → ℕ → List ℕ
+set_block s k v = slice_set s.words (first s.blocks BlockWords + k) v
 
--- the word of a Free block becomes that of an empty Bump block
-module _ (s : HeapState) (lawful : IsLawful s) (k : ℕ) (is : HasKind s k kinds.Free) where
-  abbrev pub place : ℕ
+module _ (s : HeapState) (k v : ℕ) (there : k < s.blocks) where
+  abbrev set : HeapState
+  set = with_words s (set_block s k v)
+
+  abbrev place : ℕ
   place = first s.blocks BlockWords + k
 
-  abbrev pub taken : HeapState
-  taken = with_words s (slice_set s.words place 1)
+  pub word-other : (i : ℕ) → i ≢ place → word_at set i ≡ word_at s i
+  word-other i other = get_or-set_other s.words place i v 0 other
 
-  there : k < s.blocks
-  there = kind-within s k kinds.Free is
+  pub block-set : length s.words ≡ row_words s.blocks → block_word set k ≡ v
+  block-set many = get_or-set_same s.words place v 0 (omega arith)
 
-  pub word-other : (i : ℕ) → i ≢ place → word_at taken i ≡ word_at s i
-  word-other i other = get_or-set_other s.words place i 1 0 other
-
-  pub block-taken : block_word taken k ≡ 1
-  block-taken = get_or-set_same s.words place 1 0 (let many : length s.words ≡ words_of s.blocks = lawful.order.row.extent in let below : k < s.blocks = there in omega arith)
-
-  pub block-other : (j : ℕ) → j ≢ k → block_word taken j ≡ block_word s j
+  pub block-other : (j : ℕ) → j ≢ k → block_word set j ≡ block_word s j
   block-other j other = word-other (first s.blocks BlockWords + j) (λ e. other (omega arith))
 
-  marks : (z : Zone) (x : ℕ) → first s.blocks BlockWords + s.blocks ≤ first s.blocks z → mark_of s.blocks z taken.words x ≡ mark_of s.blocks z s.words x
-  marks z x above = mark-same s.blocks z s.words taken.words x (λ here. ap (λ word. nat_eq (bit_at word ((x - heap_of s.blocks) % 64)) 1)
-      (word-other (first s.blocks z + (x - heap_of s.blocks) / 64) (λ e. let below : k < s.blocks = there in omega arith)))
+  pub kind-own : length s.words ≡ row_words s.blocks → (kind : Kind) → v % 256 ≡ kind_code kind → HasKind set k kind
+  kind-own many kind code = kind-from set k kind there (ap (λ x. x % 256) (block-set many) ∙ code)
 
-  pub same_heap : SameHeap s (slice_set s.words place 1)
+  pub kind-other : (j : ℕ) (kind : Kind) → j ≢ k → HasKind s j kind → HasKind set j kind
+  kind-other j kind away is = kind-from set j kind (kind-within s j kind is) (ap (λ x. x % 256) (block-other j away) ∙ kind-code s j kind is)
+
+  marks : (z : Zone) (x : ℕ) → first s.blocks BlockWords + s.blocks ≤ first s.blocks z → address_bit s.blocks z set.words x ≡ address_bit s.blocks z s.words x
+  marks z x above = mark-same s.blocks z s.words set.words x (λ here. ap (λ word. nat_eq (bit_at word ((x - heap_of s.blocks) % 64)) 1)
+      (word-other (first s.blocks z + (x - heap_of s.blocks) / 64) (λ e. omega arith)))
+
+  pub same_heap : SameHeap s (set_block s k v)
   same_heap = record {
-    words = λ i above. word-other i (λ e. let below : k < s.blocks = there in omega arith);
+    words = λ i above. word-other i (λ e. omega arith);
     globals = λ g small. word-other (first s.blocks Globals + g) (λ e. omega arith);
     starts = λ x. marks StartBits x (omega arith);
     pins = λ x. marks PinBits x (omega arith);
+    unlogs = λ x. marks UnlogBits x (omega arith);
   }
 
-  pub unlogs-taken : (x : ℕ) → is_unlogged taken x ≡ is_unlogged s x
-  unlogs-taken x = marks UnlogBits x (omega arith)
+  pub lines-same : (j line : ℕ) → line_marked set j line ≡ line_marked s j line
+  lines-same j line = ap (λ word. nat_eq (bit_at word ((256 * j + line) % 64)) 1)
+      (word-other (first s.blocks LineWords + (256 * j + line) / 64) (λ e. omega arith))
 
-  pub lines-taken : (j line : ℕ) → line_marked taken j line ≡ line_marked s j line
-  lines-taken j line = ap (λ word. nat_eq (bit_at word ((256 * j + line) % 64)) 1)
-      (word-other (first s.blocks LineWords + (256 * j + line) / 64) (λ e. let below : k < s.blocks = there in omega arith))
-
-  pub is-bump : HasKind taken k kinds.Bump
-  is-bump = kind-from taken k kinds.Bump there (ap (λ v. v % 256) block-taken)
-
-  -- a kind other than Bump is an old one, of another block
-  pub kind-before : (j : ℕ) (kind : Kind) → kind_code kind ≢ 1 → HasKind taken j kind → (j ≢ k) × HasKind s j kind
-  kind-before j kind other now =
-      let away : j ≢ k = λ e. other (sym (kind-code taken j kind now) ∙ ap (λ q. block_word taken q % 256) e ∙ ap (λ v. v % 256) block-taken) in
-      (away, kind-from s j kind (kind-within taken j kind now) (ap (λ v. v % 256) (sym (block-other j away)) ∙ kind-code taken j kind now))
-
-  pub kind-kept : (j : ℕ) (kind : Kind) → j ≢ k → HasKind s j kind → HasKind taken j kind
-  kind-kept j kind away now = kind-from taken j kind (kind-within s j kind now) (ap (λ v. v % 256) (block-other j away) ∙ kind-code s j kind now)
-
-  -- no object lies in the block
-  pub away-from : (x i : ℕ) → IsHeld s x → i < size_at s x → block_at s.blocks (x + i) ≢ k
-  away-from x i holds less = (lawful.free k is).empty x (x + i) holds (record { from = omega arith; below = omega arith })
-
-  small-after : (j : ℕ) → IsTrue (has_small s j) → IsTrue (has_small taken j)
-  small-after j small = elim (cases_eq j k) as (λ _. IsTrue (has_small taken j)) [
-    | inl e ↦ subst (λ (q : ℕ). IsTrue (has_small taken q)) (sym e) (has_small-bump taken k is-bump)
-    | inr away ↦ ap (λ v. is_small_code (nat_lt j s.blocks) (v % 256)) (block-other j away) ∙ small
+  pub words-fit : v < 2 ^ 64 → length s.words ≡ row_words s.blocks → ((i : ℕ) → word_at s i < 2 ^ 64) → (i : ℕ) → word_at set i < 2 ^ 64
+  words-fit fits many old i = elim (cases_eq i place) as (λ _. word_at set i < 2 ^ 64) [
+    | inl e ↦ subst (λ (x : ℕ). x < 2 ^ 64) (sym (ap (word_at set) e ∙ block-set many)) fits
+    | inr other ↦ subst (λ (x : ℕ). x < 2 ^ 64) (sym (word-other i other)) (old i)
   ]
 
-  class-other : (j : ℕ) → j ≢ k → class_at taken j ≡ class_at s j
-  class-other j away = ap (λ v. v / 256 % 256) (block-other j away)
+-- A Free block that is clear is taken: its word is now that of a block for small objects.
+module _ (s : HeapState) (order : IsWellFormed s) (k v : ℕ) (is : HasKind s k kinds.Free) (clear : IsClear s k) (fits : v < 2 ^ 64)
+    (small : IsTrue (is_small_code true (v % 256))) where
+  pub there : k < s.blocks
+  there = kind-within s k kinds.Free is
 
-  -- the block of a held object is another
-  pub object-away : (x : ℕ) → IsHeld s x → block_at s.blocks x ≢ k
-  object-away x holds e = away-from x 0 holds (omega arith) (ap (block_at s.blocks) (add-zero x) ∙ e)
+  abbrev w : List ℕ
+  w = set_block s k v
 
-  run-after : (j n : ℕ) → IsRunOfBlocks s j n → IsRunOfBlocks taken j n
-  run-after j n run =
-      let away : j ≢ k = λ e. absurd (not-both kinds.LargeHead (λ same. omega arith) (subst (λ (q : ℕ). HasKind s q kinds.LargeHead) e run.head)) in
-      record {
-        head = kind-kept j kinds.LargeHead away run.head;
-        class = class-other j away ∙ run.class;
-        inside = run.inside;
-        tails = λ i some less. kind-kept (j + i) kinds.LargeTail
-            (λ e. absurd (not-both kinds.LargeTail (λ same. omega arith) (subst (λ (q : ℕ). HasKind s q kinds.LargeTail) e (run.tails i some less))))
-            (run.tails i some less);
-      }
-    where
-      not-both : (kind : Kind) → kind_code kind ≢ 0 → HasKind s k kind → ⊥
-      not-both kind other now = other (one-kind s k kind kinds.Free now is)
+  abbrev taken : HeapState
+  taken = with_words s (set_block s k v)
 
-  lies-after : (x size : ℕ) → block_at s.blocks x ≢ k → Lies s x size → Lies taken x size
-  lies-after x size away lies = record {
-    small = λ small. let old = lies.small small in record {
-      within = old.within;
-      kind = small-after (block_at s.blocks x) old.kind;
-      cell = λ cells. let cell = old.cell (kind-before (block_at s.blocks x) kinds.Cells (λ e. omega arith) cells).1 in
-          let e : class_at taken (block_at s.blocks x) ≡ class_at s (block_at s.blocks x) = class-other (block_at s.blocks x) away in
-          let moved : LiesInCellOf s x size (class_at taken (block_at s.blocks x)) =
-          subst (LiesInCellOf s x size) (sym e) (record { start = cell.start; room = cell.room; within = cell.within }) in
-          record { start = moved.start; room = moved.room; within = moved.within };
+  same : SameHeap s (set_block s k v)
+  same = same_heap s k v there
+
+  block-taken : block_word taken k ≡ v
+  block-taken = block-set s k v there order.row.extent
+
+  kept : (j : ℕ) → j < s.blocks → (HasKind s j kinds.Free → ⊥) → block_word taken j ≡ block_word s j
+  kept j here used = block-other s k v there j (λ e. used (subst (λ (q : ℕ). HasKind s q kinds.Free) (sym e) is))
+
+  -- a block whose kind is not for small objects is another block, and has its old kind
+  pub kind-before : (j : ℕ) (kind : Kind) → is_small_code true (kind_code kind) ≡ false → HasKind taken j kind → (j ≢ k) × HasKind s j kind
+  kind-before j kind plain now =
+      let away : j ≢ k = λ e. true≢false (sym small ∙ ap (is_small_code true) (ap (λ x. x % 256) (sym block-taken) ∙ ap (λ q. block_word taken q % 256) (sym e) ∙ kind-code taken j kind now) ∙ plain) in
+      (away, kind-from s j kind (kind-within taken j kind now) (ap (λ x. x % 256) (sym (block-other s k v there j away)) ∙ kind-code taken j kind now))
+
+  pub order-taken : IsWellFormed taken
+  order-taken = record {
+    row = record {
+      least = order.row.least;
+      most = order.row.most;
+      extent = length-set s.words (first s.blocks BlockWords + k) v ∙ order.row.extent;
+      words = words-fit s k v there fits order.row.extent order.row.words;
+      base = order.row.base;
     };
-    large = λ large. let old = lies.large large in record { start = old.start; run = run-after (block_at s.blocks x) (blocks_for size) old.run };
+    objects = together taken (objects-after s w same (objects-of s order.objects)) (places-after s w same kept plain (places-of s order.objects));
   }
-
-  in_run-after : (j : ℕ) → is_in_run taken j ≡ is_in_run s j
-  in_run-after j = ap (λ f. list_any f (range_with_len 0 j)) (fun_ext covers)
     where
-      covers : (h : ℕ) → (has_kind taken h kinds.LargeHead && nat_lt j (h + class_at taken h)) ≡ (has_kind s h kinds.LargeHead && nat_lt j (h + class_at s h))
-      covers h = elim (cases_eq h k) as (λ _. (has_kind taken h kinds.LargeHead && nat_lt j (h + class_at taken h)) ≡ (has_kind s h kinds.LargeHead && nat_lt j (h + class_at s h))) [
-        | inl e ↦ and_left (has_kind taken h kinds.LargeHead) _ (no-head taken h 1 (ap (λ q. block_word taken q % 256) e ∙ ap (λ v. v % 256) block-taken) (λ same. omega arith))
-            ∙ sym (and_left (has_kind s h kinds.LargeHead) _ (no-head s h 0 (ap (λ q. block_word s q % 256) e ∙ kind-code s k kinds.Free is) (λ same. omega arith)))
-        | inr away ↦ ap (λ v. (nat_lt h s.blocks && nat_eq (v % 256) 6) && nat_lt j (h + v / 256 % 256)) (block-other h away)
+      plain : (j : ℕ) → HasKind s j kinds.Free → (HasKind taken j kinds.LargeHead → ⊥) × (HasKind taken j kinds.LargeTail → ⊥)
+      plain j free = (
+        λ now. let old = (kind-before j kinds.LargeHead refl now).1 in let e = one-kind s j kinds.LargeHead kinds.Free old free in omega arith,
+        λ now. let old = (kind-before j kinds.LargeTail refl now).1 in let e = one-kind s j kinds.LargeTail kinds.Free old free in omega arith,
+      )
+
+  -- no object begins in the block
+  pub object-away : (x : ℕ) → IsHeld s x → block_at s.blocks x ≢ k
+  object-away x holds = clear.empty x x holds (record { from = omega arith; below = omega arith })
+
+  -- no line of the block is touched
+  none-touched : (line : ℕ) → line < 256 → IsTouched s k line → ⊥
+  none-touched line few t = clear.empty t.object t.word t.held t.inside (line-block s k line t.word few t.from t.below)
+
+  pub lines-taken : ((j : ℕ) → LineBitsAreExact s j) → (j : ℕ) → LineBitsAreExact taken j
+  lines-taken old j = record {
+    marked = λ line now few marked. elim (before j now) as (λ _. ∥ IsTouched taken j line ∥₁) [
+      | inl e ↦ absurd (clear.lines line few (subst (λ (q : ℕ). IsTrue (line_marked s q line)) e (sym (lines-same s k v there j line) ∙ marked)))
+      | inr immix ↦ ∥∥₁_map ((old j).marked line immix few (sym (lines-same s k v there j line) ∙ marked)) (touched-after s w same j line)
+    ];
+    touched = λ line now few t. let t' = touched-before s w same j line t in elim (before j now) as (λ _. IsTrue (line_marked taken j line)) [
+      | inl e ↦ absurd (none-touched line few (subst (λ (q : ℕ). IsTouched s q line) e t'))
+      | inr immix ↦ lines-same s k v there j line ∙ (old j).touched line immix few t'
+    ];
+  }
+    where
+      before : (j : ℕ) → HasKind taken j kinds.Immix → (j ≡ k) ⊎ HasKind s j kinds.Immix
+      before j now = elim (cases_eq j k) as (λ _. (j ≡ k) ⊎ HasKind s j kinds.Immix) [
+        | inl e ↦ inl e
+        | inr away ↦ inr (kind-from s j kinds.Immix (kind-within taken j kinds.Immix now) (ap (λ x. x % 256) (sym (block-other s k v there j away)) ∙ kind-code taken j kinds.Immix now))
       ]
 
-  header-after : (x : ℕ) → IsHeld s x → HasHeader s x → HasHeader taken x
-  header-after x holds old =
-      let collector : word_at taken (x + 2) ≡ word_at s (x + 2) = at s (slice_set s.words place 1) same_heap x 2 holds in
-      record {
-        object = record {
-          name = subst IsName (sym (name-same s (slice_set s.words place 1) same_heap x holds)) old.object.name;
-          refs = subst (λ (q : ℕ). q ≤ 1024) (sym (refs-same s (slice_set s.words place 1) same_heap x holds)) old.object.refs;
-          nums = subst (λ (q : ℕ). q ≤ 60000) (sym (nums-same s (slice_set s.words place 1) same_heap x holds)) old.object.nums;
-        };
-        number = subst (λ (v : ℕ). v / 2 ^ 24 ≤ s.number) (sym collector) old.number;
-        target = subst (λ (v : ℕ). 0 < v / 2 ^ 24 → v % 2 ^ 24 ≡ x) (sym collector) old.target;
-      }
+  pub free-taken : ((j : ℕ) → FreeBlockIsClear s j) → (j : ℕ) → FreeBlockIsClear taken j
+  free-taken old j now = clear-after s w same j (λ line few. lines-same s k v there j line) (old j (kind-before j kinds.Free refl now).1)
 
-  pub before : (x : ℕ) → IsHeld taken x → IsHeld s x
-  before = held-before s (slice_set s.words place 1) same_heap
-
-  extent-before : (x i : ℕ) → IsHeld s x → IsInExtent taken x i → IsInExtent s x i
-  extent-before x i holds inside = record { from = inside.from; below = subst (λ (q : ℕ). i < x + q) (size-same s (slice_set s.words place 1) same_heap x holds) inside.below }
-
-  reference-taken : (v : ℕ) → IsReference s v → IsReference taken v
-  reference-taken v reference some = held-after s (slice_set s.words place 1) same_heap v (reference some)
-
-  marks-before : (x : ℕ) → IsTrue (is_start taken x || is_pinned taken x || is_unlogged taken x) → IsTrue (is_start s x || is_pinned s x || is_unlogged s x)
-  marks-before x h =
-      let starts : is_start taken x ≡ is_start s x = marks StartBits x (omega arith) in
-      let pins : is_pinned taken x ≡ is_pinned s x = marks PinBits x (omega arith) in
-      sym (ap (λ t. t || is_pinned taken x || is_unlogged taken x) starts ∙ ap (λ t. is_start s x || t || is_unlogged taken x) pins ∙ ap (λ t. is_start s x || is_pinned s x || t) (unlogs-taken x)) ∙ h
-
-  objects-taken : HasLawfulObjects taken
-  objects-taken = record {
-    headers = λ x holds. header-after x (before x holds) (lawful.order.objects.headers x (before x holds));
-    marks = λ x h. held-after s (slice_set s.words place 1) same_heap x (lawful.order.objects.marks x
-        (sym (ap (λ t. t || is_unlogged taken x) (marks PinBits x (omega arith)) ∙ ap (λ t. is_pinned s x || t) (unlogs-taken x)) ∙ h));
-    lies = λ x holds. let old = before x holds in
-        subst (Lies taken x) (sym (size-same s (slice_set s.words place 1) same_heap x old)) (lies-after x (size_at s x) (object-away x old) (lawful.order.objects.lies x old));
-    apart = λ x y i hx hy ix iy. lawful.order.objects.apart x y i (before x hx) (before y hy) (extent-before x i (before x hx) ix) (extent-before y i (before y hy) iy);
-    heads = λ j now. let old = lawful.order.objects.heads j (kind-before j kinds.LargeHead (λ e. omega arith) now).1 in
-        (held-after s (slice_set s.words place 1) same_heap _ old.0, subst (λ (q : ℕ). 2048 < q) (sym (size-same s (slice_set s.words place 1) same_heap _ old.0)) old.1);
-    tails = λ j now. in_run-after j ∙ lawful.order.objects.tails j (kind-before j kinds.LargeTail (λ e. omega arith) now).1;
-    references = λ x i holds less. let old = before x holds in
-        subst (IsReference taken) (sym (ref-same s (slice_set s.words place 1) same_heap x i old))
-        (reference-taken _ (lawful.order.objects.references x i old (subst (λ (q : ℕ). i < q) (refs-same s (slice_set s.words place 1) same_heap x old) less)));
-    globals = λ g small. subst (IsReference taken) (sym (same_heap.globals g small)) (reference-taken _ (lawful.order.objects.globals g small));
-    names = λ x y hx hy e. lawful.order.objects.names x y (before x hx) (before y hy)
-        (sym (name-same s (slice_set s.words place 1) same_heap x (before x hx)) ∙ e ∙ name-same s (slice_set s.words place 1) same_heap y (before y hy));
-  }
-
-  clear-taken : (j : ℕ) → IsClear s j → IsClear taken j
-  clear-taken j old = record {
-    empty = λ x i holds inside. old.empty x i (before x holds) (extent-before x i (before x holds) inside);
-    lines = λ line small marked. old.lines line small (sym (lines-taken j line) ∙ marked);
-    marks = λ x in_block h. old.marks x in_block (marks-before x h);
-  }
-
-  touched-taken : (j line : ℕ) → IsTouched s j line → IsTouched taken j line
-  touched-taken j line t = record {
-    object = t.object;
-    word = t.word;
-    held = held-after s (slice_set s.words place 1) same_heap t.object t.held;
-    inside = record { from = t.inside.from; below = subst (λ (q : ℕ). t.word < t.object + q) (sym (size-same s (slice_set s.words place 1) same_heap t.object t.held)) t.inside.below };
-    from = t.from;
-    below = t.below;
-  }
-
-  lines-after : (j : ℕ) → AreLinesRight taken j
-  lines-after j = record {
-    marked = λ line now small marked. ∥∥₁_map ((lawful.lines j).marked line (kind-before j kinds.Immix (λ e. omega arith) now).1 small (sym (lines-taken j line) ∙ marked)) (touched-taken j line);
-    touched = λ line now small t. let old = before t.object t.held in lines-taken j line
-        ∙ (lawful.lines j).touched line (kind-before j kinds.Immix (λ e. omega arith) now).1 small
-        (record { object = t.object; word = t.word; held = old; inside = extent-before t.object t.word old t.inside; from = t.from; below = t.below });
-  }
-
-  words-fit : (i : ℕ) → word_at taken i < 2 ^ 64
-  words-fit i = elim (cases_eq i place) as (λ _. word_at taken i < 2 ^ 64) [
-    | inl e ↦ subst (λ (v : ℕ). v < 2 ^ 64) (sym (ap (word_at taken) e ∙ block-taken)) (lit< tt)
-    | inr other ↦ subst (λ (v : ℕ). v < 2 ^ 64) (sym (word-other i other)) (lawful.order.row.words i)
+  -- the invariant of each block's word
+  each-word : (P : ℕ → Type 0) → P v → ((j : ℕ) → j < s.blocks → P (block_word s j)) → (j : ℕ) → j < s.blocks → P (block_word taken j)
+  each-word P new old j here = elim (cases_eq j k) as (λ _. P (block_word taken j)) [
+    | inl e ↦ subst P (sym (ap (block_word taken) e ∙ block-taken)) new
+    | inr away ↦ subst P (sym (block-other s k v there j away)) (old j here)
   ]
 
-  pub lawful-taken : IsLawful taken
-  lawful-taken = record {
-    order = record {
-      row = record { least = lawful.order.row.least; most = lawful.order.row.most; extent = length-set s.words place 1 ∙ lawful.order.row.extent; words = words-fit; base = lawful.order.row.base };
-      objects = objects-taken;
+  pub but_lines-taken : IsTrue (is_block_code v) → v / 65536 ≡ 0 → IsLawfulButLines s → IsLawfulButLines taken
+  but_lines-taken code nobody old = record {
+    order = order-taken;
+    blocks = λ j here. record {
+      code = each-word (λ x. IsTrue (is_block_code x)) code (λ i inside. (old.blocks i inside).code) j here;
+      owner = each-word (λ x. x / 65536 ≡ 0) nobody (λ i inside. (old.blocks i inside).owner) j here;
     };
-    blocks = λ j here. elim (cases_eq j k) as (λ _. IsTrue (is_block_code (block_word taken j))) [
-      | inl e ↦ subst (λ (v : ℕ). IsTrue (is_block_code v)) (sym (ap (block_word taken) e ∙ block-taken)) refl
-      | inr away ↦ subst (λ (v : ℕ). IsTrue (is_block_code v)) (sym (block-other j away)) (lawful.blocks j here)
-    ];
-    owners = λ j here. elim (cases_eq j k) as (λ _. owner_at taken j ≡ 0) [
-      | inl e ↦ ap (λ v. v / 65536) (ap (block_word taken) e ∙ block-taken)
-      | inr away ↦ ap (λ v. v / 65536) (block-other j away) ∙ lawful.owners j here
-    ];
-    free = λ j now. let old = kind-before j kinds.Free (λ e. omega arith) now in clear-taken j (lawful.free j old.1);
-    lines = lines-after;
+    free = free-taken old.free;
   }
 
-  pub models-taken : (ms : List MutatorState) (h : IdealHeap) (set : ℕ → Type 0) → Models s ms h set → Models taken ms h set
-  models-taken ms h set model = models-after s (slice_set s.words place 1) same_heap ms h set model lawful-taken.order
+  pub lawful-taken : IsTrue (is_block_code v) → v / 65536 ≡ 0 → IsLawful s → IsLawful taken
+  lawful-taken code nobody lawful = record { but_lines = but_lines-taken code nobody lawful.but_lines; lines = lines-taken lawful.lines }
+
+  pub models-taken : (ms : List MutatorState) (h : IdealHeap) (set : ℕ → Type 0) → RepresentsOn s ms h set → RepresentsOn taken ms h set
+  models-taken ms h set model = models-after s w same ms h set model order-taken

@@ -5,9 +5,9 @@ use Rattle.std.proofs.Math.Logic.{∥∥₁_map}
 use Rattle.ideal_heap.specs.declared.name.Name.{Name}
 use Rattle.ideal_heap.specs.Ideal.{IdealHeap}
 use Rattle.object_model.specs.Objects.{HeapState, number_at, IsHeld, IsInExtent}
-use Rattle.object_model.specs.Lawful.{IsLawful, IsOrderly, Lies}
-use Rattle.object_model.specs.Graphs.{MutatorState, Points, register_at}
-use Rattle.object_model.specs.Mirrors.{Models}
+use Rattle.object_model.specs.Lawful.{IsLawful, IsWellFormed, Lies}
+use Rattle.object_model.specs.Graphs.{MutatorState, PointsTo, register_at}
+use Rattle.object_model.specs.Agreement.{RepresentsOn}
 
 module _ (s : HeapState) where
   abbrev pub counted : HeapState
@@ -25,17 +25,19 @@ module _ (s : HeapState) where
   lies-counted : (a size : ℕ) → Lies s a size → Lies counted a size
   lies-counted a size lies = record {
     small = λ small. let old = lies.small small in record {
+      address = old.address;
       within = old.within;
       kind = old.kind;
       cell = λ is. let cell = old.cell is in record { start = cell.start; room = cell.room; within = cell.within };
     };
     large = λ large. let old = lies.large large in record {
+      address = old.address;
       start = old.start;
       run = record { head = old.run.head; class = old.run.class; inside = old.run.inside; tails = old.run.tails };
     };
   }
 
-  order-counted : IsOrderly s → IsOrderly counted
+  order-counted : IsWellFormed s → IsWellFormed counted
   order-counted order = let old = order.objects in record {
     row = record { least = order.row.least; most = order.row.most; extent = order.row.extent; words = order.row.words; base = (let below : s.base ≤ s.number = order.row.base in omega arith) };
     objects = record {
@@ -57,13 +59,14 @@ module _ (s : HeapState) where
 
   pub lawful-counted : IsLawful s → IsLawful counted
   lawful-counted lawful = record {
-    order = order-counted lawful.order;
-    blocks = lawful.blocks;
-    owners = lawful.owners;
-    free = λ k is. let clear = lawful.free k is in record {
-      empty = λ a i h inside. clear.empty a i (held-back a h) (inside-back a i inside);
-      lines = clear.lines;
-      marks = clear.marks;
+    but_lines = record {
+      order = order-counted lawful.but_lines.order;
+      blocks = λ k there. let old = lawful.but_lines.blocks k there in record { code = old.code; owner = old.owner };
+      free = λ k is. let clear = lawful.but_lines.free k is in record {
+        empty = λ a i h inside. clear.empty a i (held-back a h) (inside-back a i inside);
+        lines = clear.lines;
+        marks = clear.marks;
+      };
     };
     lines = λ k. record {
       marked = λ line is small marked. ∥∥₁_map ((lawful.lines k).marked line is small marked) (λ t. record {
@@ -85,16 +88,16 @@ module _ (s : HeapState) where
     };
   }
 
-  points-counted : (v : ℕ) (o : Option Name) → Points s v o → Points counted v o
+  points-counted : (v : ℕ) (o : Option Name) → PointsTo s v o → PointsTo counted v o
   points-counted v None p = p
   points-counted v (Some n) p = (p.0, held-counted v p.1, p.2)
 
-  registers-counted : (h : IdealHeap) (ms : List MutatorState) → AllByRecursion (λ m. (d : ℕ) → d < 16 → Points s (register_at m d) (h.registers m.number d)) ms
-      → AllByRecursion (λ m. (d : ℕ) → d < 16 → Points counted (register_at m d) (h.registers m.number d)) ms
+  registers-counted : (h : IdealHeap) (ms : List MutatorState) → AllByRecursion (λ m. (d : ℕ) → d < 16 → PointsTo s (register_at m d) (h.registers m.number d)) ms
+      → AllByRecursion (λ m. (d : ℕ) → d < 16 → PointsTo counted (register_at m d) (h.registers m.number d)) ms
   registers-counted h [] all = tt
   registers-counted h (m ∷ ms) all = (λ d small. points-counted (register_at m d) (h.registers m.number d) (all.0 d small), registers-counted h ms all.1)
 
-  pub models-counted : (ms : List MutatorState) (h : IdealHeap) (set : ℕ → Type 0) → Models s ms h set → Models counted ms h set
+  pub models-counted : (ms : List MutatorState) (h : IdealHeap) (set : ℕ → Type 0) → RepresentsOn s ms h set → RepresentsOn counted ms h set
   models-counted ms h set model = record {
     order = order-counted model.order;
     mutators = model.mutators;

@@ -6,22 +6,23 @@ use Rattle.ideal_heap.specs.declared.reply.Reply.TheVariants as r
 use Rattle.ideal_heap.specs.Ideal.{At, step, record_of, set_record, put_field, field_of}
 use Rattle.ideal_heap.proofs.StepLemmas.{ref-within, putting}
 use Rattle.object_model.specs.Objects.{HeapState, with_words, IsHeld, name_at, refs_at, field_of_word}
-use Rattle.object_model.specs.Lawful.{IsOrderly}
-use Rattle.object_model.specs.Graphs.{MutatorState, Points, register_at}
+use Rattle.object_model.specs.Lawful.{IsWellFormed}
+use Rattle.object_model.specs.Graphs.{MutatorState, PointsTo, register_at}
 use Rattle.object_model.specs.Steps.{IsStep}
 use Rattle.object_model.proofs.FieldStores.{field-set}
-use Rattle.object_model.proofs.Standing.{word-named, nil-word}
+use Rattle.object_model.proofs.References.{held-refers, nil-refers}
+use Rattle.object_model.proofs.Representation.{word-named, nil-word}
 use Rattle.object_model.proofs.StepCases.{outcome, register-points, register-in, register-named, count-fields}
 use Rattle.object_model.proofs.Stores as stores
 use Rattle.object_model.proofs.WordSteps.{word-step}
 
--- the field that a word stands for is that of what it points to
-pub points-field : (s : HeapState) (v : ℕ) (o : Option Name) → Points s v o → field_of o ≡ field_of_word s v
-points-field s v None nil = sym (nil-word s v nil)
-points-field s v (Some n) there = ap (λ k. At k) (sym there.2) ∙ sym (word-named s v (let some : 0 < v = there.0 in omega arith))
+-- the ideal field that a word represents has the name that the word represents
+pub points-field : (s : HeapState) (v : ℕ) (o : Option Name) → PointsTo s v o → field_of o ≡ field_of_word s v
+points-field s v None nil = sym (nil-word s v (nil-refers v nil))
+points-field s v (Some n) there = ap (λ k. At k) (sym there.2) ∙ sym (word-named s v (held-refers s v there.1))
 
--- a field gets what register q holds
-pub put-field : (s : HeapState) (m : MutatorState) (e i q : ℕ) → IsOrderly s → IsHeld s (register_at m e) → e < 16 → q < 16 → register_at m e ≢ 0 → i < refs_at s (register_at m e)
+-- a field gets the value of register q
+pub put-field : (s : HeapState) (m : MutatorState) (e i q : ℕ) → IsWellFormed s → IsHeld s (register_at m e) → e < 16 → q < 16 → register_at m e ≢ 0 → i < refs_at s (register_at m e)
     → IsStep s m (c.Put e i q) r.Done (with_words s (slice_set s.words (register_at m e + 3 + i) (register_at m q))) m
 unfolding step
 put-field s m e i q order held small low some less =

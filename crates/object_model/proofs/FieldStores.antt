@@ -1,24 +1,25 @@
 -- A reference field of an object is set, in the heap and in the ideal heap.
-use Rattle.std.proofs.Common.{◌≡◌, ◌≢◌, sym, ◌∙◌, ap, subst, ℕ, ◌+◌, ◌<◌, inl, inr, arith, List, Some, map, slice_set, add_assoc}
+use Rattle.std.proofs.Common.{◌≡◌, ◌≢◌, sym, ◌∙◌, ap, subst, ℕ, ◌+◌, ◌<◌, inl, inr, arith, IsTrue, List, Some, map, slice_set, add_assoc}
 use Rattle.std.specs.Prelude.{unwrap_or}
 use Rattle.std.specs.List.{range_with_len}
 use Rattle.std.proofs.lemmas.Bool.{cases_eq}
 use Rattle.ideal_heap.specs.Ideal.{IdealHeap, Nil, record_of, set_record, put_field, no_fields, at_name}
 use Rattle.ideal_heap.proofs.UpdateLemmas.{at_name-same, at_name-other}
-use Rattle.object_model.specs.Objects.{HeapState, with_words, word_at, IsHeld, name_at, refs_at, nums_at, size_at, ref_at, num_at, record_at, field_of_word}
-use Rattle.object_model.specs.Lawful.{IsReference}
+use Rattle.object_model.specs.Objects.{HeapState, with_words, word_at, IsHeld, name_at, refs_at, nums_at, size_at, ref_at, num_at, record_at, field_of_word, is_reference}
+use Rattle.object_model.specs.Lawful.{IsRefField, IsRoot}
 use Rattle.object_model.specs.Graphs.{MutatorState}
-use Rattle.object_model.specs.Mirrors.{Models}
-use Rattle.object_model.specs.Changes.{KeepsObjects}
+use Rattle.object_model.specs.Agreement.{RepresentsOn}
+use Rattle.object_model.specs.Changes.{ObjectsStay}
 use Rattle.object_model.proofs.Frames.{refs-after}
-use Rattle.object_model.proofs.GlobalStores.{reference-fits}
+use Rattle.object_model.proofs.GlobalStores.{root-fits}
 use Rattle.object_model.proofs.Numbers.{store-models}
 use Rattle.object_model.proofs.Records.{record-same, record-parts, numbers-same, field-same, number-place, fields_at, numbers_at}
+use Rattle.object_model.proofs.References.{refers-some, root-field}
 use Rattle.object_model.proofs.Stores as stores
 use Rattle.object_model.proofs.Updates.{map-range-set}
 
--- field i of the object at a becomes v, nil or one of the set
-module _ (s : HeapState) (ms : List MutatorState) (h : IdealHeap) (set : ℕ → Type 0) (model : Models s ms h set)
+-- field i of the object at a becomes v, which is nil or in the set
+module _ (s : HeapState) (ms : List MutatorState) (h : IdealHeap) (set : ℕ → Type 0) (model : RepresentsOn s ms h set)
     (a i v : ℕ) (there : set a) (within : i < refs_at s a) (inset : v ≢ 0 → set v) where
   abbrev place : ℕ
   place = 3 + i
@@ -32,10 +33,13 @@ module _ (s : HeapState) (ms : List MutatorState) (h : IdealHeap) (set : ℕ →
   held : IsHeld s a
   held = model.mirrors.held a there
 
-  reference : IsReference s v
-  reference some = model.mirrors.held v (inset some)
+  root : IsRoot s v
+  root some = model.mirrors.held v (inset some)
 
-  keeps : KeepsObjects s put
+  reference : IsRefField s v
+  reference = root-field s v root
+
+  keeps : ObjectsStay s put
   keeps = stores.keeps s model.order a place v held (omega arith) (omega arith)
 
   other-word : (x k : ℕ) → IsHeld s x → k < size_at s x → x ≢ a → word_at put (x + k) ≡ word_at s (x + k)
@@ -51,7 +55,7 @@ module _ (s : HeapState) (ms : List MutatorState) (h : IdealHeap) (set : ℕ →
     | inr other ↦ ap (word_at put) (add_assoc x 3 k) ∙ other-word x (3 + k) holds (omega arith) other ∙ ap (word_at s) (sym (add_assoc x 3 k))
   ]
 
-  -- what holds of the word put there and of every other field holds of each field
+  -- what holds of the new word and of every other field holds of each field
   by-place : (P : ℕ → Type 0) (x k : ℕ) → IsHeld s x → k < refs_at s x → P v → P (ref_at s x k) → P (ref_at put x k)
   by-place P x k holds less own old = elim (cases_eq x a) as (λ _. P (ref_at put x k)) [
     | inl same ↦ elim (cases_eq k i) as (λ _. P (ref_at put x k)) [
@@ -61,7 +65,7 @@ module _ (s : HeapState) (ms : List MutatorState) (h : IdealHeap) (set : ℕ →
     | inr other ↦ subst P (sym (ref-other x k holds less (λ e. absurd (other e)))) old
   ]
 
-  -- every number is as before
+  -- every number is unchanged
   numbers-kept : (x j : ℕ) → IsHeld s x → j < nums_at s x → num_at put x j ≡ num_at s x j
   numbers-kept x j holds less =
       number-place s w keeps x j holds
@@ -90,13 +94,13 @@ module _ (s : HeapState) (ms : List MutatorState) (h : IdealHeap) (set : ℕ →
   other-record : (x : ℕ) → IsHeld s x → x ≢ a → record_at put x ≡ record_at s x
   other-record x holds other = record-same s w keeps x holds (λ k less. field-kept x k holds less (λ same. absurd (other same))) (λ j less. numbers-kept x j holds less)
 
-  pub field-set : Models put ms (set_record h (name_at s a) (put_field (record_of h (name_at s a)) i (field_of_word s v))) set
+  pub field-set : RepresentsOn put ms (set_record h (name_at s a) (put_field (record_of h (name_at s a)) i (field_of_word s v))) set
   field-set = store-models s w keeps ms h set model (name_at s a) (put_field (record_of h (name_at s a)) i (field_of_word s v))
-      (stores.words-fit s model.order a place v held (omega arith) (omega arith) (reference-fits s model.order v reference))
+      (stores.words-fit s model.order a place v held (omega arith) (omega arith) (root-fits s model.order v root))
       (stores.pins-same s model.order a place v held (omega arith) (omega arith))
       (stores.globals-same s model.order a place v held (omega arith) (omega arith))
-      (λ x k holds less. by-place (IsReference s) x k holds less reference (model.order.objects.references x k holds less))
-      (λ x k in_set less. by-place (λ q. q ≢ 0 → set q) x k (model.mirrors.held x in_set) less inset (model.mirrors.fields x k in_set less))
+      (λ x k holds less. by-place (IsRefField s) x k holds less reference (model.order.objects.references x k holds less))
+      (λ x k in_set less. by-place (λ q. IsTrue (is_reference q) → set q) x k (model.mirrors.held x in_set) less (λ is. inset (refers-some v is)) (model.mirrors.fields x k in_set less))
       (λ x in_set. elim (cases_eq x a) as (λ _. at_name h.records (name_at s a) (Some (put_field (record_of h (name_at s a)) i (field_of_word s v))) (name_at s x) ≡ Some (record_at put x)) [
         | inl same ↦ ap (λ y. at_name h.records (name_at s a) (Some (put_field (record_of h (name_at s a)) i (field_of_word s v))) (name_at s y)) same
             ∙ at_name-same h.records (name_at s a) (Some (put_field (record_of h (name_at s a)) i (field_of_word s v)))

@@ -1,28 +1,18 @@
--- A heap whose objects, blocks and bits stay is lawful as before, where references are references and pins stand at objects.
-use Rattle.std.proofs.Common.{◌≡◌, sym, ◌∙◌, ap, subst, ℕ, ◌+◌, ◌/◌, ◌%◌, ◌^◌, ◌<◌, ◌≤◌, inl, inr, arith, false, ◌&&◌, ◌||◌, IsTrue, List, nat_eq, nat_lt, add-zero, ◌↔◌}
-use Rattle.std.specs.List.{range_with_len, list_any}
-use Rattle.std.proofs.Math.Path.{fun_ext}
+-- A heap whose objects, blocks and bits stay is lawful as before, if references refer to objects and only objects are pinned.
+use Rattle.std.proofs.Common.{◌≡◌, sym, ◌∙◌, ap, subst, ℕ, ◌+◌, ◌/◌, ◌%◌, ◌^◌, ◌<◌, ◌≤◌, inl, inr, arith, ◌&&◌, ◌||◌, IsTrue, List, nat_eq, nat_lt, add-zero, ◌↔◌}
 use Rattle.std.proofs.Math.Logic.{∥∥₁_map}
 use Rattle.std.proofs.lemmas.Bool.{cases_lt, and_parts, and_left, le-ltb, ltb-true, or_cases, or_left, or_right}
-use Rattle.heap_layout.specs.Zones.{words_of, heap_of, block_at, offset_at, IsAddress}
+use Rattle.heap_layout.specs.Zones.{IsAddress}
 use Rattle.heap_layout.specs.declared.block.Kind.{Kind}
 use Rattle.heap_layout.specs.declared.block.Kind.TheVariants as kinds
 use Rattle.heap_layout.specs.Blocks.{is_block_code, kind_code}
-use Rattle.object_model.specs.Objects.{HeapState, with_words, word_at, global_at, block_word, has_kind, HasKind, class_at, is_start, is_pinned, is_unlogged, IsHeld, IsInExtent, name_at, refs_at, nums_at, size_at, ref_at, size_of, blocks_for, cell_words}
-use Rattle.object_model.specs.Lawful.{IsLawful, IsOrderly, HasLawfulObjects, HasHeader, Lies, IsRunOfBlocks, IsReference, is_in_run, has_small, IsClear, IsTouched, AreLinesRight}
+use Rattle.object_model.specs.Objects.{HeapState, with_words, word_at, global_at, block_word, has_kind, HasKind, is_start, is_pinned, is_unlogged, IsHeld, IsInExtent, name_at, refs_at, nums_at, size_at, ref_at, size_of}
+use Rattle.object_model.specs.Lawful.{IsLawful, IsWellFormed, HasLawfulObjects, HasHeader, Lies, IsRefField, IsRoot, IsClear, IsTouched, LineBitsAreExact, IsUnowned}
 use Rattle.ideal_heap.specs.Names.{IsName, name_of}
-use Rattle.object_model.specs.Changes.{KeepsObjects}
+use Rattle.object_model.specs.Changes.{ObjectsStay}
+use Rattle.object_model.proofs.UsedBlocks as used
 
--- the object begins with a cell of this class that it fits
-pub record LiesInCellOf (s : HeapState) (a size class : ℕ) : Type 0 where
-  pub start : offset_at s.blocks a % cell_words class ≡ 0
-  pub room : size ≤ cell_words class
-  pub within : offset_at s.blocks a + cell_words class ≤ 4096
-
-beyond : (x : HeapState) (h k : ℕ) → x.blocks ≤ h → (has_kind x h kinds.LargeHead && nat_lt k (h + class_at x h)) ≡ false
-beyond x h k past = and_left (has_kind x h kinds.LargeHead) _ (and_left (nat_lt h x.blocks) _ (le-ltb h x.blocks past))
-
--- block words alone decide kinds and classes
+-- block words alone decide kinds
 module _ (s : HeapState) (w : List ℕ) (same : (k : ℕ) → k < s.blocks → block_word (with_words s w) k ≡ block_word s k) where
   abbrev new : HeapState
   new = with_words s w
@@ -42,48 +32,8 @@ module _ (s : HeapState) (w : List ℕ) (same : (k : ℕ) → k < s.blocks → b
   pub kind-in : (k : ℕ) (kind : Kind) → HasKind s k kind → k < s.blocks
   kind-in k kind is = ltb-true k s.blocks (and_parts (nat_lt k s.blocks) _ is).0
 
-  pub class-same : (k : ℕ) → k < s.blocks → class_at new k ≡ class_at s k
-  class-same k h = ap (λ v. v / 256 % 256) (same k h)
-
-  pub small-same : (k : ℕ) → has_small new k ≡ has_small s k
-  small-same k = ap (λ f. f kinds.Bump || f kinds.Young || f kinds.Mature || f kinds.Immix || f kinds.Cells || f kinds.Kept) (fun_ext (has_kind-same k))
-
-  pub in_run-same : (k : ℕ) → is_in_run new k ≡ is_in_run s k
-  in_run-same k = ap (λ f. list_any f (range_with_len 0 k)) (fun_ext covers)
-    where
-      covers : (h : ℕ) → (has_kind new h kinds.LargeHead && nat_lt k (h + class_at new h)) ≡ (has_kind s h kinds.LargeHead && nat_lt k (h + class_at s h))
-      covers h = elim (cases_lt h s.blocks) as (λ _. (has_kind new h kinds.LargeHead && nat_lt k (h + class_at new h)) ≡ (has_kind s h kinds.LargeHead && nat_lt k (h + class_at s h))) [
-        | inl there ↦ ap (λ v. (nat_lt h s.blocks && nat_eq (v % 256) (kind_code kinds.LargeHead)) && nat_lt k (h + v / 256 % 256)) (same h there)
-        | inr past ↦ beyond new h k past ∙ sym (beyond s h k past)
-      ]
-
-  pub run-from : (k n : ℕ) → IsRunOfBlocks s k n → IsRunOfBlocks new k n
-  run-from k n run = record {
-    head = HasKind-from k kinds.LargeHead run.head;
-    class = class-same k (kind-in k kinds.LargeHead run.head) ∙ run.class;
-    inside = run.inside;
-    tails = λ j some less. HasKind-from (k + j) kinds.LargeTail (run.tails j some less);
-  }
-
-  pub lies-from : (a size : ℕ) → block_at s.blocks a < s.blocks → Lies s a size → Lies new a size
-  lies-from a size there lies = record {
-    small = λ small. let old = lies.small small in record {
-      within = old.within;
-      kind = small-same (block_at s.blocks a) ∙ old.kind;
-      cell = λ is. let cell = old.cell (HasKind-back _ kinds.Cells is) in
-          let e : class_at new (block_at s.blocks a) ≡ class_at s (block_at s.blocks a) = class-same _ there in
-          let P : ℕ → Type 0 = λ class. LiesInCellOf s a size class in
-          let moved : P (class_at new (block_at s.blocks a)) = subst P (sym e) (record { start = cell.start; room = cell.room; within = cell.within }) in
-          record { start = moved.start; room = moved.room; within = moved.within };
-    };
-    large = λ large. let old = lies.large large in record {
-      start = old.start;
-      run = run-from (block_at s.blocks a) (blocks_for size) old.run;
-    };
-  }
-
 -- objects stay
-module _ (s : HeapState) (w : List ℕ) (keeps : KeepsObjects s (with_words s w)) where
+module _ (s : HeapState) (w : List ℕ) (keeps : ObjectsStay s (with_words s w)) where
   abbrev after : HeapState
   after = with_words s w
 
@@ -111,8 +61,11 @@ module _ (s : HeapState) (w : List ℕ) (keeps : KeepsObjects s (with_words s w)
   pub extent-before : (a i : ℕ) → IsHeld s a → IsInExtent after a i → IsInExtent s a i
   extent-before a i h x = record { from = x.from; below = subst (λ (n : ℕ). i < a + n) (size-after a h) x.below }
 
-  pub reference-after : (v : ℕ) → IsReference s v → IsReference after v
-  reference-after v r some = held-after v (r some)
+  pub field-after : (v : ℕ) → IsRefField s v → IsRefField after v
+  field-after v r some = held-after v (r some)
+
+  pub root-after : (v : ℕ) → IsRoot s v → IsRoot after v
+  root-after v r some = held-after v (r some)
 
   header-after : (a : ℕ) → IsHeld s a → HasHeader s a → HasHeader after a
   header-after a h old =
@@ -127,38 +80,35 @@ module _ (s : HeapState) (w : List ℕ) (keeps : KeepsObjects s (with_words s w)
         target = subst (λ (v : ℕ). 0 < v / 2 ^ 24 → v % 2 ^ 24 ≡ a) (sym collector) old.target;
       }
 
-  module _ (order : IsOrderly s) where
-    address-in-block : (a : ℕ) → IsAddress s.blocks a → block_at s.blocks a < s.blocks
-    address-in-block a there = (let from : heap_of s.blocks ≤ a = there.from in let below : a < words_of s.blocks = there.below in omega arith)
-
+  module _ (order : IsWellFormed s) where
     objects-after : ((a : ℕ) → IsTrue (is_pinned after a) → IsHeld s a)
-        → ((a i : ℕ) → IsHeld s a → i < refs_at s a → IsReference s (ref_at after a i))
-        → ((g : ℕ) → g < 16 → IsReference s (global_at after g)) → HasLawfulObjects after
+        → ((a i : ℕ) → IsHeld s a → i < refs_at s a → IsRefField s (ref_at after a i))
+        → ((g : ℕ) → g < 16 → IsRoot s (global_at after g)) → HasLawfulObjects after
     objects-after pins fields globals = let old = order.objects in record {
       headers = λ a h. header-after a (held-before a h) (old.headers a (held-before a h));
       marks = λ a h. elim (or_cases (is_pinned after a) (is_unlogged after a) h) as (λ _. IsHeld after a) [
         | inl p ↦ held-after a (pins a p)
-        | inr u ↦ held-after a (old.marks a (or_right (is_pinned s a) (is_unlogged s a) (sym (keeps.unlogs a) ∙ u)))
+        | inr u ↦ held-after a (old.marks a (or_right (is_pinned s a) (is_unlogged s a) (keeps.unlogs a u)))
       ];
       lies = λ a h. let before = held-before a h in
-          subst (Lies after a) (sym (size-after a before)) (lies-from s w keeps.block_words a (size_at s a) (address-in-block a h.address) (old.lies a before));
+          subst (Lies after a) (sym (size-after a before)) (used.lies-kept s w (λ k there in_use. keeps.block_words k there) a (size_at s a) (old.lies a before));
       apart = λ a x i ha hx ia ix. let ba = held-before a ha in let bx = held-before x hx in
           old.apart a x i ba bx (extent-before a i ba ia) (extent-before x i bx ix);
       heads = λ k is. let before = old.heads k (HasKind-back s w keeps.block_words k kinds.LargeHead is) in
           (held-after _ before.0, subst (λ (n : ℕ). 2048 < n) (sym (size-after _ before.0)) before.1);
-      tails = λ k is. in_run-same s w keeps.block_words k ∙ old.tails k (HasKind-back s w keeps.block_words k kinds.LargeTail is);
+      tails = λ k is. used.in_run-kept s w (λ j there in_use. keeps.block_words j there) k (old.tails k (HasKind-back s w keeps.block_words k kinds.LargeTail is));
       references = λ a i h less. let before = held-before a h in
-          reference-after _ (fields a i before (subst (λ (n : ℕ). i < n) (refs-after a before) less));
-      globals = λ g small. reference-after _ (globals g small);
+          field-after _ (fields a i before (subst (λ (n : ℕ). i < n) (refs-after a before) less));
+      globals = λ g small. root-after _ (globals g small);
       names = λ a x ha hx e. let ba = held-before a ha in let bx = held-before x hx in
           old.names a x ba bx (sym (name-after a ba) ∙ e ∙ name-after x bx);
     }
 
-    -- the row is in order after, too
+    -- the row is well formed afterwards
     pub orderly-after : ((i : ℕ) → word_at after i < 2 ^ 64)
         → ((a : ℕ) → IsTrue (is_pinned after a) → IsHeld s a)
-        → ((a i : ℕ) → IsHeld s a → i < refs_at s a → IsReference s (ref_at after a i))
-        → ((g : ℕ) → g < 16 → IsReference s (global_at after g)) → IsOrderly after
+        → ((a i : ℕ) → IsHeld s a → i < refs_at s a → IsRefField s (ref_at after a i))
+        → ((g : ℕ) → g < 16 → IsRoot s (global_at after g)) → IsWellFormed after
     orderly-after words pins fields globals = record {
       row = record { least = order.row.least; most = order.row.most; extent = keeps.extent ∙ order.row.extent; words = words; base = order.row.base };
       objects = objects-after pins fields globals;
@@ -175,7 +125,7 @@ module _ (s : HeapState) (w : List ℕ) (keeps : KeepsObjects s (with_words s w)
                 | inl start ↦ sym (keeps.starts a) ∙ start
                 | inr pin ↦ (pins a pin).start
               ]))
-          | inr unlog ↦ or_right (is_start s a || is_pinned s a) (is_unlogged s a) (sym (keeps.unlogs a) ∙ unlog)
+          | inr unlog ↦ or_right (is_start s a || is_pinned s a) (is_unlogged s a) (keeps.unlogs a unlog)
         ]);
   }
 
@@ -199,7 +149,7 @@ module _ (s : HeapState) (w : List ℕ) (keeps : KeepsObjects s (with_words s w)
     below = t.below;
   }
 
-  pub lines-after : (k : ℕ) → AreLinesRight s k → AreLinesRight after k
+  pub lines-after : (k : ℕ) → LineBitsAreExact s k → LineBitsAreExact after k
   lines-after k old = record {
     marked = λ line is small marked.
         let before : HasKind s k kinds.Immix = HasKind-back s w keeps.block_words k kinds.Immix is in
@@ -211,33 +161,40 @@ module _ (s : HeapState) (w : List ℕ) (keeps : KeepsObjects s (with_words s w)
         keeps.lines k line there small ∙ old.touched line before small (touched-before k line t);
   }
 
-  -- and where it is in order after, it is lawful if it was
-  lawful-words : IsLawful s → IsOrderly after → IsLawful after
+  unowned-after : (k : ℕ) → k < s.blocks → IsUnowned s k → IsUnowned after k
+  unowned-after k there old = record {
+    code = subst (λ (v : ℕ). IsTrue (is_block_code v)) (sym (keeps.block_words k there)) old.code;
+    owner = ap (λ v. v / 65536) (keeps.block_words k there) ∙ old.owner;
+  }
+
+  -- and if it is well formed afterwards, it is lawful if it was before
+  lawful-words : IsLawful s → IsWellFormed after → IsLawful after
   lawful-words lawful order =
       let pins : (a : ℕ) → IsTrue (is_pinned after a) → IsHeld s a = λ a pin. held-before a (order.objects.marks a (or_left (is_pinned after a) (is_unlogged after a) pin)) in
       record {
-        order = order;
-        blocks = λ k there. subst (λ (v : ℕ). IsTrue (is_block_code v)) (sym (keeps.block_words k there)) (lawful.blocks k there);
-        owners = λ k there. ap (λ v. v / 65536) (keeps.block_words k there) ∙ lawful.owners k there;
-        free = λ k is. let before : HasKind s k kinds.Free = HasKind-back s w keeps.block_words k kinds.Free is in
-            clear-after pins k (kind-in s w keeps.block_words k kinds.Free before) (lawful.free k before);
+        but_lines = record {
+          order = order;
+          blocks = λ k there. unowned-after k there (lawful.but_lines.blocks k there);
+          free = λ k is. let before : HasKind s k kinds.Free = HasKind-back s w keeps.block_words k kinds.Free is in
+              clear-after pins k (kind-in s w keeps.block_words k kinds.Free before) (lawful.but_lines.free k before);
+        };
         lines = λ k. lines-after k (lawful.lines k);
       }
 
--- a heap with the layout and the numbers of another has other words alone
+-- two heaps with the same layout and numbers differ only in their words
 pub same-layout : (s t : HeapState) → t.blocks ≡ s.blocks → t.number ≡ s.number → t.base ≡ s.base → t ≡ with_words s t.words
 same-layout s t blocks number base =
     let at : ℕ → ℕ → ℕ → HeapState = λ x y z. record { words = t.words; blocks = x; number = y; base = z } in
     ap (λ x. at x t.number t.base) blocks ∙ ap (λ y. at s.blocks y t.base) number ∙ ap (λ z. at s.blocks s.number z) base
 
--- where the objects stay and the heap is in order, it is lawful if it was
-pub lawful-kept : (s t : HeapState) → KeepsObjects s t → IsLawful s → IsOrderly t → IsLawful t
+-- if the objects stay and the heap is well formed, it is lawful if it was before
+pub lawful-kept : (s t : HeapState) → ObjectsStay s t → IsLawful s → IsWellFormed t → IsLawful t
 lawful-kept s t keeps lawful order =
     let same : t ≡ with_words s t.words = same-layout s t keeps.blocks keeps.number keeps.base in
-    subst IsLawful (sym same) (lawful-words s t.words (subst (KeepsObjects s) same keeps) lawful (subst IsOrderly same order))
+    subst IsLawful (sym same) (lawful-words s t.words (subst (ObjectsStay s) same keeps) lawful (subst IsWellFormed same order))
 
--- what is held before is held after, and the other way round
-pub held-kept : (s t : HeapState) → KeepsObjects s t → (a : ℕ) → IsHeld s a ↔ IsHeld t a
+-- the same addresses are held before and after
+pub held-kept : (s t : HeapState) → ObjectsStay s t → (a : ℕ) → IsHeld s a ↔ IsHeld t a
 held-kept s t keeps a = (
   λ h. record { address = subst (λ (b : ℕ). IsAddress b a) (sym keeps.blocks) h.address; start = keeps.starts a ∙ h.start },
   λ h. record { address = subst (λ (b : ℕ). IsAddress b a) keeps.blocks h.address; start = sym (keeps.starts a) ∙ h.start },

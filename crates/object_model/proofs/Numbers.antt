@@ -6,49 +6,49 @@ use Rattle.std.proofs.lemmas.Bool.{cases_eq, or_left}
 use Rattle.ideal_heap.specs.declared.name.Name.{Name}
 use Rattle.ideal_heap.specs.Ideal.{IdealHeap, Record, record_of, set_record, put_number, no_fields, at_name}
 use Rattle.ideal_heap.proofs.UpdateLemmas.{at_name-same, at_name-other}
-use Rattle.object_model.specs.Objects.{HeapState, with_words, word_at, is_pinned, is_unlogged, IsHeld, name_at, refs_at, nums_at, size_at, ref_at, num_at, record_at, global_at, field_of_word}
-use Rattle.object_model.specs.Lawful.{IsReference}
-use Rattle.object_model.specs.Graphs.{MutatorState, Points, register_at}
-use Rattle.object_model.specs.Mirrors.{Models}
-use Rattle.object_model.specs.Changes.{KeepsObjects}
+use Rattle.object_model.specs.Objects.{HeapState, with_words, word_at, is_pinned, is_unlogged, IsHeld, name_at, refs_at, nums_at, size_at, ref_at, num_at, record_at, global_at, field_of_word, is_reference}
+use Rattle.object_model.specs.Lawful.{IsRefField, IsRoot}
+use Rattle.object_model.specs.Graphs.{MutatorState, PointsTo, register_at}
+use Rattle.object_model.specs.Agreement.{RepresentsOn}
+use Rattle.object_model.specs.Changes.{ObjectsStay}
 use Rattle.object_model.proofs.Frames.{orderly-after, held-after, held-before, refs-after, nums-after, name-after}
 use Rattle.object_model.proofs.Records.{record-same, record-parts, fields-same, field-same, number-place, fields_at, numbers_at}
 use Rattle.object_model.proofs.Stores as stores
 use Rattle.object_model.proofs.Updates.{map-range-set}
 
--- what a word points to stays
-pub points-after : (s : HeapState) (w : List ℕ) → KeepsObjects s (with_words s w) → (v : ℕ) (o : Option Name) → Points s v o → Points (with_words s w) v o
+-- what a word represents is unchanged
+pub points-after : (s : HeapState) (w : List ℕ) → ObjectsStay s (with_words s w) → (v : ℕ) (o : Option Name) → PointsTo s v o → PointsTo (with_words s w) v o
 points-after s w keeps v None p = p
 points-after s w keeps v (Some n) p = (p.0, held-after s w keeps v p.1, name-after s w keeps v p.1 ∙ p.2)
 
-pub registers-after : (s : HeapState) (w : List ℕ) → KeepsObjects s (with_words s w) → (h : IdealHeap) (ms : List MutatorState)
-    → AllByRecursion (λ m. (d : ℕ) → d < 16 → Points s (register_at m d) (h.registers m.number d)) ms
-    → AllByRecursion (λ m. (d : ℕ) → d < 16 → Points (with_words s w) (register_at m d) (h.registers m.number d)) ms
+pub registers-after : (s : HeapState) (w : List ℕ) → ObjectsStay s (with_words s w) → (h : IdealHeap) (ms : List MutatorState)
+    → AllByRecursion (λ m. (d : ℕ) → d < 16 → PointsTo s (register_at m d) (h.registers m.number d)) ms
+    → AllByRecursion (λ m. (d : ℕ) → d < 16 → PointsTo (with_words s w) (register_at m d) (h.registers m.number d)) ms
 registers-after s w keeps h [] all = tt
 registers-after s w keeps h (m ∷ ms) all = (λ d small. points-after s w keeps (register_at m d) (h.registers m.number d) (all.0 d small), registers-after s w keeps h ms all.1)
 
--- A step that keeps the objects and sets one ideal record keeps the heap standing, where fields stay references,
--- those of the set stay in it, and each object of the set reads as its record.
-module _ (s : HeapState) (w : List ℕ) (keeps : KeepsObjects s (with_words s w)) (ms : List MutatorState) (h : IdealHeap) (set : ℕ → Type 0) (model : Models s ms h set) (n : Name) (r : Record) where
+-- After a step that keeps the objects and sets one ideal record, the heap still represents the ideal heap, if reference
+-- fields stay lawful and in the set, and each object of the set represents its record.
+module _ (s : HeapState) (w : List ℕ) (keeps : ObjectsStay s (with_words s w)) (ms : List MutatorState) (h : IdealHeap) (set : ℕ → Type 0) (model : RepresentsOn s ms h set) (n : Name) (r : Record) where
   abbrev after : HeapState
   after = with_words s w
 
   pub store-models : ((i : ℕ) → word_at after i < 2 ^ 64)
       → ((a : ℕ) → is_pinned after a ≡ is_pinned s a)
       → ((g : ℕ) → g < 16 → global_at after g ≡ global_at s g)
-      → ((a i : ℕ) → IsHeld s a → i < refs_at s a → IsReference s (ref_at after a i))
-      → ((a i : ℕ) → set a → i < refs_at s a → ref_at after a i ≢ 0 → set (ref_at after a i))
+      → ((a i : ℕ) → IsHeld s a → i < refs_at s a → IsRefField s (ref_at after a i))
+      → ((a i : ℕ) → set a → i < refs_at s a → IsTrue (is_reference (ref_at after a i)) → set (ref_at after a i))
       → ((a : ℕ) → set a → at_name h.records n (Some r) (name_at s a) ≡ Some (record_at after a))
-      → Models after ms (set_record h n r) set
+      → RepresentsOn after ms (set_record h n r) set
   store-models words pins globals references closed records = record {
     order = orderly-after s w keeps model.order words
         (λ a pin. model.order.objects.marks a (or_left (is_pinned s a) (is_unlogged s a) (sym (pins a) ∙ pin)))
         references
-        (λ g small. subst (IsReference s) (sym (globals g small)) (model.order.objects.globals g small));
+        (λ g small. subst (IsRoot s) (sym (globals g small)) (model.order.objects.globals g small));
     mutators = model.mutators;
     pointers = record {
       registers = registers-after s w keeps h ms model.pointers.registers;
-      globals = λ g small. subst (λ v. Points after v (h.globals g)) (sym (globals g small)) (points-after s w keeps (global_at s g) (h.globals g) (model.pointers.globals g small));
+      globals = λ g small. subst (λ v. PointsTo after v (h.globals g)) (sym (globals g small)) (points-after s w keeps (global_at s g) (h.globals g) (model.pointers.globals g small));
       confined = record { registers = model.pointers.confined.registers; globals = model.pointers.confined.globals };
     };
     births = record {
@@ -70,7 +70,7 @@ module _ (s : HeapState) (w : List ℕ) (keeps : KeepsObjects s (with_words s w)
   }
 
 -- number j of the object at a becomes n
-module _ (s : HeapState) (ms : List MutatorState) (h : IdealHeap) (set : ℕ → Type 0) (model : Models s ms h set)
+module _ (s : HeapState) (ms : List MutatorState) (h : IdealHeap) (set : ℕ → Type 0) (model : RepresentsOn s ms h set)
     (a j n : ℕ) (there : set a) (within : j < nums_at s a) (fits : n < 2 ^ 64) where
   abbrev place : ℕ
   place = 3 + refs_at s a + j
@@ -81,17 +81,14 @@ module _ (s : HeapState) (ms : List MutatorState) (h : IdealHeap) (set : ℕ →
   held : IsHeld s a
   held = model.mirrors.held a there
 
-  keeps : KeepsObjects s written
+  keeps : ObjectsStay s written
   keeps = stores.keeps s model.order a place n held (omega arith) (omega arith)
 
   other-word : (x i : ℕ) → IsHeld s x → i < size_at s x → x ≢ a → word_at written (x + i) ≡ word_at s (x + i)
   other-word x i holds small other = stores.word-other s model.order a place n held (omega arith) (omega arith) (x + i)
       (stores.apart-from s model.order a place n held (omega arith) (omega arith) x i holds small other)
 
-  own-word : (i : ℕ) → i ≢ place → word_at written (a + i) ≡ word_at s (a + i)
-  own-word i other = stores.word-other s model.order a place n held (omega arith) (omega arith) (a + i) (λ e. other (omega arith))
-
-  -- every reference field is as before
+  -- every reference field is unchanged
   refs-same : (x i : ℕ) → IsHeld s x → i < refs_at s x → ref_at written x i ≡ ref_at s x i
   refs-same x i holds less = elim (cases_eq x a) as (λ _. ref_at written x i ≡ ref_at s x i) [
     | inl same ↦ stores.word-other s model.order a place n held (omega arith) (omega arith) (x + 3 + i)
@@ -135,14 +132,14 @@ module _ (s : HeapState) (ms : List MutatorState) (h : IdealHeap) (set : ℕ →
       ∙ field-same s (slice_set s.words (a + place) n) keeps (ref_at s x i) (model.order.objects.references x i holds less))
       (λ k less. number-other x k holds less (λ same. absurd (other same)))
 
-  pub number-set : Models written ms (set_record h (name_at s a) (put_number (record_of h (name_at s a)) j n)) set
+  pub number-set : RepresentsOn written ms (set_record h (name_at s a) (put_number (record_of h (name_at s a)) j n)) set
   number-set = store-models s (slice_set s.words (a + place) n) keeps ms h set model (name_at s a) (put_number (record_of h (name_at s a)) j n)
       (stores.words-fit s model.order a place n held (omega arith) (omega arith) fits)
       (stores.pins-same s model.order a place n held (omega arith) (omega arith))
       (stores.globals-same s model.order a place n held (omega arith) (omega arith))
-      (λ x i holds less. subst (IsReference s) (sym (refs-same x i holds less)) (model.order.objects.references x i holds less))
+      (λ x i holds less. subst (IsRefField s) (sym (refs-same x i holds less)) (model.order.objects.references x i holds less))
       (λ x i inset less some. let same : ref_at written x i ≡ ref_at s x i = refs-same x i (model.mirrors.held x inset) less in
-      subst set (sym same) (model.mirrors.fields x i inset less (λ nil. some (same ∙ nil))))
+      subst set (sym same) (model.mirrors.fields x i inset less (subst (λ (y : ℕ). IsTrue (is_reference y)) same some)))
       (λ x inset. elim (cases_eq x a) as (λ _. at_name h.records (name_at s a) (Some (put_number (record_of h (name_at s a)) j n)) (name_at s x) ≡ Some (record_at written x)) [
         | inl same ↦ ap (λ y. at_name h.records (name_at s a) (Some (put_number (record_of h (name_at s a)) j n)) (name_at s y)) same
             ∙ at_name-same h.records (name_at s a) (Some (put_number (record_of h (name_at s a)) j n))

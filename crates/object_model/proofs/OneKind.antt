@@ -23,7 +23,7 @@ one-kind s k kind kind' is is' = sym (kind-code s k kind is) ∙ kind-code s k k
 abbrev pub is_small_code : Bool → ℕ → Bool
 is_small_code there code = (there && nat_eq code 1) || (there && nat_eq code 2) || (there && nat_eq code 3) || (there && nat_eq code 4) || (there && nat_eq code 5) || (there && nat_eq code 8)
 
-has_small-code : (s : HeapState) (k : ℕ) (kind : Kind) → HasKind s k kind → has_small s k ≡ is_small_code true (kind_code kind)
+pub has_small-code : (s : HeapState) (k : ℕ) (kind : Kind) → HasKind s k kind → has_small s k ≡ is_small_code true (kind_code kind)
 has_small-code s k kind is =
     ap (λ t. is_small_code t (block_word s k % 256)) (and_parts (nat_lt k s.blocks) _ is).0 ∙ ap (is_small_code true) (kind-code s k kind is)
 

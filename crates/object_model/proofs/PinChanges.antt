@@ -3,16 +3,16 @@ use Rattle.std.proofs.Common.{◌≡◌, ◌≢◌, refl, sym, ◌∙◌, ap, su
 use Rattle.std.specs.Int.{bit_at}
 use Rattle.std.specs.List.{AllByRecursion, Any}
 use Rattle.std.proofs.lemmas.Bool.{cases_eq, or_left}
-use Rattle.heap_layout.specs.Zones.{Zone, StartBits, PinBits, UnlogBits, LineWords, BlockWords, Globals, words_of, heap_of, first, bit_of}
+use Rattle.heap_layout.specs.Zones.{Zone, StartBits, PinBits, UnlogBits, LineWords, BlockWords, Globals, row_words, heap_of, first, bit_of}
 use Rattle.ideal_heap.specs.declared.name.Name.{Name}
 use Rattle.ideal_heap.specs.Names.{name}
 use Rattle.ideal_heap.specs.Ideal.{IdealHeap, set_pinned, at_name}
 use Rattle.ideal_heap.proofs.UpdateLemmas.{at_name-same, at_name-other}
-use Rattle.object_model.specs.Objects.{HeapState, with_words, word_at, global_at, is_pinned, is_unlogged, IsHeld, name_at, refs_at, ref_at, record_at, field_of_word}
-use Rattle.object_model.specs.Lawful.{IsOrderly, IsReference}
-use Rattle.object_model.specs.Graphs.{MutatorState, Points}
-use Rattle.object_model.specs.Mirrors.{Models}
-use Rattle.object_model.specs.Changes.{KeepsObjects, SetsPin}
+use Rattle.object_model.specs.Objects.{HeapState, with_words, word_at, global_at, is_pinned, is_unlogged, IsHeld, name_at, refs_at, ref_at, record_at, field_of_word, is_reference}
+use Rattle.object_model.specs.Lawful.{IsWellFormed, IsRefField, IsRoot}
+use Rattle.object_model.specs.Graphs.{MutatorState, PointsTo}
+use Rattle.object_model.specs.Agreement.{RepresentsOn}
+use Rattle.object_model.specs.Changes.{ObjectsStay, SetsPin}
 use Rattle.object_model.proofs.Among.{one-number}
 use Rattle.object_model.proofs.Marks.{mark-same}
 use Rattle.object_model.proofs.Frames.{orderly-after, held-after, held-before, refs-after, name-after}
@@ -29,7 +29,7 @@ name-cases n k = elim (cases_eq n.mutator k.mutator) as (λ _. (n ≡ k) ⊎ (n 
   | inr other ↦ inr (λ e. other (ap (λ x. x.mutator) e))
 ]
 
--- equal truths are equivalent
+-- equal Booleans are equivalent
 pub iff-both : (p q b : Bool) → p ≡ b → q ≡ b → IsTrue p ↔ IsTrue q
 iff-both p q b left right = (λ is. right ∙ sym left ∙ is, λ is. left ∙ sym right ∙ is)
 
@@ -43,16 +43,16 @@ module _ (s : HeapState) (w : List ℕ) (a : ℕ) (b : Bool) (sets : SetsPin s (
   heap-word : (x i : ℕ) → IsHeld s x → word_at pinned (x + i) ≡ word_at s (x + i)
   heap-word x i holds = sets.rest (x + i) (inr (let from : heap_of s.blocks ≤ x = holds.address.from in omega arith))
 
-  pub keeps : KeepsObjects s pinned
+  pub keeps : ObjectsStay s pinned
   keeps = record {
     blocks = refl;
     number = refl;
     base = refl;
     extent = sets.extent;
     starts = λ x. mark-same s.blocks StartBits s.words w x (λ there. bit-before StartBits (x - heap_of s.blocks)
-        (let from : heap_of s.blocks ≤ x = there.from in let below : x < words_of s.blocks = there.below in omega arith));
-    unlogs = λ x. mark-same s.blocks UnlogBits s.words w x (λ there.
-        ap (λ word. nat_eq (bit_at word ((x - heap_of s.blocks) % 64)) 1) (sets.rest (first s.blocks UnlogBits + (x - heap_of s.blocks) / 64) (inr (omega arith))));
+        (let from : heap_of s.blocks ≤ x = there.from in let below : x < row_words s.blocks = there.below in omega arith));
+    unlogs = λ x set. sym (mark-same s.blocks UnlogBits s.words w x (λ there.
+        ap (λ word. nat_eq (bit_at word ((x - heap_of s.blocks) % 64)) 1) (sets.rest (first s.blocks UnlogBits + (x - heap_of s.blocks) / 64) (inr (omega arith))))) ∙ set;
     lines = λ k line there few. bit-before LineWords (256 * k + line) (omega arith);
     block_words = λ k there. sets.rest (first s.blocks BlockWords + k) (inl (omega arith));
     headers = λ x i holds few. heap-word x i holds;
@@ -61,7 +61,7 @@ module _ (s : HeapState) (w : List ℕ) (a : ℕ) (b : Bool) (sets : SetsPin s (
   pub globals-same : (g : ℕ) → g < 16 → global_at pinned g ≡ global_at s g
   globals-same g few = sets.rest (first s.blocks Globals + g) (inl (omega arith))
 
-  pub pins-held : IsOrderly s → IsHeld s a → (x : ℕ) → IsTrue (is_pinned pinned x) → IsHeld s x
+  pub pins-held : IsWellFormed s → IsHeld s a → (x : ℕ) → IsTrue (is_pinned pinned x) → IsHeld s x
   pins-held order held x pin = elim (cases_eq x a) as (λ _. IsHeld s x) [
     | inl same ↦ subst (IsHeld s) (sym same) held
     | inr other ↦ order.objects.marks x (or_left (is_pinned s x) (is_unlogged s x) (sym (sets.others x other) ∙ pin))
@@ -70,17 +70,17 @@ module _ (s : HeapState) (w : List ℕ) (a : ℕ) (b : Bool) (sets : SetsPin s (
   ref-kept : (x i : ℕ) → IsHeld s x → ref_at pinned x i ≡ ref_at s x i
   ref-kept x i holds = sets.rest (x + 3 + i) (inr (let from : heap_of s.blocks ≤ x = holds.address.from in omega arith))
 
-  record-kept : IsOrderly s → (x : ℕ) → IsHeld s x → record_at pinned x ≡ record_at s x
+  record-kept : IsWellFormed s → (x : ℕ) → IsHeld s x → record_at pinned x ≡ record_at s x
   record-kept order x holds = record-same s w keeps x holds
       (λ i less. ap (field_of_word pinned) (ref-kept x i holds) ∙ field-same s w keeps (ref_at s x i) (order.objects.references x i holds less))
       (λ j less. number-place s w keeps x j holds
       ∙ sets.rest (x + 3 + refs_at s x + j) (inr (let from : heap_of s.blocks ≤ x = holds.address.from in omega arith)))
 
-  module _ (ms : List MutatorState) (h : IdealHeap) (set : ℕ → Type 0) (model : Models s ms h set) (there : set a) where
+  module _ (ms : List MutatorState) (h : IdealHeap) (set : ℕ → Type 0) (model : RepresentsOn s ms h set) (there : set a) where
     held : IsHeld s a
     held = model.mirrors.held a there
 
-    -- a pinned name was pinned, or is that of the object
+    -- a pinned name was pinned before, or is the object's
     pinned-births : (n : Name) → IsTrue (at_name h.pinned (name_at s a) b n) → AllByRecursion (λ m. n.mutator ≡ m.number → n.birth ≤ m.births) ms
     pinned-births n is = elim (name-cases n (name_at s a)) as (λ _. AllByRecursion (λ m. n.mutator ≡ m.number → n.birth ≤ m.births) ms) [
       | inl same ↦ subst (λ (k : Name). AllByRecursion (λ m. k.mutator ≡ m.number → k.birth ≤ m.births) ms) (sym same)
@@ -100,15 +100,15 @@ module _ (s : HeapState) (w : List ℕ) (a : ℕ) (b : Bool) (sets : SetsPin s (
           (λ is. right ∙ old.0 (sym left ∙ is), λ is. left ∙ old.1 (sym right ∙ is))
     ]
 
-    pub pin-models : Models pinned ms (set_pinned h (name_at s a) b) set
+    pub pin-models : RepresentsOn pinned ms (set_pinned h (name_at s a) b) set
     pin-models = record {
       order = orderly-after s w keeps model.order sets.words (pins-held model.order held)
-          (λ x i holds less. subst (IsReference s) (sym (ref-kept x i holds)) (model.order.objects.references x i holds less))
-          (λ g few. subst (IsReference s) (sym (globals-same g few)) (model.order.objects.globals g few));
+          (λ x i holds less. subst (IsRefField s) (sym (ref-kept x i holds)) (model.order.objects.references x i holds less))
+          (λ g few. subst (IsRoot s) (sym (globals-same g few)) (model.order.objects.globals g few));
       mutators = model.mutators;
       pointers = record {
         registers = registers-after s w keeps h ms model.pointers.registers;
-        globals = λ g few. subst (λ v. Points pinned v (h.globals g)) (sym (globals-same g few)) (points-after s w keeps (global_at s g) (h.globals g) (model.pointers.globals g few));
+        globals = λ g few. subst (λ v. PointsTo pinned v (h.globals g)) (sym (globals-same g few)) (points-after s w keeps (global_at s g) (h.globals g) (model.pointers.globals g few));
         confined = record { registers = model.pointers.confined.registers; globals = model.pointers.confined.globals };
       };
       births = record {
@@ -120,7 +120,7 @@ module _ (s : HeapState) (w : List ℕ) (a : ℕ) (b : Bool) (sets : SetsPin s (
       mirrors = record {
         held = λ x inside. held-after s w keeps x (model.mirrors.held x inside);
         fields = λ x i inside less some. let holds = model.mirrors.held x inside in
-            subst set (sym (ref-kept x i holds)) (model.mirrors.fields x i inside (subst (λ (k : ℕ). i < k) (refs-after s w keeps x holds) less) (λ nil. some (ref-kept x i holds ∙ nil)));
+            subst set (sym (ref-kept x i holds)) (model.mirrors.fields x i inside (subst (λ (k : ℕ). i < k) (refs-after s w keeps x holds) less) (subst (λ (y : ℕ). IsTrue (is_reference y)) (ref-kept x i holds) some));
         registers = model.mirrors.registers;
         globals = λ g few some. subst set (sym (globals-same g few)) (model.mirrors.globals g few (λ nil. some (globals-same g few ∙ nil)));
         records = λ x inside. let holds = model.mirrors.held x inside in

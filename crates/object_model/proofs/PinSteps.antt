@@ -11,7 +11,7 @@ use Rattle.ideal_heap.specs.Ideal.{IdealHeap, step, set_pinned}
 use Rattle.ideal_heap.proofs.StepLemmas.{object-some, pinning, unpinning}
 use Rattle.object_model.specs.Objects.{HeapState, with_words, is_pinned, name_at}
 use Rattle.object_model.specs.Graphs.{MutatorState, register_at}
-use Rattle.object_model.specs.Mirrors.{Models}
+use Rattle.object_model.specs.Agreement.{RepresentsOn}
 use Rattle.object_model.specs.Changes.{SetsPin}
 use Rattle.object_model.specs.Steps.{IsStep}
 use Rattle.object_model.proofs.Frames.{same-layout}
@@ -19,16 +19,16 @@ use Rattle.object_model.proofs.PinChanges.{keeps, pin-models}
 use Rattle.object_model.proofs.StepCases.{outcome, register-in, register-named}
 use Rattle.object_model.proofs.WordSteps.{word-step}
 
--- equivalent truths are equal
+-- equivalent Booleans are equal
 pub same-truth : (p q : Bool) → IsTrue p ↔ IsTrue q → p ≡ q
 same-truth true true both = refl
 same-truth true false both = sym (both.0 refl)
 same-truth false true both = both.1 refl
 same-truth false false both = refl
 
--- a step that makes the pin of an object b, whatever it tells
+-- a step that sets the pin of an object to b, with any reply
 pin-step : (s s' : HeapState) (m : MutatorState) (command : Command) (reply : Reply) (e : ℕ) (b : Bool) → e < 16 → register_at m e ≢ 0 → SetsPin s s' (register_at m e) b
-    → ((ms : List MutatorState) (h : IdealHeap) (set : ℕ → Type 0) → Models s ms h set → Contains ms m → step h m.number command ≡ outcome reply (set_pinned h (name_at s (register_at m e)) b))
+    → ((ms : List MutatorState) (h : IdealHeap) (set : ℕ → Type 0) → RepresentsOn s ms h set → Contains ms m → step h m.number command ≡ outcome reply (set_pinned h (name_at s (register_at m e)) b))
     → ((n : Name) → reply ≢ r.New n) → IsStep s m command reply s' m
 pin-step s s' m command reply e b small some sets steps no_birth =
     let a : ℕ = register_at m e in
@@ -40,7 +40,7 @@ pin-step s s' m command reply e b small some sets steps no_birth =
     no_birth)
 
 -- the ideal heap has the pin of the object that a register holds
-pin-read : (s : HeapState) (m : MutatorState) (e : ℕ) → e < 16 → register_at m e ≢ 0 → (ms : List MutatorState) (h : IdealHeap) (set : ℕ → Type 0) → Models s ms h set → Contains ms m
+pin-read : (s : HeapState) (m : MutatorState) (e : ℕ) → e < 16 → register_at m e ≢ 0 → (ms : List MutatorState) (h : IdealHeap) (set : ℕ → Type 0) → RepresentsOn s ms h set → Contains ms m
     → h.pinned (name_at s (register_at m e)) ≡ is_pinned s (register_at m e)
 pin-read s m e small some ms h set model among =
     sym (same-truth (is_pinned s (register_at m e)) (h.pinned (name_at s (register_at m e))) (model.mirrors.pins (register_at m e) (register-in s ms h set model m among e small some)))
@@ -71,7 +71,7 @@ unpin-object s s' m e small some sets =
     ∙ ap (λ p. outcome (if p then r.Yes else r.No) (set_pinned h (name_at s a) false)) (pin-read s m e small some ms h set model among))
     (no-new (is_pinned s a) r.Yes r.No (λ n same. cc) (λ n same. cc))
 
--- the replies, by what the pin was
+-- the replies, by the old pin
 pub pin-yes : (s s' : HeapState) (m : MutatorState) (e : ℕ) → e < 16 → register_at m e ≢ 0 → is_pinned s (register_at m e) ≡ false → SetsPin s s' (register_at m e) true
     → IsStep s m (c.Pin e) r.Yes s' m
 pin-yes s s' m e small some was sets = subst (λ (p : Bool). IsStep s m (c.Pin e) (if p then r.No else r.Yes) s' m) was (pin-object s s' m e small some sets)

@@ -1,13 +1,13 @@
--- The record read at an address is the same where its fields and numbers are.
+-- The record at an address is unchanged if its fields and numbers are.
 use Rattle.std.proofs.Common.{◌≡◌, sym, ◌∙◌, ap, ℕ, ◌+◌, ◌<◌, inl, inr, List, map}
 use Rattle.std.specs.List.{range_with_len}
-use Rattle.std.proofs.lemmas.Bool.{cases_eq}
 use Rattle.ideal_heap.specs.Ideal.{Record, Field, Nil, At}
 use Rattle.object_model.specs.Objects.{HeapState, with_words, word_at, IsHeld, refs_at, nums_at, ref_at, num_at, record_at, field_of_word}
-use Rattle.object_model.specs.Lawful.{IsReference}
-use Rattle.object_model.specs.Changes.{KeepsObjects}
+use Rattle.object_model.specs.Lawful.{IsRefField}
+use Rattle.object_model.specs.Changes.{ObjectsStay}
 use Rattle.object_model.proofs.Frames.{refs-after, nums-after, name-after}
-use Rattle.object_model.proofs.Standing.{word-named, nil-word}
+use Rattle.object_model.proofs.Representation.{word-named, nil-word}
+use Rattle.object_model.proofs.References.{refers-cases}
 use Rattle.object_model.proofs.Updates.{map-range-same}
 
 abbrev pub made_record : List Field → List ℕ → Record
@@ -22,12 +22,12 @@ fields_at s a = map (λ i. field_of_word s (ref_at s a i)) (range_with_len 0 (re
 abbrev pub numbers_at : HeapState → ℕ → List ℕ
 numbers_at s a = map (λ j. num_at s a j) (range_with_len 0 (nums_at s a))
 
-module _ (s : HeapState) (w : List ℕ) (keeps : KeepsObjects s (with_words s w)) where
+module _ (s : HeapState) (w : List ℕ) (keeps : ObjectsStay s (with_words s w)) where
   abbrev after : HeapState
   after = with_words s w
 
-  pub field-same : (v : ℕ) → IsReference s v → field_of_word after v ≡ field_of_word s v
-  field-same v reference = elim (cases_eq v 0) as (λ _. field_of_word after v ≡ field_of_word s v) [
+  pub field-same : (v : ℕ) → IsRefField s v → field_of_word after v ≡ field_of_word s v
+  field-same v reference = elim (refers-cases v) as (λ _. field_of_word after v ≡ field_of_word s v) [
     | inl nil ↦ nil-word after v nil ∙ sym (nil-word s v nil)
     | inr some ↦ word-named after v some ∙ ap (λ n. At n) (name-after s w keeps v (reference some)) ∙ sym (word-named s v some)
   ]
@@ -46,6 +46,6 @@ module _ (s : HeapState) (w : List ℕ) (keeps : KeepsObjects s (with_words s w)
       → ((j : ℕ) → j < nums_at s a → num_at after a j ≡ num_at s a j) → record_at after a ≡ record_at s a
   record-same a held refs nums = record-parts (fields_at after a) (fields_at s a) (numbers_at after a) (numbers_at s a) (fields-same a held refs) (numbers-same a held nums)
 
-  -- the number's place, by the old shape
+  -- the number's index, by the old shape
   pub number-place : (a j : ℕ) → IsHeld s a → num_at after a j ≡ word_at after (a + 3 + refs_at s a + j)
   number-place a j held = ap (λ n. word_at after (a + 3 + n + j)) (refs-after s w keeps a held)

@@ -1,4 +1,4 @@
--- The steps that tell `null` and `range`, and change nothing.
+-- The steps that reply `null` and `range`, and change nothing.
 use Rattle.std.proofs.Common.{◌≡◌, ◌≢◌, ℕ, ◌<◌, ◌≤◌, arith, length}
 use Rattle.ideal_heap.specs.declared.command.Command.TheVariants as c
 use Rattle.ideal_heap.specs.declared.reply.Reply.TheVariants as r

@@ -8,11 +8,11 @@ use Rattle.ideal_heap.specs.declared.name.Name.{Name}
 use Rattle.ideal_heap.specs.Ideal.{IdealHeap, IsConfined, at_number, set_register}
 use Rattle.ideal_heap.proofs.UpdateLemmas.{at_number-other}
 use Rattle.object_model.specs.Objects.{HeapState, name_at}
-use Rattle.object_model.specs.Graphs.{MutatorState, IsMutatorState, AreDifferent, Points, numbers_of, register_at, with_register, set_register_of}
-use Rattle.object_model.specs.Mirrors.{Models}
+use Rattle.object_model.specs.Graphs.{MutatorState, IsMutatorState, AreDifferent, PointsTo, numbers_of, register_at, with_register, set_register_of}
+use Rattle.object_model.specs.Agreement.{RepresentsOn}
 use Rattle.object_model.proofs.Updates.{at_number-same}
 
--- what holds of each element holds of what is made of it
+-- if P of each x implies Q of f x, P of each element implies Q of each element of the mapped list
 pub all-map : {X Y : Type 0} (P : X → Type 0) (Q : Y → Type 0) (f : X → Y) → ((x : X) → P x → Q (f x)) → (xs : List X) → AllByRecursion P xs → AllByRecursion Q (map f xs)
 all-map P Q f each [] all = tt
 all-map P Q f each (x ∷ xs) all = (each x all.0, all-map P Q f each xs all.1)
@@ -46,7 +46,7 @@ module _ (m : ℕ) (f : MutatorState → MutatorState) where
   pub changed-no : (x : MutatorState) → x.number ≢ m → changed x ≡ x
   changed-no x other = cond-false (nat_eq x.number m) (f x) x (ne_eqb x.number m other)
 
-  -- what f leaves stays
+  -- what f leaves unchanged in each mutator is unchanged
   pub changed-keeps : {Y : Type 0} (g : MutatorState → Y) → ((x : MutatorState) → g (f x) ≡ g x) → (x : MutatorState) → g (changed x) ≡ g x
   changed-keeps g same x = elim (cases_eq x.number m) as (λ _. g (changed x) ≡ g x) [
     | inl e ↦ ap g (changed-yes x e) ∙ same x
@@ -69,8 +69,8 @@ module _ (m : ℕ) (f : MutatorState → MutatorState) where
   pub numbers-changed : ((x : MutatorState) → (f x).number ≡ x.number) → (ms : List MutatorState) → numbers_of (map changed ms) ≡ numbers_of ms
   numbers-changed same ms = map-kept (λ x. x.number) changed (changed-keeps (λ x. x.number) same) ms
 
-module _ (s : HeapState) (ms : List MutatorState) (h : IdealHeap) (set : ℕ → Type 0) (model : Models s ms h set)
-    (m d v : ℕ) (o : Option Name) (small : d < 16) (known : Contains (numbers_of ms) m) (points : Points s v o) (inset : v ≢ 0 → set v) where
+module _ (s : HeapState) (ms : List MutatorState) (h : IdealHeap) (set : ℕ → Type 0) (model : RepresentsOn s ms h set)
+    (m d v : ℕ) (o : Option Name) (small : d < 16) (known : Contains (numbers_of ms) m) (points : PointsTo s v o) (inset : v ≢ 0 → set v) where
   abbrev turned : MutatorState → MutatorState
   turned x = with_register x d v
 
@@ -99,7 +99,7 @@ module _ (s : HeapState) (ms : List MutatorState) (h : IdealHeap) (set : ℕ →
     | inr differ ↦ ap (λ f. f e) (at_number-other h.registers m (at_number (h.registers m) d o) k differ)
   ]
 
-  -- the place is the one that is set, or another
+  -- the register is the one that is set, or another
   at-place : (k e : ℕ) → ((k ≡ m) × (e ≡ d)) ⊎ (k ≡ m → e ≢ d)
   at-place k e = elim (cases_eq k m) as (λ _. ((k ≡ m) × (e ≡ d)) ⊎ (k ≡ m → e ≢ d)) [
     | inl same ↦ elim (cases_eq e d) as (λ _. ((k ≡ m) × (e ≡ d)) ⊎ (k ≡ m → e ≢ d)) [ inl at ↦ inl (same, at) | inr other ↦ inr (λ _. other) ]
@@ -109,15 +109,15 @@ module _ (s : HeapState) (ms : List MutatorState) (h : IdealHeap) (set : ℕ →
   number-kept : (x : MutatorState) → (changed m turned x).number ≡ x.number
   number-kept x = changed-keeps m turned (λ y. y.number) (λ y. refl) x
 
-  points-each : (x : MutatorState) → IsMutatorState x × ((e : ℕ) → e < 16 → Points s (register_at x e) (h.registers x.number e))
-      → (e : ℕ) → e < 16 → Points s (register_at (changed m turned x) e) (after_heap.registers (changed m turned x).number e)
+  points-each : (x : MutatorState) → IsMutatorState x × ((e : ℕ) → e < 16 → PointsTo s (register_at x e) (h.registers x.number e))
+      → (e : ℕ) → e < 16 → PointsTo s (register_at (changed m turned x) e) (after_heap.registers (changed m turned x).number e)
   points-each x facts e few =
-      subst (λ (k : ℕ). Points s (register_at (changed m turned x) e) (after_heap.registers k e)) (sym (number-kept x))
-      (elim (at-place x.number e) as (λ _. Points s (register_at (changed m turned x) e) (after_heap.registers x.number e)) [
-        | inl here ↦ subst (λ (w : ℕ). Points s w (after_heap.registers x.number e)) (sym (ap (register_at (changed m turned x)) here.1 ∙ register-set x facts.0.registers here.0))
-            (subst (Points s v) (sym (ideal-set x.number e here.0 here.1)) points)
-        | inr other ↦ subst (λ (w : ℕ). Points s w (after_heap.registers x.number e)) (sym (register-kept x e other))
-            (subst (Points s (register_at x e)) (sym (ideal-kept x.number e other)) (facts.1 e few))
+      subst (λ (k : ℕ). PointsTo s (register_at (changed m turned x) e) (after_heap.registers k e)) (sym (number-kept x))
+      (elim (at-place x.number e) as (λ _. PointsTo s (register_at (changed m turned x) e) (after_heap.registers x.number e)) [
+        | inl here ↦ subst (λ (w : ℕ). PointsTo s w (after_heap.registers x.number e)) (sym (ap (register_at (changed m turned x)) here.1 ∙ register-set x facts.0.registers here.0))
+            (subst (PointsTo s v) (sym (ideal-set x.number e here.0 here.1)) points)
+        | inr other ↦ subst (λ (w : ℕ). PointsTo s w (after_heap.registers x.number e)) (sym (register-kept x e other))
+            (subst (PointsTo s (register_at x e)) (sym (ideal-kept x.number e other)) (facts.1 e few))
       ])
 
   in-set-each : (x : MutatorState) → IsMutatorState x × ((e : ℕ) → e < 16 → register_at x e ≢ 0 → set (register_at x e))
@@ -140,7 +140,7 @@ module _ (s : HeapState) (ms : List MutatorState) (h : IdealHeap) (set : ℕ →
     globals = model.pointers.confined.globals;
   }
 
-  pub register-models : Models s after after_heap set
+  pub register-models : RepresentsOn s after after_heap set
   register-models = record {
     order = model.order;
     mutators = record {
@@ -149,9 +149,9 @@ module _ (s : HeapState) (ms : List MutatorState) (h : IdealHeap) (set : ℕ →
       differ = subst AreDifferent (sym (numbers-changed m turned (λ x. refl) ms)) model.mutators.differ;
     };
     pointers = record {
-      registers = all-map (λ x. IsMutatorState x × ((e : ℕ) → e < 16 → Points s (register_at x e) (h.registers x.number e)))
-          (λ x. (e : ℕ) → e < 16 → Points s (register_at x e) (after_heap.registers x.number e)) (changed m turned) points-each ms
-          (all-both IsMutatorState (λ x. (e : ℕ) → e < 16 → Points s (register_at x e) (h.registers x.number e)) ms model.mutators.each model.pointers.registers);
+      registers = all-map (λ x. IsMutatorState x × ((e : ℕ) → e < 16 → PointsTo s (register_at x e) (h.registers x.number e)))
+          (λ x. (e : ℕ) → e < 16 → PointsTo s (register_at x e) (after_heap.registers x.number e)) (changed m turned) points-each ms
+          (all-both IsMutatorState (λ x. (e : ℕ) → e < 16 → PointsTo s (register_at x e) (h.registers x.number e)) ms model.mutators.each model.pointers.registers);
       globals = model.pointers.globals;
       confined = confined-after;
     };

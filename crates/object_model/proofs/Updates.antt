@@ -16,7 +16,7 @@ map-range-same d f g n same =
     (λ i within. let below : i < n = (let e : length (map f (range_with_len 0 n)) ≡ n = length-map-range_with_len f 0 n in omega arith) in
     get_or-map-range_with_len f 0 n i i d below (zero-add i) ∙ same i below ∙ sym (get_or-map-range_with_len g 0 n i i d below (zero-add i)))
 
--- and where they differ at j alone, one is the other with that element set
+-- and if they differ at j alone, one list is the other with that element set
 pub map-range-set : {X : Type 0} (d : X) (f g : ℕ → X) (n j : ℕ) → j < n → ((i : ℕ) → i ≢ j → i < n → f i ≡ g i)
     → map f (range_with_len 0 n) ≡ slice_set (map g (range_with_len 0 n)) j (f j)
 map-range-set d f g n j small others =

@@ -1,4 +1,4 @@
--- An object's words and then its start bit were written.
+-- An object's words are written, then its start bit.
 use Rattle.std.proofs.Common.{◌≡◌, ◌≢◌, refl, ◌∙◌, ap, ℕ, ◌+◌, ◌-◌, ◌/◌, ◌%◌, ◌^◌, ◌<◌, ◌≤◌, ◌⊎◌, inl, arith, nat_eq, IsTrue, List, length, slice_index}
 use Rattle.std.specs.Int.{bit_at}
 use Rattle.heap_layout.specs.Zones.{heap_of, first, StartBits, IsAddress}
@@ -8,7 +8,7 @@ use Rattle.object_model.specs.Objects.{HeapState, with_words, size_of, shape_cod
 use Rattle.object_model.specs.Changes.{WritesObject}
 use Rattle.object_model.proofs.BitLemmas.{has_bit, ChangesBit, other_bit}
 
--- name, shape and zeros stand at a, and other words are as before
+-- name, shape and zeros are at a, and other words are unchanged
 pub record HasWords (old new : List ℕ) (a : ℕ) (n : Name) (refs nums : ℕ) : Type 0 where
   pub len : length new ≡ length old
   pub name : slice_index new a ≡ name_code n

@@ -7,7 +7,7 @@ use Rattle.std.proofs.Math.Seq.{get_or-append_right}
 use Rattle.std.proofs.lemmas.Bool.{cases_lt, and_parts, or_cases, eqb-true}
 use Rattle.std.proofs.Math.Nat.{zero-div, zero-mod}
 use Rattle.std.specs.Int.{bit_at}
-use Rattle.heap_layout.specs.Zones.{Zone, StartBits, PinBits, UnlogBits, LineWords, words_of, first, bit_of, mark_of}
+use Rattle.heap_layout.specs.Zones.{Zone, StartBits, PinBits, UnlogBits, LineWords, row_words, first, bit_of, address_bit}
 use Rattle.heap_layout.specs.Blocks.{is_block_code, kind_code}
 use Rattle.heap_layout.specs.declared.block.Kind.{Kind}
 use Rattle.heap_layout.specs.declared.block.Kind.TheVariants as kinds
@@ -18,8 +18,8 @@ use Rattle.ideal_heap.specs.Reach.{Reaches, from_register, from_global, from_fie
 use Rattle.object_model.specs.Objects.{HeapState, empty_heap, word_at, global_at, block_word, is_start, is_pinned, is_unlogged, IsHeld, HasKind}
 use Rattle.object_model.specs.Lawful.{IsLawful}
 use Rattle.object_model.specs.Graphs as graphs
-use Rattle.object_model.specs.Graphs.{Stands, Arrives, MutatorState, IsMutatorState, AreDifferent, beginner, numbers_of, roots_of, register_at, Points}
-use Rattle.object_model.specs.Mirrors.{Models}
+use Rattle.object_model.specs.Graphs.{Represents, IsReachable, MutatorState, IsMutatorState, AreDifferent, new_mutator, numbers_of, roots_of, register_at, PointsTo}
+use Rattle.object_model.specs.Agreement.{RepresentsOn}
 
 abbrev pub zeros : ℕ → HeapState
 zeros b = empty_heap b
@@ -31,7 +31,7 @@ zero_of n i = elim (cases_lt i n) as (λ _. slice_index (replicate n 0) i ≡ 0)
 ]
 
 pub zero_word : (b i : ℕ) → word_at (zeros b) i ≡ 0
-zero_word b i = zero_of (words_of b) i
+zero_word b i = zero_of (row_words b) i
 
 no_bit : (n k : ℕ) → n ≡ 0 → IsTrue (nat_eq (bit_at n k) 1) → ⊥
 no_bit n k e h =
@@ -43,7 +43,7 @@ no_bit n k e h =
 no_bit_of : (b : ℕ) (z : Zone) (n : ℕ) → IsTrue (bit_of b z (zeros b).words n) → ⊥
 no_bit_of b z n h = no_bit _ (n % 64) (zero_word b (first b z + n / 64)) h
 
-no_mark : (b : ℕ) (z : Zone) (a : ℕ) → IsTrue (mark_of b z (zeros b).words a) → ⊥
+no_mark : (b : ℕ) (z : Zone) (a : ℕ) → IsTrue (address_bit b z (zeros b).words a) → ⊥
 no_mark b z a h = no_bit_of b z _ (bit_from_mark b z (zeros b).words a h)
 
 pub none_held : (b a : ℕ) → IsHeld (zeros b) a → ⊥
@@ -72,32 +72,36 @@ not_kind b k kind h is =
 
 pub lawful : (b : ℕ) → 4 ≤ b → b ≤ 1024 → IsLawful (zeros b)
 lawful b least most = record {
-  order = record {
-    row = record {
-      least = least;
-      most = most;
-      extent = length-replicate (words_of b) 0;
-      words = λ i. let zero : word_at (zeros b) i ≡ 0 = zero_word b i in let P : ℕ → Type 0 = λ x. x < 2 ^ 64 in subst P (sym zero) (lit< tt);
-      base = omega arith;
+  but_lines = record {
+    order = record {
+      row = record {
+        least = least;
+        most = most;
+        extent = length-replicate (row_words b) 0;
+        words = λ i. let zero : word_at (zeros b) i ≡ 0 = zero_word b i in let P : ℕ → Type 0 = λ x. x < 2 ^ 64 in subst P (sym zero) (lit< tt);
+        base = omega arith;
+      };
+      objects = record {
+        headers = λ a held. absurd (none_held b a held);
+        marks = λ a h. absurd (either_mark b a h);
+        lies = λ a held. absurd (none_held b a held);
+        apart = λ a x i held. absurd (none_held b a held);
+        heads = λ k is. absurd (not_kind b k kinds.LargeHead (lit< tt) is);
+        tails = λ k is. absurd (not_kind b k kinds.LargeTail (lit< tt) is);
+        references = λ a i held. absurd (none_held b a held);
+        globals = λ g small some. absurd (some (zero_word b _));
+        names = λ a x held. absurd (none_held b a held);
+      };
     };
-    objects = record {
-      headers = λ a held. absurd (none_held b a held);
-      marks = λ a h. absurd (either_mark b a h);
-      lies = λ a held. absurd (none_held b a held);
-      apart = λ a x i held. absurd (none_held b a held);
-      heads = λ k is. absurd (not_kind b k kinds.LargeHead (lit< tt) is);
-      tails = λ k is. absurd (not_kind b k kinds.LargeTail (lit< tt) is);
-      references = λ a i held. absurd (none_held b a held);
-      globals = λ g small some. absurd (some (zero_word b _));
-      names = λ a x held. absurd (none_held b a held);
+    blocks = λ k in_row. record {
+      code = let P : ℕ → Type 0 = λ v. IsTrue (is_block_code v) in subst P (sym (is_free b k)) refl;
+      owner = ap (λ x. x / 65536) (is_free b k) ∙ zero-div 65536;
     };
-  };
-  blocks = λ k in_row. let P : ℕ → Type 0 = λ v. IsTrue (is_block_code v) in subst P (sym (is_free b k)) refl;
-  owners = λ k in_row. ap (λ x. x / 65536) (is_free b k) ∙ zero-div 65536;
-  free = λ k is. record {
-    empty = λ a i held. absurd (none_held b a held);
-    lines = λ line small marked. no_bit_of b LineWords _ marked;
-    marks = λ a there h. any_mark b a h;
+    free = λ k is. record {
+      empty = λ a i held. absurd (none_held b a held);
+      lines = λ line small marked. no_bit_of b LineWords _ marked;
+      marks = λ a there h. any_mark b a h;
+    };
   };
   lines = λ k. record {
     marked = λ line is. absurd (not_kind b k kinds.Immix (lit< tt) is);
@@ -106,7 +110,7 @@ lawful b least most = record {
 }
 
 abbrev pub beginners : List ℕ → List MutatorState
-beginners numbers = map beginner numbers
+beginners numbers = map new_mutator numbers
 
 abbrev nils : List ℕ
 nils = replicate 16 0
@@ -118,7 +122,7 @@ nil_root (m ∷ ms) i = elim (cases_lt i (length nils)) as (λ _. slice_index (n
   | inr h ↦ get_or-append_right nils (roots_of (beginners ms)) i 0 h ∙ nil_root ms (i - length nils)
 ]
 
-nothing_arrives : (b : ℕ) (ms : List ℕ) (a : ℕ) → Arrives (zeros b) (roots_of (beginners ms)) a → ⊥
+nothing_arrives : (b : ℕ) (ms : List ℕ) (a : ℕ) → IsReachable (zeros b) (roots_of (beginners ms)) a → ⊥
 nothing_arrives b ms a (graphs.from_root i e some) = let z : slice_index (roots_of (beginners ms)) i ≡ 0 = nil_root ms i in omega arith
 nothing_arrives b ms a (graphs.from_global g small e some) = let z : global_at (zeros b) g ≡ 0 = zero_word b _ in omega arith
 nothing_arrives b ms a (graphs.from_field x i there small e some) = nothing_arrives b ms x there
@@ -139,7 +143,7 @@ each : (ms : List ℕ) → AllByRecursion (λ m. (1 ≤ m) × (m ≤ 16)) ms →
 each [] h = tt
 each (m ∷ ms) h = (record { least = h.0.0; most = h.0.1; registers = length-replicate {A = ℕ} 16 0 }, each ms h.1)
 
-nil_registers : (b : ℕ) (ms : List ℕ) → AllByRecursion (λ m. (d : ℕ) → d < 16 → Points (zeros b) (register_at m d) (empty.registers m.number d)) (beginners ms)
+nil_registers : (b : ℕ) (ms : List ℕ) → AllByRecursion (λ m. (d : ℕ) → d < 16 → PointsTo (zeros b) (register_at m d) (empty.registers m.number d)) (beginners ms)
 nil_registers b [] = tt
 nil_registers b (m ∷ ms) = (λ d small. zero_of 16 d, nil_registers b ms)
 
@@ -147,8 +151,8 @@ no_births : (ms : List ℕ) → AllByRecursion (λ m. empty.births m.number ≡ 
 no_births [] = tt
 no_births (m ∷ ms) = (refl, no_births ms)
 
-pub stands : (b : ℕ) (ms : List ℕ) → AllByRecursion (λ m. (1 ≤ m) × (m ≤ 16)) ms → AreDifferent ms → Stands (zeros b) (beginners ms) empty
-stands b ms small differ = record {
+pub represents : (b : ℕ) (ms : List ℕ) → AllByRecursion (λ m. (1 ≤ m) × (m ≤ 16)) ms → AreDifferent ms → Represents (zeros b) (beginners ms) empty
+represents b ms small differ = record {
   mutators = record {
     each = each ms small;
     differ = let P : List ℕ → Type 0 = AreDifferent in subst P (sym (numbers-beginners ms)) differ;
@@ -168,12 +172,12 @@ stands b ms small differ = record {
   pins = λ a arrives. absurd (nothing_arrives b ms a arrives);
 }
 
--- no object is held, so the empty heap mirrors the empty ideal heap
-pub models : (b : ℕ) → 4 ≤ b → b ≤ 1024 → (ms : List ℕ) → AllByRecursion (λ m. (1 ≤ m) × (m ≤ 16)) ms → AreDifferent ms → Models (zeros b) (beginners ms) empty (IsHeld (zeros b))
+-- no object is held, so the empty heap represents the empty ideal heap on that set
+pub models : (b : ℕ) → 4 ≤ b → b ≤ 1024 → (ms : List ℕ) → AllByRecursion (λ m. (1 ≤ m) × (m ≤ 16)) ms → AreDifferent ms → RepresentsOn (zeros b) (beginners ms) empty (IsHeld (zeros b))
 models b least most ms small differ =
-    let standing = stands b ms small differ in
+    let standing = represents b ms small differ in
     record {
-      order = (lawful b least most).order;
+      order = (lawful b least most).but_lines.order;
       mutators = standing.mutators;
       pointers = standing.pointers;
       births = standing.births;

@@ -1,4 +1,4 @@
--- A heap, as the definitions see it.
+-- The state of a `Heap`.
 use Rattle.object_model.specs.declared.heap.Heap.{Heap}
 use Rattle.object_model.specs.Objects.{HeapState, state_of}
 

@@ -1,7 +1,14 @@
 pub mod Objects
 pub mod Lawful
 pub mod Graphs
+pub mod Ages
+pub mod Preserving
 pub mod Changes
-pub mod Mirrors
+pub mod Agreement
 pub mod Heaps
 pub mod Steps
+pub mod Births
+pub mod WorkedHeaps
+pub mod AddressSets
+pub mod Places
+pub mod Walks

@@ -1,17 +1,18 @@
+//! A lawful heap.
+
 ghost use Rattle.object_model.specs.Lawful.{IsLawful};
 ghost use Rattle.object_model.specs.Objects.{state_of};
 
-use crate::marking::mark_spec;
+use crate::bits::is_held;
 use crate::row::Row;
 use crate::shape::Shape;
-use heap_layout::{BlockWord, Layout, decode};
-use ideal_heap::Name;
-use side_meta::test;
+use heap_layout::{BlockWord, Layout};
+use ideal_heap::{MAX_NUMS, MAX_REFS, Name};
 use std::alloc::{AllocError, Global};
 
-/// A heap whose objects, references and bits are in order.
+/// A heap that satisfies the heap invariant.
 ///
-/// It only tells what it holds. To change it, take its `Row` and give back a lawful one.
+/// It can only be read. To change it, take its `Row`, and make a heap again of a lawful one.
 #[derive(Debug, Drop)]
 pub struct Heap {
     row: Row,
@@ -24,9 +25,10 @@ impl Heap {
     ghost use Rattle.heap_layout.specs.Blocks.{code_of, IsValid};
     ghost use Rattle.ideal_heap.specs.Names.{IsName};
     ghost use Rattle.object_model.specs.Objects.{empty_heap, IsHeld, is_pinned, block_word, name_at as object_name, refs_at, nums_at, ref_at as ref_word_at, num_at as num_word_at};
+    ghost use Rattle.object_model.specs.Lawful.{IsRefField};
     ghost use Rattle.object_model.specs.Heaps.{heap_state};
 
-    /// A heap with nothing in it: a row of zeros.
+    /// An empty heap: a row of zeros. Fails if memory runs out.
     pub fn new(alloc: Global, l: Layout) -> Result<Heap, AllocError>
         ensures { IfOk result (λ h. heap_state h ≡ empty_heap l.blocks) }
     {
@@ -41,7 +43,7 @@ impl Heap {
         })
     }
 
-    /// The heap of a lawful row.
+    /// The heap of a lawful row. Copies nothing.
     pub fn from_row(r: Row) -> Heap
         requires { IsLawful (state_of r) }
         ensures { heap_state result ≡ state_of r }
@@ -49,7 +51,7 @@ impl Heap {
         Heap { row: r }
     }
 
-    /// The heap's row, to be changed.
+    /// The heap's row, for code that changes it. Copies nothing.
     pub fn into_row(self) -> Row
         ensures state { state_of result ≡ heap_state self }
         ensures lawful { IsLawful (state_of result) }
@@ -57,7 +59,7 @@ impl Heap {
         self.row
     }
 
-    /// Where the zones of its row lie.
+    /// The layout of its row: where each zone begins, in words.
     pub fn layout(&self) -> &Layout
         ensures { result.now.blocks ≡ (heap_state self.now).blocks }
     {
@@ -78,7 +80,7 @@ impl Heap {
         self.row.base
     }
 
-    /// The row's words.
+    /// The words of its row: side metadata first, the heap last.
     pub fn words(&self) -> &Vec<u64>
         ensures { result.now.items ≡ (heap_state self.now).words }
     {
@@ -91,19 +93,18 @@ impl Heap {
         ensures code { code_of result ≡ block_word (heap_state self.now) b }
         ensures valid { IsValid result }
     {
-        decode(self.row.words[self.row.layout.block_at(b) as usize]).unwrap()
+        self.row.block(b)
     }
 
-    /// Whether an object begins at the address `a`.
+    /// Whether an object begins at address `a`: whether the start bit is set.
     pub fn held(&self, a: u32) -> bool
         requires { IsAddress (heap_state self.now).blocks a }
         ensures { IsTrue result ↔ IsHeld (heap_state self.now) a }
     {
-        let starts = mark_spec(&self.row.layout, self.row.layout.start_base());
-        test(&self.row.words, &starts, a)
+        is_held(&self.row.words, &self.row.layout, a)
     }
 
-    /// Whether the object at `a` is pinned: no collection moves it.
+    /// Whether the object at `a` is pinned. No collection moves a pinned object.
     pub fn pinned(&self, a: u32) -> bool
         requires { IsHeld (heap_state self.now) a }
         ensures { result ≡ is_pinned (heap_state self.now) a }
@@ -125,8 +126,8 @@ impl Heap {
         requires { IsHeld (heap_state self.now) a }
         ensures refs { result.refs ≡ refs_at (heap_state self.now) a }
         ensures nums { result.nums ≡ nums_at (heap_state self.now) a }
-        ensures refs_most { result.refs ≤ 1024 }
-        ensures nums_most { result.nums ≤ 60000 }
+        ensures refs_most { result.refs ≤ MAX_REFS }
+        ensures nums_most { result.nums ≤ MAX_NUMS }
     {
         self.row.shape_at(a)
     }
@@ -136,7 +137,7 @@ impl Heap {
         requires held { IsHeld (heap_state self.now) a }
         requires field { i < refs_at (heap_state self.now) a }
         ensures value { result ≡ ref_word_at (heap_state self.now) a i }
-        ensures reference { result ≢ 0 → IsHeld (heap_state self.now) result }
+        ensures reference { IsRefField (heap_state self.now) result }
     {
         self.row.ref_at(a, i)
     }

@@ -1,19 +1,34 @@
-//! Objects in a row of words.
+//! The object model: heaps, their objects, and the graph of reachable objects, in a row of words.
 #![tactic(auto)]
 
+mod address_set;
+mod bits;
 mod collect;
 mod heap;
+mod heap_laws;
 mod laws;
-mod marking;
+mod object_graph;
 mod object_words;
+mod place;
 mod row;
 mod shape;
+mod walk;
 
 pub use collect::Collect;
 pub use heap::Heap;
-pub use laws::empty_heap_laws;
+pub use heap_laws::{
+    births_keep_heaps_lawful, free_blocks_may_be_taken, large_births_keep_heaps_lawful,
+    lawful_heaps, stores_keep_heaps_lawful,
+};
+pub use laws::{
+    ages, block_words_read, cells_take_objects, collector_words_read, empty_heap_laws,
+    fields_refer, headers_are_read, lawful_blocks, lawful_parts, lawful_words, lines_have_words,
+    objects_are_preserved, places_are_addresses, readable_objects, sizes, steps_set_no_unlog_bit,
+};
+pub use object_graph::{are_roots, graph};
+pub use place::Place;
 pub use row::Row;
-pub use shape::{Shape, decode_shape, encode_shape, size_words};
+pub use shape::{MAX_MEDIUM_WORDS, Shape, decode_shape, encode_shape, size_words};
 
 #[cfg(test)]
 mod tests;

@@ -1,45 +1,53 @@
+//! How many fields an object has, and how many words it takes.
+
 ghost use Rattle.std.specs.Prelude.{◌≡◌, ◌≢◌, ◌≤◌, Some, IfSome, IfNone};
 ghost use Rattle.object_model.specs.Objects.{size_of, shape_code};
 
-/// How many reference fields and how many numbers an object has: at most 1,024 and 60,000.
+use ideal_heap::{MAX_NUMS, MAX_REFS};
+
+/// The most words of a small or medium object, which shares its block with others. A larger object
+/// has a run of blocks of its own.
+pub const MAX_MEDIUM_WORDS: u32 = 2048;
+
+/// How many references and numbers an object has: at most `MAX_REFS` and `MAX_NUMS`.
 #[derive(Clone, Copy, Debug, PartialEq, Eq)]
 pub struct Shape {
-    /// Fields that hold references. They stand before the numbers.
+    /// How many references. They come before the numbers.
     pub refs: u32,
-    /// Fields that hold plain 64-bit numbers.
+    /// How many plain 64-bit numbers.
     pub nums: u32,
 }
 
-/// How many words an object of this shape has: name, shape and collector word, and one a field.
+/// The size in words of an object: name, shape and collector word, and one word for each field.
 pub fn size_words(s: &Shape) -> u32
-    requires refs { s.now.refs ≤ 1024 }
-    requires nums { s.now.nums ≤ 60000 }
+    requires refs { s.now.refs ≤ MAX_REFS }
+    requires nums { s.now.nums ≤ MAX_NUMS }
     ensures { result ≡ size_of s.now.refs s.now.nums }
 {
     3 + s.refs + s.nums
 }
 
-/// The word that says an object's shape: the references in its low 16 bits, the numbers above.
+/// The word that encodes a shape: the references in its low 16 bits, the numbers above.
 pub fn encode_shape(s: &Shape) -> u64
-    requires refs { s.now.refs ≤ 1024 }
-    requires nums { s.now.nums ≤ 60000 }
+    requires refs { s.now.refs ≤ MAX_REFS }
+    requires nums { s.now.nums ≤ MAX_NUMS }
     ensures { result ≡ shape_code s.now.refs s.now.nums }
 {
     s.refs as u64 + 65536 * s.nums as u64
 }
 
-/// The shape that a word says. None where it says none that an object may have.
+/// The shape that a word encodes. None if no shape within the limits has that code.
 pub fn decode_shape(v: u64) -> Option<Shape>
-    ensures some { IfSome result (λ s. (s.refs ≤ 1024) × (s.nums ≤ 60000)
+    ensures some { IfSome result (λ s. (s.refs ≤ MAX_REFS) × (s.nums ≤ MAX_NUMS)
         × (shape_code s.refs s.nums ≡ v)) }
-    ensures none { IfNone result ((s : Shape) → s.refs ≤ 1024 → s.nums ≤ 60000
+    ensures none { IfNone result ((s : Shape) → s.refs ≤ MAX_REFS → s.nums ≤ MAX_NUMS
         → shape_code s.refs s.nums ≢ v) }
-    ensures back { (s : Shape) → s.refs ≤ 1024 → s.nums ≤ 60000
+    ensures back { (s : Shape) → s.refs ≤ MAX_REFS → s.nums ≤ MAX_NUMS
         → shape_code s.refs s.nums ≡ v → result ≡ Some s }
 {
     let refs = v % 65536;
     let nums = v / 65536;
-    if refs > 1024 || nums > 60000 {
+    if refs > u64::from(MAX_REFS) || nums > u64::from(MAX_NUMS) {
         return None;
     }
     Some(Shape {

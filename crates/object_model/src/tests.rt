@@ -1,3 +1,5 @@
+//! Tests of shapes, empty heaps, new objects and pins.
+
 use crate::{Heap, Shape, decode_shape, encode_shape, size_words};
 use heap_layout::{BlockWord, Kind, Layout};
 use ideal_heap::Name;

@@ -2,6 +2,7 @@ pub mod Outside
 pub mod Reading
 pub mod Files
 pub mod Calls
+pub mod AskedNames
 pub mod Memory
 pub mod Sure
 pub mod Written

@@ -1,27 +1,35 @@
--- What a sink in memory holds, and which of its calls fail.
-use Rattle.std.specs.Prelude.{ℕ, List, Bool, nat_le, length}
+-- The state of a sink in memory, and the calls that fail.
+use Rattle.std.specs.Prelude.{ℕ, List, Bool, nat_le, length, Some}
 use Rattle.outside.specs.declared.memory_sinks.MemSink.{MemSink}
+use Rattle.outside.specs.Outside.{SinkState}
 
+-- the bytes written
 abbrev pub bytes_of : MemSink → List ℕ
 bytes_of s = s.bytes.items
 
--- the most bytes in all
+-- the most bytes that the sink can hold
 abbrev pub room_of : MemSink → ℕ
 room_of s = s.room
 
--- the most bytes of a call
+-- the most bytes in one call
 abbrev pub most_of : MemSink → ℕ
 most_of s = s.most
 
+-- the sink has no room left
 abbrev pub is_full : MemSink → Bool
 is_full s = nat_le s.room (length s.bytes.items)
 
+-- the count of faults
 abbrev pub faults_of : MemSink → ℕ
 faults_of s = s.count
 
+-- the count of calls
 abbrev pub calls_of : MemSink → ℕ
 calls_of s = s.calls
 
 -- the numbers of the calls that fail
 abbrev pub fails_of : MemSink → List ℕ
 fails_of s = s.fails.items
+
+abbrev pub state_of : MemSink → SinkState
+state_of s = record { written = Some (bytes_of s); faults = faults_of s }

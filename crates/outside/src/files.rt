@@ -4,9 +4,7 @@ ghost use Rattle.std.specs.Prelude.{◌≡◌, ℕ, ◌+◌, ◌^◌, ◌<◌, �
 ghost use Rattle.outside.specs.Outside.{Moves};
 ghost use Rattle.outside.specs.Files.{file_of, content_in, content_at, left_in};
 
-use std::alloc::Global;
-
-// A list of files, of which the one at `place` is open, and `read` bytes of it were read.
+// A list of files. The one with index `place` is open, and `read` bytes of it were read.
 #[derive(Drop)]
 pub(crate) struct Shelf {
     pub(crate) files: Vec<(String, Vec<u8>)>,
@@ -14,9 +12,11 @@ pub(crate) struct Shelf {
     pub(crate) read: usize,
 }
 
-// Where the first file with this name stands.
+// The index of the first file with this name.
 fn place_of(files: &[(String, Vec<u8>)], name: &str) -> Option<usize>
-    ensures { MatchOption result (content_in (map file_of files.now) name.now ≡ None) (λ k. content_in (map file_of files.now) name.now ≡ Some (content_at (map file_of files.now) k)) }
+    ensures { MatchOption result (content_in (map file_of files.now) name.now ≡ None)
+        (λ k. content_in (map file_of files.now) name.now
+        ≡ Some (content_at (map file_of files.now) k)) }
 {
     for (i, (own, _)) in files.iter().enumerate() {
         if own.as_str() == name {
@@ -26,6 +26,7 @@ fn place_of(files: &[(String, Vec<u8>)], name: &str) -> Option<usize>
     None
 }
 
+// The content of the file with index `k`, and no bytes if there is no such file.
 fn nth_content(files: &[(String, Vec<u8>)], k: usize) -> &[u8]
     ensures { result.now ≡ content_at (map file_of files.now) k }
 {
@@ -35,6 +36,7 @@ fn nth_content(files: &[(String, Vec<u8>)], k: usize) -> &[u8]
     }
 }
 
+// The bytes after the first `n`.
 fn after_first(bytes: &[u8], n: usize) -> &[u8]
     ensures rest { result.now ≡ drop n bytes.now }
     ensures place { n + length result.now < 2 ^ 64 }
@@ -42,7 +44,7 @@ fn after_first(bytes: &[u8], n: usize) -> &[u8]
     &bytes[n.min(bytes.len())..]
 }
 
-// Moves bytes from the front of `left` into the buffer.
+// Copies the first bytes of `left` into the buffer, as many as fit, and returns their number.
 fn move_front(left: &[u8], buf: &mut [u8]) -> usize
     ensures most { result ≡ min (length buf.old) (length left.now) }
     ensures moved { Moves result left.now buf.new (Some (drop result left.now)) }
@@ -64,10 +66,6 @@ impl Shelf {
         }
     }
 
-    pub(crate) fn allocator(&self) -> Global {
-        *self.files.allocator()
-    }
-
     pub(crate) fn is_open(&self) -> bool
         ensures { result ≡ is_some self.now.place }
     {
@@ -81,11 +79,13 @@ impl Shelf {
         self.place = None;
     }
 
-    // Opens the first file with this name, and answers whether there is one.
+    // Opens the first file with this name, and returns whether there is one.
     pub(crate) fn open(&mut self, name: &str) -> bool
-        ensures found { result ≡ is_some (content_in (map file_of self.old.files.items) name.now) }
+        ensures found { result ≡ is_some (content_in
+            (map file_of self.old.files.items) name.now) }
         ensures open { is_some self.new.place ≡ result }
-        ensures left { left_in (map file_of self.new.files.items) self.new.place self.new.read ≡ unwrap_or (content_in (map file_of self.old.files.items) name.now) [] }
+        ensures left { left_in (map file_of self.new.files.items) self.new.place self.new.read
+            ≡ unwrap_or (content_in (map file_of self.old.files.items) name.now) [] }
         ensures files { self.new.files ≡ self.old.files }
     {
         self.place = place_of(&self.files, name);
@@ -93,9 +93,11 @@ impl Shelf {
         self.place.is_some()
     }
 
+    // The bytes left of the open file.
     fn rest(&self) -> &[u8]
         ensures place { self.now.read + length result.now < 2 ^ 64 }
-        ensures rest { result.now ≡ left_in (map file_of self.now.files.items) self.now.place self.now.read }
+        ensures rest { result.now
+            ≡ left_in (map file_of self.now.files.items) self.now.place self.now.read }
     {
         let read = self.read;
         match self.place {
@@ -104,10 +106,13 @@ impl Shelf {
         }
     }
 
-    // Moves bytes of the open file into the buffer, as many as fit.
+    // Reads the next bytes of the open file into the buffer, as many as fit. Returns their number.
     pub(crate) fn take_front(&mut self, buf: &mut [u8]) -> usize
-        ensures most { result ≡ min (length buf.old) (length (left_in (map file_of self.old.files.items) self.old.place self.old.read)) }
-        ensures moved { Moves result (left_in (map file_of self.old.files.items) self.old.place self.old.read) buf.new (Some (left_in (map file_of self.new.files.items) self.new.place self.new.read)) }
+        ensures most { result ≡ min (length buf.old) (length
+            (left_in (map file_of self.old.files.items) self.old.place self.old.read)) }
+        ensures moved { Moves result (left_in
+            (map file_of self.old.files.items) self.old.place self.old.read) buf.new
+            (Some (left_in (map file_of self.new.files.items) self.new.place self.new.read)) }
         ensures files { self.new.files ≡ self.old.files }
         ensures place { self.new.place ≡ self.old.place }
     {

@@ -1,22 +1,26 @@
-//! Where a program's bytes come from and where they go: sources of files and sinks, in memory and real,
-//! and the loops that read a file whole and write a text whole.
+//! Input and output of a program: sources of files and sinks of bytes, real ones and ones in
+//! memory, and the loops that read a whole file and write a whole text.
 #![tactic(auto)]
 
+mod answers;
 mod file_sources;
 mod files;
+mod laws;
 mod memory_sinks;
 mod memory_sources;
-mod reading;
+mod names;
+mod reader;
 mod stream_sinks;
 #[cfg(test)]
 mod tests;
 mod traits;
-mod writing;
+mod writer;
 
 pub use file_sources::FileSources;
+pub use laws::faults_and_fronts;
 pub use memory_sinks::{MemSink, SureSink};
 pub use memory_sources::{MemSources, SureSources};
-pub use reading::{ReadFault, content_of};
+pub use reader::{MAX_FILE_BYTES, ReadFault, content_of};
 pub use stream_sinks::{ErrSink, OutSink, StreamSink};
 pub use traits::{Failed, OpenFault, Sink, Sources};
-pub use writing::{write_parts, write_text};
+pub use writer::{write_parts, write_text};

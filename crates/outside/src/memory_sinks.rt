@@ -7,14 +7,12 @@ ghost use Rattle.outside.specs.Calls.{is_listed, next_call};
 use crate::traits::{Failed, Sink, raise};
 use std::alloc::{AllocError, Global};
 
-/// Takes each piece whole, keeps nothing, and does not tell its bytes.
+/// A sink that never fails and keeps nothing. The bytes written are not known to the contract.
 #[derive(Clone, Copy, Debug)]
 pub struct SureSink;
 
 impl Sink for SureSink {
-    ghost written = { λ _. None };
-
-    ghost faults = { λ _. 0 };
+    ghost state = { λ _. record { written = None; faults = 0 } };
 
     fn write(&mut self, bytes: &[u8]) -> Result<usize, Failed>
         ensures whole { result ≡ Ok (length bytes.now) }
@@ -23,7 +21,7 @@ impl Sink for SureSink {
     }
 }
 
-/// Bytes in memory, with room that is taken at the start.
+/// A sink in memory. `new` allocates the memory for all its bytes.
 #[derive(Drop)]
 pub struct MemSink {
     bytes: Vec<u8>,
@@ -40,8 +38,10 @@ pub struct MemSink {
 impl MemSink {
     ghost use Rattle.outside.specs.Written.{bytes_of, room_of, most_of, faults_of, calls_of, fails_of};
 
-    /// At most `room` bytes in all, at most `most` in a call, and a failure at each call whose number is listed, and at a
-    /// piece that is not empty and finds no room. Calls are numbered from 1.
+    /// A sink of at most `room` bytes in all, and at most `most` bytes in one call. A call fails if
+    /// `fails` has its number, counted from 1, or if it has a byte to write and the sink is full.
+    ///
+    /// Errors: out of memory.
     pub fn new(
         alloc: Global,
         room: usize,
@@ -66,7 +66,7 @@ impl MemSink {
         })
     }
 
-    /// What was written.
+    /// The bytes written so far.
     pub fn bytes(&self) -> &[u8]
         ensures { result.now ≡ bytes_of self.now }
     {
@@ -75,20 +75,22 @@ impl MemSink {
 }
 
 impl Sink for MemSink {
-    ghost use Rattle.outside.specs.Written.{bytes_of, room_of, most_of, is_full, faults_of, calls_of, fails_of};
+    ghost use Rattle.outside.specs.Written.{state_of, bytes_of, room_of, most_of, is_full, faults_of, calls_of, fails_of};
 
-    ghost written = { λ s. Some (bytes_of s) };
-
-    ghost faults = { λ s. faults_of s };
+    ghost state = { λ s. state_of s };
 
     fn write(&mut self, bytes: &[u8]) -> Result<usize, Failed>
-        ensures taken { IfOk result (λ n. n ≡ min (length bytes.now) (min (most_of self.old) (room_of self.old - length (bytes_of self.old)))) }
+        ensures taken { IfOk result (λ n. n ≡ min (length bytes.now) (min (most_of self.old)
+            (room_of self.old - length (bytes_of self.old)))) }
         ensures some { IfOk result (λ n. 0 < length bytes.now → 0 < n) }
-        ensures added { IfOk result (λ n. bytes_of self.new ≡ bytes_of self.old ++ take n bytes.now) }
+        ensures added { IfOk result (λ n. bytes_of self.new ≡ bytes_of self.old
+            ++ take n bytes.now) }
         ensures failed { OnErr result (bytes_of self.new ≡ bytes_of self.old) }
-        ensures fails { is_err result ≡ (is_listed (fails_of self.old) (calls_of self.new) || (nat_lt 0 (length bytes.now) && is_full self.old)) }
+        ensures fails { is_err result ≡ (is_listed (fails_of self.old) (calls_of self.new)
+            || (nat_lt 0 (length bytes.now) && is_full self.old)) }
         ensures cause { IsErr result → HasRisen (faults_of self.old) (faults_of self.new) }
-        ensures count { faults_of self.new ≡ (if is_err result then min (faults_of self.old + 1) LAST else faults_of self.old) }
+        ensures count { faults_of self.new ≡ (if is_err result then min
+            (faults_of self.old + 1) LAST else faults_of self.old) }
         ensures later { faults_of self.old ≤ faults_of self.new }
         ensures calls { calls_of self.new ≡ next_call (calls_of self.old) }
         ensures within { length (bytes_of self.new) ≤ room_of self.new }

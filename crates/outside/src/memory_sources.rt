@@ -1,56 +1,56 @@
-//! Sources in memory.
+//! Files in memory, as sources.
 
 ghost use Rattle.std.specs.Prelude.{◌≡◌, ◌+◌, ◌≤◌, ℕ, ◌&&◌, if◌then◌else◌, [], length, map, min, Option, Some, None, Ok, true, false, IfOk, OnErr, OnOk, IsErr, IsErrOf, IsTrue, ◌⊎◌, is_ok, is_err};
-ghost use Rattle.outside.specs.Outside.{LAST, HasRisen, Opens, asking_after, Moves};
+ghost use Rattle.outside.specs.Outside.{LAST, HasRisen, Opens, asked_after, Moves};
 ghost use Rattle.outside.specs.Files.{file_of, content_in};
 ghost use Rattle.outside.specs.Calls.{is_listed, next_call};
 
 use crate::files::Shelf;
+use crate::names::ask;
 use crate::traits::{Failed, OpenFault, Sources, raise};
-use std::alloc::Global;
 
-/// Files in memory, and a failure at each call whose number is listed, but at reads with no open file. An opening for whose
-/// name memory is refused answers that first.
+/// Files in memory, with calls that fail by number. A read with no open file never fails. If memory
+/// for the name runs out, `open_file` returns that error first.
 #[derive(Drop)]
 pub struct MemSources {
-    alloc: Global,
     shelf: Shelf,
     fails: Vec<u64>,
     calls: u64,
     count: u64,
-    last: Option<(String, u64)>,
+    asked: Vec<(String, u64)>,
 }
 
 impl MemSources {
     ghost use Rattle.outside.specs.Memory.{files_of, left_of, asked_of, is_open, faults_of, calls_of, fails_of};
 
-    /// Of two files with one name the first counts. Calls are numbered from 1, openings and reads together.
-    /// A read with no open file never fails. `alloc` keeps the name that was asked last.
-    pub fn new(alloc: Global, files: Vec<(String, Vec<u8>)>, fails: Vec<u64>) -> MemSources
+    /// Sources with these names and contents. Of two files with one name, the first is used. A call
+    /// fails if `fails` has its number. The numbers count calls of `open_file` and `read` together,
+    /// from 1. The allocator of `files` allocates the names that are asked for.
+    pub fn new(files: Vec<(String, Vec<u8>)>, fails: Vec<u64>) -> MemSources
         ensures files { files_of result ≡ map file_of files.items }
         ensures left { left_of result ≡ [] }
         ensures closed { is_open result ≡ false }
-        ensures asked { asked_of result ≡ None }
+        ensures asked { asked_of result ≡ [] }
         ensures faults { faults_of result ≡ 0 }
         ensures calls { calls_of result ≡ 0 }
         ensures fails { fails_of result ≡ fails.items }
     {
+        let asked = Vec::new(*files.allocator());
         MemSources {
-            alloc,
             shelf: Shelf::new(files),
             fails,
             calls: 0,
             count: 0,
-            last: None,
+            asked,
         }
     }
 
-    // Numbers this call, and says whether it is listed.
+    // Counts this call, and returns whether `fails` has its number.
     fn is_to_fail(&mut self) -> bool
         ensures listed { result ≡ is_listed (fails_of self.old) (next_call (calls_of self.old)) }
         ensures calls { calls_of self.new ≡ next_call (calls_of self.old) }
         ensures shelf { self.new.shelf ≡ self.old.shelf }
-        ensures last { self.new.last ≡ self.old.last }
+        ensures asked { self.new.asked ≡ self.old.asked }
         ensures count { self.new.count ≡ self.old.count }
         ensures fails { fails_of self.new ≡ fails_of self.old }
     {
@@ -60,25 +60,27 @@ impl MemSources {
 }
 
 impl Sources for MemSources {
-    ghost use Rattle.outside.specs.Memory.{files_of, left_of, asked_of, is_open, faults_of, calls_of, fails_of};
+    ghost use Rattle.outside.specs.Memory.{state_of, files_of, left_of, asked_of, is_open, faults_of, calls_of, fails_of};
 
-    ghost content = { λ s. content_in (files_of s) };
-
-    ghost left = { λ s. Some (left_of s) };
-
-    ghost asked = { λ s. asked_of s };
-
-    ghost faults = { λ s. faults_of s };
+    ghost state = { λ s. state_of s };
 
     fn open_file(&mut self, name: &str) -> Result<(), OpenFault>
-        ensures opened { Opens result (content_in (files_of self.old) name.now) (Some (left_of self.new)) }
+        ensures opened { Opens result (content_in (files_of self.old) name.now)
+            (Some (left_of self.new)) }
         ensures open { is_open self.new ≡ is_ok result }
-        ensures asked { asked_of self.new ≡ asking_after result name.now (faults_of self.old) (asked_of self.old) }
-        ensures cause { IsErrOf result OpenFault.Failed → HasRisen (faults_of self.old) (faults_of self.new) }
-        ensures counted { IsErrOf result OpenFault.Failed → faults_of self.new ≡ min (faults_of self.old + 1) LAST }
-        ensures uncounted { IsErrOf result OpenFault.Failed ⊎ (faults_of self.new ≡ faults_of self.old) }
-        ensures fails { IsErrOf result OpenFault.Failed → IsTrue (is_listed (fails_of self.old) (calls_of self.new)) ⊎ (content_in (files_of self.old) name.now ≡ None) }
-        ensures listed { IsTrue (is_listed (fails_of self.old) (calls_of self.new)) → IsErr result }
+        ensures asked { asked_of self.new
+            ≡ asked_after result name.now (faults_of self.old) (asked_of self.old) }
+        ensures cause { IsErrOf result OpenFault.Failed
+            → HasRisen (faults_of self.old) (faults_of self.new) }
+        ensures counted { IsErrOf result OpenFault.Failed
+            → faults_of self.new ≡ min (faults_of self.old + 1) LAST }
+        ensures uncounted { IsErrOf result OpenFault.Failed
+            ⊎ (faults_of self.new ≡ faults_of self.old) }
+        ensures fails { IsErrOf result OpenFault.Failed
+            → IsTrue (is_listed (fails_of self.old) (calls_of self.new))
+            ⊎ (content_in (files_of self.old) name.now ≡ None) }
+        ensures listed { IsTrue (is_listed (fails_of self.old) (calls_of self.new))
+            → IsErr result }
         ensures later { faults_of self.old ≤ faults_of self.new }
         ensures calls { calls_of self.new ≡ next_call (calls_of self.old) }
         ensures same { files_of self.new ≡ files_of self.old }
@@ -86,8 +88,7 @@ impl Sources for MemSources {
     {
         let is_to_fail = self.is_to_fail();
         self.shelf.close();
-        let own = String::from_str(self.alloc, name)?;
-        self.last = Some((own, self.count));
+        ask(&mut self.asked, name, self.count)?;
         if is_to_fail || !self.shelf.open(name) {
             raise(&mut self.count);
             return Err(OpenFault::Failed);
@@ -97,13 +98,16 @@ impl Sources for MemSources {
 
     fn read(&mut self, buf: &mut [u8]) -> Result<usize, Failed>
         ensures most { IfOk result (λ n. n ≡ min (length buf.old) (length (left_of self.old))) }
-        ensures moved { IfOk result (λ n. Moves n (left_of self.old) buf.new (Some (left_of self.new))) }
+        ensures moved { IfOk result (λ n. Moves n (left_of self.old) buf.new
+            (Some (left_of self.new))) }
         ensures closed { is_open self.old ≡ false → result ≡ Ok 0 }
         ensures open { is_open self.new ≡ is_open self.old }
         ensures failed { OnErr result (left_of self.new ≡ left_of self.old) }
-        ensures fails { is_err result ≡ (is_open self.old && is_listed (fails_of self.old) (calls_of self.new)) }
+        ensures fails { is_err result ≡ (is_open self.old
+            && is_listed (fails_of self.old) (calls_of self.new)) }
         ensures cause { IsErr result → HasRisen (faults_of self.old) (faults_of self.new) }
-        ensures count { faults_of self.new ≡ (if is_err result then min (faults_of self.old + 1) LAST else faults_of self.old) }
+        ensures count { faults_of self.new ≡ (if is_err result then min
+            (faults_of self.old + 1) LAST else faults_of self.old) }
         ensures later { faults_of self.old ≤ faults_of self.new }
         ensures calls { calls_of self.new ≡ next_call (calls_of self.old) }
         ensures asked { asked_of self.new ≡ asked_of self.old }
@@ -119,43 +123,40 @@ impl Sources for MemSources {
     }
 }
 
-/// Files in memory, and no failure ever. Every other name has an empty content.
+/// Files in memory, without faults: a call fails only if memory for a name runs out. Every other
+/// name has an empty content.
 #[derive(Drop)]
 pub struct SureSources {
     shelf: Shelf,
-    last: Option<String>,
+    asked: Vec<(String, u64)>,
 }
 
 impl SureSources {
     ghost use Rattle.outside.specs.Sure.{files_of, left_of, asked_of};
 
-    /// Of two files with one name the first counts.
+    /// Sources with these names and contents. Of two files with one name, the first is used. The
+    /// allocator of `files` allocates the names that are asked for.
     pub fn new(files: Vec<(String, Vec<u8>)>) -> SureSources
         ensures files { files_of result ≡ map file_of files.items }
         ensures left { left_of result ≡ [] }
-        ensures asked { asked_of result ≡ None }
+        ensures asked { asked_of result ≡ [] }
     {
+        let asked = Vec::new(*files.allocator());
         SureSources {
             shelf: Shelf::new(files),
-            last: None,
+            asked,
         }
     }
 }
 
 impl Sources for SureSources {
-    ghost use Rattle.outside.specs.Sure.{content_of, left_of, asked_of};
+    ghost use Rattle.outside.specs.Sure.{state_of};
 
-    ghost content = { λ s. content_of s };
-
-    ghost left = { λ s. Some (left_of s) };
-
-    ghost asked = { λ s. asked_of s };
-
-    ghost faults = { λ _. 0 };
+    ghost state = { λ s. state_of s };
 
     fn open_file(&mut self, name: &str) -> Result<(), OpenFault> {
         self.shelf.close();
-        self.last = Some(String::from_str(self.shelf.allocator(), name)?);
+        ask(&mut self.asked, name, 0)?;
         self.shelf.open(name);
         Ok(())
     }

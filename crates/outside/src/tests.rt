@@ -1,13 +1,20 @@
+//! Tests of sources, sinks, and reading and writing.
+
+ghost use Rattle.std.specs.Prelude.{◌≤◌, IfOk};
+
+use crate::answers::{open_fault, read_once};
 use crate::file_sources::FileSources;
 use crate::memory_sinks::{MemSink, SureSink};
 use crate::memory_sources::{MemSources, SureSources};
-use crate::reading::{ReadFault, content_of};
+use crate::reader::{ReadFault, content_of};
 use crate::stream_sinks::{ErrSink, OutSink, StreamSink};
 use crate::traits::{Failed, OpenFault, Sink, Sources};
-use crate::writing::{write_parts, write_text};
+use crate::writer::{write_parts, write_text};
 use std::alloc::{AllocError, Global};
-use std::fmt::Display;
-use std::io::Print;
+use std::cell::Cell;
+use std::fs::Permissions;
+use std::io::{ErrorKind, Read, Write};
+use std::os::unix::fs::PermissionsExt;
 use std::test::Fail;
 use std::{fs, io, process};
 
@@ -19,7 +26,7 @@ fn files_of(alloc: Global, files: &[(&str, &[u8])]) -> Result<Vec<(String, Vec<u
     Ok(all)
 }
 
-// Eight bytes a call, and a failure at the third.
+// Eight bytes per call, and a failure at the third call.
 #[test]
 fn writes_a_front(rt: HostRuntime) -> Result<(), Fail> {
     let alloc = rt.alloc();
@@ -52,7 +59,7 @@ fn writes_parts(rt: HostRuntime) -> Result<(), Fail> {
     Ok(())
 }
 
-// A byte a call, with a failure at each call in turn; then too little room.
+// One byte per call, with a failure at each call in turn; then a sink that becomes full.
 #[test]
 fn writes_byte_by_byte(rt: HostRuntime) -> Result<(), Fail> {
     let alloc = rt.alloc();
@@ -71,13 +78,13 @@ fn writes_byte_by_byte(rt: HostRuntime) -> Result<(), Fail> {
     Ok(())
 }
 
-// The calls for a file of one piece are the opening, the piece, and the end.
+// A file of one piece takes three calls: one to open it, one for the piece, and one for the end.
 #[test]
 fn reads_with_a_failure_at_each_call(rt: HostRuntime) -> Result<(), Fail> {
     let alloc = rt.alloc();
     for k in 1..5u64 {
         let files = files_of(alloc, &[("a", b"one"), ("b", b"two"), ("a", b"three")])?;
-        let mut sources = MemSources::new(alloc, files, [k].to_vec(alloc)?);
+        let mut sources = MemSources::new(files, [k].to_vec(alloc)?);
         let result = content_of(alloc, &mut sources, "a");
         match result {
             Ok(bytes) => assert!(rt; k == 4 && bytes.as_slice() == b"one".as_slice()),
@@ -85,7 +92,7 @@ fn reads_with_a_failure_at_each_call(rt: HostRuntime) -> Result<(), Fail> {
         }
     }
     let files = files_of(alloc, &[("a", b"one")])?;
-    let mut sources = MemSources::new(alloc, files, [1u64].to_vec(alloc)?);
+    let mut sources = MemSources::new(files, [1u64].to_vec(alloc)?);
     assert_eq!(rt; sources.read(&mut [0u8; 4]), Ok(0));
     assert_eq!(rt; sources.open_file("b"), Err(OpenFault::Failed));
     assert_eq!(rt; sources.read(&mut [0u8; 4]), Ok(0));
@@ -114,7 +121,7 @@ fn reads_up_to_the_limit(rt: HostRuntime) -> Result<(), Fail> {
     for (len, is_short) in [(16_777_216, true), (16_777_217, false)] {
         let mut files = Vec::new(alloc);
         files.push((String::from_str(alloc, "a")?, vec![in alloc; 7u8; len]?))?;
-        let mut sources = MemSources::new(alloc, files, Vec::new(alloc));
+        let mut sources = MemSources::new(files, Vec::new(alloc));
         match content_of(alloc, &mut sources, "a") {
             Ok(bytes) => assert!(rt; is_short && bytes.len() == len),
             Err(e) => assert!(rt; !is_short && e == ReadFault::TooLong),
@@ -140,7 +147,7 @@ fn reads_real_files(rt: HostRuntime) -> Result<(), Fail> {
         Some(ReadFault::Failed)
     );
     assert_eq!(rt; sources.read(&mut [0u8; 4]), Ok(0));
-    // A folder is opened like a file, and its first read fails.
+    // A directory is opened like a file, and the first read fails.
     assert_eq!(rt; sources.open_file("/tmp"), Ok(()));
     assert_eq!(rt; sources.read(&mut [0u8; 4]), Err(Failed));
     assert_eq!(rt;
@@ -163,33 +170,170 @@ fn writes_to_the_streams(rt: HostRuntime) -> Result<(), Fail> {
     Ok(())
 }
 
-// A stream that takes nothing.
+// At most `most` bytes per call, and an error at calls `first` to `end - 1`, counted from 1.
 #[derive(Drop)]
-struct Stuck;
+struct Stream<'a> {
+    taken: &'a Cell<usize>,
+    calls: u32,
+    most: usize,
+    first: u32,
+    end: u32,
+    kind: ErrorKind,
+}
 
-impl Print for Stuck {
-    fn print<D: Display + Drop>(&self, _value: D) -> io::Result<()> {
-        Ok(())
+impl Stream<'_> {
+    fn next(&mut self, len: usize) -> io::Result<usize>
+        ensures { IfOk result (λ n. n ≤ len) }
+    {
+        self.calls = self.calls.saturating_add(1);
+        if self.first <= self.calls && self.calls < self.end {
+            return Err(io::Error::from(self.kind));
+        }
+        let n = len.min(self.most);
+        self.taken.set(self.taken.get().saturating_add(n));
+        Ok(n)
+    }
+}
+
+impl Write for Stream<'_> {
+    fn write(&mut self, bytes: &[u8]) -> io::Result<usize> {
+        self.next(bytes.len())
     }
 
-    fn println<D: Display + Drop>(&self, _value: D) -> io::Result<()> {
+    fn flush(&mut self) -> io::Result<()> {
         Ok(())
     }
+}
 
-    fn write_all(&self, _bytes: &[u8]) -> io::Result<()> {
-        Ok(())
-    }
-
-    fn write_some(&self, _bytes: &[u8]) -> io::Result<usize> {
-        Ok(0)
+impl Read for Stream<'_> {
+    fn read(&mut self, buf: &mut [u8]) -> io::Result<usize> {
+        self.next(buf.len())
     }
 }
 
 #[test]
-fn gives_up_on_a_stream_that_takes_nothing(rt: HostRuntime) {
-    assert_eq!(rt;
-        write_text(&mut StreamSink::new(Stuck), b"text"),
-        Err(Failed)
-    );
-    assert_eq!(rt; write_text(&mut StreamSink::new(Stuck), b""), Ok(()));
+fn writes_to_streams(rt: HostRuntime) {
+    let table = [
+        (100, 0, 0, ErrorKind::Other, 10),
+        (3, 0, 0, ErrorKind::Other, 10),
+        (0, 0, 0, ErrorKind::Other, 0),
+        (100, 1, u32::MAX, ErrorKind::Other, 0),
+        (4, 2, 3, ErrorKind::BrokenPipe, 4),
+        (4, 1, 2, ErrorKind::Interrupted, 10),
+        (4, 2, 3, ErrorKind::Interrupted, 10),
+    ];
+    for (most, first, end, kind, want) in table {
+        let taken = Cell::new(0usize);
+        let mut sink = StreamSink::new(Stream {
+            taken: &taken,
+            calls: 0,
+            most,
+            first,
+            end,
+            kind,
+        });
+        let is_whole = write_text(&mut sink, b"mutator 1\n").is_ok();
+        assert_eq!(rt; is_whole, want == 10, "{most} {first}");
+        assert_eq!(rt; taken.get(), want, "{most} {first}");
+        assert_eq!(rt; write_text(&mut sink, b""), Ok(()));
+    }
+}
+
+#[test]
+fn reads_on_after_a_signal(rt: HostRuntime) {
+    for (kind, want) in [
+        (ErrorKind::Interrupted, Ok(3)),
+        (ErrorKind::Other, Err(Failed)),
+    ] {
+        let taken = Cell::new(0usize);
+        let mut stream = Stream {
+            taken: &taken,
+            calls: 0,
+            most: 3,
+            first: 1,
+            end: 2,
+            kind,
+        };
+        assert_eq!(rt; read_once(&mut stream, &mut [0u8; 8]), want);
+    }
+}
+
+#[test]
+fn faults(rt: HostRuntime) -> Result<(), Fail> {
+    let alloc = rt.alloc();
+    for (kind, fault, text) in [
+        (ErrorKind::NotFound, OpenFault::Failed, "cannot be opened"),
+        (
+            ErrorKind::PermissionDenied,
+            OpenFault::Failed,
+            "cannot be opened",
+        ),
+        (
+            ErrorKind::OutOfMemory,
+            OpenFault::OutOfMemory,
+            "out of memory",
+        ),
+    ] {
+        assert_eq!(rt; open_fault(&io::Error::from(kind)), fault);
+        assert_eq!(rt; format!(in alloc; "{fault}")?.as_str(), text);
+    }
+    Ok(())
+}
+
+// A file of more than one piece, and one of the maximum size.
+#[test]
+fn reads_long_real_files(rt: HostRuntime) -> Result<(), Fail> {
+    let alloc = rt.alloc();
+    let id = process::id(rt.process());
+    let path = format!(in alloc; "/tmp/mm_drive_long_{id}")?;
+    for len in [200_000usize, 16_777_216] {
+        let mut bytes = vec![in alloc; 7u8; len]?;
+        bytes[65_535] = 8;
+        bytes[len - 1] = 9;
+        fs::write(&rt, path.as_str(), bytes.as_slice())?;
+        let mut sources = FileSources::new(&rt, alloc);
+        let read = content_of(alloc, &mut sources, path.as_str())?;
+        fs::remove_file(&rt, path.as_str())?;
+        assert!(rt; read.as_slice() == bytes.as_slice(), "{len}");
+    }
+    Ok(())
+}
+
+// A trailing space is part of a name; a file is no directory; a file may be unreadable.
+#[test]
+fn opens_the_name_as_it_stands(rt: HostRuntime) -> Result<(), Fail> {
+    let alloc = rt.alloc();
+    let id = process::id(rt.process());
+    let path = format!(in alloc; "/tmp/mm_drive_name_{id}")?;
+    let spaced = format!(in alloc; "{path} ")?;
+    let below = format!(in alloc; "{path}/a")?;
+    let mut sources = FileSources::new(&rt, alloc);
+    fs::write(&rt, spaced.as_str(), b"spaced".as_slice())?;
+    assert_eq!(rt; sources.open_file(path.as_str()), Err(OpenFault::Failed));
+    let bytes = content_of(alloc, &mut sources, spaced.as_str())?;
+    fs::remove_file(&rt, spaced.as_str())?;
+    assert_eq!(rt; bytes.as_slice(), b"spaced".as_slice());
+    fs::write(&rt, path.as_str(), b"plain".as_slice())?;
+    assert_eq!(rt; sources.open_file(spaced.as_str()), Err(OpenFault::Failed));
+    assert_eq!(rt; sources.open_file(below.as_str()), Err(OpenFault::Failed));
+    fs::set_permissions(&rt, path.as_str(), Permissions::from_mode(0))?;
+    // The superuser may still open it.
+    let opened = sources.open_file(path.as_str());
+    fs::remove_file(&rt, path.as_str())?;
+    assert!(rt; opened.is_ok() || opened == Err(OpenFault::Failed));
+    assert_eq!(rt; sources.open_file(""), Err(OpenFault::Failed));
+    Ok(())
+}
+
+// Each name that is asked for is allocated by the allocator of the files.
+#[test]
+fn asks_every_name(rt: HostRuntime) -> Result<(), Fail> {
+    let alloc = rt.alloc();
+    let files = files_of(alloc, &[("a", b"one")])?;
+    let mut sources = MemSources::new(files, Vec::new(alloc));
+    for k in 0..40u32 {
+        let opened = sources.open_file(if k % 2 == 0 { "a" } else { "b" });
+        assert_eq!(rt; opened.is_ok(), k % 2 == 0);
+    }
+    Ok(())
 }

@@ -1,22 +1,22 @@
-//! Where bytes come from and where they go, as traits.
+//! The traits of sources and sinks.
 
-ghost use Rattle.std.specs.Prelude.{◌≡◌, ℕ, ◌+◌, ◌<◌, ◌≤◌, List, length, min, take, Option, IfSome, IfOk, OnErr, IsErr, IsErrOf};
-ghost use Rattle.outside.specs.Outside.{LAST, HasRisen, Asking, Opens, asking_after, Moves, Adds};
+ghost use Rattle.std.specs.Prelude.{◌≡◌, ◌+◌, ◌<◌, ◌≤◌, [], length, min, take, IfSome, IfOk, OnErr, IsErr, IsErrOf};
+ghost use Rattle.outside.specs.Outside.{LAST, SourceState, SinkState, HasRisen, Opens, asked_after, Moves, Adds};
 
 use std::alloc::AllocError;
 use thiserror::Error;
 
-/// A call that did not do its work.
+/// The error of a read or a write that failed.
 #[derive(Clone, Copy, Debug, PartialEq, Eq)]
 pub struct Failed;
 
-/// Why a file is not open.
+/// Why a file was not opened.
 #[derive(Clone, Copy, Debug, PartialEq, Eq, Error)]
 pub enum OpenFault {
     /// The name cannot be opened.
     #[error("cannot be opened")]
     Failed,
-    /// Memory for the name or for opening it was refused.
+    /// Out of memory, for the name or for opening the file.
     #[error("out of memory")]
     OutOfMemory,
 }
@@ -31,57 +31,61 @@ impl From<AllocError> for OpenFault {
     }
 }
 
-/// Files by name, of which one at a time is open.
+/// Files by name, at most one of which is open at a time.
 ///
-/// A name that cannot be opened is a fault. With no open file `read` answers 0.
+/// A source counts its faults: names that cannot be opened, and reads that fail. With no open file,
+/// `read` returns 0.
 pub trait Sources {
-    // The content of each name, where told.
-    ghost content: { Self → List ℕ → Option (List ℕ) };
+    // The contents and the bytes left of the open file, if they are known to the contract, the
+    // names asked for, and the count of faults.
+    ghost state: { Self → SourceState };
 
-    // The bytes left of the open file, where told.
-    ghost left: { Self → Option (List ℕ) };
-
-    // The last name asked, with the count of faults before it.
-    ghost asked: { Self → Asking };
-
-    ghost faults: { Self → ℕ };
-
-    /// Opens the file with this name in place of the one that is open.
+    /// Closes the open file, and opens the one with this name.
+    ///
+    /// Errors: `Failed`, which is a fault, and `OutOfMemory`. No file is open then.
     fn open_file(&mut self, name: &str) -> Result<(), OpenFault>
-        ensures opened { Opens result (content self.old name.now) (left self.new) }
-        ensures asked { asked self.new ≡ asking_after result name.now (faults self.old) (asked self.old) }
-        ensures cause { IsErrOf result OpenFault.Failed → HasRisen (faults self.old) (faults self.new) }
-        ensures later { faults self.old ≤ faults self.new }
-        ensures same { content self.new ≡ content self.old };
+        ensures opened { Opens result ((state self.old).content name.now) (state self.new).left }
+        ensures asked { (state self.new).asked
+            ≡ asked_after result name.now (state self.old).faults (state self.old).asked }
+        ensures cause { IsErrOf result OpenFault.Failed
+            → HasRisen (state self.old).faults (state self.new).faults }
+        ensures later { (state self.old).faults ≤ (state self.new).faults }
+        ensures same { (state self.new).content ≡ (state self.old).content };
 
-    /// How many bytes moved into the front of the buffer: 0, for a buffer that is not empty, at the file's end.
+    /// Reads bytes into the front of the buffer, and returns their number. For a buffer that is not
+    /// empty, the number is 0 only at the end of the file.
+    ///
+    /// Errors: `Failed`, which is a fault.
     fn read(&mut self, buf: &mut [u8]) -> Result<usize, Failed>
         ensures most { IfOk result (λ n. n ≤ length buf.old) }
-        ensures moved { IfOk result (λ n. IfSome (left self.old) (λ bytes. Moves n bytes buf.new (left self.new))) }
-        ensures cause { IsErr result → HasRisen (faults self.old) (faults self.new) }
-        ensures later { faults self.old ≤ faults self.new }
-        ensures asked { asked self.new ≡ asked self.old }
-        ensures same { content self.new ≡ content self.old };
+        ensures moved { IfOk result (λ n. IfSome (state self.old).left
+            (λ bytes. Moves n bytes buf.new (state self.new).left)) }
+        ensures cause { IsErr result → HasRisen (state self.old).faults (state self.new).faults }
+        ensures later { (state self.old).faults ≤ (state self.new).faults }
+        ensures asked { (state self.new).asked ≡ (state self.old).asked }
+        ensures same { (state self.new).content ≡ (state self.old).content };
 }
 
-/// Where bytes are written.
+/// A destination of bytes. A sink counts its faults: the writes that fail.
 pub trait Sink {
-    // The bytes written, where told.
-    ghost written: { Self → Option (List ℕ) };
+    // The bytes written, if they are known to the contract, and the count of faults.
+    ghost state: { Self → SinkState };
 
-    ghost faults: { Self → ℕ };
-
-    /// How many bytes of the piece's front were taken: at least one of a piece that is not empty.
+    /// Writes the first bytes of a piece, and returns their number: at least 1 if the piece is not
+    /// empty.
+    ///
+    /// Errors: `Failed`, which is a fault. No byte is written then.
     fn write(&mut self, bytes: &[u8]) -> Result<usize, Failed>
         ensures most { IfOk result (λ n. n ≤ length bytes.now) }
         ensures some { IfOk result (λ n. 0 < length bytes.now → 0 < n) }
-        ensures added { IfOk result (λ n. Adds (written self.old) (written self.new) (take n bytes.now)) }
-        ensures failed { OnErr result (written self.new ≡ written self.old) }
-        ensures cause { IsErr result → HasRisen (faults self.old) (faults self.new) }
-        ensures later { faults self.old ≤ faults self.new };
+        ensures added { IfOk result (λ n. Adds (state self.old).written (state self.new).written
+            (take n bytes.now)) }
+        ensures failed { OnErr result (Adds (state self.old).written (state self.new).written []) }
+        ensures cause { IsErr result → HasRisen (state self.old).faults (state self.new).faults }
+        ensures later { (state self.old).faults ≤ (state self.new).faults };
 }
 
-// Counts one more fault. At the end of its type the count stands still.
+// Counts one more fault. The count stops at the maximum of its type.
 pub(crate) fn raise(count: &mut u64)
     ensures risen { HasRisen count.old count.new }
     ensures later { count.old ≤ count.new }

@@ -15,7 +15,7 @@ use Rattle.sessions.specs.Sessions as sessions
 use Rattle.sessions.specs.Sessions.{Setting, Moment, Places, Serves}
 use Rattle.sessions.proofs.Placing.{one_if, count-cons, count-none}
 
--- where each element passes, the count is the length
+-- if each element passes, the count is the length
 count-all : (p : ℕ → Bool) (xs : List ℕ) → ((i : ℕ) → i < length xs → p (slice_index xs i) ≡ true) → count_by p xs ≡ length xs
 count-all p [] all = refl
 count-all p (x ∷ xs) all =
@@ -55,7 +55,7 @@ module _ (b : ℕ) where
   none-large = count-none (λ k. has_kind s k kinds.LargeHead || has_kind s k kinds.LargeTail) (range_with_len 0 b)
       (λ i less. ap (λ k. has_kind s k kinds.LargeHead || has_kind s k kinds.LargeTail) (at i less) ∙ false_from_ne_true _ (not-large i))
 
-  -- a block may be granted, whatever is held back
+  -- a block may be granted, under each reserve
   granted : 4 ≤ b → (reserve : Reserve) → MayGrant reserve s
   granted least Nothing = (let e : free_of s ≡ b = all-free in omega arith)
   granted least Copies = (let e : free_of s ≡ b = all-free in let f : large_of s ≡ 0 = none-large in omega arith)
@@ -64,7 +64,7 @@ module _ (b : ℕ) where
   pub small-fits : 4 ≤ b → (p : Plan) (size : ℕ) → size ≤ 2048 → Fits (rules_of p) s size
   small-fits least p size small = subst (λ (x : Bool). MatchBool x (FitsSmall (rules_of p) s size) (FitsLarge (rules_of p) s (blocks_for size))) (sym (le-leb size 2048 small)) (inr (granted least (rules_of p).reserve))
 
--- so a need that stands there is served at once
+-- so a need on the empty heap is served at once
 pub served-at-once : (t : Setting) (p : Plan) (b m d refs nums : ℕ) (before now : Moment) → 4 ≤ b → t.rules ≡ rules_of p → before.heap ≡ empty_heap b → size_of refs nums ≤ 2048
     → Serves t m d refs nums before now → Places t m d refs nums before now
 served-at-once t p b m d refs nums before now least rules heap small serves =

@@ -7,21 +7,22 @@ use Rattle.object_model.specs.declared.collect.Collect.{Collect}
 use Rattle.object_model.specs.declared.collect.Collect.TheVariants.{Full}
 use Rattle.object_model.specs.Objects.{HeapState, empty_heap, is_start, is_unlogged, IsHeld}
 use Rattle.object_model.specs.Graphs as graphs
-use Rattle.object_model.specs.Graphs.{Arrives}
+use Rattle.object_model.specs.Graphs.{IsReachable}
+use Rattle.object_model.specs.Ages.{is_old, is_logged}
 use Rattle.object_model.proofs.Zeros as zeros
 use Rattle.sessions.specs.Plans.{Plan, Rules, rules_of}
-use Rattle.sessions.specs.Collecting.{Collects, CollectsIf, IsCollection, IsEmptied, is_old, is_logged}
+use Rattle.sessions.specs.Collecting.{Collects, CollectsIf, IsCollection, IsEmptied, is_logged_under}
 use Rattle.sessions.proofs.Beginning.{is-free}
 
-counted : (collects : Bool) (r : Rules) (workers : ℕ) (c : Collect) (old new : HeapState) (roots after : List ℕ) → CollectsIf collects r workers c old roots new after
+counts_after : (collects : Bool) (r : Rules) (workers : ℕ) (c : Collect) (old new : HeapState) (roots after : List ℕ) → CollectsIf collects r workers c old roots new after
     → (new.number ≡ old.number + 1) × (new.blocks ≡ old.blocks)
-counted true r workers c old new roots after collects = (collects.number, collects.layout)
-counted false r workers c old new roots after counts = (ap (λ (s : HeapState). s.number) counts.heap, ap (λ (s : HeapState). s.blocks) counts.heap)
+counts_after true r workers c old new roots after collects = (collects.number, collects.layout)
+counts_after false r workers c old new roots after counts = (ap (λ (s : HeapState). s.number) counts.heap, ap (λ (s : HeapState). s.blocks) counts.heap)
 
--- each collection raises the number by one, and leaves the layout
+-- each collection increments the collection number and keeps the layout
 pub counts-one : (r : Rules) (workers : ℕ) (c : Collect) (old new : HeapState) (roots after : List ℕ) → IsCollection r workers c old roots new after
     → (new.number ≡ old.number + 1) × (new.blocks ≡ old.blocks)
-counts-one r = counted r.collects r
+counts-one r = counts_after r.collects r
 
 abbrev nils : ℕ → List ℕ
 nils n = replicate n 0
@@ -30,7 +31,7 @@ nils-map : (n : ℕ) → nils n ≡ map (λ (a : ℕ). 0) (nils n)
 nils-map zero = refl
 nils-map (suc n) = ap (λ (xs : List ℕ). 0 ∷ xs) (nils-map n)
 
--- a heap with nothing in it, and registers that are nil
+-- a heap without objects, and registers that are nil
 module _ (b n : ℕ) where
   abbrev old : HeapState
   old = empty_heap b
@@ -41,7 +42,7 @@ module _ (b n : ℕ) where
   none-held : (a : ℕ) → IsHeld new a → ⊥
   none-held a h = zeros.none_held b a (record { address = h.address; start = h.start })
 
-  none-arrives : (a : ℕ) → Arrives old (nils n) a → ⊥
+  none-arrives : (a : ℕ) → IsReachable old (nils n) a → ⊥
   none-arrives a (graphs.from_root i e some) = (let nil : slice_index (nils n) i ≡ 0 = zeros.zero_of n i in omega arith)
   none-arrives a (graphs.from_global g few e some) = (let nil = zeros.zero_word b (2 + g) in omega arith)
   none-arrives a (graphs.from_field x i before within e some) = none-arrives x before
@@ -49,9 +50,9 @@ module _ (b n : ℕ) where
   emptied : (k : ℕ) → IsEmptied new k
   emptied k a i holds = absurd (none-held a holds)
 
-  none-logged : (r : Rules) (a : ℕ) → IsTrue (is_logged r new a) → ⊥
+  none-logged : (r : Rules) (a : ℕ) → IsTrue (is_logged_under r new a) → ⊥
   none-logged r a h =
-      let started : IsTrue (is_start new a) = (and_parts (is_start new a) (is_old r new a) (and_parts (is_start new a && is_old r new a) (not (is_unlogged new a)) h).0).0 in
+      let started : IsTrue (is_start new a) = (and_parts (is_start new a) (is_old new a) (and_parts (is_start new a && is_old new a) (not (is_unlogged new a)) (and_parts r.young (is_logged new a) h).1).0).0 in
       none-held a (record { address = is-address_from_mark b StartBits new.words a started; start = started })
 
   pub collects-empty : (r : Rules) (workers : ℕ) → Collects r workers Full old (nils n) new (nils n)

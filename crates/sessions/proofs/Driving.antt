@@ -15,17 +15,17 @@ use Rattle.ideal_heap.specs.declared.reply.Reply.TheVariants as r
 use Rattle.ideal_heap.specs.Commands.{is_new, is_meet, is_gc, size_wanted}
 use Rattle.ideal_heap.specs.Ideal as ideal
 use Rattle.ideal_heap.specs.Ideal.{IdealHeap, step}
-use Rattle.ideal_heap.specs.Runs.{Entry, entry, Answers, after, after_entry, is_full, next_of, IsMutator, IsFront, IsOrder}
+use Rattle.ideal_heap.specs.Runs.{Entry, entry, Answers, after, after_entry, is_full, next_of, IsMutator, IsOrderPrefix, IsOrder}
 use Rattle.ideal_heap.proofs.RunLemmas.{after-append, extended}
 use Rattle.ideal_heap.proofs.OrderLemmas.{of_mutator-all, front_of_one, order_of_one}
 use Rattle.object_model.specs.declared.collect.Collect.TheVariants.{Full}
 use Rattle.object_model.specs.Objects.{HeapState, empty_heap, IsHeld, size_of, name_at}
-use Rattle.object_model.specs.Graphs.{MutatorState, Stands, numbers_of, beginner}
+use Rattle.object_model.specs.Graphs.{MutatorState, Represents, numbers_of, new_mutator}
 use Rattle.object_model.specs.Lawful.{IsLawful}
-use Rattle.object_model.specs.Mirrors.{Models}
-use Rattle.object_model.specs.Changes.{KeepsObjects}
+use Rattle.object_model.specs.Agreement.{RepresentsOn}
+use Rattle.object_model.specs.Changes.{ObjectsStay}
 use Rattle.object_model.proofs.Among.{all-to}
-use Rattle.object_model.proofs.Standing as standing
+use Rattle.object_model.proofs.Representation as standing
 use Rattle.object_model.proofs.Counts as counts
 use Rattle.object_model.proofs.Frames.{lawful-kept}
 use Rattle.object_model.proofs.Sets as sets
@@ -43,14 +43,14 @@ abbrev pub NotMeet : Option Command → Type 0
 NotMeet o = Sessions.is_at_meet o ≡ false
 
 -- and so what two steps leave
-pub keeps-both : (a s z : HeapState) → KeepsObjects a s → KeepsObjects s z → KeepsObjects a z
+pub keeps-both : (a s z : HeapState) → ObjectsStay a s → ObjectsStay s z → ObjectsStay a z
 keeps-both a s z one two = record {
   blocks = two.blocks ∙ one.blocks;
   number = two.number ∙ one.number;
   base = two.base ∙ one.base;
   extent = two.extent ∙ one.extent;
   starts = λ x. two.starts x ∙ one.starts x;
-  unlogs = λ x. two.unlogs x ∙ one.unlogs x;
+  unlogs = λ x set. one.unlogs x (two.unlogs x set);
   lines = λ k line there small. two.lines k line (subst (λ (n : ℕ). k < n) (sym one.blocks) there) small ∙ one.lines k line there small;
   block_words = λ k there. two.block_words k (subst (λ (n : ℕ). k < n) (sym one.blocks) there) ∙ one.block_words k there;
   headers = λ x i holds small. two.headers x i (record { address = subst (λ (n : ℕ). IsAddress n x) (sym one.blocks) holds.address; start = one.starts x ∙ holds.start }) small ∙ one.headers x i holds small;
@@ -131,7 +131,7 @@ module _ (b : ℕ) (trace : List Command) where
           served = served.served;
           needs = served.needs;
           meet = meets;
-          front = subst (IsFront t.traces) (sym done_now) (front_of_one trace done entries commands);
+          front = subst (IsOrderPrefix t.traces) (sym done_now) (front_of_one trace done entries commands);
         });
         heap = after_stop.2 ∙ served.heap;
         mutators = after_stop.3 ∙ served.mutators;
@@ -151,7 +151,7 @@ module _ (b : ℕ) (trace : List Command) where
           whole = sym (append-nil over.now.done ∙ over.done_is);
           quiet = tt;
           runs = tt;
-          keeps = subst (KeepsObjects over.now.heap) over.heap (keeps-self over.now.heap);
+          keeps = subst (ObjectsStay over.now.heap) over.heap (keeps-self over.now.heap);
         }
   ]
 
@@ -179,7 +179,7 @@ module _ (b : ℕ) (trace : List Command) where
   pub quiet-step : (s s' : HeapState) (m m' : MutatorState) (done : List Entry) (command : Command) (reply : Reply) → Driven b trace s m done
       → slice_get trace (length done) ≡ Some command → is_new command ≡ false → is_gc command ≡ false → is_meet command ≡ false
       → reply ≡ (step (after ideal.empty done) 1 command).0 → is_full reply ≡ false → ((n : Name) → reply ≢ r.New n)
-      → KeepsObjects s s' → m'.number ≡ 1 → m'.births ≡ m.births → Models s' (m' ∷ []) (step (after ideal.empty done) 1 command).1 (IsHeld s')
+      → ObjectsStay s s' → m'.number ≡ 1 → m'.births ≡ m.births → RepresentsOn s' (m' ∷ []) (step (after ideal.empty done) 1 command).1 (IsHeld s')
       → Driven b trace s' m' (done ++ entry 1 command reply ∷ [])
   quiet-step s s' m m' done command reply driven next not_new not_gc not_meet answers not_full no_birth keeps number births models =
       let e : Entry = entry 1 command reply in
@@ -202,7 +202,7 @@ module _ (b : ℕ) (trace : List Command) where
         });
         run = extended ideal.empty done e driven.run (inl answers);
         lawful = lawful-kept s s' keeps driven.lawful models.order;
-        models = subst (λ (h : IdealHeap). Models s' (m' ∷ []) h (IsHeld s')) (sym (after-more done e ∙ step-entry (after ideal.empty done) command reply not_full)) models;
+        models = subst (λ (h : IdealHeap). RepresentsOn s' (m' ∷ []) h (IsHeld s')) (sym (after-more done e ∙ step-entry (after ideal.empty done) command reply not_full)) models;
         number = number;
         entries = all-more (λ x. x.mutator ≡ 1) done e driven.entries refl;
         commands = commands-more done e driven.commands next;
@@ -227,18 +227,18 @@ module _ (b : ℕ) (trace : List Command) where
         causes = λ k is. subst (λ (q : ℕ). Sessions.EndsBy t (stop_of s m done inside) (λ _. cause) q cause) (sym (lone k is)) ends;
         stopped = subst (λ (ns : List ℕ). Sessions.Stopped (rules_of NoGc) ns inside.base.heap (Sessions.ideal_at inside.base) inside.part s (m ∷ [])) numbers
             (quiet-stopped inside.base.heap s (Sessions.ideal_at inside.base) inside.part (m ∷ []) inside.keeps inside.quiet driven.lawful
-            (subst (λ (h : IdealHeap). Stands s (m ∷ []) h) heap (standing.stands s (m ∷ []) (after ideal.empty done) (IsHeld s) driven.models)));
+            (subst (λ (h : IdealHeap). Represents s (m ∷ []) h) heap (standing.represents s (m ∷ []) (after ideal.empty done) (IsHeld s) driven.models)));
         counts = (refl, refl);
         needs = λ k d refs nums is places. absurd (true≢false (sym places));
         served = λ places. all-to IsQuiet (λ e. is_new e.command ≡ false) (λ e q. q.command) inside.part inside.quiet;
       }
 
-  pub sound-of : (s : HeapState) (m : MutatorState) (done : List Entry) (nursery full : ℕ) → IsLawful s → Models s (m ∷ []) (after ideal.empty done) (IsHeld s) → m.number ≡ 1
+  pub sound-of : (s : HeapState) (m : MutatorState) (done : List Entry) (nursery full : ℕ) → IsLawful s → RepresentsOn s (m ∷ []) (after ideal.empty done) (IsHeld s) → m.number ≡ 1
       → Sessions.IsSound t (record { heap = s; mutators = m ∷ []; done = done; nursery = nursery; full = full })
   sound-of s m done nursery full lawful models number = record {
     lawful = lawful;
     remembers = remembers s;
-    stands = standing.stands s (m ∷ []) (after ideal.empty done) (IsHeld s) models;
+    represents = standing.represents s (m ∷ []) (after ideal.empty done) (IsHeld s) models;
     listed = ap (λ k. k ∷ []) number;
   }
 
@@ -269,7 +269,7 @@ module _ (b : ℕ) (trace : List Command) where
   replied : (s s' : HeapState) (m m' : MutatorState) (done : List Entry) (d refs nums : ℕ) (reply : Reply) (driven : Driven b trace s m done)
       → slice_get trace (length done) ≡ Some (c.New d refs nums) → Answers (after ideal.empty done) (entry 1 (c.New d refs nums) reply)
       → IsServed t s' m' (done ++ entry 1 (c.New d refs nums) reply ∷ [])
-      → IsLawful s' → Models s' (m' ∷ []) (after ideal.empty (done ++ entry 1 (c.New d refs nums) reply ∷ [])) (IsHeld s')
+      → IsLawful s' → RepresentsOn s' (m' ∷ []) (after ideal.empty (done ++ entry 1 (c.New d refs nums) reply ∷ [])) (IsHeld s')
       → m'.number ≡ 1 → m'.births ≤ m.births + 1 → s'.number ≤ s.number + 1
       → Driven b trace s' m' (done ++ entry 1 (c.New d refs nums) reply ∷ [])
   replied s s' m m' done d refs nums reply driven next answers served lawful models number births collections =
@@ -311,7 +311,7 @@ module _ (b : ℕ) (trace : List Command) where
       replied s (counts.counted s) m m done d refs nums r.Full driven next answers
       (served-by s (counts.counted s) m m done e d refs nums (inside.base.full + 1) driven inside next
       (Sessions.refused stop late no_fit refl collection no_fit_after (record { rest = refl; runs = (answers, tt) })))
-      (counts.lawful-counted s driven.lawful) (subst (λ (h : IdealHeap). Models (counts.counted s) (m ∷ []) h (IsHeld (counts.counted s))) (sym same) held-models)
+      (counts.lawful-counted s driven.lawful) (subst (λ (h : IdealHeap). RepresentsOn (counts.counted s) (m ∷ []) h (IsHeld (counts.counted s))) (sym same) held-models)
       driven.number (omega arith) (omega arith)
 
   -- a `new` that is placed
@@ -323,7 +323,7 @@ module _ (b : ℕ) (trace : List Command) where
       → Sessions.PlacesSmall (rules_of NoGc) s place (size_of refs nums) → Sessions.UsesBlock (rules_of NoGc) s s' (block_at s.blocks place) (size_of refs nums)
       → Sessions.ChangesBlocks s s' (block_at s.blocks place) 1
       → name_at s' place ≡ name 1 ((after ideal.empty done).births 1 + 1)
-      → IsLawful s' → Models s' (m' ∷ []) (ideal.with_new (after ideal.empty done) 1 d refs nums) (IsHeld s')
+      → IsLawful s' → RepresentsOn s' (m' ∷ []) (ideal.with_new (after ideal.empty done) 1 d refs nums) (IsHeld s')
       → m'.number ≡ 1 → m'.births ≡ m.births + 1
       → Driven b trace s' m' (done ++ entry 1 (c.New d refs nums) (r.New (name 1 ((after ideal.empty done).births 1 + 1))) ∷ [])
   placed-step s s' m m' done d refs nums place driven next small fits layout object spot uses changes named lawful models number births =
@@ -333,8 +333,8 @@ module _ (b : ℕ) (trace : List Command) where
       let e : Entry = entry 1 (c.New d refs nums) reply in
       let now : Sessions.Moment = record { heap = s'; mutators = m' ∷ []; done = done ++ e ∷ []; nursery = inside.base.nursery; full = inside.base.full } in
       let answers : Answers h e = inl (sym (new-reply h 1 d refs nums)) in
-      let models_after : Models s' (m' ∷ []) (after ideal.empty (done ++ e ∷ [])) (IsHeld s') =
-      subst (λ (x : IdealHeap). Models s' (m' ∷ []) x (IsHeld s')) (sym (after-more done e ∙ step-entry h (c.New d refs nums) reply refl ∙ new-heap h 1 d refs nums)) models in
+      let models_after : RepresentsOn s' (m' ∷ []) (after ideal.empty (done ++ e ∷ [])) (IsHeld s') =
+      subst (λ (x : IdealHeap). RepresentsOn s' (m' ∷ []) x (IsHeld s')) (sym (after-more done e ∙ step-entry h (c.New d refs nums) reply refl ∙ new-heap h 1 d refs nums)) models in
       replied s s' m m' done d refs nums reply driven next answers
       (served-by s s' m m' done e d refs nums inside.base.full driven inside next (Sessions.at_once (record {
         fits = fits;
@@ -372,7 +372,7 @@ module _ (b : ℕ) (trace : List Command) where
             served = stop;
             needs = refl;
             meet = meets;
-            front = subst (IsFront t.traces) (sym done_now) (front_of_one trace done driven.entries driven.commands);
+            front = subst (IsOrderPrefix t.traces) (sym done_now) (front_of_one trace done driven.entries driven.commands);
           });
           order = subst (IsOrder t.traces) (sym done_now) (order_of_one trace done driven.entries (driven.commands ∙ take_all (length done) trace past));
         },
@@ -382,7 +382,7 @@ module _ (b : ℕ) (trace : List Command) where
       )
 
   -- a session of one mutator begins
-  pub begun : 4 ≤ b → b ≤ 1024 → Driven b trace (empty_heap b) (beginner 1) []
+  pub begun : 4 ≤ b → b ≤ 1024 → Driven b trace (empty_heap b) (new_mutator 1) []
   begun least most = record {
     phase = inl (record {
       base = Sessions.first_moment t;

@@ -15,12 +15,12 @@ use Rattle.sessions.specs.Sessions.{Setting, Moment, Replies, RunsPart, MakesCol
 abbrev Run : Moment → Type 0
 Run now = IsRun empty now.done
 
--- replies go on with the run
+-- replies continue the run
 replied : (es : List Entry) (before now : Moment) → Replies es before now → Run before → Run now
 replied es before now replies run =
     subst (λ (x : Moment). Run x) (sym replies.rest) (longer empty before.done es run replies.runs)
 
--- and so does a part
+-- so does a part
 ran : (t : Setting) (before now : Moment) (ends : ℕ → sessions.Cause) → RunsPart t before ends now → Run before → Run now
 ran t before now ends part run = subst (IsRun empty) (sym part.done) (longer empty before.done part.part run part.runs)
 
@@ -66,7 +66,7 @@ pub session-run : (t : Setting) (now : Moment) → InSession t now → IsRun emp
 session-run t now sessions.begun = tt
 session-run t now (sessions.longer before session epoch) = epoch-run t before now epoch (session-run t before session)
 
--- where there is one trace, each entry is of mutator 1
+-- if there is one trace, each entry is of mutator 1
 lone-entries : (trace : List Command) (es : List Entry) → AllByRecursion (λ e. IsMutator (trace ∷ []) e.mutator) es → AllByRecursion (λ e. e.mutator ≡ 1) es
 lone-entries trace [] all = tt
 lone-entries trace (e ∷ es) all = ((let least : 1 ≤ e.mutator = all.0.0 in let most : e.mutator ≤ 1 = all.0.1 in omega arith), lone-entries trace es all.1)
@@ -79,7 +79,7 @@ replies-alone t trace last one whole none =
     alone-of empty 1 last.done (session-run t last whole.session) (lone-entries trace last.done order.mutators) none
     ∙ ap (alone empty 1) (order.commands 1 (omega arith, omega arith))
 
--- and so those of any two
+-- the replies of two such sessions are the same
 pub replies-same : (t u : Setting) (trace : List Command) (last end : Moment) → t.traces ≡ trace ∷ [] → u.traces ≡ trace ∷ [] → IsWhole t last → IsWhole u end
     → AllByRecursion (λ e. is_full e.reply ≡ false) last.done → AllByRecursion (λ e. is_full e.reply ≡ false) end.done → replies_of 1 last.done ≡ replies_of 1 end.done
 replies-same t u trace last end one one' whole whole' none none' = replies-alone t trace last one whole none ∙ sym (replies-alone u trace end one' whole' none')

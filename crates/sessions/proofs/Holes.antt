@@ -9,13 +9,13 @@ use Rattle.heap_layout.specs.declared.block.Kind.{Kind}
 use Rattle.heap_layout.specs.declared.block.Kind.TheVariants as kinds
 use Rattle.heap_layout.specs.Blocks.{kind_code}
 use Rattle.object_model.specs.Objects.{HeapState, HasKind, class_at, is_start, IsHeld, IsInExtent, size_at, cell_words}
-use Rattle.object_model.specs.Lawful.{IsOrderly, IsRunOfBlocks, LiesInBlock, AreLinesRight}
+use Rattle.object_model.specs.Lawful.{IsWellFormed, IsRunOfBlocks, LiesInBlock, LineBitsAreExact}
 use Rattle.object_model.proofs.ObjectReads.{place_of_address}
 use Rattle.object_model.proofs.OneKind.{one-kind}
 use Rattle.sessions.specs.Fitting.{IsTail, IsFreeCell, HasLineHole, HasHole, LiesInLineHole, LiesInHole, class_of}
 use Rattle.sessions.proofs.Tails.{small-block}
 
--- what is found passes
+-- an element that find returns passes the test
 found-passes : {X : Type 0} (p : X → Bool) (y x : X) (b : Bool) (rest : Option X) → p y ≡ b → (rest ≡ Some x → p x ≡ true) → cond b (Some y) rest ≡ Some x → p x ≡ true
 found-passes p y x true rest passes later e = subst (λ z. p z ≡ true) (ap (λ o. unwrap_or o y) e) passes
 found-passes p y x false rest fails later e = later e
@@ -25,7 +25,7 @@ find-passes p [] x e = absurd (none-some x e)
 find-passes p (y ∷ ys) x e = found-passes p y x (p y) (find p ys) refl (find-passes p ys x) e
 
 -- a class that is for a size has room for it
-class-room : (size class : ℕ) → class_of size ≡ Some class → size ≤ cell_words class
+pub class-room : (size class : ℕ) → class_of size ≡ Some class → size ≤ cell_words class
 class-room size class e = leb-true size (cell_words class) (find-passes (λ c. nat_le size (cell_words c)) (range_with_len 0 19) class e)
 
 -- one number of cells is before an offset that lies in a cell
@@ -39,7 +39,7 @@ same-cell i j c at i_from i_below j_from j_below = elim (cases_lt i j) as (λ _.
 ]
 
 -- a word of a held object in a block that is none of a large run
-module _ (s : HeapState) (order : IsOrderly s) (k : ℕ) (kind : Kind) (is : HasKind s k kind) (no_head : kind_code kind ≢ 6) (no_tail : kind_code kind ≢ 7)
+module _ (s : HeapState) (order : IsWellFormed s) (k : ℕ) (kind : Kind) (is : HasKind s k kind) (no_head : kind_code kind ≢ 6) (no_tail : kind_code kind ≢ 7)
     (a i : ℕ) (holds : IsHeld s a) (inside : IsInExtent s a i) (here : block_at s.blocks i ≡ k) where
   in-run : {j n : ℕ} → IsRunOfBlocks s j n → k < j + n → j ≤ k → ⊥
   in-run {j} {n} run within from = elim (cases_eq k j) as (λ _. ⊥) [
@@ -64,7 +64,7 @@ module _ (s : HeapState) (order : IsOrderly s) (k : ℕ) (kind : Kind) (is : Has
             (sym (small-block s a i (size_at s a) holds.address lies.within from below) ∙ here, lies)
       ]
 
-  -- where its words begin and end there
+  -- where its words begin and end in the block
   places : (offset_at s.blocks a ≤ offset_at s.blocks i) × (offset_at s.blocks i < offset_at s.blocks a + size_at s a)
   places =
       let base : heap_of s.blocks ≤ a = holds.address.from in
@@ -73,10 +73,10 @@ module _ (s : HeapState) (order : IsOrderly s) (k : ℕ) (kind : Kind) (is : Has
       let block : block_at s.blocks a ≡ k = lies-here.0 in
       (omega arith, omega arith)
 
-  tail-clear : (at : ℕ) → IsTail s k at → at ≤ offset_at s.blocks i → ⊥
-  tail-clear at tail past = (let end : offset_at s.blocks a + size_at s a ≤ at = tail.behind a holds lies-here.0 in let within = places.1 in omega arith)
+  pub tail-clear : (at : ℕ) → IsTail s k at → at ≤ offset_at s.blocks i → ⊥
+  tail-clear at tail past = (let end : offset_at s.blocks a + size_at s a ≤ at = tail.after a holds lies-here.0 in let within = places.1 in omega arith)
 
-  cell-clear : (at : ℕ) → HasKind s k kinds.Cells → IsFreeCell s k at → at ≤ offset_at s.blocks i → offset_at s.blocks i < at + cell_words (class_at s k) → ⊥
+  pub cell-clear : (at : ℕ) → HasKind s k kinds.Cells → IsFreeCell s k at → at ≤ offset_at s.blocks i → offset_at s.blocks i < at + cell_words (class_at s k) → ⊥
   cell-clear at cells free from below =
       let c : ℕ = cell_words (class_at s k) in
       let block : block_at s.blocks a ≡ k = lies-here.0 in
@@ -94,19 +94,19 @@ module _ (s : HeapState) (order : IsOrderly s) (k : ℕ) (kind : Kind) (is : Has
       free.free (subst (λ (x : ℕ). IsTrue (is_start s x)) e holds.start)
 
 -- no word of a held object lies in the words that a new object takes in a hole
-pub hole-clear : (fill : Kind) (s : HeapState) (k from size a i : ℕ) → IsOrderly s → AreLinesRight s k → LiesInHole fill s k from size → IsHeld s a → IsInExtent s a i
+pub hole-clear : (fill : Kind) (s : HeapState) (k from size a i : ℕ) → IsWellFormed s → LineBitsAreExact s k → LiesInHole fill s k from size → IsHeld s a → IsInExtent s a i
     → block_at s.blocks i ≡ k → from ≤ offset_at s.blocks i → offset_at s.blocks i < from + size → ⊥
 hole-clear kinds.Bump s k from size a i order right lies holds inside here past below =
-    tail-clear s order k kinds.Bump lies.0 (λ e. omega arith) (λ e. omega arith) a i holds inside here lies.1.at lies.1.tail (let behind : lies.1.at ≤ from = lies.1.behind in omega arith)
+    tail-clear s order k kinds.Bump lies.0 (λ e. omega arith) (λ e. omega arith) a i holds inside here lies.1.at lies.1.tail (let behind : lies.1.at ≤ from = lies.1.after in omega arith)
 hole-clear kinds.Young s k from size a i order right lies holds inside here past below =
-    tail-clear s order k kinds.Young lies.0 (λ e. omega arith) (λ e. omega arith) a i holds inside here lies.1.at lies.1.tail (let behind : lies.1.at ≤ from = lies.1.behind in omega arith)
+    tail-clear s order k kinds.Young lies.0 (λ e. omega arith) (λ e. omega arith) a i holds inside here lies.1.at lies.1.tail (let behind : lies.1.at ≤ from = lies.1.after in omega arith)
 hole-clear kinds.Cells s k from size a i order right lies holds inside here past below =
     cell-clear s order k kinds.Cells lies.0 (λ e. omega arith) (λ e. omega arith) a i holds inside here from lies.0 lies.1 past
     (let room : size ≤ cell_words (class_at s k) = class-room size (class_at s k) lies.2 in omega arith)
 hole-clear kinds.Immix s k from size a i order right lies holds inside here past below =
     let hole : LiesInLineHole s k from size = lies.1 in
     let line : ℕ = offset_at s.blocks i / 16 in
-    let behind : 16 * hole.line ≤ from = hole.behind in
+    let behind : 16 * hole.line ≤ from = hole.after in
     let within : from + size ≤ 16 * (hole.line + hole.len) = hole.inside in
     let end : hole.line + hole.len ≤ 256 = hole.hole.inside in
     let base : heap_of s.blocks ≤ a = holds.address.from in
@@ -119,16 +119,16 @@ hole-clear kinds.LargeHead s k from size a i order right lies holds inside here 
 hole-clear kinds.LargeTail s k from size a i order right lies holds inside here past below = lies
 hole-clear kinds.Kept s k from size a i order right lies holds inside here past below = lies
 
--- an object at the front of a hole lies in it
+-- an object at the start of a hole lies in it
 pub hole-front : (fill : Kind) (s : HeapState) (k at size : ℕ) → HasHole fill s k at size → LiesInHole fill s k at size
-hole-front kinds.Bump s k at size hole = (hole.0, record { at = at; tail = hole.1; behind = omega arith; inside = hole.2 })
-hole-front kinds.Young s k at size hole = (hole.0, record { at = at; tail = hole.1; behind = omega arith; inside = hole.2 })
+hole-front kinds.Bump s k at size hole = (hole.0, record { at = at; tail = hole.1; after = omega arith; inside = hole.2 })
+hole-front kinds.Young s k at size hole = (hole.0, record { at = at; tail = hole.1; after = omega arith; inside = hole.2 })
 hole-front kinds.Cells s k at size hole = hole
 hole-front kinds.Immix s k at size hole =
     let lines : HasLineHole s k at size = hole.1 in
     let start : at ≡ 16 * lines.line = lines.start in
     let room : (size + 15) / 16 ≤ lines.len = lines.room in
-    (hole.0, record { line = lines.line; len = lines.len; hole = lines.hole; behind = omega arith; inside = omega arith })
+    (hole.0, record { line = lines.line; len = lines.len; hole = lines.hole; after = omega arith; inside = omega arith })
 hole-front kinds.Free s k at size hole = hole
 hole-front kinds.Mature s k at size hole = hole
 hole-front kinds.LargeHead s k at size hole = hole

@@ -8,3 +8,7 @@ pub mod Histories
 pub mod Beginning
 pub mod Holes
 pub mod Counting
+mod Nurseries
+pub mod Soundness
+pub mod CollectionLaws
+mod LargePlacing

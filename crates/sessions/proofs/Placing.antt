@@ -9,10 +9,11 @@ use Rattle.heap_layout.specs.Zones.{BlockWords, first, heap_of, block_at, offset
 use Rattle.heap_layout.specs.declared.block.Kind.TheVariants as kinds
 use Rattle.ideal_heap.specs.declared.name.Name.{Name}
 use Rattle.object_model.specs.Objects.{HeapState, with_words, word_at, block_word, has_kind, HasKind, is_pinned, is_unlogged, IsHeld, name_at, size_of, blocks_for}
-use Rattle.object_model.specs.Lawful.{IsOrderly}
+use Rattle.object_model.specs.Lawful.{IsWellFormed}
 use Rattle.object_model.specs.Changes.{WritesObject}
 use Rattle.object_model.proofs.Births as births
-use Rattle.object_model.proofs.Births.{IsRoom}
+use Rattle.object_model.proofs.Births.{Adds}
+use Rattle.object_model.specs.Births.{IsRoom}
 use Rattle.object_model.proofs.Blocks as blocks
 use Rattle.object_model.proofs.Blocks.{SameHeap}
 use Rattle.object_model.proofs.OneKind.{kind-within, one-kind, has_small-bump}
@@ -23,7 +24,7 @@ use Rattle.sessions.specs.Sessions.{PlacesSmall, ChangesBlocks, AddsObject}
 use Rattle.sessions.specs.Bumping.{AreTails, ArePast}
 use Rattle.sessions.proofs.Tails.{tail-unique, place-block, place-offset, place-address, place-apart}
 
--- an element that passes is counted, and where none passes the count is 0
+-- an element that passes is counted, and if none passes the count is 0
 abbrev pub one_if : Bool → ℕ
 one_if b = cond b 1 0
 
@@ -56,7 +57,7 @@ free-none s none = count-none (λ q. has_kind s q kinds.Free) (range_with_len 0 
     let e : slice_index (range_with_len 0 s.blocks) i ≡ i = get_or-range_with_len 0 s.blocks i 0 there ∙ zero-add i in
     ap (λ q. has_kind s q kinds.Free) e ∙ false_from_ne_true (has_kind s i kinds.Free) (none i there))
 
--- holes, where the tails of all Bump blocks are known
+-- holes, if the tails of all Bump blocks are known
 module _ (s : HeapState) (ends : List ℕ) (tails : AreTails s ends) (size : ℕ) where
   pub hole-is : (k from : ℕ) → HasHole kinds.Bump s k from size → (k < length ends) × (from ≡ slice_index ends k) × (from + size ≤ 4096)
   hole-is k from hole = elim (cases_lt k (length ends)) as (λ _. (k < length ends) × (from ≡ slice_index ends k) × (from + size ≤ 4096)) [
@@ -71,7 +72,7 @@ module _ (s : HeapState) (ends : List ℕ) (tails : AreTails s ends) (size : ℕ
     | inr above ↦ above
   ]
 
-  -- where no block has room there is no hole
+  -- if no block has room, there is no hole
   pub no-hole : ArePast ends size (length ends) → HasSomeHole kinds.Bump s size → ⊥
   no-hole past hole = (let above : length ends ≤ hole.block = hole-above (length ends) hole.block hole.offset past hole.hole in
       let below : hole.block < length ends = (hole-is hole.block hole.offset hole.hole).0 in omega arith)
@@ -89,7 +90,7 @@ large-never s size large fits =
     subst (λ (b : Bool). MatchBool b (FitsSmall (rules_of NoGc) s size) (FitsLarge (rules_of NoGc) s (blocks_for size))) (lt-leb size 2048 large) fits in
     false≢true found.placed
 
--- where all blocks are Bump blocks without room, a size does not fit
+-- if all blocks are Bump blocks without room, a size does not fit
 pub full-never : (s : HeapState) (ends : List ℕ) (tails : AreTails s ends) (size : ℕ) → size ≤ 2048 → s.blocks ≤ length ends → ArePast ends size (length ends)
     → Fits (rules_of NoGc) s size → ⊥
 full-never s ends tails size small all past fits =
@@ -98,66 +99,68 @@ full-never s ends tails size small all past fits =
       | inr some ↦ (let none : free_of s ≡ 0 = free-none s (λ k there is. let same = one-kind s k kinds.Bump kinds.Free (tails.bump k (omega arith)) is in cc) in omega arith)
     ]
 
--- A small object that is written at the front of the tail of block low, from a heap in which that block is what it was, or was Free.
-module _ (s : HeapState) (w1 w2 : List ℕ) (same : SameHeap s w1) (unlogs : (x : ℕ) → is_unlogged (with_words s w1) x ≡ is_unlogged s x)
-    (low : ℕ) (front : (i : ℕ) → i < first s.blocks BlockWords → word_at (with_words s w1) i ≡ word_at s i)
+-- A small object that is written at the front of the tail of block low, from a heap in which that block is unchanged, or was Free.
+module _ (s : HeapState) (w1 w2 : List ℕ) (same : SameHeap s w1) (low : ℕ) (front : (i : ℕ) → i < first s.blocks BlockWords → word_at (with_words s w1) i ≡ word_at s i)
     (others : (k : ℕ) → k < s.blocks → k ≢ low → block_word (with_words s w1) k ≡ block_word s k)
     (a : ℕ) (n : Name) (refs nums : ℕ) (writes : WritesObject (with_words s w1) (with_words s w2) a n refs nums)
-    (order : IsOrderly (with_words s w1)) (room : IsRoom (with_words s w1) a n refs nums) (in_low : block_at s.blocks a ≡ low) where
+    (order : IsWellFormed (with_words s w1)) (room : IsRoom (with_words s w1) a n refs nums) (in_low : block_at s.blocks a ≡ low) where
   abbrev between : HeapState
   between = with_words s w1
 
   abbrev after : HeapState
   after = with_words s w2
 
+  put : Adds between w2 a n refs nums
+  put = births.adds between w2 a n refs nums writes room.vacant.address
+
   held-between : (x : ℕ) → IsHeld s x → IsHeld between x
   held-between x holds = blocks.held-after s w1 same x holds
 
   fresh : IsHeld s a → ⊥
-  fresh holds = births.not-held between w2 a n refs nums writes order room (held-between a holds)
+  fresh holds = births.not-held between w2 a n refs nums put room.vacant (held-between a holds)
 
   unmarked : (x : ℕ) → IsTrue (is_pinned between x || is_unlogged between x) → x ≢ a
-  unmarked x h e = births.not-held between w2 a n refs nums writes order room (subst (IsHeld between) e (order.objects.marks x h))
+  unmarked x h e = births.not-held between w2 a n refs nums put room.vacant (subst (IsHeld between) e (order.objects.marks x h))
 
   pub adds : AddsObject s after a refs nums
   adds = record {
-    held = births.held-new between w2 a n refs nums writes order room;
+    held = births.held-new between w2 a n refs nums put room.vacant;
     fresh = fresh;
     others = λ x other. (
-      (λ holds. births.held-after between w2 a n refs nums writes order room x (held-between x holds)),
-      (λ holds. blocks.held-before s w1 same x (births.held-before between w2 a n refs nums writes order room x other holds)),
+      (λ holds. births.held-after between w2 a n refs nums put room.vacant x (held-between x holds)),
+      (λ holds. blocks.held-before s w1 same x (births.held-before between w2 a n refs nums put room.vacant x other holds)),
     );
     shape = writes.shape;
     blank = writes.blank;
     unmarked = (
-      (λ is. unmarked a (or_left (is_pinned between a) (is_unlogged between a) (sym (births.pins-same between w2 a n refs nums writes order room a) ∙ is)) refl),
-      (λ is. unmarked a (or_right (is_pinned between a) (is_unlogged between a) (sym (births.unlogs-same between w2 a n refs nums writes order room a) ∙ is)) refl),
+      (λ is. unmarked a (or_left (is_pinned between a) (is_unlogged between a) (sym (put.pins a) ∙ is)) refl),
+      (λ is. unmarked a (or_right (is_pinned between a) (is_unlogged between a) (sym (put.unlogs a) ∙ is)) refl),
     );
-    words = λ x i holds less. births.object-word between w2 a n refs nums writes order room x i (held-between x holds)
+    words = λ x i holds less. births.object-word between w2 a n refs nums put room.vacant x i (held-between x holds)
         (subst (λ (q : ℕ). i < q) (sym (blocks.size-same s w1 same x holds)) less) ∙ blocks.at s w1 same x i holds;
-    bits = λ x holds. (births.pins-same between w2 a n refs nums writes order room x ∙ same.pins x, births.unlogs-same between w2 a n refs nums writes order room x ∙ unlogs x);
+    bits = λ x holds. (put.pins x ∙ same.pins x, put.unlogs x ∙ same.unlogs x);
   }
 
   pub block-same : (k : ℕ) → k < s.blocks → block_word after k ≡ block_word between k
-  block-same = births.block_words between w2 a n refs nums writes order room
+  block-same = births.block_words between w2 a n refs nums writes room.vacant.address
 
   pub block-other : (k : ℕ) → k < s.blocks → k ≢ low → block_word after k ≡ block_word s k
   block-other k there other = block-same k there ∙ others k there other
 
   pub changes : ChangesBlocks s after low 1
   changes = record {
-    front = λ i before. births.zone-word between w2 a n refs nums writes order room i (omega arith) (λ e. omega arith) ∙ front i before;
+    front = λ i before. births.zone-word between w2 a n refs nums writes room.vacant.address i (omega arith) (λ e. omega arith) ∙ front i before;
     elsewhere = λ i address away.
         let base : heap_of s.blocks ≤ i = address.from in
-        let base' : heap_of s.blocks ≤ a = room.address.from in
+        let base' : heap_of s.blocks ≤ a = room.vacant.address.from in
         let within : offset_at s.blocks a + size_of refs nums ≤ 4096 = room.place.within in
         let in_block : block_at s.blocks a ≡ low = in_low in
         let outside : (i < a) ⊎ (a + size_of refs nums ≤ i) = elim away as (λ _. (i < a) ⊎ (a + size_of refs nums ≤ i)) [ inl before ↦ inl (omega arith) | inr behind ↦ inr (omega arith) ] in
-        writes.others i outside (λ e. let zone = (births.start-in-zone between w2 a n refs nums writes order room).0 in omega arith) ∙ same.words i base;
+        writes.others i outside (λ e. let zone = (births.start-in-zone between w2 a n refs nums writes room.vacant.address).0 in omega arith) ∙ same.words i base;
   }
 
 -- the front of a tail with room is room for the object
-pub room-in-tail : (s : HeapState) (order : IsOrderly s) (k at : ℕ) (bump : HasKind s k kinds.Bump) (tail : IsTail s k at) (n : Name) (refs nums : ℕ)
+pub room-in-tail : (s : HeapState) (order : IsWellFormed s) (k at : ℕ) (bump : HasKind s k kinds.Bump) (tail : IsTail s k at) (n : Name) (refs nums : ℕ)
     → at + size_of refs nums ≤ 4096 → size_of refs nums ≤ 2048 → refs ≤ 1024 → nums ≤ 60000 → IsName n → ((x : ℕ) → IsHeld s x → name_at s x ≢ n)
     → IsRoom s (block_start s.blocks k + at) n refs nums
 room-in-tail s order k at bump tail n refs nums fits small few_refs few_nums named fresh =
@@ -165,22 +168,25 @@ room-in-tail s order k at bump tail n refs nums fits small few_refs few_nums nam
     let offset : offset_at s.blocks (block_start s.blocks k + at) ≡ at = place-offset s order k at (size_of refs nums) bump tail fits (omega arith) in
     let bump' : HasKind s (block_at s.blocks (block_start s.blocks k + at)) kinds.Bump = subst (λ (q : ℕ). HasKind s q kinds.Bump) (sym block) bump in
     record {
-      address = place-address s order k at (size_of refs nums) bump tail fits (omega arith);
-      named = named;
-      few_refs = few_refs;
-      few_nums = few_nums;
+      vacant = record {
+        address = place-address s order k at (size_of refs nums) bump tail fits (omega arith);
+        named = named;
+        few_refs = few_refs;
+        few_nums = few_nums;
+        apart = place-apart s order k at (size_of refs nums) bump tail fits (omega arith);
+        fresh = fresh;
+      };
       small = small;
       place = record {
+        address = place-address s order k at (size_of refs nums) bump tail fits (omega arith);
         within = omega arith;
         kind = has_small-bump s _ bump';
         cell = λ is. absurd (let same = one-kind s _ kinds.Bump kinds.Cells bump' is in cc);
       };
-      apart = place-apart s order k at (size_of refs nums) bump tail fits (omega arith);
-      fresh = fresh;
     }
 
 -- a placement in the lowest block with room
-pub places-hole : (s : HeapState) (order : IsOrderly s) (ends : List ℕ) (tails : AreTails s ends) (size k : ℕ) → 1 ≤ size → k < length ends → slice_index ends k + size ≤ 4096 → ArePast ends size k
+pub places-hole : (s : HeapState) (order : IsWellFormed s) (ends : List ℕ) (tails : AreTails s ends) (size k : ℕ) → 1 ≤ size → k < length ends → slice_index ends k + size ≤ 4096 → ArePast ends size k
     → PlacesSmall (rules_of NoGc) s (block_start s.blocks k + slice_index ends k) size
 places-hole s order ends tails size k some less fits past =
     let at : ℕ = slice_index ends k in
@@ -199,7 +205,7 @@ places-hole s order ends tails size k some less fits past =
           let same = one-kind s k kinds.Bump kinds.Free bump free in cc);
     }
 
--- and in the lowest Free block, where no block has room
+-- a placement in the lowest Free block, if no block has room
 pub places-free : (s : HeapState) (ends : List ℕ) (tails : AreTails s ends) (size : ℕ) → length ends < s.blocks → ArePast ends size (length ends)
     → PlacesSmall (rules_of NoGc) s (block_start s.blocks (length ends) + 0) size
 places-free s ends tails size room past =

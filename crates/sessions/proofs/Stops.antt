@@ -7,15 +7,15 @@ use Rattle.ideal_heap.specs.declared.command.Command.TheVariants as c
 use Rattle.ideal_heap.specs.declared.reply.Reply.TheVariants as r
 use Rattle.ideal_heap.specs.Ideal as ideal
 use Rattle.ideal_heap.specs.Ideal.{IdealHeap, step}
-use Rattle.ideal_heap.specs.Runs.{Entry, entry, Answers, after, next_of, IsFront}
+use Rattle.ideal_heap.specs.Runs.{Entry, entry, Answers, after, next_of, IsOrderPrefix}
 use Rattle.ideal_heap.proofs.RunLemmas.{extended}
 use Rattle.ideal_heap.proofs.OrderLemmas.{front_of_one}
 use Rattle.object_model.specs.declared.collect.Collect.TheVariants.{Full}
 use Rattle.object_model.specs.Objects.{HeapState, IsHeld}
 use Rattle.object_model.specs.Graphs.{MutatorState}
 use Rattle.object_model.specs.Lawful.{IsLawful}
-use Rattle.object_model.specs.Mirrors.{Models}
-use Rattle.object_model.specs.Changes.{KeepsObjects}
+use Rattle.object_model.specs.Agreement.{RepresentsOn}
+use Rattle.object_model.specs.Changes.{ObjectsStay}
 use Rattle.object_model.proofs.Counts as counts
 use Rattle.object_model.proofs.Sets as sets
 use Rattle.object_model.proofs.StepCases.{keeps-self}
@@ -25,7 +25,7 @@ use Rattle.sessions.specs.Driving.{IsWithin, IsServed, Driven}
 use Rattle.sessions.proofs.Driving as driving
 use Rattle.sessions.proofs.Driving.{NotMeet}
 
--- `gc` and `meet` answer `ok` and change no ideal heap
+-- `gc` and `meet` get the reply `ok` and leave the ideal heap unchanged
 gc-answers : (h : IdealHeap) → Answers h (entry 1 c.Gc r.Done)
 unfolding step
 gc-answers h = inl refl
@@ -55,14 +55,14 @@ module _ (b : ℕ) (trace : List Command) where
   -- what a driver knows once a command that leaves the ideal heap as it is has its reply
   told : (s s' : HeapState) (m : MutatorState) (done : List Entry) (e : Entry) → Driven b trace s m done → e.mutator ≡ 1 → slice_get trace (length done) ≡ Some e.command
       → IsWithin t s' (done ++ e ∷ []) ⊎ IsServed t s' m (done ++ e ∷ []) → Answers (after ideal.empty done) e → after ideal.empty (done ++ e ∷ []) ≡ after ideal.empty done
-      → IsLawful s' → Models s' (m ∷ []) (after ideal.empty done) (IsHeld s') → s'.number ≤ s.number + 1 → Driven b trace s' m (done ++ e ∷ [])
+      → IsLawful s' → RepresentsOn s' (m ∷ []) (after ideal.empty done) (IsHeld s') → s'.number ≤ s.number + 1 → Driven b trace s' m (done ++ e ∷ [])
   told s s' m done e driven one next phase answers same lawful models collections =
       let many : length (done ++ e ∷ []) ≡ length done + 1 = length-append done (e ∷ []) in
       record {
         phase = phase;
         run = extended ideal.empty done e driven.run answers;
         lawful = lawful;
-        models = subst (λ (h : IdealHeap). Models s' (m ∷ []) h (IsHeld s')) (sym same) models;
+        models = subst (λ (h : IdealHeap). RepresentsOn s' (m ∷ []) h (IsHeld s')) (sym same) models;
         number = driven.number;
         entries = driving.all-more b trace (λ x. x.mutator ≡ 1) done e driven.entries one;
         commands = driving.commands-more b trace done e driven.commands next;
@@ -70,7 +70,7 @@ module _ (b : ℕ) (trace : List Command) where
         collections = (let old : s.number ≤ length done = driven.collections in omega arith);
       }
 
-  -- a `gc` ends the part, and is told `ok` after a collection that only counts
+  -- a `gc` ends the part, and gets the reply `ok` after a collection that only counts
   pub gc-step : (s : HeapState) (m : MutatorState) (done : List Entry) → Driven b trace s m done → slice_get trace (length done) ≡ Some c.Gc
       → Driven b trace (counts.counted s) m (done ++ entry 1 c.Gc r.Done ∷ [])
   gc-step s m done driven next =
@@ -126,7 +126,7 @@ module _ (b : ℕ) (trace : List Command) where
           served = at;
           needs = served.needs;
           meet = subst (λ (o : Option Command). driving.MeetsBy b trace o at now) (sym next_now) replies;
-          front = subst (IsFront t.traces) (sym done_now) (front_of_one trace (done ++ meet_entry ∷ [])
+          front = subst (IsOrderPrefix t.traces) (sym done_now) (front_of_one trace (done ++ meet_entry ∷ [])
               (driving.all-more b trace (λ x. x.mutator ≡ 1) done meet_entry driven.entries refl)
               (driving.commands-more b trace done meet_entry driven.commands next));
         });
@@ -134,12 +134,12 @@ module _ (b : ℕ) (trace : List Command) where
         whole = sym (append-nil now.done ∙ done_now);
         quiet = tt;
         runs = tt;
-        keeps = subst (KeepsObjects now.heap) served.heap (keeps-self now.heap);
+        keeps = subst (ObjectsStay now.heap) served.heap (keeps-self now.heap);
       }
 
-  -- a part ends at `meet`, and nothing is asked of its stop
-  stands : (s : HeapState) (m : MutatorState) (done : List Entry) → Driven b trace s m done → slice_get trace (length done) ≡ Some c.Meet → IsWithin t s done → IsServed t s m done
-  stands s m done driven next inside =
+  -- a part ends at `meet`, and its stop has no other step
+  represents : (s : HeapState) (m : MutatorState) (done : List Entry) → Driven b trace s m done → slice_get trace (length done) ≡ Some c.Meet → IsWithin t s done → IsServed t s m done
+  represents s m done driven next inside =
       let stop : Sessions.Moment = driving.stop_of b trace s m done inside in
       record {
         before = inside.base;
@@ -161,7 +161,7 @@ module _ (b : ℕ) (trace : List Command) where
       → Driven b trace s m (done ++ entry 1 c.Meet r.Done ∷ [])
   meet-step s m done driven next =
       let served : IsServed t s m done = elim driven.phase as (λ _. IsServed t s m done) [
-        | inl inside ↦ stands s m done driven next inside
+        | inl inside ↦ represents s m done driven next inside
         | inr already ↦ already
       ] in
       told s s m done meet_entry driven refl next (inl (meets s m done driven next served)) (meet-answers (after ideal.empty done))

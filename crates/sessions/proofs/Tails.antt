@@ -1,4 +1,4 @@
--- Tails of blocks: what keeps them, and what a birth makes of them.
+-- Tails of blocks: what preserves them, and how an allocation changes them.
 use Rattle.std.proofs.Common.{◌≡◌, ◌≢◌, refl, sym, ◌∙◌, ap, subst, ℕ, ◌+◌, ◌-◌, ◌%◌, ◌<◌, ◌≤◌, ◌⊎◌, inl, inr, arith, List, [], ◌∷◌, ◌++◌, length, slice_index, slice_set, replicate}
 use Rattle.std.proofs.lemmas.Bool.{cases_lt, cases_eq}
 use Rattle.std.proofs.lemmas.List.{length-replicate, length-append, length-set, get_or-set_same, get_or-set_other, get_or_past, get_or_append_left}
@@ -7,13 +7,15 @@ use Rattle.heap_layout.specs.Zones.{BlockWords, first, heap_of, block_at, offset
 use Rattle.heap_layout.specs.declared.block.Kind.TheVariants as kinds
 use Rattle.ideal_heap.specs.declared.name.Name.{Name}
 use Rattle.object_model.specs.Objects.{HeapState, empty_heap, with_words, block_word, HasKind, IsHeld, IsInExtent, size_at, size_of, blocks_for}
-use Rattle.object_model.specs.Lawful.{IsLawful, IsOrderly, IsRunOfBlocks}
-use Rattle.object_model.specs.Changes.{KeepsObjects, WritesObject}
+use Rattle.object_model.specs.Lawful.{IsLawful, IsWellFormed, IsRunOfBlocks, IsClear}
+use Rattle.object_model.specs.Changes.{ObjectsStay, WritesObject}
 use Rattle.object_model.proofs.Frames as frames
 use Rattle.object_model.proofs.Counts as counts
 use Rattle.object_model.proofs.Births as births
-use Rattle.object_model.proofs.Births.{IsRoom}
+use Rattle.object_model.proofs.Births.{Adds}
+use Rattle.object_model.specs.Births.{IsRoom}
 use Rattle.object_model.proofs.Blocks as blocks
+use Rattle.object_model.proofs.Blocks.{SameHeap, set_block}
 use Rattle.object_model.proofs.OneKind.{kind-within, kind-from, one-kind}
 use Rattle.sessions.specs.Fitting.{IsTail}
 use Rattle.object_model.proofs.Zeros.{zero_of, zero_word}
@@ -25,23 +27,23 @@ tail-unique s k at from one other =
     elim one.least as (λ _. at ≡ from) [
       | inl zero ↦ elim other.least as (λ _. at ≡ from) [
         | inl zero' ↦ zero ∙ sym zero'
-        | inr last ↦ (let behind : offset_at s.blocks last.0 + size_at s last.0 ≤ at = one.behind last.0 last.1 last.2 in let e : offset_at s.blocks last.0 + size_at s last.0 ≡ from = last.3 in omega arith)
+        | inr last ↦ (let behind : offset_at s.blocks last.0 + size_at s last.0 ≤ at = one.after last.0 last.1 last.2 in let e : offset_at s.blocks last.0 + size_at s last.0 ≡ from = last.3 in omega arith)
       ]
       | inr last ↦
-          let below : offset_at s.blocks last.0 + size_at s last.0 ≤ from = other.behind last.0 last.1 last.2 in
+          let below : offset_at s.blocks last.0 + size_at s last.0 ≤ from = other.after last.0 last.1 last.2 in
           let e : offset_at s.blocks last.0 + size_at s last.0 ≡ at = last.3 in
           elim other.least as (λ _. at ≡ from) [
             | inl zero' ↦ omega arith
-            | inr last' ↦ (let above : offset_at s.blocks last'.0 + size_at s last'.0 ≤ at = one.behind last'.0 last'.1 last'.2 in let e' : offset_at s.blocks last'.0 + size_at s last'.0 ≡ from = last'.3 in omega arith)
+            | inr last' ↦ (let above : offset_at s.blocks last'.0 + size_at s last'.0 ≤ at = one.after last'.0 last'.1 last'.2 in let e' : offset_at s.blocks last'.0 + size_at s last'.0 ≡ from = last'.3 in omega arith)
           ]
     ]
 
--- a step that keeps the objects keeps the tails
-module _ (s : HeapState) (w : List ℕ) (keeps : KeepsObjects s (with_words s w)) where
+-- a step that preserves the objects preserves the tails
+module _ (s : HeapState) (w : List ℕ) (keeps : ObjectsStay s (with_words s w)) where
   tail-kept : (k at : ℕ) → IsTail s k at → IsTail (with_words s w) k at
   tail-kept k at tail = record {
-    behind = λ a holds here. let before = frames.held-before s w keeps a holds in
-        subst (λ (n : ℕ). offset_at s.blocks a + n ≤ at) (sym (frames.size-after s w keeps a before)) (tail.behind a before here);
+    after = λ a holds here. let before = frames.held-before s w keeps a holds in
+        subst (λ (n : ℕ). offset_at s.blocks a + n ≤ at) (sym (frames.size-after s w keeps a before)) (tail.after a before here);
     least = elim tail.least as (λ _. (at ≡ 0) ⊎ ((a : ℕ) × IsHeld (with_words s w) a × (block_at s.blocks a ≡ k) × (offset_at s.blocks a + size_at (with_words s w) a ≡ at))) [
       | inl zero ↦ inl zero
       | inr last ↦ inr (last.0, frames.held-after s w keeps last.0 last.1, last.2, ap (λ n. offset_at s.blocks last.0 + n) (frames.size-after s w keeps last.0 last.1) ∙ last.3)
@@ -57,7 +59,7 @@ module _ (s : HeapState) (w : List ℕ) (keeps : KeepsObjects s (with_words s w)
     free = λ k past there. frames.HasKind-from s w keeps.block_words k kinds.Free (tails.free k past there);
   }
 
--- a block that is taken has an empty tail
+-- the tail of a block that is taken begins at 0
 module _ (s : HeapState) (lawful : IsLawful s) (ends : List ℕ) (tails : AreTails s ends) (room : length ends < s.blocks) where
   abbrev pub k : ℕ
   k = length ends
@@ -66,7 +68,13 @@ module _ (s : HeapState) (lawful : IsLawful s) (ends : List ℕ) (tails : AreTai
   is_free = tails.free k (omega arith) room
 
   abbrev pub taken : HeapState
-  taken = blocks.taken s lawful k is_free
+  taken = with_words s (set_block s k 1)
+
+  same : SameHeap s (set_block s k 1)
+  same = blocks.same_heap s k 1 room
+
+  clear : IsClear s k
+  clear = lawful.but_lines.free k is_free
 
   ends-front : (j : ℕ) → j < k → slice_index (ends ++ 0 ∷ []) j ≡ slice_index ends j
   ends-front j less = get_or_append_left ends (0 ∷ []) 0 j less
@@ -78,20 +86,23 @@ module _ (s : HeapState) (lawful : IsLawful s) (ends : List ℕ) (tails : AreTai
   ]
 
   size-taken : (x : ℕ) → IsHeld s x → size_at taken x ≡ size_at s x
-  size-taken x holds = blocks.size-same s (slice_set s.words (blocks.place s lawful k is_free) 1) (blocks.same_heap s lawful k is_free) x holds
+  size-taken x holds = blocks.size-same s (set_block s k 1) same x holds
 
   tail-old : (j at : ℕ) → IsTail s j at → IsTail taken j at
   tail-old j at tail = record {
-    behind = λ x holds here. let before = blocks.before s lawful k is_free x holds in
-        subst (λ (n : ℕ). offset_at s.blocks x + n ≤ at) (sym (size-taken x before)) (tail.behind x before here);
+    after = λ x holds here. let before = blocks.held-before s (set_block s k 1) same x holds in
+        subst (λ (n : ℕ). offset_at s.blocks x + n ≤ at) (sym (size-taken x before)) (tail.after x before here);
     least = elim tail.least as (λ _. (at ≡ 0) ⊎ ((x : ℕ) × IsHeld taken x × (block_at s.blocks x ≡ j) × (offset_at s.blocks x + size_at taken x ≡ at))) [
       | inl zero ↦ inl zero
-      | inr last ↦ inr (last.0, blocks.held-after s (slice_set s.words (blocks.place s lawful k is_free) 1) (blocks.same_heap s lawful k is_free) last.0 last.1, last.2, ap (λ n. offset_at s.blocks last.0 + n) (size-taken last.0 last.1) ∙ last.3)
+      | inr last ↦ inr (last.0, blocks.held-after s (set_block s k 1) same last.0 last.1, last.2, ap (λ n. offset_at s.blocks last.0 + n) (size-taken last.0 last.1) ∙ last.3)
     ];
   }
 
+  object-away : (x : ℕ) → IsHeld s x → block_at s.blocks x ≢ k
+  object-away x holds = clear.empty x x holds (record { from = omega arith; below = omega arith })
+
   tail-new : IsTail taken k 0
-  tail-new = record { behind = λ x holds here. absurd (blocks.object-away s lawful k is_free x (blocks.before s lawful k is_free x holds) here); least = inl refl }
+  tail-new = record { after = λ x holds here. absurd (object-away x (blocks.held-before s (set_block s k 1) same x holds) here); least = inl refl }
 
   pub tails-taken : AreTails taken (ends ++ 0 ∷ [])
   tails-taken =
@@ -99,8 +110,8 @@ module _ (s : HeapState) (lawful : IsLawful s) (ends : List ℕ) (tails : AreTai
       record {
         most = omega arith;
         bump = λ j less. elim (cases_eq j k) as (λ _. HasKind taken j kinds.Bump) [
-          | inl e ↦ subst (λ (q : ℕ). HasKind taken q kinds.Bump) (sym e) (blocks.is-bump s lawful k is_free)
-          | inr other ↦ blocks.kind-kept s lawful k is_free j kinds.Bump other (tails.bump j (omega arith))
+          | inl e ↦ subst (λ (q : ℕ). HasKind taken q kinds.Bump) (sym e) (blocks.kind-own s k 1 room lawful.but_lines.order.row.extent kinds.Bump refl)
+          | inr other ↦ blocks.kind-other s k 1 room j kinds.Bump other (tails.bump j (omega arith))
         ];
         tail = λ j less. elim (cases_eq j k) as (λ _. IsTail taken j (slice_index (ends ++ 0 ∷ []) j)) [
           | inl e ↦ subst (IsTail taken j) (sym (ends-last j (omega arith))) (subst (λ (q : ℕ). IsTail taken q 0) (sym e) tail-new)
@@ -110,15 +121,15 @@ module _ (s : HeapState) (lawful : IsLawful s) (ends : List ℕ) (tails : AreTai
           | inl less ↦ subst (λ (n : ℕ). n ≤ 4096) (sym (ends-front j less)) (tails.inside j)
           | inr past ↦ (let e : slice_index (ends ++ 0 ∷ []) j ≡ 0 = ends-last j past in omega arith)
         ];
-        free = λ j past there. blocks.kind-kept s lawful k is_free j kinds.Free (λ e. omega arith) (tails.free j (omega arith) there);
+        free = λ j past there. blocks.kind-other s k 1 room j kinds.Free (λ e. omega arith) (tails.free j (omega arith) there);
       }
 
 -- a word of an object that lies in a block is of that block
 pub small-block : (s : HeapState) (x i size : ℕ) → IsAddress s.blocks x → offset_at s.blocks x + size ≤ 4096 → x ≤ i → i < x + size → block_at s.blocks i ≡ block_at s.blocks x
 small-block s x i size there fits from below = (let base : heap_of s.blocks ≤ x = there.from in omega arith)
 
--- where a Bump block's tail has room, an object may be written
-module _ (s : HeapState) (order : IsOrderly s) (k at size : ℕ) (bump : HasKind s k kinds.Bump) (tail : IsTail s k at) (fits : at + size ≤ 4096) (some : 1 ≤ size) where
+-- if a Bump block's tail has room, an object may be written
+module _ (s : HeapState) (order : IsWellFormed s) (k at size : ℕ) (bump : HasKind s k kinds.Bump) (tail : IsTail s k at) (fits : at + size ≤ 4096) (some : 1 ≤ size) where
   abbrev pub place : ℕ
   place = block_start s.blocks k + at
 
@@ -134,7 +145,7 @@ module _ (s : HeapState) (order : IsOrderly s) (k at size : ℕ) (bump : HasKind
   pub place-offset : offset_at s.blocks place ≡ at
   place-offset = (let below : at < 4096 = omega arith in omega arith)
 
-  -- the words of an object that was held are before or behind
+  -- the words of an object held before lie before or after
   pub place-apart : (x i : ℕ) → IsHeld s x → IsInExtent s x i → (i < place) ⊎ (place + size ≤ i)
   place-apart x i holds inside =
       let base : heap_of s.blocks ≤ x = holds.address.from in
@@ -155,7 +166,7 @@ module _ (s : HeapState) (order : IsOrderly s) (k at size : ℕ) (bump : HasKind
         | inr small ↦
             let end : offset_at s.blocks x + size_at s x ≤ 4096 = ((order.objects.lies x holds).small small).within in
             elim (cases_eq (block_at s.blocks x) k) as (λ _. (i < place) ⊎ (place + size ≤ i)) [
-              | inl e ↦ inl (let behind : offset_at s.blocks x + size_at s x ≤ at = tail.behind x holds e in omega arith)
+              | inl e ↦ inl (let behind : offset_at s.blocks x + size_at s x ≤ at = tail.after x holds e in omega arith)
               | inr other ↦ elim (cases_lt k (block_at s.blocks x)) as (λ _. (i < place) ⊎ (place + size ≤ i)) [ inl before ↦ inr (omega arith) | inr after ↦ inl (omega arith) ]
             ]
       ]
@@ -168,9 +179,9 @@ module _ (s : HeapState) (order : IsOrderly s) (k at size : ℕ) (bump : HasKind
             let same = one-kind s k kinds.Bump kinds.LargeTail bump tail' in cc)
       ]
 
--- an object that is written at the front of a tail moves it on
+-- the tail begins after an object that is written at its front
 module _ (s : HeapState) (w : List ℕ) (a : ℕ) (n : Name) (refs nums : ℕ) (writes : WritesObject s (with_words s w) a n refs nums)
-    (order : IsOrderly s) (room : IsRoom s a n refs nums) (ends : List ℕ) (tails : AreTails s ends)
+    (order : IsWellFormed s) (room : IsRoom s a n refs nums) (ends : List ℕ) (tails : AreTails s ends)
     (used : block_at s.blocks a < length ends) (front : offset_at s.blocks a ≡ slice_index ends (block_at s.blocks a)) where
   abbrev grown : HeapState
   grown = with_words s w
@@ -181,41 +192,44 @@ module _ (s : HeapState) (w : List ℕ) (a : ℕ) (n : Name) (refs nums : ℕ) (
   abbrev end : ℕ
   end = slice_index ends block + size_of refs nums
 
+  put : Adds s w a n refs nums
+  put = births.adds s w a n refs nums writes room.vacant.address
+
   block_words : (j : ℕ) → j < s.blocks → block_word grown j ≡ block_word s j
-  block_words = births.block_words s w a n refs nums writes order room
+  block_words = births.block_words s w a n refs nums writes room.vacant.address
 
   end-fits : end ≤ 4096
   end-fits = (let fits : offset_at s.blocks a + size_of refs nums ≤ 4096 = room.place.within in let e : offset_at s.blocks a ≡ slice_index ends block = front in omega arith)
 
   tail-other : (j at : ℕ) → j ≢ block → IsTail s j at → IsTail grown j at
   tail-other j at other tail = record {
-    behind = λ x holds here. elim (births.held-cases s w a n refs nums writes order room x holds) as (λ _. offset_at s.blocks x + size_at grown x ≤ at) [
+    after = λ x holds here. elim (births.held-cases s w a n refs nums put room.vacant x holds) as (λ _. offset_at s.blocks x + size_at grown x ≤ at) [
       | inl e ↦ absurd (other (sym here ∙ ap (block_at s.blocks) e))
-      | inr before ↦ subst (λ (q : ℕ). offset_at s.blocks x + q ≤ at) (sym (births.size-same s w a n refs nums writes order room x before)) (tail.behind x before here)
+      | inr before ↦ subst (λ (q : ℕ). offset_at s.blocks x + q ≤ at) (sym (births.size-same s w a n refs nums put room.vacant x before)) (tail.after x before here)
     ];
     least = elim tail.least as (λ _. (at ≡ 0) ⊎ ((x : ℕ) × IsHeld grown x × (block_at s.blocks x ≡ j) × (offset_at s.blocks x + size_at grown x ≡ at))) [
       | inl zero ↦ inl zero
       | inr last ↦ inr (
         last.0,
-        births.held-after s w a n refs nums writes order room last.0 last.1,
+        births.held-after s w a n refs nums put room.vacant last.0 last.1,
         last.2,
-        ap (λ q. offset_at s.blocks last.0 + q) (births.size-same s w a n refs nums writes order room last.0 last.1) ∙ last.3,
+        ap (λ q. offset_at s.blocks last.0 + q) (births.size-same s w a n refs nums put room.vacant last.0 last.1) ∙ last.3,
       )
     ];
   }
 
   new-size : size_at grown a ≡ size_of refs nums
-  new-size = births.new-size s w a n refs nums writes order room
+  new-size = births.new-size s w a n refs nums put room.vacant
 
   tail-moved : IsTail grown block end
   tail-moved = record {
-    behind = λ x holds here. elim (births.held-cases s w a n refs nums writes order room x holds) as (λ _. offset_at s.blocks x + size_at grown x ≤ end) [
+    after = λ x holds here. elim (births.held-cases s w a n refs nums put room.vacant x holds) as (λ _. offset_at s.blocks x + size_at grown x ≤ end) [
       | inl e ↦ (let size : size_at grown x ≡ size_of refs nums = ap (size_at grown) e ∙ new-size in
           let at : offset_at s.blocks x ≡ slice_index ends block = ap (offset_at s.blocks) e ∙ front in omega arith)
-      | inr before ↦ (let size : size_at grown x ≡ size_at s x = births.size-same s w a n refs nums writes order room x before in
-          let behind : offset_at s.blocks x + size_at s x ≤ slice_index ends block = (tails.tail block used).behind x before here in omega arith)
+      | inr before ↦ (let size : size_at grown x ≡ size_at s x = births.size-same s w a n refs nums put room.vacant x before in
+          let behind : offset_at s.blocks x + size_at s x ≤ slice_index ends block = (tails.tail block used).after x before here in omega arith)
     ];
-    least = inr (a, births.held-new s w a n refs nums writes order room, refl, ap (λ q. offset_at s.blocks a + q) new-size ∙ ap (λ q. q + size_of refs nums) front);
+    least = inr (a, births.held-new s w a n refs nums put room.vacant, refl, ap (λ q. offset_at s.blocks a + q) new-size ∙ ap (λ q. q + size_of refs nums) front);
   }
 
   pub tails-written : AreTails grown (slice_set ends block end)
@@ -247,38 +261,13 @@ lows-begin lows e = record {
     nil : (size : ℕ) → slice_index lows size ≡ 0
     nil size = ap (λ xs. slice_index xs size) e ∙ zero_of 2049 size
 
--- a block that is taken is behind all that were in use
-pub lows-taken : (ends lows : List ℕ) → AreLows ends lows → AreLows (ends ++ 0 ∷ []) lows
-lows-taken ends lows are = record {
-  sizes = are.sizes;
-  within = λ size. (let below : slice_index lows size ≤ length ends = are.within size in let many : length (ends ++ 0 ∷ []) ≡ length ends + 1 = length-append ends (0 ∷ []) in omega arith);
-  past = λ size k less. (let below : slice_index lows size ≤ length ends = are.within size in
-      let e : slice_index (ends ++ 0 ∷ []) k ≡ slice_index ends k = get_or_append_left ends (0 ∷ []) 0 k (omega arith) in
-      let full : 4096 < slice_index ends k + size = are.past size k less in omega arith);
-}
-
--- a tail that moves on has no more room than before
-pub lows-moved : (ends lows : List ℕ) (block end : ℕ) → slice_index ends block ≤ end → AreLows ends lows → AreLows (slice_set ends block end) lows
-lows-moved ends lows block end above are = record {
-  sizes = are.sizes;
-  within = λ size. (let below : slice_index lows size ≤ length ends = are.within size in let many : length (slice_set ends block end) ≡ length ends = length-set ends block end in omega arith);
-  past = λ size k less.
-      let below : slice_index lows size ≤ length ends = are.within size in
-      let full : 4096 < slice_index ends k + size = are.past size k less in
-      elim (cases_eq k block) as (λ _. 4096 < slice_index (slice_set ends block end) k + size) [
-        | inl e ↦ (let now : slice_index (slice_set ends block end) k ≡ end = ap (slice_index (slice_set ends block end)) e ∙ get_or-set_same ends block end 0 (omega arith) in
-            let was : slice_index ends k ≡ slice_index ends block = ap (slice_index ends) e in omega arith)
-        | inr other ↦ (let now : slice_index (slice_set ends block end) k ≡ slice_index ends k = get_or-set_other ends block k end 0 other in omega arith)
-      ];
-}
-
 -- a collection that only counts
-pub tails-counted : (s : HeapState) (ends : List ℕ) → AreTails s ends → AreTails (counts.counted s) ends
-tails-counted s ends tails = record {
+pub tails-counts_after : (s : HeapState) (ends : List ℕ) → AreTails s ends → AreTails (counts.counted s) ends
+tails-counts_after s ends tails = record {
   most = tails.most;
   bump = tails.bump;
   tail = λ k less. let tail = tails.tail k less in record {
-    behind = λ a holds here. tail.behind a (counts.held-back s a holds) here;
+    after = λ a holds here. tail.after a (counts.held-back s a holds) here;
     least = elim tail.least as (λ _. (slice_index ends k ≡ 0) ⊎ ((a : ℕ) × IsHeld (counts.counted s) a × (block_at s.blocks a ≡ k) × (offset_at s.blocks a + size_at s a ≡ slice_index ends k))) [
       | inl zero ↦ inl zero
       | inr last ↦ inr (last.0, counts.held-counted s last.0 last.1, last.2, last.3)

@@ -31,7 +31,8 @@ AreNamed s births = (x : ℕ) → IsHeld s x → ((name_at s x).mutator ≡ 1) �
 pub record FindsRoom (s : HeapState) (ends : List ℕ) (s' : HeapState) (ends' : List ℕ) (size k : ℕ) : Type 0 where
   pub past : ArePast ends size k
   pub block : ((k < length ends) × (s' ≡ s) × (ends' ≡ ends))
-      ⊎ ((k ≡ length ends) × (k < s.blocks) × (s' ≡ with_words s (slice_set s.words (first s.blocks BlockWords + k) 1)) × (ends' ≡ ends ++ 0 ∷ []))
+      ⊎ ((k ≡ length ends) × (k < s.blocks) × (s' ≡ with_words s (slice_set s.words (first s.blocks BlockWords + k) 1))
+      × (ends' ≡ ends ++ 0 ∷ []))
   pub room : slice_index ends' k + size ≤ 4096
 
 -- all blocks are in use, and none has room

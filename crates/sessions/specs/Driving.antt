@@ -10,8 +10,8 @@ use Rattle.ideal_heap.specs.Runs.{Entry, IsRun, after}
 use Rattle.object_model.specs.Objects.{HeapState, IsHeld}
 use Rattle.object_model.specs.Graphs.{MutatorState}
 use Rattle.object_model.specs.Lawful.{IsLawful}
-use Rattle.object_model.specs.Mirrors.{Models}
-use Rattle.object_model.specs.Changes.{KeepsObjects}
+use Rattle.object_model.specs.Agreement.{RepresentsOn}
+use Rattle.object_model.specs.Changes.{ObjectsStay}
 use Rattle.sessions.specs.Sessions.{Setting, Moment, Cause, is_at_gc, is_at_need, ideal_at, mutators_of, IsOfPart, RunsPart, CollectsFor, ServesAll, InSession}
 use Rattle.sessions.specs.Alone.{alone_under_nogc}
 
@@ -29,7 +29,7 @@ pub record IsWithin (t : Setting) (s : HeapState) (done : List Entry) : Type 0 w
   pub whole : done ≡ base.done ++ part
   pub quiet : AllByRecursion IsQuiet part
   pub runs : IsRun (ideal_at base) part
-  pub keeps : KeepsObjects base.heap s
+  pub keeps : ObjectsStay base.heap s
 
 -- the part has ended, and the needs of the stop are served
 pub record IsServed (t : Setting) (s : HeapState) (m : MutatorState) (done : List Entry) : Type 0 where
@@ -51,7 +51,7 @@ pub record Driven (b : ℕ) (trace : List Command) (s : HeapState) (m : MutatorS
   pub phase : IsWithin (alone_under_nogc b trace) s done ⊎ IsServed (alone_under_nogc b trace) s m done
   pub run : IsRun ideal.empty done
   pub lawful : IsLawful s
-  pub models : Models s (m ∷ []) (after ideal.empty done) (IsHeld s)
+  pub models : RepresentsOn s (m ∷ []) (after ideal.empty done) (IsHeld s)
   pub number : m.number ≡ 1
   pub entries : AllByRecursion (λ e. e.mutator ≡ 1) done
   pub commands : map (λ e. e.command) done ≡ take (length done) trace

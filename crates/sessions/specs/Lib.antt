@@ -1,4 +1,5 @@
 pub mod Plans
+pub mod Grants
 pub mod Fitting
 pub mod Collecting
 pub mod Sessions

@@ -1,4 +1,4 @@
--- Sessions: a run of the ideal heap in epochs, each with its stop, and the heaps at the stops.
+-- Sessions: a run of the ideal heap in epochs, each with a stop at its end, and the heaps at the stops.
 use Rattle.std.specs.Prelude.{◌≡◌, ◌≢◌, ℕ, ◌+◌, ◌<◌, ◌≤◌, ◌⊎◌, ◌↔◌, Bool, true, false, IsTrue, Option, Some, None, List, [], ◌∷◌, ◌++◌, map, filter, length}
 use Rattle.std.specs.List.{range_with_len, AllByRecursion, Any, list_all}
 use Rattle.heap_layout.specs.Zones.{BlockWords, first, block_at, offset_at, IsAddress}
@@ -12,56 +12,68 @@ use Rattle.ideal_heap.specs.declared.command.Command.TheVariants as c
 use Rattle.ideal_heap.specs.declared.reply.Reply.TheVariants as r
 use Rattle.ideal_heap.specs.Commands.{is_new, is_meet, is_gc, size_wanted}
 use Rattle.ideal_heap.specs.Ideal as ideal
-use Rattle.ideal_heap.specs.Runs.{Entry, is_full, IsRun, after, IsFront, IsOrder, next_of, IsMutator}
+use Rattle.ideal_heap.specs.Runs.{Entry, is_full, IsRun, after, IsOrderPrefix, IsOrder, next_of, IsMutator}
 use Rattle.object_model.specs.declared.collect.Collect.{Collect}
 use Rattle.object_model.specs.declared.collect.Collect.TheVariants.{Nursery, Full}
 use Rattle.object_model.specs.Objects.{HeapState, empty_heap, HasKind, block_word, is_pinned, is_unlogged, IsHeld, name_at, refs_at, nums_at, size_at, size_of, word_at, shape_code, blocks_for}
-use Rattle.object_model.specs.Graphs.{MutatorState, beginner, numbers_of, roots_of, Stands}
+use Rattle.object_model.specs.Graphs.{MutatorState, new_mutator, numbers_of, roots_of, Represents}
 use Rattle.object_model.specs.Lawful.{IsLawful}
 use Rattle.sessions.specs.Plans.{Rules}
 use Rattle.sessions.specs.Fitting.{Fits, HasHole, HasSomeHole, LiesInHole, HasCellFor, IsFreeRun, class_for, free_of, allowance_of}
-use Rattle.sessions.specs.Collecting.{IsCollection, first_collection, Remembers, is_logged}
+use Rattle.sessions.specs.Collecting.{IsCollection, first_collection, Remembers, is_logged_under}
+use Rattle.object_model.specs.declared.shape.TheConstants.{MAX_MEDIUM_WORDS}
 
--- what a session is of
+-- the parameters of a session
 pub record Setting : Type 0 where
   pub rules : Rules
   pub blocks : ℕ
+  -- the number of tracing workers
   pub workers : ℕ
-  -- Whether mutators place objects themselves within an epoch. Where they do not, each `new` is served at a stop.
+  -- whether mutators place objects within an epoch; if not, each `new` is served at a stop
   pub places : Bool
   pub traces : List (List Command)
 
--- the mutators of the traces, 1 and up
+-- the mutators of the traces, counted from 1
 abbrev pub mutators_of : Setting → List ℕ
 mutators_of t = range_with_len 1 (length t.traces)
 
--- a session between two epochs, or between two steps of a stop
+-- the state of a session between two epochs, or between two steps of a stop
 pub record Moment : Type 0 where
   pub heap : HeapState
   pub mutators : List MutatorState
   pub done : List Entry
-  -- collections so far
+  -- the numbers of nursery and full collections so far
   pub nursery : ℕ
   pub full : ℕ
 
+-- the state in which a session begins
 abbrev pub first_moment : Setting → Moment
-first_moment t = record { heap = empty_heap t.blocks; mutators = map beginner (mutators_of t); done = []; nursery = 0; full = 0 }
+first_moment t = record {
+  heap = empty_heap t.blocks;
+  mutators = map new_mutator (mutators_of t);
+  done = [];
+  nursery = 0;
+  full = 0;
+}
 
 -- the ideal heap of the run so far
 abbrev pub ideal_at : Moment → ideal.IdealHeap
 ideal_at now = after ideal.empty now.done
 
+-- the next command of mutator m, None at the end of its trace
 abbrev pub next_in : Setting → Moment → ℕ → Option Command
 next_in t now m = next_of t.traces now.done m
 
--- the heap is lawful, remembers its young references, and stands with the mutators of the traces for the ideal heap of the run
+-- The heap is lawful and remembers its young references. With the mutators, which are those of the traces,
+-- it represents the ideal heap of the run.
 pub record IsSound (t : Setting) (now : Moment) : Type 0 where
   pub lawful : IsLawful now.heap
   pub remembers : Remembers t.rules now.heap
-  pub stands : Stands now.heap now.mutators (ideal_at now)
+  pub represents : Represents now.heap now.mutators (ideal_at now)
   pub listed : numbers_of now.mutators ≡ mutators_of t
 
--- why a mutator's part of an epoch ends
+-- Why a mutator's part of an epoch ends: it is at `gc`, at `meet`, at the end of its trace or at a need, or mutator m
+-- raised a stop (Raised m).
 pub data Cause : Type 0 where
   AtGc : Cause
   AtMeet : Cause
@@ -83,44 +95,46 @@ is_at_need AtEnd = false
 is_at_need AtNeed = true
 is_at_need (Raised m) = false
 
--- the next command is this `new`
+-- a need: the mutator's next command is this `new`, which the stop serves
 abbrev pub Needs : Setting → Moment → ℕ → ℕ → ℕ → ℕ → Type 0
 Needs t now m d refs nums = next_in t now m ≡ Some (c.New d refs nums)
 
--- the mutator's next command gives the cause; a stop is raised by one that stands at `gc` or at a need
+-- the mutator's next command agrees with the cause; only a mutator at `gc` or at a need raises a stop
 abbrev pub EndsBy : Setting → Moment → (ℕ → Cause) → ℕ → Cause → Type 0
 EndsBy t now ends m AtGc = next_in t now m ≡ Some c.Gc
 EndsBy t now ends m AtMeet = next_in t now m ≡ Some c.Meet
 EndsBy t now ends m AtEnd = next_in t now m ≡ None
 EndsBy t now ends m AtNeed = (d : ℕ) × (refs : ℕ) × (nums : ℕ) × Needs t now m d refs nums
-EndsBy t now ends m (Raised by) = (next_in t now m ≢ None) × IsMutator t.traces by × ((is_at_gc (ends by) ≡ true) ⊎ (is_at_need (ends by) ≡ true))
+EndsBy t now ends m (Raised by) = (next_in t now m ≢ None) × IsMutator t.traces by
+    × ((is_at_gc (ends by) ≡ true) ⊎ (is_at_need (ends by) ≡ true))
 
--- what may stand in a part: no `gc`, no `meet`, no `full` and no large birth
+-- an entry that a part may have: no `gc`, no `meet`, no reply `full`, and no `new` of a large object
 pub record IsOfPart (e : Entry) : Type 0 where
   pub gc : is_gc e.command ≡ false
   pub meet : is_meet e.command ≡ false
   pub full : is_full e.reply ≡ false
-  pub small : size_wanted e.command ≤ 2048
+  pub small : size_wanted e.command ≤ MAX_MEDIUM_WORDS
 
--- some entry is the birth of this name
-abbrev pub IsBorn : List Entry → Name → Type 0
-IsBorn part n = Any (λ e. e.reply ≡ r.New n) part
+-- some entry allocates the object of this name
+abbrev pub HasBirth : List Entry → Name → Type 0
+HasBirth part n = Any (λ e. e.reply ≡ r.New n) part
 
--- the entry is the birth of this name, with so many fields and numbers
+-- the entry allocates the object of this name, with `refs` references and `nums` numbers
 pub record IsBirthOf (n : Name) (refs nums : ℕ) (e : Entry) : Type 0 where
   pub register : ℕ
   pub command : e.command ≡ c.New register refs nums
   pub reply : e.reply ≡ r.New n
 
--- an object born in a part lies in a hole that was there when the epoch began, or in a block that was Free
+-- an object allocated in a part; it lies in a hole of the heap at the start of the epoch, or in a block that was Free
 pub record IsBirth (rules : Rules) (old : HeapState) (part : List Entry) (new : HeapState) (a : ℕ) : Type 0 where
   pub entry : Any (IsBirthOf (name_at new a) (refs_at new a) (nums_at new a)) part
-  pub place : HasKind old (block_at new.blocks a) kinds.Free ⊎ LiesInHole rules.fill old (block_at new.blocks a) (offset_at new.blocks a) (size_at new a)
+  pub place : HasKind old (block_at new.blocks a) kinds.Free
+      ⊎ LiesInHole rules.fill old (block_at new.blocks a) (offset_at new.blocks a) (size_at new a)
   pub cell : HasCellFor rules.fill new (block_at new.blocks a) (offset_at new.blocks a) (size_at new a)
   pub unclaimed : word_at new (a + 2) ≡ 0
   pub unmarked : IsTrue (is_unlogged new a) → ⊥
 
--- a `put` of the part stored into the object
+-- a `put` of the part stored into the object of this name
 pub record StoresInto (h : ideal.IdealHeap) (part : List Entry) (n : Name) : Type 0 where
   pub front : List Entry
   pub entry : Entry
@@ -133,33 +147,38 @@ pub record StoresInto (h : ideal.IdealHeap) (part : List Entry) (n : Name) : Typ
   pub stored : entry.reply ≡ r.Done
   pub into : (after h front).registers entry.mutator s ≡ Some n
 
--- The heap and the mutators, by their numbers, at the stop of an epoch, from the heap before it, the ideal heap that it stood
--- for, and the part.
-pub record Stopped (rules : Rules) (numbers : List ℕ) (old : HeapState) (h : ideal.IdealHeap) (part : List Entry) (new : HeapState) (ms : List MutatorState) : Type 0 where
+-- The heap `new` and the mutators at the stop of an epoch. Before the epoch, the heap was `old` and represented h.
+-- The epoch ran the part.
+pub record Stopped (rules : Rules) (numbers : List ℕ) (old : HeapState) (h : ideal.IdealHeap) (part : List Entry)
+    (new : HeapState) (ms : List MutatorState) : Type 0 where
   pub listed : numbers_of ms ≡ numbers
   pub lawful : IsLawful new
   pub remembers : Remembers rules new
-  pub stands : Stands new ms (after h part)
+  pub represents : Represents new ms (after h part)
   pub blocks : new.blocks ≡ old.blocks
   pub number : new.number ≡ old.number
   pub base : new.base ≡ old.base
-  -- what was held is held, with name, shape and collector word
+  -- each object held before is still held, with its name, shape and collector word
   pub stays : (a : ℕ) → IsHeld old a → IsHeld new a × ((i : ℕ) → i < 3 → word_at new (a + i) ≡ word_at old (a + i))
-  -- and besides, exactly what was born
+  -- the other held objects are exactly those that the part allocated
   pub births : (a : ℕ) → IsHeld new a → IsHeld old a ⊎ IsBirth rules old part new a
-  pub all_born : (n : Name) → IsBorn part n → (a : ℕ) × IsHeld new a × (name_at new a ≡ n)
-  pub logs : (a : ℕ) → IsTrue (is_logged rules new a) → IsTrue (is_logged rules old a) ⊎ StoresInto h part (name_at new a)
+  pub all_born : (n : Name) → HasBirth part n → (a : ℕ) × IsHeld new a × (name_at new a ≡ n)
+  pub logs : (a : ℕ) → IsTrue (is_logged_under rules new a)
+      → IsTrue (is_logged_under rules old a) ⊎ StoresInto h part (name_at new a)
   pub taken : free_of old ≤ free_of new + allowance_of rules.reserve old
-  -- a block that was Free may be one that mutators fill; each other is what it was
-  pub in_block : (k : ℕ) → k < old.blocks → (HasKind old k kinds.Free × HasKind new k rules.fill) ⊎ (block_word new k ≡ block_word old k)
-  -- a block is taken for an object
-  pub used : (k : ℕ) → HasKind old k kinds.Free → (HasKind new k kinds.Free → ⊥) → (a : ℕ) × IsHeld new a × (block_at new.blocks a ≡ k)
+  -- a block that was Free may get the kind that mutators fill; the other block words are unchanged
+  pub in_block : (k : ℕ) → k < old.blocks
+      → (HasKind old k kinds.Free × HasKind new k rules.fill) ⊎ (block_word new k ≡ block_word old k)
+  -- a block that was Free and is not contains an object
+  pub used : (k : ℕ) → HasKind old k kinds.Free → (HasKind new k kinds.Free → ⊥)
+      → (a : ℕ) × IsHeld new a × (block_at new.blocks a ≡ k)
 
--- where a small need ends a part, no Free block is left, or all that may be taken are taken, but for less than one a mutator
-abbrev pub IsNeedy : Setting → HeapState → HeapState → Type 0
-IsNeedy t old new = (free_of new ≡ 0) ⊎ (allowance_of t.rules.reserve old + 1 + free_of new ≤ free_of old + length t.traces)
+-- no Free block is left, or fewer blocks of the allowance are left than there are mutators
+abbrev pub ExhaustsAllowance : Setting → HeapState → HeapState → Type 0
+ExhaustsAllowance t old new = (free_of new ≡ 0)
+    ⊎ (allowance_of t.rules.reserve old + 1 + free_of new ≤ free_of old + length t.traces)
 
--- the part of an epoch
+-- the part of an epoch: the commands up to the stop, where each mutator ends for its cause
 pub record RunsPart (t : Setting) (before : Moment) (ends : ℕ → Cause) (now : Moment) : Type 0 where
   pub part : List Entry
   pub done : now.done ≡ before.done ++ part
@@ -168,70 +187,83 @@ pub record RunsPart (t : Setting) (before : Moment) (ends : ℕ → Cause) (now 
   pub causes : (m : ℕ) → IsMutator t.traces m → EndsBy t now ends m (ends m)
   pub stopped : Stopped t.rules (mutators_of t) before.heap (ideal_at before) part now.heap now.mutators
   pub counts : (now.nursery ≡ before.nursery) × (now.full ≡ before.full)
-  -- where mutators place objects, a small need has its reason; where they do not, no `new` stands in the part
-  pub needs : (m d refs nums : ℕ) → IsMutator t.traces m → IsTrue t.places → ends m ≡ AtNeed → Needs t now m d refs nums → size_of refs nums ≤ 2048 → IsNeedy t before.heap now.heap
+  -- If mutators place objects, a small need ends a part only if the allowance is exhausted.
+  -- If they do not, the part has no `new`.
+  pub needs : (m d refs nums : ℕ) → IsMutator t.traces m → IsTrue t.places → ends m ≡ AtNeed → Needs t now m d refs nums
+      → size_of refs nums ≤ MAX_MEDIUM_WORDS → ExhaustsAllowance t before.heap now.heap
   pub served : t.places ≡ false → AllByRecursion (λ e. is_new e.command ≡ false) part
 
-abbrev pub counted : Collect → Moment → ℕ × ℕ
-counted Nursery m = (m.nursery + 1, m.full)
-counted Full m = (m.nursery, m.full + 1)
+-- the numbers of nursery and full collections after one more collection
+abbrev pub counts_after : Collect → Moment → ℕ × ℕ
+counts_after Nursery m = (m.nursery + 1, m.full)
+counts_after Full m = (m.nursery, m.full + 1)
 
--- number and births of a mutator
+-- the number of a mutator, and how many objects it has allocated
 abbrev pub birth_count : MutatorState → ℕ × ℕ
 birth_count m = (m.number, m.births)
 
--- one collection, which has no entry
+-- one collection, which adds no entry
 pub record MakesCollection (t : Setting) (collect : Collect) (before now : Moment) : Type 0 where
-  pub collection : IsCollection t.rules t.workers collect before.heap (roots_of before.mutators) now.heap (roots_of now.mutators)
+  pub collection : IsCollection t.rules t.workers collect before.heap (roots_of before.mutators) now.heap
+      (roots_of now.mutators)
   pub mutators : map birth_count now.mutators ≡ map birth_count before.mutators
   pub done : now.done ≡ before.done
-  pub counts : (now.nursery, now.full) ≡ counted collect before
+  pub counts : (now.nursery, now.full) ≡ counts_after collect before
   pub sound : IsSound t now
 
--- replies that change no word of the heap
+-- replies that leave the heap unchanged
 pub record Replies (es : List Entry) (before now : Moment) : Type 0 where
   pub rest : now ≡ record before { done = before.done ++ es }
   pub runs : IsRun (ideal_at before) es
 
--- each of these mutators is told `ok`
+-- each of these mutators gets the reply `ok` to the command
 abbrev pub all_done : Command → List ℕ → List Entry
 all_done command ms = map (λ m. record { mutator = m; command = command; reply = r.Done }) ms
 
--- first, one full collection for all that stand at `gc`
+-- the first step of a stop: one full collection for all mutators at `gc`
 abbrev pub CollectsFor : Setting → List ℕ → Moment → Moment → Type 0
 CollectsFor t [] before now = now ≡ before
-CollectsFor t (m ∷ ms) before now = (mid : Moment) × MakesCollection t Full before mid × Replies (all_done c.Gc (m ∷ ms)) mid now
+CollectsFor t (m ∷ ms) before now = (mid : Moment) × MakesCollection t Full before mid
+    × Replies (all_done c.Gc (m ∷ ms)) mid now
 
--- A small or medium object is placed in the first fitting hole of the lowest block that has one,
--- and where there is no such hole at the start of the lowest Free block.
+-- A small or medium object is placed in the first hole with room in the lowest block that has one. If there is none,
+-- it is placed at the start of the lowest Free block.
 pub record PlacesSmall (rules : Rules) (old : HeapState) (a size : ℕ) : Type 0 where
   pub spot : HasHole rules.fill old (block_at old.blocks a) (offset_at old.blocks a) size
-      ⊎ (HasKind old (block_at old.blocks a) kinds.Free × (offset_at old.blocks a ≡ 0) × (HasSomeHole rules.fill old size → ⊥))
-  pub lowest : (k from : ℕ) → HasHole rules.fill old k from size → (block_at old.blocks a < k) ⊎ ((block_at old.blocks a ≡ k) × (offset_at old.blocks a ≤ from))
-  pub lowest_free : HasKind old (block_at old.blocks a) kinds.Free → (k : ℕ) → HasKind old k kinds.Free → block_at old.blocks a ≤ k
+      ⊎ (HasKind old (block_at old.blocks a) kinds.Free × (offset_at old.blocks a ≡ 0)
+      × (HasSomeHole rules.fill old size → ⊥))
+  pub lowest : (k from : ℕ) → HasHole rules.fill old k from size
+      → (block_at old.blocks a < k) ⊎ ((block_at old.blocks a ≡ k) × (offset_at old.blocks a ≤ from))
+  pub lowest_free : HasKind old (block_at old.blocks a) kinds.Free → (k : ℕ) → HasKind old k kinds.Free
+      → block_at old.blocks a ≤ k
 
--- a large one in the lowest run of Free blocks
+-- a large object is placed in the lowest run of Free blocks
 pub record PlacesLarge (old : HeapState) (a size : ℕ) : Type 0 where
   pub start : offset_at old.blocks a ≡ 0
   pub run : IsFreeRun old (block_at old.blocks a) (blocks_for size)
   pub lowest : (k : ℕ) → IsFreeRun old k (blocks_for size) → block_at old.blocks a ≤ k
 
+-- the block word of a kind and class, without owner
 abbrev pub block_of_kind : Kind → ℕ → BlockWord
 block_of_kind kind class = record { kind = kind; class = class; owner = 0 }
 
--- a Free block that is used gets the kind that mutators fill, and the class for the size; each other block is what it was
+-- A Free block that is used gets the kind that mutators fill and the class for the size.
+-- All other block words are unchanged.
 pub record UsesBlock (rules : Rules) (old new : HeapState) (used size : ℕ) : Type 0 where
-  pub free : HasKind old used kinds.Free → block_word new used ≡ code_of (block_of_kind rules.fill (class_for rules.fill size))
+  pub free : HasKind old used kinds.Free
+      → block_word new used ≡ code_of (block_of_kind rules.fill (class_for rules.fill size))
   pub hole : (HasKind old used kinds.Free → ⊥) → block_word new used ≡ block_word old used
   pub others : (k : ℕ) → k < old.blocks → k ≢ used → block_word new k ≡ block_word old k
 
--- the blocks of a run get a head with their number, and tails
+-- The first block of a run becomes a head with the length of the run, the others become tails.
+-- All other block words are unchanged.
 pub record UsesRun (old new : HeapState) (used n : ℕ) : Type 0 where
   pub head : block_word new used ≡ code_of (block_of_kind kinds.LargeHead n)
   pub tails : (j : ℕ) → 0 < j → j < n → block_word new (used + j) ≡ code_of (block_of_kind kinds.LargeTail 0)
   pub others : (k : ℕ) → k < old.blocks → (k < used) ⊎ (used + n ≤ k) → block_word new k ≡ block_word old k
 
--- A new object at an address: so many nil fields and zeros, and no bit but its start. All that was held keeps its words and bits.
+-- A new object at address a: its references are nil, its numbers 0, and of its bits only the start bit is set.
+-- The objects held before keep their words and bits.
 pub record AddsObject (old new : HeapState) (a refs nums : ℕ) : Type 0 where
   pub held : IsHeld new a
   pub fresh : IsHeld old a → ⊥
@@ -242,41 +274,49 @@ pub record AddsObject (old new : HeapState) (a refs nums : ℕ) : Type 0 where
   pub words : (x i : ℕ) → IsHeld old x → i < size_at old x → word_at new (x + i) ≡ word_at old (x + i)
   pub bits : (x : ℕ) → IsHeld old x → (is_pinned new x ≡ is_pinned old x) × (is_unlogged new x ≡ is_unlogged old x)
 
--- no word before the block words changes, and of the heap's words those of the n blocks from this one on alone
+-- no word before the block words changes, and of the heap only words of the n blocks from `used` on change
 pub record ChangesBlocks (old new : HeapState) (used n : ℕ) : Type 0 where
   pub front : (i : ℕ) → i < first old.blocks BlockWords → word_at new i ≡ word_at old i
-  pub elsewhere : (i : ℕ) → IsAddress old.blocks i → (block_at old.blocks i < used) ⊎ (used + n ≤ block_at old.blocks i) → word_at new i ≡ word_at old i
+  pub elsewhere : (i : ℕ) → IsAddress old.blocks i → (block_at old.blocks i < used) ⊎ (used + n ≤ block_at old.blocks i)
+      → word_at new i ≡ word_at old i
 
--- a `new` that is placed at the stop
+-- a `new` that is placed at a stop
 pub record Places (t : Setting) (m d refs nums : ℕ) (before now : Moment) : Type 0 where
   pub fits : Fits t.rules before.heap (size_of refs nums)
   pub place : ℕ
   pub object : AddsObject before.heap now.heap place refs nums
-  pub small : size_of refs nums ≤ 2048 → PlacesSmall t.rules before.heap place (size_of refs nums)
+  pub small : size_of refs nums ≤ MAX_MEDIUM_WORDS → PlacesSmall t.rules before.heap place (size_of refs nums)
       × UsesBlock t.rules before.heap now.heap (block_at before.heap.blocks place) (size_of refs nums)
       × ChangesBlocks before.heap now.heap (block_at before.heap.blocks place) 1
-  pub large : 2048 < size_of refs nums → PlacesLarge before.heap place (size_of refs nums)
+  pub large : MAX_MEDIUM_WORDS < size_of refs nums → PlacesLarge before.heap place (size_of refs nums)
       × UsesRun before.heap now.heap (block_at before.heap.blocks place) (blocks_for (size_of refs nums))
       × ChangesBlocks before.heap now.heap (block_at before.heap.blocks place) (blocks_for (size_of refs nums))
-  pub layout : (now.heap.blocks ≡ before.heap.blocks) × (now.heap.number ≡ before.heap.number) × (now.heap.base ≡ before.heap.base)
+  pub layout : (now.heap.blocks ≡ before.heap.blocks) × (now.heap.number ≡ before.heap.number)
+      × (now.heap.base ≡ before.heap.base)
   pub counts : (now.nursery ≡ before.nursery) × (now.full ≡ before.full)
-  pub done : now.done ≡ before.done ++ (record { mutator = m; command = c.New d refs nums; reply = r.New (name_at now.heap place) }) ∷ []
+  pub done : now.done ≡ before.done ++ (record {
+    mutator = m;
+    command = c.New d refs nums;
+    reply = r.New (name_at now.heap place);
+  }) ∷ []
   pub runs : IsRun ideal.empty now.done
   pub sound : IsSound t now
 
+-- the entry of a refused `new`
 abbrev pub refusal : ℕ → ℕ → ℕ → ℕ → Entry
 refusal m d refs nums = record { mutator = m; command = c.New d refs nums; reply = r.Full }
 
--- what stands before the full collection of a need: nothing, or a nursery collection that did not do
+-- what precedes the full collection for a need: nothing, or a nursery collection after which the size does not fit
 abbrev pub FirstTry : Setting → ℕ → Collect → Moment → Moment → Type 0
 FirstTry t size Full before now = now ≡ before
 FirstTry t size Nursery before now = MakesCollection t Nursery before now × (Fits t.rules now.heap size → ⊥)
 
--- A need is served: at once where it fits; else after the collection of its kind, and a full one where that does not do.
--- It is refused only where it does not fit after the full collection that was made for it.
+-- A need is served at once if it fits. If not, the collection to try first is made, and then a full one if it still
+-- does not fit. It is refused only if it does not fit after the full collection made for it.
 pub data Serves (t : Setting) (m d refs nums : ℕ) (before now : Moment) : Type 0 where
   at_once : Places t m d refs nums before now → Serves t m d refs nums before now
-  after_nursery : (mid : Moment) → (Fits t.rules before.heap (size_of refs nums) → ⊥) → first_collection t.rules before.heap ≡ Nursery
+  after_nursery : (mid : Moment) → (Fits t.rules before.heap (size_of refs nums) → ⊥)
+      → first_collection t.rules before.heap ≡ Nursery
       → MakesCollection t Nursery before mid → Places t m d refs nums mid now → Serves t m d refs nums before now
   after_full : (mid late : Moment) → (Fits t.rules before.heap (size_of refs nums) → ⊥)
       → FirstTry t (size_of refs nums) (first_collection t.rules before.heap) before mid
@@ -286,31 +326,33 @@ pub data Serves (t : Setting) (m d refs nums : ℕ) (before now : Moment) : Type
       → MakesCollection t Full mid late → (Fits t.rules late.heap (size_of refs nums) → ⊥)
       → Replies (refusal m d refs nums ∷ []) late now → Serves t m d refs nums before now
 
--- then each need, in rising number of its mutator
+-- the second step of a stop: each need is served, in ascending order of the mutators
 abbrev pub ServesAll : Setting → List ℕ → Moment → Moment → Type 0
 ServesAll t [] before now = now ≡ before
 ServesAll t (m ∷ ms) before now =
-    (d : ℕ) × (refs : ℕ) × (nums : ℕ) × (mid : Moment) × Needs t before m d refs nums × Serves t m d refs nums before mid × ServesAll t ms mid now
+    (d : ℕ) × (refs : ℕ) × (nums : ℕ) × (mid : Moment) × Needs t before m d refs nums
+    × Serves t m d refs nums before mid × ServesAll t ms mid now
 
 abbrev pub is_at_meet : Option Command → Bool
 is_at_meet None = false
 is_at_meet (Some command) = is_meet command
 
--- at `meet`, or at the end
+-- at `meet`, or at the end of the trace
 abbrev pub is_waiting : Option Command → Bool
 is_waiting None = true
 is_waiting (Some command) = is_meet command
 
--- last, all meet, where each stands at `meet` or has ended
+-- the last step of a stop: if each mutator is at `meet` or has ended, each `meet` gets its reply
 abbrev pub MeetsIf : Bool → List ℕ → Moment → Moment → Type 0
 MeetsIf true ms before now = Replies (all_done c.Meet ms) before now
 MeetsIf false ms before now = now ≡ before
 
 abbrev pub Meets : Setting → Moment → Moment → Type 0
 Meets t before now =
-    MeetsIf (list_all (λ m. is_waiting (next_in t before m)) (mutators_of t)) (filter (λ m. is_at_meet (next_in t before m)) (mutators_of t)) before now
+    MeetsIf (list_all (λ m. is_waiting (next_in t before m)) (mutators_of t))
+    (filter (λ m. is_at_meet (next_in t before m)) (mutators_of t)) before now
 
--- one epoch more
+-- one more epoch: its part, and the three steps of its stop
 pub record IsEpoch (t : Setting) (before now : Moment) : Type 0 where
   pub ends : ℕ → Cause
   pub stop : Moment
@@ -320,14 +362,14 @@ pub record IsEpoch (t : Setting) (before now : Moment) : Type 0 where
   pub served : Moment
   pub needs : ServesAll t (filter (λ m. is_at_need (ends m)) (mutators_of t)) collected served
   pub meet : Meets t served now
-  pub front : IsFront t.traces now.done
+  pub front : IsOrderPrefix t.traces now.done
 
--- the moments that end the sessions of a setting
+-- the states that sessions of a setting reach after some number of epochs
 pub data InSession (t : Setting) : Moment → Type 0 where
   begun : InSession t (first_moment t)
   longer : (before : Moment) {now : Moment} → InSession t before → IsEpoch t before now → InSession t now
 
--- a session that has all replies ends so
+-- the last state of a session in which every command of the traces has its reply
 pub record IsWhole (t : Setting) (last : Moment) : Type 0 where
   pub session : InSession t last
   pub order : IsOrder t.traces last.done

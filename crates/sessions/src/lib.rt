@@ -1,11 +1,15 @@
-//! What a session of a plan is: which objects fit where, what a collection leaves, and how epochs and stops follow each other.
+//! Sessions of a plan: where objects fit, what collections leave, and how epochs and stops follow
+//! each other.
 //!
-//! Definitions for the contracts of the crates above, and laws that show what they say.
+//! The contracts of other crates use the definitions. The laws show what the definitions imply.
 #![tactic(auto)]
 
 mod laws;
+mod placement_laws;
 
 pub use laws::{
-    collections_count, empty_heap_has_room, empty_heap_may_be_collected, holes_are_clear, sessions,
-    sessions_of_one,
+    collections_count, collections_set_the_base, empty_heap_has_room, empty_heap_may_be_collected,
+    grants_are_allowed, grants_by_counts, holes_are_clear, objects_stay, plans_have_ages,
+    refusals_follow_a_full_collection, sessions, sessions_count, sessions_of_one,
 };
+pub use placement_laws::large_objects_are_placed;

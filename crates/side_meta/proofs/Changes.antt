@@ -1,11 +1,11 @@
--- A row in which one field was put.
+-- A row in which one field was set.
 use Rattle.std.proofs.Common.{◌≡◌, ◌≢◌, ◌∙◌, sym, ap, subst, ℕ, ◌+◌, ◌*◌, ◌-◌, ◌/◌, ◌%◌, ◌^◌, ◌<◌, ◌≤◌, ◌⊎◌, inl, inr, List, length, slice_index, slice_set, arith}
 use Rattle.std.proofs.lemmas.Bool.{cases_eq}
 use Rattle.std.proofs.lemmas.List.{get_or-set_same, get_or-set_other}
 use Rattle.std.proofs.Math.ListN.{length-set}
 use Rattle.std.specs.Int.{bit_at}
 use Rattle.side_meta.specs.declared.spec.Spec.{Spec}
-use Rattle.side_meta.specs.Fields.{field_bits, field_index, place_word, place_shift, field_at, ChangesField}
+use Rattle.side_meta.specs.Fields.{field_bits, field_index, place_word, place_shift, field_value, ChangesField}
 use Rattle.side_meta.proofs.Sides.{in_word, apart}
 use Rattle.side_meta.proofs.PutBits.{put_bits, put_outside, put_back, same_run}
 
@@ -22,7 +22,7 @@ pub at_place : (w : List ℕ) (s : Spec) (a v : ℕ) → place_word s a < length
 at_place w s a v there = get_or-set_same w (place_word s a) _ 0 there
 
 pub read_back : (w : List ℕ) (s : Spec) (a v : ℕ) → place_word s a < length w → v < 2 ^ field_bits s
-    → field_at (put_field w s a v) s a ≡ v
+    → field_value (put_field w s a v) s a ≡ v
 read_back w s a v there small =
     ap (λ x. x / 2 ^ place_shift s a % 2 ^ field_bits s) (at_place w s a v there)
     ∙ put_back (slice_index w (place_word s a)) v (field_bits s) (place_shift s a) small (room s a)
@@ -38,7 +38,7 @@ other_bits w s a v there small k within outside =
     ap (λ x. bit_at x k) (at_place w s a v there)
     ∙ put_outside (slice_index w (place_word s a)) v (field_bits s) (place_shift s a) k small (room s a) within outside
 
--- a bit of the field of x is none of the field of a
+-- a bit of the field of x is no bit of the field of a
 outside_of : (s : Spec) (a x i : ℕ) → field_index s x ≢ field_index s a → place_word s x ≡ place_word s a → i < field_bits s
     → (place_shift s x + i < place_shift s a) ⊎ (place_shift s a + field_bits s ≤ place_shift s x + i)
 outside_of s a x i other same below =
@@ -50,9 +50,9 @@ outside_of s a x i other same below =
     ]
 
 pub other_fields : (w : List ℕ) (s : Spec) (a v : ℕ) → place_word s a < length w → v < 2 ^ field_bits s
-    → (x : ℕ) → field_index s x ≢ field_index s a → field_at (put_field w s a v) s x ≡ field_at w s x
+    → (x : ℕ) → field_index s x ≢ field_index s a → field_value (put_field w s a v) s x ≡ field_value w s x
 other_fields w s a v there small x other =
-    elim (cases_eq (place_word s x) (place_word s a)) as (λ _. field_at (put_field w s a v) s x ≡ field_at w s x) [
+    elim (cases_eq (place_word s x) (place_word s a)) as (λ _. field_value (put_field w s a v) s x ≡ field_value w s x) [
       | inl same ↦
           same_run (slice_index (put_field w s a v) (place_word s x)) (slice_index w (place_word s x)) (place_shift s x) (field_bits s)
           (λ i below.
@@ -71,7 +71,7 @@ changes w s a v there small = record {
   fields = other_fields w s a v there small;
 }
 
--- the row that the code makes of the parts that it read
+-- the row that the code computes from the parts that it read
 pub put_is : (w : List ℕ) (s : Spec) (a v word shift y ones : ℕ)
     → word ≡ place_word s a → shift ≡ place_shift s a → y ≡ slice_index w word → ones ≡ 2 ^ field_bits s - 1
     → slice_set w word (put_bits y v ones shift) ≡ put_field w s a v

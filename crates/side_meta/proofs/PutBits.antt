@@ -72,7 +72,7 @@ same_run n m s b same =
     same_from_bits_below b _ _ (mod_below (n / 2 ^ s) (2 ^ b) (pow_pos b)) (mod_below (m / 2 ^ s) (2 ^ b) (pow_pos b))
     (λ i below. run_bit n s b i below ∙ same i below ∙ sym (run_bit m s b i below))
 
--- the run that was put is read back
+-- the run that was written is read back
 pub put_back : (y v b s : ℕ) → v < 2 ^ b → b + s ≤ 64 → put_bits y v (2 ^ b - 1) s / 2 ^ s % 2 ^ b ≡ v
 put_back y v b s small room =
     same_from_bits_below b _ _ (mod_below _ (2 ^ b) (pow_pos b)) small

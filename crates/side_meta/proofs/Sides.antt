@@ -2,7 +2,7 @@
 use Rattle.std.proofs.Common.{◌≡◌, ◌≢◌, sym, subst, ℕ, ◌+◌, ◌*◌, ◌/◌, ◌%◌, ◌^◌, ◌≤◌, ◌⊎◌, inl, inr, arith}
 use Rattle.std.proofs.lemmas.Bool.{cases_eq, cases_lt}
 
--- what holds at each binary logarithm of a field's bits
+-- a fact for each binary logarithm of a field's bits
 pub at_each : (P : ℕ → Type 0) → P 0 → P 1 → P 2 → P 3 → P 4 → P 5 → P 6 → (l : ℕ) → l ≤ 6 → P l
 at_each P p0 p1 p2 p3 p4 p5 p6 l most =
     elim (cases_eq l 0) as (λ _. P l) [
@@ -25,7 +25,7 @@ at_each P p0 p1 p2 p3 p4 p5 p6 l most =
       ]
     ]
 
--- a field does not pass the end of its word
+-- a field does not extend past the end of its word
 pub in_word : (l : ℕ) → l ≤ 6 → (f : ℕ) → f * 2 ^ l % 64 + 2 ^ l ≤ 64
 in_word = at_each (λ l. (f : ℕ) → f * 2 ^ l % 64 + 2 ^ l ≤ 64)
     (λ f. omega arith) (λ f. omega arith) (λ f. omega arith) (λ f. omega arith) (λ f. omega arith) (λ f. omega arith) (λ f. omega arith)

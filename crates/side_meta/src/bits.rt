@@ -1,4 +1,4 @@
-//! Fields of one bit.
+//! Reading, setting and clearing fields of one bit.
 
 ghost use Rattle.std.specs.Prelude.{◌≡◌, ℕ, ◌<◌, ◌≤◌, ◌^◌, true, false, length, slice_index};
 ghost use Rattle.side_meta.specs.Fields.{place_word, is_set, ChangesField};
@@ -7,7 +7,7 @@ use crate::fields::{field, set_field};
 use crate::row::Words;
 use crate::spec::Spec;
 
-/// Whether the bit of `a` is 1.
+/// Whether the bit of address `a` is 1.
 pub fn test<W: Words>(w: &W, s: &Spec, a: u32) -> bool
     requires bit { s.now.log_bits ≡ 0 }
     requires from { s.now.heap ≤ a }
@@ -18,7 +18,7 @@ pub fn test<W: Words>(w: &W, s: &Spec, a: u32) -> bool
     field(w, s, a) == 1
 }
 
-/// Makes the bit of `a` 1.
+/// Sets the bit of address `a` to 1. No other bit of the row changes.
 pub fn set<W: Words>(w: &mut W, s: &Spec, a: u32)
     requires bit { s.now.log_bits ≡ 0 }
     requires from { s.now.heap ≤ a }
@@ -31,7 +31,7 @@ pub fn set<W: Words>(w: &mut W, s: &Spec, a: u32)
     set_field(w, s, a, 1);
 }
 
-/// Makes the bit of `a` 0.
+/// Sets the bit of address `a` to 0. No other bit of the row changes.
 pub fn clear<W: Words>(w: &mut W, s: &Spec, a: u32)
     requires bit { s.now.log_bits ≡ 0 }
     requires from { s.now.heap ≤ a }

@@ -1,30 +1,30 @@
-//! Fields of any number of bits.
+//! Reading and writing fields of 1 to 64 bits.
 
 ghost use Rattle.std.specs.Prelude.{◌≡◌, ◌-◌, ◌<◌, ◌≤◌, ◌^◌, ℕ, length, slice_index};
-ghost use Rattle.side_meta.specs.Fields.{place_word, field_bits, field_at, ChangesField};
+ghost use Rattle.side_meta.specs.Fields.{place_word, field_bits, field_value, ChangesField};
 
 use crate::places::place;
 use crate::row::Words;
 use crate::spec::Spec;
 
-/// The field of `a`.
+/// The value of the field of address `a`.
 pub fn field<W: Words>(w: &W, s: &Spec, a: u32) -> u64
     requires from { s.now.heap ≤ a }
     requires index { place_word s.now a < 2 ^ 32 }
     requires word { place_word s.now a < length (W.words w.now) }
-    ensures { result ≡ field_at (W.words w.now) s.now a }
+    ensures { result ≡ field_value (W.words w.now) s.now a }
 {
     let (word, shift) = place(s, a);
     w.get(word) >> shift & ones(s)
 }
 
-/// Puts `v` in place of the field of `a`.
+/// Sets the field of address `a` to `v`. No other bit of the row changes.
 pub fn set_field<W: Words>(w: &mut W, s: &Spec, a: u32, v: u64)
     requires from { s.now.heap ≤ a }
     requires index { place_word s.now a < 2 ^ 32 }
     requires word { place_word s.now a < length (W.words w.old) }
     requires value { v < 2 ^ field_bits s.now }
-    ensures field { field_at (W.words w.new) s.now a ≡ v }
+    ensures field { field_value (W.words w.new) s.now a ≡ v }
     ensures alone { ChangesField (W.words w.old) (W.words w.new) s.now a }
     ensures fit { (k : ℕ) → slice_index (W.words w.new) k < 2 ^ 64 }
 {
@@ -33,7 +33,7 @@ pub fn set_field<W: Words>(w: &mut W, s: &Spec, a: u32, v: u64)
     w.set(word, rest | v << shift);
 }
 
-// A field whose bits are all set, in the low bits.
+/// A field with all bits set, in the low bits of a word.
 fn ones(s: &Spec) -> u64
     ensures { result ≡ 2 ^ field_bits s.now - 1 }
 {

@@ -1,4 +1,4 @@
-//! Metadata beside a heap: a field of bits for each region, packed in a row of words.
+//! Side metadata (MMTk): a field of bits for each region of a heap, packed in a row of words.
 #![tactic(auto)]
 
 mod bits;

@@ -1,9 +1,12 @@
+//! The position of a field in the row.
+
 ghost use Rattle.std.specs.Prelude.{◌≡◌, ◌<◌, ◌≤◌, ◌^◌};
 ghost use Rattle.side_meta.specs.Fields.{place_word, place_shift};
 
 use crate::spec::Spec;
 
-/// Where the field of `a` lies: the index of its word, and the bits of that word below it.
+/// The position of the field of address `a`: the index of its word, and the index of its lowest bit
+/// in that word.
 pub fn place(s: &Spec, a: u32) -> (u32, u32)
     requires from { s.now.heap ≤ a }
     requires word { place_word s.now a < 2 ^ 32 }

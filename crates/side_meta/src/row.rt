@@ -1,11 +1,13 @@
+//! Rows of words.
+
 ghost use Rattle.std.specs.Prelude.{◌≡◌, ℕ, ◌<◌, ◌^◌, List, length, slice_index, slice_set};
 
-/// A row of words, each of 64 bits.
+/// A row of 64-bit words.
 pub trait Words {
-    // The words in their order.
+    // The words in order.
     ghost words: { Self → List ℕ };
 
-    /// How many words the row has.
+    /// The number of words of the row.
     fn len(&self) -> usize
         ensures { result ≡ length (words self.now) };
 
@@ -14,7 +16,7 @@ pub trait Words {
         requires { i < length (words self.now) }
         ensures { result ≡ slice_index (words self.now) i };
 
-    /// Puts `v` in place of word `i`.
+    /// Sets word `i` to `v`.
     fn set(&mut self, i: u32, v: u64)
         requires { i < length (words self.old) }
         ensures words { words self.new ≡ slice_set (words self.old) i v }

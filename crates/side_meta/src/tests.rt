@@ -1,3 +1,5 @@
+//! Tests against values computed by hand.
+
 use crate::{Spec, clear, field, place, set, set_field, test};
 use std::test::Fail;
 

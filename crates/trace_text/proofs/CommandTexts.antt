@@ -1,4 +1,4 @@
--- Commands as they are printed, and read again.
+-- Printed commands, and reading them again.
 use Rattle.std.proofs.Common.{◌≡◌, refl, sym, ◌∙◌, ap, ℕ, suc, ◌<◌, ◌≤◌, arith, ◌⊎◌, inl, inr, Bool, true, false, cond, nat_eq, nat_le, List, [], ◌∷◌, ◌++◌, length, slice_index, eq-eqb, Option, Some, None, Ok}
 use Rattle.std.specs.List.{join_with_byte, list_all}
 use Rattle.std.specs.Str.{bytes_eq}
@@ -135,7 +135,7 @@ pub command_lacks : (c : Command) → IsValid c → Lacks 10 (command_text c)
 command_lacks c valid =
     Lacks-append 10 (word_of (op_in c)) (arguments_text (sorts_of (op_in c)) (arguments_in c)) (word_lacks 10 (omega arith) (op_in c)) (arguments_lack (sorts_of (op_in c)) (arguments_in c) (fits c valid))
 
--- and back: a line that is read is the command's one text
+-- the converse: a line that is read is the one text of its command
 chosen_op : (b : Bool) (x : Op) (rest : Option Op) (y : Op) → cond b (Some x) rest ≡ Some y → ((b ≡ true) × (x ≡ y)) ⊎ (rest ≡ Some y)
 chosen_op true x rest y e = inl (refl, cc)
 chosen_op false x rest y e = inr e

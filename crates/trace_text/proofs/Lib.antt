@@ -1,5 +1,7 @@
 mod CommandTexts
 mod DigitLemmas
+mod FirstLines
+mod FrontLemmas
 mod LineLemmas
 mod NumeralLemmas
 mod PartLemmas

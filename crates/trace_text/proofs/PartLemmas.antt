@@ -1,4 +1,4 @@
--- The first part of a list that is parts_at at a byte.
+-- The first part of a text that is split at a byte.
 use Rattle.std.proofs.Common.{◌≡◌, refl, sym, ◌∙◌, ap, ℕ, zero, suc, ◌+◌, ◌-◌, ◌<◌, arith, false, nat_eq, List, [], ◌∷◌, get_or, take, drop, length, eq-eqb}
 use Rattle.std.proofs.lemmas.List.{take_all, length-drop}
 use Rattle.std.specs.List.{onto_first, count_by, join_with_byte}
@@ -7,7 +7,7 @@ use Rattle.std.proofs.lemmas.Bool.{ne_eqb}
 use Rattle.std.proofs.Math.Numerals.{add-one}
 use Rattle.trace_text.specs.Grammar.{parts_at, lines_of, last_line, without_empty_end}
 
--- no byte before index k is the one
+-- no byte before index k is `at`
 abbrev pub NoneBefore : ℕ → List ℕ → ℕ → Type 0
 NoneBefore at bytes k = (i : ℕ) → i < k → get_or bytes i 0 ≡ at → ⊥
 
@@ -28,7 +28,7 @@ not_found at (b ∷ bs) none =
     slice_split-cons_no _ b bs (ne_eqb b at (none 0 (omega arith)))
     ∙ ap (onto_first b) (not_found at bs (shifted at b bs (length bs) none))
 
--- a range to the end is what is left
+-- a range to the end is the rest
 pub range_to_end : (bytes : List ℕ) (k : ℕ) → take (length bytes - (k + 1)) (drop (k + 1) bytes) ≡ drop (suc k) bytes
 range_to_end bytes k =
     take_all (length bytes - (k + 1)) (drop (k + 1) bytes) (let e : length (drop (k + 1) bytes) ≡ length bytes - (k + 1) = length-drop (k + 1) bytes in omega arith)
@@ -38,7 +38,7 @@ range_to_end bytes k =
 pub not_none : (at : ℕ) (bytes : List ℕ) → nat_eq (length (parts_at at bytes)) 0 ≡ false
 not_none at bytes = rw length-slice_split (ne_eqb _ 0 (λ e. omega arith))
 
--- a part that another follows is a line
+-- a part that is not the last is a line
 goes_on : (line : List ℕ) (parts : List (List ℕ)) → 0 < length parts → without_empty_end (line ∷ parts) ≡ line ∷ without_empty_end parts
 goes_on line [] some = absurd (omega arith)
 goes_on line (next ∷ parts) some = refl

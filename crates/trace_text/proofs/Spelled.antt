@@ -1,4 +1,4 @@
--- Numbers and arguments as they are printed, and read again.
+-- Printed numbers and arguments, and reading them again.
 use Rattle.std.proofs.Common.{◌≡◌, refl, sym, ◌∙◌, ap, ℕ, zero, suc, ◌<◌, ◌≤◌, ◌^◌, inl, inr, arith, rules, Bool, true, false, cond, ◌&&◌, not, nat_eq, nat_lt, nat_le, List, [], ◌∷◌, ◌++◌, length, get_or, Option, Some, None, Ok}
 use Rattle.std.specs.Char.{is_ascii_digit}
 use Rattle.std.specs.Fmt.{decimal}
@@ -8,8 +8,8 @@ use Rattle.std.proofs.lemmas.Bool.{and_parts, or_cases, not-true, eqb-true, eqb-
 use Rattle.std.proofs.lemmas.Fmt.{decimal_is_IsNumeral, digits_decimal, digits_value-decimal, decimal_nonempty, decimal_digit, first_decimal, decimal-digits_value}
 use Rattle.std.proofs.lemmas.Str.Parse.{IsNumeralModel, numerals_by_value, digit_from_value}
 use Rattle.trace_text.specs.declared.fault.Why.TheVariants as why
-use Rattle.trace_text.specs.Words.{Sort, Register, Global, RefCount, NumCount, RefIndex, NumIndex, Value, most_of, mark_of}
-use Rattle.trace_text.specs.Grammar.{is_numeral, numeral, behind, checked, argument}
+use Rattle.trace_text.specs.Words.{Sort, Register, Global, RefCount, NumCount, RefIndex, NumIndex, Value, most_of, letter_of}
+use Rattle.trace_text.specs.Grammar.{is_numeral, numeral, numeral_after, checked, argument}
 use Rattle.trace_text.proofs.NumeralLemmas.{good_numeral}
 use Rattle.trace_text.proofs.ValidLemmas.{chosen_yes, checked_most}
 
@@ -55,11 +55,11 @@ most_small RefIndex = omega arith
 most_small NumIndex = omega arith
 most_small Value = omega arith
 
--- an argument with its mark
+-- an argument with its letter
 abbrev pub argument_text : Sort → ℕ → List ℕ
-argument_text sort n = mark_of sort ++ decimal n
+argument_text sort n = letter_of sort ++ decimal n
 
-behind_mark : (sort : Sort) (word : List ℕ) → behind (mark_of sort) (mark_of sort ++ word) ≡ numeral word
+behind_mark : (sort : Sort) (word : List ℕ) → numeral_after (letter_of sort) (letter_of sort ++ word) ≡ numeral word
 behind_mark Register word = refl
 behind_mark Global word = refl
 behind_mark RefCount word = refl
@@ -73,7 +73,7 @@ argument_again sort n within =
     ap (checked (most_of sort)) (behind_mark sort (decimal n) ∙ numeral-decimal n (omega (arith, most_small sort)))
     ∙ checked-Some (most_of sort) n within
 
-mark_lacks : (at : ℕ) → at < 48 → (sort : Sort) → Lacks at (mark_of sort)
+mark_lacks : (at : ℕ) → at < 48 → (sort : Sort) → Lacks at (letter_of sort)
 mark_lacks at low Register = (ne_eqb 114 at (λ e. omega arith), tt)
 mark_lacks at low Global = (ne_eqb 103 at (λ e. omega arith), tt)
 mark_lacks at low RefCount = tt
@@ -84,9 +84,9 @@ mark_lacks at low Value = tt
 
 pub argument_lacks : (at : ℕ) → at < 48 → (sort : Sort) (n : ℕ) → n ≤ most_of sort → Lacks at (argument_text sort n)
 argument_lacks at low sort n within =
-    Lacks-append at (mark_of sort) (decimal n) (mark_lacks at low sort) (decimal_lacks at n low (omega (arith, most_small sort)))
+    Lacks-append at (letter_of sort) (decimal n) (mark_lacks at low sort) (decimal_lacks at n low (omega (arith, most_small sort)))
 
--- and back: a numeral is the digits of its number
+-- the converse: a numeral is the digits of its number
 chosen_some : (b : Bool) (x y : ℕ) → cond b (Some x) None ≡ Some y → (b ≡ true) × (x ≡ y)
 chosen_some true x y e = (refl, cc)
 chosen_some false x y e = absurd (cc)
@@ -114,17 +114,17 @@ chosen_behind : (b : Bool) (o : Option ℕ) (n : ℕ) → cond b o None ≡ Some
 chosen_behind true o n e = (refl, e)
 chosen_behind false o n e = absurd (cc)
 
-behind_is : (mark word : List ℕ) (n : ℕ) → behind mark word ≡ Some n → (digits : List ℕ) × (word ≡ mark ++ digits) × (numeral digits ≡ Some n)
+behind_is : (letter word : List ℕ) (n : ℕ) → numeral_after letter word ≡ Some n → (digits : List ℕ) × (word ≡ letter ++ digits) × (numeral digits ≡ Some n)
 behind_is [] word n e = (word, refl, e)
 behind_is (m ∷ ms) [] n e = absurd (cc)
 behind_is (m ∷ ms) (b ∷ bs) n e =
-    let which = chosen_behind (nat_eq b m) (behind ms bs) n e in
+    let which = chosen_behind (nat_eq b m) (numeral_after ms bs) n e in
     let same : b ≡ m = eqb-true b m which.0 in
     let rest = behind_is ms bs n which.1 in
     (rest.0, ap (λ x. x ∷ bs) same ∙ ap (λ ys. m ∷ ys) rest.1, rest.2)
 
 pub argument_is : (sort : Sort) (word : List ℕ) (n : ℕ) → argument sort word ≡ Ok n → word ≡ argument_text sort n
 argument_is sort word n e =
-    let within = checked_most (most_of sort) (behind (mark_of sort) word) n e in
-    let rest = behind_is (mark_of sort) word n (checked_is (most_of sort) (behind (mark_of sort) word) n e) in
-    rest.1 ∙ ap (λ digits. mark_of sort ++ digits) (decimal-numeral rest.0 n rest.2 (omega (arith, most_small sort)))
+    let within = checked_most (most_of sort) (numeral_after (letter_of sort) word) n e in
+    let rest = behind_is (letter_of sort) word n (checked_is (most_of sort) (numeral_after (letter_of sort) word) n e) in
+    rest.1 ∙ ap (λ digits. letter_of sort ++ digits) (decimal-numeral rest.0 n rest.2 (omega (arith, most_small sort)))

@@ -1,4 +1,4 @@
--- What is read is valid, and not too much.
+-- Commands that are read are valid, and at most `most_commands`.
 use Rattle.std.proofs.Common.{◌≡◌, refl, subst, ℕ, zero, suc, ◌+◌, ◌<◌, ◌≤◌, arith, Bool, true, false, cond, nat_eq, nat_lt, nat_le, List, [], ◌∷◌, map, length, get_or, Option, Some, None, Result, Ok, Err, Vec, Global}
 use Rattle.std.specs.Prelude.{IfOk}
 use Rattle.std.specs.List.{All, AllByRecursion}
@@ -11,8 +11,8 @@ use Rattle.trace_text.specs.declared.fault.Why.{Why}
 use Rattle.trace_text.specs.declared.fault.Why.TheVariants as why
 use Rattle.trace_text.specs.declared.fault.TraceFault.{TraceFault}
 use Rattle.trace_text.specs.declared.fault.TraceFault.TheVariants.{TooMany}
-use Rattle.trace_text.specs.Words.{Sort, most_of, mark_of, sorts_of, command_of}
-use Rattle.trace_text.specs.Grammar.{◌>>=◌, checked, behind, argument, arguments, with_op, if_some, op_of, of_words, words_of, line, at_line, lines_from, most_commands, opened_by, lines_under, with_header, lines_of, trace, Gives}
+use Rattle.trace_text.specs.Words.{Sort, most_of, letter_of, sorts_of, command_of}
+use Rattle.trace_text.specs.Grammar.{◌>>=◌, checked, numeral_after, argument, arguments, with_op, if_some, op_of, of_words, words_of, line, at_line, lines_from, most_commands, opened_by, lines_under, with_header, lines_of, trace, Gives}
 
 -- each element of a list, by index and by recursion
 pub by_index : {X : Type 0} (P : X → Type 0) (xs : List X) → AllByRecursion P xs → (k : ℕ) (d : X) → k < length xs → P (get_or xs k d)
@@ -28,7 +28,7 @@ pub bind_ok : {A B E : Type 0} (r : Result A E) (f : A → Result B E) (y : B) �
 bind_ok (Ok x) f y e = (x, refl, e)
 bind_ok (Err d) f y e = absurd (cc)
 
--- a choice whose other branch is no Ok
+-- a choice whose other branch is an error
 pub chosen_yes : {A E : Type 0} (b : Bool) (r : Result A E) (d : E) (y : A) → cond b r (Err d) ≡ Ok y → (b ≡ true) × (r ≡ Ok y)
 chosen_yes true r d y e = (refl, e)
 chosen_yes false r d y e = absurd (cc)
@@ -50,7 +50,7 @@ cons_most : (sort : Sort) (sorts : List Sort) (x : ℕ) (xs : List ℕ) → x �
 cons_most sort sorts x xs here others zero = here
 cons_most sort sorts x xs here others (suc i) = others i
 
--- no argument is greater than its sort allows
+-- no argument is larger than its sort permits
 arguments_most : (sorts : List Sort) (words : List (List ℕ)) (xs : List ℕ) → arguments sorts words ≡ Ok xs → (i : ℕ) → get_or xs i 0 ≤ get_or (map most_of sorts) i 0
 arguments_most [] words xs e i =
     let none : [] ≡ xs = cc in
@@ -62,7 +62,7 @@ arguments_most (sort ∷ sorts) (word ∷ words) xs e i =
     let first = bind_ok (argument sort word) _ xs e in
     let rest = bind_ok (arguments sorts words) _ xs first.2 in
     let whole : first.0 ∷ rest.0 ≡ xs = cc in
-    rw (← whole) (cons_most sort sorts first.0 rest.0 (checked_most (most_of sort) (behind (mark_of sort) word) first.0 first.1) (arguments_most sorts words rest.0 rest.1) i)
+    rw (← whole) (cons_most sort sorts first.0 rest.0 (checked_most (most_of sort) (numeral_after (letter_of sort) word) first.0 first.1) (arguments_most sorts words rest.0 rest.1) i)
 
 valid_command : (op : Op) (xs : List ℕ) → ((i : ℕ) → get_or xs i 0 ≤ get_or (map most_of (sorts_of op)) i 0) → IsValid (command_of op xs)
 valid_command o.New xs most = (most 0, most 1, most 2)
@@ -104,7 +104,7 @@ pub of_line : {C : Type 0} (n : ℕ) (r : Result C Why) (c : C) → at_line n r 
 of_line n (Ok d) c e = cc
 of_line n (Err w) c e = absurd (cc)
 
--- every command is one of a line, and there are at most so many lines
+-- every command comes from a line, and the number of lines is bounded
 pub lines_good : {C : Type 0} (P : C → Type 0) (read : List ℕ → Result C Why) → ((l : List ℕ) (c : C) → read l ≡ Ok c → P c)
     → (n : ℕ) (ls : List (List ℕ)) (cs : List C) → n ≤ most_commands + 2 → lines_from read n ls ≡ Ok cs → AllByRecursion P cs × (n + length cs ≤ most_commands + 2)
 lines_good P read each n [] cs early e =

@@ -1,4 +1,4 @@
--- Texts of whole lines, cut and joined.
+-- Texts of whole lines, split and joined.
 use Rattle.std.proofs.Common.{◌≡◌, refl, sym, ◌∙◌, ap, ℕ, ◌+◌, ◌<◌, arith, Bool, true, false, nat_eq, List, [], ◌∷◌, ◌++◌, length, eq-eqb, append_assoc}
 use Rattle.std.specs.List.{flat_map, onto_first, join_with_byte, count_by}
 use Rattle.std.proofs.lemmas.List.{append-nil}
@@ -31,7 +31,7 @@ lines_again (line ∷ lines) lack =
     line_before (joined (line ∷ lines)) line (joined lines) (ap (parts_at 10) regrouped ∙ cut_at 10 line (joined lines) lack.0)
     ∙ ap (λ ls. line ∷ ls) (lines_again lines lack.1)
 
--- and back: a text that ends with a newline is its lines
+-- the converse: a text that ends with a newline is its joined lines
 onto_first_more : (b : ℕ) (parts more : List (List ℕ)) → 0 < length parts → onto_first b (parts ++ more) ≡ onto_first b parts ++ more
 onto_first_more b [] more some = absurd (omega arith)
 onto_first_more b (part ∷ parts) more some = refl

@@ -1,4 +1,4 @@
--- Traces as they are printed, and read again.
+-- Printed traces, and reading them again.
 use Rattle.std.proofs.Common.{◌≡◌, refl, sym, ◌∙◌, ap, ℕ, ◌+◌, ◌≤◌, arith, Bool, true, false, cond, nat_lt, List, [], ◌∷◌, ◌++◌, map, length, Some, None, Result, Ok, Err, Vec, Global}
 use Rattle.std.specs.List.{All, AllByRecursion, flat_map}
 use Rattle.std.specs.Prelude.{IfOk}
@@ -18,7 +18,7 @@ use Rattle.trace_text.proofs.WholeLines.{joined, AllLack, lines_again, whole_lin
 use Rattle.trace_text.proofs.CommandTexts.{line_again, line_is, command_lacks}
 use Rattle.trace_text.proofs.ValidLemmas.{bind_ok, chosen_no, of_line, by_recursion}
 
-known : (op : Op) → op_of all_ops (word_of op) ≡ Some op
+pub known : (op : Op) → op_of all_ops (word_of op) ≡ Some op
 known o.New = refl
 known o.Get = refl
 known o.Put = refl
@@ -61,7 +61,7 @@ each_again cs valid few =
 pub trace_again : (cs : List Command) → All IsValid cs → length cs ≤ most_commands → trace (trace_text cs) ≡ Ok cs
 trace_again cs valid few = each_again cs (by_recursion IsValid cs valid) few
 
--- and back: a text that ends with a newline is the one text of what it is read as
+-- the converse: a text that ends with a newline is the one text of its commands
 lines_are : (ops : List Op) (n : ℕ) (ls : List (List ℕ)) (cs : List Command) → lines_from (line ops) n ls ≡ Ok cs → ls ≡ map command_text cs
 lines_are ops n [] cs e =
     let none : [] ≡ cs = cc in

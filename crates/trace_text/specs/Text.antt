@@ -1,4 +1,4 @@
--- What is printed.
+-- The text of traces and replies.
 use Rattle.std.specs.Prelude.{ℕ, List, [], ◌∷◌, ◌++◌, codes}
 use Rattle.std.specs.List.{flat_map}
 use Rattle.std.specs.Fmt.{decimal}
@@ -6,15 +6,16 @@ use Rattle.ideal_heap.specs.declared.name.Name.{Name}
 use Rattle.ideal_heap.specs.declared.command.Command.{Command}
 use Rattle.ideal_heap.specs.declared.reply.Reply.{Reply}
 use Rattle.ideal_heap.specs.declared.reply.Reply.TheVariants as r
-use Rattle.trace_text.specs.Words.{Sort, word_of, mark_of, sorts_of, op_in, arguments_in}
+use Rattle.trace_text.specs.Words.{Sort, word_of, letter_of, sorts_of, op_in, arguments_in}
 use Rattle.trace_text.specs.Grammar.{header}
 
--- each argument behind a space
+-- each argument after a space
 abbrev pub arguments_text : List Sort → List ℕ → List ℕ
 arguments_text [] xs = []
 arguments_text (sort ∷ sorts) [] = []
-arguments_text (sort ∷ sorts) (x ∷ xs) = 32 ∷ mark_of sort ++ decimal x ++ arguments_text sorts xs
+arguments_text (sort ∷ sorts) (x ∷ xs) = 32 ∷ letter_of sort ++ decimal x ++ arguments_text sorts xs
 
+-- the line of a command, without its newline
 abbrev pub command_text : Command → List ℕ
 command_text c = word_of (op_in c) ++ arguments_text (sorts_of (op_in c)) (arguments_in c)
 
@@ -22,16 +23,19 @@ command_text c = word_of (op_in c) ++ arguments_text (sorts_of (op_in c)) (argum
 abbrev pub ended : List ℕ → List ℕ
 ended text = text ++ 10 ∷ []
 
--- the header under which these commands are read
+-- the header of a trace with these commands
 abbrev pub header_of : List Command → List ℕ
 header_of cs = header
 
+-- the header and the lines of the commands
 abbrev pub trace_text : List Command → List ℕ
 trace_text cs = ended (header_of cs) ++ flat_map (λ c. ended (command_text c)) cs
 
+-- the number of the mutator, a dot, and the number of the birth
 abbrev pub name_text : Name → List ℕ
 name_text n = decimal n.mutator ++ codes "." ++ decimal n.birth
 
+-- the line of a reply, without its newline
 abbrev pub reply_text : Reply → List ℕ
 reply_text (r.New n) = codes "new " ++ name_text n
 reply_text r.Full = codes "full"
@@ -44,10 +48,10 @@ reply_text r.No = codes "no"
 reply_text r.Null = codes "null"
 reply_text r.Range = codes "range"
 
--- each reply on a line
+-- one line for each reply
 abbrev pub replies_text : List Reply → List ℕ
 replies_text rs = flat_map (λ x. ended (reply_text x)) rs
 
--- the line of a mutator, and its replies
+-- the line of a mutator, and then its replies
 abbrev pub mutator_text : ℕ → List Reply → List ℕ
 mutator_text m rs = ended (codes "mutator " ++ decimal m) ++ replies_text rs

@@ -1,11 +1,12 @@
--- The words of a trace's lines, the same for reading and for printing.
+-- The words on a trace's lines, for the reader and the printer.
 use Rattle.std.specs.Prelude.{ℕ, List, [], ◌∷◌, slice_index, codes}
 use Rattle.trace_text.specs.declared.op.Op.{Op}
 use Rattle.trace_text.specs.declared.op.Op.TheVariants.{New, Get, Put, Read, Write, Add, Swap, Move, DropReg, Load, Share, Pin, Unpin, Gc, Meet}
 use Rattle.ideal_heap.specs.declared.command.Command.{Command}
 use Rattle.ideal_heap.specs.declared.command.Command.TheVariants as c
+use Rattle.ideal_heap.specs.declared.command.TheConstants.{MAX_REFS, MAX_NUMS}
 
--- what an argument is
+-- the sort of an argument
 pub data Sort : Type 0 where
   Register : Sort
   Global : Sort
@@ -15,27 +16,27 @@ pub data Sort : Type 0 where
   NumIndex : Sort
   Value : Sort
 
--- the greatest number of a sort
+-- the largest number of a sort
 abbrev pub most_of : Sort → ℕ
 most_of Register = 15
 most_of Global = 15
-most_of RefCount = 1024
-most_of NumCount = 60000
+most_of RefCount = MAX_REFS
+most_of NumCount = MAX_NUMS
 most_of RefIndex = 1023
 most_of NumIndex = 59999
 most_of Value = 18446744073709551615
 
--- what stands before the numeral
-abbrev pub mark_of : Sort → List ℕ
-mark_of Register = codes "r"
-mark_of Global = codes "g"
-mark_of RefCount = []
-mark_of NumCount = []
-mark_of RefIndex = []
-mark_of NumIndex = []
-mark_of Value = []
+-- the letter before the numeral, or nothing
+abbrev pub letter_of : Sort → List ℕ
+letter_of Register = codes "r"
+letter_of Global = codes "g"
+letter_of RefCount = []
+letter_of NumCount = []
+letter_of RefIndex = []
+letter_of NumIndex = []
+letter_of Value = []
 
--- a command's word
+-- the word of an operation
 abbrev pub word_of : Op → List ℕ
 word_of New = codes "new"
 word_of Get = codes "get"
@@ -53,11 +54,11 @@ word_of Unpin = codes "unpin"
 word_of Gc = codes "gc"
 word_of Meet = codes "meet"
 
--- every command
+-- all operations
 abbrev pub all_ops : List Op
 all_ops = New ∷ Get ∷ Put ∷ Read ∷ Write ∷ Add ∷ Swap ∷ Move ∷ DropReg ∷ Load ∷ Share ∷ Pin ∷ Unpin ∷ Gc ∷ Meet ∷ []
 
--- the arguments behind a command's word
+-- the sorts of an operation's arguments, in their order
 abbrev pub sorts_of : Op → List Sort
 sorts_of New = Register ∷ RefCount ∷ NumCount ∷ []
 sorts_of Get = Register ∷ Register ∷ RefIndex ∷ []
@@ -75,7 +76,7 @@ sorts_of Unpin = Register ∷ []
 sorts_of Gc = []
 sorts_of Meet = []
 
--- the command with these arguments
+-- the command of an operation with these arguments
 abbrev pub command_of : Op → List ℕ → Command
 command_of New xs = c.New (slice_index xs 0) (slice_index xs 1) (slice_index xs 2)
 command_of Get xs = c.Get (slice_index xs 0) (slice_index xs 1) (slice_index xs 2)
@@ -93,7 +94,7 @@ command_of Unpin xs = c.Unpin (slice_index xs 0)
 command_of Gc xs = c.Gc
 command_of Meet xs = c.Meet
 
--- and back
+-- the operation of a command
 abbrev pub op_in : Command → Op
 op_in (c.New d r q) = New
 op_in (c.Get d s i) = Get
@@ -111,6 +112,7 @@ op_in (c.Unpin s) = Unpin
 op_in c.Gc = Gc
 op_in c.Meet = Meet
 
+-- the arguments of a command, in their order
 abbrev pub arguments_in : Command → List ℕ
 arguments_in (c.New d r q) = d ∷ r ∷ q ∷ []
 arguments_in (c.Get d s i) = d ∷ s ∷ i ∷ []

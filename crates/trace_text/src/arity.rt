@@ -1,11 +1,13 @@
+//! The words after a command's word, checked for their number.
+
 ghost use Rattle.std.specs.Prelude.{◌≡◌, ◌∷◌, [], MatchResult};
 ghost use Rattle.trace_text.specs.declared.fault.Why.TheVariants as why;
 ghost use Rattle.trace_text.specs.Parts.{words_after, IsCountFault};
 
-use crate::cutting::next_part;
 use crate::fault::Why;
+use crate::splitter::next_part;
 
-// That there are no words.
+// Checks that there are no words.
 #[tactic(auto, using(crate::proofs::PartLemmas::not_none))]
 pub(crate) fn none(words: Option<&[u8]>) -> Result<(), Why>
     ensures { MatchResult result
@@ -18,7 +20,7 @@ pub(crate) fn none(words: Option<&[u8]>) -> Result<(), Why>
     }
 }
 
-// The first word, and the others.
+// The first word, and the rest.
 fn next(words: Option<&[u8]>) -> Result<(&[u8], Option<&[u8]>), Why>
     ensures { MatchResult result
         (λ x. words_after words.entry ≡ x.0.now ∷ words_after x.1)
@@ -30,7 +32,7 @@ fn next(words: Option<&[u8]>) -> Result<(&[u8], Option<&[u8]>), Why>
     }
 }
 
-// The one word.
+// Checks that there is one word, and returns it.
 pub(crate) fn one(words: Option<&[u8]>) -> Result<&[u8], Why>
     ensures { MatchResult result
         (λ x. words_after words.entry ≡ x.now ∷ [])
@@ -41,7 +43,7 @@ pub(crate) fn one(words: Option<&[u8]>) -> Result<&[u8], Why>
     Ok(first)
 }
 
-// The two words.
+// Checks that there are two words, and returns them.
 pub(crate) fn two(words: Option<&[u8]>) -> Result<(&[u8], &[u8]), Why>
     ensures { MatchResult result
         (λ x. words_after words.entry ≡ x.0.now ∷ x.1.now ∷ [])
@@ -51,7 +53,7 @@ pub(crate) fn two(words: Option<&[u8]>) -> Result<(&[u8], &[u8]), Why>
     Ok((first, one(others)?))
 }
 
-// The three words.
+// Checks that there are three words, and returns them.
 pub(crate) fn three(words: Option<&[u8]>) -> Result<(&[u8], &[u8], &[u8]), Why>
     ensures { MatchResult result
         (λ x. words_after words.entry ≡ x.0.now ∷ x.1.now ∷ x.2.now ∷ [])
@@ -62,7 +64,7 @@ pub(crate) fn three(words: Option<&[u8]>) -> Result<(&[u8], &[u8], &[u8]), Why>
     Ok((first, second, third))
 }
 
-// The four words.
+// Checks that there are four words, and returns them.
 pub(crate) fn four(words: Option<&[u8]>) -> Result<(&[u8], &[u8], &[u8], &[u8]), Why>
     ensures { MatchResult result
         (λ x. words_after words.entry ≡ x.0.now ∷ x.1.now ∷ x.2.now ∷ x.3.now ∷ [])

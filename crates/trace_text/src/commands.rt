@@ -1,3 +1,5 @@
+//! Commands, read from the words of their arguments.
+
 ghost use Rattle.std.specs.Prelude.{◌≡◌};
 ghost use Rattle.trace_text.specs.declared.op.Op.TheVariants as ops;
 ghost use Rattle.trace_text.specs.Grammar.{with_op};
@@ -118,7 +120,7 @@ fn copy(words: Words) -> Result<Command, Why>
     })
 }
 
-// The command of this kind whose arguments the words are.
+// The command of this operation, with the words as its arguments.
 pub(crate) fn command(op: Op, words: Words) -> Result<Command, Why>
     ensures { result ≡ with_op op (words_after words.entry) }
 {

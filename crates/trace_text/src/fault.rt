@@ -1,3 +1,5 @@
+//! Errors of the reader.
+
 use thiserror::Error;
 
 /// What is wrong with a line.
@@ -9,27 +11,27 @@ pub enum Why {
     /// The first word is no command.
     #[error("word")]
     Word,
-    /// The command has not this many arguments.
+    /// The line has the wrong number of arguments.
     #[error("count")]
     Count,
-    /// An argument has not its spelling.
+    /// An argument is not spelled as required.
     #[error("number")]
     Number,
-    /// An argument's number is too great.
+    /// An argument's number is too large.
     #[error("range")]
     Range,
 }
 
-/// Why a text is no trace.
+/// Why a trace was not read.
 #[derive(Clone, Copy, Debug, PartialEq, Eq, Error)]
 pub enum TraceFault {
-    /// The first bad line, counted from 1, and the first fault in it from the left.
+    /// The number of the first bad line, counted from 1, and the first fault in it from the left.
     #[error("line {0}: {1}")]
     Line(u32, Why),
-    /// Line 1,000,002 is there, and the lines before it are good.
+    /// Line 1,000,002 exists, and all lines before it are good.
     #[error("more than 1000000 commands")]
     TooMany,
-    /// Memory ran out; the text may be a trace or not.
+    /// Out of memory. The text may be a trace or not.
     #[error("out of memory")]
     OutOfMemory,
 }

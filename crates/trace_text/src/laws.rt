@@ -1,3 +1,5 @@
+//! Laws of the format, and examples.
+
 ghost use Rattle.std.specs.Prelude.{◌≡◌, ◌≤◌, ℕ, List, ◌++◌, ◌∷◌, [], length, codes, All};
 ghost use Rattle.ideal_heap.specs.declared.command.Command.{Command};
 ghost use Rattle.ideal_heap.specs.declared.command.Command.TheVariants as command;
@@ -10,13 +12,14 @@ ghost use Rattle.trace_text.specs.Words.{all_ops};
 ghost use Rattle.trace_text.specs.Grammar.{line, lines_from, trace, most_commands};
 ghost use Rattle.trace_text.specs.Text.{trace_text, replies_text};
 
-/// Whatever is read lies in its range, and there is not too much of it.
+/// Commands that are read are valid, and there are at most 1,000,000.
 pub fn traces_are_valid()
     ensures { (bytes : List ℕ) (cs : List Command)
         → trace bytes ≡ Ok cs → All IsValid cs × (length cs ≤ most_commands) }
 {}
 
-/// What is printed is read again, and of the texts that end with a newline no other is read so.
+/// Reading a printed trace gives its commands again. No other text that ends with a newline is read
+/// as these commands.
 pub fn traces_have_one_text()
     ensures again { (cs : List Command) → All IsValid cs → length cs ≤ most_commands
         → trace (trace_text cs) ≡ Ok cs }
@@ -24,7 +27,7 @@ pub fn traces_have_one_text()
         → trace (front ++ 10 ∷ []) ≡ Ok cs → front ++ 10 ∷ [] ≡ trace_text cs }
 {}
 
-/// What some texts are read as.
+/// Examples: how texts are read.
 pub fn worked_traces()
     ensures empty { trace [] ≡ Err (fault.Line 1 why.Header) }
     ensures blank_first { trace (codes "\nmmtrace 1\n") ≡ Err (fault.Line 1 why.Header) }
@@ -32,15 +35,17 @@ pub fn worked_traces()
     ensures read { trace (codes "mmtrace 1\nread r0 0") ≡ Ok (command.Read 0 0 ∷ []) }
     ensures blank { trace (codes "mmtrace 1\n\n") ≡ Err (fault.Line 2 why.Word) }
     ensures zeros { trace (codes "mmtrace 1\nread r00 0\n") ≡ Err (fault.Line 2 why.Number) }
-    ensures count { trace (codes "mmtrace 1\nget r1 r0 0\nread r0") ≡ Err (fault.Line 3 why.Count) }
+    ensures count { trace (codes "mmtrace 1\nget r1 r0 0\nread r0")
+        ≡ Err (fault.Line 3 why.Count) }
     ensures spaces { trace (codes "mmtrace 1\nread  r0 0\n") ≡ Err (fault.Line 2 why.Count) }
     ensures left { trace (codes "mmtrace 1\nnew r0 x 60001\n") ≡ Err (fault.Line 2 why.Number) }
-    ensures great { trace (codes "mmtrace 1\nwrite r0 0 18446744073709551616") ≡ Err (fault.Line 2 why.Range) }
+    ensures great { trace (codes "mmtrace 1\nwrite r0 0 18446744073709551616")
+        ≡ Err (fault.Line 2 why.Range) }
     ensures text { trace_text (command.New 0 1 1 ∷ command.Put 3 0 15 ∷ command.Gc ∷ [])
         ≡ codes "mmtrace 1\nnew r0 1 1\nput r3 0 r15\ngc\n" }
 {}
 
-/// What some lines are read as.
+/// Examples: how lines are read.
 pub fn worked_lines()
     ensures swap { line all_ops (codes "swap r1 2 3 18446744073709551615")
         ≡ Ok (command.Swap 1 2 3 18446744073709551615) }
@@ -49,22 +54,24 @@ pub fn worked_lines()
     ensures gc { line all_ops (codes "gc") ≡ Ok command.Gc }
     ensures no_argument { line all_ops (codes "gc ") ≡ Err why.Count }
     ensures global { line all_ops (codes "load r0 g16") ≡ Err why.Range }
-    ensures mark { line all_ops (codes "load r0 r1") ≡ Err why.Number }
+    ensures letter { line all_ops (codes "load r0 r1") ≡ Err why.Number }
     ensures capital { line all_ops (codes "Drop r0") ≡ Err why.Word }
 {}
 
-/// Where a trace is too long.
+/// Examples: traces at the limit of 1,000,000 commands.
 pub fn worked_limits()
-    ensures last { lines_from (line all_ops) 1000001 (codes "gc" ∷ []) ≡ Ok (command.Gc ∷ []) }
+    ensures last { lines_from (line all_ops) 1000001 (codes "gc" ∷ [])
+        ≡ Ok (command.Gc ∷ []) }
     ensures too_many { lines_from (line all_ops) 1000001 (codes "gc" ∷ [] ∷ [])
         ≡ Err fault.TooMany }
     ensures bad_before { lines_from (line all_ops) 1000001 (codes "gc 0" ∷ [] ∷ [])
         ≡ Err (fault.Line 1000001 why.Count) }
 {}
 
-/// What some replies are printed as.
+/// Examples: how replies are printed.
 pub fn worked_replies()
     ensures { replies_text (reply.New (name 3 4294967295) ∷ reply.Full ∷ reply.Ref (name 16 1)
-        ∷ reply.Nil ∷ reply.Num 0 ∷ reply.Done ∷ reply.Yes ∷ reply.No ∷ reply.Null ∷ reply.Range ∷ [])
+        ∷ reply.Nil ∷ reply.Num 0 ∷ reply.Done ∷ reply.Yes ∷ reply.No ∷ reply.Null
+        ∷ reply.Range ∷ [])
         ≡ codes "new 3.4294967295\nfull\nref 16.1\nnil\nnum 0\nok\nyes\nno\nnull\nrange\n" }
 {}

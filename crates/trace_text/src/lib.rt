@@ -1,18 +1,22 @@
-//! Traces and replies as text.
+//! Text formats: reads and prints traces in the format `mmtrace 1`, and prints replies.
 #![tactic(auto)]
 
+#[cfg(test)]
+mod agreement_tests;
 mod argument;
 mod arity;
 mod commands;
-mod cutting;
+mod digits;
 mod fault;
+mod fronts;
+mod good_lines;
 mod laws;
-mod line;
 mod lines;
 mod numerals;
 mod op;
-mod printing;
-mod reading;
+mod printer;
+mod reader;
+mod splitter;
 #[cfg(test)]
 mod tests;
 mod traces;
@@ -23,6 +27,6 @@ pub use laws::{
     worked_traces,
 };
 pub use numerals::read_numeral;
-pub use printing::{print_mutator, print_reply};
-pub use reading::read_trace;
+pub use printer::{REPLY_BYTES, print_mutator, print_reply, put_reply};
+pub use reader::read_trace;
 pub use traces::print_trace;

@@ -1,15 +1,19 @@
-ghost use Rattle.std.specs.Prelude.{◌≡◌};
+//! The lines of a trace, read as commands.
+
+ghost use Rattle.std.specs.Prelude.{◌≡◌, ◌<◌, [], length, IfSome, MatchOption};
 ghost use Rattle.trace_text.specs.Words.{all_ops};
+ghost use Rattle.trace_text.specs.Parts.{IsReadAs};
 ghost use Rattle.trace_text.specs.Grammar.{Gives, line, lines_from, lines_of, op_of as read_op};
 
 use crate::commands::command;
-use crate::cutting::{next_line, next_part};
 use crate::fault::{TraceFault, Why};
+use crate::good_lines::first_command;
 use crate::op::Op;
+use crate::splitter::{next_line, next_part};
 use ideal_heap::Command;
 use std::alloc::Global;
 
-// The command that a line begins with.
+// The operation that the word names.
 fn op_of(word: &[u8]) -> Option<Op>
     ensures { result ≡ read_op all_ops word.now }
 {
@@ -48,8 +52,9 @@ fn op_of(word: &[u8]) -> Option<Op>
     }
 }
 
+// The plain reader: the command of a line, or its first fault.
 #[tactic(auto, unfolding(crate::specs::Grammar::line))]
-fn command_of(bytes: &[u8]) -> Result<Command, Why>
+pub(crate) fn command_of(bytes: &[u8]) -> Result<Command, Why>
     ensures { result ≡ line all_ops bytes.now }
 {
     let (word, words) = next_part(bytes, b' ');
@@ -59,23 +64,40 @@ fn command_of(bytes: &[u8]) -> Result<Command, Why>
     }
 }
 
-// The commands of the lines behind the header.
+// The result of reading the first line, and the text after the line. `None` if the text is empty.
+#[inline(always)]
+pub(crate) fn next_command(text: &[u8]) -> Option<(Result<Command, Why>, &[u8])>
+    ensures lines { MatchOption result (lines_of text.now ≡ [])
+        (λ x. IsReadAs text.now x.0 x.1.now) }
+    ensures shorter { IfSome result (λ x. length x.1.now < length text.now) }
+{
+    if let Some((command, end)) = first_command(text) {
+        return Some((Ok(command), &text[end..]));
+    }
+    let (line, rest) = next_line(text)?;
+    Some((command_of(line), rest))
+}
+
+// The commands of the lines after the header.
+#[inline(never)]
 pub(crate) fn commands_of(alloc: Global, bytes: &[u8]) -> Result<Vec<Command>, TraceFault>
     ensures { Gives (λ v. v.items) result (lines_from (line all_ops) 2 (lines_of bytes.now)) }
 {
-    let mut commands = Vec::new(alloc);
+    // The shortest line is `gc` with its newline: 3 bytes.
+    let most = (bytes.len() / 3 + 1).min(1_000_000);
+    let mut commands = Vec::with_capacity(alloc, most).map_err(|_| TraceFault::OutOfMemory)?;
     let mut rest = bytes;
     let mut number = 2;
-    while let Some((line, behind)) = next_line(rest) {
+    while let Some((read, remaining)) = next_command(rest) {
         if number > 1_000_001 {
             return Err(TraceFault::TooMany);
         }
-        match command_of(line) {
+        match read {
             Ok(command) => commands.push(command).map_err(|_| TraceFault::OutOfMemory)?,
             Err(why) => return Err(TraceFault::Line(number, why)),
         }
         number += 1;
-        rest = behind;
+        rest = remaining;
     }
     Ok(commands)
 }

@@ -1,12 +1,36 @@
-ghost use Rattle.std.specs.Prelude.{◌≡◌, ◌≤◌, ◌∷◌, [], IfOk};
+//! Numerals, and the arguments of commands.
+
+ghost use Rattle.std.specs.Prelude.{◌≡◌, ◌↔◌, ℕ, ◌+◌, ◌*◌, ◌≤◌, ◌∷◌, [], IfOk, IsTrue};
+ghost use Rattle.trace_text.specs.Parts.{IsUpTo};
 ghost use Rattle.trace_text.specs.Words.{Register, Global, RefCount, NumCount, RefIndex, NumIndex, Value};
-ghost use Rattle.trace_text.specs.Grammar.{argument, behind, checked, numeral};
+ghost use Rattle.trace_text.specs.Grammar.{argument, numeral_after, checked, numeral};
 
 use crate::fault::Why;
 
-/// The number of a numeral: `0`, or decimal digits that do not begin with 0, with no sign.
+// Whether `value`, with one more digit, is at most `most`.
+#[inline(always)]
+pub(crate) fn has_room(value: u64, digit: u64, most: u64) -> bool
+    requires { digit ≤ 9 }
+    ensures { IsTrue result ↔ value * 10 + digit ≤ most }
+{
+    value < most / 10 || (value == most / 10 && digit <= most % 10)
+}
+
+// The number with one more digit. `None` represents a number above `most`.
+fn with_digit(value: Option<u64>, digit: u64, most: u64) -> Option<u64>
+    requires { digit ≤ 9 }
+    ensures { (n : ℕ) → IsUpTo most n value → IsUpTo most (n * 10 + digit) result }
+{
+    match value {
+        Some(v) if has_room(v, digit, most) => Some(v * 10 + digit),
+        _ => None,
+    }
+}
+
+/// The number of a numeral: `0`, or decimal digits that do not begin with 0, without a sign.
 ///
-/// Another spelling is `Why::Number`, and a numeral past `most` is `Why::Range`, each of any length.
+/// Errors: `Why::Number` if the word is no numeral, `Why::Range` if its number is above `most`.
+/// The word may have any length.
 #[tactic(auto, using(crate::proofs::NumeralLemmas::numerals))]
 pub fn read_numeral(word: &[u8], most: u64) -> Result<u64, Why>
     ensures value { result ≡ checked most (numeral word.now) }
@@ -18,22 +42,17 @@ pub fn read_numeral(word: &[u8], most: u64) -> Result<u64, Why>
     if word[0] == b'0' && word.len() > 1 {
         return Err(Why::Number);
     }
-    // Past `most` the number only grows, so its digits are no longer added.
-    let mut value: u128 = 0;
+    let mut value = Some(0);
     for b in word {
         if !b.is_ascii_digit() {
             return Err(Why::Number);
         }
-        if value <= u128::from(most) {
-            value = value * 10 + u128::from(*b - b'0');
-        }
+        value = with_digit(value, u64::from(*b - b'0'), most);
     }
-    if value > u128::from(most) {
-        return Err(Why::Range);
-    }
-    Ok(value as u64)
+    value.ok_or(Why::Range)
 }
 
+// The number of a numeral, of at most `most`, as 32 bits.
 fn read_small(word: &[u8], most: u32) -> Result<u32, Why>
     ensures value { result ≡ checked most (numeral word.now) }
     ensures bound { IfOk result (λ n. n ≤ most) }
@@ -41,52 +60,60 @@ fn read_small(word: &[u8], most: u32) -> Result<u32, Why>
     Ok(read_numeral(word, u64::from(most))? as u32)
 }
 
-fn read_marked(mark: u8, word: &[u8], most: u32) -> Result<u32, Why>
-    ensures value { result ≡ checked most (behind (mark ∷ []) word.now) }
+// The number of a numeral after a letter.
+fn read_lettered(letter: u8, word: &[u8], most: u32) -> Result<u32, Why>
+    ensures value { result ≡ checked most (numeral_after (letter ∷ []) word.now) }
     ensures bound { IfOk result (λ n. n ≤ most) }
 {
     match word.split_first() {
-        Some((first, digits)) if *first == mark => read_small(digits, most),
+        Some((first, digits)) if *first == letter => read_small(digits, most),
         _ => Err(Why::Number),
     }
 }
 
+// A register number.
 pub(crate) fn register(word: &[u8]) -> Result<u32, Why>
     ensures { result ≡ argument Register word.now }
 {
-    read_marked(b'r', word, 15)
+    read_lettered(b'r', word, 15)
 }
 
+// The number of a global.
 pub(crate) fn global(word: &[u8]) -> Result<u32, Why>
     ensures { result ≡ argument Global word.now }
 {
-    read_marked(b'g', word, 15)
+    read_lettered(b'g', word, 15)
 }
 
+// A count of references.
 pub(crate) fn ref_count(word: &[u8]) -> Result<u32, Why>
     ensures { result ≡ argument RefCount word.now }
 {
     read_small(word, 1024)
 }
 
+// A count of numbers.
 pub(crate) fn num_count(word: &[u8]) -> Result<u32, Why>
     ensures { result ≡ argument NumCount word.now }
 {
     read_small(word, 60_000)
 }
 
+// The index of a reference, counted from 0.
 pub(crate) fn ref_index(word: &[u8]) -> Result<u32, Why>
     ensures { result ≡ argument RefIndex word.now }
 {
     read_small(word, 1023)
 }
 
+// The index of a number, counted from 0.
 pub(crate) fn num_index(word: &[u8]) -> Result<u32, Why>
     ensures { result ≡ argument NumIndex word.now }
 {
     read_small(word, 59_999)
 }
 
+// A number of 64 bits.
 pub(crate) fn value(word: &[u8]) -> Result<u64, Why>
     ensures { result ≡ argument Value word.now }
 {

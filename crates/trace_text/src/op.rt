@@ -1,4 +1,6 @@
-/// What a line of a trace does.
+//! The operations of a trace.
+
+/// The operation of a command, without its arguments.
 #[derive(Clone, Copy, Debug, PartialEq, Eq)]
 pub enum Op {
     New,

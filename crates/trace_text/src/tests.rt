@@ -1,4 +1,4 @@
-// Whether the clauses mean the format: expected values are the format's own.
+//! Tests of reading and printing. The expected values come from the format, not from the grammar.
 use crate::traces::text_of;
 use crate::{TraceFault, Why, print_mutator, print_reply, print_trace, read_trace};
 use ideal_heap::{Command, Name, Reply};
@@ -45,7 +45,7 @@ fn bad_files(rt: HostRuntime) {
     }
 }
 
-// What is wrong with a line that stands behind the header.
+// The fault of a line after the header.
 fn line_fault(alloc: Global, line: &[u8]) -> Result<Option<Why>, Fail> {
     let mut text = Vec::from_slice(alloc, b"mmtrace 1\n")?;
     text.extend_from_slice(line)?;

@@ -1,3 +1,5 @@
+//! The printer of traces.
+
 ghost use Rattle.std.specs.Prelude.{◌≡◌, ◌≤◌, ℕ, List, [], ◌∷◌, ◌++◌, All, OnOk, IfOk, length};
 ghost use Rattle.std.specs.List.{flat_map};
 ghost use Rattle.ideal_heap.specs.Commands.{IsValid};
@@ -10,19 +12,21 @@ use ideal_heap::Command;
 use itoa::Buffer;
 use std::alloc::{AllocError, Global};
 
+// Appends a space and the argument.
 fn push_argument(argument: Argument, to: &mut Vec<u8>) -> Result<(), AllocError>
     ensures { OnOk result (to.new.items ≡ to.old.items ++ argument_bytes argument) }
 {
-    let (mark, number): (&[u8], u64) = match argument {
+    let (letter, number): (&[u8], u64) = match argument {
         Argument::Register(n) => (b" r", u64::from(n)),
         Argument::Global(n) => (b" g", u64::from(n)),
         Argument::Small(n) => (b" ", u64::from(n)),
         Argument::Value(n) => (b" ", n),
     };
-    to.extend_from_slice(mark)?;
+    to.extend_from_slice(letter)?;
     to.extend_from_slice(Buffer::new().format(number).as_bytes())
 }
 
+// Appends the word, the arguments and a newline.
 fn push_line(word: &[u8], arguments: &[Argument], to: &mut Vec<u8>) -> Result<(), AllocError>
     ensures { OnOk result (to.new.items
         ≡ to.old.items ++ ended (word.now ++ flat_map argument_bytes arguments.now)) }
@@ -35,6 +39,7 @@ fn push_line(word: &[u8], arguments: &[Argument], to: &mut Vec<u8>) -> Result<()
     Ok(())
 }
 
+// Appends the command's line.
 fn push_command(c: &Command, to: &mut Vec<u8>) -> Result<(), AllocError>
     ensures { OnOk result (to.new.items ≡ to.old.items ++ ended (command_text c.now)) }
 {
@@ -66,6 +71,7 @@ fn push_command(c: &Command, to: &mut Vec<u8>) -> Result<(), AllocError>
     }
 }
 
+// The text of a trace, valid or not.
 pub(crate) fn text_of(alloc: Global, commands: &[Command]) -> Result<Vec<u8>, AllocError>
     ensures { IfOk result (λ v. v.items ≡ trace_text commands.now) }
 {
@@ -76,13 +82,15 @@ pub(crate) fn text_of(alloc: Global, commands: &[Command]) -> Result<Vec<u8>, Al
     Ok(text)
 }
 
-/// The trace with these commands, in the format that `read_trace` reads, a newline behind each line.
+/// Prints the commands in the format that `read_trace` reads. Each line ends with a newline.
+///
+/// Errors: out of memory.
 pub fn print_trace(alloc: Global, commands: &[Command]) -> Result<Vec<u8>, AllocError>
     requires valid { All IsValid commands.now }
     requires few { length commands.now ≤ most_commands }
     ensures text { IfOk result (λ v. v.items ≡ trace_text commands.now) }
     ensures again { IfOk result (λ v. trace v.items ≡ Ok commands.now) }
-    // No other text that ends with a newline is read so.
+    // No other text that ends with a newline is read as these commands.
     ensures alone { (front : List ℕ) → trace (front ++ 10 ∷ []) ≡ Ok commands.now
         → IfOk result (λ v. v.items ≡ front ++ 10 ∷ []) }
 {

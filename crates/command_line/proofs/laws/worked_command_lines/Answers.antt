@@ -50,9 +50,9 @@ pub returns-clause-both : goal.returns-clause-both
 unfolding form_of job_of
 returns-clause-both c = refl
 
-pub returns-clause-behind_a_file : goal.returns-clause-behind_a_file
+pub returns-clause-after_a_file : goal.returns-clause-after_a_file
 unfolding form_of job_of
-returns-clause-behind_a_file c = refl
+returns-clause-after_a_file c = refl
 
 pub returns-clause-empty_word : goal.returns-clause-empty_word
 unfolding form_of job_of

@@ -1,4 +1,4 @@
-use Rattle.std.proofs.Common.{refl, lit≤, List, [], ◌∷◌, ◌≡◌, ℕ, ◌≤◌, ◌⊎◌, inl, inr, sym, subst, arith}
+use Rattle.std.proofs.Common.{true, false, refl, lit≤, List, [], ◌∷◌, ◌≡◌, ℕ, ◌≤◌, ◌⊎◌, inl, inr, sym, subst, arith}
 use Rattle.ideal_heap.specs.declared.command.Command.{Command}
 use Rattle.ideal_heap.specs.declared.command.Command.TheVariants as c
 use Rattle.ideal_heap.specs.declared.reply.Reply.TheVariants as r
@@ -37,3 +37,10 @@ returns-clause-order facts = record {
   ];
   rises = (lit≤ tt, (lit≤ tt, (lit≤ tt, (lit≤ tt, (lit≤ tt, (lit≤ tt, (lit≤ tt, tt)))))));
 }
+
+pub returns-clause-full_is_new : goal.returns-clause-full_is_new
+unfolding step
+returns-clause-full_is_new c run = elim run.0 as (λ _. ⊥) [
+  | inl e ↦ (let wrong : r.Full ≡ r.Done = e in cc)
+  | inr p ↦ (let wrong : false ≡ true = p.1 in cc)
+]

@@ -5,7 +5,9 @@ use Rattle.ideal_heap.specs.declared.reply.Reply.TheVariants as reply
 use Rattle.object_model.specs.Objects.{state_of, name_at}
 use Rattle.object_model.specs.Graphs.{with_register}
 use Rattle.object_model.specs.Steps.{TakesStep}
-use Rattle.object_model.proofs.Telling.{told}
+use Rattle.object_model.proofs.ObjectReads.{readable}
+use Rattle.object_model.proofs.References.{refers}
+use Rattle.object_model.proofs.StepClauses.{told}
 use Rattle.object_model.proofs.StepCases.{get-null, get-range, get-nil, get-ref}
 use Rattle.mm_drive.specs.Lone.{lone}
 use Rattle.mm_drive.proofs.fields.get.Goals as goal
@@ -32,3 +34,9 @@ returns c births =
     (sym c.ref_at-v.ensures.value)
     (told (get-ref (state_of c.args.row.now) (lone births c.args.registers.now) c.args.d c.args.s c.args.i c.requires.target c.requires.source c.if-a-eq0.false
     (subst (λ (n : ℕ). c.args.i < n) c.shape_at.ensures.refs c.if-shape_at-i.false) (λ nil. c.if-v-eq0.false (c.ref_at-v.ensures.value ∙ nil)))))
+
+pub shape_at-requires : goal.shape_at-requires
+shape_at-requires c = readable (state_of c.args.row.now) c.requires.order _ (c.requires.held c.args.s c.requires.source c.if-a-eq0.false)
+
+pub name_at-requires : goal.name_at-requires
+name_at-requires c = readable (state_of c.args.row.now) c.requires.order _ (c.ref_at-v.ensures.reference (refers _ c.if-v-eq0.false))

@@ -3,7 +3,8 @@ use Rattle.ideal_heap.specs.declared.command.Command.TheVariants as command
 use Rattle.ideal_heap.specs.declared.reply.Reply.TheVariants as reply
 use Rattle.object_model.specs.Objects.{state_of}
 use Rattle.object_model.specs.Steps.{TakesStep}
-use Rattle.object_model.proofs.Telling.{told}
+use Rattle.object_model.proofs.ObjectReads.{readable}
+use Rattle.object_model.proofs.StepClauses.{told}
 use Rattle.object_model.proofs.StepCases.{read-null, read-range, read-number}
 use Rattle.mm_drive.specs.Lone.{lone}
 use Rattle.mm_drive.proofs.fields.read.Goals as goal
@@ -20,3 +21,9 @@ returns c births = subst (λ (x : ℕ). TakesStep (state_of c.args.row.now) (lon
     (sym c.num_at.ensures)
     (told (read-number (state_of c.args.row.now) (lone births c.args.registers.now) c.args.s c.args.j c.requires.source c.if-a-eq0.false
     (subst (λ (n : ℕ). c.args.j < n) c.shape_at.ensures.nums c.if-shape_at-j.false)))
+
+pub shape_at-requires : goal.shape_at-requires
+shape_at-requires c = readable (state_of c.args.row.now) c.requires.order _ (c.requires.held c.args.s c.requires.source c.if-a-eq0.false)
+
+pub num_at-requires-clause-readable : goal.num_at-requires-clause-readable
+num_at-requires-clause-readable c = readable (state_of c.args.row.now) c.requires.order _ (c.requires.held c.args.s c.requires.source c.if-a-eq0.false)

@@ -1,4 +1,4 @@
-use Rattle.object_model.proofs.Telling.{told}
+use Rattle.object_model.proofs.StepClauses.{told}
 use Rattle.object_model.proofs.RegisterSteps.{drop-register}
 use Rattle.mm_drive.specs.Lone.{lone}
 use Rattle.mm_drive.proofs.roots.drop_register.Goals as goal

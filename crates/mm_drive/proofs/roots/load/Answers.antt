@@ -5,7 +5,7 @@ use Rattle.ideal_heap.specs.declared.reply.Reply.TheVariants as reply
 use Rattle.object_model.specs.Objects.{state_of, name_at}
 use Rattle.object_model.specs.Graphs.{with_register}
 use Rattle.object_model.specs.Steps.{TakesStep}
-use Rattle.object_model.proofs.Telling.{told}
+use Rattle.object_model.proofs.StepClauses.{told}
 use Rattle.object_model.proofs.RegisterSteps.{load-nil, load-ref}
 use Rattle.mm_drive.specs.Lone.{lone}
 use Rattle.mm_drive.proofs.roots.load.Goals as goal

@@ -3,7 +3,7 @@ use Rattle.ideal_heap.specs.declared.command.Command.TheVariants as command
 use Rattle.ideal_heap.specs.declared.reply.Reply.TheVariants as reply
 use Rattle.object_model.specs.Objects.{HeapState, state_of}
 use Rattle.object_model.specs.Steps.{TakesStep}
-use Rattle.object_model.proofs.Telling.{told}
+use Rattle.object_model.proofs.StepClauses.{told}
 use Rattle.object_model.proofs.RegisterSteps.{share-global}
 use Rattle.mm_drive.specs.Lone.{lone}
 use Rattle.mm_drive.proofs.roots.share.Goals as goal

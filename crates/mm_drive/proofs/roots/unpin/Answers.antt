@@ -1,6 +1,7 @@
 use Rattle.std.proofs.Common.{◌∙◌, sym}
 use Rattle.object_model.specs.Objects.{state_of}
-use Rattle.object_model.proofs.Telling.{told}
+use Rattle.object_model.proofs.ObjectReads.{readable}
+use Rattle.object_model.proofs.StepClauses.{told}
 use Rattle.object_model.proofs.Refusals.{unpin-null}
 use Rattle.object_model.proofs.PinSteps.{unpin-yes, unpin-no}
 use Rattle.mm_drive.specs.Lone.{lone}
@@ -16,3 +17,6 @@ returns-then-pinned c births = told (unpin-yes (state_of c.args.row.now) (state_
 pub returns : goal.returns
 returns c births = told (unpin-no (state_of c.args.row.now) (state_of c.set_pinned.new.self) (lone births c.args.registers.now) c.args.s c.requires.source c.if-a-eq0.false
     (sym c.pinned-pinned.ensures ∙ c.if-pinned.false) c.set_pinned.ensures)
+
+pub pinned-pinned-requires : goal.pinned-pinned-requires
+pinned-pinned-requires c = readable (state_of c.args.row.now) c.requires.order _ (c.requires.held c.args.s c.requires.source c.if-a-eq0.false)

@@ -1,87 +1,122 @@
-use Rattle.std.proofs.Common.{ap, Err, rules}
+use Rattle.std.proofs.Common.{◌∙◌, sym, rules}
+use Rattle.std.proofs.lemmas.List.{length-map}
 use Rattle.command_line.specs.Orders.{texts, job_of_order}
-use Rattle.mm_drive.proofs.Jobs.{job-served, job-blocks}
-use Rattle.mm_drive.proofs.Outcomes.{of-job, named-job, unread-here, long-here, bad-here, traces-in-files, trace-not-long, trace-not-bad, fault-not-long, long-not-bad, good-not-fault, good-not-long, prints, prints-front}
+use Rattle.mm_drive.proofs.Jobs.{job-served, job-blocks, served-work}
+use Rattle.mm_drive.proofs.Joining.{long-off, bad-off, fault-off, long-bad, fault-long, traces-clash, reported-clash, ends-clash}
+use Rattle.mm_drive.proofs.Outcomes.{of-job, named-job, within-files, unread-here, long-here, bad-here, to-files, one-trace, prints, prints-front}
 use Rattle.mm_drive.proofs.top.run.Goals as goal
 
-pub named-requires-clause-served : goal.named-requires-clause-served
-named-requires-clause-served g c = (job-served (texts c.args.words.now) (job_of_order c.in-Ok-Some.order) (named-job _ c.in-Ok-Some.order _ c.in-Ok-Some.field-0-is c.in-Ok-Some.ensures)).0
+pub name_at-requires : goal.name_at-requires
+name_at-requires g c =
+    let ends = rw c.in-Err-Unread.field-0-is at c.in-Err-Unread.ensures.fault in rw c.in-Err-Unread.field-0-is (within-files _ c.in-Err-Unread.place ends.0.file ends.0.is)
 
-pub named-requires-clause-least : goal.named-requires-clause-least
-named-requires-clause-least g c =
-    (job-blocks (texts c.args.words.now) (job_of_order c.in-Ok-Some.order) (job-served (texts c.args.words.now) (job_of_order c.in-Ok-Some.order) (named-job _ c.in-Ok-Some.order _ c.in-Ok-Some.field-0-is c.in-Ok-Some.ensures)).1).0
+pub name_at-requires-in-Err-TooLong : goal.name_at-requires-in-Err-TooLong
+name_at-requires-in-Err-TooLong g c =
+    let ends = rw c.in-Err-TooLong.field-0-is at c.in-Err-TooLong.ensures.fault in rw c.in-Err-TooLong.field-0-is (within-files _ c.in-Err-TooLong.place ends.0.file ends.0.is)
 
-pub named-requires-clause-most : goal.named-requires-clause-most
-named-requires-clause-most g c =
-    (job-blocks (texts c.args.words.now) (job_of_order c.in-Ok-Some.order) (job-served (texts c.args.words.now) (job_of_order c.in-Ok-Some.order) (named-job _ c.in-Ok-Some.order _ c.in-Ok-Some.field-0-is c.in-Ok-Some.ensures)).1).1
+pub name_at-requires-in-Err-Bad : goal.name_at-requires-in-Err-Bad
+name_at-requires-in-Err-Bad g c =
+    let ends = rw c.in-Err-Bad.field-0-is at c.in-Err-Bad.ensures.fault in rw c.in-Err-Bad.field-0-is (within-files _ c.in-Err-Bad.place ends.1.file ends.1.is)
 
 pub returns-in-Err-Unread-clause-read_fault : goal.returns-in-Err-Unread-clause-read_fault
 returns-in-Err-Unread-clause-read_fault g c is =
-    let unread = c.in-Err-Unread.ensures.unread (ap Err c.in-Err-Unread.field-0-is) in
-    of-job _ (job_of_order c.in-Ok-Some.order) _ (named-job _ c.in-Ok-Some.order _ c.in-Ok-Some.field-0-is c.in-Ok-Some.ensures) (unread-here _ _ _ c.named.ensures.file _ _ _ _ unread.1 unread.0 c.tell_unread.ensures)
+    let ends = rw (c.in-Err-Unread.field-0-is, c.files_named-files.ensures) at c.in-Err-Unread.ensures.fault in
+    let same = rw (c.in-Err-Unread.field-0-is, c.files_named-files.ensures) at c.name_at.ensures in
+    of-job _ (job_of_order c.in-Ok-Some.order) _ (named-job _ c.in-Ok-Some.order _ c.in-Ok-Some.field-0-is c.in-Ok-Some.ensures) (unread-here _ _ _ same _ _ _ ends c.write_read_fault.ensures)
 
 pub returns-in-Err-TooLong-clause-too_long : goal.returns-in-Err-TooLong-clause-too_long
 returns-in-Err-TooLong-clause-too_long g c is =
-    of-job _ (job_of_order c.in-Ok-Some.order) _ (named-job _ c.in-Ok-Some.order _ c.in-Ok-Some.field-0-is c.in-Ok-Some.ensures) (long-here _ _ _ c.named.ensures.file _ (c.in-Err-TooLong.ensures.too_long (ap Err c.in-Err-TooLong.field-0-is)) c.tell_long.ensures)
+    let ends = rw (c.in-Err-TooLong.field-0-is, c.files_named-files.ensures) at c.in-Err-TooLong.ensures.fault in
+    let same = rw (c.in-Err-TooLong.field-0-is, c.files_named-files.ensures) at c.name_at-in-Err-TooLong.ensures in
+    of-job _ (job_of_order c.in-Ok-Some.order) _ (named-job _ c.in-Ok-Some.order _ c.in-Ok-Some.field-0-is c.in-Ok-Some.ensures) (long-here _ _ _ same _ _ _ ends c.write_length_fault.ensures)
 
 pub returns-in-Err-TooLong-clause-no_trace : goal.returns-in-Err-TooLong-clause-no_trace
 returns-in-Err-TooLong-clause-no_trace g c =
-    of-job _ (job_of_order c.in-Ok-Some.order) _ (named-job _ c.in-Ok-Some.order _ c.in-Ok-Some.field-0-is c.in-Ok-Some.ensures) (λ at. long-not-bad _ _ _ c.named.ensures.file _ (c.in-Err-TooLong.ensures.too_long (ap Err c.in-Err-TooLong.field-0-is)) at)
+    let ends = rw (c.in-Err-TooLong.field-0-is, c.files_named-files.ensures) at c.in-Err-TooLong.ensures.fault in
+    of-job _ (job_of_order c.in-Ok-Some.order) _ (named-job _ c.in-Ok-Some.order _ c.in-Ok-Some.field-0-is c.in-Ok-Some.ensures) (λ at. absurd (ends-clash _ _ c.in-Err-TooLong.place _ _ long-off bad-off long-bad ends.0 at))
 
 pub returns-in-Err-TooLong-clause-complete : goal.returns-in-Err-TooLong-clause-complete
 returns-in-Err-TooLong-clause-complete g c =
-    of-job _ (job_of_order c.in-Ok-Some.order) _ (named-job _ c.in-Ok-Some.order _ c.in-Ok-Some.field-0-is c.in-Ok-Some.ensures) (λ told traces good s o. good-not-long _ _ _ c.named.ensures.file _ (c.in-Err-TooLong.ensures.too_long (ap Err c.in-Err-TooLong.field-0-is)) told traces (traces-in-files _ (job_of_order c.in-Ok-Some.order).work _ traces c.named.ensures.file good))
+    let ends = rw (c.in-Err-TooLong.field-0-is, c.files_named-files.ensures) at c.in-Err-TooLong.ensures.fault in
+    let job = job_of_order c.in-Ok-Some.order in
+    let is = named-job _ c.in-Ok-Some.order _ c.in-Ok-Some.field-0-is c.in-Ok-Some.ensures in
+    let one = served-work job (job-served (texts c.args.words.now) job is).0 in
+    of-job _ job _ is (λ good s o. absurd (reported-clash _ _ good.traces c.in-Err-TooLong.place _ long-off ends.0 good.reported (to-files _ job.work good.traces one good.read)))
 
-pub tell_fault-requires : goal.tell_fault-requires
-tell_fault-requires g c = record { real = (c.in-Err-Bad.ensures.bad c.in-Err-Bad.fault (ap Err c.in-Err-Bad.field-0-is)).0 }
+pub write_trace_fault-requires : goal.write_trace_fault-requires
+write_trace_fault-requires g c = let ends = rw c.in-Err-Bad.field-0-is at c.in-Err-Bad.ensures.fault in rw c.in-Err-Bad.field-0-is (record { real = ends.0 })
 
 pub returns-in-Err-Bad-clause-bad_trace : goal.returns-in-Err-Bad-clause-bad_trace
 returns-in-Err-Bad-clause-bad_trace g c is =
-    let bad = c.in-Err-Bad.ensures.bad c.in-Err-Bad.fault (ap Err c.in-Err-Bad.field-0-is) in
-    of-job _ (job_of_order c.in-Ok-Some.order) _ (named-job _ c.in-Ok-Some.order _ c.in-Ok-Some.field-0-is c.in-Ok-Some.ensures) (bad-here _ _ _ c.named.ensures.file c.in-Err-Bad.fault _ bad c.tell_fault.ensures)
+    let ends = rw (c.in-Err-Bad.field-0-is, c.files_named-files.ensures) at c.in-Err-Bad.ensures.fault in
+    let same = rw (c.in-Err-Bad.field-0-is, c.files_named-files.ensures) at c.name_at-in-Err-Bad.ensures in
+    of-job _ (job_of_order c.in-Ok-Some.order) _ (named-job _ c.in-Ok-Some.order _ c.in-Ok-Some.field-0-is c.in-Ok-Some.ensures) (bad-here _ _ _ same _ _ c.in-Err-Bad.fault _ ends (rw c.in-Err-Bad.field-0-is at c.write_trace_fault.ensures))
 
 pub returns-in-Err-Bad-clause-long : goal.returns-in-Err-Bad-clause-long
 returns-in-Err-Bad-clause-long g c =
-    let bad = c.in-Err-Bad.ensures.bad c.in-Err-Bad.fault (ap Err c.in-Err-Bad.field-0-is) in
-    of-job _ (job_of_order c.in-Ok-Some.order) _ (named-job _ c.in-Ok-Some.order _ c.in-Ok-Some.field-0-is c.in-Ok-Some.ensures) (λ at. fault-not-long _ _ _ c.named.ensures.file c.in-Err-Bad.fault _ bad.1 at)
+    let ends = rw (c.in-Err-Bad.field-0-is, c.files_named-files.ensures) at c.in-Err-Bad.ensures.fault in
+    of-job _ (job_of_order c.in-Ok-Some.order) _ (named-job _ c.in-Ok-Some.order _ c.in-Ok-Some.field-0-is c.in-Ok-Some.ensures)
+    (λ at. absurd (ends-clash _ _ c.in-Err-Bad.place _ _ (fault-off c.in-Err-Bad.fault) long-off (fault-long c.in-Err-Bad.fault) ends.1 at))
 
 pub returns-in-Err-Bad-clause-complete : goal.returns-in-Err-Bad-clause-complete
 returns-in-Err-Bad-clause-complete g c =
-    let bad = c.in-Err-Bad.ensures.bad c.in-Err-Bad.fault (ap Err c.in-Err-Bad.field-0-is) in
-    of-job _ (job_of_order c.in-Ok-Some.order) _ (named-job _ c.in-Ok-Some.order _ c.in-Ok-Some.field-0-is c.in-Ok-Some.ensures) (λ told traces good s o. good-not-fault _ _ _ c.named.ensures.file c.in-Err-Bad.fault _ bad.1 told traces (traces-in-files _ (job_of_order c.in-Ok-Some.order).work _ traces c.named.ensures.file good))
+    let ends = rw (c.in-Err-Bad.field-0-is, c.files_named-files.ensures) at c.in-Err-Bad.ensures.fault in
+    let job = job_of_order c.in-Ok-Some.order in
+    let is = named-job _ c.in-Ok-Some.order _ c.in-Ok-Some.field-0-is c.in-Ok-Some.ensures in
+    let one = served-work job (job-served (texts c.args.words.now) job is).0 in
+    of-job _ job _ is (λ good s o. absurd (reported-clash _ _ good.traces c.in-Err-Bad.place _ (fault-off c.in-Err-Bad.fault) ends.1 good.reported (to-files _ job.work good.traces one good.read)))
+
+pub text_of_session-requires-clause-served : goal.text_of_session-requires-clause-served
+text_of_session-requires-clause-served g c =
+    (job-served (texts c.args.words.now) (job_of_order c.in-Ok-Some.order) (named-job _ c.in-Ok-Some.order _ c.in-Ok-Some.field-0-is c.in-Ok-Some.ensures)).0
+
+pub text_of_session-requires-clause-least : goal.text_of_session-requires-clause-least
+text_of_session-requires-clause-least g c =
+    (job-blocks (texts c.args.words.now) (job_of_order c.in-Ok-Some.order) (job-served (texts c.args.words.now) (job_of_order c.in-Ok-Some.order) (named-job _ c.in-Ok-Some.order _ c.in-Ok-Some.field-0-is c.in-Ok-Some.ensures)).1).0
+
+pub text_of_session-requires-clause-most : goal.text_of_session-requires-clause-most
+text_of_session-requires-clause-most g c =
+    (job-blocks (texts c.args.words.now) (job_of_order c.in-Ok-Some.order) (job-served (texts c.args.words.now) (job_of_order c.in-Ok-Some.order) (named-job _ c.in-Ok-Some.order _ c.in-Ok-Some.field-0-is c.in-Ok-Some.ensures)).1).1
+
+pub text_of_session-requires-clause-one : goal.text_of_session-requires-clause-one
+text_of_session-requires-clause-one g c =
+    let job = job_of_order c.in-Ok-Some.order in
+    let served = (job-served (texts c.args.words.now) job (named-job _ c.in-Ok-Some.order _ c.in-Ok-Some.field-0-is c.in-Ok-Some.ensures)).0 in
+    let good = rw c.files_named-files.ensures at c.in-Ok.ensures.ok in
+    rw c.deref.ensures.value (sym (length-map c.in-Ok.traces.items (λ t. t.items)) ∙ one-trace _ job _ served good)
 
 pub returns-then-is_err-clause-write_fault : goal.returns-then-is_err-clause-write_fault
 returns-then-is_err-clause-write_fault g c is =
-    let served = (job-served (texts c.args.words.now) (job_of_order c.in-Ok-Some.order) (named-job _ c.in-Ok-Some.order _ c.in-Ok-Some.field-0-is c.in-Ok-Some.ensures)).0 in
-    let ok = c.in-Ok.ensures.ok in (
-      search rules,
-      of-job _ (job_of_order c.in-Ok-Some.order) _ (named-job _ c.in-Ok-Some.order _ c.in-Ok-Some.field-0-is c.in-Ok-Some.ensures)
-          (prints-front _ (job_of_order c.in-Ok-Some.order) _ _ ok.0 _ _ _ c.named.ensures.file served c.named.ensures.layout ok.1 ok.2 (search rules)),
-    )
+    let job = job_of_order c.in-Ok-Some.order in
+    let named = named-job _ c.in-Ok-Some.order _ c.in-Ok-Some.field-0-is c.in-Ok-Some.ensures in
+    let good = rw c.files_named-files.ensures at c.in-Ok.ensures.ok in
+    let text = rw c.deref.ensures.value at c.in-Ok-text_of_session.ensures in
+    of-job _ job _ named (prints-front _ job _ _ _ _ (job-served (texts c.args.words.now) job named).0 good text (search rules) (search rules))
 
 pub returns-then-is_err-clause-long : goal.returns-then-is_err-clause-long
 returns-then-is_err-clause-long g c =
-    let ok = c.in-Ok.ensures.ok in
-    of-job _ (job_of_order c.in-Ok-Some.order) _ (named-job _ c.in-Ok-Some.order _ c.in-Ok-Some.field-0-is c.in-Ok-Some.ensures) (λ at. trace-not-long _ _ _ c.named.ensures.file ok.0 _ ok.1 at)
+    let good = rw c.files_named-files.ensures at c.in-Ok.ensures.ok in
+    of-job _ (job_of_order c.in-Ok-Some.order) _ (named-job _ c.in-Ok-Some.order _ c.in-Ok-Some.field-0-is c.in-Ok-Some.ensures) (λ at. absurd (traces-clash _ _ _ _ long-off good at))
 
 pub returns-then-is_err-clause-no_trace : goal.returns-then-is_err-clause-no_trace
 returns-then-is_err-clause-no_trace g c =
-    let ok = c.in-Ok.ensures.ok in
-    of-job _ (job_of_order c.in-Ok-Some.order) _ (named-job _ c.in-Ok-Some.order _ c.in-Ok-Some.field-0-is c.in-Ok-Some.ensures) (λ at. trace-not-bad _ _ _ c.named.ensures.file ok.0 _ ok.1 at)
+    let good = rw c.files_named-files.ensures at c.in-Ok.ensures.ok in
+    of-job _ (job_of_order c.in-Ok-Some.order) _ (named-job _ c.in-Ok-Some.order _ c.in-Ok-Some.field-0-is c.in-Ok-Some.ensures) (λ at. absurd (traces-clash _ _ _ _ bad-off good at))
 
 pub returns-clause-ok : goal.returns-clause-ok
 returns-clause-ok g c is =
-    let served = (job-served (texts c.args.words.now) (job_of_order c.in-Ok-Some.order) (named-job _ c.in-Ok-Some.order _ c.in-Ok-Some.field-0-is c.in-Ok-Some.ensures)).0 in
-    let ok = c.in-Ok.ensures.ok in
-    of-job _ (job_of_order c.in-Ok-Some.order) _ (named-job _ c.in-Ok-Some.order _ c.in-Ok-Some.field-0-is c.in-Ok-Some.ensures)
-    (prints _ (job_of_order c.in-Ok-Some.order) _ _ ok.0 _ _ _ c.named.ensures.file served c.named.ensures.layout ok.1 ok.2 (search rules))
+    let job = job_of_order c.in-Ok-Some.order in
+    let named = named-job _ c.in-Ok-Some.order _ c.in-Ok-Some.field-0-is c.in-Ok-Some.ensures in
+    let good = rw c.files_named-files.ensures at c.in-Ok.ensures.ok in
+    let text = rw c.deref.ensures.value at c.in-Ok-text_of_session.ensures in
+    of-job _ job _ named (prints _ job _ _ _ _ (job-served (texts c.args.words.now) job named).0 good text (search rules))
 
 pub returns-clause-long : goal.returns-clause-long
 returns-clause-long g c =
-    let ok = c.in-Ok.ensures.ok in
-    of-job _ (job_of_order c.in-Ok-Some.order) _ (named-job _ c.in-Ok-Some.order _ c.in-Ok-Some.field-0-is c.in-Ok-Some.ensures) (λ at. trace-not-long _ _ _ c.named.ensures.file ok.0 _ ok.1 at)
+    let good = rw c.files_named-files.ensures at c.in-Ok.ensures.ok in
+    of-job _ (job_of_order c.in-Ok-Some.order) _ (named-job _ c.in-Ok-Some.order _ c.in-Ok-Some.field-0-is c.in-Ok-Some.ensures) (λ at. absurd (traces-clash _ _ _ _ long-off good at))
 
 pub returns-clause-no_trace : goal.returns-clause-no_trace
 returns-clause-no_trace g c =
-    let ok = c.in-Ok.ensures.ok in
-    of-job _ (job_of_order c.in-Ok-Some.order) _ (named-job _ c.in-Ok-Some.order _ c.in-Ok-Some.field-0-is c.in-Ok-Some.ensures) (λ at. trace-not-bad _ _ _ c.named.ensures.file ok.0 _ ok.1 at)
+    let good = rw c.files_named-files.ensures at c.in-Ok.ensures.ok in
+    of-job _ (job_of_order c.in-Ok-Some.order) _ (named-job _ c.in-Ok-Some.order _ c.in-Ok-Some.field-0-is c.in-Ok-Some.ensures) (λ at. absurd (traces-clash _ _ _ _ bad-off good at))

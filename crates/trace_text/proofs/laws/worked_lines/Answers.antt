@@ -26,9 +26,9 @@ pub returns-clause-global : goal.returns-clause-global
 unfolding line
 returns-clause-global c = refl
 
-pub returns-clause-mark : goal.returns-clause-mark
+pub returns-clause-letter : goal.returns-clause-letter
 unfolding line
-returns-clause-mark c = refl
+returns-clause-letter c = refl
 
 pub returns-clause-capital : goal.returns-clause-capital
 unfolding line

@@ -10,5 +10,5 @@ pub returns-in_default-get-clause-step : goal.returns-in_default-get-clause-step
 returns-in_default-get-clause-step c = get-past (tables_heap c.args.self.now) c.args.mutator c.args.d c.args.s c.args.i c.in-Some.n c.refs.result.now (sym c.register.ensures ∙ c.in-Some.is) c.refs.ensures (past-from c.args.i _ c.in_default-get.ensures.lookup.0)
 
 pub returns-clause-step : goal.returns-clause-step
-returns-clause-step c = get-done (tables_heap c.args.self.now) (tables_heap c.set_register.new.self) c.args.mutator c.args.d c.args.s c.args.i c.in-Some.n c.refs.result.now c.in-Some-get.field-0.now c.tell.result
-    (sym c.register.ensures ∙ c.in-Some.is) c.refs.ensures (below-from c.args.i _ c.in-Some-get.ensures.lookup.0) c.in-Some-get.ensures.lookup.1 c.tell.ensures c.set_register.ensures.heap
+returns-clause-step c = get-done (tables_heap c.args.self.now) (tables_heap c.set_register.new.self) c.args.mutator c.args.d c.args.s c.args.i c.in-Some.n c.refs.result.now c.in-Some-get.field-0.now c.reply_of_global.result
+    (sym c.register.ensures ∙ c.in-Some.is) c.refs.ensures (below-from c.args.i _ c.in-Some-get.ensures.lookup.0) c.in-Some-get.ensures.lookup.1 c.reply_of_global.ensures c.set_register.ensures.heap

@@ -1,7 +1,7 @@
 use Rattle.std.proofs.Common.{◌≡◌, ◌+◌, ◌<◌, ◌∙◌, sym, subst, arith, length}
 use Rattle.std.proofs.lemmas.List.{get_or_default}
 use Rattle.object_model.specs.Objects.{HeapState, state_of, size_at, ref_at}
-use Rattle.object_model.specs.Lawful.{IsReference}
+use Rattle.object_model.specs.Lawful.{IsRefField}
 use Rattle.object_model.proofs.ObjectReads.{in_words}
 use Rattle.object_model.proofs.row.Row.ref_at.Goals as goal
 
@@ -11,4 +11,4 @@ returns-clause-reference c =
     let inside : 3 + c.args.i < size_at s c.args.a = omega (arith, c.requires.field) in
     let there : c.args.a + 3 + c.args.i < length s.words = omega (arith, in_words s c.requires.order c.args.a (3 + c.args.i) c.requires.held inside) in
     let value : c.index.result.now ≡ ref_at s c.args.a c.args.i = c.index.ensures ∙ get_or_default s.words (c.args.a + 3 + c.args.i) c.index.result.now 0 there in
-    subst (IsReference s) (sym value) (c.requires.order.objects.references c.args.a c.args.i c.requires.held c.requires.field)
+    subst (IsRefField s) (sym value) (c.requires.order.objects.references c.args.a c.args.i c.requires.held c.requires.field)

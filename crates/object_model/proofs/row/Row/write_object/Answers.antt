@@ -9,8 +9,8 @@ pub returns : goal.returns
 returns c =
     let w = c.write_words.ensures in
     let zone = c.start_base.result in
-    let spec = c.mark_spec-starts.result in
-    let marks = c.mark_spec-starts.ensures in
+    let spec = c.bit_spec-starts.result in
+    let marks = c.bit_spec-starts.ensures in
     let s : HeapState = state_of c.args.self.now in
     let has : HasBits spec zone (heap_of s.blocks) = record { zone_is = marks.zone; heap_is = marks.heap; region = marks.region; bits = marks.bits } in
     record {

@@ -1,0 +1,75 @@
+//! The numbers that encode block words.
+
+ghost use Rattle.std.specs.Prelude.{◌↔◌, IsTrue, IsSome, ◌≡◌, ◌≢◌, Some, IfSome, IfNone};
+ghost use Rattle.heap_layout.specs.Blocks.{code_of, kind_code, kind_of_code, is_block_code, IsValid};
+ghost use Rattle.heap_layout.specs.declared.block.BlockWord.{BlockWord};
+
+use crate::block::{BlockWord, Kind};
+
+impl BlockWord {
+    /// Whether the kind allows this class and this owner.
+    pub fn is_valid(&self) -> bool
+        ensures { IsTrue result ↔ IsValid self.now }
+    {
+        let class = self.class;
+        let owner = self.owner;
+        match self.kind {
+            Kind::Free | Kind::LargeTail | Kind::Kept => class == 0 && owner == 0,
+            Kind::Bump | Kind::Young | Kind::Mature | Kind::Immix => class == 0 && owner <= 32,
+            Kind::Cells => class <= 18 && owner <= 32,
+            Kind::LargeHead => 1 <= class && class <= 15 && owner == 0,
+        }
+    }
+}
+
+/// The number that encodes a valid block word: the kind in bits 0 to 7, the class in bits 8 to 15,
+/// the owner from bit 16 on.
+pub fn encode(w: &BlockWord) -> u64
+    requires { IsValid w.now }
+    ensures { result ≡ code_of w.now }
+{
+    kind_number(w.kind) + 256 * w.class as u64 + 65536 * w.owner as u64
+}
+
+/// The valid block word that `v` encodes, or `None` if `v` encodes none.
+pub fn decode(v: u64) -> Option<BlockWord>
+    ensures some { IfSome result (λ w. IsValid w × (code_of w ≡ v)) }
+    ensures none { IfNone result ((w : BlockWord) → IsValid w → code_of w ≢ v) }
+    ensures back { (w : BlockWord) → IsValid w → code_of w ≡ v → result ≡ Some w }
+    ensures code { IsSome result ↔ IsTrue (is_block_code v) }
+{
+    let word = BlockWord {
+        kind: kind_at(v % 256)?,
+        class: (v / 256 % 256) as u32,
+        owner: u32::try_from(v / 65536).ok()?,
+    };
+    if !word.is_valid() {
+        return None;
+    }
+    Some(word)
+}
+
+/// The number that encodes a kind, 0 to 8.
+fn kind_number(kind: Kind) -> u64
+    ensures { result ≡ kind_code kind }
+{
+    kind as u64
+}
+
+/// The kind that a number encodes, or `None` if the number is above 8.
+fn kind_at(number: u64) -> Option<Kind>
+    ensures { result ≡ kind_of_code number }
+{
+    match number {
+        0 => Some(Kind::Free),
+        1 => Some(Kind::Bump),
+        2 => Some(Kind::Young),
+        3 => Some(Kind::Mature),
+        4 => Some(Kind::Immix),
+        5 => Some(Kind::Cells),
+        6 => Some(Kind::LargeHead),
+        7 => Some(Kind::LargeTail),
+        8 => Some(Kind::Kept),
+        _ => None,
+    }
+}

@@ -1,0 +1,97 @@
+//! From the arguments and streams of the process to its exit number.
+
+ghost use Rattle.std.specs.Prelude.{◌≡◌, drop, IfOk, IfErr};
+ghost use Rattle.std.specs.Vec.Iter.{into_iter_items};
+ghost use Rattle.std.specs.IoError.{error_kind};
+ghost use Rattle.command_line.specs.Orders.{texts};
+ghost use Rattle.command_line.specs.Words.{job_of};
+ghost use Rattle.mm_drive.specs.Statuses.{number_of};
+ghost use Rattle.mm_drive.specs.Printed.{WritesFaultLine};
+ghost use Rattle.mm_drive.specs.Exits.{Ran, IsExit, refusal, refusal_line};
+
+use crate::fault_lines::{write_memory_fault, write_usage_fault};
+use crate::gate::OpenGate;
+use crate::status::Status;
+use crate::top::run;
+use outside::{ErrSink, FileSources, OutSink, Sink};
+use std::alloc::{AllocError, Global};
+use std::env::Args;
+use std::io;
+use std::io::{ErrorKind, Stderr, Stdout};
+use std::rt::Files;
+use std::thread::Threads;
+
+// The arguments after the program's name.
+fn command_words(alloc: Global, args: Args) -> Result<Vec<String>, AllocError>
+    ensures { IfOk result (λ v. v.items ≡ drop 1 (into_iter_items args)) }
+{
+    let mut left = args;
+    let mut words = Vec::new(alloc);
+    let _name = left.next();
+    while let Some(word) = left.next() {
+        words.push(word)?;
+    }
+    Ok(words)
+}
+
+// The status if the system gives no arguments, with its fault line.
+fn refuse<E: Sink>(err: &mut E, kind: ErrorKind) -> Status
+    ensures status { result ≡ refusal kind }
+    ensures reported { WritesFaultLine (E.state err.old) (E.state err.new) (refusal_line kind) }
+{
+    match kind {
+        ErrorKind::OutOfMemory => {
+            write_memory_fault(err);
+            Status::OutOfMemory
+        }
+        _ => {
+            write_usage_fault(err);
+            Status::Usage
+        }
+    }
+}
+
+// Runs the program over real files.
+fn run_args<R: Threads + Sync + Files, O: Sink, E: Sink>(
+    rt: &R,
+    alloc: Global,
+    args: io::Result<Args>,
+    out: &mut O,
+    err: &mut E,
+) -> Status
+    ensures refused { IfErr args (λ e. result ≡ refusal (error_kind e)) }
+    ensures reported { IfErr args (λ e. WritesFaultLine (E.state err.old) (E.state err.new)
+        (refusal_line (error_kind e))) }
+    ensures unwritten { IfErr args (λ e. O.state out.new ≡ O.state out.old) }
+    ensures ran { IfOk args (λ it. Ran (job_of (texts (drop 1 (into_iter_items it)))) result
+        (O.state out.old) (O.state out.new) (E.state err.old) (E.state err.new)) }
+{
+    let args = match args {
+        Ok(args) => args,
+        Err(error) => return refuse(err, error.kind()),
+    };
+    let Ok(words) = command_words(alloc, args) else {
+        write_memory_fault(err);
+        return Status::OutOfMemory;
+    };
+    let mut sources = FileSources::new(rt, alloc);
+    run(rt, alloc, &words, &mut sources, out, err, &OpenGate)
+}
+
+/// The exit number of the process. `args` has the program's name first.
+pub fn program<R: Threads + Sync + Files>(
+    rt: &R,
+    alloc: Global,
+    args: io::Result<Args>,
+    out: Stdout,
+    err: Stderr,
+) -> u8
+    // An argument is not UTF-8, or memory for the arguments ran out.
+    ensures refused { IfErr args (λ e. result ≡ number_of (refusal (error_kind e))) }
+    // Otherwise the number of the status of a run of the arguments after the program's name.
+    ensures ran { IfOk args (λ it. IsExit (job_of (texts (drop 1 (into_iter_items it)))) result) }
+{
+    let mut out = OutSink::new(out);
+    let mut err = ErrSink::new(err);
+    run_args(rt, alloc, args, &mut out, &mut err).number()
+}

@@ -1,0 +1,115 @@
+-- One bit of a word before the heap is set or cleared.
+use Rattle.std.proofs.Common.{◌≡◌, ◌≢◌, refl, sym, ◌∙◌, ap, subst, ℕ, ◌+◌, ◌*◌, ◌-◌, ◌/◌, ◌%◌, ◌^◌, ◌<◌, ◌≤◌, inl, inr, arith, Bool, List, length, slice_set, nat_eq}
+use Rattle.std.specs.Int.{bit_at, w64}
+use Rattle.std.proofs.lemmas.Bool.{cases_eq}
+use Rattle.std.proofs.lemmas.List.{get_or-set_same, get_or-set_other, length-set}
+use Rattle.std.proofs.lemmas.Nat.{or_lt, and_le_l, pow_below}
+use Rattle.std.proofs.lemmas.Nat.Bits.{bit_at_or, bit_at_and, bit_at_not, bit_at-pow_same, bit_at-pow_other, bit_at-lt}
+use Rattle.heap_layout.specs.Zones.{Zone, PinBits, UnlogBits, row_words, heap_of, first, bit_of, address_bit, IsAddress}
+use Rattle.heap_layout.proofs.MarkLemmas.{address_bit-at_address}
+use Rattle.object_model.specs.Objects.{HeapState, with_words, word_at}
+use Rattle.object_model.specs.Lawful.{IsWellFormed}
+use Rattle.object_model.specs.Changes.{SetsPin, ClearsUnlog}
+use Rattle.object_model.proofs.Marks.{mark-same}
+use Rattle.mutator_core.specs.Machine.{bit_word, bit_place, with_bit, without_bit}
+
+pub with-same : (n k : ℕ) → bit_at (with_bit n k) k ≡ 1
+with-same n k = omega (arith, bit_at_or n (2 ^ k) k, bit_at-pow_same k, bit_at-lt n k)
+
+pub with-other : (n k i : ℕ) → i ≢ k → bit_at (with_bit n k) i ≡ bit_at n i
+with-other n k i other = omega (arith, bit_at_or n (2 ^ k) i, bit_at-pow_other k i other)
+
+pub with-fits : (n k : ℕ) → n < 2 ^ 64 → k < 64 → with_bit n k < 2 ^ 64
+with-fits n k fits low = or_lt 64 n (2 ^ k) fits (pow_below k 64 low)
+
+pub without-same : (n k : ℕ) → k < 64 → bit_at (without_bit n k) k ≡ 0
+without-same n k low = omega (arith, bit_at_and n (2 ^ 64 - 1 - 2 ^ k) k, bit_at_not w64 (2 ^ k) k (pow_below k 64 low) low, bit_at-pow_same k)
+
+pub without-other : (n k i : ℕ) → k < 64 → i < 64 → i ≢ k → bit_at (without_bit n k) i ≡ bit_at n i
+without-other n k i low small other = omega (arith, bit_at_and n (2 ^ 64 - 1 - 2 ^ k) i, bit_at_not w64 (2 ^ k) i (pow_below k 64 low) small, bit_at-pow_other k i other, bit_at-lt n i)
+
+pub without-fits : (n k : ℕ) → n < 2 ^ 64 → without_bit n k < 2 ^ 64
+without-fits n k fits = let less = and_le_l n (2 ^ 64 - 1 - 2 ^ k) in omega arith
+
+module _ (s : HeapState) (order : IsWellFormed s) (z : Zone) (a v : ℕ) (there : IsAddress s.blocks a)
+    (inside : first s.blocks z + 64 * s.blocks ≤ heap_of s.blocks) (fits : v < 2 ^ 64)
+    (rest : (k : ℕ) → k < 64 → k ≢ bit_place s.blocks a → bit_at v k ≡ bit_at (word_at s (bit_word s.blocks z a)) k) where
+  abbrev at : ℕ
+  at = bit_word s.blocks z a
+
+  abbrev pub set : List ℕ
+  set = slice_set s.words (bit_word s.blocks z a) v
+
+  pub word-before : bit_word s.blocks z a < heap_of s.blocks
+  word-before = let from : heap_of s.blocks ≤ a = there.from in let below : a < row_words s.blocks = there.below in omega arith
+
+  pub word-own : word_at (with_words s set) (bit_word s.blocks z a) ≡ v
+  word-own = get_or-set_same s.words at v 0 (let many : length s.words ≡ row_words s.blocks = order.row.extent in let before : at < heap_of s.blocks = word-before in omega arith)
+
+  pub word-other : (i : ℕ) → i ≢ bit_word s.blocks z a → word_at (with_words s set) i ≡ word_at s i
+  word-other i other = get_or-set_other s.words at i v 0 other
+
+  pub words-fit : (i : ℕ) → word_at (with_words s set) i < 2 ^ 64
+  words-fit i = elim (cases_eq i at) as (λ _. word_at (with_words s set) i < 2 ^ 64) [
+    | inl e ↦ subst (λ (x : ℕ). x < 2 ^ 64) (sym (ap (word_at (with_words s set)) e ∙ word-own)) fits
+    | inr other ↦ subst (λ (x : ℕ). x < 2 ^ 64) (sym (word-other i other)) (order.row.words i)
+  ]
+
+  pub bit-own : bit_of s.blocks z set (a - heap_of s.blocks) ≡ nat_eq (bit_at v (bit_place s.blocks a)) 1
+  bit-own = ap (λ x. nat_eq (bit_at x (bit_place s.blocks a)) 1) word-own
+
+  pub mark-own : address_bit s.blocks z set a ≡ nat_eq (bit_at v (bit_place s.blocks a)) 1
+  mark-own = address_bit-at_address s.blocks z set a there ∙ bit-own
+
+  pub bit-other : (n : ℕ) → n ≢ a - heap_of s.blocks → bit_of s.blocks z set n ≡ bit_of s.blocks z s.words n
+  bit-other n other = elim (cases_eq (n / 64) ((a - heap_of s.blocks) / 64)) as (λ _. bit_of s.blocks z set n ≡ bit_of s.blocks z s.words n) [
+    | inl same ↦
+        (let here : first s.blocks z + n / 64 ≡ at = omega arith in
+        ap (λ i. nat_eq (bit_at (word_at (with_words s set) i) (n % 64)) 1) here ∙ ap (λ x. nat_eq (bit_at x (n % 64)) 1) word-own
+        ∙ ap (λ x. nat_eq x 1) (rest (n % 64) (omega arith) (λ e. other (omega arith))) ∙ ap (λ i. nat_eq (bit_at (word_at s i) (n % 64)) 1) (sym here))
+    | inr differ ↦ ap (λ x. nat_eq (bit_at x (n % 64)) 1) (word-other (first s.blocks z + n / 64) (λ e. differ (omega arith)))
+  ]
+
+  pub mark-other : (x : ℕ) → x ≢ a → address_bit s.blocks z set x ≡ address_bit s.blocks z s.words x
+  mark-other x other = mark-same s.blocks z s.words set x (λ here.
+      let from : heap_of s.blocks ≤ x = here.from in let base : heap_of s.blocks ≤ a = there.from in
+      bit-other (x - heap_of s.blocks) (λ e. other (omega arith)))
+
+-- a pin bit
+pub sets-pin : (s : HeapState) (order : IsWellFormed s) (a v : ℕ) (b : Bool) → IsAddress s.blocks a → v < 2 ^ 64 → nat_eq (bit_at v (bit_place s.blocks a)) 1 ≡ b
+    → ((k : ℕ) → k < 64 → k ≢ bit_place s.blocks a → bit_at v k ≡ bit_at (word_at s (bit_word s.blocks PinBits a)) k)
+    → SetsPin s (with_words s (slice_set s.words (bit_word s.blocks PinBits a) v)) a b
+sets-pin s order a v b there fits own rest = record {
+  blocks = refl;
+  number = refl;
+  base = refl;
+  extent = length-set s.words (bit_word s.blocks PinBits a) v;
+  words = words-fit s order PinBits a v there (omega arith) fits rest;
+  pin = mark-own s order PinBits a v there (omega arith) fits rest ∙ own;
+  others = mark-other s order PinBits a v there (omega arith) fits rest;
+  rest = λ i outside. word-other s order PinBits a v there (omega arith) fits rest i (λ e.
+      let from : heap_of s.blocks ≤ a = there.from in let below : a < row_words s.blocks = there.below in
+      elim outside as (λ _. ⊥) [ inl h ↦ omega arith | inr h ↦ omega arith ]);
+}
+
+-- an unlog bit
+pub clears-unlog : (s : HeapState) (order : IsWellFormed s) (a : ℕ) → IsAddress s.blocks a
+    → ClearsUnlog s (with_words s (slice_set s.words (bit_word s.blocks UnlogBits a) (without_bit (word_at s (bit_word s.blocks UnlogBits a)) (bit_place s.blocks a)))) a
+clears-unlog s order a there =
+    let n : ℕ = word_at s (bit_word s.blocks UnlogBits a) in
+    let k : ℕ = bit_place s.blocks a in
+    let low : k < 64 = omega arith in
+    let fits : without_bit n k < 2 ^ 64 = without-fits n k (order.row.words (bit_word s.blocks UnlogBits a)) in
+    let rest : (i : ℕ) → i < 64 → i ≢ k → bit_at (without_bit n k) i ≡ bit_at n i = λ i small other. without-other n k i low small other in
+    record {
+      blocks = refl;
+      number = refl;
+      base = refl;
+      extent = length-set s.words (bit_word s.blocks UnlogBits a) (without_bit n k);
+      words = words-fit s order UnlogBits a (without_bit n k) there (omega arith) fits rest;
+      clear = mark-own s order UnlogBits a (without_bit n k) there (omega arith) fits rest ∙ ap (λ x. nat_eq x 1) (without-same n k low);
+      others = mark-other s order UnlogBits a (without_bit n k) there (omega arith) fits rest;
+      rest = λ i outside. word-other s order UnlogBits a (without_bit n k) there (omega arith) fits rest i (λ e.
+          let from : heap_of s.blocks ≤ a = there.from in let below : a < row_words s.blocks = there.below in
+          elim outside as (λ _. ⊥) [ inl h ↦ omega arith | inr h ↦ omega arith ]);
+    }

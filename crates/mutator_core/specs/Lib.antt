@@ -1,0 +1,9 @@
+pub mod Machine
+pub mod Guards
+pub mod Histories
+pub mod Examples
+pub mod Epochs
+pub mod Logs
+pub mod Closing
+pub mod Tickets
+pub mod Seen

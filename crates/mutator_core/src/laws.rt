@@ -1,0 +1,227 @@
+//! Laws of the mutator machine. Each holds after every log of an epoch, in any order of steps.
+
+ghost use Rattle.std.specs.Prelude.{◌≡◌, ◌⊎◌, ℕ, ◌<◌, ◌+◌, Some, None, List, [], ◌∷◌, ◌++◌, IsTrue};
+ghost use Rattle.std.specs.List.{Contains, AllByRecursion};
+ghost use Rattle.heap_layout.specs.Zones.{StartBits, block_at, IsAddress};
+ghost use Rattle.ideal_heap.specs.declared.command.Command.{Command};
+ghost use Rattle.ideal_heap.specs.Ideal.{IdealHeap};
+ghost use Rattle.ideal_heap.specs.Runs.{entry, IsRun, after};
+ghost use Rattle.object_model.specs.Objects.{HeapState, size_of, IsHeld, IsInExtent, is_unlogged, name_at, word_at, owner_at};
+ghost use Rattle.object_model.specs.Lawful.{IsWellFormed, FreeBlockIsClear, LineBitsAreExact};
+ghost use Rattle.object_model.specs.Graphs.{Represents};
+ghost use Rattle.sessions.specs.Collecting.{Remembers};
+ghost use Rattle.sessions.specs.Fitting.{free_of};
+ghost use Rattle.sessions.specs.Sessions.{IsOfPart};
+ghost use Rattle.mutator_core.specs.declared.state.Event.{Event};
+ghost use Rattle.mutator_core.specs.declared.state.Event.TheVariants as event;
+ghost use Rattle.mutator_core.specs.declared.state.LogEntry.{LogEntry};
+ghost use Rattle.mutator_core.specs.declared.state.OwnedBlock.{OwnedBlock};
+ghost use Rattle.mutator_core.specs.declared.state.Extent.{Extent};
+ghost use Rattle.mutator_core.specs.declared.state.Loaded.{Loaded};
+ghost use Rattle.mutator_core.specs.Machine.{Epoch, bit_word};
+ghost use Rattle.mutator_core.specs.Guards.{allowance, IsPlace, BeginsRegion};
+ghost use Rattle.mutator_core.specs.Histories.{history, entry_of, entries_of, reply_in};
+ghost use Rattle.mutator_core.specs.Seen.{IsSeen, IsLoaded};
+ghost use Rattle.mutator_core.specs.Tickets.{taken_by, drawn_by, allowed_to, smaller};
+ghost use Rattle.mutator_core.specs.Closing.{GivesBack};
+ghost use Rattle.mutator_core.specs.Logs.{IsEpochLog, machine_after, heap_after, mutators_after, local_after_log, history_of, IsUnpublishedWord, HasAvailable, IsUntaken, IsTaken, IsOwnedBy, IsListed, sum_after, HasRaised, AreBetweenCalls, IsStoppedAfter};
+
+/// The step of a command makes one entry, of that command, whether the command has an effect or
+/// not. Every other step makes none.
+pub fn entries_are_made_at_one_step()
+    ensures perform { (command : Command) → entry_of (event.Perform command) ≡ Some command }
+    ensures miss { (command : Command) → entry_of (event.Miss command) ≡ Some command }
+    ensures only { (x : Event) (command : Command) → entry_of x ≡ Some command
+        → (x ≡ event.Perform command) ⊎ (x ≡ event.Miss command) }
+    ensures one { (s : HeapState) (x : LogEntry) (command : Command)
+        → entry_of x.event ≡ Some command
+        → entries_of s x ≡ entry x.mutator command (reply_in s x.answer) ∷ [] }
+    ensures none { (s : HeapState) (x : LogEntry) → entry_of x.event ≡ None
+        → entries_of s x ≡ [] }
+{}
+
+/// Each entry of the history is one that an epoch of a session may have: it is no `gc` and no
+/// `meet`, its reply is not `full`, and it allocates no large object.
+pub fn entries_belong_to_epochs()
+    ensures { (p : Epoch) (i : IdealHeap) (log : List LogEntry) → IsEpochLog p i log
+        → AllByRecursion IsOfPart (history_of p log) }
+{}
+
+/// At every step the heap is well formed, Free blocks are clear, and an old object whose unlog bit
+/// is set has no reference to a young object.
+pub fn heaps_stay_in_order()
+    ensures order { (p : Epoch) (i : IdealHeap) (log : List LogEntry) → IsEpochLog p i log
+        → IsWellFormed (heap_after p log) }
+    ensures free { (p : Epoch) (i : IdealHeap) (log : List LogEntry) → IsEpochLog p i log
+        → (k : ℕ) → FreeBlockIsClear (heap_after p log) k }
+    ensures remembers { (p : Epoch) (i : IdealHeap) (log : List LogEntry) → IsEpochLog p i log
+        → Remembers p.rules (heap_after p log) }
+{}
+
+/// At every step a block has no owner or one. A block without an owner has the block word that it
+/// had as the epoch began; if it is an Immix block, its line bits are those of the lines that
+/// objects touch. The blocks that a mutator took are those that have it as owner, with the kind
+/// that mutators fill and the class that each was taken for.
+pub fn blocks_have_one_owner()
+    ensures owner { (p : Epoch) (i : IdealHeap) (log : List LogEntry) → IsEpochLog p i log
+        → (k : ℕ) → k < p.before.blocks → IsUntaken p (heap_after p log) k
+        ⊎ IsTaken p (heap_after p log) k }
+    ensures lines { (p : Epoch) (i : IdealHeap) (log : List LogEntry) → IsEpochLog p i log
+        → (k : ℕ) → owner_at (heap_after p log) k ≡ 0
+        → LineBitsAreExact (heap_after p log) k }
+    ensures apart { (p : Epoch) (i : IdealHeap) (log : List LogEntry) → IsEpochLog p i log
+        → (m n : ℕ) (o q : OwnedBlock) → Contains (local_after_log p log m).owned o
+        → Contains (local_after_log p log n).owned q → o.block ≡ q.block → m ≡ n }
+    ensures listed { (p : Epoch) (i : IdealHeap) (log : List LogEntry) → IsEpochLog p i log
+        → (m : ℕ) (o : OwnedBlock) → Contains (local_after_log p log m).owned o
+        → IsOwnedBy p (heap_after p log) m o }
+    ensures all { (p : Epoch) (i : IdealHeap) (log : List LogEntry) → IsEpochLog p i log
+        → (k : ℕ) → k < p.before.blocks → 0 < owner_at (heap_after p log) k
+        → IsListed (local_after_log p log (owner_at (heap_after p log) k)) k }
+{}
+
+/// At every step the words of an unpublished object belong to no held object, and to no other
+/// mutator's unpublished object. They lie in a block that the mutator owns, and in no block that
+/// another mutator owns.
+pub fn unpublished_objects_are_apart()
+    ensures clear { (p : Epoch) (i : IdealHeap) (log : List LogEntry) → IsEpochLog p i log
+        → (m x w : ℕ) → IsUnpublishedWord (local_after_log p log m) w
+        → IsHeld (heap_after p log) x → IsInExtent (heap_after p log) x w → ⊥ }
+    ensures apart { (p : Epoch) (i : IdealHeap) (log : List LogEntry) → IsEpochLog p i log
+        → (m n w : ℕ) → IsUnpublishedWord (local_after_log p log m) w
+        → IsUnpublishedWord (local_after_log p log n) w → m ≡ n }
+    ensures owner { (p : Epoch) (i : IdealHeap) (log : List LogEntry) → IsEpochLog p i log
+        → (m w : ℕ) → IsUnpublishedWord (local_after_log p log m) w
+        → owner_at (heap_after p log) (block_at p.before.blocks w) ≡ m }
+    ensures alone { (p : Epoch) (i : IdealHeap) (log : List LogEntry) → IsEpochLog p i log
+        → (m n w : ℕ) (o : OwnedBlock) → IsUnpublishedWord (local_after_log p log m) w
+        → Contains (local_after_log p log n).owned o → o.block ≡ block_at p.before.blocks w
+        → m ≡ n }
+{}
+
+/// Each object that a mutator allocated, and its unpublished object, lies in a block that the
+/// mutator took: in a block that was Free as the epoch began, or in a hole that the block had
+/// then. In blocks of cells it begins at the start of a cell of its class. The unpublished object
+/// overlaps no object that the mutator allocated.
+pub fn objects_lie_in_holes()
+    ensures made { (p : Epoch) (i : IdealHeap) (log : List LogEntry) → IsEpochLog p i log
+        → (m : ℕ) (x : Extent) → Contains (local_after_log p log m).made x
+        → IsPlace p (local_after_log p log m).owned x.address x.size }
+    ensures unpublished { (p : Epoch) (i : IdealHeap) (log : List LogEntry) → IsEpochLog p i log
+        → (m : ℕ) → 0 < (local_after_log p log m).unpublished.address
+        → HasAvailable p (local_after_log p log m) }
+{}
+
+/// A mutator stores the first word of an object at the front of a hole of the beginning of the
+/// epoch, at the start of a block that was Free, or directly after an object that it allocated in
+/// the block.
+pub fn regions_begin_at_fronts()
+    ensures { (p : Epoch) (i : IdealHeap) (log : List LogEntry) (x : LogEntry) (a refs nums : ℕ)
+        → IsEpochLog p i (log ++ x ∷ []) → x.event ≡ event.Initialize a refs nums 0
+        → BeginsRegion p (local_after_log p log x.mutator).made a (size_of refs nums) }
+{}
+
+/// An object that is held at one step is held at each later step, with the same name, shape and
+/// collector word. A longer log only adds entries to the history.
+pub fn objects_stay()
+    ensures held { (p : Epoch) (i : IdealHeap) (log more : List LogEntry)
+        → IsEpochLog p i (log ++ more)
+        → (a : ℕ) → IsHeld (heap_after p log) a → IsHeld (heap_after p (log ++ more)) a }
+    ensures header { (p : Epoch) (i : IdealHeap) (log more : List LogEntry)
+        → IsEpochLog p i (log ++ more)
+        → (a j : ℕ) → IsHeld (heap_after p log) a → j < 3
+        → word_at (heap_after p (log ++ more)) (a + j) ≡ word_at (heap_after p log) (a + j) }
+    ensures name { (p : Epoch) (i : IdealHeap) (log more : List LogEntry)
+        → IsEpochLog p i (log ++ more)
+        → (a : ℕ) → IsHeld (heap_after p log) a
+        → name_at (heap_after p (log ++ more)) a ≡ name_at (heap_after p log) a }
+    ensures history { (p : Epoch) (log more : List LogEntry)
+        → history_of p (log ++ more) ≡ history_of p log
+        ++ history p (machine_after p log) more }
+{}
+
+/// At every step the history is a run of the ideal heap that the epoch began with, and the heap
+/// with its mutators represents the ideal heap after that run.
+pub fn histories_are_runs()
+    ensures run { (p : Epoch) (i : IdealHeap) (log : List LogEntry) → IsEpochLog p i log
+        → IsRun i (history_of p log) }
+    ensures represents { (p : Epoch) (i : IdealHeap) (log : List LogEntry) → IsEpochLog p i log
+        → Represents (heap_after p log) (mutators_after p log) (after i (history_of p log)) }
+{}
+
+/// The shape word and the collector word that a mutator loaded have not changed. An unlog bit that
+/// it found clear is still clear.
+pub fn loaded_headers_stay()
+    ensures shape { (p : Epoch) (i : IdealHeap) (log : List LogEntry) → IsEpochLog p i log
+        → (m : ℕ) → 0 < (local_after_log p log m).shape.at
+        → word_at (heap_after p log) ((local_after_log p log m).shape.at + 1)
+        ≡ (local_after_log p log m).shape.word }
+    ensures collector { (p : Epoch) (i : IdealHeap) (log : List LogEntry) → IsEpochLog p i log
+        → (m : ℕ) → 0 < (local_after_log p log m).collector.at
+        → word_at (heap_after p log) ((local_after_log p log m).collector.at + 2)
+        ≡ (local_after_log p log m).collector.word }
+    ensures logged { (p : Epoch) (i : IdealHeap) (log : List LogEntry) → IsEpochLog p i log
+        → (m : ℕ) → 0 < (local_after_log p log m).logged
+        → IsTrue (is_unlogged (heap_after p log) (local_after_log p log m).logged) → ⊥ }
+{}
+
+/// The stop word is 0, or the number of a mutator that raised a stop. Once a mutator loads a stop
+/// word other than 0, the word does not change. A block whose loaded word is not that of a Free
+/// block is not Free, and a block whose loaded word has an owner has one.
+pub fn seen_words_stay()
+    ensures stop { (p : Epoch) (i : IdealHeap) (log : List LogEntry) → IsEpochLog p i log
+        → (word_at (heap_after p log) 0 ≡ 0)
+        ⊎ HasRaised p log (word_at (heap_after p log) 0) }
+    ensures polled { (p : Epoch) (i : IdealHeap) (log : List LogEntry) → IsEpochLog p i log
+        → (m : ℕ) → 0 < (local_after_log p log m).stop
+        → word_at (heap_after p log) 0 ≡ (local_after_log p log m).stop }
+    ensures blocks { (p : Epoch) (i : IdealHeap) (log : List LogEntry) → IsEpochLog p i log
+        → (m : ℕ) (x : Loaded) → Contains (local_after_log p log m).blocks x
+        → (x.at < p.before.blocks) × IsSeen (heap_after p log) x }
+{}
+
+/// A line word that a mutator loaded has not changed since the epoch began. A start word that it
+/// loaded has all bits of the word as the epoch began, and the present word has all bits of the
+/// loaded one. A header word that it loaded has not changed, and its object is held.
+///
+/// So a mutator may search a block before it takes it: while the block has no owner, the start
+/// words loaded from it are those of the beginning of the epoch.
+pub fn loaded_words_stay()
+    ensures words { (p : Epoch) (i : IdealHeap) (log : List LogEntry) → IsEpochLog p i log
+        → (m : ℕ) (x : Loaded) → Contains (local_after_log p log m).loaded x
+        → IsLoaded p (heap_after p log) x }
+    ensures unowned { (p : Epoch) (i : IdealHeap) (log : List LogEntry) → IsEpochLog p i log
+        → (m a : ℕ) (x : Loaded) → Contains (local_after_log p log m).loaded x
+        → IsAddress p.before.blocks a
+        → x.at ≡ bit_word p.before.blocks StartBits a
+        → owner_at (heap_after p log) (block_at p.before.blocks a) ≡ 0
+        → x.word ≡ word_at p.before x.at }
+{}
+
+/// The budget word is the number of tickets drawn. Each ticket below the allowance is used for a
+/// Free block, or unused. The number of Free blocks has fallen by the number of those taken. An
+/// unused ticket is below the budget word, and no two mutators have the same one.
+pub fn tickets_are_counted()
+    ensures budget { (p : Epoch) (i : IdealHeap) (log : List LogEntry) → IsEpochLog p i log
+        → sum_after drawn_by p log ≡ word_at (heap_after p log) 1 }
+    ensures allowed { (p : Epoch) (i : IdealHeap) (log : List LogEntry) → IsEpochLog p i log
+        → sum_after (allowed_to (allowance p)) p log
+        ≡ smaller (word_at (heap_after p log) 1) (allowance p) }
+    ensures free { (p : Epoch) (i : IdealHeap) (log : List LogEntry) → IsEpochLog p i log
+        → free_of p.before ≡ free_of (heap_after p log) + sum_after taken_by p log }
+    ensures drawn { (p : Epoch) (i : IdealHeap) (log : List LogEntry) → IsEpochLog p i log
+        → (m t : ℕ) → (local_after_log p log m).ticket ≡ Some t
+        → t < word_at (heap_after p log) 1 }
+    ensures distinct { (p : Epoch) (i : IdealHeap) (log : List LogEntry) → IsEpochLog p i log
+        → (m n t : ℕ) → (local_after_log p log m).ticket ≡ Some t
+        → (local_after_log p log n).ticket ≡ Some t → m ≡ n }
+{}
+
+/// If each mutator of the epoch is between two calls and the mutators give back their blocks, the
+/// heap is a stopped heap.
+pub fn epochs_end_in_stopped_heaps()
+    ensures { (p : Epoch) (i : IdealHeap) (log : List LogEntry) (new : HeapState)
+        → IsEpochLog p i log
+        → AreBetweenCalls p log → GivesBack (heap_after p log) new
+        → IsStoppedAfter p i log new }
+{}

@@ -1,0 +1,51 @@
+//! A set of heap addresses.
+
+ghost use Rattle.std.specs.Prelude.{◌≡◌, ◌*◌, length};
+
+use crate::bits::bit_spec;
+use heap_layout::Layout;
+use side_meta::{set, test};
+use std::alloc::{AllocError, Global};
+
+/// A set of addresses, with one bit for each word of the heap.
+#[derive(Debug, Drop)]
+pub(crate) struct AddressSet {
+    words: Vec<u64>,
+    layout: Layout,
+    pub ghost extent: { length words.items ≡ 64 * layout.blocks },
+}
+
+impl AddressSet {
+    ghost use Rattle.std.specs.Prelude.{◌≡◌, ◌≢◌, ℕ, true, false, not, OnOk, IfOk};
+    ghost use Rattle.heap_layout.specs.Zones.{IsAddress};
+    ghost use Rattle.object_model.specs.AddressSets.{has};
+
+    /// An empty set. It allocates 512 bytes a block.
+    pub(crate) fn new(alloc: Global, layout: &Layout) -> Result<AddressSet, AllocError>
+        ensures blocks { IfOk result (λ s. s.layout.blocks ≡ layout.now.blocks) }
+        ensures empty { IfOk result (λ s. (a : ℕ) → has s a ≡ false) }
+    {
+        let words = vec![in alloc; 0; 64 * layout.blocks() as usize]?;
+        Ok(AddressSet {
+            words,
+            layout: *layout,
+        })
+    }
+
+    /// Adds an address. True if the set did not have it before.
+    pub(crate) fn insert(&mut self, a: u32) -> bool
+        requires { IsAddress self.old.layout.blocks a }
+        ensures blocks { self.new.layout.blocks ≡ self.old.layout.blocks }
+        ensures new { result ≡ not (has self.old a) }
+        ensures there { has self.new a ≡ true }
+        ensures others { (x : ℕ) → IsAddress self.old.layout.blocks x → x ≢ a
+            → has self.new x ≡ has self.old x }
+    {
+        let bits = bit_spec(&self.layout, 0);
+        if test(&self.words, &bits, a) {
+            return false;
+        }
+        set(&mut self.words, &bits, a);
+        true
+    }
+}

@@ -1,0 +1,34 @@
+-- A block has a hole if and only if the search finds a first one.
+use Rattle.std.proofs.Common.{◌≡◌, ◌↔◌, refl, sym, ◌∙◌, ap, subst, ℕ, ◌+◌, ◌<◌, inl, inr, arith, IsTrue, Option, Some, None}
+use Rattle.std.specs.Prelude.{is_some}
+use Rattle.std.proofs.lemmas.Bool.{cases_eq, true≢false}
+use Rattle.heap_layout.specs.declared.block.Kind.{Kind}
+use Rattle.heap_layout.specs.declared.block.BlockWord.{BlockWord}
+use Rattle.heap_layout.specs.declared.region.Region.{Region}
+use Rattle.heap_layout.specs.Blocks.{code_of, IsValid, kind_of_code}
+use Rattle.heap_layout.proofs.BlockLemmas.{parts_of_code, kind_of_code-kind_code}
+use Rattle.object_model.specs.Objects.{HeapState, block_word, HasKind}
+use Rattle.object_model.proofs.OneKind.{kind-code}
+use Rattle.sessions.specs.Fitting.{HasHole}
+use Rattle.plan_api.specs.Holes.{IsFirstHole}
+use Rattle.plan_api.proofs.Parts.{part-kind}
+use Rattle.plan_api.proofs.PartLaws.{whole-part, part-whole}
+
+pub hole-told : (fill : Kind) (s : HeapState) (k size : ℕ) (o : Option Region) → IsFirstHole fill s k 0 size o → IsTrue (is_some o) ↔ ((at : ℕ) × HasHole fill s k at size)
+hole-told fill s k size None none = ((λ wrong. absurd (true≢false (sym wrong))), (λ hole. absurd (let whole = whole-part fill s k size hole.0 hole.1 in none hole.0 whole.0 whole.1)))
+hole-told fill s k size (Some r) first = ((λ _. (r.next, part-whole fill s k size r.next (r.end, first.hole))), (λ _. refl))
+
+-- a block with a hole is of the kind that mutators fill
+pub hole-kind : (fill : Kind) (s : HeapState) (k size at : ℕ) → HasHole fill s k at size → HasKind s k fill
+hole-kind fill s k size at hole = let whole = whole-part fill s k size at hole in part-kind fill s k 0 size at whole.0 whole.1.part
+
+pub hole-word : (fill : Kind) (s : HeapState) (k size at : ℕ) (w : BlockWord) → IsValid w → code_of w ≡ block_word s k → HasHole fill s k at size → w.kind ≡ fill
+hole-word fill s k size at w valid code hole =
+    let e : Some w.kind ≡ Some fill = sym (parts_of_code w (block_word s k) valid code).0 ∙ ap kind_of_code (kind-code s k fill (hole-kind fill s k size at hole)) ∙ kind_of_code-kind_code fill in cc
+
+-- one more block without a hole
+pub none-more : (fill : Kind) (s : HeapState) (b size : ℕ) → ((k at : ℕ) → k < b → HasHole fill s k at size → ⊥) → (((at : ℕ) × HasHole fill s b at size) → ⊥) → (k at : ℕ) → k < b + 1 → HasHole fill s k at size → ⊥
+none-more fill s b size before here k at less hole = elim (cases_eq k b) as (λ _. ⊥) [
+  | inl e ↦ here (at, subst (λ (q : ℕ). HasHole fill s q at size) e hole)
+  | inr other ↦ before k at (omega arith) hole
+]

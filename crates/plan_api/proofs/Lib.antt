@@ -1,0 +1,10 @@
+pub mod BitSearch
+pub mod CellSearch
+pub mod HoleTests
+pub mod PartLaws
+pub mod Parts
+pub mod ReserveLaws
+pub mod Runs
+pub mod Takings
+pub mod Tallies
+pub mod Viewing

@@ -1,0 +1,20 @@
+-- Free cells, by the start bits of a block.
+use Rattle.std.specs.Prelude.{◌≡◌, ℕ, ◌+◌, ◌*◌, ◌≤◌, List, false}
+use Rattle.plan_api.specs.Bits.{bit_in}
+
+-- a cell of `words` words begins at the offset `at`, and no object begins there
+pub record IsClearCell (starts : List ℕ) (words at : ℕ) : Type 0 where
+  pub index : ℕ
+  pub start : at ≡ index * words
+  pub inside : at + words ≤ 4096
+  pub clear : bit_in starts at ≡ false
+
+-- the first such cell that begins at or after the offset `from`
+pub record IsFirstCell (starts : List ℕ) (words from at : ℕ) : Type 0 where
+  pub cell : IsClearCell starts words at
+  pub after : from ≤ at
+  pub first : (x : ℕ) → from ≤ x → IsClearCell starts words x → at ≤ x
+
+-- no such cell begins at or after the offset `from`
+abbrev pub HasNoCell : List ℕ → ℕ → ℕ → Type 0
+HasNoCell starts words from = (x : ℕ) → from ≤ x → IsClearCell starts words x → ⊥

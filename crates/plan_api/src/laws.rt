@@ -1,0 +1,83 @@
+//! Laws of holes, views, reserves and taken blocks.
+
+ghost use Rattle.std.specs.Prelude.{◌≡◌, ◌≢◌, ◌↔◌, ◌+◌, ◌<◌, ◌≤◌, ℕ, List, IsTrue};
+ghost use Rattle.heap_layout.specs.Zones.{block_at, offset_at};
+ghost use Rattle.heap_layout.specs.declared.block.Kind.{Kind};
+ghost use Rattle.heap_layout.specs.declared.block.Kind.TheVariants as kinds;
+ghost use Rattle.heap_layout.specs.declared.layout.Layout.{Layout};
+ghost use Rattle.object_model.specs.Objects.{HeapState, state_over, HasKind, class_at, owner_at, IsHeld, IsInExtent};
+ghost use Rattle.object_model.specs.Lawful.{IsWellFormed, IsReadableBlock, LineBitsAreExact};
+ghost use Rattle.sessions.specs.Plans.{Nothing, Copies, Headroom};
+ghost use Rattle.sessions.specs.Grants.{BlockCounts, HoldsReserve, allowance_in, after_taking};
+ghost use Rattle.sessions.specs.Fitting.{IsTail, HasHole, LiesInHole, free_of, counts_of, allowance_of};
+ghost use Rattle.plan_api.specs.Taking.{TakesBlocks};
+ghost use Rattle.plan_api.specs.declared.block_view.BlockView.{BlockView};
+ghost use Rattle.plan_api.specs.Views.{IsViewOf, AreApart};
+ghost use Rattle.plan_api.specs.Holes.{IsHolePart, HasRoomFrom, has_holes};
+
+use crate::plan::Plan;
+
+/// A hole is its own part from offset 0 on. An object at the start of a part with room lies in the
+/// hole, at or after `from`. So does any range of words within a part, unless the block has cells.
+/// No word of an object lies in a part.
+pub fn hole_parts()
+    ensures whole { (fill : Kind) (s : HeapState) (k size at : ℕ)
+        → HasHole fill s k at size ↔ ((end : ℕ) × HasRoomFrom fill s k 0 size at end) }
+    ensures front { (fill : Kind) (s : HeapState) (k from size next end : ℕ)
+        → HasRoomFrom fill s k from size next end
+        → (from ≤ next) × LiesInHole fill s k next size }
+    ensures within { (fill : Kind) (s : HeapState) (k from size next end at n : ℕ)
+        → IsHolePart fill s k from size next end → fill ≢ kinds.Cells
+        → next ≤ at → at + n ≤ end → LiesInHole fill s k at n }
+    ensures clear { (fill : Kind) (s : HeapState) (k from size next end a i : ℕ)
+        → IsWellFormed s → LineBitsAreExact s k → IsHolePart fill s k from size next end
+        → IsHeld s a → IsInExtent s a i → block_at s.blocks i ≡ k
+        → next ≤ offset_at s.blocks i → offset_at s.blocks i < end → ⊥ }
+{}
+
+/// A view shows a block's kind, class and owner, and the offset of its tail if the objects of the
+/// block do not overlap. In a well-formed heap they do not. Whether a block can be read does not
+/// depend on the heap's collection numbers.
+pub fn views_show_blocks()
+    ensures kind { (s : HeapState) (k : ℕ) (v : BlockView) → IsViewOf s k v
+        → HasKind s k v.word.kind × (class_at s k ≡ v.word.class)
+        × (owner_at s k ≡ v.word.owner) }
+    ensures tail { (s : HeapState) (k : ℕ) (v : BlockView) → IsViewOf s k v → AreApart s k
+        → IsTail s k v.end }
+    ensures apart { (s : HeapState) (k : ℕ) → IsWellFormed s → AreApart s k }
+    ensures readable { (words : List ℕ) (l : Layout) (number base k : ℕ)
+        → IsReadableBlock (state_over words l number base) k
+        → IsReadableBlock (state_over words l 0 0) k }
+{}
+
+/// If the reserve is there, it is still there after mutators took at most the allowance of Free
+/// blocks.
+pub fn reserves_are_kept()
+    ensures nothing { (c : BlockCounts) (n : ℕ) → HoldsReserve Nothing c
+        → n ≤ allowance_in Nothing c → HoldsReserve Nothing (after_taking c n) }
+    ensures copies { (c : BlockCounts) (n : ℕ) → HoldsReserve Copies c
+        → n ≤ allowance_in Copies c → HoldsReserve Copies (after_taking c n) }
+    ensures headroom { (c : BlockCounts) (n : ℕ) → HoldsReserve Headroom c
+        → n ≤ allowance_in Headroom c → HoldsReserve Headroom (after_taking c n) }
+{}
+
+/// Each Free block taken lowers the count of Free blocks by one. The other counts stay.
+pub fn taken_blocks_are_counted()
+    ensures { (fill : Kind) (old new : HeapState) (n : ℕ) → IsTrue (has_holes fill)
+        → TakesBlocks fill old new n
+        → (n ≤ free_of old) × (counts_of new ≡ after_taking (counts_of old) n) }
+{}
+
+/// The laws of each plan, for code that is generic over plans: no word of an object lies in a hole,
+/// and the reserve is still there after mutators took at most the allowance of Free blocks.
+pub fn plans_hold_reserves<P: Plan>()
+    ensures clear { (s : HeapState) (k from size next end a i : ℕ)
+        → IsWellFormed s → LineBitsAreExact s k
+        → IsHolePart P.rules.fill s k from size next end
+        → IsHeld s a → IsInExtent s a i → block_at s.blocks i ≡ k
+        → next ≤ offset_at s.blocks i → offset_at s.blocks i < end → ⊥ }
+    ensures reserve { (old new : HeapState) (n : ℕ)
+        → HoldsReserve P.rules.reserve (counts_of old)
+        → n ≤ allowance_of P.rules.reserve old → TakesBlocks P.rules.fill old new n
+        → HoldsReserve P.rules.reserve (counts_of new) }
+{}

@@ -1,0 +1,30 @@
+//! The interface of a plan, for a runtime that is generic over plans.
+#![tactic(auto)]
+
+mod bits;
+mod block_view;
+mod cells;
+mod counts;
+mod fit;
+mod flags;
+mod grants;
+mod holes;
+mod laws;
+mod plan;
+mod readers;
+
+pub use block_view::BlockView;
+pub use cells::class_for;
+pub use counts::{BlockCounts, Reserve};
+pub use fit::{fits_small, has_hole};
+pub use flags::PlanFlags;
+pub use grants::block_counts;
+pub use holes::first_hole;
+pub use laws::{
+    hole_parts, plans_hold_reserves, reserves_are_kept, taken_blocks_are_counted, views_show_blocks,
+};
+pub use plan::Plan;
+pub use readers::{block_word_in, view, view_in};
+
+#[cfg(test)]
+mod tests;

@@ -1,0 +1,117 @@
+//! Tokens, read at a given offset of a text. Offsets are in bytes.
+//!
+//! `None` does not mean a fault: the plain reader then decides about the line.
+
+ghost use Rattle.std.specs.Prelude.{◌≡◌, ◌+◌, ◌≤◌, [], ◌∷◌, ◌++◌, length, drop, IfSome};
+ghost use Rattle.std.specs.Fmt.{decimal};
+ghost use Rattle.trace_text.specs.Words.{Register, Global};
+ghost use Rattle.trace_text.specs.Parts.{HasPiece, argument_front};
+
+use crate::numerals::has_room;
+
+// The offset after the word, if the text begins with it.
+#[inline(always)]
+pub(crate) fn word(text: &[u8], word: &[u8]) -> Option<usize>
+    ensures text { IfSome result (λ at. text.now ≡ word.now ++ drop at text.now) }
+    ensures end { IfSome result (λ at. at ≡ length word.now) }
+{
+    if !text.starts_with(word) {
+        return None;
+    }
+    Some(word.len())
+}
+
+// The offset after the newline at `at`.
+#[inline(always)]
+pub(crate) fn line_end(text: &[u8], at: usize) -> Option<usize>
+    requires { at + 1 ≤ length text.now }
+    ensures text { IfSome result (λ end. HasPiece text.now at (10 ∷ []) end) }
+    ensures end { IfSome result (λ end. end ≡ at + 1) }
+{
+    if text[at] != b'\n' {
+        return None;
+    }
+    Some(at + 1)
+}
+
+// The number, of at most `most`, whose digits begin at `from`, and the offset after them. It reads
+// at most `count` digits.
+#[inline(always)]
+fn number(text: &[u8], from: usize, most: u64, count: usize) -> Option<(u64, usize)>
+    requires { from + count ≤ length text.now }
+    ensures text { IfSome result (λ x. HasPiece text.now from (decimal x.0) x.1) }
+    ensures bound { IfSome result (λ x. (x.0 ≤ most) × (x.1 ≤ from + count)) }
+{
+    let mut value: u64 = 0;
+    let mut k = 0;
+    while k < count && text[from + k].is_ascii_digit() {
+        let digit = u64::from(text[from + k] - b'0');
+        if !has_room(value, digit, most) {
+            return None;
+        }
+        value = value * 10 + digit;
+        k += 1;
+    }
+    if k == 0 {
+        return None;
+    }
+    if text[from] == b'0' && k > 1 {
+        return None;
+    }
+    Some((value, from + k))
+}
+
+// A space and a number of at most `most`: the number, and the offset after it.
+#[inline(always)]
+pub(crate) fn small(text: &[u8], at: usize, most: u32) -> Option<(u32, usize)>
+    requires { at + 6 ≤ length text.now }
+    ensures text { IfSome result (λ x. HasPiece text.now at (32 ∷ decimal x.0) x.1) }
+    ensures bound { IfSome result (λ x. (x.0 ≤ most) × (x.1 ≤ at + 6)) }
+{
+    if text[at] != b' ' {
+        return None;
+    }
+    let (n, end) = number(text, at + 1, u64::from(most), 5)?;
+    Some((n as u32, end))
+}
+
+// A space and a number of 64 bits: the number, and the offset after it.
+#[inline(always)]
+pub(crate) fn value(text: &[u8], at: usize) -> Option<(u64, usize)>
+    requires { at + 21 ≤ length text.now }
+    ensures text { IfSome result (λ x. HasPiece text.now at (32 ∷ decimal x.0) x.1) }
+    ensures bound { IfSome result (λ x. x.1 ≤ at + 21) }
+{
+    if text[at] != b' ' {
+        return None;
+    }
+    number(text, at + 1, u64::MAX, 20)
+}
+
+// A space and a register: its number, and the offset after it.
+#[inline(always)]
+pub(crate) fn register(text: &[u8], at: usize) -> Option<(u32, usize)>
+    requires { at + 4 ≤ length text.now }
+    ensures text { IfSome result (λ x. HasPiece text.now at (argument_front Register x.0) x.1) }
+    ensures bound { IfSome result (λ x. (x.0 ≤ 15) × (x.1 ≤ at + 4)) }
+{
+    if text[at] != b' ' || text[at + 1] != b'r' {
+        return None;
+    }
+    let (n, end) = number(text, at + 2, 15, 2)?;
+    Some((n as u32, end))
+}
+
+// A space and a global: its number, and the offset after it.
+#[inline(always)]
+pub(crate) fn global(text: &[u8], at: usize) -> Option<(u32, usize)>
+    requires { at + 4 ≤ length text.now }
+    ensures text { IfSome result (λ x. HasPiece text.now at (argument_front Global x.0) x.1) }
+    ensures bound { IfSome result (λ x. (x.0 ≤ 15) × (x.1 ≤ at + 4)) }
+{
+    if text[at] != b' ' || text[at + 1] != b'g' {
+        return None;
+    }
+    let (n, end) = number(text, at + 2, 15, 2)?;
+    Some((n as u32, end))
+}

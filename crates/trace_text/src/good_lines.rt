@@ -1,0 +1,174 @@
+//! The fast reader: a good line, read in one pass. Each function returns the command and the offset
+//! of the next line, in bytes.
+
+ghost use Rattle.std.specs.Prelude.{◌≤◌, length, IfSome};
+ghost use Rattle.trace_text.specs.Parts.{IsInFront};
+
+use crate::fronts::{global, line_end, register, small, value, word};
+use ideal_heap::Command;
+
+// No good line has more bytes.
+const ROOM: usize = 64;
+
+#[inline(always)]
+fn new(text: &[u8]) -> Option<(Command, usize)>
+    requires { 64 ≤ length text.now }
+    ensures { IfSome result (λ x. IsInFront x.0 text.now x.1) }
+{
+    let (d, at) = register(text, word(text, b"new")?)?;
+    let (refs, at) = small(text, at, 1024)?;
+    let (nums, at) = small(text, at, 60_000)?;
+    Some((Command::New { d, refs, nums }, line_end(text, at)?))
+}
+
+#[inline(always)]
+fn get(text: &[u8]) -> Option<(Command, usize)>
+    requires { 64 ≤ length text.now }
+    ensures { IfSome result (λ x. IsInFront x.0 text.now x.1) }
+{
+    let (d, at) = register(text, word(text, b"get")?)?;
+    let (s, at) = register(text, at)?;
+    let (i, at) = small(text, at, 1023)?;
+    Some((Command::Get { d, s, i }, line_end(text, at)?))
+}
+
+#[inline(always)]
+fn put(text: &[u8]) -> Option<(Command, usize)>
+    requires { 64 ≤ length text.now }
+    ensures { IfSome result (λ x. IsInFront x.0 text.now x.1) }
+{
+    let (s, at) = register(text, word(text, b"put")?)?;
+    let (i, at) = small(text, at, 1023)?;
+    let (v, at) = register(text, at)?;
+    Some((Command::Put { s, i, v }, line_end(text, at)?))
+}
+
+#[inline(always)]
+fn read(text: &[u8]) -> Option<(Command, usize)>
+    requires { 64 ≤ length text.now }
+    ensures { IfSome result (λ x. IsInFront x.0 text.now x.1) }
+{
+    let (s, at) = register(text, word(text, b"read")?)?;
+    let (j, at) = small(text, at, 59_999)?;
+    Some((Command::Read { s, j }, line_end(text, at)?))
+}
+
+#[inline(always)]
+fn write(text: &[u8]) -> Option<(Command, usize)>
+    requires { 64 ≤ length text.now }
+    ensures { IfSome result (λ x. IsInFront x.0 text.now x.1) }
+{
+    let (s, at) = register(text, word(text, b"write")?)?;
+    let (j, at) = small(text, at, 59_999)?;
+    let (n, at) = value(text, at)?;
+    Some((Command::Write { s, j, n }, line_end(text, at)?))
+}
+
+#[inline(always)]
+fn add(text: &[u8]) -> Option<(Command, usize)>
+    requires { 64 ≤ length text.now }
+    ensures { IfSome result (λ x. IsInFront x.0 text.now x.1) }
+{
+    let (s, at) = register(text, word(text, b"add")?)?;
+    let (j, at) = small(text, at, 59_999)?;
+    let (n, at) = value(text, at)?;
+    Some((Command::Add { s, j, n }, line_end(text, at)?))
+}
+
+#[inline(always)]
+fn swap(text: &[u8]) -> Option<(Command, usize)>
+    requires { 64 ≤ length text.now }
+    ensures { IfSome result (λ x. IsInFront x.0 text.now x.1) }
+{
+    let (s, at) = register(text, word(text, b"swap")?)?;
+    let (j, at) = small(text, at, 59_999)?;
+    let (was, at) = value(text, at)?;
+    let (next, at) = value(text, at)?;
+    Some((Command::Swap { s, j, was, next }, line_end(text, at)?))
+}
+
+#[inline(always)]
+fn copy(text: &[u8]) -> Option<(Command, usize)>
+    requires { 64 ≤ length text.now }
+    ensures { IfSome result (λ x. IsInFront x.0 text.now x.1) }
+{
+    let (d, at) = register(text, word(text, b"move")?)?;
+    let (s, at) = register(text, at)?;
+    Some((Command::Move { d, s }, line_end(text, at)?))
+}
+
+#[inline(always)]
+fn drop_register(text: &[u8]) -> Option<(Command, usize)>
+    requires { 64 ≤ length text.now }
+    ensures { IfSome result (λ x. IsInFront x.0 text.now x.1) }
+{
+    let (s, at) = register(text, word(text, b"drop")?)?;
+    Some((Command::DropReg { s }, line_end(text, at)?))
+}
+
+#[inline(always)]
+fn load(text: &[u8]) -> Option<(Command, usize)>
+    requires { 64 ≤ length text.now }
+    ensures { IfSome result (λ x. IsInFront x.0 text.now x.1) }
+{
+    let (d, at) = register(text, word(text, b"load")?)?;
+    let (g, at) = global(text, at)?;
+    Some((Command::Load { d, g }, line_end(text, at)?))
+}
+
+#[inline(always)]
+fn share(text: &[u8]) -> Option<(Command, usize)>
+    requires { 64 ≤ length text.now }
+    ensures { IfSome result (λ x. IsInFront x.0 text.now x.1) }
+{
+    let (g, at) = global(text, word(text, b"share")?)?;
+    let (s, at) = register(text, at)?;
+    Some((Command::Share { g, s }, line_end(text, at)?))
+}
+
+#[inline(always)]
+fn pin(text: &[u8]) -> Option<(Command, usize)>
+    requires { 64 ≤ length text.now }
+    ensures { IfSome result (λ x. IsInFront x.0 text.now x.1) }
+{
+    let (s, at) = register(text, word(text, b"pin")?)?;
+    Some((Command::Pin { s }, line_end(text, at)?))
+}
+
+#[inline(always)]
+fn unpin(text: &[u8]) -> Option<(Command, usize)>
+    requires { 64 ≤ length text.now }
+    ensures { IfSome result (λ x. IsInFront x.0 text.now x.1) }
+{
+    let (s, at) = register(text, word(text, b"unpin")?)?;
+    Some((Command::Unpin { s }, line_end(text, at)?))
+}
+
+// The command of the first line, and the offset of the next one. `None` if the line is bad or the
+// text has fewer than `ROOM` bytes.
+pub(crate) fn first_command(text: &[u8]) -> Option<(Command, usize)>
+    ensures { IfSome result (λ x. IsInFront x.0 text.now x.1) }
+{
+    if text.len() < ROOM {
+        return None;
+    }
+    let second = text[1];
+    match text[0] {
+        b'n' => new(text),
+        b'g' if second == b'e' => get(text),
+        b'g' => Some((Command::Gc, word(text, b"gc\n")?)),
+        b'p' if second == b'u' => put(text),
+        b'p' => pin(text),
+        b'r' => read(text),
+        b'w' => write(text),
+        b'a' => add(text),
+        b's' if second == b'w' => swap(text),
+        b's' => share(text),
+        b'm' if second == b'o' => copy(text),
+        b'm' => Some((Command::Meet, word(text, b"meet\n")?)),
+        b'd' => drop_register(text),
+        b'l' => load(text),
+        b'u' => unpin(text),
+        _ => None,
+    }
+}
