@@ -10,7 +10,7 @@ use Rattle.clap.specs.Simple.{filled, matches_of}
 use Rattle.clap.specs.declared.parser.matches.ValueSource.TheVariants.{DefaultValue}
 use Rattle.clap.specs.declared.parser.matches.ArgMatches.{ArgMatches}
 use Rattle.clap.proofs.WalkLemmas.{first_value-rows, one_text-rows}
-use Rattle.command_line.specs.Words.{GivenOption, Line, are_single, cut, takes_value, value_of}
+use Rattle.command_line.specs.Words.{GivenOption, Line, are_single, split_line, takes_value, value_of}
 use Rattle.command_line.specs.Reader.{reader, map_rule}
 use Rattle.command_line.proofs.Options.{absent, are_options, first_for, has_row_for, map_read, no_map_read, row_for, valued_cases}
 use Rattle.command_line.proofs.Walks.{file_rows, read_from, reads, resting, rules}
@@ -93,7 +93,7 @@ pub record Finds (m : ArgMatches) (ss : List GivenOption) : Type 0 where
   pub make : first_value (found_of m) (codes "make") ≡ value_of (codes "--make") ss
   pub flag : one_text (found_of m) (codes "map") ≡ Some (truth (is_some (value_of (codes "--map") ss)))
 
-pub finds : (m : ArgMatches) (words : List Text) (l : Line) → rows_of (found_of m) ≡ matches_of reader words → cut words ≡ Some l → are_single l.settings ≡ true → Finds m l.settings
+pub finds : (m : ArgMatches) (words : List Text) (l : Line) → rows_of (found_of m) ≡ matches_of reader words → split_line words ≡ Some l → are_single l.settings ≡ true → Finds m l.settings
 finds m words l rows e single =
     let read = reads words [] [] None l refl refl single refl e in
     let is : rows_of (found_of m) ≡ flagged (map row_for l.settings ++ file_rows l.files) = rows ∙ defaulted (read_from (resting [] None) words) ∙ ap flagged read.rows in

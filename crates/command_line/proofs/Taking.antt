@@ -7,11 +7,11 @@ use Rattle.clap.specs.Walk.{Row, Text, Walk, has_row, settled_rows, walked}
 use Rattle.clap.specs.Simple.{Shape, built}
 use Rattle.clap.specs.Takes.{settle_passes, takes, turn_passes, walk_passes}
 use Rattle.clap.proofs.OnLiterals.{clap_on_literals}
-use Rattle.command_line.specs.Words.{GivenOption, Line, are_single, cut, has_dash, in_one_word, in_two_words, is_file, line_of, only_files, setting_or, takes_value, with_setting}
+use Rattle.command_line.specs.Words.{GivenOption, Line, are_single, split_line, has_dash, in_one_word, in_two_words, is_file, line_of, only_files, setting_or, takes_value, with_setting}
 use Rattle.command_line.specs.Reader.{reader}
 use Rattle.command_line.proofs.Options.{are_options, row_for, used_by, valued_cases}
 use Rattle.command_line.proofs.Settings.{line_parts}
-use Rattle.command_line.proofs.Walks.{Pending, behind, both, not_false, filing, first_file, grown, is_filing, is_new, next_file, no_file_option, one_word, one_word_is, options_more, resting, rows_at, rules, step, two_words, two_words_are}
+use Rattle.command_line.proofs.Walks.{Pending, line_after, both, not_false, filing, first_file, grown, is_filing, is_new, next_file, no_file_option, one_word, one_word_is, options_more, resting, rows_at, rules, step, two_words, two_words_are}
 
 abbrev top : Shape
 top = (built reader).top
@@ -125,7 +125,7 @@ only_files_taken rows pending (word ∷ words) not_filing settled e few =
 
 abbrev Takes : List Text → Type 0
 Takes words = (ss : List GivenOption) (rows : List Row) (pending : Pending) (l : Line) → is_filing pending ≡ false → are_options ss ≡ true → are_single (ss ++ l.settings) ≡ true
-    → rows_at (resting rows pending) ≡ map row_for ss → settles (resting rows pending) ≡ true → IsFew (length words) → cut words ≡ Some l → Taken (resting rows pending) words
+    → rows_at (resting rows pending) ≡ map row_for ss → settles (resting rows pending) ≡ true → IsFew (length words) → split_line words ≡ Some l → Taken (resting rows pending) words
 
 ended : (words : List Text) (rows : List Row) (pending : Pending) (l : Line) → is_filing pending ≡ false → settles (resting rows pending) ≡ true → IsFew (length words) → only_files words ≡ Some l → Taken (resting rows pending) words
 ended words rows pending l not_filing settled few e = go (list_all is_file words) refl e
@@ -141,10 +141,10 @@ one_word_turn word s rows pending e settled new =
     one_word_is word s e Q (λ none. flag_turn rows pending settled none) (λ name value takes none. joined_turn name value rows pending takes settled none) new
 
 with_one : (word : Text) (words : List Text) → Takes words → (s : GivenOption) → in_one_word word ≡ Some s → (ss : List GivenOption) (rows : List Row) (pending : Pending) (l : Line) → are_options ss ≡ true
-    → are_single (ss ++ l.settings) ≡ true → rows_at (resting rows pending) ≡ map row_for ss → settles (resting rows pending) ≡ true → IsFew (length (word ∷ words)) → option_map (with_setting s) (cut words) ≡ Some l
+    → are_single (ss ++ l.settings) ≡ true → rows_at (resting rows pending) ≡ map row_for ss → settles (resting rows pending) ≡ true → IsFew (length (word ∷ words)) → option_map (with_setting s) (split_line words) ≡ Some l
     → Taken (resting rows pending) (word ∷ words)
 with_one word words takes_rest s given ss rows pending l all single is settled few e =
-    let rest = behind (cut words) s l e in
+    let rest = line_after (split_line words) s l e in
     let m : Line = rest.0 in
     let alone : are_single (ss ++ s ∷ m.settings) ≡ true = ap (λ k. are_single (ss ++ k.settings)) rest.2 ∙ single in
     let met = one_word word s rows pending given in
@@ -156,10 +156,10 @@ with_one word words takes_rest s given ss rows pending l all single is settled f
     one_more (resting rows pending) word words (one_word_turn word s rows pending given settled new) (subst (λ w. Taken w words) (sym met.1) next)
 
 with_two : (name value : Text) (words : List Text) → Takes words → (s : GivenOption) → in_two_words name value ≡ Some s → (ss : List GivenOption) (rows : List Row) (pending : Pending) (l : Line) → are_options ss ≡ true
-    → are_single (ss ++ l.settings) ≡ true → rows_at (resting rows pending) ≡ map row_for ss → settles (resting rows pending) ≡ true → IsFew (length (name ∷ value ∷ words)) → option_map (with_setting s) (cut words) ≡ Some l
+    → are_single (ss ++ l.settings) ≡ true → rows_at (resting rows pending) ≡ map row_for ss → settles (resting rows pending) ≡ true → IsFew (length (name ∷ value ∷ words)) → option_map (with_setting s) (split_line words) ≡ Some l
     → Taken (resting rows pending) (name ∷ value ∷ words)
 with_two name value words takes_rest s given ss rows pending l all single is settled few e =
-    let rest = behind (cut words) s l e in
+    let rest = line_after (split_line words) s l e in
     let m : Line = rest.0 in
     let alone : are_single (ss ++ s ∷ m.settings) ≡ true = ap (λ k. are_single (ss ++ k.settings)) rest.2 ∙ single in
     let met = two_words name value s rows pending given in
@@ -179,22 +179,22 @@ all_taken : (words : List Text) → Takes words
 all_taken [] ss rows pending l not_filing all single is settled few e = ended [] rows pending l not_filing settled few e
 all_taken (word ∷ []) ss rows pending l not_filing all single is settled few e = go (in_one_word word) refl e (all_taken [])
   where
-    go : (o : Option GivenOption) → in_one_word word ≡ o → setting_or o (cut []) (only_files (word ∷ [])) ≡ Some l → Takes [] → Taken (resting rows pending) (word ∷ [])
+    go : (o : Option GivenOption) → in_one_word word ≡ o → setting_or o (split_line []) (only_files (word ∷ [])) ≡ Some l → Takes [] → Taken (resting rows pending) (word ∷ [])
     go (Some s) given same none = with_one word [] none s given ss rows pending l all single is settled few same
     go None given same none = ended (word ∷ []) rows pending l not_filing settled few same
 all_taken (word ∷ next ∷ words) ss rows pending l not_filing all single is settled few e = go (in_one_word word) refl e (all_taken (next ∷ words)) (all_taken words)
   where
-    second : (o : Option GivenOption) → in_two_words word next ≡ o → setting_or o (cut words) (only_files (word ∷ next ∷ words)) ≡ Some l → Takes words → Taken (resting rows pending) (word ∷ next ∷ words)
+    second : (o : Option GivenOption) → in_two_words word next ≡ o → setting_or o (split_line words) (only_files (word ∷ next ∷ words)) ≡ Some l → Takes words → Taken (resting rows pending) (word ∷ next ∷ words)
     second (Some s) given same rest = with_two word next words rest s given ss rows pending l all single is settled few same
     second None given same rest = ended (word ∷ next ∷ words) rows pending l not_filing settled few same
 
-    go : (o : Option GivenOption) → in_one_word word ≡ o → setting_or o (cut (next ∷ words)) (setting_or (in_two_words word next) (cut words) (only_files (word ∷ next ∷ words))) ≡ Some l
+    go : (o : Option GivenOption) → in_one_word word ≡ o → setting_or o (split_line (next ∷ words)) (setting_or (in_two_words word next) (split_line words) (only_files (word ∷ next ∷ words))) ≡ Some l
         → Takes (next ∷ words) → Takes words → Taken (resting rows pending) (word ∷ next ∷ words)
     go (Some s) given same others rest = with_one word (next ∷ words) others s given ss rows pending l all single is settled few same
     go None given same others rest = second (in_two_words word next) refl same rest
 
-cut_taken : (words : List Text) (l : Line) → cut words ≡ Some l → are_single l.settings ≡ true → IsFew (length words) → takes reader words ≡ true
-cut_taken words l e single few =
+split_taken : (words : List Text) (l : Line) → split_line words ≡ Some l → are_single l.settings ≡ true → IsFew (length words) → takes reader words ≡ true
+split_taken words l e single few =
     let all = all_taken words [] [] None l refl refl single refl refl few e in
     let stopped : (fold (walked rules []) (resting [] None) words).stopped ≡ None = all.stopped in
     let passes : walk_passes top [] (resting [] None) words ≡ true = all.passes in
@@ -209,4 +209,4 @@ taken words e few = go (line_of words) refl e
     go None is there = let bad : false ≡ true = there in cc
     go (Some l) is there =
         let parts = line_parts words l is in
-        cut_taken words l parts.0 parts.1 few
+        split_taken words l parts.0 parts.1 few

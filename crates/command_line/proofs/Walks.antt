@@ -11,7 +11,7 @@ use Rattle.clap.specs.Walk.{Rule, Row, Text, Walk, has_row, idle, more_values, p
 use Rattle.clap.specs.Simple.{built, is_simple, filled}
 use Rattle.clap.specs.declared.parser.matches.ValueSource.TheVariants.{CommandLine}
 use Rattle.clap.proofs.OnLiterals.{clap_on_literals}
-use Rattle.command_line.specs.Words.{GivenOption, Line, at_equals, are_single, cut, has_dash, if_takes_value, in_one_word, in_two_words, is_equals, is_file, only_files, setting_or, takes_value, value_of, with_setting}
+use Rattle.command_line.specs.Words.{GivenOption, Line, at_equals, are_single, split_line, has_dash, if_takes_value, in_one_word, in_two_words, is_equals, is_file, only_files, setting_or, takes_value, value_of, with_setting}
 use Rattle.command_line.specs.Reader.{reader, files_rule}
 use Rattle.command_line.proofs.Options.{absent, are_options, has_row_for, is_map, is_option, no_files_row, option_cases, row_for, same_bytes, used_by, used_new, valued_cases}
 
@@ -215,7 +215,7 @@ pub record Read (ss : List GivenOption) (from : Walk) (words : List Text) (l : L
 
 abbrev pub Reads : List Text → Type 0
 Reads words = (ss : List GivenOption) (rows : List Row) (pending : Pending) (l : Line) → is_filing pending ≡ false → are_options ss ≡ true
-    → are_single (ss ++ l.settings) ≡ true → rows_at (resting rows pending) ≡ map row_for ss → cut words ≡ Some l → Read ss (resting rows pending) words l
+    → are_single (ss ++ l.settings) ≡ true → rows_at (resting rows pending) ≡ map row_for ss → split_line words ≡ Some l → Read ss (resting rows pending) words l
 
 ended : (words : List Text) (ss : List GivenOption) (rows : List Row) (pending : Pending) (l : Line) → is_filing pending ≡ false → are_options ss ≡ true
     → rows_at (resting rows pending) ≡ map row_for ss → only_files words ≡ Some l → Read ss (resting rows pending) words l
@@ -233,7 +233,7 @@ ended words ss rows pending l not_filing all is e = go (list_all is_file words) 
     go false files same = cc
 
 onward : (words : List Text) → Reads words → (ss : List GivenOption) (old rows : List Row) (pending : Pending) (s : GivenOption) (m : Line) → is_filing pending ≡ false → is_option s.name ≡ true → are_options ss ≡ true
-    → are_single (ss ++ s ∷ m.settings) ≡ true → old ≡ map row_for ss → rows_at (resting rows pending) ≡ used_by s old → cut words ≡ Some m
+    → are_single (ss ++ s ∷ m.settings) ≡ true → old ≡ map row_for ss → rows_at (resting rows pending) ≡ used_by s old → split_line words ≡ Some m
     → Read ss (resting rows pending) words (with_setting s m)
 onward words reads ss old rows pending s m not_filing one all single is used e =
     let more : (ss ++ s ∷ []) ++ m.settings ≡ ss ++ s ∷ m.settings = append_assoc ss (s ∷ []) m.settings in
@@ -245,14 +245,14 @@ onward words reads ss old rows pending s m not_filing one all single is used e =
     }
 
 -- a command line with a setting comes from the one after the setting
-pub behind : (o : Option Line) (s : GivenOption) (l : Line) → option_map (with_setting s) o ≡ Some l → (m : Line) × (o ≡ Some m) × (with_setting s m ≡ l)
-behind None s l e = cc
-behind (Some m) s l e = (m, refl, cc)
+pub line_after : (o : Option Line) (s : GivenOption) (l : Line) → option_map (with_setting s) o ≡ Some l → (m : Line) × (o ≡ Some m) × (with_setting s m ≡ l)
+line_after None s l e = cc
+line_after (Some m) s l e = (m, refl, cc)
 
 with_one : (word : Text) (words : List Text) → Reads words → (s : GivenOption) → in_one_word word ≡ Some s → (ss : List GivenOption) (rows : List Row) (pending : Pending) (l : Line) → are_options ss ≡ true
-    → are_single (ss ++ l.settings) ≡ true → rows_at (resting rows pending) ≡ map row_for ss → option_map (with_setting s) (cut words) ≡ Some l → Read ss (resting rows pending) (word ∷ words) l
+    → are_single (ss ++ l.settings) ≡ true → rows_at (resting rows pending) ≡ map row_for ss → option_map (with_setting s) (split_line words) ≡ Some l → Read ss (resting rows pending) (word ∷ words) l
 with_one word words reads s given ss rows pending l all single is e =
-    let rest = behind (cut words) s l e in
+    let rest = line_after (split_line words) s l e in
     let m : Line = rest.0 in
     let line_is : with_setting s m ≡ l = rest.2 in
     let met = one_word word s rows pending given in
@@ -263,9 +263,9 @@ pub no_file_option : (name : List ℕ) → is_option name ≡ true → bytes_eq 
 no_file_option name e = option_cases (λ word. bytes_eq (drop 2 word) (codes "files") ≡ false) name e refl refl refl refl refl
 
 with_two : (name value : Text) (words : List Text) → Reads words → (s : GivenOption) → in_two_words name value ≡ Some s → (ss : List GivenOption) (rows : List Row) (pending : Pending) (l : Line) → are_options ss ≡ true
-    → are_single (ss ++ l.settings) ≡ true → rows_at (resting rows pending) ≡ map row_for ss → option_map (with_setting s) (cut words) ≡ Some l → Read ss (resting rows pending) (name ∷ value ∷ words) l
+    → are_single (ss ++ l.settings) ≡ true → rows_at (resting rows pending) ≡ map row_for ss → option_map (with_setting s) (split_line words) ≡ Some l → Read ss (resting rows pending) (name ∷ value ∷ words) l
 with_two name value words reads s given ss rows pending l all single is e =
-    let rest = behind (cut words) s l e in
+    let rest = line_after (split_line words) s l e in
     let m : Line = rest.0 in
     let line_is : with_setting s m ≡ l = rest.2 in
     let met = two_words name value s rows pending given in
@@ -277,16 +277,16 @@ pub reads : (words : List Text) → Reads words
 reads [] ss rows pending l not_filing all single is e = ended [] ss rows pending l not_filing all is e
 reads (word ∷ []) ss rows pending l not_filing all single is e = go (in_one_word word) refl e (reads [])
   where
-    go : (o : Option GivenOption) → in_one_word word ≡ o → setting_or o (cut []) (only_files (word ∷ [])) ≡ Some l → Reads [] → Read ss (resting rows pending) (word ∷ []) l
+    go : (o : Option GivenOption) → in_one_word word ≡ o → setting_or o (split_line []) (only_files (word ∷ [])) ≡ Some l → Reads [] → Read ss (resting rows pending) (word ∷ []) l
     go (Some s) given same none = with_one word [] none s given ss rows pending l all single is same
     go None given same none = ended (word ∷ []) ss rows pending l not_filing all is same
 reads (word ∷ next ∷ words) ss rows pending l not_filing all single is e = go (in_one_word word) refl e (reads (next ∷ words)) (reads words)
   where
-    second : (o : Option GivenOption) → in_two_words word next ≡ o → setting_or o (cut words) (only_files (word ∷ next ∷ words)) ≡ Some l → Reads words → Read ss (resting rows pending) (word ∷ next ∷ words) l
+    second : (o : Option GivenOption) → in_two_words word next ≡ o → setting_or o (split_line words) (only_files (word ∷ next ∷ words)) ≡ Some l → Reads words → Read ss (resting rows pending) (word ∷ next ∷ words) l
     second (Some s) given same rest = with_two word next words rest s given ss rows pending l all single is same
     second None given same rest = ended (word ∷ next ∷ words) ss rows pending l not_filing all is same
 
-    go : (o : Option GivenOption) → in_one_word word ≡ o → setting_or o (cut (next ∷ words)) (setting_or (in_two_words word next) (cut words) (only_files (word ∷ next ∷ words))) ≡ Some l
+    go : (o : Option GivenOption) → in_one_word word ≡ o → setting_or o (split_line (next ∷ words)) (setting_or (in_two_words word next) (split_line words) (only_files (word ∷ next ∷ words))) ≡ Some l
         → Reads (next ∷ words) → Reads words → Read ss (resting rows pending) (word ∷ next ∷ words) l
     go (Some s) given same others rest = with_one word (next ∷ words) others s given ss rows pending l all single is same
     go None given same others rest = second (in_two_words word next) refl same rest

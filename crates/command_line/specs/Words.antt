@@ -3,6 +3,8 @@ use Rattle.std.specs.Prelude.{ℕ, Bool, true, false, ◌&&◌, ◌||◌, not, L
 use Rattle.std.specs.List.{list_all, position_or_len, before_first, after_first}
 use Rattle.std.specs.Str.{bytes_eq}
 use Rattle.trace_text.specs.Grammar.{numeral}
+use Rattle.trace_text.specs.declared.limits.TheConstants.{MAX_COMMANDS}
+use Rattle.command_line.specs.declared.order.TheConstants.{MAX_FILES, MAX_WORKERS}
 use Rattle.sessions.specs.Plans.{Plan, plan_word, NoGc, MarkSweep, SemiSpace, GenCopy, Immix, StickyImmix}
 use Rattle.heap_layout.specs.declared.layout.TheConstants.{MAX_BLOCKS, MIN_BLOCKS}
 
@@ -82,11 +84,11 @@ setting_or None rest without = without
 setting_or (Some s) rest without = option_map (with_setting s) rest
 
 -- the words, split into settings and then files; None if a word is neither
-abbrev pub cut : List (List ℕ) → Option Line
-cut [] = only_files []
-cut (word ∷ []) = setting_or (in_one_word word) (cut []) (only_files (word ∷ []))
-cut (word ∷ next ∷ words) = setting_or (in_one_word word) (cut (next ∷ words))
-    (setting_or (in_two_words word next) (cut words) (only_files (word ∷ next ∷ words)))
+abbrev pub split_line : List (List ℕ) → Option Line
+split_line [] = only_files []
+split_line (word ∷ []) = setting_or (in_one_word word) (split_line []) (only_files (word ∷ []))
+split_line (word ∷ next ∷ words) = setting_or (in_one_word word) (split_line (next ∷ words))
+    (setting_or (in_two_words word next) (split_line words) (only_files (word ∷ next ∷ words)))
 
 -- the value of the first setting with this name
 abbrev pub value_of : List ℕ → List GivenOption → Option (List ℕ)
@@ -120,13 +122,14 @@ number_in least most word = option_and_then (if_within least most) (numeral word
 -- the number of workers: 1 if the option is not given
 abbrev pub workers_of : Option (List ℕ) → Option ℕ
 workers_of None = Some 1
-workers_of (Some word) = number_in 1 16 word
+workers_of (Some word) = number_in 1 MAX_WORKERS word
 
--- 1 to 16 files; or, with `--make`, a made trace, with neither a map nor a file
+-- 1 to MAX_FILES files; or, with `--make`, a made trace, with neither a map nor a file
 abbrev pub work_of : Option (List ℕ) → Bool → List (List ℕ) → Option Work
-work_of None has_map files = if nat_le 1 (length files) && nat_le (length files) 16 then Some (Files files) else None
+work_of None has_map files =
+    if nat_le 1 (length files) && nat_le (length files) MAX_FILES then Some (Files files) else None
 work_of (Some word) has_map files = if has_map
-    || nat_lt 0 (length files) then None else option_map Made (number_in 1 1000000 word)
+    || nat_lt 0 (length files) then None else option_map Made (number_in 1 MAX_COMMANDS word)
 
 -- the value of each option, and whether `--map` is given
 pub record Values : Type 0 where
@@ -168,7 +171,7 @@ if_single line = if are_single line.settings then Some line else None
 
 -- the words, split into settings, of options that are given once, and files
 abbrev pub line_of : List (List ℕ) → Option Line
-line_of words = option_and_then if_single (cut words)
+line_of words = option_and_then if_single (split_line words)
 
 -- the job that the words ask for; None if they do not match the usage
 unfoldable pub form_of : List (List ℕ) → Option Job
@@ -189,9 +192,9 @@ abbrev pub is_supported : Job → Bool
 is_supported job = is_nogc job.plan && nat_eq job.workers 1 && not job.map && is_one_file job.work
 
 -- the job, if it is implemented
-abbrev pub if_served : Job → Option Job
-if_served job = if is_supported job then Some job else None
+abbrev pub if_supported : Job → Option Job
+if_supported job = if is_supported job then Some job else None
 
 -- the job that the words ask for, if it is implemented
 unfoldable pub job_of : List (List ℕ) → Option Job
-job_of words = option_and_then if_served (form_of words)
+job_of words = option_and_then if_supported (form_of words)

@@ -3,7 +3,7 @@
 ghost use Rattle.std.specs.Prelude.{◌≡◌, ℕ, List, ◌∷◌, [], codes, true, false, Some, None};
 ghost use Rattle.sessions.specs.Plans.{NoGc, Immix, GenCopy, StickyImmix};
 ghost use Rattle.command_line.specs.Spelling.{SpellsLine};
-ghost use Rattle.command_line.specs.Words.{Line, GivenOption, cut, form_of, job_of, Files, Made};
+ghost use Rattle.command_line.specs.Words.{Line, GivenOption, split_line, form_of, job_of, Files, Made};
 
 /// Examples: the jobs that command lines name.
 pub fn worked_command_lines()
@@ -58,9 +58,9 @@ pub fn worked_command_lines()
         ∷ codes "--heap" ∷ codes "4" ∷ []) ≡ None }
     ensures empty_word { form_of (codes "--plan=immix" ∷ codes "--heap=4" ∷ [] ∷ [])
         ≡ None }
-    ensures unserved { job_of (codes "--heap=4" ∷ codes "--plan=immix" ∷ codes "a" ∷ [])
+    ensures unsupported { job_of (codes "--heap=4" ∷ codes "--plan=immix" ∷ codes "a" ∷ [])
         ≡ None }
-    ensures served { job_of (codes "--heap=4" ∷ codes "--plan=nogc" ∷ codes "--workers"
+    ensures supported { job_of (codes "--heap=4" ∷ codes "--plan=nogc" ∷ codes "--workers"
         ∷ codes "1" ∷ codes "a" ∷ [])
         ≡ Some (record {
           plan = NoGc;
@@ -73,9 +73,9 @@ pub fn worked_command_lines()
 
 /// Words are split into settings and files if and only if they spell them.
 pub fn spelled_command_lines()
-    ensures spelled { (words : List (List ℕ)) (l : Line) → cut words ≡ Some l
+    ensures spelled { (words : List (List ℕ)) (l : Line) → split_line words ≡ Some l
         → SpellsLine l.settings l.files words }
     ensures read { (settings : List GivenOption) (files words : List (List ℕ))
         → SpellsLine settings files words
-        → cut words ≡ Some (record { settings = settings; files = files }) }
+        → split_line words ≡ Some (record { settings = settings; files = files }) }
 {}

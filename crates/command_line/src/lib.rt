@@ -16,5 +16,5 @@ mod values;
 mod words;
 
 pub use laws::{spelled_command_lines, worked_command_lines};
-pub use order::{Order, PlanName, Target};
+pub use order::{MAX_FILES, MAX_WORKERS, Order, PlanName, Target};
 pub use words::read_words;

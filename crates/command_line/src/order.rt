@@ -17,12 +17,18 @@ pub enum PlanName {
     StickyImmix,
 }
 
+/// The most files of a command line: one for each mutator.
+pub const MAX_FILES: usize = 16;
+
+/// The most GC workers.
+pub const MAX_WORKERS: u32 = 16;
+
 /// What to run: traces from files, one for each mutator, or one made trace.
 #[derive(Drop)]
 pub enum Target<'a> {
-    /// The names of the files, 1 to 16.
+    /// The names of the files, 1 to `MAX_FILES`.
     Files(&'a [String]),
-    /// The number of commands of the made trace, 1 to 1,000,000.
+    /// The number of commands of the made trace, 1 to `MAX_COMMANDS`.
     Made(u32),
 }
 
@@ -31,9 +37,9 @@ pub enum Target<'a> {
 pub struct Order<'a> {
     /// The plan that manages the heap.
     pub plan: PlanName,
-    /// The size of the heap in blocks, 4 to 1024.
+    /// The size of the heap in blocks, `MIN_BLOCKS` to `MAX_BLOCKS`.
     pub blocks: u32,
-    /// The number of GC workers, 1 to 16.
+    /// The number of GC workers, 1 to `MAX_WORKERS`.
     pub workers: u32,
     /// Whether to print the map of the heap.
     pub map: bool,

@@ -2,7 +2,7 @@
 
 ghost use Rattle.std.specs.Prelude.{◌≡◌, ◌<◌, ◌∷◌, [], map, length, nat_eq, IfOk, IsTrue, MatchOption, None, Some, option_map, is_some, string_bytes};
 ghost use Rattle.std.specs.List.{list_all};
-ghost use Rattle.command_line.specs.Words.{are_single, at_equals as cut_at_equals, cut, has_dash as begins_with_dash, in_one_word as read_one_word, in_two_words as read_two_words, is_file as names_file, only_files, takes_value as has_value, value_of as find_value, with_setting};
+ghost use Rattle.command_line.specs.Words.{are_single, at_equals as split_at_equals, split_line, has_dash as begins_with_dash, in_one_word as read_one_word, in_two_words as read_two_words, is_file as names_file, only_files, takes_value as has_value, value_of as find_value, with_setting};
 ghost use Rattle.command_line.specs.Orders.{line_in, setting_in, texts};
 
 use std::alloc::{AllocError, Global};
@@ -56,7 +56,7 @@ fn takes_value(name: &str) -> bool
 
 // The word, split at its first `=`.
 fn at_equals<'a>(word: &'a str) -> Option<Pair<'a>>
-    ensures { option_map setting_in result ≡ cut_at_equals word.now }
+    ensures { option_map setting_in result ≡ split_at_equals word.now }
 {
     match word.split_once('=') {
         Some((name, value)) => Some(Pair { name, value }),
@@ -93,9 +93,9 @@ fn in_two_words<'a>(name: &'a str, value: &'a str) -> Option<Pair<'a>>
 
 // The first setting, and the words after it. `None` if the words do not begin with a setting.
 fn first_setting<'a>(words: &'a [String]) -> Option<(Pair<'a>, &'a [String])>
-    ensures { MatchOption result (cut (texts words.now) ≡ only_files (texts words.now))
-        (λ x. (cut (texts words.now) ≡ option_map (with_setting (setting_in x.0)) (cut
-        (texts x.1.now))) × (length x.1.now < length words.now)) }
+    ensures { MatchOption result (split_line (texts words.now) ≡ only_files (texts words.now))
+        (λ x. (split_line (texts words.now) ≡ option_map (with_setting (setting_in x.0))
+        (split_line (texts x.1.now))) × (length x.1.now < length words.now)) }
 {
     let (word, rest) = words.split_first()?;
     if let Some(pair) = in_one_word(word.as_str()) {
@@ -110,11 +110,11 @@ fn first_setting<'a>(words: &'a [String]) -> Option<(Pair<'a>, &'a [String])>
 //
 // Errors: out of memory.
 #[tactic(auto, using(crate::proofs::Settings::with_more))]
-pub(crate) fn cut_words<'a>(
+pub(crate) fn split_words<'a>(
     alloc: Global,
     words: &'a [String],
 ) -> Result<Option<Parts<'a>>, AllocError>
-    ensures { IfOk result (λ r. option_map line_in r ≡ cut (texts words.now)) }
+    ensures { IfOk result (λ r. option_map line_in r ≡ split_line (texts words.now)) }
 {
     let mut settings = Vec::new(alloc);
     let mut rest = words;

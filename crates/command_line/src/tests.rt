@@ -27,7 +27,7 @@ fn is_supported(alloc: Global, line: &str) -> Result<bool, AllocError> {
 #[test]
 fn reads_command_lines(rt: HostRuntime) -> Result<(), Fail> {
     let alloc = rt.alloc();
-    let served = [
+    let supported = [
         ("--plan nogc --heap 4 a", 4),
         ("--heap=4 --plan=nogc a", 4),
         ("--heap 4 --plan=nogc a", 4),
@@ -35,7 +35,7 @@ fn reads_command_lines(rt: HostRuntime) -> Result<(), Fail> {
         ("--workers 1 --plan nogc --heap 64 a", 64),
         ("--plan nogc --workers=1 --heap 10 a", 10),
     ];
-    for (line, blocks) in served {
+    for (line, blocks) in supported {
         let words = words_in(alloc, line)?;
         let Some(order) = read_words(alloc, words.as_slice())? else {
             return Err(Fail::new(line));
@@ -52,9 +52,9 @@ fn reads_command_lines(rt: HostRuntime) -> Result<(), Fail> {
 }
 
 #[test]
-fn serves_one_mutator_under_nogc(rt: HostRuntime) -> Result<(), Fail> {
+fn supports_one_mutator_under_nogc(rt: HostRuntime) -> Result<(), Fail> {
     let alloc = rt.alloc();
-    let unserved = [
+    let unsupported = [
         "--plan marksweep --heap 4 a",
         "--plan semispace --heap 4 a",
         "--plan gencopy --heap 4 a",
@@ -72,7 +72,7 @@ fn serves_one_mutator_under_nogc(rt: HostRuntime) -> Result<(), Fail> {
         "--plan nogc --make 1000000 --workers 3 --heap 4",
         "--plan nogc --heap 4 a b c d e f g h i j k l m n o p",
     ];
-    for line in unserved {
+    for line in unsupported {
         let has_form = has_form(alloc, line)?;
         let is_supported = is_supported(alloc, line)?;
         assert!(rt; has_form && !is_supported, "{line}");

@@ -4,8 +4,8 @@ ghost use Rattle.std.specs.Prelude.{◌≡◌, ◌≤◌, ◌<◌, ◌^◌, map,
 ghost use Rattle.command_line.specs.Words.{number_in, plan_of, work_of as work_with, workers_of as workers_with};
 ghost use Rattle.command_line.specs.Orders.{plan_in, texts, work_in};
 
-use crate::order::{PlanName, Target};
-use trace_text::read_numeral;
+use crate::order::{MAX_FILES, MAX_WORKERS, PlanName, Target};
+use trace_text::{MAX_COMMANDS, read_numeral};
 
 // The number of a numeral. `None` if the word is no numeral or its number is out of bounds.
 pub(crate) fn number_within(word: &str, least: u32, most: u32) -> Option<u32>
@@ -46,17 +46,17 @@ pub(crate) fn workers_of(word: Option<&str>) -> Option<u32>
 {
     match word {
         None => Some(1),
-        Some(word) => number_within(word, 1, 16),
+        Some(word) => number_within(word, 1, MAX_WORKERS),
     }
 }
 
-// What to run: 1 to 16 files, or a made trace with neither a map nor files.
+// What to run: 1 to `MAX_FILES` files, or a made trace with neither a map nor files.
 pub(crate) fn work_of<'a>(made: Option<&str>, map: bool, files: &'a [String]) -> Option<Target<'a>>
     ensures { option_map work_in result ≡ work_with (option_map
         (λ w. w.now) made.entry) map (texts files.now) }
 {
     let Some(word) = made else {
-        if files.is_empty() || files.len() > 16 {
+        if files.is_empty() || files.len() > MAX_FILES {
             return None;
         }
         return Some(Target::Files(files));
@@ -64,8 +64,8 @@ pub(crate) fn work_of<'a>(made: Option<&str>, map: bool, files: &'a [String]) ->
     if map || !files.is_empty() {
         return None;
     }
-    match number_within(word, 1, 1_000_000) {
-        Some(n) => Some(Target::Made(n)),
+    match number_within(word, 1, MAX_COMMANDS) {
+        Some(count) => Some(Target::Made(count)),
         None => None,
     }
 }

@@ -6,7 +6,7 @@ ghost use Rattle.command_line.specs.Orders.{job_of_order, texts, values_seen};
 
 use crate::clap_values::{Found, read_values};
 use crate::order::{Order, PlanName, Target};
-use crate::splitter::{are_all_single, cut_words};
+use crate::splitter::{are_all_single, split_words};
 use crate::values::{number_within, plan_named, work_of, workers_of};
 use heap_layout::{MAX_BLOCKS, MIN_BLOCKS};
 use std::alloc::{AllocError, Global};
@@ -38,7 +38,7 @@ pub(crate) fn read_form<'a>(
 ) -> Result<Option<Order<'a>>, AllocError>
     ensures { IfOk result (λ r. option_map job_of_order r ≡ form_of (texts words.now)) }
 {
-    let Some(parts) = cut_words(alloc, words)? else {
+    let Some(parts) = split_words(alloc, words)? else {
         return Ok(None);
     };
     if !are_all_single(parts.settings.as_slice()) {

@@ -1,9 +1,9 @@
 -- Laws of the codes of block words.
-use Rattle.std.proofs.Common.{ℕ, ◌≤◌, ◌+◌, ◌*◌, ◌/◌, ◌%◌, ◌≡◌, refl, ap, ◌∙◌, arith, true, false, IsTrue, Option, None, Some}
+use Rattle.std.proofs.Common.{ℕ, ◌≤◌, ◌+◌, ◌*◌, ◌/◌, ◌%◌, ◌≡◌, refl, ap, ◌∙◌, arith, IsTrue, Some}
 use Rattle.heap_layout.specs.declared.block.Kind.{Kind}
 use Rattle.heap_layout.specs.declared.block.Kind.TheVariants.{Free, Bump, Young, Mature, Immix, Cells, LargeHead, LargeTail, Kept}
 use Rattle.heap_layout.specs.declared.block.BlockWord.{BlockWord}
-use Rattle.heap_layout.specs.Blocks.{kind_code, kind_of_code, code_of, is_valid_for, is_valid_for_some, IsValid, is_block_code}
+use Rattle.heap_layout.specs.Blocks.{kind_code, kind_of_code, code_of, is_valid_for, IsValid, is_block_code}
 
 -- a kind's number decodes to it
 pub kind_of_code-kind_code : (k : Kind) → kind_of_code (kind_code k) ≡ Some k

@@ -1,5 +1,5 @@
 -- Laws of the bits of zones.
-use Rattle.std.proofs.Common.{ℕ, ◌<◌, ◌-◌, ◌*◌, ◌/◌, ◌%◌, ◌≡◌, List, sym, ◌∙◌, arith, IsTrue}
+use Rattle.std.proofs.Common.{ℕ, ◌-◌, ◌≡◌, List, sym, ◌∙◌, arith, IsTrue}
 use Rattle.heap_layout.specs.Zones.{Zone, heap_of, IsAddress, bit_of, address_bit}
 
 -- an index whose bit is set is an address

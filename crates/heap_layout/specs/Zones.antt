@@ -1,7 +1,7 @@
 -- The zones of a heap's row of words. b is the number of blocks. Indexes and sizes are in words.
 use Rattle.std.specs.Prelude.{ℕ, ◌+◌, ◌*◌, ◌-◌, ◌/◌, ◌%◌, ◌<◌, ◌≤◌, List, slice_index, nat_eq, nat_le, nat_lt, ◌&&◌, Bool}
 use Rattle.std.specs.Int.{bit_at}
-use Rattle.heap_layout.specs.declared.layout.TheConstants.{BLOCK_WORDS}
+use Rattle.heap_layout.specs.declared.layout.TheConstants.{BLOCK_WORDS, LINE_WORDS, GLOBALS}
 
 -- the parts of the row, in order
 pub data Zone : Type 0 where
@@ -31,7 +31,7 @@ first b HeapWords = 18 + 197 * b
 abbrev pub extent : ℕ → Zone → ℕ
 extent b StopWord = 1
 extent b BudgetWord = 1
-extent b Globals = 16
+extent b Globals = GLOBALS
 extent b BlockWords = b
 extent b LineWords = 4 * b
 extent b StartBits = 64 * b
@@ -65,7 +65,7 @@ abbrev pub offset_at : ℕ → ℕ → ℕ
 offset_at b a = (a - heap_of b) % BLOCK_WORDS
 
 abbrev pub line_at : ℕ → ℕ → ℕ
-line_at b a = (a - heap_of b) / 16
+line_at b a = (a - heap_of b) / LINE_WORDS
 
 -- the first address of block k
 abbrev pub block_start : ℕ → ℕ → ℕ

@@ -3,31 +3,30 @@
 ghost use Rattle.std.specs.Prelude.{◌≡◌, ◌*◌, ◌/◌, ◌<◌};
 ghost use Rattle.heap_layout.specs.Zones.{IsAddress, block_at as block_holding, line_at as line_holding};
 
-use crate::layout::{BLOCK_WORDS, Layout};
+use crate::layout::{BLOCK_LINES, BLOCK_WORDS, CHUNK_BLOCKS, LINE_WORDS, Layout};
 
-/// The number of the block that contains address `a`, from 0 on.
-pub fn block_of(l: &Layout, a: u32) -> u32
-    requires { IsAddress l.now.blocks a }
-    ensures block { result ≡ block_holding l.now.blocks a }
-    ensures within { result < l.now.blocks }
+/// The number of the block that contains an address, from 0 on.
+pub fn block_of(layout: &Layout, address: u32) -> u32
+    requires { IsAddress layout.now.blocks address }
+    ensures block { result ≡ block_holding layout.now.blocks address }
+    ensures within { result < layout.now.blocks }
 {
-    (a - l.heap_base()) / BLOCK_WORDS
+    (address - layout.heap_base()) / BLOCK_WORDS
 }
 
-/// The number of the line that contains address `a`, counted from the first line of the heap.
-/// A line has 16 words.
-pub fn line_of(l: &Layout, a: u32) -> u32
-    requires { IsAddress l.now.blocks a }
-    ensures line { result ≡ line_holding l.now.blocks a }
-    ensures within { result < 256 * l.now.blocks }
+/// The number of the line that contains an address, counted from the first line of the heap.
+pub fn line_of(layout: &Layout, address: u32) -> u32
+    requires { IsAddress layout.now.blocks address }
+    ensures line { result ≡ line_holding layout.now.blocks address }
+    ensures within { result < BLOCK_LINES * layout.now.blocks }
 {
-    (a - l.heap_base()) / 16
+    (address - layout.heap_base()) / LINE_WORDS
 }
 
-/// The number of the chunk that contains address `a`, from 0 on. A chunk has 128 blocks.
-pub fn chunk_of(l: &Layout, a: u32) -> u32
-    requires { IsAddress l.now.blocks a }
-    ensures { result ≡ block_holding l.now.blocks a / 128 }
+/// The number of the chunk that contains an address, from 0 on.
+pub fn chunk_of(layout: &Layout, address: u32) -> u32
+    requires { IsAddress layout.now.blocks address }
+    ensures { result ≡ block_holding layout.now.blocks address / CHUNK_BLOCKS }
 {
-    block_of(l, a) / 128
+    block_of(layout, address) / CHUNK_BLOCKS
 }

@@ -6,6 +6,15 @@ ghost use Rattle.heap_layout.specs.declared.block.BlockWord.{BlockWord};
 
 use crate::block::{BlockWord, Kind};
 
+/// The factor of a block's class in its block word. The kind is below it.
+pub const CLASS_UNIT: u64 = 256;
+
+/// The number of classes that a block word has room for.
+const CLASSES: u64 = 256;
+
+/// The factor of a block's owner in its block word. Kind and class are below it.
+pub const OWNER_UNIT: u64 = 65_536;
+
 impl BlockWord {
     /// Whether the kind allows this class and this owner.
     pub fn is_valid(&self) -> bool
@@ -24,24 +33,24 @@ impl BlockWord {
 
 /// The number that encodes a valid block word: the kind in bits 0 to 7, the class in bits 8 to 15,
 /// the owner from bit 16 on.
-pub fn encode(w: &BlockWord) -> u64
-    requires { IsValid w.now }
-    ensures { result ≡ code_of w.now }
+pub fn encode(word: &BlockWord) -> u64
+    requires { IsValid word.now }
+    ensures { result ≡ code_of word.now }
 {
-    kind_number(w.kind) + 256 * w.class as u64 + 65536 * w.owner as u64
+    kind_number(word.kind) + CLASS_UNIT * word.class as u64 + OWNER_UNIT * word.owner as u64
 }
 
-/// The valid block word that `v` encodes, or `None` if `v` encodes none.
-pub fn decode(v: u64) -> Option<BlockWord>
-    ensures some { IfSome result (λ w. IsValid w × (code_of w ≡ v)) }
-    ensures none { IfNone result ((w : BlockWord) → IsValid w → code_of w ≢ v) }
-    ensures back { (w : BlockWord) → IsValid w → code_of w ≡ v → result ≡ Some w }
-    ensures code { IsSome result ↔ IsTrue (is_block_code v) }
+/// The valid block word that a number encodes, or `None` if it encodes none.
+pub fn decode(code: u64) -> Option<BlockWord>
+    ensures some { IfSome result (λ w. IsValid w × (code_of w ≡ code)) }
+    ensures none { IfNone result ((w : BlockWord) → IsValid w → code_of w ≢ code) }
+    ensures back { (w : BlockWord) → IsValid w → code_of w ≡ code → result ≡ Some w }
+    ensures code { IsSome result ↔ IsTrue (is_block_code code) }
 {
     let word = BlockWord {
-        kind: kind_at(v % 256)?,
-        class: (v / 256 % 256) as u32,
-        owner: u32::try_from(v / 65536).ok()?,
+        kind: kind_at(code % CLASS_UNIT)?,
+        class: (code / CLASS_UNIT % CLASSES) as u32,
+        owner: u32::try_from(code / OWNER_UNIT).ok()?,
     };
     if !word.is_valid() {
         return None;

@@ -5,8 +5,20 @@ ghost use Rattle.heap_layout.specs.declared.layout.TheConstants.{MIN_BLOCKS, MAX
 
 use thiserror::Error;
 
+/// The number of words of a line: 128 bytes, as in Immix.
+pub const LINE_WORDS: u32 = 16;
+
+/// The number of lines of a block.
+pub const BLOCK_LINES: u32 = 256;
+
 /// The number of words of a block: 32 KB, as in Immix.
 pub const BLOCK_WORDS: u32 = 4096;
+
+/// The number of blocks of a chunk: 4 MB, as in MMTk.
+pub const CHUNK_BLOCKS: u32 = 128;
+
+/// The number of globals of a heap, which are counted from 0.
+pub const GLOBALS: u32 = 16;
 
 /// The minimum number of blocks of a heap.
 pub const MIN_BLOCKS: u32 = 4;
@@ -16,8 +28,8 @@ pub const MAX_BLOCKS: u32 = 1024;
 
 /// The number of blocks of a heap, which determines where each part of its row of words lies.
 ///
-/// A word has 8 bytes, a line 16 words, a block 256 lines (the sizes of Immix), a chunk 128 blocks.
-/// The side metadata comes first in the row, the heap last. An address is the index of a heap word.
+/// A word has 8 bytes. The side metadata comes first in the row, the heap last. An address is the
+/// index of a heap word.
 #[derive(Clone, Copy, Debug, PartialEq, Eq)]
 pub struct Layout {
     blocks: u32,
@@ -63,28 +75,28 @@ impl Layout {
         18 + 4293 * self.blocks
     }
 
-    /// The index of global `g`, 0 to 15.
-    pub fn global_at(&self, g: u32) -> u32
-        requires { g ≤ 15 }
-        ensures { result ≡ first self.now.blocks Globals + g }
+    /// The index of the word of a global.
+    pub fn global_at(&self, global: u32) -> u32
+        requires { global < GLOBALS }
+        ensures { result ≡ first self.now.blocks Globals + global }
     {
-        2 + g
+        2 + global
     }
 
-    /// The index of the block word of block `b`.
-    pub fn block_at(&self, b: u32) -> u32
-        requires { b < self.now.blocks }
-        ensures { result ≡ first self.now.blocks BlockWords + b }
+    /// The index of the block word of a block.
+    pub fn block_at(&self, block: u32) -> u32
+        requires { block < self.now.blocks }
+        ensures { result ≡ first self.now.blocks BlockWords + block }
     {
-        18 + b
+        18 + block
     }
 
-    /// The index of the first of the four line words of block `b`.
-    pub fn line_at(&self, b: u32) -> u32
-        requires { b < self.now.blocks }
-        ensures { result ≡ first self.now.blocks LineWords + 4 * b }
+    /// The index of the first of the four line words of a block.
+    pub fn line_at(&self, block: u32) -> u32
+        requires { block < self.now.blocks }
+        ensures { result ≡ first self.now.blocks LineWords + 4 * block }
     {
-        18 + self.blocks + 4 * b
+        18 + self.blocks + 4 * block
     }
 
     /// The index of the first word of start bits. There is one bit for each word of the heap.
@@ -115,12 +127,12 @@ impl Layout {
         18 + 197 * self.blocks
     }
 
-    /// The address of word `w` of block `b`.
-    pub fn address(&self, b: u32, w: u32) -> u32
-        requires block { b < self.now.blocks }
-        requires word { w < BLOCK_WORDS }
-        ensures { result ≡ block_start self.now.blocks b + w }
+    /// The address of the word of a block that is `offset` words after its first.
+    pub fn address(&self, block: u32, offset: u32) -> u32
+        requires block { block < self.now.blocks }
+        requires word { offset < BLOCK_WORDS }
+        ensures { result ≡ block_start self.now.blocks block + offset }
     {
-        self.heap_base() + BLOCK_WORDS * b + w
+        self.heap_base() + BLOCK_WORDS * block + offset
     }
 }

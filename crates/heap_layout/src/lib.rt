@@ -10,8 +10,11 @@ mod zones;
 
 pub use address::{block_of, chunk_of, line_of};
 pub use block::{BlockWord, Kind};
-pub use block_codes::{decode, encode};
-pub use layout::{BLOCK_WORDS, Layout, LayoutFault, MAX_BLOCKS, MIN_BLOCKS};
+pub use block_codes::{CLASS_UNIT, OWNER_UNIT, decode, encode};
+pub use layout::{
+    BLOCK_LINES, BLOCK_WORDS, CHUNK_BLOCKS, GLOBALS, LINE_WORDS, Layout, LayoutFault, MAX_BLOCKS,
+    MIN_BLOCKS,
+};
 pub use region::{Region, bump};
 pub use zones::{blocks_partition, zones_partition};
 

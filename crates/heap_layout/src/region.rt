@@ -11,20 +11,20 @@ pub struct Region {
     pub end: u32,
 }
 
-/// Allocates `size` words at the front of the region and returns their offset. Returns `None` and
+/// Allocates `size` words at the start of the region and returns their offset. Returns `None` and
 /// changes nothing if the region has fewer words.
-pub fn bump(r: &mut Region, size: u32) -> Option<u32>
-    requires { r.old.next ≤ r.old.end }
-    ensures none { IsNone result ↔ (r.old.end - r.old.next < size) }
-    ensures same { IfNone result (r.new ≡ r.old) }
-    ensures taken { IfSome result (λ at. (at ≡ r.old.next)
-        × (r.new ≡ record r.old { next = r.old.next + size })) }
-    ensures room { IfSome result (λ at. at + size ≤ r.new.end) }
+pub fn bump(region: &mut Region, size: u32) -> Option<u32>
+    requires { region.old.next ≤ region.old.end }
+    ensures none { IsNone result ↔ (region.old.end - region.old.next < size) }
+    ensures same { IfNone result (region.new ≡ region.old) }
+    ensures taken { IfSome result (λ at. (at ≡ region.old.next)
+        × (region.new ≡ record region.old { next = region.old.next + size })) }
+    ensures room { IfSome result (λ at. at + size ≤ region.new.end) }
 {
-    if r.end - r.next < size {
+    if region.end - region.next < size {
         return None;
     }
-    let at = r.next;
-    r.next += size;
+    let at = region.next;
+    region.next += size;
     Some(at)
 }

@@ -100,8 +100,8 @@ each : {X : Type 0} (o : Option X) (P : X → Type 0) → ((x : X) → P x) → 
 each None P all = tt
 each (Some x) P all = all x
 
-pub front_of_one : (t : List Command) (es : List Entry) → AllByRecursion (λ e. e.mutator ≡ 1) es → map (λ e. e.command) es ≡ take (length es) t → IsOrderPrefix (t ∷ []) es
-front_of_one t es all commands =
+pub prefix_of_one : (t : List Command) (es : List Entry) → AllByRecursion (λ e. e.mutator ≡ 1) es → map (λ e. e.command) es ≡ take (length es) t → IsOrderPrefix (t ∷ []) es
+prefix_of_one t es all commands =
     let part : of_mutator 1 es ≡ es = of_mutator-all 1 es all in
     let mine : commands_of 1 es ≡ take (length (of_mutator 1 es)) t = ap (λ l. map (λ e. e.command) l) part ∙ commands ∙ ap (λ l. take (length l) t) (sym part) in
     let last : last_level 0 [] es ≤ 2 * meets (commands_of 1 es) = last_level-alone 1 0 [] es (omega arith) all in

@@ -11,9 +11,9 @@ pub longer : (h : IdealHeap) (es more : List Entry) → IsRun h es → IsRun (af
 longer h [] more run next = next
 longer h (e ∷ es) more run next = (run.0, longer (after_entry h e) es more run.1 next)
 
-pub front : (h : IdealHeap) (es more : List Entry) → IsRun h (es ++ more) → IsRun h es
-front h [] more run = tt
-front h (e ∷ es) more run = (run.0, front (after_entry h e) es more run.1)
+pub prefix : (h : IdealHeap) (es more : List Entry) → IsRun h (es ++ more) → IsRun h es
+prefix h [] more run = tt
+prefix h (e ∷ es) more run = (run.0, prefix (after_entry h e) es more run.1)
 
 pub rest : (h : IdealHeap) (es more : List Entry) → IsRun h (es ++ more) → IsRun (after h es) more
 rest h [] more run = run

@@ -7,7 +7,7 @@ use Rattle.ideal_heap.specs.declared.name.Name.{Name}
 use Rattle.ideal_heap.specs.declared.tables.Object.{Object}
 use Rattle.ideal_heap.specs.declared.tables.Mutator.{Mutator}
 use Rattle.ideal_heap.specs.Names.{name, same_name}
-use Rattle.ideal_heap.specs.Ideal.{IdealHeap, Record, empty, at_number, at_name, set_register, set_global, set_record, set_pinned, record_of, no_fields, field_of, put_field, with_object, HasRecord}
+use Rattle.ideal_heap.specs.Ideal.{IdealHeap, Record, empty, at_number, at_name, set_register, set_record, set_pinned, record_of, no_fields, field_of, put_field, with_object, HasRecord}
 use Rattle.ideal_heap.specs.Tables.{nth_from_one, record_in, object_at, held_at, heap_of_tables}
 use Rattle.ideal_heap.proofs.UpdateLemmas.{at_number-cases, at_number-other, at_name-cases, at_name-same, at_name-other}
 

@@ -1,24 +1,24 @@
 -- The ranges of the numbers in a command, and tests of its kind.
-use Rattle.std.specs.Prelude.{ℕ, ◌≤◌, ◌<◌, ◌^◌, ◌+◌, Bool, true, false}
+use Rattle.std.specs.Prelude.{ℕ, ◌≤◌, ◌<◌, ◌^◌, ◌+◌, ◌-◌, Bool, true, false}
 use Rattle.ideal_heap.specs.declared.command.Command.{Command}
 use Rattle.ideal_heap.specs.declared.command.Command.TheVariants.{New, Get, Put, Read, Write, Add, Swap, Move, DropReg, Load, Share, Pin, Unpin, Gc, Meet}
-use Rattle.ideal_heap.specs.declared.command.TheConstants.{MAX_REFS, MAX_NUMS}
+use Rattle.ideal_heap.specs.declared.command.TheConstants.{MAX_REGISTER, MAX_GLOBAL, MAX_REFS, MAX_NUMS}
 
--- registers and globals are 0 to 15, an object has at most 1,024 references and 60,000 numbers
+-- each register, global, index and number is in its range
 abbrev pub IsValid : Command → Type 0
-IsValid (New d r q) = (d ≤ 15) × (r ≤ MAX_REFS) × (q ≤ MAX_NUMS)
-IsValid (Get d s i) = (d ≤ 15) × (s ≤ 15) × (i ≤ 1023)
-IsValid (Put s i v) = (s ≤ 15) × (i ≤ 1023) × (v ≤ 15)
-IsValid (Read s j) = (s ≤ 15) × (j ≤ 59999)
-IsValid (Write s j n) = (s ≤ 15) × (j ≤ 59999) × (n < 2 ^ 64)
-IsValid (Add s j n) = (s ≤ 15) × (j ≤ 59999) × (n < 2 ^ 64)
-IsValid (Swap s j u v) = (s ≤ 15) × (j ≤ 59999) × (u < 2 ^ 64) × (v < 2 ^ 64)
-IsValid (Move d s) = (d ≤ 15) × (s ≤ 15)
-IsValid (DropReg s) = s ≤ 15
-IsValid (Load d g) = (d ≤ 15) × (g ≤ 15)
-IsValid (Share g s) = (g ≤ 15) × (s ≤ 15)
-IsValid (Pin s) = s ≤ 15
-IsValid (Unpin s) = s ≤ 15
+IsValid (New d r q) = (d ≤ MAX_REGISTER) × (r ≤ MAX_REFS) × (q ≤ MAX_NUMS)
+IsValid (Get d s i) = (d ≤ MAX_REGISTER) × (s ≤ MAX_REGISTER) × (i ≤ MAX_REFS - 1)
+IsValid (Put s i v) = (s ≤ MAX_REGISTER) × (i ≤ MAX_REFS - 1) × (v ≤ MAX_REGISTER)
+IsValid (Read s j) = (s ≤ MAX_REGISTER) × (j ≤ MAX_NUMS - 1)
+IsValid (Write s j n) = (s ≤ MAX_REGISTER) × (j ≤ MAX_NUMS - 1) × (n < 2 ^ 64)
+IsValid (Add s j n) = (s ≤ MAX_REGISTER) × (j ≤ MAX_NUMS - 1) × (n < 2 ^ 64)
+IsValid (Swap s j u v) = (s ≤ MAX_REGISTER) × (j ≤ MAX_NUMS - 1) × (u < 2 ^ 64) × (v < 2 ^ 64)
+IsValid (Move d s) = (d ≤ MAX_REGISTER) × (s ≤ MAX_REGISTER)
+IsValid (DropReg s) = s ≤ MAX_REGISTER
+IsValid (Load d g) = (d ≤ MAX_REGISTER) × (g ≤ MAX_GLOBAL)
+IsValid (Share g s) = (g ≤ MAX_GLOBAL) × (s ≤ MAX_REGISTER)
+IsValid (Pin s) = s ≤ MAX_REGISTER
+IsValid (Unpin s) = s ≤ MAX_REGISTER
 IsValid Gc = Unit {0}
 IsValid Meet = Unit {0}
 

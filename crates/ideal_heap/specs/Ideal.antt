@@ -2,6 +2,7 @@
 use Rattle.std.specs.Prelude.{◌≡◌, ℕ, ◌+◌, ◌%◌, ◌^◌, Bool, true, false, List, length, Option, None, Some, nat_eq, nat_lt, if◌then◌else◌, slice_index, slice_get, slice_set, replicate, unwrap_or, ◌≤◌, ◌<◌, IsSome, IsTrue, Contains}
 use Rattle.ideal_heap.specs.declared.name.Name.{Name}
 use Rattle.ideal_heap.specs.declared.command.Command.{Command}
+use Rattle.ideal_heap.specs.declared.command.TheConstants.{REGISTERS, GLOBALS}
 use Rattle.ideal_heap.specs.declared.command.Command.TheVariants as c
 use Rattle.ideal_heap.specs.declared.reply.Reply.{Reply}
 use Rattle.ideal_heap.specs.declared.reply.Reply.TheVariants as r
@@ -152,10 +153,10 @@ pub record IsClosed (h : IdealHeap) : Type 0 where
   pub fields : (n to : Name) (i : ℕ) → field_at (record_of h n) i ≡ At to → HasRecord h to
   pub pins : (n : Name) → IsTrue (h.pinned n) → HasRecord h n
 
--- all but the 16 globals and the 16 registers of each mutator in ms are nil
+-- all but the globals and the registers of each mutator in ms are nil
 pub record IsConfined (ms : List ℕ) (h : IdealHeap) : Type 0 where
-  pub registers : (m d : ℕ) (n : Name) → h.registers m d ≡ Some n → (d < 16) × Contains ms m
-  pub globals : (g : ℕ) (n : Name) → h.globals g ≡ Some n → g < 16
+  pub registers : (m d : ℕ) (n : Name) → h.registers m d ≡ Some n → (d < REGISTERS) × Contains ms m
+  pub globals : (g : ℕ) (n : Name) → h.globals g ≡ Some n → g < GLOBALS
 
 -- an ideal heap of the mutators ms
 pub record IsIdeal (ms : List ℕ) (h : IdealHeap) : Type 0 where

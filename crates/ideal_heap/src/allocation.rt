@@ -1,5 +1,6 @@
 //! Allocation of tables and objects.
 
+use crate::command::{GLOBALS, REGISTERS};
 use crate::name::Name;
 use crate::tables::{Mutator, Object, Tables};
 use std::alloc::{AllocError, Global};
@@ -28,6 +29,7 @@ impl Tables {
     ghost use Rattle.std.specs.Prelude.{◌≡◌, ◌<◌, ◌≤◌, ◌+◌, IfOk, MatchResult, false};
     ghost use Rattle.ideal_heap.specs.Tables.{tables_heap, HasMutator, mutator_count, record_in};
     ghost use Rattle.ideal_heap.specs.Names.{name};
+    ghost use Rattle.ideal_heap.specs.declared.command.TheConstants.{MAX_REGISTER};
     ghost use Rattle.ideal_heap.specs.Ideal.{empty, with_new, with_object};
 
     /// Tables of `mutators` mutators without objects, all registers and globals nil.
@@ -38,14 +40,14 @@ impl Tables {
         let mut all = Vec::with_capacity(alloc, mutators as usize)?;
         for _ in 0..mutators {
             let fresh = Mutator {
-                registers: [None; 16],
+                registers: [None; REGISTERS],
                 objects: Vec::new(alloc),
             };
             all.push(fresh)?;
         }
         Ok(Tables {
             mutators: all,
-            globals: [None; 16],
+            globals: [None; GLOBALS],
         })
     }
 
@@ -71,22 +73,23 @@ impl Tables {
         Ok(())
     }
 
-    /// Allocates the mutator's next object, sets register `d` to its name, and returns the name.
-    /// If out of memory, changes nothing.
+    /// Allocates the mutator's next object, sets register `destination` to its name, and returns
+    /// the name. If out of memory, changes nothing.
     pub fn create(
         &mut self,
         alloc: Global,
         mutator: u32,
-        d: u32,
+        destination: u32,
         refs: u32,
         nums: u32,
     ) -> Result<Name, AllocError>
         requires mutator { HasMutator self.old mutator }
-        requires register { d ≤ 15 }
+        requires register { destination ≤ MAX_REGISTER }
         requires room { (tables_heap self.old).births mutator < 4294967295 }
         ensures heap { MatchResult result (λ n.
             (n ≡ name mutator ((tables_heap self.old).births mutator + 1))
-            × (tables_heap self.new ≡ with_new (tables_heap self.old) mutator d refs nums))
+            × (tables_heap self.new
+            ≡ with_new (tables_heap self.old) mutator destination refs nums))
             (λ _. tables_heap self.new ≡ tables_heap self.old) }
         ensures count { mutator_count self.new ≡ mutator_count self.old }
     {
@@ -96,7 +99,7 @@ impl Tables {
             mutator,
             birth: self.births(mutator),
         };
-        self.set_register(mutator, d, Some(made));
+        self.set_register(mutator, destination, Some(made));
         Ok(made)
     }
 }

@@ -1,5 +1,20 @@
 //! Commands of mutators.
 
+/// The maximum number of mutators of a heap.
+pub const MAX_MUTATORS: u32 = 16;
+
+/// The number of registers of a mutator.
+pub const REGISTERS: usize = 16;
+
+/// The last register of a mutator, counted from 0.
+pub const MAX_REGISTER: u32 = REGISTERS as u32 - 1;
+
+/// The number of globals of a heap.
+pub const GLOBALS: usize = 16;
+
+/// The last global of a heap, counted from 0.
+pub const MAX_GLOBAL: u32 = GLOBALS as u32 - 1;
+
 /// The maximum number of references of an object.
 pub const MAX_REFS: u32 = 1024;
 
@@ -8,12 +23,13 @@ pub const MAX_NUMS: u32 = 60_000;
 
 /// One step of a mutator.
 ///
-/// `d`, `s` and `v` are registers of the mutator and `g` is a global, all 0 to 15. `i` is the index
-/// of a reference, 0 to 1,023, and `j` the index of a number, 0 to 59,999.
+/// `d`, `s` and `v` are registers of the mutator, at most `MAX_REGISTER`, and `g` is a global, at
+/// most `MAX_GLOBAL`. `i` is the index of a reference, below `MAX_REFS`, and `j` the index of a
+/// number, below `MAX_NUMS`.
 #[derive(Clone, Copy, Debug, PartialEq, Eq)]
 pub enum Command {
-    /// Allocates an object of `refs` references, at most 1,024 and all nil, and `nums` numbers, at
-    /// most 60,000 and all 0. `d` becomes its name.
+    /// Allocates an object of `refs` references, at most `MAX_REFS` and all nil, and `nums`
+    /// numbers, at most `MAX_NUMS` and all 0. `d` becomes its name.
     New { d: u32, refs: u32, nums: u32 },
     /// `d` becomes reference `i` of the object that `s` names.
     Get { d: u32, s: u32, i: u32 },

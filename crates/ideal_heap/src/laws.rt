@@ -75,7 +75,7 @@ pub fn runs_go_on()
         → IsRun (after h es) more → IsRun h (es ++ more) }
     ensures heap { (h : IdealHeap) (es more : List Entry)
         → after h (es ++ more) ≡ after (after h es) more }
-    ensures front { (h : IdealHeap) (es more : List Entry) → IsRun h (es ++ more) → IsRun h es }
+    ensures prefix { (h : IdealHeap) (es more : List Entry) → IsRun h (es ++ more) → IsRun h es }
     ensures rest { (h : IdealHeap) (es more : List Entry) → IsRun h (es ++ more)
         → IsRun (after h es) more }
 {}
@@ -87,7 +87,7 @@ pub fn one_mutator()
         → AllByRecursion (λ e. e.mutator ≡ m) es
         → AllByRecursion (λ e. is_full e.reply ≡ false) es
         → replies_of m es ≡ alone h m (commands_of m es) }
-    ensures front { (t : List Command) (es : List Entry)
+    ensures prefix { (t : List Command) (es : List Entry)
         → AllByRecursion (λ e. e.mutator ≡ 1) es
         → map (λ e. e.command) es ≡ take (length es) t → IsOrderPrefix (t ∷ []) es }
     ensures order { (t : List Command) (es : List Entry)

@@ -3,32 +3,32 @@
 ghost use Rattle.std.specs.Prelude.{◌↔◌, IsTrue};
 ghost use Rattle.ideal_heap.specs.Commands.{IsValid};
 
-use crate::command::{Command, MAX_NUMS, MAX_REFS};
+use crate::command::{Command, MAX_GLOBAL, MAX_NUMS, MAX_REFS, MAX_REGISTER};
 
 /// Whether each number of the command is in its range.
-pub fn valid(c: &Command) -> bool
-    ensures { IsTrue result ↔ IsValid c.now }
+pub fn valid(command: &Command) -> bool
+    ensures { IsTrue result ↔ IsValid command.now }
 {
     // Each `u64` is bound, even if it is not compared, so that its range is known to the proof.
-    match *c {
-        Command::New { d, refs, nums } => d <= 15 && refs <= MAX_REFS && nums <= MAX_NUMS,
-        Command::Get { d, s, i } => d <= 15 && s <= 15 && i <= 1023,
-        Command::Put { s, i, v } => s <= 15 && i <= 1023 && v <= 15,
-        Command::Read { s, j } => s <= 15 && j <= 59999,
-        Command::Write { s, j, n: _n } => s <= 15 && j <= 59999,
-        Command::Add { s, j, n: _n } => s <= 15 && j <= 59999,
+    match *command {
+        Command::New { d, refs, nums } => d <= MAX_REGISTER && refs <= MAX_REFS && nums <= MAX_NUMS,
+        Command::Get { d, s, i } => d <= MAX_REGISTER && s <= MAX_REGISTER && i < MAX_REFS,
+        Command::Put { s, i, v } => s <= MAX_REGISTER && i < MAX_REFS && v <= MAX_REGISTER,
+        Command::Read { s, j } => s <= MAX_REGISTER && j < MAX_NUMS,
+        Command::Write { s, j, n: _n } => s <= MAX_REGISTER && j < MAX_NUMS,
+        Command::Add { s, j, n: _n } => s <= MAX_REGISTER && j < MAX_NUMS,
         Command::Swap {
             s,
             j,
             was: _was,
             next: _next,
-        } => s <= 15 && j <= 59999,
-        Command::Move { d, s } => d <= 15 && s <= 15,
-        Command::DropReg { s } => s <= 15,
-        Command::Load { d, g } => d <= 15 && g <= 15,
-        Command::Share { g, s } => g <= 15 && s <= 15,
-        Command::Pin { s } => s <= 15,
-        Command::Unpin { s } => s <= 15,
+        } => s <= MAX_REGISTER && j < MAX_NUMS,
+        Command::Move { d, s } => d <= MAX_REGISTER && s <= MAX_REGISTER,
+        Command::DropReg { s } => s <= MAX_REGISTER,
+        Command::Load { d, g } => d <= MAX_REGISTER && g <= MAX_GLOBAL,
+        Command::Share { g, s } => g <= MAX_GLOBAL && s <= MAX_REGISTER,
+        Command::Pin { s } => s <= MAX_REGISTER,
+        Command::Unpin { s } => s <= MAX_REGISTER,
         Command::Gc => true,
         Command::Meet => true,
     }
@@ -38,24 +38,17 @@ pub fn valid(c: &Command) -> bool
 mod tests {
     use super::*;
 
-    fn create(d: u32, refs: u32, nums: u32) -> Command {
-        Command::New { d, refs, nums }
-    }
-
-    fn swap(s: u32, j: u32) -> Command {
-        let was = u64::MAX;
-        Command::Swap {
-            s,
-            j,
-            was,
-            next: was,
-        }
-    }
-
     #[test]
     fn ranges_end_where_they_should(rt: HostRuntime) {
-        for (c, want) in [
-            (create(15, 1024, 60000), true),
+        for (command, want) in [
+            (
+                Command::New {
+                    d: 15,
+                    refs: 1024,
+                    nums: 60000,
+                },
+                true,
+            ),
             (
                 Command::Get {
                     d: 15,
@@ -64,10 +57,32 @@ mod tests {
                 },
                 true,
             ),
-            (swap(15, 59999), true),
+            (
+                Command::Swap {
+                    s: 15,
+                    j: 59999,
+                    was: u64::MAX,
+                    next: u64::MAX,
+                },
+                true,
+            ),
             (Command::Share { g: 15, s: 15 }, true),
-            (create(0, 1025, 0), false),
-            (create(0, 0, 60001), false),
+            (
+                Command::New {
+                    d: 0,
+                    refs: 1025,
+                    nums: 0,
+                },
+                false,
+            ),
+            (
+                Command::New {
+                    d: 0,
+                    refs: 0,
+                    nums: 60001,
+                },
+                false,
+            ),
             (
                 Command::Put {
                     s: 0,
@@ -80,7 +95,7 @@ mod tests {
             (Command::Read { s: 0, j: 60000 }, false),
             (Command::Load { d: 0, g: 16 }, false),
         ] {
-            assert_eq!(rt; valid(&c), want, "at {c:?}");
+            assert_eq!(rt; valid(&command), want, "at {command:?}");
         }
     }
 }

@@ -9,15 +9,16 @@ use std::alloc::{AllocError, Global};
 impl Ideal {
     ghost use Rattle.std.specs.Prelude.{◌≡◌, ◌<◌, ◌≤◌, IfOk, OnErr, MatchResult, IsTrue};
     ghost use Rattle.ideal_heap.specs.Commands.{IsValid, is_new};
+    ghost use Rattle.ideal_heap.specs.declared.command.TheConstants.{MAX_MUTATORS};
     ghost use Rattle.ideal_heap.specs.Ideal.{empty, step};
     ghost use Rattle.ideal_heap.specs.Plain.{ideal_of, mutators_of};
 
-    /// A heap of `mutators` mutators, 1 to 16, without objects. All registers and globals are nil.
-    /// Fails if out of memory.
+    /// A heap of `mutators` mutators, 1 to `MAX_MUTATORS`, without objects. All registers and
+    /// globals are nil. Fails if out of memory.
     #[tactic(auto, unfolding(crate::specs::Plain::ideal_of, crate::specs::Plain::mutators_of))]
     pub fn new(alloc: Global, mutators: u32) -> Result<Ideal, AllocError>
         requires least { 1 ≤ mutators }
-        requires most { mutators ≤ 16 }
+        requires most { mutators ≤ MAX_MUTATORS }
         ensures empty { IfOk result (λ h. ideal_of h ≡ empty) }
         ensures mutators { IfOk result (λ h. mutators_of h ≡ mutators) }
     {
@@ -38,18 +39,19 @@ impl Ideal {
     /// Executes a command of the mutator and returns the reply, which is never `Full`.
     /// Only `New` can run out of memory. The heap is then unchanged.
     #[tactic(auto, unfolding(crate::specs::Plain::ideal_of, crate::specs::Plain::mutators_of))]
-    pub fn apply(&mut self, mutator: u32, c: &Command) -> Result<Reply, AllocError>
+    pub fn apply(&mut self, mutator: u32, command: &Command) -> Result<Reply, AllocError>
         requires least { 1 ≤ mutator }
         requires most { mutator ≤ mutators_of self.old }
-        requires valid { IsValid c.now }
-        requires room { IsTrue (is_new c.now) → (ideal_of self.old).births mutator < 4294967295 }
+        requires valid { IsValid command.now }
+        requires room { IsTrue (is_new command.now)
+            → (ideal_of self.old).births mutator < 4294967295 }
         ensures step { MatchResult result (λ r. (r, ideal_of self.new)
-            ≡ step (ideal_of self.old) mutator c.now)
+            ≡ step (ideal_of self.old) mutator command.now)
             (λ _. ideal_of self.new ≡ ideal_of self.old) }
-        ensures memory { OnErr result (IsTrue (is_new c.now)) }
+        ensures memory { OnErr result (IsTrue (is_new command.now)) }
         ensures mutators { mutators_of self.new ≡ mutators_of self.old }
     {
-        self.tables.apply(self.alloc, mutator, c)
+        self.tables.apply(self.alloc, mutator, command)
     }
 }
 
@@ -60,19 +62,19 @@ impl Tables {
     ghost use Rattle.ideal_heap.specs.Ideal.{IsClosed, step};
 
     /// Executes a command of the mutator on the tables.
-    fn apply(&mut self, alloc: Global, mutator: u32, c: &Command) -> Result<Reply, AllocError>
+    fn apply(&mut self, alloc: Global, mutator: u32, command: &Command) -> Result<Reply, AllocError>
         requires mutator { HasMutator self.old mutator }
-        requires valid { IsValid c.now }
-        requires room { IsTrue (is_new c.now)
+        requires valid { IsValid command.now }
+        requires room { IsTrue (is_new command.now)
             → (tables_heap self.old).births mutator < 4294967295 }
         requires closed { IsClosed (tables_heap self.old) }
         ensures step { MatchResult result (λ r. (r, tables_heap self.new)
-            ≡ step (tables_heap self.old) mutator c.now)
+            ≡ step (tables_heap self.old) mutator command.now)
             (λ _. tables_heap self.new ≡ tables_heap self.old) }
-        ensures memory { OnErr result (IsTrue (is_new c.now)) }
+        ensures memory { OnErr result (IsTrue (is_new command.now)) }
         ensures count { mutator_count self.new ≡ mutator_count self.old }
     {
-        Ok(match *c {
+        Ok(match *command {
             Command::New { d, refs, nums } => Reply::New(self.create(
                 alloc, mutator, d, refs, nums,
             )?),
@@ -99,16 +101,26 @@ mod tests {
     use crate::name::Name;
     use crate::ranges::valid;
 
-    fn create(d: u32, refs: u32, nums: u32) -> Command {
+    fn create(destination: u32, refs: u32, nums: u32) -> Command {
+        let d = destination;
         Command::New { d, refs, nums }
     }
 
-    fn write(s: u32, j: u32, n: u64) -> Command {
-        Command::Write { s, j, n }
+    fn write(register: u32, index: u32, number: u64) -> Command {
+        Command::Write {
+            s: register,
+            j: index,
+            n: number,
+        }
     }
 
-    fn swap(s: u32, j: u32, was: u64, next: u64) -> Command {
-        Command::Swap { s, j, was, next }
+    fn swap(register: u32, index: u32, was: u64, next: u64) -> Command {
+        Command::Swap {
+            s: register,
+            j: index,
+            was,
+            next,
+        }
     }
 
     fn name(mutator: u32, birth: u32) -> Name {
@@ -120,7 +132,7 @@ mod tests {
     fn greatest_object(rt: HostRuntime) -> Result<(), AllocError> {
         let mut heap = Ideal::new(rt.alloc(), 1)?;
         let command = create(0, 1024, 60_000);
-        assert!(rt; heap.births(1) < 1_000_000);
+        assert!(rt; heap.births(1) == 0);
         assert!(rt; valid(&command));
         assert!(rt; heap.apply(1, &command)? == Reply::New(name(1, 1)));
         Ok(())
@@ -129,7 +141,7 @@ mod tests {
     #[test]
     fn replies_as_worked_out(rt: HostRuntime) -> Result<(), AllocError> {
         let mut heap = Ideal::new(rt.alloc(), 2)?;
-        for (m, c, want) in [
+        for (mutator, command, want) in [
             (1, Command::Read { s: 3, j: 0 }, Reply::Null),
             (1, create(0, 1, 2), Reply::New(name(1, 1))),
             (1, Command::Read { s: 0, j: 2 }, Reply::Range),
@@ -156,10 +168,10 @@ mod tests {
             (1, Command::Gc, Reply::Done),
         ] {
             assert!(rt;
-                valid(&c) && (m == 1 || m == 2) && heap.births(m) < 9,
-                "at {c:?}"
+                valid(&command) && (mutator == 1 || mutator == 2) && heap.births(mutator) < 9,
+                "at {command:?}"
             );
-            assert_eq!(rt; heap.apply(m, &c)?, want, "at {c:?}");
+            assert_eq!(rt; heap.apply(mutator, &command)?, want, "at {command:?}");
         }
         Ok(())
     }

@@ -8,11 +8,11 @@ use crate::reply::Reply;
 use crate::tables::Tables;
 
 /// The reply to the read of a reference or global with this value.
-fn reply_of_global(v: Option<Name>) -> Reply
-    ensures { result ≡ global_reply v }
+fn reply_of_global(value: Option<Name>) -> Reply
+    ensures { result ≡ global_reply value }
 {
-    match v {
-        Some(n) => Reply::Ref(n),
+    match value {
+        Some(name) => Reply::Ref(name),
         None => Reply::Nil,
     }
 }
@@ -21,200 +21,201 @@ impl Tables {
     ghost use Rattle.std.specs.Prelude.{◌≡◌, ◌<◌, ◌≤◌, ◌^◌};
     ghost use Rattle.ideal_heap.specs.declared.command.Command.TheVariants as command;
     ghost use Rattle.ideal_heap.specs.Tables.{tables_heap, HasMutator, mutator_count};
+    ghost use Rattle.ideal_heap.specs.declared.command.TheConstants.{MAX_REGISTER, MAX_GLOBAL};
     ghost use Rattle.ideal_heap.specs.Ideal.{IsClosed, step};
 
     /// Executes `Get`.
-    pub fn get(&mut self, mutator: u32, d: u32, s: u32, i: u32) -> Reply
+    pub fn get(&mut self, mutator: u32, destination: u32, register: u32, index: u32) -> Reply
         requires mutator { HasMutator self.old mutator }
-        requires registers { (d ≤ 15) × (s ≤ 15) }
+        requires registers { (destination ≤ MAX_REGISTER) × (register ≤ MAX_REGISTER) }
         ensures step { (result, tables_heap self.new)
-            ≡ step (tables_heap self.old) mutator (command.Get d s i) }
+            ≡ step (tables_heap self.old) mutator (command.Get destination register index) }
         ensures count { mutator_count self.new ≡ mutator_count self.old }
     {
-        let Some(n) = self.register(mutator, s) else {
+        let Some(name) = self.register(mutator, register) else {
             return Reply::Null;
         };
-        let Some(&field) = self.refs(n).get(i as usize) else {
+        let Some(&field) = self.refs(name).get(index as usize) else {
             return Reply::Range;
         };
-        self.set_register(mutator, d, field);
+        self.set_register(mutator, destination, field);
         reply_of_global(field)
     }
 
     /// Executes `Put`.
-    pub fn put(&mut self, mutator: u32, s: u32, i: u32, v: u32) -> Reply
+    pub fn put(&mut self, mutator: u32, register: u32, index: u32, source: u32) -> Reply
         requires mutator { HasMutator self.old mutator }
-        requires registers { (s ≤ 15) × (v ≤ 15) }
+        requires registers { (register ≤ MAX_REGISTER) × (source ≤ MAX_REGISTER) }
         ensures step { (result, tables_heap self.new)
-            ≡ step (tables_heap self.old) mutator (command.Put s i v) }
+            ≡ step (tables_heap self.old) mutator (command.Put register index source) }
         ensures count { mutator_count self.new ≡ mutator_count self.old }
     {
-        let Some(n) = self.register(mutator, s) else {
+        let Some(name) = self.register(mutator, register) else {
             return Reply::Null;
         };
-        if i as usize >= self.refs(n).len() {
+        if index as usize >= self.refs(name).len() {
             return Reply::Range;
         }
-        let value = self.register(mutator, v);
-        self.set_field(n, i, value);
+        let value = self.register(mutator, source);
+        self.set_field(name, index, value);
         Reply::Done
     }
 
     /// Executes `Read`.
-    pub fn read(&self, mutator: u32, s: u32, j: u32) -> Reply
+    pub fn read(&self, mutator: u32, register: u32, index: u32) -> Reply
         requires mutator { HasMutator self.now mutator }
-        requires register { s ≤ 15 }
+        requires register { register ≤ MAX_REGISTER }
         ensures { (result, tables_heap self.now)
-            ≡ step (tables_heap self.now) mutator (command.Read s j) }
+            ≡ step (tables_heap self.now) mutator (command.Read register index) }
     {
-        let Some(n) = self.register(mutator, s) else {
+        let Some(name) = self.register(mutator, register) else {
             return Reply::Null;
         };
-        match self.nums(n).get(j as usize) {
-            Some(x) => Reply::Num(*x),
+        match self.nums(name).get(index as usize) {
+            Some(number) => Reply::Num(*number),
             None => Reply::Range,
         }
     }
 
     /// Executes `Write`.
-    pub fn write(&mut self, mutator: u32, s: u32, j: u32, v: u64) -> Reply
+    pub fn write(&mut self, mutator: u32, register: u32, index: u32, number: u64) -> Reply
         requires mutator { HasMutator self.old mutator }
-        requires register { s ≤ 15 }
+        requires register { register ≤ MAX_REGISTER }
         ensures step { (result, tables_heap self.new)
-            ≡ step (tables_heap self.old) mutator (command.Write s j v) }
+            ≡ step (tables_heap self.old) mutator (command.Write register index number) }
         ensures count { mutator_count self.new ≡ mutator_count self.old }
     {
-        let Some(n) = self.register(mutator, s) else {
+        let Some(name) = self.register(mutator, register) else {
             return Reply::Null;
         };
-        if j as usize >= self.nums(n).len() {
+        if index as usize >= self.nums(name).len() {
             return Reply::Range;
         }
-        self.set_number(n, j, v);
+        self.set_number(name, index, number);
         Reply::Done
     }
 
     /// Executes `Add`.
-    pub fn add(&mut self, mutator: u32, s: u32, j: u32, v: u64) -> Reply
+    pub fn add(&mut self, mutator: u32, register: u32, index: u32, number: u64) -> Reply
         requires mutator { HasMutator self.old mutator }
-        requires register { s ≤ 15 }
+        requires register { register ≤ MAX_REGISTER }
         ensures step { (result, tables_heap self.new)
-            ≡ step (tables_heap self.old) mutator (command.Add s j v) }
+            ≡ step (tables_heap self.old) mutator (command.Add register index number) }
         ensures count { mutator_count self.new ≡ mutator_count self.old }
     {
-        let Some(n) = self.register(mutator, s) else {
+        let Some(name) = self.register(mutator, register) else {
             return Reply::Null;
         };
-        let Some(&before) = self.nums(n).get(j as usize) else {
+        let Some(&before) = self.nums(name).get(index as usize) else {
             return Reply::Range;
         };
-        self.set_number(n, j, before.wrapping_add(v));
+        self.set_number(name, index, before.wrapping_add(number));
         Reply::Num(before)
     }
 
     /// Executes `Swap`.
-    pub fn swap(&mut self, mutator: u32, s: u32, j: u32, was: u64, next: u64) -> Reply
+    pub fn swap(&mut self, mutator: u32, register: u32, index: u32, was: u64, next: u64) -> Reply
         requires mutator { HasMutator self.old mutator }
-        requires register { s ≤ 15 }
+        requires register { register ≤ MAX_REGISTER }
         ensures step { (result, tables_heap self.new)
-            ≡ step (tables_heap self.old) mutator (command.Swap s j was next) }
+            ≡ step (tables_heap self.old) mutator (command.Swap register index was next) }
         ensures count { mutator_count self.new ≡ mutator_count self.old }
     {
-        let Some(n) = self.register(mutator, s) else {
+        let Some(name) = self.register(mutator, register) else {
             return Reply::Null;
         };
-        let Some(&before) = self.nums(n).get(j as usize) else {
+        let Some(&before) = self.nums(name).get(index as usize) else {
             return Reply::Range;
         };
         if before != was {
             return Reply::No;
         }
-        self.set_number(n, j, next);
+        self.set_number(name, index, next);
         Reply::Yes
     }
 
     /// Executes `Pin`.
-    pub fn pin(&mut self, mutator: u32, s: u32) -> Reply
+    pub fn pin(&mut self, mutator: u32, register: u32) -> Reply
         requires mutator { HasMutator self.old mutator }
-        requires register { s ≤ 15 }
+        requires register { register ≤ MAX_REGISTER }
         requires closed { IsClosed (tables_heap self.old) }
         ensures step { (result, tables_heap self.new)
-            ≡ step (tables_heap self.old) mutator (command.Pin s) }
+            ≡ step (tables_heap self.old) mutator (command.Pin register) }
         ensures count { mutator_count self.new ≡ mutator_count self.old }
     {
-        let Some(n) = self.register(mutator, s) else {
+        let Some(name) = self.register(mutator, register) else {
             return Reply::Null;
         };
-        let was = self.is_pinned(n);
-        self.set_pinned(n, true);
+        let was = self.is_pinned(name);
+        self.set_pinned(name, true);
         if was { Reply::No } else { Reply::Yes }
     }
 
     /// Executes `Unpin`.
-    pub fn unpin(&mut self, mutator: u32, s: u32) -> Reply
+    pub fn unpin(&mut self, mutator: u32, register: u32) -> Reply
         requires mutator { HasMutator self.old mutator }
-        requires register { s ≤ 15 }
+        requires register { register ≤ MAX_REGISTER }
         requires closed { IsClosed (tables_heap self.old) }
         ensures step { (result, tables_heap self.new)
-            ≡ step (tables_heap self.old) mutator (command.Unpin s) }
+            ≡ step (tables_heap self.old) mutator (command.Unpin register) }
         ensures count { mutator_count self.new ≡ mutator_count self.old }
     {
-        let Some(n) = self.register(mutator, s) else {
+        let Some(name) = self.register(mutator, register) else {
             return Reply::Null;
         };
-        let was = self.is_pinned(n);
-        self.set_pinned(n, false);
+        let was = self.is_pinned(name);
+        self.set_pinned(name, false);
         if was { Reply::Yes } else { Reply::No }
     }
 
     /// Executes `Load`.
-    pub fn load(&mut self, mutator: u32, d: u32, g: u32) -> Reply
+    pub fn load(&mut self, mutator: u32, destination: u32, global: u32) -> Reply
         requires mutator { HasMutator self.old mutator }
-        requires numbers { (d ≤ 15) × (g ≤ 15) }
+        requires numbers { (destination ≤ MAX_REGISTER) × (global ≤ MAX_GLOBAL) }
         ensures step { (result, tables_heap self.new)
-            ≡ step (tables_heap self.old) mutator (command.Load d g) }
+            ≡ step (tables_heap self.old) mutator (command.Load destination global) }
         ensures count { mutator_count self.new ≡ mutator_count self.old }
     {
-        let v = self.global(g);
-        self.set_register(mutator, d, v);
-        reply_of_global(v)
+        let value = self.global(global);
+        self.set_register(mutator, destination, value);
+        reply_of_global(value)
     }
 
     /// Executes `Share`.
-    pub fn share(&mut self, mutator: u32, g: u32, s: u32) -> Reply
+    pub fn share(&mut self, mutator: u32, global: u32, source: u32) -> Reply
         requires mutator { HasMutator self.old mutator }
-        requires numbers { (g ≤ 15) × (s ≤ 15) }
+        requires numbers { (global ≤ MAX_GLOBAL) × (source ≤ MAX_REGISTER) }
         ensures step { (result, tables_heap self.new)
-            ≡ step (tables_heap self.old) mutator (command.Share g s) }
+            ≡ step (tables_heap self.old) mutator (command.Share global source) }
         ensures count { mutator_count self.new ≡ mutator_count self.old }
     {
-        let v = self.register(mutator, s);
-        self.set_global(g, v);
+        let value = self.register(mutator, source);
+        self.set_global(global, value);
         Reply::Done
     }
 
     /// Executes `Move`.
-    pub fn copy_register(&mut self, mutator: u32, d: u32, s: u32) -> Reply
+    pub fn copy_register(&mut self, mutator: u32, destination: u32, source: u32) -> Reply
         requires mutator { HasMutator self.old mutator }
-        requires registers { (d ≤ 15) × (s ≤ 15) }
+        requires registers { (destination ≤ MAX_REGISTER) × (source ≤ MAX_REGISTER) }
         ensures step { (result, tables_heap self.new)
-            ≡ step (tables_heap self.old) mutator (command.Move d s) }
+            ≡ step (tables_heap self.old) mutator (command.Move destination source) }
         ensures count { mutator_count self.new ≡ mutator_count self.old }
     {
-        let v = self.register(mutator, s);
-        self.set_register(mutator, d, v);
+        let value = self.register(mutator, source);
+        self.set_register(mutator, destination, value);
         Reply::Done
     }
 
     /// Executes `DropReg`.
-    pub fn drop_register(&mut self, mutator: u32, s: u32) -> Reply
+    pub fn drop_register(&mut self, mutator: u32, register: u32) -> Reply
         requires mutator { HasMutator self.old mutator }
-        requires register { s ≤ 15 }
+        requires register { register ≤ MAX_REGISTER }
         ensures step { (result, tables_heap self.new)
-            ≡ step (tables_heap self.old) mutator (command.DropReg s) }
+            ≡ step (tables_heap self.old) mutator (command.DropReg register) }
         ensures count { mutator_count self.new ≡ mutator_count self.old }
     {
-        self.set_register(mutator, s, None);
+        self.set_register(mutator, register, None);
         Reply::Done
     }
 }

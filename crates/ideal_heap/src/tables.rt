@@ -2,6 +2,7 @@
 
 ghost use Rattle.std.specs.Prelude.{◌<◌, ◌^◌, ◌≤◌, vec_len};
 
+use crate::command::{GLOBALS, REGISTERS};
 use crate::name::Name;
 
 /// An object: its references, its numbers, and whether it is pinned.
@@ -15,7 +16,7 @@ pub struct Object {
 /// A mutator: its registers, and its objects in the order of allocation.
 #[derive(Drop)]
 pub struct Mutator {
-    pub registers: [Option<Name>; 16],
+    pub registers: [Option<Name>; REGISTERS],
     pub objects: Vec<Object>,
     pub ghost few: { vec_len objects < 2 ^ 32 },
 }
@@ -24,5 +25,5 @@ pub struct Mutator {
 #[derive(Drop)]
 pub struct Tables {
     pub mutators: Vec<Mutator>,
-    pub globals: [Option<Name>; 16],
+    pub globals: [Option<Name>; GLOBALS],
 }

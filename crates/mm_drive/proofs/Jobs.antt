@@ -1,14 +1,11 @@
 -- What is known of a job that arguments name.
-use Rattle.std.proofs.Common.{◌≡◌, refl, sym, ◌∙◌, ap, subst, ℕ, ◌≤◌, Bool, true, false, ◌&&◌, List, [], ◌∷◌, nat_eq}
+use Rattle.std.proofs.Common.{◌≡◌, refl, sym, ap, subst, ℕ, ◌≤◌, Bool, true, false, ◌&&◌, List, nat_eq}
 use Rattle.std.specs.Prelude.{Option, None, Some, option_and_then, unwrap_or, nat_le, not, if◌then◌else◌}
-use Rattle.std.proofs.lemmas.Bool.{true≢false, leb-true, eqb-true}
+use Rattle.std.proofs.lemmas.Bool.{true≢false, leb-true}
 use Rattle.std.proofs.lemmas.Option.{none-some}
-use Rattle.ideal_heap.specs.declared.command.Command.{Command}
 use Rattle.trace_text.specs.Grammar.{numeral}
-use Rattle.sessions.specs.Plans.{Plan, NoGc, MarkSweep, SemiSpace, GenCopy, Immix, StickyImmix}
-use Rattle.sessions.specs.Alone.{alone_under_nogc}
-use Rattle.command_line.specs.Words.{Job, Work, Line, Values, job_of, form_of, line_of, job_in, job_with, plan_of, number_in, if_within, workers_of, work_of, values_in, is_supported, if_served, is_nogc, is_one_file}
-use Rattle.mm_drive.specs.Printed.{setting_of}
+use Rattle.sessions.specs.Plans.{Plan}
+use Rattle.command_line.specs.Words.{Job, Work, Line, Values, job_of, form_of, line_of, job_in, job_with, plan_of, number_in, if_within, workers_of, work_of, values_in, is_supported, if_supported, is_nogc, is_one_file}
 
 both : (a b : Bool) → (a && b) ≡ true → (a ≡ true) × (b ≡ true)
 both true b e = (refl, e)
@@ -18,16 +15,16 @@ picked : {X : Type 0} (b : Bool) (x y : X) → (if b then Some x else None) ≡ 
 picked true x y e = (refl, ap (λ o. unwrap_or o x) e)
 picked false x y e = absurd (none-some y e)
 
-served-in : (o : Option Job) (job : Job) → option_and_then if_served o ≡ Some job → (is_supported job ≡ true) × (o ≡ Some job)
-served-in None job e = absurd (none-some job e)
-served-in (Some j) job e =
+supported-in : (o : Option Job) (job : Job) → option_and_then if_supported o ≡ Some job → (is_supported job ≡ true) × (o ≡ Some job)
+supported-in None job e = absurd (none-some job e)
+supported-in (Some j) job e =
     let p = picked (is_supported j) j job e in
     (subst (λ (x : Job). is_supported x ≡ true) p.1 p.0, ap (λ x. Some x) p.1)
 
 -- the job is implemented, and named by arguments that match the usage
-pub job-served : (words : List (List ℕ)) (job : Job) → Some job ≡ job_of words → (is_supported job ≡ true) × (form_of words ≡ Some job)
+pub job-supported : (words : List (List ℕ)) (job : Job) → Some job ≡ job_of words → (is_supported job ≡ true) × (form_of words ≡ Some job)
 unfolding job_of
-job-served words job e = served-in (form_of words) job (sym e)
+job-supported words job e = supported-in (form_of words) job (sym e)
 
 within-bounds : (least most : ℕ) (o : Option ℕ) (n : ℕ) → option_and_then (if_within least most) o ≡ Some n → (least ≤ n) × (n ≤ most)
 within-bounds least most None n e = absurd (none-some n e)
@@ -62,5 +59,5 @@ unfolding form_of
 job-blocks words job e = line-bounds (line_of words) job e
 
 -- its work is one file
-pub served-work : (job : Job) → is_supported job ≡ true → is_one_file job.work ≡ true
-served-work job served = (both (is_nogc job.plan && nat_eq job.workers 1 && not job.map) (is_one_file job.work) served).1
+pub supported-work : (job : Job) → is_supported job ≡ true → is_one_file job.work ≡ true
+supported-work job supported = (both (is_nogc job.plan && nat_eq job.workers 1 && not job.map) (is_one_file job.work) supported).1

@@ -1,19 +1,19 @@
 -- Files that are read one after another: what is known after one more, and that reading ends at a single file.
 use Rattle.std.proofs.Common.{◌≡◌, refl, sym, ◌∙◌, ap, subst, ℕ, zero, suc, ◌<◌, ◌≤◌, inl, inr, arith, List, [], ◌∷◌, ◌++◌, append_assoc, length, take}
-use Rattle.std.specs.Prelude.{Option, None, Some, IfSome, Result, Ok, Err, IsErr, slice_get, unwrap_or}
+use Rattle.std.specs.Prelude.{Option, None, Some, IfSome, Result, Ok, Err, IsErr, slice_get, unwrap_or, IfOk}
 use Rattle.std.proofs.lemmas.Bool.{true≢false, cases_order}
 use Rattle.std.proofs.lemmas.Option.{none-some, slice_get_within, get_or_from_slice_get}
 use Rattle.std.proofs.lemmas.List.{map-append}
 use Rattle.std.proofs.Math.Seq.{take-suc}
 use Rattle.ideal_heap.specs.declared.command.Command.{Command}
 use Rattle.trace_text.specs.declared.fault.TraceFault.{TraceFault}
-use Rattle.trace_text.specs.declared.fault.TraceFault.TheVariants as flaw
+use Rattle.mm_drive.specs.declared.fault_lines.Flaw.{Flaw}
 use Rattle.trace_text.specs.Grammar.{trace}
 use Rattle.outside.specs.Outside.{Asked, SourceState, HasRisen}
-use Rattle.outside.specs.Reading.{most_bytes}
+use Rattle.outside.specs.declared.reader.TheConstants.{MAX_FILE_BYTES}
 use Rattle.mm_drive.specs.declared.traces.FileFault.{FileFault}
 use Rattle.mm_drive.specs.declared.traces.FileFault.TheVariants as file
-use Rattle.mm_drive.specs.Printed.{Content, IsTraceIn, AreTraces, AreKnown, EndsAt, EndsAtKnown, AsksFirst, AsksPrefix, IsAny, IsLong, IsNoTrace, HasFault}
+use Rattle.mm_drive.specs.Printed.{Content, IsTraceIn, AreTraces, AreKnown, EndsAt, EndsAtKnown, AsksFirst, AsksPrefix, IsAny, IsLong, IsNoTrace, HasFault, fault_of}
 use Rattle.mm_drive.specs.Reading.{AsksName, Halts, fault_at}
 
 any-content : (o : Option (List ℕ)) → IfSome o IsAny
@@ -55,13 +55,13 @@ asks-more names k name count before now next is asked one = record {
   names = map-append (λ a. a.0) asked.since ((name, count) ∷ []) ∙ ap (λ x. x ++ name ∷ []) asked.names ∙ sym (one-more names k name is);
 }
 
-pub asks-front : {X : Type 0} (r : Result X FileFault) (names : List (List ℕ)) (k : ℕ) (name : List ℕ) (before : Asked) (now next : SourceState) → slice_get names k ≡ Some name → AsksFirst k names before now.asked → AsksName r name now next
+pub asks-prefix : {X : Type 0} (r : Result X FileFault) (names : List (List ℕ)) (k : ℕ) (name : List ℕ) (before : Asked) (now next : SourceState) → slice_get names k ≡ Some name → AsksFirst k names before now.asked → AsksName r name now next
     → AsksPrefix names before next.asked
-asks-front (Ok x) names k name before now next is asked one = (suc k, asks-more names k name now.faults before now.asked next.asked is asked one)
-asks-front (Err file.Unread) names k name before now next is asked one = (suc k, asks-more names k name now.faults before now.asked next.asked is asked one)
-asks-front (Err file.TooLong) names k name before now next is asked one = (suc k, asks-more names k name now.faults before now.asked next.asked is asked one)
-asks-front (Err (file.Bad f)) names k name before now next is asked one = (suc k, asks-more names k name now.faults before now.asked next.asked is asked one)
-asks-front (Err file.OutOfMemory) names k name before now next is asked one =
+asks-prefix (Ok x) names k name before now next is asked one = (suc k, asks-more names k name now.faults before now.asked next.asked is asked one)
+asks-prefix (Err file.Unread) names k name before now next is asked one = (suc k, asks-more names k name now.faults before now.asked next.asked is asked one)
+asks-prefix (Err file.TooLong) names k name before now next is asked one = (suc k, asks-more names k name now.faults before now.asked next.asked is asked one)
+asks-prefix (Err (file.Bad f)) names k name before now next is asked one = (suc k, asks-more names k name now.faults before now.asked next.asked is asked one)
+asks-prefix (Err file.OutOfMemory) names k name before now next is asked one =
     elim one as (λ _. AsksPrefix names before next.asked) [
       | inl more ↦ (suc k, asks-more names k name now.faults before now.asked next.asked is asked more)
       | inr none ↦ (k, subst (λ (x : Asked). AsksFirst k names before x) (sym none) asked)
@@ -81,10 +81,10 @@ module _ (names : List (List ℕ)) (k : ℕ) (name : List ℕ) (ts : List (List 
   ends P holds = record { file = name; is = is; traces = ts; good = good; content_is = subst (λ (content : Content). IfSome (content name) P) same holds }
 
   pub halts : (X : Type 0) (fault : FileFault) → AsksName {X = X} (Err fault) name now next → (fault ≡ file.Unread → HasRisen now.faults next.faults) → (fault ≡ file.TooLong → IfSome (now.content name) IsLong)
-      → ((f : TraceFault) → fault ≡ file.Bad f → (f ≡ flaw.OutOfMemory → ⊥) × IfSome (now.content name) (HasFault f)) → Halts names first next (fault_at k fault)
-  halts X file.Unread one unread long bad = (ends IsAny (any-content (now.content name)), record { earlier = now.asked; front = asked; count = now.faults; last = one; since = later; risen = unread refl })
+      → ((f : Flaw) → fault ≡ file.Bad f → IfSome (now.content name) (HasFault f)) → Halts names first next (fault_at k fault)
+  halts X file.Unread one unread long bad = (ends IsAny (any-content (now.content name)), record { earlier = now.asked; prefix = asked; count = now.faults; last = one; since = later; risen = unread refl })
   halts X file.TooLong one unread long bad = (ends IsLong (long refl), asks-more names k name now.faults first.asked now.asked next.asked is asked one)
-  halts X (file.Bad f) one unread long bad = ((bad f refl).0, ends (HasFault f) (bad f refl).1, asks-more names k name now.faults first.asked now.asked next.asked is asked one)
+  halts X (file.Bad f) one unread long bad = (ends (HasFault f) (bad f refl), asks-more names k name now.faults first.asked now.asked next.asked is asked one)
   halts X file.OutOfMemory one unread long bad = tt
 
 -- an element of a prefix
@@ -96,7 +96,7 @@ get-take (y ∷ ys) (suc n) (suc k) x low is = get-take ys n k x (omega (arith, 
 
 -- a property that no text of lawful length has that is a trace
 abbrev pub IsOffTrace : (List ℕ → Type 0) → Type 0
-IsOffTrace P = (bytes : List ℕ) (t : List Command) → P bytes → (length bytes ≤ most_bytes) × (trace bytes ≡ Ok t) → ⊥
+IsOffTrace P = (bytes : List ℕ) (t : List Command) → P bytes → (length bytes ≤ MAX_FILE_BYTES) × (trace bytes ≡ Ok t) → ⊥
 
 abbrev pub AreApart : (List ℕ → Type 0) → (List ℕ → Type 0) → Type 0
 AreApart P Q = (bytes : List ℕ) → P bytes → Q bytes → ⊥
@@ -108,19 +108,19 @@ fault-is : (r : Result (List Command) TraceFault) (f : TraceFault) → r ≡ Err
 fault-is r f e = subst (λ (x : Result (List Command) TraceFault). IsErr x) (sym e) refl
 
 pub long-off : IsOffTrace IsLong
-long-off bytes t long fine = let most : most_bytes < length bytes = long in omega (arith, most, fine.0)
+long-off bytes t long fine = let most : MAX_FILE_BYTES < length bytes = long in omega (arith, most, fine.0)
 
 pub bad-off : IsOffTrace IsNoTrace
 bad-off bytes t bad fine = no-error (trace bytes) t fine.1 bad.1
 
-pub fault-off : (f : TraceFault) → IsOffTrace (HasFault f)
-fault-off f bytes t bad fine = no-error (trace bytes) t fine.1 (fault-is (trace bytes) f bad.1)
+pub fault-off : (f : Flaw) → IsOffTrace (HasFault f)
+fault-off f bytes t bad fine = no-error (trace bytes) t fine.1 (fault-is (trace bytes) (fault_of f) bad.1)
 
 pub long-bad : AreApart IsLong IsNoTrace
-long-bad bytes long bad = let most : most_bytes < length bytes = long in omega (arith, most, bad.0)
+long-bad bytes long bad = let most : MAX_FILE_BYTES < length bytes = long in omega (arith, most, bad.0)
 
-pub fault-long : (f : TraceFault) → AreApart (HasFault f) IsLong
-fault-long f bytes bad long = let most : most_bytes < length bytes = long in omega (arith, most, bad.0)
+pub fault-long : (f : Flaw) → AreApart (HasFault f) IsLong
+fault-long f bytes bad long = let most : MAX_FILE_BYTES < length bytes = long in omega (arith, most, bad.0)
 
 module _ (content : Content) (names : List (List ℕ)) where
   -- all files have traces, yet one up to which contents are known is not a trace
@@ -129,20 +129,20 @@ module _ (content : Content) (names : List (List ℕ)) where
       let at = ends.1 in
       let t = trace-at content names ts ends.0 at.file good at.is in
       let known = reported-at content (take (suc ends.0) names) ends.0 at.file ends.2 (get-take names (suc ends.0) ends.0 at.file (omega arith) at.is) in
-      off known.0 t.0 (of-reported content at.file known.0 Q known.1 at.content_is) (of-reported content at.file known.0 (λ bytes. (length bytes ≤ most_bytes) × (trace bytes ≡ Ok t.0)) known.1 t.1)
+      off known.0 t.0 (of-reported content at.file known.0 Q known.1 at.content_is) (of-reported content at.file known.0 (λ bytes. (length bytes ≤ MAX_FILE_BYTES) × (trace bytes ≡ Ok t.0)) known.1 t.1)
 
   -- one file is not a trace, yet all are known and have traces
   pub reported-clash : (ts : List (List Command)) (k : ℕ) (P : List ℕ → Type 0) → IsOffTrace P → EndsAt content names k P → AreKnown content names → AreTraces content names ts → ⊥
   reported-clash ts k P off at reported good =
       let t = trace-at content names ts k at.file good at.is in
       let known = reported-at content names k at.file reported at.is in
-      off known.0 t.0 (of-reported content at.file known.0 P known.1 at.content_is) (of-reported content at.file known.0 (λ bytes. (length bytes ≤ most_bytes) × (trace bytes ≡ Ok t.0)) known.1 t.1)
+      off known.0 t.0 (of-reported content at.file known.0 P known.1 at.content_is) (of-reported content at.file known.0 (λ bytes. (length bytes ≤ MAX_FILE_BYTES) × (trace bytes ≡ Ok t.0)) known.1 t.1)
 
   below : (k j : ℕ) (P : List ℕ → Type 0) → k < j → IsOffTrace P → (file : List ℕ) → slice_get names k ≡ Some file → (ts : List (List Command)) → AreTraces content (take j names) ts
       → (bytes : List ℕ) → content file ≡ Some bytes → P bytes → ⊥
   below k j P low off file is ts good bytes known p =
       let t = trace-at content (take j names) ts k file good (get-take names j k file low is) in
-      off bytes t.0 p (of-reported content file bytes (λ x. (length x ≤ most_bytes) × (trace x ≡ Ok t.0)) known t.1)
+      off bytes t.0 p (of-reported content file bytes (λ x. (length x ≤ MAX_FILE_BYTES) × (trace x ≡ Ok t.0)) known t.1)
 
   -- reading ends at a single file, with a single cause
   pub ends-clash : (k : ℕ) (P Q : List ℕ → Type 0) → IsOffTrace P → IsOffTrace Q → AreApart P Q → EndsAt content names k P → EndsAtKnown content names Q → ⊥
@@ -165,3 +165,14 @@ module _ (content : Content) (names : List (List ℕ)) where
             let known = reported j other.file (omega arith) other.is in
             below j k Q high off-q other.file other.is at.traces at.good known.0 known.1 (of-reported content other.file known.0 Q known.1 other.content_is)
       ]
+
+-- what was read is the content, if that is known
+pub trace-in : {X : Type 0} (r : Result X FileFault) (view : X → List Command) (content : Option (List ℕ)) (bytes : List ℕ) → length bytes ≤ MAX_FILE_BYTES → IfSome content (λ known. bytes ≡ known)
+    → IfOk r (λ x. trace bytes ≡ Ok (view x)) → IfOk r (λ x. IsTraceIn content (view x))
+trace-in (Err e) view content bytes few is read = tt
+trace-in (Ok x) view None bytes few is read = tt
+trace-in (Ok x) view (Some known) bytes few is read = subst (λ (b : List ℕ). (length b ≤ MAX_FILE_BYTES) × (trace b ≡ Ok (view x))) is (few, read)
+
+pub fault-in : (f : Flaw) (content : Option (List ℕ)) (bytes : List ℕ) → length bytes ≤ MAX_FILE_BYTES → IfSome content (λ known. bytes ≡ known) → trace bytes ≡ Err (fault_of f) → IfSome content (HasFault f)
+fault-in f None bytes few is bad = tt
+fault-in f (Some known) bytes few is bad = subst (HasFault f) is (few, bad)

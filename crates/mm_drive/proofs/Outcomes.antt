@@ -1,20 +1,19 @@
 -- From reading, running and writing to a whole run.
 use Rattle.std.proofs.Common.{◌≡◌, refl, sym, ◌∙◌, ap, subst, ℕ, suc, ◌<◌, arith, true, List, [], ◌∷◌, length}
-use Rattle.std.specs.Prelude.{Option, Some, IfSome, MatchOption, option_map, slice_get, String, string_bytes, unwrap_or}
+use Rattle.std.specs.Prelude.{Option, Some, IfSome, option_map, slice_get, String, string_bytes, unwrap_or}
 use Rattle.std.specs.declared.alloc.Global.{Global}
 use Rattle.std.proofs.lemmas.Bool.{true≢false}
 use Rattle.std.proofs.lemmas.List.{length-map}
 use Rattle.std.proofs.lemmas.Option.{slice_get_within}
 use Rattle.ideal_heap.specs.declared.command.Command.{Command}
-use Rattle.trace_text.specs.declared.fault.TraceFault.{TraceFault}
-use Rattle.trace_text.specs.declared.fault.TraceFault.TheVariants.{OutOfMemory}
+use Rattle.mm_drive.specs.declared.fault_lines.Flaw.{Flaw}
 use Rattle.command_line.specs.Words.{Job, Work, Files, Made, is_one_file, is_supported}
 use Rattle.command_line.specs.Orders.{job_of_order, texts}
 use Rattle.command_line.specs.declared.order.Order.{Order}
-use Rattle.outside.specs.Outside.{SourceState, SinkState, HasRisen, Adds, AppendsPrefix}
+use Rattle.outside.specs.Outside.{SourceState, SinkState, HasRisen, AppendsText, AppendsPrefix}
 use Rattle.mm_drive.specs.Printed.{Content, files_in, job_files, IsPrinted, AreTraces, AreTracesOf, Prints, PrintsPrefix, AsksFirst, EndsAt, IsAny, IsLong, HasFault, Unread, IsTooLong, IsBad, unread_line, long_line, fault_line}
 use Rattle.mm_drive.specs.Reading.{IsUnread}
-use Rattle.mm_drive.proofs.Jobs.{served-work}
+use Rattle.mm_drive.proofs.Jobs.{supported-work}
 
 -- what holds of the job holds of the job that the arguments name, if they name one
 pub of-job : {J : Type 0} (o : Option J) (j : J) (P : J → Type 0) → Some j ≡ o → P j → IfSome o P
@@ -32,24 +31,24 @@ module _ (names : List (List ℕ)) (k : ℕ) (name : List ℕ) (same : slice_get
   here : (file : List ℕ) → slice_get names k ≡ Some file → name ≡ file
   here file is = ap (λ o. unwrap_or o name) (sym same ∙ is)
 
-  pub unread-here : (Told : List ℕ → Type 0) → (at : EndsAt before.content names k IsAny) × IsUnread names k at.file before after → Told (unread_line name) → Unread names before after Told
-  unread-here Told ends line = record {
+  pub unread-here : (Writes : List ℕ → Type 0) → (at : EndsAt before.content names k IsAny) × IsUnread names k at.file before after → Writes (unread_line name) → Unread names before after Writes
+  unread-here Writes ends line = record {
     place = k;
     at = ends.0;
     earlier = ends.1.earlier;
-    front = ends.1.front;
+    prefix = ends.1.prefix;
     count = ends.1.count;
     last = ends.1.last;
     since = ends.1.since;
     risen = ends.1.risen;
-    line = subst (λ (x : List ℕ). Told (unread_line x)) (here ends.0.file ends.0.is) line;
+    line = subst (λ (x : List ℕ). Writes (unread_line x)) (here ends.0.file ends.0.is) line;
   }
 
-  pub long-here : (Told : List ℕ → Type 0) → EndsAt before.content names k IsLong × AsksFirst (suc k) names before.asked after.asked → Told (long_line name) → IsTooLong names before after Told
-  long-here Told ends line = record { place = k; at = ends.0; asked = ends.1; line = subst (λ (x : List ℕ). Told (long_line x)) (here ends.0.file ends.0.is) line }
+  pub long-here : (Writes : List ℕ → Type 0) → EndsAt before.content names k IsLong × AsksFirst (suc k) names before.asked after.asked → Writes (long_line name) → IsTooLong names before after Writes
+  long-here Writes ends line = record { place = k; at = ends.0; asked = ends.1; line = subst (λ (x : List ℕ). Writes (long_line x)) (here ends.0.file ends.0.is) line }
 
-  pub bad-here : (f : TraceFault) (Told : List ℕ → Type 0) → (f ≡ OutOfMemory → ⊥) × EndsAt before.content names k (HasFault f) × AsksFirst (suc k) names before.asked after.asked → Told (fault_line name f) → IsBad names before after Told
-  bad-here f Told bad line = record { fault = f; real = bad.0; place = k; at = bad.1; asked = bad.2; line = subst (λ (x : List ℕ). Told (fault_line x f)) (here bad.1.file bad.1.is) line }
+  pub bad-here : (f : Flaw) (Writes : List ℕ → Type 0) → EndsAt before.content names k (HasFault f) × AsksFirst (suc k) names before.asked after.asked → Writes (fault_line name f) → IsBad names before after Writes
+  bad-here f Writes bad line = record { flaw = f; place = k; at = bad.0; asked = bad.1; line = subst (λ (x : List ℕ). Writes (fault_line x f)) (here bad.0.file bad.0.is) line }
 
 -- the traces of the files are those of a job that is implemented
 pub of-files : (content : Content) (work : Work) (ts : List (List Command)) → is_one_file work ≡ true → AreTraces content (files_in work) ts → AreTracesOf content work ts
@@ -74,15 +73,15 @@ one-file (Made n) one = absurd (true≢false (sym one))
 
 -- a job that is implemented has one trace
 pub one-trace : (content : Content) (job : Job) (ts : List (List Command)) → is_supported job ≡ true → AreTraces content (job_files job) ts → length ts ≡ 1
-one-trace content job ts served good = one-each content (job_files job) ts good ∙ one-file job.work (served-work job served)
+one-trace content job ts supported good = one-each content (job_files job) ts good ∙ one-file job.work (supported-work job supported)
 
 -- what was written is the text of a session of the job
 pub prints : (content : Content) (job : Job) (ts : List (List Command)) (text : List ℕ) (before after : SinkState) → is_supported job ≡ true
-    → AreTraces content (job_files job) ts → IsPrinted job ts text → Adds before.written after.written text → Prints content job before after
-prints content job ts text before after served good printed written =
-    record { traces = ts; read = of-files content job.work ts (served-work job served) good; text = text; printed = printed; written = written }
+    → AreTraces content (job_files job) ts → IsPrinted job ts text → AppendsText before.written after.written text → Prints content job before after
+prints content job ts text before after supported good printed written =
+    record { traces = ts; read = of-files content job.work ts (supported-work job supported) good; text = text; printed = printed; written = written }
 
-pub prints-front : (content : Content) (job : Job) (ts : List (List Command)) (text : List ℕ) (before after : SinkState) → is_supported job ≡ true
+pub prints-prefix : (content : Content) (job : Job) (ts : List (List Command)) (text : List ℕ) (before after : SinkState) → is_supported job ≡ true
     → AreTraces content (job_files job) ts → IsPrinted job ts text → AppendsPrefix before.written after.written text → HasRisen before.faults after.faults → PrintsPrefix content job before after
-prints-front content job ts text before after served good printed written risen =
-    record { traces = ts; read = of-files content job.work ts (served-work job served) good; text = text; printed = printed; written = written; risen = risen }
+prints-prefix content job ts text before after supported good printed written risen =
+    record { traces = ts; read = of-files content job.work ts (supported-work job supported) good; text = text; printed = printed; written = written; risen = risen }

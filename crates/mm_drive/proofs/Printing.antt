@@ -24,9 +24,9 @@ prints_more b trace old new index text next command reply prints on here appende
   replies = prints.replies ++ reply ∷ [];
   runs = on b trace prints.replies prints.runs (ap (slice_get trace) prints.counts_after ∙ here);
   counts_after = omega (arith, prints.counts_after, length-append prints.replies (reply ∷ []));
-  printed = appended ∙ ap (λ front. front ++ ended (reply_text reply)) prints.printed ∙ one_reply_more 1 prints.replies reply;
+  printed = appended ∙ ap (λ start. start ++ ended (reply_text reply)) prints.printed ∙ one_reply_more 1 prints.replies reply;
 }
 
 pub no_reply : (m : ℕ) (text next : List ℕ) → text ≡ [] → next ≡ text ++ ended (codes "mutator " ++ decimal m) → next ≡ mutator_text m []
 no_reply m text next empty appended =
-    appended ∙ ap (λ front. front ++ ended (codes "mutator " ++ decimal m)) empty ∙ sym (append-nil (ended (codes "mutator " ++ decimal m)))
+    appended ∙ ap (λ start. start ++ ended (codes "mutator " ++ decimal m)) empty ∙ sym (append-nil (ended (codes "mutator " ++ decimal m)))

@@ -9,7 +9,7 @@ use Rattle.mm_drive.specs.declared.status.Status.TheVariants as status
 use Rattle.mm_drive.specs.Statuses.{number_of}
 use Rattle.mm_drive.specs.Printed.{Prints, PrintsPrefix, usage_line, memory_line}
 
--- the status if the system gives no arguments: out of memory if it reports that, else usage, as an argument is not UTF-8
+-- the status if the system gives no arguments: out of memory if it reports that, else usage: an argument is not UTF-8
 abbrev pub refusal : ErrorKind → Status
 refusal kinds.OutOfMemory = status.OutOfMemory
 refusal _ = status.Usage
@@ -27,7 +27,7 @@ pub record IsStatusOf (job : Option Job) (s : Status) : Type 0 where
 pub record Ran (job : Option Job) (s : Status) (out out' err err' : SinkState) : Type 0 where
   pub status_of : IsStatusOf job s
   pub printed : s ≡ status.Ok → IfSome job (λ j. Prints (λ _. None) j out out')
-  pub front : s ≡ status.WriteFault → IfSome job (λ j. PrintsPrefix (λ _. None) j out out')
+  pub prefix : s ≡ status.WriteFault → IfSome job (λ j. PrintsPrefix (λ _. None) j out out')
   pub unwritten : s ≢ status.Ok → s ≢ status.WriteFault → out' ≡ out
   pub silent : s ≡ status.Ok → err' ≡ err
 

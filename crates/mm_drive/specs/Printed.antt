@@ -6,13 +6,15 @@ use Rattle.ideal_heap.specs.declared.command.Command.{Command}
 use Rattle.trace_text.specs.declared.fault.Why.{Why}
 use Rattle.trace_text.specs.declared.fault.Why.TheVariants as why
 use Rattle.trace_text.specs.declared.fault.TraceFault.{TraceFault}
-use Rattle.trace_text.specs.declared.fault.TraceFault.TheVariants.{Line, TooMany, OutOfMemory}
+use Rattle.trace_text.specs.declared.fault.TraceFault.TheVariants.{Line, TooMany}
+use Rattle.mm_drive.specs.declared.fault_lines.Flaw.{Flaw}
+use Rattle.mm_drive.specs.declared.fault_lines.Flaw.TheVariants as flaws
 use Rattle.trace_text.specs.Grammar.{trace}
 use Rattle.sessions.specs.Plans.{rules_of}
 use Rattle.sessions.specs.Sessions.{Setting, Moment, IsWhole}
 use Rattle.command_line.specs.Words.{Job, Work, Files, Made}
-use Rattle.outside.specs.Outside.{Asked, SourceState, SinkState, HasRisen, Adds, AppendsPrefix}
-use Rattle.outside.specs.Reading.{most_bytes}
+use Rattle.outside.specs.Outside.{Asked, SourceState, SinkState, HasRisen, AppendsText, AppendsPrefix}
+use Rattle.outside.specs.declared.reader.TheConstants.{MAX_FILE_BYTES}
 use Rattle.mm_drive.specs.Texts.{replies_part, IsSessionText, IsSummary}
 use Rattle.mm_drive.specs.Made.{made_trace}
 
@@ -61,7 +63,7 @@ Content = List ℕ → Option (List ℕ)
 
 -- the content, if known, encodes this trace
 abbrev pub IsTraceIn : Option (List ℕ) → List Command → Type 0
-IsTraceIn content t = IfSome content (λ bytes. (length bytes ≤ most_bytes) × (trace bytes ≡ Ok t))
+IsTraceIn content t = IfSome content (λ bytes. (length bytes ≤ MAX_FILE_BYTES) × (trace bytes ≡ Ok t))
 
 -- the contents of the files, if known, encode these traces, one each
 abbrev pub AreTraces : Content → List (List ℕ) → List (List Command) → Type 0
@@ -91,7 +93,7 @@ pub record Prints (content : Content) (job : Job) (before after : SinkState) : T
   pub read : AreTracesOf content job.work traces
   pub text : List ℕ
   pub printed : IsPrinted job traces text
-  pub written : Adds before.written after.written text
+  pub written : AppendsText before.written after.written text
 
 -- a prefix of such a text was written, but not the whole text, and the sink failed
 pub record PrintsPrefix (content : Content) (job : Job) (before after : SinkState) : Type 0 where
@@ -125,21 +127,27 @@ abbrev pub EndsAtKnown : Content → List (List ℕ) → (List ℕ → Type 0) �
 EndsAtKnown content files P = (k : ℕ) × EndsAt content files k P × AreKnown content (take (suc k) files)
 
 abbrev pub IsLong : List ℕ → Type 0
-IsLong bytes = most_bytes < length bytes
+IsLong bytes = MAX_FILE_BYTES < length bytes
 
 -- short enough, but not a trace
 abbrev pub IsNoTrace : List ℕ → Type 0
-IsNoTrace bytes = (length bytes ≤ most_bytes) × IsErr (trace bytes)
+IsNoTrace bytes = (length bytes ≤ MAX_FILE_BYTES) × IsErr (trace bytes)
 
-abbrev pub HasFault : TraceFault → List ℕ → Type 0
-HasFault fault bytes = (length bytes ≤ most_bytes) × (trace bytes ≡ Err fault)
+-- the reader's fault for a file with this flaw
+abbrev pub fault_of : Flaw → TraceFault
+fault_of (flaws.Line n w) = Line n w
+fault_of flaws.TooMany = TooMany
+
+abbrev pub HasFault : Flaw → List ℕ → Type 0
+HasFault flaw bytes = (length bytes ≤ MAX_FILE_BYTES) × (trace bytes ≡ Err (fault_of flaw))
 
 abbrev pub IsAny : List ℕ → Type 0
 IsAny bytes = Unit {0}
 
 -- The lines on standard error.
 abbrev pub usage_line : List ℕ
-usage_line = codes "mm_drive: usage: mm_drive --plan P --heap B [--workers W] [--map] FILE... | mm_drive --plan P --heap B [--workers W] --make N\n"
+usage_line = codes "mm_drive: usage: mm_drive --plan P --heap B [--workers W] [--map] FILE... "
+    ++ codes "| mm_drive --plan P --heap B [--workers W] --make N\n"
 
 abbrev pub unread_line : List ℕ → List ℕ
 unread_line file = codes "mm_drive: cannot read " ++ (file ++ codes "\n")
@@ -162,14 +170,13 @@ why_word why.Range = codes "range"
 abbrev pub line_fault : List ℕ → List ℕ → List ℕ → List ℕ
 line_fault file line word = file_line file (codes ": line " ++ (line ++ (codes ": " ++ (word ++ codes "\n"))))
 
--- the end of the line for a file that is not a trace; lack of memory is never reported by it
-abbrev pub fault_end : TraceFault → List ℕ
-fault_end (Line n w) = codes "line " ++ (decimal n ++ (codes ": " ++ (why_word w ++ codes "\n")))
-fault_end TooMany = codes "more than 1000000 commands\n"
-fault_end OutOfMemory = []
+-- the end of the line for a file that is not a trace
+abbrev pub fault_end : Flaw → List ℕ
+fault_end (flaws.Line n w) = codes "line " ++ (decimal n ++ (codes ": " ++ (why_word w ++ codes "\n")))
+fault_end flaws.TooMany = codes "more than 1000000 commands\n"
 
-abbrev pub fault_line : List ℕ → TraceFault → List ℕ
-fault_line file fault = file_line file (codes ": " ++ fault_end fault)
+abbrev pub fault_line : List ℕ → Flaw → List ℕ
+fault_line file flaw = file_line file (codes ": " ++ fault_end flaw)
 
 abbrev pub write_line : List ℕ
 write_line = codes "mm_drive: write failed\n"
@@ -179,42 +186,41 @@ memory_line = codes "mm_drive: out of memory\n"
 
 -- Standard error got the line, or a prefix of it if its count of faults has risen.
 pub record WritesFaultLine (before after : SinkState) (line : List ℕ) : Type 0 where
-  pub reported : Adds before.written after.written line
+  pub reported : AppendsText before.written after.written line
       ⊎ (HasRisen before.faults after.faults × AppendsPrefix before.written after.written line)
   pub later : before.faults ≤ after.faults
 
 -- The arguments do not match the usage, or ask for a feature that is not implemented yet: no file is asked for, and the
 -- line is the usage.
-pub record IsUsage (job : Option Job) (before after : SourceState) (Told : List ℕ → Type 0) : Type 0 where
+pub record IsUsage (job : Option Job) (before after : SourceState) (Writes : List ℕ → Type 0) : Type 0 where
   pub none : job ≡ None
   pub unread : after ≡ before
-  pub line : Told usage_line
+  pub line : Writes usage_line
 
 -- File `place`, from 0 on, could not be read: it was asked for last, when the count of faults was `count`, no less than
 -- at the start, and the count has risen since. The line names the file.
-pub record Unread (files : List (List ℕ)) (before after : SourceState) (Told : List ℕ → Type 0) : Type 0 where
+pub record Unread (files : List (List ℕ)) (before after : SourceState) (Writes : List ℕ → Type 0) : Type 0 where
   pub place : ℕ
   pub at : EndsAt before.content files place IsAny
   pub earlier : Asked
-  pub front : AsksFirst place files before.asked earlier
+  pub prefix : AsksFirst place files before.asked earlier
   pub count : ℕ
   pub last : after.asked ≡ earlier ++ (at.file, count) ∷ []
   pub since : before.faults ≤ count
   pub risen : HasRisen count after.faults
-  pub line : Told (unread_line at.file)
+  pub line : Writes (unread_line at.file)
 
 -- A file is too long. It was asked for last, and the line names it.
-pub record IsTooLong (files : List (List ℕ)) (before after : SourceState) (Told : List ℕ → Type 0) : Type 0 where
+pub record IsTooLong (files : List (List ℕ)) (before after : SourceState) (Writes : List ℕ → Type 0) : Type 0 where
   pub place : ℕ
   pub at : EndsAt before.content files place IsLong
   pub asked : AsksFirst (suc place) files before.asked after.asked
-  pub line : Told (long_line at.file)
+  pub line : Writes (long_line at.file)
 
 -- A file is not a trace. It was asked for last, and the line names it and its first fault.
-pub record IsBad (files : List (List ℕ)) (before after : SourceState) (Told : List ℕ → Type 0) : Type 0 where
-  pub fault : TraceFault
-  pub real : fault ≡ OutOfMemory → ⊥
+pub record IsBad (files : List (List ℕ)) (before after : SourceState) (Writes : List ℕ → Type 0) : Type 0 where
+  pub flaw : Flaw
   pub place : ℕ
-  pub at : EndsAt before.content files place (HasFault fault)
+  pub at : EndsAt before.content files place (HasFault flaw)
   pub asked : AsksFirst (suc place) files before.asked after.asked
-  pub line : Told (fault_line at.file fault)
+  pub line : Writes (fault_line at.file flaw)

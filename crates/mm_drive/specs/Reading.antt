@@ -3,7 +3,7 @@ use Rattle.std.specs.Prelude.{◌≡◌, ◌⊎◌, ℕ, ◌≤◌, Result, Ok, 
 use Rattle.std.specs.declared.alloc.Global.{Global}
 use Rattle.ideal_heap.specs.declared.command.Command.{Command}
 use Rattle.ideal_heap.specs.Commands.{IsValid}
-use Rattle.trace_text.specs.declared.fault.TraceFault.TheVariants as flaw
+use Rattle.trace_text.specs.declared.limits.TheConstants.{MAX_COMMANDS}
 use Rattle.outside.specs.Outside.{Asked, SourceState, HasRisen}
 use Rattle.mm_drive.specs.declared.traces.FileFault.{FileFault}
 use Rattle.mm_drive.specs.declared.traces.FileFault.TheVariants as file
@@ -14,10 +14,10 @@ use Rattle.mm_drive.specs.Printed.{AsksFirst, EndsAt, IsAny, IsLong, HasFault}
 abbrev pub commands_of : List (Vec Command Global) → List (List Command)
 commands_of traces = map (λ t. t.items) traces
 
--- a trace that can be run: valid commands, at most 1,000,000
+-- a trace that can be run: valid commands, at most MAX_COMMANDS
 pub record IsRunnable (t : List Command) : Type 0 where
   pub valid : All IsValid t
-  pub few : length t ≤ 1000000
+  pub few : length t ≤ MAX_COMMANDS
 
 -- the fault of the file with this index
 abbrev pub fault_at : ℕ → FileFault → FilesFault
@@ -38,19 +38,19 @@ AsksName (Err file.OutOfMemory) name before after = (after.asked ≡ before.aske
 -- File k, of this name, could not be read: it was asked for last, and the count of faults has risen since.
 pub record IsUnread (names : List (List ℕ)) (k : ℕ) (name : List ℕ) (before after : SourceState) : Type 0 where
   pub earlier : Asked
-  pub front : AsksFirst k names before.asked earlier
+  pub prefix : AsksFirst k names before.asked earlier
   pub count : ℕ
   pub last : after.asked ≡ earlier ++ (name, count) ∷ []
   pub since : before.faults ≤ count
   pub risen : HasRisen count after.faults
 
--- Reading ends at the file that the fault names. It was asked for last, and its content has the fault. Nothing is said of
--- where memory runs out.
+-- Reading ends at the file that the fault names. It was asked for last, and its content has the fault. Nothing is said
+-- of where memory runs out.
 abbrev pub Halts : List (List ℕ) → SourceState → SourceState → FilesFault → Type 0
 Halts names before after (files.Unread k) = (at : EndsAt before.content names k IsAny)
     × IsUnread names k at.file before after
 Halts names before after (files.TooLong k) = EndsAt before.content names k IsLong
     × AsksFirst (suc k) names before.asked after.asked
-Halts names before after (files.Bad k f) = (f ≡ flaw.OutOfMemory → ⊥) × EndsAt before.content names k (HasFault f)
+Halts names before after (files.Bad k f) = EndsAt before.content names k (HasFault f)
     × AsksFirst (suc k) names before.asked after.asked
 Halts names before after files.OutOfMemory = Unit {0}

@@ -70,8 +70,8 @@ pub record IsReady (e : Engine) : Type 0 where
   pub births : e.births < 1000000
   pub collections : e.row.number < 1000000
 
--- The replies are those of a whole session of the trace, and the heap is its last. That heap stands for the ideal heap of the
--- session's run, references and pins included.
+-- The replies are those of a whole session of the trace, and the heap is its last. That heap
+-- represents the ideal heap of the session's run, references and pins included.
 pub record Ends (b : ℕ) (trace : List Command) (replies : List Reply) (s : HeapState) : Type 0 where
   pub last : Moment
   pub whole : IsWhole (alone_under_nogc b trace) last

@@ -13,7 +13,8 @@ use heap_layout::{BlockWord, Kind};
 use ideal_heap::Name;
 use object_model::{Row, Shape, size_words};
 
-/// The lowest block whose tail has room for so many words. Where no block in use has, the next one is taken.
+/// The lowest block whose tail has room for so many words. Where no block in use has, the next one
+/// is taken.
 pub(crate) fn find_room(row: &mut Row, tails: &mut Tails, size: u32) -> Option<u32>
     requires lawful { IsLawful (state_of row.old) }
     requires tails { AreTails (state_of row.old) tails.old.ends.items }
@@ -52,7 +53,8 @@ pub(crate) fn bear(row: &mut Row, tails: &mut Tails, k: u32, name: &Name, shape:
     requires extent { length row.old.words.items ≡ row_words (state_of row.old).blocks }
     requires block { k < (state_of row.old).blocks }
     requires used { k < vec_len tails.old.ends }
-    requires room { slice_index tails.old.ends.items k + size_of shape.now.refs shape.now.nums ≤ 4096 }
+    requires room { slice_index tails.old.ends.items k
+        + size_of shape.now.refs shape.now.nums ≤ 4096 }
     requires refs { shape.now.refs ≤ 1024 }
     requires nums { shape.now.nums ≤ 60000 }
     requires name { IsName name.now }

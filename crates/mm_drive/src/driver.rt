@@ -20,22 +20,20 @@ pub(crate) struct Finished {
     pub(crate) heap: Heap,
 }
 
-/// Runs the commands, and writes each reply where it comes, in the memory of `room`, whose bytes are
-/// lost. It takes all memory before the first command.
+/// Runs the commands, and writes each reply where it comes. It takes all memory before the first
+/// command.
 #[inline(never)]
 pub(crate) fn run_trace(
     alloc: Global,
     layout: Layout,
     commands: &[Command],
-    room: Vec<u8>,
 ) -> Result<Finished, AllocError>
     requires valid { All IsValid commands.now }
     requires few { length commands.now ≤ 1000000 }
     ensures { IfOk result (λ f. EndsPrinted layout.blocks commands.now f.text.items
         (heap_state f.heap)) }
 {
-    let mut text = room;
-    text.clear();
+    let mut text = Vec::new(alloc);
     print_mutator(1, &mut text)?;
     text.reserve(REPLY_BYTES * commands.len())?;
     let mut engine = Engine::new(alloc, layout)?;

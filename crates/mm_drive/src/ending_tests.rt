@@ -86,7 +86,7 @@ impl Sources for Starved {
 }
 
 #[test]
-fn want_of_memory(rt: HostRuntime) -> Result<(), Fail> {
+fn out_of_memory(rt: HostRuntime) -> Result<(), Fail> {
     let alloc = rt.alloc();
     let words = words_in(alloc, "--plan nogc --heap 4 a")?;
     let mut out = MemSink::new(alloc, 100, 100, Vec::new(alloc))?;

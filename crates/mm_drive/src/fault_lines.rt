@@ -3,12 +3,20 @@
 
 ghost use Rattle.std.specs.Prelude.{◌≡◌, codes};
 ghost use Rattle.std.specs.List.{flat_map};
-ghost use Rattle.trace_text.specs.declared.fault.TraceFault.TheVariants as TraceFault;
 ghost use Rattle.mm_drive.specs.Printed.{WritesFaultLine, usage_line, unread_line, long_line, file_line, line_fault, fault_line, write_line, memory_line, why_word};
 
 use itoa::Buffer;
 use outside::{Sink, write_parts};
-use trace_text::{TraceFault, Why};
+use trace_text::Why;
+
+/// What is wrong with a file that is not a trace.
+#[derive(Clone, Copy, Debug, PartialEq, Eq)]
+pub(crate) enum Flaw {
+    /// The number of the first bad line, counted from 1, and the first fault in it from the left.
+    Line(u32, Why),
+    /// The file has more than `MAX_COMMANDS` commands.
+    TooMany,
+}
 
 // Writes these parts, in order.
 fn write_fault<E: Sink>(err: &mut E, parts: &[&[u8]])
@@ -25,7 +33,9 @@ pub(crate) fn write_usage_fault<E: Sink>(err: &mut E)
     write_fault(
         err,
         &[
-            b"mm_drive: usage: mm_drive --plan P --heap B [--workers W] [--map] FILE... | mm_drive --plan P --heap B [--workers W] --make N\n".as_slice(),
+            b"mm_drive: usage: mm_drive --plan P --heap B [--workers W] [--map] FILE... \
+            | mm_drive --plan P --heap B [--workers W] --make N\n"
+                .as_slice(),
         ],
     )
 }
@@ -91,16 +101,14 @@ fn write_line_fault<'a, E: Sink>(err: &mut E, name: &'a str, line: &'a str, why:
 }
 
 /// The file is not a trace. The line names its first fault.
-pub(crate) fn write_trace_fault<E: Sink>(err: &mut E, name: &str, fault: TraceFault)
-    requires real { fault ≡ TraceFault.OutOfMemory → ⊥ }
-    ensures { WritesFaultLine (E.state err.old) (E.state err.new) (fault_line name.now fault) }
+pub(crate) fn write_trace_fault<E: Sink>(err: &mut E, name: &str, flaw: Flaw)
+    ensures { WritesFaultLine (E.state err.old) (E.state err.new) (fault_line name.now flaw) }
 {
-    match fault {
-        TraceFault::Line(line, why) => {
+    match flaw {
+        Flaw::Line(line, why) => {
             write_line_fault(err, name, Buffer::new().format(line), word_of(why));
         }
-        TraceFault::TooMany => write_file_fault(err, name, b": more than 1000000 commands\n"),
-        TraceFault::OutOfMemory => unreachable!(),
+        Flaw::TooMany => write_file_fault(err, name, b": more than 1000000 commands\n"),
     }
 }
 

@@ -16,7 +16,7 @@ fn heap_of(
 ) -> Result<Heap, Fail> {
     assert!(rt; commands.len() <= 1_000_000);
     assert!(rt; commands.iter().all(|c| valid(c)));
-    Ok(run_trace(alloc, Layout::new(blocks)?, commands, Vec::new(alloc))?.heap)
+    Ok(run_trace(alloc, Layout::new(blocks)?, commands)?.heap)
 }
 
 fn place(birth: u32, at: u32, size: u32) -> Place {

@@ -21,7 +21,7 @@ ghost use Rattle.object_model.specs.Objects.{HeapState};
 
 /// Worked made traces: how one begins, commands of each row, and later resets and collections.
 pub fn made_traces()
-    ensures front { take 33 (made_trace 40) ≡ map command.DropReg (range_with_len 0 16)
+    ensures first { take 33 (made_trace 40) ≡ map command.DropReg (range_with_len 0 16)
         ++ map (λ g. command.Share g 0) (range_with_len 0 16) ++ command.Gc ∷ [] }
     ensures rest { drop 33 (made_trace 40) ≡ command.Write 0 28 1432594236
         ∷ command.Swap 12 20 3 1 ∷ command.Share 0 6 ∷ command.Get 12 0 1
@@ -52,7 +52,8 @@ pub fn made_traces()
 /// The summary of a made trace whose replies are all `ok`, and at whose end nothing is reachable.
 pub fn summary_of_ok()
     ensures { summary_part 33 (empty_heap 4) [] (replicate 33 reply.Done)
-        ≡ codes "make 33\nnew 0\nfull 0\nref 0\nnil 0\nnum 0 sum 0\nok 33\nyes 0\nno 0\nnull 0\nrange 0\nlive objects 0 words 0\n" }
+        ≡ codes "make 33\nnew 0\nfull 0\nref 0\nnil 0\nnum 0 sum 0\nok 33\nyes 0\nno 0\nnull 0\n"
+        ++ codes "range 0\nlive objects 0 words 0\n" }
 {}
 
 /// Each line of a summary counts one kind of reply. The sum of the numbers is modulo 2^64.
@@ -62,7 +63,8 @@ pub fn summary_of_each()
         ∷ reply.Nil ∷ reply.Nil ∷ reply.Num 18446744073709551615 ∷ reply.Num 3
         ∷ reply.Done ∷ reply.Yes ∷ reply.Yes ∷ reply.No ∷ reply.Null ∷ reply.Range
         ∷ reply.Range ∷ [])
-        ≡ codes "make 16\nnew 1\nfull 2\nref 1\nnil 3\nnum 2 sum 2\nok 1\nyes 2\nno 1\nnull 1\nrange 2\nlive objects 0 words 0\n" }
+        ≡ codes "make 16\nnew 1\nfull 2\nref 1\nnil 3\nnum 2 sum 2\nok 1\nyes 2\nno 1\nnull 1\n"
+        ++ codes "range 2\nlive objects 0 words 0\n" }
 {}
 
 /// The nine lines of a report on a session of two commands whose last heap has no blocks, and the
@@ -74,7 +76,9 @@ pub fn report_and_map()
       done = entry 1 command.Gc reply.Done ∷ entry 1 (command.New 0 1 2) reply.Full ∷ [];
       nursery = 4;
       full = 2;
-    }) [] ≡ codes "plan nogc\nblocks 0\nmutators 3\ncommands 2\nfull 1\ncollections nursery 4 full 2\nlive objects 0 words 0\nheld objects 0 words 0\nkinds free 0 bump 0 young 0 mature 0 immix 0 cells 0 large 0 kept 0\n" }
+    }) [] ≡ codes "plan nogc\nblocks 0\nmutators 3\ncommands 2\nfull 1\n"
+        ++ codes "collections nursery 4 full 2\nlive objects 0 words 0\nheld objects 0 words 0\n"
+        ++ codes "kinds free 0 bump 0 young 0 mature 0 immix 0 cells 0 large 0 kept 0\n" }
     ensures map { map_line (record (empty_heap 0) {
       words = replicate 18 0 ++ 97 ∷ 131073 ∷ 0 ∷ [];
     }) 18

@@ -7,8 +7,8 @@ use std::process::Abort;
 use std::test::Fail;
 use std::thread::Threads;
 
-const USAGE: &[u8] =
-    b"mm_drive: usage: mm_drive --plan P --heap B [--workers W] [--map] FILE... | mm_drive --plan P --heap B [--workers W] --make N\n";
+const USAGE: &[u8] = b"mm_drive: usage: mm_drive --plan P --heap B [--workers W] [--map] FILE... \
+    | mm_drive --plan P --heap B [--workers W] --make N\n";
 
 // Nothing is printed, and standard error has the usage line alone.
 fn is_refused(ran: &Ran) -> bool {
@@ -29,7 +29,7 @@ fn refuse<R: Threads + Sync + Abort>(
 }
 
 #[test]
-fn served(rt: HostRuntime) -> Result<(), Fail> {
+fn supported(rt: HostRuntime) -> Result<(), Fail> {
     let alloc = rt.alloc();
     let lines = [
         "--plan nogc --heap 4 a",
@@ -58,7 +58,7 @@ fn no_word(rt: HostRuntime) -> Result<(), Fail> {
 
 // Lines that match the usage, but ask for a feature that is not implemented yet.
 #[test]
-fn unserved(rt: HostRuntime) -> Result<(), Fail> {
+fn unsupported(rt: HostRuntime) -> Result<(), Fail> {
     refuse(
         &rt,
         rt.alloc(),

@@ -11,8 +11,8 @@ pub(crate) const BLOCK: u32 = 4096;
 /// The most words of an object that lies in one block.
 pub(crate) const MEDIUM: u32 = 2048;
 
-/// The tails of the blocks in use, the first blocks of the heap. For each size it keeps a block before which none has room, so
-/// that all searches together pass each block once for each size.
+/// The tails of the blocks in use, the first blocks of the heap. For each size it keeps a block
+/// before which none has room, so that all searches together pass each block once for each size.
 #[derive(Drop)]
 pub(crate) struct Tails {
     pub(crate) ends: Vec<u32>,
@@ -31,7 +31,8 @@ impl Tails {
         Ok(Tails { ends, lows })
     }
 
-    /// The lowest block whose tail has room for so many words, or the number of the blocks in use where none has.
+    /// The lowest block whose tail has room for so many words, or the number of the blocks in use
+    /// where none has.
     pub(crate) fn lowest(&mut self, size: u32) -> u32
         requires size { size ≤ 2048 }
         requires lows { AreLows self.old.ends.items self.old.lows.items }

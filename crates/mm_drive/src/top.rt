@@ -134,8 +134,7 @@ pub fn run<R: Threads + Sync, S: Sources, O: Sink, E: Sink, G: Gate>(
         }
     };
     let files = files_named(&order);
-    let mut room = Vec::new(alloc);
-    let traces = match traces_of_files(alloc, sources, files, &mut room) {
+    let traces = match traces_of_files(alloc, sources, files) {
         Ok(traces) => traces,
         Err(FilesFault::Unread(place)) => {
             write_read_fault(err, name_at(files, place));
@@ -145,8 +144,8 @@ pub fn run<R: Threads + Sync, S: Sources, O: Sink, E: Sink, G: Gate>(
             write_length_fault(err, name_at(files, place));
             return Status::TooLong;
         }
-        Err(FilesFault::Bad(place, fault)) => {
-            write_trace_fault(err, name_at(files, place), fault);
+        Err(FilesFault::Bad(place, flaw)) => {
+            write_trace_fault(err, name_at(files, place), flaw);
             return Status::BadTrace;
         }
         Err(FilesFault::OutOfMemory) => {
@@ -154,7 +153,7 @@ pub fn run<R: Threads + Sync, S: Sources, O: Sink, E: Sink, G: Gate>(
             return Status::OutOfMemory;
         }
     };
-    let Ok(text) = text_of_session(alloc, &order, &traces, room) else {
+    let Ok(text) = text_of_session(alloc, &order, &traces) else {
         write_memory_fault(err);
         return Status::OutOfMemory;
     };

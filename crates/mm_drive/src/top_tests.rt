@@ -18,7 +18,8 @@ fn replies(rt: HostRuntime) -> Result<(), Fail> {
     let table = [
         (FIRST, "new 1.1;ok;num 7;nil"),
         (
-            "new r0 0 2045;new r0 0 2045;new r0 0 2045;new r0 0 2045;new r0 0 2045;new r0 0 2045;new r0 0 2045;new r0 0 2045;new r0 0 2045",
+            "new r0 0 2045;new r0 0 2045;new r0 0 2045;new r0 0 2045;new r0 0 2045;\
+            new r0 0 2045;new r0 0 2045;new r0 0 2045;new r0 0 2045",
             "new 1.1;new 1.2;new 1.3;new 1.4;new 1.5;new 1.6;new 1.7;new 1.8;full",
         ),
         (
@@ -26,11 +27,13 @@ fn replies(rt: HostRuntime) -> Result<(), Fail> {
             "null;new 1.1;range;range;range;null",
         ),
         (
-            "new r0 0 1;write r0 0 18446744073709551615;add r0 0 1;read r0 0;swap r0 0 1 5;swap r0 0 0 5;read r0 0",
+            "new r0 0 1;write r0 0 18446744073709551615;add r0 0 1;read r0 0;\
+            swap r0 0 1 5;swap r0 0 0 5;read r0 0",
             "new 1.1;ok;num 18446744073709551615;num 0;no;yes;num 5",
         ),
         (
-            "new r0 1 0;new r1 1 0;put r0 0 r1;put r1 0 r0;drop r1;gc;get r2 r0 0;get r3 r2 0;drop r0;drop r2;drop r3;gc",
+            "new r0 1 0;new r1 1 0;put r0 0 r1;put r1 0 r0;drop r1;gc;get r2 r0 0;\
+            get r3 r2 0;drop r0;drop r2;drop r3;gc",
             "new 1.1;new 1.2;ok;ok;ok;ok;ref 1.2;ref 1.1;ok;ok;ok;ok",
         ),
         (
@@ -46,7 +49,8 @@ fn replies(rt: HostRuntime) -> Result<(), Fail> {
             "full;full;new 1.1;new 1.2",
         ),
         (
-            "load r1 g0;new r0 0 0;share g15 r0;drop r0;pin r0;load r2 g15;move r3 r2;pin r3;pin r2;unpin r3;unpin r2;meet;share g15 r0;load r2 g15",
+            "load r1 g0;new r0 0 0;share g15 r0;drop r0;pin r0;load r2 g15;move r3 r2;pin r3;\
+            pin r2;unpin r3;unpin r2;meet;share g15 r0;load r2 g15",
             "nil;new 1.1;ok;ok;null;ref 1.1;ok;yes;no;yes;no;ok;ok;nil",
         ),
     ];
@@ -261,7 +265,7 @@ fn failures(rt: HostRuntime) -> Result<(), Fail> {
 
 // Eight bytes a call, and a failure at the third.
 #[test]
-fn front(rt: HostRuntime) -> Result<(), Fail> {
+fn prefix(rt: HostRuntime) -> Result<(), Fail> {
     let alloc = rt.alloc();
     let words = words_in(alloc, "--plan nogc --heap 4 a")?;
     let files = file_of(alloc, "a", trace_in(alloc, FIRST)?)?;
@@ -302,16 +306,17 @@ fn sure(rt: HostRuntime) -> Result<(), Fail> {
 }
 
 // The next state of a random sequence.
-fn stir(x: u64) -> u64 {
-    x.wrapping_mul(6_364_136_223_846_793_005)
+fn stir(state: u64) -> u64 {
+    state
+        .wrapping_mul(6_364_136_223_846_793_005)
         .wrapping_add(1_442_695_040_888_963_407)
 }
 
 // A random command, as a line.
-fn line_of(x: u64, to: &mut String) -> Result<(), AllocError> {
-    let (d, s, i) = (x >> 8 & 15, x >> 12 & 15, x >> 16 & 3);
-    let n = x >> 20 & 7;
-    match x >> 40 & 31 {
+fn line_of(state: u64, to: &mut String) -> Result<(), AllocError> {
+    let (d, s, i) = (state >> 8 & 15, state >> 12 & 15, state >> 16 & 3);
+    let n = state >> 20 & 7;
+    match state >> 40 & 31 {
         0 | 1 => writeln!(to, "new r{d} {i} {n}"),
         2 => writeln!(to, "move r{d} r{s}"),
         3 => writeln!(to, "drop r{s}"),
@@ -322,8 +327,8 @@ fn line_of(x: u64, to: &mut String) -> Result<(), AllocError> {
         10 => writeln!(to, "gc"),
         11 => writeln!(to, "meet"),
         12..16 => writeln!(to, "read r{s} {i}"),
-        16..20 => writeln!(to, "write r{s} {i} {x}"),
-        20 | 21 => writeln!(to, "add r{s} {i} {x}"),
+        16..20 => writeln!(to, "write r{s} {i} {state}"),
+        20 | 21 => writeln!(to, "add r{s} {i} {state}"),
         22 | 23 => writeln!(to, "swap r{s} {i} 0 {n}"),
         24..28 => writeln!(to, "get r{d} r{s} {i}"),
         _ => writeln!(to, "put r{d} {i} r{s}"),

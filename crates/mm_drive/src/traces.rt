@@ -1,18 +1,19 @@
 //! The traces in named files.
 
-ghost use Rattle.std.specs.Prelude.{◌≡◌, ◌≤◌, length, Ok, Err, All, OnOk, IfOk, IfErr, IfSome, IsErrOf};
-ghost use Rattle.trace_text.specs.declared.fault.TraceFault.{TraceFault as Flaw};
-ghost use Rattle.trace_text.specs.declared.fault.TraceFault.TheVariants as flaw;
+ghost use Rattle.std.specs.Prelude.{◌≡◌, ◌≤◌, ℕ, List, length, Ok, Err, All, OnOk, IfOk, IfErr, IfSome, IsErrOf};
 ghost use Rattle.trace_text.specs.Grammar.{trace};
+ghost use Rattle.trace_text.specs.Readers.{HasRead};
 ghost use Rattle.command_line.specs.Orders.{texts};
 ghost use Rattle.outside.specs.Outside.{HasRisen};
-ghost use Rattle.mm_drive.specs.Printed.{AreTraces, IsTraceIn, IsLong, HasFault, AsksFirst, AsksPrefix};
+ghost use Rattle.mm_drive.specs.declared.fault_lines.Flaw.{Flaw as AnyFlaw};
+ghost use Rattle.mm_drive.specs.Printed.{AreTraces, IsTraceIn, IsLong, HasFault, AsksFirst, AsksPrefix, fault_of};
 ghost use Rattle.mm_drive.specs.Reading.{IsRunnable, AsksName, Halts, commands_of, fault_at};
 
+use crate::fault_lines::Flaw;
 use ideal_heap::Command;
-use outside::{ReadFault, Sources, content_of};
+use outside::{Consumer, ReadFault, Sources, read_file};
 use std::alloc::{AllocError, Global};
-use trace_text::{TraceFault, read_trace};
+use trace_text::{TraceFault, TraceReader};
 
 /// Why a file has no trace.
 #[derive(Clone, Copy, Debug, PartialEq, Eq)]
@@ -22,7 +23,7 @@ pub(crate) enum FileFault {
     /// It has too many bytes.
     TooLong,
     /// It is not a trace.
-    Bad(TraceFault),
+    Bad(Flaw),
     /// Memory ran out.
     OutOfMemory,
 }
@@ -32,7 +33,7 @@ pub(crate) enum FileFault {
 pub(crate) enum FilesFault {
     Unread(usize),
     TooLong(usize),
-    Bad(usize, TraceFault),
+    Bad(usize, Flaw),
     OutOfMemory,
 }
 
@@ -54,34 +55,49 @@ impl FileFault {
         match self {
             FileFault::Unread => FilesFault::Unread(place),
             FileFault::TooLong => FilesFault::TooLong(place),
-            FileFault::Bad(fault) => FilesFault::Bad(place, fault),
+            FileFault::Bad(flaw) => FilesFault::Bad(place, flaw),
             FileFault::OutOfMemory => FilesFault::OutOfMemory,
         }
     }
 }
 
-// The trace that the bytes encode.
-fn trace_of_bytes(alloc: Global, bytes: &[u8]) -> Result<Vec<Command>, FileFault>
-    ensures ok { IfOk result (λ v. trace bytes.now ≡ Ok v.items) }
-    ensures fit { IfOk result (λ v. IsRunnable v.items) }
-    ensures bad { (f : Flaw) → IsErrOf result (FileFault.Bad f)
-        → (f ≡ flaw.OutOfMemory → ⊥) × (trace bytes.now ≡ Err f) }
-    ensures read { (IsErrOf result FileFault.Unread → ⊥)
-        × (IsErrOf result FileFault.TooLong → ⊥) }
-{
-    match read_trace(alloc, bytes) {
-        Ok(commands) => Ok(commands),
-        Err(TraceFault::OutOfMemory) => Err(FileFault::OutOfMemory),
-        Err(fault) => Err(FileFault::Bad(fault)),
+// Reads the trace in a file as the file's bytes come.
+#[derive(Drop)]
+struct FileReader {
+    reader: TraceReader,
+}
+
+impl Consumer for FileReader {
+    ghost has_taken = { λ r bytes. HasRead r.reader bytes };
+
+    fn take(&mut self, piece: &[u8]) -> Result<(), AllocError> {
+        self.reader.read(piece)
     }
 }
 
-// The trace in the file with this name. The file's bytes are left in `room`.
+// The trace of the text that was read.
+fn trace_read(reader: TraceReader) -> Result<Vec<Command>, FileFault>
+    ensures ok { (bytes : List ℕ) → HasRead reader bytes
+        → IfOk result (λ v. trace bytes ≡ Ok v.items) }
+    ensures fit { (bytes : List ℕ) → HasRead reader bytes → IfOk result (λ v. IsRunnable v.items) }
+    ensures bad { (bytes : List ℕ) → HasRead reader bytes → (f : AnyFlaw)
+        → IsErrOf result (FileFault.Bad f) → trace bytes ≡ Err (fault_of f) }
+    ensures read { (IsErrOf result FileFault.Unread → ⊥)
+        × (IsErrOf result FileFault.TooLong → ⊥) }
+{
+    match reader.finish() {
+        Ok(commands) => Ok(commands),
+        Err(TraceFault::OutOfMemory) => Err(FileFault::OutOfMemory),
+        Err(TraceFault::Line(line, why)) => Err(FileFault::Bad(Flaw::Line(line, why))),
+        Err(TraceFault::TooMany) => Err(FileFault::Bad(Flaw::TooMany)),
+    }
+}
+
+// The trace in the file with this name.
 fn trace_of_file<S: Sources>(
     alloc: Global,
     sources: &mut S,
     name: &str,
-    room: &mut Vec<u8>,
 ) -> Result<Vec<Command>, FileFault>
     ensures ok { IfOk result (λ v. IsTraceIn ((S.state sources.old).content name.now) v.items) }
     ensures fit { IfOk result (λ v. IsRunnable v.items) }
@@ -90,30 +106,28 @@ fn trace_of_file<S: Sources>(
     ensures asked { AsksName result name.now (S.state sources.old) (S.state sources.new) }
     ensures too_long { IsErrOf result FileFault.TooLong
         → IfSome ((S.state sources.old).content name.now) IsLong }
-    ensures bad { (f : Flaw) → IsErrOf result (FileFault.Bad f)
-        → (f ≡ flaw.OutOfMemory → ⊥)
-        × IfSome ((S.state sources.old).content name.now) (HasFault f) }
+    ensures bad { (f : AnyFlaw) → IsErrOf result (FileFault.Bad f)
+        → IfSome ((S.state sources.old).content name.now) (HasFault f) }
     ensures later { (S.state sources.old).faults ≤ (S.state sources.new).faults }
     ensures same { (S.state sources.new).content ≡ (S.state sources.old).content }
 {
-    *room = match content_of(alloc, sources, name) {
-        Ok(bytes) => bytes,
-        Err(ReadFault::Failed) => return Err(FileFault::Unread),
-        Err(ReadFault::TooLong) => return Err(FileFault::TooLong),
-        Err(ReadFault::OutOfMemory) => return Err(FileFault::OutOfMemory),
+    let mut file = FileReader {
+        reader: TraceReader::new(alloc),
     };
-    trace_of_bytes(alloc, room)
+    match read_file(alloc, sources, name, &mut file) {
+        Ok(()) => trace_read(file.reader),
+        Err(ReadFault::Failed) => Err(FileFault::Unread),
+        Err(ReadFault::TooLong) => Err(FileFault::TooLong),
+        Err(ReadFault::OutOfMemory) => Err(FileFault::OutOfMemory),
+    }
 }
 
 /// The traces in the files with these names, in their order. Reading ends at the first file that
 /// has no trace.
-///
-/// The bytes of the last file are left in `room`, so that their memory can be reused.
 pub(crate) fn traces_of_files<S: Sources>(
     alloc: Global,
     sources: &mut S,
     files: &[String],
-    room: &mut Vec<u8>,
 ) -> Result<Vec<Vec<Command>>, FilesFault>
     ensures ok { IfOk result (λ v. AreTraces (S.state sources.old).content (texts files.now)
         (commands_of v.items)) }
@@ -122,15 +136,15 @@ pub(crate) fn traces_of_files<S: Sources>(
         (S.state sources.old).asked (S.state sources.new).asked) }
     ensures fault { IfErr result (Halts (texts files.now) (S.state sources.old)
         (S.state sources.new)) }
-    ensures front { AsksPrefix (texts files.now) (S.state sources.old).asked
+    ensures prefix { AsksPrefix (texts files.now) (S.state sources.old).asked
         (S.state sources.new).asked }
     ensures later { (S.state sources.old).faults ≤ (S.state sources.new).faults }
     ensures same { (S.state sources.new).content ≡ (S.state sources.old).content }
 {
     let mut traces = Vec::with_capacity(alloc, files.len())?;
     for (place, name) in files.iter().enumerate() {
-        match trace_of_file(alloc, sources, name, room) {
-            Ok(commands) => traces.push(commands).unwrap(),
+        match trace_of_file(alloc, sources, name) {
+            Ok(commands) => traces.push_reserved(commands),
             Err(fault) => return Err(fault.at(place)),
         }
     }

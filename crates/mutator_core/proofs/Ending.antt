@@ -33,7 +33,7 @@ use Rattle.mutator_core.proofs.Lists.{mutators-listed, contains-none}
 use Rattle.mutator_core.proofs.Fills.{owned-class}
 use Rattle.mutator_core.proofs.Sums.{sum-le}
 use Rattle.mutator_core.proofs.Counted.{smaller-most, counted-ends, first-counted}
-use Rattle.mutator_core.proofs.Entries.{Told, told-ends}
+use Rattle.mutator_core.proofs.Entries.{Recorded, recorded-ends}
 use Rattle.mutator_core.proofs.Beginnings.{first-states, first-holds, log-ends, stranger-stored}
 use Rattle.mutator_core.proofs.LoadedWords.{loaded-ends, first-loaded}
 use Rattle.mutator_core.proofs.SeenWords.{seen-ends, first-seen}
@@ -41,7 +41,7 @@ use Rattle.mutator_core.proofs.GivenBack as back
 use Rattle.mutator_core.proofs.Moments.{Holds}
 
 module _ (p : Epoch) (ready : IsReady p) (h : Machine) (first : IdealHeap) (past : List Entry) (set : ℕ → Type 0) (now : Holds p h (runs.after first past) set)
-    (told : Told p first past (heap_in p h) h.locals) (counted : AreCounted p (heap_in p h) h.locals) (rest : (m : ℕ) → Contains (numbers_of p.mutators) m → IsBetweenCalls p (h.locals m))
+    (recorded : Recorded p first past (heap_in p h) h.locals) (counted : AreCounted p (heap_in p h) h.locals) (rest : (m : ℕ) → Contains (numbers_of p.mutators) m → IsBetweenCalls p (h.locals m))
     (strangers : (m : ℕ) → Contains (numbers_of p.mutators) m ⊎ ((h.locals m).pending ≡ 0))
     (w : List ℕ) (gives : GivesBack (heap_in p h) (with_words p.before w)) where
   abbrev s : HeapState
@@ -72,7 +72,7 @@ module _ (p : Epoch) (ready : IsReady p) (h : Machine) (first : IdealHeap) (past
   birth : (a m : ℕ) → IsHeld s a → Contains (h.locals m).made (record { address = a; size = size_at s a }) → IsBirth p.rules p.before past new a
   birth a m holds made = record {
     entry = subst (λ (n : Name). Any (IsBirthOf n (refs_at new a) (nums_at new a)) past) (sym (name-now a holds))
-        (subst (λ (v : ℕ). Any (IsBirthOf (name_at s a) (v % 65536) (v / 65536)) past) (sym (shape-now a holds)) (told.born m (record { address = a; size = size_at s a }) made));
+        (subst (λ (v : ℕ). Any (IsBirthOf (name_at s a) (v % 65536) (v / 65536)) past) (sym (shape-now a holds)) (recorded.allocated m (record { address = a; size = size_at s a }) made));
     place = elim is.place.hole as (λ _. HasKind p.before (block_at p.before.blocks a) kinds.Free ⊎ LiesInHole p.rules.fill p.before (block_at p.before.blocks a) (offset_at p.before.blocks a) (size_at new a)) [
       | inl free ↦ inl free
       | inr hole ↦ inr (subst (λ (n : ℕ). LiesInHole p.rules.fill p.before (block_at p.before.blocks a) (offset_at p.before.blocks a) n) size hole)
@@ -107,8 +107,8 @@ module _ (p : Epoch) (ready : IsReady p) (h : Machine) (first : IdealHeap) (past
   old-there : (a : ℕ) → IsHeld s a → IsTrue (is_old s a) → IsHeld p.before a
   old-there a holds aged = elim (now.epoch.births a holds) as (λ _. IsHeld p.before a) [
     | inl there ↦ there
-    | inr born ↦ absurd (
-        let is : IsMade p s (h.locals born.0).owned (record { address = a; size = size_at s a }) = (now.epoch.knows born.0).objects (record { address = a; size = size_at s a }) born.1 in
+    | inr allocated ↦ absurd (
+        let is : IsMade p s (h.locals allocated.0).owned (record { address = a; size = size_at s a }) = (now.epoch.knows allocated.0).objects (record { address = a; size = size_at s a }) allocated.1 in
         let both = and_parts (nat_lt 0 s.base) (nat_le s.base (word_at s (a + 2) / 2 ^ 24)) aged in
         let some : 0 < s.base = ltb-true 0 s.base both.0 in
         let least : s.base ≤ word_at s (a + 2) / 2 ^ 24 = leb-true s.base (word_at s (a + 2) / 2 ^ 24) both.1 in
@@ -128,7 +128,7 @@ module _ (p : Epoch) (ready : IsReady p) (h : Machine) (first : IdealHeap) (past
       elim (cases_Bool (is_unlogged p.before a)) as (λ _. IsTrue (is_logged_under p.rules p.before a) ⊎ StoresInto first past (name_at new a)) [
         | inr before ↦ inl (and_from p.rules.young (is_start p.before a && is_old p.before a && not (is_unlogged p.before a)) parts.0
             (and_from (is_start p.before a && is_old p.before a) (not (is_unlogged p.before a)) (and_from (is_start p.before a) (is_old p.before a) there.start (sym (age-then a there) ∙ aged)) (ap not before)))
-        | inl was ↦ elim (told.logs a was clear) as (λ _. IsTrue (is_logged_under p.rules p.before a) ⊎ StoresInto first past (name_at new a)) [
+        | inl was ↦ elim (recorded.logs a was clear) as (λ _. IsTrue (is_logged_under p.rules p.before a) ⊎ StoresInto first past (name_at new a)) [
           | inl pending ↦ absurd (let none : (h.locals pending.0).pending ≡ 0 = elim (strangers pending.0) as (λ _. (h.locals pending.0).pending ≡ 0) [ inl known ↦ (rest pending.0 known).stored | inr none ↦ none ] in let is : (h.locals pending.0).pending ≡ a = pending.1 in
               let from : heap_of p.before.blocks ≤ a = holds.address.from in omega arith)
           | inr into ↦ inr (subst (StoresInto first past) (sym (name-now a holds)) into)
@@ -177,8 +177,8 @@ module _ (p : Epoch) (ready : IsReady p) (h : Machine) (first : IdealHeap) (past
     base = refl;
     stays = λ a before. let is = now.epoch.stays a before in (held-now a is.0, λ j few. heap-word (a + j) (let from : heap_of p.before.blocks ≤ a = is.0.address.from in omega arith) ∙ is.1 j few);
     births = λ a holds. let then : IsHeld s a = held-then a holds in
-        elim (now.epoch.births a then) as (λ _. IsHeld p.before a ⊎ IsBirth p.rules p.before past new a) [ inl there ↦ inl there | inr born ↦ inr (birth a born.0 then born.1) ];
-    all_born = λ n any. let is = told.all_born n any in (is.0, held-now is.0 is.1, name-now is.0 is.1 ∙ is.2);
+        elim (now.epoch.births a then) as (λ _. IsHeld p.before a ⊎ IsBirth p.rules p.before past new a) [ inl there ↦ inl there | inr allocated ↦ inr (birth a allocated.0 then allocated.1) ];
+    all_held = λ n any. let is = recorded.all_held n any in (is.0, held-now is.0 is.1, name-now is.0 is.1 ∙ is.2);
     logs = logs;
     taken = taken;
     in_block = in-block;
@@ -186,17 +186,17 @@ module _ (p : Epoch) (ready : IsReady p) (h : Machine) (first : IdealHeap) (past
   }
 
 -- as an epoch begins, its history is empty
-first-told : (p : Epoch) (first : IdealHeap) → Told p first [] p.before (first_local_of p.mutators)
-first-told p first = record {
-  born = λ m x there. absurd (first-states (λ l. Contains l.made x → ⊥) (λ k. contains-none x) p.mutators m there);
-  all_born = λ n any. absurd (let within : any.0 < 0 = any.2 in omega arith);
+first-recorded : (p : Epoch) (first : IdealHeap) → Recorded p first [] p.before (first_local_of p.mutators)
+first-recorded p first = record {
+  allocated = λ m x there. absurd (first-states (λ l. Contains l.made x → ⊥) (λ k. contains-none x) p.mutators m there);
+  all_held = λ n any. absurd (let within : any.0 < 0 = any.2 in omega arith);
   each = tt;
   logs = λ a was clear. let wrong : true ≡ false = sym was ∙ clear in cc;
 }
 
 -- after each log of an epoch
-pub log-told : (p : Epoch) (i : IdealHeap) (log : List LogEntry) → IsEpochLog p i log → Told p i (history_of p log) (heap_after p log) (local_after_log p log)
-log-told p i log is = told-ends p is.ready log (first_machine p) i [] (IsReachable p.before (roots_of p.mutators)) (first-holds p is.ready i is.represents) (first-told p i) is.steps
+pub log-recorded : (p : Epoch) (i : IdealHeap) (log : List LogEntry) → IsEpochLog p i log → Recorded p i (history_of p log) (heap_after p log) (local_after_log p log)
+log-recorded p i log is = recorded-ends p is.ready log (first_machine p) i [] (IsReachable p.before (roots_of p.mutators)) (first-holds p is.ready i is.represents) (first-recorded p i) is.steps
 
 pub log-counted : (p : Epoch) (i : IdealHeap) (log : List LogEntry) → IsEpochLog p i log → AreCounted p (heap_after p log) (local_after_log p log)
 log-counted p i log is = counted-ends p is.ready is.represents.mutators.differ log (first_machine p) i (IsReachable p.before (roots_of p.mutators)) (first-holds p is.ready i is.represents) (first-counted p is.ready) is.steps
@@ -214,4 +214,4 @@ log-stopped p i log new is rest gives =
     let end = log-ends p i log is.ready is.represents is.steps in
     let same : new ≡ with_words p.before new.words = same-layout p.before new gives.blocks gives.number gives.base in
     subst (λ (t : HeapState). Stopped p.rules (numbers_of p.mutators) p.before i (history_of p log) t (mutators_after p log)) (sym same)
-    (stopped p is.ready (machine_after p log) i (history_of p log) end.set end.moment (log-told p i log is) (log-counted p i log is) rest (stranger-stored p log is.steps) new.words (subst (GivesBack (heap_after p log)) same gives))
+    (stopped p is.ready (machine_after p log) i (history_of p log) end.set end.moment (log-recorded p i log is) (log-counted p i log is) rest (stranger-stored p log is.steps) new.words (subst (GivesBack (heap_after p log)) same gives))

@@ -39,9 +39,9 @@ use Rattle.mutator_core.proofs.Spots.{Spot, spot, clears_unlog}
 use Rattle.mutator_core.proofs.Law.{Goes, goes, is_publication}
 use Rattle.mutator_core.proofs.Moments.{Holds, one-of}
 
-pub record Told (p : Epoch) (first : IdealHeap) (past : List Entry) (s : HeapState) (locals : ℕ → Local) : Type 0 where
-  pub born : (m : ℕ) (x : Extent) → Contains (locals m).made x → Any (IsBirthOf (name_at s x.address) (refs_at s x.address) (nums_at s x.address)) past
-  pub all_born : (n : Name) → HasBirth past n → (a : ℕ) × IsHeld s a × (name_at s a ≡ n)
+pub record Recorded (p : Epoch) (first : IdealHeap) (past : List Entry) (s : HeapState) (locals : ℕ → Local) : Type 0 where
+  pub allocated : (m : ℕ) (x : Extent) → Contains (locals m).made x → Any (IsBirthOf (name_at s x.address) (refs_at s x.address) (nums_at s x.address)) past
+  pub all_held : (n : Name) → HasBirth past n → (a : ℕ) × IsHeld s a × (name_at s a ≡ n)
   pub each : AllByRecursion IsOfPart past
   pub logs : (a : ℕ) → IsTrue (is_unlogged p.before a) → is_unlogged s a ≡ false → ((m : ℕ) × ((locals m).pending ≡ a)) ⊎ StoresInto first past (name_at s a)
 
@@ -121,13 +121,13 @@ pending-same p l (e.TakeBlock k class free) n clear put = (taken-made p l k clas
 -- a store of a history is a store of each longer history
 stores-longer : (first : IdealHeap) (past more : List Entry) (n : Name) → StoresInto first past n → StoresInto first (past ++ more) n
 stores-longer first past more n into = record {
-  front = into.front;
+  prefix = into.prefix;
   entry = into.entry;
   rest = into.rest ++ more;
   s = into.s;
   i = into.i;
   v = into.v;
-  whole = ap (λ es. es ++ more) into.whole ∙ append_assoc into.front (into.entry ∷ into.rest) more;
+  whole = ap (λ es. es ++ more) into.whole ∙ append_assoc into.prefix (into.entry ∷ into.rest) more;
   command = into.command;
   stored = into.stored;
   into = into.into;
@@ -138,7 +138,7 @@ IsPartCommand : Command → Type 0
 IsPartCommand command = (is_gc command ≡ false) × (is_meet command ≡ false) × (size_wanted command ≤ 2048)
 
 module _ (p : Epoch) (ready : IsReady p) (h : Machine) (first : IdealHeap) (past : List Entry) (set : ℕ → Type 0) (now : Holds p h (runs.after first past) set) (m : ℕ) (known : Contains (numbers_of p.mutators) m)
-    (told : Told p first past (heap_in p h) h.locals) where
+    (recorded : Recorded p first past (heap_in p h) h.locals) where
   abbrev s : HeapState
   s = heap_in p h
 
@@ -173,23 +173,23 @@ module _ (p : Epoch) (ready : IsReady p) (h : Machine) (first : IdealHeap) (past
       → ((n : Name) → HasBirth (entries x) n → (a : ℕ) × IsHeld (heap_in p (next p h m x)) a × (name_at (heap_in p (next p h m x)) a ≡ n))
       → ((a : ℕ) → IsTrue (is_unlogged p.before a) → is_unlogged (heap_in p (next p h m x)) a ≡ false
       → ((k : ℕ) × (((next p h m x).locals k).pending ≡ a)) ⊎ StoresInto first (past ++ entries x) (name_at (heap_in p (next p h m x)) a))
-      → Told p first (past ++ entries x) (heap_in p (next p h m x)) (next p h m x).locals
-  general x step part born all logs = record {
-    born = born;
-    all_born = λ n any. elim (any-split (λ y. y.reply ≡ r.New n) past (entries x) any) as (λ _. (a : ℕ) × IsHeld (heap_in p (next p h m x)) a × (name_at (heap_in p (next p h m x)) a ≡ n)) [
-      | inl before ↦ (let is = told.all_born n before in (is.0, step.leaves.held is.0 is.1, name-left (next p h m x).words step.leaves is.0 is.1 ∙ is.2))
+      → Recorded p first (past ++ entries x) (heap_in p (next p h m x)) (next p h m x).locals
+  general x step part allocated all logs = record {
+    allocated = allocated;
+    all_held = λ n any. elim (any-split (λ y. y.reply ≡ r.New n) past (entries x) any) as (λ _. (a : ℕ) × IsHeld (heap_in p (next p h m x)) a × (name_at (heap_in p (next p h m x)) a ≡ n)) [
+      | inl before ↦ (let is = recorded.all_held n before in (is.0, step.leaves.held is.0 is.1, name-left (next p h m x).words step.leaves is.0 is.1 ∙ is.2))
       | inr new ↦ all n new
     ];
-    each = all-append IsOfPart past (entries x) told.each part;
+    each = all-append IsOfPart past (entries x) recorded.each part;
     logs = logs;
   }
 
-  born-before : (x : Event) (step : Goes p h (runs.after first past) m x) → is_publication x ≡ false → (k : ℕ) (y : Extent) → Contains ((next p h m x).locals k).made y
+  allocated-before : (x : Event) (step : Goes p h (runs.after first past) m x) → is_publication x ≡ false → (k : ℕ) (y : Extent) → Contains ((next p h m x).locals k).made y
       → Any (IsBirthOf (name_at (heap_in p (next p h m x)) y.address) (refs_at (heap_in p (next p h m x)) y.address) (nums_at (heap_in p (next p h m x)) y.address)) (past ++ entries x)
-  born-before x step other k y there =
+  allocated-before x step other k y there =
       let before : Contains (h.locals k).made y = local-cases (λ q z. Contains z.made y → Contains (h.locals q).made y) h.locals m (local_after p l x (found p h m x)) k
       (λ e. subst (λ (ys : List Extent). Contains ys y → Contains l.made y) (sym (made-same p l x (found p h m x) other)) (λ z. z)) (λ differ z. z) there in
-      any-left _ past (entries x) (birth-left (next p h m x).words step.leaves y.address ((now.epoch.knows k).objects y before).held past (told.born k y before))
+      any-left _ past (entries x) (birth-left (next p h m x).words step.leaves y.address ((now.epoch.knows k).objects y before).held past (recorded.allocated k y before))
 
   stored-before : (x : Event) (step : Goes p h (runs.after first past) m x) (a : ℕ) → IsTrue (is_unlogged p.before a) → StoresInto first past (name_at s a) → StoresInto first (past ++ entries x) (name_at (heap_in p (next p h m x)) a)
   stored-before x step a was into = subst (StoresInto first (past ++ entries x)) (sym (name-left (next p h m x).words step.leaves a (unlogged-held a was))) (stores-longer first past (entries x) (name_at s a) into)
@@ -197,7 +197,7 @@ module _ (p : Epoch) (ready : IsReady p) (h : Machine) (first : IdealHeap) (past
   logs-before : (x : Event) (step : Goes p h (runs.after first past) m x) → Spot s (next p h m x).words x → clears_unlog x ≡ false → is_put x ≡ false
       → (a : ℕ) → IsTrue (is_unlogged p.before a) → is_unlogged (heap_in p (next p h m x)) a ≡ false
       → ((k : ℕ) × (((next p h m x).locals k).pending ≡ a)) ⊎ StoresInto first (past ++ entries x) (name_at (heap_in p (next p h m x)) a)
-  logs-before x step at clear put a was clear_now = elim (told.logs a was (sym (at.unlogs clear a) ∙ clear_now)) as
+  logs-before x step at clear put a was clear_now = elim (recorded.logs a was (sym (at.unlogs clear a) ∙ clear_now)) as
       (λ _. ((k : ℕ) × (((next p h m x).locals k).pending ≡ a)) ⊎ StoresInto first (past ++ entries x) (name_at (heap_in p (next p h m x)) a)) [
         | inl pending ↦ inl (
           pending.0,
@@ -209,8 +209,8 @@ module _ (p : Epoch) (ready : IsReady p) (h : Machine) (first : IdealHeap) (past
 
   -- an event that neither publishes an object, nor clears an unlog bit, nor stores a field
   plain : (x : Event) (step : Goes p h (runs.after first past) m x) → Spot s (next p h m x).words x → is_publication x ≡ false → clears_unlog x ≡ false → is_put x ≡ false → AllByRecursion IsOfPart (entries x)
-      → Told p first (past ++ entries x) (heap_in p (next p h m x)) (next p h m x).locals
-  plain x step at other clear put part = general x step part (born-before x step other) (λ n any. absurd (step.no_birth other n any)) (logs-before x step at clear put)
+      → Recorded p first (past ++ entries x) (heap_in p (next p h m x)) (next p h m x).locals
+  plain x step at other clear put part = general x step part (allocated-before x step other) (λ n any. absurd (step.no_birth other n any)) (logs-before x step at clear put)
 
   part-of : (x : Event) (command : Command) → IsPartCommand command → (reply : Reply) → is_full reply ≡ false → AllByRecursion IsOfPart (entry m command reply ∷ [])
   unfolding IsPartCommand
@@ -254,15 +254,15 @@ module _ (p : Epoch) (ready : IsReady p) (h : Machine) (first : IdealHeap) (past
 
   -- an entry of a command that neither allocates nor stores a field
   commanded : (command : Command) → is_publication (e.Perform command) ≡ false → is_put (e.Perform command) ≡ false → (may : MayPerform p l command)
-      → Told p first (past ++ entries (e.Perform command)) (heap_in p (next p h m (e.Perform command))) (next p h m (e.Perform command)).locals
+      → Recorded p first (past ++ entries (e.Perform command)) (heap_in p (next p h m (e.Perform command))) (next p h m (e.Perform command)).locals
   commanded command other put may =
       let step = goes p ready h ideal set now m known (e.Perform command) may in
       plain (e.Perform command) step (spot p ready h ideal set now m known (e.Perform command) may) other refl put
       (part-of (e.Perform command) command (may-stand command may) (reply_in s (answer_at p h m (e.Perform command))) step.no_full.0)
 
   -- the store of a field
-  put-told : (q k v : ℕ) → (may : MayPerform p l (c.Put q k v)) → Told p first (past ++ entries (e.Perform (c.Put q k v))) (heap_in p (next p h m (e.Perform (c.Put q k v)))) (next p h m (e.Perform (c.Put q k v))).locals
-  put-told q k v may = general x step (part-of x (c.Put q k v) (may-stand (c.Put q k v) may) r.Done refl) (born-before x step refl) (λ n any. absurd (step.no_birth refl n any)) logs
+  put-recorded : (q k v : ℕ) → (may : MayPerform p l (c.Put q k v)) → Recorded p first (past ++ entries (e.Perform (c.Put q k v))) (heap_in p (next p h m (e.Perform (c.Put q k v)))) (next p h m (e.Perform (c.Put q k v))).locals
+  put-recorded q k v may = general x step (part-of x (c.Put q k v) (may-stand (c.Put q k v) may) r.Done refl) (allocated-before x step refl) (λ n any. absurd (step.no_birth refl n any)) logs
     where
       x : Event
       x = e.Perform (c.Put q k v)
@@ -272,7 +272,7 @@ module _ (p : Epoch) (ready : IsReady p) (h : Machine) (first : IdealHeap) (past
 
       into : (a : ℕ) → IsTrue (is_unlogged p.before a) → a ≡ address_in l q → StoresInto first (past ++ entries (e.Perform (c.Put q k v))) (name_at (heap_in p (next p h m (e.Perform (c.Put q k v)))) a)
       into a was here = record {
-        front = past;
+        prefix = past;
         entry = entry m (c.Put q k v) r.Done;
         rest = [];
         s = q;
@@ -291,7 +291,7 @@ module _ (p : Epoch) (ready : IsReady p) (h : Machine) (first : IdealHeap) (past
 
       logs : (a : ℕ) → IsTrue (is_unlogged p.before a) → is_unlogged (heap_in p (next p h m (e.Perform (c.Put q k v)))) a ≡ false
           → ((j : ℕ) × (((next p h m (e.Perform (c.Put q k v))).locals j).pending ≡ a)) ⊎ StoresInto first (past ++ entries (e.Perform (c.Put q k v))) (name_at (heap_in p (next p h m (e.Perform (c.Put q k v)))) a)
-      logs a was clear_now = elim (told.logs a was (sym ((spot p ready h ideal set now m known (e.Perform (c.Put q k v)) may).unlogs refl a) ∙ clear_now)) as
+      logs a was clear_now = elim (recorded.logs a was (sym ((spot p ready h ideal set now m known (e.Perform (c.Put q k v)) may).unlogs refl a) ∙ clear_now)) as
           (λ _. ((j : ℕ) × (((next p h m (e.Perform (c.Put q k v))).locals j).pending ≡ a)) ⊎ StoresInto first (past ++ entries (e.Perform (c.Put q k v))) (name_at (heap_in p (next p h m (e.Perform (c.Put q k v)))) a)) [
             | inr stored ↦ inr (stored-before (e.Perform (c.Put q k v)) step a was stored)
             | inl pending ↦ elim (cases_eq pending.0 m) as
@@ -306,8 +306,8 @@ module _ (p : Epoch) (ready : IsReady p) (h : Machine) (first : IdealHeap) (past
           ]
 
   -- an unlog bit is cleared
-  clear-told : (q : ℕ) → (may : MayStep p l (e.ClearUnlog q)) → Told p first (past ++ entries (e.ClearUnlog q)) (heap_in p (next p h m (e.ClearUnlog q))) (next p h m (e.ClearUnlog q)).locals
-  clear-told q may = general (e.ClearUnlog q) step tt (born-before (e.ClearUnlog q) step refl) (λ n any. absurd (step.no_birth refl n any)) logs
+  clear-recorded : (q : ℕ) → (may : MayStep p l (e.ClearUnlog q)) → Recorded p first (past ++ entries (e.ClearUnlog q)) (heap_in p (next p h m (e.ClearUnlog q))) (next p h m (e.ClearUnlog q)).locals
+  clear-recorded q may = general (e.ClearUnlog q) step tt (allocated-before (e.ClearUnlog q) step refl) (λ n any. absurd (step.no_birth refl n any)) logs
     where
       step : Goes p h (runs.after first past) m (e.ClearUnlog q)
       step = goes p ready h ideal set now m known (e.ClearUnlog q) may
@@ -317,7 +317,7 @@ module _ (p : Epoch) (ready : IsReady p) (h : Machine) (first : IdealHeap) (past
       logs a was clear_now = elim (cases_eq a (address_in l q)) as
           (λ _. ((j : ℕ) × (((next p h m (e.ClearUnlog q)).locals j).pending ≡ a)) ⊎ StoresInto first (past ++ entries (e.ClearUnlog q)) (name_at (heap_in p (next p h m (e.ClearUnlog q))) a)) [
             | inl here ↦ inl (m, local-cases (λ j z. j ≡ m → z.pending ≡ a) h.locals m (record l { logged = address_in l q; pending = address_in l q }) m (λ e own. sym here) (λ differ own. absurd (differ own)) refl)
-            | inr other ↦ elim (told.logs a was (sym ((bits.clears-unlog s now.models.order (address_in l q) (in-register p ready h ideal set now m known q may.0).address).others a other) ∙ clear_now)) as
+            | inr other ↦ elim (recorded.logs a was (sym ((bits.clears-unlog s now.models.order (address_in l q) (in-register p ready h ideal set now m known q may.0).address).others a other) ∙ clear_now)) as
                 (λ _. ((j : ℕ) × (((next p h m (e.ClearUnlog q)).locals j).pending ≡ a)) ⊎ StoresInto first (past ++ entries (e.ClearUnlog q)) (name_at (heap_in p (next p h m (e.ClearUnlog q))) a)) [
                   | inr stored ↦ inr (stored-before (e.ClearUnlog q) step a was stored)
                   | inl pending ↦ inl (
@@ -330,8 +330,8 @@ module _ (p : Epoch) (ready : IsReady p) (h : Machine) (first : IdealHeap) (past
           ]
 
   -- an allocation
-  new-told : (d refs nums : ℕ) → (may : MayPerform p l (c.New d refs nums)) → Told p first (past ++ entries (e.Perform (c.New d refs nums))) (heap_in p (next p h m (e.Perform (c.New d refs nums)))) (next p h m (e.Perform (c.New d refs nums))).locals
-  new-told d refs nums may = general (e.Perform (c.New d refs nums)) step (part-of (e.Perform (c.New d refs nums)) (c.New d refs nums) (may-stand (c.New d refs nums) may) (r.New (next_name l)) refl) born all
+  new-recorded : (d refs nums : ℕ) → (may : MayPerform p l (c.New d refs nums)) → Recorded p first (past ++ entries (e.Perform (c.New d refs nums))) (heap_in p (next p h m (e.Perform (c.New d refs nums)))) (next p h m (e.Perform (c.New d refs nums))).locals
+  new-recorded d refs nums may = general (e.Perform (c.New d refs nums)) step (part-of (e.Perform (c.New d refs nums)) (c.New d refs nums) (may-stand (c.New d refs nums) may) (r.New (next_name l)) refl) allocated all
       (logs-before (e.Perform (c.New d refs nums)) step (spot p ready h ideal set now m known (e.Perform (c.New d refs nums)) may) refl refl)
     where
       step : Goes p h (runs.after first past) m (e.Perform (c.New d refs nums))
@@ -350,15 +350,15 @@ module _ (p : Epoch) (ready : IsReady p) (h : Machine) (first : IdealHeap) (past
             reply = ap (λ n. r.New n) (sym facts.1);
           }))
 
-      born : (k : ℕ) (y : Extent) → Contains ((next p h m (e.Perform (c.New d refs nums))).locals k).made y
+      allocated : (k : ℕ) (y : Extent) → Contains ((next p h m (e.Perform (c.New d refs nums))).locals k).made y
           → Any (IsBirthOf (name_at (heap_in p (next p h m (e.Perform (c.New d refs nums)))) y.address) (refs_at (heap_in p (next p h m (e.Perform (c.New d refs nums)))) y.address)
           (nums_at (heap_in p (next p h m (e.Perform (c.New d refs nums)))) y.address)) (past ++ entries (e.Perform (c.New d refs nums)))
-      born k y there = elim (before-or-this k y there) as (λ _. Any (IsBirthOf (name_at (heap_in p (next p h m (e.Perform (c.New d refs nums)))) y.address) (refs_at (heap_in p (next p h m (e.Perform (c.New d refs nums)))) y.address)
+      allocated k y there = elim (before-or-this k y there) as (λ _. Any (IsBirthOf (name_at (heap_in p (next p h m (e.Perform (c.New d refs nums)))) y.address) (refs_at (heap_in p (next p h m (e.Perform (c.New d refs nums)))) y.address)
           (nums_at (heap_in p (next p h m (e.Perform (c.New d refs nums)))) y.address)) (past ++ entries (e.Perform (c.New d refs nums)))) [
             | inl own ↦ subst (λ (a : ℕ). Any (IsBirthOf (name_at (heap_in p (next p h m (e.Perform (c.New d refs nums)))) a) (refs_at (heap_in p (next p h m (e.Perform (c.New d refs nums)))) a)
                 (nums_at (heap_in p (next p h m (e.Perform (c.New d refs nums)))) a)) (past ++ entries (e.Perform (c.New d refs nums)))) (sym own) this
             | inr old ↦ any-left (IsBirthOf (name_at (heap_in p (next p h m (e.Perform (c.New d refs nums)))) y.address) (refs_at (heap_in p (next p h m (e.Perform (c.New d refs nums)))) y.address)
-                (nums_at (heap_in p (next p h m (e.Perform (c.New d refs nums)))) y.address)) past (entries (e.Perform (c.New d refs nums))) (birth-left (next p h m (e.Perform (c.New d refs nums))).words step.leaves y.address ((now.epoch.knows k).objects y old).held past (told.born k y old))
+                (nums_at (heap_in p (next p h m (e.Perform (c.New d refs nums)))) y.address)) past (entries (e.Perform (c.New d refs nums))) (birth-left (next p h m (e.Perform (c.New d refs nums))).words step.leaves y.address ((now.epoch.knows k).objects y old).held past (recorded.allocated k y old))
           ]
         where
           before-or-this : (k : ℕ) (y : Extent) → Contains ((next p h m (e.Perform (c.New d refs nums))).locals k).made y → (y.address ≡ l.unpublished.address) ⊎ Contains (h.locals k).made y
@@ -378,9 +378,9 @@ module _ (p : Epoch) (ready : IsReady p) (h : Machine) (first : IdealHeap) (past
         | inr more ↦ absurd (let within : more.0 < 0 = more.2 in omega arith)
       ]
 
-  performed : (command : Command) → (may : MayPerform p l command) → Told p first (past ++ entries (e.Perform command)) (heap_in p (next p h m (e.Perform command))) (next p h m (e.Perform command)).locals
-  performed (c.New d refs nums) may = new-told d refs nums may
-  performed (c.Put q k v) may = put-told q k v may
+  performed : (command : Command) → (may : MayPerform p l command) → Recorded p first (past ++ entries (e.Perform command)) (heap_in p (next p h m (e.Perform command))) (next p h m (e.Perform command)).locals
+  performed (c.New d refs nums) may = new-recorded d refs nums may
+  performed (c.Put q k v) may = put-recorded q k v may
   performed (c.Get d q k) may = commanded (c.Get d q k) refl refl may
   performed (c.Read q j) may = commanded (c.Read q j) refl refl may
   performed (c.Write q j v) may = commanded (c.Write q j v) refl refl may
@@ -396,38 +396,38 @@ module _ (p : Epoch) (ready : IsReady p) (h : Machine) (first : IdealHeap) (past
   performed c.Meet may = absurd may
 
   silent : (x : Event) → is_publication x ≡ false → clears_unlog x ≡ false → is_put x ≡ false → AllByRecursion IsOfPart (entries x) → (may : MayStep p l x)
-      → Told p first (past ++ entries x) (heap_in p (next p h m x)) (next p h m x).locals
+      → Recorded p first (past ++ entries x) (heap_in p (next p h m x)) (next p h m x).locals
   silent x other clear put none may = plain x (goes p ready h ideal set now m known x may) (spot p ready h ideal set now m known x may) other clear put none
 
-  pub told-next : (x : Event) → (may : MayStep p l x) → Told p first (past ++ entries_with m (entry_of x) (reply_in (heap_in p h) (answer_at p h m x))) (heap_in p (next p h m x)) (next p h m x).locals
-  told-next (e.Perform command) may = performed command may
-  told-next (e.ClearUnlog q) may = clear-told q may
-  told-next (e.Miss command) may = silent (e.Miss command) refl refl refl
+  pub recorded-next : (x : Event) → (may : MayStep p l x) → Recorded p first (past ++ entries_with m (entry_of x) (reply_in (heap_in p h) (answer_at p h m x))) (heap_in p (next p h m x)) (next p h m x).locals
+  recorded-next (e.Perform command) may = performed command may
+  recorded-next (e.ClearUnlog q) may = clear-recorded q may
+  recorded-next (e.Miss command) may = silent (e.Miss command) refl refl refl
       (part-of (e.Miss command) command (may-miss command may) (reply_in s (answer_at p h m (e.Miss command))) (goes p ready h ideal set now m known (e.Miss command) may).no_full.0) may
-  told-next e.Poll may = silent e.Poll refl refl refl tt may
-  told-next (e.LoadName q) may = silent (e.LoadName q) refl refl refl tt may
-  told-next (e.LoadShape q) may = silent (e.LoadShape q) refl refl refl tt may
-  told-next (e.LoadCollector q) may = silent (e.LoadCollector q) refl refl refl tt may
-  told-next (e.LoadShapeAt a) may = silent (e.LoadShapeAt a) refl refl refl tt may
-  told-next (e.LoadBlock k) may = silent (e.LoadBlock k) refl refl refl tt may
-  told-next (e.LoadSide k) may = silent (e.LoadSide k) refl refl refl tt may
-  told-next (e.LoadUnlog q) may = silent (e.LoadUnlog q) refl refl refl tt may
-  told-next e.Raise may = silent e.Raise refl refl refl tt may
-  told-next (e.Initialize a refs nums k) may = silent (e.Initialize a refs nums k) refl refl refl tt may
-  told-next e.DrawTicket may = silent e.DrawTicket refl refl refl tt may
-  told-next (e.TakeBlock k class free) may = silent (e.TakeBlock k class free) refl refl refl tt may
+  recorded-next e.Poll may = silent e.Poll refl refl refl tt may
+  recorded-next (e.LoadName q) may = silent (e.LoadName q) refl refl refl tt may
+  recorded-next (e.LoadShape q) may = silent (e.LoadShape q) refl refl refl tt may
+  recorded-next (e.LoadCollector q) may = silent (e.LoadCollector q) refl refl refl tt may
+  recorded-next (e.LoadShapeAt a) may = silent (e.LoadShapeAt a) refl refl refl tt may
+  recorded-next (e.LoadBlock k) may = silent (e.LoadBlock k) refl refl refl tt may
+  recorded-next (e.LoadSide k) may = silent (e.LoadSide k) refl refl refl tt may
+  recorded-next (e.LoadUnlog q) may = silent (e.LoadUnlog q) refl refl refl tt may
+  recorded-next e.Raise may = silent e.Raise refl refl refl tt may
+  recorded-next (e.Initialize a refs nums k) may = silent (e.Initialize a refs nums k) refl refl refl tt may
+  recorded-next e.DrawTicket may = silent e.DrawTicket refl refl refl tt may
+  recorded-next (e.TakeBlock k class free) may = silent (e.TakeBlock k class free) refl refl refl tt may
 
 -- the same after each step of a log
-pub told-ends : (p : Epoch) → IsReady p → (log : List LogEntry) (h : Machine) (first : IdealHeap) (past : List Entry) (set : ℕ → Type 0) → Holds p h (runs.after first past) set
-    → Told p first past (heap_in p h) h.locals → IsLog p h log → Told p first (past ++ history p h log) (heap_in p (after p h log)) (after p h log).locals
-told-ends p ready [] h first past set now told is = subst (λ (es : List Entry). Told p first es (heap_in p h) h.locals) (sym (append-nil past)) told
-told-ends p ready (x ∷ xs) h first past set now told is =
+pub recorded-ends : (p : Epoch) → IsReady p → (log : List LogEntry) (h : Machine) (first : IdealHeap) (past : List Entry) (set : ℕ → Type 0) → Holds p h (runs.after first past) set
+    → Recorded p first past (heap_in p h) h.locals → IsLog p h log → Recorded p first (past ++ history p h log) (heap_in p (after p h log)) (after p h log).locals
+recorded-ends p ready [] h first past set now recorded is = subst (λ (es : List Entry). Recorded p first es (heap_in p h) h.locals) (sym (append-nil past)) recorded
+recorded-ends p ready (x ∷ xs) h first past set now recorded is =
     let step : Goes p h (runs.after first past) x.mutator x.event = goes p ready h (runs.after first past) set now x.mutator is.0 x.event is.1 in
     let es : List Entry = entries_with x.mutator (entry_of x.event) (reply_in (heap_in p h) (answer_at p h x.mutator x.event)) in
     let same : es ≡ entries_of (heap_in p h) x = ap (λ (y : Answer). entries_with x.mutator (entry_of x.event) (reply_in (heap_in p h) y)) (sym is.2) in
     let moment : Holds p (next p h x.mutator x.event) (runs.after first (past ++ es)) step.set =
     subst (λ (k : IdealHeap). Holds p (next p h x.mutator x.event) k step.set) (sym (run_lemmas.after-append first past es)) step.moment in
-    let rest : Told p first ((past ++ es) ++ history p (next p h x.mutator x.event) xs) (heap_in p (after p h (x ∷ xs))) (after p h (x ∷ xs)).locals =
-    told-ends p ready xs (next p h x.mutator x.event) first (past ++ es) step.set moment (told-next p ready h first past set now x.mutator is.0 told x.event is.1) is.3 in
-    subst (λ (ys : List Entry). Told p first ys (heap_in p (after p h (x ∷ xs))) (after p h (x ∷ xs)).locals)
+    let rest : Recorded p first ((past ++ es) ++ history p (next p h x.mutator x.event) xs) (heap_in p (after p h (x ∷ xs))) (after p h (x ∷ xs)).locals =
+    recorded-ends p ready xs (next p h x.mutator x.event) first (past ++ es) step.set moment (recorded-next p ready h first past set now x.mutator is.0 recorded x.event is.1) is.3 in
+    subst (λ (ys : List Entry). Recorded p first ys (heap_in p (after p h (x ∷ xs))) (after p h (x ∷ xs)).locals)
     (append_assoc past es (history p (next p h x.mutator x.event) xs) ∙ ap (λ ys. past ++ (ys ++ history p (next p h x.mutator x.event) xs)) same) rest

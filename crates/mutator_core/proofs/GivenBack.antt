@@ -42,10 +42,10 @@ module _ (p : Epoch) (ready : IsReady p) (h : Machine) (i : IdealHeap) (set : �
   new = with_words p.before w
 
   zone-word : (z : Zone) (k : ℕ) → first s.blocks StartBits ≤ first s.blocks z → word_at new (first s.blocks z + k) ≡ word_at s (first s.blocks z + k)
-  zone-word z k behind = gives.rest (first s.blocks z + k) (inr (omega arith))
+  zone-word z k beyond = gives.rest (first s.blocks z + k) (inr (omega arith))
 
   marks : (z : Zone) (x : ℕ) → first s.blocks StartBits ≤ first s.blocks z → address_bit s.blocks z w x ≡ address_bit s.blocks z s.words x
-  marks z x behind = mark-same s.blocks z s.words w x (λ there. ap (λ word. nat_eq (bit_at word ((x - heap_of s.blocks) % 64)) 1) (zone-word z ((x - heap_of s.blocks) / 64) behind))
+  marks z x beyond = mark-same s.blocks z s.words w x (λ there. ap (λ word. nat_eq (bit_at word ((x - heap_of s.blocks) % 64)) 1) (zone-word z ((x - heap_of s.blocks) / 64) beyond))
 
   same : SameHeap s w
   same = record {

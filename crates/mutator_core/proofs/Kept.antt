@@ -124,7 +124,7 @@ epoch-left p h w now leaves only free words fields untouched = record {
   births = λ a holds. let before : IsHeld (heap_in p h) a = only a holds in
       elim (now.births a before) as (λ _. IsHeld p.before a ⊎ ((m : ℕ) × Contains (h.locals m).made (record { address = a; size = size_at (with_words (heap_in p h) w) a }))) [
         | inl there ↦ inl there
-        | inr born ↦ inr (born.0, subst (λ (n : ℕ). Contains (h.locals born.0).made (record { address = a; size = n })) (sym (size-left p (heap_in p h) w leaves a before)) born.1)
+        | inr allocated ↦ inr (allocated.0, subst (λ (n : ℕ). Contains (h.locals allocated.0).made (record { address = a; size = n })) (sym (size-left p (heap_in p h) w leaves a before)) allocated.1)
       ];
   free = free;
   blocks = λ k there. elim (now.blocks k there) as (λ _. (block_word (with_words (heap_in p h) w) k ≡ block_word p.before k) ⊎ ((m : ℕ) × (o : OwnedBlock) × Contains (h.locals m).owned o × (o.block ≡ k))) [
@@ -153,10 +153,10 @@ epoch-with p s locals m l now known number knows grows = record {
   stays = now.stays;
   births = λ a holds. elim (now.births a holds) as (λ _. IsHeld p.before a ⊎ ((k : ℕ) × Contains (with_local locals m l k).made (record { address = a; size = size_at s a }))) [
     | inl there ↦ inl there
-    | inr born ↦ inr (
-      born.0,
-      local-cases (λ q x. Contains (locals q).made (record { address = a; size = size_at s a }) → Contains x.made (record { address = a; size = size_at s a })) locals m l born.0
-          (λ e. grows.0 (record { address = a; size = size_at s a })) (λ other known. known) born.1,
+    | inr allocated ↦ inr (
+      allocated.0,
+      local-cases (λ q x. Contains (locals q).made (record { address = a; size = size_at s a }) → Contains x.made (record { address = a; size = size_at s a })) locals m l allocated.0
+          (λ e. grows.0 (record { address = a; size = size_at s a })) (λ other known. known) allocated.1,
     )
   ];
   free = now.free;

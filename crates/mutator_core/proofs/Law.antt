@@ -63,10 +63,10 @@ module _ (p : Epoch) (ready : IsReady p) (h : Machine) (i : IdealHeap) (set : �
     moment = subst (λ (o : Option Command). Holds p (next p h m x) (runs.after i (entries_with m o (reply_in (heap_in p h) (answer_at p h m x)))) set) (sym none) moved.moment;
   }
 
-  told : (x : Event) (command : Command) (set' : ℕ → Type 0) → entry_of x ≡ Some command → reply_in (heap_in p h) (answer_at p h m x) ≡ (step i m command).0
+  recorded : (x : Event) (command : Command) (set' : ℕ → Type 0) → entry_of x ≡ Some command → reply_in (heap_in p h) (answer_at p h m x) ≡ (step i m command).0
       → Holds p (next p h m x) (step i m command).1 set' → Leaves (heap_in p h) (next p h m x).words
       → (is_publication x ≡ false → (n : Name) → reply_in (heap_in p h) (answer_at p h m x) ≢ r.New n) → Goes p h i m x
-  told x command set' some answers moment leaves no_birth =
+  recorded x command set' some answers moment leaves no_birth =
       let reply : Reply = reply_in (heap_in p h) (answer_at p h m x) in
       record {
         set = set';
@@ -82,11 +82,11 @@ module _ (p : Epoch) (ready : IsReady p) (h : Machine) (i : IdealHeap) (set : �
       }
 
   performed : (command : Command) → Replies p h i set m command (reply_in (heap_in p h) (answer_at p h m (e.Perform command))) (next p h m (e.Perform command)) → Goes p h i m (e.Perform command)
-  performed command is = told (e.Perform command) command set refl is.answers is.moment is.leaves (λ other. is.no_birth)
+  performed command is = recorded (e.Perform command) command set refl is.answers is.moment is.leaves (λ other. is.no_birth)
 
   perform : (command : Command) → MayPerform p l command → Goes p h i m (e.Perform command)
   perform (c.New d refs nums) may = let is = published.publish p ready h i set now m known d refs nums may.0 may.1 may.2 in
-      told (e.Perform (c.New d refs nums)) (c.New d refs nums) (λ x. set x ⊎ (x ≡ l.unpublished.address)) refl is.0 is.1 is.2 (λ other n. let wrong : true ≡ false = other in cc)
+      recorded (e.Perform (c.New d refs nums)) (c.New d refs nums) (λ x. set x ⊎ (x ≡ l.unpublished.address)) refl is.0 is.1 is.2 (λ other n. let wrong : true ≡ false = other in cc)
   perform (c.Get d q k) may = performed (c.Get d q k) (commands.get p ready h i set now m known d q k may.0 may.1)
   perform (c.Put q k v) may = performed (c.Put q k v) (commands.put p ready h i set now m known q k v may.0 may.1 may.2)
   perform (c.Read q j) may = performed (c.Read q j) (commands.read p ready h i set now m known q j may)
@@ -104,7 +104,7 @@ module _ (p : Epoch) (ready : IsReady p) (h : Machine) (i : IdealHeap) (set : �
 
   pub goes : (x : Event) → MayStep p l x → Goes p h i m x
   goes (e.Perform command) may = perform command may
-  goes (e.Miss command) may = let is = commands.miss p ready h i set now m known command may in told (e.Miss command) command set refl is.answers is.moment is.leaves (λ other. is.no_birth)
+  goes (e.Miss command) may = let is = commands.miss p ready h i set now m known command may in recorded (e.Miss command) command set refl is.answers is.moment is.leaves (λ other. is.no_birth)
   goes e.Poll may = quietly e.Poll refl (quiet.loads p ready h i set now m known _ _ refl (λ x. x) (grown l))
   goes (e.LoadName q) may = quietly (e.LoadName q) refl (quiet.loads p ready h i set now m known _ _ refl (λ x. x) (grown l))
   goes (e.LoadShape q) may = quietly (e.LoadShape q) refl (quiet.load-shape p ready h i set now m known q may)

@@ -83,21 +83,21 @@ module _ (m d v : ℕ) where
   abbrev given : MutatorState → MutatorState
   given x = if nat_eq x.number m then with_register x d v else x
 
-  born-own : (x : MutatorState) → x.number ≡ m → given (counted x) ≡ with_register (with_birth x) d v
-  born-own x is = ap given (cond-true (nat_eq x.number m) (with_birth x) x (eq-eqb x.number m is))
+  birth-own : (x : MutatorState) → x.number ≡ m → given (counted x) ≡ with_register (with_birth x) d v
+  birth-own x is = ap given (cond-true (nat_eq x.number m) (with_birth x) x (eq-eqb x.number m is))
       ∙ cond-true (nat_eq x.number m) (with_register (with_birth x) d v) (with_birth x) (eq-eqb x.number m is)
 
-  born-other : (x : MutatorState) → x.number ≢ m → given (counted x) ≡ x
-  born-other x differ = ap given (cond-false (nat_eq x.number m) (with_birth x) x (ne_eqb x.number m differ)) ∙ cond-false (nat_eq x.number m) (with_register x d v) x (ne_eqb x.number m differ)
+  birth-other : (x : MutatorState) → x.number ≢ m → given (counted x) ≡ x
+  birth-other x differ = ap given (cond-false (nat_eq x.number m) (with_birth x) x (ne_eqb x.number m differ)) ∙ cond-false (nat_eq x.number m) (with_register x d v) x (ne_eqb x.number m differ)
 
-  pub mutators-born : (locals : ℕ → Local) (l : Local) (ks : List ℕ) → ((k : ℕ) → (locals k).number ≡ k) → mutator_of l ≡ with_register (with_birth (mutator_of (locals m))) d v
+  pub mutators-with_birth : (locals : ℕ → Local) (l : Local) (ks : List ℕ) → ((k : ℕ) → (locals k).number ≡ k) → mutator_of l ≡ with_register (with_birth (mutator_of (locals m))) d v
       → set_register_of (add_birth (map (λ k. mutator_of (locals k)) ks) m) m d v ≡ map (λ k. mutator_of (with_local locals m l k)) ks
-  mutators-born locals l ks numbers same =
+  mutators-with_birth locals l ks numbers same =
       ap (map given) (map-map (λ k. mutator_of (locals k)) counted ks) ∙ map-map (λ k. counted (mutator_of (locals k))) given ks
       ∙ map-same (λ k. given (counted (mutator_of (locals k)))) (λ k. mutator_of (with_local locals m l k))
       (λ k. local-cases (λ q x. given (counted (mutator_of (locals q))) ≡ mutator_of x) locals m l k
-      (λ e. born-own (mutator_of (locals m)) (numbers m) ∙ sym same)
-      (λ other. born-other (mutator_of (locals k)) (λ e. other (sym (numbers k) ∙ e)))) ks
+      (λ e. birth-own (mutator_of (locals m)) (numbers m) ∙ sym same)
+      (λ other. birth-other (mutator_of (locals k)) (λ e. other (sym (numbers k) ∙ e)))) ks
 
 -- the one element with the property, in a list in two parts
 pub any-cases : {X : Type 0} {P : X → Type 0} (x : X) (xs : List X) → Any P (x ∷ xs) → P x ⊎ Any P xs

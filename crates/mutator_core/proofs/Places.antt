@@ -73,7 +73,7 @@ module _ (p : Epoch) (ready : IsReady p) (h : Machine) (now : IsInEpoch p (heap_
       let who : k ≡ m = sym (place-owner p h now k x (size_at s x) is.place).0 ∙ ap (owner_at s) here ∙ (place-owner p h now m a size place).0 in
       elim (available.beside (record { address = x; size = size_at s x }) (subst (λ (q : ℕ). Contains (h.locals q).made (record { address = x; size = size_at s x })) who made)) as (λ _. ⊥) [
         | inl before ↦ omega arith
-        | inr behind ↦ omega arith
+        | inr beyond ↦ omega arith
       ]
 
   pub place-clear : (x i : ℕ) → IsHeld s x → IsInExtent s x i → (i < a) ⊎ (a + size ≤ i)
@@ -83,7 +83,7 @@ module _ (p : Epoch) (ready : IsReady p) (h : Machine) (now : IsInEpoch p (heap_
       | inr past ↦ inr past
       | inl below ↦ elim (now.births x holds) as (λ _. (i < a) ⊎ (a + size ≤ i)) [
         | inl before ↦ absurd (old-object x i before (extent-then p h now x i before inside) from below)
-        | inr born ↦ absurd (new-object x i born.0 born.1 inside from below)
+        | inr allocated ↦ absurd (new-object x i allocated.0 allocated.1 inside from below)
       ]
     ]
   ]

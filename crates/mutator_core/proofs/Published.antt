@@ -34,7 +34,7 @@ use Rattle.mutator_core.specs.declared.state.Event.TheVariants as e
 use Rattle.mutator_core.specs.Machine.{Epoch, Machine, heap_in, mutators_in, mutator_of, next, next_name, birth_word, bit_word, bit_place, with_bit, published}
 use Rattle.mutator_core.specs.Guards.{IsPlace, IsCell, IsWriting}
 use Rattle.mutator_core.specs.Epochs.{IsReady, IsInEpoch, IsOwned, IsMade, IsUnpublished, KnowsItsState}
-use Rattle.mutator_core.proofs.Lists.{contains-cases, contains-here, contains-there, with_local, local-cases, mutators-born}
+use Rattle.mutator_core.proofs.Lists.{contains-cases, contains-here, contains-there, with_local, local-cases, mutators-with_birth}
 use Rattle.mutator_core.proofs.Places.{place-clear}
 use Rattle.mutator_core.proofs.Fills.{fill-small, fill-not-free, fills-cells, owned-kind, owned-class}
 use Rattle.mutator_core.proofs.Kept.{Leaves, knows-left, size-left, remembers-left}
@@ -194,7 +194,7 @@ module _ (p : Epoch) (ready : IsReady p) (h : Machine) (i : IdealHeap) (set : �
   models : RepresentsOn after (mutators_in p (next p h m (e.Perform (c.New d refs nums)))) (step i m (c.New d refs nums)).1 joined
   unfolding step
   models = subst (λ (ms : List MutatorState). RepresentsOn after ms (step i m (c.New d refs nums)).1 joined)
-      (mutators-born m d a h.locals l' (numbers_of p.mutators) now.epoch.numbers refl)
+      (mutators-with_birth m d a h.locals l' (numbers_of p.mutators) now.epoch.numbers refl)
       (birth-models s w (mutators_in p h) i set now.models m d a refs nums
       (subst (λ (q : Name). Adds s w a q refs nums) (sym named) adds) (subst (λ (q : Name). IsVacant s a q refs nums) (sym named) vacant) order-after small
       (subst (λ (q : ℕ). Contains (numbers_of (mutators_in p h)) q) (now.epoch.numbers m) (number-among (mutators_in p h) (mutator_of l) (one-of p h i set now m known))))
@@ -203,7 +203,7 @@ module _ (p : Epoch) (ready : IsReady p) (h : Machine) (i : IdealHeap) (set : �
   leaves = record {
     held = births.held-after s w a n refs nums adds vacant;
     headers = λ x j holds few. heap-word (x + j) (let from : heap_of s.blocks ≤ x = holds.address.from in omega arith);
-    owners = λ q there owner. other (first s.blocks BlockWords + q) (λ e. let behind = before-heap.1 in omega arith);
+    owners = λ q there owner. other (first s.blocks BlockWords + q) (λ e. let beyond = before-heap.1 in omega arith);
     unlogs = λ x is. sym (adds.unlogs x) ∙ is;
     lines = births.lines-same s w a n refs nums writes place.address;
   }
@@ -266,11 +266,11 @@ module _ (p : Epoch) (ready : IsReady p) (h : Machine) (i : IdealHeap) (set : �
       )
       | inr before ↦ elim (now.epoch.births x before) as (λ _. IsHeld p.before x ⊎ ((q : ℕ) × Contains (locals q).made (record { address = x; size = size_at after x }))) [
         | inl there ↦ inl there
-        | inr born ↦ inr (
-          born.0,
-          subst (λ (z : ℕ). Contains (locals born.0).made (record { address = x; size = z })) (sym (size-left p s w leaves x before))
-              (local-cases (λ j y. Contains (h.locals j).made (record { address = x; size = size_at s x }) → Contains y.made (record { address = x; size = size_at s x })) h.locals m l' born.0
-              (λ e. contains-there extent l.made (record { address = x; size = size_at s x })) (λ differ there. there) born.1),
+        | inr allocated ↦ inr (
+          allocated.0,
+          subst (λ (z : ℕ). Contains (locals allocated.0).made (record { address = x; size = z })) (sym (size-left p s w leaves x before))
+              (local-cases (λ j y. Contains (h.locals j).made (record { address = x; size = size_at s x }) → Contains y.made (record { address = x; size = size_at s x })) h.locals m l' allocated.0
+              (λ e. contains-there extent l.made (record { address = x; size = size_at s x })) (λ differ there. there) allocated.1),
         )
       ]
     ];

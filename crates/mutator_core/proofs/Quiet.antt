@@ -83,14 +83,14 @@ module _ (p : Epoch) (ready : IsReady p) (h : Machine) (i : IdealHeap) (set : �
   }
     where
       other : (q : ℕ) → 2 ≤ q → word_at (with_words s (slice_set h.words k v)) q ≡ word_at s q
-      other q behind = get_or-set_other h.words k q v 0 (λ e. omega arith)
+      other q beyond = get_or-set_other h.words k q v 0 (λ e. omega arith)
 
       marks : (z : Zone) (x : ℕ) → 18 ≤ first s.blocks z → address_bit s.blocks z (slice_set h.words k v) x ≡ address_bit s.blocks z s.words x
-      marks z x behind = mark-same s.blocks z s.words (slice_set h.words k v) x (λ there.
+      marks z x beyond = mark-same s.blocks z s.words (slice_set h.words k v) x (λ there.
           ap (λ word. nat_eq (bit_at word ((x - heap_of s.blocks) % 64)) 1) (other (first s.blocks z + (x - heap_of s.blocks) / 64) (omega arith)))
 
   low-other : (k v q : ℕ) → k < 2 → 2 ≤ q → word_at (with_words (heap_in p h) (slice_set h.words k v)) q ≡ word_at (heap_in p h) q
-  low-other k v q low behind = get_or-set_other h.words k q v 0 (λ e. omega arith)
+  low-other k v q low beyond = get_or-set_other h.words k q v 0 (λ e. omega arith)
 
   low-fits : (k v : ℕ) → v < 2 ^ 64 → (q : ℕ) → word_at (with_words (heap_in p h) (slice_set h.words k v)) q < 2 ^ 64
   low-fits k v fits q = elim (cases_eq q k) as (λ _. word_at (with_words s (slice_set h.words k v)) q < 2 ^ 64) [

@@ -78,8 +78,8 @@ module _ (p : Epoch) (ready : IsReady p) (h : Machine) (now : IsInEpoch p (heap_
   ]
 
   -- no object was allocated in a block without an owner
-  born-elsewhere : (k a : ℕ) → owner_at s k ≡ 0 → (m : ℕ) → Contains (h.locals m).made (record { address = a; size = size_at s a }) → block_at s.blocks a ≢ k
-  born-elsewhere k a nobody m made here =
+  allocated-elsewhere : (k a : ℕ) → owner_at s k ≡ 0 → (m : ℕ) → Contains (h.locals m).made (record { address = a; size = size_at s a }) → block_at s.blocks a ≢ k
+  allocated-elsewhere k a nobody m made here =
       let is : IsMade p s (h.locals m).owned (record { address = a; size = size_at s a }) = (now.knows m).objects (record { address = a; size = size_at s a }) made in
       let owner = place-owner p h now m a (size_at s a) is.place in
       let some : 0 < m = owner.1 in
@@ -102,7 +102,7 @@ module _ (p : Epoch) (ready : IsReady p) (h : Machine) (now : IsInEpoch p (heap_
         now.lines k line there small ∙ elim (now.births t.object t.held) as (λ _. IsTrue (line_marked p.before k line)) [
           | inl before ↦ (ready.lawful.lines k).touched line (kind-then is there) small
               (record { object = t.object; word = t.word; held = before; inside = extent-then p h now t.object t.word before t.inside; from = t.from; below = t.below })
-          | inr born ↦ absurd (born-elsewhere k t.object nobody born.0 born.1 (same-block line small t born.0 born.1))
+          | inr allocated ↦ absurd (allocated-elsewhere k t.object nobody allocated.0 allocated.1 (same-block line small t allocated.0 allocated.1))
         ];
   }
     where
@@ -146,7 +146,7 @@ module _ (p : Epoch) (ready : IsReady p) (h : Machine) (now : IsInEpoch p (heap_
         elim (now.births x held) as (λ _. bit_at (word_at p.before (bit_word s.blocks StartBits a)) k ≡ 1) [
           | inl before ↦ ap (λ w. bit_at (word_at p.before w) k) (sym is.2) ∙ ap (bit_at (word_at p.before (bit_word s.blocks StartBits x))) (sym is.3)
               ∙ eqb-true (bit_at (word_at p.before (bit_word s.blocks StartBits x)) (bit_place s.blocks x)) 1 (bit_from_mark s.blocks StartBits p.before.words x before.start)
-          | inr born ↦ absurd (born-elsewhere (block_at s.blocks a) x nobody born.0 born.1 is.1)
+          | inr allocated ↦ absurd (allocated-elsewhere (block_at s.blocks a) x nobody allocated.0 allocated.1 is.1)
         ])
   ]
 

@@ -61,7 +61,7 @@ module _ (p : Epoch) (ready : IsReady p) (h : Machine) (i : IdealHeap) (set : �
       → ((j : ℕ) → 18 + p.before.blocks ≤ j → j < 18 + 69 * p.before.blocks → (is_publication x ≡ false) ⊎ (j < 18 + 5 * p.before.blocks) → j ≢ k) → Spot s (slice_set h.words k v) x
   elsewhere x k v least outside away beside = record {
     sides = λ j from below other. get_or-set_other h.words k j v 0 (beside j from below other);
-    blocks = λ other q there. get_or-set_other h.words k (first p.before.blocks BlockWords + q) v 0 (λ e. elim (away other) as (λ _. ⊥) [ inl before ↦ omega arith | inr behind ↦ omega arith ]);
+    blocks = λ other q there. get_or-set_other h.words k (first p.before.blocks BlockWords + q) v 0 (λ e. elim (away other) as (λ _. ⊥) [ inl before ↦ omega arith | inr beyond ↦ omega arith ]);
     unlogs = λ other. unlog-other k v outside;
     tickets = λ other. get_or-set_other h.words k 1 v 0 (λ e. omega arith);
     stop = λ other. get_or-set_other h.words k 0 v 0 (λ e. omega arith);
@@ -71,7 +71,7 @@ module _ (p : Epoch) (ready : IsReady p) (h : Machine) (i : IdealHeap) (set : �
       unlog-other k v outside a = mark-same s.blocks UnlogBits s.words (slice_set h.words k v) a (λ there.
           let from : heap_of s.blocks ≤ a = there.from in let below : a < row_words s.blocks = there.below in
           ap (λ word. nat_eq (bit_at word ((a - heap_of s.blocks) % 64)) 1) (get_or-set_other h.words k (first s.blocks UnlogBits + (a - heap_of s.blocks) / 64) v 0
-          (λ e. elim outside as (λ _. ⊥) [ inl before ↦ omega arith | inr behind ↦ omega arith ])))
+          (λ e. elim outside as (λ _. ⊥) [ inl before ↦ omega arith | inr beyond ↦ omega arith ])))
 
   of-object : (x : Event) (q k v : ℕ) → HasObjectIn l q → address_in l q ≤ k → Spot s (slice_set h.words k v) x
   of-object x q k v has least =

@@ -164,11 +164,11 @@ module _ (p : Epoch) (ready : IsReady p) (h : Machine) (i : IdealHeap) (set : �
           births = λ x holds. let before : IsHeld s x = blocks.held-before s w same x holds in
               elim (now.epoch.births x before) as (λ _. IsHeld p.before x ⊎ ((q : ℕ) × Contains (with_local h.locals m l' q).made (record { address = x; size = size_at after x }))) [
                 | inl there ↦ inl there
-                | inr born ↦ inr (
-                  born.0,
-                  subst (λ (z : ℕ). Contains (with_local h.locals m l' born.0).made (record { address = x; size = z })) (sym (size-left p s w leaves x before))
-                      (local-cases (λ j y. Contains (h.locals j).made (record { address = x; size = size_at s x }) → Contains y.made (record { address = x; size = size_at s x })) h.locals m l' born.0
-                      (λ e. grows.0 (record { address = x; size = size_at s x })) (λ differ there. there) born.1),
+                | inr allocated ↦ inr (
+                  allocated.0,
+                  subst (λ (z : ℕ). Contains (with_local h.locals m l' allocated.0).made (record { address = x; size = z })) (sym (size-left p s w leaves x before))
+                      (local-cases (λ j y. Contains (h.locals j).made (record { address = x; size = size_at s x }) → Contains y.made (record { address = x; size = size_at s x })) h.locals m l' allocated.0
+                      (λ e. grows.0 (record { address = x; size = size_at s x })) (λ differ there. there) allocated.1),
                 )
               ];
           free = free;

@@ -98,7 +98,7 @@ module _ (p : Epoch) (ready : IsReady p) (h : Machine) (i : IdealHeap) (set : �
   own = get_or-set_same h.words (a + offset) v 0 in-row
 
   object-word : (x j : ℕ) → IsHeld s x → j < size_at s x → word_at (with_words s w) (x + j) ≡ word_at s (x + j)
-  object-word x j holds less = other (x + j) (λ e. elim (clear x (x + j) holds (record { from = omega arith; below = omega arith })) as (λ _. ⊥) [ inl before ↦ omega arith | inr behind ↦ omega arith ])
+  object-word x j holds less = other (x + j) (λ e. elim (clear x (x + j) holds (record { from = omega arith; below = omega arith })) as (λ _. ⊥) [ inl before ↦ omega arith | inr beyond ↦ omega arith ])
 
   marks : (z : Zone) (x : ℕ) → first s.blocks z + 64 * s.blocks ≤ heap_of s.blocks → address_bit s.blocks z w x ≡ address_bit s.blocks z s.words x
   marks z x below = mark-same s.blocks z s.words w x (λ there.
@@ -182,4 +182,4 @@ module _ (p : Epoch) (ready : IsReady p) (h : Machine) (i : IdealHeap) (set : �
           ];
         };
       }) (grown l) (kept.fields-at p ready h now.epoch (a + offset) v (λ x j holds less e.
-      elim (clear x (x + 3 + j) holds (record { from = omega arith; below = omega arith })) as (λ _. ⊥) [ inl before ↦ omega arith | inr behind ↦ omega arith ])) untouched
+      elim (clear x (x + 3 + j) holds (record { from = omega arith; below = omega arith })) as (λ _. ⊥) [ inl before ↦ omega arith | inr beyond ↦ omega arith ])) untouched

@@ -1,4 +1,6 @@
 -- The end of an epoch: mutators give back the blocks that they own.
+use Rattle.heap_layout.specs.declared.block_codes.TheConstants.{OWNER_UNIT}
+use Rattle.heap_layout.specs.declared.layout.TheConstants.{BLOCK_LINES}
 use Rattle.std.specs.Prelude.{◌≡◌, ℕ, ◌%◌, ◌^◌, ◌<◌, ◌≤◌, ◌⊎◌, length}
 use Rattle.std.specs.List.{Contains}
 use Rattle.heap_layout.specs.Zones.{Globals, BlockWords, StartBits, first, block_at}
@@ -27,9 +29,9 @@ pub record GivesBack (old new : HeapState) : Type 0 where
   pub base : new.base ≡ old.base
   pub extent : length new.words ≡ length old.words
   pub words : (i : ℕ) → word_at new i < 2 ^ 64
-  pub owners : (k : ℕ) → k < old.blocks → block_word new k ≡ block_word old k % 65536
+  pub owners : (k : ℕ) → k < old.blocks → block_word new k ≡ block_word old k % OWNER_UNIT
   pub listed : (k : ℕ) → 0 < owner_at old k → LineBitsAreExact new k
-  pub lines : (k line : ℕ) → k < old.blocks → line < 256 → owner_at old k ≡ 0
+  pub lines : (k line : ℕ) → k < old.blocks → line < BLOCK_LINES → owner_at old k ≡ 0
       → line_marked new k line ≡ line_marked old k line
   pub rest : (i : ℕ) → (first old.blocks Globals ≤ i) × (i < first old.blocks BlockWords)
       ⊎ (first old.blocks StartBits ≤ i) → word_at new i ≡ word_at old i

@@ -1,4 +1,7 @@
 -- The invariants of an epoch: what holds after each step, if mutators make only steps that they may make.
+use Rattle.heap_layout.specs.declared.layout.TheConstants.{BLOCK_LINES}
+use Rattle.ideal_heap.specs.declared.command.TheConstants.{MAX_MUTATORS, MAX_REFS, MAX_NUMS}
+use Rattle.object_model.specs.declared.shape.TheConstants.{MAX_MEDIUM_WORDS}
 use Rattle.std.specs.Prelude.{◌≡◌, ℕ, ◌+◌, ◌<◌, ◌≤◌, ◌^◌, ◌⊎◌, Bool, true, false, IsTrue, List, length}
 use Rattle.std.specs.List.{Contains}
 use Rattle.heap_layout.specs.Blocks.{IsValid, code_of}
@@ -37,7 +40,7 @@ pub record IsReady (p : Epoch) : Type 0 where
   pub fills : IsTrue (is_filled p.rules.fill)
   pub stop : word_at p.before 0 ≡ 0
   pub tickets : word_at p.before 1 ≡ 0
-  pub few : length p.mutators ≤ 16
+  pub few : length p.mutators ≤ MAX_MUTATORS
 
 -- The block word has this mutator as owner. As the epoch began, the block was Free, or of the same kind and class and
 -- without an owner.
@@ -61,9 +64,9 @@ pub record IsMade (p : Epoch) (s : HeapState) (blocks : List OwnedBlock) (x : Ex
 pub record IsUnpublished (p : Epoch) (s : HeapState) (n : Name) (blocks : List OwnedBlock) (made : List Extent)
     (u : Unpublished) : Type 0 where
   pub few_births : n.birth < 2 ^ 32
-  pub few_refs : u.refs ≤ 1024
-  pub few_nums : u.nums ≤ 60000
-  pub small : size_of u.refs u.nums ≤ 2048
+  pub few_refs : u.refs ≤ MAX_REFS
+  pub few_nums : u.nums ≤ MAX_NUMS
+  pub small : size_of u.refs u.nums ≤ MAX_MEDIUM_WORDS
   pub most : u.written ≤ size_of u.refs u.nums
   pub available : IsAvailable p blocks made u.address (size_of u.refs u.nums)
   pub words : (k : ℕ) → k < u.written → word_at s (u.address + k) ≡ birth_word n u.refs u.nums k
@@ -96,7 +99,7 @@ pub record IsInEpoch (p : Epoch) (s : HeapState) (locals : ℕ → Local) : Type
   pub blocks : (k : ℕ) → k < s.blocks → (block_word s k ≡ block_word p.before k)
       ⊎ ((m : ℕ) × (o : OwnedBlock) × Contains (locals m).owned o × (o.block ≡ k))
   pub members : (m : ℕ) (o : OwnedBlock) → Contains (locals m).owned o → Contains (numbers_of p.mutators) m
-  pub lines : (k line : ℕ) → k < s.blocks → line < 256 → line_marked s k line ≡ line_marked p.before k line
+  pub lines : (k line : ℕ) → k < s.blocks → line < BLOCK_LINES → line_marked s k line ≡ line_marked p.before k line
   -- unlog bits are only cleared, and references to young objects are remembered
   pub unlogs : (a : ℕ) → IsTrue (is_unlogged s a) → IsTrue (is_unlogged p.before a)
   pub remembers : Remembers p.rules s

@@ -1,5 +1,8 @@
 -- When a mutator may make a step. A guard depends only on the epoch's beginning and on the mutator's own state, so it
 -- can be proved before the step.
+use Rattle.heap_layout.specs.declared.layout.TheConstants.{BLOCK_WORDS}
+use Rattle.ideal_heap.specs.declared.command.TheConstants.{REGISTERS, GLOBALS, MAX_REFS, MAX_NUMS}
+use Rattle.object_model.specs.declared.shape.TheConstants.{MAX_MEDIUM_WORDS}
 use Rattle.std.specs.Prelude.{◌≡◌, ℕ, ◌+◌, ◌*◌, ◌/◌, ◌^◌, ◌<◌, ◌≤◌, ◌⊎◌, Bool, false, ◌&&◌, IsTrue, nat_lt, nat_le, Some, None, List}
 use Rattle.std.specs.List.{Contains}
 use Rattle.std.specs.Int.{bit_at}
@@ -20,7 +23,7 @@ use Rattle.mutator_core.specs.Machine.{Epoch, address_in, refs_in, nums_in, bit_
 
 -- register s holds an object, and the shape last loaded is that object's
 abbrev pub HasShape : Local → ℕ → Type 0
-HasShape l s = (s < 16) × (0 < address_in l s) × (l.shape.at ≡ address_in l s)
+HasShape l s = (s < REGISTERS) × (0 < address_in l s) × (l.shape.at ≡ address_in l s)
 
 -- the object in register s has a field i, or a number j
 abbrev pub HasField : Local → ℕ → ℕ → Type 0
@@ -31,14 +34,14 @@ HasNumber l s j = HasShape l s × (j < nums_in l.shape.word)
 
 -- register s is nil, or its object has no field i, or no number j
 abbrev pub LacksField : Local → ℕ → ℕ → Type 0
-LacksField l s i = (s < 16) × ((address_in l s ≡ 0) ⊎ (HasShape l s × (refs_in l.shape.word ≤ i)))
+LacksField l s i = (s < REGISTERS) × ((address_in l s ≡ 0) ⊎ (HasShape l s × (refs_in l.shape.word ≤ i)))
 
 abbrev pub LacksNumber : Local → ℕ → ℕ → Type 0
-LacksNumber l s j = (s < 16) × ((address_in l s ≡ 0) ⊎ (HasShape l s × (nums_in l.shape.word ≤ j)))
+LacksNumber l s j = (s < REGISTERS) × ((address_in l s ≡ 0) ⊎ (HasShape l s × (nums_in l.shape.word ≤ j)))
 
 -- register s is nil
 abbrev pub LacksObject : Local → ℕ → Type 0
-LacksObject l s = (s < 16) × (address_in l s ≡ 0)
+LacksObject l s = (s < REGISTERS) × (address_in l s ≡ 0)
 
 -- the command has no effect: its object, field or number does not exist
 abbrev pub IsMiss : Local → Command → Type 0
@@ -70,13 +73,13 @@ pub record IsCell (a size blocks class : ℕ) : Type 0 where
   pub fits : class_of size ≡ Some class
   pub index : ℕ
   pub start : offset_at blocks a ≡ index * cell_words class
-  pub inside : offset_at blocks a + cell_words class ≤ 4096
+  pub inside : offset_at blocks a + cell_words class ≤ BLOCK_WORDS
 
 -- A mutator that owns these blocks may have an object of this size at address a: in an owned block that was Free as the
 -- epoch began, or that had a hole there.
 pub record IsPlace (p : Epoch) (blocks : List OwnedBlock) (a size : ℕ) : Type 0 where
   pub address : IsAddress p.before.blocks a
-  pub inside : offset_at p.before.blocks a + size ≤ 4096
+  pub inside : offset_at p.before.blocks a + size ≤ BLOCK_WORDS
   pub owned : OwnedBlock
   pub among : Contains blocks owned
   pub here : owned.block ≡ block_at p.before.blocks a
@@ -89,7 +92,7 @@ pub record IsAvailable (p : Epoch) (blocks : List OwnedBlock) (made : List Exten
   pub place : IsPlace p blocks a size
   pub beside : (x : Extent) → Contains made x → (x.address + x.size ≤ a) ⊎ (a + size ≤ x.address)
 
--- An object of this size at address a begins at the front of a hole of the epoch's beginning, at the start of a block
+-- An object of this size at address a begins at the start of a hole of the epoch's beginning, at the start of a block
 -- that was Free, or directly after an object that the mutator allocated in the block. In cells each object has its own.
 abbrev pub BeginsRegion : Epoch → List Extent → ℕ → ℕ → Type 0
 BeginsRegion p made a size = (p.rules.fill ≡ kinds.Cells)
@@ -107,9 +110,9 @@ IsWriting l a refs nums written = l.unpublished ≡ record { address = a; refs =
 pub record MayBegin (p : Epoch) (l : Local) (a refs nums : ℕ) : Type 0 where
   pub none : l.unpublished ≡ nothing_unpublished
   pub few_births : l.births + 1 < 2 ^ 32
-  pub few_refs : refs ≤ 1024
-  pub few_nums : nums ≤ 60000
-  pub small : size_of refs nums ≤ 2048
+  pub few_refs : refs ≤ MAX_REFS
+  pub few_nums : nums ≤ MAX_NUMS
+  pub small : size_of refs nums ≤ MAX_MEDIUM_WORDS
   pub available : IsAvailable p l.owned l.made a (size_of refs nums)
   pub region : BeginsRegion p l.made a (size_of refs nums)
 
@@ -140,27 +143,27 @@ HasSeenStart p l a = (x : Loaded) × Contains l.loaded x × (x.at ≡ bit_word p
 
 -- The mutator may make the entry of the command. `gc` and `meet` have no entry in an epoch.
 abbrev pub MayPerform : Epoch → Local → Command → Type 0
-MayPerform p l (c.New d refs nums) = (d < 16) × (0 < l.unpublished.address)
+MayPerform p l (c.New d refs nums) = (d < REGISTERS) × (0 < l.unpublished.address)
     × IsWriting l l.unpublished.address refs nums (size_of refs nums)
-MayPerform p l (c.Get d s i) = (d < 16) × HasField l s i
-MayPerform p l (c.Put s i v) = (v < 16) × HasField l s i × IsBarred p l s
+MayPerform p l (c.Get d s i) = (d < REGISTERS) × HasField l s i
+MayPerform p l (c.Put s i v) = (v < REGISTERS) × HasField l s i × IsBarred p l s
     × ((l.pending ≡ 0) ⊎ (l.pending ≡ address_in l s))
 MayPerform p l (c.Read s j) = HasNumber l s j
 MayPerform p l (c.Write s j n) = HasNumber l s j × (n < 2 ^ 64)
 MayPerform p l (c.Add s j n) = HasNumber l s j × (n < 2 ^ 64)
 MayPerform p l (c.Swap s j was n) = HasNumber l s j × (n < 2 ^ 64)
-MayPerform p l (c.Move d s) = (d < 16) × (s < 16)
-MayPerform p l (c.DropReg s) = s < 16
-MayPerform p l (c.Load d g) = (d < 16) × (g < 16)
-MayPerform p l (c.Share g s) = (g < 16) × (s < 16)
-MayPerform p l (c.Pin s) = (s < 16) × (0 < address_in l s)
-MayPerform p l (c.Unpin s) = (s < 16) × (0 < address_in l s)
+MayPerform p l (c.Move d s) = (d < REGISTERS) × (s < REGISTERS)
+MayPerform p l (c.DropReg s) = s < REGISTERS
+MayPerform p l (c.Load d g) = (d < REGISTERS) × (g < GLOBALS)
+MayPerform p l (c.Share g s) = (g < GLOBALS) × (s < REGISTERS)
+MayPerform p l (c.Pin s) = (s < REGISTERS) × (0 < address_in l s)
+MayPerform p l (c.Unpin s) = (s < REGISTERS) × (0 < address_in l s)
 MayPerform p l c.Gc = ⊥
 MayPerform p l c.Meet = ⊥
 
 -- register s holds an object
 abbrev pub HasObjectIn : Local → ℕ → Type 0
-HasObjectIn l s = (s < 16) × (0 < address_in l s)
+HasObjectIn l s = (s < REGISTERS) × (0 < address_in l s)
 
 -- the mutator may make this step
 abbrev pub MayStep : Epoch → Local → Event → Type 0

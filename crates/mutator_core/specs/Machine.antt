@@ -1,5 +1,6 @@
 -- The mutator machine. A step reads the mutator's own state and one word of the row. The definitions give the index of
 -- that word, the word after the step, the answer, and the mutator's state after the step.
+use Rattle.object_model.specs.declared.shape.TheConstants.{NUMS_UNIT}
 use Rattle.std.specs.Prelude.{ℕ, zero, suc, ◌+◌, ◌-◌, ◌/◌, ◌%◌, ◌^◌, Bool, true, false, if◌then◌else◌, nat_eq, Some, None, List, [], ◌∷◌, map, slice_index, slice_set, bit_or, bit_and}
 use Rattle.std.specs.Int.{bit_at}
 use Rattle.heap_layout.specs.Zones.{Zone, StopWord, BudgetWord, Globals, BlockWords, StartBits, PinBits, UnlogBits, first, heap_of}
@@ -49,10 +50,10 @@ mutators_in p h = map (λ m. mutator_of (h.locals m)) (numbers_of p.mutators)
 
 -- how many fields and how many numbers an object with this shape word has
 abbrev pub refs_in : ℕ → ℕ
-refs_in word = word % 65536
+refs_in word = word % NUMS_UNIT
 
 abbrev pub nums_in : ℕ → ℕ
-nums_in word = word / 65536
+nums_in word = word / NUMS_UNIT
 
 -- the index of the word of zone z with the bit of address a, and the position of the bit in that word
 abbrev pub bit_word : ℕ → Zone → ℕ → ℕ

@@ -1,4 +1,5 @@
 -- The words that mutators loaded, against the present words of the row.
+use Rattle.heap_layout.specs.declared.block_codes.TheConstants.{CLASS_UNIT, OWNER_UNIT}
 use Rattle.std.specs.Prelude.{◌≡◌, ◌≢◌, ℕ, ◌+◌, ◌/◌, ◌%◌, ◌<◌, ◌⊎◌, true}
 use Rattle.std.specs.List.{Contains}
 use Rattle.std.specs.Int.{bit_at}
@@ -12,8 +13,8 @@ use Rattle.mutator_core.specs.Machine.{Epoch}
 
 -- if the loaded block word is not that of a Free block, the block is not Free; if it has an owner, the block has one
 pub record IsSeen (s : HeapState) (x : Loaded) : Type 0 where
-  pub used : x.word % 256 ≢ 0 → HasKind s x.at kinds.Free → ⊥
-  pub owned : 0 < x.word / 65536 → 0 < owner_at s x.at
+  pub used : x.word % CLASS_UNIT ≢ 0 → HasKind s x.at kinds.Free → ⊥
+  pub owned : 0 < x.word / OWNER_UNIT → 0 < owner_at s x.at
 
 -- The stop word is 0, or the number of a mutator that raised a stop. Once a mutator loads it as not 0, it is unchanged.
 pub record AreSeen (p : Epoch) (s : HeapState) (locals : ℕ → Local) : Type 0 where

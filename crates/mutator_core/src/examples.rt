@@ -16,6 +16,9 @@ ghost use Rattle.mutator_core.specs.Epochs.{IsReady};
 ghost use Rattle.mutator_core.specs.Examples.{small_epoch, log_of, birth_events, shared_events, separate_events, old_object_epoch, barrier_events, empty_epoch, mixed_log};
 ghost use Rattle.mutator_core.specs.Logs.{IsEpochLog, history_of, local_after_log, AreBetweenCalls};
 
+use heap_layout::{MAX_BLOCKS, MIN_BLOCKS};
+use ideal_heap::MAX_MUTATORS;
+
 /// An allocation: a ticket, a Free block, the words of the object, its start bit. The last step
 /// makes the entry. A mutator may not draw a second ticket before it uses the first, and may not
 /// take a Free block without a ticket.
@@ -139,11 +142,11 @@ pub fn barriers_before_stores()
         ∷ (1, event.Perform (command.Put 0 0 0)) ∷ [])) → ⊥ }
 {}
 
-/// Under each plan an epoch may begin with an empty heap and up to 16 mutators that have allocated
-/// nothing.
+/// Under each plan an epoch may begin with an empty heap and up to `MAX_MUTATORS` mutators that
+/// have allocated nothing.
 pub fn empty_heaps_are_ready()
-    ensures { (plan : Plan) (b : ℕ) (numbers : List ℕ) → 4 ≤ b → b ≤ 1024
-        → length numbers ≤ 16
+    ensures { (plan : Plan) (b : ℕ) (numbers : List ℕ) → MIN_BLOCKS ≤ b → b ≤ MAX_BLOCKS
+        → length numbers ≤ MAX_MUTATORS
         → IsReady (record {
           rules = rules_of plan;
           before = empty_heap b;

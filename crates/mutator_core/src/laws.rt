@@ -112,7 +112,7 @@ pub fn objects_lie_in_holes()
         → HasAvailable p (local_after_log p log m) }
 {}
 
-/// A mutator stores the first word of an object at the front of a hole of the beginning of the
+/// A mutator stores the first word of an object at the start of a hole of the beginning of the
 /// epoch, at the start of a block that was Free, or directly after an object that it allocated in
 /// the block.
 pub fn regions_begin_at_fronts()

@@ -48,16 +48,16 @@ adds-from s w1 w2 a n refs nums before adds = record {
 }
 
 pub adds-to : (s : HeapState) (w1 w2 : List ℕ) (a : ℕ) (n : Name) (refs nums : ℕ) → IsAddress s.blocks a → Adds s w1 a n refs nums → SameHeap (with_words s w1) w2 → Adds s w2 a n refs nums
-adds-to s w1 w2 a n refs nums address adds behind = record {
-  name = behind.words a address.from ∙ adds.name;
-  shape = behind.words (a + 1) (let from : heap_of s.blocks ≤ a = address.from in omega arith) ∙ adds.shape;
-  blank = λ i least less. behind.words (a + i) (let from : heap_of s.blocks ≤ a = address.from in omega arith) ∙ adds.blank i least less;
-  start = behind.starts a ∙ adds.start;
-  starts = λ x other. behind.starts x ∙ adds.starts x other;
-  pins = λ x. behind.pins x ∙ adds.pins x;
-  unlogs = λ x. behind.unlogs x ∙ adds.unlogs x;
-  globals = λ g small. behind.globals g small ∙ adds.globals g small;
-  others = λ i above outside. behind.words i above ∙ adds.others i above outside;
+adds-to s w1 w2 a n refs nums address adds past = record {
+  name = past.words a address.from ∙ adds.name;
+  shape = past.words (a + 1) (let from : heap_of s.blocks ≤ a = address.from in omega arith) ∙ adds.shape;
+  blank = λ i least less. past.words (a + i) (let from : heap_of s.blocks ≤ a = address.from in omega arith) ∙ adds.blank i least less;
+  start = past.starts a ∙ adds.start;
+  starts = λ x other. past.starts x ∙ adds.starts x other;
+  pins = λ x. past.pins x ∙ adds.pins x;
+  unlogs = λ x. past.unlogs x ∙ adds.unlogs x;
+  globals = λ g small. past.globals g small ∙ adds.globals g small;
+  others = λ i above outside. past.words i above ∙ adds.others i above outside;
 }
 
 -- what writing an object changes

@@ -31,14 +31,14 @@ module _ (s : HeapState) (g v : ℕ) (small : g < 16) where
   abbrev pub shared : HeapState
   shared = with_words s (slice_set s.words (first s.blocks Globals + g) v)
 
-  pub word-behind : (i : ℕ) → 18 ≤ i → word_at shared i ≡ word_at s i
-  word-behind i behind = get_or-set_other s.words (first s.blocks Globals + g) i v 0 (λ same. omega arith)
+  pub word-past : (i : ℕ) → 18 ≤ i → word_at shared i ≡ word_at s i
+  word-past i past = get_or-set_other s.words (first s.blocks Globals + g) i v 0 (λ same. omega arith)
 
-  bit-behind : (z : Zone) (n : ℕ) → 18 ≤ first s.blocks z → bit_of s.blocks z shared.words n ≡ bit_of s.blocks z s.words n
-  bit-behind z n behind = ap (λ word. nat_eq (bit_at word (n % 64)) 1) (word-behind (first s.blocks z + n / 64) (omega arith))
+  bit-past : (z : Zone) (n : ℕ) → 18 ≤ first s.blocks z → bit_of s.blocks z shared.words n ≡ bit_of s.blocks z s.words n
+  bit-past z n past = ap (λ word. nat_eq (bit_at word (n % 64)) 1) (word-past (first s.blocks z + n / 64) (omega arith))
 
   marks : (z : Zone) (x : ℕ) → 18 ≤ first s.blocks z → address_bit s.blocks z shared.words x ≡ address_bit s.blocks z s.words x
-  marks z x behind = mark-same s.blocks z s.words shared.words x (λ there. bit-behind z (x - heap_of s.blocks) behind)
+  marks z x past = mark-same s.blocks z s.words shared.words x (λ there. bit-past z (x - heap_of s.blocks) past)
 
   pub keeps : ObjectsStay s shared
   keeps = record {
@@ -48,9 +48,9 @@ module _ (s : HeapState) (g v : ℕ) (small : g < 16) where
     extent = length-set s.words (first s.blocks Globals + g) v;
     starts = λ x. marks StartBits x (omega arith);
     unlogs = λ x set. sym (marks UnlogBits x (omega arith)) ∙ set;
-    lines = λ k line there few. bit-behind LineWords (256 * k + line) (omega arith);
-    block_words = λ k there. word-behind (first s.blocks BlockWords + k) (omega arith);
-    headers = λ x i holds few. word-behind (x + i) (let from : heap_of s.blocks ≤ x = holds.address.from in omega arith);
+    lines = λ k line there few. bit-past LineWords (256 * k + line) (omega arith);
+    block_words = λ k there. word-past (first s.blocks BlockWords + k) (omega arith);
+    headers = λ x i holds few. word-past (x + i) (let from : heap_of s.blocks ≤ x = holds.address.from in omega arith);
   }
 
   pub pins-same : (x : ℕ) → is_pinned shared x ≡ is_pinned s x
@@ -88,13 +88,13 @@ module _ (s : HeapState) (ms : List MutatorState) (h : IdealHeap) (set : ℕ →
   ]
 
   ref-kept : (x i : ℕ) → IsHeld s x → ref_at after x i ≡ ref_at s x i
-  ref-kept x i holds = word-behind s g v small (x + 3 + i) (let from : heap_of s.blocks ≤ x = holds.address.from in omega arith)
+  ref-kept x i holds = word-past s g v small (x + 3 + i) (let from : heap_of s.blocks ≤ x = holds.address.from in omega arith)
 
   record-kept : (x : ℕ) → IsHeld s x → record_at after x ≡ record_at s x
   record-kept x holds = record-same s w kept x holds
       (λ i less. ap (field_of_word after) (ref-kept x i holds) ∙ field-same s w kept (ref_at s x i) (model.order.objects.references x i holds less))
       (λ j less. number-place s w kept x j holds
-      ∙ word-behind s g v small (x + 3 + refs_at s x + j) (let from : heap_of s.blocks ≤ x = holds.address.from in omega arith))
+      ∙ word-past s g v small (x + 3 + refs_at s x + j) (let from : heap_of s.blocks ≤ x = holds.address.from in omega arith))
 
   pub global-set : RepresentsOn after ms (set_global h g o) set
   global-set = record {

@@ -90,14 +90,14 @@ pub is-graph : (s : HeapState) → IsWellFormed s → (roots first second : List
     → IsGraphOf s roots places
 is-graph s order roots first second found places from_roots from_globals closes held each apart moved sorted =
     let moved_addresses : IsPermutation (addresses_of found) (addresses_of places) = IsPermutation-map (λ p. p.at) found places moved in
-    let told : All (IsPlace s) places = All-permutation (IsPlace s) found places moved each in
-    let differ : AllPairs (λ p q. p.name ≢ q.name) places = names-differ s order places (All-permutation (IsHeld s) _ _ moved_addresses held) told
+    let placed : All (IsPlace s) places = All-permutation (IsPlace s) found places moved each in
+    let differ : AllPairs (λ p q. p.name ≢ q.name) places = names-differ s order places (All-permutation (IsHeld s) _ _ moved_addresses held) placed
     (IsDistinct-IsPermutation nat_eq nat_eq_equiv.symm _ _ moved_addresses apart) in
     record {
       reached = λ a. (
         λ arrives. Contains-permutation _ _ a moved_addresses (arrives-contained s roots first second (addresses_of found) from_roots from_globals closes a arrives),
         λ there. contained-arrives s roots first second (addresses_of found) from_roots from_globals closes a (Contains-permutation _ _ a (IsPermutation-sym _ _ moved_addresses) there),
       );
-      each = told;
+      each = placed;
       rise = λ i j d less inside. rise (λ p. p.name) places sorted i j d less inside (differ i j d less inside);
     }

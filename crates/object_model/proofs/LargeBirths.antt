@@ -90,7 +90,7 @@ module _ (s : HeapState) (w1 w2 : List ℕ) (k : ℕ) (n : Name) (refs nums : �
       | inl before ↦ outside (inl before)
       | inr from ↦ elim (cases_lt j (k + run)) as (λ _. Place j) [
         | inl below ↦ tail (j - k) (omega arith) (omega arith) (omega arith)
-        | inr behind ↦ outside (inr behind)
+        | inr past ↦ outside (inr past)
       ]
     ]
   ]
@@ -106,7 +106,7 @@ module _ (s : HeapState) (w1 w2 : List ℕ) (k : ℕ) (n : Name) (refs nums : �
 
   pub other-word : (j : ℕ) → j < s.blocks → (j < k) ⊎ (k + run ≤ j) → block_word after j ≡ block_word s j
   other-word j there away = same_words j there ∙ makes.others (first s.blocks BlockWords + j)
-      (elim away as (λ _. (first s.blocks BlockWords + j < first s.blocks BlockWords + k) ⊎ (first s.blocks BlockWords + k + run ≤ first s.blocks BlockWords + j)) [ inl before ↦ inl (omega arith) | inr behind ↦ inr (omega arith) ])
+      (elim away as (λ _. (first s.blocks BlockWords + j < first s.blocks BlockWords + k) ⊎ (first s.blocks BlockWords + k + run ≤ first s.blocks BlockWords + j)) [ inl before ↦ inl (omega arith) | inr past ↦ inr (omega arith) ])
 
   head-kind : HasKind after k kinds.LargeHead
   head-kind = kind-from after k kinds.LargeHead (omega arith) (ap (λ v. v % 256) head-word ∙ (omega arith))
@@ -143,7 +143,7 @@ module _ (s : HeapState) (w1 w2 : List ℕ) (k : ℕ) (n : Name) (refs nums : �
   away-from : (j i : ℕ) → (j < k) ⊎ (k + run ≤ j) → a ≤ i → i < a + size → block_at s.blocks i ≢ j
   away-from j i away from below e =
       let inner = object-block i from below in let low : k ≤ block_at s.blocks i = inner.0 in let high : block_at s.blocks i < k + run = inner.1 in
-      elim away as (λ _. ⊥) [ inl less ↦ omega arith | inr behind ↦ omega arith ]
+      elim away as (λ _. ⊥) [ inl less ↦ omega arith | inr past ↦ omega arith ]
 
   pub vacant : IsVacant s a n refs nums
   vacant = record {
@@ -156,7 +156,7 @@ module _ (s : HeapState) (w1 w2 : List ℕ) (k : ℕ) (n : Name) (refs nums : �
       | inr from ↦ elim (cases_lt i (a + size)) as (λ _. (i < a) ⊎ (a + size ≤ i)) [
         | inl below ↦ absurd (let inner = object-block i from below in let low : k ≤ block_at s.blocks i = inner.0 in let high : block_at s.blocks i < k + run = inner.1 in
             (room.clear (block_at s.blocks i - k) (omega arith)).empty x i holds in_x (omega arith))
-        | inr behind ↦ inr behind
+        | inr past ↦ inr past
       ]
     ];
     fresh = room.fresh;

@@ -14,27 +14,27 @@ use Rattle.object_model.proofs.PinChanges as pins
 use Rattle.object_model.proofs.Frames.{orderly-after, lawful-kept, same-layout}
 
 -- a word after an object's header; if it is a reference field, the new word is one that the field may hold
-module _ (s : HeapState) (lawful : IsLawful s) (a o v : ℕ) (held : IsHeld s a) (behind : 3 ≤ o) (within : o < size_at s a) (fits : v < 2 ^ 64) (good : o < 3 + refs_at s a → IsRefField s v) where
+module _ (s : HeapState) (lawful : IsLawful s) (a o v : ℕ) (held : IsHeld s a) (past : 3 ≤ o) (within : o < size_at s a) (fits : v < 2 ^ 64) (good : o < 3 + refs_at s a → IsRefField s v) where
   field-good : (x i : ℕ) → IsHeld s x → i < refs_at s x → IsRefField s (ref_at (with_words s (slice_set s.words (a + o) v)) x i)
   field-good x i there less = elim (cases_eq (x + 3 + i) (a + o)) as (λ _. IsRefField s (ref_at (with_words s (slice_set s.words (a + o) v)) x i)) [
-    | inl e ↦ subst (IsRefField s) (sym (stores.word-same s lawful.but_lines.order a o v held behind within (x + 3 + i) e)) (good (own e))
-    | inr other ↦ subst (IsRefField s) (sym (stores.word-other s lawful.but_lines.order a o v held behind within (x + 3 + i) other)) (lawful.but_lines.order.objects.references x i there less)
+    | inl e ↦ subst (IsRefField s) (sym (stores.word-same s lawful.but_lines.order a o v held past within (x + 3 + i) e)) (good (own e))
+    | inr other ↦ subst (IsRefField s) (sym (stores.word-other s lawful.but_lines.order a o v held past within (x + 3 + i) other)) (lawful.but_lines.order.objects.references x i there less)
   ]
     where
       own : x + 3 + i ≡ a + o → o < 3 + refs_at s a
       own e = elim (cases_eq x a) as (λ _. o < 3 + refs_at s a) [
         | inl same ↦ (let few : i < refs_at s a = subst (λ (y : ℕ). i < refs_at s y) same less in omega arith)
-        | inr differ ↦ absurd (stores.apart-from s lawful.but_lines.order a o v held behind within x (3 + i) there (omega arith) differ (omega arith))
+        | inr differ ↦ absurd (stores.apart-from s lawful.but_lines.order a o v held past within x (3 + i) there (omega arith) differ (omega arith))
       ]
 
   pub stored-lawful : IsLawful (with_words s (slice_set s.words (a + o) v))
   stored-lawful =
-      let keeps : ObjectsStay s (with_words s (slice_set s.words (a + o) v)) = stores.keeps s lawful.but_lines.order a o v held behind within in
+      let keeps : ObjectsStay s (with_words s (slice_set s.words (a + o) v)) = stores.keeps s lawful.but_lines.order a o v held past within in
       lawful-kept s (with_words s (slice_set s.words (a + o) v)) keeps lawful (orderly-after s (slice_set s.words (a + o) v) keeps lawful.but_lines.order
-      (stores.words-fit s lawful.but_lines.order a o v held behind within fits)
-      (λ x pin. lawful.but_lines.order.objects.marks x (or_left (is_pinned s x) (is_unlogged s x) (sym (stores.pins-same s lawful.but_lines.order a o v held behind within x) ∙ pin)))
+      (stores.words-fit s lawful.but_lines.order a o v held past within fits)
+      (λ x pin. lawful.but_lines.order.objects.marks x (or_left (is_pinned s x) (is_unlogged s x) (sym (stores.pins-same s lawful.but_lines.order a o v held past within x) ∙ pin)))
       field-good
-      (λ g small. subst (IsRoot s) (sym (stores.globals-same s lawful.but_lines.order a o v held behind within g small)) (lawful.but_lines.order.objects.globals g small)))
+      (λ g small. subst (IsRoot s) (sym (stores.globals-same s lawful.but_lines.order a o v held past within g small)) (lawful.but_lines.order.objects.globals g small)))
 
 pub number : (s : HeapState) (a j n : ℕ) → IsLawful s → IsHeld s a → j < nums_at s a → n < 2 ^ 64 → IsLawful (with_words s (slice_set s.words (a + 3 + refs_at s a + j) n))
 number s a j n lawful held less fits =
@@ -55,7 +55,7 @@ global s g v lawful small good =
     lawful-kept s (with_words s (slice_set s.words (first s.blocks Globals + g) v)) keeps lawful (orderly-after s (slice_set s.words (first s.blocks Globals + g) v) keeps lawful.but_lines.order
     (globals.words-fit s g v small lawful.but_lines.order (root-fits s lawful.but_lines.order v good))
     (λ x pin. lawful.but_lines.order.objects.marks x (or_left (is_pinned s x) (is_unlogged s x) (sym (globals.pins-same s g v small x) ∙ pin)))
-    (λ x i there less. subst (IsRefField s) (sym (globals.word-behind s g v small (x + 3 + i) (let from : heap_of s.blocks ≤ x = there.address.from in omega arith))) (lawful.but_lines.order.objects.references x i there less))
+    (λ x i there less. subst (IsRefField s) (sym (globals.word-past s g v small (x + 3 + i) (let from : heap_of s.blocks ≤ x = there.address.from in omega arith))) (lawful.but_lines.order.objects.references x i there less))
     (λ k few. elim (cases_eq k g) as (λ _. IsRoot s (global_at (with_words s (slice_set s.words (first s.blocks Globals + g) v)) k)) [
       | inl same ↦ subst (IsRoot s) (sym (globals.global-own s g v small lawful.but_lines.order k same)) good
       | inr other ↦ subst (IsRoot s) (sym (globals.global-other s g v small k other)) (lawful.but_lines.order.objects.globals k few)

@@ -44,7 +44,7 @@ module _ (s : HeapState) (w : List ℕ) (a : ℕ) (n : Name) (refs nums : ℕ) (
   line-cases k line = elim (cases_lt (256 * k + line) (line_at s.blocks a)) as (λ _. (256 * k + line < line_at s.blocks a) ⊎ ((line_at s.blocks (a + size_of refs nums - 1) < 256 * k + line) ⊎ IsCovered s a (size_of refs nums) k line)) [
     | inl before ↦ inl before
     | inr from ↦ inr (elim (cases_lt (line_at s.blocks (a + size_of refs nums - 1)) (256 * k + line)) as (λ _. (line_at s.blocks (a + size_of refs nums - 1) < 256 * k + line) ⊎ IsCovered s a (size_of refs nums) k line) [
-      | inl behind ↦ inl behind
+      | inl past ↦ inl past
       | inr upto ↦ inr (covers from upto)
     ])
   ]
@@ -68,7 +68,7 @@ module _ (s : HeapState) (w : List ℕ) (a : ℕ) (n : Name) (refs nums : ℕ) (
   line-away k line there small away = elim (line-cases k line) as (λ _. line_marked (with_words s w) k line ≡ line_marked s k line) [
     | inl before ↦ line-other k line there small (inl before)
     | inr rest ↦ elim rest as (λ _. line_marked (with_words s w) k line ≡ line_marked s k line) [
-      | inl behind ↦ line-other k line there small (inr behind)
+      | inl past ↦ line-other k line there small (inr past)
       | inr here ↦ absurd (away (births.covered-block s w a n refs nums one_more same_words order room k line small here))
     ]
   ]
@@ -87,7 +87,7 @@ module _ (s : HeapState) (w : List ℕ) (a : ℕ) (n : Name) (refs nums : ℕ) (
       stay k line there small was = elim (line-cases k line) as (λ _. IsTrue (line_marked (with_words s w) k line)) [
         | inl before ↦ line-other k line there small (inl before) ∙ was
         | inr rest ↦ elim rest as (λ _. IsTrue (line_marked (with_words s w) k line)) [
-          | inl behind ↦ line-other k line there small (inr behind) ∙ was
+          | inl past ↦ line-other k line there small (inr past) ∙ was
           | inr here ↦ line-own k line there small here
         ]
       ]
@@ -96,7 +96,7 @@ module _ (s : HeapState) (w : List ℕ) (a : ℕ) (n : Name) (refs nums : ℕ) (
       grown k line there small set = elim (line-cases k line) as (λ _. IsTrue (line_marked s k line) ⊎ IsCovered s a (size_of refs nums) k line) [
         | inl before ↦ inl (sym (line-other k line there small (inl before)) ∙ set)
         | inr rest ↦ elim rest as (λ _. IsTrue (line_marked s k line) ⊎ IsCovered s a (size_of refs nums) k line) [
-          | inl behind ↦ inl (sym (line-other k line there small (inr behind)) ∙ set)
+          | inl past ↦ inl (sym (line-other k line there small (inr past)) ∙ set)
           | inr here ↦ inr here
         ]
       ]

@@ -1,15 +1,15 @@
 -- Blocks get other owners: what lies where it may lie lies there as before.
-use Rattle.std.proofs.Common.{◌≡◌, ◌≢◌, refl, sym, ◌∙◌, ap, subst, ℕ, ◌+◌, ◌/◌, ◌%◌, ◌^◌, ◌<◌, ◌≤◌, inl, inr, arith, ◌&&◌, ◌||◌, IsTrue, false, List, length, nat_eq, nat_lt}
+use Rattle.std.proofs.Common.{◌≡◌, sym, ◌∙◌, ap, subst, ℕ, ◌+◌, ◌/◌, ◌%◌, ◌^◌, ◌<◌, ◌≤◌, inl, inr, ◌&&◌, ◌||◌, false, List, length, nat_eq, nat_lt}
 use Rattle.std.specs.List.{range_with_len, list_any}
 use Rattle.std.proofs.Math.Path.{fun_ext}
 use Rattle.std.proofs.lemmas.Bool.{cases_eq, cases_lt, and_left, le-ltb}
 use Rattle.std.proofs.lemmas.List.{length-set}
-use Rattle.heap_layout.specs.Zones.{BlockWords, first, block_at, offset_at, block_start}
+use Rattle.heap_layout.specs.Zones.{BlockWords, first, block_at, offset_at}
 use Rattle.heap_layout.specs.declared.block.Kind.{Kind}
 use Rattle.heap_layout.specs.declared.block.Kind.TheVariants as kinds
 use Rattle.heap_layout.specs.Blocks.{kind_code}
 use Rattle.ideal_heap.specs.Ideal.{IdealHeap}
-use Rattle.object_model.specs.Objects.{HeapState, with_words, word_at, block_word, has_kind, HasKind, class_at, IsHeld, size_at, blocks_for, cell_words}
+use Rattle.object_model.specs.Objects.{HeapState, with_words, word_at, block_word, has_kind, HasKind, class_at, size_at, blocks_for, cell_words}
 use Rattle.object_model.specs.Lawful.{IsWellFormed, Lies, LiesInCell, IsRunOfBlocks, FreeBlockIsClear, has_small, is_in_run}
 use Rattle.object_model.specs.Graphs.{MutatorState}
 use Rattle.object_model.specs.Agreement.{RepresentsOn}

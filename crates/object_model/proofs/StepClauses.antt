@@ -12,8 +12,8 @@ use Rattle.object_model.proofs.Frames.{held-kept}
 use Rattle.object_model.proofs.Sets.{models-by}
 use Rattle.object_model.proofs.Representation as standing
 
-pub told : {s : HeapState} {m : MutatorState} {command : Command} {reply : Reply} {s' : HeapState} {m' : MutatorState} → IsStep s m command reply s' m' → TakesStep s m command reply s' m'
-told {s} {m} {command} {reply} {s'} {m'} is = record {
+pub answered : {s : HeapState} {m : MutatorState} {command : Command} {reply : Reply} {s' : HeapState} {m' : MutatorState} → IsStep s m command reply s' m' → TakesStep s m command reply s' m'
+answered {s} {m} {command} {reply} {s'} {m'} is = record {
   keeps = is.keeps;
   number = is.number;
   births = is.births;

@@ -15,7 +15,7 @@ bit-other : (b : ℕ) (z : Zone) (w : List ℕ) (at v n : ℕ) → first b z + n
 bit-other b z w at v n other = ap (λ word. nat_eq (bit_at word (n % 64)) 1) (get_or-set_other w at (first b z + n / 64) v 0 other)
 
 -- the word with this offset in a held object, after its header
-module _ (s : HeapState) (order : IsWellFormed s) (a offset v : ℕ) (held : IsHeld s a) (behind : 3 ≤ offset) (within : offset < size_at s a) where
+module _ (s : HeapState) (order : IsWellFormed s) (a offset v : ℕ) (held : IsHeld s a) (past : 3 ≤ offset) (within : offset < size_at s a) where
   abbrev pub stored : HeapState
   stored = with_words s (slice_set s.words (a + offset) v)
 

@@ -98,7 +98,7 @@ module _ (w : List ℕ) (q : ℕ) (long : length w ≡ 17190) (zero : (i : ℕ) 
     blank = λ i least less. other (806 + i) (omega arith) (omega arith) (omega arith) ∙ zero (806 + i) (omega arith);
     start = ap (λ v. nat_eq (bit_at v 0) 1) at38;
     starts = start-other;
-    others = λ i outside away. elim outside as (λ _. word_at after i ≡ word_at s i) [ inl before ↦ other i away (omega arith) (omega arith) | inr behind ↦ other i away (omega arith) (omega arith) ];
+    others = λ i outside away. elim outside as (λ _. word_at after i ≡ word_at s i) [ inl before ↦ other i away (omega arith) (omega arith) | inr past ↦ other i away (omega arith) (omega arith) ];
   }
 
   none-held : (x : ℕ) → IsHeld s x → ⊥
@@ -193,8 +193,8 @@ pub plain : (kind : Kind) → IsValid (unowned kind 0) → IsTrue (is_small_code
 plain kind valid small no_lines no_cells = lawful-one kind 0 valid 1 small (omega arith) (λ e. absurd (no_cells e)) no_lines
 
 pub in-cell : (class q : ℕ) → IsValid (unowned kinds.Cells class) → 3 + q ≤ 2048 → 3 + q ≤ cell_words class → cell_words class ≤ 4096 → 0 % cell_words class ≡ 0 → IsLawful (with_first_object (one_block kinds.Cells class) q)
-in-cell class q valid few room within front = lawful-one kinds.Cells class valid q refl few (λ e. record {
-  start = subst (λ (k : ℕ). 0 % cell_words k ≡ 0) (sym (class0 kinds.Cells class valid)) front;
+in-cell class q valid few room within first_cell = lawful-one kinds.Cells class valid q refl few (λ e. record {
+  start = subst (λ (k : ℕ). 0 % cell_words k ≡ 0) (sym (class0 kinds.Cells class valid)) first_cell;
   room = subst (λ (k : ℕ). 3 + q ≤ cell_words k) (sym (class0 kinds.Cells class valid)) room;
   within = subst (λ (k : ℕ). 0 + cell_words k ≤ 4096) (sym (class0 kinds.Cells class valid)) (omega (arith, within));
 }) (λ e. omega arith)
@@ -233,12 +233,12 @@ module _ (w : List ℕ) (long : length w ≡ 17190) (zero : (i : ℕ) → 22 ≤
     others = λ line below outside. elim (cases_eq (line / 64) 0) as (λ _. bit_of 4 LineWords lined line ≡ bit_of 4 LineWords w line) [
       | inl e ↦
           let new : slice_index lined (22 + line / 64) ≡ 3 = ap (λ k. slice_index lined (22 + k)) e ∙ own in
-          let more : 2 ≤ line % 64 = elim outside as (λ _. 2 ≤ line % 64) [ inl before ↦ omega arith | inr behind ↦ omega arith ] in
+          let more : 2 ≤ line % 64 = elim outside as (λ _. 2 ≤ line % 64) [ inl before ↦ omega arith | inr past ↦ omega arith ] in
           ap (λ v. nat_eq v 1) (ap (λ v. bit_at v (line % 64)) new ∙ no-third (line % 64) more
           ∙ sym (ap (λ v. bit_at v (line % 64)) (zero (22 + line / 64) (omega arith)) ∙ bit_at-zero (line % 64)))
       | inr later ↦ ap (λ v. nat_eq (bit_at v (line % 64)) 1) (get_or-set_other w 22 (22 + line / 64) 3 0 (omega arith))
     ];
-    rest = λ i away. elim away as (λ _. slice_index lined i ≡ slice_index w i) [ inl before ↦ get_or-set_other w 22 i 3 0 (omega arith) | inr behind ↦ get_or-set_other w 22 i 3 0 (omega arith) ];
+    rest = λ i away. elim away as (λ _. slice_index lined i ≡ slice_index w i) [ inl before ↦ get_or-set_other w 22 i 3 0 (omega arith) | inr past ↦ get_or-set_other w 22 i 3 0 (omega arith) ];
   }
 
 -- an object of 23 words in two lines of an Immix block
@@ -276,7 +276,7 @@ makes-two = record {
       subst (λ (i : ℕ). slice_index run_words (18 + (0 + i)) ≡ 7) (sym e) (get_or-set_same (slice_set nothing 18 518) 19 7 0 (omega (arith, set-long nothing 18 518 long0)));
   others = λ i away. elim away as (λ _. slice_index run_words i ≡ slice_index nothing i) [
     | inl before ↦ get_or-set_other (slice_set nothing 18 518) 19 i 7 0 (omega arith) ∙ get_or-set_other nothing 18 i 518 0 (omega arith)
-    | inr behind ↦ get_or-set_other (slice_set nothing 18 518) 19 i 7 0 (omega arith) ∙ get_or-set_other nothing 18 i 518 0 (omega arith)
+    | inr past ↦ get_or-set_other (slice_set nothing 18 518) 19 i 7 0 (omega arith) ∙ get_or-set_other nothing 18 i 518 0 (omega arith)
   ];
 }
 
@@ -330,15 +330,15 @@ crosses lawful =
 -- a run whose second block is not a tail
 pub no-tail : IsLawful (with_first_object (with_block (one_block kinds.LargeHead 2) 1 (unowned kinds.Bump 0)) 5000) → ⊥
 no-tail lawful =
-    let front : List ℕ = slice_set nothing 18 518 in
-    let long1 : length front ≡ 17190 = set-long nothing 18 518 long0 in
-    let w : List ℕ = slice_set front 19 1 in
-    let long : length w ≡ 17190 = set-long front 19 1 long1 in
-    let zero : (i : ℕ) → 38 ≤ i → slice_index w i ≡ 0 = set-zero front 19 1 (lit< tt) (set-zero nothing 18 518 (lit< tt) (λ j high. zero_of 17190 j)) in
-    let fits : (i : ℕ) → slice_index w i < 2 ^ 64 = set-fits front 19 1 (omega (arith, long1)) (lit< tt) (set-fits nothing 18 518 (omega (arith, long0)) (lit< tt) zero-fits) in
+    let headed : List ℕ = slice_set nothing 18 518 in
+    let long1 : length headed ≡ 17190 = set-long nothing 18 518 long0 in
+    let w : List ℕ = slice_set headed 19 1 in
+    let long : length w ≡ 17190 = set-long headed 19 1 long1 in
+    let zero : (i : ℕ) → 38 ≤ i → slice_index w i ≡ 0 = set-zero headed 19 1 (lit< tt) (set-zero nothing 18 518 (lit< tt) (λ j high. zero_of 17190 j)) in
+    let fits : (i : ℕ) → slice_index w i < 2 ^ 64 = set-fits headed 19 1 (omega (arith, long1)) (lit< tt) (set-fits nothing 18 518 (omega (arith, long0)) (lit< tt) zero-fits) in
     let after : HeapState = with_first_object (with_block (one_block kinds.LargeHead 2) 1 (unowned kinds.Bump 0)) 5000 in
     let size : size_at after 806 ≡ 5003 = first-size w 5000 long zero fits (omega arith) in
-    let next : block_word after 1 ≡ 1 = block-kept w 5000 long zero fits (omega arith) 1 (lit< tt) ∙ get_or-set_same front 19 1 0 (omega (arith, long1)) in
+    let next : block_word after 1 ≡ 1 = block-kept w 5000 long zero fits (omega arith) 1 (lit< tt) ∙ get_or-set_same headed 19 1 0 (omega (arith, long1)) in
     let run = ((lawful.but_lines.order.objects.lies 806 (first-held w 5000 long zero fits (omega arith))).large (omega arith)).run in
     let tail : block_word after 1 % 256 ≡ 7 = kind-code after 1 kinds.LargeTail (run.tails 1 (lit< tt) (omega arith)) in
     omega arith

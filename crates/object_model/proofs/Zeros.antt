@@ -109,21 +109,21 @@ lawful b least most = record {
   };
 }
 
-abbrev pub beginners : List ℕ → List MutatorState
-beginners numbers = map new_mutator numbers
+abbrev pub new_mutators : List ℕ → List MutatorState
+new_mutators numbers = map new_mutator numbers
 
 abbrev nils : List ℕ
 nils = replicate 16 0
 
-nil_root : (ms : List ℕ) (i : ℕ) → slice_index (roots_of (beginners ms)) i ≡ 0
+nil_root : (ms : List ℕ) (i : ℕ) → slice_index (roots_of (new_mutators ms)) i ≡ 0
 nil_root [] i = refl
-nil_root (m ∷ ms) i = elim (cases_lt i (length nils)) as (λ _. slice_index (nils ++ roots_of (beginners ms)) i ≡ 0) [
-  | inl h ↦ get_or-append nils (roots_of (beginners ms)) 0 i h ∙ zero_of 16 i
-  | inr h ↦ get_or-append_right nils (roots_of (beginners ms)) i 0 h ∙ nil_root ms (i - length nils)
+nil_root (m ∷ ms) i = elim (cases_lt i (length nils)) as (λ _. slice_index (nils ++ roots_of (new_mutators ms)) i ≡ 0) [
+  | inl h ↦ get_or-append nils (roots_of (new_mutators ms)) 0 i h ∙ zero_of 16 i
+  | inr h ↦ get_or-append_right nils (roots_of (new_mutators ms)) i 0 h ∙ nil_root ms (i - length nils)
 ]
 
-nothing_arrives : (b : ℕ) (ms : List ℕ) (a : ℕ) → IsReachable (zeros b) (roots_of (beginners ms)) a → ⊥
-nothing_arrives b ms a (graphs.from_root i e some) = let z : slice_index (roots_of (beginners ms)) i ≡ 0 = nil_root ms i in omega arith
+nothing_arrives : (b : ℕ) (ms : List ℕ) (a : ℕ) → IsReachable (zeros b) (roots_of (new_mutators ms)) a → ⊥
+nothing_arrives b ms a (graphs.from_root i e some) = let z : slice_index (roots_of (new_mutators ms)) i ≡ 0 = nil_root ms i in omega arith
 nothing_arrives b ms a (graphs.from_global g small e some) = let z : global_at (zeros b) g ≡ 0 = zero_word b _ in omega arith
 nothing_arrives b ms a (graphs.from_field x i there small e some) = nothing_arrives b ms x there
 
@@ -135,27 +135,27 @@ nothing_reached n (from_field k i there e) = nothing_reached k there
 not_some : {n : Name} → None ≡ Some n → ⊥
 not_some e = cc
 
-numbers-beginners : (ms : List ℕ) → numbers_of (beginners ms) ≡ ms
-numbers-beginners [] = refl
-numbers-beginners (m ∷ ms) = ap (λ xs. m ∷ xs) (numbers-beginners ms)
+numbers-new_mutators : (ms : List ℕ) → numbers_of (new_mutators ms) ≡ ms
+numbers-new_mutators [] = refl
+numbers-new_mutators (m ∷ ms) = ap (λ xs. m ∷ xs) (numbers-new_mutators ms)
 
-each : (ms : List ℕ) → AllByRecursion (λ m. (1 ≤ m) × (m ≤ 16)) ms → AllByRecursion IsMutatorState (beginners ms)
+each : (ms : List ℕ) → AllByRecursion (λ m. (1 ≤ m) × (m ≤ 16)) ms → AllByRecursion IsMutatorState (new_mutators ms)
 each [] h = tt
 each (m ∷ ms) h = (record { least = h.0.0; most = h.0.1; registers = length-replicate {A = ℕ} 16 0 }, each ms h.1)
 
-nil_registers : (b : ℕ) (ms : List ℕ) → AllByRecursion (λ m. (d : ℕ) → d < 16 → PointsTo (zeros b) (register_at m d) (empty.registers m.number d)) (beginners ms)
+nil_registers : (b : ℕ) (ms : List ℕ) → AllByRecursion (λ m. (d : ℕ) → d < 16 → PointsTo (zeros b) (register_at m d) (empty.registers m.number d)) (new_mutators ms)
 nil_registers b [] = tt
 nil_registers b (m ∷ ms) = (λ d small. zero_of 16 d, nil_registers b ms)
 
-no_births : (ms : List ℕ) → AllByRecursion (λ m. empty.births m.number ≡ m.births) (beginners ms)
+no_births : (ms : List ℕ) → AllByRecursion (λ m. empty.births m.number ≡ m.births) (new_mutators ms)
 no_births [] = tt
 no_births (m ∷ ms) = (refl, no_births ms)
 
-pub represents : (b : ℕ) (ms : List ℕ) → AllByRecursion (λ m. (1 ≤ m) × (m ≤ 16)) ms → AreDifferent ms → Represents (zeros b) (beginners ms) empty
+pub represents : (b : ℕ) (ms : List ℕ) → AllByRecursion (λ m. (1 ≤ m) × (m ≤ 16)) ms → AreDifferent ms → Represents (zeros b) (new_mutators ms) empty
 represents b ms small differ = record {
   mutators = record {
     each = each ms small;
-    differ = let P : List ℕ → Type 0 = AreDifferent in subst P (sym (numbers-beginners ms)) differ;
+    differ = let P : List ℕ → Type 0 = AreDifferent in subst P (sym (numbers-new_mutators ms)) differ;
   };
   pointers = record {
     registers = nil_registers b ms;
@@ -173,7 +173,7 @@ represents b ms small differ = record {
 }
 
 -- no object is held, so the empty heap represents the empty ideal heap on that set
-pub models : (b : ℕ) → 4 ≤ b → b ≤ 1024 → (ms : List ℕ) → AllByRecursion (λ m. (1 ≤ m) × (m ≤ 16)) ms → AreDifferent ms → RepresentsOn (zeros b) (beginners ms) empty (IsHeld (zeros b))
+pub models : (b : ℕ) → 4 ≤ b → b ≤ 1024 → (ms : List ℕ) → AllByRecursion (λ m. (1 ≤ m) × (m ≤ 16)) ms → AreDifferent ms → RepresentsOn (zeros b) (new_mutators ms) empty (IsHeld (zeros b))
 models b least most ms small differ =
     let standing = represents b ms small differ in
     record {
@@ -191,6 +191,6 @@ models b least most ms small differ =
       };
     }
   where
-    nothing-held : (ns : List ℕ) → AllByRecursion (λ m. (d : ℕ) → d < 16 → register_at m d ≢ 0 → IsHeld (zeros b) (register_at m d)) (beginners ns)
+    nothing-held : (ns : List ℕ) → AllByRecursion (λ m. (d : ℕ) → d < 16 → register_at m d ≢ 0 → IsHeld (zeros b) (register_at m d)) (new_mutators ns)
     nothing-held [] = tt
     nothing-held (n ∷ ns) = (λ d small' some. absurd (some (zero_of 16 d)), nothing-held ns)

@@ -1,5 +1,5 @@
 -- What it means to preserve objects, some of which move. A map takes each preserved object's address to its target.
-use Rattle.std.specs.Prelude.{◌≡◌, ℕ, ◌<◌, ◌≤◌, Bool, false, ◌&&◌, not, IsTrue, nat_le, if◌then◌else◌, List, map}
+use Rattle.std.specs.Prelude.{◌≡◌, ℕ, ◌<◌, Bool, false, ◌&&◌, not, IsTrue, nat_le, if◌then◌else◌, List, map}
 use Rattle.heap_layout.specs.Zones.{block_at}
 use Rattle.object_model.specs.Objects.{HeapState, is_pinned, IsHeld, name_at, refs_at, nums_at, size_at, ref_at, num_at, global_at, is_reference}
 use Rattle.object_model.specs.Graphs.{IsReachable}

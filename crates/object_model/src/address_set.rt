@@ -33,19 +33,19 @@ impl AddressSet {
     }
 
     /// Adds an address. True if the set did not have it before.
-    pub(crate) fn insert(&mut self, a: u32) -> bool
-        requires { IsAddress self.old.layout.blocks a }
+    pub(crate) fn insert(&mut self, address: u32) -> bool
+        requires { IsAddress self.old.layout.blocks address }
         ensures blocks { self.new.layout.blocks ≡ self.old.layout.blocks }
-        ensures new { result ≡ not (has self.old a) }
-        ensures there { has self.new a ≡ true }
-        ensures others { (x : ℕ) → IsAddress self.old.layout.blocks x → x ≢ a
+        ensures new { result ≡ not (has self.old address) }
+        ensures there { has self.new address ≡ true }
+        ensures others { (x : ℕ) → IsAddress self.old.layout.blocks x → x ≢ address
             → has self.new x ≡ has self.old x }
     {
         let bits = bit_spec(&self.layout, 0);
-        if test(&self.words, &bits, a) {
+        if test(&self.words, &bits, address) {
             return false;
         }
-        set(&mut self.words, &bits, a);
+        set(&mut self.words, &bits, address);
         true
     }
 }

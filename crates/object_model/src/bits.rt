@@ -8,27 +8,27 @@ use heap_layout::Layout;
 use side_meta::{Spec, Words, test};
 
 /// Metadata with one bit for each address of the heap, which begins at word `zone` of the row.
-pub(crate) fn bit_spec(l: &Layout, zone: u32) -> Spec
+pub(crate) fn bit_spec(layout: &Layout, zone: u32) -> Spec
     ensures zone { result.zone ≡ zone }
-    ensures heap { result.heap ≡ heap_of l.now.blocks }
+    ensures heap { result.heap ≡ heap_of layout.now.blocks }
     ensures region { result.log_region ≡ 0 }
     ensures bits { result.log_bits ≡ 0 }
 {
     Spec {
         zone,
-        heap: l.heap_base(),
+        heap: layout.heap_base(),
         log_region: 0,
         log_bits: 0,
     }
 }
 
-/// Whether the start bit of address `a` is set in a row of any kind of words.
-pub(crate) fn is_held<W: Words>(w: &W, l: &Layout, a: u32) -> bool
-    requires extent { length (W.words w.now) ≡ row_words l.now.blocks }
-    requires address { IsAddress l.now.blocks a }
+/// Whether the start bit of an address is set in a row of any kind of words.
+pub(crate) fn is_held<W: Words>(words: &W, layout: &Layout, address: u32) -> bool
+    requires extent { length (W.words words.now) ≡ row_words layout.now.blocks }
+    requires address { IsAddress layout.now.blocks address }
     ensures { (number base : ℕ) → IsTrue result
-        ↔ IsHeld (state_over (W.words w.now) l.now number base) a }
+        ↔ IsHeld (state_over (W.words words.now) layout.now number base) address }
 {
-    let starts = bit_spec(l, l.start_base());
-    test(w, &starts, a)
+    let starts = bit_spec(layout, layout.start_base());
+    test(words, &starts, address)
 }

@@ -4,6 +4,7 @@ ghost use Rattle.object_model.specs.Lawful.{IsLawful};
 ghost use Rattle.object_model.specs.Objects.{state_of};
 
 use crate::bits::is_held;
+use crate::object_words::zeros;
 use crate::row::Row;
 use crate::shape::Shape;
 use heap_layout::{BlockWord, Layout};
@@ -29,14 +30,14 @@ impl Heap {
     ghost use Rattle.object_model.specs.Heaps.{heap_state};
 
     /// An empty heap: a row of zeros. Fails if memory runs out.
-    pub fn new(alloc: Global, l: Layout) -> Result<Heap, AllocError>
-        ensures { IfOk result (λ h. heap_state h ≡ empty_heap l.blocks) }
+    pub fn new(alloc: Global, layout: Layout) -> Result<Heap, AllocError>
+        ensures { IfOk result (λ h. heap_state h ≡ empty_heap layout.blocks) }
     {
-        let words = vec![in alloc; 0; l.words() as usize]?;
+        let words = zeros(alloc, layout.words() as usize)?;
         Ok(Heap {
             row: Row {
                 words,
-                layout: l,
+                layout,
                 number: 0,
                 base: 0,
             },
@@ -44,11 +45,11 @@ impl Heap {
     }
 
     /// The heap of a lawful row. Copies nothing.
-    pub fn from_row(r: Row) -> Heap
-        requires { IsLawful (state_of r) }
-        ensures { heap_state result ≡ state_of r }
+    pub fn from_row(row: Row) -> Heap
+        requires { IsLawful (state_of row) }
+        ensures { heap_state result ≡ state_of row }
     {
-        Heap { row: r }
+        Heap { row }
     }
 
     /// The heap's row, for code that changes it. Copies nothing.
@@ -87,67 +88,67 @@ impl Heap {
         &self.row.words
     }
 
-    /// The kind, class and owner of block `b`.
-    pub fn block(&self, b: u32) -> BlockWord
-        requires { b < (heap_state self.now).blocks }
-        ensures code { code_of result ≡ block_word (heap_state self.now) b }
+    /// The kind, class and owner of a block.
+    pub fn block(&self, block: u32) -> BlockWord
+        requires { block < (heap_state self.now).blocks }
+        ensures code { code_of result ≡ block_word (heap_state self.now) block }
         ensures valid { IsValid result }
     {
-        self.row.block(b)
+        self.row.block(block)
     }
 
-    /// Whether an object begins at address `a`: whether the start bit is set.
-    pub fn held(&self, a: u32) -> bool
-        requires { IsAddress (heap_state self.now).blocks a }
-        ensures { IsTrue result ↔ IsHeld (heap_state self.now) a }
+    /// Whether an object begins at `address`: whether the start bit is set.
+    pub fn held(&self, address: u32) -> bool
+        requires { IsAddress (heap_state self.now).blocks address }
+        ensures { IsTrue result ↔ IsHeld (heap_state self.now) address }
     {
-        is_held(&self.row.words, &self.row.layout, a)
+        is_held(&self.row.words, &self.row.layout, address)
     }
 
-    /// Whether the object at `a` is pinned. No collection moves a pinned object.
-    pub fn pinned(&self, a: u32) -> bool
-        requires { IsHeld (heap_state self.now) a }
-        ensures { result ≡ is_pinned (heap_state self.now) a }
+    /// Whether the object at `address` is pinned. No collection moves a pinned object.
+    pub fn pinned(&self, address: u32) -> bool
+        requires { IsHeld (heap_state self.now) address }
+        ensures { result ≡ is_pinned (heap_state self.now) address }
     {
-        self.row.pinned(a)
+        self.row.pinned(address)
     }
 
-    /// The name of the object at `a`.
-    pub fn name_at(&self, a: u32) -> Name
-        requires { IsHeld (heap_state self.now) a }
-        ensures name { result ≡ object_name (heap_state self.now) a }
+    /// The name of the object at `address`.
+    pub fn name_at(&self, address: u32) -> Name
+        requires { IsHeld (heap_state self.now) address }
+        ensures name { result ≡ object_name (heap_state self.now) address }
         ensures valid { IsName result }
     {
-        self.row.name_at(a)
+        self.row.name_at(address)
     }
 
-    /// How many references and numbers the object at `a` has.
-    pub fn shape_at(&self, a: u32) -> Shape
-        requires { IsHeld (heap_state self.now) a }
-        ensures refs { result.refs ≡ refs_at (heap_state self.now) a }
-        ensures nums { result.nums ≡ nums_at (heap_state self.now) a }
+    /// How many references and numbers the object at `address` has.
+    pub fn shape_at(&self, address: u32) -> Shape
+        requires { IsHeld (heap_state self.now) address }
+        ensures refs { result.refs ≡ refs_at (heap_state self.now) address }
+        ensures nums { result.nums ≡ nums_at (heap_state self.now) address }
         ensures refs_most { result.refs ≤ MAX_REFS }
         ensures nums_most { result.nums ≤ MAX_NUMS }
     {
-        self.row.shape_at(a)
+        self.row.shape_at(address)
     }
 
-    /// Reference `i` of the object at `a`: an address, or 0 for nil.
-    pub fn ref_at(&self, a: u32, i: u32) -> u32
-        requires held { IsHeld (heap_state self.now) a }
-        requires field { i < refs_at (heap_state self.now) a }
-        ensures value { result ≡ ref_word_at (heap_state self.now) a i }
+    /// Reference `index` of the object at `address`: an address, or 0 for nil.
+    pub fn ref_at(&self, address: u32, index: u32) -> u32
+        requires held { IsHeld (heap_state self.now) address }
+        requires field { index < refs_at (heap_state self.now) address }
+        ensures value { result ≡ ref_word_at (heap_state self.now) address index }
         ensures reference { IsRefField (heap_state self.now) result }
     {
-        self.row.ref_at(a, i)
+        self.row.ref_at(address, index)
     }
 
-    /// Number `j` of the object at `a`.
-    pub fn num_at(&self, a: u32, j: u32) -> u64
-        requires held { IsHeld (heap_state self.now) a }
-        requires field { j < nums_at (heap_state self.now) a }
-        ensures { result ≡ num_word_at (heap_state self.now) a j }
+    /// Number `index` of the object at `address`.
+    pub fn num_at(&self, address: u32, index: u32) -> u64
+        requires held { IsHeld (heap_state self.now) address }
+        requires field { index < nums_at (heap_state self.now) address }
+        ensures { result ≡ num_word_at (heap_state self.now) address index }
     {
-        self.row.num_at(a, j)
+        self.row.num_at(address, index)
     }
 }

@@ -16,15 +16,20 @@ ghost use Rattle.object_model.specs.Changes.{WritesObject, SetsPin, ClearsUnlog}
 ghost use Rattle.object_model.specs.Births.{IsRoom, IsLargeRoom, MarksLines, WritesLargeObject, with_block};
 ghost use Rattle.object_model.specs.WorkedHeaps.{unowned, one_block, with_lines, with_first_object};
 
+use crate::shape::HEADER_WORDS;
+use heap_layout::GLOBALS;
+use ideal_heap::REGISTERS;
+
 /// A store of a number, reference, global or pin bit keeps a heap lawful, and so does clearing an
 /// unlog bit.
 pub fn stores_keep_heaps_lawful()
     ensures number { (s : HeapState) (a j n : ℕ) → IsLawful s → IsHeld s a → j < nums_at s a
-        → n < 2 ^ 64 → IsLawful (with_words s (slice_set s.words (a + 3 + refs_at s a + j) n)) }
+        → n < 2 ^ 64 → IsLawful (with_words s
+        (slice_set s.words (a + HEADER_WORDS + refs_at s a + j) n)) }
     ensures reference { (s : HeapState) (a i v : ℕ) → IsLawful s → IsHeld s a
         → i < refs_at s a → v < 2 ^ 64 → IsRefField s v
-        → IsLawful (with_words s (slice_set s.words (a + 3 + i) v)) }
-    ensures global { (s : HeapState) (g v : ℕ) → IsLawful s → g < 16 → IsRoot s v
+        → IsLawful (with_words s (slice_set s.words (a + HEADER_WORDS + i) v)) }
+    ensures global { (s : HeapState) (g v : ℕ) → IsLawful s → g < GLOBALS → IsRoot s v
         → IsLawful (with_words s (slice_set s.words (first s.blocks Globals + g) v)) }
     ensures pin { (s new : HeapState) (a : ℕ) (pinned : Bool) → IsLawful s → IsHeld s a
         → SetsPin s new a pinned → IsLawful new }
@@ -75,7 +80,7 @@ pub fn births_keep_heaps_lawful()
         → WritesObject between new a n refs nums → IsLawful new }
     ensures represents { (s new : HeapState) (ms : List MutatorState) (h : IdealHeap)
         (m d a refs nums : ℕ) → IsWellFormed s → Represents s ms h
-        → Contains (numbers_of ms) m → d < 16
+        → Contains (numbers_of ms) m → d < REGISTERS
         → IsRoom s a (name m (h.births m + 1)) refs nums
         → WritesObject s new a (name m (h.births m + 1)) refs nums
         → Represents new (set_register_of (add_birth ms m) m d a) (with_new h m d refs nums) }
@@ -93,7 +98,7 @@ pub fn large_births_keep_heaps_lawful()
         → IsLargeRoom s k n refs nums → WritesLargeObject s new k n refs nums → IsLawful new }
     ensures represents { (s new : HeapState) (ms : List MutatorState) (h : IdealHeap)
         (m d k refs nums : ℕ) → IsWellFormed s → Represents s ms h
-        → Contains (numbers_of ms) m → d < 16
+        → Contains (numbers_of ms) m → d < REGISTERS
         → IsLargeRoom s k (name m (h.births m + 1)) refs nums
         → WritesLargeObject s new k (name m (h.births m + 1)) refs nums
         → Represents new (set_register_of (add_birth ms m) m d (block_start s.blocks k))

@@ -17,16 +17,16 @@ ghost use Rattle.object_model.specs.Ages.{is_old, is_logged, is_survivor, Rememb
 ghost use Rattle.object_model.specs.Preserving.{may_leave, PreservesObjects, field_after};
 ghost use Rattle.object_model.specs.Graphs.{AreDifferent, Represents, new_mutator};
 
-use crate::shape::MAX_MEDIUM_WORDS;
-use heap_layout::{BLOCK_WORDS, MAX_BLOCKS};
-use ideal_heap::{MAX_NUMS, MAX_REFS};
+use crate::shape::{MAX_MEDIUM_WORDS, NUMBER_UNIT};
+use heap_layout::{BLOCK_LINES, BLOCK_WORDS, CLASS_UNIT, MAX_BLOCKS, MIN_BLOCKS, OWNER_UNIT};
+use ideal_heap::{MAX_MUTATORS, MAX_NUMS, MAX_REFS};
 
 /// A row of zeros is a lawful heap. With mutators that have allocated nothing, it represents the
 /// empty ideal heap.
 pub fn empty_heap_laws()
-    ensures lawful { (b : ℕ) → 4 ≤ b → b ≤ MAX_BLOCKS → IsLawful (empty_heap b) }
+    ensures lawful { (b : ℕ) → MIN_BLOCKS ≤ b → b ≤ MAX_BLOCKS → IsLawful (empty_heap b) }
     ensures represents { (b : ℕ) (numbers : List ℕ)
-        → AllByRecursion (λ m. (1 ≤ m) × (m ≤ 16)) numbers
+        → AllByRecursion (λ m. (1 ≤ m) × (m ≤ MAX_MUTATORS)) numbers
         → AreDifferent numbers → Represents (empty_heap b) (map new_mutator numbers) empty }
 {}
 
@@ -119,13 +119,13 @@ pub fn block_words_read()
 /// A collector word has an address in its low 24 bits, enough for every heap, and a number above.
 pub fn collector_words_read()
     ensures { (s : HeapState) (a n t : ℕ) → s.blocks ≤ MAX_BLOCKS → IsAddress s.blocks t
-        → word_at s (a + 2) ≡ t + 16777216 * n
+        → word_at s (a + 2) ≡ t + NUMBER_UNIT * n
         → (number_at s a ≡ n) × (target_at s a ≡ t) }
 {}
 
 /// A block has four line words, of 64 lines each.
 pub fn lines_have_words()
-    ensures { (s : HeapState) (k line : ℕ) → line < 256
+    ensures { (s : HeapState) (k line : ℕ) → line < BLOCK_LINES
         → line_marked s k line ≡ nat_eq (bit_at
         (word_at s (first s.blocks LineWords + 4 * k + line / 64)) (line % 64)) 1 }
 {}
@@ -146,9 +146,9 @@ pub fn sizes()
 /// tail belongs to a run.
 pub fn lawful_blocks()
     ensures lines { (s : HeapState) (k line : ℕ) → IsLawful s → HasKind s k kinds.Immix
-        → line < 256 → IsTrue (line_marked s k line)
+        → line < BLOCK_LINES → IsTrue (line_marked s k line)
         → ∥ ((a : ℕ) × (i : ℕ) × IsHeld s a × IsInExtent s a i
-        × (line_at s.blocks i ≡ 256 * k + line)) ∥₁ }
+        × (line_at s.blocks i ≡ BLOCK_LINES * k + line)) ∥₁ }
     ensures tails { (s : HeapState) (k : ℕ) → IsLawful s → HasKind s k kinds.LargeTail
         → (j : ℕ) × (j < k) × HasKind s j kinds.LargeHead × (k < j + class_at s j) }
 {}
@@ -172,12 +172,12 @@ pub fn cells_take_objects()
 /// What holds of the block words of a lawful heap, by what lies in the block.
 pub fn lawful_words()
     ensures owners { (s : HeapState) (k : ℕ) → IsLawful s → k < s.blocks
-        → block_word s k < 65536 }
+        → block_word s k < OWNER_UNIT }
     ensures large { (s : HeapState) (a : ℕ) → IsLawful s → IsHeld s a
         → MAX_MEDIUM_WORDS < size_at s a
-        → block_word s (block_at s.blocks a) ≡ 6 + 256 * blocks_for (size_at s a) }
+        → block_word s (block_at s.blocks a) ≡ 6 + CLASS_UNIT * blocks_for (size_at s a) }
     ensures free { (s : HeapState) (k line : ℕ) → IsLawful s → HasKind s k kinds.Free
-        → line < 256 → IsTrue (line_marked s k line) → ⊥ }
+        → line < BLOCK_LINES → IsTrue (line_marked s k line) → ⊥ }
     ensures cells { (s : HeapState) (a : ℕ) → IsLawful s → IsHeld s a
         → size_at s a ≤ MAX_MEDIUM_WORDS
         → HasKind s (block_at s.blocks a) kinds.Cells
@@ -186,12 +186,12 @@ pub fn lawful_words()
     ensures base { (s : HeapState) → IsLawful s → s.base < s.number + 1 }
 {}
 
-/// A collector word is below 2^24 before any collection reaches the object. After that it has the
-/// number of a past collection above the object's address.
+/// A collector word is below `NUMBER_UNIT` before any collection reaches the object. After that it
+/// has the number of a past collection above the object's address.
 pub fn headers_are_read()
-    ensures from { (s : HeapState) (a n : ℕ) → HasObject s a → a < 16777216 → n ≤ s.number
-        → word_at s (a + 2) ≡ a + 16777216 * n → HasHeader s a }
+    ensures from { (s : HeapState) (a n : ℕ) → HasObject s a → a < NUMBER_UNIT → n ≤ s.number
+        → word_at s (a + 2) ≡ a + NUMBER_UNIT * n → HasHeader s a }
     ensures into { (s : HeapState) (a : ℕ) → HasHeader s a
-        → (word_at s (a + 2) < 16777216) ⊎ ((n : ℕ) × (n ≤ s.number)
-        × (word_at s (a + 2) ≡ a + 16777216 * n)) }
+        → (word_at s (a + 2) < NUMBER_UNIT) ⊎ ((n : ℕ) × (n ≤ s.number)
+        × (word_at s (a + 2) ≡ a + NUMBER_UNIT * n)) }
 {}

@@ -28,7 +28,10 @@ pub use laws::{
 pub use object_graph::{are_roots, graph};
 pub use place::Place;
 pub use row::Row;
-pub use shape::{MAX_MEDIUM_WORDS, Shape, decode_shape, encode_shape, size_words};
+pub use shape::{
+    HEADER_WORDS, MAX_MEDIUM_WORDS, NUMBER_UNIT, NUMS_UNIT, Shape, decode_shape, encode_shape,
+    size_words,
+};
 
 #[cfg(test)]
 mod tests;

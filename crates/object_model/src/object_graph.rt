@@ -10,21 +10,21 @@ use crate::place::Place;
 use crate::walk::Walk;
 use std::alloc::{AllocError, Global};
 
-/// Whether `a` is nil or the address of a held object.
-fn is_root(h: &Heap, a: u32) -> bool
-    ensures { IsTrue result ↔ IsRoot (heap_state h.now) a }
+/// Whether a word is nil or the address of a held object.
+fn is_root(heap: &Heap, value: u32) -> bool
+    ensures { IsTrue result ↔ IsRoot (heap_state heap.now) value }
 {
-    let layout = h.layout();
-    a == 0 || layout.heap_base() <= a && a < layout.words() && h.held(a)
+    let layout = heap.layout();
+    value == 0 || layout.heap_base() <= value && value < layout.words() && heap.held(value)
 }
 
 /// Whether each of the roots is 0 (nil) or the address of a held object. Takes constant time a
 /// root.
-pub fn are_roots(h: &Heap, roots: &[u32]) -> bool
-    ensures { IsTrue result ↔ AreRoots (heap_state h.now) roots.now }
+pub fn are_roots(heap: &Heap, roots: &[u32]) -> bool
+    ensures { IsTrue result ↔ AreRoots (heap_state heap.now) roots.now }
 {
     for root in roots {
-        if !is_root(h, *root) {
+        if !is_root(heap, *root) {
             return false;
         }
     }
@@ -36,14 +36,14 @@ pub fn are_roots(h: &Heap, roots: &[u32]) -> bool
 /// Each root is an address, or 0 for nil. Allocates a bit for each word of the heap and 16 bytes
 /// for each reachable object, and fails if memory runs out. Takes time linear in the reachable
 /// objects and their references, and the time of a sort.
-pub fn graph(alloc: Global, h: &Heap, roots: &[u32]) -> Result<Vec<Place>, AllocError>
-    requires { AreRoots (heap_state h.now) roots.now }
-    ensures { IfOk result (λ places. IsGraphOf (heap_state h.now) roots.now places.items) }
+pub fn graph(alloc: Global, heap: &Heap, roots: &[u32]) -> Result<Vec<Place>, AllocError>
+    requires { AreRoots (heap_state heap.now) roots.now }
+    ensures { IfOk result (λ places. IsGraphOf (heap_state heap.now) roots.now places.items) }
 {
-    let mut walk = Walk::new(alloc, h)?;
-    walk.visit_roots(h, roots)?;
-    walk.visit_globals(h)?;
-    walk.follow(h)?;
+    let mut walk = Walk::new(alloc, heap)?;
+    walk.visit_roots(heap, roots)?;
+    walk.visit_globals(heap)?;
+    walk.follow(heap)?;
     let mut places = walk.into_places();
     places.sort_unstable_by_key(|p| p.name);
     Ok(places)

@@ -3,9 +3,9 @@
 ghost use Rattle.std.specs.Prelude.{◌≡◌, ◌≢◌, ◌+◌, ◌<◌, ◌≤◌, length, slice_set};
 
 use crate::bits::bit_spec;
-use crate::object_words::write_words;
-use crate::shape::Shape;
-use heap_layout::{BlockWord, Layout, decode, encode};
+use crate::object_words::{BIRTH_UNIT, write_words};
+use crate::shape::{HEADER_WORDS, NUMS_UNIT, Shape};
+use heap_layout::{BlockWord, GLOBALS, Layout, decode, encode};
 use ideal_heap::{MAX_NUMS, MAX_REFS, Name};
 use side_meta::{clear, set, test};
 
@@ -33,164 +33,166 @@ impl Row {
     ghost use Rattle.object_model.specs.Lawful.{IsWellFormed, IsReadable, IsReadableBlock, IsRefField, IsRoot};
     ghost use Rattle.object_model.specs.Changes.{WritesObject, SetsPin};
 
-    /// The name of the object at `a`.
-    pub fn name_at(&self, a: u32) -> Name
-        requires { IsReadable (state_of self.now) a }
-        ensures name { result ≡ name_at (state_of self.now) a }
+    /// The name of the object at `address`.
+    pub fn name_at(&self, address: u32) -> Name
+        requires { IsReadable (state_of self.now) address }
+        ensures name { result ≡ name_at (state_of self.now) address }
         ensures valid { IsName result }
     {
-        let word = self.words[a as usize];
+        let word = self.words[address as usize];
         Name {
-            mutator: (word % 32) as u32,
-            birth: (word / 32) as u32,
+            mutator: (word % BIRTH_UNIT) as u32,
+            birth: (word / BIRTH_UNIT) as u32,
         }
     }
 
-    /// How many references and numbers the object at `a` has, from its shape word.
-    pub fn shape_at(&self, a: u32) -> Shape
-        requires { IsReadable (state_of self.now) a }
-        ensures refs { result.refs ≡ refs_at (state_of self.now) a }
-        ensures nums { result.nums ≡ nums_at (state_of self.now) a }
+    /// How many references and numbers the object at `address` has, from its shape word.
+    pub fn shape_at(&self, address: u32) -> Shape
+        requires { IsReadable (state_of self.now) address }
+        ensures refs { result.refs ≡ refs_at (state_of self.now) address }
+        ensures nums { result.nums ≡ nums_at (state_of self.now) address }
         ensures refs_most { result.refs ≤ MAX_REFS }
         ensures nums_most { result.nums ≤ MAX_NUMS }
     {
-        let word = self.words[a as usize + 1];
+        let word = self.words[address as usize + 1];
         Shape {
-            refs: (word % 65536) as u32,
-            nums: (word / 65536) as u32,
+            refs: (word % NUMS_UNIT) as u32,
+            nums: (word / NUMS_UNIT) as u32,
         }
     }
 
-    /// Reference `i` of the object at `a`: an address, or 0 for nil.
-    pub fn ref_at(&self, a: u32, i: u32) -> u32
+    /// Reference `index` of the object at `address`: an address, or 0 for nil.
+    pub fn ref_at(&self, address: u32, index: u32) -> u32
         requires order { IsWellFormed (state_of self.now) }
-        requires held { IsHeld (state_of self.now) a }
-        requires field { i < refs_at (state_of self.now) a }
-        ensures value { result ≡ ref_word_at (state_of self.now) a i }
+        requires held { IsHeld (state_of self.now) address }
+        requires field { index < refs_at (state_of self.now) address }
+        ensures value { result ≡ ref_word_at (state_of self.now) address index }
         ensures reference { IsRefField (state_of self.now) result }
     {
-        self.words[a as usize + 3 + i as usize] as u32
+        self.words[address as usize + HEADER_WORDS as usize + index as usize] as u32
     }
 
-    /// Number `j` of the object at `a`.
-    pub fn num_at(&self, a: u32, j: u32) -> u64
-        requires readable { IsReadable (state_of self.now) a }
-        requires field { j < nums_at (state_of self.now) a }
-        ensures { result ≡ num_word_at (state_of self.now) a j }
+    /// Number `index` of the object at `address`.
+    pub fn num_at(&self, address: u32, index: u32) -> u64
+        requires readable { IsReadable (state_of self.now) address }
+        requires field { index < nums_at (state_of self.now) address }
+        ensures { result ≡ num_word_at (state_of self.now) address index }
     {
-        self.words[a as usize + 3 + self.refs(a) + j as usize]
+        self.words[address as usize + HEADER_WORDS as usize + self.refs(address) + index as usize]
     }
 
-    /// Sets reference `i` of the object at `a` to an address, or to 0 for nil.
-    pub fn set_ref(&mut self, a: u32, i: u32, v: u32)
-        requires readable { IsReadable (state_of self.old) a }
-        requires field { i < refs_at (state_of self.old) a }
+    /// Sets reference `index` of the object at `address` to an address, or to 0 for nil.
+    pub fn set_ref(&mut self, address: u32, index: u32, value: u32)
+        requires readable { IsReadable (state_of self.old) address }
+        requires field { index < refs_at (state_of self.old) address }
         ensures { state_of self.new ≡ with_words (state_of self.old)
-            (slice_set self.old.words.items (a + 3 + i) v) }
+            (slice_set self.old.words.items (address + HEADER_WORDS + index) value) }
     {
-        self.words[a as usize + 3 + i as usize] = v as u64;
+        self.words[address as usize + HEADER_WORDS as usize + index as usize] = value as u64;
     }
 
-    /// Sets number `j` of the object at `a`.
-    pub fn set_num(&mut self, a: u32, j: u32, n: u64)
-        requires readable { IsReadable (state_of self.old) a }
-        requires field { j < nums_at (state_of self.old) a }
+    /// Sets number `index` of the object at `address`.
+    pub fn set_num(&mut self, address: u32, index: u32, number: u64)
+        requires readable { IsReadable (state_of self.old) address }
+        requires field { index < nums_at (state_of self.old) address }
         ensures { state_of self.new ≡ with_words (state_of self.old)
-            (slice_set self.old.words.items (a + 3 + refs_at (state_of self.old) a + j) n) }
+            (slice_set self.old.words.items
+            (address + HEADER_WORDS + refs_at (state_of self.old) address + index) number) }
     {
-        let at = a as usize + 3 + self.refs(a) + j as usize;
-        self.words[at] = n;
+        let at = address as usize + HEADER_WORDS as usize + self.refs(address) + index as usize;
+        self.words[at] = number;
     }
 
-    /// Global `g`: an address, or 0 for nil.
-    pub fn global(&self, g: u32) -> u32
+    /// A global: an address, or 0 for nil.
+    pub fn global(&self, global: u32) -> u32
         requires order { IsWellFormed (state_of self.now) }
-        requires global { g < 16 }
-        ensures value { result ≡ global_at (state_of self.now) g }
+        requires global { global < GLOBALS }
+        ensures value { result ≡ global_at (state_of self.now) global }
         ensures reference { IsRoot (state_of self.now) result }
     {
-        self.words[self.layout.global_at(g) as usize] as u32
+        self.words[self.layout.global_at(global) as usize] as u32
     }
 
-    /// Sets global `g` to an address, or to 0 for nil.
-    pub fn set_global(&mut self, g: u32, v: u32)
+    /// Sets a global to an address, or to 0 for nil.
+    pub fn set_global(&mut self, global: u32, value: u32)
         requires extent { length self.old.words.items ≡ row_words (state_of self.old).blocks }
-        requires global { g < 16 }
+        requires global { global < GLOBALS }
         ensures { state_of self.new ≡ with_words (state_of self.old)
-            (slice_set self.old.words.items (first (state_of self.old).blocks Globals + g) v) }
+            (slice_set self.old.words.items (first (state_of self.old).blocks Globals + global)
+            value) }
     {
-        let at = self.layout.global_at(g) as usize;
-        self.words[at] = v as u64;
+        let at = self.layout.global_at(global) as usize;
+        self.words[at] = value as u64;
     }
 
-    /// The kind, class and owner of block `k`.
-    pub fn block(&self, k: u32) -> BlockWord
-        requires { IsReadableBlock (state_of self.now) k }
-        ensures code { code_of result ≡ block_word (state_of self.now) k }
+    /// The kind, class and owner of a block.
+    pub fn block(&self, block: u32) -> BlockWord
+        requires { IsReadableBlock (state_of self.now) block }
+        ensures code { code_of result ≡ block_word (state_of self.now) block }
         ensures valid { IsValid result }
     {
-        decode(self.words[self.layout.block_at(k) as usize]).unwrap()
+        decode(self.words[self.layout.block_at(block) as usize]).unwrap()
     }
 
-    /// Sets the word of block `k`.
-    pub fn set_block(&mut self, k: u32, word: &BlockWord)
+    /// Sets the word of a block.
+    pub fn set_block(&mut self, block: u32, word: &BlockWord)
         requires extent { length self.old.words.items ≡ row_words (state_of self.old).blocks }
-        requires block { k < (state_of self.old).blocks }
+        requires block { block < (state_of self.old).blocks }
         requires valid { IsValid word.now }
         ensures { state_of self.new ≡ with_words (state_of self.old)
-            (slice_set self.old.words.items (first (state_of self.old).blocks BlockWords + k)
+            (slice_set self.old.words.items (first (state_of self.old).blocks BlockWords + block)
             (code_of word.now)) }
     {
-        let at = self.layout.block_at(k) as usize;
+        let at = self.layout.block_at(block) as usize;
         self.words[at] = encode(word);
     }
 
-    /// Writes a new object at `a`, with a collector word of 0, nil references and zero numbers, and
-    /// sets its start bit. Block words and line bits are left to the caller.
-    pub fn write_object(&mut self, a: u32, name: &Name, shape: &Shape)
+    /// Writes a new object at `address`, with a collector word of 0, nil references and zero
+    /// numbers, and sets its start bit. Block words and line bits are left to the caller.
+    pub fn write_object(&mut self, address: u32, name: &Name, shape: &Shape)
         requires extent { length self.old.words.items ≡ row_words (state_of self.old).blocks }
-        requires address { IsAddress (state_of self.old).blocks a }
+        requires address { IsAddress (state_of self.old).blocks address }
         requires refs { shape.now.refs ≤ MAX_REFS }
         requires nums { shape.now.nums ≤ MAX_NUMS }
-        requires room { a + size_of shape.now.refs shape.now.nums
+        requires room { address + size_of shape.now.refs shape.now.nums
             ≤ row_words (state_of self.old).blocks }
         requires name { IsName name.now }
-        ensures written { WritesObject (state_of self.old) (state_of self.new) a name.now
+        ensures written { WritesObject (state_of self.old) (state_of self.new) address name.now
             shape.now.refs shape.now.nums }
     {
-        write_words(&mut self.words, a, name, shape);
+        write_words(&mut self.words, address, name, shape);
         let starts = bit_spec(&self.layout, self.layout.start_base());
-        set(&mut self.words, &starts, a);
+        set(&mut self.words, &starts, address);
     }
 
-    /// Whether the object at `a` is pinned. No collection moves a pinned object.
-    pub fn pinned(&self, a: u32) -> bool
-        requires { IsReadable (state_of self.now) a }
-        ensures { result ≡ is_pinned (state_of self.now) a }
+    /// Whether the object at `address` is pinned. No collection moves a pinned object.
+    pub fn pinned(&self, address: u32) -> bool
+        requires { IsReadable (state_of self.now) address }
+        ensures { result ≡ is_pinned (state_of self.now) address }
     {
         let pins = bit_spec(&self.layout, self.layout.pin_base());
-        test(&self.words, &pins, a)
+        test(&self.words, &pins, address)
     }
 
-    /// Sets or clears the pin bit of address `a`.
-    pub fn set_pinned(&mut self, a: u32, pinned: bool)
+    /// Sets or clears the pin bit of an address.
+    pub fn set_pinned(&mut self, address: u32, pinned: bool)
         requires extent { length self.old.words.items ≡ row_words (state_of self.old).blocks }
-        requires address { IsAddress (state_of self.old).blocks a }
-        ensures { SetsPin (state_of self.old) (state_of self.new) a pinned }
+        requires address { IsAddress (state_of self.old).blocks address }
+        ensures { SetsPin (state_of self.old) (state_of self.new) address pinned }
     {
         let pins = bit_spec(&self.layout, self.layout.pin_base());
         if pinned {
-            set(&mut self.words, &pins, a);
+            set(&mut self.words, &pins, address);
         } else {
-            clear(&mut self.words, &pins, a);
+            clear(&mut self.words, &pins, address);
         }
     }
 
-    /// How many references the object at `a` has.
-    fn refs(&self, a: u32) -> usize
-        requires { IsReadable (state_of self.now) a }
-        ensures { result ≡ refs_at (state_of self.now) a }
+    /// How many references the object at `address` has.
+    fn refs(&self, address: u32) -> usize
+        requires { IsReadable (state_of self.now) address }
+        ensures { result ≡ refs_at (state_of self.now) address }
     {
-        (self.words[a as usize + 1] % 65536) as usize
+        (self.words[address as usize + 1] % NUMS_UNIT) as usize
     }
 }

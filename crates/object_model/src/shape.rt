@@ -9,6 +9,15 @@ use ideal_heap::{MAX_NUMS, MAX_REFS};
 /// has a run of blocks of its own.
 pub const MAX_MEDIUM_WORDS: u32 = 2048;
 
+/// The words of an object's header: its name, its shape and its collector word.
+pub const HEADER_WORDS: u32 = 3;
+
+/// The factor of the numbers in a shape word. The references are below it.
+pub const NUMS_UNIT: u64 = 65_536;
+
+/// The factor of the collection's number in a collector word. The target is below it.
+pub const NUMBER_UNIT: u64 = 16_777_216;
+
 /// How many references and numbers an object has: at most `MAX_REFS` and `MAX_NUMS`.
 #[derive(Clone, Copy, Debug, PartialEq, Eq)]
 pub struct Shape {
@@ -18,35 +27,35 @@ pub struct Shape {
     pub nums: u32,
 }
 
-/// The size in words of an object: name, shape and collector word, and one word for each field.
-pub fn size_words(s: &Shape) -> u32
-    requires refs { s.now.refs ≤ MAX_REFS }
-    requires nums { s.now.nums ≤ MAX_NUMS }
-    ensures { result ≡ size_of s.now.refs s.now.nums }
+/// The size in words of an object: its header, and one word for each field.
+pub fn size_words(shape: &Shape) -> u32
+    requires refs { shape.now.refs ≤ MAX_REFS }
+    requires nums { shape.now.nums ≤ MAX_NUMS }
+    ensures { result ≡ size_of shape.now.refs shape.now.nums }
 {
-    3 + s.refs + s.nums
+    HEADER_WORDS + shape.refs + shape.nums
 }
 
 /// The word that encodes a shape: the references in its low 16 bits, the numbers above.
-pub fn encode_shape(s: &Shape) -> u64
-    requires refs { s.now.refs ≤ MAX_REFS }
-    requires nums { s.now.nums ≤ MAX_NUMS }
-    ensures { result ≡ shape_code s.now.refs s.now.nums }
+pub fn encode_shape(shape: &Shape) -> u64
+    requires refs { shape.now.refs ≤ MAX_REFS }
+    requires nums { shape.now.nums ≤ MAX_NUMS }
+    ensures { result ≡ shape_code shape.now.refs shape.now.nums }
 {
-    s.refs as u64 + 65536 * s.nums as u64
+    shape.refs as u64 + NUMS_UNIT * shape.nums as u64
 }
 
 /// The shape that a word encodes. None if no shape within the limits has that code.
-pub fn decode_shape(v: u64) -> Option<Shape>
+pub fn decode_shape(code: u64) -> Option<Shape>
     ensures some { IfSome result (λ s. (s.refs ≤ MAX_REFS) × (s.nums ≤ MAX_NUMS)
-        × (shape_code s.refs s.nums ≡ v)) }
+        × (shape_code s.refs s.nums ≡ code)) }
     ensures none { IfNone result ((s : Shape) → s.refs ≤ MAX_REFS → s.nums ≤ MAX_NUMS
-        → shape_code s.refs s.nums ≢ v) }
+        → shape_code s.refs s.nums ≢ code) }
     ensures back { (s : Shape) → s.refs ≤ MAX_REFS → s.nums ≤ MAX_NUMS
-        → shape_code s.refs s.nums ≡ v → result ≡ Some s }
+        → shape_code s.refs s.nums ≡ code → result ≡ Some s }
 {
-    let refs = v % 65536;
-    let nums = v / 65536;
+    let refs = code % NUMS_UNIT;
+    let nums = code / NUMS_UNIT;
     if refs > u64::from(MAX_REFS) || nums > u64::from(MAX_NUMS) {
         return None;
     }

@@ -11,6 +11,7 @@ use crate::address_set::AddressSet;
 use crate::heap::Heap;
 use crate::place::Place;
 use crate::shape::size_words;
+use heap_layout::GLOBALS;
 use std::alloc::{AllocError, Global};
 
 /// The objects visited so far. Those whose fields have not been read yet come last.
@@ -20,101 +21,101 @@ pub(crate) struct Walk {
     visited: AddressSet,
 }
 
-/// Global `g`: an address, or 0 for nil.
-fn global_at(h: &Heap, g: u32) -> u32
-    requires { g < 16 }
-    ensures value { result ≡ global_word_at (heap_state h.now) g }
-    ensures root { IsRoot (heap_state h.now) result }
+/// A global: an address, or 0 for nil.
+fn global_at(heap: &Heap, global: u32) -> u32
+    requires { global < GLOBALS }
+    ensures value { result ≡ global_word_at (heap_state heap.now) global }
+    ensures root { IsRoot (heap_state heap.now) result }
 {
-    h.words()[h.layout().global_at(g) as usize] as u32
+    heap.words()[heap.layout().global_at(global) as usize] as u32
 }
 
 impl Walk {
     /// A walk that has visited nothing.
-    pub(crate) fn new(alloc: Global, h: &Heap) -> Result<Walk, AllocError>
-        ensures walk { IfOk result (IsWalk (heap_state h.now)) }
+    pub(crate) fn new(alloc: Global, heap: &Heap) -> Result<Walk, AllocError>
+        ensures walk { IfOk result (IsWalk (heap_state heap.now)) }
         ensures none { IfOk result (λ w. met w ≡ []) }
     {
-        let visited = AddressSet::new(alloc, h.layout())?;
+        let visited = AddressSet::new(alloc, heap.layout())?;
         Ok(Walk {
             places: Vec::new(alloc),
             visited,
         })
     }
 
-    /// Visits the object at `a`, unless `a` is nil or was visited before.
-    fn visit(&mut self, h: &Heap, a: u32) -> Result<(), AllocError>
-        requires walk { IsWalk (heap_state h.now) self.old }
-        requires root { IsRoot (heap_state h.now) a }
-        ensures walk { OnOk result (IsWalk (heap_state h.now) self.new) }
-        ensures adds { OnOk result (Adds (λ _. a) 1 (met self.old) (met self.new)) }
+    /// Visits the object at `address`, unless that is nil or was visited before.
+    fn visit(&mut self, heap: &Heap, address: u32) -> Result<(), AllocError>
+        requires walk { IsWalk (heap_state heap.now) self.old }
+        requires root { IsRoot (heap_state heap.now) address }
+        ensures walk { OnOk result (IsWalk (heap_state heap.now) self.new) }
+        ensures adds { OnOk result (Adds (λ _. address) 1 (met self.old) (met self.new)) }
     {
-        if a == 0 {
+        if address == 0 {
             return Ok(());
         }
-        if !self.visited.insert(a) {
+        if !self.visited.insert(address) {
             return Ok(());
         }
         self.places.push(Place {
-            name: h.name_at(a),
-            at: a,
-            size: size_words(&h.shape_at(a)),
+            name: heap.name_at(address),
+            at: address,
+            size: size_words(&heap.shape_at(address)),
         })?;
         Ok(())
     }
 
     /// Visits the roots.
-    pub(crate) fn visit_roots(&mut self, h: &Heap, roots: &[u32]) -> Result<(), AllocError>
-        requires walk { IsWalk (heap_state h.now) self.old }
-        requires roots { AreRoots (heap_state h.now) roots.now }
-        ensures walk { OnOk result (IsWalk (heap_state h.now) self.new) }
+    pub(crate) fn visit_roots(&mut self, heap: &Heap, roots: &[u32]) -> Result<(), AllocError>
+        requires walk { IsWalk (heap_state heap.now) self.old }
+        requires roots { AreRoots (heap_state heap.now) roots.now }
+        ensures walk { OnOk result (IsWalk (heap_state heap.now) self.new) }
         ensures adds { OnOk result (Adds (λ i. slice_index roots.now i) (length roots.now)
             (met self.old) (met self.new)) }
     {
         for root in roots {
-            self.visit(h, *root)?;
+            self.visit(heap, *root)?;
         }
         Ok(())
     }
 
     /// Visits the objects that the globals refer to.
-    pub(crate) fn visit_globals(&mut self, h: &Heap) -> Result<(), AllocError>
-        requires walk { IsWalk (heap_state h.now) self.old }
-        ensures walk { OnOk result (IsWalk (heap_state h.now) self.new) }
-        ensures adds { OnOk result (Adds (global_word_at (heap_state h.now)) 16
+    pub(crate) fn visit_globals(&mut self, heap: &Heap) -> Result<(), AllocError>
+        requires walk { IsWalk (heap_state heap.now) self.old }
+        ensures walk { OnOk result (IsWalk (heap_state heap.now) self.new) }
+        ensures adds { OnOk result (Adds (global_word_at (heap_state heap.now)) GLOBALS
             (met self.old) (met self.new)) }
     {
-        for g in 0..16 {
-            self.visit(h, global_at(h, g))?;
+        for global in 0..GLOBALS {
+            self.visit(heap, global_at(heap, global))?;
         }
         Ok(())
     }
 
-    /// Visits the objects that the one at `a` refers to.
-    fn visit_fields(&mut self, h: &Heap, a: u32) -> Result<(), AllocError>
-        requires walk { IsWalk (heap_state h.now) self.old }
-        requires held { IsHeld (heap_state h.now) a }
-        ensures walk { OnOk result (IsWalk (heap_state h.now) self.new) }
-        ensures adds { OnOk result (Adds (ref_at (heap_state h.now) a)
-            (refs_at (heap_state h.now) a) (met self.old) (met self.new)) }
+    /// Visits the objects that the one at `address` refers to.
+    fn visit_fields(&mut self, heap: &Heap, address: u32) -> Result<(), AllocError>
+        requires walk { IsWalk (heap_state heap.now) self.old }
+        requires held { IsHeld (heap_state heap.now) address }
+        ensures walk { OnOk result (IsWalk (heap_state heap.now) self.new) }
+        ensures adds { OnOk result (Adds (ref_at (heap_state heap.now) address)
+            (refs_at (heap_state heap.now) address) (met self.old) (met self.new)) }
     {
-        for i in 0..h.shape_at(a).refs {
-            self.visit(h, h.ref_at(a, i))?;
+        for index in 0..heap.shape_at(address).refs {
+            self.visit(heap, heap.ref_at(address, index))?;
         }
         Ok(())
     }
 
     /// Visits all objects that are reachable from those visited so far.
-    pub(crate) fn follow(&mut self, h: &Heap) -> Result<(), AllocError>
-        requires walk { IsWalk (heap_state h.now) self.old }
-        ensures walk { OnOk result (IsWalk (heap_state h.now) self.new) }
-        ensures closes { OnOk result (Closes (heap_state h.now) (length (met self.new))
+    pub(crate) fn follow(&mut self, heap: &Heap) -> Result<(), AllocError>
+        requires walk { IsWalk (heap_state heap.now) self.old }
+        ensures walk { OnOk result (IsWalk (heap_state heap.now) self.new) }
+        ensures closes { OnOk result (Closes (heap_state heap.now) (length (met self.new))
             (met self.old) (met self.new)) }
     {
         let mut next = 0;
         while next < self.places.len() {
-            let a = self.places[next].at;
-            self.visit_fields(h, a)?;
+            let address = self.places[next].at;
+            self.visit_fields(heap, address)?;
             next += 1;
         }
         Ok(())

@@ -39,7 +39,7 @@ asked_after (Ok u) name count before = before ++ (name, count) ∷ []
 asked_after (Err fault.Failed) name count before = before ++ (name, count) ∷ []
 asked_after (Err fault.OutOfMemory) name count before = before
 
--- n bytes move from the front of `left` to the front of the buffer
+-- the first n bytes of `left` move to the beginning of the buffer
 pub record Moves (n : ℕ) (left : List ℕ) (buf : List ℕ) (left' : Option (List ℕ)) : Type 0 where
   pub most : n ≤ length left
   pub bytes : take n buf ≡ take n left
@@ -48,8 +48,8 @@ pub record Moves (n : ℕ) (left : List ℕ) (buf : List ℕ) (left' : Option (L
   pub end : n ≡ 0 → 0 < length buf → left ≡ []
 
 -- the text is appended to the bytes written, if they are known
-abbrev pub Adds : Option (List ℕ) → Option (List ℕ) → List ℕ → Type 0
-Adds before after text = IfSome before (λ old. after ≡ Some (old ++ text))
+abbrev pub AppendsText : Option (List ℕ) → Option (List ℕ) → List ℕ → Type 0
+AppendsText before after text = IfSome before (λ old. after ≡ Some (old ++ text))
 
 -- a prefix of the text, but not the whole, is appended to the bytes written, if they are known
 abbrev pub AppendsPrefix : Option (List ℕ) → Option (List ℕ) → List ℕ → Type 0

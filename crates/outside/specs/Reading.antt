@@ -1,20 +1,24 @@
 -- Reading a whole file.
-use Rattle.std.specs.Prelude.{◌≡◌, ℕ, ◌⊎◌, List, [], ◌∷◌, ◌++◌, take, drop, Option, Some, Result, Ok, Err}
+use Rattle.std.specs.Prelude.{◌≡◌, ℕ, ◌≤◌, ◌⊎◌, List, [], ◌∷◌, ◌++◌, length, take, drop, Option, Some, IfSome, Result, Ok, Err}
 use Rattle.outside.specs.declared.reader.ReadFault.{ReadFault}
 use Rattle.outside.specs.declared.reader.ReadFault.TheVariants as fault
-use Rattle.outside.specs.Outside.{Asked}
 use Rattle.outside.specs.declared.reader.TheConstants.{MAX_FILE_BYTES}
+use Rattle.outside.specs.Outside.{Asked}
 
--- the maximum size of a file in bytes
-abbrev pub most_bytes : ℕ
-most_bytes = MAX_FILE_BYTES
+-- n bytes were read of those left
+abbrev pub Moved : ℕ → List ℕ → Option (List ℕ) → Type 0
+Moved n left left' = (n ≤ length left) × (left' ≡ Some (drop n left))
 
--- n bytes move from the front of `left` to the end of the bytes read
-pub record Appends (n : ℕ) (left : List ℕ) (left' : Option (List ℕ)) (old new : List ℕ) : Type 0 where
-  pub bytes : new ≡ old ++ take n left
-  pub rest : left' ≡ Some (drop n left)
-  -- 0 bytes mean the end
-  pub end : n ≡ 0 → left ≡ []
+-- A consumer took n more bytes: the first ones of `left`, if those are known. `old` and `new` say which bytes it had
+-- taken before and has taken after.
+abbrev pub TakesMore : (List ℕ → Type 0) → (List ℕ → Type 0) → ℕ → Option (List ℕ) → Type 0
+TakesMore old new n left = (bytes : List ℕ) → old bytes
+    → (more : List ℕ) × (length more ≡ n) × new (bytes ++ more) × IfSome left (λ known. more ≡ take n known)
+
+-- a consumer took at most the bytes of a file of the maximum size: all of the content, if it is known
+abbrev pub TakesAll : (List ℕ → Type 0) → (List ℕ → Type 0) → Option (List ℕ) → Type 0
+TakesAll old new content = (bytes : List ℕ) → old bytes
+    → (more : List ℕ) × (length more ≤ MAX_FILE_BYTES) × new (bytes ++ more) × IfSome content (λ known. more ≡ known)
 
 -- this name is appended to the names asked for; if memory ran out, it may be missing
 abbrev pub AsksFor : {X : Type 0} → Result X ReadFault → List ℕ → ℕ → Asked → Asked → Type 0

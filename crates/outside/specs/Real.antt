@@ -10,8 +10,8 @@ use Rattle.outside.specs.declared.traits.OpenFault.TheVariants as fault
 
 -- the bytes left of the open file, if known; no bytes are left if no file is open
 abbrev pub left_of_file : {F : Type 0} → (F → Option (List ℕ)) → Option F → Option (List ℕ)
-left_of_file told None = Some []
-left_of_file told (Some file) = told file
+left_of_file remaining None = Some []
+left_of_file remaining (Some file) = remaining file
 
 -- the error of a read or a write
 abbrev pub failed : Failed

@@ -2,7 +2,7 @@
 
 ghost use Rattle.std.specs.Prelude.{◌≡◌, ◌≤◌, ◌<◌, [], length, take, None, Some, IfOk, IfSome, OnErr};
 ghost use Rattle.std.specs.IoError.{error_kind};
-ghost use Rattle.outside.specs.Outside.{Moves, Adds};
+ghost use Rattle.outside.specs.Outside.{Moves, AppendsText};
 ghost use Rattle.outside.specs.Real.{answer_to, fault_of, is_interrupted as comes_from_signal, read_answer, write_answer};
 
 use crate::traits::{Failed, OpenFault};
@@ -79,9 +79,9 @@ pub(crate) fn read_once<R: Read>(from: &mut R, buf: &mut [u8]) -> Result<usize, 
 pub(crate) fn write_once<W: Write>(to: &mut W, piece: &[u8]) -> Result<usize, Failed>
     ensures most { IfOk result (λ n. n ≤ length piece.now) }
     ensures some { IfOk result (λ n. 0 < length piece.now → 0 < n) }
-    ensures added { IfOk result (λ n. Adds (W.contents to.old) (W.contents to.new)
+    ensures added { IfOk result (λ n. AppendsText (W.contents to.old) (W.contents to.new)
         (take n piece.now)) }
-    ensures failed { OnErr result (Adds (W.contents to.old) (W.contents to.new) []) }
+    ensures failed { OnErr result (AppendsText (W.contents to.old) (W.contents to.new) []) }
 {
     for _turn in 0..u64::MAX {
         if let Some(answer) = write_answer_of(piece, to.write(piece)) {

@@ -26,26 +26,26 @@ fn place_of(files: &[(String, Vec<u8>)], name: &str) -> Option<usize>
     None
 }
 
-// The content of the file with index `k`, and no bytes if there is no such file.
-fn nth_content(files: &[(String, Vec<u8>)], k: usize) -> &[u8]
-    ensures { result.now ≡ content_at (map file_of files.now) k }
+// The content of the file with this index, and no bytes if there is no such file.
+fn nth_content(files: &[(String, Vec<u8>)], index: usize) -> &[u8]
+    ensures { result.now ≡ content_at (map file_of files.now) index }
 {
-    match files.get(k) {
+    match files.get(index) {
         Some((_, content)) => content,
         None => &[],
     }
 }
 
-// The bytes after the first `n`.
-fn after_first(bytes: &[u8], n: usize) -> &[u8]
-    ensures rest { result.now ≡ drop n bytes.now }
-    ensures place { n + length result.now < 2 ^ 64 }
+// The bytes after the first `count`.
+fn after_first(bytes: &[u8], count: usize) -> &[u8]
+    ensures rest { result.now ≡ drop count bytes.now }
+    ensures place { count + length result.now < 2 ^ 64 }
 {
-    &bytes[n.min(bytes.len())..]
+    &bytes[count.min(bytes.len())..]
 }
 
 // Copies the first bytes of `left` into the buffer, as many as fit, and returns their number.
-fn move_front(left: &[u8], buf: &mut [u8]) -> usize
+fn copy_first(left: &[u8], buf: &mut [u8]) -> usize
     ensures most { result ≡ min (length buf.old) (length left.now) }
     ensures moved { Moves result left.now buf.new (Some (drop result left.now)) }
 {
@@ -107,7 +107,7 @@ impl Shelf {
     }
 
     // Reads the next bytes of the open file into the buffer, as many as fit. Returns their number.
-    pub(crate) fn take_front(&mut self, buf: &mut [u8]) -> usize
+    pub(crate) fn read_next(&mut self, buf: &mut [u8]) -> usize
         ensures most { result ≡ min (length buf.old) (length
             (left_in (map file_of self.old.files.items) self.old.place self.old.read)) }
         ensures moved { Moves result (left_in
@@ -116,7 +116,7 @@ impl Shelf {
         ensures files { self.new.files ≡ self.old.files }
         ensures place { self.new.place ≡ self.old.place }
     {
-        let n = move_front(self.rest(), buf);
+        let n = copy_first(self.rest(), buf);
         self.read += n;
         n
     }

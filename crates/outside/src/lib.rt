@@ -3,6 +3,7 @@
 #![tactic(auto)]
 
 mod answers;
+mod consumer;
 mod file_sources;
 mod files;
 mod laws;
@@ -16,11 +17,12 @@ mod tests;
 mod traits;
 mod writer;
 
+pub use consumer::Consumer;
 pub use file_sources::FileSources;
-pub use laws::faults_and_fronts;
+pub use laws::faults_and_prefixes;
 pub use memory_sinks::{MemSink, SureSink};
 pub use memory_sources::{MemSources, SureSources};
-pub use reader::{MAX_FILE_BYTES, ReadFault, content_of};
+pub use reader::{MAX_FILE_BYTES, ReadFault, read_file};
 pub use stream_sinks::{ErrSink, OutSink, StreamSink};
-pub use traits::{Failed, OpenFault, Sink, Sources};
+pub use traits::{Failed, OpenFault, PIECE_BYTES, Sink, Sources};
 pub use writer::{write_parts, write_text};

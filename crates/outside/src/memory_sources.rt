@@ -119,7 +119,7 @@ impl Sources for MemSources {
             raise(&mut self.count);
             return Err(Failed);
         }
-        Ok(self.shelf.take_front(buf))
+        Ok(self.shelf.read_next(buf))
     }
 }
 
@@ -162,6 +162,6 @@ impl Sources for SureSources {
     }
 
     fn read(&mut self, buf: &mut [u8]) -> Result<usize, Failed> {
-        Ok(self.shelf.take_front(buf))
+        Ok(self.shelf.read_next(buf))
     }
 }

@@ -1,7 +1,7 @@
 //! Standard output and standard error, as sinks.
 
 ghost use Rattle.std.specs.Prelude.{◌≡◌, ◌+◌, ◌<◌, ◌≤◌, [], length, min, take, if◌then◌else◌, IfOk, IsErr, OnErr, is_err};
-ghost use Rattle.outside.specs.Outside.{LAST, HasRisen, Adds};
+ghost use Rattle.outside.specs.Outside.{LAST, HasRisen, AppendsText};
 
 use crate::answers::write_once;
 use crate::traits::{Failed, Sink, raise};
@@ -37,9 +37,10 @@ impl<W: Write> Sink for StreamSink<W> {
     fn write(&mut self, bytes: &[u8]) -> Result<usize, Failed>
         ensures most { IfOk result (λ n. n ≤ length bytes.now) }
         ensures some { IfOk result (λ n. 0 < length bytes.now → 0 < n) }
-        ensures added { IfOk result (λ n. Adds (W.contents self.old.to) (W.contents self.new.to)
-            (take n bytes.now)) }
-        ensures failed { OnErr result (Adds (W.contents self.old.to) (W.contents self.new.to) []) }
+        ensures added { IfOk result (λ n. AppendsText (W.contents self.old.to)
+            (W.contents self.new.to) (take n bytes.now)) }
+        ensures failed { OnErr result (AppendsText (W.contents self.old.to)
+            (W.contents self.new.to) []) }
         ensures cause { IsErr result → HasRisen self.old.count self.new.count }
         ensures count { self.new.count ≡ (if is_err result then min
             (self.old.count + 1) LAST else self.old.count) }

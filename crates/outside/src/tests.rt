@@ -6,7 +6,7 @@ use crate::answers::{open_fault, read_once};
 use crate::file_sources::FileSources;
 use crate::memory_sinks::{MemSink, SureSink};
 use crate::memory_sources::{MemSources, SureSources};
-use crate::reader::{ReadFault, content_of};
+use crate::reader::{ReadFault, read_file};
 use crate::stream_sinks::{ErrSink, OutSink, StreamSink};
 use crate::traits::{Failed, OpenFault, Sink, Sources};
 use crate::writer::{write_parts, write_text};
@@ -26,9 +26,19 @@ fn files_of(alloc: Global, files: &[(&str, &[u8])]) -> Result<Vec<(String, Vec<u
     Ok(all)
 }
 
+fn content_of<S: Sources>(
+    alloc: Global,
+    sources: &mut S,
+    name: &str,
+) -> Result<Vec<u8>, ReadFault> {
+    let mut bytes = Vec::new(alloc);
+    read_file(alloc, sources, name, &mut bytes)?;
+    Ok(bytes)
+}
+
 // Eight bytes per call, and a failure at the third call.
 #[test]
-fn writes_a_front(rt: HostRuntime) -> Result<(), Fail> {
+fn writes_a_prefix(rt: HostRuntime) -> Result<(), Fail> {
     let alloc = rt.alloc();
     let mut sink = MemSink::new(alloc, 100, 8, [3u64].to_vec(alloc)?)?;
     assert_eq!(rt;

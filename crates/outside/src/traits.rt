@@ -1,10 +1,13 @@
 //! The traits of sources and sinks.
 
 ghost use Rattle.std.specs.Prelude.{◌≡◌, ◌+◌, ◌<◌, ◌≤◌, [], length, min, take, IfSome, IfOk, OnErr, IsErr, IsErrOf};
-ghost use Rattle.outside.specs.Outside.{LAST, SourceState, SinkState, HasRisen, Opens, asked_after, Moves, Adds};
+ghost use Rattle.outside.specs.Outside.{LAST, SourceState, SinkState, HasRisen, Opens, asked_after, Moves, AppendsText};
 
 use std::alloc::AllocError;
 use thiserror::Error;
+
+/// The most bytes of one read or one write.
+pub const PIECE_BYTES: usize = 65_536;
 
 /// The error of a read or a write that failed.
 #[derive(Clone, Copy, Debug, PartialEq, Eq)]
@@ -52,8 +55,8 @@ pub trait Sources {
         ensures later { (state self.old).faults ≤ (state self.new).faults }
         ensures same { (state self.new).content ≡ (state self.old).content };
 
-    /// Reads bytes into the front of the buffer, and returns their number. For a buffer that is not
-    /// empty, the number is 0 only at the end of the file.
+    /// Reads bytes into the beginning of the buffer, and returns their number. For a buffer that is
+    /// not empty, the number is 0 only at the end of the file.
     ///
     /// Errors: `Failed`, which is a fault.
     fn read(&mut self, buf: &mut [u8]) -> Result<usize, Failed>
@@ -78,9 +81,10 @@ pub trait Sink {
     fn write(&mut self, bytes: &[u8]) -> Result<usize, Failed>
         ensures most { IfOk result (λ n. n ≤ length bytes.now) }
         ensures some { IfOk result (λ n. 0 < length bytes.now → 0 < n) }
-        ensures added { IfOk result (λ n. Adds (state self.old).written (state self.new).written
-            (take n bytes.now)) }
-        ensures failed { OnErr result (Adds (state self.old).written (state self.new).written []) }
+        ensures added { IfOk result (λ n. AppendsText (state self.old).written
+            (state self.new).written (take n bytes.now)) }
+        ensures failed { OnErr result (AppendsText (state self.old).written
+            (state self.new).written []) }
         ensures cause { IsErr result → HasRisen (state self.old).faults (state self.new).faults }
         ensures later { (state self.old).faults ≤ (state self.new).faults };
 }

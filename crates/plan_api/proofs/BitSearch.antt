@@ -13,7 +13,7 @@ pub shifted : (word from m : ℕ) → from ≤ m → bit_at (word / 2 ^ from) (m
 shifted word from m after = ap (λ x. x % 2) (shr-shr word from (m - from)) ∙ ap (λ n. word / 2 ^ n % 2) (let e : from + (m - from) ≡ m = omega arith in e)
 
 pub none-shifted : (word from : ℕ) → word / 2 ^ from ≡ 0 → HasNoneSet word from
-none-shifted word from none m behind below = sym (shifted word from m behind) ∙ ap (λ x. bit_at x (m - from)) none ∙ bit_at-zero (m - from)
+none-shifted word from none m later below = sym (shifted word from m later) ∙ ap (λ x. bit_at x (m - from)) none ∙ bit_at-zero (m - from)
 
 pub first-shifted : (word from : ℕ) → word < 2 ^ 64 → 0 < word / 2 ^ from → IsFirstSet word from (from + count_trailing_zeros 64 (word / 2 ^ from))
 first-shifted word from fits some =
@@ -81,7 +81,7 @@ last-found words i there some fits none =
       others = λ m below set. elim (cases_lt (64 * i + n) m) as (λ _. m ≤ 64 * i + n) [
         | inr within ↦ within
         | inl above ↦ absurd (elim (cases_lt m (64 * (i + 1))) as (λ _. ⊥) [
-          | inr behind ↦ none m behind below set
+          | inr later ↦ none m later below set
           | inl here ↦
               let nil : bit_at (slice_index words i) (m - 64 * i) ≡ 0 = top.3 (m - 64 * i) (omega arith) in
               let one : bit_at (slice_index words i) (m - 64 * i) ≡ 1 = eqb-true (bit_at (slice_index words i) (m - 64 * i)) 1 (sym (bit-there words i m (omega arith) (omega arith)) ∙ set) in

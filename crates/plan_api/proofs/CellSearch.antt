@@ -23,14 +23,14 @@ module _ (starts : List ℕ) (words from index : ℕ) (some : 0 < words)
       clear = clear;
     };
     after = (let times = (div_ceil_times from words some).0 in let more = mul-le-mul_right {m = from / words + min 1 (from % words)} {n = index} words past in omega arith);
-    first = λ x behind cell. (let more = mul-le-mul_right {m = index} {n = cell.index} words (searched x behind cell) in let start : x ≡ cell.index * words = cell.start in omega arith);
+    first = λ x later cell. (let more = mul-le-mul_right {m = index} {n = cell.index} words (searched x later cell) in let start : x ≡ cell.index * words = cell.start in omega arith);
   }
 
   pub cell-past : bit_in starts (index * words) ≡ true → (x : ℕ) → from ≤ x → (cell : IsClearCell starts words x) → index + 1 ≤ cell.index
-  cell-past set x behind cell = elim (cases_eq index cell.index) as (λ _. index + 1 ≤ cell.index) [
+  cell-past set x later cell = elim (cases_eq index cell.index) as (λ _. index + 1 ≤ cell.index) [
     | inl e ↦ absurd (true≢false (sym set ∙ ap (λ i. bit_in starts (i * words)) e ∙ ap (bit_in starts) (sym cell.start) ∙ cell.clear))
-    | inr other ↦ (let least : index ≤ cell.index = searched x behind cell in omega arith)
+    | inr other ↦ (let least : index ≤ cell.index = searched x later cell in omega arith)
   ]
 
   pub no-cell : 4096 / words ≤ index → HasNoCell starts words from
-  no-cell past x behind cell = (let least : index ≤ cell.index = searched x behind cell in let more = within x cell in omega arith)
+  no-cell past x later cell = (let least : index ≤ cell.index = searched x later cell in let more = within x cell in omega arith)

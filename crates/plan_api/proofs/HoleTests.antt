@@ -14,9 +14,9 @@ use Rattle.plan_api.specs.Holes.{IsFirstHole}
 use Rattle.plan_api.proofs.Parts.{part-kind}
 use Rattle.plan_api.proofs.PartLaws.{whole-part, part-whole}
 
-pub hole-told : (fill : Kind) (s : HeapState) (k size : ℕ) (o : Option Region) → IsFirstHole fill s k 0 size o → IsTrue (is_some o) ↔ ((at : ℕ) × HasHole fill s k at size)
-hole-told fill s k size None none = ((λ wrong. absurd (true≢false (sym wrong))), (λ hole. absurd (let whole = whole-part fill s k size hole.0 hole.1 in none hole.0 whole.0 whole.1)))
-hole-told fill s k size (Some r) first = ((λ _. (r.next, part-whole fill s k size r.next (r.end, first.hole))), (λ _. refl))
+pub hole-room : (fill : Kind) (s : HeapState) (k size : ℕ) (o : Option Region) → IsFirstHole fill s k 0 size o → IsTrue (is_some o) ↔ ((at : ℕ) × HasHole fill s k at size)
+hole-room fill s k size None none = ((λ wrong. absurd (true≢false (sym wrong))), (λ hole. absurd (let whole = whole-part fill s k size hole.0 hole.1 in none hole.0 whole.0 whole.1)))
+hole-room fill s k size (Some r) first = ((λ _. (r.next, part-whole fill s k size r.next (r.end, first.hole))), (λ _. refl))
 
 -- a block with a hole is of the kind that mutators fill
 pub hole-kind : (fill : Kind) (s : HeapState) (k size at : ℕ) → HasHole fill s k at size → HasKind s k fill

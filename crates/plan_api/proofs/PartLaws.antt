@@ -54,31 +54,31 @@ part-whole kinds.LargeTail s k size at (end, hole) = absurd hole.part
 part-whole kinds.Kept s k size at (end, hole) = absurd hole.part
 
 -- an object at the start of a part lies in the hole, at or after the offset
-pub part-front : (fill : Kind) (s : HeapState) (k from size next end : ℕ) → HasRoomFrom fill s k from size next end → (from ≤ next) × LiesInHole fill s k next size
-part-front kinds.Bump s k from size next end hole =
+pub part-start : (fill : Kind) (s : HeapState) (k from size next end : ℕ) → HasRoomFrom fill s k from size next end → (from ≤ next) × LiesInHole fill s k next size
+part-start kinds.Bump s k from size next end hole =
     let part = hole.part.1 in
     let starts : next ≡ max part.begin from = part.starts in
     let ends : end ≡ 4096 = part.ends in
     let room = hole.room in
     (omega arith, (hole.part.0, record { at = part.begin; tail = part.tail; after = omega arith; inside = omega arith }))
-part-front kinds.Young s k from size next end hole =
+part-start kinds.Young s k from size next end hole =
     let part = hole.part.1 in
     let starts : next ≡ max part.begin from = part.starts in
     let ends : end ≡ 4096 = part.ends in
     let room = hole.room in
     (omega arith, (hole.part.0, record { at = part.begin; tail = part.tail; after = omega arith; inside = omega arith }))
-part-front kinds.Cells s k from size next end hole = (hole.part.1.after, (hole.part.0, hole.part.1.cell, hole.part.1.class))
-part-front kinds.Immix s k from size next end hole =
+part-start kinds.Cells s k from size next end hole = (hole.part.1.after, (hole.part.0, hole.part.1.cell, hole.part.1.class))
+part-start kinds.Immix s k from size next end hole =
     let part = hole.part.1 in
     let starts : next ≡ 16 * max part.line (lines_for from) = part.starts in
     let ends : end ≡ 16 * (part.line + part.len) = part.ends in
     let room = hole.room in
     (omega arith, (hole.part.0, record { line = part.line; len = part.len; hole = part.hole; after = omega arith; inside = omega arith }))
-part-front kinds.Free s k from size next end hole = absurd hole.part
-part-front kinds.Mature s k from size next end hole = absurd hole.part
-part-front kinds.LargeHead s k from size next end hole = absurd hole.part
-part-front kinds.LargeTail s k from size next end hole = absurd hole.part
-part-front kinds.Kept s k from size next end hole = absurd hole.part
+part-start kinds.Free s k from size next end hole = absurd hole.part
+part-start kinds.Mature s k from size next end hole = absurd hole.part
+part-start kinds.LargeHead s k from size next end hole = absurd hole.part
+part-start kinds.LargeTail s k from size next end hole = absurd hole.part
+part-start kinds.Kept s k from size next end hole = absurd hole.part
 
 -- unless the block has cells, any range of words within a part lies in the hole
 pub part-within : (fill : Kind) (s : HeapState) (k from size next end at n : ℕ) → IsHolePart fill s k from size next end → fill ≢ kinds.Cells → next ≤ at → at + n ≤ end → LiesInHole fill s k at n

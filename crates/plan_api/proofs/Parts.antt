@@ -50,8 +50,8 @@ module _ (s : HeapState) (k : ℕ) (v : BlockView) (view : IsViewOf s k v) where
 
   -- if the objects of the block do not overlap, its tail begins where its last object ends
   module _ (apart : AreApart s k) where
-    behind-last : (end l : ℕ) → IsLastObject s k end l → (a : ℕ) → IsHeld s a → block_at s.blocks a ≡ k → offset_at s.blocks a + size_at s a ≤ end
-    behind-last end l last a holds here = elim (cases_eq a l) as (λ _. offset_at s.blocks a + size_at s a ≤ end) [
+    last-past : (end l : ℕ) → IsLastObject s k end l → (a : ℕ) → IsHeld s a → block_at s.blocks a ≡ k → offset_at s.blocks a + size_at s a ≤ end
+    last-past end l last a holds here = elim (cases_eq a l) as (λ _. offset_at s.blocks a + size_at s a ≤ end) [
       | inl e ↦ subst (λ (x : ℕ). offset_at s.blocks x + size_at s x ≤ end) (sym e) (let ends : offset_at s.blocks l + size_at s l ≡ end = last.ends in omega arith)
       | inr other ↦
           let before : a ≤ l = last.last a holds here in
@@ -67,7 +67,7 @@ module _ (s : HeapState) (k : ℕ) (v : BlockView) (view : IsViewOf s k v) where
     pub tail-viewed : IsTail s k v.end
     tail-viewed = elim view.end as (λ _. IsTail s k v.end) [
       | inl none ↦ record { after = λ a holds here. absurd (none.0 a holds here); least = inl none.1 }
-      | inr some ↦ record { after = behind-last v.end some.0 some.1; least = inr (some.0, some.1.held, some.1.here, some.1.ends) }
+      | inr some ↦ record { after = last-past v.end some.0 some.1; least = inr (some.0, some.1.held, some.1.here, some.1.ends) }
     ]
 
     tail-found : (from size next end : ℕ) → next ≡ max v.end from → end ≡ 4096 → IsTailPart s k from next end

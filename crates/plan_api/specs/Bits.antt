@@ -1,4 +1,5 @@
 -- First and last bits, and runs of clear bits, in a list of words.
+use Rattle.heap_layout.specs.declared.layout.TheConstants.{BLOCK_LINES}
 use Rattle.std.specs.Prelude.{◌≡◌, ℕ, ◌+◌, ◌*◌, ◌-◌, ◌/◌, ◌%◌, ◌<◌, ◌≤◌, ◌⊎◌, Bool, true, false, List, length, slice_index, nat_eq}
 use Rattle.std.specs.Int.{bit_at}
 
@@ -34,26 +35,26 @@ pub record IsLastBit (words : List ℕ) (n : ℕ) : Type 0 where
   pub set : bit_in words n ≡ true
   pub others : (m : ℕ) → m < 64 * length words → bit_in words m ≡ true → m ≤ n
 
--- in words with 256 bits, the run of clear bits that contains bit x ends before bit `end`
+-- in words with a bit for each line of a block, the run of clear bits that contains bit x ends before bit `end`
 pub record IsRunEnd (words : List ℕ) (x end : ℕ) : Type 0 where
   pub after : x < end
-  pub inside : end ≤ 256
+  pub inside : end ≤ BLOCK_LINES
   pub clear : (m : ℕ) → x ≤ m → m < end → bit_in words m ≡ false
-  pub set : end < 256 → bit_in words end ≡ true
+  pub set : end < BLOCK_LINES → bit_in words end ≡ true
 
--- in words with 256 bits, the `needed` bits from x on are clear
+-- in words with a bit for each line of a block, the `needed` bits from x on are clear
 pub record IsClearFrom (words : List ℕ) (x needed : ℕ) : Type 0 where
-  pub inside : x + needed ≤ 256
+  pub inside : x + needed ≤ BLOCK_LINES
   pub clear : (m : ℕ) → x ≤ m → m < x + needed → bit_in words m ≡ false
 
 -- The bits from x up to `end` are the first run of at least `needed` clear bits, among the bits at or after `from`.
 pub record IsFirstRun (words : List ℕ) (from needed x end : ℕ) : Type 0 where
   pub after : from ≤ x
   pub room : x + needed ≤ end
-  pub inside : end ≤ 256
+  pub inside : end ≤ BLOCK_LINES
   pub clear : (m : ℕ) → x ≤ m → m < end → bit_in words m ≡ false
   pub begins : (x ≡ from) ⊎ ((0 < x) × (bit_in words (x - 1) ≡ true))
-  pub ends : end < 256 → bit_in words end ≡ true
+  pub ends : end < BLOCK_LINES → bit_in words end ≡ true
   pub first : (y : ℕ) → from ≤ y → y < x → IsClearFrom words y needed → ⊥
 
 -- there is no run of `needed` clear bits at or after bit `from`

@@ -1,4 +1,5 @@
 -- Free cells, by the start bits of a block.
+use Rattle.heap_layout.specs.declared.layout.TheConstants.{BLOCK_WORDS}
 use Rattle.std.specs.Prelude.{◌≡◌, ℕ, ◌+◌, ◌*◌, ◌≤◌, List, false}
 use Rattle.plan_api.specs.Bits.{bit_in}
 
@@ -6,7 +7,7 @@ use Rattle.plan_api.specs.Bits.{bit_in}
 pub record IsClearCell (starts : List ℕ) (words at : ℕ) : Type 0 where
   pub index : ℕ
   pub start : at ≡ index * words
-  pub inside : at + words ≤ 4096
+  pub inside : at + words ≤ BLOCK_WORDS
   pub clear : bit_in starts at ≡ false
 
 -- the first such cell that begins at or after the offset `from`

@@ -1,4 +1,5 @@
 -- Parts of holes at or after an offset, and the first part that has room.
+use Rattle.heap_layout.specs.declared.layout.TheConstants.{LINE_WORDS, BLOCK_WORDS}
 use Rattle.std.specs.Prelude.{◌≡◌, ℕ, ◌+◌, ◌*◌, ◌≤◌, Bool, true, false, max, Option, Some, None}
 use Rattle.heap_layout.specs.declared.block.Kind.{Kind}
 use Rattle.heap_layout.specs.declared.block.Kind.TheVariants as kinds
@@ -23,15 +24,15 @@ pub record IsTailPart (s : HeapState) (k from next end : ℕ) : Type 0 where
   pub begin : ℕ
   pub tail : IsTail s k begin
   pub starts : next ≡ max begin from
-  pub ends : end ≡ 4096
+  pub ends : end ≡ BLOCK_WORDS
 
 -- The words from `next` up to `end` are the lines of a run of clear lines that begin at or after the offset `from`.
 pub record IsLinePart (s : HeapState) (k from next end : ℕ) : Type 0 where
   pub line : ℕ
   pub len : ℕ
   pub hole : IsLineHole s k line len
-  pub starts : next ≡ 16 * max line (lines_for from)
-  pub ends : end ≡ 16 * (line + len)
+  pub starts : next ≡ LINE_WORDS * max line (lines_for from)
+  pub ends : end ≡ LINE_WORDS * (line + len)
 
 -- The words from `next` up to `end` are a free cell at or after the offset `from`, of the class for the size.
 pub record IsCellPart (s : HeapState) (k from size next end : ℕ) : Type 0 where

@@ -1,4 +1,5 @@
 -- The view of a block of a heap.
+use Rattle.heap_layout.specs.declared.layout.TheConstants.{BLOCK_LINES, BLOCK_WORDS}
 use Rattle.std.specs.Prelude.{◌≡◌, ℕ, ◌+◌, ◌<◌, ◌≤◌, ◌⊎◌}
 use Rattle.heap_layout.specs.Zones.{block_at, offset_at, block_start}
 use Rattle.heap_layout.specs.Blocks.{code_of, IsValid}
@@ -26,8 +27,8 @@ pub record IsViewOf (s : HeapState) (k : ℕ) (v : BlockView) : Type 0 where
   pub block : k < s.blocks
   pub code : code_of v.word ≡ block_word s k
   pub valid : IsValid v.word
-  pub lines : (line : ℕ) → line < 256 → bit_in v.lines line ≡ line_marked s k line
-  pub starts : (w : ℕ) → w < 4096 → bit_in v.starts w ≡ is_start s (block_start s.blocks k + w)
+  pub lines : (line : ℕ) → line < BLOCK_LINES → bit_in v.lines line ≡ line_marked s k line
+  pub starts : (w : ℕ) → w < BLOCK_WORDS → bit_in v.starts w ≡ is_start s (block_start s.blocks k + w)
   pub end : IsObjectsEnd s k v.end
 
 -- two objects that begin in block k share no word

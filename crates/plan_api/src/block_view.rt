@@ -7,9 +7,9 @@ use heap_layout::BlockWord;
 pub struct BlockView {
     /// The kind, class and owner.
     pub word: BlockWord,
-    /// The line bits: one for each of the block's 256 lines.
+    /// The line bits: one for each line of the block.
     pub lines: [u64; 4],
-    /// The start bits: one for each of the block's 4,096 words.
+    /// The start bits: one for each word of the block.
     pub starts: [u64; 64],
     /// The offset in words after the last object that begins in the block, or 0 if none begins
     /// there.

@@ -7,7 +7,8 @@ ghost use Rattle.sessions.specs.Fitting.{class_of as class_of_size, class_for as
 ghost use Rattle.plan_api.specs.Bits.{bit_in};
 ghost use Rattle.plan_api.specs.Cells.{IsFirstCell, HasNoCell};
 
-use heap_layout::{Kind, Region};
+use heap_layout::{BLOCK_WORDS, Kind, Region};
+use object_model::MAX_MEDIUM_WORDS;
 
 /// The size in words of a cell of each class.
 const CELL_WORDS: [u32; 19] = [
@@ -19,12 +20,12 @@ pub(crate) fn cell_words(class: u32) -> u32
     requires { class ≤ 18 }
     ensures words { result ≡ words_of_class class }
     ensures least { 4 ≤ result }
-    ensures most { result ≤ 2048 }
+    ensures most { result ≤ MAX_MEDIUM_WORDS }
 {
     CELL_WORDS[class as usize]
 }
 
-/// The least class whose cells have room for `size` words. `None` above 2,048 words.
+/// The least class whose cells have room for `size` words. `None` above `MAX_MEDIUM_WORDS`.
 pub(crate) fn class_of(size: u32) -> Option<u32>
     ensures class { result ≡ class_of_size size }
     ensures most { IfSome result (λ class. class ≤ 18) }
@@ -44,29 +45,29 @@ pub fn class_for(fill: Kind, size: u32) -> u32
     }
 }
 
-/// Whether bit `n` is set.
-fn is_set(words: &[u64], n: u32) -> bool
-    requires { n < 64 * length words.now }
-    ensures { result ≡ bit_in words.now n }
+/// Whether the bit is set.
+fn is_set(words: &[u64], bit: u32) -> bool
+    requires { bit < 64 * length words.now }
+    ensures { result ≡ bit_in words.now bit }
 {
-    words[n as usize / 64] >> (n % 64) & 1 == 1
+    words[bit as usize / 64] >> (bit % 64) & 1 == 1
 }
 
 /// The first free cell that begins at or after the offset `from`, in a block with these start bits
-/// and cells of `words` words.
-pub(crate) fn free_cell(starts: &[u64], words: u32, from: u32) -> Option<Region>
+/// and cells of `cell_size` words.
+pub(crate) fn free_cell(starts: &[u64], cell_size: u32, from: u32) -> Option<Region>
     requires bits { length starts.now ≡ 64 }
-    requires least { 4 ≤ words }
-    requires most { words ≤ 2048 }
-    ensures { MatchOption result (HasNoCell starts.now words from)
-        (λ r. IsFirstCell starts.now words from r.next × (r.end ≡ r.next + words)) }
+    requires least { 4 ≤ cell_size }
+    requires most { cell_size ≤ MAX_MEDIUM_WORDS }
+    ensures { MatchOption result (HasNoCell starts.now cell_size from)
+        (λ r. IsFirstCell starts.now cell_size from r.next × (r.end ≡ r.next + cell_size)) }
 {
-    for index in from.div_ceil(words)..4096 / words {
-        let at = index * words;
+    for index in from.div_ceil(cell_size)..BLOCK_WORDS / cell_size {
+        let at = index * cell_size;
         if !is_set(starts, at) {
             return Some(Region {
                 next: at,
-                end: at + words,
+                end: at + cell_size,
             });
         }
     }

@@ -52,12 +52,12 @@ impl BlockCounts {
         self.free.saturating_sub(self.reserved(reserve)) > per_block(reserve)
     }
 
-    /// Whether `n` Free blocks may be granted to a large object.
-    pub fn is_run_grantable(&self, reserve: Reserve, n: u32) -> bool
+    /// Whether `count` Free blocks may be granted to a large object.
+    pub fn is_run_grantable(&self, reserve: Reserve, count: u32) -> bool
         ensures { IsTrue result ↔ IsRunGrantable (session_reserve reserve)
-            (session_counts self.now) n }
+            (session_counts self.now) count }
     {
-        n <= self.free && self.reserved(reserve) <= self.free - n
+        count <= self.free && self.reserved(reserve) <= self.free - count
     }
 
     /// The number of Free blocks that mutators may take in an epoch.
@@ -80,14 +80,14 @@ fn per_block(reserve: Reserve) -> u32
 }
 
 /// The counts of a heap's blocks, from one pass over the block words.
-pub fn block_counts(h: &Heap) -> BlockCounts
-    ensures { session_counts result ≡ counts_of (heap_state h.now) }
+pub fn block_counts(heap: &Heap) -> BlockCounts
+    ensures { session_counts result ≡ counts_of (heap_state heap.now) }
 {
-    let blocks = h.layout().blocks();
+    let blocks = heap.layout().blocks();
     let mut free = 0;
     let mut large = 0;
-    for b in 0..blocks {
-        let kind = h.block(b).kind;
+    for block in 0..blocks {
+        let kind = heap.block(block).kind;
         free += free_blocks(kind);
         large += large_blocks(kind);
     }

@@ -23,7 +23,7 @@ use crate::plan::Plan;
 pub fn hole_parts()
     ensures whole { (fill : Kind) (s : HeapState) (k size at : ℕ)
         → HasHole fill s k at size ↔ ((end : ℕ) × HasRoomFrom fill s k 0 size at end) }
-    ensures front { (fill : Kind) (s : HeapState) (k from size next end : ℕ)
+    ensures start { (fill : Kind) (s : HeapState) (k from size next end : ℕ)
         → HasRoomFrom fill s k from size next end
         → (from ≤ next) × LiesInHole fill s k next size }
     ensures within { (fill : Kind) (s : HeapState) (k from size next end at n : ℕ)

@@ -2,7 +2,7 @@
 
 ghost use Rattle.std.specs.Prelude.{◌≡◌, ◌↔◌, ◌<◌, ◌≤◌, ℕ, IsTrue};
 ghost use Rattle.heap_layout.specs.Zones.{block_at, offset_at};
-ghost use Rattle.object_model.specs.Objects.{HeapState, IsHeld, IsInExtent};
+ghost use Rattle.object_model.specs.Objects.{HeapState, size_of, IsHeld, IsInExtent};
 ghost use Rattle.object_model.specs.Lawful.{IsWellFormed, LineBitsAreExact};
 ghost use Rattle.object_model.specs.Heaps.{heap_state};
 ghost use Rattle.sessions.specs.Plans.{Rules, Plan as PlanName, rules_of, plan_word};
@@ -17,7 +17,8 @@ ghost use Rattle.plan_api.specs.Holes.{IsFirstHole, IsHolePart, has_holes};
 use crate::block_view::BlockView;
 use crate::flags::PlanFlags;
 use heap_layout::{Kind, Region};
-use object_model::{Collect, Heap};
+use ideal_heap::{MAX_NUMS, MAX_REFS};
+use object_model::{Collect, Heap, MAX_MEDIUM_WORDS};
 
 /// A plan, as in MMTk: how blocks are filled, which objects fit, and which collection comes first.
 ///
@@ -51,30 +52,30 @@ pub trait Plan {
     /// The class of a Free block that a mutator takes for an object of `size` words.
     fn class_for(size: u32) -> u32
         requires least { 3 ≤ size }
-        requires most { size ≤ 2048 }
+        requires most { size ≤ MAX_MEDIUM_WORDS }
         ensures { result ≡ class_for_size rules.fill size };
 
     /// The first part of a hole of the block that has room for `size` words and begins at or after
     /// the offset `from`, in words, or `None`. A free cell is always returned whole.
-    fn hole_in(v: &BlockView, from: u32, size: u32) -> Option<Region>
+    fn hole_in(view: &BlockView, from: u32, size: u32) -> Option<Region>
         requires least { 3 ≤ size }
-        requires most { size ≤ 2048 }
-        ensures { (s : HeapState) (k : ℕ) → IsViewOf s k v.now → AreApart s k
+        requires most { size ≤ MAX_MEDIUM_WORDS }
+        ensures { (s : HeapState) (k : ℕ) → IsViewOf s k view.now → AreApart s k
             → IsFirstHole rules.fill s k from size result };
 
     /// Whether an object of `size` words fits the heap without a collection.
-    fn fits(h: &Heap, size: u32) -> bool
+    fn fits(heap: &Heap, size: u32) -> bool
         requires least { 3 ≤ size }
-        requires most { size ≤ 61027 }
-        ensures { IsTrue result ↔ Fits rules (heap_state h.now) size };
+        requires most { size ≤ size_of MAX_REFS MAX_NUMS }
+        ensures { IsTrue result ↔ Fits rules (heap_state heap.now) size };
 
     /// The first collection to run when an object does not fit.
-    fn kind(h: &Heap) -> Collect
-        ensures { result ≡ first_collection rules (heap_state h.now) };
+    fn kind(heap: &Heap) -> Collect
+        ensures { result ≡ first_collection rules (heap_state heap.now) };
 
     /// The number of Free blocks that mutators may take in an epoch.
-    fn allowance(h: &Heap) -> u32
-        ensures { result ≡ allowance_of rules.reserve (heap_state h.now) };
+    fn allowance(heap: &Heap) -> u32
+        ensures { result ≡ allowance_of rules.reserve (heap_state heap.now) };
 
     // The rules are those of the plan, and the flags are those of the rules.
     ghost rules_are_of_plan: { rules ≡ rules_of plan };

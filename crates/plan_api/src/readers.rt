@@ -11,88 +11,95 @@ ghost use Rattle.plan_api.specs.Views.{IsViewOf};
 use crate::bits::last_bit;
 use crate::block_view::BlockView;
 use heap_layout::{BlockWord, Layout, decode};
-use object_model::{Heap, Shape, size_words};
+use ideal_heap::{MAX_NUMS, MAX_REFS};
+use object_model::{Heap, NUMS_UNIT, Shape, size_words};
 use side_meta::Words;
 
-/// The view of block `b` of a heap. `b` is less than the number of blocks.
-pub fn view(h: &Heap, b: u32) -> BlockView
-    requires { b < (heap_state h.now).blocks }
-    ensures { IsViewOf (heap_state h.now) b result }
+/// The view of a block of a heap.
+pub fn view(heap: &Heap, block: u32) -> BlockView
+    requires { block < (heap_state heap.now).blocks }
+    ensures { IsViewOf (heap_state heap.now) block result }
 {
-    view_in(h.words(), h.layout(), b)
+    view_in(heap.words(), heap.layout(), block)
 }
 
-/// The view of block `b` of the row `w`. Reads the block word, the line words and the start words
-/// once each, and the shape word of the last object that begins in the block.
-pub fn view_in<W: Words>(w: &W, l: &Layout, b: u32) -> BlockView
-    requires { IsReadableBlock (state_over (W.words w.now) l.now 0 0) b }
+/// The view of a block of the row `words`. Reads the block word, the line words and the start
+/// words once each, and the shape word of the last object that begins in the block.
+pub fn view_in<W: Words>(words: &W, layout: &Layout, block: u32) -> BlockView
+    requires { IsReadableBlock (state_over (W.words words.now) layout.now 0 0) block }
     ensures { (number base : ℕ) → IsViewOf (state_over
-        (W.words w.now) l.now number base) b result }
+        (W.words words.now) layout.now number base) block result }
 {
-    let starts = start_words(w, l, b);
+    let starts = start_words(words, layout, block);
     let end = match last_bit(&starts) {
-        Some(offset) => offset + object_size(w, l.address(b, offset)),
+        Some(offset) => offset + object_size(words, layout.address(block, offset)),
         None => 0,
     };
     BlockView {
-        word: block_word_in(w, l, b),
-        lines: line_words(w, l, b),
+        word: block_word_in(words, layout, block),
+        lines: line_words(words, layout, block),
         starts,
         end,
     }
 }
 
-/// The kind, class and owner of block `b` of the row `w`, whose block word must be valid.
-pub fn block_word_in<W: Words>(w: &W, l: &Layout, b: u32) -> BlockWord
-    requires extent { length (W.words w.now) ≡ row_words l.now.blocks }
-    requires block { b < l.now.blocks }
-    requires code { IsTrue (is_block_code (block_word (state_over (W.words w.now) l.now 0 0) b)) }
+/// The kind, class and owner of a block of the row `words`, whose block word must be valid.
+pub fn block_word_in<W: Words>(words: &W, layout: &Layout, block: u32) -> BlockWord
+    requires extent { length (W.words words.now) ≡ row_words layout.now.blocks }
+    requires block { block < layout.now.blocks }
+    requires code { IsTrue (is_block_code (block_word
+        (state_over (W.words words.now) layout.now 0 0) block)) }
     ensures code { code_of result
-        ≡ slice_index (W.words w.now) (first l.now.blocks BlockWords + b) }
+        ≡ slice_index (W.words words.now) (first layout.now.blocks BlockWords + block) }
     ensures valid { IsValid result }
 {
-    decode(w.get(l.block_at(b))).unwrap()
+    decode(words.get(layout.block_at(block))).unwrap()
 }
 
-/// The 4 words with the line bits of block `b`.
-fn line_words<W: Words>(w: &W, l: &Layout, b: u32) -> [u64; 4]
-    requires extent { length (W.words w.now) ≡ row_words l.now.blocks }
-    requires block { b < l.now.blocks }
+/// The 4 words with the line bits of a block.
+fn line_words<W: Words>(words: &W, layout: &Layout, block: u32) -> [u64; 4]
+    requires extent { length (W.words words.now) ≡ row_words layout.now.blocks }
+    requires block { block < layout.now.blocks }
     ensures { (n : ℕ) → n < 4 → slice_index result n
-        ≡ slice_index (W.words w.now) (first l.now.blocks LineWords + 4 * b + n) }
+        ≡ slice_index (W.words words.now) (first layout.now.blocks LineWords + 4 * block + n) }
 {
-    let at = l.line_at(b);
-    [w.get(at), w.get(at + 1), w.get(at + 2), w.get(at + 3)]
+    let at = layout.line_at(block);
+    [
+        words.get(at),
+        words.get(at + 1),
+        words.get(at + 2),
+        words.get(at + 3),
+    ]
 }
 
-/// The 64 words with the start bits of block `b`.
-fn start_words<W: Words>(w: &W, l: &Layout, b: u32) -> [u64; 64]
-    requires extent { length (W.words w.now) ≡ row_words l.now.blocks }
-    requires block { b < l.now.blocks }
+/// The 64 words with the start bits of a block.
+fn start_words<W: Words>(words: &W, layout: &Layout, block: u32) -> [u64; 64]
+    requires extent { length (W.words words.now) ≡ row_words layout.now.blocks }
+    requires block { block < layout.now.blocks }
     ensures len { length result ≡ 64 }
     ensures words { (n : ℕ) → n < 64 → slice_index result n
-        ≡ slice_index (W.words w.now) (first l.now.blocks StartBits + 64 * b + n) }
+        ≡ slice_index (W.words words.now) (first layout.now.blocks StartBits + 64 * block + n) }
 {
-    let at = l.start_base() + 64 * b;
+    let at = layout.start_base() + 64 * block;
     let mut starts = [0; 64];
-    for n in 0..64 {
-        starts[n as usize] = w.get(at + n);
+    for index in 0..64 {
+        starts[index as usize] = words.get(at + index);
     }
     starts
 }
 
-/// The size in words of the object at the address `a`.
-fn object_size<W: Words>(w: &W, a: u32) -> u32
-    requires word { a + 1 < length (W.words w.now) }
-    requires index { a + 1 < 2 ^ 32 }
-    requires refs { slice_index (W.words w.now) (a + 1) % 65536 ≤ 1024 }
-    requires nums { slice_index (W.words w.now) (a + 1) / 65536 ≤ 60000 }
-    ensures { result ≡ 3 + slice_index (W.words w.now) (a + 1) % 65536
-        + slice_index (W.words w.now) (a + 1) / 65536 }
+/// The size in words of the object at the address.
+fn object_size<W: Words>(words: &W, address: u32) -> u32
+    requires word { address + 1 < length (W.words words.now) }
+    requires index { address + 1 < 2 ^ 32 }
+    requires refs { slice_index (W.words words.now) (address + 1) % NUMS_UNIT ≤ MAX_REFS }
+    requires nums { slice_index (W.words words.now) (address + 1) / NUMS_UNIT ≤ MAX_NUMS }
+    ensures { result ≡ 3 + slice_index (W.words words.now) (address + 1) % NUMS_UNIT
+        + slice_index (W.words words.now) (address + 1) / NUMS_UNIT }
 {
-    let word = w.get(a + 1);
+    let word = words.get(address + 1);
     size_words(&Shape {
-        refs: (word % 65536) as u32,
-        nums: (word / 65536) as u32,
+        refs: (word % NUMS_UNIT) as u32,
+        nums: (word / NUMS_UNIT) as u32,
     })
 }

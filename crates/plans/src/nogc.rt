@@ -6,7 +6,7 @@ ghost use Rattle.plan_api.proofs.ReserveLaws.{nothing-kept};
 ghost use Rattle.std.proofs.Common.{refl};
 
 use heap_layout::{Kind, Region};
-use object_model::{Collect, Heap};
+use object_model::{Collect, Heap, MAX_MEDIUM_WORDS};
 use plan_api::{BlockView, Plan, PlanFlags, Reserve, block_counts, first_hole, fits_small};
 
 /// MMTk's NoGC: mutators fill blocks from start to end, and nothing is reclaimed. A collection
@@ -51,19 +51,19 @@ impl Plan for NoGc {
         0
     }
 
-    fn hole_in(v: &BlockView, from: u32, size: u32) -> Option<Region> {
-        first_hole(Kind::Bump, v, from, size)
+    fn hole_in(view: &BlockView, from: u32, size: u32) -> Option<Region> {
+        first_hole(Kind::Bump, view, from, size)
     }
 
-    fn fits(h: &Heap, size: u32) -> bool {
-        size <= 2048 && fits_small(h, Kind::Bump, Reserve::Nothing, size)
+    fn fits(heap: &Heap, size: u32) -> bool {
+        size <= MAX_MEDIUM_WORDS && fits_small(heap, Kind::Bump, Reserve::Nothing, size)
     }
 
-    fn kind(_h: &Heap) -> Collect {
+    fn kind(_heap: &Heap) -> Collect {
         Collect::Full
     }
 
-    fn allowance(h: &Heap) -> u32 {
-        block_counts(h).allowance(Reserve::Nothing)
+    fn allowance(heap: &Heap) -> u32 {
+        block_counts(heap).allowance(Reserve::Nothing)
     }
 }

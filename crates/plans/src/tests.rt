@@ -7,13 +7,13 @@ use plan_api::{BlockView, Plan, PlanFlags, plans_hold_reserves};
 use std::test::Fail;
 
 // The allowance of an empty heap, and whether objects of 3, 2,048 and 2,049 words fit.
-fn asks<P: Plan>(h: &Heap) -> (u32, bool, bool, bool) {
+fn asks<P: Plan>(heap: &Heap) -> (u32, bool, bool, bool) {
     plans_hold_reserves::<P>();
     (
-        P::allowance(h),
-        P::fits(h, 3),
-        P::fits(h, 2048),
-        P::fits(h, 2049),
+        P::allowance(heap),
+        P::fits(heap, 3),
+        P::fits(heap, 2048),
+        P::fits(heap, 2049),
     )
 }
 

@@ -52,23 +52,23 @@ abbrev first_full : List Entry → Bool
 first_full [] = false
 first_full (e ∷ es) = is_full e.reply
 
-not-full : (front : List Entry) (x y : Entry) (P : Type 0) → is_full x.reply ≡ false → is_full y.reply ≡ true → front ++ x ∷ [] ≡ front ++ y ∷ [] → P
-not-full front x y P other whole e = let wrong : is_full x.reply ≡ is_full y.reply = ap first_full (append_cancel_left front (x ∷ []) (y ∷ []) e) in let clash : false ≡ true = sym other ∙ wrong ∙ whole in cc
+not-full : (prefix : List Entry) (x y : Entry) (P : Type 0) → is_full x.reply ≡ false → is_full y.reply ≡ true → prefix ++ x ∷ [] ≡ prefix ++ y ∷ [] → P
+not-full prefix x y P other whole e = let wrong : is_full x.reply ≡ is_full y.reply = ap first_full (append_cancel_left prefix (x ∷ []) (y ∷ []) e) in let clash : false ≡ true = sym other ∙ wrong ∙ whole in cc
 
 tried-done : (t : Setting) (size : ℕ) (kind : Collect) (before mid : Moment) → FirstTry t size kind before mid → (mid.done ≡ before.done) × (mid.full ≡ before.full)
 tried-done t size Full before mid same = (ap (λ (x : Moment). x.done) same, ap (λ (x : Moment). x.full) same)
 tried-done t size Nursery before mid makes = (makes.0.done, ap (λ p. p.1) makes.0.counts)
 
-abbrev born : ℕ → ℕ → ℕ → ℕ → Moment → ℕ → Entry
-born m d refs nums now place = record { mutator = m; command = c.New d refs nums; reply = r.New (name_at now.heap place) }
+abbrev allocation : ℕ → ℕ → ℕ → ℕ → Moment → ℕ → Entry
+allocation m d refs nums now place = record { mutator = m; command = c.New d refs nums; reply = r.New (name_at now.heap place) }
 
 pub refused-late : (t : Setting) (m d refs nums : ℕ) (before now : Moment) → Serves t m d refs nums before now → now.done ≡ before.done ++ refusal m d refs nums ∷ []
     → (Fits t.rules now.heap (size_of refs nums) → ⊥) × (now.full ≡ before.full + 1)
-refused-late t m d refs nums before now (sessions.at_once places) e = not-full before.done (born m d refs nums now places.place) (refusal m d refs nums) _ refl refl (sym places.done ∙ e)
+refused-late t m d refs nums before now (sessions.at_once places) e = not-full before.done (allocation m d refs nums now places.place) (refusal m d refs nums) _ refl refl (sym places.done ∙ e)
 refused-late t m d refs nums before now (sessions.after_nursery mid no_fit first makes places) e =
-    not-full before.done (born m d refs nums now places.place) (refusal m d refs nums) _ refl refl (subst (λ (l : List Entry). l ++ born m d refs nums now places.place ∷ [] ≡ before.done ++ refusal m d refs nums ∷ []) makes.done (sym places.done ∙ e))
+    not-full before.done (allocation m d refs nums now places.place) (refusal m d refs nums) _ refl refl (subst (λ (l : List Entry). l ++ allocation m d refs nums now places.place ∷ [] ≡ before.done ++ refusal m d refs nums ∷ []) makes.done (sym places.done ∙ e))
 refused-late t m d refs nums before now (sessions.after_full mid late no_fit first makes places) e =
-    not-full before.done (born m d refs nums now places.place) (refusal m d refs nums) _ refl refl (subst (λ (l : List Entry). l ++ born m d refs nums now places.place ∷ [] ≡ before.done ++ refusal m d refs nums ∷ []) (makes.done ∙ (tried-done t _ _ before mid first).0) (sym places.done ∙ e))
+    not-full before.done (allocation m d refs nums now places.place) (refusal m d refs nums) _ refl refl (subst (λ (l : List Entry). l ++ allocation m d refs nums now places.place ∷ [] ≡ before.done ++ refusal m d refs nums ∷ []) (makes.done ∙ (tried-done t _ _ before mid first).0) (sym places.done ∙ e))
 refused-late t m d refs nums before now (sessions.refused mid late no_fit first makes no_fit_after replies) e = (
   subst (λ (x : Moment). Fits t.rules x.heap (size_of refs nums) → ⊥) (sym replies.rest) no_fit_after,
   ap (λ (x : Moment). x.full) replies.rest ∙ ap (λ p. p.1) makes.counts ∙ ap (λ n. n + 1) (tried-done t _ _ before mid first).1,

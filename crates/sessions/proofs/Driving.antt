@@ -17,7 +17,7 @@ use Rattle.ideal_heap.specs.Ideal as ideal
 use Rattle.ideal_heap.specs.Ideal.{IdealHeap, step}
 use Rattle.ideal_heap.specs.Runs.{Entry, entry, Answers, after, after_entry, is_full, next_of, IsMutator, IsOrderPrefix, IsOrder}
 use Rattle.ideal_heap.proofs.RunLemmas.{after-append, extended}
-use Rattle.ideal_heap.proofs.OrderLemmas.{of_mutator-all, front_of_one, order_of_one}
+use Rattle.ideal_heap.proofs.OrderLemmas.{of_mutator-all, prefix_of_one, order_of_one}
 use Rattle.object_model.specs.declared.collect.Collect.TheVariants.{Full}
 use Rattle.object_model.specs.Objects.{HeapState, empty_heap, IsHeld, size_of, name_at}
 use Rattle.object_model.specs.Graphs.{MutatorState, Represents, numbers_of, new_mutator}
@@ -91,8 +91,8 @@ module _ (b : ℕ) (trace : List Command) where
   pub next-is : (done : List Entry) → AllByRecursion (λ e. e.mutator ≡ 1) done → next_of t.traces done 1 ≡ slice_get trace (length done)
   next-is done all = ap (λ es. slice_get trace (length es)) (of_mutator-all 1 done all)
 
-  pub lone : (m : ℕ) → IsMutator t.traces m → m ≡ 1
-  lone m is = (let least : 1 ≤ m = is.0 in let most : m ≤ 1 = is.1 in omega arith)
+  pub only : (m : ℕ) → IsMutator t.traces m → m ≡ 1
+  only m is = (let least : 1 ≤ m = is.0 in let most : m ≤ 1 = is.1 in omega arith)
 
   -- what the last step of a stop does, by the next command
   abbrev pub MeetsBy : Option Command → Sessions.Moment → Sessions.Moment → Type 0
@@ -131,7 +131,7 @@ module _ (b : ℕ) (trace : List Command) where
           served = served.served;
           needs = served.needs;
           meet = meets;
-          front = subst (IsOrderPrefix t.traces) (sym done_now) (front_of_one trace done entries commands);
+          prefix = subst (IsOrderPrefix t.traces) (sym done_now) (prefix_of_one trace done entries commands);
         });
         heap = after_stop.2 ∙ served.heap;
         mutators = after_stop.3 ∙ served.mutators;
@@ -224,7 +224,7 @@ module _ (b : ℕ) (trace : List Command) where
         done = inside.whole;
         runs = inside.runs;
         each = all-to IsQuiet Sessions.IsOfPart (λ e q. q.of_part) inside.part inside.quiet;
-        causes = λ k is. subst (λ (q : ℕ). Sessions.EndsBy t (stop_of s m done inside) (λ _. cause) q cause) (sym (lone k is)) ends;
+        causes = λ k is. subst (λ (q : ℕ). Sessions.EndsBy t (stop_of s m done inside) (λ _. cause) q cause) (sym (only k is)) ends;
         stopped = subst (λ (ns : List ℕ). Sessions.Stopped (rules_of NoGc) ns inside.base.heap (Sessions.ideal_at inside.base) inside.part s (m ∷ [])) numbers
             (quiet-stopped inside.base.heap s (Sessions.ideal_at inside.base) inside.part (m ∷ []) inside.keeps inside.quiet driven.lawful
             (subst (λ (h : IdealHeap). Represents s (m ∷ []) h) heap (standing.represents s (m ∷ []) (after ideal.empty done) (IsHeld s) driven.models)));
@@ -372,7 +372,7 @@ module _ (b : ℕ) (trace : List Command) where
             served = stop;
             needs = refl;
             meet = meets;
-            front = subst (IsOrderPrefix t.traces) (sym done_now) (front_of_one trace done driven.entries driven.commands);
+            prefix = subst (IsOrderPrefix t.traces) (sym done_now) (prefix_of_one trace done driven.entries driven.commands);
           });
           order = subst (IsOrder t.traces) (sym done_now) (order_of_one trace done driven.entries (driven.commands ∙ take_all (length done) trace past));
         },

@@ -67,16 +67,16 @@ session-run t now sessions.begun = tt
 session-run t now (sessions.longer before session epoch) = epoch-run t before now epoch (session-run t before session)
 
 -- if there is one trace, each entry is of mutator 1
-lone-entries : (trace : List Command) (es : List Entry) → AllByRecursion (λ e. IsMutator (trace ∷ []) e.mutator) es → AllByRecursion (λ e. e.mutator ≡ 1) es
-lone-entries trace [] all = tt
-lone-entries trace (e ∷ es) all = ((let least : 1 ≤ e.mutator = all.0.0 in let most : e.mutator ≤ 1 = all.0.1 in omega arith), lone-entries trace es all.1)
+entries-of_one : (trace : List Command) (es : List Entry) → AllByRecursion (λ e. IsMutator (trace ∷ []) e.mutator) es → AllByRecursion (λ e. e.mutator ≡ 1) es
+entries-of_one trace [] all = tt
+entries-of_one trace (e ∷ es) all = ((let least : 1 ≤ e.mutator = all.0.0 in let most : e.mutator ≤ 1 = all.0.1 in omega arith), entries-of_one trace es all.1)
 
 -- the replies of a session of one trace without a refusal
 pub replies-alone : (t : Setting) (trace : List Command) (last : Moment) → t.traces ≡ trace ∷ [] → IsWhole t last → AllByRecursion (λ e. is_full e.reply ≡ false) last.done
     → replies_of 1 last.done ≡ alone empty 1 trace
 replies-alone t trace last one whole none =
     let order : IsOrder (trace ∷ []) last.done = subst (λ ts. IsOrder ts last.done) one whole.order in
-    alone-of empty 1 last.done (session-run t last whole.session) (lone-entries trace last.done order.mutators) none
+    alone-of empty 1 last.done (session-run t last whole.session) (entries-of_one trace last.done order.mutators) none
     ∙ ap (alone empty 1) (order.commands 1 (omega arith, omega arith))
 
 -- the replies of two such sessions are the same

@@ -97,16 +97,16 @@ module _ (s : HeapState) (order : IsWellFormed s) (k : ℕ) (kind : Kind) (is : 
 pub hole-clear : (fill : Kind) (s : HeapState) (k from size a i : ℕ) → IsWellFormed s → LineBitsAreExact s k → LiesInHole fill s k from size → IsHeld s a → IsInExtent s a i
     → block_at s.blocks i ≡ k → from ≤ offset_at s.blocks i → offset_at s.blocks i < from + size → ⊥
 hole-clear kinds.Bump s k from size a i order right lies holds inside here past below =
-    tail-clear s order k kinds.Bump lies.0 (λ e. omega arith) (λ e. omega arith) a i holds inside here lies.1.at lies.1.tail (let behind : lies.1.at ≤ from = lies.1.after in omega arith)
+    tail-clear s order k kinds.Bump lies.0 (λ e. omega arith) (λ e. omega arith) a i holds inside here lies.1.at lies.1.tail (let beyond : lies.1.at ≤ from = lies.1.after in omega arith)
 hole-clear kinds.Young s k from size a i order right lies holds inside here past below =
-    tail-clear s order k kinds.Young lies.0 (λ e. omega arith) (λ e. omega arith) a i holds inside here lies.1.at lies.1.tail (let behind : lies.1.at ≤ from = lies.1.after in omega arith)
+    tail-clear s order k kinds.Young lies.0 (λ e. omega arith) (λ e. omega arith) a i holds inside here lies.1.at lies.1.tail (let beyond : lies.1.at ≤ from = lies.1.after in omega arith)
 hole-clear kinds.Cells s k from size a i order right lies holds inside here past below =
     cell-clear s order k kinds.Cells lies.0 (λ e. omega arith) (λ e. omega arith) a i holds inside here from lies.0 lies.1 past
     (let room : size ≤ cell_words (class_at s k) = class-room size (class_at s k) lies.2 in omega arith)
 hole-clear kinds.Immix s k from size a i order right lies holds inside here past below =
     let hole : LiesInLineHole s k from size = lies.1 in
     let line : ℕ = offset_at s.blocks i / 16 in
-    let behind : 16 * hole.line ≤ from = hole.after in
+    let beyond : 16 * hole.line ≤ from = hole.after in
     let within : from + size ≤ 16 * (hole.line + hole.len) = hole.inside in
     let end : hole.line + hole.len ≤ 256 = hole.hole.inside in
     let base : heap_of s.blocks ≤ a = holds.address.from in
@@ -120,17 +120,17 @@ hole-clear kinds.LargeTail s k from size a i order right lies holds inside here 
 hole-clear kinds.Kept s k from size a i order right lies holds inside here past below = lies
 
 -- an object at the start of a hole lies in it
-pub hole-front : (fill : Kind) (s : HeapState) (k at size : ℕ) → HasHole fill s k at size → LiesInHole fill s k at size
-hole-front kinds.Bump s k at size hole = (hole.0, record { at = at; tail = hole.1; after = omega arith; inside = hole.2 })
-hole-front kinds.Young s k at size hole = (hole.0, record { at = at; tail = hole.1; after = omega arith; inside = hole.2 })
-hole-front kinds.Cells s k at size hole = hole
-hole-front kinds.Immix s k at size hole =
+pub hole-start : (fill : Kind) (s : HeapState) (k at size : ℕ) → HasHole fill s k at size → LiesInHole fill s k at size
+hole-start kinds.Bump s k at size hole = (hole.0, record { at = at; tail = hole.1; after = omega arith; inside = hole.2 })
+hole-start kinds.Young s k at size hole = (hole.0, record { at = at; tail = hole.1; after = omega arith; inside = hole.2 })
+hole-start kinds.Cells s k at size hole = hole
+hole-start kinds.Immix s k at size hole =
     let lines : HasLineHole s k at size = hole.1 in
     let start : at ≡ 16 * lines.line = lines.start in
     let room : (size + 15) / 16 ≤ lines.len = lines.room in
     (hole.0, record { line = lines.line; len = lines.len; hole = lines.hole; after = omega arith; inside = omega arith })
-hole-front kinds.Free s k at size hole = hole
-hole-front kinds.Mature s k at size hole = hole
-hole-front kinds.LargeHead s k at size hole = hole
-hole-front kinds.LargeTail s k at size hole = hole
-hole-front kinds.Kept s k at size hole = hole
+hole-start kinds.Free s k at size hole = hole
+hole-start kinds.Mature s k at size hole = hole
+hole-start kinds.LargeHead s k at size hole = hole
+hole-start kinds.LargeTail s k at size hole = hole
+hole-start kinds.Kept s k at size hole = hole

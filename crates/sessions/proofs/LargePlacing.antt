@@ -63,7 +63,7 @@ module _ (s : HeapState) (w1 w2 : List ℕ) (k : ℕ) (n : Name) (refs nums : �
         front = λ i before. births.zone-word (with_words s w1) w2 a n refs nums writes address i (omega arith) (λ e. let after = zone.1 in omega arith) ∙ makes.others i (inl (omega arith));
         elsewhere = λ i there away.
             let from : heap_of s.blocks ≤ i = there.from in
-            let outside : (i < a) ⊎ (a + size_of refs nums ≤ i) = elim away as (λ _. (i < a) ⊎ (a + size_of refs nums ≤ i)) [ inl before ↦ inl (omega arith) | inr behind ↦ inr (omega arith) ] in
+            let outside : (i < a) ⊎ (a + size_of refs nums ≤ i) = elim away as (λ _. (i < a) ⊎ (a + size_of refs nums ≤ i)) [ inl before ↦ inl (omega arith) | inr beyond ↦ inr (omega arith) ] in
             writes.others i outside (λ e. let before = zone.0 in omega arith) ∙ makes.others i (inr (omega arith));
       }
 

@@ -155,7 +155,7 @@ module _ (s : HeapState) (w1 w2 : List ℕ) (same : SameHeap s w1) (low : ℕ) (
         let base' : heap_of s.blocks ≤ a = room.vacant.address.from in
         let within : offset_at s.blocks a + size_of refs nums ≤ 4096 = room.place.within in
         let in_block : block_at s.blocks a ≡ low = in_low in
-        let outside : (i < a) ⊎ (a + size_of refs nums ≤ i) = elim away as (λ _. (i < a) ⊎ (a + size_of refs nums ≤ i)) [ inl before ↦ inl (omega arith) | inr behind ↦ inr (omega arith) ] in
+        let outside : (i < a) ⊎ (a + size_of refs nums ≤ i) = elim away as (λ _. (i < a) ⊎ (a + size_of refs nums ≤ i)) [ inl before ↦ inl (omega arith) | inr beyond ↦ inr (omega arith) ] in
         writes.others i outside (λ e. let zone = (births.start-in-zone between w2 a n refs nums writes room.vacant.address).0 in omega arith) ∙ same.words i base;
   }
 

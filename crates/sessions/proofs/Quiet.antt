@@ -12,12 +12,12 @@ use Rattle.ideal_heap.specs.Runs.{Entry, after}
 use Rattle.object_model.specs.Objects.{HeapState, with_words}
 use Rattle.object_model.specs.Lawful.{IsLawful}
 use Rattle.object_model.specs.Graphs.{MutatorState, Represents, numbers_of}
-use Rattle.object_model.specs.Ages.{is_old, is_logged}
+use Rattle.object_model.specs.Ages.{is_logged}
 use Rattle.object_model.specs.Changes.{ObjectsStay}
 use Rattle.object_model.proofs.Frames as frames
 use Rattle.sessions.specs.Plans.{NoGc, rules_of}
 use Rattle.sessions.specs.Fitting.{free_of}
-use Rattle.sessions.specs.Collecting.{Remembers, is_old_under, is_logged_under}
+use Rattle.sessions.specs.Collecting.{Remembers, is_logged_under}
 use Rattle.sessions.specs.Sessions.{Stopped, HasBirth}
 use Rattle.sessions.specs.Driving.{IsQuiet}
 
@@ -29,7 +29,7 @@ never-logged s a logged = false≢true (and_parts false (is_logged s a) logged).
 
 -- no entry allocates an object
 pub no-birth : (part : List Entry) → AllByRecursion IsQuiet part → (n : Name) → HasBirth part n → ⊥
-no-birth part quiet n born = at part quiet born.0 born.1 born.2 born.3 born.4
+no-birth part quiet n birth = at part quiet birth.0 birth.1 birth.2 birth.3 birth.4
   where
     at : (es : List Entry) → AllByRecursion IsQuiet es → (k : ℕ) (e : Entry) → k < length es → get_or es k e ≡ e → e.reply ≡ r.New n → ⊥
     at [] all k e within is new = omega arith
@@ -48,7 +48,7 @@ stopped-words old w h part ms keeps quiet lawful represents = record {
   base = refl;
   stays = λ a holds. (frames.held-after old w keeps a holds, λ i less. keeps.headers a i holds less);
   births = λ a holds. inl (frames.held-before old w keeps a holds);
-  all_born = λ n born. absurd (no-birth part quiet n born);
+  all_held = λ n birth. absurd (no-birth part quiet n birth);
   logs = λ a logged. absurd (never-logged (with_words old w) a logged);
   taken = (let e : free_of (with_words old w) ≡ free_of old = free-same in omega arith);
   in_block = λ k there. inr (keeps.block_words k there);

@@ -3,7 +3,7 @@ use Rattle.std.specs.List.{range_with_len, AllByRecursion}
 use Rattle.std.proofs.lemmas.Bool.{false≢true}
 use Rattle.std.proofs.lemmas.List.FromFn.{get_or-range_with_len, length-range_with_len}
 use Rattle.object_model.proofs.Zeros as zeros
-use Rattle.std.proofs.Common.{◌<◌, ◌≤◌, ◌+◌, suc, zero, map, length, slice_index, arith, ◌≡◌, refl, sym, ◌∙◌, ap, subst, ℕ, Bool, true, false, List, [], ◌∷◌, ◌++◌}
+use Rattle.std.proofs.Common.{◌≤◌, ◌+◌, suc, zero, map, length, slice_index, arith, ◌≡◌, refl, sym, ◌∙◌, ap, subst, ℕ, Bool, true, false, List, [], ◌∷◌, ◌++◌}
 use Rattle.ideal_heap.specs.declared.command.Command.TheVariants as c
 use Rattle.ideal_heap.specs.declared.reply.Reply.TheVariants as r
 use Rattle.ideal_heap.specs.Ideal as ideal

@@ -9,7 +9,7 @@ use Rattle.ideal_heap.specs.Ideal as ideal
 use Rattle.ideal_heap.specs.Ideal.{IdealHeap, step}
 use Rattle.ideal_heap.specs.Runs.{Entry, entry, Answers, after, next_of, IsOrderPrefix}
 use Rattle.ideal_heap.proofs.RunLemmas.{extended}
-use Rattle.ideal_heap.proofs.OrderLemmas.{front_of_one}
+use Rattle.ideal_heap.proofs.OrderLemmas.{prefix_of_one}
 use Rattle.object_model.specs.declared.collect.Collect.TheVariants.{Full}
 use Rattle.object_model.specs.Objects.{HeapState, IsHeld}
 use Rattle.object_model.specs.Graphs.{MutatorState}
@@ -53,10 +53,10 @@ module _ (b : ℕ) (trace : List Command) where
   t = alone_under_nogc b trace
 
   -- what a driver knows once a command that leaves the ideal heap as it is has its reply
-  told : (s s' : HeapState) (m : MutatorState) (done : List Entry) (e : Entry) → Driven b trace s m done → e.mutator ≡ 1 → slice_get trace (length done) ≡ Some e.command
+  driven_on : (s s' : HeapState) (m : MutatorState) (done : List Entry) (e : Entry) → Driven b trace s m done → e.mutator ≡ 1 → slice_get trace (length done) ≡ Some e.command
       → IsWithin t s' (done ++ e ∷ []) ⊎ IsServed t s' m (done ++ e ∷ []) → Answers (after ideal.empty done) e → after ideal.empty (done ++ e ∷ []) ≡ after ideal.empty done
       → IsLawful s' → RepresentsOn s' (m ∷ []) (after ideal.empty done) (IsHeld s') → s'.number ≤ s.number + 1 → Driven b trace s' m (done ++ e ∷ [])
-  told s s' m done e driven one next phase answers same lawful models collections =
+  driven_on s s' m done e driven one next phase answers same lawful models collections =
       let many : length (done ++ e ∷ []) ≡ length done + 1 = length-append done (e ∷ []) in
       record {
         phase = phase;
@@ -102,7 +102,7 @@ module _ (b : ℕ) (trace : List Command) where
         done_is = refl;
         needs = refl;
       } in
-      told s (counts.counted s) m done gc_entry driven refl next (inr served) (gc-answers (after ideal.empty done))
+      driven_on s (counts.counted s) m done gc_entry driven refl next (inr served) (gc-answers (after ideal.empty done))
       (driving.after-more b trace done gc_entry ∙ driving.step-entry b trace (after ideal.empty done) c.Gc r.Done refl ∙ gc-heap (after ideal.empty done))
       (counts.lawful-counted s driven.lawful) held-models (omega arith)
 
@@ -126,7 +126,7 @@ module _ (b : ℕ) (trace : List Command) where
           served = at;
           needs = served.needs;
           meet = subst (λ (o : Option Command). driving.MeetsBy b trace o at now) (sym next_now) replies;
-          front = subst (IsOrderPrefix t.traces) (sym done_now) (front_of_one trace (done ++ meet_entry ∷ [])
+          prefix = subst (IsOrderPrefix t.traces) (sym done_now) (prefix_of_one trace (done ++ meet_entry ∷ [])
               (driving.all-more b trace (λ x. x.mutator ≡ 1) done meet_entry driven.entries refl)
               (driving.commands-more b trace done meet_entry driven.commands next));
         });
@@ -164,6 +164,6 @@ module _ (b : ℕ) (trace : List Command) where
         | inl inside ↦ represents s m done driven next inside
         | inr already ↦ already
       ] in
-      told s s m done meet_entry driven refl next (inl (meets s m done driven next served)) (meet-answers (after ideal.empty done))
+      driven_on s s m done meet_entry driven refl next (inl (meets s m done driven next served)) (meet-answers (after ideal.empty done))
       (driving.after-more b trace done meet_entry ∙ driving.step-entry b trace (after ideal.empty done) c.Meet r.Done refl ∙ meet-heap (after ideal.empty done))
       driven.lawful driven.models (omega arith)

@@ -27,7 +27,7 @@ tail-unique s k at from one other =
     elim one.least as (λ _. at ≡ from) [
       | inl zero ↦ elim other.least as (λ _. at ≡ from) [
         | inl zero' ↦ zero ∙ sym zero'
-        | inr last ↦ (let behind : offset_at s.blocks last.0 + size_at s last.0 ≤ at = one.after last.0 last.1 last.2 in let e : offset_at s.blocks last.0 + size_at s last.0 ≡ from = last.3 in omega arith)
+        | inr last ↦ (let beyond : offset_at s.blocks last.0 + size_at s last.0 ≤ at = one.after last.0 last.1 last.2 in let e : offset_at s.blocks last.0 + size_at s last.0 ≡ from = last.3 in omega arith)
       ]
       | inr last ↦
           let below : offset_at s.blocks last.0 + size_at s last.0 ≤ from = other.after last.0 last.1 last.2 in
@@ -160,13 +160,13 @@ module _ (s : HeapState) (order : IsWellFormed s) (k at size : ℕ) (bump : HasK
               | inl before ↦ inr (omega arith)
               | inr from_head ↦ elim (cases_lt k (block_at s.blocks x + n)) as (λ _. (i < place) ⊎ (place + size ≤ i)) [
                 | inl within ↦ absurd (in-run run.run within from_head)
-                | inr behind ↦ inl (omega arith)
+                | inr beyond ↦ inl (omega arith)
               ]
             ]
         | inr small ↦
             let end : offset_at s.blocks x + size_at s x ≤ 4096 = ((order.objects.lies x holds).small small).within in
             elim (cases_eq (block_at s.blocks x) k) as (λ _. (i < place) ⊎ (place + size ≤ i)) [
-              | inl e ↦ inl (let behind : offset_at s.blocks x + size_at s x ≤ at = tail.after x holds e in omega arith)
+              | inl e ↦ inl (let beyond : offset_at s.blocks x + size_at s x ≤ at = tail.after x holds e in omega arith)
               | inr other ↦ elim (cases_lt k (block_at s.blocks x)) as (λ _. (i < place) ⊎ (place + size ≤ i)) [ inl before ↦ inr (omega arith) | inr after ↦ inl (omega arith) ]
             ]
       ]
@@ -227,7 +227,7 @@ module _ (s : HeapState) (w : List ℕ) (a : ℕ) (n : Name) (refs nums : ℕ) (
       | inl e ↦ (let size : size_at grown x ≡ size_of refs nums = ap (size_at grown) e ∙ new-size in
           let at : offset_at s.blocks x ≡ slice_index ends block = ap (offset_at s.blocks) e ∙ front in omega arith)
       | inr before ↦ (let size : size_at grown x ≡ size_at s x = births.size-same s w a n refs nums put room.vacant x before in
-          let behind : offset_at s.blocks x + size_at s x ≤ slice_index ends block = (tails.tail block used).after x before here in omega arith)
+          let beyond : offset_at s.blocks x + size_at s x ≤ slice_index ends block = (tails.tail block used).after x before here in omega arith)
     ];
     least = inr (a, births.held-new s w a n refs nums put room.vacant, refl, ap (λ q. offset_at s.blocks a + q) new-size ∙ ap (λ q. q + size_of refs nums) front);
   }

@@ -11,7 +11,7 @@ use Rattle.object_model.specs.Ages.{is_old, is_logged, RemembersYoung}
 use Rattle.object_model.specs.Preserving.{may_leave, PreservesObjects}
 use Rattle.sessions.specs.Plans.{Rules, Reserve, Nothing, Copies, Headroom}
 use Rattle.sessions.specs.Fitting.{free_of, used_of}
-use Rattle.heap_layout.specs.declared.layout.TheConstants.{BLOCK_WORDS}
+use Rattle.heap_layout.specs.declared.layout.TheConstants.{BLOCK_LINES, BLOCK_WORDS, GLOBALS}
 
 -- Whether an object is old or logged under a plan. Under a plan without young objects none is.
 abbrev pub is_old_under : Rules → HeapState → ℕ → Bool
@@ -46,15 +46,15 @@ is_hole_start s k line = not (line_marked s k line) && (nat_eq line 0 || line_ma
 
 -- the number of holes of a block
 abbrev pub holes_in : HeapState → ℕ → ℕ
-holes_in s k = count_by (is_hole_start s k) (range_with_len 0 256)
+holes_in s k = count_by (is_hole_start s k) (range_with_len 0 BLOCK_LINES)
 
 -- the number of marked lines of a block
 abbrev pub marked_in : HeapState → ℕ → ℕ
-marked_in s k = count_by (line_marked s k) (range_with_len 0 256)
+marked_in s k = count_by (line_marked s k) (range_with_len 0 BLOCK_LINES)
 
 -- an Immix block with a marked line and a clear one
 abbrev pub is_recyclable : HeapState → ℕ → Bool
-is_recyclable s k = has_kind s k kinds.Immix && nat_lt 0 (marked_in s k) && nat_lt (marked_in s k) 256
+is_recyclable s k = has_kind s k kinds.Immix && nat_lt 0 (marked_in s k) && nat_lt (marked_in s k) BLOCK_LINES
 
 -- block j is k or is evacuated before k: it has more holes, or as many and no higher number
 abbrev pub is_by : HeapState → ℕ → ℕ → Bool
@@ -65,7 +65,7 @@ is_by s k j = nat_lt (holes_in s k) (holes_in s j) || (nat_eq (holes_in s k) (ho
 abbrev pub is_candidate : HeapState → ℕ → Bool
 is_candidate s k = is_recyclable s k
     && nat_le (sum_by (λ j. if is_recyclable s j && is_by s k j then marked_in s j else 0) (range_with_len 0 s.blocks))
-    (256 * free_of s)
+    (BLOCK_LINES * free_of s)
 
 -- a copying plan evacuates the blocks that mutators fill; a full collection also Kept ones and those that workers fill
 abbrev pub is_copied : Rules → Collect → HeapState → ℕ → Bool
@@ -94,7 +94,7 @@ may_move r c s a = r.moves && may_leave (is_evacuated r c s) s a
 -- the objects that a nursery collection preserves: all old ones, and all reachable from a root, a global or an old one
 pub data IsNurseryReachable (r : Rules) (s : HeapState) (roots : List ℕ) : ℕ → Type 0 where
   is_root : (i : ℕ) {a : ℕ} → slice_index roots i ≡ a → 0 < a → IsNurseryReachable r s roots a
-  is_global : (g : ℕ) {a : ℕ} → g < 16 → global_at s g ≡ a → 0 < a → IsNurseryReachable r s roots a
+  is_global : (g : ℕ) {a : ℕ} → g < GLOBALS → global_at s g ≡ a → 0 < a → IsNurseryReachable r s roots a
   was_old : {a : ℕ} → IsHeld s a → IsTrue (is_old_under r s a) → IsNurseryReachable r s roots a
   is_field : (x i : ℕ) {a : ℕ} → IsNurseryReachable r s roots x → i < refs_at s x
       → ref_at s x i ≡ a → IsTrue (is_reference a) → IsNurseryReachable r s roots a

@@ -7,7 +7,7 @@ use Rattle.heap_layout.specs.declared.block.Kind.TheVariants as kinds
 use Rattle.object_model.specs.Objects.{HeapState, has_kind, HasKind, class_at, line_marked, is_start, IsHeld, size_at, cell_words, blocks_for, lines_for, block_count}
 use Rattle.sessions.specs.Plans.{Rules, Reserve}
 use Rattle.sessions.specs.Grants.{BlockCounts, total_in, used_in, headroom_in, allowance_in, IsGrantable, IsRunGrantable}
-use Rattle.heap_layout.specs.declared.layout.TheConstants.{BLOCK_WORDS}
+use Rattle.heap_layout.specs.declared.layout.TheConstants.{LINE_WORDS, BLOCK_LINES, BLOCK_WORDS}
 use Rattle.object_model.specs.declared.shape.TheConstants.{MAX_MEDIUM_WORDS}
 
 -- the number of Free blocks
@@ -75,10 +75,10 @@ class_for kinds.Kept size = 0
 -- lines `from` to `from + len - 1` of block k are a hole: they are clear, and no line beside them is
 pub record IsLineHole (s : HeapState) (k from len : ℕ) : Type 0 where
   pub some : 1 ≤ len
-  pub inside : from + len ≤ 256
+  pub inside : from + len ≤ BLOCK_LINES
   pub clear : (line : ℕ) → from ≤ line → line < from + len → IsTrue (line_marked s k line) → ⊥
   pub before : 0 < from → IsTrue (line_marked s k (from - 1))
-  pub after : from + len < 256 → IsTrue (line_marked s k (from + len))
+  pub after : from + len < BLOCK_LINES → IsTrue (line_marked s k (from + len))
 
 -- a free cell of block k begins at offset `at`
 pub record IsFreeCell (s : HeapState) (k at : ℕ) : Type 0 where
@@ -91,7 +91,7 @@ pub record IsFreeCell (s : HeapState) (k at : ℕ) : Type 0 where
 pub record HasLineHole (s : HeapState) (k at size : ℕ) : Type 0 where
   pub line : ℕ
   pub len : ℕ
-  pub start : at ≡ 16 * line
+  pub start : at ≡ LINE_WORDS * line
   pub hole : IsLineHole s k line len
   pub room : lines_for size ≤ len
 
@@ -119,8 +119,8 @@ pub record LiesInLineHole (s : HeapState) (k from size : ℕ) : Type 0 where
   pub line : ℕ
   pub len : ℕ
   pub hole : IsLineHole s k line len
-  pub after : 16 * line ≤ from
-  pub inside : from + size ≤ 16 * (line + len)
+  pub after : LINE_WORDS * line ≤ from
+  pub inside : from + size ≤ LINE_WORDS * (line + len)
 
 -- `size` words from offset `from` on lie in a hole of block k, which has the kind that mutators fill
 abbrev pub LiesInHole : Kind → HeapState → ℕ → ℕ → ℕ → Type 0

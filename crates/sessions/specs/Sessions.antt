@@ -136,16 +136,16 @@ pub record IsBirth (rules : Rules) (old : HeapState) (part : List Entry) (new : 
 
 -- a `put` of the part stored into the object of this name
 pub record StoresInto (h : ideal.IdealHeap) (part : List Entry) (n : Name) : Type 0 where
-  pub front : List Entry
+  pub prefix : List Entry
   pub entry : Entry
   pub rest : List Entry
   pub s : ℕ
   pub i : ℕ
   pub v : ℕ
-  pub whole : part ≡ front ++ entry ∷ rest
+  pub whole : part ≡ prefix ++ entry ∷ rest
   pub command : entry.command ≡ c.Put s i v
   pub stored : entry.reply ≡ r.Done
-  pub into : (after h front).registers entry.mutator s ≡ Some n
+  pub into : (after h prefix).registers entry.mutator s ≡ Some n
 
 -- The heap `new` and the mutators at the stop of an epoch. Before the epoch, the heap was `old` and represented h.
 -- The epoch ran the part.
@@ -162,7 +162,7 @@ pub record Stopped (rules : Rules) (numbers : List ℕ) (old : HeapState) (h : i
   pub stays : (a : ℕ) → IsHeld old a → IsHeld new a × ((i : ℕ) → i < 3 → word_at new (a + i) ≡ word_at old (a + i))
   -- the other held objects are exactly those that the part allocated
   pub births : (a : ℕ) → IsHeld new a → IsHeld old a ⊎ IsBirth rules old part new a
-  pub all_born : (n : Name) → HasBirth part n → (a : ℕ) × IsHeld new a × (name_at new a ≡ n)
+  pub all_held : (n : Name) → HasBirth part n → (a : ℕ) × IsHeld new a × (name_at new a ≡ n)
   pub logs : (a : ℕ) → IsTrue (is_logged_under rules new a)
       → IsTrue (is_logged_under rules old a) ⊎ StoresInto h part (name_at new a)
   pub taken : free_of old ≤ free_of new + allowance_of rules.reserve old
@@ -362,7 +362,7 @@ pub record IsEpoch (t : Setting) (before now : Moment) : Type 0 where
   pub served : Moment
   pub needs : ServesAll t (filter (λ m. is_at_need (ends m)) (mutators_of t)) collected served
   pub meet : Meets t served now
-  pub front : IsOrderPrefix t.traces now.done
+  pub prefix : IsOrderPrefix t.traces now.done
 
 -- the states that sessions of a setting reach after some number of epochs
 pub data InSession (t : Setting) : Moment → Type 0 where

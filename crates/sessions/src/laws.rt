@@ -19,20 +19,22 @@ ghost use Rattle.sessions.specs.Fitting.{Fits, HasHole, LiesInHole, MayGrant, al
 ghost use Rattle.sessions.specs.Collecting.{IsCollection, Collects, Remembers, IsNurseryReachable, is_evacuated, is_old_under, is_logged_under};
 ghost use Rattle.sessions.specs.Sessions.{Setting, Moment, InSession, IsEpoch, IsWhole, IsSound, Places, Serves, first_moment, refusal};
 
-use heap_layout::MAX_BLOCKS;
+use heap_layout::{MAX_BLOCKS, MIN_BLOCKS};
+use ideal_heap::MAX_MUTATORS;
 use object_model::MAX_MEDIUM_WORDS;
 
 /// A session begins with the empty heap and continues by epochs. Whatever it collects, its entries
 /// are a run of the ideal heap. After each epoch the heap is lawful and represents the ideal heap
-/// of the run. With 4 to 1,024 blocks and at most 16 traces, this holds before the first epoch too.
+/// of the run. With `MIN_BLOCKS` to `MAX_BLOCKS` blocks and at most `MAX_MUTATORS` traces, this
+/// holds before the first epoch too.
 pub fn sessions()
     ensures first { (t : Setting) → InSession t (first_moment t) }
     ensures next { (t : Setting) (old new : Moment) → InSession t old → IsEpoch t old new
         → InSession t new }
     ensures run { (t : Setting) (now : Moment) → InSession t now → IsRun empty now.done }
     ensures sound { (t : Setting) (old new : Moment) → IsEpoch t old new → IsSound t new }
-    ensures last { (t : Setting) (now : Moment) → 4 ≤ t.blocks → t.blocks ≤ MAX_BLOCKS
-        → length t.traces ≤ 16 → InSession t now → IsSound t now }
+    ensures last { (t : Setting) (now : Moment) → MIN_BLOCKS ≤ t.blocks → t.blocks ≤ MAX_BLOCKS
+        → length t.traces ≤ MAX_MUTATORS → InSession t now → IsSound t now }
 {}
 
 /// If no `new` was refused, the replies of a whole session of one trace are a function of the
@@ -51,14 +53,14 @@ pub fn sessions_of_one()
         → replies_of 1 last.done ≡ replies_of 1 end.done }
 {}
 
-/// On the empty heap of at least 4 blocks, each size of at most 2,048 words fits, under each plan:
-/// the reserve leaves a block. So a `new` of such a size is placed there without a collection, and
-/// is not refused.
+/// On the empty heap of at least `MIN_BLOCKS` blocks, each size of at most `MAX_MEDIUM_WORDS` fits,
+/// under each plan: the reserve leaves a block. So a `new` of such a size is placed there without a
+/// collection, and is not refused.
 pub fn empty_heap_has_room()
-    ensures fits { (p : Plan) (b size : ℕ) → 4 ≤ b → size ≤ MAX_MEDIUM_WORDS
+    ensures fits { (p : Plan) (b size : ℕ) → MIN_BLOCKS ≤ b → size ≤ MAX_MEDIUM_WORDS
         → Fits (rules_of p) (empty_heap b) size }
-    ensures served { (t : Setting) (p : Plan) (b m d refs nums : ℕ) (old new : Moment) → 4 ≤ b
-        → t.rules ≡ rules_of p → old.heap ≡ empty_heap b
+    ensures served { (t : Setting) (p : Plan) (b m d refs nums : ℕ) (old new : Moment)
+        → MIN_BLOCKS ≤ b → t.rules ≡ rules_of p → old.heap ≡ empty_heap b
         → size_of refs nums ≤ MAX_MEDIUM_WORDS
         → Serves t m d refs nums old new → Places t m d refs nums old new }
 {}
@@ -72,7 +74,7 @@ pub fn holes_are_clear()
         → block_at s.blocks i ≡ k → from ≤ offset_at s.blocks i
         → offset_at s.blocks i < from + size
         → ⊥ }
-    ensures front { (fill : Kind) (s : HeapState) (k at size : ℕ) → HasHole fill s k at size
+    ensures start { (fill : Kind) (s : HeapState) (k at size : ℕ) → HasHole fill s k at size
         → LiesInHole fill s k at size }
 {}
 
@@ -173,8 +175,9 @@ pub fn collections_set_the_base()
         → new.base ≡ old.base }
 {}
 
-/// What plans hold back, by the counts of a heap's blocks. Where nothing is, every Free block may be granted. Where copies
-/// are, twice the blocks in use are never more than all that belong to no large object. Where a headroom is, it stays.
+/// What plans hold back, by the counts of a heap's blocks. Where nothing is held back, every Free
+/// block may be granted. Where copies are, twice the blocks in use are never more than all that
+/// belong to no large object. Where a headroom is, it stays.
 pub fn grants_by_counts()
     ensures nothing { (c : BlockCounts) → (IsGrantable Nothing c ↔ (1 ≤ c.free))
         × (allowance_in Nothing c ≡ c.free)

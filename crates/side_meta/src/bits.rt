@@ -7,39 +7,39 @@ use crate::fields::{field, set_field};
 use crate::row::Words;
 use crate::spec::Spec;
 
-/// Whether the bit of address `a` is 1.
-pub fn test<W: Words>(w: &W, s: &Spec, a: u32) -> bool
-    requires bit { s.now.log_bits ≡ 0 }
-    requires from { s.now.heap ≤ a }
-    requires index { place_word s.now a < 2 ^ 32 }
-    requires word { place_word s.now a < length (W.words w.now) }
-    ensures { result ≡ is_set (W.words w.now) s.now a }
+/// Whether the bit of an address is 1.
+pub fn test<W: Words>(words: &W, spec: &Spec, address: u32) -> bool
+    requires bit { spec.now.log_bits ≡ 0 }
+    requires from { spec.now.heap ≤ address }
+    requires index { place_word spec.now address < 2 ^ 32 }
+    requires word { place_word spec.now address < length (W.words words.now) }
+    ensures { result ≡ is_set (W.words words.now) spec.now address }
 {
-    field(w, s, a) == 1
+    field(words, spec, address) == 1
 }
 
-/// Sets the bit of address `a` to 1. No other bit of the row changes.
-pub fn set<W: Words>(w: &mut W, s: &Spec, a: u32)
-    requires bit { s.now.log_bits ≡ 0 }
-    requires from { s.now.heap ≤ a }
-    requires index { place_word s.now a < 2 ^ 32 }
-    requires word { place_word s.now a < length (W.words w.old) }
-    ensures set { is_set (W.words w.new) s.now a ≡ true }
-    ensures alone { ChangesField (W.words w.old) (W.words w.new) s.now a }
-    ensures fit { (k : ℕ) → slice_index (W.words w.new) k < 2 ^ 64 }
+/// Sets the bit of an address to 1. No other bit of the row changes.
+pub fn set<W: Words>(words: &mut W, spec: &Spec, address: u32)
+    requires bit { spec.now.log_bits ≡ 0 }
+    requires from { spec.now.heap ≤ address }
+    requires index { place_word spec.now address < 2 ^ 32 }
+    requires word { place_word spec.now address < length (W.words words.old) }
+    ensures set { is_set (W.words words.new) spec.now address ≡ true }
+    ensures alone { ChangesField (W.words words.old) (W.words words.new) spec.now address }
+    ensures fit { (k : ℕ) → slice_index (W.words words.new) k < 2 ^ 64 }
 {
-    set_field(w, s, a, 1);
+    set_field(words, spec, address, 1);
 }
 
-/// Sets the bit of address `a` to 0. No other bit of the row changes.
-pub fn clear<W: Words>(w: &mut W, s: &Spec, a: u32)
-    requires bit { s.now.log_bits ≡ 0 }
-    requires from { s.now.heap ≤ a }
-    requires index { place_word s.now a < 2 ^ 32 }
-    requires word { place_word s.now a < length (W.words w.old) }
-    ensures clear { is_set (W.words w.new) s.now a ≡ false }
-    ensures alone { ChangesField (W.words w.old) (W.words w.new) s.now a }
-    ensures fit { (k : ℕ) → slice_index (W.words w.new) k < 2 ^ 64 }
+/// Sets the bit of an address to 0. No other bit of the row changes.
+pub fn clear<W: Words>(words: &mut W, spec: &Spec, address: u32)
+    requires bit { spec.now.log_bits ≡ 0 }
+    requires from { spec.now.heap ≤ address }
+    requires index { place_word spec.now address < 2 ^ 32 }
+    requires word { place_word spec.now address < length (W.words words.old) }
+    ensures clear { is_set (W.words words.new) spec.now address ≡ false }
+    ensures alone { ChangesField (W.words words.old) (W.words words.new) spec.now address }
+    ensures fit { (k : ℕ) → slice_index (W.words words.new) k < 2 ^ 64 }
 {
-    set_field(w, s, a, 0);
+    set_field(words, spec, address, 0);
 }

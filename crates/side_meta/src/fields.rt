@@ -7,35 +7,35 @@ use crate::places::place;
 use crate::row::Words;
 use crate::spec::Spec;
 
-/// The value of the field of address `a`.
-pub fn field<W: Words>(w: &W, s: &Spec, a: u32) -> u64
-    requires from { s.now.heap ≤ a }
-    requires index { place_word s.now a < 2 ^ 32 }
-    requires word { place_word s.now a < length (W.words w.now) }
-    ensures { result ≡ field_value (W.words w.now) s.now a }
+/// The value of the field of an address.
+pub fn field<W: Words>(words: &W, spec: &Spec, address: u32) -> u64
+    requires from { spec.now.heap ≤ address }
+    requires index { place_word spec.now address < 2 ^ 32 }
+    requires word { place_word spec.now address < length (W.words words.now) }
+    ensures { result ≡ field_value (W.words words.now) spec.now address }
 {
-    let (word, shift) = place(s, a);
-    w.get(word) >> shift & ones(s)
+    let (word, shift) = place(spec, address);
+    words.get(word) >> shift & ones(spec)
 }
 
-/// Sets the field of address `a` to `v`. No other bit of the row changes.
-pub fn set_field<W: Words>(w: &mut W, s: &Spec, a: u32, v: u64)
-    requires from { s.now.heap ≤ a }
-    requires index { place_word s.now a < 2 ^ 32 }
-    requires word { place_word s.now a < length (W.words w.old) }
-    requires value { v < 2 ^ field_bits s.now }
-    ensures field { field_value (W.words w.new) s.now a ≡ v }
-    ensures alone { ChangesField (W.words w.old) (W.words w.new) s.now a }
-    ensures fit { (k : ℕ) → slice_index (W.words w.new) k < 2 ^ 64 }
+/// Sets the field of an address to `value`. No other bit of the row changes.
+pub fn set_field<W: Words>(words: &mut W, spec: &Spec, address: u32, value: u64)
+    requires from { spec.now.heap ≤ address }
+    requires index { place_word spec.now address < 2 ^ 32 }
+    requires word { place_word spec.now address < length (W.words words.old) }
+    requires value { value < 2 ^ field_bits spec.now }
+    ensures field { field_value (W.words words.new) spec.now address ≡ value }
+    ensures alone { ChangesField (W.words words.old) (W.words words.new) spec.now address }
+    ensures fit { (k : ℕ) → slice_index (W.words words.new) k < 2 ^ 64 }
 {
-    let (word, shift) = place(s, a);
-    let rest = w.get(word) & !(ones(s) << shift);
-    w.set(word, rest | v << shift);
+    let (word, shift) = place(spec, address);
+    let rest = words.get(word) & !(ones(spec) << shift);
+    words.set(word, rest | value << shift);
 }
 
 /// A field with all bits set, in the low bits of a word.
-fn ones(s: &Spec) -> u64
-    ensures { result ≡ 2 ^ field_bits s.now - 1 }
+fn ones(spec: &Spec) -> u64
+    ensures { result ≡ 2 ^ field_bits spec.now - 1 }
 {
-    u64::MAX >> (64 - (1u32 << s.log_bits))
+    u64::MAX >> (64 - (1u32 << spec.log_bits))
 }

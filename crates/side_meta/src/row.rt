@@ -11,15 +11,15 @@ pub trait Words {
     fn len(&self) -> usize
         ensures { result ≡ length (words self.now) };
 
-    /// Word `i`.
-    fn get(&self, i: u32) -> u64
-        requires { i < length (words self.now) }
-        ensures { result ≡ slice_index (words self.now) i };
+    /// The word at an index.
+    fn get(&self, index: u32) -> u64
+        requires { index < length (words self.now) }
+        ensures { result ≡ slice_index (words self.now) index };
 
-    /// Sets word `i` to `v`.
-    fn set(&mut self, i: u32, v: u64)
-        requires { i < length (words self.old) }
-        ensures words { words self.new ≡ slice_set (words self.old) i v }
+    /// Sets the word at an index.
+    fn set(&mut self, index: u32, value: u64)
+        requires { index < length (words self.old) }
+        ensures words { words self.new ≡ slice_set (words self.old) index value }
         ensures fit { (k : ℕ) → slice_index (words self.new) k < 2 ^ 64 };
 }
 
@@ -30,11 +30,11 @@ impl Words for Vec<u64> {
         self.as_slice().len()
     }
 
-    fn get(&self, i: u32) -> u64 {
-        self[i as usize]
+    fn get(&self, index: u32) -> u64 {
+        self[index as usize]
     }
 
-    fn set(&mut self, i: u32, v: u64) {
-        self[i as usize] = v;
+    fn set(&mut self, index: u32, value: u64) {
+        self[index as usize] = value;
     }
 }

@@ -1,11 +1,11 @@
 mod CommandTexts
 mod DigitLemmas
 mod FirstLines
-mod FrontLemmas
-mod LineLemmas
 mod NumeralLemmas
 mod PartLemmas
+mod ReaderLemmas
 mod Spelled
+mod TokenLemmas
 mod ValidLemmas
 mod WholeLines
 mod WholeTraces

@@ -59,18 +59,18 @@ most_small Value = omega arith
 abbrev pub argument_text : Sort → ℕ → List ℕ
 argument_text sort n = letter_of sort ++ decimal n
 
-behind_mark : (sort : Sort) (word : List ℕ) → numeral_after (letter_of sort) (letter_of sort ++ word) ≡ numeral word
-behind_mark Register word = refl
-behind_mark Global word = refl
-behind_mark RefCount word = refl
-behind_mark NumCount word = refl
-behind_mark RefIndex word = refl
-behind_mark NumIndex word = refl
-behind_mark Value word = refl
+after_letter : (sort : Sort) (word : List ℕ) → numeral_after (letter_of sort) (letter_of sort ++ word) ≡ numeral word
+after_letter Register word = refl
+after_letter Global word = refl
+after_letter RefCount word = refl
+after_letter NumCount word = refl
+after_letter RefIndex word = refl
+after_letter NumIndex word = refl
+after_letter Value word = refl
 
 pub argument_again : (sort : Sort) (n : ℕ) → n ≤ most_of sort → argument sort (argument_text sort n) ≡ Ok n
 argument_again sort n within =
-    ap (checked (most_of sort)) (behind_mark sort (decimal n) ∙ numeral-decimal n (omega (arith, most_small sort)))
+    ap (checked (most_of sort)) (after_letter sort (decimal n) ∙ numeral-decimal n (omega (arith, most_small sort)))
     ∙ checked-Some (most_of sort) n within
 
 mark_lacks : (at : ℕ) → at < 48 → (sort : Sort) → Lacks at (letter_of sort)
@@ -114,17 +114,17 @@ chosen_behind : (b : Bool) (o : Option ℕ) (n : ℕ) → cond b o None ≡ Some
 chosen_behind true o n e = (refl, e)
 chosen_behind false o n e = absurd (cc)
 
-behind_is : (letter word : List ℕ) (n : ℕ) → numeral_after letter word ≡ Some n → (digits : List ℕ) × (word ≡ letter ++ digits) × (numeral digits ≡ Some n)
-behind_is [] word n e = (word, refl, e)
-behind_is (m ∷ ms) [] n e = absurd (cc)
-behind_is (m ∷ ms) (b ∷ bs) n e =
+spelled_after : (letter word : List ℕ) (n : ℕ) → numeral_after letter word ≡ Some n → (digits : List ℕ) × (word ≡ letter ++ digits) × (numeral digits ≡ Some n)
+spelled_after [] word n e = (word, refl, e)
+spelled_after (m ∷ ms) [] n e = absurd (cc)
+spelled_after (m ∷ ms) (b ∷ bs) n e =
     let which = chosen_behind (nat_eq b m) (numeral_after ms bs) n e in
     let same : b ≡ m = eqb-true b m which.0 in
-    let rest = behind_is ms bs n which.1 in
+    let rest = spelled_after ms bs n which.1 in
     (rest.0, ap (λ x. x ∷ bs) same ∙ ap (λ ys. m ∷ ys) rest.1, rest.2)
 
 pub argument_is : (sort : Sort) (word : List ℕ) (n : ℕ) → argument sort word ≡ Ok n → word ≡ argument_text sort n
 argument_is sort word n e =
     let within = checked_most (most_of sort) (numeral_after (letter_of sort) word) n e in
-    let rest = behind_is (letter_of sort) word n (checked_is (most_of sort) (numeral_after (letter_of sort) word) n e) in
+    let rest = spelled_after (letter_of sort) word n (checked_is (most_of sort) (numeral_after (letter_of sort) word) n e) in
     rest.1 ∙ ap (λ digits. letter_of sort ++ digits) (decimal-numeral rest.0 n rest.2 (omega (arith, most_small sort)))

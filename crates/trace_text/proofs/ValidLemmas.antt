@@ -1,10 +1,11 @@
--- Commands that are read are valid, and at most `most_commands`.
+-- Commands that are read are valid, and at most `MAX_COMMANDS`.
 use Rattle.std.proofs.Common.{◌≡◌, refl, subst, ℕ, zero, suc, ◌+◌, ◌<◌, ◌≤◌, arith, Bool, true, false, cond, nat_eq, nat_lt, nat_le, List, [], ◌∷◌, map, length, get_or, Option, Some, None, Result, Ok, Err, Vec, Global}
 use Rattle.std.specs.Prelude.{IfOk}
 use Rattle.std.specs.List.{All, AllByRecursion}
 use Rattle.std.proofs.lemmas.Bool.{leb-true, ltb-false}
 use Rattle.ideal_heap.specs.declared.command.Command.{Command}
 use Rattle.ideal_heap.specs.Commands.{IsValid}
+use Rattle.trace_text.specs.declared.limits.TheConstants.{MAX_COMMANDS}
 use Rattle.trace_text.specs.declared.op.Op.{Op}
 use Rattle.trace_text.specs.declared.op.Op.TheVariants as o
 use Rattle.trace_text.specs.declared.fault.Why.{Why}
@@ -12,7 +13,7 @@ use Rattle.trace_text.specs.declared.fault.Why.TheVariants as why
 use Rattle.trace_text.specs.declared.fault.TraceFault.{TraceFault}
 use Rattle.trace_text.specs.declared.fault.TraceFault.TheVariants.{TooMany}
 use Rattle.trace_text.specs.Words.{Sort, most_of, letter_of, sorts_of, command_of}
-use Rattle.trace_text.specs.Grammar.{◌>>=◌, checked, numeral_after, argument, arguments, with_op, if_some, op_of, of_words, words_of, line, at_line, lines_from, most_commands, opened_by, lines_under, with_header, lines_of, trace, Gives}
+use Rattle.trace_text.specs.Grammar.{◌>>=◌, checked, numeral_after, argument, arguments, with_op, if_some, op_of, of_words, words_of, line, at_line, lines_from, opened_by, lines_under, with_header, lines_of, trace, Gives}
 
 -- each element of a list, by index and by recursion
 pub by_index : {X : Type 0} (P : X → Type 0) (xs : List X) → AllByRecursion P xs → (k : ℕ) (d : X) → k < length xs → P (get_or xs k d)
@@ -106,30 +107,30 @@ of_line n (Err w) c e = absurd (cc)
 
 -- every command comes from a line, and the number of lines is bounded
 pub lines_good : {C : Type 0} (P : C → Type 0) (read : List ℕ → Result C Why) → ((l : List ℕ) (c : C) → read l ≡ Ok c → P c)
-    → (n : ℕ) (ls : List (List ℕ)) (cs : List C) → n ≤ most_commands + 2 → lines_from read n ls ≡ Ok cs → AllByRecursion P cs × (n + length cs ≤ most_commands + 2)
+    → (n : ℕ) (ls : List (List ℕ)) (cs : List C) → n ≤ MAX_COMMANDS + 2 → lines_from read n ls ≡ Ok cs → AllByRecursion P cs × (n + length cs ≤ MAX_COMMANDS + 2)
 lines_good P read each n [] cs early e =
     let none : [] ≡ cs = cc in
     rw (← none) (tt, omega arith)
 lines_good P read each n (l ∷ ls) cs early e =
-    let in_time = chosen_no (nat_lt (most_commands + 1) n) (at_line n (read l) >>= λ c. lines_from read (n + 1) ls >>= λ cs. Ok (c ∷ cs)) TooMany cs e in
+    let in_time = chosen_no (nat_lt (MAX_COMMANDS + 1) n) (at_line n (read l) >>= λ c. lines_from read (n + 1) ls >>= λ cs. Ok (c ∷ cs)) TooMany cs e in
     let first = bind_ok (at_line n (read l)) _ cs in_time.1 in
     let rest = bind_ok (lines_from read (n + 1) ls) _ cs first.2 in
     let whole : first.0 ∷ rest.0 ≡ cs = cc in
-    let more : n ≤ most_commands + 1 = ltb-false (most_commands + 1) n in_time.0 in
+    let more : n ≤ MAX_COMMANDS + 1 = ltb-false (MAX_COMMANDS + 1) n in_time.0 in
     let others = lines_good P read each (n + 1) ls rest.0 (omega arith) rest.1 in
     rw (← whole) ((each l first.0 (of_line n (read l) first.0 first.1), others.0), omega (arith, others.1))
 
-under_ops : (ops : Option (List Op)) (ls : List (List ℕ)) (cs : List Command) → lines_under ops ls ≡ Ok cs → AllByRecursion IsValid cs × (length cs ≤ most_commands)
+under_ops : (ops : Option (List Op)) (ls : List (List ℕ)) (cs : List Command) → lines_under ops ls ≡ Ok cs → AllByRecursion IsValid cs × (length cs ≤ MAX_COMMANDS)
 under_ops None ls cs e = absurd (cc)
 under_ops (Some ops) ls cs e =
     let good = lines_good IsValid (line ops) (valid_line ops) 2 ls cs (omega arith) e in
     (good.0, omega (arith, good.1))
 
-under_header : (ls : List (List ℕ)) (cs : List Command) → with_header ls ≡ Ok cs → AllByRecursion IsValid cs × (length cs ≤ most_commands)
+under_header : (ls : List (List ℕ)) (cs : List Command) → with_header ls ≡ Ok cs → AllByRecursion IsValid cs × (length cs ≤ MAX_COMMANDS)
 under_header [] cs e = absurd (cc)
 under_header (l ∷ ls) cs e = under_ops (opened_by l) ls cs e
 
-pub trace_good : (bytes : List ℕ) (cs : List Command) → trace bytes ≡ Ok cs → All IsValid cs × (length cs ≤ most_commands)
+pub trace_good : (bytes : List ℕ) (cs : List Command) → trace bytes ≡ Ok cs → All IsValid cs × (length cs ≤ MAX_COMMANDS)
 unfolding trace
 trace_good bytes cs e =
     let good = under_header (lines_of bytes) cs e in
@@ -139,6 +140,6 @@ pub read_valid : (bytes : List ℕ) (r : Result (Vec Command Global) TraceFault)
 read_valid bytes (Ok v) e = (trace_good bytes v.items e).0
 read_valid bytes (Err d) e = tt
 
-pub read_few : (bytes : List ℕ) (r : Result (Vec Command Global) TraceFault) → Gives (λ v. v.items) r (trace bytes) → IfOk r (λ v. length v.items ≤ most_commands)
+pub read_few : (bytes : List ℕ) (r : Result (Vec Command Global) TraceFault) → Gives (λ v. v.items) r (trace bytes) → IfOk r (λ v. length v.items ≤ MAX_COMMANDS)
 read_few bytes (Ok v) e = (trace_good bytes v.items e).1
 read_few bytes (Err d) e = tt

@@ -36,29 +36,37 @@ onto_first_more : (b : ℕ) (parts more : List (List ℕ)) → 0 < length parts 
 onto_first_more b [] more some = absurd (omega arith)
 onto_first_more b (part ∷ parts) more some = refl
 
-some_part : (at : ℕ) (bytes : List ℕ) → 0 < length (parts_at at bytes)
+pub some_part : (at : ℕ) (bytes : List ℕ) → 0 < length (parts_at at bytes)
 some_part at bytes =
     let more : length (parts_at at bytes) ≡ count_by (λ b. nat_eq b at) bytes + 1 = length-slice_split _ bytes in
     omega arith
 
--- a newline at the end makes one more part, which is empty
-more_after : (b : ℕ) (bs : List ℕ) (is : Bool) → nat_eq b 10 ≡ is → parts_at 10 (bs ++ 10 ∷ []) ≡ parts_at 10 bs ++ [] ∷ [] → parts_at 10 (b ∷ bs ++ 10 ∷ []) ≡ parts_at 10 (b ∷ bs) ++ [] ∷ []
-more_after b bs true is rest =
-    slice_split-cons_yes _ b (bs ++ 10 ∷ []) is ∙ ap (λ parts. [] ∷ parts) rest
-    ∙ sym (ap (λ parts. parts ++ [] ∷ []) (slice_split-cons_yes _ b bs is))
-more_after b bs false is rest =
-    slice_split-cons_no _ b (bs ++ 10 ∷ []) is ∙ ap (onto_first b) rest
-    ∙ onto_first_more b (parts_at 10 bs) ([] ∷ []) (some_part 10 bs)
-    ∙ sym (ap (λ parts. parts ++ [] ∷ []) (slice_split-cons_no _ b bs is))
+-- a newline ends a part, and the parts of the text after it follow
+more_after : (b : ℕ) (bs more : List ℕ) (is : Bool) → nat_eq b 10 ≡ is → parts_at 10 (bs ++ 10 ∷ more) ≡ parts_at 10 bs ++ parts_at 10 more
+    → parts_at 10 (b ∷ bs ++ 10 ∷ more) ≡ parts_at 10 (b ∷ bs) ++ parts_at 10 more
+more_after b bs more true is rest =
+    slice_split-cons_yes _ b (bs ++ 10 ∷ more) is ∙ ap (λ parts. [] ∷ parts) rest
+    ∙ sym (ap (λ parts. parts ++ parts_at 10 more) (slice_split-cons_yes _ b bs is))
+more_after b bs more false is rest =
+    slice_split-cons_no _ b (bs ++ 10 ∷ more) is ∙ ap (onto_first b) rest
+    ∙ onto_first_more b (parts_at 10 bs) (parts_at 10 more) (some_part 10 bs)
+    ∙ sym (ap (λ parts. parts ++ parts_at 10 more) (slice_split-cons_no _ b bs is))
 
-cut_more : (front : List ℕ) → parts_at 10 (front ++ 10 ∷ []) ≡ parts_at 10 front ++ [] ∷ []
-cut_more [] = refl
-cut_more (b ∷ bs) = more_after b bs (nat_eq b 10) refl (cut_more bs)
+pub cut_more : (front more : List ℕ) → parts_at 10 (front ++ 10 ∷ more) ≡ parts_at 10 front ++ parts_at 10 more
+cut_more [] more = slice_split-cons_yes _ 10 more refl
+cut_more (b ∷ bs) more = more_after b bs more (nat_eq b 10) refl (cut_more bs more)
 
-drops_end : (parts : List (List ℕ)) → without_empty_end (parts ++ [] ∷ []) ≡ parts
-drops_end [] = refl
-drops_end (part ∷ []) = refl
-drops_end (part ∷ next ∷ parts) = ap (λ ls. part ∷ ls) (drops_end (next ∷ parts))
+-- only the last part may be no line
+pub keeps_end : (parts more : List (List ℕ)) → 0 < length more → without_empty_end (parts ++ more) ≡ parts ++ without_empty_end more
+keeps_end [] more some = refl
+keeps_end (part ∷ []) [] some = absurd (omega arith)
+keeps_end (part ∷ []) (next ∷ more) some = refl
+keeps_end (part ∷ next ∷ parts) more some = ap (λ ls. part ∷ ls) (keeps_end (next ∷ parts) more some)
+
+-- the lines of a text that ends with a newline
+pub ended_parts : (front : List ℕ) → lines_of (front ++ 10 ∷ []) ≡ parts_at 10 front
+ended_parts front =
+    ap without_empty_end (cut_more front []) ∙ keeps_end (parts_at 10 front) ([] ∷ []) (omega arith) ∙ append-nil (parts_at 10 front)
 
 joined_is : (parts : List (List ℕ)) → 0 < length parts → joined parts ≡ join_with_byte 10 parts ++ 10 ∷ []
 joined_is [] some = absurd (omega arith)
@@ -69,5 +77,5 @@ joined_is (part ∷ next ∷ parts) some =
 
 pub whole_lines : (front : List ℕ) → joined (lines_of (front ++ 10 ∷ [])) ≡ front ++ 10 ∷ []
 whole_lines front =
-    ap (λ parts. joined (without_empty_end parts)) (cut_more front) ∙ ap joined (drops_end (parts_at 10 front))
+    ap joined (ended_parts front)
     ∙ joined_is (parts_at 10 front) (some_part 10 front) ∙ ap (λ bytes. bytes ++ 10 ∷ []) (join_with_byte-slice_split 10 front)

@@ -8,11 +8,12 @@ use Rattle.std.proofs.lemmas.Bool.{le-ltb}
 use Rattle.std.proofs.lemmas.Slice.Eq.{bytes_eq-Decides}
 use Rattle.ideal_heap.specs.declared.command.Command.{Command}
 use Rattle.ideal_heap.specs.Commands.{IsValid}
+use Rattle.trace_text.specs.declared.limits.TheConstants.{MAX_COMMANDS}
 use Rattle.trace_text.specs.declared.op.Op.{Op}
 use Rattle.trace_text.specs.declared.op.Op.TheVariants as o
 use Rattle.trace_text.specs.declared.fault.TraceFault.TheVariants.{TooMany}
 use Rattle.trace_text.specs.Words.{all_ops, word_of, op_in}
-use Rattle.trace_text.specs.Grammar.{◌>>=◌, op_of, line, at_line, lines_from, most_commands, header, lines_under, with_header, lines_of, trace}
+use Rattle.trace_text.specs.Grammar.{◌>>=◌, op_of, line, at_line, lines_from, header, lines_under, with_header, lines_of, trace}
 use Rattle.trace_text.specs.Text.{command_text, ended, trace_text}
 use Rattle.trace_text.proofs.WholeLines.{joined, AllLack, lines_again, whole_lines}
 use Rattle.trace_text.proofs.CommandTexts.{line_again, line_is, command_lacks}
@@ -35,10 +36,10 @@ known o.Unpin = refl
 known o.Gc = refl
 known o.Meet = refl
 
-lines_from_again : (n : ℕ) (cs : List Command) → n + length cs ≤ most_commands + 2 → AllByRecursion IsValid cs → lines_from (line all_ops) n (map command_text cs) ≡ Ok cs
+lines_from_again : (n : ℕ) (cs : List Command) → n + length cs ≤ MAX_COMMANDS + 2 → AllByRecursion IsValid cs → lines_from (line all_ops) n (map command_text cs) ≡ Ok cs
 lines_from_again n [] few valid = refl
 lines_from_again n (c ∷ cs) few valid =
-    rw (le-ltb (most_commands + 1) n (omega arith), line_again all_ops c valid.0 (known (op_in c)), lines_from_again (n + 1) cs (omega arith) valid.1) refl
+    rw (le-ltb (MAX_COMMANDS + 1) n (omega arith), line_again all_ops c valid.0 (known (op_in c)), lines_from_again (n + 1) cs (omega arith) valid.1) refl
 
 all_lack : (cs : List Command) → AllByRecursion IsValid cs → AllLack (map command_text cs)
 all_lack [] valid = tt
@@ -51,14 +52,14 @@ joined_texts (c ∷ cs) = ap (λ rest. ended (command_text c) ++ rest) (joined_t
 header_lacks : (lines : List (List ℕ)) → AllLack lines → AllLack (header ∷ lines)
 header_lacks lines lack = ((refl, (refl, (refl, (refl, (refl, (refl, (refl, (refl, (refl, tt))))))))), lack)
 
-each_again : (cs : List Command) → AllByRecursion IsValid cs → length cs ≤ most_commands → trace (trace_text cs) ≡ Ok cs
+each_again : (cs : List Command) → AllByRecursion IsValid cs → length cs ≤ MAX_COMMANDS → trace (trace_text cs) ≡ Ok cs
 unfolding trace
 each_again cs valid few =
     ap (λ rest. with_header (lines_of (ended header ++ rest))) (joined_texts cs)
     ∙ ap with_header (lines_again (header ∷ map command_text cs) (header_lacks (map command_text cs) (all_lack cs valid)))
     ∙ lines_from_again 2 cs (omega arith) valid
 
-pub trace_again : (cs : List Command) → All IsValid cs → length cs ≤ most_commands → trace (trace_text cs) ≡ Ok cs
+pub trace_again : (cs : List Command) → All IsValid cs → length cs ≤ MAX_COMMANDS → trace (trace_text cs) ≡ Ok cs
 trace_again cs valid few = each_again cs (by_recursion IsValid cs valid) few
 
 -- the converse: a text that ends with a newline is the one text of its commands
@@ -67,7 +68,7 @@ lines_are ops n [] cs e =
     let none : [] ≡ cs = cc in
     rw (← none) refl
 lines_are ops n (l ∷ ls) cs e =
-    let in_time = chosen_no (nat_lt (most_commands + 1) n) (at_line n (line ops l) >>= λ c. lines_from (line ops) (n + 1) ls >>= λ cs. Ok (c ∷ cs)) TooMany cs e in
+    let in_time = chosen_no (nat_lt (MAX_COMMANDS + 1) n) (at_line n (line ops l) >>= λ c. lines_from (line ops) (n + 1) ls >>= λ cs. Ok (c ∷ cs)) TooMany cs e in
     let first = bind_ok (at_line n (line ops l)) _ cs in_time.1 in
     let rest = bind_ok (lines_from (line ops) (n + 1) ls) _ cs first.2 in
     let whole : first.0 ∷ rest.0 ≡ cs = cc in
@@ -90,7 +91,7 @@ trace_alone front cs e =
     sym (whole_lines front) ∙ ap joined (headed_lines (lines_of (front ++ 10 ∷ [])) cs e)
     ∙ ap (λ rest. ended header ++ rest) (sym (joined_texts cs))
 
-pub printed_again : (cs : List Command) (r : Result (Vec ℕ Global) AllocError) → All IsValid cs → length cs ≤ most_commands → IfOk r (λ v. v.items ≡ trace_text cs)
+pub printed_again : (cs : List Command) (r : Result (Vec ℕ Global) AllocError) → All IsValid cs → length cs ≤ MAX_COMMANDS → IfOk r (λ v. v.items ≡ trace_text cs)
     → IfOk r (λ v. trace v.items ≡ Ok cs)
 printed_again cs (Ok v) valid few text = ap trace text ∙ trace_again cs valid few
 printed_again cs (Err e) valid few text = tt

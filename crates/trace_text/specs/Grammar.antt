@@ -5,6 +5,7 @@ use Rattle.std.specs.Char.{is_ascii_digit}
 use Rattle.std.specs.Str.{bytes_eq}
 use Rattle.std.specs.Str.Parse.{digits_value}
 use Rattle.ideal_heap.specs.declared.command.Command.{Command}
+use Rattle.trace_text.specs.declared.limits.TheConstants.{MAX_COMMANDS}
 use Rattle.trace_text.specs.declared.op.Op.{Op}
 use Rattle.trace_text.specs.declared.fault.Why.{Why}
 use Rattle.trace_text.specs.declared.fault.Why.TheVariants as why
@@ -101,15 +102,11 @@ abbrev pub at_line : {C : Type 0} → ℕ → Result C Why → Result C TraceFau
 at_line n (Ok c) = Ok c
 at_line n (Err w) = Err (Line n w)
 
--- the most commands of a trace
-abbrev pub most_commands : ℕ
-most_commands = 1000000
-
 -- the commands of these lines, the first of which has number n
 abbrev pub lines_from : {C : Type 0} → (List ℕ → Result C Why) → ℕ → List (List ℕ) → Result (List C) TraceFault
 lines_from read n [] = Ok []
 lines_from read n (l ∷ ls) =
-    if nat_lt (most_commands + 1) n then Err TooMany else
+    if nat_lt (MAX_COMMANDS + 1) n then Err TooMany else
     (at_line n (read l) >>= λ c. lines_from read (n + 1) ls >>= λ cs. Ok (c ∷ cs))
 
 -- the first line of a trace

@@ -3,3 +3,4 @@ pub mod Grammar
 pub mod Text
 pub mod Parts
 pub mod Arguments
+pub mod Readers

@@ -28,12 +28,12 @@ abbrev pub HasPiece : List ℕ → ℕ → List ℕ → ℕ → Type 0
 HasPiece text at piece end = drop at text ≡ piece ++ drop end text
 
 -- an argument with the space before it
-abbrev pub argument_front : Sort → ℕ → List ℕ
-argument_front sort n = 32 ∷ letter_of sort ++ decimal n
+abbrev pub spaced_argument : Sort → ℕ → List ℕ
+spaced_argument sort n = 32 ∷ letter_of sort ++ decimal n
 
 -- the text begins with the line of c, which is valid, and the next line begins at offset `end`
-abbrev pub IsInFront : Command → List ℕ → ℕ → Type 0
-IsInFront c text end = IsValid c × (end ≤ length text) × (text ≡ command_text c ++ 10 ∷ drop end text)
+abbrev pub IsFirstLine : Command → List ℕ → ℕ → Type 0
+IsFirstLine c text end = IsValid c × (end ≤ length text) × (text ≡ command_text c ++ 10 ∷ drop end text)
 
 -- the result of reading the first line of the text is `read`, and `rest` has the other lines
 abbrev pub IsReadAs : List ℕ → Result Command Why → List ℕ → Type 0

@@ -1,10 +1,10 @@
 -- The words on a trace's lines, for the reader and the printer.
-use Rattle.std.specs.Prelude.{ℕ, List, [], ◌∷◌, slice_index, codes}
+use Rattle.std.specs.Prelude.{ℕ, ◌-◌, List, [], ◌∷◌, slice_index, codes}
 use Rattle.trace_text.specs.declared.op.Op.{Op}
 use Rattle.trace_text.specs.declared.op.Op.TheVariants.{New, Get, Put, Read, Write, Add, Swap, Move, DropReg, Load, Share, Pin, Unpin, Gc, Meet}
 use Rattle.ideal_heap.specs.declared.command.Command.{Command}
 use Rattle.ideal_heap.specs.declared.command.Command.TheVariants as c
-use Rattle.ideal_heap.specs.declared.command.TheConstants.{MAX_REFS, MAX_NUMS}
+use Rattle.ideal_heap.specs.declared.command.TheConstants.{MAX_REGISTER, MAX_GLOBAL, MAX_REFS, MAX_NUMS}
 
 -- the sort of an argument
 pub data Sort : Type 0 where
@@ -18,12 +18,12 @@ pub data Sort : Type 0 where
 
 -- the largest number of a sort
 abbrev pub most_of : Sort → ℕ
-most_of Register = 15
-most_of Global = 15
+most_of Register = MAX_REGISTER
+most_of Global = MAX_GLOBAL
 most_of RefCount = MAX_REFS
 most_of NumCount = MAX_NUMS
-most_of RefIndex = 1023
-most_of NumIndex = 59999
+most_of RefIndex = MAX_REFS - 1
+most_of NumIndex = MAX_NUMS - 1
 most_of Value = 18446744073709551615
 
 -- the letter before the numeral, or nothing

@@ -1,8 +1,10 @@
 //! The reader at full speed and the plain one agree.
 
+ghost use Rattle.std.specs.Prelude.{◌<◌};
+
 use crate::lines::{command_of, next_command};
 use crate::splitter::next_line;
-use crate::{TraceFault, Why, read_trace};
+use crate::{TraceFault, TraceReader, Why, read_trace};
 use ideal_heap::Command;
 use std::alloc::{AllocError, Global};
 use std::test::Fail;
@@ -50,7 +52,7 @@ fn agree_on_lines(rt: HostRuntime) -> Result<(), Fail> {
 
 #[test]
 fn agree_on_numerals(rt: HostRuntime) -> Result<(), Fail> {
-    let fronts: [&[u8]; 8] = [
+    let starts: [&[u8]; 8] = [
         b"read r0",
         b"get r0 r0",
         b"new r0 0",
@@ -93,15 +95,15 @@ fn agree_on_numerals(rt: HostRuntime) -> Result<(), Fail> {
         b"18446744073709551620",
         b"184467440737095516150",
     ];
-    for front in fronts.iter() {
+    for start in starts.iter() {
         for numeral in numerals.iter() {
             for zeros in [b"".as_slice(), b"0".as_slice()].iter() {
-                let apart = if front.ends_with(b"r") || front.ends_with(b"g") {
+                let apart = if start.ends_with(b"r") || start.ends_with(b"g") {
                     b"".as_slice()
                 } else {
                     b" ".as_slice()
                 };
-                let mut line = Vec::from_slice(rt.alloc(), front)?;
+                let mut line = Vec::from_slice(rt.alloc(), start)?;
                 line.extend_from_slice(apart)?;
                 line.extend_from_slice(zeros)?;
                 line.extend_from_slice(numeral)?;
@@ -147,12 +149,12 @@ fn agrees_on_text(alloc: Global, bytes: &[u8]) -> bool {
     }
 }
 
-const WORKED: [u8; 172] =
-    *b"mmtrace 1\nnew r15 1024 7\nget r1 r0 1023\nput r0 10 r9\nwrite r2 59999 18446744073709551615\n\
+const WORKED: [u8; 172] = *b"mmtrace 1\nnew r15 1024 7\nget r1 r0 1023\nput r0 10 r9\n\
+    write r2 59999 18446744073709551615\n\
     swap r3 0 10 9\nshare g15 r0\nload r1 g9\npin r4\nunpin r10\nmeet\ngc\nmove r5 r6\ndrop r0\n";
 
 #[test]
-fn agree_on_each_front(rt: HostRuntime) {
+fn agree_on_each_prefix(rt: HostRuntime) {
     for k in 0..172 {
         assert!(rt; agrees_on_text(rt.alloc(), &WORKED[..k]));
     }
@@ -168,4 +170,40 @@ fn agree_on_each_change(rt: HostRuntime) {
             assert!(rt; agrees_on_text(rt.alloc(), &text));
         }
     }
+}
+
+// The commands of a text that comes in pieces of this many bytes.
+fn read_in_pieces(alloc: Global, text: &[u8], size: usize) -> Result<Vec<Command>, TraceFault>
+    requires { 0 < size }
+{
+    let mut reader = TraceReader::new(alloc);
+    for piece in text.chunks(size) {
+        reader.read(piece)?;
+    }
+    reader.finish()
+}
+
+#[test]
+fn agree_on_pieces(rt: HostRuntime) -> Result<(), Fail> {
+    let texts: [&[u8]; 6] = [
+        &WORKED,
+        b"",
+        b"mmtrace 1",
+        b"mmtrace 1\n\n",
+        b"mmtrace 1\ngc\nread r0 0",
+        b"mmtrace 2\nnew r0 0 0\n",
+    ];
+    for text in texts.iter() {
+        for size in 1..=172 {
+            match (
+                read_in_pieces(rt.alloc(), text, size),
+                read_trace(rt.alloc(), text),
+            ) {
+                (Ok(pieces), Ok(whole)) => assert!(rt; pieces.as_slice() == whole.as_slice()),
+                (Err(pieces), Err(whole)) => assert_eq!(rt; pieces, whole, "{size}"),
+                _ => assert!(rt; false, "{size}"),
+            }
+        }
+    }
+    Ok(())
 }

@@ -6,7 +6,7 @@ ghost use Rattle.std.specs.Fmt.{decimal};
 use itoa::write_digits;
 
 // The most decimal digits of a 64-bit number.
-const MOST: usize = 20;
+const MAX_DIGITS: usize = 20;
 
 // Appends a short text, byte by byte.
 #[inline(always)]
@@ -23,104 +23,105 @@ pub(crate) fn put(text: &[u8], to: &mut Vec<u8>)
 
 // Appends a digit.
 #[inline(always)]
-fn put_digit(n: u64, to: &mut Vec<u8>)
-    requires digit { n < 10 }
+fn put_digit(number: u64, to: &mut Vec<u8>)
+    requires digit { number < 10 }
     requires room { vec_len to.old + 1 ≤ vec_capacity to.old }
-    ensures items { to.new.items ≡ to.old.items ++ (48 + n) ∷ [] }
+    ensures items { to.new.items ≡ to.old.items ++ (48 + number) ∷ [] }
     ensures len { vec_len to.new ≡ vec_len to.old + 1 }
     ensures capacity { vec_capacity to.old ≤ vec_capacity to.new }
 {
-    to.push_reserved(b'0' + n as u8);
+    to.push_reserved(b'0' + number as u8);
 }
 
 // Appends two digits, the first of which may be 0.
 #[inline(always)]
-fn put_pair(n: u64, to: &mut Vec<u8>)
-    requires pair { n < 100 }
+fn put_pair(number: u64, to: &mut Vec<u8>)
+    requires pair { number < 100 }
     requires room { vec_len to.old + 2 ≤ vec_capacity to.old }
-    ensures items { to.new.items ≡ to.old.items ++ (48 + n / 10) ∷ (48 + n % 10) ∷ [] }
+    ensures items { to.new.items ≡ to.old.items
+        ++ (48 + number / 10) ∷ (48 + number % 10) ∷ [] }
     ensures len { vec_len to.new ≡ vec_len to.old + 2 }
     ensures capacity { vec_capacity to.old ≤ vec_capacity to.new }
 {
-    put_digit(n / 10, to);
-    put_digit(n % 10, to);
+    put_digit(number / 10, to);
+    put_digit(number % 10, to);
 }
 
 // Appends the numeral of a number below 100.
 #[inline(always)]
 #[tactic(auto, using(crate::proofs::DigitLemmas::numerals_by_digits))]
-fn put_short(n: u64, to: &mut Vec<u8>)
-    requires short { n < 100 }
+fn put_short(number: u64, to: &mut Vec<u8>)
+    requires short { number < 100 }
     requires room { vec_len to.old + 2 ≤ vec_capacity to.old }
-    ensures items { to.new.items ≡ to.old.items ++ decimal n }
+    ensures items { to.new.items ≡ to.old.items ++ decimal number }
     ensures len { vec_len to.new ≤ vec_len to.old + 2 }
     ensures capacity { vec_capacity to.old ≤ vec_capacity to.new }
 {
-    if n < 10 {
-        put_digit(n, to);
+    if number < 10 {
+        put_digit(number, to);
     } else {
-        put_pair(n, to);
+        put_pair(number, to);
     }
 }
 
 // Appends the numeral of a number below 10,000.
 #[inline(always)]
-fn put_small(n: u64, to: &mut Vec<u8>)
-    requires small { n < 10000 }
+fn put_small(number: u64, to: &mut Vec<u8>)
+    requires small { number < 10000 }
     requires room { vec_len to.old + 4 ≤ vec_capacity to.old }
-    ensures items { to.new.items ≡ to.old.items ++ decimal n }
+    ensures items { to.new.items ≡ to.old.items ++ decimal number }
     ensures len { vec_len to.new ≤ vec_len to.old + 4 }
     ensures capacity { vec_capacity to.old ≤ vec_capacity to.new }
 {
-    if n < 100 {
-        put_short(n, to);
+    if number < 100 {
+        put_short(number, to);
     } else {
-        put_short(n / 100, to);
-        put_pair(n % 100, to);
+        put_short(number / 100, to);
+        put_pair(number % 100, to);
     }
 }
 
 // Appends the numeral of a number below 1,000,000.
 #[inline(always)]
-fn put_medium(n: u64, to: &mut Vec<u8>)
-    requires medium { n < 1000000 }
+fn put_medium(number: u64, to: &mut Vec<u8>)
+    requires medium { number < 1000000 }
     requires room { vec_len to.old + 6 ≤ vec_capacity to.old }
-    ensures items { to.new.items ≡ to.old.items ++ decimal n }
+    ensures items { to.new.items ≡ to.old.items ++ decimal number }
     ensures len { vec_len to.new ≤ vec_len to.old + 6 }
     ensures capacity { vec_capacity to.old ≤ vec_capacity to.new }
 {
-    if n < 100 {
-        put_short(n, to);
+    if number < 100 {
+        put_short(number, to);
     } else {
-        put_small(n / 100, to);
-        put_pair(n % 100, to);
+        put_small(number / 100, to);
+        put_pair(number % 100, to);
     }
 }
 
 // Appends the numeral of any number, with an array as a buffer.
 #[inline(never)]
-fn put_long(n: u64, to: &mut Vec<u8>)
-    requires room { vec_len to.old + 20 ≤ vec_capacity to.old }
-    ensures items { to.new.items ≡ to.old.items ++ decimal n }
-    ensures len { vec_len to.new ≤ vec_len to.old + 20 }
+fn put_long(number: u64, to: &mut Vec<u8>)
+    requires room { vec_len to.old + MAX_DIGITS ≤ vec_capacity to.old }
+    ensures items { to.new.items ≡ to.old.items ++ decimal number }
+    ensures len { vec_len to.new ≤ vec_len to.old + MAX_DIGITS }
     ensures capacity { vec_capacity to.old ≤ vec_capacity to.new }
 {
-    let mut digits = [0; MOST];
-    let start = write_digits(n, &mut digits, MOST);
-    to.extend_from_slice(&digits[start..]).unwrap();
+    let mut digits = [0; MAX_DIGITS];
+    let start = write_digits(number, &mut digits, MAX_DIGITS);
+    put(&digits[start..], to);
 }
 
 // Appends the numeral of a number.
 #[inline(always)]
-pub(crate) fn put_decimal(n: u64, to: &mut Vec<u8>)
-    requires room { vec_len to.old + 20 ≤ vec_capacity to.old }
-    ensures items { to.new.items ≡ to.old.items ++ decimal n }
-    ensures len { vec_len to.new ≤ vec_len to.old + 20 }
+pub(crate) fn put_decimal(number: u64, to: &mut Vec<u8>)
+    requires room { vec_len to.old + MAX_DIGITS ≤ vec_capacity to.old }
+    ensures items { to.new.items ≡ to.old.items ++ decimal number }
+    ensures len { vec_len to.new ≤ vec_len to.old + MAX_DIGITS }
     ensures capacity { vec_capacity to.old ≤ vec_capacity to.new }
 {
-    if n < 1_000_000 {
-        put_medium(n, to);
+    if number < 1_000_000 {
+        put_medium(number, to);
     } else {
-        put_long(n, to);
+        put_long(number, to);
     }
 }

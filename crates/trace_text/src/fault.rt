@@ -1,5 +1,8 @@
 //! Errors of the reader.
 
+ghost use Rattle.std.specs.Prelude.{◌≡◌};
+
+use std::alloc::AllocError;
 use thiserror::Error;
 
 /// What is wrong with a line.
@@ -34,4 +37,14 @@ pub enum TraceFault {
     /// Out of memory. The text may be a trace or not.
     #[error("out of memory")]
     OutOfMemory,
+}
+
+impl From<AllocError> for TraceFault {
+    ghost use Rattle.trace_text.specs.declared.fault.TraceFault.{TraceFault};
+
+    ghost from_gives = { λ _ r. r ≡ TraceFault.OutOfMemory };
+
+    fn from(_: AllocError) -> TraceFault {
+        TraceFault::OutOfMemory
+    }
 }

@@ -2,86 +2,86 @@
 //! of the next line, in bytes.
 
 ghost use Rattle.std.specs.Prelude.{◌≤◌, length, IfSome};
-ghost use Rattle.trace_text.specs.Parts.{IsInFront};
+ghost use Rattle.trace_text.specs.Parts.{IsFirstLine};
 
-use crate::fronts::{global, line_end, register, small, value, word};
-use ideal_heap::Command;
+use crate::tokens::{global, line_end, register, small, value, word};
+use ideal_heap::{Command, MAX_NUMS, MAX_REFS};
 
-// No good line has more bytes.
-const ROOM: usize = 64;
+// No good line has more bytes, with its newline.
+const LINE_BYTES: usize = 64;
 
 #[inline(always)]
 fn new(text: &[u8]) -> Option<(Command, usize)>
-    requires { 64 ≤ length text.now }
-    ensures { IfSome result (λ x. IsInFront x.0 text.now x.1) }
+    requires { LINE_BYTES ≤ length text.now }
+    ensures { IfSome result (λ x. IsFirstLine x.0 text.now x.1) }
 {
     let (d, at) = register(text, word(text, b"new")?)?;
-    let (refs, at) = small(text, at, 1024)?;
-    let (nums, at) = small(text, at, 60_000)?;
+    let (refs, at) = small(text, at, MAX_REFS)?;
+    let (nums, at) = small(text, at, MAX_NUMS)?;
     Some((Command::New { d, refs, nums }, line_end(text, at)?))
 }
 
 #[inline(always)]
 fn get(text: &[u8]) -> Option<(Command, usize)>
-    requires { 64 ≤ length text.now }
-    ensures { IfSome result (λ x. IsInFront x.0 text.now x.1) }
+    requires { LINE_BYTES ≤ length text.now }
+    ensures { IfSome result (λ x. IsFirstLine x.0 text.now x.1) }
 {
     let (d, at) = register(text, word(text, b"get")?)?;
     let (s, at) = register(text, at)?;
-    let (i, at) = small(text, at, 1023)?;
+    let (i, at) = small(text, at, MAX_REFS - 1)?;
     Some((Command::Get { d, s, i }, line_end(text, at)?))
 }
 
 #[inline(always)]
 fn put(text: &[u8]) -> Option<(Command, usize)>
-    requires { 64 ≤ length text.now }
-    ensures { IfSome result (λ x. IsInFront x.0 text.now x.1) }
+    requires { LINE_BYTES ≤ length text.now }
+    ensures { IfSome result (λ x. IsFirstLine x.0 text.now x.1) }
 {
     let (s, at) = register(text, word(text, b"put")?)?;
-    let (i, at) = small(text, at, 1023)?;
+    let (i, at) = small(text, at, MAX_REFS - 1)?;
     let (v, at) = register(text, at)?;
     Some((Command::Put { s, i, v }, line_end(text, at)?))
 }
 
 #[inline(always)]
 fn read(text: &[u8]) -> Option<(Command, usize)>
-    requires { 64 ≤ length text.now }
-    ensures { IfSome result (λ x. IsInFront x.0 text.now x.1) }
+    requires { LINE_BYTES ≤ length text.now }
+    ensures { IfSome result (λ x. IsFirstLine x.0 text.now x.1) }
 {
     let (s, at) = register(text, word(text, b"read")?)?;
-    let (j, at) = small(text, at, 59_999)?;
+    let (j, at) = small(text, at, MAX_NUMS - 1)?;
     Some((Command::Read { s, j }, line_end(text, at)?))
 }
 
 #[inline(always)]
 fn write(text: &[u8]) -> Option<(Command, usize)>
-    requires { 64 ≤ length text.now }
-    ensures { IfSome result (λ x. IsInFront x.0 text.now x.1) }
+    requires { LINE_BYTES ≤ length text.now }
+    ensures { IfSome result (λ x. IsFirstLine x.0 text.now x.1) }
 {
     let (s, at) = register(text, word(text, b"write")?)?;
-    let (j, at) = small(text, at, 59_999)?;
+    let (j, at) = small(text, at, MAX_NUMS - 1)?;
     let (n, at) = value(text, at)?;
     Some((Command::Write { s, j, n }, line_end(text, at)?))
 }
 
 #[inline(always)]
 fn add(text: &[u8]) -> Option<(Command, usize)>
-    requires { 64 ≤ length text.now }
-    ensures { IfSome result (λ x. IsInFront x.0 text.now x.1) }
+    requires { LINE_BYTES ≤ length text.now }
+    ensures { IfSome result (λ x. IsFirstLine x.0 text.now x.1) }
 {
     let (s, at) = register(text, word(text, b"add")?)?;
-    let (j, at) = small(text, at, 59_999)?;
+    let (j, at) = small(text, at, MAX_NUMS - 1)?;
     let (n, at) = value(text, at)?;
     Some((Command::Add { s, j, n }, line_end(text, at)?))
 }
 
 #[inline(always)]
 fn swap(text: &[u8]) -> Option<(Command, usize)>
-    requires { 64 ≤ length text.now }
-    ensures { IfSome result (λ x. IsInFront x.0 text.now x.1) }
+    requires { LINE_BYTES ≤ length text.now }
+    ensures { IfSome result (λ x. IsFirstLine x.0 text.now x.1) }
 {
     let (s, at) = register(text, word(text, b"swap")?)?;
-    let (j, at) = small(text, at, 59_999)?;
+    let (j, at) = small(text, at, MAX_NUMS - 1)?;
     let (was, at) = value(text, at)?;
     let (next, at) = value(text, at)?;
     Some((Command::Swap { s, j, was, next }, line_end(text, at)?))
@@ -89,8 +89,8 @@ fn swap(text: &[u8]) -> Option<(Command, usize)>
 
 #[inline(always)]
 fn copy(text: &[u8]) -> Option<(Command, usize)>
-    requires { 64 ≤ length text.now }
-    ensures { IfSome result (λ x. IsInFront x.0 text.now x.1) }
+    requires { LINE_BYTES ≤ length text.now }
+    ensures { IfSome result (λ x. IsFirstLine x.0 text.now x.1) }
 {
     let (d, at) = register(text, word(text, b"move")?)?;
     let (s, at) = register(text, at)?;
@@ -99,8 +99,8 @@ fn copy(text: &[u8]) -> Option<(Command, usize)>
 
 #[inline(always)]
 fn drop_register(text: &[u8]) -> Option<(Command, usize)>
-    requires { 64 ≤ length text.now }
-    ensures { IfSome result (λ x. IsInFront x.0 text.now x.1) }
+    requires { LINE_BYTES ≤ length text.now }
+    ensures { IfSome result (λ x. IsFirstLine x.0 text.now x.1) }
 {
     let (s, at) = register(text, word(text, b"drop")?)?;
     Some((Command::DropReg { s }, line_end(text, at)?))
@@ -108,8 +108,8 @@ fn drop_register(text: &[u8]) -> Option<(Command, usize)>
 
 #[inline(always)]
 fn load(text: &[u8]) -> Option<(Command, usize)>
-    requires { 64 ≤ length text.now }
-    ensures { IfSome result (λ x. IsInFront x.0 text.now x.1) }
+    requires { LINE_BYTES ≤ length text.now }
+    ensures { IfSome result (λ x. IsFirstLine x.0 text.now x.1) }
 {
     let (d, at) = register(text, word(text, b"load")?)?;
     let (g, at) = global(text, at)?;
@@ -118,8 +118,8 @@ fn load(text: &[u8]) -> Option<(Command, usize)>
 
 #[inline(always)]
 fn share(text: &[u8]) -> Option<(Command, usize)>
-    requires { 64 ≤ length text.now }
-    ensures { IfSome result (λ x. IsInFront x.0 text.now x.1) }
+    requires { LINE_BYTES ≤ length text.now }
+    ensures { IfSome result (λ x. IsFirstLine x.0 text.now x.1) }
 {
     let (g, at) = global(text, word(text, b"share")?)?;
     let (s, at) = register(text, at)?;
@@ -128,8 +128,8 @@ fn share(text: &[u8]) -> Option<(Command, usize)>
 
 #[inline(always)]
 fn pin(text: &[u8]) -> Option<(Command, usize)>
-    requires { 64 ≤ length text.now }
-    ensures { IfSome result (λ x. IsInFront x.0 text.now x.1) }
+    requires { LINE_BYTES ≤ length text.now }
+    ensures { IfSome result (λ x. IsFirstLine x.0 text.now x.1) }
 {
     let (s, at) = register(text, word(text, b"pin")?)?;
     Some((Command::Pin { s }, line_end(text, at)?))
@@ -137,19 +137,19 @@ fn pin(text: &[u8]) -> Option<(Command, usize)>
 
 #[inline(always)]
 fn unpin(text: &[u8]) -> Option<(Command, usize)>
-    requires { 64 ≤ length text.now }
-    ensures { IfSome result (λ x. IsInFront x.0 text.now x.1) }
+    requires { LINE_BYTES ≤ length text.now }
+    ensures { IfSome result (λ x. IsFirstLine x.0 text.now x.1) }
 {
     let (s, at) = register(text, word(text, b"unpin")?)?;
     Some((Command::Unpin { s }, line_end(text, at)?))
 }
 
 // The command of the first line, and the offset of the next one. `None` if the line is bad or the
-// text has fewer than `ROOM` bytes.
+// text has fewer than `LINE_BYTES` bytes.
 pub(crate) fn first_command(text: &[u8]) -> Option<(Command, usize)>
-    ensures { IfSome result (λ x. IsInFront x.0 text.now x.1) }
+    ensures { IfSome result (λ x. IsFirstLine x.0 text.now x.1) }
 {
-    if text.len() < ROOM {
+    if text.len() < LINE_BYTES {
         return None;
     }
     let second = text[1];

@@ -9,22 +9,24 @@ ghost use Rattle.ideal_heap.specs.Names.{name};
 ghost use Rattle.trace_text.specs.declared.fault.Why.TheVariants as why;
 ghost use Rattle.trace_text.specs.declared.fault.TraceFault.TheVariants as fault;
 ghost use Rattle.trace_text.specs.Words.{all_ops};
-ghost use Rattle.trace_text.specs.Grammar.{line, lines_from, trace, most_commands};
+ghost use Rattle.trace_text.specs.Grammar.{line, lines_from, trace};
 ghost use Rattle.trace_text.specs.Text.{trace_text, replies_text};
 
-/// Commands that are read are valid, and there are at most 1,000,000.
+use crate::limits::MAX_COMMANDS;
+
+/// Commands that are read are valid, and there are at most `MAX_COMMANDS`.
 pub fn traces_are_valid()
     ensures { (bytes : List ℕ) (cs : List Command)
-        → trace bytes ≡ Ok cs → All IsValid cs × (length cs ≤ most_commands) }
+        → trace bytes ≡ Ok cs → All IsValid cs × (length cs ≤ MAX_COMMANDS) }
 {}
 
 /// Reading a printed trace gives its commands again. No other text that ends with a newline is read
 /// as these commands.
 pub fn traces_have_one_text()
-    ensures again { (cs : List Command) → All IsValid cs → length cs ≤ most_commands
+    ensures again { (cs : List Command) → All IsValid cs → length cs ≤ MAX_COMMANDS
         → trace (trace_text cs) ≡ Ok cs }
-    ensures alone { (front : List ℕ) (cs : List Command)
-        → trace (front ++ 10 ∷ []) ≡ Ok cs → front ++ 10 ∷ [] ≡ trace_text cs }
+    ensures alone { (text : List ℕ) (cs : List Command)
+        → trace (text ++ 10 ∷ []) ≡ Ok cs → text ++ 10 ∷ [] ≡ trace_text cs }
 {}
 
 /// Examples: how texts are read.
@@ -58,7 +60,7 @@ pub fn worked_lines()
     ensures capital { line all_ops (codes "Drop r0") ≡ Err why.Word }
 {}
 
-/// Examples: traces at the limit of 1,000,000 commands.
+/// Examples: traces at the limit of `MAX_COMMANDS`.
 pub fn worked_limits()
     ensures last { lines_from (line all_ops) 1000001 (codes "gc" ∷ [])
         ≡ Ok (command.Gc ∷ []) }

@@ -8,9 +8,10 @@ mod arity;
 mod commands;
 mod digits;
 mod fault;
-mod fronts;
 mod good_lines;
 mod laws;
+mod limits;
+mod line_reader;
 mod lines;
 mod numerals;
 mod op;
@@ -19,6 +20,8 @@ mod reader;
 mod splitter;
 #[cfg(test)]
 mod tests;
+mod tokens;
+mod trace_reader;
 mod traces;
 
 pub use fault::{TraceFault, Why};
@@ -26,7 +29,9 @@ pub use laws::{
     traces_are_valid, traces_have_one_text, worked_limits, worked_lines, worked_replies,
     worked_traces,
 };
+pub use limits::MAX_COMMANDS;
 pub use numerals::read_numeral;
 pub use printer::{REPLY_BYTES, print_mutator, print_reply, put_reply};
 pub use reader::read_trace;
+pub use trace_reader::TraceReader;
 pub use traces::print_trace;

@@ -3,15 +3,14 @@
 ghost use Rattle.std.specs.Prelude.{◌≡◌, ◌<◌, [], length, IfSome, MatchOption};
 ghost use Rattle.trace_text.specs.Words.{all_ops};
 ghost use Rattle.trace_text.specs.Parts.{IsReadAs};
-ghost use Rattle.trace_text.specs.Grammar.{Gives, line, lines_from, lines_of, op_of as read_op};
+ghost use Rattle.trace_text.specs.Grammar.{line, lines_of, op_of as read_op};
 
 use crate::commands::command;
-use crate::fault::{TraceFault, Why};
+use crate::fault::Why;
 use crate::good_lines::first_command;
 use crate::op::Op;
 use crate::splitter::{next_line, next_part};
 use ideal_heap::Command;
-use std::alloc::Global;
 
 // The operation that the word names.
 fn op_of(word: &[u8]) -> Option<Op>
@@ -76,28 +75,4 @@ pub(crate) fn next_command(text: &[u8]) -> Option<(Result<Command, Why>, &[u8])>
     }
     let (line, rest) = next_line(text)?;
     Some((command_of(line), rest))
-}
-
-// The commands of the lines after the header.
-#[inline(never)]
-pub(crate) fn commands_of(alloc: Global, bytes: &[u8]) -> Result<Vec<Command>, TraceFault>
-    ensures { Gives (λ v. v.items) result (lines_from (line all_ops) 2 (lines_of bytes.now)) }
-{
-    // The shortest line is `gc` with its newline: 3 bytes.
-    let most = (bytes.len() / 3 + 1).min(1_000_000);
-    let mut commands = Vec::with_capacity(alloc, most).map_err(|_| TraceFault::OutOfMemory)?;
-    let mut rest = bytes;
-    let mut number = 2;
-    while let Some((read, remaining)) = next_command(rest) {
-        if number > 1_000_001 {
-            return Err(TraceFault::TooMany);
-        }
-        match read {
-            Ok(command) => commands.push(command).map_err(|_| TraceFault::OutOfMemory)?,
-            Err(why) => return Err(TraceFault::Line(number, why)),
-        }
-        number += 1;
-        rest = remaining;
-    }
-    Ok(commands)
 }

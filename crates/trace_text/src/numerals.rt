@@ -6,6 +6,7 @@ ghost use Rattle.trace_text.specs.Words.{Register, Global, RefCount, NumCount, R
 ghost use Rattle.trace_text.specs.Grammar.{argument, numeral_after, checked, numeral};
 
 use crate::fault::Why;
+use ideal_heap::{MAX_GLOBAL, MAX_NUMS, MAX_REFS, MAX_REGISTER};
 
 // Whether `value`, with one more digit, is at most `most`.
 #[inline(always)]
@@ -22,7 +23,7 @@ fn with_digit(value: Option<u64>, digit: u64, most: u64) -> Option<u64>
     ensures { (n : ℕ) → IsUpTo most n value → IsUpTo most (n * 10 + digit) result }
 {
     match value {
-        Some(v) if has_room(v, digit, most) => Some(v * 10 + digit),
+        Some(start) if has_room(start, digit, most) => Some(start * 10 + digit),
         _ => None,
     }
 }
@@ -75,42 +76,42 @@ fn read_lettered(letter: u8, word: &[u8], most: u32) -> Result<u32, Why>
 pub(crate) fn register(word: &[u8]) -> Result<u32, Why>
     ensures { result ≡ argument Register word.now }
 {
-    read_lettered(b'r', word, 15)
+    read_lettered(b'r', word, MAX_REGISTER)
 }
 
 // The number of a global.
 pub(crate) fn global(word: &[u8]) -> Result<u32, Why>
     ensures { result ≡ argument Global word.now }
 {
-    read_lettered(b'g', word, 15)
+    read_lettered(b'g', word, MAX_GLOBAL)
 }
 
 // A count of references.
 pub(crate) fn ref_count(word: &[u8]) -> Result<u32, Why>
     ensures { result ≡ argument RefCount word.now }
 {
-    read_small(word, 1024)
+    read_small(word, MAX_REFS)
 }
 
 // A count of numbers.
 pub(crate) fn num_count(word: &[u8]) -> Result<u32, Why>
     ensures { result ≡ argument NumCount word.now }
 {
-    read_small(word, 60_000)
+    read_small(word, MAX_NUMS)
 }
 
 // The index of a reference, counted from 0.
 pub(crate) fn ref_index(word: &[u8]) -> Result<u32, Why>
     ensures { result ≡ argument RefIndex word.now }
 {
-    read_small(word, 1023)
+    read_small(word, MAX_REFS - 1)
 }
 
 // The index of a number, counted from 0.
 pub(crate) fn num_index(word: &[u8]) -> Result<u32, Why>
     ensures { result ≡ argument NumIndex word.now }
 {
-    read_small(word, 59_999)
+    read_small(word, MAX_NUMS - 1)
 }
 
 // A number of 64 bits.

@@ -13,46 +13,46 @@ pub const REPLY_BYTES: usize = 46;
 
 // Appends the word, the name and a newline.
 #[inline(always)]
-fn put_name(word: &[u8], n: &Name, to: &mut Vec<u8>)
+fn put_name(word: &[u8], name: &Name, to: &mut Vec<u8>)
     requires room { vec_len to.old + length word.now + 42 ≤ vec_capacity to.old }
-    ensures items { to.new.items ≡ to.old.items ++ ended (word.now ++ name_text n.now) }
+    ensures items { to.new.items ≡ to.old.items ++ ended (word.now ++ name_text name.now) }
     ensures len { vec_len to.new ≤ vec_len to.old + length word.now + 42 }
     ensures capacity { vec_capacity to.old ≤ vec_capacity to.new }
 {
     put(word, to);
-    put_decimal(u64::from(n.mutator), to);
+    put_decimal(u64::from(name.mutator), to);
     put(b".", to);
-    put_decimal(u64::from(n.birth), to);
+    put_decimal(u64::from(name.birth), to);
     put(b"\n", to);
 }
 
 // Appends the word, the numeral and a newline.
 #[inline(always)]
-fn put_number(word: &[u8], n: u64, to: &mut Vec<u8>)
+fn put_number(word: &[u8], number: u64, to: &mut Vec<u8>)
     requires room { vec_len to.old + length word.now + 21 ≤ vec_capacity to.old }
-    ensures items { to.new.items ≡ to.old.items ++ ended (word.now ++ decimal n) }
+    ensures items { to.new.items ≡ to.old.items ++ ended (word.now ++ decimal number) }
     ensures len { vec_len to.new ≤ vec_len to.old + length word.now + 21 }
     ensures capacity { vec_capacity to.old ≤ vec_capacity to.new }
 {
     put(word, to);
-    put_decimal(n, to);
+    put_decimal(number, to);
     put(b"\n", to);
 }
 
 /// Appends the reply's line to a text that has the capacity for `REPLY_BYTES` more bytes.
 #[inline(always)]
-pub fn put_reply(r: &Reply, to: &mut Vec<u8>)
-    requires { vec_len to.old + 46 ≤ vec_capacity to.old }
-    ensures items { to.new.items ≡ to.old.items ++ ended (reply_text r.now) }
-    ensures len { vec_len to.new ≤ vec_len to.old + 46 }
+pub fn put_reply(reply: &Reply, to: &mut Vec<u8>)
+    requires { vec_len to.old + REPLY_BYTES ≤ vec_capacity to.old }
+    ensures items { to.new.items ≡ to.old.items ++ ended (reply_text reply.now) }
+    ensures len { vec_len to.new ≤ vec_len to.old + REPLY_BYTES }
     ensures capacity { vec_capacity to.old ≤ vec_capacity to.new }
 {
-    match r {
-        Reply::New(n) => put_name(b"new ", n, to),
+    match reply {
+        Reply::New(name) => put_name(b"new ", name, to),
         Reply::Full => put(b"full\n", to),
-        Reply::Ref(n) => put_name(b"ref ", n, to),
+        Reply::Ref(name) => put_name(b"ref ", name, to),
         Reply::Nil => put(b"nil\n", to),
-        Reply::Num(n) => put_number(b"num ", *n, to),
+        Reply::Num(number) => put_number(b"num ", *number, to),
         Reply::Done => put(b"ok\n", to),
         Reply::Yes => put(b"yes\n", to),
         Reply::No => put(b"no\n", to),
@@ -64,24 +64,24 @@ pub fn put_reply(r: &Reply, to: &mut Vec<u8>)
 /// Appends the reply's line.
 ///
 /// Errors: out of memory; the text is then unchanged.
-pub fn print_reply(r: &Reply, to: &mut Vec<u8>) -> Result<(), AllocError>
-    ensures ok { OnOk result (to.new.items ≡ to.old.items ++ ended (reply_text r.now)) }
+pub fn print_reply(reply: &Reply, to: &mut Vec<u8>) -> Result<(), AllocError>
+    ensures ok { OnOk result (to.new.items ≡ to.old.items ++ ended (reply_text reply.now)) }
     ensures same { OnErr result (to.new.items ≡ to.old.items) }
 {
     to.reserve(REPLY_BYTES)?;
-    put_reply(r, to);
+    put_reply(reply, to);
     Ok(())
 }
 
-/// Appends the line that precedes the replies of mutator `m`: `mutator` and its number.
+/// Appends the line that precedes the replies of a mutator: `mutator` and its number.
 ///
 /// Errors: out of memory; the text is then unchanged.
-pub fn print_mutator(m: u32, to: &mut Vec<u8>) -> Result<(), AllocError>
+pub fn print_mutator(mutator: u32, to: &mut Vec<u8>) -> Result<(), AllocError>
     ensures ok { OnOk result (to.new.items ≡ to.old.items
-        ++ ended (codes "mutator " ++ decimal m)) }
+        ++ ended (codes "mutator " ++ decimal mutator)) }
     ensures same { OnErr result (to.new.items ≡ to.old.items) }
 {
     to.reserve(REPLY_BYTES)?;
-    put_number(b"mutator ", u64::from(m), to);
+    put_number(b"mutator ", u64::from(mutator), to);
     Ok(())
 }

@@ -221,7 +221,8 @@ fn prints_replies(rt: HostRuntime) -> Result<(), Fail> {
         print_reply(reply, &mut text)?;
     }
     let want =
-        b"mutator 16\nnew 16.4294967295\nfull\nref 1.10\nnil\nnum 18446744073709551615\nnum 0\nok\nyes\nno\nnull\nrange\n";
+        b"mutator 16\nnew 16.4294967295\nfull\nref 1.10\nnil\nnum 18446744073709551615\nnum 0\n\
+        ok\nyes\nno\nnull\nrange\n";
     assert_eq!(rt; text.as_slice(), want.as_slice());
     Ok(())
 }

@@ -4,10 +4,11 @@ ghost use Rattle.std.specs.Prelude.{◌≡◌, ◌≤◌, ℕ, List, [], ◌∷�
 ghost use Rattle.std.specs.List.{flat_map};
 ghost use Rattle.ideal_heap.specs.Commands.{IsValid};
 ghost use Rattle.trace_text.specs.Arguments.{argument_bytes};
-ghost use Rattle.trace_text.specs.Grammar.{trace, most_commands};
+ghost use Rattle.trace_text.specs.Grammar.{trace};
 ghost use Rattle.trace_text.specs.Text.{command_text, ended, trace_text};
 
 use crate::argument::Argument;
+use crate::limits::MAX_COMMANDS;
 use ideal_heap::Command;
 use itoa::Buffer;
 use std::alloc::{AllocError, Global};
@@ -40,11 +41,11 @@ fn push_line(word: &[u8], arguments: &[Argument], to: &mut Vec<u8>) -> Result<()
 }
 
 // Appends the command's line.
-fn push_command(c: &Command, to: &mut Vec<u8>) -> Result<(), AllocError>
-    ensures { OnOk result (to.new.items ≡ to.old.items ++ ended (command_text c.now)) }
+fn push_command(command: &Command, to: &mut Vec<u8>) -> Result<(), AllocError>
+    ensures { OnOk result (to.new.items ≡ to.old.items ++ ended (command_text command.now)) }
 {
     use Argument::{Global, Register, Small, Value};
-    match *c {
+    match *command {
         Command::New { d, refs, nums } => push_line(
             b"new",
             &[Register(d), Small(refs), Small(nums)],
@@ -76,8 +77,8 @@ pub(crate) fn text_of(alloc: Global, commands: &[Command]) -> Result<Vec<u8>, Al
     ensures { IfOk result (λ v. v.items ≡ trace_text commands.now) }
 {
     let mut text = Vec::from_slice(alloc, b"mmtrace 1\n")?;
-    for c in commands {
-        push_command(c, &mut text)?;
+    for command in commands {
+        push_command(command, &mut text)?;
     }
     Ok(text)
 }
@@ -87,12 +88,12 @@ pub(crate) fn text_of(alloc: Global, commands: &[Command]) -> Result<Vec<u8>, Al
 /// Errors: out of memory.
 pub fn print_trace(alloc: Global, commands: &[Command]) -> Result<Vec<u8>, AllocError>
     requires valid { All IsValid commands.now }
-    requires few { length commands.now ≤ most_commands }
+    requires few { length commands.now ≤ MAX_COMMANDS }
     ensures text { IfOk result (λ v. v.items ≡ trace_text commands.now) }
     ensures again { IfOk result (λ v. trace v.items ≡ Ok commands.now) }
     // No other text that ends with a newline is read as these commands.
-    ensures alone { (front : List ℕ) → trace (front ++ 10 ∷ []) ≡ Ok commands.now
-        → IfOk result (λ v. v.items ≡ front ++ 10 ∷ []) }
+    ensures alone { (other : List ℕ) → trace (other ++ 10 ∷ []) ≡ Ok commands.now
+        → IfOk result (λ v. v.items ≡ other ++ 10 ∷ []) }
 {
     text_of(alloc, commands)
 }

@@ -58,10 +58,10 @@ pub returns-clause-empty_word : goal.returns-clause-empty_word
 unfolding form_of job_of
 returns-clause-empty_word c = refl
 
-pub returns-clause-unserved : goal.returns-clause-unserved
+pub returns-clause-unsupported : goal.returns-clause-unsupported
 unfolding form_of job_of
-returns-clause-unserved c = refl
+returns-clause-unsupported c = refl
 
-pub returns-clause-served : goal.returns-clause-served
+pub returns-clause-supported : goal.returns-clause-supported
 unfolding form_of job_of
-returns-clause-served c = refl
+returns-clause-supported c = refl

@@ -12,7 +12,7 @@ loop-command-init c = record {
     replies = [];
     runs = c.in_ok-engine.ensures.runs c.args.commands.now;
     counts_after = refl;
-    printed = c.reserve.ensures.items ∙ no_reply 1 c.clear.new.self.items c.print_mutator.new.to.items c.clear.ensures.items c.in_ok-print_mutator.ensures.ok;
+    printed = c.reserve.ensures.items ∙ no_reply 1 c.new-text.result.items c.print_mutator.new.to.items c.new-text.ensures.items c.in_ok-print_mutator.ensures.ok;
   };
   room = omega (arith, c.in_ok-reserve.ensures.ok);
   fits = c.in_ok-engine.ensures.room;

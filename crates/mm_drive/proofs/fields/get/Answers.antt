@@ -7,23 +7,23 @@ use Rattle.object_model.specs.Graphs.{with_register}
 use Rattle.object_model.specs.Steps.{TakesStep}
 use Rattle.object_model.proofs.ObjectReads.{readable}
 use Rattle.object_model.proofs.References.{refers}
-use Rattle.object_model.proofs.StepClauses.{told}
+use Rattle.object_model.proofs.StepClauses.{answered}
 use Rattle.object_model.proofs.StepCases.{get-null, get-range, get-nil, get-ref}
 use Rattle.mm_drive.specs.Lone.{lone}
 use Rattle.mm_drive.proofs.fields.get.Goals as goal
 
 pub returns-then-a-eq0 : goal.returns-then-a-eq0
-returns-then-a-eq0 c births = told (get-null (state_of c.args.row.now) (lone births c.args.registers.now) c.args.d c.args.s c.args.i c.requires.source c.if-a-eq0.true)
+returns-then-a-eq0 c births = answered (get-null (state_of c.args.row.now) (lone births c.args.registers.now) c.args.d c.args.s c.args.i c.requires.source c.if-a-eq0.true)
 
 pub returns-then-shape_at-i : goal.returns-then-shape_at-i
-returns-then-shape_at-i c births = told (get-range (state_of c.args.row.now) (lone births c.args.registers.now) c.args.d c.args.s c.args.i c.requires.source c.if-a-eq0.false
+returns-then-shape_at-i c births = answered (get-range (state_of c.args.row.now) (lone births c.args.registers.now) c.args.d c.args.s c.args.i c.requires.source c.if-a-eq0.false
     (subst (λ (n : ℕ). n ≤ c.args.i) c.shape_at.ensures.refs c.if-shape_at-i.true))
 
 pub returns-then-v-eq0 : goal.returns-then-v-eq0
 returns-then-v-eq0 c births =
     subst (λ (v : ℕ). TakesStep (state_of c.args.row.now) (lone births c.args.registers.now) (command.Get c.args.d c.args.s c.args.i) reply.Nil (state_of c.args.row.now) (with_register (lone births c.args.registers.now) c.args.d v))
     (sym c.if-v-eq0.true)
-    (told (get-nil (state_of c.args.row.now) (lone births c.args.registers.now) c.args.d c.args.s c.args.i c.requires.target c.requires.source c.if-a-eq0.false
+    (answered (get-nil (state_of c.args.row.now) (lone births c.args.registers.now) c.args.d c.args.s c.args.i c.requires.target c.requires.source c.if-a-eq0.false
     (subst (λ (n : ℕ). c.args.i < n) c.shape_at.ensures.refs c.if-shape_at-i.false) (sym c.ref_at-v.ensures.value ∙ c.if-v-eq0.true)))
 
 pub returns : goal.returns
@@ -32,7 +32,7 @@ returns c births =
     (sym c.name_at.ensures.name)
     (subst (λ (v : ℕ). TakesStep (state_of c.args.row.now) (lone births c.args.registers.now) (command.Get c.args.d c.args.s c.args.i) (reply.Ref (name_at (state_of c.args.row.now) v)) (state_of c.args.row.now) (with_register (lone births c.args.registers.now) c.args.d v))
     (sym c.ref_at-v.ensures.value)
-    (told (get-ref (state_of c.args.row.now) (lone births c.args.registers.now) c.args.d c.args.s c.args.i c.requires.target c.requires.source c.if-a-eq0.false
+    (answered (get-ref (state_of c.args.row.now) (lone births c.args.registers.now) c.args.d c.args.s c.args.i c.requires.target c.requires.source c.if-a-eq0.false
     (subst (λ (n : ℕ). c.args.i < n) c.shape_at.ensures.refs c.if-shape_at-i.false) (λ nil. c.if-v-eq0.false (c.ref_at-v.ensures.value ∙ nil)))))
 
 pub shape_at-requires : goal.shape_at-requires

@@ -4,23 +4,23 @@ use Rattle.ideal_heap.specs.declared.reply.Reply.TheVariants as reply
 use Rattle.object_model.specs.Objects.{HeapState, state_of}
 use Rattle.object_model.specs.Steps.{TakesStep}
 use Rattle.object_model.proofs.ObjectReads.{readable}
-use Rattle.object_model.proofs.StepClauses.{told}
+use Rattle.object_model.proofs.StepClauses.{answered}
 use Rattle.object_model.proofs.StepCases.{write-null, write-range}
 use Rattle.object_model.proofs.NumberSteps.{write-number}
 use Rattle.mm_drive.specs.Lone.{lone}
 use Rattle.mm_drive.proofs.fields.write.Goals as goal
 
 pub returns-then-a-eq0 : goal.returns-then-a-eq0
-returns-then-a-eq0 c births = told (write-null (state_of c.args.row.now) (lone births c.args.registers.now) c.args.s c.args.j c.args.n c.requires.source c.if-a-eq0.true)
+returns-then-a-eq0 c births = answered (write-null (state_of c.args.row.now) (lone births c.args.registers.now) c.args.s c.args.j c.args.n c.requires.source c.if-a-eq0.true)
 
 pub returns-then-shape_at-j : goal.returns-then-shape_at-j
-returns-then-shape_at-j c births = told (write-range (state_of c.args.row.now) (lone births c.args.registers.now) c.args.s c.args.j c.args.n c.requires.source c.if-a-eq0.false
+returns-then-shape_at-j c births = answered (write-range (state_of c.args.row.now) (lone births c.args.registers.now) c.args.s c.args.j c.args.n c.requires.source c.if-a-eq0.false
     (subst (λ (n : ℕ). n ≤ c.args.j) c.shape_at.ensures.nums c.if-shape_at-j.true))
 
 pub returns : goal.returns
 returns c births = subst (λ (x : HeapState). TakesStep (state_of c.args.row.now) (lone births c.args.registers.now) (command.Write c.args.s c.args.j c.args.n) reply.Done x (lone births c.args.registers.now))
     (sym c.set_num.ensures)
-    (told (write-number (state_of c.args.row.now) (lone births c.args.registers.now) c.args.s c.args.j c.args.n c.requires.order (c.requires.held c.args.s c.requires.source c.if-a-eq0.false) c.requires.source c.if-a-eq0.false
+    (answered (write-number (state_of c.args.row.now) (lone births c.args.registers.now) c.args.s c.args.j c.args.n c.requires.order (c.requires.held c.args.s c.requires.source c.if-a-eq0.false) c.requires.source c.if-a-eq0.false
     (subst (λ (n : ℕ). c.args.j < n) c.shape_at.ensures.nums c.if-shape_at-j.false) c.ranges.n.fits))
 
 pub shape_at-requires : goal.shape_at-requires

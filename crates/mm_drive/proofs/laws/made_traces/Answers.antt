@@ -2,9 +2,9 @@ use Rattle.std.proofs.Common.{refl}
 use Rattle.mm_drive.specs.Made.{made_trace}
 use Rattle.mm_drive.proofs.laws.made_traces.Goals as goal
 
-pub returns-clause-front : goal.returns-clause-front
+pub returns-clause-first : goal.returns-clause-first
 unfolding made_trace
-returns-clause-front c = refl
+returns-clause-first c = refl
 
 pub returns-clause-rest : goal.returns-clause-rest
 unfolding made_trace

@@ -1,21 +1,21 @@
 use Rattle.std.proofs.Common.{◌∙◌, sym}
 use Rattle.object_model.specs.Objects.{state_of}
 use Rattle.object_model.proofs.ObjectReads.{readable}
-use Rattle.object_model.proofs.StepClauses.{told}
+use Rattle.object_model.proofs.StepClauses.{answered}
 use Rattle.object_model.proofs.Refusals.{unpin-null}
 use Rattle.object_model.proofs.PinSteps.{unpin-yes, unpin-no}
 use Rattle.mm_drive.specs.Lone.{lone}
 use Rattle.mm_drive.proofs.roots.unpin.Goals as goal
 
 pub returns-then-a-eq0 : goal.returns-then-a-eq0
-returns-then-a-eq0 c births = told (unpin-null (state_of c.args.row.now) (lone births c.args.registers.now) c.args.s c.requires.source c.if-a-eq0.true)
+returns-then-a-eq0 c births = answered (unpin-null (state_of c.args.row.now) (lone births c.args.registers.now) c.args.s c.requires.source c.if-a-eq0.true)
 
 pub returns-then-pinned : goal.returns-then-pinned
-returns-then-pinned c births = told (unpin-yes (state_of c.args.row.now) (state_of c.set_pinned.new.self) (lone births c.args.registers.now) c.args.s c.requires.source c.if-a-eq0.false
+returns-then-pinned c births = answered (unpin-yes (state_of c.args.row.now) (state_of c.set_pinned.new.self) (lone births c.args.registers.now) c.args.s c.requires.source c.if-a-eq0.false
     (sym c.pinned-pinned.ensures ∙ c.if-pinned.true) c.set_pinned.ensures)
 
 pub returns : goal.returns
-returns c births = told (unpin-no (state_of c.args.row.now) (state_of c.set_pinned.new.self) (lone births c.args.registers.now) c.args.s c.requires.source c.if-a-eq0.false
+returns c births = answered (unpin-no (state_of c.args.row.now) (state_of c.set_pinned.new.self) (lone births c.args.registers.now) c.args.s c.requires.source c.if-a-eq0.false
     (sym c.pinned-pinned.ensures ∙ c.if-pinned.false) c.set_pinned.ensures)
 
 pub pinned-pinned-requires : goal.pinned-pinned-requires

@@ -1,9 +1,9 @@
 use Rattle.std.proofs.Common.{◌∙◌, sym, rules}
 use Rattle.std.proofs.lemmas.List.{length-map}
 use Rattle.command_line.specs.Orders.{texts, job_of_order}
-use Rattle.mm_drive.proofs.Jobs.{job-served, job-blocks, served-work}
+use Rattle.mm_drive.proofs.Jobs.{job-supported, job-blocks, supported-work}
 use Rattle.mm_drive.proofs.Joining.{long-off, bad-off, fault-off, long-bad, fault-long, traces-clash, reported-clash, ends-clash}
-use Rattle.mm_drive.proofs.Outcomes.{of-job, named-job, within-files, unread-here, long-here, bad-here, to-files, one-trace, prints, prints-front}
+use Rattle.mm_drive.proofs.Outcomes.{of-job, named-job, within-files, unread-here, long-here, bad-here, to-files, one-trace, prints, prints-prefix}
 use Rattle.mm_drive.proofs.top.run.Goals as goal
 
 pub name_at-requires : goal.name_at-requires
@@ -16,7 +16,7 @@ name_at-requires-in-Err-TooLong g c =
 
 pub name_at-requires-in-Err-Bad : goal.name_at-requires-in-Err-Bad
 name_at-requires-in-Err-Bad g c =
-    let ends = rw c.in-Err-Bad.field-0-is at c.in-Err-Bad.ensures.fault in rw c.in-Err-Bad.field-0-is (within-files _ c.in-Err-Bad.place ends.1.file ends.1.is)
+    let ends = rw c.in-Err-Bad.field-0-is at c.in-Err-Bad.ensures.fault in rw c.in-Err-Bad.field-0-is (within-files _ c.in-Err-Bad.place ends.0.file ends.0.is)
 
 pub returns-in-Err-Unread-clause-read_fault : goal.returns-in-Err-Unread-clause-read_fault
 returns-in-Err-Unread-clause-read_fault g c is =
@@ -40,50 +40,47 @@ returns-in-Err-TooLong-clause-complete g c =
     let ends = rw (c.in-Err-TooLong.field-0-is, c.files_named-files.ensures) at c.in-Err-TooLong.ensures.fault in
     let job = job_of_order c.in-Ok-Some.order in
     let is = named-job _ c.in-Ok-Some.order _ c.in-Ok-Some.field-0-is c.in-Ok-Some.ensures in
-    let one = served-work job (job-served (texts c.args.words.now) job is).0 in
+    let one = supported-work job (job-supported (texts c.args.words.now) job is).0 in
     of-job _ job _ is (λ good s o. absurd (reported-clash _ _ good.traces c.in-Err-TooLong.place _ long-off ends.0 good.reported (to-files _ job.work good.traces one good.read)))
-
-pub write_trace_fault-requires : goal.write_trace_fault-requires
-write_trace_fault-requires g c = let ends = rw c.in-Err-Bad.field-0-is at c.in-Err-Bad.ensures.fault in rw c.in-Err-Bad.field-0-is (record { real = ends.0 })
 
 pub returns-in-Err-Bad-clause-bad_trace : goal.returns-in-Err-Bad-clause-bad_trace
 returns-in-Err-Bad-clause-bad_trace g c is =
     let ends = rw (c.in-Err-Bad.field-0-is, c.files_named-files.ensures) at c.in-Err-Bad.ensures.fault in
     let same = rw (c.in-Err-Bad.field-0-is, c.files_named-files.ensures) at c.name_at-in-Err-Bad.ensures in
-    of-job _ (job_of_order c.in-Ok-Some.order) _ (named-job _ c.in-Ok-Some.order _ c.in-Ok-Some.field-0-is c.in-Ok-Some.ensures) (bad-here _ _ _ same _ _ c.in-Err-Bad.fault _ ends (rw c.in-Err-Bad.field-0-is at c.write_trace_fault.ensures))
+    of-job _ (job_of_order c.in-Ok-Some.order) _ (named-job _ c.in-Ok-Some.order _ c.in-Ok-Some.field-0-is c.in-Ok-Some.ensures) (bad-here _ _ _ same _ _ c.in-Err-Bad.flaw _ ends (rw c.in-Err-Bad.field-0-is at c.write_trace_fault.ensures))
 
 pub returns-in-Err-Bad-clause-long : goal.returns-in-Err-Bad-clause-long
 returns-in-Err-Bad-clause-long g c =
     let ends = rw (c.in-Err-Bad.field-0-is, c.files_named-files.ensures) at c.in-Err-Bad.ensures.fault in
     of-job _ (job_of_order c.in-Ok-Some.order) _ (named-job _ c.in-Ok-Some.order _ c.in-Ok-Some.field-0-is c.in-Ok-Some.ensures)
-    (λ at. absurd (ends-clash _ _ c.in-Err-Bad.place _ _ (fault-off c.in-Err-Bad.fault) long-off (fault-long c.in-Err-Bad.fault) ends.1 at))
+    (λ at. absurd (ends-clash _ _ c.in-Err-Bad.place _ _ (fault-off c.in-Err-Bad.flaw) long-off (fault-long c.in-Err-Bad.flaw) ends.0 at))
 
 pub returns-in-Err-Bad-clause-complete : goal.returns-in-Err-Bad-clause-complete
 returns-in-Err-Bad-clause-complete g c =
     let ends = rw (c.in-Err-Bad.field-0-is, c.files_named-files.ensures) at c.in-Err-Bad.ensures.fault in
     let job = job_of_order c.in-Ok-Some.order in
     let is = named-job _ c.in-Ok-Some.order _ c.in-Ok-Some.field-0-is c.in-Ok-Some.ensures in
-    let one = served-work job (job-served (texts c.args.words.now) job is).0 in
-    of-job _ job _ is (λ good s o. absurd (reported-clash _ _ good.traces c.in-Err-Bad.place _ (fault-off c.in-Err-Bad.fault) ends.1 good.reported (to-files _ job.work good.traces one good.read)))
+    let one = supported-work job (job-supported (texts c.args.words.now) job is).0 in
+    of-job _ job _ is (λ good s o. absurd (reported-clash _ _ good.traces c.in-Err-Bad.place _ (fault-off c.in-Err-Bad.flaw) ends.0 good.reported (to-files _ job.work good.traces one good.read)))
 
-pub text_of_session-requires-clause-served : goal.text_of_session-requires-clause-served
-text_of_session-requires-clause-served g c =
-    (job-served (texts c.args.words.now) (job_of_order c.in-Ok-Some.order) (named-job _ c.in-Ok-Some.order _ c.in-Ok-Some.field-0-is c.in-Ok-Some.ensures)).0
+pub text_of_session-requires-clause-supported : goal.text_of_session-requires-clause-supported
+text_of_session-requires-clause-supported g c =
+    (job-supported (texts c.args.words.now) (job_of_order c.in-Ok-Some.order) (named-job _ c.in-Ok-Some.order _ c.in-Ok-Some.field-0-is c.in-Ok-Some.ensures)).0
 
 pub text_of_session-requires-clause-least : goal.text_of_session-requires-clause-least
 text_of_session-requires-clause-least g c =
-    (job-blocks (texts c.args.words.now) (job_of_order c.in-Ok-Some.order) (job-served (texts c.args.words.now) (job_of_order c.in-Ok-Some.order) (named-job _ c.in-Ok-Some.order _ c.in-Ok-Some.field-0-is c.in-Ok-Some.ensures)).1).0
+    (job-blocks (texts c.args.words.now) (job_of_order c.in-Ok-Some.order) (job-supported (texts c.args.words.now) (job_of_order c.in-Ok-Some.order) (named-job _ c.in-Ok-Some.order _ c.in-Ok-Some.field-0-is c.in-Ok-Some.ensures)).1).0
 
 pub text_of_session-requires-clause-most : goal.text_of_session-requires-clause-most
 text_of_session-requires-clause-most g c =
-    (job-blocks (texts c.args.words.now) (job_of_order c.in-Ok-Some.order) (job-served (texts c.args.words.now) (job_of_order c.in-Ok-Some.order) (named-job _ c.in-Ok-Some.order _ c.in-Ok-Some.field-0-is c.in-Ok-Some.ensures)).1).1
+    (job-blocks (texts c.args.words.now) (job_of_order c.in-Ok-Some.order) (job-supported (texts c.args.words.now) (job_of_order c.in-Ok-Some.order) (named-job _ c.in-Ok-Some.order _ c.in-Ok-Some.field-0-is c.in-Ok-Some.ensures)).1).1
 
 pub text_of_session-requires-clause-one : goal.text_of_session-requires-clause-one
 text_of_session-requires-clause-one g c =
     let job = job_of_order c.in-Ok-Some.order in
-    let served = (job-served (texts c.args.words.now) job (named-job _ c.in-Ok-Some.order _ c.in-Ok-Some.field-0-is c.in-Ok-Some.ensures)).0 in
+    let supported = (job-supported (texts c.args.words.now) job (named-job _ c.in-Ok-Some.order _ c.in-Ok-Some.field-0-is c.in-Ok-Some.ensures)).0 in
     let good = rw c.files_named-files.ensures at c.in-Ok.ensures.ok in
-    rw c.deref.ensures.value (sym (length-map c.in-Ok.traces.items (λ t. t.items)) ∙ one-trace _ job _ served good)
+    rw c.deref.ensures.value (sym (length-map c.in-Ok.traces.items (λ t. t.items)) ∙ one-trace _ job _ supported good)
 
 pub returns-then-is_err-clause-write_fault : goal.returns-then-is_err-clause-write_fault
 returns-then-is_err-clause-write_fault g c is =
@@ -91,7 +88,7 @@ returns-then-is_err-clause-write_fault g c is =
     let named = named-job _ c.in-Ok-Some.order _ c.in-Ok-Some.field-0-is c.in-Ok-Some.ensures in
     let good = rw c.files_named-files.ensures at c.in-Ok.ensures.ok in
     let text = rw c.deref.ensures.value at c.in-Ok-text_of_session.ensures in
-    of-job _ job _ named (prints-front _ job _ _ _ _ (job-served (texts c.args.words.now) job named).0 good text (search rules) (search rules))
+    of-job _ job _ named (prints-prefix _ job _ _ _ _ (job-supported (texts c.args.words.now) job named).0 good text (search rules) (search rules))
 
 pub returns-then-is_err-clause-long : goal.returns-then-is_err-clause-long
 returns-then-is_err-clause-long g c =
@@ -109,7 +106,7 @@ returns-clause-ok g c is =
     let named = named-job _ c.in-Ok-Some.order _ c.in-Ok-Some.field-0-is c.in-Ok-Some.ensures in
     let good = rw c.files_named-files.ensures at c.in-Ok.ensures.ok in
     let text = rw c.deref.ensures.value at c.in-Ok-text_of_session.ensures in
-    of-job _ job _ named (prints _ job _ _ _ _ (job-served (texts c.args.words.now) job named).0 good text (search rules))
+    of-job _ job _ named (prints _ job _ _ _ _ (job-supported (texts c.args.words.now) job named).0 good text (search rules))
 
 pub returns-clause-long : goal.returns-clause-long
 returns-clause-long g c =

@@ -7,7 +7,7 @@ use Rattle.std.proofs.lemmas.Option.{slice_get-map, slice_get-get_or}
 use Rattle.ideal_heap.specs.declared.command.Command.{Command}
 use Rattle.command_line.specs.Orders.{texts}
 use Rattle.mm_drive.specs.Reading.{IsRunnable, commands_of}
-use Rattle.mm_drive.proofs.Joining.{halts, more-traces, one-more, asks-more, asks-front}
+use Rattle.mm_drive.proofs.Joining.{halts, more-traces, one-more, asks-more, asks-prefix}
 use Rattle.mm_drive.proofs.traces.traces_of_files.Goals as goal
 
 -- the name at an index, as text
@@ -25,14 +25,14 @@ returns-in-Err-clause-fault g c =
     c.loop-place.invariant.read c.loop-place.invariant.same c.loop-place.invariant.later c.loop-place.invariant.asked (Vec Command Global) c.in-Err.fault c.in-Err.ensures.asked (λ e. c.in-Err.ensures.unread (ap Err e))
     (λ e. c.in-Err.ensures.too_long (ap Err e)) (λ f e. c.in-Err.ensures.bad f (ap Err e)))
 
-pub returns-in-Err-clause-front : goal.returns-in-Err-clause-front
-returns-in-Err-clause-front g c =
+pub returns-in-Err-clause-prefix : goal.returns-in-Err-clause-prefix
+returns-in-Err-clause-prefix g c =
     let s = g.S.Sources in
     let files = c.args.files.now in
     let k = c.loop-place.place in
     let name : List ℕ = c.deref.result.now in
     let is : slice_get (texts files) k ≡ Some name = name-at files k _ name (slice_get-get_or files k c.index-files-place.result c.loop-place-test.true ∙ ap Some (sym c.index-files-place.is)) c.deref.ensures in
-    asks-front c.trace_of_file.result (texts files) k name (s.state c.args.sources.now).asked (s.state c.loop-place.sources) (s.state c.trace_of_file.new.sources) is c.loop-place.invariant.asked c.trace_of_file.ensures.asked
+    asks-prefix c.trace_of_file.result (texts files) k name (s.state c.args.sources.now).asked (s.state c.loop-place.sources) (s.state c.trace_of_file.new.sources) is c.loop-place.invariant.asked c.trace_of_file.ensures.asked
 
 pub loop-place-preserved : goal.loop-place-preserved
 loop-place-preserved g c =
@@ -41,8 +41,8 @@ loop-place-preserved g c =
     let k = c.loop-place.place in
     let name : List ℕ = c.deref.result.now in
     let is : slice_get (texts files) k ≡ Some name = name-at files k _ name (slice_get-get_or files k c.index-files-place.result c.loop-place-test.true ∙ ap Some (sym c.index-files-place.is)) c.deref.ensures in
-    let pushed : c.push.new.self.items ≡ c.loop-place.traces.items ++ c.in-Ok.commands ∷ [] = search rules in
-    let more : commands_of c.push.new.self.items ≡ commands_of c.loop-place.traces.items ++ c.in-Ok.commands.items ∷ [] = ap commands_of pushed ∙ map-append (λ t. t.items) c.loop-place.traces.items (c.in-Ok.commands ∷ []) in record {
+    let pushed : c.push_reserved.new.self.items ≡ c.loop-place.traces.items ++ c.in-Ok.commands ∷ [] = search rules in
+    let more : commands_of c.push_reserved.new.self.items ≡ commands_of c.loop-place.traces.items ++ c.in-Ok.commands.items ∷ [] = ap commands_of pushed ∙ map-append (λ t. t.items) c.loop-place.traces.items (c.in-Ok.commands ∷ []) in record {
       read = rw (add-one k, one-more (texts files) k name is, more)
           (more-traces (s.state c.args.sources.now).content (take k (texts files)) (commands_of c.loop-place.traces.items) name c.in-Ok.commands.items c.loop-place.invariant.read (rw c.loop-place.invariant.same at c.in-Ok.ensures.ok));
       asked = rw (add-one k) (asks-more (texts files) k name _ (s.state c.args.sources.now).asked (s.state c.loop-place.sources).asked (s.state c.trace_of_file.new.sources).asked is c.loop-place.invariant.asked c.in-Ok.ensures.asked);

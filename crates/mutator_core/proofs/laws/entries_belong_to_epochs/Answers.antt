@@ -1,5 +1,5 @@
-use Rattle.mutator_core.proofs.Ending.{log-told}
+use Rattle.mutator_core.proofs.Ending.{log-recorded}
 use Rattle.mutator_core.proofs.laws.entries_belong_to_epochs.Goals as goal
 
 pub returns : goal.returns
-returns c p i log is = (log-told p i log is).each
+returns c p i log is = (log-recorded p i log is).each

@@ -9,7 +9,7 @@ pub returns-clause-clear : goal.returns-clause-clear
 returns-clause-clear c p i log is m x w word holds inside =
     elim (unpublished-clear p is.ready (machine_after p log) (log-ends p i log is.ready is.represents is.steps).moment.epoch m x w word.some holds inside) as (λ _. ⊥) [
       | inl before ↦ (let from = word.inside.from in omega arith)
-      | inr behind ↦ (let below = word.inside.below in omega arith)
+      | inr beyond ↦ (let below = word.inside.below in omega arith)
     ]
 
 pub returns-clause-apart : goal.returns-clause-apart

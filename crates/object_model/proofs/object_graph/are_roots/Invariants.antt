@@ -4,4 +4,4 @@ use Rattle.object_model.specs.Lawful.{IsRoot}
 use Rattle.object_model.proofs.object_graph.are_roots.Given as goal
 
 abbrev pub invariant-loop-root : goal.invariant-loop-root
-invariant-loop-root l = (i : ℕ) → i < l.root-index → IsRoot (heap_state l.h) (slice_index l.roots i)
+invariant-loop-root l = (i : ℕ) → i < l.root-index → IsRoot (heap_state l.heap) (slice_index l.roots i)

@@ -12,7 +12,7 @@ use Rattle.object_model.proofs.object_graph.graph.Goals as goal
 
 pub returns : goal.returns
 returns c =
-    let s : HeapState = heap_state c.args.h.now in
+    let s : HeapState = heap_state c.args.heap.now in
     let roots : List ℕ = c.args.roots.now in
     let first : List ℕ = met c.visit_roots.new.self in
     let last : Walk = c.follow.new.self in
@@ -23,5 +23,5 @@ returns c =
     let moved : IsPermutation last.places.items places = subst (λ l. IsPermutation l places) c.into_places-places.ensures c.sort_unstable_by_key.ensures.permutation in
     let sorted : IsSortedByKey (λ p. p.name) compare places =
     c.sort_unstable_by_key.ensures.sorted (λ p. p.name) (answers_always _ _ _ (λ f a r g h. search rules)) in
-    is-graph s c.args.h.now.lawful.but_lines.order roots first (met c.visit_globals.new.self) last.places.items places
+    is-graph s c.args.heap.now.lawful.but_lines.order roots first (met c.visit_globals.new.self) last.places.items places
     from_roots c.in_ok-visit_globals.ensures.adds c.in_ok-follow.ensures.closes walk.held walk.each walk.apart moved sorted

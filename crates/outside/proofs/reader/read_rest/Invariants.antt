@@ -1,17 +1,20 @@
-use Rattle.std.proofs.Common.{◌≡◌, ◌≤◌, ◌-◌}
-use Rattle.std.specs.Prelude.{vec_len}
-use Rattle.outside.proofs.Pieces.{HasRead}
+use Rattle.std.proofs.Common.{◌≡◌, ◌≤◌, ◌+◌, ◌-◌}
+use Rattle.outside.specs.declared.reader.TheConstants.{MAX_FILE_BYTES}
+use Rattle.outside.specs.Reading.{TakesMore}
+use Rattle.outside.proofs.Taking.{HasMoved}
 use Rattle.outside.proofs.reader.read_rest.Given as goal
 
-abbrev pub invariant-loop-bytes : goal.invariant-loop-bytes
-invariant-loop-bytes g l =
-    let s = g.S.Sources in record {
-      within : vec_len l.bytes ≤ 16777217;
-      read : HasRead (s.state l.fn.sources).left (s.state l.sources).left l.bytes.items;
+abbrev pub invariant-loop-total : goal.invariant-loop-total
+invariant-loop-total g l =
+    let s = g.S.Sources in
+    let t = g.C.Consumer in record {
+      within : l.total ≤ MAX_FILE_BYTES + 1;
+      moved : HasMoved l.total (s.state l.fn.sources).left (s.state l.sources).left;
+      taken : TakesMore (t.has_taken l.fn.consumer) (t.has_taken l.consumer) l.total (s.state l.fn.sources).left;
       later : (s.state l.fn.sources).faults ≤ (s.state l.sources).faults;
       asked : (s.state l.sources).asked ≡ (s.state l.fn.sources).asked;
       same : (s.state l.sources).content ≡ (s.state l.fn.sources).content;
     }
 
-abbrev pub decreases-loop-bytes : goal.decreases-loop-bytes
-decreases-loop-bytes g l = 16777217 - vec_len l.bytes
+abbrev pub decreases-loop-total : goal.decreases-loop-total
+decreases-loop-total g l = MAX_FILE_BYTES + 1 - l.total

@@ -1,5 +1,5 @@
 use Rattle.std.proofs.Common.{◌≤◌, ◌-◌, take, length}
-use Rattle.outside.specs.Outside.{Adds}
+use Rattle.outside.specs.Outside.{AppendsText}
 use Rattle.outside.proofs.writer.write_text.Given as goal
 
 abbrev pub invariant-loop-at : goal.invariant-loop-at
@@ -7,7 +7,7 @@ invariant-loop-at g l =
     let s = g.O.Sink in record {
       within : l.at ≤ length l.text;
       later : (s.state l.fn.out).faults ≤ (s.state l.out).faults;
-      written : Adds (s.state l.fn.out).written (s.state l.out).written (take l.at l.text);
+      written : AppendsText (s.state l.fn.out).written (s.state l.out).written (take l.at l.text);
     }
 
 abbrev pub decreases-loop-at : goal.decreases-loop-at

@@ -3,5 +3,5 @@ use Rattle.object_model.specs.Heaps.{heap_state}
 use Rattle.sessions.specs.Fitting.{HasHole}
 use Rattle.plan_api.proofs.fit.has_hole.Given as goal
 
-abbrev pub invariant-loop-b : goal.invariant-loop-b
-invariant-loop-b l = (k at : ℕ) → k < l.b → HasHole l.fill (heap_state l.h) k at l.size → ⊥
+abbrev pub invariant-loop-block : goal.invariant-loop-block
+invariant-loop-block l = (k at : ℕ) → k < l.block → HasHole l.fill (heap_state l.heap) k at l.size → ⊥

@@ -5,19 +5,19 @@ use Rattle.heap_layout.specs.contracts.block.Kind.{the_type}
 use Rattle.object_model.specs.Objects.{HeapState}
 use Rattle.object_model.specs.Heaps.{heap_state}
 use Rattle.plan_api.proofs.Viewing.{orderly-apart}
-use Rattle.plan_api.proofs.HoleTests.{hole-told, hole-word}
+use Rattle.plan_api.proofs.HoleTests.{hole-room, hole-word}
 use Rattle.plan_api.proofs.fit.has_hole_in.Goals as goal
 
 pub returns-then-eq : goal.returns-then-eq
 returns-then-eq c =
-    let s : HeapState = heap_state c.args.h.now in
-    let first = c.first_hole.ensures s c.args.b c.view.ensures (orderly-apart s c.args.b c.args.h.now.lawful.but_lines.order) in
-    let told = hole-told c.args.fill s c.args.b c.args.size c.first_hole.result first in
-    ((λ some. told.0 (sym c.is_some.ensures ∙ some)), (λ hole. c.is_some.ensures ∙ told.1 hole))
+    let s : HeapState = heap_state c.args.heap.now in
+    let first = c.first_hole.ensures s c.args.block c.view.ensures (orderly-apart s c.args.block c.args.heap.now.lawful.but_lines.order) in
+    let room = hole-room c.args.fill s c.args.block c.args.size c.first_hole.result first in
+    ((λ some. room.0 (sym c.is_some.ensures ∙ some)), (λ hole. c.is_some.ensures ∙ room.1 hole))
 
 pub returns-else-eq : goal.returns-else-eq
 returns-else-eq c =
-    let s : HeapState = heap_state c.args.h.now in (
+    let s : HeapState = heap_state c.args.heap.now in (
       (λ wrong. absurd (true≢false (sym wrong ∙ c.if-eq.false))),
-      (λ hole. absurd (same_false the_type c.block.result.kind c.args.fill (sym c.if-eq.ensures) (hole-word c.args.fill s c.args.b c.args.size hole.0 c.block.result c.block.ensures.valid c.block.ensures.code hole.1))),
+      (λ hole. absurd (same_false the_type c.block.result.kind c.args.fill (sym c.if-eq.ensures) (hole-word c.args.fill s c.args.block c.args.size hole.0 c.block.result c.block.ensures.valid c.block.ensures.code hole.1))),
     )

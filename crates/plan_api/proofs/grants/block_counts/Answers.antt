@@ -7,10 +7,10 @@ use Rattle.sessions.proofs.Placing.{one_if}
 use Rattle.plan_api.proofs.Tallies.{count_below, count-next, free-one, large-one, one-most}
 use Rattle.plan_api.proofs.grants.block_counts.Goals as goal
 
-pub loop-b-preserved : goal.loop-b-preserved
-loop-b-preserved c =
-    let s : HeapState = heap_state c.args.h.now in
-    let b : ℕ = c.loop-b.b in
+pub loop-block-preserved : goal.loop-block-preserved
+loop-block-preserved c =
+    let s : HeapState = heap_state c.args.heap.now in
+    let b : ℕ = c.loop-block.block in
     let there : b < s.blocks = omega arith in
     let kind = c.block-kind.result.kind in
     let is_free : ℕ → Bool = λ k. has_kind s k kinds.Free in

@@ -5,10 +5,10 @@ use Rattle.object_model.specs.Heaps.{heap_state}
 use Rattle.plan_api.proofs.Tallies.{count_below}
 use Rattle.plan_api.proofs.grants.block_counts.Given as goal
 
-abbrev pub invariant-loop-b : goal.invariant-loop-b
-invariant-loop-b l = record {
-  few_free : l.free ≤ l.b;
-  few_large : l.large ≤ l.b;
-  free : l.free ≡ count_below (λ k. has_kind (heap_state l.h) k kinds.Free) l.b;
-  large : l.large ≡ count_below (λ k. has_kind (heap_state l.h) k kinds.LargeHead || has_kind (heap_state l.h) k kinds.LargeTail) l.b;
+abbrev pub invariant-loop-block : goal.invariant-loop-block
+invariant-loop-block l = record {
+  few_free : l.free ≤ l.block;
+  few_large : l.large ≤ l.block;
+  free : l.free ≡ count_below (λ k. has_kind (heap_state l.heap) k kinds.Free) l.block;
+  large : l.large ≡ count_below (λ k. has_kind (heap_state l.heap) k kinds.LargeHead || has_kind (heap_state l.heap) k kinds.LargeTail) l.block;
 }

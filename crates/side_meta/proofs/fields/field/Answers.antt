@@ -5,11 +5,11 @@ use Rattle.side_meta.proofs.fields.field.Goals as goal
 
 pub returns : goal.returns
 returns g c =
-    let ws = g.W.Words.words c.args.w.now in
-    let s = c.args.s.now in
-    let word : c.place-word.result.0 ≡ place_word s c.args.a = ap (λ p. p.0) c.place-word.ensures in
-    let shift : c.place-word.result.1 ≡ place_shift s c.args.a = ap (λ p. p.1) c.place-word.ensures in
+    let ws = g.W.Words.words c.args.words.now in
+    let s = c.args.spec.now in
+    let word : c.place-word.result.0 ≡ place_word s c.args.address = ap (λ p. p.0) c.place-word.ensures in
+    let shift : c.place-word.result.1 ≡ place_shift s c.args.address = ap (λ p. p.1) c.place-word.ensures in
     ap (λ m. bit_and (c.get.result / 2 ^ c.place-word.result.1) m) c.ones.ensures
     ∙ and_mask (c.get.result / 2 ^ c.place-word.result.1) (field_bits s)
     ∙ ap (λ y. y / 2 ^ c.place-word.result.1 % 2 ^ field_bits s) (c.get.ensures ∙ ap (λ i. slice_index ws i) word)
-    ∙ ap (λ k. slice_index ws (place_word s c.args.a) / 2 ^ k % 2 ^ field_bits s) shift
+    ∙ ap (λ k. slice_index ws (place_word s c.args.address) / 2 ^ k % 2 ^ field_bits s) shift

@@ -7,6 +7,6 @@ use Rattle.ideal_heap.proofs.tables.Tables.create.Goals as goal
 pub returns-clause-heap : goal.returns-clause-heap
 returns-clause-heap c = (
   ap (λ k. name c.args.mutator k) (new-birth (tables_heap c.args.self.now) (tables_heap c.store.new.self) c.args.mutator c.births.result (record_in c.in_ok-object.object) c.in_ok-store.ensures.heap c.births.ensures),
-  new-heap (tables_heap c.args.self.now) (tables_heap c.store.new.self) (tables_heap c.set_register.new.self) c.args.mutator c.args.d c.args.refs c.args.nums c.births.result (record_in c.in_ok-object.object)
+  new-heap (tables_heap c.args.self.now) (tables_heap c.store.new.self) (tables_heap c.set_register.new.self) c.args.mutator c.args.destination c.args.refs c.args.nums c.births.result (record_in c.in_ok-object.object)
       c.in_ok-object.ensures.0 c.in_ok-store.ensures.heap c.births.ensures c.set_register.ensures.heap,
 )

@@ -6,8 +6,8 @@ use Rattle.ideal_heap.proofs.TableLemmas.{placed, heap-record}
 use Rattle.ideal_heap.proofs.tables.Tables.set_number.Goals as goal
 
 pub returns-clause-heap : goal.returns-clause-heap
-returns-clause-heap c = heap-record c.args.self.now.mutators.items c.args.self.now.globals c.args.n c.index_mut.result.now _ c.index_mut-2.result.now _
-    (λ x. put_number x c.args.j c.args.v)
-    (placed c.args.self.now.mutators.items c.args.self.now.globals c.args.n c.index_mut.result.now c.index_mut-2.result.now
-    (number-born (tables_heap c.args.self.now) c.args.n c.args.j c.requires) c.index_mut.ensures.value c.index_mut-2.ensures.value)
+returns-clause-heap c = heap-record c.args.self.now.mutators.items c.args.self.now.globals c.args.name c.index_mut.result.now _ c.index_mut-2.result.now _
+    (λ x. put_number x c.args.index c.args.number)
+    (placed c.args.self.now.mutators.items c.args.self.now.globals c.args.name c.index_mut.result.now c.index_mut-2.result.now
+    (number-born (tables_heap c.args.self.now) c.args.name c.args.index c.requires) c.index_mut.ensures.value c.index_mut-2.ensures.value)
     refl refl refl refl

@@ -4,15 +4,15 @@ use Rattle.ideal_heap.proofs.CommandLemmas.{below-from, past-from, swap-null, sw
 use Rattle.ideal_heap.proofs.tables.Tables.swap.Goals as goal
 
 pub returns-in_default-clause-step : goal.returns-in_default-clause-step
-returns-in_default-clause-step c = swap-null (tables_heap c.args.self.now) c.args.mutator c.args.s c.args.j c.args.was c.args.next (sym c.register.ensures ∙ c.in_default.is)
+returns-in_default-clause-step c = swap-null (tables_heap c.args.self.now) c.args.mutator c.args.register c.args.index c.args.was c.args.next (sym c.register.ensures ∙ c.in_default.is)
 
 pub returns-in_default-get-clause-step : goal.returns-in_default-get-clause-step
-returns-in_default-get-clause-step c = swap-past (tables_heap c.args.self.now) c.args.mutator c.args.s c.args.j c.args.was c.args.next c.in-Some.n c.nums.result.now (sym c.register.ensures ∙ c.in-Some.is) c.nums.ensures (past-from c.args.j _ c.in_default-get.ensures.lookup.0)
+returns-in_default-get-clause-step c = swap-past (tables_heap c.args.self.now) c.args.mutator c.args.register c.args.index c.args.was c.args.next c.in-Some.name c.nums.result.now (sym c.register.ensures ∙ c.in-Some.is) c.nums.ensures (past-from c.args.index _ c.in_default-get.ensures.lookup.0)
 
 pub returns-then-before-was-clause-step : goal.returns-then-before-was-clause-step
-returns-then-before-was-clause-step c = swap-no (tables_heap c.args.self.now) c.args.mutator c.args.s c.args.j c.args.was c.args.next c.in-Some.n c.nums.result.now c.in-Some-get.field-0.now (sym c.register.ensures ∙ c.in-Some.is) c.nums.ensures
-    (below-from c.args.j _ c.in-Some-get.ensures.lookup.0) c.in-Some-get.ensures.lookup.1 c.if-before-was.true
+returns-then-before-was-clause-step c = swap-no (tables_heap c.args.self.now) c.args.mutator c.args.register c.args.index c.args.was c.args.next c.in-Some.name c.nums.result.now c.in-Some-get.field-0.now (sym c.register.ensures ∙ c.in-Some.is) c.nums.ensures
+    (below-from c.args.index _ c.in-Some-get.ensures.lookup.0) c.in-Some-get.ensures.lookup.1 c.if-before-was.true
 
 pub returns-clause-step : goal.returns-clause-step
-returns-clause-step c = swap-yes (tables_heap c.args.self.now) (tables_heap c.set_number.new.self) c.args.mutator c.args.s c.args.j c.args.was c.args.next c.in-Some.n c.nums.result.now c.in-Some-get.field-0.now (sym c.register.ensures ∙ c.in-Some.is) c.nums.ensures
-    (below-from c.args.j _ c.in-Some-get.ensures.lookup.0) c.in-Some-get.ensures.lookup.1 c.if-before-was.false c.set_number.ensures.heap
+returns-clause-step c = swap-yes (tables_heap c.args.self.now) (tables_heap c.set_number.new.self) c.args.mutator c.args.register c.args.index c.args.was c.args.next c.in-Some.name c.nums.result.now c.in-Some-get.field-0.now (sym c.register.ensures ∙ c.in-Some.is) c.nums.ensures
+    (below-from c.args.index _ c.in-Some-get.ensures.lookup.0) c.in-Some-get.ensures.lookup.1 c.if-before-was.false c.set_number.ensures.heap

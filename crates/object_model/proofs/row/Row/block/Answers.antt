@@ -9,6 +9,6 @@ pub unwrap-requires : goal.unwrap-requires
 unwrap-requires c =
     let s : HeapState = state_of c.args.self.now in
     let at : ℕ = c.block_at.result in
-    let there : at < length s.words = omega (arith, block_in_words s c.requires.extent c.args.k c.requires.block) in
-    let word : c.index.result.now ≡ block_word s c.args.k = c.index.ensures ∙ get_or_default s.words at c.index.result.now 0 there ∙ ap (word_at s) c.block_at.ensures in
+    let there : at < length s.words = omega (arith, block_in_words s c.requires.extent c.args.block c.requires.block) in
+    let word : c.index.result.now ≡ block_word s c.args.block = c.index.ensures ∙ get_or_default s.words at c.index.result.now 0 there ∙ ap (word_at s) c.block_at.ensures in
     c.decode.ensures.code.1 (subst (λ v. IsTrue (is_block_code v)) (sym word) c.requires.code)

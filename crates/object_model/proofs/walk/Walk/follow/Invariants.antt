@@ -5,11 +5,11 @@ use Rattle.object_model.specs.Walks.{met, IsWalk, Closes}
 use Rattle.object_model.proofs.walk.Walk.follow.Given as goal
 
 abbrev pub decreases-loop-next : goal.decreases-loop-next
-decreases-loop-next l = row_words (heap_state l.h).blocks - l.next
+decreases-loop-next l = row_words (heap_state l.heap).blocks - l.next
 
 abbrev pub invariant-loop-next : goal.invariant-loop-next
 invariant-loop-next l = record {
-  walk : IsWalk (heap_state l.h) l.self;
+  walk : IsWalk (heap_state l.heap) l.self;
   inside : l.next ≤ length (met l.self);
-  closes : Closes (heap_state l.h) l.next (met l.initial.self) (met l.self);
+  closes : Closes (heap_state l.heap) l.next (met l.initial.self) (met l.self);
 }

@@ -4,11 +4,11 @@ use Rattle.object_model.specs.Walks.{met}
 use Rattle.object_model.proofs.WalkLemmas.{adds-nothing, adds-next}
 use Rattle.object_model.proofs.walk.Walk.visit_fields.Goals as goal
 
-pub loop-i-init : goal.loop-i-init
-loop-i-init c = record { walk = c.requires.walk; adds = adds-nothing (ref_at (heap_state c.args.h.now) c.args.a) (met c.args.self.now) }
+pub loop-index-init : goal.loop-index-init
+loop-index-init c = record { walk = c.requires.walk; adds = adds-nothing (ref_at (heap_state c.args.heap.now) c.args.address) (met c.args.self.now) }
 
-pub loop-i-preserved : goal.loop-i-preserved
-loop-i-preserved c = record {
+pub loop-index-preserved : goal.loop-index-preserved
+loop-index-preserved c = record {
   walk = c.in_ok-visit.ensures.walk;
-  adds = adds-next (ref_at (heap_state c.args.h.now) c.args.a) c.loop-i.i _ (met c.args.self.now) (met c.loop-i.self) _ c.ref_at.ensures.value c.loop-i.invariant.adds c.in_ok-visit.ensures.adds;
+  adds = adds-next (ref_at (heap_state c.args.heap.now) c.args.address) c.loop-index.index _ (met c.args.self.now) (met c.loop-index.self) _ c.ref_at.ensures.value c.loop-index.invariant.adds c.in_ok-visit.ensures.adds;
 }

@@ -3,8 +3,8 @@ use Rattle.object_model.specs.Heaps.{heap_state}
 use Rattle.object_model.specs.Walks.{met, IsWalk, Adds}
 use Rattle.object_model.proofs.walk.Walk.visit_fields.Given as goal
 
-abbrev pub invariant-loop-i : goal.invariant-loop-i
-invariant-loop-i l = record {
-  walk : IsWalk (heap_state l.h) l.self;
-  adds : Adds (ref_at (heap_state l.h) l.a) l.i (met l.initial.self) (met l.self);
+abbrev pub invariant-loop-index : goal.invariant-loop-index
+invariant-loop-index l = record {
+  walk : IsWalk (heap_state l.heap) l.self;
+  adds : Adds (ref_at (heap_state l.heap) l.address) l.index (met l.initial.self) (met l.self);
 }

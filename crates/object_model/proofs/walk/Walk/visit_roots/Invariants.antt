@@ -5,6 +5,6 @@ use Rattle.object_model.proofs.walk.Walk.visit_roots.Given as goal
 
 abbrev pub invariant-loop-root : goal.invariant-loop-root
 invariant-loop-root l = record {
-  walk : IsWalk (heap_state l.h) l.self;
+  walk : IsWalk (heap_state l.heap) l.self;
   adds : Adds (λ i. slice_index l.roots i) l.root-index (met l.initial.self) (met l.self);
 }

@@ -1,6 +1,6 @@
 use Rattle.std.proofs.Common.{arith}
-use Rattle.trace_text.proofs.FrontLemmas.{digit_more, front_number_at}
-use Rattle.trace_text.proofs.fronts.number.Goals as goal
+use Rattle.trace_text.proofs.TokenLemmas.{digit_more, number_at}
+use Rattle.trace_text.proofs.tokens.number.Goals as goal
 
 pub loop-k-preserved : goal.loop-k-preserved
 loop-k-preserved c =
@@ -9,4 +9,4 @@ loop-k-preserved c =
 
 pub returns-clause-text : goal.returns-clause-text
 returns-clause-text c =
-    front_number_at c.args.text.now c.args.from c.loop-k.k c.loop-k.value (omega arith) (omega arith) (λ zero more. grind arith) c.loop-k.invariant.digits c.loop-k.invariant.exact (omega arith)
+    number_at c.args.text.now c.args.from c.loop-k.k c.loop-k.value (omega arith) (omega arith) (λ zero more. grind arith) c.loop-k.invariant.digits c.loop-k.invariant.exact (omega arith)

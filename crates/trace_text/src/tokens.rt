@@ -5,9 +5,10 @@
 ghost use Rattle.std.specs.Prelude.{◌≡◌, ◌+◌, ◌≤◌, [], ◌∷◌, ◌++◌, length, drop, IfSome};
 ghost use Rattle.std.specs.Fmt.{decimal};
 ghost use Rattle.trace_text.specs.Words.{Register, Global};
-ghost use Rattle.trace_text.specs.Parts.{HasPiece, argument_front};
+ghost use Rattle.trace_text.specs.Parts.{HasPiece, spaced_argument};
 
 use crate::numerals::has_room;
+use ideal_heap::{MAX_GLOBAL, MAX_REGISTER};
 
 // The offset after the word, if the text begins with it.
 #[inline(always)]
@@ -92,13 +93,13 @@ pub(crate) fn value(text: &[u8], at: usize) -> Option<(u64, usize)>
 #[inline(always)]
 pub(crate) fn register(text: &[u8], at: usize) -> Option<(u32, usize)>
     requires { at + 4 ≤ length text.now }
-    ensures text { IfSome result (λ x. HasPiece text.now at (argument_front Register x.0) x.1) }
-    ensures bound { IfSome result (λ x. (x.0 ≤ 15) × (x.1 ≤ at + 4)) }
+    ensures text { IfSome result (λ x. HasPiece text.now at (spaced_argument Register x.0) x.1) }
+    ensures bound { IfSome result (λ x. (x.0 ≤ MAX_REGISTER) × (x.1 ≤ at + 4)) }
 {
     if text[at] != b' ' || text[at + 1] != b'r' {
         return None;
     }
-    let (n, end) = number(text, at + 2, 15, 2)?;
+    let (n, end) = number(text, at + 2, u64::from(MAX_REGISTER), 2)?;
     Some((n as u32, end))
 }
 
@@ -106,12 +107,12 @@ pub(crate) fn register(text: &[u8], at: usize) -> Option<(u32, usize)>
 #[inline(always)]
 pub(crate) fn global(text: &[u8], at: usize) -> Option<(u32, usize)>
     requires { at + 4 ≤ length text.now }
-    ensures text { IfSome result (λ x. HasPiece text.now at (argument_front Global x.0) x.1) }
-    ensures bound { IfSome result (λ x. (x.0 ≤ 15) × (x.1 ≤ at + 4)) }
+    ensures text { IfSome result (λ x. HasPiece text.now at (spaced_argument Global x.0) x.1) }
+    ensures bound { IfSome result (λ x. (x.0 ≤ MAX_GLOBAL) × (x.1 ≤ at + 4)) }
 {
     if text[at] != b' ' || text[at + 1] != b'g' {
         return None;
     }
-    let (n, end) = number(text, at + 2, 15, 2)?;
+    let (n, end) = number(text, at + 2, u64::from(MAX_GLOBAL), 2)?;
     Some((n as u32, end))
 }

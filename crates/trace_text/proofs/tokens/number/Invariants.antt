@@ -2,7 +2,7 @@ use Rattle.std.proofs.Common.{◌≡◌, ◌-◌, ◌≤◌, true, take, drop}
 use Rattle.std.specs.Char.{is_ascii_digit}
 use Rattle.std.specs.List.{list_all}
 use Rattle.std.specs.Str.Parse.{digits_value}
-use Rattle.trace_text.proofs.fronts.number.Given as goal
+use Rattle.trace_text.proofs.tokens.number.Given as goal
 
 -- the bytes so far are digits, and their number is known
 abbrev pub invariant-loop-k : goal.invariant-loop-k

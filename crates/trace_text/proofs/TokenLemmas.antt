@@ -9,9 +9,9 @@ use Rattle.trace_text.proofs.NumeralLemmas.{good_numeral, digits_more, value_mor
 use Rattle.trace_text.proofs.Spelled.{decimal-numeral}
 
 -- digits that do not begin with 0, or the single digit 0, are the numeral of their number
-pub front_number : (text : List ℕ) (k value : ℕ) → k ≤ length text → 0 < k → (get_or text 0 0 ≡ 48 → 1 < k → ⊥)
+pub first_number : (text : List ℕ) (k value : ℕ) → k ≤ length text → 0 < k → (get_or text 0 0 ≡ 48 → 1 < k → ⊥)
     → list_all is_ascii_digit (take k text) ≡ true → value ≡ digits_value 10 (take k text) → value < 2 ^ 64 → text ≡ decimal value ++ drop k text
-front_number text k value within some led digits exact small =
+first_number text k value within some led digits exact small =
     let long : length (take k text) ≡ k = grind (arith, length-take {A = ℕ}) in
     let first : get_or (take k text) 0 0 ≡ get_or text 0 0 = get_or-take k text 0 0 some in
     let read = good_numeral (take k text) digits (omega arith) (λ zero more. led (sym first ∙ zero) (omega arith)) in
@@ -28,10 +28,10 @@ digit_more text from k value digit within is digit_is same digits exact =
     let more = value_more (drop from text) k inside (subst IsAsciiDigit (sym there) digit_is) in
     (digits_more (drop from text) k inside digits (ap is_ascii_digit there ∙ is), omega arith)
 
-pub front_number_at : (text : List ℕ) (from k value : ℕ) → from + k ≤ length text → 0 < k → (get_or text from 0 ≡ 48 → 1 < k → ⊥)
+pub number_at : (text : List ℕ) (from k value : ℕ) → from + k ≤ length text → 0 < k → (get_or text from 0 ≡ 48 → 1 < k → ⊥)
     → list_all is_ascii_digit (take k (drop from text)) ≡ true → value ≡ digits_value 10 (take k (drop from text)) → value < 2 ^ 64
     → drop from text ≡ decimal value ++ drop (from + k) text
-front_number_at text from k value within some led digits exact small =
-    front_number (drop from text) k value (omega (arith, length-drop from text)) some
+number_at text from k value within some led digits exact small =
+    first_number (drop from text) k value (omega (arith, length-drop from text)) some
     (λ zero more. led (sym (get_or-drop from text 0 0 ∙ ap (λ n. get_or text n 0) (add-zero from)) ∙ zero) more) digits exact small
     ∙ ap (λ rest. decimal value ++ rest) (drop-drop k from text)

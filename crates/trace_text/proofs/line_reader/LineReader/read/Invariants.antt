@@ -1,0 +1,15 @@
+use Rattle.std.proofs.Common.{◌≡◌, ◌<◌, None, length}
+use Rattle.trace_text.specs.Grammar.{lines_of}
+use Rattle.trace_text.specs.Readers.{GoesOn}
+use Rattle.trace_text.proofs.line_reader.LineReader.read.Given as goal
+
+-- the lines so far are read, and none was bad
+abbrev pub invariant-loop-read : goal.invariant-loop-read
+invariant-loop-read l = record {
+  none : l.self.fault ≡ None;
+  begun : 1 < l.self.number;
+  so_far : GoesOn l.fn.self l.self (lines_of l.text) (lines_of l.rest);
+}
+
+abbrev pub decreases-loop-read : goal.decreases-loop-read
+decreases-loop-read l = length l.rest

@@ -1,0 +1,120 @@
+//! The reader of lines: the commands of the lines that it has read, or the first fault.
+
+ghost use Rattle.std.specs.Prelude.{◌≡◌, ◌<◌, List, ℕ, [], None, OnOk, MatchOption};
+ghost use Rattle.trace_text.specs.Grammar.{Gives, lines_of, with_header};
+ghost use Rattle.trace_text.specs.Readers.{end_of_lines, GoesOn};
+
+use crate::fault::{TraceFault, Why};
+use crate::limits::MAX_COMMANDS;
+use crate::lines::next_command;
+use crate::splitter::next_line;
+use ideal_heap::Command;
+use std::alloc::{AllocError, Global};
+
+// The number of the last line that a trace may have: one after its header for each command.
+const LAST_LINE: u32 = MAX_COMMANDS + 1;
+
+// The bytes of the shortest line, `gc` and its newline.
+const LEAST_LINE: usize = 3;
+
+// From this many bytes on a text may be the first piece of a trace of any length.
+const LONG_TEXT: usize = 32_768;
+
+/// The lines read so far. Lines after the first bad one are not read.
+#[derive(Debug, Drop)]
+pub(crate) struct LineReader {
+    pub(crate) commands: Vec<Command>,
+    /// The number of the next line, from 1 on.
+    pub(crate) number: u32,
+    pub(crate) fault: Option<TraceFault>,
+}
+
+impl LineReader {
+    /// No line is read.
+    pub(crate) fn new(alloc: Global) -> LineReader
+        ensures { (lines : List (List ℕ)) → end_of_lines result lines ≡ with_header lines }
+    {
+        LineReader {
+            commands: Vec::new(alloc),
+            number: 1,
+            fault: None,
+        }
+    }
+
+    /// Takes the memory for the commands of a text that begins with a piece of this many bytes, so
+    /// that no command is copied as the list grows.
+    pub(crate) fn reserve(&mut self, bytes: usize) -> Result<(), AllocError>
+        ensures { OnOk result ((lines : List (List ℕ))
+            → end_of_lines self.new lines ≡ end_of_lines self.old lines) }
+    {
+        if self.commands.capacity() > 0 {
+            return Ok(());
+        }
+        let most = if bytes < LONG_TEXT {
+            bytes / LEAST_LINE + 1
+        } else {
+            MAX_COMMANDS as usize
+        };
+        self.commands.reserve(most)
+    }
+
+    // Reads the header if it is the next line, and returns the text after it. `None` if there is
+    // no more to read.
+    fn after_header<'t>(&mut self, text: &'t [u8]) -> Option<&'t [u8]>
+        ensures end { MatchOption result (GoesOn self.old self.new (lines_of text.now) [])
+            (λ rest. GoesOn self.old self.new (lines_of text.now) (lines_of rest.now)) }
+        ensures next { MatchOption result (Unit {0}) (λ rest. (self.new.fault ≡ None)
+            × (1 < self.new.number)) }
+    {
+        if self.fault.is_some() {
+            return None;
+        }
+        if self.number > 1 {
+            return Some(text);
+        }
+        let (line, rest) = next_line(text)?;
+        if line != b"mmtrace 1".as_slice() {
+            self.fault = Some(TraceFault::Line(1, Why::Header));
+            return None;
+        }
+        self.number = 2;
+        Some(rest)
+    }
+
+    /// Reads the lines of a text.
+    #[inline(never)]
+    pub(crate) fn read(&mut self, text: &[u8]) -> Result<(), AllocError>
+        ensures { OnOk result (GoesOn self.old self.new (lines_of text.now) []) }
+    {
+        let Some(mut rest) = self.after_header(text) else {
+            return Ok(());
+        };
+        while let Some((read, remaining)) = next_command(rest) {
+            if self.number > LAST_LINE {
+                self.fault = Some(TraceFault::TooMany);
+                return Ok(());
+            }
+            match read {
+                Ok(command) => self.commands.push(command)?,
+                Err(why) => {
+                    self.fault = Some(TraceFault::Line(self.number, why));
+                    return Ok(());
+                }
+            }
+            self.number += 1;
+            rest = remaining;
+        }
+        Ok(())
+    }
+
+    /// The commands of all lines, or the first fault.
+    pub(crate) fn finish(self) -> Result<Vec<Command>, TraceFault>
+        ensures { Gives (λ v. v.items) result (end_of_lines self []) }
+    {
+        match self.fault {
+            Some(fault) => Err(fault),
+            None if self.number <= 1 => Err(TraceFault::Line(1, Why::Header)),
+            None => Ok(self.commands),
+        }
+    }
+}

@@ -1,0 +1,94 @@
+//! The reader of a trace that comes in pieces.
+
+ghost use Rattle.std.specs.Prelude.{◌≡◌, ◌++◌, ◌≤◌, List, ℕ, [], length, take, All, OnOk, IfOk};
+ghost use Rattle.ideal_heap.specs.Commands.{IsValid};
+ghost use Rattle.trace_text.specs.Grammar.{Gives, trace};
+ghost use Rattle.trace_text.specs.Readers.{HasRead, IsWhole};
+
+use crate::fault::TraceFault;
+use crate::limits::MAX_COMMANDS;
+use crate::line_reader::LineReader;
+use ideal_heap::Command;
+use memchr::{memchr, memrchr};
+use std::alloc::{AllocError, Global};
+
+/// Reads a trace in the format `mmtrace 1` from its text, which comes in pieces of any size.
+///
+/// It keeps the commands of the whole lines so far and the bytes after the last newline, and no
+/// other byte of the text.
+#[derive(Debug, Drop)]
+pub struct TraceReader {
+    pub(crate) lines: LineReader,
+    // The text after the last newline.
+    pub(crate) begun: Vec<u8>,
+}
+
+// The bytes up to the first newline and with it, 0 if there is none.
+fn first_line(text: &[u8]) -> usize
+    ensures within { result ≤ length text.now }
+    ensures whole { IsWhole (take result text.now) }
+{
+    match memchr(b'\n', text) {
+        Some(place) => place + 1,
+        None => 0,
+    }
+}
+
+// The bytes up to the last newline and with it, 0 if there is none.
+fn whole_lines(text: &[u8]) -> usize
+    ensures within { result ≤ length text.now }
+    ensures whole { IsWhole (take result text.now) }
+{
+    match memrchr(b'\n', text) {
+        Some(place) => place + 1,
+        None => 0,
+    }
+}
+
+impl TraceReader {
+    /// A reader that has read nothing.
+    pub fn new(alloc: Global) -> TraceReader
+        ensures { HasRead result [] }
+    {
+        TraceReader {
+            lines: LineReader::new(alloc),
+            begun: Vec::new(alloc),
+        }
+    }
+
+    /// Reads the next piece of the text. After a bad line it reads no more lines.
+    ///
+    /// Fails if memory runs out. The reader is of no use then.
+    pub fn read(&mut self, piece: &[u8]) -> Result<(), AllocError>
+        ensures { OnOk result ((text : List ℕ) → HasRead self.old text
+            → HasRead self.new (text ++ piece.now)) }
+    {
+        self.lines.reserve(piece.len())?;
+        let first = first_line(piece);
+        if first == 0 {
+            return self.begun.extend_from_slice(piece);
+        }
+        self.begun.extend_from_slice(&piece[..first])?;
+        self.lines.read(&self.begun)?;
+        self.begun.clear();
+        let rest = &piece[first..];
+        let end = whole_lines(rest);
+        self.lines.read(&rest[..end])?;
+        self.begun.extend_from_slice(&rest[end..])
+    }
+
+    /// The commands, after the last piece.
+    ///
+    /// Errors: those of `read_trace`.
+    pub fn finish(mut self) -> Result<Vec<Command>, TraceFault>
+        ensures text { (text : List ℕ) → HasRead self text
+            → Gives (λ v. v.items) result (trace text) }
+        ensures valid { (text : List ℕ) → HasRead self text
+            → IfOk result (λ v. All IsValid v.items) }
+        ensures few { (text : List ℕ) → HasRead self text
+            → IfOk result (λ v. length v.items ≤ MAX_COMMANDS) }
+    {
+        self.lines.read(&self.begun)?;
+        self.lines.finish()
+    }
+}
