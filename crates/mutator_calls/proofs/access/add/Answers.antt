@@ -1,0 +1,7 @@
+use Rattle.mutator_calls.specs.Effects.{nothing}
+use Rattle.mutator_calls.proofs.access.add.Goals as goal
+
+pub returns-in-Ok-clause-goes : goal.returns-in-Ok-clause-goes
+returns-in-Ok-clause-goes g c =
+    g.met.S.Seat.one_after_another _ _ _ nothing _ (g.met.S.Seat.loads_do_nothing _ _ c.in-Ok.ensures.goes.0)
+    c.add_number.ensures.goes

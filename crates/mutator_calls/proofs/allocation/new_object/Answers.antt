@@ -1,0 +1,36 @@
+use Rattle.std.proofs.Common.{ℕ, refl, sym, ap, subst, List, [], ◌++◌, add-zero}
+use Rattle.ideal_heap.specs.declared.command.Command.TheVariants as command
+use Rattle.ideal_heap.specs.declared.reply.Reply.TheVariants as reply
+use Rattle.object_model.specs.Objects.{size_of}
+use Rattle.mutator_calls.specs.Effects.{enters}
+use Rattle.mutator_calls.specs.Allocating.{births_with, searches, FindsRoom}
+use Rattle.std.proofs.lemmas.List.{append-nil}
+use Rattle.mutator_calls.proofs.Finding.{finds-later}
+use Rattle.mutator_calls.proofs.allocation.new_object.Goals as goal
+
+pub returns-in-Ok-clause-made : goal.returns-in-Ok-clause-made
+returns-in-Ok-clause-made g c =
+    let size = size_of c.args.refs c.args.nums in
+    let found = c.in-Ok.ensures.finds refl in
+    let taken = found.0 in
+    let granted = found.1 in
+    let drawn = found.2 in
+    let entry = enters (command.New c.args.d c.args.refs c.args.nums) (reply.New c.publish.result) in
+    let to : List ℕ → List ℕ → ℕ → Type 0 = λ t r n. g.S.Seat.goes c.args.seat.now
+    (births_with c.args.d c.args.refs c.args.nums c.publish.result t r n) c.publish.new.self in (
+      taken,
+      granted,
+      drawn,
+      subst (λ t. to t granted drawn) (append-nil taken) (subst (λ r. to (taken ++ []) r drawn) (append-nil granted)
+          (subst (λ n. to (taken ++ []) (granted ++ []) n) (add-zero drawn)
+          (g.met.S.Seat.one_after_another _ _ _ (searches taken granted drawn) entry found.3 c.publish.ensures.goes))),
+      subst (λ n. FindsRoom (g.S.Seat.lacks c.publish.new.self size) (g.S.Seat.is_used c.publish.new.self) n
+          (g.S.Seat.books c.args.seat.now).ticket (g.S.Seat.books c.publish.new.self).ticket taken granted drawn)
+          (sym (ap (λ b. b.blocks) c.publish.ensures.books))
+          (finds-later (g.S.Seat.lacks c.find_room.new.seat c.size_words-size.result) (g.S.Seat.is_used c.find_room.new.seat)
+          (g.S.Seat.lacks c.publish.new.self size) (g.S.Seat.is_used c.publish.new.self)
+          (g.S.Seat.books c.find_room.new.seat).blocks (g.S.Seat.books c.args.seat.now).ticket
+          (g.S.Seat.books c.find_room.new.seat).ticket (g.S.Seat.books c.publish.new.self).ticket taken granted drawn
+          (λ k lacks. c.publish.ensures.stays size k (subst (λ n. g.S.Seat.lacks c.find_room.new.seat n k) c.size_words-size.ensures lacks))
+          c.publish.ensures.still (ap (λ b. b.ticket) c.publish.ensures.books) found.4),
+    )

@@ -1,0 +1,75 @@
+-- What an allocation does, and why it stops.
+use Rattle.std.specs.Prelude.{◌≡◌, ◌≢◌, ℕ, ◌<◌, ◌≤◌, ◌⊎◌, false, Option, Some, None, IsSome, List, [], ◌∷◌}
+use Rattle.ideal_heap.specs.declared.command.Command.TheVariants as c
+use Rattle.ideal_heap.specs.declared.reply.Reply.TheVariants as r
+use Rattle.ideal_heap.specs.declared.name.Name.{Name}
+use Rattle.object_model.specs.declared.shape.TheConstants.{MAX_MEDIUM_WORDS}
+use Rattle.mutator_calls.specs.declared.need.NeedCause.{NeedCause}
+use Rattle.mutator_calls.specs.declared.need.NeedCause.TheVariants.{Large, Budget, Seen}
+use Rattle.mutator_calls.specs.declared.need.Need.{Need}
+use Rattle.mutator_calls.specs.declared.need.Allocated.{Allocated}
+use Rattle.mutator_calls.specs.declared.need.Allocated.TheVariants.{Made, Stop}
+use Rattle.mutator_calls.specs.Effects.{Effect, nothing}
+
+-- A mutator's accounts in an epoch.
+pub record Books : Type 0 where
+  -- the number of blocks of the heap
+  pub blocks : ℕ
+  -- the number of Free blocks that mutators may take in the epoch
+  pub allowance : ℕ
+  -- the number of objects that the mutator has allocated
+  pub births : ℕ
+  -- the ticket with which the mutator has taken no block
+  pub ticket : Option ℕ
+
+-- the effect of an allocation that takes these blocks, of which these were Free, and draws so many tickets
+abbrev pub births_with : ℕ → ℕ → ℕ → Name → List ℕ → List ℕ → ℕ → Effect
+births_with d refs nums n taken granted drawn = record {
+  entries = (record { command = c.New d refs nums; reply = r.New n }) ∷ [];
+  logged = [];
+  taken = taken;
+  granted = granted;
+  drawn = drawn;
+  raised = false;
+}
+
+-- the effect of a search for room that takes these blocks, of which these were Free, and draws so many tickets
+abbrev pub searches : List ℕ → List ℕ → ℕ → Effect
+searches taken granted drawn = record nothing { taken = taken; granted = granted; drawn = drawn }
+
+-- A ticket is drawn only if the mutator has none: `old` is its ticket before, `new` after.
+abbrev pub Draws : Option ℕ → Option ℕ → ℕ → Type 0
+Draws old new drawn = ((drawn ≡ 0) × (new ≡ old)) ⊎ ((drawn ≡ 1) × (old ≡ None) × IsSome new)
+
+-- Where an allocation finds room: in a block that the mutator owns; in a hole of a block without an owner, if no lower
+-- block has room that the mutator may fill; or, if no other block has such room, in the first Free block, with a ticket
+-- that is used up then.
+pub data FindsRoom (lacks used : ℕ → Type 0) (blocks : ℕ) (old new : Option ℕ) (taken granted : List ℕ) (drawn : ℕ)
+    : Type 0 where
+  in_own_block : taken ≡ [] → granted ≡ [] → drawn ≡ 0 → new ≡ old
+      → FindsRoom lacks used blocks old new taken granted drawn
+  in_hole : (k : ℕ) → taken ≡ k ∷ [] → granted ≡ [] → drawn ≡ 0 → new ≡ old → ((j : ℕ) → j < k → lacks j)
+      → FindsRoom lacks used blocks old new taken granted drawn
+  in_free_block : (k : ℕ) (ticket : Option ℕ) → taken ≡ k ∷ [] → granted ≡ k ∷ [] → Draws old ticket drawn
+      → IsSome ticket → new ≡ None → ((j : ℕ) → j < blocks → j ≢ k → lacks j) → ((j : ℕ) → j < k → used j)
+      → FindsRoom lacks used blocks old new taken granted drawn
+
+-- Why an allocation of this size stops: the object is large; or no block has room that the mutator may fill, and its
+-- ticket is not below the allowance, or no block is Free.
+abbrev pub IsCause : Books → (ℕ → Type 0) → (ℕ → Type 0) → ℕ → NeedCause → Type 0
+IsCause books lacks used size Large = MAX_MEDIUM_WORDS < size
+IsCause books lacks used size (Budget t) = (size ≤ MAX_MEDIUM_WORDS) × ((k : ℕ) → k < books.blocks → lacks k)
+    × (books.ticket ≡ Some t) × (books.allowance ≤ t)
+IsCause books lacks used size Seen = (size ≤ MAX_MEDIUM_WORDS) × ((k : ℕ) → k < books.blocks → lacks k)
+    × ((k : ℕ) → k < books.blocks → used k)
+
+-- the need has the numbers of the call
+pub record IsNeedOf (d r q : ℕ) (need : Need) : Type 0 where
+  pub register : need.register ≡ d
+  pub refs : need.refs ≡ r
+  pub nums : need.nums ≡ q
+
+-- one fact for an object made, the other for a stop
+abbrev pub MatchAllocated : Allocated → (Name → Type 0) → (Need → Type 0) → Type 0
+MatchAllocated (Made n) P Q = P n
+MatchAllocated (Stop need) P Q = Q need

@@ -1,0 +1,4 @@
+pub mod Effects
+pub mod Accesses
+pub mod Allocating
+pub mod Stopping

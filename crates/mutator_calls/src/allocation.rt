@@ -1,0 +1,200 @@
+//! The allocation of objects.
+
+ghost use Rattle.std.specs.Prelude.{◌≡◌, ◌≢◌, ◌+◌, ◌<◌, ◌≤◌, ◌^◌, ◌⊎◌, ℕ, List, [], ◌∷◌, Some, None, true, false, if◌then◌else◌, IsOk, IsErr, IfErr, ⊤};
+ghost use Rattle.object_model.specs.Objects.{size_of};
+ghost use Rattle.mutator_calls.specs.Effects.{nothing, takes, grants, draws};
+ghost use Rattle.mutator_calls.specs.Allocating.{births_with, searches, Draws, FindsRoom, IsCause, IsNeedOf, MatchAllocated};
+
+use crate::need::{Allocated, Need, NeedCause};
+use crate::seat::Seat;
+use ideal_heap::{MAX_NUMS, MAX_REFS, REGISTERS};
+use object_model::{MAX_MEDIUM_WORDS, Shape, size_words};
+
+/// Makes the first hole with room for `size` words, in ascending order of blocks, the seat's
+/// region. Returns whether there was one.
+fn take_some_hole<S: Seat>(seat: &mut S, size: u32) -> bool
+    requires ready { S.is_ready seat.old }
+    requires least { 3 ≤ size }
+    requires most { size ≤ MAX_MEDIUM_WORDS }
+    ensures found { result ≡ true → S.has_room seat.new size }
+    ensures offered { result ≡ true → S.offers seat.old seat.new size }
+    ensures taken { result ≡ true → (k : ℕ) × (taken : List ℕ)
+        × ((taken ≡ []) ⊎ (taken ≡ k ∷ [])) × S.goes seat.old (takes taken) seat.new
+        × ((j : ℕ) → j < k → S.lacks seat.new size j) }
+    ensures ready { result ≡ false → S.is_ready seat.new }
+    ensures goes { result ≡ false → S.goes seat.old nothing seat.new }
+    ensures lacks { (k : ℕ) → result ≡ false → k < (S.books seat.new).blocks
+        → S.lacks seat.new size k }
+    ensures same { (c : S) (n : ℕ) → result ≡ false → S.offers seat.new c n
+        → S.offers seat.old c n }
+    ensures books { S.books seat.new ≡ S.books seat.old }
+{
+    for block in 0..seat.blocks() {
+        if seat.take_hole(block, size) {
+            return true;
+        }
+    }
+    false
+}
+
+/// Makes the seat's region one with room for `size` words in a block that is in use. Returns
+/// whether there was room.
+fn find_hole<S: Seat>(seat: &mut S, size: u32) -> bool
+    requires ready { S.is_ready seat.old }
+    requires least { 3 ≤ size }
+    requires most { size ≤ MAX_MEDIUM_WORDS }
+    ensures found { result ≡ true → S.has_room seat.new size }
+    ensures offered { result ≡ true → S.offers seat.old seat.new size }
+    ensures taken { result ≡ true → (k : ℕ) × (taken : List ℕ)
+        × ((taken ≡ []) ⊎ (taken ≡ k ∷ [])) × S.goes seat.old (takes taken) seat.new
+        × ((j : ℕ) → j < k → S.lacks seat.new size j) }
+    ensures ready { result ≡ false → S.is_ready seat.new }
+    ensures goes { result ≡ false → S.goes seat.old nothing seat.new }
+    ensures lacks { (k : ℕ) → result ≡ false → k < (S.books seat.new).blocks
+        → S.lacks seat.new size k }
+    ensures same { (c : S) (n : ℕ) → result ≡ false → S.offers seat.new c n
+        → S.offers seat.old c n }
+    ensures books { S.books seat.new ≡ S.books seat.old }
+{
+    if seat.fits_region(size) {
+        return true;
+    }
+    take_some_hole(seat, size)
+}
+
+/// The mutator's ticket, which is drawn if it has none.
+fn hold_ticket<S: Seat>(seat: &mut S) -> u32
+    requires { S.is_ready seat.old }
+    ensures ready { S.is_ready seat.new }
+    ensures goes { (drawn : ℕ) × S.goes seat.old (draws drawn) seat.new
+        × Draws (S.books seat.old).ticket (Some result) drawn }
+    ensures stays { (n k : ℕ) → S.lacks seat.old n k → S.lacks seat.new n k }
+    ensures same { (c : S) (n : ℕ) → S.offers seat.new c n → S.offers seat.old c n }
+    ensures books { S.books seat.new ≡ record (S.books seat.old) { ticket = Some result } }
+{
+    match seat.ticket() {
+        Some(ticket) => ticket,
+        None => seat.draw_ticket(),
+    }
+}
+
+/// Takes the first Free block with the mutator's ticket. Returns whether there was one.
+fn take_some_free<S: Seat>(seat: &mut S, size: u32) -> bool
+    requires ready { S.is_ready seat.old }
+    requires least { 3 ≤ size }
+    requires most { size ≤ MAX_MEDIUM_WORDS }
+    requires ticket { (t : ℕ) × ((S.books seat.old).ticket ≡ Some t)
+        × (t < (S.books seat.old).allowance) }
+    requires lacks { (k : ℕ) → k < (S.books seat.old).blocks → S.lacks seat.old size k }
+    ensures found { result ≡ true → S.has_room seat.new size }
+    ensures offered { result ≡ true → S.offers seat.old seat.new size }
+    ensures grants { result ≡ true → (k : ℕ) × S.goes seat.old (grants k) seat.new
+        × ((j : ℕ) → j < (S.books seat.new).blocks → j ≢ k → S.lacks seat.new size j)
+        × ((j : ℕ) → j < k → S.is_used seat.new j) }
+    ensures books { S.books seat.new ≡ record (S.books seat.old)
+        { ticket = if result then None else (S.books seat.old).ticket } }
+    ensures ready { result ≡ false → S.is_ready seat.new }
+    ensures goes { result ≡ false → S.goes seat.old nothing seat.new }
+    ensures lacks { (k : ℕ) → result ≡ false → k < (S.books seat.new).blocks
+        → S.lacks seat.new size k }
+    ensures used { (k : ℕ) → result ≡ false → k < (S.books seat.new).blocks
+        → S.is_used seat.new k }
+{
+    for block in 0..seat.blocks() {
+        if seat.take_free(block, size) {
+            return true;
+        }
+    }
+    false
+}
+
+/// Makes the seat's region one with room for `size` words: it has room, or a hole is found, or a
+/// Free block is taken with a ticket.
+fn find_room<S: Seat>(seat: &mut S, size: u32) -> Result<(), NeedCause>
+    requires ready { S.is_ready seat.old }
+    requires least { 3 ≤ size }
+    requires most { size ≤ MAX_MEDIUM_WORDS }
+    ensures room { IsOk result → S.has_room seat.new size }
+    ensures offered { IsOk result → S.offers seat.old seat.new size }
+    ensures finds { IsOk result → (taken : List ℕ) × (granted : List ℕ) × (drawn : ℕ)
+        × S.goes seat.old (searches taken granted drawn) seat.new
+        × FindsRoom (S.lacks seat.new size) (S.is_used seat.new) (S.books seat.new).blocks
+        (S.books seat.old).ticket (S.books seat.new).ticket taken granted drawn }
+    ensures births { (S.books seat.new).births ≡ (S.books seat.old).births }
+    ensures ready { IsErr result → S.is_ready seat.new }
+    ensures goes { IsErr result → (drawn : ℕ) × S.goes seat.old (draws drawn) seat.new
+        × Draws (S.books seat.old).ticket (S.books seat.new).ticket drawn }
+    ensures cause { IfErr result (IsCause (S.books seat.new)
+        (S.lacks seat.new size) (S.is_used seat.new) size) }
+{
+    if find_hole(seat, size) {
+        return Ok(());
+    }
+    let ticket = hold_ticket(seat);
+    if ticket >= seat.allowance() {
+        return Err(NeedCause::Budget(ticket));
+    }
+    if take_some_free(seat, size) {
+        return Ok(());
+    }
+    Err(NeedCause::Seen)
+}
+
+/// Allocates an object with `refs` nil references and `nums` zeros, and stores its address in
+/// register `d`: in the seat's region if it has room, else in a hole, else in a Free block.
+///
+/// The answer is `Stop` if the object is large, or if no block has room that the mutator may fill
+/// and no Free block may be taken.
+pub fn new_object<S: Seat>(seat: &mut S, d: u32, refs: u32, nums: u32) -> Allocated
+    requires ready { S.is_ready seat.old }
+    requires register { d < REGISTERS }
+    requires refs { refs ≤ MAX_REFS }
+    requires nums { nums ≤ MAX_NUMS }
+    requires births { (S.books seat.old).births + 1 < 2 ^ 32 }
+    ensures ready { S.is_ready seat.new }
+    ensures made { MatchAllocated result
+        (λ name. (taken : List ℕ) × (granted : List ℕ) × (drawn : ℕ)
+        × S.goes seat.old (births_with d refs nums name taken granted drawn) seat.new
+        × FindsRoom (S.lacks seat.new (size_of refs nums)) (S.is_used seat.new)
+        (S.books seat.new).blocks (S.books seat.old).ticket (S.books seat.new).ticket
+        taken granted drawn) (λ need. ⊤) }
+    ensures placed { MatchAllocated result (λ name. (mid : S)
+        × S.offers seat.old mid (size_of refs nums)
+        × S.places mid seat.new d (size_of refs nums)) (λ need. ⊤) }
+    ensures small { MatchAllocated result (λ name. size_of refs nums ≤ MAX_MEDIUM_WORDS)
+        (λ need. ⊤) }
+    ensures stopped { MatchAllocated result (λ name. ⊤)
+        (λ need. (drawn : ℕ) × S.goes seat.old (draws drawn) seat.new
+        × Draws (S.books seat.old).ticket (S.books seat.new).ticket drawn) }
+    ensures need { MatchAllocated result (λ name. ⊤) (IsNeedOf d refs nums) }
+    ensures cause { MatchAllocated result (λ name. ⊤) (λ need. IsCause (S.books seat.new)
+        (S.lacks seat.new (size_of refs nums)) (S.is_used seat.new)
+        (size_of refs nums) need.cause) }
+{
+    let shape = Shape { refs, nums };
+    let size = size_words(&shape);
+    if size > MAX_MEDIUM_WORDS {
+        return stop(d, &shape, NeedCause::Large);
+    }
+    match find_room(seat, size) {
+        Ok(()) => Allocated::Made(seat.publish(d, &shape)),
+        Err(cause) => stop(d, &shape, cause),
+    }
+}
+
+/// The answer to an allocation that is left to the stop.
+fn stop(register: u32, shape: &Shape, cause: NeedCause) -> Allocated
+    ensures { result ≡ Allocated.Stop (record {
+      register = register;
+      refs = shape.now.refs;
+      nums = shape.now.nums;
+      cause = cause;
+    }) }
+{
+    Allocated::Stop(Need {
+        register,
+        refs: shape.refs,
+        nums: shape.nums,
+        cause,
+    })
+}

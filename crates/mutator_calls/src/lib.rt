@@ -1,0 +1,16 @@
+//! The calls by which a mutator uses a heap: each is one body over the atomic steps of a seat.
+#![tactic(auto)]
+
+mod access;
+mod allocation;
+mod need;
+mod seat;
+mod stops;
+
+pub use access::{
+    add, drop_register, get, load, move_register, pin, put, read, share, swap, unpin, write,
+};
+pub use allocation::new_object;
+pub use need::{Allocated, Mutator, Need, NeedCause, Polled};
+pub use seat::Seat;
+pub use stops::{poll, raise};
