@@ -1,0 +1,102 @@
+-- What an allocation's effect gives for the world's call.
+use Rattle.std.proofs.Common.{◌≡◌, sym, ◌∙◌, ap, subst, ℕ, ◌+◌, ◌⊎◌, List}
+use Rattle.std.specs.Prelude.{Option, Some, None, slice_get, slice_index, unwrap_or}
+use Rattle.ideal_heap.specs.declared.name.Name.{Name}
+use Rattle.heap_layout.specs.Zones.{block_start}
+use Rattle.heap_layout.specs.declared.region.Region.{Region}
+use Rattle.object_model.specs.Objects.{state_of, owner_at}
+use Rattle.sessions.specs.Fitting.{HasHole}
+use Rattle.mutator_calls.specs.declared.need.Need.{Need}
+use Rattle.mutator_calls.specs.declared.need.NeedCause.{NeedCause}
+use Rattle.mutator_calls.specs.declared.need.NeedCause.TheVariants.{Large, Budget, Seen}
+use Rattle.mutator_calls.specs.declared.need.Allocated.{Allocated}
+use Rattle.mutator_calls.specs.declared.need.Allocated.TheVariants.{Made, Stop}
+use Rattle.mutator_calls.specs.Allocating.{Books, FindsRoom, IsCause, MatchAllocated}
+use Rattle.plain_world.specs.declared.plain_row.PlainRow.{PlainRow}
+use Rattle.plain_world.specs.declared.plain_row.BlockNote.{BlockNote}
+use Rattle.plain_world.specs.declared.plain_row.BlockNote.TheVariants.{Unowned, Owned}
+use Rattle.plain_world.specs.Rows.{number_of, births_of, registers_of, ticket_of}
+use Rattle.plain_world.specs.Steps.{Lacks, books_of, IsOffer, Offers, PlacesObject}
+
+pub allocated-weaker : {P P' : Name → Type 0} {Q Q' : Need → Type 0} (r : Allocated) → ((n : Name) → P n → P' n) → ((need : Need) → Q need → Q' need)
+    → MatchAllocated r P Q → MatchAllocated r P' Q'
+allocated-weaker (Made n) made stop is = made n is
+allocated-weaker (Stop need) made stop is = stop need is
+
+-- one fact for both answers
+pub allocated-both : {X : Type 0} (r : Allocated) → MatchAllocated r (λ n. X) (λ need. X) → X
+allocated-both (Made n) is = is
+allocated-both (Stop need) is = is
+
+-- the same, by the place of the mutator
+abbrev pub LacksAt : PlainRow → ℕ → ℕ → ℕ → Type 0
+LacksAt b m size k = (at : ℕ) → (owner_at (state_of b.row) k ≡ 0) ⊎ (owner_at (state_of b.row) k ≡ number_of (slice_get b.mutators.items m))
+    → HasHole b.fill (state_of b.row) k at size → ⊥
+
+abbrev pub books_for : PlainRow → ℕ → Books
+books_for b m = record {
+  blocks = b.row.layout.blocks;
+  allowance = b.allowance;
+  births = births_of (slice_get b.mutators.items m);
+  ticket = ticket_of (slice_get b.seats.items m);
+}
+
+pub lacks-at : (b : PlainRow) (m size : ℕ) → b.turn ≡ m → (k : ℕ) → Lacks b size k → LacksAt b m size k
+lacks-at b m size turn k lacks = subst (λ t. (at : ℕ) → (owner_at (state_of b.row) k ≡ 0) ⊎ (owner_at (state_of b.row) k ≡ number_of (slice_get b.mutators.items t))
+    → HasHole b.fill (state_of b.row) k at size → ⊥) turn lacks
+
+pub books-at : (b : PlainRow) (m : ℕ) → b.turn ≡ m → books_of b ≡ books_for b m
+books-at b m turn =
+    let accounts : ℕ → Books = λ t. record {
+      blocks = b.row.layout.blocks;
+      allowance = b.allowance;
+      births = births_of (slice_get b.mutators.items t);
+      ticket = ticket_of (slice_get b.seats.items t);
+    } in ap accounts turn
+
+pub allocated-and : (P P' : Name → Type 0) (Q Q' : Need → Type 0) (r : Allocated) → MatchAllocated r P Q → MatchAllocated r P' Q'
+    → MatchAllocated r (λ n. P n × P' n) (λ need. Q need × Q' need)
+allocated-and P P' Q Q' (Made n) is also = (is, also)
+allocated-and P P' Q Q' (Stop need) is also = (is, also)
+
+pub finds-weaker : (lacks lacks' used : ℕ → Type 0) (blocks : ℕ) (old new : Option ℕ) (taken granted : List ℕ) (drawn : ℕ) → ((k : ℕ) → lacks k → lacks' k)
+    → FindsRoom lacks used blocks old new taken granted drawn → FindsRoom lacks' used blocks old new taken granted drawn
+finds-weaker lacks lacks' used blocks old new taken granted drawn weaker (FindsRoom.in_own_block t g d n) = FindsRoom.in_own_block t g d n
+finds-weaker lacks lacks' used blocks old new taken granted drawn weaker (FindsRoom.in_hole k t g d n lower) = FindsRoom.in_hole k t g d n (λ j below. weaker j (lower j below))
+finds-weaker lacks lacks' used blocks old new taken granted drawn weaker (FindsRoom.in_free_block k ticket t g d some n others lower) =
+    FindsRoom.in_free_block k ticket t g d some n (λ j below other. weaker j (others j below other)) lower
+
+pub cause-weaker : (books : Books) (P Q R : ℕ → Type 0) (size : ℕ) (cause : NeedCause) → ((k : ℕ) → P k → Q k) → IsCause books P R size cause → IsCause books Q R size cause
+cause-weaker books P Q R size Large weaker is = is
+cause-weaker books P Q R size (Budget t) weaker is = (is.0, (λ k below. weaker k (is.1 k below)), is.2, is.3)
+cause-weaker books P Q R size Seen weaker is = (is.0, (λ k below. weaker k (is.1 k below)), is.2)
+
+region-read : (old new : ℕ) (r q : Region) → Some (Owned old r) ≡ Some (Owned new q) → r ≡ q
+region-read old new r q is = ap of is
+  where
+    of : Option BlockNote → Region
+    of None = r
+    of (Some (Unowned least)) = r
+    of (Some (Owned owner region)) = region
+
+-- where the new object lies
+pub record IsPlaced (a b : PlainRow) (m d size : ℕ) : Type 0 where
+  pub block : ℕ
+  pub offset : ℕ
+  pub address : slice_index (registers_of (slice_get b.mutators.items m)) d ≡ block_start (state_of b.row).blocks block + offset
+  pub owner : owner_at (state_of b.row) block ≡ number_of (slice_get b.mutators.items m)
+  pub spot : IsOffer (record a { turn = m }) block offset size
+
+pub placed-at : (a mid b : PlainRow) (m d size : ℕ) → b.turn ≡ m → Offers (record a { turn = m }) mid size → PlacesObject mid b d size → IsPlaced a b m d size
+placed-at a mid b m d size turn offers places =
+    let block : offers.block ≡ places.block = ap (λ o. unwrap_or o 0) (sym offers.now.current ∙ places.now.current) in
+    let region : offers.region ≡ places.region = region-read _ _ offers.region places.region
+    (sym (ap (λ k. slice_get mid.notes.items k) (sym block) ∙ offers.now.note) ∙ places.now.note) in
+    record {
+      block = places.block;
+      offset = places.region.next;
+      address = ap (λ t. slice_index (registers_of (slice_get b.mutators.items t)) d) (sym turn) ∙ places.address;
+      owner = places.owner ∙ ap (λ t. number_of (slice_get b.mutators.items t)) turn;
+      spot = subst (λ k. IsOffer (record a { turn = m }) k places.region.next size) block
+          (subst (λ r. IsOffer (record a { turn = m }) offers.block r.next size) region offers.offer);
+    }

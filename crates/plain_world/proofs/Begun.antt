@@ -1,0 +1,162 @@
+-- The world as an epoch begins.
+use Rattle.heap_layout.specs.declared.layout.TheConstants.{BLOCK_WORDS}
+use Rattle.ideal_heap.specs.declared.command.TheConstants.{MAX_MUTATORS}
+use Rattle.std.proofs.Common.{◌≡◌, refl, sym, ◌∙◌, ap, subst, ℕ, zero, suc, ◌+◌, ◌<◌, ◌≤◌, inl, inr, arith, Bool, true, false, ◌==◌, IsTrue, List, [], ◌∷◌, length, map, replicate, bit_and}
+use Rattle.std.specs.Prelude.{Some, None, slice_get, if◌then◌else◌}
+use Rattle.std.specs.List.{Contains}
+use Rattle.std.proofs.lemmas.List.{length-map, length-replicate}
+use Rattle.heap_layout.specs.declared.block.Kind.{Kind}
+use Rattle.heap_layout.specs.declared.block.Kind.TheVariants as kinds
+use Rattle.ideal_heap.specs.Ideal.{IdealHeap}
+use Rattle.object_model.specs.Objects.{HeapState, state_of}
+use Rattle.object_model.specs.Lawful.{IsLawful}
+use Rattle.object_model.specs.Graphs.{MutatorState, Represents, numbers_of}
+use Rattle.sessions.specs.Plans.{Rules}
+use Rattle.sessions.specs.Collecting.{Remembers}
+use Rattle.sessions.specs.Fitting.{allowance_of, HasHole}
+use Rattle.plan_api.specs.Flags.{flags_of, has_cells}
+use Rattle.mutator_core.specs.Machine.{Epoch, first_local, first_local_of}
+use Rattle.mutator_core.specs.Epochs.{IsReady, is_filled}
+use Rattle.mutator_calls.specs.declared.need.Mutator.{Mutator}
+use Rattle.plain_world.specs.declared.plain_row.PlainRow.{PlainRow}
+use Rattle.plain_world.specs.declared.plain_row.PlainSeat.{PlainSeat}
+use Rattle.plain_world.specs.declared.plain_row.BlockNote.{BlockNote}
+use Rattle.plain_world.specs.declared.plain_row.BlockNote.TheVariants.{Unowned, Owned}
+use Rattle.plain_world.specs.Rows.{mutator_state}
+use Rattle.plain_world.specs.Notes.{FillsTails, IsNote, HasNotes}
+use Rattle.plain_world.specs.Beginnings.{MayUse, without_stop, epoch_of}
+use Rattle.plain_world.specs.Worlds.{HasState, IsAt, IsAfter, IsIdle}
+use Rattle.plain_world.proofs.Lists.{get-map, get-below}
+use Rattle.plain_world.proofs.CallLemmas.{numbers-mapped}
+use Rattle.plain_world.proofs.Cleared as cleared
+use Rattle.plain_world.proofs.SomeIdeal.{own-local, some-ideal}
+
+-- the flag of a generational plan
+young-of : (moves young lines cells : Bool) → (bit_and ((if moves then 1 else 0) + (if young then 2 else 0) + (if lines then 4 else 0) + (if cells then 8 else 0)) 2 == 2) ≡ young
+young-of true true true true = refl
+young-of true true true false = refl
+young-of true true false true = refl
+young-of true true false false = refl
+young-of true false true true = refl
+young-of true false true false = refl
+young-of true false false true = refl
+young-of true false false false = refl
+young-of false true true true = refl
+young-of false true true false = refl
+young-of false true false true = refl
+young-of false true false false = refl
+young-of false false true true = refl
+young-of false false true false = refl
+young-of false false false true = refl
+young-of false false false false = refl
+
+pub young-flag : (r : Rules) → (bit_and (flags_of r) 2 == 2) ≡ r.young
+young-flag r = young-of r.moves r.young r.lines (has_cells r.fill)
+
+-- a seat without a ticket and a block, and the note of a block of which nothing is known
+abbrev pub no_seat : PlainSeat
+no_seat = record { ticket = None; block = None }
+
+abbrev pub no_note : BlockNote
+no_note = Unowned (BLOCK_WORDS + 1)
+
+-- an element of a list of copies
+get-copy : {A : Type 0} (n : ℕ) (x y : A) (k : ℕ) → slice_get (replicate n x) k ≡ Some y → y ≡ x
+get-copy zero x y k is = let wrong : None ≡ Some y = is in cc
+get-copy (suc n) x y zero is = let e : Some x ≡ Some y = is in cc
+get-copy (suc n) x y (suc k) is = get-copy n x y k is
+
+-- an element that a list has is among its elements
+get-among : {A : Type 0} (xs : List A) (k : ℕ) (x : A) → slice_get xs k ≡ Some x → Contains xs x
+get-among [] k x is = let wrong : None ≡ Some x = is in cc
+get-among (y ∷ ys) zero x is = (0, omega arith, (let e : Some y ≡ Some x = is in cc))
+get-among (y ∷ ys) (suc k) x is = let rest = get-among ys k x is in (suc rest.0, (let less : rest.0 < length ys = rest.1 in omega arith), rest.2)
+
+pub same-blocks : {s t : HeapState} → s ≡ t → s.blocks ≡ t.blocks
+same-blocks same = ap (λ (x : HeapState). x.blocks) same
+
+-- the plan's kind is one that mutators fill
+tail-filled : (fill : Kind) → FillsTails fill → IsTrue (is_filled fill)
+tail-filled fill (inl bump) = subst (λ k. IsTrue (is_filled k)) (sym bump) refl
+tail-filled fill (inr young) = subst (λ k. IsTrue (is_filled k)) (sym young) refl
+
+-- no hole is larger than a block
+small-hole : (fill : Kind) → FillsTails fill → (s : HeapState) (k at size : ℕ) → BLOCK_WORDS + 1 ≤ size → HasHole fill s k at size → ⊥
+small-hole fill (inl bump) s k at size most hole = let it : HasHole kinds.Bump s k at size = subst (λ f. HasHole f s k at size) bump hole in
+    let room : at + size ≤ 4096 = it.2 in omega arith
+small-hole fill (inr young) s k at size most hole = let it : HasHole kinds.Young s k at size = subst (λ f. HasHole f s k at size) young hole in
+    let room : at + size ≤ 4096 = it.2 in omega arith
+
+-- the parts of a world as an epoch begins
+pub record IsBegun (r : Rules) (s : HeapState) (ms : List MutatorState) (w : PlainRow) : Type 0 where
+  pub heap : state_of w.row ≡ without_stop s
+  pub mutators : map mutator_state w.mutators.items ≡ ms
+  pub seats : w.seats.items ≡ replicate (length w.mutators.items) no_seat
+  pub notes : w.notes.items ≡ replicate s.blocks no_note
+  pub fill : w.fill ≡ r.fill
+  pub young : w.young ≡ r.young
+  pub allowance : w.allowance ≡ allowance_of r.reserve s
+
+module _ (r : Rules) (s : HeapState) (ms : List MutatorState) (w : PlainRow) (begun : IsBegun r s ms w)
+    (lawful : IsLawful s) (may : MayUse s ms) (tails : FillsTails r.fill) (remembers : Remembers r s) (few : length w.mutators.items ≤ MAX_MUTATORS) where
+  abbrev p : Epoch
+  p = epoch_of r s ms
+
+  ready : IsReady p
+  ready = record {
+    lawful = cleared.lawful-cleared s lawful;
+    remembers = cleared.remembers-cleared s lawful r remembers;
+    fills = tail-filled r.fill tails;
+    stop = cleared.stop s lawful;
+    tickets = cleared.tickets s lawful;
+    few = subst (λ n. n ≤ MAX_MUTATORS) (sym (length-map w.mutators.items mutator_state) ∙ ap length begun.mutators) few;
+  }
+
+  -- an unowned block, without a hole for an object that is larger than a block
+  note-begun : (k : ℕ) → k < s.blocks → IsNote r.fill (without_stop s) k no_note
+  note-begun k there = record {
+    owner = ((cleared.lawful-cleared s lawful).but_lines.blocks k there).owner;
+    none = λ at size most hole. small-hole r.fill tails (without_stop s) k at size most hole;
+  }
+
+  notes-begun : HasNotes r.fill (without_stop s) w.notes.items
+  notes-begun = record {
+    len = ap length begun.notes ∙ length-replicate s.blocks no_note;
+    each = λ k note some. let copy : slice_get (replicate s.blocks no_note) k ≡ Some note = ap (λ xs. slice_get xs k) (sym begun.notes) ∙ some in
+        let there : k < s.blocks = subst (λ n. k < n) (length-replicate s.blocks no_note) (get-below (replicate s.blocks no_note) k note copy) in
+        subst (IsNote r.fill (without_stop s) k) (sym (get-copy s.blocks no_note note k copy)) (note-begun k there);
+  }
+
+  no-seat : (k : ℕ) (x : PlainSeat) → slice_get w.seats.items k ≡ Some x → x ≡ no_seat
+  no-seat k x some = get-copy (length w.mutators.items) no_seat x k (ap (λ xs. slice_get xs k) (sym begun.seats) ∙ some)
+
+  state-begun : (k : ℕ) (m : Mutator) (x : PlainSeat) → slice_get w.mutators.items k ≡ Some m → slice_get w.seats.items k ≡ Some x
+      → HasState m x (first_local_of ms m.number)
+  state-begun k m x some seat =
+      let known : Contains ms (mutator_state m) = get-among ms k (mutator_state m) (ap (λ xs. slice_get xs k) (sym begun.mutators) ∙ get-map mutator_state w.mutators.items k m some) in
+      subst (λ l. HasState m x l) (sym (own-local ms (mutator_state m) may.mutators.differ known))
+      (subst (λ y. HasState m y (first_local (mutator_state m))) (sym (no-seat k x seat)) (record { births = refl; registers = refl; ticket = refl; none = refl; stored = refl }))
+
+  pub at-begun : (i : IdealHeap) → Represents s ms i → IsAt p i [] w
+  at-begun i stands = record {
+    epoch = record { ready = ready; represents = cleared.represents-cleared s lawful ms i stands; steps = tt };
+    heap = begun.heap;
+    numbers = sym (numbers-mapped w.mutators.items) ∙ ap numbers_of begun.mutators;
+    seats = ap length begun.seats ∙ length-replicate (length w.mutators.items) no_seat;
+    each = state-begun;
+    regions = λ k m x b some seat is. absurd (let wrong : None ≡ Some b = sym (ap (λ y. y.block) (no-seat k x seat)) ∙ is in cc);
+    notes = subst (λ f. HasNotes f (state_of w.row) w.notes.items) (sym begun.fill) (subst (λ t. HasNotes r.fill t w.notes.items) (sym begun.heap) notes-begun);
+    fill = begun.fill;
+    tails = subst FillsTails (sym begun.fill) tails;
+    young = begun.young;
+    allowed = begun.allowance ∙ sym (cleared.allowance-cleared s lawful r.reserve);
+  }
+
+  pub after-begun : (i : IdealHeap) → Represents s ms i → IsAfter p i [] w
+  after-begun i stands = record { log = []; at = at-begun i stands; history = refl }
+
+  pub idle-begun : IsIdle w
+  idle-begun = record {
+    some = record { epoch = p; ideal = (some-ideal s ms lawful may).0; log = []; at = at-begun (some-ideal s ms lawful may).0 (some-ideal s ms lawful may).1 };
+    filled = λ k owner region is. absurd (let wrong : Owned owner region ≡ no_note = get-copy s.blocks no_note (Owned owner region) k (ap (λ xs. slice_get xs k) (sym begun.notes) ∙ is) in cc);
+  }

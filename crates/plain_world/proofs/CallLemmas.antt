@@ -1,0 +1,96 @@
+-- From the effect of a mutator's steps to what a call of the world promises.
+use Rattle.std.proofs.Common.{◌≡◌, ◌≢◌, refl, sym, ◌∙◌, ap, subst, ℕ, ◌+◌, ◌⊎◌, inl, inr, List, [], ◌∷◌, ◌++◌, map, length}
+use Rattle.std.specs.List.{Contains}
+use Rattle.std.proofs.lemmas.List.{length-map}
+use Rattle.object_model.specs.Objects.{state_of, word_at}
+use Rattle.object_model.specs.Graphs.{numbers_of}
+use Rattle.mutator_core.proofs.Ending.{log-seen}
+use Rattle.std.specs.Prelude.{slice_get}
+use Rattle.ideal_heap.specs.Ideal.{IdealHeap}
+use Rattle.ideal_heap.specs.Runs.{Entry, entry}
+use Rattle.mutator_core.specs.declared.state.LogEntry.{LogEntry}
+use Rattle.mutator_core.specs.Machine.{Epoch, first_machine}
+use Rattle.mutator_core.specs.Histories.{history}
+use Rattle.mutator_core.specs.Logs.{machine_after, heap_after}
+use Rattle.mutator_calls.specs.declared.need.Mutator.{Mutator}
+use Rattle.mutator_calls.specs.Effects.{Effect}
+use Rattle.plain_world.specs.declared.plain_row.PlainRow.{PlainRow}
+use Rattle.plain_world.specs.Rows.{number_of, births_of, ticket_of, mutator_state}
+use Rattle.plain_world.specs.Worlds.{IsAt, IsIdle, IsAfter, Goes, births_in}
+use Rattle.plain_world.specs.SeatLaws.{history-append}
+
+-- whose turn it is says nothing of the epoch
+pub at-turn : (p : Epoch) (i : IdealHeap) (log : List LogEntry) (a : PlainRow) (m : ℕ) → IsAt p i log a → IsAt p i log (record a { turn = m })
+at-turn p i log a m at = record {
+  epoch = at.epoch;
+  heap = at.heap;
+  numbers = at.numbers;
+  seats = at.seats;
+  each = at.each;
+  regions = at.regions;
+  notes = at.notes;
+  fill = at.fill;
+  tails = at.tails;
+  young = at.young;
+  allowed = at.allowed;
+}
+
+-- the mutators keep their places
+pub places-same : (a b : PlainRow) (m : ℕ) (e : Effect) → IsIdle a → Goes (record a { turn = m }) e b
+    → (length b.mutators.items ≡ length a.mutators.items) × (map (λ x. x.number) b.mutators.items ≡ map (λ x. x.number) a.mutators.items)
+places-same a b m e idle goes =
+    let now = goes.steps idle.some.epoch idle.some.ideal idle.some.log (at-turn idle.some.epoch idle.some.ideal idle.some.log a m idle.some.at) in
+    let same = now.at.numbers ∙ sym idle.some.at.numbers in
+    (sym (length-map b.mutators.items (λ x. x.number)) ∙ ap length same ∙ length-map a.mutators.items (λ x. x.number), same)
+
+-- and the plan its rules
+pub young-same : (a b : PlainRow) (m : ℕ) (e : Effect) → IsIdle a → Goes (record a { turn = m }) e b → b.young ≡ a.young
+young-same a b m e idle goes =
+    let now = goes.steps idle.some.epoch idle.some.ideal idle.some.log (at-turn idle.some.epoch idle.some.ideal idle.some.log a m idle.some.at) in
+    now.at.young ∙ sym idle.some.at.young
+
+-- the history gains the entries of the effect
+pub history-gains : (a b : PlainRow) (m : ℕ) (e : Effect) → Goes (record a { turn = m }) e b → (p : Epoch) (i : IdealHeap) (part : List Entry) → IsAfter p i part a
+    → IsAfter p i (part ++ map (λ x. entry (number_of (slice_get a.mutators.items m)) x.command x.reply) e.entries) b
+history-gains a b m e goes p i part is =
+    let more = goes.steps p i is.log (at-turn p i is.log a m is.at) in record {
+      log = is.log ++ more.more;
+      at = more.at;
+      history = history-append p (first_machine p) is.log more.more
+          ∙ ap (λ es. es ++ history p (machine_after p is.log) more.more) is.history
+          ∙ ap (λ es. part ++ es) more.entries;
+    }
+
+pub numbers-mapped : (ms : List Mutator) → map (λ x. x.number) (map mutator_state ms) ≡ map (λ m. m.number) ms
+numbers-mapped [] = refl
+numbers-mapped (m ∷ ms) = ap (λ ns. m.number ∷ ns) (numbers-mapped ms)
+
+-- the stop word is 0 or the number of a mutator
+pub stop-cases : (w : PlainRow) (p : Epoch) (i : IdealHeap) (log : List LogEntry) → IsAt p i log w
+    → (word_at (state_of w.row) 0 ≡ 0) ⊎ Contains (numbers_of (map mutator_state w.mutators.items)) (word_at (state_of w.row) 0)
+stop-cases w p i log at =
+    let same : word_at (state_of w.row) 0 ≡ word_at (heap_after p log) 0 = ap (λ t. word_at t 0) at.heap in
+    elim (log-seen p i log at.epoch).stop as (λ _. (word_at (state_of w.row) 0 ≡ 0) ⊎ Contains (numbers_of (map mutator_state w.mutators.items)) (word_at (state_of w.row) 0)) [
+      | inl none ↦ inl (same ∙ none)
+      | inr raised ↦ inr (subst (λ ns. Contains ns (word_at (state_of w.row) 0)) (sym at.numbers ∙ sym (numbers-mapped w.mutators.items)) (subst (Contains (numbers_of p.mutators)) (sym same) raised.0))
+    ]
+
+-- so one that is not 0 is the number of a mutator
+pub stop-known : (b : PlainRow) (n : ℕ) → IsIdle b → word_at (state_of b.row) 0 ≡ n → n ≢ 0 → Contains (numbers_of (map mutator_state b.mutators.items)) n
+stop-known b n idle is some = elim (stop-cases b idle.some.epoch idle.some.ideal idle.some.log idle.some.at) as (λ _. Contains (numbers_of (map mutator_state b.mutators.items)) n) [
+  | inl none ↦ absurd (some (sym is ∙ none))
+  | inr known ↦ subst (Contains (numbers_of (map mutator_state b.mutators.items))) is known
+]
+
+-- births and ticket, by the place of the mutator
+pub births-after : (a b : PlainRow) (m : ℕ) (e : Effect) → Goes (record a { turn = m }) e b
+    → births_of (slice_get b.mutators.items m) ≡ births_of (slice_get a.mutators.items m) + births_in e.entries
+births-after a b m e goes = ap (λ t. births_of (slice_get b.mutators.items t)) (sym goes.turn) ∙ goes.births
+
+pub ticket-after : (a b : PlainRow) (m : ℕ) (e : Effect) → Goes (record a { turn = m }) e b → e.drawn ≡ 0 → e.granted ≡ []
+    → ticket_of (slice_get b.seats.items m) ≡ ticket_of (slice_get a.seats.items m)
+ticket-after a b m e goes none kept = ap (λ t. ticket_of (slice_get b.seats.items t)) (sym goes.turn) ∙ goes.ticket none kept
+
+pub others-after : (a b : PlainRow) (m : ℕ) (e : Effect) → Goes (record a { turn = m }) e b → (k : ℕ) → k ≢ m
+    → (slice_get b.mutators.items k ≡ slice_get a.mutators.items k) × (ticket_of (slice_get b.seats.items k) ≡ ticket_of (slice_get a.seats.items k))
+others-after a b m e goes k other = let same = goes.others k other in (same.0, ap ticket_of same.1)

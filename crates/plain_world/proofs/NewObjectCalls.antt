@@ -1,0 +1,99 @@
+-- The call that allocates an object.
+use Rattle.std.proofs.Common.{◌≡◌, refl, sym, ◌∙◌, ap, subst, ℕ, ◌+◌, ◌<◌, ◌≤◌, ◌^◌, inl, inr, arith, add-zero, Bool, true, false, ◌&&◌, not, ◌++◌, length}
+use Rattle.std.specs.Prelude.{Some, slice_get}
+use Rattle.std.proofs.lemmas.Bool.{cases_eq}
+use Rattle.heap_layout.specs.Zones.{block_start}
+use Rattle.heap_layout.specs.declared.block.Kind.TheVariants as kinds
+use Rattle.ideal_heap.specs.declared.command.Command.TheVariants as c
+use Rattle.ideal_heap.specs.declared.reply.Reply.TheVariants as r
+use Rattle.ideal_heap.specs.declared.name.Name.{Name}
+use Rattle.object_model.specs.Objects.{state_of, word_at, has_kind, is_unlogged, size_of}
+use Rattle.mutator_calls.specs.Effects.{enters}
+use Rattle.plain_world.specs.declared.plain_row.PlainRow.{PlainRow}
+use Rattle.plain_world.specs.declared.plain_row.BlockNote.{BlockNote}
+use Rattle.plain_world.specs.declared.plain_row.BlockNote.TheVariants.{Owned}
+use Rattle.plain_world.specs.Rows.{births_of, ticket_of, block_of, mutator_at_turn, seat_at_turn, number_at_turn}
+use Rattle.plain_world.specs.Notes.{AreFilled}
+use Rattle.plain_world.specs.Worlds.{IsReady, HasRoom, Continues, Goes}
+use Rattle.plain_world.specs.Steps.{Lacks, IsUsed, PlacesObject}
+use Rattle.plain_world.proofs.Lists.{one-element}
+use Rattle.plain_world.proofs.Allocated.{IsBorn}
+use Rattle.plain_world.proofs.NewObjects as objects
+
+module _ (a b : PlainRow) (d refs nums : ℕ) (n : Name) (born : IsBorn a b d n refs nums) (has : HasRoom a (size_of refs nums)) (register : d < 16)
+    (few_refs : refs ≤ 1024) (few_nums : nums ≤ 60000) (small : size_of refs nums ≤ 2048) (few_births : births_of (mutator_at_turn a) + 1 < 2 ^ 32) where
+  and-true : (q : Bool) → q ≡ (q && not false)
+  and-true true = refl
+  and-true false = refl
+
+  pub goes : Goes a (enters (c.New d refs nums) (r.New n)) b
+  goes = record {
+    turn = born.turn;
+    number = objects.number-same a b d refs nums n born has register few_refs few_nums small few_births;
+    steps = objects.reaches a b d refs nums n born has register few_refs few_nums small few_births;
+    logged = λ q. objects.unlogs a b d refs nums n born has register few_refs few_nums small few_births has.some.epoch has.some.ideal has.some.log has.some.at q ∙ and-true (is_unlogged (state_of a.row) q);
+    granted = λ k. objects.kinds-same a b d refs nums n born has register few_refs few_nums small few_births has.some.epoch has.some.ideal has.some.log has.some.at k kinds.Free ∙ and-true (has_kind (state_of a.row) k kinds.Free);
+    free = λ k among. absurd (let below : among.0 < 0 = among.1 in omega arith);
+    size = born.object.blocks;
+    blocks = λ k below none. objects.block-word-same a b d refs nums n born has register few_refs few_nums small few_births has.some.epoch has.some.ideal has.some.log has.some.at k below;
+    budget = low-word 1 (omega arith) ∙ sym (add-zero (word_at (state_of a.row) 1));
+    stop = low-word 0 (omega arith);
+    births = ap births_of (objects.mutator-now a b d refs nums n born has register few_refs few_nums small few_births) ∙ ap (λ o. births_of o + 1) (sym born.is);
+    ticket = λ none kept. ap (λ y. ticket_of (slice_get y.items b.turn)) born.seats ∙ ap (λ k. ticket_of (slice_get a.seats.items k)) born.turn;
+    others = λ k other. (born.mutators.others k other, ap (λ y. slice_get y.items k) born.seats);
+  }
+    where
+      low-word : (k : ℕ) → k < 18 → word_at (state_of b.row) k ≡ word_at (state_of a.row) k
+      low-word = objects.low-word a b d refs nums n born has register few_refs few_nums small few_births has.some.epoch has.some.ideal has.some.log has.some.at
+
+  pub places : PlacesObject a b d (size_of refs nums)
+  places = record {
+    block = born.block;
+    region = born.region;
+    now = record { current = born.current; note = born.was };
+    address = objects.address-now a b d refs nums n born has register few_refs few_nums small few_births has.some.epoch has.some.ideal has.some.log has.some.at
+        ∙ ap (λ k. block_start k born.block + born.region.next) (sym born.object.blocks);
+    owner = objects.owner-now a b d refs nums n born has register few_refs few_nums small few_births has.some.epoch has.some.ideal has.some.log has.some.at;
+  }
+
+  pub still : (k : ℕ) → IsUsed a k → IsUsed b k
+  still k used free = used (sym (objects.kinds-same a b d refs nums n born has register few_refs few_nums small few_births has.some.epoch has.some.ideal has.some.log has.some.at k kinds.Free) ∙ free)
+
+  pub stays : (size k : ℕ) → Lacks a size k → Lacks b size k
+  stays = objects.lacks-still a b d refs nums n born has register few_refs few_nums small few_births has.some.epoch has.some.ideal has.some.log has.some.at
+
+  abbrev after_note : BlockNote
+  after_note = Owned (number_at_turn a) (record { next = born.region.next + size_of refs nums; end = born.region.end })
+
+  filled : AreFilled b.notes.items
+  filled k owner region is = elim (cases_eq k born.block) as (λ _. 0 < region.next) [
+    | inl same ↦ (
+        let alike : Owned owner region ≡ after_note = one-element (slice_get b.notes.items born.block) (Owned owner region) after_note
+        (subst (λ j. slice_get b.notes.items j ≡ Some (Owned owner region)) same is) born.notes.here in
+        let own : region ≡ record { next = born.region.next + size_of refs nums; end = born.region.end } = cc in
+        subst (λ q. 0 < q.next) (sym own) (omega arith))
+    | inr other ↦ elim (has.room.others k owner region (sym (born.notes.others k other) ∙ is)) as (λ _. 0 < region.next) [
+      | inl current ↦ absurd (other (current ∙ one-element (block_of (seat_at_turn a)) has.block born.block has.current born.current))
+      | inr more ↦ more
+    ]
+  ]
+
+  pub ready : IsReady b
+  ready = record {
+    turn = record {
+      turn = subst (λ k. b.turn < k) (sym born.mutators.len) (subst (λ k. k < length a.mutators.items) (sym born.turn) has.turn.turn);
+      seats = ap (λ w. length w.items) born.seats ∙ has.turn.seats ∙ sym born.mutators.len;
+    };
+    idle = record {
+      some = record {
+        epoch = has.some.epoch;
+        ideal = has.some.ideal;
+        log = has.some.log ++ now.more;
+        at = now.at;
+      };
+      filled = filled;
+    };
+  }
+    where
+      now : Continues has.some.epoch has.some.ideal has.some.log (number_at_turn a) (enters (c.New d refs nums) (r.New n)) b
+      now = objects.reaches a b d refs nums n born has register few_refs few_nums small few_births has.some.epoch has.some.ideal has.some.log has.some.at

@@ -1,0 +1,292 @@
+-- The mutators, seats and notes of a world that is in an epoch.
+use Rattle.std.proofs.Common.{◌≡◌, sym, ◌∙◌, ap, subst, ℕ, ◌+◌, ◌<◌, ◌≤◌, ◌^◌, inl, inr, arith, length, get_or, List, map, Vec, Global}
+use Rattle.std.specs.Prelude.{Some, slice_get}
+use Rattle.std.specs.List.{Contains}
+use Rattle.std.proofs.lemmas.Option.{get_or_from_slice_get}
+use Rattle.heap_layout.specs.declared.block.Kind.{Kind}
+use Rattle.heap_layout.specs.declared.block.Kind.TheVariants as kinds
+use Rattle.heap_layout.specs.declared.block.BlockWord.{BlockWord}
+use Rattle.heap_layout.specs.declared.region.Region.{Region}
+use Rattle.heap_layout.specs.Zones.{row_words, block_start, IsAddress}
+use Rattle.heap_layout.specs.Blocks.{IsValid, code_of, kind_code, kind_of_code}
+use Rattle.heap_layout.proofs.BlockLemmas.{parts_of_code, kind_of_code-kind_code}
+use Rattle.ideal_heap.specs.declared.name.Name.{Name}
+use Rattle.ideal_heap.specs.Names.{IsName}
+use Rattle.ideal_heap.specs.Ideal.{IdealHeap}
+use Rattle.object_model.specs.Objects.{HeapState, state_of, block_word, HasKind, owner_at}
+use Rattle.object_model.specs.Graphs.{MutatorState, IsMutatorState, AreMutators, numbers_of}
+use Rattle.object_model.proofs.Among.{all-at}
+use Rattle.object_model.proofs.BirthRepresentation.{any-number}
+use Rattle.object_model.proofs.OneKind.{kind-code}
+use Rattle.mutator_core.specs.declared.state.Local.{Local}
+use Rattle.mutator_core.specs.declared.state.LogEntry.{LogEntry}
+use Rattle.mutator_core.specs.declared.state.OwnedBlock.{OwnedBlock}
+use Rattle.mutator_core.specs.Machine.{Epoch, mutator_of}
+use Rattle.mutator_core.specs.Logs.{machine_after, heap_after, local_after_log, IsListed}
+use Rattle.mutator_core.proofs.Lists.{among}
+use Rattle.mutator_core.proofs.Regions.{owner-lists}
+use Rattle.mutator_calls.specs.declared.need.Mutator.{Mutator}
+use Rattle.plain_world.specs.declared.plain_row.PlainRow.{PlainRow}
+use Rattle.plain_world.specs.declared.plain_row.PlainSeat.{PlainSeat}
+use Rattle.plain_world.specs.declared.plain_row.BlockNote.{BlockNote}
+use Rattle.plain_world.specs.declared.plain_row.BlockNote.TheVariants.{Unowned, Owned}
+use Rattle.plain_world.specs.Rows.{IsTurn, number_of, births_of, registers_of, ticket_of, block_of, mutator_at_turn, seat_at_turn, number_at_turn}
+use Rattle.plain_world.specs.Notes.{FillsTails, IsNote, IsOwnedNote, IsUnownedNote, IsRegionOf}
+use Rattle.plain_world.specs.Worlds.{HasState, IsAt, IsInEpoch, HasRoom}
+use Rattle.plain_world.specs.Changes.{Advances, CountsObject}
+use Rattle.plain_world.proofs.Lists.{get-some, get-below, get-map, one-element}
+use Rattle.plain_world.proofs.Elements.{read-some}
+use Rattle.plain_world.proofs.Facts as facts
+
+-- an element that is there is one of the list
+pub contains-at : {A : Type 0} (xs : List A) (k : ℕ) (x : A) → slice_get xs k ≡ Some x → Contains xs x
+contains-at xs k x is = (k, get-below xs k x is, get_or_from_slice_get xs k x x is)
+
+-- mutators' numbers are 1 to 16
+pub number-range : (ms : List MutatorState) (n : ℕ) → AreMutators ms → Contains (numbers_of ms) n → (1 ≤ n) × (n ≤ 16)
+number-range ms n are known =
+    let one = any-number IsMutatorState n ms known are.each in
+    subst (λ (q : ℕ). (1 ≤ q) × (q ≤ 16)) one.4.1 (one.4.0.least, one.4.0.most)
+
+-- the kind that is read of a block is the block's
+pub kind-read : (s : HeapState) (k : ℕ) (b : BlockWord) (kind : Kind) → IsValid b → code_of b ≡ block_word s k → HasKind s k kind → b.kind ≡ kind
+kind-read s k b kind valid code is =
+    one-element (kind_of_code (kind_code kind)) b.kind kind
+    (subst (λ (n : ℕ). kind_of_code n ≡ Some b.kind) (kind-code s k kind is) (parts_of_code b (block_word s k) valid code).0)
+    (kind_of_code-kind_code kind)
+
+-- the word of a block of a kind that is filled by its tail
+pub tail-valid : (kind : Kind) (owner : ℕ) → FillsTails kind → owner ≤ 16 → IsValid (record { kind = kind; class = 0; owner = owner })
+tail-valid kind owner tails few = elim tails as (λ _. IsValid (record { kind = kind; class = 0; owner = owner })) [
+  | inl bump ↦ subst (λ (k : Kind). IsValid (record { kind = k; class = 0; owner = owner })) (sym bump) (bumped kinds.Bump)
+  | inr young ↦ subst (λ (k : Kind). IsValid (record { kind = k; class = 0; owner = owner })) (sym young) (younger kinds.Young)
+]
+  where
+    bumped : (k : Kind) → IsValid (record { kind = kinds.Bump; class = 0; owner = owner })
+    bumped k = grind arith
+
+    younger : (k : Kind) → IsValid (record { kind = kinds.Young; class = 0; owner = owner })
+    younger k = grind arith
+
+-- so such a block has class 0
+pub tail-class : (kind : Kind) (class owner : ℕ) → FillsTails kind → IsValid (record { kind = kind; class = class; owner = owner }) → class ≡ 0
+tail-class kind class owner tails valid = elim tails as (λ _. class ≡ 0) [
+  | inl bump ↦ bumped (subst (λ (k : Kind). IsValid (record { kind = k; class = class; owner = owner })) bump valid)
+  | inr young ↦ younger (subst (λ (k : Kind). IsValid (record { kind = k; class = class; owner = owner })) young valid)
+]
+  where
+    bumped : IsValid (record { kind = kinds.Bump; class = class; owner = owner }) → class ≡ 0
+    bumped is = grind arith
+
+    younger : IsValid (record { kind = kinds.Young; class = class; owner = owner }) → class ≡ 0
+    younger is = grind arith
+
+module _ (p : Epoch) (i : IdealHeap) (log : List LogEntry) (w : PlainRow) (at : IsAt p i log w) where
+  abbrev s : HeapState
+  s = state_of w.row
+
+  pub extent : length w.row.words.items ≡ row_words w.row.layout.blocks
+  extent = (facts.order p i log w at).row.extent
+
+  pub least-blocks : 4 ≤ w.row.layout.blocks
+  least-blocks = (facts.order p i log w at).row.least
+
+  pub most-blocks : w.row.layout.blocks ≤ 1024
+  most-blocks = (facts.order p i log w at).row.most
+
+  -- the mutator at a place of the list
+  module _ (k : ℕ) (m : Mutator) (is : slice_get w.mutators.items k ≡ Some m) where
+    listed : slice_get (numbers_of p.mutators) k ≡ Some m.number
+    listed = subst (λ (xs : List ℕ). slice_get xs k ≡ Some m.number) at.numbers (get-map (λ (x : Mutator). x.number) w.mutators.items k m is)
+
+    pub known : Contains (numbers_of p.mutators) m.number
+    known = contains-at (numbers_of p.mutators) k m.number listed
+
+    pub range : (1 ≤ m.number) × (m.number ≤ 16)
+    range = number-range p.mutators m.number at.epoch.represents.mutators known
+
+    pub seat : (x : PlainSeat) × (slice_get w.seats.items k ≡ Some x)
+    seat = get-some w.seats.items k (let below = get-below w.mutators.items k m is in let same = at.seats in omega arith)
+
+    pub state : HasState m seat.0 (local_after_log p log m.number)
+    state = at.each k m seat.0 is seat.1
+
+    pub registers : length m.registers ≡ 16
+    registers =
+        let locals = (machine_after p log).locals in
+        ap length (sym state.registers)
+        ∙ (all-at IsMutatorState (map (λ (q : ℕ). mutator_of (locals q)) (numbers_of p.mutators)) (mutator_of (locals m.number))
+        (facts.moment p i log w at).models.mutators.each (among locals (numbers_of p.mutators) m.number known)).registers
+
+  -- mutators at two places have two numbers
+  pub differ : (j k : ℕ) (m n : Mutator) → slice_get w.mutators.items j ≡ Some m → slice_get w.mutators.items k ≡ Some n → m.number ≡ n.number → j ≡ k
+  differ j k m n first second same =
+      let here = listed j m first in
+      let there = listed k n second in
+      at.epoch.represents.mutators.differ j k (get-below (numbers_of p.mutators) j m.number here) (get-below (numbers_of p.mutators) k n.number there)
+      (get_or_from_slice_get (numbers_of p.mutators) j m.number 0 here ∙ same ∙ sym (get_or_from_slice_get (numbers_of p.mutators) k n.number 0 there))
+
+  -- there is a note for each block, and only for those
+  pub noted : (k : ℕ) → k < w.row.layout.blocks → k < length w.notes.items
+  noted k there = let many = at.notes.len in omega arith
+
+  pub note-block : (k : ℕ) (note : BlockNote) → slice_get w.notes.items k ≡ Some note → k < w.row.layout.blocks
+  note-block k note is = let there = get-below w.notes.items k note is in let many = at.notes.len in omega arith
+
+  pub note-right : (k : ℕ) (note : BlockNote) → slice_get w.notes.items k ≡ Some note → IsNote w.fill (state_of w.row) k note
+  note-right k note is = at.notes.each k note is
+
+  pub owned-note : (k number : ℕ) (region : Region) → slice_get w.notes.items k ≡ Some (Owned number region) → IsOwnedNote w.fill (state_of w.row) k number region
+  owned-note k number region is = at.notes.each k (Owned number region) is
+
+  pub unowned-note : (k least : ℕ) → slice_get w.notes.items k ≡ Some (Unowned least) → IsUnownedNote w.fill (state_of w.row) k least
+  unowned-note k least is = at.notes.each k (Unowned least) is
+
+  -- the mutator of an Owned note took the block, for class 0
+  pub note-listed : (k number : ℕ) (region : Region) → slice_get w.notes.items k ≡ Some (Owned number region) → IsListed (local_after_log p log number) k
+  note-listed k number region is =
+      let note = owned-note k number region is in
+      let same : owner_at (heap_after p log) k ≡ number = subst (λ (t : HeapState). owner_at t k ≡ number) at.heap note.owner in
+      subst (λ (n : ℕ). IsListed (local_after_log p log n) k) same
+      (owner-lists p at.epoch.ready (machine_after p log) (facts.moment p i log w at).epoch k
+      (subst (λ (b : ℕ). k < b) (sym (facts.blocks p i log w at)) (note-block k (Owned number region) is))
+      (subst (λ (n : ℕ). 0 < n) (sym same) note.some))
+
+  pub note-taken : (k number : ℕ) (region : Region) → slice_get w.notes.items k ≡ Some (Owned number region)
+      → Contains (local_after_log p log number).owned (record { block = k; class = 0 })
+  note-taken k number region is =
+      let by = note-listed k number region is in
+      let owned = ((facts.moment p i log w at).epoch.knows number).owned by.block by.listed in
+      let class : by.block.class ≡ 0 = tail-class p.rules.fill by.block.class (local_after_log p log number).number (subst FillsTails at.fill at.tails) owned.valid in
+      subst (Contains (local_after_log p log number).owned)
+      (ap (λ (b : ℕ). let o : OwnedBlock = record { block = b; class = by.block.class } in o) by.same
+      ∙ ap (λ (c : ℕ). let o : OwnedBlock = record { block = k; class = c } in o) class) by.listed
+
+  -- the mutator whose turn it is
+  module _ (turn : IsTurn w) where
+    pub mutator : (m : Mutator) × (mutator_at_turn w ≡ Some m)
+    mutator = get-some w.mutators.items w.turn turn.turn
+
+    pub own-number : number_at_turn w ≡ mutator.0.number
+    own-number = ap number_of mutator.1
+
+    pub own-known : Contains (numbers_of p.mutators) (number_at_turn w)
+    own-known = subst (Contains (numbers_of p.mutators)) (sym own-number) (known w.turn mutator.0 mutator.1)
+
+    pub own-range : (1 ≤ number_at_turn w) × (number_at_turn w ≤ 16)
+    own-range = number-range p.mutators (number_at_turn w) at.epoch.represents.mutators own-known
+
+    pub own-seat : (x : PlainSeat) × (seat_at_turn w ≡ Some x)
+    own-seat = seat w.turn mutator.0 mutator.1
+
+    abbrev pub own-local : Local
+    own-local = local_after_log p log (number_at_turn w)
+
+    pub own-state : HasState mutator.0 own-seat.0 own-local
+    own-state = subst (λ (n : ℕ). HasState mutator.0 own-seat.0 (local_after_log p log n)) (sym own-number) (at.each w.turn mutator.0 own-seat.0 mutator.1 own-seat.1)
+
+    pub own-register-count : length (registers_of (mutator_at_turn w)) ≡ 16
+    own-register-count = ap (λ o. length (registers_of o)) mutator.1 ∙ registers w.turn mutator.0 mutator.1
+
+    pub own-births : own-local.births ≡ births_of (mutator_at_turn w)
+    own-births = own-state.births ∙ sym (ap births_of mutator.1)
+
+    pub own-ticket : own-local.ticket ≡ ticket_of (seat_at_turn w)
+    own-ticket = own-state.ticket ∙ sym (ap ticket_of own-seat.1)
+
+    pub own-local-number : own-local.number ≡ number_at_turn w
+    own-local-number = (facts.moment p i log w at).epoch.numbers (number_at_turn w)
+
+    -- it owns the block that it allocates in
+    pub own-region : (b : ℕ) → block_of (seat_at_turn w) ≡ Some b → IsRegionOf w.notes.items (number_at_turn w) b
+    own-region b is = subst (λ (n : ℕ). IsRegionOf w.notes.items n b) (sym own-number)
+        (at.regions w.turn mutator.0 own-seat.0 b mutator.1 own-seat.1 (sym (ap block_of own-seat.1) ∙ is))
+
+    -- the word of a block that it takes
+    pub own-valid : IsValid (record { kind = w.fill; class = 0; owner = number_at_turn w })
+    own-valid = tail-valid w.fill (number_at_turn w) at.tails own-range.1
+
+    -- the note that is read of that block
+    pub own-note : (b owner : ℕ) (region : Region) → block_of (seat_at_turn w) ≡ Some b → slice_get w.notes.items b ≡ Some (Owned owner region)
+        → slice_get w.notes.items b ≡ Some (Owned (number_at_turn w) region)
+    own-note b owner region is note =
+        let mine = own-region b is in
+        let same : Owned owner region ≡ Owned (number_at_turn w) mine.region = one-element (slice_get w.notes.items b) (Owned owner region) (Owned (number_at_turn w) mine.region) note mine.note in
+        let number : owner ≡ number_at_turn w = cc in
+        subst (λ (n : ℕ). slice_get w.notes.items b ≡ Some (Owned n region)) number note
+
+    -- the seat that is read has the block that the mutator allocates in
+    pub current-block : (x : PlainSeat) (b : ℕ) → x ≡ get_or w.seats.items w.turn x → x.block ≡ Some b → block_of (seat_at_turn w) ≡ Some b
+    current-block x b is block =
+        ap block_of (read-some w.seats.items w.turn x (let t = turn.turn in let e = turn.seats in omega arith) is) ∙ block
+
+    pub current-noted : (x : PlainSeat) (b : ℕ) → x ≡ get_or w.seats.items w.turn x → x.block ≡ Some b → b < length w.notes.items
+    current-noted x b is block =
+        let mine = own-region b (current-block x b is block) in
+        get-below w.notes.items b (Owned (number_at_turn w) mine.region) mine.note
+
+-- the block, its mutator and its region, as they are read
+pub record IsCurrent (w : PlainRow) (size b owner : ℕ) (region : Region) : Type 0 where
+  pub current : block_of (seat_at_turn w) ≡ Some b
+  pub own : owner ≡ number_at_turn w
+  pub note : slice_get w.notes.items b ≡ Some (Owned (number_at_turn w) region)
+  pub there : b < length w.notes.items
+  pub room : region.next + size ≤ region.end
+  pub end : region.end ≡ 4096
+  pub block : b < w.row.layout.blocks
+
+pub current-read : (w : PlainRow) (size : ℕ) → HasRoom w size → (x : PlainSeat) (b : ℕ) (n : BlockNote) (owner : ℕ) (region : Region)
+    → x ≡ get_or w.seats.items w.turn x → x.block ≡ Some b → n ≡ get_or w.notes.items b n → n ≡ Owned owner region → IsCurrent w size b owner region
+current-read w size has x b n owner region seat block read is =
+    let p = has.some.epoch in
+    let at = has.some.at in
+    let current : block_of (seat_at_turn w) ≡ Some b = current-block p has.some.ideal has.some.log w at has.turn x b seat block in
+    let there : b < length w.notes.items = current-noted p has.some.ideal has.some.log w at has.turn x b seat block in
+    let note : slice_get w.notes.items b ≡ Some (Owned owner region) = read-some w.notes.items b n there read ∙ ap (λ (y : BlockNote). Some y) is in
+    let same : has.block ≡ b = one-element (block_of (seat_at_turn w)) has.block b has.current current in
+    let mine : slice_get w.notes.items b ≡ Some (Owned (number_at_turn w) has.room.region) = subst (λ (k : ℕ). slice_get w.notes.items k ≡ Some (Owned (number_at_turn w) has.room.region)) same has.room.note in
+    let alike : Owned owner region ≡ Owned (number_at_turn w) has.room.region = one-element (slice_get w.notes.items b) (Owned owner region) (Owned (number_at_turn w) has.room.region) note mine in
+    let region-same : has.room.region ≡ region = cc in
+    let own : owner ≡ number_at_turn w = cc in
+    let owned = owned-note p has.some.ideal has.some.log w at b owner region note in
+    record {
+      current = current;
+      own = own;
+      note = subst (λ (k : ℕ). slice_get w.notes.items b ≡ Some (Owned k region)) own note;
+      there = there;
+      room = subst (λ (r : Region). r.next + size ≤ r.end) region-same has.room.room;
+      end = owned.end;
+      block = note-block p has.some.ideal has.some.log w at b (Owned owner region) note;
+    }
+
+-- the words of an object at the start of the region are the heap's
+pub record IsPlaced (blocks size block offset : ℕ) : Type 0 where
+  pub there : block < blocks
+  pub within : offset + size ≤ 4096
+  pub address : IsAddress blocks (block_start blocks block + offset)
+  pub inside : block_start blocks block + offset + size ≤ row_words blocks
+
+pub advanced-place : (w new : PlainRow) (size block offset : ℕ) → IsInEpoch w → 0 < size → Advances w new size block offset → IsPlaced w.row.layout.blocks size block offset
+advanced-place w new size block offset now some by =
+    let there : block < w.row.layout.blocks = note-block now.epoch now.ideal now.log w now.at block (Owned (number_at_turn w) by.region) by.was in
+    let end : by.region.end ≡ 4096 = (owned-note now.epoch now.ideal now.log w now.at block (number_at_turn w) by.region by.was).end in
+    let begins : by.region.next ≡ offset = by.begins in
+    let room : by.region.next + size ≤ by.region.end = by.room in
+    let blocks : ℕ = w.row.layout.blocks in
+    record {
+      there = there;
+      within = omega arith;
+      address = record { from = omega arith; below = omega arith };
+      inside = omega arith;
+    }
+
+-- the mutator's next object has a name
+pub counted-name : (w advanced new : PlainRow) (d address : ℕ) (n : Name) → IsInEpoch w → IsTurn w → births_of (mutator_at_turn w) + 1 < 2 ^ 32
+    → advanced.mutators ≡ w.mutators → advanced.turn ≡ w.turn → CountsObject advanced new d address n → IsName n
+counted-name w advanced new d address n now turn few mutators turns by =
+    let same : mutator_at_turn w ≡ Some by.mutator =
+    ap (λ (k : ℕ). slice_get w.mutators.items k) (sym turns) ∙ ap (λ (v : Vec Mutator Global). slice_get v.items advanced.turn) (sym mutators) ∙ by.was in
+    let range = own-range now.epoch now.ideal now.log w now.at turn in
+    let number : number_at_turn w ≡ by.mutator.number = ap number_of same in
+    let births : births_of (mutator_at_turn w) ≡ by.mutator.births = ap births_of same in
+    subst IsName (sym by.named) (record { least = omega (arith, range.0); most = omega (arith, range.1); born = omega arith; fits = omega arith })

@@ -1,0 +1,47 @@
+use Rattle.std.proofs.Common.{◌≡◌, refl, sym, ap, subst, ℕ, arith}
+use Rattle.std.specs.Prelude.{Option, Some}
+use Rattle.plain_world.specs.declared.plain_row.BlockNote.TheVariants.{Unowned}
+use Rattle.plain_world.specs.Rows.{seat_at_turn, ticket_of}
+use Rattle.plain_world.specs.Changes.{TakesBlock}
+use Rattle.plain_world.proofs.Elements.{set-changes, read-some}
+use Rattle.plain_world.proofs.Facts as facts
+use Rattle.plain_world.proofs.Turns as turns
+use Rattle.plain_world.proofs.plain_row.PlainRow.take_unowned.Goals as goal
+
+pub hole-requires-clause-order : goal.hole-requires-clause-order
+hole-requires-clause-order c = let now = c.requires.ready.idle.some in facts.order now.epoch now.ideal now.log c.args.self.now now.at
+
+pub hole-requires-clause-block : goal.hole-requires-clause-block
+hole-requires-clause-block c =
+    let now = c.requires.ready.idle.some in
+    facts.readable-block now.epoch now.ideal now.log c.args.self.now now.at c.args.block c.requires.block
+
+pub take-requires-clause-extent : goal.take-requires-clause-extent
+take-requires-clause-extent c = let now = c.requires.ready.idle.some in turns.extent now.epoch now.ideal now.log c.args.self.now now.at
+
+pub take-requires-clause-valid : goal.take-requires-clause-valid
+take-requires-clause-valid c = let now = c.requires.ready.idle.some in turns.own-valid now.epoch now.ideal now.log c.args.self.now now.at c.requires.ready.turn
+
+pub returns-in-None-clause-none : goal.returns-in-None-clause-none
+returns-in-None-clause-none c = λ no.
+    let now = c.requires.ready.idle.some in
+    let w = c.args.self.now in (
+      rw c.in-None.is at c.hole.ensures,
+      record {
+        plan = record { turn = refl; fill = refl; young = refl; allowance = refl };
+        mutators = refl;
+        row = refl;
+        seats = refl;
+        notes = set-changes w.notes.items c.args.block (Unowned c.args.size) (turns.noted now.epoch now.ideal now.log w now.at c.args.block c.requires.block);
+      },
+    )
+
+pub returns-in-Some-clause-found : goal.returns-in-Some-clause-found
+returns-in-Some-clause-found c = λ yes.
+    let w = c.args.self.now in
+    let turn = c.requires.ready.turn in
+    let seat : seat_at_turn w ≡ Some c.index.result.now = read-some w.seats.items w.turn c.index.result.now (let e = turn.seats in let t = turn.turn in omega arith) c.index.ensures in (
+      c.in-Some.region,
+      rw c.in-Some.is at c.hole.ensures,
+      subst (λ (ticket : Option ℕ). TakesBlock w c.take.new.self c.args.block c.in-Some.region ticket) (sym (ap ticket_of seat)) c.take.ensures,
+    )

@@ -1,0 +1,80 @@
+use Rattle.std.proofs.Common.{subst, ap}
+use Rattle.std.specs.Prelude.{slice_get}
+use Rattle.object_model.specs.Objects.{size_of}
+use Rattle.mutator_calls.specs.Effects.{draws}
+use Rattle.mutator_calls.specs.Allocating.{births_with, Draws, FindsRoom, IsCause}
+use Rattle.plain_world.specs.Rows.{ticket_of}
+use Rattle.plain_world.specs.Steps.{Lacks, IsUsed}
+use Rattle.plain_world.proofs.CallLemmas.{places-same, young-same, history-gains, births-after, ticket-after, others-after}
+use Rattle.plain_world.proofs.AllocationCalls.{allocated-weaker, allocated-both, allocated-and, lacks-at, books-at, books_for, LacksAt, finds-weaker, cause-weaker, placed-at}
+use Rattle.plain_world.proofs.plain_world.PlainWorld.new_object.Goals as goal
+
+pub returns-clause-places : goal.returns-clause-places
+returns-clause-places g c = allocated-both c.new_object.result (allocated-weaker c.new_object.result
+    (λ n did. let same = places-same c.args.self.now.row c.new_object.new.seat c.args.m (births_with c.args.d c.args.refs c.args.nums n did.0.0 did.0.1 did.0.2) c.requires.open did.0.3 in
+    record { count = same.0; numbers = same.1 })
+    (λ need did. let same = places-same c.args.self.now.row c.new_object.new.seat c.args.m (draws did.1.0) c.requires.open did.1.1 in
+    record { count = same.0; numbers = same.1 })
+    (allocated-and _ _ _ _ c.new_object.result c.new_object.ensures.made c.new_object.ensures.stopped))
+
+pub returns-clause-plan : goal.returns-clause-plan
+returns-clause-plan g c = allocated-both c.new_object.result (allocated-weaker c.new_object.result
+    (λ n did. young-same c.args.self.now.row c.new_object.new.seat c.args.m (births_with c.args.d c.args.refs c.args.nums n did.0.0 did.0.1 did.0.2) c.requires.open did.0.3)
+    (λ need did. young-same c.args.self.now.row c.new_object.new.seat c.args.m (draws did.1.0) c.requires.open did.1.1)
+    (allocated-and _ _ _ _ c.new_object.result c.new_object.ensures.made c.new_object.ensures.stopped))
+
+pub returns-clause-logged : goal.returns-clause-logged
+returns-clause-logged g c = allocated-both c.new_object.result (allocated-weaker c.new_object.result
+    (λ n did. did.0.3.logged) (λ need did. did.1.1.logged)
+    (allocated-and _ _ _ _ c.new_object.result c.new_object.ensures.made c.new_object.ensures.stopped))
+
+pub returns-clause-made : goal.returns-clause-made
+returns-clause-made g c =
+    let a = c.args.self.now.row in
+    let b = c.new_object.new.seat in
+    let m = c.args.m in
+    let size = size_of c.args.refs c.args.nums in
+    allocated-weaker c.new_object.result
+    (λ n both. let did = both.0 in let goes = did.3 in let effect = births_with c.args.d c.args.refs c.args.nums n did.0 did.1 did.2 in
+    let placed = placed-at a both.1.0.0 b m c.args.d size goes.turn both.1.0.1 both.1.0.2 in record {
+      taken = did.0;
+      granted = did.1;
+      drawn = did.2;
+      history = history-gains a b m effect goes;
+      grants = record { kind = goes.granted; free = goes.free };
+      rest = record {
+        stop = goes.stop;
+        budget = goes.budget;
+        blocks = goes.blocks;
+        births = births-after a b m effect goes;
+        ticket = ticket-after a b m effect goes;
+        others = others-after a b m effect goes;
+      };
+      finds = subst (λ o. FindsRoom (LacksAt b m size) (IsUsed b) b.row.layout.blocks (ticket_of (slice_get a.seats.items m)) o did.0 did.1 did.2)
+          (ap (λ t. ticket_of (slice_get b.seats.items t)) goes.turn)
+          (finds-weaker (Lacks b size) (LacksAt b m size) (IsUsed b) b.row.layout.blocks _ _ did.0 did.1 did.2 (lacks-at b m size goes.turn) did.4);
+      placed = record { block = placed.block; offset = placed.offset; address = placed.address; owner = placed.owner; spot = placed.spot };
+    })
+    (λ need both. let did = both.1.1 in let goes = did.1 in let effect = draws did.0 in record {
+      drawn = did.0;
+      history = history-gains a b m effect goes;
+      grants = record { kind = goes.granted; free = goes.free };
+      rest = record {
+        stop = goes.stop;
+        budget = goes.budget;
+        blocks = goes.blocks;
+        births = births-after a b m effect goes;
+        ticket = ticket-after a b m effect goes;
+        others = others-after a b m effect goes;
+      };
+      tickets = subst (λ o. Draws (ticket_of (slice_get a.seats.items m)) o did.0) (ap (λ t. ticket_of (slice_get b.seats.items t)) goes.turn) did.2;
+    })
+    (allocated-and _ _ _ _ c.new_object.result c.new_object.ensures.made
+    (allocated-and _ _ _ _ c.new_object.result c.new_object.ensures.placed c.new_object.ensures.stopped))
+
+pub returns-clause-cause : goal.returns-clause-cause
+returns-clause-cause g c = let size = size_of c.args.refs c.args.nums in let b = c.new_object.new.seat in
+    allocated-weaker c.new_object.result (λ n did. tt)
+    (λ need did. let turn = did.1.1.turn in cause-weaker (books_for b c.args.m) (Lacks b size) (LacksAt b c.args.m size) (IsUsed b) size need.cause (lacks-at b c.args.m size turn)
+    (subst (λ books. IsCause books (Lacks b size) (IsUsed b) size need.cause) (books-at b c.args.m turn) did.0))
+    (allocated-and _ _ _ _ c.new_object.result c.new_object.ensures.cause c.new_object.ensures.stopped)

@@ -1,0 +1,32 @@
+use Rattle.std.proofs.Common.{◌∙◌, ap, map}
+use Rattle.std.specs.Prelude.{slice_get}
+use Rattle.object_model.specs.Objects.{state_of}
+use Rattle.mutator_calls.specs.Effects.{nothing}
+use Rattle.mutator_calls.specs.Stopping.{stop_of}
+use Rattle.plain_world.specs.Rows.{mutator_state, ticket_of}
+use Rattle.plain_world.specs.SeatLaws.{goes-nothing}
+use Rattle.plain_world.proofs.CallLemmas.{places-same, history-gains, stop-known}
+use Rattle.plain_world.proofs.plain_world.PlainWorld.poll.Goals as goal
+
+pub returns-clause-places : goal.returns-clause-places
+returns-clause-places g c =
+    let did = goes-nothing (record c.args.self.now.row { turn = c.args.m }) c.poll.new.seat c.poll.ensures.looks in
+    let same = places-same c.args.self.now.row c.poll.new.seat c.args.m nothing c.requires.open did in
+    record { count = same.0; numbers = same.1 }
+
+pub returns-clause-plan : goal.returns-clause-plan
+returns-clause-plan g c = ap (λ w. w.young) c.poll.ensures.looks
+
+pub returns-clause-history : goal.returns-clause-history
+returns-clause-history g c = history-gains c.args.self.now.row c.poll.new.seat c.args.m nothing
+    (goes-nothing (record c.args.self.now.row { turn = c.args.m }) c.poll.new.seat c.poll.ensures.looks)
+
+pub returns-clause-same : goal.returns-clause-same
+returns-clause-same g c = record {
+  heap = ap (λ w. state_of w.row) c.poll.ensures.looks;
+  mutators = ap (λ w. map mutator_state w.mutators.items) c.poll.ensures.looks;
+  tickets = λ k. ap (λ w. ticket_of (slice_get w.seats.items k)) c.poll.ensures.looks;
+}
+
+pub returns-clause-mutator : goal.returns-clause-mutator
+returns-clause-mutator g c = λ n is. stop-known c.args.self.now.row n c.requires.open (c.poll.ensures.stop ∙ ap stop_of is) (c.poll.ensures.raised n is)

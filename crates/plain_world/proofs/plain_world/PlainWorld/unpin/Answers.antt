@@ -1,0 +1,31 @@
+use Rattle.ideal_heap.specs.declared.command.Command.TheVariants as command
+use Rattle.mutator_calls.specs.Effects.{enters}
+use Rattle.plain_world.proofs.CallLemmas.{places-same, young-same, history-gains, births-after, ticket-after, others-after}
+use Rattle.plain_world.proofs.plain_world.PlainWorld.unpin.Goals as goal
+
+pub returns-clause-places : goal.returns-clause-places
+returns-clause-places g c =
+    let same = places-same c.args.self.now.row c.unpin.new.seat c.args.m (enters (command.Unpin c.args.s) c.unpin.result) c.requires.open c.unpin.ensures.goes in
+    record { count = same.0; numbers = same.1 }
+
+pub returns-clause-plan : goal.returns-clause-plan
+returns-clause-plan g c =
+    young-same c.args.self.now.row c.unpin.new.seat c.args.m (enters (command.Unpin c.args.s) c.unpin.result) c.requires.open c.unpin.ensures.goes
+
+pub returns-clause-history : goal.returns-clause-history
+returns-clause-history g c =
+    history-gains c.args.self.now.row c.unpin.new.seat c.args.m (enters (command.Unpin c.args.s) c.unpin.result) c.unpin.ensures.goes
+
+pub returns-clause-rest : goal.returns-clause-rest
+returns-clause-rest g c =
+    let did = c.unpin.ensures.goes in
+    let effect = enters (command.Unpin c.args.s) c.unpin.result in
+    let old = c.args.self.now.row in
+    let new = c.unpin.new.seat in record {
+      stop = did.stop;
+      budget = did.budget;
+      blocks = did.blocks;
+      births = births-after old new c.args.m effect did;
+      ticket = ticket-after old new c.args.m effect did;
+      others = others-after old new c.args.m effect did;
+    }

@@ -1,0 +1,5 @@
+use Rattle.plain_world.specs.Calls.{IsOpen}
+use Rattle.plain_world.proofs.test_twins.Twins.count_numbers.Given as goal
+
+abbrev pub invariant-loop-j : goal.invariant-loop-j
+invariant-loop-j g l = IsOpen l.self.world

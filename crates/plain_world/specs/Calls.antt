@@ -1,0 +1,180 @@
+-- What the calls of a world promise.
+use Rattle.std.specs.Prelude.{◌≡◌, ◌≢◌, ℕ, ◌+◌, ◌<◌, ◌⊎◌, Bool, true, false, ◌&&◌, not, Option, List, [], ◌∷◌, ◌++◌, map, length, slice_get, slice_index}
+use Rattle.std.specs.List.{Contains}
+use Rattle.heap_layout.specs.declared.block.Kind.{Kind}
+use Rattle.heap_layout.specs.declared.block.Kind.TheVariants as kinds
+use Rattle.heap_layout.specs.Zones.{block_start}
+use Rattle.ideal_heap.specs.declared.command.Command.{Command}
+use Rattle.ideal_heap.specs.declared.command.Command.TheVariants as command
+use Rattle.ideal_heap.specs.declared.reply.Reply.TheVariants as reply
+use Rattle.ideal_heap.specs.declared.name.Name.{Name}
+use Rattle.ideal_heap.specs.declared.reply.Reply.{Reply}
+use Rattle.ideal_heap.specs.Ideal.{IdealHeap}
+use Rattle.ideal_heap.specs.Runs.{Entry, entry}
+use Rattle.object_model.specs.Objects.{HeapState, state_of, word_at, block_word, has_kind, HasKind, owner_at, is_unlogged, size_of}
+use Rattle.object_model.specs.Graphs.{MutatorState}
+use Rattle.object_model.specs.Ages.{is_old}
+use Rattle.sessions.specs.Fitting.{HasHole}
+use Rattle.mutator_core.specs.Machine.{Epoch}
+use Rattle.mutator_calls.specs.Effects.{Effect, draws}
+use Rattle.mutator_calls.specs.Allocating.{Books, births_with, Draws, FindsRoom}
+use Rattle.plain_world.specs.declared.plain_row.PlainRow.{PlainRow}
+use Rattle.plain_world.specs.declared.plain_world.PlainWorld.{PlainWorld}
+use Rattle.plain_world.specs.Rows.{mutator_state, number_of, births_of, registers_of, ticket_of}
+use Rattle.plain_world.specs.Worlds.{IsAfter, IsIdle, has, births_in, stop_after}
+
+-- the row and the mutators of a world
+abbrev pub row_of : {P : Type 0} → PlainWorld P → PlainRow
+row_of w = w.row
+
+-- the heap, as the mutators use it
+abbrev pub heap_of : {P : Type 0} → PlainWorld P → HeapState
+heap_of w = state_of w.row.row
+
+-- the mutators' numbers, births and registers
+abbrev pub mutators_of : {P : Type 0} → PlainWorld P → List MutatorState
+mutators_of w = map mutator_state w.row.mutators.items
+
+-- the number and the births of the mutator at a place of the list, and its ticket
+abbrev pub number_at : {P : Type 0} → PlainWorld P → ℕ → ℕ
+number_at w m = number_of (slice_get w.row.mutators.items m)
+
+abbrev pub births_at : {P : Type 0} → PlainWorld P → ℕ → ℕ
+births_at w m = births_of (slice_get w.row.mutators.items m)
+
+abbrev pub ticket_at : {P : Type 0} → PlainWorld P → ℕ → Option ℕ
+ticket_at w m = ticket_of (slice_get w.row.seats.items m)
+
+-- the address in a register of the mutator at a place
+abbrev pub register_in : {P : Type 0} → PlainWorld P → ℕ → ℕ → ℕ
+register_in w m s = slice_index (registers_of (slice_get w.row.mutators.items m)) s
+
+-- the number of mutators, and a place in their list
+abbrev pub places_of : {P : Type 0} → PlainWorld P → ℕ
+places_of w = length w.row.mutators.items
+
+abbrev pub HasPlace : {P : Type 0} → PlainWorld P → ℕ → Type 0
+HasPlace w m = m < places_of w
+
+-- the world is between two calls
+abbrev pub IsOpen : {P : Type 0} → PlainWorld P → Type 0
+IsOpen w = IsIdle w.row
+
+-- the world is in the epoch p, which began with the ideal heap i, and the history since then is the part
+abbrev pub HasHistory : {P : Type 0} → PlainWorld P → Epoch → IdealHeap → List Entry → Type 0
+HasHistory w p i part = IsAfter p i part w.row
+
+-- the history gets these entries
+abbrev pub AddsEntries : {P : Type 0} → PlainWorld P → List Entry → PlainWorld P → Type 0
+AddsEntries old es new = (p : Epoch) (i : IdealHeap) (part : List Entry) → HasHistory old p i part
+    → HasHistory new p i (part ++ es)
+
+-- the history gets one entry, of the mutator at place m
+abbrev pub AddsEntry : {P : Type 0} → PlainWorld P → ℕ → Command → Reply → PlainWorld P → Type 0
+AddsEntry old m command reply new = AddsEntries old (entry (number_at old m) command reply ∷ []) new
+
+-- the same mutators, at the same places
+pub record SamePlaces {P : Type 0} (old new : PlainWorld P) : Type 0 where
+  pub count : places_of new ≡ places_of old
+  pub numbers : map (λ m. m.number) new.row.mutators.items ≡ map (λ m. m.number) old.row.mutators.items
+
+-- the plan is generational
+abbrev pub is_generational : {P : Type 0} → PlainWorld P → Bool
+is_generational w = w.row.young
+
+-- the unlog bits of these objects are clear now, and no other unlog bit changed
+abbrev pub Logs : {P : Type 0} → PlainWorld P → List ℕ → PlainWorld P → Type 0
+Logs old addresses new = (x : ℕ) → is_unlogged (heap_of new) x ≡ (is_unlogged (heap_of old) x && not (has addresses x))
+
+-- the plan is generational, and the object at the address is old and not logged
+pub record IsOldUnlogged {P : Type 0} (w : PlainWorld P) (address : ℕ) : Type 0 where
+  pub plan : is_generational w ≡ true
+  pub old : is_old (heap_of w) address ≡ true
+  pub unlogged : is_unlogged (heap_of w) address ≡ true
+
+-- these blocks were Free and are not, and no other block became or ceased to be Free
+pub record Grants {P : Type 0} (old : PlainWorld P) (blocks : List ℕ) (new : PlainWorld P) : Type 0 where
+  pub kind : (k : ℕ) → has_kind (heap_of new) k kinds.Free ≡ (has_kind (heap_of old) k kinds.Free && not (has blocks k))
+  pub free : (k : ℕ) → Contains blocks k → HasKind (heap_of old) k kinds.Free
+
+-- the accounts of the mutator at a place
+abbrev pub books_at : {P : Type 0} → PlainWorld P → ℕ → Books
+books_at w m = record {
+  blocks = w.row.row.layout.blocks;
+  allowance = w.row.allowance;
+  births = births_at w m;
+  ticket = ticket_at w m;
+}
+
+-- block k has no hole for an object of the size, if nobody owns it or the mutator at place m does
+abbrev pub HasNoRoom : {P : Type 0} → PlainWorld P → ℕ → ℕ → ℕ → Type 0
+HasNoRoom w m size k = (at : ℕ) → (owner_at (heap_of w) k ≡ 0) ⊎ (owner_at (heap_of w) k ≡ number_at w m)
+    → HasHole w.row.fill (heap_of w) k at size → ⊥
+
+-- block k is not Free
+abbrev pub IsNotFree : {P : Type 0} → PlainWorld P → ℕ → Type 0
+IsNotFree w k = HasKind (heap_of w) k kinds.Free → ⊥
+
+-- the kind of the blocks that mutators fill, and the number of Free blocks that they may take in the epoch
+abbrev pub fill_of : {P : Type 0} → PlainWorld P → Kind
+fill_of w = w.row.fill
+
+abbrev pub allowance_of : {P : Type 0} → PlainWorld P → ℕ
+allowance_of w = w.row.allowance
+
+-- the stop word and the budget word
+abbrev pub stop_word : {P : Type 0} → PlainWorld P → ℕ
+stop_word w = word_at (heap_of w) 0
+
+abbrev pub budget_word : {P : Type 0} → PlainWorld P → ℕ
+budget_word w = word_at (heap_of w) 1
+
+-- Steps of this effect, of the mutator at place m, change stop word, budget word, block words, births and tickets so, and
+-- nothing of the other mutators.
+pub record LeavesRest {P : Type 0} (old : PlainWorld P) (m : ℕ) (e : Effect) (new : PlainWorld P) : Type 0 where
+  pub stop : stop_word new ≡ stop_after e.raised (number_at old m) (stop_word old)
+  pub budget : budget_word new ≡ budget_word old + e.drawn
+  pub blocks : (k : ℕ) → k < (heap_of old).blocks → has e.taken k ≡ false
+      → block_word (heap_of new) k ≡ block_word (heap_of old) k
+  pub births : births_at new m ≡ births_at old m + births_in e.entries
+  pub ticket : e.drawn ≡ 0 → e.granted ≡ [] → ticket_at new m ≡ ticket_at old m
+  pub others : (k : ℕ) → k ≢ m → (slice_get new.row.mutators.items k ≡ slice_get old.row.mutators.items k)
+      × (ticket_at new k ≡ ticket_at old k)
+
+-- the heap, the mutators and their tickets are unchanged
+pub record IsUnchanged {P : Type 0} (old new : PlainWorld P) : Type 0 where
+  pub heap : heap_of new ≡ heap_of old
+  pub mutators : mutators_of new ≡ mutators_of old
+  pub tickets : (k : ℕ) → ticket_at new k ≡ ticket_at old k
+
+-- The new object in register d of the mutator at place m lies in a block that the mutator owns. It begins a hole with
+-- room for it, of a block that was the mutator's or nobody's, or a block that was Free.
+pub record IsPlacedIn {P : Type 0} (old : PlainWorld P) (m : ℕ) (new : PlainWorld P) (d size : ℕ) : Type 0 where
+  pub block : ℕ
+  pub offset : ℕ
+  pub address : register_in new m d ≡ block_start (heap_of new).blocks block + offset
+  pub owner : owner_at (heap_of new) block ≡ number_at new m
+  pub spot : (HasHole old.row.fill (heap_of old) block offset size
+      × ((owner_at (heap_of old) block ≡ 0) ⊎ (owner_at (heap_of old) block ≡ number_at old m)))
+      ⊎ (HasKind (heap_of old) block kinds.Free × (offset ≡ 0))
+
+-- The mutator at place m allocates an object of this name: it takes these blocks, of which these were Free, and draws so
+-- many tickets.
+pub record Allocates {P : Type 0} (old : PlainWorld P) (m d r q : ℕ) (n : Name) (new : PlainWorld P) : Type 0 where
+  pub taken : List ℕ
+  pub granted : List ℕ
+  pub drawn : ℕ
+  pub history : AddsEntry old m (command.New d r q) (reply.New n) new
+  pub grants : Grants old granted new
+  pub rest : LeavesRest old m (births_with d r q n taken granted drawn) new
+  pub finds : FindsRoom (HasNoRoom new m (size_of r q)) (IsNotFree new) (heap_of new).blocks (ticket_at old m)
+      (ticket_at new m) taken granted drawn
+  pub placed : IsPlacedIn old m new d (size_of r q)
+
+-- the mutator at place m allocates nothing, and draws a ticket or none
+pub record Refuses {P : Type 0} (old : PlainWorld P) (m : ℕ) (new : PlainWorld P) : Type 0 where
+  pub drawn : ℕ
+  pub history : AddsEntries old [] new
+  pub grants : Grants old [] new
+  pub rest : LeavesRest old m (draws drawn) new
+  pub tickets : Draws (ticket_at old m) (ticket_at new m) drawn

@@ -1,0 +1,113 @@
+-- What single changes of the row leave as it was.
+use Rattle.std.specs.Prelude.{◌≡◌, ◌≢◌, ℕ, ◌+◌, ◌<◌, ◌≤◌, ◌⊎◌, Some, None, Option, slice_get, slice_set}
+use Rattle.heap_layout.specs.Zones.{first, BlockWords, block_start}
+use Rattle.heap_layout.specs.Blocks.{code_of}
+use Rattle.heap_layout.specs.declared.region.Region.{Region}
+use Rattle.ideal_heap.specs.declared.name.Name.{Name}
+use Rattle.ideal_heap.specs.Names.{name}
+use Rattle.object_model.specs.Objects.{state_of, with_words, size_of}
+use Rattle.object_model.specs.Changes.{WritesObject}
+use Rattle.mutator_calls.specs.declared.need.Mutator.{Mutator}
+use Rattle.plain_world.specs.declared.plain_row.PlainRow.{PlainRow}
+use Rattle.plan_api.specs.Holes.{IsFirstHole}
+use Rattle.plain_world.specs.declared.plain_row.BlockNote.{BlockNote}
+use Rattle.plain_world.specs.declared.plain_row.BlockNote.TheVariants.{Unowned, Owned}
+use Rattle.plain_world.specs.Rows.{ChangesAt, mutator_at_turn, seat_at_turn, number_at_turn, ticket_of, block_of}
+
+-- the word at this index becomes v; all else stays
+pub record StoresWord (old new : PlainRow) (at v : ℕ) : Type 0 where
+  pub rest : new ≡ record old { row = new.row }
+  pub words : state_of new.row ≡ with_words (state_of old.row) (slice_set (state_of old.row).words at v)
+
+-- whose turn it is, the plan's kind and ages, and the allowance stay
+pub record KeepsPlan (old new : PlainRow) : Type 0 where
+  pub turn : new.turn ≡ old.turn
+  pub fill : new.fill ≡ old.fill
+  pub young : new.young ≡ old.young
+  pub allowance : new.allowance ≡ old.allowance
+
+-- The mutator takes the block: it becomes its owner and allocates in the region of the block. It has this ticket then.
+pub record TakesBlock (old new : PlainRow) (block : ℕ) (region : Region) (ticket : Option ℕ) : Type 0 where
+  pub plan : KeepsPlan old new
+  pub mutators : new.mutators ≡ old.mutators
+  pub words : state_of new.row ≡ with_words (state_of old.row) (slice_set (state_of old.row).words
+      (first (state_of old.row).blocks BlockWords + block)
+      (code_of (record { kind = old.fill; class = 0; owner = number_at_turn old })))
+  pub notes : ChangesAt old.notes.items new.notes.items block (Owned (number_at_turn old) region)
+  pub seats : ChangesAt old.seats.items new.seats.items old.turn (record { ticket = ticket; block = Some block })
+
+-- the note of the block becomes this one; all else stays
+pub record NotesBlock (old new : PlainRow) (block : ℕ) (note : BlockNote) : Type 0 where
+  pub plan : KeepsPlan old new
+  pub mutators : new.mutators ≡ old.mutators
+  pub row : new.row ≡ old.row
+  pub seats : new.seats ≡ old.seats
+  pub notes : ChangesAt old.notes.items new.notes.items block note
+
+-- the mutator allocates in this block of its own; all else stays
+pub record ReturnsTo (old new : PlainRow) (block : ℕ) : Type 0 where
+  pub plan : KeepsPlan old new
+  pub mutators : new.mutators ≡ old.mutators
+  pub row : new.row ≡ old.row
+  pub notes : new.notes ≡ old.notes
+  pub seats : ChangesAt old.seats.items new.seats.items old.turn
+      (record { ticket = ticket_of (seat_at_turn old); block = Some block })
+
+-- The block has room for the size that the mutator may fill, and becomes the one that it allocates in. The block is its
+-- own already, or nobody owned it.
+pub data FindsHole (old new : PlainRow) (block size : ℕ) : Type 0 where
+  own : (region : Region) → slice_get old.notes.items block ≡ Some (Owned (number_at_turn old) region)
+      → region.next + size ≤ region.end → ReturnsTo old new block → FindsHole old new block size
+  taken : (least : ℕ) (region : Region) → slice_get old.notes.items block ≡ Some (Unowned least)
+      → IsFirstHole old.fill (state_of old.row) block 0 size (Some region)
+      → TakesBlock old new block region (ticket_of (seat_at_turn old)) → FindsHole old new block size
+
+-- The block has no such room. At most its note changes.
+pub data LacksHole (old new : PlainRow) (block size : ℕ) : Type 0 where
+  known : (least : ℕ) → slice_get old.notes.items block ≡ Some (Unowned least) → least ≤ size → new ≡ old
+      → LacksHole old new block size
+  seen : (least : ℕ) → slice_get old.notes.items block ≡ Some (Unowned least)
+      → IsFirstHole old.fill (state_of old.row) block 0 size None → NotesBlock old new block (Unowned size)
+      → LacksHole old new block size
+  foreign : (owner : ℕ) (region : Region) → slice_get old.notes.items block ≡ Some (Owned owner region)
+      → (owner ≢ number_at_turn old) ⊎ (region.end < region.next + size) → new ≡ old → LacksHole old new block size
+
+-- The region of the mutator, in this block, begins `size` words later; it began at the offset. All else stays.
+pub record Advances (old new : PlainRow) (size block offset : ℕ) : Type 0 where
+  pub plan : KeepsPlan old new
+  pub mutators : new.mutators ≡ old.mutators
+  pub row : new.row ≡ old.row
+  pub seats : new.seats ≡ old.seats
+  pub current : block_of (seat_at_turn old) ≡ Some block
+  pub region : Region
+  pub was : slice_get old.notes.items block ≡ Some (Owned (number_at_turn old) region)
+  pub begins : region.next ≡ offset
+  pub room : region.next + size ≤ region.end
+  pub notes : ChangesAt old.notes.items new.notes.items block
+      (Owned (number_at_turn old) (record { next = region.next + size; end = region.end }))
+
+-- The mutator has one object more, of this name, whose address is in register d. All else stays.
+pub record CountsObject (old new : PlainRow) (d address : ℕ) (n : Name) : Type 0 where
+  pub plan : KeepsPlan old new
+  pub row : new.row ≡ old.row
+  pub seats : new.seats ≡ old.seats
+  pub notes : new.notes ≡ old.notes
+  pub mutator : Mutator
+  pub was : mutator_at_turn old ≡ Some mutator
+  pub mutators : ChangesAt old.mutators.items new.mutators.items old.turn (record mutator {
+    births = mutator.births + 1;
+    registers = slice_set mutator.registers d address;
+  })
+  pub named : n ≡ name mutator.number (mutator.births + 1)
+
+-- The mutator allocates an object at the start of its region, which begins after it then.
+pub record Allocates (old new : PlainRow) (d : ℕ) (n : Name) (refs nums : ℕ) : Type 0 where
+  pub block : ℕ
+  pub offset : ℕ
+  pub advanced : PlainRow
+  pub counted : PlainRow
+  pub region : Advances old advanced (size_of refs nums) block offset
+  pub count : CountsObject advanced counted d (block_start (state_of old.row).blocks block + offset) n
+  pub rest : new ≡ record counted { row = new.row }
+  pub object : WritesObject (state_of counted.row) (state_of new.row)
+      (block_start (state_of old.row).blocks block + offset) n refs nums

@@ -1,0 +1,9 @@
+pub mod Rows
+pub mod Notes
+pub mod Worlds
+pub mod Steps
+pub mod Changes
+pub mod SeatLaws
+pub mod Calls
+pub mod Beginnings
+pub mod Endings

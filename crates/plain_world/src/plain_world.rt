@@ -1,0 +1,138 @@
+//! A world: a heap that mutators use in turns, in one epoch.
+
+ghost use Rattle.std.specs.Prelude.{◌≡◌, ◌+◌, ◌<◌, ◌≤◌, ℕ, List, [], ◌∷◌, Some, None, length, map, IfOk};
+ghost use Rattle.ideal_heap.specs.Ideal.{IdealHeap};
+ghost use Rattle.ideal_heap.specs.Runs.{Entry};
+ghost use Rattle.object_model.specs.Graphs.{Represents};
+ghost use Rattle.object_model.specs.Heaps.{heap_state};
+ghost use Rattle.sessions.specs.Plans.{Rules};
+ghost use Rattle.sessions.specs.Collecting.{Remembers};
+ghost use Rattle.sessions.specs.Sessions.{Stopped};
+ghost use Rattle.mutator_core.specs.Machine.{Epoch};
+ghost use Rattle.mutator_core.specs.Closing.{GivesBack};
+ghost use Rattle.object_model.specs.Graphs.{numbers_of};
+ghost use Rattle.plain_world.specs.Rows.{mutator_state};
+ghost use Rattle.plain_world.specs.Notes.{FillsTails};
+ghost use Rattle.plain_world.specs.Calls.{heap_of, mutators_of, is_generational, births_at, ticket_at, budget_word, places_of, HasPlace, IsOpen, HasHistory};
+ghost use Rattle.plain_world.specs.Beginnings.{MayUse, without_stop, epoch_of};
+ghost use Rattle.plain_world.specs.Endings.{GrantsWithTickets};
+
+use crate::closing::{copies, give_back};
+use crate::plain_row::{BlockNote, PlainRow, PlainSeat};
+use bitflags::Flags;
+use heap_layout::BLOCK_WORDS;
+use ideal_heap::MAX_MUTATORS;
+use mutator_calls::Mutator;
+use object_model::Heap;
+use plan_api::{Plan, PlanFlags};
+use std::alloc::{AllocError, Global};
+use std::marker::PhantomData;
+
+/// A heap with the mutators that use it in turns, from the beginning of an epoch to its end.
+///
+/// A call makes the atomic steps of one mutator, which is given by its place in the list. Between
+/// two calls any mutator may go on.
+#[derive(Debug, Drop)]
+pub struct PlainWorld<P> {
+    pub(crate) row: PlainRow,
+    plan: PhantomData<P>,
+}
+
+impl<P: Plan> PlainWorld<P> {
+    /// Begins an epoch: no stop is raised, no ticket is drawn, and no block has an owner. Reads the
+    /// block words, for the allowance, and no other side metadata.
+    ///
+    /// Fails if memory runs out. The heap and the mutators are lost then.
+    pub fn begin(
+        alloc: Global,
+        heap: Heap,
+        mutators: Vec<Mutator>,
+    ) -> Result<PlainWorld<P>, AllocError>
+        requires tails { FillsTails P.rules.fill }
+        requires few { length mutators.items ≤ MAX_MUTATORS }
+        requires users { MayUse (heap_state heap) (map mutator_state mutators.items) }
+        requires remembers { Remembers P.rules (heap_state heap) }
+        ensures open { IfOk result (λ w. IsOpen w) }
+        ensures mutators { IfOk result (λ w. mutators_of w ≡ map mutator_state mutators.items) }
+        ensures places { IfOk result (λ w. places_of w ≡ length mutators.items) }
+        ensures plan { IfOk result (λ w. is_generational w ≡ P.rules.young) }
+        ensures heap { IfOk result (λ w. heap_of w ≡ without_stop (heap_state heap)) }
+        ensures tickets { IfOk result (λ w. (k : ℕ) → ticket_at w k ≡ None) }
+        ensures begins { IfOk result (λ w. (i : IdealHeap)
+            → Represents (heap_state heap) (map mutator_state mutators.items) i
+            → HasHistory w (epoch_of P.rules (heap_state heap) (map mutator_state mutators.items))
+            i []) }
+    {
+        let allowance = P::allowance(&heap);
+        let mut row = heap.into_row();
+        row.words[0] = 0;
+        row.words[1] = 0;
+        let nothing = BlockNote::Unowned {
+            least: BLOCK_WORDS + 1,
+        };
+        let notes = copies(alloc, nothing, row.layout.blocks() as usize)?;
+        let seat = PlainSeat {
+            ticket: None,
+            block: None,
+        };
+        let seats = copies(alloc, seat, mutators.len())?;
+        let row = PlainRow {
+            row,
+            mutators,
+            seats,
+            turn: 0,
+            notes,
+            fill: P::alloc_kind(),
+            young: P::FLAGS.contains(PlanFlags::YOUNG),
+            allowance,
+        };
+        Ok(PlainWorld {
+            row,
+            plan: PhantomData,
+        })
+    }
+
+    /// The mutators, with their births and registers. A call takes a place in this list.
+    pub fn mutators(&self) -> &Vec<Mutator>
+        ensures states { map mutator_state result.now.items ≡ mutators_of self.now }
+        ensures places { length result.now.items ≡ places_of self.now }
+    {
+        &self.row.mutators
+    }
+
+    /// The number of objects that the mutator at place `m` has allocated.
+    pub fn births(&self, m: u32) -> u32
+        requires { HasPlace self.now m }
+        ensures { result ≡ births_at self.now m }
+    {
+        self.row.mutators[m as usize].births
+    }
+
+    /// Ends the epoch: the mutators give back their blocks. Takes no memory, and reads no side
+    /// words of blocks that nobody owned.
+    pub fn close(self) -> (Heap, Vec<Mutator>)
+        requires { IsOpen self }
+        ensures stopped { (p : Epoch) (i : IdealHeap) (part : List Entry) → HasHistory self p i part
+            → Stopped p.rules (numbers_of p.mutators) p.before i part
+            (heap_state result.0) (map mutator_state result.1.items) }
+        ensures mutators { map mutator_state result.1.items ≡ mutators_of self }
+        ensures places { length result.1.items ≡ places_of self }
+        ensures users { MayUse (heap_state result.0) (map mutator_state result.1.items) }
+        ensures remembers { (rules : Rules) → rules.young ≡ is_generational self
+            → Remembers rules (heap_state result.0) }
+        ensures gives { GivesBack (heap_of self) (heap_state result.0) }
+        ensures drawn { (k t : ℕ) → ticket_at self k ≡ Some t → t < budget_word self }
+        ensures tickets { (p : Epoch) (i : IdealHeap) (part : List Entry)
+            → HasHistory self p i part → GrantsWithTickets p self (heap_state result.0) }
+    {
+        let PlainRow {
+            row,
+            mutators,
+            notes,
+            fill,
+            ..
+        } = self.row;
+        let row = give_back(row, &notes, fill);
+        (Heap::from_row(row), mutators)
+    }
+}

@@ -1,0 +1,295 @@
+//! The calls of the mutators of a world.
+
+ghost use Rattle.std.specs.Prelude.{◌≡◌, ◌+◌, ◌<◌, ◌≤◌, ◌^◌, ◌⊎◌, ℕ, List, [], ◌∷◌, ⊤};
+ghost use Rattle.std.specs.List.{Contains};
+ghost use Rattle.ideal_heap.specs.declared.command.Command.TheVariants as command;
+ghost use Rattle.ideal_heap.specs.declared.reply.Reply.TheVariants as reply;
+ghost use Rattle.object_model.specs.Graphs.{numbers_of};
+ghost use Rattle.object_model.specs.Objects.{size_of};
+ghost use Rattle.mutator_calls.specs.Effects.{enters, raises};
+ghost use Rattle.mutator_calls.specs.Stopping.{stop_of};
+ghost use Rattle.mutator_calls.specs.Allocating.{IsCause, IsNeedOf, MatchAllocated};
+ghost use Rattle.plain_world.specs.Calls.{mutators_of, is_generational, births_at, register_in, books_at, HasPlace, IsOpen, AddsEntries, AddsEntry, SamePlaces, Logs, Grants, LeavesRest, IsUnchanged, IsOldUnlogged, Allocates, Refuses, HasNoRoom, IsNotFree, stop_word};
+
+use crate::plain_world::PlainWorld;
+use ideal_heap::{GLOBALS, MAX_NUMS, MAX_REFS, REGISTERS, Reply};
+use mutator_calls as calls;
+use mutator_calls::{Allocated, Polled};
+use object_model::MAX_MEDIUM_WORDS;
+
+impl<P> PlainWorld<P> {
+    /// Whether a stop is raised, and by which mutator.
+    pub fn poll(&mut self, m: u32) -> Polled
+        requires open { IsOpen self.old }
+        requires place { HasPlace self.old m }
+        ensures open { IsOpen self.new }
+        ensures places { SamePlaces self.old self.new }
+        ensures plan { is_generational self.new ≡ is_generational self.old }
+        ensures history { AddsEntries self.old [] self.new }
+        ensures same { IsUnchanged self.old self.new }
+        ensures stop { stop_word self.old ≡ stop_of result }
+        ensures mutator { (n : ℕ) → result ≡ Polled.Raised n
+            → Contains (numbers_of (mutators_of self.old)) n }
+    {
+        self.row.turn = m as usize;
+        calls::poll(&mut self.row)
+    }
+
+    /// Raises a stop, unless one is raised.
+    pub fn raise(&mut self, m: u32)
+        requires open { IsOpen self.old }
+        requires place { HasPlace self.old m }
+        ensures open { IsOpen self.new }
+        ensures places { SamePlaces self.old self.new }
+        ensures plan { is_generational self.new ≡ is_generational self.old }
+        ensures history { AddsEntries self.old [] self.new }
+        ensures logged { Logs self.old [] self.new }
+        ensures granted { Grants self.old [] self.new }
+        ensures rest { LeavesRest self.old m raises self.new }
+    {
+        self.row.turn = m as usize;
+        calls::raise(&mut self.row);
+    }
+
+    /// Allocates an object with `refs` nil references and `nums` zeros, and stores its address in
+    /// register `d`: in the region that the mutator fills, else in the hole of an own block or of
+    /// one without owner, else in a Free block that it may take.
+    ///
+    /// The answer is `Stop` if the object is large, or if there is no such room.
+    pub fn new_object(&mut self, m: u32, d: u32, refs: u32, nums: u32) -> Allocated
+        requires open { IsOpen self.old }
+        requires place { HasPlace self.old m }
+        requires register { d < REGISTERS }
+        requires refs { refs ≤ MAX_REFS }
+        requires nums { nums ≤ MAX_NUMS }
+        requires births { births_at self.old m + 1 < 2 ^ 32 }
+        ensures open { IsOpen self.new }
+        ensures places { SamePlaces self.old self.new }
+        ensures plan { is_generational self.new ≡ is_generational self.old }
+        ensures made { MatchAllocated result
+            (λ n. Allocates self.old m d refs nums n self.new)
+            (λ need. Refuses self.old m self.new) }
+        ensures logged { Logs self.old [] self.new }
+        ensures small { MatchAllocated result
+            (λ n. size_of refs nums ≤ MAX_MEDIUM_WORDS) (λ need. ⊤) }
+        ensures need { MatchAllocated result (λ n. ⊤) (IsNeedOf d refs nums) }
+        ensures cause { MatchAllocated result (λ n. ⊤) (λ need. IsCause (books_at self.new m)
+            (HasNoRoom self.new m (size_of refs nums)) (IsNotFree self.new)
+            (size_of refs nums) need.cause) }
+    {
+        self.row.turn = m as usize;
+        calls::new_object(&mut self.row, d, refs, nums)
+    }
+
+    /// Loads reference field `i` of the object in register `s` into register `d`.
+    pub fn get(&mut self, m: u32, d: u32, s: u32, i: u32) -> Reply
+        requires open { IsOpen self.old }
+        requires place { HasPlace self.old m }
+        requires target { d < REGISTERS }
+        requires source { s < REGISTERS }
+        ensures open { IsOpen self.new }
+        ensures places { SamePlaces self.old self.new }
+        ensures plan { is_generational self.new ≡ is_generational self.old }
+        ensures history { AddsEntry self.old m (command.Get d s i) result self.new }
+        ensures logged { Logs self.old [] self.new }
+        ensures granted { Grants self.old [] self.new }
+        ensures rest { LeavesRest self.old m (enters (command.Get d s i) result) self.new }
+    {
+        self.row.turn = m as usize;
+        calls::get(&mut self.row, d, s, i)
+    }
+
+    /// Stores register `v` into reference field `i` of the object in register `s`. Under a
+    /// generational plan an old object is logged first: MMTk's object-remembering barrier.
+    pub fn put(&mut self, m: u32, s: u32, i: u32, v: u32) -> Reply
+        requires open { IsOpen self.old }
+        requires place { HasPlace self.old m }
+        requires target { s < REGISTERS }
+        requires source { v < REGISTERS }
+        ensures open { IsOpen self.new }
+        ensures places { SamePlaces self.old self.new }
+        ensures plan { is_generational self.new ≡ is_generational self.old }
+        ensures history { AddsEntry self.old m (command.Put s i v) result self.new }
+        ensures logged { (logged : List ℕ) × Logs self.old logged self.new
+            × ((logged ≡ []) ⊎ ((logged ≡ register_in self.old m s ∷ []) × (result ≡ reply.Done)
+            × IsOldUnlogged self.old (register_in self.old m s))) }
+        ensures granted { Grants self.old [] self.new }
+        ensures rest { LeavesRest self.old m (enters (command.Put s i v) result) self.new }
+    {
+        self.row.turn = m as usize;
+        calls::put(&mut self.row, s, i, v)
+    }
+
+    /// Loads number `j` of the object in register `s`.
+    pub fn read(&mut self, m: u32, s: u32, j: u32) -> Reply
+        requires open { IsOpen self.old }
+        requires place { HasPlace self.old m }
+        requires register { s < REGISTERS }
+        ensures open { IsOpen self.new }
+        ensures places { SamePlaces self.old self.new }
+        ensures plan { is_generational self.new ≡ is_generational self.old }
+        ensures history { AddsEntry self.old m (command.Read s j) result self.new }
+        ensures logged { Logs self.old [] self.new }
+        ensures granted { Grants self.old [] self.new }
+        ensures rest { LeavesRest self.old m (enters (command.Read s j) result) self.new }
+    {
+        self.row.turn = m as usize;
+        calls::read(&mut self.row, s, j)
+    }
+
+    /// Stores number `j` of the object in register `s`.
+    pub fn write(&mut self, m: u32, s: u32, j: u32, n: u64) -> Reply
+        requires open { IsOpen self.old }
+        requires place { HasPlace self.old m }
+        requires register { s < REGISTERS }
+        ensures open { IsOpen self.new }
+        ensures places { SamePlaces self.old self.new }
+        ensures plan { is_generational self.new ≡ is_generational self.old }
+        ensures history { AddsEntry self.old m (command.Write s j n) result self.new }
+        ensures logged { Logs self.old [] self.new }
+        ensures granted { Grants self.old [] self.new }
+        ensures rest { LeavesRest self.old m (enters (command.Write s j n) result) self.new }
+    {
+        self.row.turn = m as usize;
+        calls::write(&mut self.row, s, j, n)
+    }
+
+    /// Adds to number `j` of the object in register `s`, modulo 2^64. Replies the number before.
+    pub fn add(&mut self, m: u32, s: u32, j: u32, n: u64) -> Reply
+        requires open { IsOpen self.old }
+        requires place { HasPlace self.old m }
+        requires register { s < REGISTERS }
+        ensures open { IsOpen self.new }
+        ensures places { SamePlaces self.old self.new }
+        ensures plan { is_generational self.new ≡ is_generational self.old }
+        ensures history { AddsEntry self.old m (command.Add s j n) result self.new }
+        ensures logged { Logs self.old [] self.new }
+        ensures granted { Grants self.old [] self.new }
+        ensures rest { LeavesRest self.old m (enters (command.Add s j n) result) self.new }
+    {
+        self.row.turn = m as usize;
+        calls::add(&mut self.row, s, j, n)
+    }
+
+    /// Sets number `j` of the object in register `s` to `next` if it is `was`.
+    pub fn swap(&mut self, m: u32, s: u32, j: u32, was: u64, next: u64) -> Reply
+        requires open { IsOpen self.old }
+        requires place { HasPlace self.old m }
+        requires register { s < REGISTERS }
+        ensures open { IsOpen self.new }
+        ensures places { SamePlaces self.old self.new }
+        ensures plan { is_generational self.new ≡ is_generational self.old }
+        ensures history { AddsEntry self.old m (command.Swap s j was next) result self.new }
+        ensures logged { Logs self.old [] self.new }
+        ensures granted { Grants self.old [] self.new }
+        ensures rest { LeavesRest self.old m (enters (command.Swap s j was next) result) self.new }
+    {
+        self.row.turn = m as usize;
+        calls::swap(&mut self.row, s, j, was, next)
+    }
+
+    /// Copies register `s` to register `d`.
+    pub fn move_register(&mut self, m: u32, d: u32, s: u32) -> Reply
+        requires open { IsOpen self.old }
+        requires place { HasPlace self.old m }
+        requires target { d < REGISTERS }
+        requires source { s < REGISTERS }
+        ensures open { IsOpen self.new }
+        ensures places { SamePlaces self.old self.new }
+        ensures plan { is_generational self.new ≡ is_generational self.old }
+        ensures history { AddsEntry self.old m (command.Move d s) result self.new }
+        ensures logged { Logs self.old [] self.new }
+        ensures granted { Grants self.old [] self.new }
+        ensures rest { LeavesRest self.old m (enters (command.Move d s) result) self.new }
+    {
+        self.row.turn = m as usize;
+        calls::move_register(&mut self.row, d, s)
+    }
+
+    /// Clears register `s`.
+    pub fn drop_register(&mut self, m: u32, s: u32) -> Reply
+        requires open { IsOpen self.old }
+        requires place { HasPlace self.old m }
+        requires register { s < REGISTERS }
+        ensures open { IsOpen self.new }
+        ensures places { SamePlaces self.old self.new }
+        ensures plan { is_generational self.new ≡ is_generational self.old }
+        ensures history { AddsEntry self.old m (command.DropReg s) result self.new }
+        ensures logged { Logs self.old [] self.new }
+        ensures granted { Grants self.old [] self.new }
+        ensures rest { LeavesRest self.old m (enters (command.DropReg s) result) self.new }
+    {
+        self.row.turn = m as usize;
+        calls::drop_register(&mut self.row, s)
+    }
+
+    /// Loads global `g` into register `d`.
+    pub fn load(&mut self, m: u32, d: u32, g: u32) -> Reply
+        requires open { IsOpen self.old }
+        requires place { HasPlace self.old m }
+        requires register { d < REGISTERS }
+        requires global { g < GLOBALS }
+        ensures open { IsOpen self.new }
+        ensures places { SamePlaces self.old self.new }
+        ensures plan { is_generational self.new ≡ is_generational self.old }
+        ensures history { AddsEntry self.old m (command.Load d g) result self.new }
+        ensures logged { Logs self.old [] self.new }
+        ensures granted { Grants self.old [] self.new }
+        ensures rest { LeavesRest self.old m (enters (command.Load d g) result) self.new }
+    {
+        self.row.turn = m as usize;
+        calls::load(&mut self.row, d, g)
+    }
+
+    /// Stores register `s` into global `g`.
+    pub fn share(&mut self, m: u32, g: u32, s: u32) -> Reply
+        requires open { IsOpen self.old }
+        requires place { HasPlace self.old m }
+        requires register { s < REGISTERS }
+        requires global { g < GLOBALS }
+        ensures open { IsOpen self.new }
+        ensures places { SamePlaces self.old self.new }
+        ensures plan { is_generational self.new ≡ is_generational self.old }
+        ensures history { AddsEntry self.old m (command.Share g s) result self.new }
+        ensures logged { Logs self.old [] self.new }
+        ensures granted { Grants self.old [] self.new }
+        ensures rest { LeavesRest self.old m (enters (command.Share g s) result) self.new }
+    {
+        self.row.turn = m as usize;
+        calls::share(&mut self.row, g, s)
+    }
+
+    /// Pins the object in register `s`: no collection moves it.
+    pub fn pin(&mut self, m: u32, s: u32) -> Reply
+        requires open { IsOpen self.old }
+        requires place { HasPlace self.old m }
+        requires register { s < REGISTERS }
+        ensures open { IsOpen self.new }
+        ensures places { SamePlaces self.old self.new }
+        ensures plan { is_generational self.new ≡ is_generational self.old }
+        ensures history { AddsEntry self.old m (command.Pin s) result self.new }
+        ensures logged { Logs self.old [] self.new }
+        ensures granted { Grants self.old [] self.new }
+        ensures rest { LeavesRest self.old m (enters (command.Pin s) result) self.new }
+    {
+        self.row.turn = m as usize;
+        calls::pin(&mut self.row, s)
+    }
+
+    /// Unpins the object in register `s`.
+    pub fn unpin(&mut self, m: u32, s: u32) -> Reply
+        requires open { IsOpen self.old }
+        requires place { HasPlace self.old m }
+        requires register { s < REGISTERS }
+        ensures open { IsOpen self.new }
+        ensures places { SamePlaces self.old self.new }
+        ensures plan { is_generational self.new ≡ is_generational self.old }
+        ensures history { AddsEntry self.old m (command.Unpin s) result self.new }
+        ensures logged { Logs self.old [] self.new }
+        ensures granted { Grants self.old [] self.new }
+        ensures rest { LeavesRest self.old m (enters (command.Unpin s) result) self.new }
+    {
+        self.row.turn = m as usize;
+        calls::unpin(&mut self.row, s)
+    }
+}
