@@ -1,5 +1,5 @@
 -- What an allocation does, and why it stops.
-use Rattle.std.specs.Prelude.{◌≡◌, ◌≢◌, ℕ, ◌<◌, ◌≤◌, ◌⊎◌, false, Option, Some, None, IsSome, List, [], ◌∷◌}
+use Rattle.std.specs.Prelude.{◌≡◌, ◌≢◌, ℕ, ◌<◌, ◌≤◌, ◌⊎◌, false, Option, Some, None, List, [], ◌∷◌}
 use Rattle.ideal_heap.specs.declared.command.Command.TheVariants as c
 use Rattle.ideal_heap.specs.declared.reply.Reply.TheVariants as r
 use Rattle.ideal_heap.specs.declared.name.Name.{Name}
@@ -37,31 +37,35 @@ births_with d refs nums n taken granted drawn = record {
 abbrev pub searches : List ℕ → List ℕ → ℕ → Effect
 searches taken granted drawn = record nothing { taken = taken; granted = granted; drawn = drawn }
 
--- A ticket is drawn only if the mutator has none: `old` is its ticket before, `new` after.
-abbrev pub Draws : Option ℕ → Option ℕ → ℕ → Type 0
-Draws old new drawn = ((drawn ≡ 0) × (new ≡ old)) ⊎ ((drawn ≡ 1) × (old ≡ None) × IsSome new)
+-- A ticket is drawn only if the mutator has none: `old` is its ticket before, `new` after. The ticket is a `next` one: as
+-- many were drawn before.
+abbrev pub Draws : (ℕ → Type 0) → Option ℕ → Option ℕ → ℕ → Type 0
+Draws next old new drawn = ((drawn ≡ 0) × (new ≡ old))
+    ⊎ ((drawn ≡ 1) × (old ≡ None) × ((t : ℕ) × (new ≡ Some t) × next t))
 
--- Where an allocation finds room: in a block that the mutator owns; in a hole of a block without an owner, if no lower
--- block has room that the mutator may fill; or, if no other block has such room, in the first Free block, with a ticket
+-- Where an allocation finds room. `before` is the block that the mutator allocated in, `now` the one that it allocates
+-- in. It is the same one; or, if that has no room, the first block with room that the mutator may fill, which it takes
+-- unless it is its own; or, if no other block has such room, the first Free block, with a ticket below the allowance
 -- that is used up then.
-pub data FindsRoom (lacks used : ℕ → Type 0) (blocks : ℕ) (old new : Option ℕ) (taken granted : List ℕ) (drawn : ℕ)
-    : Type 0 where
-  in_own_block : taken ≡ [] → granted ≡ [] → drawn ≡ 0 → new ≡ old
-      → FindsRoom lacks used blocks old new taken granted drawn
-  in_hole : (k : ℕ) → taken ≡ k ∷ [] → granted ≡ [] → drawn ≡ 0 → new ≡ old → ((j : ℕ) → j < k → lacks j)
-      → FindsRoom lacks used blocks old new taken granted drawn
-  in_free_block : (k : ℕ) (ticket : Option ℕ) → taken ≡ k ∷ [] → granted ≡ k ∷ [] → Draws old ticket drawn
-      → IsSome ticket → new ≡ None → ((j : ℕ) → j < blocks → j ≢ k → lacks j) → ((j : ℕ) → j < k → used j)
-      → FindsRoom lacks used blocks old new taken granted drawn
+pub data FindsRoom (lacks used before now next : ℕ → Type 0) (blocks allowance : ℕ) (old new : Option ℕ)
+    (taken granted : List ℕ) (drawn : ℕ) : Type 0 where
+  in_region : (k : ℕ) → before k → now k → taken ≡ [] → granted ≡ [] → drawn ≡ 0 → new ≡ old
+      → FindsRoom lacks used before now next blocks allowance old new taken granted drawn
+  in_hole : (k : ℕ) → now k → (taken ≡ []) ⊎ (taken ≡ k ∷ []) → granted ≡ [] → drawn ≡ 0 → new ≡ old
+      → ((j : ℕ) → j < k → lacks j) → ((j : ℕ) → before j → j ≢ k → lacks j)
+      → FindsRoom lacks used before now next blocks allowance old new taken granted drawn
+  in_free_block : (k t : ℕ) → now k → taken ≡ k ∷ [] → granted ≡ k ∷ [] → Draws next old (Some t) drawn → t < allowance
+      → new ≡ None → ((j : ℕ) → j < blocks → j ≢ k → lacks j) → ((j : ℕ) → j < k → used j)
+      → FindsRoom lacks used before now next blocks allowance old new taken granted drawn
 
 -- Why an allocation of this size stops: the object is large; or no block has room that the mutator may fill, and its
--- ticket is not below the allowance, or no block is Free.
+-- ticket is not below the allowance, or is below it and no block is Free.
 abbrev pub IsCause : Books → (ℕ → Type 0) → (ℕ → Type 0) → ℕ → NeedCause → Type 0
 IsCause books lacks used size Large = MAX_MEDIUM_WORDS < size
 IsCause books lacks used size (Budget t) = (size ≤ MAX_MEDIUM_WORDS) × ((k : ℕ) → k < books.blocks → lacks k)
     × (books.ticket ≡ Some t) × (books.allowance ≤ t)
 IsCause books lacks used size Seen = (size ≤ MAX_MEDIUM_WORDS) × ((k : ℕ) → k < books.blocks → lacks k)
-    × ((k : ℕ) → k < books.blocks → used k)
+    × ((k : ℕ) → k < books.blocks → used k) × ((t : ℕ) × (books.ticket ≡ Some t) × (t < books.allowance))
 
 -- the need has the numbers of the call
 pub record IsNeedOf (d r q : ℕ) (need : Need) : Type 0 where

@@ -1,6 +1,6 @@
 //! The calls that read and change objects, registers and globals.
 
-ghost use Rattle.std.specs.Prelude.{◌≡◌, ◌≢◌, ◌⊎◌, ◌<◌, ◌≤◌, ℕ, MatchResult, List, [], ◌∷◌, true, false, if◌then◌else◌};
+ghost use Rattle.std.specs.Prelude.{◌≡◌, ◌≢◌, ◌⊎◌, ◌<◌, ◌≤◌, ℕ, ⊤, MatchResult, List, [], ◌∷◌, true, false, if◌then◌else◌};
 ghost use Rattle.ideal_heap.specs.declared.command.Command.TheVariants as command;
 ghost use Rattle.ideal_heap.specs.declared.reply.Reply.{Reply};
 ghost use Rattle.ideal_heap.specs.declared.reply.Reply.TheVariants as reply;
@@ -23,6 +23,7 @@ fn shape_in<S: Seat>(seat: &mut S, s: u32, command: &Command) -> Result<Shape, R
     ensures goes { MatchResult result (λ shape. S.looks seat.old seat.new
         × S.has_shape seat.new s shape)
         (λ reply. S.goes seat.old (enters command.now reply) seat.new) }
+    ensures refused { MatchResult result (λ shape. ⊤) (λ r. r ≢ reply.Done) }
 {
     if seat.is_nil(s) {
         seat.answer_null(command);
@@ -48,6 +49,7 @@ fn shape_with_field<S: Seat>(
     ensures goes { MatchResult result (λ shape. S.looks seat.old seat.new
         × S.has_shape seat.new s shape × (i < shape.refs))
         (λ reply. S.goes seat.old (enters command.now reply) seat.new) }
+    ensures refused { MatchResult result (λ shape. ⊤) (λ r. r ≢ reply.Done) }
 {
     let shape = shape_in(seat, s, command)?;
     if i >= shape.refs {
@@ -138,7 +140,8 @@ pub fn put<S: Seat>(seat: &mut S, s: u32, i: u32, v: u32) -> Reply
     ensures ready { S.is_ready seat.new }
     ensures goes { (logged : List ℕ) × S.goes seat.old
         (logs logged (command.Put s i v) result) seat.new
-        × ((logged ≡ []) ⊎ ((logged ≡ S.address seat.old s ∷ []) × (result ≡ reply.Done)
+        × (((logged ≡ []) × (result ≡ reply.Done → (mid : S) × S.looks seat.old mid
+        × S.is_barred mid s)) ⊎ ((logged ≡ S.address seat.old s ∷ []) × (result ≡ reply.Done)
         × S.has_ages seat.old × S.is_aged seat.old s × S.is_marked seat.old s)) }
 {
     match shape_with_field(seat, s, i, &Command::Put { s, i, v }) {

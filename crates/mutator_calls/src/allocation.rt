@@ -20,7 +20,8 @@ fn take_some_hole<S: Seat>(seat: &mut S, size: u32) -> bool
     ensures offered { result ≡ true → S.offers seat.old seat.new size }
     ensures taken { result ≡ true → (k : ℕ) × (taken : List ℕ)
         × ((taken ≡ []) ⊎ (taken ≡ k ∷ [])) × S.goes seat.old (takes taken) seat.new
-        × ((j : ℕ) → j < k → S.lacks seat.new size j) }
+        × ((j : ℕ) → j < k → S.lacks seat.new size j) × S.allocates_in seat.new k
+        × ((j : ℕ) → S.lacks seat.old size j → j ≢ k → S.lacks seat.new size j) }
     ensures ready { result ≡ false → S.is_ready seat.new }
     ensures goes { result ≡ false → S.goes seat.old nothing seat.new }
     ensures lacks { (k : ℕ) → result ≡ false → k < (S.books seat.new).blocks
@@ -45,9 +46,11 @@ fn find_hole<S: Seat>(seat: &mut S, size: u32) -> bool
     requires most { size ≤ MAX_MEDIUM_WORDS }
     ensures found { result ≡ true → S.has_room seat.new size }
     ensures offered { result ≡ true → S.offers seat.old seat.new size }
-    ensures taken { result ≡ true → (k : ℕ) × (taken : List ℕ)
-        × ((taken ≡ []) ⊎ (taken ≡ k ∷ [])) × S.goes seat.old (takes taken) seat.new
-        × ((j : ℕ) → j < k → S.lacks seat.new size j) }
+    ensures finds { result ≡ true → (taken : List ℕ) × S.goes seat.old (takes taken) seat.new
+        × FindsRoom (S.lacks seat.new size) (S.is_used seat.new) (S.allocates_in seat.old)
+        (S.allocates_in seat.new) (λ t. (mid : S) × S.goes seat.old nothing mid × S.has_budget mid t)
+        (S.books seat.new).blocks (S.books seat.new).allowance
+        (S.books seat.old).ticket (S.books seat.new).ticket taken [] 0 }
     ensures ready { result ≡ false → S.is_ready seat.new }
     ensures goes { result ≡ false → S.goes seat.old nothing seat.new }
     ensures lacks { (k : ℕ) → result ≡ false → k < (S.books seat.new).blocks
@@ -67,7 +70,7 @@ fn hold_ticket<S: Seat>(seat: &mut S) -> u32
     requires { S.is_ready seat.old }
     ensures ready { S.is_ready seat.new }
     ensures goes { (drawn : ℕ) × S.goes seat.old (draws drawn) seat.new
-        × Draws (S.books seat.old).ticket (Some result) drawn }
+        × Draws (S.has_budget seat.old) (S.books seat.old).ticket (Some result) drawn }
     ensures stays { (n k : ℕ) → S.lacks seat.old n k → S.lacks seat.new n k }
     ensures same { (c : S) (n : ℕ) → S.offers seat.new c n → S.offers seat.old c n }
     ensures books { S.books seat.new ≡ record (S.books seat.old) { ticket = Some result } }
@@ -90,7 +93,7 @@ fn take_some_free<S: Seat>(seat: &mut S, size: u32) -> bool
     ensures offered { result ≡ true → S.offers seat.old seat.new size }
     ensures grants { result ≡ true → (k : ℕ) × S.goes seat.old (grants k) seat.new
         × ((j : ℕ) → j < (S.books seat.new).blocks → j ≢ k → S.lacks seat.new size j)
-        × ((j : ℕ) → j < k → S.is_used seat.new j) }
+        × ((j : ℕ) → j < k → S.is_used seat.new j) × S.allocates_in seat.new k }
     ensures books { S.books seat.new ≡ record (S.books seat.old)
         { ticket = if result then None else (S.books seat.old).ticket } }
     ensures ready { result ≡ false → S.is_ready seat.new }
@@ -118,12 +121,15 @@ fn find_room<S: Seat>(seat: &mut S, size: u32) -> Result<(), NeedCause>
     ensures offered { IsOk result → S.offers seat.old seat.new size }
     ensures finds { IsOk result → (taken : List ℕ) × (granted : List ℕ) × (drawn : ℕ)
         × S.goes seat.old (searches taken granted drawn) seat.new
-        × FindsRoom (S.lacks seat.new size) (S.is_used seat.new) (S.books seat.new).blocks
+        × FindsRoom (S.lacks seat.new size) (S.is_used seat.new) (S.allocates_in seat.old)
+        (S.allocates_in seat.new) (λ t. (mid : S) × S.goes seat.old nothing mid × S.has_budget mid t)
+        (S.books seat.new).blocks (S.books seat.new).allowance
         (S.books seat.old).ticket (S.books seat.new).ticket taken granted drawn }
     ensures births { (S.books seat.new).births ≡ (S.books seat.old).births }
     ensures ready { IsErr result → S.is_ready seat.new }
     ensures goes { IsErr result → (drawn : ℕ) × S.goes seat.old (draws drawn) seat.new
-        × Draws (S.books seat.old).ticket (S.books seat.new).ticket drawn }
+        × Draws (λ t. (mid : S) × S.goes seat.old nothing mid × S.has_budget mid t)
+        (S.books seat.old).ticket (S.books seat.new).ticket drawn }
     ensures cause { IfErr result (IsCause (S.books seat.new)
         (S.lacks seat.new size) (S.is_used seat.new) size) }
 {
@@ -156,7 +162,10 @@ pub fn new_object<S: Seat>(seat: &mut S, d: u32, refs: u32, nums: u32) -> Alloca
         (λ name. (taken : List ℕ) × (granted : List ℕ) × (drawn : ℕ)
         × S.goes seat.old (births_with d refs nums name taken granted drawn) seat.new
         × FindsRoom (S.lacks seat.new (size_of refs nums)) (S.is_used seat.new)
-        (S.books seat.new).blocks (S.books seat.old).ticket (S.books seat.new).ticket
+        (S.allocates_in seat.old) (S.allocates_in seat.new)
+        (λ t. (mid : S) × S.goes seat.old nothing mid × S.has_budget mid t)
+        (S.books seat.new).blocks (S.books seat.new).allowance
+        (S.books seat.old).ticket (S.books seat.new).ticket
         taken granted drawn) (λ need. ⊤) }
     ensures placed { MatchAllocated result (λ name. (mid : S)
         × S.offers seat.old mid (size_of refs nums)
@@ -165,7 +174,9 @@ pub fn new_object<S: Seat>(seat: &mut S, d: u32, refs: u32, nums: u32) -> Alloca
         (λ need. ⊤) }
     ensures stopped { MatchAllocated result (λ name. ⊤)
         (λ need. (drawn : ℕ) × S.goes seat.old (draws drawn) seat.new
-        × Draws (S.books seat.old).ticket (S.books seat.new).ticket drawn) }
+        × Draws (λ t. (mid : S) × S.goes seat.old nothing mid × S.has_budget mid t)
+        (S.books seat.old).ticket (S.books seat.new).ticket drawn
+        × (MAX_MEDIUM_WORDS < size_of refs nums → drawn ≡ 0)) }
     ensures need { MatchAllocated result (λ name. ⊤) (IsNeedOf d refs nums) }
     ensures cause { MatchAllocated result (λ name. ⊤) (λ need. IsCause (S.books seat.new)
         (S.lacks seat.new (size_of refs nums)) (S.is_used seat.new)

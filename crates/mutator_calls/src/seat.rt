@@ -64,6 +64,9 @@ pub trait Seat {
     // The seat's region has room for an object of the size.
     ghost has_room: { Self → ℕ → Type 0 };
 
+    // The seat's region is in this block.
+    ghost allocates_in: { Self → ℕ → Type 0 };
+
     // The region of the second state is room for the size that the mutator may fill in the first:
     // a hole of a block that it owns or nobody does, or a Free block. Only blocks were taken.
     ghost offers: { Self → Self → ℕ → Type 0 };
@@ -71,6 +74,9 @@ pub trait Seat {
     // From the one state to the other an object of the size was placed at the start of the region.
     // The register holds it.
     ghost places: { Self → Self → ℕ → ℕ → Type 0 };
+
+    // The budget word is this number: so many tickets were drawn in the epoch.
+    ghost has_budget: { Self → ℕ → Type 0 };
 
     // The stop word is this number.
     ghost has_stop: { Self → ℕ → Type 0 };
@@ -286,7 +292,10 @@ pub trait Seat {
         requires least { 3 ≤ size }
         requires most { size ≤ MAX_MEDIUM_WORDS }
         ensures room { result ≡ true → has_room self.now size }
-        ensures offered { result ≡ true → offers self.now self.now size };
+        ensures offered { result ≡ true → offers self.now self.now size }
+        ensures region { result ≡ true → (k : ℕ) × allocates_in self.now k }
+        ensures lacks { (k : ℕ) → result ≡ false → allocates_in self.now k
+            → lacks self.now size k };
 
     /// Looks at a block for a hole with room for `size` words that the mutator may fill: its block
     /// word, its side words, and the shape word of its last object, unless a look in this epoch
@@ -299,6 +308,7 @@ pub trait Seat {
         requires most { size ≤ MAX_MEDIUM_WORDS }
         ensures found { result ≡ true → has_room self.new size }
         ensures offered { result ≡ true → offers self.old self.new size }
+        ensures region { result ≡ true → allocates_in self.new block }
         ensures taken { result ≡ true → (taken : List ℕ)
             × ((taken ≡ []) ⊎ (taken ≡ block ∷ [])) × goes self.old (takes taken) self.new }
         ensures ready { result ≡ false → is_ready self.new }
@@ -316,6 +326,7 @@ pub trait Seat {
         requires none { (books self.old).ticket ≡ None }
         ensures ready { is_ready self.new }
         ensures goes { goes self.old (draws 1) self.new }
+        ensures next { has_budget self.old result }
         ensures stays { (n k : ℕ) → lacks self.old n k → lacks self.new n k }
         ensures same { (c : Self) (n : ℕ) → offers self.new c n → offers self.old c n }
         ensures books { books self.new ≡ record (books self.old) { ticket = Some result } };
@@ -332,6 +343,7 @@ pub trait Seat {
         ensures goes { goes self.old (if result then grants block else nothing) self.new }
         ensures found { result ≡ true → has_room self.new size }
         ensures offered { result ≡ true → offers self.old self.new size }
+        ensures region { result ≡ true → allocates_in self.new block }
         ensures ready { result ≡ false → is_ready self.new }
         ensures used { result ≡ false → is_used self.new block }
         ensures offers { (c : Self) (n : ℕ) → result ≡ false → offers self.new c n
@@ -358,6 +370,7 @@ pub trait Seat {
         ensures stays { (n k : ℕ) → lacks self.old n k → lacks self.new n k }
         ensures still { (k : ℕ) → is_used self.old k → is_used self.new k }
         ensures placed { places self.old self.new d (size_of shape.now.refs shape.now.nums) }
+        ensures region { (k : ℕ) → allocates_in self.old k → allocates_in self.new k }
         ensures books { books self.new
             ≡ record (books self.old) { births = (books self.old).births + 1 } };
 

@@ -1,22 +1,25 @@
 -- What an allocation's effect gives for the world's call.
-use Rattle.std.proofs.Common.{◌≡◌, sym, ◌∙◌, ap, subst, ℕ, ◌+◌, ◌⊎◌, List}
+use Rattle.std.proofs.Common.{◌≡◌, sym, ◌∙◌, ap, subst, ℕ, ◌+◌, ◌⊎◌, arith, List}
 use Rattle.std.specs.Prelude.{Option, Some, None, slice_get, slice_index, unwrap_or}
 use Rattle.ideal_heap.specs.declared.name.Name.{Name}
 use Rattle.heap_layout.specs.Zones.{block_start}
 use Rattle.heap_layout.specs.declared.region.Region.{Region}
-use Rattle.object_model.specs.Objects.{state_of, owner_at}
+use Rattle.object_model.specs.Objects.{state_of, word_at, owner_at}
 use Rattle.sessions.specs.Fitting.{HasHole}
 use Rattle.mutator_calls.specs.declared.need.Need.{Need}
 use Rattle.mutator_calls.specs.declared.need.NeedCause.{NeedCause}
 use Rattle.mutator_calls.specs.declared.need.NeedCause.TheVariants.{Large, Budget, Seen}
 use Rattle.mutator_calls.specs.declared.need.Allocated.{Allocated}
 use Rattle.mutator_calls.specs.declared.need.Allocated.TheVariants.{Made, Stop}
+use Rattle.mutator_calls.proofs.Finding.{draws-from}
 use Rattle.mutator_calls.specs.Allocating.{Books, FindsRoom, IsCause, MatchAllocated}
 use Rattle.plain_world.specs.declared.plain_row.PlainRow.{PlainRow}
 use Rattle.plain_world.specs.declared.plain_row.BlockNote.{BlockNote}
 use Rattle.plain_world.specs.declared.plain_row.BlockNote.TheVariants.{Unowned, Owned}
-use Rattle.plain_world.specs.Rows.{number_of, births_of, registers_of, ticket_of}
-use Rattle.plain_world.specs.Steps.{Lacks, books_of, IsOffer, Offers, PlacesObject}
+use Rattle.plain_world.specs.Rows.{number_of, births_of, registers_of, ticket_of, block_of}
+use Rattle.mutator_calls.specs.Effects.{nothing}
+use Rattle.plain_world.specs.Worlds.{Goes}
+use Rattle.plain_world.specs.Steps.{Lacks, HasBudget, books_of, IsOffer, Offers, PlacesObject}
 
 pub allocated-weaker : {P P' : Name → Type 0} {Q Q' : Need → Type 0} (r : Allocated) → ((n : Name) → P n → P' n) → ((need : Need) → Q need → Q' need)
     → MatchAllocated r P Q → MatchAllocated r P' Q'
@@ -59,17 +62,26 @@ pub allocated-and : (P P' : Name → Type 0) (Q Q' : Need → Type 0) (r : Alloc
 allocated-and P P' Q Q' (Made n) is also = (is, also)
 allocated-and P P' Q Q' (Stop need) is also = (is, also)
 
-pub finds-weaker : (lacks lacks' used : ℕ → Type 0) (blocks : ℕ) (old new : Option ℕ) (taken granted : List ℕ) (drawn : ℕ) → ((k : ℕ) → lacks k → lacks' k)
-    → FindsRoom lacks used blocks old new taken granted drawn → FindsRoom lacks' used blocks old new taken granted drawn
-finds-weaker lacks lacks' used blocks old new taken granted drawn weaker (FindsRoom.in_own_block t g d n) = FindsRoom.in_own_block t g d n
-finds-weaker lacks lacks' used blocks old new taken granted drawn weaker (FindsRoom.in_hole k t g d n lower) = FindsRoom.in_hole k t g d n (λ j below. weaker j (lower j below))
-finds-weaker lacks lacks' used blocks old new taken granted drawn weaker (FindsRoom.in_free_block k ticket t g d some n others lower) =
-    FindsRoom.in_free_block k ticket t g d some n (λ j below other. weaker j (others j below other)) lower
+-- the budget word is as before after steps of no effect
+pub next-ticket : (a : PlainRow) (t : ℕ) → (mid : PlainRow) × Goes a nothing mid × HasBudget mid t → t ≡ word_at (state_of a.row) 1
+next-ticket a t seen = let same : word_at (state_of seen.0.row) 1 ≡ word_at (state_of a.row) 1 + 0 = seen.1.budget in
+    let is : word_at (state_of seen.0.row) 1 ≡ t = seen.2 in
+    omega arith
+
+pub finds-weaker : (lacks lacks' used before now next next' : ℕ → Type 0) (blocks allowance : ℕ) (old new : Option ℕ) (taken granted : List ℕ) (drawn : ℕ)
+    → ((k : ℕ) → lacks k → lacks' k) → ((t : ℕ) → next t → next' t) → FindsRoom lacks used before now next blocks allowance old new taken granted drawn
+    → FindsRoom lacks' used before now next' blocks allowance old new taken granted drawn
+finds-weaker lacks lacks' used before now next next' blocks allowance old new taken granted drawn weaker follows (FindsRoom.in_region k b here t g d n) =
+    FindsRoom.in_region k b here t g d n
+finds-weaker lacks lacks' used before now next next' blocks allowance old new taken granted drawn weaker follows (FindsRoom.in_hole k here t g d n lower first) =
+    FindsRoom.in_hole k here t g d n (λ j below. weaker j (lower j below)) (λ j was other. weaker j (first j was other))
+finds-weaker lacks lacks' used before now next next' blocks allowance old new taken granted drawn weaker follows (FindsRoom.in_free_block k ticket here t g d few n others lower) =
+    FindsRoom.in_free_block k ticket here t g (draws-from next next' old (Some ticket) drawn follows d) few n (λ j below other. weaker j (others j below other)) lower
 
 pub cause-weaker : (books : Books) (P Q R : ℕ → Type 0) (size : ℕ) (cause : NeedCause) → ((k : ℕ) → P k → Q k) → IsCause books P R size cause → IsCause books Q R size cause
 cause-weaker books P Q R size Large weaker is = is
 cause-weaker books P Q R size (Budget t) weaker is = (is.0, (λ k below. weaker k (is.1 k below)), is.2, is.3)
-cause-weaker books P Q R size Seen weaker is = (is.0, (λ k below. weaker k (is.1 k below)), is.2)
+cause-weaker books P Q R size Seen weaker is = (is.0, (λ k below. weaker k (is.1 k below)), is.2, is.3)
 
 region-read : (old new : ℕ) (r q : Region) → Some (Owned old r) ≡ Some (Owned new q) → r ≡ q
 region-read old new r q is = ap of is
@@ -85,6 +97,7 @@ pub record IsPlaced (a b : PlainRow) (m d size : ℕ) : Type 0 where
   pub offset : ℕ
   pub address : slice_index (registers_of (slice_get b.mutators.items m)) d ≡ block_start (state_of b.row).blocks block + offset
   pub owner : owner_at (state_of b.row) block ≡ number_of (slice_get b.mutators.items m)
+  pub current : block_of (slice_get b.seats.items m) ≡ Some block
   pub spot : IsOffer (record a { turn = m }) block offset size
 
 pub placed-at : (a mid b : PlainRow) (m d size : ℕ) → b.turn ≡ m → Offers (record a { turn = m }) mid size → PlacesObject mid b d size → IsPlaced a b m d size
@@ -97,6 +110,7 @@ placed-at a mid b m d size turn offers places =
       offset = places.region.next;
       address = ap (λ t. slice_index (registers_of (slice_get b.mutators.items t)) d) (sym turn) ∙ places.address;
       owner = places.owner ∙ ap (λ t. number_of (slice_get b.mutators.items t)) turn;
+      current = ap (λ t. block_of (slice_get b.seats.items t)) (sym turn) ∙ places.current;
       spot = subst (λ k. IsOffer (record a { turn = m }) k places.region.next size) block
           (subst (λ r. IsOffer (record a { turn = m }) offers.block r.next size) region offers.offer);
     }

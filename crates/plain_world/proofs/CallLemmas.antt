@@ -1,10 +1,12 @@
 -- From the effect of a mutator's steps to what a call of the world promises.
-use Rattle.std.proofs.Common.{◌≡◌, ◌≢◌, refl, sym, ◌∙◌, ap, subst, ℕ, ◌+◌, ◌⊎◌, inl, inr, List, [], ◌∷◌, ◌++◌, map, length}
+use Rattle.std.proofs.Common.{◌≡◌, ◌≢◌, refl, sym, ◌∙◌, ap, subst, ℕ, ◌+◌, ◌<◌, ◌⊎◌, inl, inr, List, [], ◌∷◌, ◌++◌, map, length, true, false}
 use Rattle.std.specs.List.{Contains}
 use Rattle.std.proofs.lemmas.List.{length-map}
-use Rattle.object_model.specs.Objects.{state_of, word_at}
+use Rattle.object_model.specs.Objects.{HeapState, state_of, word_at, IsHeld, is_unlogged}
 use Rattle.object_model.specs.Graphs.{numbers_of}
+use Rattle.object_model.specs.Ages.{is_old}
 use Rattle.mutator_core.proofs.Ending.{log-seen}
+use Rattle.mutator_core.proofs.Regions.{stays-later}
 use Rattle.std.specs.Prelude.{slice_get}
 use Rattle.ideal_heap.specs.Ideal.{IdealHeap}
 use Rattle.ideal_heap.specs.Runs.{Entry, entry}
@@ -15,7 +17,8 @@ use Rattle.mutator_core.specs.Logs.{machine_after, heap_after}
 use Rattle.mutator_calls.specs.declared.need.Mutator.{Mutator}
 use Rattle.mutator_calls.specs.Effects.{Effect}
 use Rattle.plain_world.specs.declared.plain_row.PlainRow.{PlainRow}
-use Rattle.plain_world.specs.Rows.{number_of, births_of, ticket_of, mutator_state}
+use Rattle.plain_world.specs.Rows.{address_at, number_of, births_of, ticket_of, mutator_state}
+use Rattle.plain_world.specs.Steps.{IsBarred}
 use Rattle.plain_world.specs.Worlds.{IsAt, IsIdle, IsAfter, Goes, births_in}
 use Rattle.plain_world.specs.SeatLaws.{history-append}
 
@@ -81,6 +84,24 @@ stop-known b n idle is some = elim (stop-cases b idle.some.epoch idle.some.ideal
   | inl none ↦ absurd (some (sym is ∙ none))
   | inr known ↦ subst (Contains (numbers_of (map mutator_state b.mutators.items))) is known
 ]
+
+-- what may be stored without logging is not old and unlogged
+pub unbarred : (w : PlainRow) (s : ℕ) → IsBarred w s → w.young ≡ true → is_old (state_of w.row) (address_at w s) ≡ true
+    → is_unlogged (state_of w.row) (address_at w s) ≡ true → ⊥
+unbarred w s (inl none) young old unlogged = let wrong : true ≡ false = sym young ∙ none in cc
+unbarred w s (inr (inl none)) young old unlogged = let wrong : true ≡ false = sym old ∙ none in cc
+unbarred w s (inr (inr none)) young old unlogged = let wrong : true ≡ false = sym unlogged ∙ none in cc
+
+-- each object stays, with its header
+pub objects-after : (a b : PlainRow) (m : ℕ) (e : Effect) → IsIdle a → Goes (record a { turn = m }) e b → (x : ℕ) → IsHeld (state_of a.row) x
+    → IsHeld (state_of b.row) x × ((j : ℕ) → j < 3 → word_at (state_of b.row) (x + j) ≡ word_at (state_of a.row) (x + j))
+objects-after a b m e idle goes x holds =
+    let now = idle.some in
+    let more = goes.steps now.epoch now.ideal now.log (at-turn now.epoch now.ideal now.log a m now.at) in
+    let later = stays-later now.epoch now.ideal now.log more.more more.at.epoch x (subst (λ (t : HeapState). IsHeld t x) now.at.heap holds) in (
+      subst (λ (t : HeapState). IsHeld t x) (sym more.at.heap) later.0,
+      λ j few. ap (λ (t : HeapState). word_at t (x + j)) more.at.heap ∙ later.1 j few ∙ sym (ap (λ (t : HeapState). word_at t (x + j)) now.at.heap),
+    )
 
 -- births and ticket, by the place of the mutator
 pub births-after : (a b : PlainRow) (m : ℕ) (e : Effect) → Goes (record a { turn = m }) e b

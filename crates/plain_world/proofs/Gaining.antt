@@ -36,7 +36,7 @@ use Rattle.plain_world.specs.Changes.{TakesBlock, ReturnsTo, NotesBlock, KeepsPl
 use Rattle.plain_world.specs.Changes.FindsHole.{own, taken}
 use Rattle.plain_world.specs.Changes.LacksHole.{known, seen, foreign}
 use Rattle.plain_world.specs.Worlds.{IsAt, IsInEpoch, IsReady, HasRoom, HasState, Goes, has}
-use Rattle.plain_world.specs.Steps.{Lacks, IsUsed, IsRegion, Offers}
+use Rattle.plain_world.specs.Steps.{AllocatesIn, Lacks, IsUsed, IsRegion, Offers}
 use Rattle.plain_world.specs.SeatLaws.{append-nil, goes-nothing}
 use Rattle.plain_world.proofs.Lists.{one-element}
 use Rattle.plain_world.proofs.Stepping as stepping
@@ -498,6 +498,11 @@ enters-room a b block size ready (own region note fits returns) = returned-room 
 enters-room a b block size ready (taken least region note hole takes) =
     room a b ready block region false (gains-hole a b ready block least size region note hole takes) size hole.hole.room
 
+pub enters-current : (a b : PlainRow) (block size : ℕ) → IsReady a → FindsHole a b block size → AllocatesIn b block
+enters-current a b block size ready (own region note fits returns) = (returned-region a b block size region note fits returns ready).current
+enters-current a b block size ready (taken least region note hole takes) =
+    (region-now a b ready block region false (gains-hole a b ready block least size region note hole takes)).current
+
 -- a mutator that leaves a block
 pub leaves-goes : (a b : PlainRow) (block size : ℕ) → IsReady a → LacksHole a b block size → Goes a nothing b
 leaves-goes a b block size ready (known least note most same) = goes-nothing a b same
@@ -530,7 +535,7 @@ leaves-others a b block size ready (seen least note none marks) n k = lacks-kept
 leaves-others a b block size ready (foreign owner region note away same) n k = subst (λ w. Lacks a n k → Lacks w n k) (sym same) (λ lacks. lacks)
 
 -- a block that another mutator owns, or whose region has no room
-foreign-lacks : (a : PlainRow) (block size owner : ℕ) (region : Region) → IsReady a → slice_get a.notes.items block ≡ Some (Owned owner region)
+pub foreign-lacks : (a : PlainRow) (block size owner : ℕ) (region : Region) → IsReady a → slice_get a.notes.items block ≡ Some (Owned owner region)
     → (owner ≢ number_at_turn a) ⊎ (region.end < region.next + size) → Lacks a size block
 foreign-lacks a block size owner region ready note away at whose hole =
     let now = ready.idle.some in

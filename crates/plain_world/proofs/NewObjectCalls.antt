@@ -1,5 +1,5 @@
 -- The call that allocates an object.
-use Rattle.std.proofs.Common.{◌≡◌, refl, sym, ◌∙◌, ap, subst, ℕ, ◌+◌, ◌<◌, ◌≤◌, ◌^◌, inl, inr, arith, add-zero, Bool, true, false, ◌&&◌, not, ◌++◌, length}
+use Rattle.std.proofs.Common.{◌≡◌, refl, sym, ◌∙◌, ap, subst, ℕ, ◌+◌, ◌<◌, ◌≤◌, ◌^◌, inl, inr, arith, add-zero, Bool, true, false, ◌&&◌, not, ◌++◌, length, Vec, Global}
 use Rattle.std.specs.Prelude.{Some, slice_get}
 use Rattle.std.proofs.lemmas.Bool.{cases_eq}
 use Rattle.heap_layout.specs.Zones.{block_start}
@@ -11,11 +11,12 @@ use Rattle.object_model.specs.Objects.{state_of, word_at, has_kind, is_unlogged,
 use Rattle.mutator_calls.specs.Effects.{enters}
 use Rattle.plain_world.specs.declared.plain_row.PlainRow.{PlainRow}
 use Rattle.plain_world.specs.declared.plain_row.BlockNote.{BlockNote}
+use Rattle.plain_world.specs.declared.plain_row.PlainSeat.{PlainSeat}
 use Rattle.plain_world.specs.declared.plain_row.BlockNote.TheVariants.{Owned}
 use Rattle.plain_world.specs.Rows.{births_of, ticket_of, block_of, mutator_at_turn, seat_at_turn, number_at_turn}
 use Rattle.plain_world.specs.Notes.{AreFilled}
 use Rattle.plain_world.specs.Worlds.{IsReady, HasRoom, Continues, Goes}
-use Rattle.plain_world.specs.Steps.{Lacks, IsUsed, PlacesObject}
+use Rattle.plain_world.specs.Steps.{Lacks, IsUsed, AllocatesIn, PlacesObject}
 use Rattle.plain_world.proofs.Lists.{one-element}
 use Rattle.plain_world.proofs.Allocated.{IsBorn}
 use Rattle.plain_world.proofs.NewObjects as objects
@@ -46,6 +47,10 @@ module _ (a b : PlainRow) (d refs nums : ℕ) (n : Name) (born : IsBorn a b d n 
       low-word : (k : ℕ) → k < 18 → word_at (state_of b.row) k ≡ word_at (state_of a.row) k
       low-word = objects.low-word a b d refs nums n born has register few_refs few_nums small few_births has.some.epoch has.some.ideal has.some.log has.some.at
 
+  pub region : (k : ℕ) → AllocatesIn a k → AllocatesIn b k
+  region k is = ap (λ (v : Vec PlainSeat Global). block_of (slice_get v.items b.turn)) born.seats
+      ∙ ap (λ t. block_of (slice_get a.seats.items t)) born.turn ∙ is
+
   pub places : PlacesObject a b d (size_of refs nums)
   places = record {
     block = born.block;
@@ -54,6 +59,7 @@ module _ (a b : PlainRow) (d refs nums : ℕ) (n : Name) (born : IsBorn a b d n 
     address = objects.address-now a b d refs nums n born has register few_refs few_nums small few_births has.some.epoch has.some.ideal has.some.log has.some.at
         ∙ ap (λ k. block_start k born.block + born.region.next) (sym born.object.blocks);
     owner = objects.owner-now a b d refs nums n born has register few_refs few_nums small few_births has.some.epoch has.some.ideal has.some.log has.some.at;
+    current = region born.block born.current;
   }
 
   pub still : (k : ℕ) → IsUsed a k → IsUsed b k

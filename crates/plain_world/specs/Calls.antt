@@ -1,5 +1,5 @@
 -- What the calls of a world promise.
-use Rattle.std.specs.Prelude.{◌≡◌, ◌≢◌, ℕ, ◌+◌, ◌<◌, ◌⊎◌, Bool, true, false, ◌&&◌, not, Option, List, [], ◌∷◌, ◌++◌, map, length, slice_get, slice_index}
+use Rattle.std.specs.Prelude.{◌≡◌, ◌≢◌, ℕ, ◌+◌, ◌<◌, ◌⊎◌, Bool, true, false, ◌&&◌, not, Option, Some, List, [], ◌∷◌, ◌++◌, map, length, slice_get, slice_index}
 use Rattle.std.specs.List.{Contains}
 use Rattle.heap_layout.specs.declared.block.Kind.{Kind}
 use Rattle.heap_layout.specs.declared.block.Kind.TheVariants as kinds
@@ -11,7 +11,8 @@ use Rattle.ideal_heap.specs.declared.name.Name.{Name}
 use Rattle.ideal_heap.specs.declared.reply.Reply.{Reply}
 use Rattle.ideal_heap.specs.Ideal.{IdealHeap}
 use Rattle.ideal_heap.specs.Runs.{Entry, entry}
-use Rattle.object_model.specs.Objects.{HeapState, state_of, word_at, block_word, has_kind, HasKind, owner_at, is_unlogged, size_of}
+use Rattle.object_model.specs.Objects.{HeapState, state_of, word_at, block_word, has_kind, HasKind, IsHeld, owner_at, is_unlogged, size_of}
+use Rattle.object_model.specs.declared.shape.TheConstants.{HEADER_WORDS, MAX_MEDIUM_WORDS}
 use Rattle.object_model.specs.Graphs.{MutatorState}
 use Rattle.object_model.specs.Ages.{is_old}
 use Rattle.sessions.specs.Fitting.{HasHole}
@@ -20,7 +21,7 @@ use Rattle.mutator_calls.specs.Effects.{Effect, draws}
 use Rattle.mutator_calls.specs.Allocating.{Books, births_with, Draws, FindsRoom}
 use Rattle.plain_world.specs.declared.plain_row.PlainRow.{PlainRow}
 use Rattle.plain_world.specs.declared.plain_world.PlainWorld.{PlainWorld}
-use Rattle.plain_world.specs.Rows.{mutator_state, number_of, births_of, registers_of, ticket_of}
+use Rattle.plain_world.specs.Rows.{mutator_state, number_of, births_of, registers_of, ticket_of, block_of}
 use Rattle.plain_world.specs.Worlds.{IsAfter, IsIdle, has, births_in, stop_after}
 
 -- the row and the mutators of a world
@@ -130,7 +131,7 @@ abbrev pub budget_word : {P : Type 0} → PlainWorld P → ℕ
 budget_word w = word_at (heap_of w) 1
 
 -- Steps of this effect, of the mutator at place m, change stop word, budget word, block words, births and tickets so, and
--- nothing of the other mutators.
+-- nothing of the other mutators. Each object stays where it is, with its three header words.
 pub record LeavesRest {P : Type 0} (old : PlainWorld P) (m : ℕ) (e : Effect) (new : PlainWorld P) : Type 0 where
   pub stop : stop_word new ≡ stop_after e.raised (number_at old m) (stop_word old)
   pub budget : budget_word new ≡ budget_word old + e.drawn
@@ -140,6 +141,8 @@ pub record LeavesRest {P : Type 0} (old : PlainWorld P) (m : ℕ) (e : Effect) (
   pub ticket : e.drawn ≡ 0 → e.granted ≡ [] → ticket_at new m ≡ ticket_at old m
   pub others : (k : ℕ) → k ≢ m → (slice_get new.row.mutators.items k ≡ slice_get old.row.mutators.items k)
       × (ticket_at new k ≡ ticket_at old k)
+  pub objects : (x : ℕ) → IsHeld (heap_of old) x → IsHeld (heap_of new) x
+      × ((j : ℕ) → j < HEADER_WORDS → word_at (heap_of new) (x + j) ≡ word_at (heap_of old) (x + j))
 
 -- the heap, the mutators and their tickets are unchanged
 pub record IsUnchanged {P : Type 0} (old new : PlainWorld P) : Type 0 where
@@ -147,13 +150,18 @@ pub record IsUnchanged {P : Type 0} (old new : PlainWorld P) : Type 0 where
   pub mutators : mutators_of new ≡ mutators_of old
   pub tickets : (k : ℕ) → ticket_at new k ≡ ticket_at old k
 
--- The new object in register d of the mutator at place m lies in a block that the mutator owns. It begins a hole with
--- room for it, of a block that was the mutator's or nobody's, or a block that was Free.
+-- the mutator at place m allocates in block k
+abbrev pub AllocatesAt : {P : Type 0} → PlainWorld P → ℕ → ℕ → Type 0
+AllocatesAt w m k = block_of (slice_get w.row.seats.items m) ≡ Some k
+
+-- The new object in register d of the mutator at place m lies in the block that the mutator allocates in now, which it
+-- owns. It begins a hole with room for it, of a block that was the mutator's or nobody's, or a block that was Free.
 pub record IsPlacedIn {P : Type 0} (old : PlainWorld P) (m : ℕ) (new : PlainWorld P) (d size : ℕ) : Type 0 where
   pub block : ℕ
   pub offset : ℕ
   pub address : register_in new m d ≡ block_start (heap_of new).blocks block + offset
   pub owner : owner_at (heap_of new) block ≡ number_at new m
+  pub current : AllocatesAt new m block
   pub spot : (HasHole old.row.fill (heap_of old) block offset size
       × ((owner_at (heap_of old) block ≡ 0) ⊎ (owner_at (heap_of old) block ≡ number_at old m)))
       ⊎ (HasKind (heap_of old) block kinds.Free × (offset ≡ 0))
@@ -167,14 +175,15 @@ pub record Allocates {P : Type 0} (old : PlainWorld P) (m d r q : ℕ) (n : Name
   pub history : AddsEntry old m (command.New d r q) (reply.New n) new
   pub grants : Grants old granted new
   pub rest : LeavesRest old m (births_with d r q n taken granted drawn) new
-  pub finds : FindsRoom (HasNoRoom new m (size_of r q)) (IsNotFree new) (heap_of new).blocks (ticket_at old m)
-      (ticket_at new m) taken granted drawn
+  pub finds : FindsRoom (HasNoRoom new m (size_of r q)) (IsNotFree new) (AllocatesAt old m) (AllocatesAt new m)
+      (λ t. t ≡ budget_word old) (heap_of new).blocks (allowance_of new) (ticket_at old m) (ticket_at new m) taken granted drawn
   pub placed : IsPlacedIn old m new d (size_of r q)
 
--- the mutator at place m allocates nothing, and draws a ticket or none
-pub record Refuses {P : Type 0} (old : PlainWorld P) (m : ℕ) (new : PlainWorld P) : Type 0 where
+-- The mutator at place m allocates no object of this size. It draws a ticket or none; none if the object is large.
+pub record Refuses {P : Type 0} (old : PlainWorld P) (m size : ℕ) (new : PlainWorld P) : Type 0 where
   pub drawn : ℕ
   pub history : AddsEntries old [] new
   pub grants : Grants old [] new
   pub rest : LeavesRest old m (draws drawn) new
-  pub tickets : Draws (ticket_at old m) (ticket_at new m) drawn
+  pub tickets : Draws (λ t. t ≡ budget_word old) (ticket_at old m) (ticket_at new m) drawn
+  pub large : MAX_MEDIUM_WORDS < size → drawn ≡ 0

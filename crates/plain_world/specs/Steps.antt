@@ -47,6 +47,10 @@ Lacks w size k = (at : ℕ) → (owner_at (state_of w.row) k ≡ 0) ⊎ (owner_a
 abbrev pub IsUsed : PlainRow → ℕ → Type 0
 IsUsed w k = HasKind (state_of w.row) k kinds.Free → ⊥
 
+-- the budget word
+abbrev pub HasBudget : PlainRow → ℕ → Type 0
+HasBudget w n = word_at (state_of w.row) 1 ≡ n
+
 -- the stop word
 abbrev pub HasStop : PlainRow → ℕ → Type 0
 HasStop w n = word_at (state_of w.row) 0 ≡ n
@@ -68,9 +72,13 @@ IsOffer a k offset size = (HasHole a.fill (state_of a.row) k offset size
     × ((owner_at (state_of a.row) k ≡ 0) ⊎ (owner_at (state_of a.row) k ≡ number_at_turn a)))
     ⊎ (HasKind (state_of a.row) k kinds.Free × (offset ≡ 0))
 
+-- the mutator whose turn it is allocates in this block
+abbrev pub AllocatesIn : PlainRow → ℕ → Type 0
+AllocatesIn w k = block_of (seat_at_turn w) ≡ Some k
+
 -- the region of the mutator is in this block
 pub record IsRegion (w : PlainRow) (k : ℕ) (region : Region) : Type 0 where
-  pub current : block_of (seat_at_turn w) ≡ Some k
+  pub current : AllocatesIn w k
   pub note : slice_get w.notes.items k ≡ Some (Owned (number_at_turn w) region)
 
 -- the region of the mutator in `b` is room that `a` offers
@@ -80,10 +88,12 @@ pub record Offers (a b : PlainRow) (size : ℕ) : Type 0 where
   pub now : IsRegion b block region
   pub offer : IsOffer a block region.next size
 
--- the object in register d of `c` was placed at the start of the region in `b`, in a block that the mutator owns
+-- the object in register d of `c` was placed at the start of the region in `b`, in a block that the mutator owns and
+-- allocates in
 pub record PlacesObject (b c : PlainRow) (d size : ℕ) : Type 0 where
   pub block : ℕ
   pub region : Region
   pub now : IsRegion b block region
   pub address : address_at c d ≡ block_start (state_of c.row).blocks block + region.next
   pub owner : owner_at (state_of c.row) block ≡ number_at_turn c
+  pub current : AllocatesIn c block

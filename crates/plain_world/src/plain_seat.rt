@@ -3,7 +3,7 @@
 ghost use Rattle.std.specs.Prelude.{◌≡◌, ℕ, false};
 ghost use Rattle.plain_world.specs.Rows.{address_at};
 ghost use Rattle.plain_world.specs.Worlds.{IsReady, HasRoom, Goes};
-ghost use Rattle.plain_world.specs.Steps.{books_of, HasShape, HasName, IsBarred, HasAges, IsAged, IsMarked, Lacks, IsUsed, Offers, PlacesObject, HasStop};
+ghost use Rattle.plain_world.specs.Steps.{AllocatesIn, HasBudget, books_of, HasShape, HasName, IsBarred, HasAges, IsAged, IsMarked, Lacks, IsUsed, Offers, PlacesObject, HasStop};
 ghost use Rattle.plain_world.specs.SeatLaws.{goes-after, goes-nothing, shape-some};
 ghost use Rattle.std.proofs.Common.{refl, sym, ◌∙◌, ap, subst};
 
@@ -41,9 +41,13 @@ impl Seat for PlainRow {
 
     ghost has_room = { λ w size. HasRoom w size };
 
+    ghost allocates_in = { λ w k. AllocatesIn w k };
+
     ghost offers = { λ a b size. Offers a b size };
 
     ghost places = { λ b c d size. PlacesObject b c d size };
+
+    ghost has_budget = { λ w n. HasBudget w n };
 
     ghost has_stop = { λ w n. HasStop w n };
 

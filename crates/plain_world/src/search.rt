@@ -25,7 +25,8 @@ impl PlainRow {
     /// Whether the mutator's region has room for `size` words.
     pub(crate) fn has_room(&self, size: u32) -> bool
         requires { IsReady self.now }
-        ensures { result ≡ true → HasRoom self.now size }
+        ensures room { result ≡ true → HasRoom self.now size }
+        ensures none { result ≡ false → HasRoom self.now size → ⊥ }
     {
         match self.seats[self.turn].block {
             None => false,
@@ -145,6 +146,9 @@ impl PlainRow {
         ensures none { result ≡ false → (HasKind (state_of self.old.row) block kinds.Free → ⊥)
             × (self.new ≡ self.old) }
     {
+        if let BlockNote::Owned { .. } = self.notes[block as usize] {
+            return false;
+        }
         if self.row.block(block).kind != Kind::Free {
             return false;
         }

@@ -68,7 +68,7 @@ impl<P> PlainWorld<P> {
         ensures plan { is_generational self.new ≡ is_generational self.old }
         ensures made { MatchAllocated result
             (λ n. Allocates self.old m d refs nums n self.new)
-            (λ need. Refuses self.old m self.new) }
+            (λ need. Refuses self.old m (size_of refs nums) self.new) }
         ensures logged { Logs self.old [] self.new }
         ensures small { MatchAllocated result
             (λ n. size_of refs nums ≤ MAX_MEDIUM_WORDS) (λ need. ⊤) }
@@ -111,7 +111,9 @@ impl<P> PlainWorld<P> {
         ensures plan { is_generational self.new ≡ is_generational self.old }
         ensures history { AddsEntry self.old m (command.Put s i v) result self.new }
         ensures logged { (logged : List ℕ) × Logs self.old logged self.new
-            × ((logged ≡ []) ⊎ ((logged ≡ register_in self.old m s ∷ []) × (result ≡ reply.Done)
+            × (((logged ≡ []) × (result ≡ reply.Done
+            → IsOldUnlogged self.old (register_in self.old m s) → ⊥))
+            ⊎ ((logged ≡ register_in self.old m s ∷ []) × (result ≡ reply.Done)
             × IsOldUnlogged self.old (register_in self.old m s))) }
         ensures granted { Grants self.old [] self.new }
         ensures rest { LeavesRest self.old m (enters (command.Put s i v) result) self.new }

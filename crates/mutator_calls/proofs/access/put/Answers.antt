@@ -28,5 +28,5 @@ returns-else-must_log-clause-goes g c =
       [],
       g.met.S.Seat.one_after_another _ _ _ nothing (enters (command.Put c.args.s c.args.i c.args.v) reply.Done)
           (g.met.S.Seat.loads_do_nothing _ _ looks) c.store_field.ensures.goes,
-      inl refl,
+      inl (refl, λ done. (c.must_log.new.seat, looks, c.must_log.ensures.barred c.if-must_log.false)),
     )

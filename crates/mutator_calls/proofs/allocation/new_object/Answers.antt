@@ -2,7 +2,7 @@ use Rattle.std.proofs.Common.{ℕ, refl, sym, ap, subst, List, [], ◌++◌, add
 use Rattle.ideal_heap.specs.declared.command.Command.TheVariants as command
 use Rattle.ideal_heap.specs.declared.reply.Reply.TheVariants as reply
 use Rattle.object_model.specs.Objects.{size_of}
-use Rattle.mutator_calls.specs.Effects.{enters}
+use Rattle.mutator_calls.specs.Effects.{enters, nothing}
 use Rattle.mutator_calls.specs.Allocating.{births_with, searches, FindsRoom}
 use Rattle.std.proofs.lemmas.List.{append-nil}
 use Rattle.mutator_calls.proofs.Finding.{finds-later}
@@ -16,6 +16,10 @@ returns-in-Ok-clause-made g c =
     let granted = found.1 in
     let drawn = found.2 in
     let entry = enters (command.New c.args.d c.args.refs c.args.nums) (reply.New c.publish.result) in
+    let next : ℕ → Type 0 = λ t. (mid : _) × g.S.Seat.goes c.args.seat.now nothing mid × g.S.Seat.has_budget mid t in
+    let finds : ℕ → ℕ → Type 0 = λ blocks allowance. FindsRoom (g.S.Seat.lacks c.publish.new.self size)
+    (g.S.Seat.is_used c.publish.new.self) (g.S.Seat.allocates_in c.args.seat.now) (g.S.Seat.allocates_in c.publish.new.self)
+    next blocks allowance (g.S.Seat.books c.args.seat.now).ticket (g.S.Seat.books c.publish.new.self).ticket taken granted drawn in
     let to : List ℕ → List ℕ → ℕ → Type 0 = λ t r n. g.S.Seat.goes c.args.seat.now
     (births_with c.args.d c.args.refs c.args.nums c.publish.result t r n) c.publish.new.self in (
       taken,
@@ -24,13 +28,13 @@ returns-in-Ok-clause-made g c =
       subst (λ t. to t granted drawn) (append-nil taken) (subst (λ r. to (taken ++ []) r drawn) (append-nil granted)
           (subst (λ n. to (taken ++ []) (granted ++ []) n) (add-zero drawn)
           (g.met.S.Seat.one_after_another _ _ _ (searches taken granted drawn) entry found.3 c.publish.ensures.goes))),
-      subst (λ n. FindsRoom (g.S.Seat.lacks c.publish.new.self size) (g.S.Seat.is_used c.publish.new.self) n
-          (g.S.Seat.books c.args.seat.now).ticket (g.S.Seat.books c.publish.new.self).ticket taken granted drawn)
-          (sym (ap (λ b. b.blocks) c.publish.ensures.books))
+      subst (λ x. finds x.blocks x.allowance) (sym c.publish.ensures.books)
           (finds-later (g.S.Seat.lacks c.find_room.new.seat c.size_words-size.result) (g.S.Seat.is_used c.find_room.new.seat)
-          (g.S.Seat.lacks c.publish.new.self size) (g.S.Seat.is_used c.publish.new.self)
-          (g.S.Seat.books c.find_room.new.seat).blocks (g.S.Seat.books c.args.seat.now).ticket
-          (g.S.Seat.books c.find_room.new.seat).ticket (g.S.Seat.books c.publish.new.self).ticket taken granted drawn
+          (g.S.Seat.lacks c.publish.new.self size) (g.S.Seat.is_used c.publish.new.self) (g.S.Seat.allocates_in c.args.seat.now)
+          (g.S.Seat.allocates_in c.find_room.new.seat) (g.S.Seat.allocates_in c.publish.new.self) next
+          (g.S.Seat.books c.find_room.new.seat).blocks (g.S.Seat.books c.find_room.new.seat).allowance
+          (g.S.Seat.books c.args.seat.now).ticket (g.S.Seat.books c.find_room.new.seat).ticket
+          (g.S.Seat.books c.publish.new.self).ticket taken granted drawn
           (λ k lacks. c.publish.ensures.stays size k (subst (λ n. g.S.Seat.lacks c.find_room.new.seat n k) c.size_words-size.ensures lacks))
-          c.publish.ensures.still (ap (λ b. b.ticket) c.publish.ensures.books) found.4),
+          c.publish.ensures.still c.publish.ensures.region (ap (λ b. b.ticket) c.publish.ensures.books) found.4),
     )

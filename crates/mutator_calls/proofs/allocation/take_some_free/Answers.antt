@@ -14,7 +14,8 @@ returns-then-take_free-clause-grants g c = λ _. (
   (λ j below other. c.if-take_free.ensures.stays c.args.size j other (c.loop-block.invariant.3 j
       (subst (λ n. j < n) (ap (λ b. b.blocks) (c.if-take_free.ensures.books) ∙ ap (λ b. b.blocks) c.loop-block.invariant.5)
       below))),
-  λ j below. c.if-take_free.ensures.still j (c.loop-block.invariant.4 j below),
+  (λ j below. c.if-take_free.ensures.still j (c.loop-block.invariant.4 j below)),
+  c.if-take_free.ensures.region refl,
 )
 
 pub loop-block-preserved : goal.loop-block-preserved

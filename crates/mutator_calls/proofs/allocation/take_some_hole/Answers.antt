@@ -12,8 +12,10 @@ returns-then-take_hole-clause-taken g c = λ _. let took = c.if-take_hole.ensure
   took.0,
   took.1,
   g.met.S.Seat.one_after_another _ _ _ nothing (takes took.0) c.loop-block.invariant.2 took.2,
-  λ j below. c.if-take_hole.ensures.others c.args.size j (λ same. let less : j < c.loop-block.block = below in omega arith)
-      (c.loop-block.invariant.3 j below),
+  (λ j below. c.if-take_hole.ensures.others c.args.size j (λ same. let less : j < c.loop-block.block = below in omega arith)
+      (c.loop-block.invariant.3 j below)),
+  c.if-take_hole.ensures.region refl,
+  λ j lacks other. c.if-take_hole.ensures.others c.args.size j other (c.loop-block.invariant.6 j lacks),
 )
 
 pub returns-clause-same : goal.returns-clause-same
@@ -28,5 +30,6 @@ loop-block-preserved g c = (
       (λ k below. c.if-take_hole.ensures.stays c.args.size k refl (c.loop-block.invariant.3 k below))
       (c.if-take_hole.ensures.lacks refl),
   c.if-take_hole.ensures.books ∙ c.loop-block.invariant.4,
-  λ b n offers. c.loop-block.invariant.5 b n (c.if-take_hole.ensures.same b n refl offers),
+  (λ b n offers. c.loop-block.invariant.5 b n (c.if-take_hole.ensures.same b n refl offers)),
+  λ j lacks. c.if-take_hole.ensures.stays c.args.size j refl (c.loop-block.invariant.6 j lacks),
 )

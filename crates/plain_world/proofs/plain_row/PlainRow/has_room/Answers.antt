@@ -1,6 +1,6 @@
-use Rattle.std.proofs.Common.{◌≡◌, ◌∙◌, ap, ◌-◌, ◌<◌, ◌≤◌, inr, arith, length}
+use Rattle.std.proofs.Common.{◌+◌, ◌≡◌, ◌∙◌, ap, ◌-◌, ◌<◌, ◌≤◌, inr, arith, length}
 use Rattle.std.specs.Prelude.{Some, slice_get}
-use Rattle.std.proofs.lemmas.Bool.{leb-true}
+use Rattle.std.proofs.lemmas.Bool.{leb-true, leb-false}
 use Rattle.plain_world.specs.declared.plain_row.BlockNote.{BlockNote}
 use Rattle.plain_world.specs.declared.plain_row.BlockNote.TheVariants.{Owned}
 use Rattle.plain_world.specs.Rows.{block_of, seat_at_turn}
@@ -23,8 +23,8 @@ overflow_sub-result c =
     let note : slice_get w.notes.items c.in-Some.block ≡ Some (Owned c.in-Owned.owner c.in-Owned.region) = read-some w.notes.items c.in-Some.block c.index-in-Some.result.now there c.index-in-Some.ensures ∙ ap (λ (n : BlockNote). Some n) c.in-Owned.is in
     (turns.owned-note now.epoch now.ideal now.log w now.at c.in-Some.block c.in-Owned.owner c.in-Owned.region note).inside
 
-pub returns-in-Owned : goal.returns-in-Owned
-returns-in-Owned c = λ yes.
+pub returns-in-Owned-clause-room : goal.returns-in-Owned-clause-room
+returns-in-Owned-clause-room c = λ yes.
     let w = c.args.self.now in
     let now = c.requires.idle.some in
     let current : block_of (seat_at_turn w) ≡ Some c.in-Some.block = turns.current-block now.epoch now.ideal now.log w now.at c.requires.turn c.index.result.now c.in-Some.block c.index.ensures c.in-Some.is in
@@ -44,3 +44,11 @@ returns-in-Owned c = λ yes.
         others = λ k owner r is. inr (c.requires.idle.filled k owner r is);
       };
     }
+
+pub returns-in-Owned-clause-none : goal.returns-in-Owned-clause-none
+returns-in-Owned-clause-none c = λ no has.
+    let w = c.args.self.now in
+    let here = turns.current-read w c.args.size has c.index.result.now c.in-Some.block c.index-in-Some.result.now c.in-Owned.owner c.in-Owned.region c.index.ensures c.in-Some.is c.index-in-Some.ensures c.in-Owned.is in
+    let room : c.in-Owned.region.next + c.args.size ≤ c.in-Owned.region.end = here.room in
+    let less : c.in-Owned.region.end - c.in-Owned.region.next < c.args.size = leb-false _ _ no in
+    absurd (omega arith)

@@ -1,3 +1,12 @@
+use Rattle.std.proofs.Common.{◌≡◌, ◌∙◌, ◌<◌, sym, subst, ap, refl, length, IsTrue}
+use Rattle.std.specs.Prelude.{Some, slice_get}
+use Rattle.object_model.specs.Objects.{state_of}
+use Rattle.heap_layout.specs.declared.block.Kind.{Kind}
+use Rattle.mutator_core.specs.Epochs.{is_filled}
+use Rattle.mutator_core.proofs.Fills.{fill-not-free}
+use Rattle.plain_world.specs.declared.plain_row.BlockNote.{BlockNote}
+use Rattle.plain_world.specs.declared.plain_row.BlockNote.TheVariants.{Owned}
+use Rattle.plain_world.proofs.Elements.{read-some}
 use Rattle.plain_world.proofs.Facts as facts
 use Rattle.plain_world.proofs.Turns as turns
 use Rattle.plain_world.proofs.plain_row.PlainRow.take_free_block.Goals as goal
@@ -12,3 +21,14 @@ take-requires-clause-extent c = let now = c.requires.ready.idle.some in turns.ex
 
 pub take-requires-clause-valid : goal.take-requires-clause-valid
 take-requires-clause-valid c = let now = c.requires.ready.idle.some in turns.own-valid now.epoch now.ideal now.log c.args.self.now now.at c.requires.ready.turn
+
+pub returns-in-Owned-clause-none : goal.returns-in-Owned-clause-none
+returns-in-Owned-clause-none c = λ _.
+    let w = c.args.self.now in
+    let now = c.requires.ready.idle.some in
+    let there : c.args.block < length w.notes.items = turns.noted now.epoch now.ideal now.log w now.at c.args.block c.requires.block in
+    let note : slice_get w.notes.items c.args.block ≡ Some (Owned c.in-Owned.owner c.in-Owned.region)
+    = read-some w.notes.items c.args.block c.index.result.now there c.index.ensures ∙ ap (λ (n : BlockNote). Some n) c.in-Owned.is in
+    let owned = turns.owned-note now.epoch now.ideal now.log w now.at c.args.block c.in-Owned.owner c.in-Owned.region note in
+    let fills : IsTrue (is_filled w.fill) = subst (λ (k : Kind). IsTrue (is_filled k)) (sym now.at.fill) now.at.epoch.ready.fills in
+    ((λ free. fill-not-free (state_of w.row) c.args.block w.fill fills owned.kind free), refl)

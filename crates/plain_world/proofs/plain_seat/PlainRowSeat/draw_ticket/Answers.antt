@@ -83,3 +83,6 @@ pub returns-clause-books : goal.returns-clause-books
 returns-clause-books c =
     drawn-books c.args.self.now (end c) (draws c) c.requires.ready c.requires.none
     ∙ ap (λ (n : ℕ). record (books_of c.args.self.now) { ticket = Some n }) (sym (ticket-is c))
+
+pub returns-clause-next : goal.returns-clause-next
+returns-clause-next c = sym (ticket-is c)

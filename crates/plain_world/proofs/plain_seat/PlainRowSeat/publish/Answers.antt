@@ -31,3 +31,9 @@ returns-clause-still c =
     let born = allocated c.args.self.now c.allocate.new.self c.args.d c.allocate.result c.args.shape.now.refs c.args.shape.now.nums c.allocate.ensures in
     calls.still c.args.self.now c.allocate.new.self c.args.d c.args.shape.now.refs c.args.shape.now.nums c.allocate.result born
     c.requires.room c.requires.register c.requires.refs c.requires.nums c.requires.small c.requires.births
+
+pub returns-clause-region : goal.returns-clause-region
+returns-clause-region c =
+    let born = allocated c.args.self.now c.allocate.new.self c.args.d c.allocate.result c.args.shape.now.refs c.args.shape.now.nums c.allocate.ensures in
+    calls.region c.args.self.now c.allocate.new.self c.args.d c.args.shape.now.refs c.args.shape.now.nums c.allocate.result born
+    c.requires.room c.requires.register c.requires.refs c.requires.nums c.requires.small c.requires.births

@@ -4,7 +4,7 @@ use Rattle.mutator_calls.specs.Effects.{grants, nothing}
 use Rattle.plain_world.specs.Worlds.{Goes}
 use Rattle.plain_world.specs.SeatLaws.{goes-nothing}
 use Rattle.plain_world.specs.Steps.{Lacks, IsUsed, Offers}
-use Rattle.plain_world.proofs.Gaining.{gains-free, goes-free, room, other-lacks, free-offers, free-used}
+use Rattle.plain_world.proofs.Gaining.{region-now, gains-free, goes-free, room, other-lacks, free-offers, free-used}
 use Rattle.plain_world.proofs.plain_seat.PlainRowSeat.take_free.Goals as goal
 
 pub returns-clause-goes : goal.returns-clause-goes
@@ -54,3 +54,10 @@ returns-clause-still c = λ k used.
       | inl took ↦ (let found = c.take_free_block.ensures.found took in free-used a b c.requires.ready c.args.block c.requires.block found.0 found.1 c.requires.ticket k used)
       | inr failed ↦ subst (λ w. IsUsed w k) (sym (c.take_free_block.ensures.none failed).1) used
     ]
+
+pub returns-clause-region : goal.returns-clause-region
+returns-clause-region c = λ yes.
+    let a = c.args.self.now in
+    let b = c.take_free_block.new.self in
+    let found = c.take_free_block.ensures.found yes in
+    (region-now a b c.requires.ready c.args.block _ true (gains-free a b c.requires.ready c.args.block c.requires.block found.0 found.1 c.requires.ticket)).current

@@ -1,7 +1,7 @@
 use Rattle.std.proofs.Common.{inl, inr}
 use Rattle.std.proofs.lemmas.Bool.{cases_Bool}
 use Rattle.plain_world.specs.Steps.{Lacks}
-use Rattle.plain_world.proofs.Gaining.{enters-goes, enters-room, enters-offers, enters-others, leaves-goes, leaves-ready, leaves-lacks, leaves-offers, leaves-others}
+use Rattle.plain_world.proofs.Gaining.{enters-current, enters-goes, enters-room, enters-offers, enters-others, leaves-goes, leaves-ready, leaves-lacks, leaves-offers, leaves-others}
 use Rattle.plain_world.proofs.plain_seat.PlainRowSeat.take_hole.Goals as goal
 
 pub returns-clause-found : goal.returns-clause-found
@@ -33,3 +33,6 @@ returns-clause-others c = λ n k other lacks.
       | inl took ↦ enters-others a b c.args.block c.args.size c.requires.ready (c.take_hole_in.ensures.found took) n k other lacks
       | inr failed ↦ leaves-others a b c.args.block c.args.size c.requires.ready (c.take_hole_in.ensures.none failed) n k lacks
     ]
+
+pub returns-clause-region : goal.returns-clause-region
+returns-clause-region c = λ took. enters-current c.args.self.now c.take_hole_in.new.self c.args.block c.args.size c.requires.ready (c.take_hole_in.ensures.found took)

@@ -1,12 +1,15 @@
-use Rattle.std.proofs.Common.{subst, ap}
-use Rattle.std.specs.Prelude.{slice_get}
-use Rattle.object_model.specs.Objects.{size_of}
-use Rattle.mutator_calls.specs.Effects.{draws}
+use Rattle.std.proofs.Common.{◌≡◌, subst, ap}
+use Rattle.std.specs.Prelude.{Some, slice_get}
+use Rattle.object_model.specs.Objects.{state_of, word_at, size_of}
+use Rattle.mutator_calls.specs.Effects.{draws, nothing}
 use Rattle.mutator_calls.specs.Allocating.{births_with, Draws, FindsRoom, IsCause}
-use Rattle.plain_world.specs.Rows.{ticket_of}
-use Rattle.plain_world.specs.Steps.{Lacks, IsUsed}
-use Rattle.plain_world.proofs.CallLemmas.{places-same, young-same, history-gains, births-after, ticket-after, others-after}
-use Rattle.plain_world.proofs.AllocationCalls.{allocated-weaker, allocated-both, allocated-and, lacks-at, books-at, books_for, LacksAt, finds-weaker, cause-weaker, placed-at}
+use Rattle.mutator_calls.proofs.Finding.{draws-from}
+use Rattle.plain_world.specs.declared.plain_row.PlainRow.{PlainRow}
+use Rattle.plain_world.specs.Worlds.{Goes}
+use Rattle.plain_world.specs.Rows.{ticket_of, block_of}
+use Rattle.plain_world.specs.Steps.{AllocatesIn, HasBudget, Lacks, IsUsed}
+use Rattle.plain_world.proofs.CallLemmas.{places-same, young-same, history-gains, births-after, ticket-after, others-after, objects-after}
+use Rattle.plain_world.proofs.AllocationCalls.{allocated-weaker, allocated-both, allocated-and, lacks-at, books-at, books_for, LacksAt, finds-weaker, next-ticket, cause-weaker, placed-at}
 use Rattle.plain_world.proofs.plain_world.PlainWorld.new_object.Goals as goal
 
 pub returns-clause-places : goal.returns-clause-places
@@ -49,11 +52,23 @@ returns-clause-made g c =
         births = births-after a b m effect goes;
         ticket = ticket-after a b m effect goes;
         others = others-after a b m effect goes;
+        objects = objects-after a b m effect c.requires.open goes;
       };
-      finds = subst (λ o. FindsRoom (LacksAt b m size) (IsUsed b) b.row.layout.blocks (ticket_of (slice_get a.seats.items m)) o did.0 did.1 did.2)
-          (ap (λ t. ticket_of (slice_get b.seats.items t)) goes.turn)
-          (finds-weaker (Lacks b size) (LacksAt b m size) (IsUsed b) b.row.layout.blocks _ _ did.0 did.1 did.2 (lacks-at b m size goes.turn) did.4);
-      placed = record { block = placed.block; offset = placed.offset; address = placed.address; owner = placed.owner; spot = placed.spot };
+      finds = subst (λ t. FindsRoom (LacksAt b m size) (IsUsed b) (λ k. block_of (slice_get a.seats.items m) ≡ Some k)
+          (λ k. block_of (slice_get b.seats.items t) ≡ Some k) (λ n. n ≡ word_at (state_of a.row) 1) b.row.layout.blocks b.allowance
+          (ticket_of (slice_get a.seats.items m)) (ticket_of (slice_get b.seats.items t)) did.0 did.1 did.2) goes.turn
+          (finds-weaker (Lacks b size) (LacksAt b m size) (IsUsed b) (λ k. block_of (slice_get a.seats.items m) ≡ Some k)
+          (AllocatesIn b) (λ t. (mid : PlainRow) × Goes (record a { turn = m }) nothing mid × HasBudget mid t)
+          (λ t. t ≡ word_at (state_of a.row) 1) b.row.layout.blocks b.allowance _ _ did.0 did.1 did.2
+          (lacks-at b m size goes.turn) (next-ticket (record a { turn = m })) did.4);
+      placed = record {
+        block = placed.block;
+        offset = placed.offset;
+        address = placed.address;
+        owner = placed.owner;
+        current = placed.current;
+        spot = placed.spot;
+      };
     })
     (λ need both. let did = both.1.1 in let goes = did.1 in let effect = draws did.0 in record {
       drawn = did.0;
@@ -66,8 +81,13 @@ returns-clause-made g c =
         births = births-after a b m effect goes;
         ticket = ticket-after a b m effect goes;
         others = others-after a b m effect goes;
+        objects = objects-after a b m effect c.requires.open goes;
       };
-      tickets = subst (λ o. Draws (ticket_of (slice_get a.seats.items m)) o did.0) (ap (λ t. ticket_of (slice_get b.seats.items t)) goes.turn) did.2;
+      tickets = subst (λ o. Draws (λ t. t ≡ word_at (state_of a.row) 1) (ticket_of (slice_get a.seats.items m)) o did.0)
+          (ap (λ t. ticket_of (slice_get b.seats.items t)) goes.turn)
+          (draws-from (λ t. (mid : PlainRow) × Goes (record a { turn = m }) nothing mid × HasBudget mid t)
+          (λ t. t ≡ word_at (state_of a.row) 1) _ _ did.0 (next-ticket (record a { turn = m })) did.2);
+      large = did.3;
     })
     (allocated-and _ _ _ _ c.new_object.result c.new_object.ensures.made
     (allocated-and _ _ _ _ c.new_object.result c.new_object.ensures.placed c.new_object.ensures.stopped))

@@ -1,6 +1,6 @@
 use Rattle.ideal_heap.specs.declared.command.Command.TheVariants as command
 use Rattle.mutator_calls.specs.Effects.{enters}
-use Rattle.plain_world.proofs.CallLemmas.{places-same, young-same, history-gains, births-after, ticket-after, others-after}
+use Rattle.plain_world.proofs.CallLemmas.{places-same, young-same, history-gains, births-after, ticket-after, others-after, objects-after}
 use Rattle.plain_world.proofs.plain_world.PlainWorld.pin.Goals as goal
 
 pub returns-clause-places : goal.returns-clause-places
@@ -28,4 +28,5 @@ returns-clause-rest g c =
       births = births-after old new c.args.m effect did;
       ticket = ticket-after old new c.args.m effect did;
       others = others-after old new c.args.m effect did;
+      objects = objects-after old new c.args.m effect c.requires.open did;
     }

@@ -1,6 +1,11 @@
+use Rattle.std.proofs.Common.{◌≡◌, ◌⊎◌, inl, inr, subst, [], ◌∷◌}
 use Rattle.ideal_heap.specs.declared.command.Command.TheVariants as command
+use Rattle.ideal_heap.specs.declared.reply.Reply.TheVariants as reply
 use Rattle.mutator_calls.specs.Effects.{logs}
-use Rattle.plain_world.proofs.CallLemmas.{places-same, young-same, history-gains, births-after, ticket-after, others-after}
+use Rattle.plain_world.specs.declared.plain_row.PlainRow.{PlainRow}
+use Rattle.plain_world.specs.Calls.{register_in, IsOldUnlogged}
+use Rattle.plain_world.specs.Steps.{IsBarred}
+use Rattle.plain_world.proofs.CallLemmas.{places-same, young-same, history-gains, births-after, ticket-after, others-after, objects-after, unbarred}
 use Rattle.plain_world.proofs.plain_world.PlainWorld.put.Goals as goal
 
 pub returns-clause-places : goal.returns-clause-places
@@ -28,4 +33,23 @@ returns-clause-rest g c =
       births = births-after old new c.args.m effect did;
       ticket = ticket-after old new c.args.m effect did;
       others = others-after old new c.args.m effect did;
+      objects = objects-after old new c.args.m effect c.requires.open did;
     }
+
+pub returns-clause-logged : goal.returns-clause-logged
+returns-clause-logged g c =
+    let did = c.put.ensures.goes in
+    let old = c.args.self.now in
+    let a : PlainRow = record old.row { turn = c.args.m } in (
+      did.0,
+      did.1.logged,
+      elim did.2 as (λ _. ((did.0 ≡ []) × (c.put.result ≡ reply.Done → IsOldUnlogged old (register_in old c.args.m c.args.s) → ⊥))
+          ⊎ ((did.0 ≡ register_in old c.args.m c.args.s ∷ []) × (c.put.result ≡ reply.Done) × IsOldUnlogged old (register_in old c.args.m c.args.s))) [
+            | inl none ↦ inl (
+              none.0,
+              λ done is. let seen = none.1 done in
+                  unbarred a c.args.s (subst (λ (w : PlainRow). IsBarred w c.args.s) seen.1 seen.2) is.plan is.old is.unlogged,
+            )
+            | inr one ↦ inr (one.0, one.1, record { plan = one.2; old = one.3; unlogged = one.4 })
+          ],
+    )

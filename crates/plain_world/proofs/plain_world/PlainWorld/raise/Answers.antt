@@ -1,5 +1,5 @@
 use Rattle.mutator_calls.specs.Effects.{raises}
-use Rattle.plain_world.proofs.CallLemmas.{places-same, young-same, history-gains, births-after, ticket-after, others-after}
+use Rattle.plain_world.proofs.CallLemmas.{places-same, young-same, history-gains, births-after, ticket-after, others-after, objects-after}
 use Rattle.plain_world.proofs.plain_world.PlainWorld.raise.Goals as goal
 
 pub returns-clause-places : goal.returns-clause-places
@@ -26,4 +26,5 @@ returns-clause-rest g c =
       births = births-after old new c.args.m effect did;
       ticket = ticket-after old new c.args.m effect did;
       others = others-after old new c.args.m effect did;
+      objects = objects-after old new c.args.m effect c.requires.open did;
     }
