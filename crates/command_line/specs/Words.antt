@@ -182,14 +182,14 @@ abbrev pub is_nogc : Plan → Bool
 is_nogc NoGc = true
 is_nogc _ = false
 
--- the work of one mutator from a file
-abbrev pub is_one_file : Work → Bool
-is_one_file (Files (file ∷ [])) = true
-is_one_file _ = false
+-- the work of mutators from files
+abbrev pub has_files : Work → Bool
+has_files (Files files) = true
+has_files (Made n) = false
 
--- the jobs that are implemented: one mutator under NoGC, with one worker and no map
+-- the jobs that are implemented: traces from files under NoGC, with one worker and no map
 abbrev pub is_supported : Job → Bool
-is_supported job = is_nogc job.plan && nat_eq job.workers 1 && not job.map && is_one_file job.work
+is_supported job = is_nogc job.plan && nat_eq job.workers 1 && not job.map && has_files job.work
 
 -- the job, if it is implemented
 abbrev pub if_supported : Job → Option Job

@@ -47,12 +47,19 @@ fn reads_command_lines(rt: HostRuntime) -> Result<(), Fail> {
         };
         assert!(rt; is_a, "{line}");
     }
+    for line in [
+        "--plan nogc --heap 4 a b",
+        "--plan nogc --heap 4 a a",
+        "--plan nogc --heap 4 a b c d e f g h i j k l m n o p",
+    ] {
+        assert!(rt; is_supported(alloc, line)?, "{line}");
+    }
     assert!(rt; read_words(alloc, &[])?.is_none());
     Ok(())
 }
 
 #[test]
-fn supports_one_mutator_under_nogc(rt: HostRuntime) -> Result<(), Fail> {
+fn supports_files_under_nogc(rt: HostRuntime) -> Result<(), Fail> {
     let alloc = rt.alloc();
     let unsupported = [
         "--plan marksweep --heap 4 a",
@@ -63,14 +70,12 @@ fn supports_one_mutator_under_nogc(rt: HostRuntime) -> Result<(), Fail> {
         "--heap=4 --plan=immix a",
         "--plan nogc --heap 4 --workers 2 a",
         "--plan nogc --heap 4 --workers 16 a",
-        "--plan nogc --heap 4 a b",
-        "--plan nogc --heap 4 a a",
         "--plan nogc --heap 4 --map a",
         "--map --plan nogc --heap 4 a",
         "--plan nogc --heap 4 --make 5",
         "--make=1 --plan nogc --heap 4",
         "--plan nogc --make 1000000 --workers 3 --heap 4",
-        "--plan nogc --heap 4 a b c d e f g h i j k l m n o p",
+        "--plan nogc --heap 4 --workers 2 a b c d e f g h i j k l m n o p",
     ];
     for line in unsupported {
         let has_form = has_form(alloc, line)?;

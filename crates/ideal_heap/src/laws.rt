@@ -75,7 +75,8 @@ pub fn runs_go_on()
         → IsRun (after h es) more → IsRun h (es ++ more) }
     ensures heap { (h : IdealHeap) (es more : List Entry)
         → after h (es ++ more) ≡ after (after h es) more }
-    ensures prefix { (h : IdealHeap) (es more : List Entry) → IsRun h (es ++ more) → IsRun h es }
+    ensures prefix { (h : IdealHeap) (es more : List Entry) → IsRun h (es ++ more)
+        → IsRun h es }
     ensures rest { (h : IdealHeap) (es more : List Entry) → IsRun h (es ++ more)
         → IsRun (after h es) more }
 {}

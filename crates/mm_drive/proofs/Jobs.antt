@@ -1,11 +1,12 @@
 -- What is known of a job that arguments name.
-use Rattle.std.proofs.Common.{◌≡◌, refl, sym, ap, subst, ℕ, ◌≤◌, Bool, true, false, ◌&&◌, List, nat_eq}
-use Rattle.std.specs.Prelude.{Option, None, Some, option_and_then, unwrap_or, nat_le, not, if◌then◌else◌}
-use Rattle.std.proofs.lemmas.Bool.{true≢false, leb-true}
+use Rattle.std.proofs.Common.{◌≡◌, refl, sym, ◌∙◌, ap, subst, ℕ, ◌≤◌, Bool, true, false, ◌&&◌, List, nat_eq}
+use Rattle.std.specs.Prelude.{Option, None, Some, option_and_then, option_map, unwrap_or, nat_le, nat_lt, not, ◌||◌, length, if◌then◌else◌}
+use Rattle.std.proofs.lemmas.Bool.{true≢false, leb-true, eqb-true}
 use Rattle.std.proofs.lemmas.Option.{none-some}
 use Rattle.trace_text.specs.Grammar.{numeral}
-use Rattle.sessions.specs.Plans.{Plan}
-use Rattle.command_line.specs.Words.{Job, Work, Line, Values, job_of, form_of, line_of, job_in, job_with, plan_of, number_in, if_within, workers_of, work_of, values_in, is_supported, if_supported, is_nogc, is_one_file}
+use Rattle.sessions.specs.Plans.{Plan, NoGc, MarkSweep, SemiSpace, GenCopy, Immix, StickyImmix}
+use Rattle.command_line.specs.Words.{Job, Work, Files, Made, Line, Values, job_of, form_of, line_of, job_in, job_with, plan_of, number_in, if_within, workers_of, work_of, values_in, is_supported, if_supported, is_nogc, has_files}
+use Rattle.mm_drive.specs.Printed.{files_in, job_files}
 
 both : (a b : Bool) → (a && b) ≡ true → (a ≡ true) × (b ≡ true)
 both true b e = (refl, e)
@@ -58,6 +59,59 @@ pub job-blocks : (words : List (List ℕ)) (job : Job) → form_of words ≡ Som
 unfolding form_of
 job-blocks words job e = line-bounds (line_of words) job e
 
--- its work is one file
-pub supported-work : (job : Job) → is_supported job ≡ true → is_one_file job.work ≡ true
-supported-work job supported = (both (is_nogc job.plan && nat_eq job.workers 1 && not job.map) (is_one_file job.work) supported).1
+made-none : (b : Bool) (o : Option ℕ) (work : Work) → (if b then None else option_map Made o) ≡ Some work → has_files work ≡ true → ⊥
+made-none true o work e kept = none-some work e
+made-none false None work e kept = none-some work e
+made-none false (Some n) work e kept = true≢false (sym kept ∙ ap (λ x. has_files (unwrap_or x work)) (sym e))
+
+files-within : (o : Option (List ℕ)) (has_map : Bool) (files : List (List ℕ)) (work : Work) → work_of o has_map files ≡ Some work → has_files work ≡ true
+    → (1 ≤ length (files_in work)) × (length (files_in work) ≤ 16)
+files-within None has_map files work e kept =
+    let p = picked (nat_le 1 (length files) && nat_le (length files) 16) (Files files) work e in
+    let q = both (nat_le 1 (length files)) (nat_le (length files) 16) p.0 in
+    subst (λ (w : Work). (1 ≤ length (files_in w)) × (length (files_in w) ≤ 16)) p.1 (leb-true 1 (length files) q.0, leb-true (length files) 16 q.1)
+files-within (Some word) has_map files work e kept = absurd (made-none (has_map || nat_lt 0 (length files)) (number_in 1 1000000 word) work e kept)
+
+with-work : (has_map : Bool) (p : Option Plan) (b w : Option ℕ) (k : Option Work) (job : Job) → job_with has_map p b w k ≡ Some job → k ≡ Some job.work
+with-work has_map None b w k job e = absurd (none-some job e)
+with-work has_map (Some plan) None w k job e = absurd (none-some job e)
+with-work has_map (Some plan) (Some blocks) None k job e = absurd (none-some job e)
+with-work has_map (Some plan) (Some blocks) (Some workers) None job e = absurd (none-some job e)
+with-work has_map (Some plan) (Some blocks) (Some workers) (Some work) job e =
+    let first : Job = record { plan = plan; blocks = blocks; workers = workers; map = has_map; work = work } in
+    ap (λ o. Some (unwrap_or o first).work) e
+
+line-files : (o : Option Line) (job : Job) → option_and_then job_in o ≡ Some job → has_files job.work ≡ true → (1 ≤ length (job_files job)) × (length (job_files job) ≤ 16)
+line-files None job e kept = absurd (none-some job e)
+line-files (Some line) job e kept =
+    let v : Values = values_in line.settings in
+    files-within v.make v.has_map line.files job.work
+    (with-work v.has_map (option_and_then plan_of v.plan) (option_and_then (number_in 4 1024) v.heap) (workers_of v.workers) (work_of v.make v.has_map line.files) job e) kept
+
+-- it has 1 to 16 files, if its work is files
+pub job-files : (words : List (List ℕ)) (job : Job) → form_of words ≡ Some job → has_files job.work ≡ true → (1 ≤ length (job_files job)) × (length (job_files job) ≤ 16)
+unfolding form_of
+job-files words job e kept = line-files (line_of words) job e kept
+
+-- its work is files
+pub supported-work : (job : Job) → is_supported job ≡ true → has_files job.work ≡ true
+supported-work job supported = (both (is_nogc job.plan && nat_eq job.workers 1 && not job.map) (has_files job.work) supported).1
+
+nogc-only : (p : Plan) → is_nogc p ≡ true → p ≡ NoGc
+nogc-only NoGc is = refl
+nogc-only MarkSweep is = absurd (true≢false (sym is))
+nogc-only SemiSpace is = absurd (true≢false (sym is))
+nogc-only GenCopy is = absurd (true≢false (sym is))
+nogc-only Immix is = absurd (true≢false (sym is))
+nogc-only StickyImmix is = absurd (true≢false (sym is))
+
+first-two : (job : Job) → is_supported job ≡ true → (is_nogc job.plan && nat_eq job.workers 1) ≡ true
+first-two job supported =
+    (both (is_nogc job.plan && nat_eq job.workers 1) (not job.map) (both (is_nogc job.plan && nat_eq job.workers 1 && not job.map) (has_files job.work) supported).0).0
+
+-- its plan is `nogc`, and one worker traces
+pub supported-plan : (job : Job) → is_supported job ≡ true → job.plan ≡ NoGc
+supported-plan job supported = nogc-only job.plan (both (is_nogc job.plan) (nat_eq job.workers 1) (first-two job supported)).0
+
+pub supported-workers : (job : Job) → is_supported job ≡ true → job.workers ≡ 1
+supported-workers job supported = eqb-true job.workers 1 (both (is_nogc job.plan) (nat_eq job.workers 1) (first-two job supported)).1

@@ -1,5 +1,4 @@
 mod Printing
-mod Running
 pub mod Jobs
 pub mod Outcomes
 pub mod Joining

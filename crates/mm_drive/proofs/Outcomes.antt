@@ -1,13 +1,13 @@
 -- From reading, running and writing to a whole run.
 use Rattle.std.proofs.Common.{◌≡◌, refl, sym, ◌∙◌, ap, subst, ℕ, suc, ◌<◌, arith, true, List, [], ◌∷◌, length}
-use Rattle.std.specs.Prelude.{Option, Some, IfSome, option_map, slice_get, String, string_bytes, unwrap_or}
+use Rattle.std.specs.Prelude.{Option, Some, IfSome, Result, Ok, Err, IfOk, option_map, slice_get, String, string_bytes, unwrap_or}
 use Rattle.std.specs.declared.alloc.Global.{Global}
 use Rattle.std.proofs.lemmas.Bool.{true≢false}
 use Rattle.std.proofs.lemmas.List.{length-map}
 use Rattle.std.proofs.lemmas.Option.{slice_get_within}
 use Rattle.ideal_heap.specs.declared.command.Command.{Command}
 use Rattle.mm_drive.specs.declared.fault_lines.Flaw.{Flaw}
-use Rattle.command_line.specs.Words.{Job, Work, Files, Made, is_one_file, is_supported}
+use Rattle.command_line.specs.Words.{Job, Work, Files, Made, has_files, is_supported}
 use Rattle.command_line.specs.Orders.{job_of_order, texts}
 use Rattle.command_line.specs.declared.order.Order.{Order}
 use Rattle.outside.specs.Outside.{SourceState, SinkState, HasRisen, AppendsText, AppendsPrefix}
@@ -51,11 +51,11 @@ module _ (names : List (List ℕ)) (k : ℕ) (name : List ℕ) (same : slice_get
   bad-here f Writes bad line = record { flaw = f; place = k; at = bad.0; asked = bad.1; line = subst (λ (x : List ℕ). Writes (fault_line x f)) (here bad.0.file bad.0.is) line }
 
 -- the traces of the files are those of a job that is implemented
-pub of-files : (content : Content) (work : Work) (ts : List (List Command)) → is_one_file work ≡ true → AreTraces content (files_in work) ts → AreTracesOf content work ts
+pub of-files : (content : Content) (work : Work) (ts : List (List Command)) → has_files work ≡ true → AreTraces content (files_in work) ts → AreTracesOf content work ts
 of-files content (Files files) ts one good = good
 of-files content (Made n) ts one good = absurd (true≢false (sym one))
 
-pub to-files : (content : Content) (work : Work) (ts : List (List Command)) → is_one_file work ≡ true → AreTracesOf content work ts → AreTraces content (files_in work) ts
+pub to-files : (content : Content) (work : Work) (ts : List (List Command)) → has_files work ≡ true → AreTracesOf content work ts → AreTraces content (files_in work) ts
 to-files content (Files files) ts one good = good
 to-files content (Made n) ts one good = absurd (true≢false (sym one))
 
@@ -65,15 +65,9 @@ one-each content [] (t ∷ ts) good = absurd good
 one-each content (n ∷ names) [] good = absurd good
 one-each content (n ∷ names) (t ∷ ts) good = let rest = one-each content names ts good.1 in omega (arith, rest)
 
-one-file : (work : Work) → is_one_file work ≡ true → length (files_in work) ≡ 1
-one-file (Files []) one = absurd (true≢false (sym one))
-one-file (Files (file ∷ [])) one = refl
-one-file (Files (file ∷ next ∷ files)) one = absurd (true≢false (sym one))
-one-file (Made n) one = absurd (true≢false (sym one))
-
--- a job that is implemented has one trace
-pub one-trace : (content : Content) (job : Job) (ts : List (List Command)) → is_supported job ≡ true → AreTraces content (job_files job) ts → length ts ≡ 1
-one-trace content job ts supported good = one-each content (job_files job) ts good ∙ one-file job.work (supported-work job supported)
+-- there are as many traces as files
+pub traces-count : (content : Content) (job : Job) (ts : List (List Command)) → AreTraces content (job_files job) ts → length ts ≡ length (job_files job)
+traces-count content job ts good = one-each content (job_files job) ts good
 
 -- what was written is the text of a session of the job
 pub prints : (content : Content) (job : Job) (ts : List (List Command)) (text : List ℕ) (before after : SinkState) → is_supported job ≡ true
@@ -85,3 +79,8 @@ pub prints-prefix : (content : Content) (job : Job) (ts : List (List Command)) (
     → AreTraces content (job_files job) ts → IsPrinted job ts text → AppendsPrefix before.written after.written text → HasRisen before.faults after.faults → PrintsPrefix content job before after
 prints-prefix content job ts text before after supported good printed written risen =
     record { traces = ts; read = of-files content job.work ts (supported-work job supported) good; text = text; printed = printed; written = written; risen = risen }
+
+-- what holds of an answer holds of what follows from it
+pub on-ok : {X E : Type 0} (r : Result X E) (P Q : X → Type 0) → ((x : X) → P x → Q x) → IfOk r P → IfOk r Q
+on-ok (Ok x) P Q next holds = next x holds
+on-ok (Err e) P Q next holds = tt

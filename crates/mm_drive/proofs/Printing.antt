@@ -1,32 +1,25 @@
--- Replies that are printed as they come.
-use Rattle.std.proofs.Common.{◌≡◌, sym, ◌∙◌, ap, ℕ, ◌+◌, arith, List, [], ◌∷◌, ◌++◌, codes, length-append, append_assoc, Some}
-use Rattle.std.specs.Prelude.{slice_get}
-use Rattle.std.specs.List.{flat_map}
-use Rattle.std.specs.Fmt.{decimal}
+-- The replies of one mutator more.
+use Rattle.std.proofs.Common.{◌≡◌, refl, sym, ◌∙◌, ap, ℕ, ◌+◌, arith, List, [], ◌∷◌, ◌++◌, map}
+use Rattle.std.specs.List.{flat_map, range_with_len}
 use Rattle.std.proofs.lemmas.List.{append-nil}
+use Rattle.std.proofs.lemmas.List.FromFn.{map-range_with_len_more}
 use Rattle.std.proofs.lemmas.Grind.{flat_map-append}
-use Rattle.ideal_heap.specs.declared.command.Command.{Command}
-use Rattle.ideal_heap.specs.declared.reply.Reply.{Reply}
-use Rattle.trace_text.specs.Text.{ended, reply_text, mutator_text}
-use Rattle.mm_drive.specs.Running.{GoesOn, PrintsOn}
-use Rattle.mm_drive.specs.declared.engine.Engine.{Engine}
+use Rattle.ideal_heap.specs.Runs.{replies_of}
+use Rattle.trace_text.specs.Text.{mutator_text}
+use Rattle.sessions.specs.Sessions.{Moment}
+use Rattle.mm_drive.specs.Texts.{replies_part}
 
-one_reply_more : (m : ℕ) (replies : List Reply) (reply : Reply) → mutator_text m replies ++ ended (reply_text reply) ≡ mutator_text m (replies ++ reply ∷ [])
-one_reply_more m replies reply =
-    append_assoc (ended (codes "mutator " ++ decimal m)) (flat_map (λ x. ended (reply_text x)) replies) (ended (reply_text reply))
-    ∙ ap (λ line. ended (codes "mutator " ++ decimal m) ++ (flat_map (λ x. ended (reply_text x)) replies ++ line)) (sym (append-nil (ended (reply_text reply))))
-    ∙ ap (λ lines. ended (codes "mutator " ++ decimal m) ++ lines) (sym (flat_map-append (λ x. ended (reply_text x)) replies (reply ∷ [])))
+map-same : (xs : List ℕ) → map (λ x. x) xs ≡ xs
+map-same [] = refl
+map-same (x ∷ xs) = ap (λ l. x ∷ l) (map-same xs)
 
-pub prints_more : (b : ℕ) (trace : List Command) (old new : Engine) (index : ℕ) (text next : List ℕ) (command : Command) (reply : Reply)
-    → PrintsOn b trace old index text → GoesOn old command reply new → slice_get trace index ≡ Some command → next ≡ text ++ ended (reply_text reply)
-    → PrintsOn b trace new (index + 1) next
-prints_more b trace old new index text next command reply prints on here appended = record {
-  replies = prints.replies ++ reply ∷ [];
-  runs = on b trace prints.replies prints.runs (ap (slice_get trace) prints.counts_after ∙ here);
-  counts_after = omega (arith, prints.counts_after, length-append prints.replies (reply ∷ []));
-  printed = appended ∙ ap (λ start. start ++ ended (reply_text reply)) prints.printed ∙ one_reply_more 1 prints.replies reply;
-}
+range-more : (n : ℕ) → range_with_len 1 (n + 1) ≡ range_with_len 1 n ++ (n + 1) ∷ []
+range-more n =
+    sym (map-same (range_with_len 1 (n + 1))) ∙ map-range_with_len_more (λ x. x) 1 n (n + 1) (omega arith)
+    ∙ ap (λ xs. xs ++ (n + 1) ∷ []) (map-same (range_with_len 1 n))
 
-pub no_reply : (m : ℕ) (text next : List ℕ) → text ≡ [] → next ≡ text ++ ended (codes "mutator " ++ decimal m) → next ≡ mutator_text m []
-no_reply m text next empty appended =
-    appended ∙ ap (λ start. start ++ ended (codes "mutator " ++ decimal m)) empty ∙ sym (append-nil (ended (codes "mutator " ++ decimal m)))
+pub replies-more : (last : Moment) (n : ℕ) → replies_part (n + 1) last ≡ replies_part n last ++ mutator_text (n + 1) (replies_of (n + 1) last.done)
+replies-more last n =
+    let text : ℕ → List ℕ = λ m. mutator_text m (replies_of m last.done) in
+    ap (flat_map text) (range-more n) ∙ flat_map-append text (range_with_len 1 n) ((n + 1) ∷ [])
+    ∙ ap (λ l. replies_part n last ++ l) (append-nil (text (n + 1)))

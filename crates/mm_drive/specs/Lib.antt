@@ -1,5 +1,3 @@
-pub mod Lone
-pub mod Running
 pub mod Texts
 pub mod Made
 pub mod Printed

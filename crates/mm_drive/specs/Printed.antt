@@ -1,5 +1,5 @@
 -- What a run reads and writes.
-use Rattle.std.specs.Prelude.{◌≡◌, ℕ, ◌<◌, ◌≤◌, ◌⊎◌, false, List, [], ◌∷◌, ◌++◌, length, map, take, suc, slice_get, Option, None, Some, IfSome, IsErr, Ok, Err, codes}
+use Rattle.std.specs.Prelude.{◌≡◌, ℕ, ◌<◌, ◌≤◌, ◌⊎◌, List, [], ◌∷◌, ◌++◌, length, map, take, suc, slice_get, Option, None, Some, IfSome, IsErr, Ok, Err, codes}
 use Rattle.std.specs.List.{AllByRecursion}
 use Rattle.std.specs.Fmt.{decimal}
 use Rattle.ideal_heap.specs.declared.command.Command.{Command}
@@ -26,13 +26,12 @@ files_in (Made n) = []
 abbrev pub job_files : Job → List (List ℕ)
 job_files job = files_in job.work
 
--- the setting of a session of the job with these traces; mutators place objects only at stops
+-- the setting of a session of the job with these traces
 abbrev pub setting_of : Job → List (List Command) → Setting
 setting_of job traces = record {
   rules = rules_of job.plan;
   blocks = job.blocks;
   workers = job.workers;
-  places = false;
   traces = traces;
 }
 

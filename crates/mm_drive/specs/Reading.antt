@@ -1,23 +1,11 @@
 -- How far the reading of files has come.
-use Rattle.std.specs.Prelude.{◌≡◌, ◌⊎◌, ℕ, ◌≤◌, Result, Ok, Err, List, [], ◌∷◌, ◌++◌, map, length, suc, All, Vec}
-use Rattle.std.specs.declared.alloc.Global.{Global}
-use Rattle.ideal_heap.specs.declared.command.Command.{Command}
-use Rattle.ideal_heap.specs.Commands.{IsValid}
-use Rattle.trace_text.specs.declared.limits.TheConstants.{MAX_COMMANDS}
+use Rattle.std.specs.Prelude.{◌≡◌, ◌⊎◌, ℕ, ◌≤◌, Result, Ok, Err, List, [], ◌∷◌, ◌++◌, suc}
 use Rattle.outside.specs.Outside.{Asked, SourceState, HasRisen}
 use Rattle.mm_drive.specs.declared.traces.FileFault.{FileFault}
 use Rattle.mm_drive.specs.declared.traces.FileFault.TheVariants as file
 use Rattle.mm_drive.specs.declared.traces.FilesFault.{FilesFault}
 use Rattle.mm_drive.specs.declared.traces.FilesFault.TheVariants as files
 use Rattle.mm_drive.specs.Printed.{AsksFirst, EndsAt, IsAny, IsLong, HasFault}
-
-abbrev pub commands_of : List (Vec Command Global) → List (List Command)
-commands_of traces = map (λ t. t.items) traces
-
--- a trace that can be run: valid commands, at most MAX_COMMANDS
-pub record IsRunnable (t : List Command) : Type 0 where
-  pub valid : All IsValid t
-  pub few : length t ≤ MAX_COMMANDS
 
 -- the fault of the file with this index
 abbrev pub fault_at : ℕ → FileFault → FilesFault

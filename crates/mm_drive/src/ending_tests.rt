@@ -2,7 +2,6 @@
 
 ghost use Rattle.std.specs.Prelude.{None, Some, []};
 
-use crate::gate::OpenGate;
 use crate::status::Status;
 use crate::test_runs::{FIRST, FIRST_TEXT, file_of, trace_in, words_in};
 use crate::top::run;
@@ -10,6 +9,7 @@ use heap_layout::Layout;
 use outside::{Failed, MemSink, MemSources, OpenFault, Sources};
 use std::test::Fail;
 use trace_text::{TraceFault, Why};
+use work_packets::OpenGate;
 
 // A failure of one call of the sink, over a source that does not fail.
 #[test]

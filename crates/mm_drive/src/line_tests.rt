@@ -71,14 +71,12 @@ fn unsupported(rt: HostRuntime) -> Result<(), Fail> {
             "--heap=4 --plan=immix a",
             "--plan nogc --heap 4 --workers 2 a",
             "--plan nogc --heap 4 --workers 16 a",
-            "--plan nogc --heap 4 a b",
-            "--plan nogc --heap 4 a a",
             "--plan nogc --heap 4 --map a",
             "--map --plan nogc --heap 4 a",
             "--plan nogc --heap 4 --make 5",
             "--make=1 --plan nogc --heap 4",
             "--plan nogc --make 1000000 --workers 3 --heap 4",
-            "--plan nogc --heap 4 a b c d e f g h i j k l m n o p",
+            "--plan nogc --heap 4 --workers 2 a b c d e f g h i j k l m n o p",
         ],
     )?;
     Ok(())

@@ -1,23 +1,16 @@
 //! `mm_drive`: runs traces of commands on a managed heap, and prints the replies.
 #![tactic(auto)]
 
-mod births;
-mod driver;
 #[cfg(test)]
 mod ending_tests;
-mod engine;
 mod fault_lines;
-mod fields;
-mod gate;
-#[cfg(test)]
-mod graph_tests;
 mod laws;
 #[cfg(test)]
 mod line_tests;
+#[cfg(test)]
+mod mutator_tests;
 mod program;
-mod roots;
 mod status;
-mod tails;
 #[cfg(test)]
 mod test_runs;
 mod text;
@@ -26,7 +19,6 @@ mod top;
 mod top_tests;
 mod traces;
 
-pub use gate::{Gate, OpenGate, Point};
 pub use laws::{
     made_traces, printed_of_one, replies_of_two, report_and_map, summary_of_each, summary_of_ok,
     texts_of_a_heap,
@@ -36,6 +28,7 @@ pub use status::Status;
 use std::env;
 use std::process::ExitCode;
 pub use top::run;
+pub use work_packets::{Gate, OpenGate, Point};
 
 fn main(rt: HostRuntime) -> ExitCode {
     ExitCode::from(program(&rt, rt.alloc(), env::args(&rt), rt.stdout(), rt.stderr()))

@@ -10,7 +10,6 @@ ghost use Rattle.mm_drive.specs.Printed.{WritesFaultLine};
 ghost use Rattle.mm_drive.specs.Exits.{Ran, IsExit, refusal, refusal_line};
 
 use crate::fault_lines::{write_memory_fault, write_usage_fault};
-use crate::gate::OpenGate;
 use crate::status::Status;
 use crate::top::run;
 use outside::{ErrSink, FileSources, OutSink, Sink};
@@ -20,6 +19,7 @@ use std::io;
 use std::io::{ErrorKind, Stderr, Stdout};
 use std::rt::Files;
 use std::thread::Threads;
+use work_packets::OpenGate;
 
 // The arguments after the program's name.
 fn command_words(alloc: Global, args: Args) -> Result<Vec<String>, AllocError>

@@ -1,44 +1,82 @@
 //! The text that a session prints.
 
-ghost use Rattle.std.specs.Prelude.{◌≡◌, ◌≤◌, All, length, IfOk, true};
-ghost use Rattle.sessions.specs.Alone.{alone_under_nogc};
+ghost use Rattle.std.specs.Prelude.{◌≡◌, ◌≤◌, ℕ, All, length, IfOk, true};
+ghost use Rattle.sessions.specs.Plans.{NoGc as no_gc, rules_of};
+ghost use Rattle.sessions.specs.Sessions.{Setting, Moment, IsWhole};
 ghost use Rattle.command_line.specs.Orders.{job_of_order};
 ghost use Rattle.command_line.specs.Words.{is_supported};
-ghost use Rattle.mm_drive.specs.Printed.{AreReplies, IsPrinted};
-ghost use Rattle.mm_drive.specs.Reading.{IsRunnable, commands_of};
+ghost use Rattle.mm_runtime.specs.Managers.{lists_of, Closes, IsReady, IsRunnable};
+ghost use Rattle.mm_drive.specs.Texts.{replies_part};
+ghost use Rattle.mm_drive.specs.Printed.{setting_of, IsPrinted};
 
-use crate::driver::run_trace;
 use command_line::Order;
 use heap_layout::{Layout, MAX_BLOCKS, MIN_BLOCKS};
-use ideal_heap::Command;
+use ideal_heap::{Command, MAX_MUTATORS};
+use mm_runtime::{Manager, Turn};
+use plans::NoGc;
 use std::alloc::{AllocError, Global};
+use trace_text::print_replies;
+use work_packets::Gate;
 
-// The replies of a whole session of the trace.
-fn text_of_trace(alloc: Global, layout: Layout, commands: &[Command]) -> Result<Vec<u8>, AllocError>
-    requires { IsRunnable commands.now }
-    ensures { IfOk result (λ v. AreReplies (alone_under_nogc layout.blocks commands.now) v.items) }
+// Runs the traces to their end, under the plan `nogc`.
+fn run_to_end<G: Gate>(
+    alloc: Global,
+    layout: Layout,
+    traces: Vec<Vec<Command>>,
+    gate: &G,
+) -> Result<Manager<NoGc>, AllocError>
+    requires some { 1 ≤ length traces.items }
+    requires few { length traces.items ≤ MAX_MUTATORS }
+    requires fit { All IsRunnable (lists_of traces.items) }
+    ensures ready { IfOk result (λ m. IsReady (rules_of no_gc) m) }
+    ensures whole { (t : Setting) → t.rules ≡ rules_of no_gc → t.blocks ≡ layout.blocks
+        → t.workers ≡ 1 → t.traces ≡ lists_of traces.items
+        → IfOk result (λ m. (last : Moment) × IsWhole t last
+        × Closes (rules_of no_gc) m t last) }
 {
-    let finished = run_trace(alloc, layout, commands)?;
-    Ok(finished.text)
+    let mut manager = Manager::<NoGc>::begin(alloc, layout, traces, 1)?;
+    'epochs: loop {
+        let (next, turn) = manager.advance(gate)?;
+        manager = next;
+        if turn == Turn::Ended {
+            return Ok(manager);
+        }
+    }
 }
 
-/// The text of a whole session of an order that is implemented: one trace, under the plan `nogc`.
+// The replies of all mutators.
+fn text_of_replies(alloc: Global, manager: &Manager<NoGc>) -> Result<Vec<u8>, AllocError>
+    requires { IsReady (rules_of no_gc) manager.now }
+    ensures { (t : Setting) (last : Moment) → Closes (rules_of no_gc) manager.now t last
+        → IfOk result (λ v. v.items ≡ replies_part (length t.traces) last) }
+{
+    let mut text = Vec::new(alloc);
+    for m in 0..manager.mutators() {
+        print_replies(m + 1, manager.replies(m + 1), &mut text)?;
+    }
+    Ok(text)
+}
+
+/// The text of a whole session of an order that is implemented: traces from files, under the plan
+/// `nogc`.
 ///
 /// Fails if memory runs out.
-pub(crate) fn text_of_session(
+pub(crate) fn text_of_session<G: Gate>(
     alloc: Global,
     order: &Order,
-    traces: &[Vec<Command>],
+    traces: Vec<Vec<Command>>,
+    gate: &G,
 ) -> Result<Vec<u8>, AllocError>
     requires supported { is_supported (job_of_order order.now) ≡ true }
     requires least { MIN_BLOCKS ≤ order.now.blocks }
     requires most { order.now.blocks ≤ MAX_BLOCKS }
-    requires one { length traces.now ≡ 1 }
-    requires fit { All IsRunnable (commands_of traces.now) }
+    requires some { 1 ≤ length traces.items }
+    requires few { length traces.items ≤ MAX_MUTATORS }
+    requires fit { All IsRunnable (lists_of traces.items) }
     ensures { IfOk result (λ v. IsPrinted (job_of_order order.now)
-        (commands_of traces.now) v.items) }
+        (lists_of traces.items) v.items) }
 {
-    let [commands] = traces else { unreachable!() };
     let layout = Layout::new(order.blocks).unwrap();
-    text_of_trace(alloc, layout, commands)
+    let manager = run_to_end(alloc, layout, traces, gate)?;
+    text_of_replies(alloc, &manager)
 }

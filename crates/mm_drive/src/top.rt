@@ -10,7 +10,6 @@ use crate::fault_lines::{
     write_length_fault, write_memory_fault, write_output_fault, write_read_fault,
     write_trace_fault, write_usage_fault,
 };
-use crate::gate::Gate;
 use crate::status::Status;
 use crate::text::text_of_session;
 use crate::traces::{FilesFault, traces_of_files};
@@ -18,6 +17,7 @@ use command_line::{Order, Target, read_words};
 use outside::{Sink, Sources, write_text};
 use std::alloc::Global;
 use std::thread::Threads;
+use work_packets::Gate;
 
 // The names of the files of an order, none for a made trace.
 fn files_named<'a>(order: &Order<'a>) -> &'a [String]
@@ -49,7 +49,7 @@ pub fn run<R: Threads + Sync, S: Sources, O: Sink, E: Sink, G: Gate>(
     sources: &mut S,
     out: &mut O,
     err: &mut E,
-    _gate: &G,
+    gate: &G,
 ) -> Status
     // The output is that of a whole session of the job that the arguments name, on the files'
     // traces: the replies, for now.
@@ -153,7 +153,7 @@ pub fn run<R: Threads + Sync, S: Sources, O: Sink, E: Sink, G: Gate>(
             return Status::OutOfMemory;
         }
     };
-    let Ok(text) = text_of_session(alloc, &order, &traces) else {
+    let Ok(text) = text_of_session(alloc, &order, traces, gate) else {
         write_memory_fault(err);
         return Status::OutOfMemory;
     };

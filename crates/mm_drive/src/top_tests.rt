@@ -1,7 +1,6 @@
 //! Tests of whole runs: output, standard error and status.
 ghost use Rattle.std.specs.Prelude.{None};
 
-use crate::gate::OpenGate;
 use crate::status::Status;
 use crate::test_runs::{FIRST, FIRST_TEXT, file_of, run_words, trace_in, words_in};
 use crate::top::run;
@@ -11,6 +10,7 @@ use std::alloc::AllocError;
 use std::fmt::Write;
 use std::test::Fail;
 use trace_text::{print_mutator, print_reply, read_trace};
+use work_packets::OpenGate;
 
 #[test]
 fn replies(rt: HostRuntime) -> Result<(), Fail> {

@@ -7,7 +7,8 @@ ghost use Rattle.command_line.specs.Orders.{texts};
 ghost use Rattle.outside.specs.Outside.{HasRisen};
 ghost use Rattle.mm_drive.specs.declared.fault_lines.Flaw.{Flaw as AnyFlaw};
 ghost use Rattle.mm_drive.specs.Printed.{AreTraces, IsTraceIn, IsLong, HasFault, AsksFirst, AsksPrefix, fault_of};
-ghost use Rattle.mm_drive.specs.Reading.{IsRunnable, AsksName, Halts, commands_of, fault_at};
+ghost use Rattle.mm_runtime.specs.Managers.{lists_of, IsRunnable};
+ghost use Rattle.mm_drive.specs.Reading.{AsksName, Halts, fault_at};
 
 use crate::fault_lines::Flaw;
 use ideal_heap::Command;
@@ -79,7 +80,8 @@ impl Consumer for FileReader {
 fn trace_read(reader: TraceReader) -> Result<Vec<Command>, FileFault>
     ensures ok { (bytes : List ℕ) → HasRead reader bytes
         → IfOk result (λ v. trace bytes ≡ Ok v.items) }
-    ensures fit { (bytes : List ℕ) → HasRead reader bytes → IfOk result (λ v. IsRunnable v.items) }
+    ensures fit { (bytes : List ℕ) → HasRead reader bytes
+        → IfOk result (λ v. IsRunnable v.items) }
     ensures bad { (bytes : List ℕ) → HasRead reader bytes → (f : AnyFlaw)
         → IsErrOf result (FileFault.Bad f) → trace bytes ≡ Err (fault_of f) }
     ensures read { (IsErrOf result FileFault.Unread → ⊥)
@@ -130,8 +132,8 @@ pub(crate) fn traces_of_files<S: Sources>(
     files: &[String],
 ) -> Result<Vec<Vec<Command>>, FilesFault>
     ensures ok { IfOk result (λ v. AreTraces (S.state sources.old).content (texts files.now)
-        (commands_of v.items)) }
-    ensures fit { IfOk result (λ v. All IsRunnable (commands_of v.items)) }
+        (lists_of v.items)) }
+    ensures fit { IfOk result (λ v. All IsRunnable (lists_of v.items)) }
     ensures all { OnOk result (AsksFirst (length files.now) (texts files.now)
         (S.state sources.old).asked (S.state sources.new).asked) }
     ensures fault { IfErr result (Halts (texts files.now) (S.state sources.old)

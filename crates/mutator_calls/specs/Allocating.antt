@@ -37,6 +37,10 @@ births_with d refs nums n taken granted drawn = record {
 abbrev pub searches : List ℕ → List ℕ → ℕ → Effect
 searches taken granted drawn = record nothing { taken = taken; granted = granted; drawn = drawn }
 
+-- Ticket `t` is the next one: so many are drawn in some state that steps without effect reach from `old`.
+abbrev pub IsNextTicket : {S : Type 0} → (S → Effect → S → Type 0) → (S → ℕ → Type 0) → S → ℕ → Type 0
+IsNextTicket {S} goes has_budget old t = (mid : S) × goes old nothing mid × has_budget mid t
+
 -- A ticket is drawn only if the mutator has none: `old` is its ticket before, `new` after. The ticket is a `next` one: as
 -- many were drawn before.
 abbrev pub Draws : (ℕ → Type 0) → Option ℕ → Option ℕ → ℕ → Type 0

@@ -141,7 +141,8 @@ pub fn put<S: Seat>(seat: &mut S, s: u32, i: u32, v: u32) -> Reply
     ensures goes { (logged : List ℕ) × S.goes seat.old
         (logs logged (command.Put s i v) result) seat.new
         × (((logged ≡ []) × (result ≡ reply.Done → (mid : S) × S.looks seat.old mid
-        × S.is_barred mid s)) ⊎ ((logged ≡ S.address seat.old s ∷ []) × (result ≡ reply.Done)
+        × S.is_barred mid s))
+        ⊎ ((logged ≡ S.address seat.old s ∷ []) × (result ≡ reply.Done)
         × S.has_ages seat.old × S.is_aged seat.old s × S.is_marked seat.old s)) }
 {
     match shape_with_field(seat, s, i, &Command::Put { s, i, v }) {

@@ -3,7 +3,7 @@
 ghost use Rattle.std.specs.Prelude.{◌≡◌, ◌≢◌, ◌+◌, ◌<◌, ◌≤◌, ◌^◌, ◌⊎◌, ℕ, List, [], ◌∷◌, Some, None, true, false, if◌then◌else◌, IsOk, IsErr, IfErr, ⊤};
 ghost use Rattle.object_model.specs.Objects.{size_of};
 ghost use Rattle.mutator_calls.specs.Effects.{nothing, takes, grants, draws};
-ghost use Rattle.mutator_calls.specs.Allocating.{births_with, searches, Draws, FindsRoom, IsCause, IsNeedOf, MatchAllocated};
+ghost use Rattle.mutator_calls.specs.Allocating.{births_with, searches, IsNextTicket, Draws, FindsRoom, IsCause, IsNeedOf, MatchAllocated};
 
 use crate::need::{Allocated, Need, NeedCause};
 use crate::seat::Seat;
@@ -48,7 +48,7 @@ fn find_hole<S: Seat>(seat: &mut S, size: u32) -> bool
     ensures offered { result ≡ true → S.offers seat.old seat.new size }
     ensures finds { result ≡ true → (taken : List ℕ) × S.goes seat.old (takes taken) seat.new
         × FindsRoom (S.lacks seat.new size) (S.is_used seat.new) (S.allocates_in seat.old)
-        (S.allocates_in seat.new) (λ t. (mid : S) × S.goes seat.old nothing mid × S.has_budget mid t)
+        (S.allocates_in seat.new) (IsNextTicket S.goes S.has_budget seat.old)
         (S.books seat.new).blocks (S.books seat.new).allowance
         (S.books seat.old).ticket (S.books seat.new).ticket taken [] 0 }
     ensures ready { result ≡ false → S.is_ready seat.new }
@@ -122,13 +122,13 @@ fn find_room<S: Seat>(seat: &mut S, size: u32) -> Result<(), NeedCause>
     ensures finds { IsOk result → (taken : List ℕ) × (granted : List ℕ) × (drawn : ℕ)
         × S.goes seat.old (searches taken granted drawn) seat.new
         × FindsRoom (S.lacks seat.new size) (S.is_used seat.new) (S.allocates_in seat.old)
-        (S.allocates_in seat.new) (λ t. (mid : S) × S.goes seat.old nothing mid × S.has_budget mid t)
+        (S.allocates_in seat.new) (IsNextTicket S.goes S.has_budget seat.old)
         (S.books seat.new).blocks (S.books seat.new).allowance
         (S.books seat.old).ticket (S.books seat.new).ticket taken granted drawn }
     ensures births { (S.books seat.new).births ≡ (S.books seat.old).births }
     ensures ready { IsErr result → S.is_ready seat.new }
     ensures goes { IsErr result → (drawn : ℕ) × S.goes seat.old (draws drawn) seat.new
-        × Draws (λ t. (mid : S) × S.goes seat.old nothing mid × S.has_budget mid t)
+        × Draws (IsNextTicket S.goes S.has_budget seat.old)
         (S.books seat.old).ticket (S.books seat.new).ticket drawn }
     ensures cause { IfErr result (IsCause (S.books seat.new)
         (S.lacks seat.new size) (S.is_used seat.new) size) }
@@ -163,7 +163,7 @@ pub fn new_object<S: Seat>(seat: &mut S, d: u32, refs: u32, nums: u32) -> Alloca
         × S.goes seat.old (births_with d refs nums name taken granted drawn) seat.new
         × FindsRoom (S.lacks seat.new (size_of refs nums)) (S.is_used seat.new)
         (S.allocates_in seat.old) (S.allocates_in seat.new)
-        (λ t. (mid : S) × S.goes seat.old nothing mid × S.has_budget mid t)
+        (IsNextTicket S.goes S.has_budget seat.old)
         (S.books seat.new).blocks (S.books seat.new).allowance
         (S.books seat.old).ticket (S.books seat.new).ticket
         taken granted drawn) (λ need. ⊤) }
@@ -174,7 +174,7 @@ pub fn new_object<S: Seat>(seat: &mut S, d: u32, refs: u32, nums: u32) -> Alloca
         (λ need. ⊤) }
     ensures stopped { MatchAllocated result (λ name. ⊤)
         (λ need. (drawn : ℕ) × S.goes seat.old (draws drawn) seat.new
-        × Draws (λ t. (mid : S) × S.goes seat.old nothing mid × S.has_budget mid t)
+        × Draws (IsNextTicket S.goes S.has_budget seat.old)
         (S.books seat.old).ticket (S.books seat.new).ticket drawn
         × (MAX_MEDIUM_WORDS < size_of refs nums → drawn ≡ 0)) }
     ensures need { MatchAllocated result (λ name. ⊤) (IsNeedOf d refs nums) }

@@ -310,12 +310,14 @@ pub trait Seat {
         ensures offered { result ≡ true → offers self.old self.new size }
         ensures region { result ≡ true → allocates_in self.new block }
         ensures taken { result ≡ true → (taken : List ℕ)
-            × ((taken ≡ []) ⊎ (taken ≡ block ∷ [])) × goes self.old (takes taken) self.new }
+            × ((taken ≡ []) ⊎ (taken ≡ block ∷ []))
+            × goes self.old (takes taken) self.new }
         ensures ready { result ≡ false → is_ready self.new }
         ensures goes { result ≡ false → goes self.old nothing self.new }
         ensures lacks { result ≡ false → lacks self.new size block }
         ensures others { (n k : ℕ) → k ≢ block → lacks self.old n k → lacks self.new n k }
-        ensures stays { (n k : ℕ) → result ≡ false → lacks self.old n k → lacks self.new n k }
+        ensures stays { (n k : ℕ) → result ≡ false → lacks self.old n k
+            → lacks self.new n k }
         ensures same { (c : Self) (n : ℕ) → result ≡ false → offers self.new c n
             → offers self.old c n }
         ensures books { books self.new ≡ books self.old };
@@ -350,7 +352,8 @@ pub trait Seat {
             → offers self.old c n }
         ensures still { (k : ℕ) → is_used self.old k → is_used self.new k }
         ensures stays { (n k : ℕ) → k ≢ block → lacks self.old n k → lacks self.new n k }
-        ensures same { result ≡ false → (n k : ℕ) → lacks self.old n k → lacks self.new n k }
+        ensures same { result ≡ false → (n k : ℕ) → lacks self.old n k
+            → lacks self.new n k }
         ensures books { books self.new ≡ record (books self.old)
             { ticket = if result then None else (books self.old).ticket } };
 
@@ -400,8 +403,8 @@ pub trait Seat {
 
     ghost registers_stay: { (a b : Self) (s : ℕ) → looks a b → address b s ≡ address a s };
 
-    ghost shapes_stay: { (a b : Self) (s : ℕ) (shape : Shape) → looks a b → has_shape a s shape
-        → has_shape b s shape };
+    ghost shapes_stay: { (a b : Self) (s : ℕ) (shape : Shape) → looks a b
+        → has_shape a s shape → has_shape b s shape };
 
     ghost plans_stay: { (a b : Self) → looks a b → has_ages b → has_ages a };
 

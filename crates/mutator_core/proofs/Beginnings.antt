@@ -54,6 +54,7 @@ module _ (p : Epoch) (ready : IsReady p) (i : IdealHeap) (stood : Represents p.b
     knows = first-states (KnowsItsState p p.before) (λ m. record {
       owned = λ o there. absurd (contains-none o there);
       objects = λ x there. absurd (contains-none x there);
+      regions = λ x there. absurd (contains-none x there);
       unpublished = λ some. absurd (omega arith);
       header = λ some. absurd (omega arith);
       age = λ some. absurd (omega arith);

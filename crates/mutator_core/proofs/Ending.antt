@@ -18,13 +18,13 @@ use Rattle.object_model.proofs.Marks as marks
 use Rattle.object_model.proofs.Representation as standing
 use Rattle.object_model.proofs.Frames.{same-layout}
 use Rattle.object_model.proofs.OneKind.{kind-within, kind-from, kind-code}
-use Rattle.sessions.specs.Fitting.{free_of, allowance_of, class_of, LiesInHole}
+use Rattle.sessions.specs.Fitting.{free_of, allowance_of, class_of, HasHole, LiesInHole}
 use Rattle.sessions.specs.Collecting.{is_logged_under}
-use Rattle.sessions.specs.Sessions.{Stopped, IsBirth, IsBirthOf, StoresInto}
+use Rattle.sessions.specs.Sessions.{Stopped, IsBirth, IsBirthOf, IsPacked, StoresInto}
 use Rattle.mutator_core.specs.declared.state.LogEntry.{LogEntry}
 use Rattle.mutator_core.specs.Machine.{Epoch, Machine, heap_in, mutators_in, first_local_of, first_machine}
 use Rattle.mutator_core.specs.Logs.{IsEpochLog, machine_after, heap_after, mutators_after, local_after_log, history_of, AreBetweenCalls}
-use Rattle.mutator_core.specs.Guards.{IsCell}
+use Rattle.mutator_core.specs.Guards.{IsCell, BeginsRegion}
 use Rattle.mutator_core.specs.Epochs.{IsReady, IsOwned, IsMade}
 use Rattle.mutator_core.specs.Tickets.{AreCounted, taken_by, allowed_to, smaller}
 use Rattle.mutator_core.specs.Seen.{AreSeen, AreLoaded}
@@ -68,6 +68,24 @@ module _ (p : Epoch) (ready : IsReady p) (h : Machine) (first : IdealHeap) (past
   shape-now : (a : ℕ) → IsHeld s a → word_at new (a + 1) ≡ word_at s (a + 1)
   shape-now a holds = heap-word (a + 1) (let from : heap_of p.before.blocks ≤ a = holds.address.from in omega arith)
 
+  size-now : (a : ℕ) → IsHeld s a → size_at s a ≡ size_at new a
+  size-now a holds = ap (λ v. size_of (v % 65536) (v / 65536)) (sym (shape-now a holds))
+
+  -- where an object that was allocated begins
+  packed : (a m size : ℕ) → size ≡ size_at new a → BeginsRegion p (h.locals m).made a size → IsPacked p.rules.fill p.before new a
+  packed a m size same begins = elim begins as (λ _. IsPacked p.rules.fill p.before new a) [
+    | inl cells ↦ inl cells
+    | inr other ↦ elim other as (λ _. IsPacked p.rules.fill p.before new a) [
+      | inl hole ↦ inr (inl (subst (λ (n : ℕ). HasHole p.rules.fill p.before (block_at p.before.blocks a) (offset_at p.before.blocks a) n) same hole))
+      | inr rest ↦ elim rest as (λ _. IsPacked p.rules.fill p.before new a) [
+        | inl free ↦ inr (inr (inl free))
+        | inr behind ↦ inr (inr (inr (
+            let x : IsMade p s (h.locals m).owned behind.0 = (now.epoch.knows m).objects behind.0 behind.1 in
+            (behind.0.address, held-now behind.0.address x.held, behind.2, ap (λ n. behind.0.address + n) (sym (size-now behind.0.address x.held) ∙ x.same) ∙ behind.3))))
+      ]
+    ]
+  ]
+
   -- an object that was allocated
   birth : (a m : ℕ) → IsHeld s a → Contains (h.locals m).made (record { address = a; size = size_at s a }) → IsBirth p.rules p.before past new a
   birth a m holds made = record {
@@ -77,6 +95,7 @@ module _ (p : Epoch) (ready : IsReady p) (h : Machine) (first : IdealHeap) (past
       | inl free ↦ inl free
       | inr hole ↦ inr (subst (λ (n : ℕ). LiesInHole p.rules.fill p.before (block_at p.before.blocks a) (offset_at p.before.blocks a) n) size hole)
     ];
+    packed = packed a m (size_at s a) size ((now.epoch.knows m).regions (record { address = a; size = size_at s a }) made);
     cell = λ cells. let cell : IsCell a (size_at s a) p.before.blocks is.place.owned.class = is.place.cell cells in record {
       class = ap class_of (sym size) ∙ cell.fits ∙ ap (λ q. Some q) (sym class);
       index = cell.index;
@@ -90,7 +109,7 @@ module _ (p : Epoch) (ready : IsReady p) (h : Machine) (first : IdealHeap) (past
       is = (now.epoch.knows m).objects (record { address = a; size = size_at s a }) made
 
       size : size_at s a ≡ size_at new a
-      size = ap (λ v. size_of (v % 65536) (v / 65536)) (sym (shape-now a holds))
+      size = size-now a holds
 
       owned : IsOwned p s (h.locals m).number is.place.owned
       owned = (now.epoch.knows m).owned is.place.owned is.place.among

@@ -80,6 +80,7 @@ module _ (p : Epoch) (s : HeapState) (w : List ℕ) (leaves : Leaves s w) where
   knows-left l untouched knows = record {
     owned = λ o known. owned-left l.number o (knows.owned o known);
     objects = λ x known. made-left l.owned x (knows.objects x known);
+    regions = knows.regions;
     unpublished = λ some. let is = knows.unpublished some in record {
       few_births = is.few_births;
       few_refs = is.few_refs;
@@ -87,6 +88,7 @@ module _ (p : Epoch) (s : HeapState) (w : List ℕ) (leaves : Leaves s w) where
       small = is.small;
       most = is.most;
       available = is.available;
+      region = is.region;
       words = λ k less. untouched some k less ∙ is.words k less;
     };
     header = λ some. let is = knows.header some in (leaves.held l.shape.at is.0, leaves.headers l.shape.at 1 is.0 (omega arith) ∙ is.1);

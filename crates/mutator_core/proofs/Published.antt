@@ -32,7 +32,7 @@ use Rattle.mutator_core.specs.declared.state.OwnedBlock.{OwnedBlock}
 use Rattle.mutator_core.specs.declared.state.Unpublished.{Unpublished}
 use Rattle.mutator_core.specs.declared.state.Event.TheVariants as e
 use Rattle.mutator_core.specs.Machine.{Epoch, Machine, heap_in, mutators_in, mutator_of, next, next_name, birth_word, bit_word, bit_place, with_bit, published}
-use Rattle.mutator_core.specs.Guards.{IsPlace, IsCell, IsWriting}
+use Rattle.mutator_core.specs.Guards.{IsPlace, IsCell, IsWriting, BeginsRegion}
 use Rattle.mutator_core.specs.Epochs.{IsReady, IsInEpoch, IsOwned, IsMade, IsUnpublished, KnowsItsState}
 use Rattle.mutator_core.proofs.Lists.{contains-cases, contains-here, contains-there, with_local, local-cases, mutators-with_birth}
 use Rattle.mutator_core.proofs.Places.{place-clear}
@@ -45,6 +45,19 @@ birth-blank : (n : Name) (refs nums offset : ℕ) → 2 ≤ offset → birth_wor
 birth-blank n refs nums zero least = absurd (omega arith)
 birth-blank n refs nums (suc zero) least = absurd (omega arith)
 birth-blank n refs nums (suc (suc offset)) least = refl
+
+-- an object more that the mutator allocated
+more-region : (p : Epoch) (y : Extent) (made : List Extent) (a size : ℕ) → BeginsRegion p made a size → BeginsRegion p (y ∷ made) a size
+more-region p y made a size begins = elim begins as (λ _. BeginsRegion p (y ∷ made) a size) [
+  | inl cells ↦ inl cells
+  | inr other ↦ elim other as (λ _. BeginsRegion p (y ∷ made) a size) [
+    | inl hole ↦ inr (inl hole)
+    | inr rest ↦ elim rest as (λ _. BeginsRegion p (y ∷ made) a size) [
+      | inl free ↦ inr (inr (inl free))
+      | inr behind ↦ inr (inr (inr (behind.0, contains-there y made behind.0 behind.1, behind.2, behind.3)))
+    ]
+  ]
+]
 
 module _ (p : Epoch) (ready : IsReady p) (h : Machine) (i : IdealHeap) (set : ℕ → Type 0) (now : Holds p h i set) (m : ℕ) (known : Contains (numbers_of p.mutators) m)
     (d refs nums : ℕ) (small : d < 16) (some : 0 < (h.locals m).unpublished.address)
@@ -231,6 +244,10 @@ module _ (p : Epoch) (ready : IsReady p) (h : Machine) (i : IdealHeap) (set : �
       | inl e ↦ subst (IsMade p after l.owned) (sym e) made
       | inr before ↦ (left m).objects x before
     ];
+    regions = λ x there. more-region p extent l.made x.address x.size (elim (contains-cases extent l.made x there) as (λ _. BeginsRegion p l.made x.address x.size) [
+      | inl e ↦ subst (λ (y : Extent). BeginsRegion p l.made y.address y.size) (sym e) begun.region
+      | inr before ↦ (left m).regions x before
+    ]);
     unpublished = λ nothing. absurd (omega arith);
     header = (left m).header;
     age = (left m).age;

@@ -66,7 +66,7 @@ module _ (p : Epoch) (ready : IsReady p) (h : Machine) (i : IdealHeap) (set : �
 
   pub load-shape : (q : ℕ) → HasObjectIn (h.locals m) q → Moved p h (next p h m (e.LoadShape q)) i set
   load-shape q has = loads (address_in l q + 1) (record l { shape = record { at = address_in l q; word = word_at s (address_in l q + 1) } }) refl
-      (λ knows. record { owned = knows.owned; objects = knows.objects; unpublished = knows.unpublished; header = λ some. (in-register q has, refl); age = knows.age; cleared = knows.cleared }) (grown (h.locals m))
+      (λ knows. record { owned = knows.owned; objects = knows.objects; regions = knows.regions; unpublished = knows.unpublished; header = λ some. (in-register q has, refl); age = knows.age; cleared = knows.cleared }) (grown (h.locals m))
 
   -- a word before the globals
   low-keeps : (k v : ℕ) → k < 2 → ObjectsStay (heap_in p h) (with_words (heap_in p h) (slice_set h.words k v))
@@ -148,6 +148,7 @@ module _ (p : Epoch) (ready : IsReady p) (h : Machine) (i : IdealHeap) (set : �
       (λ knows. record {
         owned = knows.owned;
         objects = knows.objects;
+        regions = knows.regions;
         unpublished = knows.unpublished;
         header = knows.header;
         age = knows.age;
@@ -156,7 +157,7 @@ module _ (p : Epoch) (ready : IsReady p) (h : Machine) (i : IdealHeap) (set : �
 
   pub load-collector : (q : ℕ) → HasObjectIn (h.locals m) q → Moved p h (next p h m (e.LoadCollector q)) i set
   load-collector q has = loads (address_in l q + 2) (record l { collector = record { at = address_in l q; word = word_at s (address_in l q + 2) } }) refl
-      (λ knows. record { owned = knows.owned; objects = knows.objects; unpublished = knows.unpublished; header = knows.header; age = λ some. (in-register q has, refl); cleared = knows.cleared }) (grown l)
+      (λ knows. record { owned = knows.owned; objects = knows.objects; regions = knows.regions; unpublished = knows.unpublished; header = knows.header; age = λ some. (in-register q has, refl); cleared = knows.cleared }) (grown l)
 
   -- the unlog bit of an object, from its word
   pub load-unlog : (q : ℕ) → HasObjectIn (h.locals m) q → Moved p h (next p h m (e.LoadUnlog q)) i set
@@ -169,6 +170,7 @@ module _ (p : Epoch) (ready : IsReady p) (h : Machine) (i : IdealHeap) (set : �
       (λ knows. record {
         owned = knows.owned;
         objects = knows.objects;
+        regions = knows.regions;
         unpublished = knows.unpublished;
         header = knows.header;
         age = knows.age;

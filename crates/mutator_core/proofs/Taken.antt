@@ -136,6 +136,7 @@ module _ (p : Epoch) (ready : IsReady p) (h : Machine) (i : IdealHeap) (set : â„
         unclaimed = is.unclaimed;
         unmarked = is.unmarked;
       };
+      regions = knows.regions;
       unpublished = Î» some. let is = knows.unpublished some in record {
         few_births = is.few_births;
         few_refs = is.few_refs;
@@ -143,6 +144,7 @@ module _ (p : Epoch) (ready : IsReady p) (h : Machine) (i : IdealHeap) (set : â„
         small = is.small;
         most = is.most;
         available = record { place = more-place p o l.owned l.unpublished.address _ is.available.place; beside = is.available.beside };
+        region = is.region;
         words = is.words;
       };
       header = knows.header;

@@ -59,6 +59,7 @@ module _ (p : Epoch) (ready : IsReady p) (h : Machine) (i : IdealHeap) (set : �
         small = begin.small;
         most = omega arith;
         available = begin.available;
+        region = begin.region;
         words = λ k less. absurd (omega arith);
       },
     ))
@@ -166,6 +167,7 @@ module _ (p : Epoch) (ready : IsReady p) (h : Machine) (i : IdealHeap) (set : �
       refl (λ knows. record {
         owned = knows.owned;
         objects = knows.objects;
+        regions = knows.regions;
         header = knows.header;
         age = knows.age;
         cleared = knows.cleared;
@@ -176,6 +178,7 @@ module _ (p : Epoch) (ready : IsReady p) (h : Machine) (i : IdealHeap) (set : �
           small = begun.1.small;
           most = (let less : offset < size = within in omega arith);
           available = begun.1.available;
+          region = begun.1.region;
           words = λ k less. elim (cases_eq k offset) as (λ _. word_at (with_words s w) (a + k) ≡ birth_word (next_name l) refs nums k) [
             | inl same ↦ subst (λ (q : ℕ). word_at (with_words s w) (a + q) ≡ birth_word (next_name l) refs nums q) (sym same) own
             | inr differ ↦ other (a + k) (λ e. differ (omega arith)) ∙ begun.1.words k (omega arith)

@@ -19,7 +19,7 @@ use Rattle.mutator_core.specs.declared.state.Extent.{Extent}
 use Rattle.mutator_core.specs.declared.state.OwnedBlock.{OwnedBlock}
 use Rattle.mutator_core.specs.declared.state.Unpublished.{Unpublished}
 use Rattle.mutator_core.specs.Machine.{Epoch, birth_word, found_code}
-use Rattle.mutator_core.specs.Guards.{IsPlace, IsAvailable}
+use Rattle.mutator_core.specs.Guards.{IsPlace, IsAvailable, BeginsRegion}
 
 -- mutators fill blocks of this kind under some plan
 abbrev pub is_filled : Kind → Bool
@@ -60,7 +60,8 @@ pub record IsMade (p : Epoch) (s : HeapState) (blocks : List OwnedBlock) (x : Ex
   pub unclaimed : word_at s (x.address + 2) ≡ 0
   pub unmarked : IsTrue (is_unlogged s x.address) → ⊥
 
--- the unpublished object is small, lies at a permitted place, and the words stored so far are its initial words
+-- the unpublished object is small, lies at a permitted place, begins a region or follows an object there, and the words
+-- stored so far are its initial words
 pub record IsUnpublished (p : Epoch) (s : HeapState) (n : Name) (blocks : List OwnedBlock) (made : List Extent)
     (u : Unpublished) : Type 0 where
   pub few_births : n.birth < 2 ^ 32
@@ -69,6 +70,7 @@ pub record IsUnpublished (p : Epoch) (s : HeapState) (n : Name) (blocks : List O
   pub small : size_of u.refs u.nums ≤ MAX_MEDIUM_WORDS
   pub most : u.written ≤ size_of u.refs u.nums
   pub available : IsAvailable p blocks made u.address (size_of u.refs u.nums)
+  pub region : BeginsRegion p made u.address (size_of u.refs u.nums)
   pub words : (k : ℕ) → k < u.written → word_at s (u.address + k) ≡ birth_word n u.refs u.nums k
 
 -- one mutator's blocks, objects and loaded words agree with the heap
@@ -76,6 +78,7 @@ pub record Knows (p : Epoch) (s : HeapState) (number births : ℕ) (blocks : Lis
     (u : Unpublished) (shape collector : Loaded) (logged : ℕ) : Type 0 where
   pub owned : (o : OwnedBlock) → Contains blocks o → IsOwned p s number o
   pub objects : (x : Extent) → Contains made x → IsMade p s blocks x
+  pub regions : (x : Extent) → Contains made x → BeginsRegion p made x.address x.size
   pub unpublished : 0 < u.address → IsUnpublished p s (name number (births + 1)) blocks made u
   pub header : 0 < shape.at → IsHeld s shape.at × (word_at s (shape.at + 1) ≡ shape.word)
   pub age : 0 < collector.at → IsHeld s collector.at × (word_at s (collector.at + 2) ≡ collector.word)

@@ -5,7 +5,7 @@ use Rattle.std.specs.List.{AllByRecursion, Any, range_with_len}
 use Rattle.std.proofs.Math.Logic.{∥∥₁_map}
 use Rattle.std.proofs.lemmas.Bool.{cases_eq, true≢false}
 use Rattle.std.proofs.lemmas.List.{get_or-set_same, get_or-set_other, length-set}
-use Rattle.heap_layout.specs.Zones.{Zone, StartBits, PinBits, UnlogBits, LineWords, BlockWords, Globals, row_words, heap_of, first, address_bit, block_at, block_start}
+use Rattle.heap_layout.specs.Zones.{Zone, StartBits, PinBits, UnlogBits, LineWords, BlockWords, Globals, row_words, heap_of, first, address_bit, block_start}
 use Rattle.heap_layout.specs.Blocks.{is_block_code, kind_code}
 use Rattle.heap_layout.specs.declared.block.Kind.{Kind}
 use Rattle.heap_layout.specs.declared.block.Kind.TheVariants as kinds
@@ -300,10 +300,6 @@ module _ (s : HeapState) (order : IsWellFormed s) (k v : ℕ) (is : HasKind s k 
         λ now. let old = (kind-before j kinds.LargeHead refl now).1 in let e = one-kind s j kinds.LargeHead kinds.Free old free in omega arith,
         λ now. let old = (kind-before j kinds.LargeTail refl now).1 in let e = one-kind s j kinds.LargeTail kinds.Free old free in omega arith,
       )
-
-  -- no object begins in the block
-  pub object-away : (x : ℕ) → IsHeld s x → block_at s.blocks x ≢ k
-  object-away x holds = clear.empty x x holds (record { from = omega arith; below = omega arith })
 
   -- no line of the block is touched
   none-touched : (line : ℕ) → line < 256 → IsTouched s k line → ⊥

@@ -70,20 +70,3 @@ unpin-object s s' m e small some sets =
     (λ ms h set model among. object-some h (h.registers m.number e) (unpinning h) (name_at s a) (register-named s ms h set model m among e small some)
     ∙ ap (λ p. outcome (if p then r.Yes else r.No) (set_pinned h (name_at s a) false)) (pin-read s m e small some ms h set model among))
     (no-new (is_pinned s a) r.Yes r.No (λ n same. cc) (λ n same. cc))
-
--- the replies, by the old pin
-pub pin-yes : (s s' : HeapState) (m : MutatorState) (e : ℕ) → e < 16 → register_at m e ≢ 0 → is_pinned s (register_at m e) ≡ false → SetsPin s s' (register_at m e) true
-    → IsStep s m (c.Pin e) r.Yes s' m
-pin-yes s s' m e small some was sets = subst (λ (p : Bool). IsStep s m (c.Pin e) (if p then r.No else r.Yes) s' m) was (pin-object s s' m e small some sets)
-
-pub pin-no : (s s' : HeapState) (m : MutatorState) (e : ℕ) → e < 16 → register_at m e ≢ 0 → is_pinned s (register_at m e) ≡ true → SetsPin s s' (register_at m e) true
-    → IsStep s m (c.Pin e) r.No s' m
-pin-no s s' m e small some was sets = subst (λ (p : Bool). IsStep s m (c.Pin e) (if p then r.No else r.Yes) s' m) was (pin-object s s' m e small some sets)
-
-pub unpin-yes : (s s' : HeapState) (m : MutatorState) (e : ℕ) → e < 16 → register_at m e ≢ 0 → is_pinned s (register_at m e) ≡ true → SetsPin s s' (register_at m e) false
-    → IsStep s m (c.Unpin e) r.Yes s' m
-unpin-yes s s' m e small some was sets = subst (λ (p : Bool). IsStep s m (c.Unpin e) (if p then r.Yes else r.No) s' m) was (unpin-object s s' m e small some sets)
-
-pub unpin-no : (s s' : HeapState) (m : MutatorState) (e : ℕ) → e < 16 → register_at m e ≢ 0 → is_pinned s (register_at m e) ≡ false → SetsPin s s' (register_at m e) false
-    → IsStep s m (c.Unpin e) r.No s' m
-unpin-no s s' m e small some was sets = subst (λ (p : Bool). IsStep s m (c.Unpin e) (if p then r.Yes else r.No) s' m) was (unpin-object s s' m e small some sets)

@@ -24,7 +24,8 @@ use ideal_heap::{MAX_MUTATORS, MAX_NUMS, MAX_REFS};
 /// A row of zeros is a lawful heap. With mutators that have allocated nothing, it represents the
 /// empty ideal heap.
 pub fn empty_heap_laws()
-    ensures lawful { (b : ℕ) → MIN_BLOCKS ≤ b → b ≤ MAX_BLOCKS → IsLawful (empty_heap b) }
+    ensures lawful { (b : ℕ) → MIN_BLOCKS ≤ b → b ≤ MAX_BLOCKS
+        → IsLawful (empty_heap b) }
     ensures represents { (b : ℕ) (numbers : List ℕ)
         → AllByRecursion (λ m. (1 ≤ m) × (m ≤ MAX_MUTATORS)) numbers
         → AreDifferent numbers → Represents (empty_heap b) (map new_mutator numbers) empty }
@@ -189,8 +190,8 @@ pub fn lawful_words()
 /// A collector word is below `NUMBER_UNIT` before any collection reaches the object. After that it
 /// has the number of a past collection above the object's address.
 pub fn headers_are_read()
-    ensures from { (s : HeapState) (a n : ℕ) → HasObject s a → a < NUMBER_UNIT → n ≤ s.number
-        → word_at s (a + 2) ≡ a + NUMBER_UNIT * n → HasHeader s a }
+    ensures from { (s : HeapState) (a n : ℕ) → HasObject s a → a < NUMBER_UNIT
+        → n ≤ s.number → word_at s (a + 2) ≡ a + NUMBER_UNIT * n → HasHeader s a }
     ensures into { (s : HeapState) (a : ℕ) → HasHeader s a
         → (word_at s (a + 2) < NUMBER_UNIT) ⊎ ((n : ℕ) × (n ≤ s.number)
         × (word_at s (a + 2) ≡ a + NUMBER_UNIT * n)) }

@@ -47,7 +47,8 @@ pub(crate) fn write_words(words: &mut Vec<u64>, address: u32, name: &Name, shape
         ≡ shape_code shape.now.refs shape.now.nums }
     ensures blank { (i : ℕ) → 2 ≤ i → i < size_of shape.now.refs shape.now.nums
         → slice_index words.new.items (address + i) ≡ 0 }
-    ensures others { (i : ℕ) → (i < address) ⊎ (address + size_of shape.now.refs shape.now.nums ≤ i)
+    ensures others { (i : ℕ)
+        → (i < address) ⊎ (address + size_of shape.now.refs shape.now.nums ≤ i)
         → slice_index words.new.items i ≡ slice_index words.old.items i }
 {
     let at = address as usize;

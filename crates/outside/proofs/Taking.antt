@@ -1,7 +1,7 @@
 -- Reading, piece by piece.
-use Rattle.std.proofs.Common.{◌≡◌, sym, ◌∙◌, ap, subst, ℕ, ◌+◌, ◌-◌, ◌<◌, ◌≤◌, List, [], ◌++◌, take, drop, length, append_assoc, length-append, arith, refl}
+use Rattle.std.proofs.Common.{◌≡◌, sym, ◌∙◌, ap, subst, ℕ, ◌+◌, ◌-◌, ◌<◌, ◌≤◌, List, [], ◌++◌, take, drop, length, append_assoc, length-append, arith}
 use Rattle.std.specs.Prelude.{Option, None, Some, IfSome, Result, Ok, Err, OnOk}
-use Rattle.std.proofs.lemmas.List.{length-drop, drop-drop, take_all, append-nil}
+use Rattle.std.proofs.lemmas.List.{length-drop, drop-drop, take_all}
 use Rattle.std.proofs.Math.Seq.{take-add}
 use Rattle.outside.specs.declared.reader.TheConstants.{MAX_FILE_BYTES}
 use Rattle.outside.specs.Reading.{Moved, TakesMore, TakesAll}
@@ -10,10 +10,6 @@ use Rattle.outside.specs.Reading.{Moved, TakesMore, TakesAll}
 abbrev pub HasMoved : ℕ → Option (List ℕ) → Option (List ℕ) → Type 0
 HasMoved n first left = IfSome first (λ all. Moved n all left)
 
-pub moved_none : (first left : Option (List ℕ)) → left ≡ first → HasMoved 0 first left
-moved_none None left is = tt
-moved_none (Some all) left is = (omega arith, is)
-
 pub moved_more : (n m : ℕ) (first left next : Option (List ℕ)) → HasMoved n first left → IfSome left (λ known. Moved m known next × (m ≡ 0 → known ≡ [])) → HasMoved (n + m) first next
 moved_more n m None left next so_far more = tt
 moved_more n m (Some all) left next so_far more =
@@ -21,13 +17,6 @@ moved_more n m (Some all) left next so_far more =
     let step : Moved m (drop n all) next × (m ≡ 0 → drop n all ≡ []) = subst P so_far.1 more in
     let long : length (drop n all) ≡ length all - n = length-drop n all in
     (omega (arith, so_far.0, step.0.0, long), step.0.1 ∙ ap Some (drop-drop m n all))
-
-none_of : (first : Option (List ℕ)) → IfSome first (λ known. [] ≡ take 0 known)
-none_of None = tt
-none_of (Some known) = refl
-
-pub takes_none : (P : List ℕ → Type 0) (first : Option (List ℕ)) → TakesMore P P 0 first
-takes_none P first bytes had = ([], refl, subst P (sym (append-nil bytes)) had, none_of first)
 
 both_parts : (n m : ℕ) (first left : Option (List ℕ)) (p q : List ℕ) → HasMoved n first left → IfSome first (λ known. p ≡ take n known) → IfSome left (λ known. q ≡ take m known) → IfSome first (λ known. p ++ q ≡ take (n + m) known)
 both_parts n m None left p q moved a b = tt

@@ -23,6 +23,8 @@ pub record IsBorn (a b : PlainRow) (d : ℕ) (n : Name) (refs nums : ℕ) : Type
   pub fill : b.fill ≡ a.fill
   pub young : b.young ≡ a.young
   pub allowance : b.allowance ≡ a.allowance
+  pub counts : b.counts ≡ a.counts
+  pub owned : b.owned ≡ a.owned
   pub seats : b.seats ≡ a.seats
   pub current : block_of (seat_at_turn a) ≡ Some block
   pub was : slice_get a.notes.items block ≡ Some (Owned (number_at_turn a) region)
@@ -46,6 +48,8 @@ allocated a b d n refs nums by = record {
   fill = ap (λ w. w.fill) by.rest ∙ by.count.plan.fill ∙ by.region.plan.fill;
   young = ap (λ w. w.young) by.rest ∙ by.count.plan.young ∙ by.region.plan.young;
   allowance = ap (λ w. w.allowance) by.rest ∙ by.count.plan.allowance ∙ by.region.plan.allowance;
+  counts = ap (λ w. w.counts) by.rest ∙ by.count.plan.counts ∙ by.region.plan.counts;
+  owned = ap (λ w. w.owned) by.rest ∙ by.count.owned ∙ by.region.owned;
   seats = ap (λ w. w.seats) by.rest ∙ by.count.seats ∙ by.region.seats;
   current = by.region.current;
   was = by.region.was;

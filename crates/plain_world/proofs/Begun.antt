@@ -1,32 +1,32 @@
 -- The world as an epoch begins.
-use Rattle.heap_layout.specs.declared.layout.TheConstants.{BLOCK_WORDS}
 use Rattle.ideal_heap.specs.declared.command.TheConstants.{MAX_MUTATORS}
 use Rattle.std.proofs.Common.{◌≡◌, refl, sym, ◌∙◌, ap, subst, ℕ, zero, suc, ◌+◌, ◌<◌, ◌≤◌, inl, inr, arith, Bool, true, false, ◌==◌, IsTrue, List, [], ◌∷◌, length, map, replicate, bit_and}
-use Rattle.std.specs.Prelude.{Some, None, slice_get, if◌then◌else◌}
+use Rattle.std.specs.Prelude.{Some, None, slice_get, if◌then◌else◌, vec_capacity}
 use Rattle.std.specs.List.{Contains}
 use Rattle.std.proofs.lemmas.List.{length-map, length-replicate}
 use Rattle.heap_layout.specs.declared.block.Kind.{Kind}
-use Rattle.heap_layout.specs.declared.block.Kind.TheVariants as kinds
 use Rattle.ideal_heap.specs.Ideal.{IdealHeap}
 use Rattle.object_model.specs.Objects.{HeapState, state_of}
 use Rattle.object_model.specs.Lawful.{IsLawful}
 use Rattle.object_model.specs.Graphs.{MutatorState, Represents, numbers_of}
 use Rattle.sessions.specs.Plans.{Rules}
 use Rattle.sessions.specs.Collecting.{Remembers}
-use Rattle.sessions.specs.Fitting.{allowance_of, HasHole}
+use Rattle.sessions.specs.Fitting.{allowance_of}
+use Rattle.plan_api.specs.Counting.{session_counts}
 use Rattle.plan_api.specs.Flags.{flags_of, has_cells}
 use Rattle.mutator_core.specs.Machine.{Epoch, first_local, first_local_of}
 use Rattle.mutator_core.specs.Epochs.{IsReady, is_filled}
 use Rattle.mutator_calls.specs.declared.need.Mutator.{Mutator}
 use Rattle.plain_world.specs.declared.plain_row.PlainRow.{PlainRow}
 use Rattle.plain_world.specs.declared.plain_row.PlainSeat.{PlainSeat}
-use Rattle.plain_world.specs.declared.plain_row.BlockNote.{BlockNote}
-use Rattle.plain_world.specs.declared.plain_row.BlockNote.TheVariants.{Unowned, Owned}
+use Rattle.plain_world.specs.declared.block_notes.BlockNotes.{BlockNotes}
 use Rattle.plain_world.specs.Rows.{mutator_state}
-use Rattle.plain_world.specs.Notes.{FillsTails, IsNote, HasNotes}
+use Rattle.plain_world.specs.Notes.{FillsTails, HasNotes, ListsOwned, AreUnowned, AreNotes}
 use Rattle.plain_world.specs.Beginnings.{MayUse, without_stop, epoch_of}
-use Rattle.plain_world.specs.Worlds.{HasState, IsAt, IsAfter, IsIdle}
-use Rattle.plain_world.proofs.Lists.{get-map, get-below}
+use Rattle.plain_world.specs.Worlds.{HasState, HasLists, IsAt, IsAfter, IsIdle}
+use Rattle.plain_world.proofs.Lists.{get-map}
+use Rattle.plain_world.proofs.NoteLemmas.{notes-after}
+use Rattle.plain_world.proofs.Owning.{lists-none}
 use Rattle.plain_world.proofs.CallLemmas.{numbers-mapped}
 use Rattle.plain_world.proofs.Cleared as cleared
 use Rattle.plain_world.proofs.SomeIdeal.{own-local, some-ideal}
@@ -53,15 +53,12 @@ young-of false false false false = refl
 pub young-flag : (r : Rules) → (bit_and (flags_of r) 2 == 2) ≡ r.young
 young-flag r = young-of r.moves r.young r.lines (has_cells r.fill)
 
--- a seat without a ticket and a block, and the note of a block of which nothing is known
+-- a seat without a ticket and a block
 abbrev pub no_seat : PlainSeat
 no_seat = record { ticket = None; block = None }
 
-abbrev pub no_note : BlockNote
-no_note = Unowned (BLOCK_WORDS + 1)
-
 -- an element of a list of copies
-get-copy : {A : Type 0} (n : ℕ) (x y : A) (k : ℕ) → slice_get (replicate n x) k ≡ Some y → y ≡ x
+pub get-copy : {A : Type 0} (n : ℕ) (x y : A) (k : ℕ) → slice_get (replicate n x) k ≡ Some y → y ≡ x
 get-copy zero x y k is = let wrong : None ≡ Some y = is in cc
 get-copy (suc n) x y zero is = let e : Some x ≡ Some y = is in cc
 get-copy (suc n) x y (suc k) is = get-copy n x y k is
@@ -80,19 +77,16 @@ tail-filled : (fill : Kind) → FillsTails fill → IsTrue (is_filled fill)
 tail-filled fill (inl bump) = subst (λ k. IsTrue (is_filled k)) (sym bump) refl
 tail-filled fill (inr young) = subst (λ k. IsTrue (is_filled k)) (sym young) refl
 
--- no hole is larger than a block
-small-hole : (fill : Kind) → FillsTails fill → (s : HeapState) (k at size : ℕ) → BLOCK_WORDS + 1 ≤ size → HasHole fill s k at size → ⊥
-small-hole fill (inl bump) s k at size most hole = let it : HasHole kinds.Bump s k at size = subst (λ f. HasHole f s k at size) bump hole in
-    let room : at + size ≤ 4096 = it.2 in omega arith
-small-hole fill (inr young) s k at size most hole = let it : HasHole kinds.Young s k at size = subst (λ f. HasHole f s k at size) young hole in
-    let room : at + size ≤ 4096 = it.2 in omega arith
-
 -- the parts of a world as an epoch begins
 pub record IsBegun (r : Rules) (s : HeapState) (ms : List MutatorState) (w : PlainRow) : Type 0 where
   pub heap : state_of w.row ≡ without_stop s
   pub mutators : map mutator_state w.mutators.items ≡ ms
   pub seats : w.seats.items ≡ replicate (length w.mutators.items) no_seat
-  pub notes : w.notes.items ≡ replicate s.blocks no_note
+  pub known : BlockNotes
+  pub are : AreNotes r.fill s known
+  pub notes : w.notes ≡ known.notes
+  pub owned : w.owned ≡ known.owned
+  pub counts : w.counts ≡ known.counts
   pub fill : w.fill ≡ r.fill
   pub young : w.young ≡ r.young
   pub allowance : w.allowance ≡ allowance_of r.reserve s
@@ -112,19 +106,16 @@ module _ (r : Rules) (s : HeapState) (ms : List MutatorState) (w : PlainRow) (be
     few = subst (λ n. n ≤ MAX_MUTATORS) (sym (length-map w.mutators.items mutator_state) ∙ ap length begun.mutators) few;
   }
 
-  -- an unowned block, without a hole for an object that is larger than a block
-  note-begun : (k : ℕ) → k < s.blocks → IsNote r.fill (without_stop s) k no_note
-  note-begun k there = record {
-    owner = ((cleared.lawful-cleared s lawful).but_lines.blocks k there).owner;
-    none = λ at size most hole. small-hole r.fill tails (without_stop s) k at size most hole;
-  }
-
   notes-begun : HasNotes r.fill (without_stop s) w.notes.items
-  notes-begun = record {
-    len = ap length begun.notes ∙ length-replicate s.blocks no_note;
-    each = λ k note some. let copy : slice_get (replicate s.blocks no_note) k ≡ Some note = ap (λ xs. slice_get xs k) (sym begun.notes) ∙ some in
-        let there : k < s.blocks = subst (λ n. k < n) (length-replicate s.blocks no_note) (get-below (replicate s.blocks no_note) k note copy) in
-        subst (IsNote r.fill (without_stop s) k) (sym (get-copy s.blocks no_note note k copy)) (note-begun k there);
+  notes-begun = notes-after s (without_stop s).words (cleared.keeps-blocks s lawful) r.fill tails w.notes.items
+      (subst (λ v. HasNotes r.fill s v.items) (sym begun.notes) begun.are.notes)
+
+  lists-begun : HasLists p w
+  lists-begun = record {
+    owned = subst (ListsOwned w.notes.items) (sym (ap (λ v. v.items) begun.owned ∙ begun.are.owned))
+        (lists-none w.notes.items (subst (λ v. AreUnowned v.items) (sym begun.notes) begun.are.unowned));
+    room = subst (λ n. n ≤ vec_capacity w.owned) (sym (same-blocks begun.heap)) (subst (λ v. s.blocks ≤ vec_capacity v) (sym begun.owned) begun.are.room);
+    counts = ap (λ c. session_counts c) begun.counts ∙ begun.are.counts ∙ sym (cleared.counts-cleared s lawful);
   }
 
   no-seat : (k : ℕ) (x : PlainSeat) → slice_get w.seats.items k ≡ Some x → x ≡ no_seat
@@ -150,6 +141,7 @@ module _ (r : Rules) (s : HeapState) (ms : List MutatorState) (w : PlainRow) (be
     tails = subst FillsTails (sym begun.fill) tails;
     young = begun.young;
     allowed = begun.allowance ∙ sym (cleared.allowance-cleared s lawful r.reserve);
+    lists = lists-begun;
   }
 
   pub after-begun : (i : IdealHeap) → Represents s ms i → IsAfter p i [] w
@@ -158,5 +150,5 @@ module _ (r : Rules) (s : HeapState) (ms : List MutatorState) (w : PlainRow) (be
   pub idle-begun : IsIdle w
   idle-begun = record {
     some = record { epoch = p; ideal = (some-ideal s ms lawful may).0; log = []; at = at-begun (some-ideal s ms lawful may).0 (some-ideal s ms lawful may).1 };
-    filled = λ k owner region is. absurd (let wrong : Owned owner region ≡ no_note = get-copy s.blocks no_note (Owned owner region) k (ap (λ xs. slice_get xs k) (sym begun.notes) ∙ is) in cc);
+    filled = λ k owner region is. absurd (begun.are.unowned k owner region (ap (λ v. slice_get v.items k) (sym begun.notes) ∙ is));
   }

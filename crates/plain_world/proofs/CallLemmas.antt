@@ -36,15 +36,20 @@ at-turn p i log a m at = record {
   tails = at.tails;
   young = at.young;
   allowed = at.allowed;
+  lists = record { owned = at.lists.owned; room = at.lists.room; counts = at.lists.counts };
 }
 
--- the mutators keep their places
+-- the mutators keep their places, and the kind of blocks to fill
 pub places-same : (a b : PlainRow) (m : ℕ) (e : Effect) → IsIdle a → Goes (record a { turn = m }) e b
     → (length b.mutators.items ≡ length a.mutators.items) × (map (λ x. x.number) b.mutators.items ≡ map (λ x. x.number) a.mutators.items)
+    × (b.fill ≡ a.fill)
 places-same a b m e idle goes =
     let now = goes.steps idle.some.epoch idle.some.ideal idle.some.log (at-turn idle.some.epoch idle.some.ideal idle.some.log a m idle.some.at) in
-    let same = now.at.numbers ∙ sym idle.some.at.numbers in
-    (sym (length-map b.mutators.items (λ x. x.number)) ∙ ap length same ∙ length-map a.mutators.items (λ x. x.number), same)
+    let same = now.at.numbers ∙ sym idle.some.at.numbers in (
+      sym (length-map b.mutators.items (λ x. x.number)) ∙ ap length same ∙ length-map a.mutators.items (λ x. x.number),
+      same,
+      now.at.fill ∙ sym idle.some.at.fill,
+    )
 
 -- and the plan its rules
 pub young-same : (a b : PlainRow) (m : ℕ) (e : Effect) → IsIdle a → Goes (record a { turn = m }) e b → b.young ≡ a.young

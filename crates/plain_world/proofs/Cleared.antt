@@ -20,9 +20,10 @@ use Rattle.object_model.proofs.QuietStores.{quiet-order, quiet-models}
 use Rattle.object_model.proofs.Representation as standing
 use Rattle.sessions.specs.Plans.{Rules, Reserve}
 use Rattle.sessions.specs.Collecting.{Remembers}
-use Rattle.sessions.specs.Fitting.{allowance_of, free_of, large_of}
+use Rattle.sessions.specs.Fitting.{allowance_of, free_of, large_of, counts_of}
 use Rattle.sessions.specs.Grants.{allowance_in, counts_with}
 use Rattle.plain_world.specs.Beginnings.{without_stop}
+use Rattle.plain_world.proofs.NoteLemmas.{KeepsBlocks}
 
 module _ (s : HeapState) (lawful : IsLawful s) where
   order : IsWellFormed s
@@ -110,6 +111,17 @@ module _ (s : HeapState) (lawful : IsLawful s) where
   large-same : large_of (without_stop s) ≡ large_of s
   large-same = ap (λ f. count_by f (range_with_len 0 s.blocks))
       (fun_ext (λ k. ap (λ b. b || has_kind (without_stop s) k kinds.LargeTail) (kinds-same k kinds.LargeHead) ∙ ap (λ b. has_kind s k kinds.LargeHead || b) (kinds-same k kinds.LargeTail)))
+
+  pub counts-cleared : counts_of (without_stop s) ≡ counts_of s
+  counts-cleared = ap (λ free. counts_with s.blocks free (large_of (without_stop s))) free-same ∙ ap (counts_with s.blocks (free_of s)) large-same
+
+  pub keeps-blocks : KeepsBlocks s (without_stop s).words
+  keeps-blocks = record {
+    words = keeps.block_words;
+    after = frames.held-after s (without_stop s).words keeps;
+    before = frames.held-before s (without_stop s).words keeps;
+    sizes = frames.size-after s (without_stop s).words keeps;
+  }
 
   pub allowance-cleared : (r : Reserve) → allowance_of r (without_stop s) ≡ allowance_of r s
   allowance-cleared r = ap (λ free. allowance_in r (counts_with s.blocks free (large_of (without_stop s)))) free-same

@@ -1,16 +1,24 @@
 -- The end of an epoch of a world.
-use Rattle.std.proofs.Common.{◌≡◌, refl, sym, ◌∙◌, ap, subst, ℕ, suc, ◌+◌, ◌<◌, inl, inr, arith, List, [], ◌∷◌, length, map}
+use Rattle.std.proofs.Common.{◌≡◌, ◌≢◌, ◌≤◌, ◌%◌, ◌&&◌, ◌||◌, false, nat_eq, nat_lt, refl, sym, ◌∙◌, ap, subst, ℕ, suc, ◌+◌, ◌<◌, inl, inr, arith, List, [], ◌∷◌, length, map}
 use Rattle.std.specs.Prelude.{Some, None, Option, slice_get, sum_by, count_by}
 use Rattle.std.specs.List.{Contains, range_with_len}
 use Rattle.std.proofs.Math.Path.{fun_ext}
+use Rattle.std.proofs.lemmas.Bool.{cases_lt, le-ltb, false_from_ne_true}
+use Rattle.std.proofs.lemmas.List.{length-map}
 use Rattle.std.proofs.lemmas.List.Sums.{sum_by-cons}
-use Rattle.heap_layout.specs.Zones.{block_at}
+use Rattle.heap_layout.specs.Blocks.{kind_code}
+use Rattle.heap_layout.specs.declared.block.Kind.{Kind}
+use Rattle.heap_layout.specs.Zones.{block_at, row_words}
 use Rattle.heap_layout.specs.declared.block.Kind.TheVariants as kinds
 use Rattle.ideal_heap.specs.Ideal.{IdealHeap}
-use Rattle.object_model.specs.Objects.{HeapState, state_of, with_words, word_at, HasKind, owner_at, IsHeld, size_at}
+use Rattle.object_model.specs.Objects.{HeapState, state_of, with_words, word_at, block_word, has_kind, HasKind, owner_at, IsHeld, size_at}
 use Rattle.object_model.specs.Graphs.{MutatorState, numbers_of, Represents, PointsTo, register_at, AreRegisters}
 use Rattle.object_model.proofs.Frames.{same-layout}
-use Rattle.sessions.specs.Fitting.{free_of}
+use Rattle.object_model.proofs.OneKind.{one-kind}
+use Rattle.ideal_heap.specs.Runs.{Entry}
+use Rattle.sessions.specs.Plans.{Rules}
+use Rattle.sessions.specs.Grants.{BlockCounts, counts_with}
+use Rattle.sessions.specs.Fitting.{free_of, large_of, counts_of}
 use Rattle.sessions.specs.Sessions.{Stopped}
 use Rattle.mutator_core.specs.declared.state.Local.{Local}
 use Rattle.mutator_core.specs.declared.state.LogEntry.{LogEntry}
@@ -22,6 +30,7 @@ use Rattle.mutator_core.specs.Guards.{allowance}
 use Rattle.mutator_core.specs.Epochs.{IsOwned, IsMade}
 use Rattle.mutator_core.specs.Tickets.{AreCounted, tickets_in, tickets_below, taken_by, smaller}
 use Rattle.mutator_core.specs.Closing.{GivesBack}
+use Rattle.mutator_core.proofs.Sums.{free-most}
 use Rattle.mutator_core.proofs.Lists.{contains-cases, contains-none}
 use Rattle.mutator_core.proofs.Fills.{owned-owner}
 use Rattle.mutator_core.proofs.Places.{place-owner}
@@ -36,10 +45,10 @@ use Rattle.plain_world.specs.declared.plain_row.PlainSeat.{PlainSeat}
 use Rattle.plain_world.specs.declared.plain_row.BlockNote.{BlockNote}
 use Rattle.plain_world.specs.declared.plain_row.BlockNote.TheVariants.{Unowned, Owned}
 use Rattle.plain_world.specs.Rows.{mutator_state, ticket_of}
-use Rattle.plain_world.specs.Notes.{IsNote, IsOwnedNote, AreFilled}
+use Rattle.plain_world.specs.Notes.{FillsTails, IsNote, IsOwnedNote, AreFilled}
 use Rattle.plain_world.specs.Worlds.{HasState, IsAt, IsInEpoch}
 use Rattle.plain_world.proofs.Lists.{get-some, get-below}
-use Rattle.plain_world.proofs.Turns.{seat, note-right, owned-note}
+use Rattle.plain_world.proofs.Turns.{seat, note-right, owned-note, most-blocks, extent}
 use Rattle.plain_world.proofs.Facts as facts
 
 -- the mutator with a number of the list
@@ -144,6 +153,25 @@ module _ (p : Epoch) (i : IdealHeap) (log : List LogEntry) (w : PlainRow) (at : 
       let state : HasState k.1 found.0 (h.locals m) = subst (λ (n : ℕ). HasState k.1 found.0 (h.locals n)) k.3 (at.each k.0 k.1 found.0 k.2 found.1) in
       record { none = state.none; stored = state.stored; used = used filled m }
 
+  counted : AreCounted p (heap_after p log) (local_after_log p log)
+  counted = log-counted p i log at.epoch
+
+  budget : word_at (heap_after p log) 1 ≡ word_at (state_of w.row) 1
+  budget = ap (λ (t : HeapState). word_at t 1) (sym at.heap)
+
+  -- what the mutators have of tickets is what their seats have
+  held : (f : Option ℕ → ℕ) → sum_by (λ m. f (local_after_log p log m).ticket) (numbers_of p.mutators) ≡ sum_by (λ x. f x.ticket) w.seats.items
+  held f = ap (sum_by (λ m. f (local_after_log p log m).ticket)) (sym at.numbers)
+      ∙ sum-seats (λ m. f (local_after_log p log m).ticket) (λ x. f x.ticket) w.mutators.items w.seats.items at.seats (λ k m x is there. ap f (at.each k m x is there).ticket)
+
+  -- the tickets drawn are the Free blocks taken and the unused tickets
+  pub tickets-now : free_of p.before + sum_by (λ x. tickets_in x.ticket) w.seats.items ≡ free_of (heap_after p log) + word_at (state_of w.row) 1
+  tickets-now =
+      let taken : ℕ = sum_by (λ m. taken_by (local_after_log p log m)) (numbers_of p.mutators) in
+      let both : sum_by (λ m. taken_by (local_after_log p log m) + tickets_in (local_after_log p log m).ticket) (numbers_of p.mutators) ≡ taken + sum_by (λ m. tickets_in (local_after_log p log m).ticket) (numbers_of p.mutators) =
+      sum-both (λ m. taken_by (local_after_log p log m)) (λ m. tickets_in (local_after_log p log m).ticket) (numbers_of p.mutators) in
+      totals (free_of p.before) (free_of (heap_after p log)) (free_of (heap_after p log)) taken _ _ _ _ _ counted.free refl both counted.budget (held tickets_in) budget
+
   module _ (new : HeapState) (gives : GivesBack (state_of w.row) new) where
     gives-after : GivesBack (heap_after p log) new
     gives-after = subst (λ (t : HeapState). GivesBack t new) at.heap gives
@@ -159,23 +187,8 @@ module _ (p : Epoch) (i : IdealHeap) (log : List LogEntry) (w : PlainRow) (at : 
         (fun_ext (λ k. back.kind-same p at.epoch.ready h _ (facts.end p i log w at).set (facts.moment p i log w at) new.words (subst (GivesBack (heap_after p log)) same gives-after) k kinds.Free)) in
         ap free_of same ∙ e
 
-    counted : AreCounted p (heap_after p log) (local_after_log p log)
-    counted = log-counted p i log at.epoch
-
-    budget : word_at (heap_after p log) 1 ≡ word_at (state_of w.row) 1
-    budget = ap (λ (t : HeapState). word_at t 1) (sym at.heap)
-
-    -- what the mutators have of tickets is what their seats have
-    held : (f : Option ℕ → ℕ) → sum_by (λ m. f (local_after_log p log m).ticket) (numbers_of p.mutators) ≡ sum_by (λ x. f x.ticket) w.seats.items
-    held f = ap (sum_by (λ m. f (local_after_log p log m).ticket)) (sym at.numbers)
-        ∙ sum-seats (λ m. f (local_after_log p log m).ticket) (λ x. f x.ticket) w.mutators.items w.seats.items at.seats (λ k m x is there. ap f (at.each k m x is there).ticket)
-
     pub tickets-drawn : free_of p.before + sum_by (λ x. tickets_in x.ticket) w.seats.items ≡ free_of new + word_at (state_of w.row) 1
-    tickets-drawn =
-        let taken : ℕ = sum_by (λ m. taken_by (local_after_log p log m)) (numbers_of p.mutators) in
-        let both : sum_by (λ m. taken_by (local_after_log p log m) + tickets_in (local_after_log p log m).ticket) (numbers_of p.mutators) ≡ taken + sum_by (λ m. tickets_in (local_after_log p log m).ticket) (numbers_of p.mutators) =
-        sum-both (λ m. taken_by (local_after_log p log m)) (λ m. tickets_in (local_after_log p log m).ticket) (numbers_of p.mutators) in
-        totals (free_of p.before) (free_of new) (free_of (heap_after p log)) taken _ _ _ _ _ counted.free free-same both counted.budget (held tickets_in) budget
+    tickets-drawn = tickets-now ∙ ap (λ n. n + word_at (state_of w.row) 1) (sym free-same)
 
     pub tickets-allowed : free_of p.before + sum_by (λ x. tickets_below (allowance p) x.ticket) w.seats.items ≡ free_of new + smaller (word_at (state_of w.row) 1) (allowance p)
     tickets-allowed =
@@ -184,6 +197,83 @@ module _ (p : Epoch) (i : IdealHeap) (log : List LogEntry) (w : PlainRow) (at : 
         sum-both (λ m. taken_by (local_after_log p log m)) (λ m. tickets_below (allowance p) (local_after_log p log m).ticket) (numbers_of p.mutators) in
         totals (free_of p.before) (free_of new) (free_of (heap_after p log)) taken _ _ _ _ _ counted.free free-same both counted.allowed (held (tickets_below (allowance p)))
         (ap (λ n. smaller n (allowance p)) budget)
+
+-- how many blocks, seats and tickets there are
+pub record AreFew (w : PlainRow) : Type 0 where
+  pub free : w.counts.free ≤ 1024
+  pub seats : length w.seats.items ≤ 16
+  pub unused : sum_by (λ x. tickets_in x.ticket) w.seats.items ≤ 16
+  pub drawn : word_at (state_of w.row) 1 ≤ w.counts.free + sum_by (λ x. tickets_in x.ticket) w.seats.items
+
+tickets-most : (xs : List PlainSeat) → sum_by (λ x. tickets_in x.ticket) xs ≤ length xs
+tickets-most [] = omega arith
+tickets-most (x ∷ xs) =
+    let e : sum_by (λ y. tickets_in y.ticket) (x ∷ xs) ≡ tickets_in x.ticket + sum_by (λ y. tickets_in y.ticket) xs = sum_by-cons (λ y. tickets_in y.ticket) x xs in
+    let one : tickets_in x.ticket ≤ 1 = one-ticket x.ticket in
+    let rest : sum_by (λ y. tickets_in y.ticket) xs ≤ length xs = tickets-most xs in
+    omega arith
+  where
+    one-ticket : (o : Option ℕ) → tickets_in o ≤ 1
+    one-ticket None = omega arith
+    one-ticket (Some t) = omega arith
+
+pub are-few : (p : Epoch) (i : IdealHeap) (log : List LogEntry) (w : PlainRow) → IsAt p i log w → AreFew w
+are-few p i log w at =
+    let free : w.counts.free ≡ free_of p.before = ap (λ (c : BlockCounts). c.free) at.lists.counts in
+    let most : free_of p.before ≤ p.before.blocks = free-most p.before in
+    let blocks : p.before.blocks ≡ w.row.layout.blocks = facts.blocks p i log w at in
+    let few : w.row.layout.blocks ≤ 1024 = most-blocks p i log w at in
+    let seats : length w.seats.items ≡ length w.mutators.items = at.seats in
+    let named : length w.mutators.items ≡ length (numbers_of p.mutators) = sym (length-map w.mutators.items (λ m. m.number)) ∙ ap length at.numbers in
+    let listed : length (numbers_of p.mutators) ≡ length p.mutators = length-map p.mutators (λ m. m.number) in
+    let limit : length p.mutators ≤ 16 = at.epoch.ready.few in
+    let sum : sum_by (λ x. tickets_in x.ticket) w.seats.items ≤ length w.seats.items = tickets-most w.seats.items in
+    let now : free_of p.before + sum_by (λ x. tickets_in x.ticket) w.seats.items ≡ free_of (heap_after p log) + word_at (state_of w.row) 1 = tickets-now p i log w at in
+    record { free = omega arith; seats = omega arith; unused = omega arith; drawn = omega arith }
+
+pub more-words : (w : PlainRow) → IsInEpoch w → 1 < length (state_of w.row).words
+more-words w some =
+    let many : length (state_of w.row).words ≡ row_words w.row.layout.blocks = extent some.epoch some.ideal some.log w some.at in
+    omega arith
+
+-- the large blocks stay
+large-same : (rules : Rules) → FillsTails rules.fill → (ns : List ℕ) (old : HeapState) (i : IdealHeap) (part : List Entry) (new : HeapState) (ms : List MutatorState)
+    → Stopped rules ns old i part new ms → large_of new ≡ large_of old
+large-same rules fills ns old i part new ms stopped =
+    ap (λ n. count_by (λ k. has_kind new k kinds.LargeHead || has_kind new k kinds.LargeTail) (range_with_len 0 n)) stopped.blocks
+    ∙ ap (λ f. count_by f (range_with_len 0 old.blocks)) (fun_ext (λ k.
+    ap (λ b. b || has_kind new k kinds.LargeTail) (same k kinds.LargeHead (omega arith) (omega arith))
+    ∙ ap (λ b. has_kind old k kinds.LargeHead || b) (same k kinds.LargeTail (omega arith) (omega arith))))
+  where
+    -- a kind that is neither Free nor one that mutators fill
+    same : (k : ℕ) (kind : Kind) → kind_code kind ≢ 0 → 2 < kind_code kind → has_kind new k kind ≡ has_kind old k kind
+    same k kind some other = elim (cases_lt k old.blocks) as (λ _. has_kind new k kind ≡ has_kind old k kind) [
+      | inr past ↦ (let none : nat_lt k old.blocks ≡ false = le-ltb k old.blocks past in
+          ap (λ n. nat_lt k n && nat_eq (block_word new k % 256) (kind_code kind)) stopped.blocks
+          ∙ ap (λ b. b && nat_eq (block_word new k % 256) (kind_code kind)) none ∙ ap (λ b. b && nat_eq (block_word old k % 256) (kind_code kind)) (sym none))
+      | inl there ↦ elim (stopped.in_block k there) as (λ _. has_kind new k kind ≡ has_kind old k kind) [
+        | inr word ↦ ap (λ n. nat_lt k n && nat_eq (block_word new k % 256) (kind_code kind)) stopped.blocks
+            ∙ ap (λ v. nat_lt k old.blocks && nat_eq (v % 256) (kind_code kind)) word
+        | inl taken ↦ (
+            let fill : kind_code rules.fill ≤ 2 = elim fills as (λ _. kind_code rules.fill ≤ 2) [ inl bump ↦ subst (λ f. kind_code f ≤ 2) (sym bump) (omega arith) | inr young ↦ subst (λ f. kind_code f ≤ 2) (sym young) (omega arith) ] in
+            false_from_ne_true (has_kind new k kind) (λ is. let e : kind_code kind ≡ kind_code rules.fill = one-kind new k kind rules.fill is taken.1 in omega arith)
+            ∙ sym (false_from_ne_true (has_kind old k kind) (λ is. some (one-kind old k kind kinds.Free is taken.0))))
+      ]
+    ]
+
+-- the counts after the epoch
+pub counts-after : (p : Epoch) (i : IdealHeap) (log : List LogEntry) (w : PlainRow) (at : IsAt p i log w) (new : HeapState) → GivesBack (state_of w.row) new
+    → AreFilled w.notes.items → (free : ℕ) → free + word_at (state_of w.row) 1 ≡ w.counts.free + sum_by (λ x. tickets_in x.ticket) w.seats.items
+    → counts_with w.counts.blocks free w.counts.large ≡ counts_of new
+counts-after p i log w at new gives filled free is =
+    let stopped = ended p i log w at new gives filled in
+    let before : w.counts.free ≡ free_of p.before = ap (λ (c : BlockCounts). c.free) at.lists.counts in
+    let blocks : w.counts.blocks ≡ new.blocks = ap (λ (c : BlockCounts). c.blocks) at.lists.counts ∙ sym stopped.blocks in
+    let large : w.counts.large ≡ large_of new = ap (λ (c : BlockCounts). c.large) at.lists.counts
+    ∙ sym (large-same p.rules (subst FillsTails at.fill at.tails) (numbers_of p.mutators) p.before i (history_of p log) new (map mutator_state w.mutators.items) stopped) in
+    let drawn : free_of p.before + sum_by (λ x. tickets_in x.ticket) w.seats.items ≡ free_of new + word_at (state_of w.row) 1 = tickets-drawn p i log w at new gives in
+    let left : free ≡ free_of new = omega arith in
+    ap (λ n. counts_with n free w.counts.large) blocks ∙ ap (λ n. counts_with new.blocks n w.counts.large) left ∙ ap (counts_with new.blocks (free_of new)) large
 
 -- mutators with which a heap represents an ideal heap may use it
 pub may-use : (s : HeapState) (ms : List MutatorState) (i : IdealHeap) → Represents s ms i → MayUse s ms

@@ -129,6 +129,8 @@ module _ (a b : PlainRow) (draws : DrawsTicket a b) (ready : IsReady a) (none : 
         fill = ap (λ w. w.fill) draws.rest;
         young = ap (λ w. w.young) draws.rest;
         allowed = ap (λ w. w.allowance) draws.rest;
+        owned = ap (λ w. w.owned) draws.rest;
+        counts = ap (λ w. w.counts) draws.rest;
         mutator = (stepping.mutator p i log a at ready.turn).0;
         seat = record { ticket = Some (word_at (state_of a.row) 1); block = block_of (seat_at_turn a) };
         mutators = record {

@@ -373,6 +373,8 @@ module _ (p : Epoch) (i : IdealHeap) (log : List LogEntry) (a : PlainRow) (at : 
     fill = ap (λ w. w.fill) rest;
     young = ap (λ w. w.young) rest;
     allowed = ap (λ w. w.allowance) rest;
+    owned = ap (λ w. w.owned) rest;
+    counts = ap (λ w. w.counts) rest;
     mutator = (stepping.mutator p i log a at turn).0;
     seat = (stepping.seat p i log a at turn).0;
     mutators = record { len = ap (λ w. length w.mutators.items) rest; here = ap (λ w. slice_get w.mutators.items a.turn) rest ∙ (stepping.mutator p i log a at turn).1; others = λ k other. ap (λ w. slice_get w.mutators.items k) rest };
@@ -396,6 +398,8 @@ module _ (p : Epoch) (i : IdealHeap) (log : List LogEntry) (a : PlainRow) (at : 
     fill = sets.fill;
     young = sets.young;
     allowed = sets.allowance;
+    owned = sets.owned;
+    counts = sets.counts;
     mutator = record sets.mutator { registers = slice_set sets.mutator.registers d v };
     seat = (stepping.seat p i log a at turn).0;
     mutators = sets.mutators;

@@ -17,7 +17,7 @@ use Rattle.plain_world.specs.declared.plain_row.PlainRow.{PlainRow}
 use Rattle.plain_world.specs.declared.plain_row.PlainSeat.{PlainSeat}
 use Rattle.plain_world.specs.Rows.{IsTurn, ChangesAt, number_of, number_at_turn, seat_at_turn, block_of}
 use Rattle.plain_world.specs.Notes.{FillsTails, HasNotes, IsRegionOf}
-use Rattle.plain_world.specs.Worlds.{IsAt, HasState}
+use Rattle.plain_world.specs.Worlds.{IsAt, HasState, HasLists}
 use Rattle.plain_world.proofs.Lists.{get-some, get-below, one-element, get-map}
 
 -- two lists that differ at one place, and a function that does not see it
@@ -44,6 +44,7 @@ pub record Follows (p : Epoch) (log : List LogEntry) (a b : PlainRow) (k : Machi
   pub fill : b.fill ≡ a.fill
   pub young : b.young ≡ a.young
   pub allowed : b.allowance ≡ a.allowance
+  pub lists : HasLists p a → HasLists p b
   pub mutator : Mutator
   pub seat : PlainSeat
   pub mutators : ChangesAt a.mutators.items b.mutators.items a.turn mutator
@@ -128,4 +129,5 @@ module _ (p : Epoch) (i : IdealHeap) (log : List LogEntry) (a : PlainRow) (at : 
     tails = subst FillsTails (sym up.fill) at.tails;
     young = up.young ∙ at.young;
     allowed = up.allowed ∙ at.allowed;
+    lists = up.lists at.lists;
   }

@@ -39,6 +39,7 @@ use Rattle.plain_world.specs.Worlds.{IsAt, IsInEpoch, IsReady, HasRoom, HasState
 use Rattle.plain_world.specs.Steps.{AllocatesIn, Lacks, IsUsed, IsRegion, Offers}
 use Rattle.plain_world.specs.SeatLaws.{append-nil, goes-nothing}
 use Rattle.plain_world.proofs.Lists.{one-element}
+use Rattle.plain_world.proofs.Owning.{lists-kept, lists-moved, listed-noted}
 use Rattle.plain_world.proofs.Stepping as stepping
 use Rattle.plain_world.proofs.Facts as facts
 use Rattle.plain_world.proofs.Turns as turns
@@ -386,6 +387,7 @@ module _ (a b : PlainRow) (block size : ℕ) (region : Region) (note : slice_get
       tails = subst FillsTails (sym returns.plan.fill) at.tails;
       young = returns.plan.young ∙ at.young;
       allowed = returns.plan.allowance ∙ at.allowed;
+      lists = lists-kept p a b at.lists returns.notes returns.owned returns.plan.counts (ap (λ r. r.layout.blocks) returns.row);
     }
 
   seat-same : seat_at_turn b ≡ Some seat
@@ -448,6 +450,8 @@ module _ (a b : PlainRow) (block least size : ℕ) (note : slice_get a.notes.ite
       tails = subst FillsTails (sym marks.plan.fill) at.tails;
       young = marks.plan.young ∙ at.young;
       allowed = marks.plan.allowance ∙ at.allowed;
+      lists = lists-moved p a b at.lists (listed-noted a.notes.items b.notes.items a.owned.items block least size note marks.notes at.lists.owned)
+          marks.owned marks.plan.counts (ap (λ r. r.layout.blocks) marks.row);
     }
 
   pub noted-goes : Goes a nothing b

@@ -1,6 +1,7 @@
 pub mod Lists
 pub mod Elements
 pub mod Facts
+pub mod Owning
 pub mod NoteLemmas
 pub mod Following
 pub mod Stepping
@@ -27,6 +28,8 @@ pub mod Begun
 pub mod Storing
 pub mod LoggedStores
 pub mod GivingBack
+pub mod KeptNotes
+pub mod PlacedNotes
 pub mod Closed
 pub mod StopWords
 pub mod UserLists

@@ -43,6 +43,7 @@ use Rattle.plain_world.proofs.Facts as facts
 use Rattle.plain_world.proofs.Stepping as stepping
 use Rattle.plain_world.proofs.Stepping.{Updates}
 use Rattle.plain_world.proofs.Following.{at-follows}
+use Rattle.plain_world.proofs.Owning.{lists-kept}
 use Rattle.plain_world.proofs.Entering as entering
 use Rattle.plain_world.proofs.Storing as storing
 
@@ -119,6 +120,7 @@ module _ (p : Epoch) (i : IdealHeap) (log : List LogEntry) (a b : PlainRow) (at 
         fill = up.fill;
         young = up.young;
         allowed = up.allowed;
+        lists = λ lists. lists-kept p a b lists up.notes up.owned up.counts (ap (λ (t : HeapState). t.blocks) words ∙ ap (λ (t : HeapState). t.blocks) (sym at.heap));
         mutator = up.mutator;
         seat = up.seat;
         mutators = up.mutators;

@@ -40,6 +40,7 @@ use Rattle.plain_world.specs.Notes.{FillsTails, IsOwnedNote, HasNotes, IsRegionO
 use Rattle.plain_world.specs.Worlds.{HasState, IsAt, HasRoom, Continues}
 use Rattle.plain_world.specs.Steps.{Lacks}
 use Rattle.plain_world.proofs.Lists.{one-element}
+use Rattle.plain_world.proofs.Owning.{lists-moved, listed-moved}
 use Rattle.plain_world.proofs.Facts as facts
 use Rattle.plain_world.proofs.Turns as turns
 use Rattle.plain_world.proofs.Stepping as stepping
@@ -233,6 +234,9 @@ module _ (a b : PlainRow) (d refs nums : ℕ) (n : Name) (born : IsBorn a b d n 
       fill = born.fill;
       young = born.young;
       allowed = born.allowance;
+      lists = λ lists. lists-moved p a b lists (listed-moved a.notes.items b.notes.items a.owned.items born.block m m born.region
+          (record { next = born.region.next + size_of refs nums; end = born.region.end }) born.was born.notes lists.owned) born.owned born.counts
+          (ap (λ (t : HeapState). t.blocks) words-are ∙ ap (λ (t : HeapState). t.blocks) (sym at.heap));
       mutator = record born.mutator { births = born.mutator.births + 1; registers = slice_set born.mutator.registers d x };
       seat = (stepping.seat p i log a at has.turn).0;
       mutators = born.mutators;

@@ -30,6 +30,7 @@ use Rattle.std.proofs.lemmas.List.{length-map}
 use Rattle.plain_world.specs.Notes.{HasNotes, IsRegionOf}
 use Rattle.plain_world.specs.Worlds.{IsAt, HasState}
 use Rattle.plain_world.proofs.Lists.{get-some, get-below, get-map}
+use Rattle.plain_world.proofs.Owning.{lists-kept}
 use Rattle.plain_world.proofs.NoteLemmas as notes
 use Rattle.plain_world.proofs.NoteLemmas.{KeepsBlocks}
 use Rattle.plain_world.proofs.Facts as facts
@@ -41,6 +42,8 @@ pub record Updates (a b : PlainRow) (l' : Local) : Type 0 where
   pub fill : b.fill ≡ a.fill
   pub young : b.young ≡ a.young
   pub allowed : b.allowance ≡ a.allowance
+  pub owned : b.owned ≡ a.owned
+  pub counts : b.counts ≡ a.counts
   pub mutator : Mutator
   pub seat : PlainSeat
   pub mutators : ChangesAt a.mutators.items b.mutators.items a.turn mutator
@@ -134,6 +137,7 @@ module _ (p : Epoch) (i : IdealHeap) (log : List LogEntry) (a : PlainRow) (at : 
         fill = up.fill;
         young = up.young;
         allowed = up.allowed;
+        lists = λ lists. lists-kept p a b lists up.notes up.owned up.counts (ap (λ (t : HeapState). t.blocks) words ∙ ap (λ (t : HeapState). t.blocks) (sym at.heap));
         mutator = up.mutator;
         seat = up.seat;
         mutators = up.mutators;

@@ -19,8 +19,8 @@ use Rattle.object_model.proofs.Frames as frames
 use Rattle.object_model.proofs.Marks.{mark-same}
 use Rattle.sessions.specs.Plans.{Rules}
 use Rattle.sessions.specs.Collecting.{is_logged_under}
-use Rattle.sessions.specs.Fitting.{LiesInHole, LiesInTail, LiesInLineHole, IsTail, IsLineHole, IsFreeCell, class_of, allowance_of, free_of}
-use Rattle.sessions.specs.Sessions.{Stopped, IsBirth, StoresInto}
+use Rattle.sessions.specs.Fitting.{HasHole, LiesInHole, LiesInTail, LiesInLineHole, IsTail, IsLineHole, IsFreeCell, class_of, allowance_of, free_of}
+use Rattle.sessions.specs.Sessions.{Stopped, IsBirth, IsPacked, StoresInto}
 use Rattle.plain_world.specs.Beginnings.{without_stop}
 use Rattle.plain_world.proofs.Cleared as cleared
 
@@ -125,6 +125,27 @@ module _ (s : HeapState) (lawful : IsLawful s) where
   hole-before kinds.LargeTail k from size lies = lies
   hole-before kinds.Kept k from size lies = lies
 
+  hole-start-before : (fill : Kind) (k at size : ℕ) → HasHole fill t k at size → HasHole fill s k at size
+  hole-start-before kinds.Bump k at size has = (kind-before k kinds.Bump has.0, tail-before k at has.1, has.2)
+  hole-start-before kinds.Young k at size has = (kind-before k kinds.Young has.0, tail-before k at has.1, has.2)
+  hole-start-before kinds.Cells k at size has =
+      (kind-before k kinds.Cells has.0, cell-before k at has.1, subst (λ (c : ℕ). class_of size ≡ Some c) (class-same k) has.2)
+  hole-start-before kinds.Immix k at size has = (
+    kind-before k kinds.Immix has.0,
+    record {
+      line = has.1.line;
+      len = has.1.len;
+      start = has.1.start;
+      hole = line-hole-before k has.1.line has.1.len has.1.hole;
+      room = has.1.room;
+    },
+  )
+  hole-start-before kinds.Free k at size has = has
+  hole-start-before kinds.Mature k at size has = has
+  hole-start-before kinds.LargeHead k at size has = has
+  hole-start-before kinds.LargeTail k at size has = has
+  hole-start-before kinds.Kept k at size has = has
+
   birth-before : (rules : Rules) (part : List Entry) (new : HeapState) (a : ℕ) → IsBirth rules t part new a → IsBirth rules s part new a
   birth-before rules part new a birth = record {
     entry = birth.entry;
@@ -133,6 +154,16 @@ module _ (s : HeapState) (lawful : IsLawful s) where
           | inl free ↦ inl (kind-before (block_at new.blocks a) kinds.Free free)
           | inr hole ↦ inr (hole-before rules.fill (block_at new.blocks a) (offset_at new.blocks a) (size_at new a) hole)
         ];
+    packed = elim birth.packed as (λ _. IsPacked rules.fill s new a) [
+      | inl cells ↦ inl cells
+      | inr other ↦ elim other as (λ _. IsPacked rules.fill s new a) [
+        | inl hole ↦ inr (inl (hole-start-before rules.fill (block_at new.blocks a) (offset_at new.blocks a) (size_at new a) hole))
+        | inr rest ↦ elim rest as (λ _. IsPacked rules.fill s new a) [
+          | inl free ↦ inr (inr (inl (kind-before (block_at new.blocks a) kinds.Free free.0, free.1)))
+          | inr behind ↦ inr (inr (inr behind))
+        ]
+      ]
+    ];
     cell = birth.cell;
     unclaimed = birth.unclaimed;
     unmarked = birth.unmarked;

@@ -33,6 +33,7 @@ use Rattle.plain_world.specs.Notes.{FillsTails, IsNote, IsOwnedNote, HasNotes, I
 use Rattle.plain_world.specs.Changes.{TakesBlock}
 use Rattle.plain_world.specs.Worlds.{IsAt, HasState, Continues}
 use Rattle.plain_world.proofs.Lists.{one-element}
+use Rattle.plain_world.proofs.Owning.{lists-taken}
 use Rattle.plain_world.proofs.Stepping as stepping
 use Rattle.plain_world.proofs.Turns as turns
 
@@ -289,6 +290,8 @@ module _ (p : Epoch) (i : IdealHeap) (log : List LogEntry) (a b : PlainRow) (at 
     tails = subst FillsTails (sym gains.takes.plan.fill) at.tails;
     young = gains.takes.plan.young ∙ at.young;
     allowed = gains.takes.plan.allowance ∙ at.allowed;
+    lists = lists-taken p a b block m region at.lists (λ was. gains.unowned was.owner was.region was.note) gains.takes.notes gains.takes.owned gains.takes.room
+        gains.takes.plan.counts (ap (λ (t : HeapState). t.blocks) gains.takes.words);
   }
 
   pub continues : Continues p i log m (effects.takes (block ∷ [])) b

@@ -74,10 +74,11 @@ AddsEntries old es new = (p : Epoch) (i : IdealHeap) (part : List Entry) → Has
 abbrev pub AddsEntry : {P : Type 0} → PlainWorld P → ℕ → Command → Reply → PlainWorld P → Type 0
 AddsEntry old m command reply new = AddsEntries old (entry (number_at old m) command reply ∷ []) new
 
--- the same mutators, at the same places
+-- the same mutators, at the same places, and the same kind of blocks to fill
 pub record SamePlaces {P : Type 0} (old new : PlainWorld P) : Type 0 where
   pub count : places_of new ≡ places_of old
   pub numbers : map (λ m. m.number) new.row.mutators.items ≡ map (λ m. m.number) old.row.mutators.items
+  pub fill : new.row.fill ≡ old.row.fill
 
 -- the plan is generational
 abbrev pub is_generational : {P : Type 0} → PlainWorld P → Bool

@@ -1,5 +1,5 @@
 -- What single changes of the row leave as it was.
-use Rattle.std.specs.Prelude.{◌≡◌, ◌≢◌, ℕ, ◌+◌, ◌<◌, ◌≤◌, ◌⊎◌, Some, None, Option, slice_get, slice_set}
+use Rattle.std.specs.Prelude.{◌≡◌, ◌≢◌, ℕ, ◌+◌, ◌<◌, ◌≤◌, ◌⊎◌, Some, None, Option, [], ◌∷◌, ◌++◌, slice_get, slice_set, vec_capacity}
 use Rattle.heap_layout.specs.Zones.{first, BlockWords, block_start}
 use Rattle.heap_layout.specs.Blocks.{code_of}
 use Rattle.heap_layout.specs.declared.region.Region.{Region}
@@ -19,12 +19,13 @@ pub record StoresWord (old new : PlainRow) (at v : ℕ) : Type 0 where
   pub rest : new ≡ record old { row = new.row }
   pub words : state_of new.row ≡ with_words (state_of old.row) (slice_set (state_of old.row).words at v)
 
--- whose turn it is, the plan's kind and ages, and the allowance stay
+-- whose turn it is, the plan's kind and ages, the allowance and the counts stay
 pub record KeepsPlan (old new : PlainRow) : Type 0 where
   pub turn : new.turn ≡ old.turn
   pub fill : new.fill ≡ old.fill
   pub young : new.young ≡ old.young
   pub allowance : new.allowance ≡ old.allowance
+  pub counts : new.counts ≡ old.counts
 
 -- The mutator takes the block: it becomes its owner and allocates in the region of the block. It has this ticket then.
 pub record TakesBlock (old new : PlainRow) (block : ℕ) (region : Region) (ticket : Option ℕ) : Type 0 where
@@ -34,6 +35,8 @@ pub record TakesBlock (old new : PlainRow) (block : ℕ) (region : Region) (tick
       (first (state_of old.row).blocks BlockWords + block)
       (code_of (record { kind = old.fill; class = 0; owner = number_at_turn old })))
   pub notes : ChangesAt old.notes.items new.notes.items block (Owned (number_at_turn old) region)
+  pub owned : new.owned.items ≡ old.owned.items ++ block ∷ []
+  pub room : vec_capacity new.owned ≡ vec_capacity old.owned
   pub seats : ChangesAt old.seats.items new.seats.items old.turn (record { ticket = ticket; block = Some block })
 
 -- the note of the block becomes this one; all else stays
@@ -43,6 +46,7 @@ pub record NotesBlock (old new : PlainRow) (block : ℕ) (note : BlockNote) : Ty
   pub row : new.row ≡ old.row
   pub seats : new.seats ≡ old.seats
   pub notes : ChangesAt old.notes.items new.notes.items block note
+  pub owned : new.owned ≡ old.owned
 
 -- the mutator allocates in this block of its own; all else stays
 pub record ReturnsTo (old new : PlainRow) (block : ℕ) : Type 0 where
@@ -50,6 +54,7 @@ pub record ReturnsTo (old new : PlainRow) (block : ℕ) : Type 0 where
   pub mutators : new.mutators ≡ old.mutators
   pub row : new.row ≡ old.row
   pub notes : new.notes ≡ old.notes
+  pub owned : new.owned ≡ old.owned
   pub seats : ChangesAt old.seats.items new.seats.items old.turn
       (record { ticket = ticket_of (seat_at_turn old); block = Some block })
 
@@ -83,6 +88,7 @@ pub record Advances (old new : PlainRow) (size block offset : ℕ) : Type 0 wher
   pub was : slice_get old.notes.items block ≡ Some (Owned (number_at_turn old) region)
   pub begins : region.next ≡ offset
   pub room : region.next + size ≤ region.end
+  pub owned : new.owned ≡ old.owned
   pub notes : ChangesAt old.notes.items new.notes.items block
       (Owned (number_at_turn old) (record { next = region.next + size; end = region.end }))
 
@@ -92,6 +98,7 @@ pub record CountsObject (old new : PlainRow) (d address : ℕ) (n : Name) : Type
   pub row : new.row ≡ old.row
   pub seats : new.seats ≡ old.seats
   pub notes : new.notes ≡ old.notes
+  pub owned : new.owned ≡ old.owned
   pub mutator : Mutator
   pub was : mutator_at_turn old ≡ Some mutator
   pub mutators : ChangesAt old.mutators.items new.mutators.items old.turn (record mutator {

@@ -1,13 +1,21 @@
 -- The notes on blocks, against the heap.
 use Rattle.heap_layout.specs.declared.layout.TheConstants.{BLOCK_WORDS}
-use Rattle.std.specs.Prelude.{◌≡◌, ℕ, ◌+◌, ◌<◌, ◌≤◌, ◌⊎◌, List, length, Some, slice_get}
+use Rattle.std.specs.Prelude.{◌≡◌, ℕ, ◌+◌, ◌-◌, ◌<◌, ◌≤◌, ◌⊎◌, Bool, List, [], length, nat_eq, Some, slice_get, slice_set, vec_capacity}
+use Rattle.std.specs.List.{Contains, IsDistinct}
 use Rattle.heap_layout.specs.declared.block.Kind.{Kind}
 use Rattle.heap_layout.specs.declared.block.Kind.TheVariants as kinds
 use Rattle.heap_layout.specs.declared.region.Region.{Region}
-use Rattle.object_model.specs.Objects.{HeapState, HasKind, owner_at}
-use Rattle.sessions.specs.Fitting.{IsTail, HasHole}
+use Rattle.heap_layout.specs.Zones.{first, BlockWords, block_at, offset_at}
+use Rattle.heap_layout.specs.Blocks.{code_of}
+use Rattle.object_model.specs.Objects.{HeapState, with_words, has_kind, HasKind, owner_at, size_of}
+use Rattle.plan_api.specs.Counting.{session_counts}
+use Rattle.sessions.specs.Fitting.{IsTail, HasHole, counts_of}
+use Rattle.sessions.specs.Plans.{Rules}
+use Rattle.sessions.specs.Sessions.{AddsObject, UsesBlock}
+use Rattle.plain_world.specs.declared.block_notes.BlockNotes.{BlockNotes}
 use Rattle.plain_world.specs.declared.plain_row.BlockNote.{BlockNote}
 use Rattle.plain_world.specs.declared.plain_row.BlockNote.TheVariants.{Unowned, Owned}
+use Rattle.plain_world.specs.Rows.{ChangesAt}
 
 -- mutators fill the tails of blocks of this kind
 abbrev pub FillsTails : Kind → Type 0
@@ -52,3 +60,47 @@ pub record IsRoomIn (notes : List BlockNote) (number size block : ℕ) : Type 0 
   pub note : slice_get notes block ≡ Some (Owned number region)
   pub room : region.next + size ≤ region.end
   pub others : (k owner : ℕ) (r : Region) → slice_get notes k ≡ Some (Owned owner r) → (k ≡ block) ⊎ (0 < r.next)
+
+-- nobody owns a block
+abbrev pub AreUnowned : List BlockNote → Type 0
+AreUnowned notes = (k owner : ℕ) (region : Region) → slice_get notes k ≡ Some (Owned owner region) → ⊥
+
+-- the list has the blocks that mutators own, each once
+pub record ListsOwned (notes : List BlockNote) (owned : List ℕ) : Type 0 where
+  pub differ : IsDistinct nat_eq owned
+  pub listed : (k owner : ℕ) (region : Region) → slice_get notes k ≡ Some (Owned owner region) → Contains owned k
+  pub right : (k : ℕ) → Contains owned k → (owner : ℕ) × (region : Region) × (slice_get notes k ≡ Some (Owned owner region))
+
+-- A block that a mutator owns is given back: it keeps its kind, and its hole is what the region has left.
+pub data GivesBackBlock (fill : Kind) (old new : HeapState) (notes later : List BlockNote) (block : ℕ) : Type 0 where
+  nobody : (least : ℕ) → slice_get notes block ≡ Some (Unowned least) → new ≡ old → later ≡ notes → GivesBackBlock fill old new notes later block
+  given : (owner : ℕ) (region : Region) → slice_get notes block ≡ Some (Owned owner region)
+      → new ≡ with_words old (slice_set old.words (first old.blocks BlockWords + block)
+      (code_of (record { kind = fill; class = 0; owner = 0 })))
+      → ChangesAt notes later block (Unowned (region.end - region.next + 1)) → GivesBackBlock fill old new notes later block
+
+-- The notes are right for a heap between two epochs, whose mutators fill blocks of this kind: nobody owns a block.
+pub record AreNotes (fill : Kind) (s : HeapState) (n : BlockNotes) : Type 0 where
+  pub counts : session_counts n.counts ≡ counts_of s
+  pub notes : HasNotes fill s n.notes.items
+  pub unowned : AreUnowned n.notes.items
+  pub owned : n.owned.items ≡ []
+  pub room : s.blocks ≤ vec_capacity n.owned
+
+-- block k has no hole with room for the size
+abbrev pub LacksHoles : Kind → HeapState → ℕ → ℕ → Type 0
+LacksHoles fill s k size = (at : ℕ) → HasHole fill s k at size → ⊥
+
+-- the hole at this offset of block k has room for the size; each other such hole is in a later block, or later in this one
+pub record IsLowestHole (fill : Kind) (s : HeapState) (k at size : ℕ) : Type 0 where
+  pub hole : HasHole fill s k at size
+  pub lowest : (j from : ℕ) → HasHole fill s j from size → (k < j) ⊎ ((k ≡ j) × (at ≤ from))
+
+-- From `old` to `new` an object was placed at the address, in a block that was Free or in a hole of its block.
+pub record PlacesObject (rules : Rules) (old new : HeapState) (a refs nums block : ℕ) (was_free : Bool) : Type 0 where
+  pub layout : (new.blocks ≡ old.blocks) × (new.number ≡ old.number) × (new.base ≡ old.base)
+  pub object : AddsObject old new a refs nums
+  pub here : block_at old.blocks a ≡ block
+  pub uses : UsesBlock rules old new block (size_of refs nums)
+  pub free : was_free ≡ has_kind old block kinds.Free
+  pub spot : HasKind old block kinds.Free ⊎ HasHole rules.fill old block (offset_at old.blocks a) (size_of refs nums)

@@ -60,6 +60,8 @@ pub record SetsRegister (old new : PlainRow) (d address : ℕ) : Type 0 where
   pub seats : new.seats ≡ old.seats
   pub turn : new.turn ≡ old.turn
   pub notes : new.notes ≡ old.notes
+  pub owned : new.owned ≡ old.owned
+  pub counts : new.counts ≡ old.counts
   pub fill : new.fill ≡ old.fill
   pub young : new.young ≡ old.young
   pub allowance : new.allowance ≡ old.allowance

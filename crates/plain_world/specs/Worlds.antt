@@ -1,5 +1,5 @@
 -- A world of mutators in turns, after steps of the mutator machine.
-use Rattle.std.specs.Prelude.{◌≡◌, ◌≢◌, ℕ, ◌+◌, ◌<◌, Bool, true, false, ◌&&◌, not, nat_eq, if◌then◌else◌, Some, List, [], ◌++◌, map, length, sum_by, slice_get}
+use Rattle.std.specs.Prelude.{◌≡◌, ◌≢◌, ℕ, ◌+◌, ◌<◌, ◌≤◌, Bool, true, false, ◌&&◌, not, nat_eq, if◌then◌else◌, Some, List, [], ◌++◌, map, length, sum_by, slice_get, vec_capacity}
 use Rattle.std.specs.List.{Contains, AllByRecursion, list_any}
 use Rattle.heap_layout.specs.declared.block.Kind.TheVariants as kinds
 use Rattle.ideal_heap.specs.Commands.{is_new}
@@ -7,6 +7,8 @@ use Rattle.ideal_heap.specs.Ideal.{IdealHeap}
 use Rattle.ideal_heap.specs.Runs.{Entry, entry}
 use Rattle.object_model.specs.Objects.{state_of, word_at, block_word, has_kind, HasKind, is_unlogged}
 use Rattle.object_model.specs.Graphs.{numbers_of}
+use Rattle.plan_api.specs.Counting.{session_counts}
+use Rattle.sessions.specs.Fitting.{counts_of}
 use Rattle.mutator_core.specs.declared.state.Local.{Local}
 use Rattle.mutator_core.specs.declared.state.LogEntry.{LogEntry}
 use Rattle.mutator_core.specs.Machine.{Epoch, nothing_unpublished}
@@ -18,7 +20,7 @@ use Rattle.mutator_calls.specs.Effects.{Effect, Answered}
 use Rattle.plain_world.specs.declared.plain_row.PlainRow.{PlainRow}
 use Rattle.plain_world.specs.declared.plain_row.PlainSeat.{PlainSeat}
 use Rattle.plain_world.specs.Rows.{IsTurn, mutator_at_turn, number_at_turn, seat_at_turn, births_of, ticket_of, block_of}
-use Rattle.plain_world.specs.Notes.{FillsTails, HasNotes, IsRegionOf, AreFilled, IsRoomIn}
+use Rattle.plain_world.specs.Notes.{FillsTails, HasNotes, ListsOwned, IsRegionOf, AreFilled, IsRoomIn}
 
 -- The mutator and its seat have the machine's state of the mutator, which has no unpublished object, and no unlog bit
 -- cleared for a store to come.
@@ -28,6 +30,12 @@ pub record HasState (m : Mutator) (x : PlainSeat) (l : Local) : Type 0 where
   pub ticket : l.ticket ≡ x.ticket
   pub none : l.unpublished ≡ nothing_unpublished
   pub stored : l.pending ≡ 0
+
+-- The list has the blocks that mutators own, with room for all blocks. The counts are those of the epoch's beginning.
+pub record HasLists (p : Epoch) (w : PlainRow) : Type 0 where
+  pub owned : ListsOwned w.notes.items w.owned.items
+  pub room : w.row.layout.blocks ≤ vec_capacity w.owned
+  pub counts : session_counts w.counts ≡ counts_of p.before
 
 -- The world is in the epoch p, which began with a heap that represented i, after the steps of the log.
 pub record IsAt (p : Epoch) (i : IdealHeap) (log : List LogEntry) (w : PlainRow) : Type 0 where
@@ -44,6 +52,7 @@ pub record IsAt (p : Epoch) (i : IdealHeap) (log : List LogEntry) (w : PlainRow)
   pub tails : FillsTails w.fill
   pub young : w.young ≡ p.rules.young
   pub allowed : w.allowance ≡ allowance p
+  pub lists : HasLists p w
 
 -- the world is in some epoch
 pub record IsInEpoch (w : PlainRow) : Type 0 where

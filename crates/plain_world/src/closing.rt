@@ -1,13 +1,15 @@
 //! Lists of copies, and the end of an epoch.
 
-ghost use Rattle.std.specs.Prelude.{◌≡◌, ◌<◌, ℕ, IsTrue, replicate, length, IfOk};
+ghost use Rattle.std.specs.Prelude.{◌≡◌, ◌<◌, ◌≤◌, ◌^◌, ℕ, IsTrue, replicate, length, sum_by, IfOk};
+ghost use Rattle.heap_layout.specs.Zones.{row_words};
 ghost use Rattle.heap_layout.specs.Blocks.{is_block_code};
 ghost use Rattle.object_model.specs.Objects.{state_of, block_word};
 ghost use Rattle.object_model.specs.Lawful.{IsWellFormed};
 ghost use Rattle.mutator_core.specs.Closing.{GivesBack};
-ghost use Rattle.plain_world.specs.Notes.{FillsTails, HasNotes};
+ghost use Rattle.mutator_core.specs.Tickets.{tickets_in};
+ghost use Rattle.plain_world.specs.Notes.{FillsTails, HasNotes, ListsOwned, AreUnowned, GivesBackBlock};
 
-use crate::plain_row::BlockNote;
+use crate::plain_row::{BlockNote, PlainSeat};
 use heap_layout::{BlockWord, Kind};
 use object_model::Row;
 use std::alloc::{AllocError, Global};
@@ -23,24 +25,65 @@ pub(crate) fn copies<T: Copy>(alloc: Global, value: T, count: usize) -> Result<V
     Ok(list)
 }
 
-/// The row in which each block that has an owner is given back.
-pub(crate) fn give_back(mut row: Row, notes: &Vec<BlockNote>, fill: Kind) -> Row
-    requires order { IsWellFormed (state_of row) }
-    requires codes { (k : ℕ) → k < (state_of row).blocks
-        → IsTrue (is_block_code (block_word (state_of row) k)) }
+/// Gives the block back, if a mutator owns it. What its region has left is its hole then.
+fn give_back_block(row: &mut Row, notes: &mut Vec<BlockNote>, block: u32, fill: Kind)
+    requires extent { length row.old.words.items ≡ row_words row.old.layout.blocks }
+    requires block { block < row.old.layout.blocks }
     requires tails { FillsTails fill }
-    requires notes { HasNotes fill (state_of row) notes.now.items }
-    ensures { GivesBack (state_of row) (state_of result) }
+    requires notes { HasNotes fill (state_of row.old) notes.old.items }
+    ensures { GivesBackBlock fill (state_of row.old) (state_of row.new) notes.old.items
+        notes.new.items block }
 {
-    for block in 0..row.layout.blocks() {
-        if let BlockNote::Owned { .. } = notes[block as usize] {
-            let word = BlockWord {
-                kind: fill,
-                class: 0,
-                owner: 0,
-            };
-            row.set_block(block, &word);
-        }
+    let BlockNote::Owned { region, .. } = notes[block as usize] else {
+        return;
+    };
+    let word = BlockWord {
+        kind: fill,
+        class: 0,
+        owner: 0,
+    };
+    row.set_block(block, &word);
+    notes[block as usize] = BlockNote::Unowned {
+        least: region.end - region.next + 1,
+    };
+}
+
+/// Gives back the blocks that mutators own: those of the list.
+pub(crate) fn give_back(row: &mut Row, notes: &mut Vec<BlockNote>, owned: &[u32], fill: Kind)
+    requires order { IsWellFormed (state_of row.old) }
+    requires codes { (k : ℕ) → k < (state_of row.old).blocks
+        → IsTrue (is_block_code (block_word (state_of row.old) k)) }
+    requires tails { FillsTails fill }
+    requires notes { HasNotes fill (state_of row.old) notes.old.items }
+    requires owned { ListsOwned notes.old.items owned.now }
+    ensures gives { GivesBack (state_of row.old) (state_of row.new) }
+    ensures notes { HasNotes fill (state_of row.new) notes.new.items }
+    ensures unowned { AreUnowned notes.new.items }
+{
+    for block in owned {
+        give_back_block(row, notes, *block, fill);
     }
-    row
+}
+
+/// 1 for a mutator with a ticket with which it took no block, else 0.
+fn unused(seat: &PlainSeat) -> u32
+    ensures value { result ≡ tickets_in seat.now.ticket }
+    ensures most { result ≤ 1 }
+{
+    match seat.ticket {
+        None => 0,
+        Some(_) => 1,
+    }
+}
+
+/// The number of tickets with which no block was taken.
+pub(crate) fn unused_tickets(seats: &[PlainSeat]) -> u32
+    requires { length seats.now < 2 ^ 32 }
+    ensures { result ≡ sum_by (λ x. tickets_in x.ticket) seats.now }
+{
+    let mut count = 0;
+    for seat in seats {
+        count += unused(seat);
+    }
+    count
 }

@@ -1,6 +1,7 @@
 //! A heap that mutators use in turns, each call to its end: a managed heap as a library.
 #![tactic(auto)]
 
+mod block_notes;
 mod closing;
 mod laws;
 mod plain_row;
@@ -11,6 +12,7 @@ mod users;
 mod words;
 mod world_calls;
 
+pub use block_notes::BlockNotes;
 pub use laws::{
     heaps_represent_ideal_heaps, stops_see_no_stop_word, worlds_follow_ideal_heaps,
     worlds_stay_in_order,
@@ -20,6 +22,8 @@ pub use users::{may_use, new_mutators};
 
 #[cfg(test)]
 mod filling_tests;
+#[cfg(test)]
+mod note_tests;
 #[cfg(test)]
 mod test_twins;
 #[cfg(test)]

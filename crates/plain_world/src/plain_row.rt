@@ -8,6 +8,7 @@ use heap_layout::{Kind, Region};
 use ideal_heap::REGISTERS;
 use mutator_calls::Mutator;
 use object_model::Row;
+use plan_api::BlockCounts;
 
 /// What is known of a block's room in an epoch.
 #[derive(Clone, Copy, Debug)]
@@ -37,6 +38,10 @@ pub struct PlainRow {
     pub(crate) turn: usize,
     // A note for each block.
     pub(crate) notes: Vec<BlockNote>,
+    // The blocks that mutators own, each once. There is room for all blocks.
+    pub(crate) owned: Vec<u32>,
+    // The counts of the blocks as the epoch began.
+    pub(crate) counts: BlockCounts,
     // The kind of the blocks that mutators fill.
     pub(crate) fill: Kind,
     // Whether the plan is generational.

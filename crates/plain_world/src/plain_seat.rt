@@ -61,7 +61,8 @@ impl Seat for PlainRow {
 
     ghost registers_stay = { λ a b s same. ap (λ w. address_at w s) same };
 
-    ghost shapes_stay = { λ a b s shape same has. subst (λ w. HasShape w s shape) (sym same) has };
+    ghost shapes_stay = { λ a b s shape same has.
+        subst (λ w. HasShape w s shape) (sym same) has };
 
     ghost plans_stay = { λ a b same is. subst (λ w. HasAges w) same is };
 

@@ -12,15 +12,15 @@ ghost use Rattle.mutator_core.specs.Machine.{Epoch};
 ghost use Rattle.mutator_core.specs.Closing.{GivesBack};
 ghost use Rattle.object_model.specs.Graphs.{numbers_of};
 ghost use Rattle.plain_world.specs.Rows.{mutator_state};
-ghost use Rattle.plain_world.specs.Notes.{FillsTails};
-ghost use Rattle.plain_world.specs.Calls.{heap_of, mutators_of, is_generational, births_at, ticket_at, budget_word, places_of, HasPlace, IsOpen, HasHistory};
+ghost use Rattle.plain_world.specs.Notes.{FillsTails, AreNotes};
+ghost use Rattle.plain_world.specs.Calls.{heap_of, mutators_of, is_generational, fill_of, births_at, ticket_at, budget_word, places_of, HasPlace, IsOpen, HasHistory};
 ghost use Rattle.plain_world.specs.Beginnings.{MayUse, without_stop, epoch_of};
 ghost use Rattle.plain_world.specs.Endings.{GrantsWithTickets};
 
-use crate::closing::{copies, give_back};
-use crate::plain_row::{BlockNote, PlainRow, PlainSeat};
+use crate::block_notes::BlockNotes;
+use crate::closing::{copies, give_back, unused_tickets};
+use crate::plain_row::{PlainRow, PlainSeat};
 use bitflags::Flags;
-use heap_layout::BLOCK_WORDS;
 use ideal_heap::MAX_MUTATORS;
 use mutator_calls::Mutator;
 use object_model::Heap;
@@ -56,6 +56,7 @@ impl<P: Plan> PlainWorld<P> {
         ensures mutators { IfOk result (λ w. mutators_of w ≡ map mutator_state mutators.items) }
         ensures places { IfOk result (λ w. places_of w ≡ length mutators.items) }
         ensures plan { IfOk result (λ w. is_generational w ≡ P.rules.young) }
+        ensures fill { IfOk result (λ w. fill_of w ≡ P.rules.fill) }
         ensures heap { IfOk result (λ w. heap_of w ≡ without_stop (heap_state heap)) }
         ensures tickets { IfOk result (λ w. (k : ℕ) → ticket_at w k ≡ None) }
         ensures begins { IfOk result (λ w. (i : IdealHeap)
@@ -63,28 +64,61 @@ impl<P: Plan> PlainWorld<P> {
             → HasHistory w (epoch_of P.rules (heap_state heap) (map mutator_state mutators.items))
             i []) }
     {
-        let allowance = P::allowance(&heap);
-        let mut row = heap.into_row();
-        row.words[0] = 0;
-        row.words[1] = 0;
-        let nothing = BlockNote::Unowned {
-            least: BLOCK_WORDS + 1,
-        };
-        let notes = copies(alloc, nothing, row.layout.blocks() as usize)?;
+        let notes = BlockNotes::new(alloc, &heap)?;
+        PlainWorld::begin_with(alloc, heap, mutators, notes)
+    }
+
+    /// Begins an epoch as `begin` does, with what is known of the blocks. Reads no side metadata,
+    /// and takes memory for the mutators alone.
+    ///
+    /// Fails if memory runs out. The heap, the mutators and the notes are lost then.
+    pub fn begin_with(
+        alloc: Global,
+        heap: Heap,
+        mutators: Vec<Mutator>,
+        notes: BlockNotes,
+    ) -> Result<PlainWorld<P>, AllocError>
+        requires tails { FillsTails P.rules.fill }
+        requires few { length mutators.items ≤ MAX_MUTATORS }
+        requires users { MayUse (heap_state heap) (map mutator_state mutators.items) }
+        requires remembers { Remembers P.rules (heap_state heap) }
+        requires notes { AreNotes P.rules.fill (heap_state heap) notes }
+        ensures open { IfOk result (λ w. IsOpen w) }
+        ensures mutators { IfOk result (λ w. mutators_of w ≡ map mutator_state mutators.items) }
+        ensures places { IfOk result (λ w. places_of w ≡ length mutators.items) }
+        ensures plan { IfOk result (λ w. is_generational w ≡ P.rules.young) }
+        ensures fill { IfOk result (λ w. fill_of w ≡ P.rules.fill) }
+        ensures heap { IfOk result (λ w. heap_of w ≡ without_stop (heap_state heap)) }
+        ensures tickets { IfOk result (λ w. (k : ℕ) → ticket_at w k ≡ None) }
+        ensures begins { IfOk result (λ w. (i : IdealHeap)
+            → Represents (heap_state heap) (map mutator_state mutators.items) i
+            → HasHistory w (epoch_of P.rules (heap_state heap) (map mutator_state mutators.items))
+            i []) }
+    {
         let seat = PlainSeat {
             ticket: None,
             block: None,
         };
         let seats = copies(alloc, seat, mutators.len())?;
+        let mut row = heap.into_row();
+        row.words[0] = 0;
+        row.words[1] = 0;
+        let BlockNotes {
+            counts,
+            notes,
+            owned,
+        } = notes;
         let row = PlainRow {
             row,
             mutators,
             seats,
             turn: 0,
             notes,
+            owned,
+            counts,
             fill: P::alloc_kind(),
             young: P::FLAGS.contains(PlanFlags::YOUNG),
-            allowance,
+            allowance: counts.allowance(P::reserve()),
         };
         Ok(PlainWorld {
             row,
@@ -112,7 +146,8 @@ impl<P: Plan> PlainWorld<P> {
     /// words of blocks that nobody owned.
     pub fn close(self) -> (Heap, Vec<Mutator>)
         requires { IsOpen self }
-        ensures stopped { (p : Epoch) (i : IdealHeap) (part : List Entry) → HasHistory self p i part
+        ensures stopped { (p : Epoch) (i : IdealHeap) (part : List Entry)
+            → HasHistory self p i part
             → Stopped p.rules (numbers_of p.mutators) p.before i part
             (heap_state result.0) (map mutator_state result.1.items) }
         ensures mutators { map mutator_state result.1.items ≡ mutators_of self }
@@ -125,14 +160,49 @@ impl<P: Plan> PlainWorld<P> {
         ensures tickets { (p : Epoch) (i : IdealHeap) (part : List Entry)
             → HasHistory self p i part → GrantsWithTickets p self (heap_state result.0) }
     {
+        let (heap, mutators, _) = self.close_with();
+        (heap, mutators)
+    }
+
+    /// Ends the epoch as `close` does, and returns what is known of the blocks for the next one.
+    pub fn close_with(self) -> (Heap, Vec<Mutator>, BlockNotes)
+        requires { IsOpen self }
+        ensures stopped { (p : Epoch) (i : IdealHeap) (part : List Entry)
+            → HasHistory self p i part
+            → Stopped p.rules (numbers_of p.mutators) p.before i part
+            (heap_state result.0) (map mutator_state result.1.items) }
+        ensures mutators { map mutator_state result.1.items ≡ mutators_of self }
+        ensures places { length result.1.items ≡ places_of self }
+        ensures users { MayUse (heap_state result.0) (map mutator_state result.1.items) }
+        ensures remembers { (rules : Rules) → rules.young ≡ is_generational self
+            → Remembers rules (heap_state result.0) }
+        ensures gives { GivesBack (heap_of self) (heap_state result.0) }
+        ensures drawn { (k t : ℕ) → ticket_at self k ≡ Some t → t < budget_word self }
+        ensures tickets { (p : Epoch) (i : IdealHeap) (part : List Entry)
+            → HasHistory self p i part → GrantsWithTickets p self (heap_state result.0) }
+        ensures notes { (p : Epoch) (i : IdealHeap) (part : List Entry)
+            → HasHistory self p i part → AreNotes p.rules.fill (heap_state result.0) result.2 }
+        ensures known { AreNotes (fill_of self) (heap_state result.0) result.2 }
+    {
         let PlainRow {
-            row,
+            mut row,
             mutators,
-            notes,
+            seats,
+            mut notes,
+            mut owned,
+            mut counts,
             fill,
             ..
         } = self.row;
-        let row = give_back(row, &notes, fill);
-        (Heap::from_row(row), mutators)
+        // The Free blocks taken are the tickets drawn but for the unused ones.
+        counts.free = counts.free + unused_tickets(&seats) - row.words[1] as u32;
+        give_back(&mut row, &mut notes, &owned, fill);
+        owned.clear();
+        let notes = BlockNotes {
+            counts,
+            notes,
+            owned,
+        };
+        (Heap::from_row(row), mutators, notes)
     }
 }

@@ -1,6 +1,6 @@
 //! The search for room, and allocation in a region.
 
-ghost use Rattle.std.specs.Prelude.{◌≡◌, ◌≢◌, ◌+◌, ◌<◌, ◌≤◌, ◌^◌, ℕ, true, false, length, Option, Some, None, slice_get};
+ghost use Rattle.std.specs.Prelude.{◌≡◌, ◌≢◌, ◌+◌, ◌<◌, ◌≤◌, ◌^◌, ℕ, true, false, length, Option, Some, None, slice_get, vec_len, vec_capacity};
 ghost use Rattle.heap_layout.specs.Zones.{row_words, block_start};
 ghost use Rattle.heap_layout.specs.Blocks.{IsValid};
 ghost use Rattle.heap_layout.specs.declared.region.Region.{Region};
@@ -43,6 +43,7 @@ impl PlainRow {
         requires extent { length self.old.row.words.items ≡ row_words self.old.row.layout.blocks }
         requires block { block < self.old.row.layout.blocks }
         requires notes { block < length self.old.notes.items }
+        requires room { vec_len self.old.owned < vec_capacity self.old.owned }
         requires valid { IsValid (record {
           kind = self.old.fill;
           class = 0;
@@ -58,6 +59,7 @@ impl PlainRow {
         };
         self.row.set_block(block, &word);
         self.notes[block as usize] = BlockNote::Owned { owner, region };
+        self.owned.push_reserved(block);
         self.seats[self.turn] = PlainSeat {
             ticket,
             block: Some(block),
@@ -143,7 +145,8 @@ impl PlainRow {
         requires block { block < self.old.row.layout.blocks }
         ensures found { result ≡ true → HasKind (state_of self.old.row) block kinds.Free
             × TakesBlock self.old self.new block (record { next = 0; end = BLOCK_WORDS }) None }
-        ensures none { result ≡ false → (HasKind (state_of self.old.row) block kinds.Free → ⊥)
+        ensures none { result ≡ false
+            → (HasKind (state_of self.old.row) block kinds.Free → ⊥)
             × (self.new ≡ self.old) }
     {
         if let BlockNote::Owned { .. } = self.notes[block as usize] {

@@ -1,10 +1,11 @@
 //! Calls of worlds under NoGc, for tests.
 
 ghost use Rattle.std.specs.Prelude.{◌≡◌, ◌≤◌, map, IfOk};
+ghost use Rattle.heap_layout.specs.declared.block.Kind.TheVariants as kinds;
 ghost use Rattle.object_model.specs.Heaps.{heap_state};
 ghost use Rattle.plain_world.specs.Rows.{mutator_state};
 ghost use Rattle.plain_world.specs.Beginnings.{MayUse};
-ghost use Rattle.plain_world.specs.Calls.{IsOpen};
+ghost use Rattle.plain_world.specs.Calls.{IsOpen, SamePlaces, fill_of};
 
 use crate::plain_world::PlainWorld;
 use crate::users::new_mutators;
@@ -28,7 +29,8 @@ pub(crate) fn new_world(
 ) -> Result<World, Fail>
     requires least { 1 ≤ count }
     requires most { count ≤ MAX_MUTATORS }
-    ensures { IfOk result (λ w. IsOpen w) }
+    ensures open { IfOk result (λ w. IsOpen w) }
+    ensures fill { IfOk result (λ w. fill_of w ≡ kinds.Bump) }
 {
     let heap = Heap::new(alloc, Layout::new(blocks)?)?;
     let mutators = new_mutators(alloc, count)?;
@@ -43,7 +45,8 @@ pub(crate) fn begin(
     mutators: Vec<Mutator>,
 ) -> Result<World, AllocError>
     requires { MayUse (heap_state heap) (map mutator_state mutators.items) }
-    ensures { IfOk result (λ w. IsOpen w) }
+    ensures open { IfOk result (λ w. IsOpen w) }
+    ensures fill { IfOk result (λ w. fill_of w ≡ kinds.Bump) }
 {
     assert!(rt; mutators.len() <= MAX_MUTATORS as usize);
     PlainWorld::begin(alloc, heap, mutators)
@@ -90,7 +93,8 @@ pub(crate) fn allocate(
     nums: u32,
 ) -> Allocated
     requires { IsOpen world.old }
-    ensures { IsOpen world.new }
+    ensures open { IsOpen world.new }
+    ensures places { SamePlaces world.old world.new }
 {
     assert!(rt; (m as usize) < world.mutators().len());
     assert!(rt; d < 16 && refs <= 1024 && nums <= 60_000);

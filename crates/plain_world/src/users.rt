@@ -54,7 +54,8 @@ fn has_roots(heap: &Heap, mutator: Mutator) -> bool
 
 /// Whether each register of the mutators is nil or has the address of a held object.
 fn have_roots(heap: &Heap, mutators: &[Mutator]) -> bool
-    ensures { IsTrue result ↔ AllByRecursion (λ m. AreRegisters (heap_state heap.now) m.registers)
+    ensures { IsTrue result
+        ↔ AllByRecursion (λ m. AreRegisters (heap_state heap.now) m.registers)
         (map mutator_state mutators.now) }
 {
     for mutator in mutators {

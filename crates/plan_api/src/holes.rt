@@ -39,7 +39,8 @@ pub fn first_hole(fill: Kind, view: &BlockView, from: u32, size: u32) -> Option<
 fn cell_part(view: &BlockView, from: u32, size: u32) -> Option<Region>
     requires least { 3 ≤ size }
     requires most { size ≤ MAX_MEDIUM_WORDS }
-    ensures { (s : HeapState) (k : ℕ) → IsViewOf s k view.now → view.now.word.kind ≡ Kind.Cells
+    ensures { (s : HeapState) (k : ℕ) → IsViewOf s k view.now
+        → view.now.word.kind ≡ Kind.Cells
         → IsFirstHole Kind.Cells s k from size result }
 {
     let class = class_of(size)?;
@@ -54,7 +55,8 @@ fn cell_part(view: &BlockView, from: u32, size: u32) -> Option<Region>
 fn tail_part(end: u32, from: u32, size: u32) -> Option<Region>
     requires { size ≤ MAX_MEDIUM_WORDS }
     ensures { MatchOption result (BLOCK_WORDS < max end from + size)
-        (λ r. (r.next ≡ max end from) × (r.end ≡ BLOCK_WORDS) × (r.next + size ≤ BLOCK_WORDS)) }
+        (λ r. (r.next ≡ max end from) × (r.end ≡ BLOCK_WORDS)
+        × (r.next + size ≤ BLOCK_WORDS)) }
 {
     let next = end.max(from);
     if next > BLOCK_WORDS - size {
@@ -83,7 +85,8 @@ fn clear_lines(lines: &[u64], from: u32, size: u32) -> Option<Region>
     requires least { 3 ≤ size }
     requires most { size ≤ MAX_MEDIUM_WORDS }
     ensures { MatchOption result (HasNoRun lines.now (lines_for from) (lines_for size))
-        (λ r. (x : ℕ) × (end : ℕ) × (r.next ≡ LINE_WORDS * x) × (r.end ≡ LINE_WORDS * end)
+        (λ r. (x : ℕ) × (end : ℕ) × (r.next ≡ LINE_WORDS * x)
+        × (r.end ≡ LINE_WORDS * end)
         × IsFirstRun lines.now (lines_for from) (lines_for size) x end) }
 {
     let needed = size.div_ceil(LINE_WORDS);

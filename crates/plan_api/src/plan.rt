@@ -11,10 +11,12 @@ ghost use Rattle.sessions.specs.Fitting.{Fits, allowance_of, class_for as class_
 ghost use Rattle.sessions.specs.Collecting.{first_collection};
 ghost use Rattle.plan_api.specs.declared.flags.PlanFlags.{PlanFlags};
 ghost use Rattle.plan_api.specs.Flags.{flags_of};
+ghost use Rattle.plan_api.specs.Counting.{session_reserve};
 ghost use Rattle.plan_api.specs.Views.{IsViewOf, AreApart};
 ghost use Rattle.plan_api.specs.Holes.{IsFirstHole, IsHolePart, has_holes};
 
 use crate::block_view::BlockView;
+use crate::counts::Reserve;
 use crate::flags::PlanFlags;
 use heap_layout::{Kind, Region};
 use ideal_heap::{MAX_NUMS, MAX_REFS};
@@ -48,6 +50,10 @@ pub trait Plan {
     /// The kind of the blocks that a collection copies into, or Free if it copies nothing.
     fn copy_kind() -> Kind
         ensures { result ≡ rules.copy };
+
+    /// How many Free blocks the plan holds back.
+    fn reserve() -> Reserve
+        ensures { session_reserve result ≡ rules.reserve };
 
     /// The class of a Free block that a mutator takes for an object of `size` words.
     fn class_for(size: u32) -> u32

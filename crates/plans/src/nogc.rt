@@ -47,6 +47,10 @@ impl Plan for NoGc {
         Kind::Free
     }
 
+    fn reserve() -> Reserve {
+        Reserve::Nothing
+    }
+
     fn class_for(_size: u32) -> u32 {
         0
     }
@@ -56,7 +60,7 @@ impl Plan for NoGc {
     }
 
     fn fits(heap: &Heap, size: u32) -> bool {
-        size <= MAX_MEDIUM_WORDS && fits_small(heap, Kind::Bump, Reserve::Nothing, size)
+        size <= MAX_MEDIUM_WORDS && fits_small(heap, Kind::Bump, NoGc::reserve(), size)
     }
 
     fn kind(_heap: &Heap) -> Collect {
@@ -64,6 +68,6 @@ impl Plan for NoGc {
     }
 
     fn allowance(heap: &Heap) -> u32 {
-        block_counts(heap).allowance(Reserve::Nothing)
+        block_counts(heap).allowance(NoGc::reserve())
     }
 }

@@ -3,7 +3,7 @@
 use crate::NoGc;
 use heap_layout::{BlockWord, Kind, Layout, Region};
 use object_model::{Collect, Heap};
-use plan_api::{BlockView, Plan, PlanFlags, plans_hold_reserves};
+use plan_api::{BlockView, Plan, PlanFlags, Reserve, plans_hold_reserves};
 use std::test::Fail;
 
 // The allowance of an empty heap, and whether objects of 3, 2,048 and 2,049 words fit.
@@ -25,6 +25,7 @@ fn nogc(rt: HostRuntime) -> Result<(), Fail> {
         (NoGc::alloc_kind(), NoGc::copy_kind()),
         (Kind::Bump, Kind::Free)
     );
+    assert_eq!(rt; NoGc::reserve(), Reserve::Nothing);
     assert_eq!(rt; NoGc::class_for(2048), 0);
     for blocks in [4, 5, 16] {
         let heap = Heap::new(rt.alloc(), Layout::new(blocks)?)?;

@@ -1,9 +1,5 @@
 pub mod Tails
-pub mod Quiet
 pub mod Placing
-pub mod Bearing
-pub mod Driving
-pub mod Stops
 pub mod Histories
 pub mod Beginning
 pub mod Holes
@@ -12,3 +8,7 @@ mod Nurseries
 pub mod Soundness
 pub mod CollectionLaws
 mod LargePlacing
+mod Levels
+mod Meeting
+pub mod Orders
+pub mod Growing

@@ -2,7 +2,7 @@
 use Rattle.std.proofs.Common.{◌≡◌, ◌≢◌, refl, sym, ◌∙◌, ap, subst, ℕ, zero, suc, ◌+◌, ◌<◌, ◌≤◌, ◌⊎◌, inl, inr, arith, Bool, true, false, ◌||◌, IsTrue, List, [], ◌∷◌, length, slice_index, cond, zero-add}
 use Rattle.std.specs.Prelude.{MatchBool, count_by}
 use Rattle.std.specs.List.{range_with_len}
-use Rattle.std.proofs.lemmas.Bool.{cases_lt, cases_eq, false≢true, le-leb, lt-leb, or_left, or_right, false_from_ne_true}
+use Rattle.std.proofs.lemmas.Bool.{le-leb, or_left, or_right, false_from_ne_true}
 use Rattle.std.proofs.lemmas.List.Sums.{sum_by-cons}
 use Rattle.std.proofs.lemmas.List.FromFn.{get_or-range_with_len, length-range_with_len}
 use Rattle.heap_layout.specs.Zones.{BlockWords, first, heap_of, block_at, offset_at, block_start}
@@ -19,10 +19,9 @@ use Rattle.object_model.proofs.Blocks.{SameHeap}
 use Rattle.object_model.proofs.OneKind.{kind-within, one-kind, has_small-bump}
 use Rattle.ideal_heap.specs.Names.{IsName}
 use Rattle.sessions.specs.Plans.{NoGc, rules_of}
-use Rattle.sessions.specs.Fitting.{IsTail, HasHole, HasSomeHole, Fits, FitsSmall, FitsLarge, free_of}
-use Rattle.sessions.specs.Sessions.{PlacesSmall, ChangesBlocks, AddsObject}
-use Rattle.sessions.specs.Bumping.{AreTails, ArePast}
-use Rattle.sessions.proofs.Tails.{tail-unique, place-block, place-offset, place-address, place-apart}
+use Rattle.sessions.specs.Fitting.{IsTail, Fits, FitsSmall, FitsLarge, free_of}
+use Rattle.sessions.specs.Sessions.{ChangesBlocks, AddsObject}
+use Rattle.sessions.proofs.Tails.{place-block, place-offset, place-address, place-apart}
 
 -- an element that passes is counted, and if none passes the count is 0
 abbrev pub one_if : Bool → ℕ
@@ -57,47 +56,12 @@ free-none s none = count-none (λ q. has_kind s q kinds.Free) (range_with_len 0 
     let e : slice_index (range_with_len 0 s.blocks) i ≡ i = get_or-range_with_len 0 s.blocks i 0 there ∙ zero-add i in
     ap (λ q. has_kind s q kinds.Free) e ∙ false_from_ne_true (has_kind s i kinds.Free) (none i there))
 
--- holes, if the tails of all Bump blocks are known
-module _ (s : HeapState) (ends : List ℕ) (tails : AreTails s ends) (size : ℕ) where
-  pub hole-is : (k from : ℕ) → HasHole kinds.Bump s k from size → (k < length ends) × (from ≡ slice_index ends k) × (from + size ≤ 4096)
-  hole-is k from hole = elim (cases_lt k (length ends)) as (λ _. (k < length ends) × (from ≡ slice_index ends k) × (from + size ≤ 4096)) [
-    | inl less ↦ (less, tail-unique s k from (slice_index ends k) hole.1 (tails.tail k less), hole.2)
-    | inr past ↦ absurd (let same = one-kind s k kinds.Bump kinds.Free hole.0 (tails.free k past (kind-within s k kinds.Bump hole.0)) in cc)
-  ]
-
-  -- a hole is not in a block that lacks room
-  pub hole-above : (low k from : ℕ) → ArePast ends size low → HasHole kinds.Bump s k from size → low ≤ k
-  hole-above low k from past hole = elim (cases_lt k low) as (λ _. low ≤ k) [
-    | inl less ↦ absurd (let is = hole-is k from hole in let full : 4096 < slice_index ends k + size = past k less in let e : from ≡ slice_index ends k = is.1 in let fits : from + size ≤ 4096 = is.2 in omega arith)
-    | inr above ↦ above
-  ]
-
-  -- if no block has room, there is no hole
-  pub no-hole : ArePast ends size (length ends) → HasSomeHole kinds.Bump s size → ⊥
-  no-hole past hole = (let above : length ends ≤ hole.block = hole-above (length ends) hole.block hole.offset past hole.hole in
-      let below : hole.block < length ends = (hole-is hole.block hole.offset hole.hole).0 in omega arith)
-
 -- whether a size fits
 pub fits-from : (s : HeapState) (size : ℕ) → size ≤ 2048 → FitsSmall (rules_of NoGc) s size → Fits (rules_of NoGc) s size
 fits-from s size small fits = subst (λ (b : Bool). MatchBool b (FitsSmall (rules_of NoGc) s size) (FitsLarge (rules_of NoGc) s (blocks_for size))) (sym (le-leb size 2048 small)) fits
 
 pub fits-small : (s : HeapState) (size : ℕ) → size ≤ 2048 → Fits (rules_of NoGc) s size → FitsSmall (rules_of NoGc) s size
 fits-small s size small fits = subst (λ (b : Bool). MatchBool b (FitsSmall (rules_of NoGc) s size) (FitsLarge (rules_of NoGc) s (blocks_for size))) (le-leb size 2048 small) fits
-
-pub large-never : (s : HeapState) (size : ℕ) → 2048 < size → Fits (rules_of NoGc) s size → ⊥
-large-never s size large fits =
-    let found : FitsLarge (rules_of NoGc) s (blocks_for size) =
-    subst (λ (b : Bool). MatchBool b (FitsSmall (rules_of NoGc) s size) (FitsLarge (rules_of NoGc) s (blocks_for size))) (lt-leb size 2048 large) fits in
-    false≢true found.placed
-
--- if all blocks are Bump blocks without room, a size does not fit
-pub full-never : (s : HeapState) (ends : List ℕ) (tails : AreTails s ends) (size : ℕ) → size ≤ 2048 → s.blocks ≤ length ends → ArePast ends size (length ends)
-    → Fits (rules_of NoGc) s size → ⊥
-full-never s ends tails size small all past fits =
-    elim (fits-small s size small fits) as (λ _. ⊥) [
-      | inl hole ↦ no-hole s ends tails size past hole
-      | inr some ↦ (let none : free_of s ≡ 0 = free-none s (λ k there is. let same = one-kind s k kinds.Bump kinds.Free (tails.bump k (omega arith)) is in cc) in omega arith)
-    ]
 
 -- A small object that is written at the front of the tail of block low, from a heap in which that block is unchanged, or was Free.
 module _ (s : HeapState) (w1 w2 : List ℕ) (same : SameHeap s w1) (low : ℕ) (front : (i : ℕ) → i < first s.blocks BlockWords → word_at (with_words s w1) i ≡ word_at s i)
@@ -183,39 +147,4 @@ room-in-tail s order k at bump tail n refs nums fits small few_refs few_nums nam
         kind = has_small-bump s _ bump';
         cell = λ is. absurd (let same = one-kind s _ kinds.Bump kinds.Cells bump' is in cc);
       };
-    }
-
--- a placement in the lowest block with room
-pub places-hole : (s : HeapState) (order : IsWellFormed s) (ends : List ℕ) (tails : AreTails s ends) (size k : ℕ) → 1 ≤ size → k < length ends → slice_index ends k + size ≤ 4096 → ArePast ends size k
-    → PlacesSmall (rules_of NoGc) s (block_start s.blocks k + slice_index ends k) size
-places-hole s order ends tails size k some less fits past =
-    let at : ℕ = slice_index ends k in
-    let bump : HasKind s k kinds.Bump = tails.bump k less in
-    let tail : IsTail s k at = tails.tail k less in
-    let block : block_at s.blocks (block_start s.blocks k + at) ≡ k = place-block s order k at size bump tail fits some in
-    let offset : offset_at s.blocks (block_start s.blocks k + at) ≡ at = place-offset s order k at size bump tail fits some in
-    record {
-      spot = inl (subst (λ (q : ℕ). HasHole kinds.Bump s q (offset_at s.blocks (block_start s.blocks k + at)) size) (sym block)
-          (subst (λ (o : ℕ). HasHole kinds.Bump s k o size) (sym offset) (bump, tail, fits)));
-      lowest = λ j from hole. elim (cases_eq j k) as (λ _. (block_at s.blocks (block_start s.blocks k + at) < j) ⊎ ((block_at s.blocks (block_start s.blocks k + at) ≡ j) × (offset_at s.blocks (block_start s.blocks k + at) ≤ from))) [
-        | inl e ↦ inr (block ∙ sym e, (let front : from ≡ slice_index ends j = (hole-is s ends tails size j from hole).1 in let f : slice_index ends j ≡ at = ap (slice_index ends) e in omega arith))
-        | inr other ↦ inl (let above : k ≤ j = hole-above s ends tails size k j from past hole in omega arith)
-      ];
-      lowest_free = λ is. absurd (let free : HasKind s k kinds.Free = subst (λ (q : ℕ). HasKind s q kinds.Free) block is in
-          let same = one-kind s k kinds.Bump kinds.Free bump free in cc);
-    }
-
--- a placement in the lowest Free block, if no block has room
-pub places-free : (s : HeapState) (ends : List ℕ) (tails : AreTails s ends) (size : ℕ) → length ends < s.blocks → ArePast ends size (length ends)
-    → PlacesSmall (rules_of NoGc) s (block_start s.blocks (length ends) + 0) size
-places-free s ends tails size room past =
-    let block : block_at s.blocks (block_start s.blocks (length ends) + 0) ≡ length ends = omega arith in
-    let offset : offset_at s.blocks (block_start s.blocks (length ends) + 0) ≡ 0 = omega arith in
-    record {
-      spot = inr (subst (λ (q : ℕ). HasKind s q kinds.Free) (sym block) (tails.free (length ends) (omega arith) room), offset, no-hole s ends tails size past);
-      lowest = λ k from hole. absurd (no-hole s ends tails size past (record { block = k; offset = from; hole = hole }));
-      lowest_free = λ is k free. elim (cases_lt k (length ends)) as (λ _. block_at s.blocks (block_start s.blocks (length ends) + 0) ≤ k) [
-        | inl less ↦ absurd (let same = one-kind s k kinds.Bump kinds.Free (tails.bump k less) free in cc)
-        | inr past' ↦ omega arith
-      ];
     }

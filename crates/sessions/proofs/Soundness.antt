@@ -3,12 +3,12 @@ use Rattle.std.specs.List.{range_with_len, AllByRecursion}
 use Rattle.std.proofs.lemmas.Bool.{false≢true}
 use Rattle.std.proofs.lemmas.List.FromFn.{get_or-range_with_len, length-range_with_len}
 use Rattle.object_model.proofs.Zeros as zeros
-use Rattle.std.proofs.Common.{◌≤◌, ◌+◌, suc, zero, map, length, slice_index, arith, ◌≡◌, refl, sym, ◌∙◌, ap, subst, ℕ, Bool, true, false, List, [], ◌∷◌, ◌++◌}
+use Rattle.std.proofs.Common.{inl, ◌≤◌, ◌+◌, suc, zero, map, length, slice_index, arith, ◌≡◌, refl, sym, ◌∙◌, ap, subst, ℕ, Bool, true, false, List, [], ◌∷◌, ◌++◌}
 use Rattle.ideal_heap.specs.declared.command.Command.TheVariants as c
 use Rattle.ideal_heap.specs.declared.reply.Reply.TheVariants as r
 use Rattle.ideal_heap.specs.Ideal as ideal
 use Rattle.ideal_heap.specs.Ideal.{IdealHeap, step}
-use Rattle.ideal_heap.specs.Runs.{Entry, entry, after, after_entry}
+use Rattle.ideal_heap.specs.Runs.{Entry, entry, Answers, IsRun, after, after_entry}
 use Rattle.ideal_heap.proofs.RunLemmas.{after-append}
 use Rattle.object_model.specs.Graphs.{Represents, AreDifferent, numbers_of, new_mutator}
 use Rattle.sessions.specs.Sessions as sessions
@@ -23,13 +23,31 @@ meet-heap : (h : IdealHeap) (m : ℕ) → after_entry h (entry m c.Meet r.Done) 
 unfolding step
 meet-heap h m = refl
 
-all-gc : (h : IdealHeap) (ms : List ℕ) → after h (all_done c.Gc ms) ≡ h
+pub all-gc : (h : IdealHeap) (ms : List ℕ) → after h (all_done c.Gc ms) ≡ h
 all-gc h [] = refl
 all-gc h (m ∷ ms) = ap (λ (x : IdealHeap). after x (all_done c.Gc ms)) (gc-heap h m) ∙ all-gc h ms
 
-all-meet : (h : IdealHeap) (ms : List ℕ) → after h (all_done c.Meet ms) ≡ h
+pub all-meet : (h : IdealHeap) (ms : List ℕ) → after h (all_done c.Meet ms) ≡ h
 all-meet h [] = refl
 all-meet h (m ∷ ms) = ap (λ (x : IdealHeap). after x (all_done c.Meet ms)) (meet-heap h m) ∙ all-meet h ms
+
+-- and `ok` is their reply
+
+gc-answers : (h : IdealHeap) (m : ℕ) → Answers h (entry m c.Gc r.Done)
+unfolding step
+gc-answers h m = inl refl
+
+meet-answers : (h : IdealHeap) (m : ℕ) → Answers h (entry m c.Meet r.Done)
+unfolding step
+meet-answers h m = inl refl
+
+pub gcs-run : (h : IdealHeap) (ms : List ℕ) → IsRun h (all_done c.Gc ms)
+gcs-run h [] = tt
+gcs-run h (m ∷ ms) = (gc-answers h m, subst (λ (x : IdealHeap). IsRun x (all_done c.Gc ms)) (sym (gc-heap h m)) (gcs-run h ms))
+
+pub meets-run : (h : IdealHeap) (ms : List ℕ) → IsRun h (all_done c.Meet ms)
+meets-run h [] = tt
+meets-run h (m ∷ ms) = (meet-answers h m, subst (λ (x : IdealHeap). IsRun x (all_done c.Meet ms)) (sym (meet-heap h m)) (meets-run h ms))
 
 -- the moment with more entries
 abbrev more : Moment → List Entry → Moment
@@ -43,7 +61,7 @@ still t es before e sound = record {
   listed = sound.listed;
 }
 
-replied : (t : Setting) (es : List Entry) (before now : Moment) → after (ideal_at before) es ≡ ideal_at before → Replies es before now → IsSound t before → IsSound t now
+pub replied : (t : Setting) (es : List Entry) (before now : Moment) → after (ideal_at before) es ≡ ideal_at before → Replies es before now → IsSound t before → IsSound t now
 replied t es before now e replies sound = subst (λ (x : Moment). IsSound t x) (sym replies.rest) (still t es before e sound)
 
 ran : (t : Setting) (before now : Moment) (ends : ℕ → sessions.Cause) → RunsPart t before ends now → IsSound t now

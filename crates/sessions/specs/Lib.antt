@@ -3,7 +3,3 @@ pub mod Grants
 pub mod Fitting
 pub mod Collecting
 pub mod Sessions
-pub mod Bumping
-pub mod Alone
-pub mod Births
-pub mod Driving

@@ -10,7 +10,7 @@ use Rattle.ideal_heap.specs.declared.name.Name.{Name}
 use Rattle.ideal_heap.specs.declared.command.Command.{Command}
 use Rattle.ideal_heap.specs.declared.command.Command.TheVariants as c
 use Rattle.ideal_heap.specs.declared.reply.Reply.TheVariants as r
-use Rattle.ideal_heap.specs.Commands.{is_new, is_meet, is_gc, size_wanted}
+use Rattle.ideal_heap.specs.Commands.{is_meet, is_gc, size_wanted}
 use Rattle.ideal_heap.specs.Ideal as ideal
 use Rattle.ideal_heap.specs.Runs.{Entry, is_full, IsRun, after, IsOrderPrefix, IsOrder, next_of, IsMutator}
 use Rattle.object_model.specs.declared.collect.Collect.{Collect}
@@ -29,8 +29,6 @@ pub record Setting : Type 0 where
   pub blocks : ℕ
   -- the number of tracing workers
   pub workers : ℕ
-  -- whether mutators place objects within an epoch; if not, each `new` is served at a stop
-  pub places : Bool
   pub traces : List (List Command)
 
 -- the mutators of the traces, counted from 1
@@ -125,11 +123,20 @@ pub record IsBirthOf (n : Name) (refs nums : ℕ) (e : Entry) : Type 0 where
   pub command : e.command ≡ c.New register refs nums
   pub reply : e.reply ≡ r.New n
 
+-- An object at address a leaves no room before it unused: it begins at the start of a hole that was there, at the start
+-- of a block that was Free, or directly after another object of its block. In cells each object has its own.
+abbrev pub IsPacked : Kind → HeapState → HeapState → ℕ → Type 0
+IsPacked fill old new a = (fill ≡ kinds.Cells)
+    ⊎ HasHole fill old (block_at new.blocks a) (offset_at new.blocks a) (size_at new a)
+    ⊎ (HasKind old (block_at new.blocks a) kinds.Free × (offset_at new.blocks a ≡ 0))
+    ⊎ ((x : ℕ) × IsHeld new x × (block_at new.blocks x ≡ block_at new.blocks a) × (x + size_at new x ≡ a))
+
 -- an object allocated in a part; it lies in a hole of the heap at the start of the epoch, or in a block that was Free
 pub record IsBirth (rules : Rules) (old : HeapState) (part : List Entry) (new : HeapState) (a : ℕ) : Type 0 where
   pub entry : Any (IsBirthOf (name_at new a) (refs_at new a) (nums_at new a)) part
   pub place : HasKind old (block_at new.blocks a) kinds.Free
       ⊎ LiesInHole rules.fill old (block_at new.blocks a) (offset_at new.blocks a) (size_at new a)
+  pub packed : IsPacked rules.fill old new a
   pub cell : HasCellFor rules.fill new (block_at new.blocks a) (offset_at new.blocks a) (size_at new a)
   pub unclaimed : word_at new (a + 2) ≡ 0
   pub unmarked : IsTrue (is_unlogged new a) → ⊥
@@ -187,11 +194,9 @@ pub record RunsPart (t : Setting) (before : Moment) (ends : ℕ → Cause) (now 
   pub causes : (m : ℕ) → IsMutator t.traces m → EndsBy t now ends m (ends m)
   pub stopped : Stopped t.rules (mutators_of t) before.heap (ideal_at before) part now.heap now.mutators
   pub counts : (now.nursery ≡ before.nursery) × (now.full ≡ before.full)
-  -- If mutators place objects, a small need ends a part only if the allowance is exhausted.
-  -- If they do not, the part has no `new`.
-  pub needs : (m d refs nums : ℕ) → IsMutator t.traces m → IsTrue t.places → ends m ≡ AtNeed → Needs t now m d refs nums
+  -- a small need ends a part only if the allowance is exhausted
+  pub needs : (m d refs nums : ℕ) → IsMutator t.traces m → ends m ≡ AtNeed → Needs t now m d refs nums
       → size_of refs nums ≤ MAX_MEDIUM_WORDS → ExhaustsAllowance t before.heap now.heap
-  pub served : t.places ≡ false → AllByRecursion (λ e. is_new e.command ≡ false) part
 
 -- the numbers of nursery and full collections after one more collection
 abbrev pub counts_after : Collect → Moment → ℕ × ℕ

@@ -33,8 +33,9 @@ pub fn sessions()
         → InSession t new }
     ensures run { (t : Setting) (now : Moment) → InSession t now → IsRun empty now.done }
     ensures sound { (t : Setting) (old new : Moment) → IsEpoch t old new → IsSound t new }
-    ensures last { (t : Setting) (now : Moment) → MIN_BLOCKS ≤ t.blocks → t.blocks ≤ MAX_BLOCKS
-        → length t.traces ≤ MAX_MUTATORS → InSession t now → IsSound t now }
+    ensures last { (t : Setting) (now : Moment) → MIN_BLOCKS ≤ t.blocks
+        → t.blocks ≤ MAX_BLOCKS → length t.traces ≤ MAX_MUTATORS
+        → InSession t now → IsSound t now }
 {}
 
 /// If no `new` was refused, the replies of a whole session of one trace are a function of the

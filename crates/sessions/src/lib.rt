@@ -5,6 +5,7 @@
 #![tactic(auto)]
 
 mod laws;
+mod order_laws;
 mod placement_laws;
 
 pub use laws::{
@@ -12,4 +13,5 @@ pub use laws::{
     grants_are_allowed, grants_by_counts, holes_are_clear, objects_stay, plans_have_ages,
     refusals_follow_a_full_collection, sessions, sessions_count, sessions_of_one,
 };
+pub use order_laws::{epochs_go_on, epochs_keep_the_order};
 pub use placement_laws::large_objects_are_placed;

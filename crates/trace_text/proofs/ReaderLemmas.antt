@@ -13,25 +13,20 @@ use Rattle.trace_text.specs.declared.limits.TheConstants.{MAX_COMMANDS}
 use Rattle.trace_text.specs.Words.{all_ops}
 use Rattle.trace_text.specs.Parts.{IsReadAs}
 use Rattle.trace_text.specs.Grammar.{line, lines_from, lines_of, with_header, trace, Gives, parts_at, without_empty_end}
-use Rattle.trace_text.specs.Readers.{with_front, end_of_lines, GoesOn, IsWhole, HasRead}
+use Rattle.trace_text.specs.Readers.{with_prefix, end_of_lines, GoesOn, IsWhole, HasRead}
 use Rattle.trace_text.proofs.WholeLines.{cut_more, keeps_end, ended_parts, some_part}
 
--- nothing before the commands
-pub with_front-nil : {C : Type 0} (r : Result (List C) TraceFault) → with_front [] r ≡ r
-with_front-nil (Ok cs) = refl
-with_front-nil (Err f) = refl
-
-with_front-one : {C : Type 0} (front : List C) (c : C) (r : Result (List C) TraceFault) → with_front front (with_front (c ∷ []) r) ≡ with_front (front ++ c ∷ []) r
-with_front-one front c (Ok cs) = ap Ok (sym (append_assoc front (c ∷ []) cs))
-with_front-one front c (Err f) = refl
+with_prefix-one : {C : Type 0} (prefix : List C) (c : C) (r : Result (List C) TraceFault) → with_prefix prefix (with_prefix (c ∷ []) r) ≡ with_prefix (prefix ++ c ∷ []) r
+with_prefix-one prefix c (Ok cs) = ap Ok (sym (append_assoc prefix (c ∷ []) cs))
+with_prefix-one prefix c (Err f) = refl
 
 -- a reader that goes on after the header
-pub end_is : (r : LineReader) (ls : List (List ℕ)) → r.fault ≡ None → 1 < r.number → end_of_lines r ls ≡ with_front r.commands.items (lines_from (line all_ops) r.number ls)
+pub end_is : (r : LineReader) (ls : List (List ℕ)) → r.fault ≡ None → 1 < r.number → end_of_lines r ls ≡ with_prefix r.commands.items (lines_from (line all_ops) r.number ls)
 end_is r ls none begun = rw (none, lt-ltb 1 r.number begun) refl
 
-next_command : (front : List Command) (n : ℕ) (l : List ℕ) (ls : List (List ℕ)) (c : Command) → nat_lt (MAX_COMMANDS + 1) n ≡ false → line all_ops l ≡ Ok c
-    → with_front front (lines_from (line all_ops) n (l ∷ ls)) ≡ with_front (front ++ c ∷ []) (lines_from (line all_ops) (n + 1) ls)
-next_command front n l ls c early good = rw (early, good) (with_front-one front c (lines_from (line all_ops) (n + 1) ls))
+next_command : (prefix : List Command) (n : ℕ) (l : List ℕ) (ls : List (List ℕ)) (c : Command) → nat_lt (MAX_COMMANDS + 1) n ≡ false → line all_ops l ≡ Ok c
+    → with_prefix prefix (lines_from (line all_ops) n (l ∷ ls)) ≡ with_prefix (prefix ++ c ∷ []) (lines_from (line all_ops) (n + 1) ls)
+next_command prefix n l ls c early good = rw (early, good) (with_prefix-one prefix c (lines_from (line all_ops) (n + 1) ls))
 
 -- one good line more
 pub one_more : (old new : LineReader) (rest remaining : List ℕ) (c : Command) → IsReadAs rest (Ok c) remaining → old.fault ≡ None → 1 < old.number → nat_lt (MAX_COMMANDS + 1) old.number ≡ false

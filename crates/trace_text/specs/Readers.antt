@@ -8,8 +8,8 @@ use Rattle.trace_text.specs.Words.{all_ops}
 use Rattle.trace_text.specs.Grammar.{◌>>=◌, line, lines_from, lines_of, with_header, trace}
 
 -- the commands so far, followed by those of the rest
-abbrev pub with_front : {C : Type 0} → List C → Result (List C) TraceFault → Result (List C) TraceFault
-with_front front rest = rest >>= λ cs. Ok (front ++ cs)
+abbrev pub with_prefix : {C : Type 0} → List C → Result (List C) TraceFault → Result (List C) TraceFault
+with_prefix prefix rest = rest >>= λ cs. Ok (prefix ++ cs)
 
 -- the result for lines of which the first has this number
 abbrev pub result_of : ℕ → List (List ℕ) → Result (List Command) TraceFault
@@ -18,7 +18,7 @@ result_of number lines = if nat_lt 1 number then lines_from (line all_ops) numbe
 -- the result for the lines that follow, unless a line before them was bad
 abbrev pub result_after : Option TraceFault → List Command → ℕ → List (List ℕ) → Result (List Command) TraceFault
 result_after (Some fault) commands number lines = Err fault
-result_after None commands number lines = with_front commands (result_of number lines)
+result_after None commands number lines = with_prefix commands (result_of number lines)
 
 -- the result of a reader, if these lines follow
 abbrev pub end_of_lines : LineReader → List (List ℕ) → Result (List Command) TraceFault
@@ -31,7 +31,7 @@ GoesOn old new before after = (more : List (List ℕ))
 
 -- the text has no bytes after its last newline
 abbrev pub IsWhole : List ℕ → Type 0
-IsWhole text = (text ≡ []) ⊎ ((front : List ℕ) × (text ≡ front ++ 10 ∷ []))
+IsWhole text = (text ≡ []) ⊎ ((lines : List ℕ) × (text ≡ lines ++ 10 ∷ []))
 
 -- The reader has read the text: whatever follows, its result is that of the whole text.
 abbrev pub HasRead : TraceReader → List ℕ → Type 0

@@ -31,7 +31,7 @@ pub use laws::{
 };
 pub use limits::MAX_COMMANDS;
 pub use numerals::read_numeral;
-pub use printer::{REPLY_BYTES, print_mutator, print_reply, put_reply};
+pub use printer::{REPLY_BYTES, print_mutator, print_replies, print_reply, put_reply};
 pub use reader::read_trace;
 pub use trace_reader::TraceReader;
 pub use traces::print_trace;

@@ -2,9 +2,10 @@
 
 ghost use Rattle.std.specs.Prelude.{◌≡◌, ◌+◌, ◌≤◌, ◌++◌, OnOk, OnErr, codes, length, vec_len, vec_capacity};
 ghost use Rattle.std.specs.Fmt.{decimal};
-ghost use Rattle.trace_text.specs.Text.{reply_text, name_text, ended};
+ghost use Rattle.trace_text.specs.Text.{reply_text, name_text, mutator_text, ended};
 
 use crate::digits::{put, put_decimal};
+use crate::limits::MAX_COMMANDS;
 use ideal_heap::{Name, Reply};
 use std::alloc::AllocError;
 
@@ -83,5 +84,20 @@ pub fn print_mutator(mutator: u32, to: &mut Vec<u8>) -> Result<(), AllocError>
 {
     to.reserve(REPLY_BYTES)?;
     put_number(b"mutator ", u64::from(mutator), to);
+    Ok(())
+}
+
+/// Appends the line of a mutator, and those of its replies.
+///
+/// Errors: out of memory.
+pub fn print_replies(mutator: u32, replies: &[Reply], to: &mut Vec<u8>) -> Result<(), AllocError>
+    requires { length replies.now ≤ MAX_COMMANDS }
+    ensures { OnOk result (to.new.items ≡ to.old.items ++ mutator_text mutator replies.now) }
+{
+    print_mutator(mutator, to)?;
+    to.reserve(REPLY_BYTES * replies.len())?;
+    for reply in replies {
+        put_reply(reply, to);
+    }
     Ok(())
 }

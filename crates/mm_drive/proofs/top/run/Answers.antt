@@ -1,9 +1,9 @@
-use Rattle.std.proofs.Common.{◌∙◌, sym, rules}
+use Rattle.std.proofs.Common.{◌∙◌, sym, subst, ◌≤◌, rules}
 use Rattle.std.proofs.lemmas.List.{length-map}
 use Rattle.command_line.specs.Orders.{texts, job_of_order}
-use Rattle.mm_drive.proofs.Jobs.{job-supported, job-blocks, supported-work}
+use Rattle.mm_drive.proofs.Jobs.{job-supported, job-blocks, job-files, supported-work}
 use Rattle.mm_drive.proofs.Joining.{long-off, bad-off, fault-off, long-bad, fault-long, traces-clash, reported-clash, ends-clash}
-use Rattle.mm_drive.proofs.Outcomes.{of-job, named-job, within-files, unread-here, long-here, bad-here, to-files, one-trace, prints, prints-prefix}
+use Rattle.mm_drive.proofs.Outcomes.{of-job, named-job, within-files, unread-here, long-here, bad-here, to-files, traces-count, prints, prints-prefix}
 use Rattle.mm_drive.proofs.top.run.Goals as goal
 
 pub name_at-requires : goal.name_at-requires
@@ -64,30 +64,39 @@ returns-in-Err-Bad-clause-complete g c =
     of-job _ job _ is (λ good s o. absurd (reported-clash _ _ good.traces c.in-Err-Bad.place _ (fault-off c.in-Err-Bad.flaw) ends.0 good.reported (to-files _ job.work good.traces one good.read)))
 
 pub text_of_session-requires-clause-supported : goal.text_of_session-requires-clause-supported
-text_of_session-requires-clause-supported g c =
+text_of_session-requires-clause-supported g c κs within =
     (job-supported (texts c.args.words.now) (job_of_order c.in-Ok-Some.order) (named-job _ c.in-Ok-Some.order _ c.in-Ok-Some.field-0-is c.in-Ok-Some.ensures)).0
 
 pub text_of_session-requires-clause-least : goal.text_of_session-requires-clause-least
-text_of_session-requires-clause-least g c =
+text_of_session-requires-clause-least g c κs within =
     (job-blocks (texts c.args.words.now) (job_of_order c.in-Ok-Some.order) (job-supported (texts c.args.words.now) (job_of_order c.in-Ok-Some.order) (named-job _ c.in-Ok-Some.order _ c.in-Ok-Some.field-0-is c.in-Ok-Some.ensures)).1).0
 
 pub text_of_session-requires-clause-most : goal.text_of_session-requires-clause-most
-text_of_session-requires-clause-most g c =
+text_of_session-requires-clause-most g c κs within =
     (job-blocks (texts c.args.words.now) (job_of_order c.in-Ok-Some.order) (job-supported (texts c.args.words.now) (job_of_order c.in-Ok-Some.order) (named-job _ c.in-Ok-Some.order _ c.in-Ok-Some.field-0-is c.in-Ok-Some.ensures)).1).1
 
-pub text_of_session-requires-clause-one : goal.text_of_session-requires-clause-one
-text_of_session-requires-clause-one g c =
+pub text_of_session-requires-clause-some : goal.text_of_session-requires-clause-some
+text_of_session-requires-clause-some g c κs within =
     let job = job_of_order c.in-Ok-Some.order in
-    let supported = (job-supported (texts c.args.words.now) job (named-job _ c.in-Ok-Some.order _ c.in-Ok-Some.field-0-is c.in-Ok-Some.ensures)).0 in
+    let supported = job-supported (texts c.args.words.now) job (named-job _ c.in-Ok-Some.order _ c.in-Ok-Some.field-0-is c.in-Ok-Some.ensures) in
     let good = rw c.files_named-files.ensures at c.in-Ok.ensures.ok in
-    rw c.deref.ensures.value (sym (length-map c.in-Ok.traces.items (λ t. t.items)) ∙ one-trace _ job _ supported good)
+    let count = sym (length-map c.in-Ok.traces.items (λ t. t.items)) ∙ traces-count _ job _ good in
+    subst (λ n. 1 ≤ n) (sym count) (job-files (texts c.args.words.now) job supported.1 (supported-work job supported.0)).0
+
+pub text_of_session-requires-clause-few : goal.text_of_session-requires-clause-few
+text_of_session-requires-clause-few g c κs within =
+    let job = job_of_order c.in-Ok-Some.order in
+    let supported = job-supported (texts c.args.words.now) job (named-job _ c.in-Ok-Some.order _ c.in-Ok-Some.field-0-is c.in-Ok-Some.ensures) in
+    let good = rw c.files_named-files.ensures at c.in-Ok.ensures.ok in
+    let count = sym (length-map c.in-Ok.traces.items (λ t. t.items)) ∙ traces-count _ job _ good in
+    subst (λ n. n ≤ 16) (sym count) (job-files (texts c.args.words.now) job supported.1 (supported-work job supported.0)).1
 
 pub returns-then-is_err-clause-write_fault : goal.returns-then-is_err-clause-write_fault
 returns-then-is_err-clause-write_fault g c is =
     let job = job_of_order c.in-Ok-Some.order in
     let named = named-job _ c.in-Ok-Some.order _ c.in-Ok-Some.field-0-is c.in-Ok-Some.ensures in
     let good = rw c.files_named-files.ensures at c.in-Ok.ensures.ok in
-    let text = rw c.deref.ensures.value at c.in-Ok-text_of_session.ensures in
+    let text = c.in-Ok-text_of_session.ensures in
     of-job _ job _ named (prints-prefix _ job _ _ _ _ (job-supported (texts c.args.words.now) job named).0 good text (search rules) (search rules))
 
 pub returns-then-is_err-clause-long : goal.returns-then-is_err-clause-long
@@ -105,7 +114,7 @@ returns-clause-ok g c is =
     let job = job_of_order c.in-Ok-Some.order in
     let named = named-job _ c.in-Ok-Some.order _ c.in-Ok-Some.field-0-is c.in-Ok-Some.ensures in
     let good = rw c.files_named-files.ensures at c.in-Ok.ensures.ok in
-    let text = rw c.deref.ensures.value at c.in-Ok-text_of_session.ensures in
+    let text = c.in-Ok-text_of_session.ensures in
     of-job _ job _ named (prints _ job _ _ _ _ (job-supported (texts c.args.words.now) job named).0 good text (search rules))
 
 pub returns-clause-long : goal.returns-clause-long

@@ -1,23 +1,37 @@
-use Rattle.std.proofs.Common.{sym, ◌∙◌, ap, subst, ℕ, ◌+◌, arith}
-use Rattle.object_model.specs.declared.row.Row.{Row}
-use Rattle.object_model.specs.Objects.{HeapState, state_of}
-use Rattle.plain_world.proofs.GivingBack.{IsBackBelow, read-keep, read-give, gives-back}
+use Rattle.std.proofs.Common.{◌≡◌, refl, sym, subst, ℕ, ◌<◌, arith, length, get_or}
+use Rattle.object_model.specs.Objects.{state_of}
+use Rattle.plain_world.proofs.GivingBack.{IsGivingBack, gives-nothing, gives-next, gives-back, gives-back-all, none-owned, owned-below}
 use Rattle.plain_world.proofs.closing.give_back.Goals as goal
-use Rattle.plain_world.proofs.closing.give_back.Goals.{in-Owned, in_default}
+
+pub loop-block-init : goal.loop-block-init
+loop-block-init c = gives-nothing c.args.fill (state_of c.args.row.now) c.args.notes.now.items c.args.owned.now c.requires.order c.requires.notes
+
+pub give_back_block-requires-clause-block : goal.give_back_block-requires-clause-block
+give_back_block-requires-clause-block c =
+    let old = state_of c.args.row.now in
+    let there : get_or c.args.owned.now c.loop-block.block-index 0 < old.blocks
+    = owned-below c.args.fill old c.args.notes.now.items c.args.owned.now c.requires.notes c.requires.owned c.loop-block.block-index (omega arith) in
+    subst (λ (b : ℕ). get_or c.args.owned.now c.loop-block.block-index 0 < b) (sym c.loop-block.invariant.blocks) there
 
 pub loop-block-preserved : goal.loop-block-preserved
 loop-block-preserved c =
-    let n : ℕ = c.loop-block.block in
-    let old : HeapState = state_of c.args.row in
-    elim c.match-index.branch as (λ _. IsBackBelow old (state_of c.match-index.row) (n + 1)) [
-      | in-Owned w ↦ read-give c.args.fill old c.args.notes.now.items c.requires.tails c.requires.notes n c.index.result.now (omega arith) c.index.ensures
-          (state_of c.loop-block.row) (state_of c.match-index.row) w.in-Owned.owner w.in-Owned.region c.loop-block.invariant w.in-Owned.is
-          c.requires.order.row.extent (c.requires.codes n (omega arith)) (ap state_of w.row-is ∙ w.set_block.ensures)
-      | in_default w ↦ read-keep c.args.fill old c.args.notes.now.items c.requires.tails c.requires.notes n c.index.result.now (omega arith) c.index.ensures
-          (state_of c.match-index.row) w.in_default.field-0 (subst (λ (r : Row). IsBackBelow old (state_of r) n) (sym w.row-is) c.loop-block.invariant) w.in_default.is
-    ]
+    let old = state_of c.args.row.now in
+    let n : ℕ = c.loop-block.block-index in
+    let there : get_or c.args.owned.now n 0 < old.blocks = owned-below c.args.fill old c.args.notes.now.items c.args.owned.now c.requires.notes c.requires.owned n (omega arith) in
+    gives-next c.args.fill c.requires.tails old (state_of c.loop-block.row) c.args.notes.now.items c.loop-block.notes.items c.args.owned.now n (get_or c.args.owned.now n 0)
+    c.requires.codes c.requires.order.row.extent c.loop-block.invariant refl there (state_of c.give_back_block.new.row) c.give_back_block.new.notes.items c.give_back_block.ensures
 
-pub returns : goal.returns
-returns c =
-    gives-back c.args.fill (state_of c.args.row) (state_of c.loop-block.row) c.args.notes.now.items c.requires.tails c.requires.notes
-    (subst (IsBackBelow (state_of c.args.row) (state_of c.loop-block.row)) (omega arith) c.loop-block.invariant)
+pub returns-clause-gives : goal.returns-clause-gives
+returns-clause-gives c =
+    let old = state_of c.args.row.now in
+    let all : c.loop-block.block-index ≡ length c.args.owned.now = omega arith in
+    gives-back c.args.fill old (state_of c.loop-block.row) c.args.notes.now.items c.requires.tails c.requires.notes
+    (gives-back-all c.args.fill old (state_of c.loop-block.row) c.args.notes.now.items c.loop-block.notes.items c.args.owned.now c.requires.notes c.requires.owned
+    (subst (IsGivingBack c.args.fill old (state_of c.loop-block.row) c.args.notes.now.items c.loop-block.notes.items c.args.owned.now) all c.loop-block.invariant))
+
+pub returns-clause-unowned : goal.returns-clause-unowned
+returns-clause-unowned c =
+    let old = state_of c.args.row.now in
+    let all : c.loop-block.block-index ≡ length c.args.owned.now = omega arith in
+    none-owned c.args.fill old (state_of c.loop-block.row) c.args.notes.now.items c.loop-block.notes.items c.args.owned.now c.requires.notes c.requires.owned
+    (subst (IsGivingBack c.args.fill old (state_of c.loop-block.row) c.args.notes.now.items c.loop-block.notes.items c.args.owned.now) all c.loop-block.invariant)

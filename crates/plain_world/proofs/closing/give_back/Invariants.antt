@@ -1,6 +1,6 @@
 use Rattle.object_model.specs.Objects.{state_of}
-use Rattle.plain_world.proofs.GivingBack.{IsBackBelow}
+use Rattle.plain_world.proofs.GivingBack.{IsGivingBack}
 use Rattle.plain_world.proofs.closing.give_back.Given as goal
 
 abbrev pub invariant-loop-block : goal.invariant-loop-block
-invariant-loop-block l = IsBackBelow (state_of l.fn.row) (state_of l.row) l.block
+invariant-loop-block l = IsGivingBack l.fill (state_of l.fn.row) (state_of l.row) l.fn.notes.items l.notes.items l.owned l.block-index

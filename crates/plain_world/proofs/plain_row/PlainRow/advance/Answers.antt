@@ -30,11 +30,12 @@ returns c =
     current-read w c.args.size c.requires c.index.result.now c.in-Some.block c.index-2.result.now c.in-Owned.owner c.in-Owned.region c.index.ensures c.in-Some.is c.index-2.ensures c.in-Owned.is in
     let rest : Region = record { next = c.in-Owned.region.next + c.args.size; end = c.in-Owned.region.end } in
     record {
-      plan = record { turn = refl; fill = refl; young = refl; allowance = refl };
+      plan = record { turn = refl; fill = refl; young = refl; allowance = refl; counts = refl };
       mutators = refl;
       row = refl;
       seats = refl;
       current = is.current;
+      owned = refl;
       region = c.in-Owned.region;
       was = is.note;
       begins = refl;

@@ -5,9 +5,11 @@ use Rattle.heap_layout.specs.declared.block.Kind.{Kind}
 use Rattle.mutator_core.specs.Epochs.{is_filled}
 use Rattle.mutator_core.proofs.Fills.{fill-not-free}
 use Rattle.plain_world.specs.declared.plain_row.BlockNote.{BlockNote}
-use Rattle.plain_world.specs.declared.plain_row.BlockNote.TheVariants.{Owned}
+use Rattle.plain_world.specs.declared.plain_row.BlockNote.TheVariants.{Unowned, Owned}
 use Rattle.plain_world.proofs.Elements.{read-some}
 use Rattle.plain_world.proofs.Facts as facts
+use Rattle.plain_world.proofs.Lists.{one-element}
+use Rattle.plain_world.proofs.Owning.{world-room}
 use Rattle.plain_world.proofs.Turns as turns
 use Rattle.plain_world.proofs.plain_row.PlainRow.take_free_block.Goals as goal
 
@@ -32,3 +34,14 @@ returns-in-Owned-clause-none c = λ _.
     let owned = turns.owned-note now.epoch now.ideal now.log w now.at c.args.block c.in-Owned.owner c.in-Owned.region note in
     let fills : IsTrue (is_filled w.fill) = subst (λ (k : Kind). IsTrue (is_filled k)) (sym now.at.fill) now.at.epoch.ready.fills in
     ((λ free. fill-not-free (state_of w.row) c.args.block w.fill fills owned.kind free), refl)
+
+pub take-requires-clause-room : goal.take-requires-clause-room
+take-requires-clause-room c =
+    let now = c.requires.ready.idle.some in
+    let w = c.args.self.now in
+    let there : c.args.block < length w.notes.items = turns.noted now.epoch now.ideal now.log w now.at c.args.block c.requires.block in
+    let note : slice_get w.notes.items c.args.block ≡ Some (Unowned c.in_default.field-0)
+    = read-some w.notes.items c.args.block c.index.result.now there c.index.ensures ∙ ap (λ (n : BlockNote). Some n) c.in_default.is in
+    world-room w now c.args.block c.requires.block (λ taken.
+    let wrong : Unowned c.in_default.field-0 ≡ Owned taken.owner taken.region
+    = one-element (slice_get w.notes.items c.args.block) (Unowned c.in_default.field-0) (Owned taken.owner taken.region) note taken.note in cc)

@@ -1,10 +1,12 @@
 use Rattle.std.proofs.Common.{◌≡◌, refl, sym, ap, subst, ℕ, arith}
-use Rattle.std.specs.Prelude.{Option, Some}
-use Rattle.plain_world.specs.declared.plain_row.BlockNote.TheVariants.{Unowned}
+use Rattle.std.specs.Prelude.{Option, Some, slice_get}
+use Rattle.plain_world.specs.declared.plain_row.BlockNote.TheVariants.{Unowned, Owned}
 use Rattle.plain_world.specs.Rows.{seat_at_turn, ticket_of}
 use Rattle.plain_world.specs.Changes.{TakesBlock}
 use Rattle.plain_world.proofs.Elements.{set-changes, read-some}
 use Rattle.plain_world.proofs.Facts as facts
+use Rattle.plain_world.proofs.Lists.{one-element}
+use Rattle.plain_world.proofs.Owning.{world-room}
 use Rattle.plain_world.proofs.Turns as turns
 use Rattle.plain_world.proofs.plain_row.PlainRow.take_unowned.Goals as goal
 
@@ -28,10 +30,11 @@ returns-in-None-clause-none c = λ no.
     let w = c.args.self.now in (
       rw c.in-None.is at c.hole.ensures,
       record {
-        plan = record { turn = refl; fill = refl; young = refl; allowance = refl };
+        plan = record { turn = refl; fill = refl; young = refl; allowance = refl; counts = refl };
         mutators = refl;
         row = refl;
         seats = refl;
+        owned = refl;
         notes = set-changes w.notes.items c.args.block (Unowned c.args.size) (turns.noted now.epoch now.ideal now.log w now.at c.args.block c.requires.block);
       },
     )
@@ -45,3 +48,11 @@ returns-in-Some-clause-found c = λ yes.
       rw c.in-Some.is at c.hole.ensures,
       subst (λ (ticket : Option ℕ). TakesBlock w c.take.new.self c.args.block c.in-Some.region ticket) (sym (ap ticket_of seat)) c.take.ensures,
     )
+
+pub take-requires-clause-room : goal.take-requires-clause-room
+take-requires-clause-room c =
+    let now = c.requires.ready.idle.some in
+    let w = c.args.self.now in
+    let note = c.requires.note in
+    world-room w now c.args.block c.requires.block (λ taken.
+    let wrong : Unowned note.0 ≡ Owned taken.owner taken.region = one-element (slice_get w.notes.items c.args.block) (Unowned note.0) (Owned taken.owner taken.region) note.1 taken.note in cc)

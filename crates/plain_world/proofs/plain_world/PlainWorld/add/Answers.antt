@@ -6,7 +6,7 @@ use Rattle.plain_world.proofs.plain_world.PlainWorld.add.Goals as goal
 pub returns-clause-places : goal.returns-clause-places
 returns-clause-places g c =
     let same = places-same c.args.self.now.row c.add.new.seat c.args.m (enters (command.Add c.args.s c.args.j c.args.n) c.add.result) c.requires.open c.add.ensures.goes in
-    record { count = same.0; numbers = same.1 }
+    record { count = same.0; numbers = same.1; fill = same.2 }
 
 pub returns-clause-plan : goal.returns-clause-plan
 returns-clause-plan g c =

@@ -1,29 +1,10 @@
-use Rattle.std.proofs.Common.{◌≡◌, refl, ◌∙◌, ap, map, length, arith, replicate, bit_and, ◌==◌}
-use Rattle.object_model.specs.Heaps.{heap_state}
-use Rattle.plain_world.specs.Rows.{mutator_state}
-use Rattle.plain_world.specs.Beginnings.{without_stop}
-use Rattle.plain_world.proofs.Begun as begun
-use Rattle.plain_world.proofs.Begun.{young-flag, no_seat, no_note, same-blocks}
 use Rattle.plain_world.proofs.plain_world.PlainWorld.begin.Goals as goal
 
 pub returns-clause-open : goal.returns-clause-open
-returns-clause-open g c = begun.idle-begun g.P.Plan.rules (heap_state c.args.heap) (map mutator_state c.args.mutators.items) _ (record {
-  heap = ap without_stop c.into_row-row.ensures.state;
-  mutators = refl;
-  seats = c.in_ok-seats.ensures ∙ ap (λ n. replicate n no_seat) (let many : c.len.result ≡ length c.args.mutators.items = omega arith in many);
-  notes = c.in_ok-notes.ensures ∙ ap (λ n. replicate n no_note) (c.blocks-2.ensures ∙ same-blocks c.into_row-row.ensures.state);
-  fill = c.alloc_kind.ensures;
-  young = c.contains.ensures tt ∙ ap (λ f. bit_and f.0 2 == 2) c.FLAGS.ensures ∙ ap (λ n. bit_and n 2 == 2) g.met.P.Plan.flags_are_of_rules ∙ young-flag g.P.Plan.rules;
-  allowance = c.allowance-allowance.ensures;
-}) c.args.heap.lawful c.requires.users c.requires.tails c.requires.remembers c.requires.few
+returns-clause-open g c = c.begin_with.ensures.open
+
+pub returns-clause-tickets : goal.returns-clause-tickets
+returns-clause-tickets g c = c.begin_with.ensures.tickets
 
 pub returns-clause-begins : goal.returns-clause-begins
-returns-clause-begins g c = begun.after-begun g.P.Plan.rules (heap_state c.args.heap) (map mutator_state c.args.mutators.items) _ (record {
-  heap = ap without_stop c.into_row-row.ensures.state;
-  mutators = refl;
-  seats = c.in_ok-seats.ensures ∙ ap (λ n. replicate n no_seat) (let many : c.len.result ≡ length c.args.mutators.items = omega arith in many);
-  notes = c.in_ok-notes.ensures ∙ ap (λ n. replicate n no_note) (c.blocks-2.ensures ∙ same-blocks c.into_row-row.ensures.state);
-  fill = c.alloc_kind.ensures;
-  young = c.contains.ensures tt ∙ ap (λ f. bit_and f.0 2 == 2) c.FLAGS.ensures ∙ ap (λ n. bit_and n 2 == 2) g.met.P.Plan.flags_are_of_rules ∙ young-flag g.P.Plan.rules;
-  allowance = c.allowance-allowance.ensures;
-}) c.args.heap.lawful c.requires.users c.requires.tails c.requires.remembers c.requires.few
+returns-clause-begins g c = c.begin_with.ensures.begins

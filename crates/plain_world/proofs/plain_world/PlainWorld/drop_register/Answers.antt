@@ -6,7 +6,7 @@ use Rattle.plain_world.proofs.plain_world.PlainWorld.drop_register.Goals as goal
 pub returns-clause-places : goal.returns-clause-places
 returns-clause-places g c =
     let same = places-same c.args.self.now.row c.drop_register.new.seat c.args.m (enters (command.DropReg c.args.s) c.drop_register.result) c.requires.open c.drop_register.ensures.goes in
-    record { count = same.0; numbers = same.1 }
+    record { count = same.0; numbers = same.1; fill = same.2 }
 
 pub returns-clause-plan : goal.returns-clause-plan
 returns-clause-plan g c =

@@ -15,9 +15,9 @@ use Rattle.plain_world.proofs.plain_world.PlainWorld.new_object.Goals as goal
 pub returns-clause-places : goal.returns-clause-places
 returns-clause-places g c = allocated-both c.new_object.result (allocated-weaker c.new_object.result
     (λ n did. let same = places-same c.args.self.now.row c.new_object.new.seat c.args.m (births_with c.args.d c.args.refs c.args.nums n did.0.0 did.0.1 did.0.2) c.requires.open did.0.3 in
-    record { count = same.0; numbers = same.1 })
+    record { count = same.0; numbers = same.1; fill = same.2 })
     (λ need did. let same = places-same c.args.self.now.row c.new_object.new.seat c.args.m (draws did.1.0) c.requires.open did.1.1 in
-    record { count = same.0; numbers = same.1 })
+    record { count = same.0; numbers = same.1; fill = same.2 })
     (allocated-and _ _ _ _ c.new_object.result c.new_object.ensures.made c.new_object.ensures.stopped))
 
 pub returns-clause-plan : goal.returns-clause-plan

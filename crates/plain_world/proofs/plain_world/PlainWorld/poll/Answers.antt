@@ -12,7 +12,7 @@ pub returns-clause-places : goal.returns-clause-places
 returns-clause-places g c =
     let did = goes-nothing (record c.args.self.now.row { turn = c.args.m }) c.poll.new.seat c.poll.ensures.looks in
     let same = places-same c.args.self.now.row c.poll.new.seat c.args.m nothing c.requires.open did in
-    record { count = same.0; numbers = same.1 }
+    record { count = same.0; numbers = same.1; fill = same.2 }
 
 pub returns-clause-plan : goal.returns-clause-plan
 returns-clause-plan g c = ap (λ w. w.young) c.poll.ensures.looks

@@ -11,7 +11,7 @@ use Rattle.plain_world.proofs.plain_world.PlainWorld.put.Goals as goal
 pub returns-clause-places : goal.returns-clause-places
 returns-clause-places g c = let did = c.put.ensures.goes in
     let same = places-same c.args.self.now.row c.put.new.seat c.args.m (logs did.0 (command.Put c.args.s c.args.i c.args.v) c.put.result) c.requires.open did.1 in
-    record { count = same.0; numbers = same.1 }
+    record { count = same.0; numbers = same.1; fill = same.2 }
 
 pub returns-clause-plan : goal.returns-clause-plan
 returns-clause-plan g c = let did = c.put.ensures.goes in

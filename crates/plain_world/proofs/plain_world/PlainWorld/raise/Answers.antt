@@ -5,7 +5,7 @@ use Rattle.plain_world.proofs.plain_world.PlainWorld.raise.Goals as goal
 pub returns-clause-places : goal.returns-clause-places
 returns-clause-places g c =
     let same = places-same c.args.self.now.row c.raise.new.seat c.args.m raises c.requires.open c.raise.ensures.goes in
-    record { count = same.0; numbers = same.1 }
+    record { count = same.0; numbers = same.1; fill = same.2 }
 
 pub returns-clause-plan : goal.returns-clause-plan
 returns-clause-plan g c =

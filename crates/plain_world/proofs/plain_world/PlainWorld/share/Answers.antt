@@ -6,7 +6,7 @@ use Rattle.plain_world.proofs.plain_world.PlainWorld.share.Goals as goal
 pub returns-clause-places : goal.returns-clause-places
 returns-clause-places g c =
     let same = places-same c.args.self.now.row c.share.new.seat c.args.m (enters (command.Share c.args.g c.args.s) c.share.result) c.requires.open c.share.ensures.goes in
-    record { count = same.0; numbers = same.1 }
+    record { count = same.0; numbers = same.1; fill = same.2 }
 
 pub returns-clause-plan : goal.returns-clause-plan
 returns-clause-plan g c =

@@ -1,0 +1,26 @@
+-- How a manager begins.
+use Rattle.std.proofs.Common.{◌≡◌, refl, sym, ◌∙◌, ap, subst, ℕ, zero, suc, List, [], ◌∷◌, ◌++◌, Vec}
+use Rattle.std.specs.Prelude.{slice_get, Some, None}
+use Rattle.std.specs.declared.alloc.Global.{Global}
+use Rattle.std.proofs.lemmas.List.{map-append}
+use Rattle.ideal_heap.specs.declared.command.Command.{Command}
+use Rattle.plain_world.proofs.Lists.{one-element}
+use Rattle.mm_runtime.specs.declared.progress.Progress.{Progress}
+use Rattle.mm_runtime.specs.Managers.{lists_of, traces_of, IsFresh}
+
+-- what holds of each element, and of one more
+pub pushed : {A : Type 0} (Q : A → Type 0) (xs : List A) (y : A) → ((k : ℕ) (x : A) → slice_get xs k ≡ Some x → Q x) → Q y
+    → (k : ℕ) (x : A) → slice_get (xs ++ y ∷ []) k ≡ Some x → Q x
+pushed Q [] y each here zero x is = subst Q (one-element (slice_get (y ∷ []) 0) y x refl is) here
+pushed Q [] y each here (suc k) x is = let wrong : None ≡ Some x = is in cc
+pushed Q (z ∷ xs) y each here zero x is = each zero x is
+pushed Q (z ∷ xs) y each here (suc k) x is = pushed Q xs y (λ j w e. each (suc j) w e) here k x is
+
+pub traces-pushed : (ps : List Progress) (vs : List (Vec Command Global)) (p : Progress) (trace : Vec Command Global) → traces_of ps ≡ lists_of vs → p.trace.items ≡ trace.items
+    → traces_of (ps ++ p ∷ []) ≡ lists_of (vs ++ trace ∷ [])
+traces-pushed ps vs p trace same is =
+    map-append (λ (x : Progress). x.trace.items) ps (p ∷ []) ∙ ap (λ ts. ts ++ p.trace.items ∷ []) same ∙ ap (λ t. lists_of vs ++ t ∷ []) is
+    ∙ sym (map-append (λ (v : Vec Command Global). v.items) vs (trace ∷ []))
+
+pub own-trace : (trace : List Command) (p : Progress) → IsFresh trace p → IsFresh p.trace.items p
+own-trace trace p fresh = subst (λ t. IsFresh t p) (sym fresh.trace_is) fresh

@@ -1,0 +1,153 @@
+-- What an epoch does to a manager.
+use Rattle.std.proofs.Common.{◌≡◌, refl, sym, ◌∙◌, ap, subst, ℕ, ◌+◌, ◌≤◌, inl, inr, arith, List, ◌++◌, map, length}
+use Rattle.std.specs.Prelude.{slice_get}
+use Rattle.std.specs.List.{AllByRecursion}
+use Rattle.std.proofs.lemmas.List.{length-map}
+use Rattle.ideal_heap.specs.Ideal as ideal
+use Rattle.ideal_heap.specs.Ideal.{IdealHeap}
+use Rattle.ideal_heap.specs.Runs.{Entry, IsRun, after}
+use Rattle.ideal_heap.proofs.RunLemmas.{after-append, longer}
+use Rattle.object_model.specs.Objects.{HeapState}
+use Rattle.object_model.specs.Heaps.{heap_state}
+use Rattle.object_model.specs.Graphs.{MutatorState, Represents, numbers_of}
+use Rattle.object_model.specs.Lawful.{IsLawful}
+use Rattle.sessions.specs.Plans.{Rules}
+use Rattle.sessions.specs.Fitting.{free_of, allowance_of}
+use Rattle.sessions.specs.Sessions.{Setting, Moment, IsOfPart, ExhaustsAllowance, RunsPart, Stopped, ideal_at, mutators_of as numbers_in}
+use Rattle.mutator_core.specs.Machine.{Epoch}
+use Rattle.mutator_core.specs.Guards.{allowance}
+use Rattle.mutator_core.proofs.Ending.{log-recorded}
+use Rattle.plain_world.specs.Beginnings.{epoch_of}
+use Rattle.plain_world.specs.Rows.{mutator_state, births_of}
+use Rattle.plain_world.specs.Calls.{HasHistory, births_at}
+use Rattle.plain_world.proofs.Facts as facts
+use Rattle.plain_world.proofs.StopWords.{stopped-before}
+use Rattle.plain_world.proofs.Cleared as cleared
+use Rattle.mm_runtime.specs.declared.progress.Progress.{Progress}
+use Rattle.mm_runtime.specs.declared.progress.End.{End}
+use Rattle.mm_runtime.specs.declared.manager.Manager.{Manager}
+use Rattle.mm_runtime.specs.Managers.{traces_of, HasReplies, IsInOrder, StandsAt}
+use Rattle.mm_runtime.specs.Parts.{causes, IsExhausted}
+use Rattle.mm_runtime.proofs.Composing.{births-same}
+use Rattle.mm_runtime.proofs.Exhausting.{exhausts, free-cleared}
+use Rattle.mm_runtime.proofs.Causes as ends-of
+use Rattle.mm_runtime.proofs.Standing as standing
+use Rattle.mm_runtime.proofs.Standing.{RunsEpoch}
+
+module _ {P : Type 0} (rules : Rules) (old new : Manager P) (ends : List End) (r : RunsEpoch rules old new ends) (t : Setting) (now : Moment)
+    (stands : StandsAt rules old t now) where
+  abbrev before : HeapState
+  before = heap_state old.heap
+
+  abbrev ms : List MutatorState
+  ms = map mutator_state old.mutators.items
+
+  abbrev p : Epoch
+  p = epoch_of rules before ms
+
+  abbrev part : List Entry
+  part = r.runs.part
+
+  abbrev pub stop : Moment
+  stop = record {
+    heap = heap_state new.heap;
+    mutators = map mutator_state new.mutators.items;
+    done = now.done ++ part;
+    nursery = now.nursery;
+    full = now.full;
+  }
+
+  lawful : IsLawful before
+  lawful = subst IsLawful (sym stands.heap) stands.sound.lawful
+
+  history : HasHistory r.last p (ideal_at now) part
+  history = standing.history rules old new ends r (ideal_at now) (standing.stands-represents rules old t now stands)
+
+  run : IsRun (ideal_at now) part
+  run = subst (IsRun (ideal_at now)) history.history (facts.end p (ideal_at now) history.log r.last.row history.at).run
+
+  each : AllByRecursion IsOfPart part
+  each = subst (AllByRecursion IsOfPart) history.history (log-recorded p (ideal_at now) history.log history.at.epoch).each
+
+  stopped : Stopped t.rules (numbers_in t) now.heap (ideal_at now) part stop.heap stop.mutators
+  stopped =
+      subst (λ (x : Rules). Stopped x (numbers_in t) now.heap (ideal_at now) part stop.heap stop.mutators) (sym stands.rules_are)
+      (subst (λ (s : HeapState). Stopped rules (numbers_in t) s (ideal_at now) part stop.heap stop.mutators) stands.heap
+      (subst (λ (ns : List ℕ). Stopped rules ns before (ideal_at now) part stop.heap stop.mutators) (standing.stands-listed rules old t now stands)
+      (stopped-before before lawful rules (numbers_of ms) stop.heap (ideal_at now) part stop.mutators (r.stopped p (ideal_at now) part history))))
+
+  traces : t.traces ≡ traces_of new.progress.items
+  traces = stands.traces ∙ sym (standing.traces-same rules old new ends r)
+
+  replies : HasReplies new.progress.items stop.done
+  replies = standing.has-replies rules old new ends r now.done stands.replies
+
+  many : length ends ≡ length new.progress.items
+  many = r.runs.ended ∙ sym r.runs.count
+
+  count : length t.traces ≡ length old.progress.items
+  count = ap length stands.traces ∙ length-map old.progress.items (λ (q : Progress). q.trace.items)
+
+  exhausted : (k : ℕ) → IsExhausted r.last k → ExhaustsAllowance t now.heap stop.heap
+  exhausted k is =
+      let allowed : allowance p ≡ allowance_of t.rules.reserve now.heap =
+      cleared.allowance-cleared before lawful rules.reserve ∙ ap (allowance_of rules.reserve) stands.heap ∙ ap (λ (x : Rules). allowance_of x.reserve now.heap) (sym stands.rules_are) in
+      let free : free_of p.before ≡ free_of now.heap = free-cleared before lawful ∙ ap free_of stands.heap in
+      let places = r.count in
+      let all = count in
+      elim (exhausts r.last p (ideal_at now) part stop.heap k history r.gives (r.tickets p (ideal_at now) part history) r.drawn is) as (λ _. ExhaustsAllowance t now.heap stop.heap) [
+        | inl none ↦ inl none
+        | inr few ↦ inr (omega arith)
+      ]
+
+  pub runs-part : RunsPart t now (causes ends) stop
+  runs-part = record {
+    part = part;
+    done = refl;
+    runs = run;
+    each = each;
+    causes = ends-of.all-causes r.last t stop new.progress.items ends traces replies many r.runs.causes;
+    stopped = stopped;
+    counts = (refl, refl);
+    needs = λ m d refs nums is at need small.
+        let k = ends-of.needs-exhausted r.last t stop new.progress.items ends traces replies many r.runs.causes m d refs nums is at need small in
+        exhausted k.0 k.1;
+  }
+
+  ideal-same : ideal_at stop ≡ after (ideal_at now) part
+  ideal-same = after-append ideal.empty now.done part
+
+  pub stands-after : StandsAt rules new t stop
+  stands-after = record {
+    rules_are = stands.rules_are;
+    workers = stands.workers;
+    traces = traces;
+    heap = refl;
+    mutators = refl;
+    replies = replies;
+    nursery = r.nursery ∙ stands.nursery;
+    full = r.full ∙ stands.full;
+    sound = record {
+      lawful = stopped.lawful;
+      remembers = stopped.remembers;
+      represents = subst (λ (h : IdealHeap). Represents stop.heap stop.mutators h) (sym ideal-same) stopped.represents;
+      listed = stopped.listed;
+    };
+    run = longer ideal.empty now.done part stands.run run;
+  }
+
+  pub in-order : IsInOrder rules 0 old → IsInOrder rules 0 new
+  in-order order =
+      let same = r.runs.count in record {
+        some = let some = order.some in omega arith;
+        few = let few = order.few in omega arith;
+        count = sym (length-map new.mutators.items mutator_state) ∙ ap length r.mutators ∙ length-map r.last.row.mutators.items mutator_state ∙ r.count ∙ sym same;
+        each = r.runs.each;
+        births = λ k u q there is. let most : births_at r.last k ≤ length q.replies.items = r.runs.births k q is in
+            let e = births-same r.last.row.mutators.items new.mutators.items r.mutators k in
+            let own : births_of (slice_get new.mutators.items k) ≡ u.births = ap births_of there in
+            omega arith;
+        notes = r.notes p (ideal_at now) part history;
+        number = (r.stopped p (ideal_at now) part history).number ∙ order.number ∙ ap (λ n. n + old.full) (sym r.nursery) ∙ ap (λ n. new.nursery + n) (sym r.full);
+        collections = let all = order.collections in let more = standing.replied-more rules old new ends r in let nursery = r.nursery in let full = r.full in omega arith;
+      }

@@ -1,0 +1,69 @@
+-- Why a part ended holds after later parts too.
+use Rattle.std.proofs.Common.{◌≡◌, ◌≢◌, refl, sym, ◌∙◌, ap, subst, ℕ, ◌+◌, ◌<◌, ◌≤◌, ◌⊎◌, inl, inr, arith, true, List, [], ◌∷◌, ◌++◌, length}
+use Rattle.std.specs.Prelude.{Option}
+use Rattle.ideal_heap.specs.declared.command.Command.{Command}
+use Rattle.mutator_calls.specs.Effects.{Answered}
+use Rattle.plain_world.specs.declared.plain_world.PlainWorld.{PlainWorld}
+use Rattle.plain_world.specs.Calls.{stop_word, number_at}
+use Rattle.mm_runtime.specs.declared.progress.End.{End}
+use Rattle.mm_runtime.specs.declared.progress.End.TheVariants as end
+use Rattle.mm_runtime.specs.Parts.{Answers, IsExhausted, EndsFor, EndedFor, HasRaised, raises_stop}
+use Rattle.mm_runtime.proofs.ListFacts.{push-old, push-new}
+
+-- the other mutators' calls give no ticket and free no block
+pub exhausted-after : {P : Type 0} (old new : PlainWorld P) (m k : ℕ) (es : List Answered) → Answers old m es new → k ≢ m → IsExhausted old k → IsExhausted new k
+exhausted-after old new m k es answers other (inl (t, ticket, past)) =
+    inl (t, (answers.others k other).0 ∙ ticket, subst (λ (n : ℕ). n ≤ t) (sym answers.allowance) past)
+exhausted-after old new m k es answers other (inr used) =
+    inr (λ j below free. used j (subst (λ (n : ℕ). j < n) answers.blocks below) (answers.free j free))
+
+pub raised-before : (ends : List End) (e : End) (number : ℕ) → HasRaised ends number → HasRaised (ends ++ e ∷ []) number
+raised-before ends e number raised = record {
+  place = raised.place;
+  end = raised.end;
+  is = push-old ends e raised.place raised.end raised.is;
+  raises = raised.raises;
+  number_is = raised.number_is;
+}
+
+pub raised-last : (ends : List End) (e : End) (number m : ℕ) → length ends ≡ m → raises_stop e ≡ true → number ≡ m + 1 → HasRaised (ends ++ e ∷ []) number
+raised-last ends e number m many raises is = record {
+  place = length ends;
+  end = e;
+  is = push-new ends e;
+  raises = raises;
+  number_is = is ∙ ap (λ n. n + 1) (sym many);
+}
+
+pub ended-before : {P : Type 0} (old new : PlainWorld P) (m k : ℕ) (es : List Answered) (ends : List End) (last : End) (next : Option Command) (e : End)
+    → Answers old m es new → k ≢ m → EndedFor old ends k next e → EndedFor new (ends ++ last ∷ []) k next e
+ended-before old new m k es ends last next end.Gc answers other is = is
+ended-before old new m k es ends last next end.Meet answers other is = is
+ended-before old new m k es ends last next end.Trace answers other is = is
+ended-before old new m k es ends last next (end.Need need) answers other is = (is.0, λ small. exhausted-after old new m k es answers other (is.1 small))
+ended-before old new m k es ends last next (end.Raised by) answers other is = (is.0, raised-before ends last by is.1)
+
+by-earlier : (ends : List End) (last : End) (before by : ℕ) → (before ≡ 0) ⊎ HasRaised ends before → 0 < by → before ≡ by → HasRaised (ends ++ last ∷ []) by
+by-earlier ends last before by (inl none) some is = absurd (omega arith)
+by-earlier ends last before by (inr raised) some is = raised-before ends last by (subst (HasRaised ends) is raised)
+
+pub ended-last : {P : Type 0} (w : PlainWorld P) (m before : ℕ) (ends : List End) (next : Option Command) (e : End)
+    → (before ≡ 0) ⊎ HasRaised ends before → EndsFor before w m next e → EndedFor w (ends ++ e ∷ []) m next e
+ended-last w m before ends next end.Gc stop is = is.0
+ended-last w m before ends next end.Meet stop is = is.0
+ended-last w m before ends next end.Trace stop is = is.0
+ended-last w m before ends next (end.Need need) stop is = (is.0, is.2)
+ended-last w m before ends next (end.Raised by) stop is = (is.0, by-earlier ends (end.Raised by) before by stop is.1 is.2)
+
+word-before : (ends : List End) (last : End) (before word : ℕ) → (before ≡ 0) ⊎ HasRaised ends before → word ≡ before → (word ≡ 0) ⊎ HasRaised (ends ++ last ∷ []) word
+word-before ends last before word (inl none) is = inl (is ∙ none)
+word-before ends last before word (inr raised) is = inr (raised-before ends last word (subst (HasRaised ends) (sym is) raised))
+
+-- the stop word after the part
+pub word-after : {P : Type 0} (w : PlainWorld P) (m before : ℕ) (ends : List End) (next : Option Command) (e : End) → length ends ≡ m → number_at w m ≡ m + 1
+    → (before ≡ 0) ⊎ HasRaised ends before → EndsFor before w m next e → (stop_word w ≡ 0) ⊎ HasRaised (ends ++ e ∷ []) (stop_word w)
+word-after w m before ends next end.Gc many number stop is = inr (raised-last ends end.Gc (stop_word w) m many refl (is.1 ∙ number))
+word-after w m before ends next end.Meet many number stop is = word-before ends end.Meet before (stop_word w) stop is.1
+word-after w m before ends next end.Trace many number stop is = word-before ends end.Trace before (stop_word w) stop is.1
+word-after w m before ends next (end.Need need) many number stop is = inr (raised-last ends (end.Need need) (stop_word w) m many refl (is.1 ∙ number))
+word-after w m before ends next (end.Raised by) many number stop is = word-before ends (end.Raised by) before (stop_word w) stop (is.3 ∙ sym is.2)

@@ -1,0 +1,139 @@
+-- An object of a need is put at a spot: the heap between, and the new heap.
+use Rattle.std.proofs.Common.{◌≡◌, ◌≢◌, refl, sym, ◌∙◌, ap, subst, ℕ, ◌+◌, ◌-◌, ◌<◌, ◌≤◌, inl, arith, Bool, true, false, List, length, map}
+use Rattle.std.specs.Prelude.{Some, slice_get, vec_capacity}
+use Rattle.std.specs.List.{range_with_len}
+use Rattle.std.proofs.lemmas.Bool.{false_from_ne_true}
+use Rattle.std.proofs.lemmas.Option.{slice_get_within}
+use Rattle.heap_layout.specs.Zones.{block_start, IsAddress}
+use Rattle.heap_layout.specs.declared.block.Kind.TheVariants as kinds
+use Rattle.ideal_heap.specs.declared.name.Name.{Name}
+use Rattle.ideal_heap.specs.Names.{IsName, name}
+use Rattle.object_model.specs.Objects.{HeapState, has_kind, IsHeld, name_at, size_of}
+use Rattle.object_model.specs.Heaps.{heap_state}
+use Rattle.object_model.specs.Lawful.{IsLawful}
+use Rattle.object_model.specs.Graphs.{MutatorState, Represents, numbers_of}
+use Rattle.object_model.specs.Changes.{WritesObject}
+use Rattle.object_model.proofs.OneKind.{one-kind}
+use Rattle.sessions.specs.Plans.{NoGc, Rules, rules_of}
+use Rattle.sessions.specs.Sessions.{Setting, Moment, ideal_at}
+use Rattle.mutator_calls.specs.declared.need.Need.{Need}
+use Rattle.mutator_calls.specs.declared.need.Mutator.{Mutator}
+use Rattle.plain_world.specs.Rows.{mutator_state}
+use Rattle.plain_world.specs.Notes.{FillsTails}
+use Rattle.plain_world.proofs.Lists.{one-element}
+use Rattle.mm_runtime.specs.declared.manager.Manager.{Manager}
+use Rattle.mm_runtime.specs.declared.progress.Progress.{Progress}
+use Rattle.mm_runtime.specs.declared.place.Spot.{Spot}
+use Rattle.mm_runtime.specs.Managers.{IsAtStop, StandsAt}
+use Rattle.mm_runtime.specs.Stops.{IsSpot, NeedsNext, TakesBlock, WritesAt, BearsAt}
+use Rattle.mm_runtime.proofs.Needs.{HasNeed, has-need, next-name}
+use Rattle.mm_runtime.proofs.Users.{fresh-name}
+use Rattle.mm_runtime.proofs.Written.{IsFreeOrHole, IsOpened, opened, IsBorn, born-at}
+
+-- the spot lies within its block
+spot-within : (b : Bool) (s : HeapState) (k at size : ℕ) → size ≤ 2048 → IsFreeOrHole b s k at size → at + size ≤ 4096
+spot-within true s k at size small is = (let front : at ≡ 0 = is.1 in omega arith)
+spot-within false s k at size small is = is.2
+
+spot-free : (b : Bool) (s : HeapState) (k at size : ℕ) → IsFreeOrHole b s k at size → b ≡ has_kind s k kinds.Free
+spot-free true s k at size is = sym is.0
+spot-free false s k at size is = sym (false_from_ne_true (has_kind s k kinds.Free) (λ free. let both = one-kind s k kinds.Bump kinds.Free is.0 free in cc))
+
+pub was-free : (s : HeapState) (size : ℕ) (spot : Spot) → IsSpot (rules_of NoGc) s size spot → spot.free ≡ has_kind s spot.block kinds.Free
+was-free s size spot is = spot-free spot.free s spot.block spot.offset size is.spot_is
+
+pub fills-tails : (rules : Rules) → rules ≡ rules_of NoGc → FillsTails rules.fill
+fills-tails rules are = subst (λ (r : Rules). FillsTails r.fill) (sym are) (inl refl)
+
+-- the heap between, in the terms of the definitions
+pub took : (rules : Rules) (s row between : HeapState) (spot : Spot) (size r q refs nums : ℕ) → rules ≡ rules_of NoGc → row ≡ s → size ≡ size_of r q → r ≡ refs → q ≡ nums
+    → TakesBlock rules row spot size between → TakesBlock (rules_of NoGc) s spot (size_of refs nums) between
+took rules s row between spot size r q refs nums are same is er eq takes =
+    let wanted : size ≡ size_of refs nums = is ∙ ap (λ x. size_of x q) er ∙ ap (λ x. size_of refs x) eq in
+    subst (λ (x : Rules). TakesBlock x s spot (size_of refs nums) between) are
+    (subst (λ (x : HeapState). TakesBlock rules x spot (size_of refs nums) between) same (subst (λ (x : ℕ). TakesBlock rules row spot x between) wanted takes))
+
+module _ (s between : HeapState) (spot : Spot) (refs nums : ℕ) (lawful : IsLawful s) (is : IsSpot (rules_of NoGc) s (size_of refs nums) spot)
+    (takes : TakesBlock (rules_of NoGc) s spot (size_of refs nums) between) where
+  open-there : IsOpened s between spot.block spot.offset (size_of refs nums)
+  open-there = opened spot.free s between spot.block spot.offset (size_of refs nums) lawful is.small is.spot_is takes
+
+  pub blocks-between : between.blocks ≡ s.blocks
+  blocks-between = ap (λ (x : HeapState). x.blocks) open-there.1
+
+  pub lawful-between : IsLawful between
+  lawful-between = subst IsLawful (sym open-there.1) open-there.0.lawful
+
+  pub address-between : (a : ℕ) → a ≡ block_start between.blocks spot.block + spot.offset → IsAddress between.blocks a
+  address-between a at =
+      let within : spot.offset + size_of refs nums ≤ 4096 = spot-within spot.free s spot.block spot.offset (size_of refs nums) is.small is.spot_is in
+      let inside : spot.block < between.blocks = subst (λ (b : ℕ). spot.block < b) (sym blocks-between) is.inside in
+      subst (IsAddress between.blocks) (sym at) (record { from = omega arith; below = omega arith })
+
+  pub written : (new : HeapState) (a r q : ℕ) (n : Name) → a ≡ block_start between.blocks spot.block + spot.offset → r ≡ refs → q ≡ nums → WritesObject between new a n r q
+      → WritesAt (rules_of NoGc) s spot n refs nums new
+  written new a r q n at er eq writes = record {
+    between = between;
+    block = takes;
+    object = subst (λ (b : ℕ). WritesObject between new (block_start b spot.block + spot.offset) n refs nums) blocks-between
+        (subst (λ (x : ℕ). WritesObject between new x n refs nums) at
+        (subst (λ (x : ℕ). WritesObject between new a n refs x) eq (subst (λ (x : ℕ). WritesObject between new a n x q) er writes)));
+  }
+
+-- the heap and the mutators of a manager represent the ideal heap of its session
+module _ {P : Type 0} (rules : Rules) (manager : Manager P) (t : Setting) (now : Moment) (stands : StandsAt rules manager t now) where
+  pub stands-represents : Represents (heap_state manager.heap) (map mutator_state manager.mutators.items) (ideal_at now)
+  stands-represents = subst (λ (ms : List MutatorState). Represents (heap_state manager.heap) ms (ideal_at now)) (sym stands.mutators)
+      (subst (λ (x : HeapState). Represents x now.mutators (ideal_at now)) (sym stands.heap) stands.sound.represents)
+
+  pub stands-listed : numbers_of (map mutator_state manager.mutators.items) ≡ range_with_len 1 (length t.traces)
+  stands-listed = ap numbers_of stands.mutators ∙ stands.sound.listed
+
+module _ {P : Type 0} (rules : Rules) (more : ℕ) (manager : Manager P) (m : ℕ) (need : Need) (stop : IsAtStop rules more manager) (next : NeedsNext manager m need) where
+  pub the-need : HasNeed manager.mutators.items manager.progress.items (m - 1) m need.register need.refs need.nums
+  the-need = has-need rules more manager m need stop.order next
+
+  pub most-progress : m ≤ length manager.progress.items
+  most-progress = (let at : (m - 1) + 1 ≡ m = the-need.at in let below : m - 1 < length manager.progress.items = slice_get_within manager.progress.items (m - 1) the-need.progress the-need.there in omega arith)
+
+  pub most-users : m ≤ length manager.mutators.items
+  most-users = (let same : length manager.mutators.items ≡ length manager.progress.items = stop.order.count in let most : m ≤ length manager.progress.items = most-progress in omega arith)
+
+  pub few-births : (k : ℕ) (u : Mutator) → k + 1 ≡ m → slice_get manager.mutators.items k ≡ Some u → u.births + 1 < 4294967296
+  few-births k u at here =
+      let at' : (m - 1) + 1 ≡ m = the-need.at in
+      let place : k ≡ m - 1 = omega arith in
+      let same : u ≡ the-need.user = one-element (slice_get manager.mutators.items (m - 1)) u the-need.user (ap (slice_get manager.mutators.items) (sym place) ∙ here) the-need.here in
+      subst (λ (x : Mutator). x.births + 1 < 4294967296) (sym same)
+      (next-name manager.mutators.items manager.progress.items (m - 1) m need.register need.refs need.nums the-need).fits
+
+  pub room-left : (k : ℕ) (p : Progress) → k + 1 ≡ m → slice_get manager.progress.items k ≡ Some p → length p.replies.items < vec_capacity p.replies
+  room-left k p at there =
+      let at' : (m - 1) + 1 ≡ m = the-need.at in
+      let place : k ≡ m - 1 = omega arith in
+      let same : p ≡ the-need.progress = one-element (slice_get manager.progress.items (m - 1)) p the-need.progress (ap (slice_get manager.progress.items) (sym place) ∙ there) the-need.there in
+      let within : length the-need.progress.replies.items < length the-need.progress.trace.items = the-need.within in
+      let room : length the-need.progress.trace.items ≤ vec_capacity the-need.progress.replies = the-need.is.room in
+      subst (λ (x : Progress). length x.replies.items < vec_capacity x.replies) (sym same) (omega arith)
+
+  -- the name that its birth has
+  pub birth-name : (new : List Mutator) (k d a : ℕ) (n : Name) → k + 1 ≡ m → BearsAt manager.mutators.items new k m d a n → n ≡ name m (the-need.user.births + 1)
+  birth-name new k d a n at bears =
+      let at' : (m - 1) + 1 ≡ m = the-need.at in
+      let place : k ≡ m - 1 = omega arith in
+      let same : bears.mutator ≡ the-need.user = one-element (slice_get manager.mutators.items (m - 1)) bears.mutator the-need.user (ap (slice_get manager.mutators.items) (sym place) ∙ bears.was) the-need.here in
+      bears.name ∙ ap (λ u. name m (u.births + 1)) same
+
+  pub is-name : (n : Name) → n ≡ name m (the-need.user.births + 1) → IsName n
+  is-name n is = subst IsName (sym is) (next-name manager.mutators.items manager.progress.items (m - 1) m need.register need.refs need.nums the-need)
+
+  pub is-fresh : (n : Name) → n ≡ name m (the-need.user.births + 1) → (x : ℕ) → IsHeld (heap_state manager.heap) x → name_at (heap_state manager.heap) x ≢ n
+  is-fresh n is x holds e =
+      fresh-name manager.mutators.items (length stop.setting.traces) (stands-listed rules manager stop.setting stop.now stop.stands) (m - 1) m the-need.user the-need.at the-need.here
+      (heap_state manager.heap) (ideal_at stop.now) (stands-represents rules manager stop.setting stop.now stop.stands) x holds (e ∙ is)
+
+  -- the new heap
+  pub born-need : (spot : Spot) (n : Name) (new : HeapState) → n ≡ name m (the-need.user.births + 1) → IsSpot (rules_of NoGc) (heap_state manager.heap) (size_of need.refs need.nums) spot
+      → WritesAt (rules_of NoGc) (heap_state manager.heap) spot n need.refs need.nums new → IsBorn (heap_state manager.heap) spot n need.refs need.nums new
+  born-need spot n new is found writes =
+      born-at (heap_state manager.heap) new spot n need.refs need.nums manager.heap.lawful found writes the-need.valid.1 the-need.valid.2 (is-name n is) (is-fresh n is)

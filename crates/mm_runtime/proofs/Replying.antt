@@ -1,0 +1,87 @@
+-- The replies of a part go to those of its trace.
+use Rattle.std.proofs.Common.{◌≡◌, refl, sym, ◌∙◌, ap, subst, ℕ, ◌+◌, ◌<◌, List, [], ◌∷◌, ◌++◌, map, take, length, length-append, append_assoc, append-nil, add-one, arith}
+use Rattle.std.specs.Prelude.{slice_get, Some, All, vec_capacity}
+use Rattle.std.proofs.Math.Seq.{take-suc}
+use Rattle.std.proofs.lemmas.List.{map-append}
+use Rattle.std.proofs.lemmas.Option.{slice_get_within, get_or_from_slice_get}
+use Rattle.ideal_heap.specs.declared.command.Command.{Command}
+use Rattle.ideal_heap.specs.declared.reply.Reply.{Reply}
+use Rattle.ideal_heap.specs.Commands.{IsValid}
+use Rattle.mutator_calls.specs.Effects.{Answered}
+use Rattle.plain_world.specs.declared.plain_world.PlainWorld.{PlainWorld}
+use Rattle.plain_world.specs.Calls.{IsOpen}
+use Rattle.mm_runtime.specs.declared.progress.Progress.{Progress}
+use Rattle.mm_runtime.specs.Managers.{next_of, IsProgress}
+use Rattle.mm_runtime.specs.Parts.{Answers, RunsTrace}
+use Rattle.mm_runtime.proofs.Composing.{answers-none, answers-append}
+
+-- one more element is taken
+take-more : {A : Type 0} (xs : List A) (k : ℕ) (x : A) → slice_get xs k ≡ Some x → take (k + 1) xs ≡ take k xs ++ x ∷ []
+take-more xs k x is =
+    ap (λ n. take n xs) (add-one k) ∙ take-suc xs k x (slice_get_within xs k x is)
+    ∙ ap (λ y. take k xs ++ y ∷ []) (get_or_from_slice_get xs k x x is)
+
+-- the next command is one of the trace
+pub next-within : (p : Progress) (command : Command) → next_of p ≡ Some command → length p.replies.items < length p.trace.items
+next-within p command is = slice_get_within p.trace.items (length p.replies.items) command is
+
+pub next-valid : (p : Progress) (command : Command) → IsProgress p → next_of p ≡ Some command → IsValid command
+next-valid p command order is =
+    subst IsValid (get_or_from_slice_get p.trace.items (length p.replies.items) command command is)
+    (order.valid (length p.replies.items) command (next-within p command is))
+
+-- one more reply is in order
+pub order-more : (old new : Progress) (command : Command) (reply : Reply) → IsProgress old → next_of old ≡ Some command → new.trace ≡ old.trace
+    → new.replies.items ≡ old.replies.items ++ reply ∷ [] → vec_capacity new.replies ≡ vec_capacity old.replies → IsProgress new
+order-more old new command reply order is trace replies capacity =
+    let more = next-within old command is in
+    let same : new.trace.items ≡ old.trace.items = ap (λ v. v.items) trace in
+    let count : length new.replies.items ≡ length old.replies.items + 1 = ap length replies ∙ length-append old.replies.items (reply ∷ []) in
+    let many : length new.trace.items ≡ length old.trace.items = ap length same in record {
+      valid = subst (All IsValid) (sym same) order.valid;
+      few = let few = order.few in omega arith;
+      within = omega arith;
+      room = let room = order.room in omega arith;
+    }
+
+-- nothing ran yet
+pub runs-none : {P : Type 0} (w : PlainWorld P) (m : ℕ) (p : Progress) → IsOpen w → RunsTrace w m p w p
+runs-none w m p is = record {
+  answered = [];
+  answers = answers-none w m is;
+  trace = refl;
+  replies = sym (append-nil p.replies.items);
+  commands = sym (append-nil (take (length p.replies.items) p.trace.items));
+}
+
+-- one more reply
+pub runs-more : {P : Type 0} (old mid new : PlainWorld P) (m : ℕ) (before between after : Progress) (command : Command) (reply : Reply)
+    → RunsTrace old m before mid between → Answers mid m (record { command = command; reply = reply } ∷ []) new → next_of between ≡ Some command
+    → after.trace ≡ between.trace → after.replies.items ≡ between.replies.items ++ reply ∷ [] → RunsTrace old m before new after
+runs-more old mid new m before between after command reply runs answers is trace replies =
+    let one : List Answered = record { command = command; reply = reply } ∷ [] in
+    let same : after.trace.items ≡ between.trace.items = ap (λ v. v.items) trace in
+    let count : length after.replies.items ≡ length between.replies.items + 1 = ap length replies ∙ length-append between.replies.items (reply ∷ []) in record {
+      answered = runs.answered ++ one;
+      answers = answers-append old mid new m runs.answered one runs.answers answers;
+      trace = trace ∙ runs.trace;
+      replies = replies ∙ ap (λ l. l ++ reply ∷ []) runs.replies
+          ∙ append_assoc before.replies.items (map (λ e. e.reply) runs.answered) (reply ∷ [])
+          ∙ ap (λ l. before.replies.items ++ l) (sym (map-append (λ (e : Answered). e.reply) runs.answered one));
+      commands = ap (λ n. take n after.trace.items) count ∙ ap (take (length between.replies.items + 1)) same
+          ∙ take-more between.trace.items (length between.replies.items) command is
+          ∙ ap (λ l. l ++ command ∷ []) runs.commands
+          ∙ append_assoc (take (length before.replies.items) before.trace.items) (map (λ e. e.command) runs.answered) (command ∷ [])
+          ∙ ap (λ l. take (length before.replies.items) before.trace.items ++ l) (sym (map-append (λ (e : Answered). e.command) runs.answered one));
+    }
+
+-- and no reply more
+pub runs-stopped : {P : Type 0} (old mid new : PlainWorld P) (m : ℕ) (before between : Progress) → RunsTrace old m before mid between → Answers mid m [] new
+    → RunsTrace old m before new between
+runs-stopped old mid new m before between runs answers = record {
+  answered = runs.answered;
+  answers = subst (λ (es : List Answered). Answers old m es new) (append-nil runs.answered) (answers-append old mid new m runs.answered [] runs.answers answers);
+  trace = runs.trace;
+  replies = runs.replies;
+  commands = runs.commands;
+}

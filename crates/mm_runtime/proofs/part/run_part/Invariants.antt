@@ -1,0 +1,21 @@
+-- The mutator got the replies to its commands so far, and no stop is raised that was not.
+use Rattle.std.proofs.Common.{◌≡◌, ◌≤◌, ◌-◌, length}
+use Rattle.ideal_heap.specs.declared.command.TheConstants.{MAX_MUTATORS}
+use Rattle.plain_world.specs.Calls.{HasPlace, IsOpen, births_at, places_of, stop_word}
+use Rattle.mm_runtime.specs.Managers.{IsProgress}
+use Rattle.mm_runtime.specs.Parts.{RunsTrace}
+use Rattle.mm_runtime.proofs.part.run_part.Given as goal
+
+abbrev pub invariant-loop-command : goal.invariant-loop-command
+invariant-loop-command g l = record {
+  is_open : IsOpen l.world;
+  place : HasPlace l.world l.m;
+  few : places_of l.world ≤ MAX_MUTATORS;
+  runs : RunsTrace l.fn.world l.m l.fn.progress l.world l.progress;
+  in_order : IsProgress l.progress;
+  births : births_at l.world l.m ≤ length l.progress.replies.items;
+  stop : stop_word l.world ≡ stop_word l.fn.world;
+}
+
+abbrev pub decreases-loop-command : goal.decreases-loop-command
+decreases-loop-command g l = length l.progress.trace.items - length l.progress.replies.items

@@ -1,0 +1,4 @@
+pub mod Managers
+pub mod Parts
+pub mod Stops
+pub mod Replying

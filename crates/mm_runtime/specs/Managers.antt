@@ -1,0 +1,124 @@
+-- A manager and the session that it runs.
+use Rattle.std.specs.Prelude.{◌≡◌, ℕ, ◌+◌, ◌-◌, ◌*◌, ◌≤◌, Vec, vec_capacity, Option, Some, None, List, [], map, length, take, All, sum_by, slice_get}
+use Rattle.std.specs.List.{AllByRecursion, range_with_len}
+use Rattle.std.specs.declared.alloc.Global.{Global}
+use Rattle.ideal_heap.specs.declared.command.Command.{Command}
+use Rattle.ideal_heap.specs.declared.command.TheConstants.{MAX_MUTATORS}
+use Rattle.ideal_heap.specs.Commands.{IsValid}
+use Rattle.ideal_heap.specs.Ideal.{empty}
+use Rattle.ideal_heap.specs.Runs.{Entry, IsRun, IsMutator, commands_of, replies_of}
+use Rattle.object_model.specs.Heaps.{heap_state}
+use Rattle.object_model.specs.Objects.{HeapState, global_at}
+use Rattle.heap_layout.specs.declared.layout.TheConstants.{GLOBALS}
+use Rattle.sessions.specs.Plans.{Rules}
+use Rattle.sessions.specs.Sessions.{Setting, Moment, IsSound, InSession}
+use Rattle.mutator_calls.specs.declared.need.Mutator.{Mutator}
+use Rattle.plain_world.specs.Rows.{mutator_state}
+use Rattle.plain_world.specs.Notes.{AreNotes}
+use Rattle.mm_runtime.specs.declared.progress.Progress.{Progress}
+use Rattle.mm_runtime.specs.declared.manager.Manager.{Manager}
+use Rattle.mm_runtime.specs.declared.progress.TheConstants.{MAX_COMMANDS}
+
+-- the command that comes next in a trace, None at its end
+abbrev pub next_of : Progress → Option Command
+next_of p = slice_get p.trace.items (length p.replies.items)
+
+-- the lists of some vectors
+abbrev pub lists_of : {A : Type 0} → List (Vec A Global) → List (List A)
+lists_of vs = map (λ v. v.items) vs
+
+-- the traces of some mutators
+abbrev pub traces_of : List Progress → List (List Command)
+traces_of ps = map (λ p. p.trace.items) ps
+
+-- the number of replies so far
+abbrev pub replied : List Progress → ℕ
+replied ps = sum_by (λ p. length p.replies.items) ps
+
+-- the number of commands that have no reply yet
+abbrev pub left : List Progress → ℕ
+left ps = sum_by (λ p. length p.trace.items - length p.replies.items) ps
+
+-- a trace of valid commands, which has at most as many replies as commands, and room for a reply to each
+pub record IsProgress (p : Progress) : Type 0 where
+  pub valid : All IsValid p.trace.items
+  pub few : length p.trace.items ≤ MAX_COMMANDS
+  pub within : length p.replies.items ≤ length p.trace.items
+  pub room : length p.trace.items ≤ vec_capacity p.replies
+
+-- a trace that can be run
+pub record IsRunnable (trace : List Command) : Type 0 where
+  pub valid : All IsValid trace
+  pub few : length trace ≤ MAX_COMMANDS
+
+-- a trace without replies, and with room for a reply to each command
+pub record IsFresh (trace : List Command) (p : Progress) : Type 0 where
+  pub trace_is : p.trace.items ≡ trace
+  pub replies : p.replies.items ≡ []
+  pub room : length trace ≤ vec_capacity p.replies
+
+-- there is a mutator with this number
+pub record HasMutator {P : Type 0} (manager : Manager P) (m : ℕ) : Type 0 where
+  pub least : 1 ≤ m
+  pub most : m ≤ length manager.progress.items
+
+-- The entries are those of the commands that have replies, and have these replies.
+pub record HasReplies (ps : List Progress) (done : List Entry) : Type 0 where
+  pub mutators : AllByRecursion (λ e. IsMutator (traces_of ps) e.mutator) done
+  pub commands : (k : ℕ) (p : Progress) → slice_get ps k ≡ Some p
+      → commands_of (k + 1) done ≡ take (length p.replies.items) p.trace.items
+  pub replies : (k : ℕ) (p : Progress) → slice_get ps k ≡ Some p → replies_of (k + 1) done ≡ p.replies.items
+
+-- What a manager keeps in order, whatever its session. A command causes at most two collections; `more` of those made are
+-- for a command that has no reply yet.
+pub record IsInOrder {P : Type 0} (rules : Rules) (more : ℕ) (m : Manager P) : Type 0 where
+  pub some : 1 ≤ length m.progress.items
+  pub few : length m.progress.items ≤ MAX_MUTATORS
+  pub count : length m.mutators.items ≡ length m.progress.items
+  pub each : (k : ℕ) (p : Progress) → slice_get m.progress.items k ≡ Some p → IsProgress p
+  pub births : (k : ℕ) (u : Mutator) (p : Progress) → slice_get m.mutators.items k ≡ Some u
+      → slice_get m.progress.items k ≡ Some p → u.births ≤ length p.replies.items
+  pub notes : AreNotes rules.fill (heap_state m.heap) m.notes
+  pub number : (heap_state m.heap).number ≡ m.nursery + m.full
+  pub collections : m.nursery + m.full ≤ 2 * replied m.progress.items + more
+
+-- The manager's heap, mutators, replies and counts of collections are those of this moment, and its plan and traces those
+-- of the setting. One worker traces.
+pub record StandsAt {P : Type 0} (rules : Rules) (m : Manager P) (t : Setting) (now : Moment) : Type 0 where
+  pub rules_are : t.rules ≡ rules
+  pub workers : t.workers ≡ 1
+  pub traces : t.traces ≡ traces_of m.progress.items
+  pub heap : heap_state m.heap ≡ now.heap
+  pub mutators : map mutator_state m.mutators.items ≡ now.mutators
+  pub replies : HasReplies m.progress.items now.done
+  pub nursery : m.nursery ≡ now.nursery
+  pub full : m.full ≡ now.full
+  pub sound : IsSound t now
+  pub run : IsRun empty now.done
+
+-- the manager closes a session of this setting, at its last moment
+pub record Closes {P : Type 0} (rules : Rules) (m : Manager P) (t : Setting) (now : Moment) : Type 0 where
+  pub session : InSession t now
+  pub stands : StandsAt rules m t now
+
+-- the manager is at some moment of some setting
+pub record IsAtStop {P : Type 0} (rules : Rules) (more : ℕ) (m : Manager P) : Type 0 where
+  pub order : IsInOrder rules more m
+  pub setting : Setting
+  pub now : Moment
+  pub stands : StandsAt rules m setting now
+
+-- the manager closes some session
+pub record IsReady {P : Type 0} (rules : Rules) (m : Manager P) : Type 0 where
+  pub order : IsInOrder rules 0 m
+  pub setting : Setting
+  pub now : Moment
+  pub closes : Closes rules m setting now
+
+-- every command has its reply
+abbrev pub HasEnded : {P : Type 0} → Manager P → Type 0
+HasEnded m = (k : ℕ) (p : Progress) → slice_get m.progress.items k ≡ Some p → next_of p ≡ None
+
+-- the globals: addresses, or 0 for nil
+abbrev pub globals_of : HeapState → List ℕ
+globals_of s = map (global_at s) (range_with_len 0 GLOBALS)

@@ -1,0 +1,85 @@
+//! An epoch: each mutator runs until it stops.
+
+ghost use Rattle.std.specs.Prelude.{◌≡◌, ◌+◌, ◌<◌, ◌≤◌, ℕ, length, slice_get, Some, IfOk};
+ghost use Rattle.sessions.specs.Plans.{NoGc};
+ghost use Rattle.sessions.specs.Sessions.{Setting, Moment, RunsPart};
+ghost use Rattle.plain_world.specs.Calls.{births_at, number_at, places_of, stop_word, IsOpen};
+ghost use Rattle.mm_runtime.specs.Managers.{replied, IsProgress, Closes, IsInOrder, IsReady, StandsAt};
+ghost use Rattle.mm_runtime.specs.Parts.{causes, AreGcs, AreNeeds, RunsParts};
+
+use crate::manager::Manager;
+use crate::part::run_part;
+use crate::progress::{End, Progress};
+use ideal_heap::MAX_MUTATORS;
+use plain_world::PlainWorld;
+use plan_api::Plan;
+use std::alloc::{AllocError, Global};
+use work_packets::Gate;
+
+/// Runs each mutator's part, one after another. Tells how each ended.
+fn run_parts<P, G: Gate>(
+    alloc: Global,
+    world: &mut PlainWorld<P>,
+    progress: &mut Vec<Progress>,
+    gate: &G,
+) -> Result<Vec<End>, AllocError>
+    requires open { IsOpen world.old }
+    requires few { places_of world.old ≤ MAX_MUTATORS }
+    requires places { places_of world.old ≡ length progress.old.items }
+    requires numbers { (k : ℕ) → k < places_of world.old → number_at world.old k ≡ k + 1 }
+    requires calm { stop_word world.old ≡ 0 }
+    requires each { (k : ℕ) (p : Progress) → slice_get progress.old.items k ≡ Some p
+        → IsProgress p }
+    requires births { (k : ℕ) (p : Progress) → slice_get progress.old.items k ≡ Some p
+        → births_at world.old k ≤ length p.replies.items }
+    ensures { IfOk result (λ ends. RunsParts world.old progress.old.items
+        (length progress.old.items) ends.items world.new progress.new.items) }
+{
+    let mut ends = Vec::with_capacity(alloc, progress.len())?;
+    for m in 0..progress.len() {
+        ends.push_reserved(run_part(world, m as u32, &mut progress[m], gate));
+    }
+    Ok(ends)
+}
+
+impl<P: Plan> Manager<P> {
+    /// Runs an epoch. Tells how each mutator's part of it ended.
+    pub(crate) fn run_epoch<G: Gate>(self, gate: &G) -> Result<(Manager<P>, Vec<End>), AllocError>
+        requires plan { P.plan ≡ NoGc }
+        requires ready { IsReady P.rules self }
+        ensures order { IfOk result (λ r. IsInOrder P.rules 0 r.0) }
+        ensures part { (t : Setting) (now : Moment) → Closes P.rules self t now
+            → IfOk result (λ r. (stop : Moment) × RunsPart t now (causes r.1.items) stop
+            × StandsAt P.rules r.0 t stop) }
+        ensures count { IfOk result (λ r. length r.1.items ≡ length r.0.progress.items) }
+        ensures gcs { IfOk result (λ r. AreGcs r.0.progress.items r.1.items) }
+        ensures needs { IfOk result (λ r. AreNeeds r.0.progress.items r.1.items) }
+        ensures replied { IfOk result (λ r.
+            replied self.progress.items ≤ replied r.0.progress.items) }
+    {
+        let Manager {
+            alloc,
+            heap,
+            mutators,
+            mut progress,
+            notes,
+            nursery,
+            full,
+            plan,
+        } = self;
+        let mut world = PlainWorld::<P>::begin_with(alloc, heap, mutators, notes)?;
+        let ends = run_parts(alloc, &mut world, &mut progress, gate)?;
+        let (heap, mutators, notes) = world.close_with();
+        let manager = Manager {
+            alloc,
+            heap,
+            mutators,
+            progress,
+            notes,
+            nursery,
+            full,
+            plan,
+        };
+        Ok((manager, ends))
+    }
+}

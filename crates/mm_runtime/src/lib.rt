@@ -1,0 +1,17 @@
+//! The runtime: mutators run their traces in epochs, and stops between the epochs serve their
+//! needs.
+#![tactic(auto)]
+
+mod epoch;
+mod gc;
+mod manager;
+mod meets;
+mod part;
+mod perform;
+mod place;
+mod progress;
+mod reports;
+mod serve;
+
+pub use manager::{Manager, Turn};
+pub use place::Placed;

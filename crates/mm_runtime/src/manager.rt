@@ -1,0 +1,129 @@
+//! The manager of a heap: epochs and stops, from the empty heap to the end of all traces.
+
+ghost use Rattle.std.specs.Prelude.{◌≡◌, ◌↔◌, ◌<◌, ◌≤◌, ℕ, All, Some, length, slice_get, IfOk, IsTrue};
+ghost use Rattle.heap_layout.specs.declared.layout.TheConstants.{MIN_BLOCKS, MAX_BLOCKS};
+ghost use Rattle.sessions.specs.Plans.{NoGc};
+ghost use Rattle.sessions.specs.Sessions.{Setting, Moment, IsEpoch, IsWhole, first_moment};
+ghost use Rattle.mm_runtime.specs.declared.progress.Progress.{Progress as State};
+ghost use Rattle.mm_runtime.specs.Managers.{left, lists_of, traces_of, replied, Closes, IsFresh, IsReady, IsRunnable, HasEnded};
+
+use crate::progress::Progress;
+use heap_layout::Layout;
+use ideal_heap::{Command, MAX_MUTATORS};
+use mutator_calls::Mutator;
+use object_model::Heap;
+use plain_world::{BlockNotes, new_mutators};
+use plan_api::Plan;
+use std::alloc::{AllocError, Global};
+use std::marker::PhantomData;
+use work_packets::Gate;
+
+/// Whether a command is left without a reply.
+#[derive(Clone, Copy, Debug, PartialEq, Eq)]
+pub enum Turn {
+    /// At least one command has no reply yet.
+    More,
+    /// Every command has its reply.
+    Ended,
+}
+
+/// A heap with the mutators that run their traces on it, between two epochs.
+#[derive(Debug, Drop)]
+pub struct Manager<P> {
+    pub(crate) alloc: Global,
+    pub(crate) heap: Heap,
+    pub(crate) mutators: Vec<Mutator>,
+    // The trace of each mutator, in their order.
+    pub(crate) progress: Vec<Progress>,
+    pub(crate) notes: BlockNotes,
+    // The numbers of nursery and full collections.
+    pub(crate) nursery: u64,
+    pub(crate) full: u64,
+    pub(crate) plan: PhantomData<P>,
+}
+
+/// A trace with room for its replies.
+fn new_progress(alloc: Global, trace: Vec<Command>) -> Result<Progress, AllocError>
+    ensures { IfOk result (λ p. IsFresh trace.items p) }
+{
+    let replies = Vec::with_capacity(alloc, trace.len())?;
+    Ok(Progress { trace, replies })
+}
+
+/// Each trace with room for its replies.
+fn all_progress(alloc: Global, traces: Vec<Vec<Command>>) -> Result<Vec<Progress>, AllocError>
+    ensures traces { IfOk result (λ v. traces_of v.items ≡ lists_of traces.items) }
+    ensures fresh { IfOk result (λ v. (k : ℕ) (p : State) → slice_get v.items k ≡ Some p
+        → IsFresh p.trace.items p) }
+{
+    let mut progress = Vec::with_capacity(alloc, traces.len())?;
+    for trace in traces {
+        progress.push(new_progress(alloc, trace)?)?;
+    }
+    Ok(progress)
+}
+
+impl<P: Plan> Manager<P> {
+    /// A manager of an empty heap, whose mutators have run nothing of their traces yet. Takes the
+    /// memory for the heap and for all replies.
+    ///
+    /// Fails if memory runs out.
+    pub fn begin(
+        alloc: Global,
+        layout: Layout,
+        traces: Vec<Vec<Command>>,
+        workers: u32,
+    ) -> Result<Manager<P>, AllocError>
+        requires workers { workers ≡ 1 }
+        requires some { 1 ≤ length traces.items }
+        requires few { length traces.items ≤ MAX_MUTATORS }
+        requires runnable { All IsRunnable (lists_of traces.items) }
+        ensures ready { IfOk result (λ m. IsReady P.rules m) }
+        ensures closes { IfOk result (λ m. (t : Setting) → t.rules ≡ P.rules
+            → t.blocks ≡ layout.blocks → t.workers ≡ workers
+            → t.traces ≡ lists_of traces.items → Closes P.rules m t (first_moment t)) }
+    {
+        let _one = workers;
+        let heap = Heap::new(alloc, layout)?;
+        let notes = BlockNotes::new(alloc, &heap)?;
+        let mutators = new_mutators(alloc, traces.len() as u32)?;
+        let progress = all_progress(alloc, traces)?;
+        Ok(Manager {
+            alloc,
+            heap,
+            mutators,
+            progress,
+            notes,
+            nursery: 0,
+            full: 0,
+            plan: PhantomData,
+        })
+    }
+
+    /// Runs one epoch and its stop: each mutator runs until it stops, and then collections are made
+    /// and needs are served.
+    ///
+    /// Fails if memory runs out. The manager is lost then.
+    pub fn advance<G: Gate>(self, gate: &G) -> Result<(Manager<P>, Turn), AllocError>
+        requires plan { P.plan ≡ NoGc }
+        requires ready { IsReady P.rules self }
+        ensures ready { IfOk result (λ r. IsReady P.rules r.0) }
+        ensures epoch { (t : Setting) (now : Moment) → Closes P.rules self t now
+            → IfOk result (λ r. (next : Moment) × IsEpoch t now next
+            × Closes P.rules r.0 t next) }
+        ensures ended { IfOk result (λ r. (r.1 ≡ Turn.Ended) ↔ HasEnded r.0) }
+        ensures more { IfOk result (λ r. r.1 ≡ Turn.More
+            → replied self.progress.items < replied r.0.progress.items) }
+        ensures left { IfOk result (λ r. r.1 ≡ Turn.More
+            → left r.0.progress.items < left self.progress.items) }
+        ensures whole { IfOk result (λ r. r.1 ≡ Turn.Ended → (t : Setting) (now : Moment)
+            → Closes P.rules r.0 t now → IsWhole t now) }
+    {
+        let (manager, ends) = self.run_epoch(gate)?;
+        let manager = manager.collect_at(&ends);
+        let mut manager = manager.serve(&ends, gate)?;
+        manager.meet();
+        let turn = manager.turn();
+        Ok((manager, turn))
+    }
+}

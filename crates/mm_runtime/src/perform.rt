@@ -1,0 +1,36 @@
+//! One command of a mutator, by a call of its world.
+
+ghost use Rattle.std.specs.Prelude.{◌≡◌, ◌∷◌, [], true};
+ghost use Rattle.ideal_heap.specs.Commands.{IsValid};
+ghost use Rattle.plain_world.specs.Calls.{HasPlace, IsOpen, stop_word};
+ghost use Rattle.mm_runtime.specs.Parts.{is_quiet, Answers};
+
+use ideal_heap::{Command, Reply};
+use plain_world::PlainWorld;
+
+/// Carries out a command that allocates nothing and that no stop serves.
+pub(crate) fn perform<P>(world: &mut PlainWorld<P>, m: u32, command: Command) -> Reply
+    requires open { IsOpen world.old }
+    requires place { HasPlace world.old m }
+    requires valid { IsValid command }
+    requires quiet { is_quiet command ≡ true }
+    ensures answers { Answers world.old m
+        (record { command = command; reply = result } ∷ []) world.new }
+    ensures stop { stop_word world.new ≡ stop_word world.old }
+{
+    match command {
+        Command::Get { d, s, i } => world.get(m, d, s, i),
+        Command::Put { s, i, v } => world.put(m, s, i, v),
+        Command::Read { s, j } => world.read(m, s, j),
+        Command::Write { s, j, n } => world.write(m, s, j, n),
+        Command::Add { s, j, n } => world.add(m, s, j, n),
+        Command::Swap { s, j, was, next } => world.swap(m, s, j, was, next),
+        Command::Move { d, s } => world.move_register(m, d, s),
+        Command::DropReg { s } => world.drop_register(m, s),
+        Command::Load { d, g } => world.load(m, d, g),
+        Command::Share { g, s } => world.share(m, g, s),
+        Command::Pin { s } => world.pin(m, s),
+        Command::Unpin { s } => world.unpin(m, s),
+        Command::New { .. } | Command::Gc | Command::Meet => unreachable!(),
+    }
+}

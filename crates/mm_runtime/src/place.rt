@@ -1,0 +1,249 @@
+//! The second step of a stop: objects that no mutator could allocate.
+
+ghost use Rattle.std.specs.Prelude.{◌≡◌, ◌+◌, ◌≤◌, ◌<◌, ◌^◌, ℕ, length, slice_get, vec_capacity, IfSome, IfNone, IfOk};
+ghost use Rattle.heap_layout.specs.Zones.{row_words};
+ghost use Rattle.ideal_heap.specs.declared.reply.Reply.TheVariants as reply_is;
+ghost use Rattle.object_model.specs.Heaps.{heap_state};
+ghost use Rattle.object_model.specs.Objects.{size_of, state_of};
+ghost use Rattle.sessions.specs.Plans.{NoGc};
+ghost use Rattle.sessions.specs.Fitting.{Fits};
+ghost use Rattle.sessions.specs.Sessions.{Setting, Moment, Places, Serves};
+ghost use Rattle.mutator_calls.specs.declared.need.Mutator.{Mutator};
+ghost use Rattle.plain_world.specs.Notes.{AreNotes};
+ghost use Rattle.mm_runtime.specs.Managers.{IsAtStop, IsInOrder, StandsAt};
+ghost use Rattle.mm_runtime.specs.declared.progress.Progress.{Progress};
+ghost use Rattle.mm_runtime.specs.Stops.{IsSpot, NeedsNext, RepliesAt, RepliesTo, TakesBlock, BearsAt, PutsAt, Refuses, MatchPlaced};
+
+use crate::manager::Manager;
+use crate::progress::Progress;
+use heap_layout::BlockWord;
+use ideal_heap::{Name, REGISTERS, Reply};
+use mutator_calls::{Mutator, Need};
+use object_model::{Heap, MAX_MEDIUM_WORDS, Row, Shape, size_words};
+use plan_api::Plan;
+use std::alloc::AllocError;
+use work_packets::Gate;
+
+/// What became of a need.
+#[derive(Clone, Copy, Debug, PartialEq, Eq)]
+pub enum Placed {
+    /// The object is placed and has this name.
+    Placed(Name),
+    /// After a full collection an object of `size` words does not fit.
+    HeapFull { size: u32 },
+}
+
+/// A place for an object: a block, the offset in it in words, and whether the block is Free.
+#[derive(Clone, Copy, Debug)]
+pub(crate) struct Spot {
+    pub(crate) block: u32,
+    pub(crate) offset: u32,
+    pub(crate) free: bool,
+}
+
+/// The shape of the object that is needed.
+fn shape_of(need: &Need) -> Shape
+    ensures refs { result.refs ≡ need.now.refs }
+    ensures nums { result.nums ≡ need.now.nums }
+{
+    Shape {
+        refs: need.refs,
+        nums: need.nums,
+    }
+}
+
+/// Gives the block of a spot its word, if it is Free.
+fn take_block<P: Plan>(row: Row, spot: &Spot, size: u32) -> Row
+    requires plan { P.plan ≡ NoGc }
+    requires extent { length row.words.items ≡ row_words (state_of row).blocks }
+    requires block { spot.now.block < (state_of row).blocks }
+    requires least { 3 ≤ size }
+    requires most { size ≤ MAX_MEDIUM_WORDS }
+    ensures { TakesBlock P.rules (state_of row) spot.now size (state_of result) }
+{
+    let mut row = row;
+    if !spot.free {
+        return row;
+    }
+    let word = BlockWord {
+        kind: P::alloc_kind(),
+        class: P::class_for(size),
+        owner: 0,
+    };
+    row.set_block(spot.block, &word);
+    row
+}
+
+/// Counts an object of mutator `m` and stores its address into register `d`. Returns its name.
+fn count_birth(mutators: &mut Vec<Mutator>, m: u32, d: u32, address: u32) -> Name
+    requires least { 1 ≤ m }
+    requires most { m ≤ length mutators.old.items }
+    requires register { d < REGISTERS }
+    requires births { (k : ℕ) (u : Mutator) → k + 1 ≡ m
+        → slice_get mutators.old.items k ≡ Some u → u.births + 1 < 2 ^ 32 }
+    ensures { (k : ℕ) → k + 1 ≡ m
+        → BearsAt mutators.old.items mutators.new.items k m d address result }
+{
+    let mutator = &mut mutators[m as usize - 1];
+    mutator.births += 1;
+    mutator.registers[d as usize] = address;
+    Name {
+        mutator: m,
+        birth: mutator.births,
+    }
+}
+
+/// The next reply to mutator `m`.
+fn reply_to(progress: &mut Vec<Progress>, m: u32, reply: Reply)
+    requires least { 1 ≤ m }
+    requires most { m ≤ length progress.old.items }
+    requires room { (k : ℕ) (p : Progress) → k + 1 ≡ m
+        → slice_get progress.old.items k ≡ Some p
+        → length p.replies.items < vec_capacity p.replies }
+    ensures { (k : ℕ) → k + 1 ≡ m
+        → RepliesAt progress.old.items progress.new.items k reply }
+{
+    progress[m as usize - 1].replies.push_reserved(reply);
+}
+
+impl<P: Plan> Manager<P> {
+    /// Where an object of `size` words is to be placed: in the first hole with room of the lowest
+    /// block that has one, else at the start of the lowest Free block, if one may be granted.
+    fn find(&mut self, size: u32) -> Option<Spot>
+        requires plan { P.plan ≡ NoGc }
+        requires notes { AreNotes P.rules.fill (heap_state self.old.heap) self.old.notes }
+        requires least { 3 ≤ size }
+        ensures notes { AreNotes P.rules.fill (heap_state self.new.heap) self.new.notes }
+        ensures rest { self.new ≡ record self.old { notes = self.new.notes } }
+        ensures spot { IfSome result (IsSpot P.rules (heap_state self.old.heap) size) }
+        ensures none { IfNone result (Fits P.rules (heap_state self.old.heap) size → ⊥) }
+    {
+        if size > MAX_MEDIUM_WORDS {
+            return None;
+        }
+        if let Some((block, offset)) = self.notes.lowest_hole(&self.heap, P::alloc_kind(), size) {
+            return Some(Spot {
+                block,
+                offset,
+                free: false,
+            });
+        }
+        if !self.notes.counts().is_grantable(P::reserve()) {
+            return None;
+        }
+        let block = self.notes.lowest_free(&self.heap)?;
+        Some(Spot {
+            block,
+            offset: 0,
+            free: true,
+        })
+    }
+
+    /// Writes, names and counts the object of a need of mutator `m` at a spot. Replies its name.
+    fn put(self, m: u32, need: &Need, spot: Spot) -> (Manager<P>, Name)
+        requires plan { P.plan ≡ NoGc }
+        requires stop { IsAtStop P.rules 1 self }
+        requires next { NeedsNext self m need.now }
+        requires spot { IsSpot P.rules (heap_state self.heap) (size_of need.now.refs need.now.nums)
+            spot }
+        ensures { PutsAt P.rules self m need.now spot result.1 result.0 }
+    {
+        let Manager {
+            alloc,
+            heap,
+            mut mutators,
+            mut progress,
+            mut notes,
+            nursery,
+            full,
+            plan,
+        } = self;
+        let shape = shape_of(need);
+        let mut row = take_block::<P>(heap.into_row(), &spot, size_words(&shape));
+        let address = row.layout.address(spot.block, spot.offset);
+        let name = count_birth(&mut mutators, m, need.register, address);
+        row.write_object(address, &name, &shape);
+        notes.placed_in(spot.block, spot.free);
+        reply_to(&mut progress, m, Reply::New(name));
+        let heap = Heap::from_row(row);
+        let manager = Manager {
+            alloc,
+            heap,
+            mutators,
+            progress,
+            notes,
+            nursery,
+            full,
+            plan,
+        };
+        (manager, name)
+    }
+
+    /// Places the object of a need of mutator `m` there.
+    fn place(self, m: u32, need: &Need, spot: Spot) -> (Manager<P>, Name)
+        requires plan { P.plan ≡ NoGc }
+        requires stop { IsAtStop P.rules 1 self }
+        requires next { NeedsNext self m need.now }
+        requires spot { IsSpot P.rules (heap_state self.heap) (size_of need.now.refs need.now.nums)
+            spot }
+        ensures order { IsInOrder P.rules 0 result.0 }
+        ensures places { (t : Setting) (now : Moment) → StandsAt P.rules self t now
+            → (next : Moment)
+            × Places t m need.now.register need.now.refs need.now.nums now next
+            × StandsAt P.rules result.0 t next }
+        ensures reply { RepliesTo self m (reply_is.New result.1) result.0 }
+    {
+        self.put(m, need, spot)
+    }
+
+    /// The reply `full` to mutator `m`.
+    fn refuse(self, m: u32) -> Manager<P>
+        requires least { 1 ≤ m }
+        requires most { m ≤ length self.progress.items }
+        requires room { (k : ℕ) (p : Progress) → k + 1 ≡ m
+            → slice_get self.progress.items k ≡ Some p
+            → length p.replies.items < vec_capacity p.replies }
+        ensures { Refuses self m result }
+    {
+        let mut manager = self;
+        reply_to(&mut manager.progress, m, Reply::Full);
+        manager
+    }
+
+    /// Serves a need of mutator `m`. If the object does not fit, a full collection is made. It is
+    /// placed if it fits then, and the reply is `full` if it does not.
+    ///
+    /// Fails if memory runs out. The manager is lost then.
+    pub fn place_or_collect<G: Gate>(
+        self,
+        m: u32,
+        need: Need,
+        _gate: &G,
+    ) -> Result<(Manager<P>, Placed), AllocError>
+        requires plan { P.plan ≡ NoGc }
+        requires stop { IsAtStop P.rules 0 self }
+        requires next { NeedsNext self m need }
+        ensures order { IfOk result (λ r. IsInOrder P.rules 0 r.0) }
+        ensures serves { (t : Setting) (now : Moment) → StandsAt P.rules self t now
+            → IfOk result (λ r. (next : Moment)
+            × Serves t m need.register need.refs need.nums now next
+            × StandsAt P.rules r.0 t next) }
+        ensures placed { IfOk result (λ r. MatchPlaced r.1
+            (λ n. RepliesTo self m (reply_is.New n) r.0)
+            (λ size. RepliesTo self m reply_is.Full r.0 × (size ≡ size_of need.refs need.nums)
+            × (r.0.full ≡ self.full + 1) × (Fits P.rules (heap_state r.0.heap) size → ⊥))) }
+    {
+        let size = size_words(&shape_of(&need));
+        let mut manager = self;
+        if let Some(spot) = manager.find(size) {
+            let (manager, name) = manager.place(m, &need, spot);
+            return Ok((manager, Placed::Placed(name)));
+        }
+        let mut manager = manager.collect();
+        if let Some(spot) = manager.find(size) {
+            let (manager, name) = manager.place(m, &need, spot);
+            return Ok((manager, Placed::Placed(name)));
+        }
+        Ok((manager.refuse(m), Placed::HeapFull { size }))
+    }
+}

@@ -1,0 +1,73 @@
+//! How far a mutator has come in its trace.
+
+ghost use Rattle.std.specs.Prelude.{◌≡◌, ◌<◌, length};
+ghost use Rattle.sessions.specs.Sessions.{is_at_meet, is_waiting};
+ghost use Rattle.mm_runtime.specs.Managers.{next_of, IsProgress};
+ghost use Rattle.mm_runtime.specs.Replying.{GetsOk};
+
+use ideal_heap::{Command, Reply};
+use mutator_calls::Need;
+
+/// The greatest number of commands of a trace.
+pub const MAX_COMMANDS: usize = 1_000_000;
+
+/// A mutator's trace, and the replies to its first commands.
+#[derive(Debug, Drop)]
+pub(crate) struct Progress {
+    pub(crate) trace: Vec<Command>,
+    // There is room for the reply to each command.
+    pub(crate) replies: Vec<Reply>,
+}
+
+/// Why a mutator's part of an epoch ended.
+#[derive(Clone, Copy, Debug)]
+pub(crate) enum End {
+    /// Its next command is `gc`.
+    Gc,
+    /// Its next command is `meet`.
+    Meet,
+    /// Its trace has ended.
+    Trace,
+    /// Its next command is a `new` that the stop serves.
+    Need(Need),
+    /// The mutator with this number raised a stop.
+    Raised(u32),
+}
+
+impl Progress {
+    /// The next command, `None` at the end of the trace.
+    pub(crate) fn next(&self) -> Option<Command>
+        ensures { result ≡ next_of self.now }
+    {
+        self.trace.get(self.replies.len()).copied()
+    }
+
+    /// Whether it is at `meet`.
+    pub(crate) fn is_at_meet(&self) -> bool
+        ensures { result ≡ is_at_meet (next_of self.now) }
+    {
+        match self.next() {
+            None => false,
+            Some(command) => command == Command::Meet,
+        }
+    }
+
+    /// Whether it is at `meet` or at the end of its trace.
+    pub(crate) fn waits(&self) -> bool
+        ensures { result ≡ is_waiting (next_of self.now) }
+    {
+        match self.next() {
+            None => true,
+            Some(command) => command == Command::Meet,
+        }
+    }
+}
+
+/// The reply `ok` to the next command.
+pub(crate) fn reply_ok(progress: &mut Progress)
+    requires order { IsProgress progress.old }
+    requires next { length progress.old.replies.items < length progress.old.trace.items }
+    ensures { GetsOk progress.old progress.new }
+{
+    progress.replies.push_reserved(Reply::Done);
+}

@@ -1,0 +1,104 @@
+//! What a manager tells of its session.
+
+ghost use Rattle.std.specs.Prelude.{◌≡◌, ◌<◌, ◌≤◌, ◌++◌, ℕ, length, map, IfOk};
+ghost use Rattle.ideal_heap.specs.Runs.{replies_of};
+ghost use Rattle.object_model.specs.Heaps.{heap_state};
+ghost use Rattle.object_model.specs.Graphs.{roots_of};
+ghost use Rattle.object_model.specs.Objects.{global_at as global_word_at};
+ghost use Rattle.plain_world.specs.Rows.{mutator_state};
+ghost use Rattle.sessions.specs.Sessions.{Setting, Moment};
+ghost use Rattle.mm_runtime.specs.Managers.{globals_of, Closes, HasMutator, IsInOrder};
+
+use crate::manager::Manager;
+use crate::progress::MAX_COMMANDS;
+use heap_layout::GLOBALS;
+use ideal_heap::Reply;
+use mutator_calls::Mutator;
+use object_model::Heap;
+use plan_api::Plan;
+use std::alloc::{AllocError, Global};
+
+/// The registers of some mutators, one mutator after another.
+fn all_registers(alloc: Global, mutators: &[Mutator]) -> Result<Vec<u32>, AllocError>
+    ensures { IfOk result (λ v. v.items ≡ roots_of (map mutator_state mutators.now)) }
+{
+    let mut roots = Vec::new(alloc);
+    for mutator in mutators {
+        roots.extend_from_slice(&mutator.registers)?;
+    }
+    Ok(roots)
+}
+
+/// A global: an address, or 0 for nil.
+fn global_at(heap: &Heap, global: u32) -> u32
+    requires { global < GLOBALS }
+    ensures { result ≡ global_word_at (heap_state heap.now) global }
+{
+    heap.words()[heap.layout().global_at(global) as usize] as u32
+}
+
+/// Appends the globals.
+fn add_globals(heap: &Heap, roots: &mut Vec<u32>) -> Result<(), AllocError>
+    ensures { IfOk result (λ u. roots.new.items
+        ≡ roots.old.items ++ globals_of (heap_state heap.now)) }
+{
+    for global in 0..GLOBALS {
+        roots.push(global_at(heap, global))?;
+    }
+    Ok(())
+}
+
+impl<P: Plan> Manager<P> {
+    /// The number of mutators.
+    pub fn mutators(&self) -> u32
+        requires { IsInOrder P.rules 0 self.now }
+        ensures number { result ≡ length self.now.progress.items }
+        ensures traces { (t : Setting) (now : Moment) → Closes P.rules self.now t now
+            → result ≡ length t.traces }
+    {
+        self.progress.len() as u32
+    }
+
+    /// The replies of mutator `m`, from 1 on, in the order of its trace.
+    pub fn replies(&self, m: u32) -> &[Reply]
+        requires order { IsInOrder P.rules 0 self.now }
+        requires mutator { HasMutator self.now m }
+        ensures few { length result.now ≤ MAX_COMMANDS }
+        ensures session { (t : Setting) (now : Moment) → Closes P.rules self.now t now
+            → result.now ≡ replies_of m now.done }
+    {
+        &self.progress[m as usize - 1].replies
+    }
+
+    /// The heap.
+    pub fn heap(&self) -> &Heap
+        ensures same { result.now ≡ self.now.heap }
+        ensures session { (t : Setting) (now : Moment) → Closes P.rules self.now t now
+            → heap_state result.now ≡ now.heap }
+    {
+        &self.heap
+    }
+
+    /// The registers, mutator by mutator, and then the globals: addresses, or 0 for nil. Fails if
+    /// memory runs out.
+    pub fn roots(&self) -> Result<Vec<u32>, AllocError>
+        ensures state { IfOk result (λ v. v.items
+            ≡ roots_of (map mutator_state self.now.mutators.items)
+            ++ globals_of (heap_state self.now.heap)) }
+        ensures session { (t : Setting) (now : Moment) → Closes P.rules self.now t now
+            → IfOk result (λ v. v.items ≡ roots_of now.mutators ++ globals_of now.heap) }
+    {
+        let mut roots = all_registers(self.alloc, &self.mutators)?;
+        add_globals(&self.heap, &mut roots)?;
+        Ok(roots)
+    }
+
+    /// The numbers of nursery and full collections so far.
+    pub fn collections(&self) -> (u64, u64)
+        ensures same { result ≡ (self.now.nursery, self.now.full) }
+        ensures session { (t : Setting) (now : Moment) → Closes P.rules self.now t now
+            → (result.0 ≡ now.nursery) × (result.1 ≡ now.full) }
+    {
+        (self.nursery, self.full)
+    }
+}

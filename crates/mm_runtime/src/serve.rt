@@ -1,0 +1,57 @@
+//! All needs of a stop.
+
+ghost use Rattle.std.specs.Prelude.{◌≡◌, ◌≤◌, ℕ, filter, length, IfOk};
+ghost use Rattle.sessions.specs.Plans.{NoGc};
+ghost use Rattle.sessions.specs.Sessions.{Setting, Moment, ServesAll, is_at_need, mutators_of};
+ghost use Rattle.mm_runtime.specs.Managers.{replied, IsAtStop, IsInOrder, StandsAt};
+ghost use Rattle.mutator_calls.specs.declared.need.Need.{Need};
+ghost use Rattle.mm_runtime.specs.Parts.{causes, AreNeeds};
+ghost use Rattle.mm_runtime.specs.Stops.{NeedsNext, ServesEnd, AddsReply};
+
+use crate::manager::Manager;
+use crate::progress::End;
+use plan_api::Plan;
+use std::alloc::AllocError;
+use work_packets::Gate;
+
+impl<P: Plan> Manager<P> {
+    /// Serves the need of mutator `m`, if its part of the epoch ended at one.
+    fn serve_end<G: Gate>(self, m: u32, end: End, gate: &G) -> Result<Manager<P>, AllocError>
+        requires plan { P.plan ≡ NoGc }
+        requires stop { IsAtStop P.rules 0 self }
+        requires least { 1 ≤ m }
+        requires next { (need : Need) → end ≡ End.Need need → NeedsNext self m need }
+        ensures order { IfOk result (λ r. IsInOrder P.rules 0 r) }
+        ensures serves { (t : Setting) (now : Moment) → StandsAt P.rules self t now
+            → IfOk result (λ r. (next : Moment) × ServesEnd t m end now next
+            × StandsAt P.rules r t next) }
+        ensures replies { IfOk result (λ r. AddsReply self m r) }
+    {
+        let End::Need(need) = end else {
+            return Ok(self);
+        };
+        let (manager, _placed) = self.place_or_collect(m, need, gate)?;
+        Ok(manager)
+    }
+
+    /// Serves each need, in ascending order of the mutators.
+    pub(crate) fn serve<G: Gate>(self, ends: &[End], gate: &G) -> Result<Manager<P>, AllocError>
+        requires plan { P.plan ≡ NoGc }
+        requires stop { IsAtStop P.rules 0 self }
+        requires count { length ends.now ≡ length self.progress.items }
+        requires needs { AreNeeds self.progress.items ends.now }
+        ensures order { IfOk result (λ r. IsInOrder P.rules 0 r) }
+        ensures needs { (t : Setting) (now : Moment) → StandsAt P.rules self t now
+            → IfOk result (λ r. (mid : Moment)
+            × ServesAll t (filter (λ m. is_at_need (causes ends.now m)) (mutators_of t)) now mid
+            × StandsAt P.rules r t mid) }
+        ensures replied { IfOk result (λ r.
+            replied self.progress.items ≤ replied r.progress.items) }
+    {
+        let mut manager = self;
+        for m in 0..ends.len() {
+            manager = manager.serve_end(m as u32 + 1, ends[m], gate)?;
+        }
+        Ok(manager)
+    }
+}

@@ -1,0 +1,5 @@
+use Rattle.plain_world.specs.Calls.{IsOpen}
+use Rattle.plain_world.proofs.note_tests.no_places.Given as goal
+
+abbrev pub invariant-loop-nums : goal.invariant-loop-nums
+invariant-loop-nums g l = IsOpen l.world

@@ -1,0 +1,5 @@
+use Rattle.sessions.proofs.Growing as growing
+use Rattle.sessions.proofs.order_laws.epochs_go_on.Goals as goal
+
+pub returns : goal.returns
+returns c t before now epoch = growing.epoch-grows t before now epoch

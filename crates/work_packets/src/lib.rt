@@ -1,0 +1,6 @@
+//! Gates: points at which tests can hold the threads of a heap.
+#![tactic(auto)]
+
+mod gate;
+
+pub use gate::{Gate, OpenGate, Point};
