@@ -12,6 +12,8 @@ mod place;
 mod progress;
 mod reports;
 mod serve;
+#[cfg(test)]
+mod tests;
 
 pub use manager::{Manager, Turn};
 pub use place::Placed;
