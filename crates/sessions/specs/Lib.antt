@@ -3,3 +3,4 @@ pub mod Grants
 pub mod Fitting
 pub mod Collecting
 pub mod Sessions
+pub mod WorkedCollections

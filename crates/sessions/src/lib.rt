@@ -4,10 +4,15 @@
 //! The contracts of other crates use the definitions. The laws show what the definitions imply.
 #![tactic(auto)]
 
+mod collecting_laws;
 mod laws;
 mod order_laws;
 mod placement_laws;
 
+pub use collecting_laws::{
+    candidates_fit_the_free_blocks, first_collections_have_bounds, holes_and_lines_are_counted,
+    movable_objects, plans_evacuate_kinds,
+};
 pub use laws::{
     collections_count, collections_set_the_base, empty_heap_has_room, empty_heap_may_be_collected,
     grants_are_allowed, grants_by_counts, holes_are_clear, objects_stay, plans_have_ages,

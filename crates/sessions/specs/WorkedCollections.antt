@@ -1,0 +1,76 @@
+-- Worked heaps for collections: ages, lines, blocks of each kind, objects that may move.
+use Rattle.std.specs.Prelude.{ℕ, ◌+◌, ◌*◌, Bool, true, List, [], ◌∷◌, ◌++◌, filter, map, replicate}
+use Rattle.std.specs.List.{range_with_len}
+use Rattle.heap_layout.specs.declared.block.Kind.{Kind}
+use Rattle.heap_layout.specs.declared.block.Kind.TheVariants as kinds
+use Rattle.object_model.specs.declared.collect.Collect.{Collect}
+use Rattle.object_model.specs.Objects.{HeapState}
+use Rattle.object_model.specs.Births.{with_block}
+use Rattle.object_model.specs.WorkedHeaps.{WorkedObject, plain_object, build_heap, unowned}
+use Rattle.sessions.specs.Plans.{Plan, NoGc, MarkSweep, SemiSpace, GenCopy, Immix, StickyImmix, rules_of}
+use Rattle.sessions.specs.Collecting.{is_evacuated}
+
+-- the six plans, in their order
+abbrev pub all_plans : List Plan
+all_plans = NoGc ∷ MarkSweep ∷ SemiSpace ∷ GenCopy ∷ Immix ∷ StickyImmix ∷ []
+
+-- the heap with blocks of these kinds and these objects, nil globals, and this base, which is also the number
+abbrev pub kinds_heap : List Kind → List WorkedObject → ℕ → HeapState
+kinds_heap blocks objects base = build_heap (record {
+  blocks = map (λ kind. unowned kind 0) blocks;
+  objects = objects;
+  globals = replicate 16 0;
+  number = base;
+  base = base;
+})
+
+-- Block 0 has an old object and, in its last three words, an object with this number. The next block in use has an old
+-- one. Objects with numbers from 2 on are old if the base is 2.
+abbrev pub aged_heap : List Kind → ℕ → ℕ → HeapState
+aged_heap blocks number base = kinds_heap blocks
+    (plain_object 0 0 1 [] 0 2 ∷ plain_object 0 4093 2 [] 0 number ∷ plain_object 1 0 3 [] 0 2 ∷ []) base
+
+-- Block 0 has a large object with this number, and the next block, if it is not Free, may have these objects.
+abbrev pub large_heap : List Kind → ℕ → List WorkedObject → HeapState
+large_heap blocks number objects = kinds_heap blocks (plain_object 0 0 1 [] 2046 number ∷ objects) 2
+
+-- an object of this many lines at the start of a line
+abbrev pub lines_object : ℕ → ℕ → ℕ → WorkedObject
+lines_object block line lines = plain_object block (16 * line) (256 * block + line + 1) [] (16 * lines) 0
+
+-- Immix blocks: an empty one; one with lines 1 and 3 marked; a full one; with line 255 clear; with line 0 clear. Block 5
+-- is a Bump block.
+abbrev pub lined_heap : HeapState
+lined_heap = kinds_heap (replicate 5 kinds.Immix ++ kinds.Bump ∷ [])
+    (plain_object 1 16 1 [] 0 0 ∷ plain_object 1 60 2 [] 0 0
+    ∷ plain_object 2 0 3 [] 2045 0 ∷ plain_object 2 2048 4 [] 2045 0
+    ∷ plain_object 3 0 5 [] 2045 0 ∷ plain_object 3 2048 6 [] 2029 0
+    ∷ plain_object 4 16 7 [] 2045 0 ∷ plain_object 4 2064 8 [] 2029 0
+    ∷ plain_object 5 0 9 [] 0 0 ∷ []) 0
+
+-- Recyclable blocks: 0 with 2 holes and 128 marked lines, 1 with 3 holes and 128, 2 with 2 holes and 1. Block 3 has four
+-- holes and three marked lines, but is a Bump block. More objects and the kind of block 4 are given. Block 5 is Free.
+abbrev pub fragmented_heap : List WorkedObject → Kind → HeapState
+fragmented_heap more kind = with_block (kinds_heap
+    (kinds.Immix ∷ kinds.Immix ∷ kinds.Immix ∷ kinds.Immix ∷ kind ∷ kinds.Free ∷ [])
+    (plain_object 0 16 1 [] 2045 0
+    ∷ plain_object 1 16 2 [] 1597 0 ∷ plain_object 1 2400 3 [] 445 0
+    ∷ plain_object 2 80 4 [] 0 0
+    ∷ plain_object 3 16 5 [] 0 0 ∷ plain_object 3 48 6 [] 0 0 ∷ plain_object 3 80 7 [] 0 0 ∷ more) 0)
+    3 (unowned kinds.Bump 0)
+
+-- a block of each kind, in the order of their numbers, with an object in the Immix block
+abbrev pub each_kind_heap : HeapState
+each_kind_heap = kinds_heap (kinds.Free ∷ kinds.Bump ∷ kinds.Young ∷ kinds.Mature ∷ kinds.Immix ∷ kinds.Cells
+    ∷ kinds.LargeHead ∷ kinds.LargeTail ∷ kinds.Kept ∷ []) (plain_object 4 0 1 [] 0 0 ∷ []) 0
+
+-- the blocks of that heap that a collection of a plan evacuates
+abbrev pub evacuated_kinds : Collect → Plan → List ℕ
+evacuated_kinds c p = filter (is_evacuated (rules_of p) c each_kind_heap) (range_with_len 0 9)
+
+-- Bump blocks with a small object and a pinned one, with an object of 2,048 words and with one of 2,049. Block 3 is a
+-- Cells block with an object.
+abbrev pub movable_heap : HeapState
+movable_heap = kinds_heap (kinds.Bump ∷ kinds.Bump ∷ kinds.Bump ∷ kinds.Cells ∷ kinds.Free ∷ [])
+    (plain_object 0 0 1 [] 0 0 ∷ record (plain_object 0 3 2 [] 0 0) { pinned = true }
+    ∷ plain_object 1 0 3 [] 2045 0 ∷ plain_object 2 0 4 [] 2046 0 ∷ plain_object 3 0 5 [] 0 0 ∷ []) 0
