@@ -12,3 +12,6 @@ mod Levels
 mod Meeting
 pub mod Orders
 pub mod Growing
+pub mod WorkedCollecting
+pub mod CollectionsOfPlans
+pub mod WrongCollections

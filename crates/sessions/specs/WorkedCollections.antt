@@ -1,6 +1,7 @@
 -- Worked heaps for collections: ages, lines, blocks of each kind, objects that may move.
-use Rattle.std.specs.Prelude.{ℕ, ◌+◌, ◌*◌, Bool, true, List, [], ◌∷◌, ◌++◌, filter, map, replicate}
+use Rattle.std.specs.Prelude.{ℕ, ◌+◌, ◌*◌, ◌-◌, Bool, true, List, [], ◌∷◌, ◌++◌, filter, map, replicate}
 use Rattle.std.specs.List.{range_with_len}
+use Rattle.heap_layout.specs.declared.block.BlockWord.{BlockWord}
 use Rattle.heap_layout.specs.declared.block.Kind.{Kind}
 use Rattle.heap_layout.specs.declared.block.Kind.TheVariants as kinds
 use Rattle.object_model.specs.declared.collect.Collect.{Collect}
@@ -74,3 +75,89 @@ abbrev pub movable_heap : HeapState
 movable_heap = kinds_heap (kinds.Bump ∷ kinds.Bump ∷ kinds.Bump ∷ kinds.Cells ∷ kinds.Free ∷ [])
     (plain_object 0 0 1 [] 0 0 ∷ record (plain_object 0 3 2 [] 0 0) { pinned = true }
     ∷ plain_object 1 0 3 [] 2045 0 ∷ plain_object 2 0 4 [] 2046 0 ∷ plain_object 3 0 5 [] 0 0 ∷ []) 0
+
+-- The heap before worked collections. Block 0 has an object, 806, that refers to a pinned one, 812, and to 818, which
+-- refers back. 824 is referred to by its own field alone, and 830 by the object in block 1, 4902, alone. Collection 2,
+-- the last full one, met 4902; no root, global or other field refers to it.
+abbrev pub heap_before : Kind → Kind → ℕ → HeapState
+heap_before first second class = build_heap (record {
+  blocks = unowned first class ∷ unowned second class ∷ unowned kinds.Free 0 ∷ unowned kinds.Free 0 ∷ [];
+  objects = plain_object 0 0 1 (812 ∷ 818 ∷ []) 1 0
+      ∷ record (plain_object 0 6 2 [] 3 0) { pinned = true }
+      ∷ record (plain_object 0 12 3 (806 ∷ 0 ∷ []) 1 0) { nums = 7 ∷ [] }
+      ∷ plain_object 0 18 4 (824 ∷ 806 ∷ []) 1 0
+      ∷ plain_object 0 24 5 [] 3 0
+      ∷ plain_object 1 0 6 (830 ∷ 0 ∷ []) 1 2
+      ∷ [];
+  globals = 818 ∷ replicate 15 0;
+  number = 3;
+  base = 2;
+})
+
+-- the roots before a collection, and after it where the object at 806 moved to 8998
+abbrev pub roots_before : List ℕ
+roots_before = 0 ∷ 806 ∷ []
+
+abbrev pub roots_moved : List ℕ
+roots_moved = 0 ∷ 8998 ∷ []
+
+-- the object with this unlog bit
+abbrev pub with_unlog : Bool → WorkedObject → WorkedObject
+with_unlog set o = record o { unlogged = set }
+
+-- a heap after collection 4, with this unlog bit of all objects, this first global and this base
+abbrev pub unlogged_after : Bool → List BlockWord → List WorkedObject → ℕ → ℕ → HeapState
+unlogged_after set blocks objects global base = build_heap (record {
+  blocks = blocks;
+  objects = map (with_unlog set) objects;
+  globals = global ∷ replicate 15 0;
+  number = 4;
+  base = base;
+})
+
+-- the unlog bit of each preserved object is set
+abbrev pub heap_after : List BlockWord → List WorkedObject → ℕ → ℕ → HeapState
+heap_after = unlogged_after true
+
+-- the pinned object after a collection
+abbrev pub pinned_one : WorkedObject
+pinned_one = record (plain_object 0 6 2 [] 3 4) { pinned = true }
+
+-- the object at 818 after a collection, at a place and with a reference
+abbrev pub second_one : ℕ → ℕ → ℕ → WorkedObject
+second_one block offset v = record (plain_object block offset 3 (v ∷ 0 ∷ []) 1 4) { nums = 7 ∷ [] }
+
+-- the object at 806 after a collection: at a place, with these references and this number
+abbrev pub first_one : ℕ → List ℕ → ℕ → WorkedObject
+first_one block refs number = plain_object block 0 1 refs 1 number
+
+-- the object that only its own field refers to, and the old object with this reference, after a collection
+abbrev pub lonely_one : WorkedObject
+lonely_one = plain_object 0 18 4 (824 ∷ 806 ∷ []) 1 4
+
+abbrev pub old_one : ℕ → WorkedObject
+old_one v = plain_object 1 0 6 (v ∷ 0 ∷ []) 1 2
+
+-- the reachable objects after a full collection: all in place; moved to block 2, but for the pinned one
+abbrev pub in_place : List WorkedObject
+in_place = first_one 0 (812 ∷ 818 ∷ []) 4 ∷ pinned_one ∷ second_one 0 12 806 ∷ []
+
+abbrev pub moved_out : List WorkedObject
+moved_out = first_one 2 (812 ∷ 9004 ∷ []) 4 ∷ pinned_one ∷ second_one 2 6 8998 ∷ []
+
+-- the objects that are reachable from the old one, after a nursery collection: at this place and there
+abbrev pub remembered_ones : ℕ → ℕ → ℕ → List WorkedObject
+remembered_ones block offset v = plain_object block offset 5 [] 3 4 ∷ old_one v ∷ []
+
+-- four blocks of these kinds
+abbrev pub four_kinds : Kind → Kind → Kind → Kind → List BlockWord
+four_kinds a b c d = unowned a 0 ∷ unowned b 0 ∷ unowned c 0 ∷ unowned d 0 ∷ []
+
+-- Cells of six words in block 0, and three Free blocks
+abbrev pub cells_left : List BlockWord
+cells_left = unowned kinds.Cells 1 ∷ unowned kinds.Free 0 ∷ unowned kinds.Free 0 ∷ unowned kinds.Free 0 ∷ []
+
+-- an object of this many words in a run of two blocks
+abbrev pub run_heap : ℕ → HeapState
+run_heap size = kinds_heap (kinds.LargeHead ∷ kinds.LargeTail ∷ kinds.Free ∷ kinds.Free ∷ [])
+    (plain_object 0 0 1 [] (size - 3) 0 ∷ []) 0

@@ -1,14 +1,14 @@
 //! Laws of collections: worked heaps, and what a collection makes of them.
 
-ghost use Rattle.std.specs.Prelude.{ℕ, ◌≡◌, List, [], ◌∷◌, map, filter, replicate, true, false};
+ghost use Rattle.std.specs.Prelude.{ℕ, ◌≡◌, List, [], ◌∷◌, ◌++◌, map, filter, replicate, true, false};
 ghost use Rattle.std.specs.List.{range_with_len};
 ghost use Rattle.heap_layout.specs.declared.block.Kind.TheVariants as kinds;
 ghost use Rattle.object_model.specs.declared.collect.Collect.TheVariants.{Full, Nursery};
 ghost use Rattle.object_model.specs.Births.{with_block};
 ghost use Rattle.object_model.specs.WorkedHeaps.{plain_object, unowned};
-ghost use Rattle.sessions.specs.Plans.{GenCopy, StickyImmix, SemiSpace, MarkSweep, rules_of};
-ghost use Rattle.sessions.specs.Collecting.{first_collection, young_blocks, holes_in, marked_in, is_hole_start, is_recyclable, is_candidate, may_move};
-ghost use Rattle.sessions.specs.WorkedCollections.{all_plans, aged_heap, large_heap, lined_heap, fragmented_heap, evacuated_kinds, movable_heap};
+ghost use Rattle.sessions.specs.Plans.{NoGc, MarkSweep, SemiSpace, GenCopy, Immix, StickyImmix, rules_of};
+ghost use Rattle.sessions.specs.Collecting.{first_collection, young_blocks, holes_in, marked_in, is_hole_start, is_recyclable, is_candidate, may_move, still_free, IsEmptied, IsCollection};
+ghost use Rattle.sessions.specs.WorkedCollections.{all_plans, aged_heap, large_heap, lined_heap, fragmented_heap, evacuated_kinds, movable_heap, heap_before, heap_after, roots_before, roots_moved, unlogged_after, in_place, moved_out, first_one, second_one, pinned_one, lonely_one, old_one, remembered_ones, four_kinds, cells_left, run_heap};
 
 /// A nursery collection is tried first if the plan has young objects, a full collection was made,
 /// some object is young, and at least a quarter of the blocks in use have young objects: one of
@@ -76,4 +76,158 @@ pub fn movable_objects()
     ensures unmoved { map (may_move (record (rules_of SemiSpace) { moves = false }) Full
         movable_heap) (1003 ∷ 1006 ∷ 5099 ∷ 9195 ∷ 13291 ∷ [])
         ≡ replicate 5 false }
+{}
+
+/// Full collections of one heap, under each plan. The reachable objects are preserved, and no
+/// others. They stay in place, or move to a block that was Free, but for the pinned one. Under a
+/// copying plan its block is Kept, and an Immix block stays one. Block 1 is left without objects,
+/// and becomes Free.
+pub fn full_collections()
+    ensures nogc { IsCollection (rules_of NoGc) 1 Full (heap_before kinds.Bump kinds.Bump 0)
+        roots_before (record (heap_before kinds.Bump kinds.Bump 0) { number = 4 }) roots_before }
+    ensures mark_sweep { IsCollection (rules_of MarkSweep) 1 Full
+        (heap_before kinds.Cells kinds.Cells 1) roots_before
+        (heap_after cells_left in_place 818 4) roots_before }
+    ensures semi_space { IsCollection (rules_of SemiSpace) 1 Full
+        (heap_before kinds.Bump kinds.Bump 0) roots_before
+        (heap_after (four_kinds kinds.Kept kinds.Free kinds.Bump kinds.Free) moved_out 9004 4)
+        roots_moved }
+    ensures gen_copy { IsCollection (rules_of GenCopy) 1 Full
+        (heap_before kinds.Young kinds.Mature 0) roots_before
+        (heap_after (four_kinds kinds.Kept kinds.Free kinds.Mature kinds.Free) moved_out 9004 4)
+        roots_moved }
+    ensures immix { IsCollection (rules_of Immix) 1 Full
+        (heap_before kinds.Immix kinds.Immix 0) roots_before
+        (heap_after (four_kinds kinds.Immix kinds.Free kinds.Immix kinds.Free) moved_out 9004 4)
+        roots_moved }
+    ensures sticky_immix { IsCollection (rules_of StickyImmix) 1 Full
+        (heap_before kinds.Immix kinds.Immix 0) roots_before
+        (heap_after (four_kinds kinds.Immix kinds.Free kinds.Immix kinds.Free) moved_out 9004 4)
+        roots_moved }
+{}
+
+/// Nursery collections of the same heap. They preserve the old object too, which nothing refers to,
+/// and the young object that it refers to. Under `gencopy` the young ones move, under `stickyimmix`
+/// none does.
+pub fn nursery_collections()
+    ensures gen_copy { IsCollection (rules_of GenCopy) 1 Nursery
+        (heap_before kinds.Young kinds.Mature 0) roots_before
+        (heap_after (four_kinds kinds.Kept kinds.Mature kinds.Mature kinds.Free)
+        (moved_out ++ remembered_ones 2 12 9010) 9004 2) roots_moved }
+    ensures sticky_immix { IsCollection (rules_of StickyImmix) 1 Nursery
+        (heap_before kinds.Immix kinds.Immix 0) roots_before
+        (heap_after (four_kinds kinds.Immix kinds.Immix kinds.Free kinds.Free)
+        (in_place ++ remembered_ones 0 24 830) 818 2) roots_before }
+{}
+
+/// Movable objects may stay in place if at most one block per worker was Free and still is: with
+/// two such blocks, for two workers and not for one. So it is in a nursery collection with young
+/// objects. An old one may always stay there.
+pub fn objects_left_in_place()
+    ensures two_workers { IsCollection (rules_of SemiSpace) 2 Full
+        (heap_before kinds.Bump kinds.Bump 0) roots_before
+        (heap_after (four_kinds kinds.Kept kinds.Free kinds.Free kinds.Free) in_place 818 4)
+        roots_before }
+    ensures one_worker { IsCollection (rules_of SemiSpace) 1 Full
+        (heap_before kinds.Bump kinds.Bump 0) roots_before
+        (heap_after (four_kinds kinds.Kept kinds.Free kinds.Free kinds.Free) in_place 818 4)
+        roots_before → ⊥ }
+    ensures nursery { IsCollection (rules_of GenCopy) 1 Nursery
+        (heap_before kinds.Young kinds.Mature 0) roots_before
+        (heap_after (four_kinds kinds.Kept kinds.Mature kinds.Free kinds.Free)
+        (in_place ++ remembered_ones 0 24 830) 818 2) roots_before → ⊥ }
+    ensures old { IsCollection (rules_of GenCopy) 0 Nursery
+        (heap_before kinds.Young kinds.Young 0) roots_before
+        (heap_after (four_kinds kinds.Kept kinds.Kept kinds.Mature kinds.Free)
+        (moved_out ++ remembered_ones 2 12 9010) 9004 2) roots_moved }
+    ensures free { still_free (heap_before kinds.Bump kinds.Bump 0)
+        (heap_after (four_kinds kinds.Kept kinds.Free kinds.Bump kinds.Free) in_place 818 4) ≡ 1 }
+{}
+
+/// A full collection keeps no dead object and loses no reachable one. It moves no pinned object,
+/// and leaves no field and no root with the address of an object that moved.
+pub fn wrong_objects()
+    ensures dead_kept { IsCollection (rules_of MarkSweep) 1 Full
+        (heap_before kinds.Cells kinds.Cells 1) roots_before
+        (heap_after cells_left (in_place ++ lonely_one ∷ []) 818 4) roots_before → ⊥ }
+    ensures live_lost { IsCollection (rules_of MarkSweep) 1 Full
+        (heap_before kinds.Cells kinds.Cells 1) roots_before
+        (heap_after cells_left (first_one 0 (812 ∷ 818 ∷ []) 4 ∷ pinned_one ∷ []) 818 4)
+        roots_before → ⊥ }
+    ensures pinned_moved { IsCollection (rules_of SemiSpace) 1 Full
+        (heap_before kinds.Bump kinds.Bump 0) roots_before
+        (heap_after (four_kinds kinds.Free kinds.Free kinds.Bump kinds.Free)
+        (first_one 2 (9010 ∷ 9004 ∷ []) 4 ∷ record pinned_one { block = 2; offset = 12 }
+        ∷ second_one 2 6 8998 ∷ []) 9004 4) roots_moved → ⊥ }
+    ensures field_left { IsCollection (rules_of SemiSpace) 1 Full
+        (heap_before kinds.Bump kinds.Bump 0) roots_before
+        (heap_after (four_kinds kinds.Kept kinds.Free kinds.Bump kinds.Free)
+        (first_one 2 (812 ∷ 818 ∷ []) 4 ∷ pinned_one ∷ second_one 2 6 8998 ∷ []) 9004 4)
+        roots_moved → ⊥ }
+    ensures root_left { IsCollection (rules_of SemiSpace) 1 Full
+        (heap_before kinds.Bump kinds.Bump 0) roots_before
+        (heap_after (four_kinds kinds.Kept kinds.Free kinds.Bump kinds.Free) moved_out 9004 4)
+        roots_before → ⊥ }
+{}
+
+/// After a collection a block without objects is Free. A block that was Free and has objects has
+/// the kind that workers fill, an evacuated one with objects is Kept, but for an Immix block, and
+/// any other with objects keeps its word.
+pub fn wrong_blocks()
+    ensures emptied { IsCollection (rules_of SemiSpace) 1 Full
+        (heap_before kinds.Bump kinds.Bump 0) roots_before
+        (heap_after (four_kinds kinds.Kept kinds.Bump kinds.Bump kinds.Free) moved_out 9004 4)
+        roots_moved → ⊥ }
+    ensures taken { IsCollection (rules_of GenCopy) 1 Full
+        (heap_before kinds.Young kinds.Mature 0) roots_before
+        (heap_after (four_kinds kinds.Kept kinds.Free kinds.Young kinds.Free) moved_out 9004 4)
+        roots_moved → ⊥ }
+    ensures kept { IsCollection (rules_of SemiSpace) 1 Full
+        (heap_before kinds.Bump kinds.Bump 0) roots_before
+        (heap_after (four_kinds kinds.Bump kinds.Free kinds.Bump kinds.Free) moved_out 9004 4)
+        roots_moved → ⊥ }
+    ensures lines { IsCollection (rules_of Immix) 1 Full
+        (heap_before kinds.Immix kinds.Immix 0) roots_before
+        (heap_after (four_kinds kinds.Kept kinds.Free kinds.Immix kinds.Free) moved_out 9004 4)
+        roots_moved → ⊥ }
+    ensures others { IsCollection (rules_of MarkSweep) 1 Full
+        (heap_before kinds.Cells kinds.Cells 1) roots_before
+        (heap_after (four_kinds kinds.Cells kinds.Free kinds.Free kinds.Free) in_place 818 4)
+        roots_before → ⊥ }
+    ensures crossed { IsEmptied (run_heap 4097) 1 → ⊥ }
+    ensures not_crossed { IsEmptied (run_heap 4096) 1 }
+{}
+
+/// Under a plan with young objects a collection leaves no object young and none logged.
+pub fn wrong_ages()
+    ensures young { IsCollection (rules_of GenCopy) 1 Full
+        (heap_before kinds.Young kinds.Mature 0) roots_before
+        (heap_after (four_kinds kinds.Kept kinds.Free kinds.Mature kinds.Free)
+        (first_one 2 (812 ∷ 9004 ∷ []) 3 ∷ pinned_one ∷ second_one 2 6 8998 ∷ []) 9004 4)
+        roots_moved → ⊥ }
+    ensures logged { IsCollection (rules_of GenCopy) 1 Full
+        (heap_before kinds.Young kinds.Mature 0) roots_before
+        (unlogged_after false (four_kinds kinds.Kept kinds.Free kinds.Mature kinds.Free) moved_out
+        9004 4) roots_moved → ⊥ }
+    ensures unlogged { IsCollection (rules_of SemiSpace) 1 Full
+        (heap_before kinds.Bump kinds.Bump 0) roots_before
+        (unlogged_after false (four_kinds kinds.Kept kinds.Free kinds.Bump kinds.Free) moved_out
+        9004 4) roots_moved }
+{}
+
+/// A nursery collection loses no old object and none that an old one refers to, and keeps no young
+/// one that nothing else refers to.
+pub fn wrong_nurseries()
+    ensures old_lost { IsCollection (rules_of StickyImmix) 1 Nursery
+        (heap_before kinds.Immix kinds.Immix 0) roots_before
+        (heap_after (four_kinds kinds.Immix kinds.Free kinds.Free kinds.Free) in_place 818 2)
+        roots_before → ⊥ }
+    ensures remembered_lost { IsCollection (rules_of StickyImmix) 1 Nursery
+        (heap_before kinds.Immix kinds.Immix 0) roots_before
+        (heap_after (four_kinds kinds.Immix kinds.Immix kinds.Free kinds.Free)
+        (in_place ++ old_one 830 ∷ []) 818 2) roots_before → ⊥ }
+    ensures young_kept { IsCollection (rules_of StickyImmix) 1 Nursery
+        (heap_before kinds.Immix kinds.Immix 0) roots_before
+        (heap_after (four_kinds kinds.Immix kinds.Immix kinds.Free kinds.Free)
+        (in_place ++ lonely_one ∷ remembered_ones 0 24 830) 818 2) roots_before → ⊥ }
 {}

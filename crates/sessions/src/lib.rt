@@ -10,8 +10,9 @@ mod order_laws;
 mod placement_laws;
 
 pub use collecting_laws::{
-    candidates_fit_the_free_blocks, first_collections_have_bounds, holes_and_lines_are_counted,
-    movable_objects, plans_evacuate_kinds,
+    candidates_fit_the_free_blocks, first_collections_have_bounds, full_collections,
+    holes_and_lines_are_counted, movable_objects, nursery_collections, objects_left_in_place,
+    plans_evacuate_kinds, wrong_ages, wrong_blocks, wrong_nurseries, wrong_objects,
 };
 pub use laws::{
     collections_count, collections_set_the_base, empty_heap_has_room, empty_heap_may_be_collected,

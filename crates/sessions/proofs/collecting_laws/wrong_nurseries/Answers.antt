@@ -1,0 +1,11 @@
+use Rattle.sessions.proofs.WrongCollections.{old-lost, remembered-lost, young-kept}
+use Rattle.sessions.proofs.collecting_laws.wrong_nurseries.Goals as goal
+
+pub returns-clause-old_lost : goal.returns-clause-old_lost
+returns-clause-old_lost c = old-lost
+
+pub returns-clause-remembered_lost : goal.returns-clause-remembered_lost
+returns-clause-remembered_lost c = remembered-lost
+
+pub returns-clause-young_kept : goal.returns-clause-young_kept
+returns-clause-young_kept c = young-kept
