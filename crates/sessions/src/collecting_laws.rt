@@ -7,7 +7,7 @@ ghost use Rattle.object_model.specs.declared.collect.Collect.TheVariants.{Full, 
 ghost use Rattle.object_model.specs.Births.{with_block};
 ghost use Rattle.object_model.specs.WorkedHeaps.{plain_object, unowned};
 ghost use Rattle.sessions.specs.Plans.{NoGc, MarkSweep, SemiSpace, GenCopy, Immix, StickyImmix, rules_of};
-ghost use Rattle.sessions.specs.Collecting.{first_collection, young_blocks, holes_in, marked_in, is_hole_start, is_recyclable, is_candidate, may_move, still_free, IsEmptied, IsCollection};
+ghost use Rattle.sessions.specs.Collecting.{first_collection, young_blocks, holes_in, marked_in, is_hole_start, is_recyclable, is_candidate, is_evacuated, may_move, still_free, IsEmptied, IsCollection};
 ghost use Rattle.sessions.specs.WorkedCollections.{all_plans, aged_heap, large_heap, lined_heap, fragmented_heap, evacuated_kinds, movable_heap, heap_before, heap_after, roots_before, roots_moved, unlogged_after, in_place, moved_out, first_one, second_one, pinned_one, lonely_one, old_one, remembered_ones, four_kinds, cells_left, run_heap};
 
 /// A nursery collection is tried first if the plan has young objects, a full collection was made,
@@ -49,7 +49,7 @@ pub fn holes_and_lines_are_counted()
 
 /// Recyclable blocks are candidates as long as the Free blocks have as many lines as they and those
 /// before them have marked ones. A block with more holes is before one with fewer, and of two with
-/// as many the lower one.
+/// as many the lower one. A full collection evacuates them, and no other recyclable block.
 pub fn candidates_fit_the_free_blocks()
     ensures exact { filter (is_candidate (fragmented_heap [] kinds.Immix)) (range_with_len 0 6)
         ≡ 0 ∷ 1 ∷ [] }
@@ -57,6 +57,8 @@ pub fn candidates_fit_the_free_blocks()
         kinds.Immix)) (range_with_len 0 6) ≡ 1 ∷ [] }
     ensures room { filter (is_candidate (fragmented_heap (plain_object 0 2064 8 [] 0 0 ∷ [])
         kinds.Free)) (range_with_len 0 6) ≡ 0 ∷ 1 ∷ 2 ∷ [] }
+    ensures evacuated { filter (is_evacuated (rules_of Immix) Full (fragmented_heap [] kinds.Immix))
+        (range_with_len 0 6) ≡ 0 ∷ 1 ∷ [] }
 {}
 
 /// Which blocks, one of each kind, a collection of each plan evacuates.

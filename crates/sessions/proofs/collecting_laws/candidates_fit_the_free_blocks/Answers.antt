@@ -9,3 +9,6 @@ returns-clause-one_more c = refl
 
 pub returns-clause-room : goal.returns-clause-room
 returns-clause-room c = refl
+
+pub returns-clause-evacuated : goal.returns-clause-evacuated
+returns-clause-evacuated c = refl
