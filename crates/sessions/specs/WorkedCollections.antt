@@ -77,14 +77,14 @@ movable_heap = kinds_heap (kinds.Bump ∷ kinds.Bump ∷ kinds.Bump ∷ kinds.Ce
     ∷ plain_object 1 0 3 [] 2045 0 ∷ plain_object 2 0 4 [] 2046 0 ∷ plain_object 3 0 5 [] 0 0 ∷ []) 0
 
 -- The heap before worked collections. Block 0 has an object, 806, that refers to a pinned one, 812, and to 818, which
--- refers back. 824 is referred to by its own field alone, and 830 by the object in block 1, 4902, alone. Collection 2,
--- the last full one, met 4902; no root, global or other field refers to it.
+-- refers back. 824 is referred to by its own field alone, and has its address in a number of 818. 830 is referred to by
+-- the object in block 1, 4902, alone. Collection 2, the last full one, met 4902; no root, global or field refers to it.
 abbrev pub heap_before : Kind → Kind → ℕ → HeapState
 heap_before first second class = build_heap (record {
   blocks = unowned first class ∷ unowned second class ∷ unowned kinds.Free 0 ∷ unowned kinds.Free 0 ∷ [];
   objects = plain_object 0 0 1 (812 ∷ 818 ∷ []) 1 0
       ∷ record (plain_object 0 6 2 [] 3 0) { pinned = true }
-      ∷ record (plain_object 0 12 3 (806 ∷ 0 ∷ []) 1 0) { nums = 7 ∷ [] }
+      ∷ record (plain_object 0 12 3 (806 ∷ 0 ∷ []) 1 0) { nums = 824 ∷ [] }
       ∷ plain_object 0 18 4 (824 ∷ 806 ∷ []) 1 0
       ∷ plain_object 0 24 5 [] 3 0
       ∷ plain_object 1 0 6 (830 ∷ 0 ∷ []) 1 2
@@ -125,7 +125,7 @@ pinned_one = record (plain_object 0 6 2 [] 3 4) { pinned = true }
 
 -- the object at 818 after a collection, at a place and with a reference
 abbrev pub second_one : ℕ → ℕ → ℕ → WorkedObject
-second_one block offset v = record (plain_object block offset 3 (v ∷ 0 ∷ []) 1 4) { nums = 7 ∷ [] }
+second_one block offset v = record (plain_object block offset 3 (v ∷ 0 ∷ []) 1 4) { nums = 824 ∷ [] }
 
 -- the object at 806 after a collection: at a place, with these references and this number
 abbrev pub first_one : ℕ → List ℕ → ℕ → WorkedObject
