@@ -1,5 +1,5 @@
 -- Worked heaps for collections: ages, lines, blocks of each kind, objects that may move.
-use Rattle.std.specs.Prelude.{ℕ, ◌+◌, ◌*◌, ◌-◌, Bool, true, List, [], ◌∷◌, ◌++◌, filter, map, replicate}
+use Rattle.std.specs.Prelude.{ℕ, ◌-◌, Bool, true, List, [], ◌∷◌, ◌++◌, filter, map, replicate}
 use Rattle.std.specs.List.{range_with_len}
 use Rattle.heap_layout.specs.declared.block.BlockWord.{BlockWord}
 use Rattle.heap_layout.specs.declared.block.Kind.{Kind}
@@ -34,10 +34,6 @@ aged_heap blocks number base = kinds_heap blocks
 -- Block 0 has a large object with this number, and the next block, if it is not Free, may have these objects.
 abbrev pub large_heap : List Kind → ℕ → List WorkedObject → HeapState
 large_heap blocks number objects = kinds_heap blocks (plain_object 0 0 1 [] 2046 number ∷ objects) 2
-
--- an object of this many lines at the start of a line
-abbrev pub lines_object : ℕ → ℕ → ℕ → WorkedObject
-lines_object block line lines = plain_object block (16 * line) (256 * block + line + 1) [] (16 * lines) 0
 
 -- Immix blocks: an empty one; one with lines 1 and 3 marked; a full one; with line 255 clear; with line 0 clear. Block 5
 -- is a Bump block.
