@@ -6,6 +6,7 @@ use Rattle.object_model.specs.declared.collect.Collect.{Collect}
 use Rattle.object_model.specs.declared.collect.Collect.TheVariants.{Nursery, Full}
 use Rattle.object_model.specs.Objects.{HeapState, is_start, IsHeld, ref_at}
 use Rattle.object_model.specs.Graphs as graphs
+use Rattle.object_model.specs.WorkedHeaps.{plain_object}
 use Rattle.object_model.specs.Graphs.{IsReachable}
 use Rattle.sessions.specs.Plans.{MarkSweep, SemiSpace, GenCopy, Immix, StickyImmix, Rules, rules_of}
 use Rattle.sessions.specs.Collecting as collecting
@@ -97,6 +98,15 @@ pub young-in-place : Collects (rules_of GenCopy) 1 Nursery young roots_before yo
 young-in-place k =
     let first : 806 ≡ k.target 806 = root-goes k in
     let few : 2 ≤ 1 = k.moved 806 (omega (arith, first)) (inr refl) refl (sym first) in
+    omega (arith, few)
+
+abbrev old-in-full-heap : HeapState
+old-in-full-heap = heap_after (four_kinds kinds.Kept kinds.Kept kinds.Mature kinds.Free) (moved_out ++ plain_object 2 12 5 [] 3 4 ∷ plain_object 1 0 6 (9010 ∷ 0 ∷ []) 1 4 ∷ []) 9004 4
+
+pub old-in-full : Collects (rules_of GenCopy) 0 Full young (0 ∷ 4902 ∷ []) old-in-full-heap (0 ∷ 4902 ∷ []) → ⊥
+old-in-full k =
+    let first : 4902 ≡ k.target 4902 = ap (λ (l : List ℕ). slice_index l 1) k.kept.registers in
+    let few : 1 ≤ 0 = k.moved 4902 (omega (arith, first)) (inl refl) refl (sym first) in
     omega (arith, few)
 
 -- blocks

@@ -142,6 +142,11 @@ pub fn objects_left_in_place()
         (heap_before kinds.Young kinds.Young 0) roots_before
         (heap_after (four_kinds kinds.Kept kinds.Kept kinds.Mature kinds.Free)
         (moved_out ++ remembered_ones 2 12 9010) 9004 2) roots_moved }
+    ensures full { IsCollection (rules_of GenCopy) 0 Full
+        (heap_before kinds.Young kinds.Mature 0) (0 ∷ 4902 ∷ [])
+        (heap_after (four_kinds kinds.Kept kinds.Kept kinds.Mature kinds.Free)
+        (moved_out ++ plain_object 2 12 5 [] 3 4 ∷ plain_object 1 0 6 (9010 ∷ 0 ∷ []) 1 4 ∷ [])
+        9004 4) (0 ∷ 4902 ∷ []) → ⊥ }
     ensures free { still_free (heap_before kinds.Bump kinds.Bump 0)
         (heap_after (four_kinds kinds.Kept kinds.Free kinds.Bump kinds.Free) in_place 818 4) ≡ 1 }
 {}
