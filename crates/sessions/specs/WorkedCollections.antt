@@ -8,12 +8,8 @@ use Rattle.object_model.specs.declared.collect.Collect.{Collect}
 use Rattle.object_model.specs.Objects.{HeapState}
 use Rattle.object_model.specs.Births.{with_block}
 use Rattle.object_model.specs.WorkedHeaps.{WorkedObject, plain_object, build_heap, unowned}
-use Rattle.sessions.specs.Plans.{Plan, NoGc, MarkSweep, SemiSpace, GenCopy, Immix, StickyImmix, rules_of}
+use Rattle.sessions.specs.Plans.{Plan, rules_of}
 use Rattle.sessions.specs.Collecting.{is_evacuated}
-
--- the six plans, in their order
-abbrev pub all_plans : List Plan
-all_plans = NoGc ∷ MarkSweep ∷ SemiSpace ∷ GenCopy ∷ Immix ∷ StickyImmix ∷ []
 
 -- the heap with blocks of these kinds and these objects, nil globals, and this base, which is also the number
 abbrev pub kinds_heap : List Kind → List WorkedObject → ℕ → HeapState

@@ -7,8 +7,9 @@ ghost use Rattle.object_model.specs.declared.collect.Collect.TheVariants.{Full, 
 ghost use Rattle.object_model.specs.Births.{with_block};
 ghost use Rattle.object_model.specs.WorkedHeaps.{plain_object, unowned};
 ghost use Rattle.sessions.specs.Plans.{NoGc, MarkSweep, SemiSpace, GenCopy, Immix, StickyImmix, rules_of};
+ghost use Rattle.sessions.specs.Grants.{all_plans};
 ghost use Rattle.sessions.specs.Collecting.{first_collection, young_blocks, holes_in, marked_in, is_hole_start, is_recyclable, is_candidate, is_evacuated, may_move, still_free, IsEmptied, IsCollection};
-ghost use Rattle.sessions.specs.WorkedCollections.{all_plans, aged_heap, large_heap, lined_heap, fragmented_heap, evacuated_kinds, movable_heap, heap_before, heap_after, roots_before, roots_moved, unlogged_after, in_place, moved_out, first_one, second_one, pinned_one, lonely_one, old_one, remembered_ones, four_kinds, cells_left, run_heap};
+ghost use Rattle.sessions.specs.WorkedCollections.{aged_heap, large_heap, lined_heap, fragmented_heap, evacuated_kinds, movable_heap, heap_before, heap_after, roots_before, roots_moved, unlogged_after, in_place, moved_out, first_one, second_one, pinned_one, lonely_one, old_one, remembered_ones, four_kinds, cells_left, run_heap};
 
 /// A nursery collection is tried first if the plan has young objects, a full collection was made,
 /// some object is young, and at least a quarter of the blocks in use have young objects: one of
