@@ -4,6 +4,8 @@ pub mod Histories
 pub mod Beginning
 pub mod Holes
 pub mod Counting
+pub mod HoleKinds
+mod WorkedFits
 mod Nurseries
 pub mod Soundness
 pub mod CollectionLaws

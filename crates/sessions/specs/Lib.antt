@@ -3,4 +3,5 @@ pub mod Grants
 pub mod Fitting
 pub mod Collecting
 pub mod Sessions
+pub mod WorkedFits
 pub mod WorkedCollections

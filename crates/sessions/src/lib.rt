@@ -5,6 +5,7 @@
 #![tactic(auto)]
 
 mod collecting_laws;
+mod fitting_laws;
 mod laws;
 mod order_laws;
 mod placement_laws;
@@ -13,6 +14,11 @@ pub use collecting_laws::{
     candidates_fit_the_free_blocks, first_collections_have_bounds, full_collections,
     holes_and_lines_are_counted, movable_objects, nursery_collections, objects_left_in_place,
     plans_evacuate_kinds, wrong_ages, wrong_blocks, wrong_nurseries, wrong_objects,
+};
+pub use fitting_laws::{
+    counts_of_worked_heaps, fits_by_size, fits_of_worked_heaps, free_runs_of_worked_heaps,
+    fresh_blocks_have_holes, grants_on_worked_heaps, holes_by_kinds, holes_of_a_worked_heap,
+    plans_as_data, size_classes,
 };
 pub use laws::{
     collections_count, collections_set_the_base, empty_heap_has_room, empty_heap_may_be_collected,
