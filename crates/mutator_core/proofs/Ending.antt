@@ -5,6 +5,7 @@ use Rattle.std.specs.List.{Contains, Any, range_with_len}
 use Rattle.std.proofs.Math.Path.{fun_ext}
 use Rattle.std.proofs.lemmas.Bool.{cases_Bool, and_parts, and_from, ltb-true, leb-true}
 use Rattle.heap_layout.specs.Zones.{heap_of, block_at, offset_at}
+use Rattle.heap_layout.specs.declared.block.Kind.{Kind}
 use Rattle.heap_layout.specs.declared.block.Kind.TheVariants as kinds
 use Rattle.ideal_heap.specs.declared.name.Name.{Name}
 use Rattle.ideal_heap.specs.Names.{name_of}
@@ -30,7 +31,7 @@ use Rattle.mutator_core.specs.Tickets.{AreCounted, taken_by, allowed_to, smaller
 use Rattle.mutator_core.specs.Seen.{AreSeen, AreLoaded}
 use Rattle.mutator_core.specs.Closing.{IsBetweenCalls, GivesBack}
 use Rattle.mutator_core.proofs.Lists.{mutators-listed, contains-none}
-use Rattle.mutator_core.proofs.Fills.{owned-class}
+use Rattle.mutator_core.proofs.Fills.{owned-class, owned-kind}
 use Rattle.mutator_core.proofs.Sums.{sum-le}
 use Rattle.mutator_core.proofs.Counted.{smaller-most, counted-ends, first-counted}
 use Rattle.mutator_core.proofs.Entries.{Recorded, recorded-ends}
@@ -97,6 +98,7 @@ module _ (p : Epoch) (ready : IsReady p) (h : Machine) (first : IdealHeap) (past
     ];
     packed = packed a m (size_at s a) size ((now.epoch.knows m).regions (record { address = a; size = size_at s a }) made);
     cell = λ cells. let cell : IsCell a (size_at s a) p.before.blocks is.place.owned.class = is.place.cell cells in record {
+      kind = subst (λ (x : Kind). HasKind new (block_at p.before.blocks a) x) cells kind;
       class = ap class_of (sym size) ∙ cell.fits ∙ ap (λ q. Some q) (sym class);
       index = cell.index;
       start = cell.start ∙ ap (λ q. cell.index * cell_words q) (sym class);
@@ -113,6 +115,10 @@ module _ (p : Epoch) (ready : IsReady p) (h : Machine) (first : IdealHeap) (past
 
       owned : IsOwned p s (h.locals m).number is.place.owned
       owned = (now.epoch.knows m).owned is.place.owned is.place.among
+
+      kind : HasKind new (block_at p.before.blocks a) p.rules.fill
+      kind = back.kind-same p ready h ideal set now w gives (block_at p.before.blocks a) p.rules.fill
+          ∙ subst (λ (q : ℕ). HasKind s q p.rules.fill) is.place.here (owned-kind p s (h.locals m).number is.place.owned owned)
 
       class : class_at new (block_at p.before.blocks a) ≡ is.place.owned.class
       class = back.class-same p ready h ideal set now w gives (block_at p.before.blocks a) (subst (λ (q : ℕ). q < p.before.blocks) is.place.here owned.inside)

@@ -264,9 +264,9 @@ one-line_hole s k line x m y n one other x_from x_upto y_from y_upto =
 pub hole-cell : (fill : Kind) (s : HeapState) (k at size : ℕ) → HasHole fill s k at size → HasCellFor fill s k at size
 hole-cell fill s k at size hole cells =
     let found : HasHole kinds.Cells s k at size = subst (λ (x : Kind). HasHole x s k at size) cells hole in
-    record { class = found.2; index = found.1.index; start = found.1.start }
+    record { kind = found.0; class = found.2; index = found.1.index; start = found.1.start }
 
-pub cell-start : (fill : Kind) (s : HeapState) (k from size : ℕ) → fill ≡ kinds.Cells → HasCellFor fill s k from size → (class_of size ≡ Some (class_at s k)) × (from % cell_words (class_at s k) ≡ 0)
+pub cell-start : (fill : Kind) (s : HeapState) (k from size : ℕ) → fill ≡ kinds.Cells → HasCellFor fill s k from size → HasKind s k kinds.Cells × (class_of size ≡ Some (class_at s k)) × (from % cell_words (class_at s k) ≡ 0)
 cell-start fill s k from size cells has =
     let cell = has cells in
-    (cell.class, ap (λ i. i % cell_words (class_at s k)) cell.start ∙ mul-mod_left cell.index (cell_words (class_at s k)))
+    (cell.kind, cell.class, ap (λ i. i % cell_words (class_at s k)) cell.start ∙ mul-mod_left cell.index (cell_words (class_at s k)))

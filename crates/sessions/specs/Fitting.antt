@@ -137,6 +137,7 @@ LiesInHole kinds.Kept s k from size = ⊥
 
 -- block k has cells of the size's class, and one of them begins at offset `from`
 pub record IsCellFor (s : HeapState) (k from size : ℕ) : Type 0 where
+  pub kind : HasKind s k kinds.Cells
   pub class : class_of size ≡ Some (class_at s k)
   pub index : ℕ
   pub start : from ≡ index * cell_words (class_at s k)

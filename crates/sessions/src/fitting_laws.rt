@@ -95,7 +95,7 @@ pub fn holes_by_kinds()
     ensures cell { (fill : Kind) (s : HeapState) (k at size : ℕ) → HasHole fill s k at size
         → HasCellFor fill s k at size }
     ensures class { (s : HeapState) (k from size : ℕ) → HasCellFor kinds.Cells s k from size
-        → (class_of size ≡ Some (class_at s k))
+        → HasKind s k kinds.Cells × (class_of size ≡ Some (class_at s k))
         × (from % cell_words (class_at s k) ≡ 0) }
     ensures no_cells { (fill : Kind) (s : HeapState) (k from size : ℕ) → fill ≢ kinds.Cells
         → HasCellFor fill s k from size }

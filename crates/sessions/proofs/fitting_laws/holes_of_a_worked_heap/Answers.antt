@@ -57,4 +57,4 @@ pub returns-clause-past_the_block : goal.returns-clause-past_the_block
 returns-clause-past_the_block c hole = (let over : 4608 ≤ 4096 = hole.1.inside in omega arith)
 
 pub returns-clause-any_cell : goal.returns-clause-any_cell
-returns-clause-any_cell c cells = record { class = refl; index = 0; start = refl }
+returns-clause-any_cell c cells = record { kind = refl; class = refl; index = 0; start = refl }
