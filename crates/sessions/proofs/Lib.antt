@@ -17,3 +17,9 @@ pub mod Growing
 pub mod WorkedCollecting
 pub mod CollectionsOfPlans
 pub mod WrongCollections
+pub mod EpochParts
+pub mod BirthPlaces
+pub mod StopSteps
+pub mod PlacedObjects
+mod SoundMoments
+mod GcSessions

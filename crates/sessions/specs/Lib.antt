@@ -5,3 +5,4 @@ pub mod Collecting
 pub mod Sessions
 pub mod WorkedFits
 pub mod WorkedCollections
+pub mod WorkedSessions
