@@ -11,7 +11,7 @@ returns-clause-marksweep c' = record {
   entry = (0, entry 1 (c.New 0 1 1) (r.New (name 1 1)), lit< tt, refl, record { register = 0; command = refl; reply = refl });
   place = inl refl;
   packed = inl refl;
-  cell = λ is. record { class = refl; index = 0; start = refl };
+  cell = λ is. record { kind = refl; class = refl; index = 0; start = refl };
   unclaimed = refl;
   unmarked = λ marked. (let wrong : false ≡ true = marked in cc);
 }
