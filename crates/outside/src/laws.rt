@@ -1,8 +1,15 @@
 //! Laws of sources and sinks.
 
-ghost use Rattle.std.specs.Prelude.{◌≡◌, ℕ, ◌+◌, ◌<◌, List, [], length, Some, Option, Ok, Err, Result};
-ghost use Rattle.outside.specs.Outside.{LAST, HasRisen, AppendsPrefix, Opens};
+ghost use Rattle.std.specs.Prelude.{◌≡◌, ◌≢◌, ℕ, ◌+◌, ◌<◌, List, [], ◌∷◌, ◌++◌, length, take, Some, None, Option, Ok, Err, Result, false};
+ghost use Rattle.outside.specs.Outside.{LAST, HasRisen, AppendsText, AppendsPrefix, Opens};
 ghost use Rattle.outside.specs.declared.traits.OpenFault.{OpenFault};
+ghost use Rattle.outside.specs.declared.memory_sources.MemSources.{MemSources};
+ghost use Rattle.outside.specs.declared.memory_sources.SureSources.{SureSources};
+ghost use Rattle.outside.specs.declared.memory_sinks.MemSink.{MemSink};
+ghost use Rattle.outside.specs.Memory.{state_of, files_of, left_of, asked_of, faults_of, is_open};
+ghost use Rattle.outside.specs.Sure as sure;
+ghost use Rattle.outside.specs.Written as written;
+ghost use Rattle.outside.specs.Real.{left_of_file};
 
 /// A count below the maximum has not risen if it is unchanged; a count plus one has risen. A prefix
 /// that was appended is shorter than the text. After a file could not be opened, no bytes are left.
@@ -13,4 +20,39 @@ pub fn faults_and_prefixes()
         → length now < length old + length text }
     ensures closed { (e : OpenFault) (content left : Option (List ℕ))
         → Opens (Err e) content left → left ≡ Some [] }
+{}
+
+/// Of two texts that are written one after the other, all bytes are known: both texts follow what
+/// stood before, and if the second failed, a front of it.
+pub fn texts_in_turn()
+    ensures whole { (old first second : List ℕ) (between after : Option (List ℕ))
+        → AppendsText (Some old) between first → AppendsText between after second
+        → after ≡ Some (old ++ first ++ second) }
+    ensures front { (old first second now : List ℕ) (between : Option (List ℕ))
+        → AppendsText (Some old) between first → AppendsPrefix between (Some now) second
+        → take (length now) (old ++ first ++ second) ≡ now }
+    ensures told { (old text : List ℕ) → AppendsPrefix (Some old) None text → ⊥ }
+{}
+
+/// What sources and sinks in memory hold is known: the content of each name, what is left of the
+/// open file, the names asked for, the faults, and the bytes written.
+pub fn memory_is_known()
+    ensures content { (s : MemSources) (name bytes : List ℕ) (files : List (List ℕ × List ℕ))
+        → files_of s ≡ (name, bytes) ∷ files → (state_of s).content name ≡ Some bytes }
+    ensures missing { (s : MemSources) (name : List ℕ) → files_of s ≡ []
+        → (state_of s).content name ≡ None }
+    ensures closed { (s : MemSources) → is_open s ≡ false → (state_of s).left ≡ Some [] }
+    ensures open { (s : MemSources) → (state_of s).left ≡ Some (left_of s) }
+    ensures counted { (s : MemSources) → ((state_of s).asked ≡ asked_of s)
+        × ((state_of s).faults ≡ faults_of s) }
+    ensures sure { (s : SureSources) (name bytes : List ℕ) (files : List (List ℕ × List ℕ))
+        → sure.files_of s ≡ (name, bytes) ∷ files
+        → (sure.state_of s).content name ≡ Some bytes }
+    ensures sure_missing { (s : SureSources) (name : List ℕ) → sure.files_of s ≡ []
+        → (sure.state_of s).content name ≡ Some [] }
+    ensures sure_counted { (s : SureSources) → ((sure.state_of s).left ≡ Some (sure.left_of s))
+        × ((sure.state_of s).asked ≡ sure.asked_of s) × ((sure.state_of s).faults ≡ 0) }
+    ensures sink { (s : MemSink) → written.state_of s
+        ≡ record { written = Some (written.bytes_of s); faults = written.faults_of s } }
+    ensures real { (remaining : ℕ → Option (List ℕ)) (file : ℕ) → left_of_file remaining (Some file) ≡ remaining file }
 {}
