@@ -4,3 +4,4 @@ pub mod Printed
 pub mod Reading
 pub mod Statuses
 pub mod Exits
+pub mod WorkedEnds

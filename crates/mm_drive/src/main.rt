@@ -14,6 +14,7 @@ mod status;
 #[cfg(test)]
 mod test_runs;
 mod text;
+mod text_laws;
 mod top;
 #[cfg(test)]
 mod top_tests;
@@ -27,6 +28,11 @@ pub use program::program;
 pub use status::Status;
 use std::env;
 use std::process::ExitCode;
+pub use text_laws::{
+    exits_have_causes, fault_lines_are_written, files_are_asked_in_order, kinds_are_counted,
+    live_objects, made_rows, printed_of_one_file, settings_of_jobs, texts_of_no_commands,
+    traces_of_contents, worked_texts,
+};
 pub use top::run;
 pub use work_packets::{Gate, OpenGate, Point};
 

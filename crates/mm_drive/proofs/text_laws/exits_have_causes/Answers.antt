@@ -1,0 +1,38 @@
+use Rattle.std.proofs.Common.{◌≡◌, sym, ◌∙◌, ap, ℕ, inl, inr, refl, arith}
+use Rattle.std.specs.Prelude.{◌⊎◌, Some, None}
+use Rattle.std.proofs.lemmas.Option.{none-some}
+use Rattle.mm_drive.specs.declared.status.Status.{Status}
+use Rattle.mm_drive.specs.declared.status.Status.TheVariants as status
+use Rattle.mm_drive.specs.Statuses.{number_of}
+use Rattle.mm_drive.proofs.text_laws.exits_have_causes.Goals as goal
+
+pub returns-clause-no_job : goal.returns-clause-no_job
+returns-clause-no_job c n exit = elim (exit.2.usage refl) as (λ _. (n ≡ 2) ⊎ (n ≡ 7)) [
+  | inl e ↦ inl (exit.1 ∙ ap number_of e)
+  | inr e ↦ inr (exit.1 ∙ ap number_of e)
+]
+
+usage-from : (s : Status) → number_of s ≡ 2 → s ≡ status.Usage
+usage-from status.Ok e = absurd (omega (arith, e))
+usage-from status.Usage e = refl
+usage-from status.ReadFault e = absurd (omega (arith, e))
+usage-from status.TooLong e = absurd (omega (arith, e))
+usage-from status.BadTrace e = absurd (omega (arith, e))
+usage-from status.WriteFault e = absurd (omega (arith, e))
+usage-from status.OutOfMemory e = absurd (omega (arith, e))
+
+pub returns-clause-job : goal.returns-clause-job
+returns-clause-job c job n exit two = none-some job (sym (exit.2.none (usage-from exit.0 (sym exit.1 ∙ two))))
+
+pub returns-clause-unwritten : goal.returns-clause-unwritten
+returns-clause-unwritten c job out after err err_after ran =
+    ran.unwritten (λ e. let wrong : status.BadTrace ≡ status.Ok = e in cc) (λ e. let wrong : status.BadTrace ≡ status.WriteFault = e in cc)
+
+pub returns-clause-silent : goal.returns-clause-silent
+returns-clause-silent c job out after err err_after ran = ran.silent refl
+
+pub returns-clause-printed : goal.returns-clause-printed
+returns-clause-printed c job out after err err_after ran = ran.printed refl
+
+pub returns-clause-front : goal.returns-clause-front
+returns-clause-front c job out after err err_after ran = ran.prefix refl
