@@ -1,5 +1,5 @@
 -- Lists that have all objects that are reachable, decided by tests of roots, globals and fields.
-use Rattle.std.proofs.Common.{◌≡◌, refl, sym, ◌∙◌, ap, subst, ℕ, zero, suc, ◌<◌, ◌≤◌, inl, inr, arith, Bool, true, false, ◌||◌, IsTrue, List, [], ◌∷◌, length, nat_eq, slice_index}
+use Rattle.std.proofs.Common.{◌≡◌, sym, ◌∙◌, subst, ℕ, zero, suc, ◌<◌, inl, inr, arith, Bool, true, false, ◌||◌, IsTrue, List, [], ◌∷◌, length, nat_eq, slice_index}
 use Rattle.std.specs.List.{Any, list_all, list_any, range_with_len, AllByRecursion}
 use Rattle.std.proofs.Math.ListN.{get_or, get_or-eq_default}
 use Rattle.std.proofs.lemmas.Bool.{true≢false, cases_lt, cases_Bool, or_cases, eqb-true}

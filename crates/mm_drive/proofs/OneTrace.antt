@@ -1,5 +1,5 @@
 -- The traces of files, and the text of a session of one trace.
-use Rattle.std.proofs.Common.{◌≡◌, refl, sym, ◌∙◌, ap, subst, ℕ, suc, false, List, [], ◌∷◌, ◌++◌, length, append-nil}
+use Rattle.std.proofs.Common.{◌≡◌, refl, sym, ◌∙◌, ap, subst, ℕ, suc, false, List, [], ◌∷◌, length, append-nil}
 use Rattle.std.specs.Prelude.{Option, Result, Ok, Err, Some}
 use Rattle.std.specs.List.{AllByRecursion}
 use Rattle.ideal_heap.specs.declared.command.Command.{Command}

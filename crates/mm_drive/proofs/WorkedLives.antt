@@ -1,5 +1,5 @@
 -- The live objects of the worked end of a session.
-use Rattle.std.proofs.Common.{◌≡◌, refl, ℕ, zero, suc, ◌<◌, inl, inr, arith, true, List, [], ◌∷◌, length, slice_index}
+use Rattle.std.proofs.Common.{◌≡◌, refl, ℕ, zero, suc, ◌<◌, inl, inr, arith, true, List, [], ◌∷◌, slice_index}
 use Rattle.ideal_heap.specs.Names.{IsBefore}
 use Rattle.object_model.specs.Objects.{name_at}
 use Rattle.object_model.specs.Graphs as graphs

@@ -6,7 +6,7 @@ use Rattle.ideal_heap.specs.declared.reply.Reply.TheVariants as reply
 use Rattle.ideal_heap.specs.Names.{name}
 use Rattle.ideal_heap.specs.Runs.{Entry, entry}
 use Rattle.object_model.specs.Objects.{HeapState}
-use Rattle.object_model.specs.Graphs.{MutatorState, new_mutator, with_register}
+use Rattle.object_model.specs.Graphs.{new_mutator, with_register}
 use Rattle.object_model.specs.WorkedHeaps.{WorkedObject, plain_object, build_heap, unowned}
 use Rattle.sessions.specs.Sessions.{Moment}
 

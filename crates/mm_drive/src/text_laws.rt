@@ -54,12 +54,14 @@ pub fn worked_texts()
 
 /// Each number of the line of kinds counts the blocks of its kind, whatever their classes.
 pub fn kinds_are_counted()
-    ensures { kinds_line (record (empty_heap 45) { words = replicate 18 0 ++ map code_of
-        (unowned kinds.Free 0 ∷ replicate 2 (unowned kinds.Bump 0)
-        ++ replicate 3 (unowned kinds.Young 0) ++ replicate 4 (unowned kinds.Mature 0)
-        ++ replicate 5 (unowned kinds.Immix 0) ++ replicate 6 (unowned kinds.Cells 9)
-        ++ replicate 7 (unowned kinds.Kept 0) ++ replicate 8 (unowned kinds.LargeHead 2)
-        ++ replicate 9 (unowned kinds.LargeTail 0)) })
+    ensures { kinds_line (record (empty_heap 45) {
+      words = replicate 18 0 ++ map code_of
+          (unowned kinds.Free 0 ∷ replicate 2 (unowned kinds.Bump 0)
+          ++ replicate 3 (unowned kinds.Young 0) ++ replicate 4 (unowned kinds.Mature 0)
+          ++ replicate 5 (unowned kinds.Immix 0) ++ replicate 6 (unowned kinds.Cells 9)
+          ++ replicate 7 (unowned kinds.Kept 0) ++ replicate 8 (unowned kinds.LargeHead 2)
+          ++ replicate 9 (unowned kinds.LargeTail 0));
+    })
         ≡ codes "kinds free 1 bump 2 young 3 mature 4 immix 5 cells 6 large 17 kept 7\n" }
 {}
 

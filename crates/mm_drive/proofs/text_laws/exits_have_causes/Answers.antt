@@ -1,5 +1,5 @@
-use Rattle.std.proofs.Common.{◌≡◌, sym, ◌∙◌, ap, ℕ, inl, inr, refl, arith}
-use Rattle.std.specs.Prelude.{◌⊎◌, Some, None}
+use Rattle.std.proofs.Common.{◌≡◌, sym, ◌∙◌, ap, inl, inr, refl, arith}
+use Rattle.std.specs.Prelude.{◌⊎◌}
 use Rattle.std.proofs.lemmas.Option.{none-some}
 use Rattle.mm_drive.specs.declared.status.Status.{Status}
 use Rattle.mm_drive.specs.declared.status.Status.TheVariants as status

@@ -13,9 +13,9 @@ returns-clause-whole c before after old line writes written calm = elim writes.r
 pub returns-clause-front : goal.returns-clause-front
 returns-clause-front c before after old line writes written = elim writes.reported as (λ _. (n : ℕ) × (after.written ≡ Some (old ++ take n line))) [
   | inl t ↦ (
-    let got : after.written ≡ Some (old ++ line) = subst (λ (o : Option (List ℕ)). AppendsText o after.written line) written t in
-    (length line, got ∙ ap (λ x. Some (old ++ x)) (sym (take-length line))))
+      let got : after.written ≡ Some (old ++ line) = subst (λ (o : Option (List ℕ)). AppendsText o after.written line) written t in
+      (length line, got ∙ ap (λ x. Some (old ++ x)) (sym (take-length line))))
   | inr h ↦ (
-    let got = subst (λ (o : Option (List ℕ)). AppendsPrefix o after.written line) written h.1 in
-    (got.0, got.2))
+      let got = subst (λ (o : Option (List ℕ)). AppendsPrefix o after.written line) written h.1 in
+      (got.0, got.2))
 ]

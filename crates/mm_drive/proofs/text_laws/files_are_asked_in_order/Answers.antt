@@ -1,4 +1,4 @@
-use Rattle.std.proofs.Common.{◌≡◌, sym, ◌∙◌, ap, ℕ, ◌<◌, ◌≤◌, inl, inr, arith, List, ◌++◌}
+use Rattle.std.proofs.Common.{sym, ◌∙◌, ap, ℕ, ◌≤◌, inl, inr, arith, ◌++◌}
 use Rattle.std.specs.Prelude.{map}
 use Rattle.std.proofs.lemmas.List.{map-append}
 use Rattle.outside.specs.Outside.{HasRisen}
@@ -13,9 +13,11 @@ risen-since : (first count last : ℕ) → first ≤ count → HasRisen count la
 risen-since first count last since risen = elim risen as (λ _. HasRisen first last) [ inl h ↦ inl (omega (arith, since, h)) | inr h ↦ inr h ]
 
 pub returns-clause-unread : goal.returns-clause-unread
-returns-clause-unread c files before after line u =
-    (asks-more files u.place u.at.file u.count before.asked u.earlier after.asked u.at.is u.prefix u.last,
-    risen-since before.faults u.count after.faults u.since u.risen, (u.at.file, u.at.is, sym u.line))
+returns-clause-unread c files before after line u = (
+  asks-more files u.place u.at.file u.count before.asked u.earlier after.asked u.at.is u.prefix u.last,
+  risen-since before.faults u.count after.faults u.since u.risen,
+  (u.at.file, u.at.is, sym u.line),
+)
 
 pub returns-clause-too_long : goal.returns-clause-too_long
 returns-clause-too_long c files before after line u = (u.asked, (u.at.file, u.at.is, u.at.content_is, sym u.line))

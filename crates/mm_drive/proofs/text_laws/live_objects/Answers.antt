@@ -1,7 +1,4 @@
-use Rattle.std.proofs.Common.{◌≡◌, refl, sym, ◌∙◌, ℕ, ◌<◌, inl, inr, arith, Bool, true, false, List, [], ◌∷◌, length, slice_index}
-use Rattle.object_model.specs.Graphs.{IsReachable}
-use Rattle.mm_drive.specs.Texts.{AreLive}
-use Rattle.mm_drive.specs.WorkedEnds.{worked_end}
+use Rattle.std.proofs.Common.{◌≡◌, refl, inl, inr, arith, true, false, [], ◌∷◌}
 use Rattle.mm_drive.proofs.LiveLists.{any-in}
 use Rattle.mm_drive.proofs.WorkedLives.{live, reached-live}
 use Rattle.mm_drive.proofs.text_laws.live_objects.Goals as goal

@@ -1,4 +1,4 @@
-use Rattle.std.proofs.Common.{◌≡◌, ◌∙◌, ap, subst, ℕ, List, [], ◌∷◌, ◌++◌}
+use Rattle.std.proofs.Common.{◌≡◌, ◌∙◌, ap, subst, ℕ, List, ◌++◌}
 use Rattle.std.specs.Prelude.{Option, Some}
 use Rattle.command_line.specs.Words.{Work}
 use Rattle.outside.specs.Outside.{AppendsText, AppendsPrefix}

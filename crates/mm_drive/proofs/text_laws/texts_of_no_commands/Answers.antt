@@ -1,9 +1,8 @@
-use Rattle.std.proofs.Common.{◌≡◌, refl, sym, ℕ, zero, suc, ◌<◌, arith, true, false, List, [], ◌∷◌, length}
+use Rattle.std.proofs.Common.{◌≡◌, refl, ℕ, zero, suc, arith, List, [], ◌∷◌}
 use Rattle.std.specs.Fmt.{digits}
-use Rattle.std.specs.Prelude.{codes}
 use Rattle.std.proofs.lemmas.Bool.{false≢true}
 use Rattle.ideal_heap.specs.declared.command.Command.{Command}
-use Rattle.ideal_heap.specs.Runs.{commands_of, trace_of, IsMutator, IsOrder}
+use Rattle.ideal_heap.specs.Runs.{commands_of, trace_of, IsMutator}
 use Rattle.object_model.specs.Graphs.{roots_of}
 use Rattle.sessions.specs.Plans.{GenCopy, rules_of}
 use Rattle.sessions.specs.Sessions as sessions
@@ -42,7 +41,8 @@ two-live : AreLive (first_moment (setting two)) []
 two-live = record {
   all = λ a. (
     (λ there. absurd (false≢true (reached-in (first_moment (setting two)).heap (roots_of (first_moment (setting two)).mutators) [] refl refl refl a there))),
-    (λ any. absurd (omega (arith, any.2))));
+    (λ any. absurd (omega (arith, any.2))),
+  );
   rise = λ i j low within. absurd (omega (arith, within));
 }
 
@@ -50,7 +50,8 @@ one-live : AreLive (first_moment (setting one)) []
 one-live = record {
   all = λ a. (
     (λ there. absurd (false≢true (reached-in (first_moment (setting one)).heap (roots_of (first_moment (setting one)).mutators) [] refl refl refl a there))),
-    (λ any. absurd (omega (arith, any.2))));
+    (λ any. absurd (omega (arith, any.2))),
+  );
   rise = λ i j low within. absurd (omega (arith, within));
 }
 
