@@ -119,7 +119,7 @@ pub fn printed_of_one_file()
 {}
 
 /// Files are asked for in their order, after all that was asked for before. The last one that was
-/// asked for is the one at fault, and the line names it.
+/// asked for is the one at fault, and the line names it; those before it have traces.
 pub fn files_are_asked_in_order()
     ensures first { (n : ℕ) (files : List (List ℕ)) (before after : Asked)
         → AsksFirst n files before after
@@ -127,17 +127,20 @@ pub fn files_are_asked_in_order()
     ensures unread { (files : List (List ℕ)) (before after : SourceState) (line : List ℕ)
         → (u : Unread files before after (λ l. l ≡ line))
         → AsksFirst (suc u.place) files before.asked after.asked
+        × AreTraces before.content (take u.place files) u.at.traces
         × HasRisen before.faults after.faults × ((file : List ℕ)
         × (slice_get files u.place ≡ Some file)
         × (line ≡ codes "mm_drive: cannot read " ++ file ++ codes "\n")) }
     ensures too_long { (files : List (List ℕ)) (before after : SourceState) (line : List ℕ)
         → (u : IsTooLong files before after (λ l. l ≡ line))
-        → AsksFirst (suc u.place) files before.asked after.asked × ((file : List ℕ)
+        → AsksFirst (suc u.place) files before.asked after.asked
+        × AreTraces before.content (take u.place files) u.at.traces × ((file : List ℕ)
         × (slice_get files u.place ≡ Some file) × IfSome (before.content file) IsLong
         × (line ≡ codes "mm_drive: " ++ file ++ codes " is longer than 16777216 bytes\n")) }
     ensures bad { (files : List (List ℕ)) (before after : SourceState) (line : List ℕ)
         → (u : IsBad files before after (λ l. l ≡ line))
-        → AsksFirst (suc u.place) files before.asked after.asked × ((file : List ℕ)
+        → AsksFirst (suc u.place) files before.asked after.asked
+        × AreTraces before.content (take u.place files) u.at.traces × ((file : List ℕ)
         × (slice_get files u.place ≡ Some file) × IfSome (before.content file) (HasFault u.flaw)
         × (line ≡ fault_line file u.flaw)) }
     ensures usage { (job : Option Job) (before after : SourceState) (line : List ℕ)

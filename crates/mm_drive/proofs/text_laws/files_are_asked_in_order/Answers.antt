@@ -15,15 +15,16 @@ risen-since first count last since risen = elim risen as (λ _. HasRisen first l
 pub returns-clause-unread : goal.returns-clause-unread
 returns-clause-unread c files before after line u = (
   asks-more files u.place u.at.file u.count before.asked u.earlier after.asked u.at.is u.prefix u.last,
+  u.at.good,
   risen-since before.faults u.count after.faults u.since u.risen,
   (u.at.file, u.at.is, sym u.line),
 )
 
 pub returns-clause-too_long : goal.returns-clause-too_long
-returns-clause-too_long c files before after line u = (u.asked, (u.at.file, u.at.is, u.at.content_is, sym u.line))
+returns-clause-too_long c files before after line u = (u.asked, u.at.good, (u.at.file, u.at.is, u.at.content_is, sym u.line))
 
 pub returns-clause-bad : goal.returns-clause-bad
-returns-clause-bad c files before after line u = (u.asked, (u.at.file, u.at.is, u.at.content_is, sym u.line))
+returns-clause-bad c files before after line u = (u.asked, u.at.good, (u.at.file, u.at.is, u.at.content_is, sym u.line))
 
 pub returns-clause-usage : goal.returns-clause-usage
 returns-clause-usage c job before after line u = (u.none, u.unread, sym u.line)
