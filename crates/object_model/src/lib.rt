@@ -13,6 +13,7 @@ mod place;
 mod row;
 mod shape;
 mod walk;
+mod worked_laws;
 
 pub use collect::Collect;
 pub use heap::Heap;
@@ -32,6 +33,7 @@ pub use shape::{
     HEADER_WORDS, MAX_MEDIUM_WORDS, NUMBER_UNIT, NUMS_UNIT, Shape, decode_shape, encode_shape,
     size_words,
 };
+pub use worked_laws::{built_heaps_read_back, worked_ages};
 
 #[cfg(test)]
 mod tests;

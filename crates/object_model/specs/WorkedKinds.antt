@@ -1,0 +1,45 @@
+-- A worked heap with blocks of five kinds, of six blocks: the first address is 1200.
+use Rattle.std.specs.Prelude.{ℕ, Bool, true, false, List, [], ◌∷◌, ◌++◌, replicate}
+use Rattle.heap_layout.specs.declared.block.Kind.TheVariants as kinds
+use Rattle.ideal_heap.specs.declared.name.Name.{Name}
+use Rattle.ideal_heap.specs.Names.{name}
+use Rattle.object_model.specs.Objects.{HeapState}
+use Rattle.object_model.specs.WorkedHeaps.{WorkedHeap, WorkedObject, unowned, build_heap}
+
+-- the object with these parts
+abbrev pub worked_object : ℕ → ℕ → Name → List ℕ → List ℕ → ℕ → Bool → Bool → WorkedObject
+worked_object block offset n refs nums number pinned unlogged = record {
+  block = block;
+  offset = offset;
+  name = n;
+  refs = refs;
+  nums = nums;
+  number = number;
+  pinned = pinned;
+  unlogged = unlogged;
+}
+
+-- Objects of mutators 1 and 16 at 1212, 5312, 9384, 9392 and 19632: one in two lines of an Immix block, two in a block
+-- of 8-word cells, the second of them in the last cell, one of 4,097 words in a run of two blocks, and one of 2,048
+-- words at the end of a Mature block. The first and the last are pinned, the first three are unlogged.
+abbrev pub five_kinds : WorkedHeap
+five_kinds = record {
+  blocks = unowned kinds.Immix 0 ∷ unowned kinds.Cells 2 ∷ unowned kinds.LargeHead 2 ∷ unowned kinds.LargeTail 0
+      ∷ unowned kinds.Mature 0 ∷ unowned kinds.Free 0 ∷ [];
+  objects = worked_object 0 12 (name 1 1) (9392 ∷ 0 ∷ []) (7 ∷ []) 0 true true
+      ∷ worked_object 1 16 (name 16 1) (19632 ∷ []) [] 3 false true
+      ∷ worked_object 1 4088 (name 1 2) (0 ∷ 5312 ∷ []) (8 ∷ 9 ∷ 10 ∷ []) 2 false true
+      ∷ worked_object 2 0 (name 1 3) [] (replicate 4093 0 ++ 11 ∷ []) 1 false false
+      ∷ worked_object 4 2048 (name 16 2) (1212 ∷ []) (replicate 2044 0) 2 true false
+      ∷ [];
+  globals = 1212 ∷ replicate 14 0 ++ 9392 ∷ [];
+  number = 3;
+  base = 2;
+}
+
+abbrev pub kinds_heap : HeapState
+kinds_heap = build_heap five_kinds
+
+-- the addresses of its objects
+abbrev pub kinds_held : List ℕ
+kinds_held = 1212 ∷ 5312 ∷ 9384 ∷ 9392 ∷ 19632 ∷ []

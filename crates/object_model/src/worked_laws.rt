@@ -1,0 +1,56 @@
+//! Laws by example, on heaps that are built from blocks and objects.
+
+ghost use Rattle.std.specs.Prelude.{◌≡◌, List, [], ◌∷◌, map, filter, replicate, ◌++◌};
+ghost use Rattle.std.specs.List.{range_with_len};
+ghost use Rattle.heap_layout.specs.Zones.{row_words};
+ghost use Rattle.ideal_heap.specs.Names.{name};
+ghost use Rattle.ideal_heap.specs.Ideal.{Nil, At};
+ghost use Rattle.object_model.specs.Objects.{global_at, block_word, line_marked, is_start, is_pinned, is_unlogged, name_at, size_at, refs_at, nums_at, number_at, target_at, ref_at, num_at, record_at};
+ghost use Rattle.object_model.specs.Ages.{is_old, is_logged, is_survivor};
+ghost use Rattle.object_model.specs.WorkedKinds.{kinds_heap, kinds_held};
+
+/// A built heap reads back as the blocks and objects that it was built from.
+pub fn built_heaps_read_back()
+    ensures held { filter (is_start kinds_heap) (range_with_len 0 (row_words 6)) ≡ kinds_held }
+    ensures pinned { filter (is_pinned kinds_heap) (range_with_len 0 (row_words 6))
+        ≡ 1212 ∷ 19632 ∷ [] }
+    ensures unlogged { filter (is_unlogged kinds_heap) (range_with_len 0 (row_words 6))
+        ≡ 1212 ∷ 5312 ∷ 9384 ∷ [] }
+    ensures names { map (name_at kinds_heap) kinds_held
+        ≡ name 1 1 ∷ name 16 1 ∷ name 1 2 ∷ name 1 3 ∷ name 16 2 ∷ [] }
+    ensures refs { map (refs_at kinds_heap) kinds_held ≡ 2 ∷ 1 ∷ 2 ∷ 0 ∷ 1 ∷ [] }
+    ensures nums { map (nums_at kinds_heap) kinds_held ≡ 1 ∷ 0 ∷ 3 ∷ 4094 ∷ 2044 ∷ [] }
+    ensures sizes { map (size_at kinds_heap) kinds_held ≡ 6 ∷ 4 ∷ 8 ∷ 4097 ∷ 2048 ∷ [] }
+    ensures numbers { map (number_at kinds_heap) kinds_held ≡ 0 ∷ 3 ∷ 2 ∷ 1 ∷ 2 ∷ [] }
+    ensures targets { map (target_at kinds_heap) kinds_held
+        ≡ 0 ∷ 5312 ∷ 9384 ∷ 9392 ∷ 19632 ∷ [] }
+    ensures records { map (record_at kinds_heap) (1212 ∷ 5312 ∷ 9384 ∷ [])
+        ≡ (record { refs = At (name 1 3) ∷ Nil ∷ []; nums = 7 ∷ [] })
+        ∷ (record { refs = At (name 16 2) ∷ []; nums = [] })
+        ∷ (record { refs = Nil ∷ At (name 16 1) ∷ []; nums = 8 ∷ 9 ∷ 10 ∷ [] }) ∷ [] }
+    ensures fields { ref_at kinds_heap 9384 1 ∷ num_at kinds_heap 9384 2
+        ∷ num_at kinds_heap 9392 4093 ∷ ref_at kinds_heap 19632 0 ∷ []
+        ≡ 5312 ∷ 10 ∷ 11 ∷ 1212 ∷ [] }
+    ensures globals { map (global_at kinds_heap) (range_with_len 0 16)
+        ≡ 1212 ∷ replicate 14 0 ++ 9392 ∷ [] }
+    ensures blocks { map (block_word kinds_heap) (range_with_len 0 6)
+        ≡ 4 ∷ 517 ∷ 518 ∷ 7 ∷ 3 ∷ 0 ∷ [] }
+    ensures lines { map (λ k. filter (line_marked kinds_heap k) (range_with_len 0 256))
+        (range_with_len 0 6)
+        ≡ (0 ∷ 1 ∷ []) ∷ [] ∷ [] ∷ [] ∷ [] ∷ [] ∷ [] }
+{}
+
+/// Old, logged and surviving objects of a heap whose last full collection is number 2, and of the
+/// same heap after other full collections. An index that is no object's address is not logged.
+pub fn worked_ages()
+    ensures old { filter (is_old kinds_heap) kinds_held ≡ 5312 ∷ 9384 ∷ 19632 ∷ [] }
+    ensures old_from_one { filter (is_old (record kinds_heap { base = 1 })) kinds_held
+        ≡ 5312 ∷ 9384 ∷ 9392 ∷ 19632 ∷ [] }
+    ensures none_old { filter (is_old (record kinds_heap { base = 0 })) kinds_held ≡ [] }
+    ensures logged { filter (is_logged kinds_heap) (range_with_len 0 (row_words 6))
+        ≡ 19632 ∷ [] }
+    ensures survivors { map (λ base. filter (is_survivor kinds_heap base) kinds_held)
+        (range_with_len 0 5)
+        ≡ (5312 ∷ 9384 ∷ 9392 ∷ 19632 ∷ []) ∷ (5312 ∷ 9384 ∷ 9392 ∷ 19632 ∷ [])
+        ∷ (5312 ∷ 9384 ∷ 19632 ∷ []) ∷ (5312 ∷ []) ∷ [] ∷ [] }
+{}
