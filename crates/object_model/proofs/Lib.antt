@@ -39,6 +39,8 @@ pub mod BornHeaps
 pub mod QuietStores
 pub mod TakenBlocks
 pub mod WorkedHeaps
+pub mod LawfulTests
+pub mod BuiltWords
 pub mod WalkLemmas
 pub mod GraphLemmas
 pub mod OwnedBlocks

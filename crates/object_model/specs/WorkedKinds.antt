@@ -1,9 +1,10 @@
 -- A worked heap with blocks of five kinds, of six blocks: the first address is 1200.
-use Rattle.std.specs.Prelude.{ℕ, Bool, true, false, List, [], ◌∷◌, ◌++◌, replicate}
+use Rattle.std.specs.Prelude.{ℕ, Bool, true, false, List, [], ◌∷◌, ◌++◌, replicate, slice_set}
 use Rattle.heap_layout.specs.declared.block.Kind.TheVariants as kinds
+use Rattle.heap_layout.specs.declared.block.BlockWord.{BlockWord}
 use Rattle.ideal_heap.specs.declared.name.Name.{Name}
 use Rattle.ideal_heap.specs.Names.{name}
-use Rattle.object_model.specs.Objects.{HeapState}
+use Rattle.object_model.specs.Objects.{HeapState, with_words}
 use Rattle.object_model.specs.WorkedHeaps.{WorkedHeap, WorkedObject, unowned, build_heap}
 
 -- the object with these parts
@@ -43,3 +44,19 @@ kinds_heap = build_heap five_kinds
 -- the addresses of its objects
 abbrev pub kinds_held : List ℕ
 kinds_held = 1212 ∷ 5312 ∷ 9384 ∷ 9392 ∷ 19632 ∷ []
+
+-- a block and three Free ones
+abbrev pub three_free : BlockWord → List BlockWord
+three_free word = word ∷ unowned kinds.Free 0 ∷ unowned kinds.Free 0 ∷ unowned kinds.Free 0 ∷ []
+
+-- a heap with nil globals, after collection 3, of which number 2 was the last full one
+abbrev pub small_heap : List BlockWord → List WorkedObject → HeapState
+small_heap blocks objects = build_heap (record { blocks = blocks; objects = objects; globals = []; number = 3; base = 2 })
+
+-- such a heap of a Bump block and three Free ones
+abbrev pub bump_with : List WorkedObject → HeapState
+bump_with objects = small_heap (three_free (unowned kinds.Bump 0)) objects
+
+-- the heap with another word at an index
+abbrev pub with_word : HeapState → ℕ → ℕ → HeapState
+with_word s i v = with_words s (slice_set s.words i v)

@@ -33,7 +33,9 @@ pub use shape::{
     HEADER_WORDS, MAX_MEDIUM_WORDS, NUMBER_UNIT, NUMS_UNIT, Shape, decode_shape, encode_shape,
     size_words,
 };
-pub use worked_laws::{built_heaps_read_back, worked_ages};
+pub use worked_laws::{
+    built_heaps_read_back, heap_of_five_kinds, unlawful_blocks, unlawful_objects, worked_ages,
+};
 
 #[cfg(test)]
 mod tests;

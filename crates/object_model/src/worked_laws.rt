@@ -1,13 +1,16 @@
 //! Laws by example, on heaps that are built from blocks and objects.
 
-ghost use Rattle.std.specs.Prelude.{◌≡◌, List, [], ◌∷◌, map, filter, replicate, ◌++◌};
+ghost use Rattle.std.specs.Prelude.{◌≡◌, ◌^◌, false, List, [], ◌∷◌, map, filter, replicate, ◌++◌};
 ghost use Rattle.std.specs.List.{range_with_len};
 ghost use Rattle.heap_layout.specs.Zones.{row_words};
 ghost use Rattle.ideal_heap.specs.Names.{name};
 ghost use Rattle.ideal_heap.specs.Ideal.{Nil, At};
 ghost use Rattle.object_model.specs.Objects.{global_at, block_word, line_marked, is_start, is_pinned, is_unlogged, name_at, size_at, refs_at, nums_at, number_at, target_at, ref_at, num_at, record_at};
 ghost use Rattle.object_model.specs.Ages.{is_old, is_logged, is_survivor};
-ghost use Rattle.object_model.specs.WorkedKinds.{kinds_heap, kinds_held};
+ghost use Rattle.object_model.specs.Lawful.{IsLawful};
+ghost use Rattle.object_model.specs.WorkedHeaps.{unowned, plain_object};
+ghost use Rattle.object_model.specs.WorkedKinds.{kinds_heap, kinds_held, worked_object, three_free, small_heap, bump_with, with_word};
+ghost use Rattle.heap_layout.specs.declared.block.Kind.TheVariants as kinds;
 
 /// A built heap reads back as the blocks and objects that it was built from.
 pub fn built_heaps_read_back()
@@ -53,4 +56,60 @@ pub fn worked_ages()
         (range_with_len 0 5)
         ≡ (5312 ∷ 9384 ∷ 9392 ∷ 19632 ∷ []) ∷ (5312 ∷ 9384 ∷ 9392 ∷ 19632 ∷ [])
         ∷ (5312 ∷ 9384 ∷ 19632 ∷ []) ∷ (5312 ∷ []) ∷ [] ∷ [] }
+{}
+
+/// A heap with objects of two mutators in Immix, Cells and Mature blocks, and in a run of two
+/// blocks, is lawful.
+pub fn heap_of_five_kinds()
+    ensures { IsLawful kinds_heap }
+{}
+
+/// Heaps that are not lawful by the words of an object, or of what refers to it.
+pub fn unlawful_objects()
+    ensures mutator { IsLawful (bump_with (worked_object 0 0 (name 17 1) [] [] 0 false false ∷ [])) →
+        ⊥ }
+    ensures birth { IsLawful (bump_with (plain_object 0 0 0 [] 0 0 ∷ [])) → ⊥ }
+    ensures refs { IsLawful (bump_with (plain_object 0 0 1 (replicate 1025 0) 0 0 ∷ [])) → ⊥ }
+    ensures number { IsLawful (bump_with (plain_object 0 0 1 [] 0 4 ∷ [])) → ⊥ }
+    ensures over_block { IsLawful (bump_with (plain_object 0 4094 1 [] 0 0 ∷ [])) → ⊥ }
+    ensures overlap { IsLawful (bump_with (plain_object 0 0 1 [] 1 0 ∷ plain_object 0 3 2 [] 0 0 ∷
+        [])) → ⊥ }
+    ensures same_name { IsLawful (bump_with (plain_object 0 0 1 [] 0 0 ∷ plain_object 0 3 1 [] 0 0 ∷
+        [])) → ⊥ }
+    ensures field { IsLawful (bump_with (plain_object 0 0 1 (0 ∷ 807 ∷ []) 0 0 ∷ [])) → ⊥ }
+    ensures global { IsLawful (with_word (bump_with []) 17 806) → ⊥ }
+    ensures pin { IsLawful (with_word (bump_with []) 294 1) → ⊥ }
+    ensures unlog { IsLawful (with_word (bump_with []) 550 1) → ⊥ }
+    ensures base { IsLawful (record (bump_with []) { base = 4 }) → ⊥ }
+{}
+
+/// Heaps that are not lawful by what lies in a block, by a block's word, or by a line bit.
+pub fn unlawful_blocks()
+    ensures free_block { IsLawful (bump_with (plain_object 1 0 1 [] 0 0 ∷ [])) → ⊥ }
+    ensures tail { IsLawful (small_heap (unowned kinds.LargeHead 2 ∷ unowned kinds.LargeTail 0 ∷
+        unowned kinds.Free 0 ∷ unowned kinds.Free 0 ∷ []) (plain_object 0 0 1 [] 4094 0 ∷
+        plain_object 1 100 2 [] 0 0 ∷ [])) → ⊥ }
+    ensures cell_start { IsLawful (small_heap (three_free (unowned kinds.Cells 2)) (plain_object 0 4 1
+        [] 0 0 ∷ [])) → ⊥ }
+    ensures last_cell { IsLawful (small_heap (three_free (unowned kinds.Cells 5)) (plain_object 0 4080
+        1 [] 0 0 ∷ [])) → ⊥ }
+    ensures run_class { IsLawful (small_heap (unowned kinds.LargeHead 3 ∷ unowned kinds.LargeTail 0 ∷
+        unowned kinds.LargeTail 0 ∷ unowned kinds.Free 0 ∷ []) (plain_object 0 0 1 [] 4094 0 ∷
+        [])) → ⊥ }
+    ensures run_start { IsLawful (small_heap (three_free (unowned kinds.LargeHead 1)) (plain_object 0
+        16 1 [] 2046 0 ∷ [])) → ⊥ }
+    ensures run_end { IsLawful (small_heap (unowned kinds.Free 0 ∷ unowned kinds.Free 0 ∷ unowned
+        kinds.Free 0 ∷ unowned kinds.LargeHead 2 ∷ []) (plain_object 3 0 1 [] 4094 0 ∷ [])) → ⊥ }
+    ensures no_object { IsLawful (small_heap (three_free (unowned kinds.LargeHead 1)) []) → ⊥ }
+    ensures medium_run { IsLawful (small_heap (three_free (unowned kinds.LargeHead 1)) (plain_object 0
+        0 1 [] 2045 0 ∷ [])) → ⊥ }
+    ensures lone_tail { IsLawful (small_heap (unowned kinds.LargeHead 1 ∷ unowned kinds.LargeTail 0 ∷
+        unowned kinds.Free 0 ∷ unowned kinds.Free 0 ∷ []) (plain_object 0 0 1 [] 2046 0 ∷ [])) → ⊥ }
+    ensures class { IsLawful (small_heap (three_free (unowned kinds.Bump 1)) []) → ⊥ }
+    ensures owner { IsLawful (with_word (bump_with []) 21 65537) → ⊥ }
+    ensures free_line { IsLawful (with_word (bump_with []) 29 (2 ^ 63)) → ⊥ }
+    ensures marked_line { IsLawful (with_word (small_heap (three_free (unowned kinds.Immix 0)) []) 25
+        (2 ^ 63)) → ⊥ }
+    ensures unmarked_line { IsLawful (with_word (small_heap (three_free (unowned kinds.Immix 0))
+        (plain_object 0 4093 1 [] 0 0 ∷ [])) 25 0) → ⊥ }
 {}
