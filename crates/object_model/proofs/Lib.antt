@@ -3,6 +3,7 @@ pub mod Zeros
 pub mod Marks
 pub mod Representation
 pub mod Staying
+pub mod Preserved
 pub mod Frames
 pub mod Stores
 pub mod OneKind
