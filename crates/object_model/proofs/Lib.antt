@@ -4,6 +4,8 @@ pub mod Marks
 pub mod Representation
 pub mod Staying
 pub mod Preserved
+pub mod Logging
+pub mod TwoSteps
 pub mod Frames
 pub mod Stores
 pub mod OneKind

@@ -1,5 +1,5 @@
 -- A heap whose objects are preserved represents the same ideal heap.
-use Rattle.std.proofs.Common.{◌≡◌, ◌≢◌, refl, sym, ◌∙◌, ap, subst, ℕ, zero, suc, ◌+◌, ◌<◌, ◌≤◌, ◌↔◌, true, false, inl, inr, arith, IsTrue, Bool, List, [], ◌∷◌, ◌++◌, length, slice_index, map, None, Some, Option}
+use Rattle.std.proofs.Common.{◌≡◌, ◌≢◌, refl, sym, ◌∙◌, ap, subst, ℕ, zero, suc, ◌<◌, ◌≤◌, ◌↔◌, true, false, inl, inr, arith, IsTrue, Bool, List, [], ◌∷◌, ◌++◌, slice_index, map, None, Some, Option}
 use Rattle.std.specs.List.{AllByRecursion, Any, range_with_len}
 use Rattle.std.proofs.lemmas.Bool.{cond-true, cond-false}
 use Rattle.std.proofs.lemmas.List.{length-map, map-append}
@@ -24,7 +24,7 @@ numbers-moved : (target : ℕ → ℕ) (ms : List MutatorState) → numbers_of (
 numbers-moved target [] = refl
 numbers-moved target (m ∷ ms) = ap (λ xs. m.number ∷ xs) (numbers-moved target ms)
 
-roots-moved : (target : ℕ → ℕ) (ms : List MutatorState) → map target (roots_of ms) ≡ roots_of (map (at_targets target) ms)
+pub roots-moved : (target : ℕ → ℕ) (ms : List MutatorState) → map target (roots_of ms) ≡ roots_of (map (at_targets target) ms)
 roots-moved target [] = refl
 roots-moved target (m ∷ ms) = map-append target m.registers (roots_of ms) ∙ ap (λ xs. map target m.registers ++ xs) (roots-moved target ms)
 
@@ -37,9 +37,6 @@ module _ (moves : ℕ → Bool) (old new : HeapState) (ms : List MutatorState) (
     (order : IsWellFormed old) (order' : IsWellFormed new) (kept : PreservesObjects moves old (roots_of ms) (IsHeld new) new roots' target) where
   abbrev after : List MutatorState
   after = map (at_targets target) ms
-
-  pub roots-after : roots' ≡ roots_of after
-  roots-after = kept.registers ∙ roots-moved target ms
 
   module _ (standing : Represents old ms h) where
     abbrev Arrives : ℕ → Type 0

@@ -1,13 +1,21 @@
 //! Laws by example, on heaps that are built from blocks and objects.
 
-ghost use Rattle.std.specs.Prelude.{◌≡◌, ◌^◌, false, List, [], ◌∷◌, map, filter, replicate, ◌++◌};
-ghost use Rattle.std.specs.List.{range_with_len};
+ghost use Rattle.std.specs.Prelude.{◌≡◌, ◌≢◌, ℕ, ◌^◌, Bool, IsTrue, false, List, [], ◌∷◌, map, filter, replicate, ◌++◌};
+ghost use Rattle.std.specs.List.{Contains, range_with_len};
 ghost use Rattle.heap_layout.specs.Zones.{row_words};
 ghost use Rattle.ideal_heap.specs.Names.{name};
-ghost use Rattle.ideal_heap.specs.Ideal.{Nil, At};
-ghost use Rattle.object_model.specs.Objects.{global_at, block_word, line_marked, is_start, is_pinned, is_unlogged, name_at, size_at, refs_at, nums_at, number_at, target_at, ref_at, num_at, record_at};
-ghost use Rattle.object_model.specs.Ages.{is_old, is_logged, is_survivor};
-ghost use Rattle.object_model.specs.Lawful.{IsLawful};
+ghost use Rattle.ideal_heap.specs.Ideal.{IdealHeap, Nil, At, step};
+ghost use Rattle.ideal_heap.specs.declared.name.Name.{Name};
+ghost use Rattle.ideal_heap.specs.declared.command.Command.{Command};
+ghost use Rattle.ideal_heap.specs.declared.reply.Reply.{Reply};
+ghost use Rattle.ideal_heap.specs.declared.reply.Reply.TheVariants as replies;
+ghost use Rattle.object_model.specs.Objects.{HeapState, IsHeld, global_at, block_word, line_marked, is_start, is_pinned, is_unlogged, name_at, size_at, refs_at, nums_at, number_at, target_at, ref_at, num_at, record_at};
+ghost use Rattle.object_model.specs.Ages.{is_old, is_logged, is_survivor, RemembersYoung};
+ghost use Rattle.object_model.specs.Graphs.{MutatorState, Represents, roots_of, with_mutator};
+ghost use Rattle.object_model.specs.Changes.{ClearsUnlog, ObjectsStay};
+ghost use Rattle.object_model.specs.Preserving.{PreservesObjects};
+ghost use Rattle.object_model.specs.Steps.{TakesStep};
+ghost use Rattle.object_model.specs.Lawful.{IsLawful, IsWellFormed};
 ghost use Rattle.object_model.specs.WorkedHeaps.{unowned, plain_object};
 ghost use Rattle.object_model.specs.WorkedKinds.{kinds_heap, kinds_held, worked_object, three_free, small_heap, bump_with, with_word};
 ghost use Rattle.heap_layout.specs.declared.block.Kind.TheVariants as kinds;
@@ -112,4 +120,55 @@ pub fn unlawful_blocks()
         (2 ^ 63)) → ⊥ }
     ensures unmarked_line { IsLawful (with_word (small_heap (three_free (unowned kinds.Immix 0))
         (plain_object 0 4093 1 [] 0 0 ∷ [])) 25 0) → ⊥ }
+{}
+
+/// A heap whose objects are preserved represents the same ideal heap, each register with the target
+/// of its address.
+pub fn preserved_heaps_represent()
+    ensures represents { (moves : ℕ → Bool) (old new : HeapState) (ms : List MutatorState)
+        (h : IdealHeap) (after : List ℕ) (target : ℕ → ℕ) → IsWellFormed old
+        → IsWellFormed new
+        → PreservesObjects moves old (roots_of ms) (IsHeld new) new after target
+        → Represents old ms h
+        → Represents new (map {A = MutatorState} {B = MutatorState}
+        (λ m. record m { registers = map target m.registers }) ms) h }
+    ensures roots { (moves : ℕ → Bool) (old new : HeapState) (ms : List MutatorState)
+        (after : List ℕ) (target : ℕ → ℕ)
+        → PreservesObjects moves old (roots_of ms) (IsHeld new) new after target
+        → after ≡ roots_of (map {A = MutatorState} {B = MutatorState}
+        (λ m. record m { registers = map target m.registers }) ms) }
+{}
+
+/// To clear the unlog bit of an old object logs it, and no other object. A heap that remembers its
+/// young objects still does.
+pub fn cleared_bits_log()
+    ensures logged { (old new : HeapState) (a : ℕ) → ClearsUnlog old new a → IsHeld old a
+        → IsTrue (is_old old a) → IsTrue (is_logged new a) }
+    ensures others { (old new : HeapState) (a x : ℕ) → ClearsUnlog old new a → x ≢ a
+        → is_logged new x ≡ is_logged old x }
+    ensures remembers { (old new : HeapState) (a : ℕ) → ClearsUnlog old new a
+        → RemembersYoung old → RemembersYoung new }
+{}
+
+/// Two steps, one after the other, of two mutators or of one. Each replies as the ideal heap does,
+/// the second after the first, and the heap after both represents the ideal heap after both.
+pub fn steps_follow_steps()
+    ensures other { (s mid new : HeapState) (m k m' k' : MutatorState) (c d : Command)
+        (r q : Reply) (ms : List MutatorState) (h : IdealHeap) → IsWellFormed s
+        → Represents s ms h → Contains ms m → Contains ms k → k.number ≢ m.number
+        → TakesStep s m c r mid m' → TakesStep mid k d q new k'
+        → (r ≡ (step h m.number c).0) × (q ≡ (step (step h m.number c).1 k.number d).0)
+        × IsWellFormed new × Represents new (with_mutator (with_mutator ms m') k')
+        (step (step h m.number c).1 k.number d).1 }
+    ensures same { (s mid new : HeapState) (m m' m'' : MutatorState) (c d : Command)
+        (r q : Reply) (ms : List MutatorState) (h : IdealHeap) → IsWellFormed s
+        → Represents s ms h → Contains ms m → TakesStep s m c r mid m'
+        → TakesStep mid m' d q new m''
+        → (r ≡ (step h m.number c).0) × (q ≡ (step (step h m.number c).1 m.number d).0)
+        × IsWellFormed new × Represents new (with_mutator (with_mutator ms m') m'')
+        (step (step h m.number c).1 m.number d).1 }
+    ensures stay { (s mid new : HeapState) (m k m' k' : MutatorState) (c d : Command)
+        (r q : Reply) → TakesStep s m c r mid m' → TakesStep mid k d q new k'
+        → ObjectsStay s new × (m'.number ≡ m.number) × (m'.births ≡ m.births)
+        × ((n : Name) → r ≢ replies.New n) }
 {}
