@@ -150,24 +150,24 @@ pub record PassesTests (s : HeapState) (hs : List ℕ) : Type 0 where
   pub lines : list_all (λ k. if has_kind s k kinds.Immix then list_all (λ line. same (line_marked s k line) (list_any (touches s k line) hs)) (range_with_len 0 256) else true)
       (range_with_len 0 s.blocks) ≡ true
 
+-- what the tests of the held objects' list say of each held object
+pub held-test : (s : HeapState) (hs : List ℕ) → filter (is_start s) (addresses s) ≡ hs → (p : ℕ → Bool) → list_all p hs ≡ true → (a : ℕ) → IsHeld s a → p a ≡ true
+held-test s hs held p all a holds =
+    let from : heap_of s.blocks ≤ a = holds.address.from in
+    let below : a < row_words s.blocks = holds.address.below in
+    in-filter (is_start s) p (heap_of s.blocks) (4096 * s.blocks) (ap (list_all p) held ∙ all) a from (omega arith) holds.start
+
 -- an object is held where the tests compute so
 pub held-at : (s : HeapState) (a : ℕ) → is_start s a ≡ true → IsHeld s a
 held-at s a start = marks.held s a start
 
 -- none is held if no start bit is set
 pub none-held-by : (s : HeapState) → filter (is_start s) (addresses s) ≡ [] → (a : ℕ) → IsHeld s a → ⊥
-none-held-by s none a holds =
-    let from : heap_of s.blocks ≤ a = holds.address.from in
-    let below : a < row_words s.blocks = holds.address.below in
-    let wrong : false ≡ true = in-filter (is_start s) (λ x. false) (heap_of s.blocks) (4096 * s.blocks) (ap (list_all (λ x. false)) none) a from (omega arith) holds.start in
-    cc
+none-held-by s none a holds = let wrong : false ≡ true = held-test s [] none (λ x. false) refl a holds in cc
 
 module _ (s : HeapState) (hs : List ℕ) (tests : PassesTests s hs) where
   each-held : (p : ℕ → Bool) → list_all p hs ≡ true → (a : ℕ) → IsHeld s a → p a ≡ true
-  each-held p all a holds =
-      let from : heap_of s.blocks ≤ a = holds.address.from in
-      let below : a < row_words s.blocks = holds.address.below in
-      in-filter (is_start s) p (heap_of s.blocks) (4096 * s.blocks) (ap (list_all p) tests.held ∙ all) a from (omega arith) holds.start
+  each-held p all a holds = held-test s hs tests.held p all a holds
 
   each-mark : (p : ℕ → Bool) → list_all p (addresses s) ≡ true → (a : ℕ) → heap_of s.blocks ≤ a → a < row_words s.blocks → p a ≡ true
   each-mark p all a from below = in-range p (heap_of s.blocks) (4096 * s.blocks) all a from (omega arith)

@@ -1,10 +1,12 @@
 -- A worked heap with blocks of five kinds, of six blocks: the first address is 1200.
-use Rattle.std.specs.Prelude.{ℕ, Bool, true, false, List, [], ◌∷◌, ◌++◌, replicate, slice_set}
+use Rattle.std.specs.Prelude.{ℕ, Bool, true, false, ◌&&◌, ◌||◌, if◌then◌else◌, nat_eq, Option, None, Some, List, [], ◌∷◌, ◌++◌, replicate, slice_set}
 use Rattle.heap_layout.specs.declared.block.Kind.TheVariants as kinds
 use Rattle.heap_layout.specs.declared.block.BlockWord.{BlockWord}
 use Rattle.ideal_heap.specs.declared.name.Name.{Name}
-use Rattle.ideal_heap.specs.Names.{name}
-use Rattle.object_model.specs.Objects.{HeapState, with_words}
+use Rattle.ideal_heap.specs.Names.{name, same_name}
+use Rattle.ideal_heap.specs.Ideal.{IdealHeap, Nil, At}
+use Rattle.object_model.specs.Objects.{HeapState, with_words, record_at}
+use Rattle.object_model.specs.Graphs.{MutatorState}
 use Rattle.object_model.specs.WorkedHeaps.{WorkedHeap, WorkedObject, unowned, build_heap}
 
 -- the object with these parts
@@ -44,6 +46,27 @@ kinds_heap = build_heap five_kinds
 -- the addresses of its objects
 abbrev pub kinds_held : List ℕ
 kinds_held = 1212 ∷ 5312 ∷ 9384 ∷ 9392 ∷ 19632 ∷ []
+
+-- mutators 1 and 16, with an object in the last register of the one and in the first register of the other
+abbrev pub kinds_mutators : List MutatorState
+kinds_mutators = (record { number = 1; births = 3; registers = replicate 15 0 ++ 9384 ∷ [] })
+    ∷ (record { number = 16; births = 2; registers = 19632 ∷ replicate 15 0 }) ∷ []
+
+-- the ideal heap that they and the heap represent
+abbrev pub kinds_ideal : IdealHeap
+kinds_ideal = record {
+  records = λ n.
+      if same_name n (name 1 1) then Some (record { refs = At (name 1 3) ∷ Nil ∷ []; nums = 7 ∷ [] })
+      else if same_name n (name 16 1) then Some (record { refs = At (name 16 2) ∷ []; nums = [] })
+      else if same_name n (name 1 2) then Some (record { refs = Nil ∷ At (name 16 1) ∷ []; nums = 8 ∷ 9 ∷ 10 ∷ [] })
+      else if same_name n (name 1 3) then Some (record_at kinds_heap 9392)
+      else if same_name n (name 16 2) then Some (record_at kinds_heap 19632) else None;
+  pinned = λ n. same_name n (name 1 1) || same_name n (name 16 2);
+  globals = λ g. if nat_eq g 0 then Some (name 1 1) else if nat_eq g 15 then Some (name 1 3) else None;
+  registers = λ m d.
+      if nat_eq m 1 && nat_eq d 15 then Some (name 1 2) else if nat_eq m 16 && nat_eq d 0 then Some (name 16 2) else None;
+  births = λ m. if nat_eq m 1 then 3 else if nat_eq m 16 then 2 else 0;
+}
 
 -- a block and three Free ones
 abbrev pub three_free : BlockWord → List BlockWord
