@@ -1,13 +1,13 @@
 -- The heap with five kinds of blocks and its two mutators represent their ideal heap.
-use Rattle.std.proofs.Common.{◌≡◌, ◌≢◌, refl, sym, ◌∙◌, ap, subst, ℕ, zero, suc, ◌<◌, ◌≤◌, ◌↔◌, inl, inr, arith, Bool, true, false, ◌&&◌, ◌||◌, IsTrue, List, [], ◌∷◌, ◌++◌, length, slice_index, replicate, nat_eq, None, Some, Option, lit<}
+use Rattle.std.proofs.Common.{◌≡◌, ◌≢◌, refl, sym, ◌∙◌, ap, subst, ℕ, zero, suc, ◌<◌, ◌≤◌, ◌↔◌, inl, inr, arith, true, ◌&&◌, ◌||◌, IsTrue, List, [], ◌∷◌, ◌++◌, slice_index, replicate, nat_eq, None, Some, Option, lit<}
 use Rattle.std.specs.Prelude.{if◌then◌else◌}
 use Rattle.std.specs.List.{range_with_len, list_all, Any, Contains}
-use Rattle.std.proofs.lemmas.Bool.{and_parts, cases_Bool, cases_eq, eqb-true, eq-eqb, ne_eqb, cond-true, cond-false, or_cases}
+use Rattle.std.proofs.lemmas.Bool.{and_parts, cases_Bool, cases_eq, eqb-true, ne_eqb, cond-false, or_cases}
 use Rattle.ideal_heap.specs.declared.name.Name.{Name}
 use Rattle.ideal_heap.specs.Names.{name, same_name}
-use Rattle.object_model.specs.Objects.{HeapState, global_at, is_pinned, IsHeld, name_at, record_at}
+use Rattle.object_model.specs.Objects.{global_at, is_pinned, IsHeld, name_at, record_at}
 use Rattle.object_model.specs.Lawful.{IsLawful}
-use Rattle.object_model.specs.Graphs.{MutatorState, AreDifferent, PointsTo, Represents, numbers_of, register_at}
+use Rattle.object_model.specs.Graphs.{AreDifferent, PointsTo, Represents, numbers_of}
 use Rattle.object_model.specs.Agreement.{RepresentsOn}
 use Rattle.object_model.specs.WorkedKinds.{five_kinds, kinds_heap, kinds_held, kinds_mutators, kinds_ideal}
 use Rattle.object_model.proofs.BuiltWords.{built-fits}

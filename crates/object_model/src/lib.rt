@@ -34,8 +34,8 @@ pub use shape::{
     size_words,
 };
 pub use worked_laws::{
-    built_heaps_read_back, cleared_bits_log, heap_of_five_kinds, preserved_heaps_represent,
-    steps_follow_steps, unlawful_blocks, unlawful_objects, worked_ages,
+    built_heaps_read_back, cleared_bits_log, heap_of_five_kinds, kinds_heap_represents,
+    preserved_heaps_represent, steps_follow_steps, unlawful_blocks, unlawful_objects, worked_ages,
 };
 
 #[cfg(test)]

@@ -1,6 +1,6 @@
 //! Laws by example, on heaps that are built from blocks and objects.
 
-ghost use Rattle.std.specs.Prelude.{◌≡◌, ◌≢◌, ℕ, ◌^◌, Bool, IsTrue, false, List, [], ◌∷◌, map, filter, replicate, ◌++◌};
+ghost use Rattle.std.specs.Prelude.{None, Some, nat_eq, if◌then◌else◌, ◌≡◌, ◌≢◌, ℕ, ◌^◌, Bool, IsTrue, false, List, [], ◌∷◌, map, filter, replicate, ◌++◌};
 ghost use Rattle.std.specs.List.{Contains, range_with_len};
 ghost use Rattle.heap_layout.specs.Zones.{row_words};
 ghost use Rattle.ideal_heap.specs.Names.{name};
@@ -11,13 +11,13 @@ ghost use Rattle.ideal_heap.specs.declared.reply.Reply.{Reply};
 ghost use Rattle.ideal_heap.specs.declared.reply.Reply.TheVariants as replies;
 ghost use Rattle.object_model.specs.Objects.{HeapState, IsHeld, global_at, block_word, line_marked, is_start, is_pinned, is_unlogged, name_at, size_at, refs_at, nums_at, number_at, target_at, ref_at, num_at, record_at};
 ghost use Rattle.object_model.specs.Ages.{is_old, is_logged, is_survivor, RemembersYoung};
-ghost use Rattle.object_model.specs.Graphs.{MutatorState, Represents, roots_of, with_mutator};
+ghost use Rattle.object_model.specs.Graphs.{MutatorState, IsMutatorState, AreMutators, Represents, new_mutator, roots_of, with_mutator};
 ghost use Rattle.object_model.specs.Changes.{ClearsUnlog, ObjectsStay};
 ghost use Rattle.object_model.specs.Preserving.{PreservesObjects};
 ghost use Rattle.object_model.specs.Steps.{TakesStep};
 ghost use Rattle.object_model.specs.Lawful.{IsLawful, IsWellFormed};
 ghost use Rattle.object_model.specs.WorkedHeaps.{unowned, plain_object};
-ghost use Rattle.object_model.specs.WorkedKinds.{kinds_heap, kinds_held, worked_object, three_free, small_heap, bump_with, with_word};
+ghost use Rattle.object_model.specs.WorkedKinds.{kinds_heap, kinds_held, kinds_mutators, kinds_ideal, worked_object, three_free, small_heap, bump_with, with_word};
 ghost use Rattle.heap_layout.specs.declared.block.Kind.TheVariants as kinds;
 
 /// A built heap reads back as the blocks and objects that it was built from.
@@ -120,6 +120,34 @@ pub fn unlawful_blocks()
         (2 ^ 63)) → ⊥ }
     ensures unmarked_line { IsLawful (with_word (small_heap (three_free (unowned kinds.Immix 0))
         (plain_object 0 4093 1 [] 0 0 ∷ [])) 25 0) → ⊥ }
+{}
+
+/// The heap of five kinds and mutators 1 and 16 represent an ideal heap. They represent none that
+/// differs from it in a register, a global, a count of births, a record or a pin. No mutator has
+/// number 0 or 17 or fifteen registers, and no two have the same number.
+pub fn kinds_heap_represents()
+    ensures represents { Represents kinds_heap kinds_mutators kinds_ideal }
+    ensures numbers { IsMutatorState (new_mutator 1) × IsMutatorState (new_mutator 16) }
+    ensures number_0 { IsMutatorState (new_mutator 0) → ⊥ }
+    ensures number_17 { IsMutatorState (new_mutator 17) → ⊥ }
+    ensures fifteen { IsMutatorState (record (new_mutator 1) { registers = replicate 15 0 })
+        → ⊥ }
+    ensures twice { AreMutators (new_mutator 3 ∷ new_mutator 3 ∷ []) → ⊥ }
+    ensures register { Represents kinds_heap kinds_mutators
+        (record kinds_ideal { registers = λ m d. None }) → ⊥ }
+    ensures name { Represents kinds_heap kinds_mutators
+        (record kinds_ideal { registers = λ m d. Some (name 1 1) }) → ⊥ }
+    ensures register_16 { Represents kinds_heap kinds_mutators (record kinds_ideal
+        { registers = λ m d. if nat_eq d 16 then Some (name 1 2) else kinds_ideal.registers m d })
+        → ⊥ }
+    ensures global { Represents kinds_heap kinds_mutators
+        (record kinds_ideal { globals = λ g. None }) → ⊥ }
+    ensures births { Represents kinds_heap kinds_mutators
+        (record kinds_ideal { births = λ m. 3 }) → ⊥ }
+    ensures records { Represents kinds_heap kinds_mutators
+        (record kinds_ideal { records = λ n. None }) → ⊥ }
+    ensures pins { Represents kinds_heap kinds_mutators
+        (record kinds_ideal { pinned = λ n. false }) → ⊥ }
 {}
 
 /// A heap whose objects are preserved represents the same ideal heap, each register with the target
