@@ -13,7 +13,7 @@ use Rattle.object_model.specs.Lawful.{IsLawful, IsWellFormed, HasHeader, LiesInB
 use Rattle.object_model.proofs.Marks as marks
 use Rattle.object_model.proofs.OneKind.{kind-within}
 
-implied : (p q : Bool) → (if p then q else true) ≡ true → p ≡ true → q ≡ true
+pub implied : (p q : Bool) → (if p then q else true) ≡ true → p ≡ true → q ≡ true
 implied true q h e = h
 implied false q h e = absurd (let wrong : false ≡ true = e in cc)
 

@@ -1,6 +1,6 @@
 //! Laws by example, on heaps that are built from blocks and objects.
 
-ghost use Rattle.std.specs.Prelude.{None, Some, nat_eq, if◌then◌else◌, ◌≡◌, ◌≢◌, ℕ, ◌^◌, Bool, IsTrue, false, List, [], ◌∷◌, map, filter, replicate, ◌++◌};
+ghost use Rattle.std.specs.Prelude.{None, Some, nat_eq, if◌then◌else◌, ◌≡◌, ◌≢◌, ℕ, ◌^◌, Bool, IsTrue, false, true, List, [], ◌∷◌, map, filter, replicate, ◌++◌};
 ghost use Rattle.std.specs.List.{Contains, range_with_len};
 ghost use Rattle.heap_layout.specs.Zones.{row_words};
 ghost use Rattle.ideal_heap.specs.Names.{name};
@@ -52,7 +52,9 @@ pub fn built_heaps_read_back()
 {}
 
 /// Old, logged and surviving objects of a heap whose last full collection is number 2, and of the
-/// same heap after other full collections. An index that is no object's address is not logged.
+/// same heap after other full collections. An index that is no object's address is not logged. That
+/// heap remembers its young objects, of which a logged old object and a young one hold some. A heap
+/// does not if an old unlogged object's last field refers to a young object, or to no object.
 pub fn worked_ages()
     ensures old { filter (is_old kinds_heap) kinds_held ≡ 5312 ∷ 9384 ∷ 19632 ∷ [] }
     ensures old_from_one { filter (is_old (record kinds_heap { base = 1 })) kinds_held
@@ -64,6 +66,12 @@ pub fn worked_ages()
         (range_with_len 0 5)
         ≡ (5312 ∷ 9384 ∷ 9392 ∷ 19632 ∷ []) ∷ (5312 ∷ 9384 ∷ 9392 ∷ 19632 ∷ [])
         ∷ (5312 ∷ 9384 ∷ 19632 ∷ []) ∷ (5312 ∷ []) ∷ [] ∷ [] }
+    ensures remembers { RemembersYoung kinds_heap }
+    ensures forgets { RemembersYoung (bump_with (plain_object 0 0 1 [] 0 0
+        ∷ worked_object 0 10 (name 1 2) (0 ∷ 806 ∷ []) [] 2 false true ∷ [])) → ⊥ }
+    ensures dangles { RemembersYoung (bump_with (
+        worked_object 0 0 (name 1 1) [] (2 ^ 25 ∷ []) 2 false false
+        ∷ worked_object 0 10 (name 1 2) (807 ∷ []) [] 2 false true ∷ [])) → ⊥ }
 {}
 
 /// A heap with objects of two mutators in Immix, Cells and Mature blocks, and in a run of two
