@@ -27,6 +27,10 @@ in-range p k (suc n) all m low high =
       | inr differ ↦ in-range p (k + 1) n both.1 m (omega arith) (omega arith)
     ]
 
+-- what holds of each number below one
+pub below : (p : ℕ → Bool) (n : ℕ) → list_all p (range_with_len 0 n) ≡ true → (m : ℕ) → m < n → p m ≡ true
+below p n all m less = in-range p 0 n all m (omega arith) (omega arith)
+
 -- what holds of each number in a range that passes a test
 in-filter : (t p : ℕ → Bool) (k n : ℕ) → list_all p (filter t (range_with_len k n)) ≡ true → (m : ℕ) → k ≤ m → m < k + n → t m ≡ true → p m ≡ true
 in-filter t p k zero all m low high is = absurd (omega arith)

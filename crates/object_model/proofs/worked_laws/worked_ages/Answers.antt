@@ -1,4 +1,4 @@
-use Rattle.std.proofs.Common.{◌≡◌, refl, ℕ, ◌+◌, ◌^◌, ◌<◌, ◌≤◌, arith, Bool, true, false, ◌&&◌, [], ◌∷◌, lit<}
+use Rattle.std.proofs.Common.{◌≡◌, refl, ℕ, ◌^◌, Bool, true, false, ◌&&◌, [], ◌∷◌, lit<}
 use Rattle.std.specs.Prelude.{if◌then◌else◌}
 use Rattle.std.specs.List.{range_with_len, list_all}
 use Rattle.std.proofs.lemmas.Bool.{and_parts}
@@ -7,7 +7,7 @@ use Rattle.object_model.specs.Objects.{HeapState, is_start, is_unlogged, refs_at
 use Rattle.object_model.specs.Ages.{is_old}
 use Rattle.object_model.specs.WorkedHeaps.{plain_object}
 use Rattle.object_model.specs.WorkedKinds.{kinds_heap, kinds_held, worked_object, bump_with}
-use Rattle.object_model.proofs.LawfulTests.{implied, in-range, held-test, held-at}
+use Rattle.object_model.proofs.LawfulTests.{implied, below, held-test, held-at}
 use Rattle.object_model.proofs.worked_laws.worked_ages.Goals as goal
 
 pub returns-clause-old : goal.returns-clause-old
@@ -36,7 +36,7 @@ pub returns-clause-remembers : goal.returns-clause-remembers
 returns-clause-remembers c a i holds old unlogged less some =
     let row = implied (is_unlogged kinds_heap a) _ (implied (is_old kinds_heap a) _ (held-test kinds_heap kinds_held refl (all_go_old kinds_heap) refl a holds) old) unlogged in
     let both = and_parts (is_start kinds_heap (ref_at kinds_heap a i)) _
-    (implied (is_reference (ref_at kinds_heap a i)) _ (in-range (goes_old kinds_heap a) 0 (refs_at kinds_heap a) row i (omega arith) (omega (arith, less))) some) in
+    (implied (is_reference (ref_at kinds_heap a i)) _ (below (goes_old kinds_heap a) (refs_at kinds_heap a) row i less) some) in
     (held-at kinds_heap (ref_at kinds_heap a i) both.0, both.1)
 
 pub returns-clause-forgets : goal.returns-clause-forgets
