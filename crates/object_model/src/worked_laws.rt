@@ -82,16 +82,16 @@ pub fn heap_of_five_kinds()
 
 /// Heaps that are not lawful by the words of an object, or of what refers to it.
 pub fn unlawful_objects()
-    ensures mutator { IsLawful (bump_with (worked_object 0 0 (name 17 1) [] [] 0 false false ∷ [])) →
-        ⊥ }
+    ensures mutator { IsLawful (bump_with
+        (worked_object 0 0 (name 17 1) [] [] 0 false false ∷ [])) → ⊥ }
     ensures birth { IsLawful (bump_with (plain_object 0 0 0 [] 0 0 ∷ [])) → ⊥ }
     ensures refs { IsLawful (bump_with (plain_object 0 0 1 (replicate 1025 0) 0 0 ∷ [])) → ⊥ }
     ensures number { IsLawful (bump_with (plain_object 0 0 1 [] 0 4 ∷ [])) → ⊥ }
     ensures over_block { IsLawful (bump_with (plain_object 0 4094 1 [] 0 0 ∷ [])) → ⊥ }
-    ensures overlap { IsLawful (bump_with (plain_object 0 0 1 [] 1 0 ∷ plain_object 0 3 2 [] 0 0 ∷
-        [])) → ⊥ }
-    ensures same_name { IsLawful (bump_with (plain_object 0 0 1 [] 0 0 ∷ plain_object 0 3 1 [] 0 0 ∷
-        [])) → ⊥ }
+    ensures overlap { IsLawful (bump_with
+        (plain_object 0 0 1 [] 1 0 ∷ plain_object 0 3 2 [] 0 0 ∷ [])) → ⊥ }
+    ensures same_name { IsLawful (bump_with
+        (plain_object 0 0 1 [] 0 0 ∷ plain_object 0 3 1 [] 0 0 ∷ [])) → ⊥ }
     ensures field { IsLawful (bump_with (plain_object 0 0 1 (0 ∷ 807 ∷ []) 0 0 ∷ [])) → ⊥ }
     ensures global { IsLawful (with_word (bump_with []) 17 806) → ⊥ }
     ensures pin { IsLawful (with_word (bump_with []) 294 1) → ⊥ }
@@ -102,30 +102,33 @@ pub fn unlawful_objects()
 /// Heaps that are not lawful by what lies in a block, by a block's word, or by a line bit.
 pub fn unlawful_blocks()
     ensures free_block { IsLawful (bump_with (plain_object 1 0 1 [] 0 0 ∷ [])) → ⊥ }
-    ensures tail { IsLawful (small_heap (unowned kinds.LargeHead 2 ∷ unowned kinds.LargeTail 0 ∷
-        unowned kinds.Free 0 ∷ unowned kinds.Free 0 ∷ []) (plain_object 0 0 1 [] 4094 0 ∷
-        plain_object 1 100 2 [] 0 0 ∷ [])) → ⊥ }
-    ensures cell_start { IsLawful (small_heap (three_free (unowned kinds.Cells 2)) (plain_object 0 4 1
-        [] 0 0 ∷ [])) → ⊥ }
-    ensures last_cell { IsLawful (small_heap (three_free (unowned kinds.Cells 5)) (plain_object 0 4080
-        1 [] 0 0 ∷ [])) → ⊥ }
-    ensures run_class { IsLawful (small_heap (unowned kinds.LargeHead 3 ∷ unowned kinds.LargeTail 0 ∷
-        unowned kinds.LargeTail 0 ∷ unowned kinds.Free 0 ∷ []) (plain_object 0 0 1 [] 4094 0 ∷
-        [])) → ⊥ }
-    ensures run_start { IsLawful (small_heap (three_free (unowned kinds.LargeHead 1)) (plain_object 0
-        16 1 [] 2046 0 ∷ [])) → ⊥ }
-    ensures run_end { IsLawful (small_heap (unowned kinds.Free 0 ∷ unowned kinds.Free 0 ∷ unowned
-        kinds.Free 0 ∷ unowned kinds.LargeHead 2 ∷ []) (plain_object 3 0 1 [] 4094 0 ∷ [])) → ⊥ }
+    ensures tail { IsLawful (small_heap
+        (unowned kinds.LargeHead 2 ∷ unowned kinds.LargeTail 0 ∷ unowned kinds.Free 0
+        ∷ unowned kinds.Free 0 ∷ [])
+        (plain_object 0 0 1 [] 4094 0 ∷ plain_object 1 100 2 [] 0 0 ∷ [])) → ⊥ }
+    ensures cell_start { IsLawful (small_heap (three_free (unowned kinds.Cells 2))
+        (plain_object 0 4 1 [] 0 0 ∷ [])) → ⊥ }
+    ensures last_cell { IsLawful (small_heap (three_free (unowned kinds.Cells 5))
+        (plain_object 0 4080 1 [] 0 0 ∷ [])) → ⊥ }
+    ensures run_class { IsLawful (small_heap
+        (unowned kinds.LargeHead 3 ∷ unowned kinds.LargeTail 0 ∷ unowned kinds.LargeTail 0
+        ∷ unowned kinds.Free 0 ∷ []) (plain_object 0 0 1 [] 4094 0 ∷ [])) → ⊥ }
+    ensures run_start { IsLawful (small_heap (three_free (unowned kinds.LargeHead 1))
+        (plain_object 0 16 1 [] 2046 0 ∷ [])) → ⊥ }
+    ensures run_end { IsLawful (small_heap
+        (unowned kinds.Free 0 ∷ unowned kinds.Free 0 ∷ unowned kinds.Free 0
+        ∷ unowned kinds.LargeHead 2 ∷ []) (plain_object 3 0 1 [] 4094 0 ∷ [])) → ⊥ }
     ensures no_object { IsLawful (small_heap (three_free (unowned kinds.LargeHead 1)) []) → ⊥ }
-    ensures medium_run { IsLawful (small_heap (three_free (unowned kinds.LargeHead 1)) (plain_object 0
-        0 1 [] 2045 0 ∷ [])) → ⊥ }
-    ensures lone_tail { IsLawful (small_heap (unowned kinds.LargeHead 1 ∷ unowned kinds.LargeTail 0 ∷
-        unowned kinds.Free 0 ∷ unowned kinds.Free 0 ∷ []) (plain_object 0 0 1 [] 2046 0 ∷ [])) → ⊥ }
+    ensures medium_run { IsLawful (small_heap (three_free (unowned kinds.LargeHead 1))
+        (plain_object 0 0 1 [] 2045 0 ∷ [])) → ⊥ }
+    ensures lone_tail { IsLawful (small_heap
+        (unowned kinds.LargeHead 1 ∷ unowned kinds.LargeTail 0 ∷ unowned kinds.Free 0
+        ∷ unowned kinds.Free 0 ∷ []) (plain_object 0 0 1 [] 2046 0 ∷ [])) → ⊥ }
     ensures class { IsLawful (small_heap (three_free (unowned kinds.Bump 1)) []) → ⊥ }
     ensures owner { IsLawful (with_word (bump_with []) 21 65537) → ⊥ }
     ensures free_line { IsLawful (with_word (bump_with []) 29 (2 ^ 63)) → ⊥ }
-    ensures marked_line { IsLawful (with_word (small_heap (three_free (unowned kinds.Immix 0)) []) 25
-        (2 ^ 63)) → ⊥ }
+    ensures marked_line { IsLawful (with_word
+        (small_heap (three_free (unowned kinds.Immix 0)) []) 25 (2 ^ 63)) → ⊥ }
     ensures unmarked_line { IsLawful (with_word (small_heap (three_free (unowned kinds.Immix 0))
         (plain_object 0 4093 1 [] 0 0 ∷ [])) 25 0) → ⊥ }
 {}
