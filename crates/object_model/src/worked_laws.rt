@@ -49,6 +49,10 @@ pub fn built_heaps_read_back()
     ensures lines { map (λ k. filter (line_marked kinds_heap k) (range_with_len 0 256))
         (range_with_len 0 6)
         ≡ (0 ∷ 1 ∷ []) ∷ [] ∷ [] ∷ [] ∷ [] ∷ [] ∷ [] }
+    ensures plain { let s : HeapState = bump_with (plain_object 0 0 3 (0 ∷ []) 2 1 ∷ []) in
+        (name_at s 806 ≡ name 1 3) × (number_at s 806 ≡ 1)
+        × (record_at s 806 ≡ record { refs = Nil ∷ []; nums = 0 ∷ 0 ∷ [] })
+        × (is_pinned s 806 ≡ false) × (is_unlogged s 806 ≡ false) }
 {}
 
 /// Old, logged and surviving objects of a heap whose last full collection is number 2, and of the

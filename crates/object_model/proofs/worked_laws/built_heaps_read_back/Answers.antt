@@ -42,3 +42,6 @@ returns-clause-blocks c = refl
 
 pub returns-clause-lines : goal.returns-clause-lines
 returns-clause-lines c = refl
+
+pub returns-clause-plain : goal.returns-clause-plain
+returns-clause-plain c = (refl, refl, refl, refl, refl)
