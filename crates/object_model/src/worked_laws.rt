@@ -49,6 +49,9 @@ pub fn built_heaps_read_back()
     ensures lines { map (λ k. filter (line_marked kinds_heap k) (range_with_len 0 256))
         (range_with_len 0 6)
         ≡ (0 ∷ 1 ∷ []) ∷ [] ∷ [] ∷ [] ∷ [] ∷ [] ∷ [] }
+    ensures lines_of_two { filter (line_marked (small_heap (three_free (unowned kinds.Immix 0))
+        (plain_object 0 240 1 [] 13 0 ∷ plain_object 0 320 2 [] 14 0 ∷ [])) 0)
+        (range_with_len 0 256) ≡ 15 ∷ 20 ∷ 21 ∷ [] }
     ensures plain { let s : HeapState = bump_with (plain_object 0 0 3 (0 ∷ []) 2 1 ∷ []) in
         (name_at s 806 ≡ name 1 3) × (number_at s 806 ≡ 1)
         × (record_at s 806 ≡ record { refs = Nil ∷ []; nums = 0 ∷ 0 ∷ [] })

@@ -43,5 +43,8 @@ returns-clause-blocks c = refl
 pub returns-clause-lines : goal.returns-clause-lines
 returns-clause-lines c = refl
 
+pub returns-clause-lines_of_two : goal.returns-clause-lines_of_two
+returns-clause-lines_of_two c = refl
+
 pub returns-clause-plain : goal.returns-clause-plain
 returns-clause-plain c = (refl, refl, refl, refl, refl)
