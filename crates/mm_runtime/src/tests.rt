@@ -77,8 +77,8 @@ fn graph_from(
     graph(alloc, heap, roots)
 }
 
-// Mutator 2 fills block 0 before mutator 1 does, so names are in another order than places. A global
-// holds a cycle, three objects share one, and a path begins at a register or a global.
+// Mutator 2 fills block 0 before mutator 1 does, so names are in another order than places. A
+// global holds a cycle, and three objects share one.
 #[test]
 fn graphs(rt: HostRuntime) -> Result<(), Fail> {
     let alloc = rt.alloc();
@@ -152,7 +152,8 @@ fn long_list(rt: HostRuntime) -> Result<(), Fail> {
     Ok(())
 }
 
-// A full heap refuses a `new` after a full collection; a `gc` makes one more, and a smaller object fits.
+// A full heap refuses a `new` after a full collection, and a smaller object fits. A `gc` makes one
+// collection more.
 #[test]
 fn full_heap(rt: HostRuntime) -> Result<(), Fail> {
     let alloc = rt.alloc();
@@ -178,7 +179,10 @@ fn full_heap(rt: HostRuntime) -> Result<(), Fail> {
         wanted.push(Reply::New(Name { mutator: 1, birth }))?;
     }
     wanted.push(Reply::Full)?;
-    wanted.push(Reply::New(Name { mutator: 1, birth: 9 }))?;
+    wanted.push(Reply::New(Name {
+        mutator: 1,
+        birth: 9,
+    }))?;
     wanted.push(Reply::Done)?;
     wanted.push(Reply::Num(0))?;
     assert_eq!(rt; manager.replies(1), wanted.as_slice());

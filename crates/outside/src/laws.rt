@@ -54,5 +54,6 @@ pub fn memory_is_known()
         × ((sure.state_of s).asked ≡ sure.asked_of s) × ((sure.state_of s).faults ≡ 0) }
     ensures sink { (s : MemSink) → written.state_of s
         ≡ record { written = Some (written.bytes_of s); faults = written.faults_of s } }
-    ensures real { (remaining : ℕ → Option (List ℕ)) (file : ℕ) → left_of_file remaining (Some file) ≡ remaining file }
+    ensures real { (remaining : ℕ → Option (List ℕ)) (file : ℕ)
+        → left_of_file remaining (Some file) ≡ remaining file }
 {}
