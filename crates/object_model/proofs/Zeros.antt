@@ -4,7 +4,7 @@ use Rattle.std.specs.List.{AllByRecursion}
 use Rattle.std.proofs.lemmas.List.{get_or-replicate, length-replicate, get_or_past}
 use Rattle.std.proofs.Math.ListN.{get_or-append}
 use Rattle.std.proofs.Math.Seq.{get_or-append_right}
-use Rattle.std.proofs.lemmas.Bool.{cases_lt, and_parts, or_cases, eqb-true}
+use Rattle.std.proofs.lemmas.Bool.{cases_lt, and_parts, or_cases, eqb-true, and_from, lt-ltb, eq-eqb}
 use Rattle.std.proofs.Math.Nat.{zero-div, zero-mod}
 use Rattle.std.specs.Int.{bit_at}
 use Rattle.heap_layout.specs.Zones.{Zone, StartBits, PinBits, UnlogBits, LineWords, row_words, first, bit_of, address_bit}
@@ -13,10 +13,12 @@ use Rattle.heap_layout.specs.declared.block.Kind.{Kind}
 use Rattle.heap_layout.specs.declared.block.Kind.TheVariants as kinds
 use Rattle.heap_layout.proofs.MarkLemmas.{bit_from_mark}
 use Rattle.ideal_heap.specs.declared.name.Name.{Name}
+use Rattle.ideal_heap.specs.Names.{IsName}
 use Rattle.ideal_heap.specs.Ideal.{empty}
 use Rattle.ideal_heap.specs.Reach.{Reaches, from_register, from_global, from_field}
-use Rattle.object_model.specs.Objects.{HeapState, empty_heap, word_at, global_at, block_word, is_start, is_pinned, is_unlogged, IsHeld, HasKind}
+use Rattle.object_model.specs.Objects.{HeapState, empty_heap, word_at, global_at, block_word, is_start, is_pinned, is_unlogged, IsHeld, HasKind, size_of, blocks_for}
 use Rattle.object_model.specs.Lawful.{IsLawful}
+use Rattle.object_model.specs.Births.{IsLargeRoom}
 use Rattle.object_model.specs.Graphs as graphs
 use Rattle.object_model.specs.Graphs.{Represents, IsReachable, MutatorState, IsMutatorState, AreDifferent, new_mutator, numbers_of, roots_of, register_at, PointsTo}
 use Rattle.object_model.specs.Agreement.{RepresentsOn}
@@ -107,6 +109,23 @@ lawful b least most = record {
     marked = λ line is. absurd (not_kind b k kinds.Immix (lit< tt) is);
     touched = λ line is. absurd (not_kind b k kinds.Immix (lit< tt) is);
   };
+}
+
+kind-free : (b k : ℕ) → k < b → HasKind (zeros b) k kinds.Free
+kind-free b k there = and_from (nat_lt k b) _ (lt-ltb k b there) (eq-eqb _ _ (ap (λ x. x % 256) (is_free b k) ∙ zero-mod 256))
+
+-- a large object may be written where the blocks that it needs are the heap's
+pub large-room : (b k refs nums : ℕ) (n : Name) → 4 ≤ b → b ≤ 1024 → IsName n → refs ≤ 1024 → nums ≤ 60000
+    → 2048 < size_of refs nums → k + blocks_for (size_of refs nums) ≤ b → IsLargeRoom (zeros b) k n refs nums
+large-room b k refs nums n least most named few_refs few_nums big inside = record {
+  named = named;
+  few_refs = few_refs;
+  few_nums = few_nums;
+  large = big;
+  inside = inside;
+  free = λ j less. kind-free b (k + j) (omega arith);
+  clear = λ j less. (lawful b least most).but_lines.free (k + j) (kind-free b (k + j) (omega arith));
+  fresh = λ x holds. absurd (none_held b x holds);
 }
 
 abbrev pub new_mutators : List ℕ → List MutatorState

@@ -6,6 +6,7 @@ ghost use Rattle.heap_layout.specs.Zones.{row_words, first, LineWords, IsAddress
 ghost use Rattle.ideal_heap.specs.declared.name.Name.{Name};
 ghost use Rattle.ideal_heap.specs.Names.{IsName};
 ghost use Rattle.object_model.specs.Changes.{WritesObject, ObjectsStay};
+ghost use Rattle.object_model.specs.Births.{IsLargeRoom};
 ghost use Rattle.std.specs.Int.{bit_at};
 ghost use Rattle.heap_layout.specs.declared.block.BlockWord.{BlockWord};
 ghost use Rattle.heap_layout.specs.declared.block.Kind.TheVariants as kinds;
@@ -22,13 +23,18 @@ use heap_layout::{BLOCK_LINES, BLOCK_WORDS, CLASS_UNIT, MAX_BLOCKS, MIN_BLOCKS, 
 use ideal_heap::{MAX_MUTATORS, MAX_NUMS, MAX_REFS};
 
 /// A row of zeros is a lawful heap. With mutators that have allocated nothing, it represents the
-/// empty ideal heap.
+/// empty ideal heap. A large object may begin at any of its blocks, if all blocks that the object
+/// needs are in the heap.
 pub fn empty_heap_laws()
     ensures lawful { (b : ℕ) → MIN_BLOCKS ≤ b → b ≤ MAX_BLOCKS
         → IsLawful (empty_heap b) }
     ensures represents { (b : ℕ) (numbers : List ℕ)
         → AllByRecursion (λ m. (1 ≤ m) × (m ≤ MAX_MUTATORS)) numbers
         → AreDifferent numbers → Represents (empty_heap b) (map new_mutator numbers) empty }
+    ensures large { (b k refs nums : ℕ) (n : Name) → MIN_BLOCKS ≤ b → b ≤ MAX_BLOCKS
+        → IsName n → refs ≤ MAX_REFS → nums ≤ MAX_NUMS
+        → MAX_MEDIUM_WORDS < size_of refs nums → k + blocks_for (size_of refs nums) ≤ b
+        → IsLargeRoom (empty_heap b) k n refs nums }
 {}
 
 /// A heap is lawful if and only if it is well formed, its block words are codes of blocks without
