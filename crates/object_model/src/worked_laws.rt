@@ -61,7 +61,8 @@ pub fn built_heaps_read_back()
 /// Old, logged and surviving objects of a heap whose last full collection is number 2, and of the
 /// same heap after other full collections. An index that is no object's address is not logged. That
 /// heap remembers its young objects, of which a logged old object and a young one hold some. A heap
-/// does not if an old unlogged object's last field refers to a young object, or to no object.
+/// does not if an old unlogged object's last field refers to a young object, or to no object. What
+/// is no object, since its start bit is clear, may refer to anything.
 pub fn worked_ages()
     ensures old { filter (is_old kinds_heap) kinds_held ≡ 5312 ∷ 9384 ∷ 19632 ∷ [] }
     ensures old_from_one { filter (is_old (record kinds_heap { base = 1 })) kinds_held
@@ -79,6 +80,8 @@ pub fn worked_ages()
     ensures dangles { RemembersYoung (bump_with (
         worked_object 0 0 (name 1 1) [] (2 ^ 25 ∷ []) 2 false false
         ∷ worked_object 0 10 (name 1 2) (807 ∷ []) [] 2 false true ∷ [])) → ⊥ }
+    ensures unheld { RemembersYoung (with_word (bump_with (plain_object 0 0 1 [] 0 0
+        ∷ worked_object 0 10 (name 1 2) (0 ∷ 806 ∷ []) [] 2 false true ∷ [])) 38 0) }
 {}
 
 /// A heap with objects of two mutators in Immix, Cells and Mature blocks, and in a run of two

@@ -6,8 +6,8 @@ use Rattle.ideal_heap.specs.Names.{name}
 use Rattle.object_model.specs.Objects.{HeapState, is_start, is_unlogged, refs_at, ref_at, is_reference}
 use Rattle.object_model.specs.Ages.{is_old}
 use Rattle.object_model.specs.WorkedHeaps.{plain_object}
-use Rattle.object_model.specs.WorkedKinds.{kinds_heap, kinds_held, worked_object, bump_with}
-use Rattle.object_model.proofs.LawfulTests.{implied, below, held-test, held-at}
+use Rattle.object_model.specs.WorkedKinds.{kinds_heap, kinds_held, worked_object, bump_with, with_word}
+use Rattle.object_model.proofs.LawfulTests.{implied, below, held-test, held-at, none-held-by}
 use Rattle.object_model.proofs.worked_laws.worked_ages.Goals as goal
 
 pub returns-clause-old : goal.returns-clause-old
@@ -46,3 +46,7 @@ returns-clause-forgets c all =
 pub returns-clause-dangles : goal.returns-clause-dangles
 returns-clause-dangles c all =
     (let e : false ≡ true = (all 816 0 (held-at (bump_with (worked_object 0 0 (name 1 1) [] (2 ^ 25 ∷ []) 2 false false ∷ worked_object 0 10 (name 1 2) (807 ∷ []) [] 2 false true ∷ [])) 816 refl) refl refl (lit< tt) refl).0.start in cc)
+
+pub returns-clause-unheld : goal.returns-clause-unheld
+returns-clause-unheld c a i holds =
+    absurd (none-held-by (with_word (bump_with (plain_object 0 0 1 [] 0 0 ∷ worked_object 0 10 (name 1 2) (0 ∷ 806 ∷ []) [] 2 false true ∷ [])) 38 0) refl a holds)
