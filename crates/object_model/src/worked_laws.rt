@@ -15,6 +15,7 @@ ghost use Rattle.object_model.specs.Graphs.{MutatorState, IsMutatorState, AreMut
 ghost use Rattle.object_model.specs.Changes.{ClearsUnlog, ObjectsStay};
 ghost use Rattle.object_model.specs.Preserving.{PreservesObjects};
 ghost use Rattle.object_model.specs.Steps.{TakesStep};
+ghost use Rattle.object_model.specs.Agreement.{RepresentsOn};
 ghost use Rattle.object_model.specs.Lawful.{IsLawful, IsWellFormed};
 ghost use Rattle.object_model.specs.WorkedHeaps.{unowned, plain_object};
 ghost use Rattle.object_model.specs.WorkedKinds.{kinds_heap, kinds_held, kinds_mutators, kinds_ideal, worked_object, three_free, small_heap, bump_with, with_word};
@@ -200,7 +201,8 @@ pub fn cleared_bits_log()
 {}
 
 /// Two steps, one after the other, of two mutators or of one. Each replies as the ideal heap does,
-/// the second after the first, and the heap after both represents the ideal heap after both.
+/// the second after the first, and the heap after both represents the ideal heap after both. For a
+/// mutator that runs alone the same holds on the set of all held objects, reachable or not.
 pub fn steps_follow_steps()
     ensures other { (s mid new : HeapState) (m k m' k' : MutatorState) (c d : Command)
         (r q : Reply) (ms : List MutatorState) (h : IdealHeap) → IsWellFormed s
@@ -216,6 +218,11 @@ pub fn steps_follow_steps()
         → (r ≡ (step h m.number c).0) × (q ≡ (step (step h m.number c).1 m.number d).0)
         × IsWellFormed new × Represents new (with_mutator (with_mutator ms m') m'')
         (step (step h m.number c).1 m.number d).1 }
+    ensures alone { (s mid new : HeapState) (m m' m'' : MutatorState) (c d : Command)
+        (r q : Reply) (h : IdealHeap) → RepresentsOn s (m ∷ []) h (IsHeld s)
+        → TakesStep s m c r mid m' → TakesStep mid m' d q new m''
+        → (r ≡ (step h m.number c).0) × (q ≡ (step (step h m.number c).1 m.number d).0)
+        × RepresentsOn new (m'' ∷ []) (step (step h m.number c).1 m.number d).1 (IsHeld new) }
     ensures stay { (s mid new : HeapState) (m k m' k' : MutatorState) (c d : Command)
         (r q : Reply) → TakesStep s m c r mid m' → TakesStep mid k d q new k'
         → ObjectsStay s new × (m'.number ≡ m.number) × (m'.births ≡ m.births)

@@ -1,6 +1,8 @@
-use Rattle.std.proofs.Common.{◌∙◌, ap, subst, ℕ}
+use Rattle.std.proofs.Common.{◌∙◌, ap, subst, ℕ, [], ◌∷◌}
 use Rattle.ideal_heap.specs.Ideal.{step}
+use Rattle.object_model.specs.Objects.{IsHeld}
 use Rattle.object_model.specs.Graphs.{Represents, with_mutator}
+use Rattle.object_model.specs.Agreement.{RepresentsOn}
 use Rattle.object_model.proofs.TwoSteps.{other-stays, new-there, stay-on}
 use Rattle.object_model.proofs.worked_laws.steps_follow_steps.Goals as goal
 
@@ -20,6 +22,14 @@ returns-clause-same c s mid new m m' m'' one two r q ms h order standing among f
       second.gives_reply (with_mutator ms m') (step h m.number one).1 between.0 between.1 there ∙ ap (λ (n : ℕ). (step (step h m.number one).1 n two).0) first.number,
       end.0,
       subst (λ (n : ℕ). Represents new (with_mutator (with_mutator ms m') m'') (step (step h m.number one).1 n two).1) first.number end.1,
+    )
+
+pub returns-clause-alone : goal.returns-clause-alone
+returns-clause-alone c s mid new m m' m'' one two r q h model first second =
+    let between = first.models h model in (
+      first.answers h model,
+      second.answers (step h m.number one).1 between ∙ ap (λ (n : ℕ). (step (step h m.number one).1 n two).0) first.number,
+      subst (λ (n : ℕ). RepresentsOn new (m'' ∷ []) (step (step h m.number one).1 n two).1 (IsHeld new)) first.number (second.models (step h m.number one).1 between),
     )
 
 pub returns-clause-stay : goal.returns-clause-stay
