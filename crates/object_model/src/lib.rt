@@ -36,6 +36,7 @@ pub use shape::{
 pub use worked_laws::{
     built_heaps_read_back, cleared_bits_log, heap_of_five_kinds, kinds_heap_represents,
     preserved_heaps_represent, steps_follow_steps, unlawful_blocks, unlawful_objects, worked_ages,
+    wrong_graphs,
 };
 
 #[cfg(test)]

@@ -11,6 +11,7 @@ ghost use Rattle.ideal_heap.specs.declared.reply.Reply.{Reply};
 ghost use Rattle.ideal_heap.specs.declared.reply.Reply.TheVariants as replies;
 ghost use Rattle.object_model.specs.Objects.{HeapState, IsHeld, global_at, block_word, line_marked, is_start, is_pinned, is_unlogged, name_at, size_at, refs_at, nums_at, number_at, target_at, ref_at, num_at, record_at};
 ghost use Rattle.object_model.specs.Ages.{is_old, is_logged, is_survivor, RemembersYoung};
+ghost use Rattle.object_model.specs.Places.{IsGraphOf};
 ghost use Rattle.object_model.specs.Graphs.{MutatorState, IsMutatorState, AreMutators, Represents, new_mutator, roots_of, with_mutator};
 ghost use Rattle.object_model.specs.Changes.{ClearsUnlog, ObjectsStay};
 ghost use Rattle.object_model.specs.Preserving.{PreservesObjects};
@@ -170,6 +171,25 @@ pub fn kinds_heap_represents()
         (record kinds_ideal { records = λ n. None }) → ⊥ }
     ensures pins { Represents kinds_heap kinds_mutators
         (record kinds_ideal { pinned = λ n. false }) → ⊥ }
+{}
+
+/// Lists that are no graph of the heap of five kinds without roots, whose globals refer to the
+/// objects at 1212 and 9392: an object has another size or name, a later one has no later name, one
+/// is missing, or one is there that nothing refers to.
+pub fn wrong_graphs()
+    ensures size { IsGraphOf kinds_heap [] ((record { name = name 1 1; at = 1212; size = 7 })
+        ∷ (record { name = name 1 3; at = 9392; size = 4097 }) ∷ []) → ⊥ }
+    ensures name { IsGraphOf kinds_heap [] ((record { name = name 1 2; at = 1212; size = 6 })
+        ∷ (record { name = name 1 3; at = 9392; size = 4097 }) ∷ []) → ⊥ }
+    ensures order { IsGraphOf kinds_heap [] ((record { name = name 1 3; at = 9392; size = 4097 })
+        ∷ (record { name = name 1 1; at = 1212; size = 6 }) ∷ []) → ⊥ }
+    ensures twice { IsGraphOf kinds_heap [] ((record { name = name 1 1; at = 1212; size = 6 })
+        ∷ (record { name = name 1 1; at = 1212; size = 6 })
+        ∷ (record { name = name 1 3; at = 9392; size = 4097 }) ∷ []) → ⊥ }
+    ensures missing { IsGraphOf kinds_heap [] [] → ⊥ }
+    ensures extra { IsGraphOf kinds_heap [] ((record { name = name 1 1; at = 1212; size = 6 })
+        ∷ (record { name = name 1 2; at = 9384; size = 8 })
+        ∷ (record { name = name 1 3; at = 9392; size = 4097 }) ∷ []) → ⊥ }
 {}
 
 /// A heap whose objects are preserved represents the same ideal heap, each register with the target
