@@ -1,15 +1,18 @@
 //! Laws of holes, views, reserves and taken blocks.
 
-ghost use Rattle.std.specs.Prelude.{◌≡◌, ◌≢◌, ◌↔◌, ◌+◌, ◌<◌, ◌≤◌, ℕ, List, IsTrue};
+ghost use Rattle.std.specs.Prelude.{◌≡◌, ◌≢◌, ◌↔◌, ◌+◌, ◌<◌, ◌≤◌, ℕ, List, [], ◌∷◌, filter, IsTrue};
 ghost use Rattle.heap_layout.specs.Zones.{block_at, offset_at};
+ghost use Rattle.heap_layout.specs.Blocks.{all_kinds};
 ghost use Rattle.heap_layout.specs.declared.block.Kind.{Kind};
 ghost use Rattle.heap_layout.specs.declared.block.Kind.TheVariants as kinds;
 ghost use Rattle.heap_layout.specs.declared.layout.Layout.{Layout};
 ghost use Rattle.object_model.specs.Objects.{HeapState, state_over, HasKind, class_at, owner_at, IsHeld, IsInExtent};
 ghost use Rattle.object_model.specs.Lawful.{IsWellFormed, IsReadableBlock, LineBitsAreExact};
-ghost use Rattle.sessions.specs.Plans.{Nothing, Copies, Headroom};
+ghost use Rattle.sessions.specs.Plans as plans;
+ghost use Rattle.sessions.specs.Plans.{rules_of, Nothing, Copies, Headroom};
 ghost use Rattle.sessions.specs.Grants.{BlockCounts, HoldsReserve, allowance_in, after_taking};
 ghost use Rattle.sessions.specs.Fitting.{IsTail, HasHole, LiesInHole, free_of, counts_of, allowance_of};
+ghost use Rattle.plan_api.specs.Flags.{flags_of, has_cells};
 ghost use Rattle.plan_api.specs.Taking.{TakesBlocks};
 ghost use Rattle.plan_api.specs.declared.block_view.BlockView.{BlockView};
 ghost use Rattle.plan_api.specs.Views.{IsViewOf, AreApart};
@@ -80,4 +83,17 @@ pub fn plans_hold_reserves<P: Plan>()
         → HoldsReserve P.rules.reserve (counts_of old)
         → n ≤ allowance_of P.rules.reserve old → TakesBlocks P.rules.fill old new n
         → HoldsReserve P.rules.reserve (counts_of new) }
+{}
+
+/// The flags of each plan, and the kinds of blocks that have holes or cells.
+pub fn plans_have_flags()
+    ensures nogc { flags_of (rules_of plans.NoGc) ≡ 0 }
+    ensures mark_sweep { flags_of (rules_of plans.MarkSweep) ≡ 8 }
+    ensures semi_space { flags_of (rules_of plans.SemiSpace) ≡ 1 }
+    ensures gen_copy { flags_of (rules_of plans.GenCopy) ≡ 1 + 2 }
+    ensures immix { flags_of (rules_of plans.Immix) ≡ 1 + 4 }
+    ensures sticky_immix { flags_of (rules_of plans.StickyImmix) ≡ 1 + 2 + 4 }
+    ensures holes { filter has_holes all_kinds
+        ≡ kinds.Bump ∷ kinds.Young ∷ kinds.Immix ∷ kinds.Cells ∷ [] }
+    ensures cells { filter has_cells all_kinds ≡ kinds.Cells ∷ [] }
 {}
