@@ -1,6 +1,6 @@
 //! Laws of holes, views, reserves and taken blocks.
 
-ghost use Rattle.std.specs.Prelude.{◌≡◌, ◌≢◌, ◌↔◌, ◌+◌, ◌<◌, ◌≤◌, ℕ, List, [], ◌∷◌, filter, IsTrue};
+ghost use Rattle.std.specs.Prelude.{◌≡◌, ◌≢◌, ◌↔◌, ◌+◌, ◌<◌, ◌≤◌, ℕ, List, [], ◌∷◌, filter, IsTrue, None};
 ghost use Rattle.heap_layout.specs.Zones.{block_at, offset_at};
 ghost use Rattle.heap_layout.specs.Blocks.{all_kinds};
 ghost use Rattle.heap_layout.specs.declared.block.Kind.{Kind};
@@ -16,7 +16,8 @@ ghost use Rattle.plan_api.specs.Flags.{flags_of, has_cells};
 ghost use Rattle.plan_api.specs.Taking.{TakesBlocks};
 ghost use Rattle.plan_api.specs.declared.block_view.BlockView.{BlockView};
 ghost use Rattle.plan_api.specs.Views.{IsViewOf, AreApart};
-ghost use Rattle.plan_api.specs.Holes.{IsHolePart, HasRoomFrom, has_holes};
+ghost use Rattle.heap_layout.specs.declared.region.Region.{Region};
+ghost use Rattle.plan_api.specs.Holes.{IsHolePart, HasRoomFrom, IsFirstPart, IsFirstHole, has_holes};
 
 use crate::plan::Plan;
 
@@ -36,6 +37,15 @@ pub fn hole_parts()
         → IsWellFormed s → LineBitsAreExact s k → IsHolePart fill s k from size next end
         → IsHeld s a → IsInExtent s a i → block_at s.blocks i ≡ k
         → next ≤ offset_at s.blocks i → offset_at s.blocks i < end → ⊥ }
+{}
+
+/// All first parts of a block begin at one offset. If the result is `None`, there is no first part.
+pub fn first_parts()
+    ensures next { (fill : Kind) (s : HeapState) (k from size : ℕ) (x y : Region)
+        → IsFirstPart fill s k from size x → IsFirstPart fill s k from size y
+        → x.next ≡ y.next }
+    ensures none { (fill : Kind) (s : HeapState) (k from size : ℕ) (x : Region)
+        → IsFirstHole fill s k from size None → IsFirstPart fill s k from size x → ⊥ }
 {}
 
 /// A view shows a block's kind, class and owner, and the offset of its tail if the objects of the

@@ -21,8 +21,8 @@ pub use flags::PlanFlags;
 pub use grants::block_counts;
 pub use holes::first_hole;
 pub use laws::{
-    hole_parts, plans_have_flags, plans_hold_reserves, reserves_are_kept, taken_blocks_are_counted,
-    views_show_blocks,
+    first_parts, hole_parts, plans_have_flags, plans_hold_reserves, reserves_are_kept,
+    taken_blocks_are_counted, views_show_blocks,
 };
 pub use plan::Plan;
 pub use readers::{block_word_in, view, view_in};
