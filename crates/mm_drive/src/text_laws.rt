@@ -6,11 +6,15 @@ ghost use Rattle.heap_layout.specs.declared.block.Kind.TheVariants as kinds;
 ghost use Rattle.heap_layout.specs.Blocks.{code_of};
 ghost use Rattle.ideal_heap.specs.declared.command.Command.{Command};
 ghost use Rattle.ideal_heap.specs.declared.command.Command.TheVariants as command;
+ghost use Rattle.ideal_heap.specs.declared.reply.Reply.TheVariants as reply;
 ghost use Rattle.ideal_heap.specs.Ideal.{empty};
-ghost use Rattle.ideal_heap.specs.Runs.{is_full, alone};
+ghost use Rattle.ideal_heap.specs.Names.{name};
+ghost use Rattle.ideal_heap.specs.Runs.{is_full, alone, replies_of};
 ghost use Rattle.object_model.specs.Objects.{empty_heap};
-ghost use Rattle.object_model.specs.WorkedHeaps.{unowned};
-ghost use Rattle.sessions.specs.Plans.{GenCopy, StickyImmix, rules_of};
+ghost use Rattle.object_model.specs.Graphs.{IsReachable, roots_of};
+ghost use Rattle.object_model.specs.WorkedHeaps.{unowned, plain_object, build_heap};
+ghost use Rattle.sessions.specs.Plans.{Plan, GenCopy, StickyImmix, rules_of};
+ghost use Rattle.sessions.specs.Sessions.{Moment};
 ghost use Rattle.trace_text.specs.Grammar.{trace};
 ghost use Rattle.trace_text.specs.Text.{mutator_text};
 ghost use Rattle.command_line.specs.Words.{Job, Work, Files, Made};
@@ -19,7 +23,7 @@ ghost use Rattle.mm_drive.specs.declared.status.Status.TheVariants as status;
 ghost use Rattle.mm_drive.specs.Exits.{IsExit, Ran};
 ghost use Rattle.mm_drive.specs.Made.{in_row};
 ghost use Rattle.mm_drive.specs.Printed.{Content, AreTraces, Prints, PrintsPrefix, AsksFirst, Unread, IsTooLong, IsBad, IsUsage, IsLong, HasFault, WritesFaultLine, setting_of, IsWholeText, fault_line, usage_line};
-ghost use Rattle.mm_drive.specs.Texts.{AreLive, IsSessionText, IsSummary, kinds_line};
+ghost use Rattle.mm_drive.specs.Texts.{AreLive, IsSessionText, IsSummary, kinds_line, held_line, replies_part, report_part, summary_part};
 ghost use Rattle.mm_drive.specs.WorkedEnds.{worked_end};
 
 /// The live objects of a worked heap: all that are reachable, each once, in the order of names.
@@ -196,4 +200,40 @@ pub fn texts_of_no_commands()
     }) ([] ∷ [])
         (codes "make 0\nnew 0\nfull 0\nref 0\nnil 0\nnum 0 sum 0\nok 0\nyes 0\nno 0\nnull 0\n"
         ++ codes "range 0\nlive objects 0 words 0\n") }
+{}
+
+/// The text of one file is the replies of its trace alone, if no `new` was refused, and more. Where
+/// nothing is reachable, no object is counted or in the map.
+pub fn texts_tell_of_sessions()
+    ensures one { (job : Job) (file text : List ℕ) (cs : List Command)
+        → job.work ≡ Files (file ∷ []) → (w : IsWholeText job (cs ∷ []) text)
+        → AllByRecursion (λ e. is_full e.reply ≡ false) w.last.done
+        → (rest : List ℕ) × (text ≡ mutator_text 1 (alone empty 1 cs) ++ rest) }
+    ensures dead { (plan : Plan) (n : ℕ) (last : Moment) (text : List ℕ)
+        → ((a : ℕ) → IsReachable last.heap (roots_of last.mutators) a → ⊥)
+        → IsSessionText plan n true last text
+        → text ≡ replies_part n last ++ report_part plan n last [] }
+    ensures summary { (n : ℕ) (last : Moment) (text : List ℕ)
+        → ((a : ℕ) → IsReachable last.heap (roots_of last.mutators) a → ⊥)
+        → IsSummary n last text
+        → text ≡ summary_part n last.heap [] (replies_of 1 last.done) }
+{}
+
+/// Each number of a summary counts the replies of its kind, and their sum has 64 bits. Objects are
+/// held in the first words of a heap and in the last.
+pub fn replies_and_objects_are_counted()
+    ensures replies { summary_part 55 (empty_heap 4) []
+        (reply.New (name 1 1) ∷ replicate 2 reply.Full ++ replicate 3 (reply.Ref (name 1 1))
+        ++ replicate 4 reply.Nil ++ reply.Num 9223372036854775807 ∷ replicate 4 (reply.Num 2)
+        ++ replicate 6 reply.Done ++ replicate 7 reply.Yes ++ replicate 8 reply.No
+        ++ replicate 9 reply.Null ++ replicate 10 reply.Range)
+        ≡ codes "make 55\nnew 1\nfull 2\nref 3\nnil 4\nnum 5 sum 9223372036854775815\nok 6\n"
+        ++ codes "yes 7\nno 8\nnull 9\nrange 10\nlive objects 0 words 0\n" }
+    ensures held { held_line (build_heap (record {
+      blocks = replicate 4 (unowned kinds.Bump 0);
+      objects = plain_object 0 0 1 [] 0 0 ∷ plain_object 3 4093 2 [] 0 0 ∷ [];
+      globals = replicate 16 0;
+      number = 7;
+      base = 7;
+    })) ≡ codes "held objects 2 words 6\n" }
 {}
