@@ -47,6 +47,7 @@ pub fn made_traces()
         × (command_at 1055 x ≡ (command.Share 15 0, x))
         × (command_at 1056 x ≡ command_at 33 x)
         × (command_at 32800 x ≡ command_at 33 x) × (command_at 65568 x ≡ (command.Gc, x)) }
+    ensures between { (x : ℕ) → command_at 512 x ≡ command_at 33 x }
 {}
 
 /// The summary of a made trace whose replies are all `ok`, and at whose end nothing is reachable.

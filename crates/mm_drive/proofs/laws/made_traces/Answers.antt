@@ -20,3 +20,6 @@ returns-clause-more c = refl
 
 pub returns-clause-later : goal.returns-clause-later
 returns-clause-later c = λ x. (refl, refl, refl, refl, refl)
+
+pub returns-clause-between : goal.returns-clause-between
+returns-clause-between c = λ x. refl
