@@ -16,7 +16,7 @@ pub use layout::{
     MIN_BLOCKS,
 };
 pub use region::{Region, bump};
-pub use zones::{blocks_partition, zones_partition};
+pub use zones::{bits_of_zones, blocks_partition, zones_partition};
 
 #[cfg(test)]
 mod tests;

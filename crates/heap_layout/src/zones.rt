@@ -1,7 +1,8 @@
 //! Laws of zones, blocks and offsets.
 
-ghost use Rattle.std.specs.Prelude.{◌≡◌, ℕ, ◌+◌, ◌<◌};
-ghost use Rattle.heap_layout.specs.Zones.{Zone, InZone, row_words, IsAddress, block_at, offset_at, block_start};
+ghost use Rattle.std.specs.Prelude.{◌≡◌, ℕ, ◌+◌, ◌*◌, ◌<◌, List, slice_index, nat_eq, IsTrue};
+ghost use Rattle.std.specs.Int.{bit_at};
+ghost use Rattle.heap_layout.specs.Zones.{Zone, InZone, first, row_words, heap_of, IsAddress, block_at, offset_at, block_start, bit_of, address_bit};
 
 use crate::layout::BLOCK_WORDS;
 
@@ -24,4 +25,15 @@ pub fn blocks_partition()
         → block_at b (block_start b k + w) ≡ k }
     ensures same_offset { (b k w : ℕ) → w < BLOCK_WORDS
         → offset_at b (block_start b k + w) ≡ w }
+{}
+
+/// Word `i` of a zone has the bits from `64 * i` on. Word `n` of the heap has bit `n` of a zone,
+/// and the bit of an index that is no address is not set.
+pub fn bits_of_zones()
+    ensures bit { (b : ℕ) (z : Zone) (w : List ℕ) (i k : ℕ) → k < 64
+        → bit_of b z w (64 * i + k) ≡ nat_eq (bit_at (slice_index w (first b z + i)) k) 1 }
+    ensures address { (b : ℕ) (z : Zone) (w : List ℕ) (n : ℕ) → n < BLOCK_WORDS * b
+        → address_bit b z w (heap_of b + n) ≡ bit_of b z w n }
+    ensures outside { (b : ℕ) (z : Zone) (w : List ℕ) (a : ℕ) → IsTrue (address_bit b z w a)
+        → IsAddress b a }
 {}

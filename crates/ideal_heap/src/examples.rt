@@ -6,7 +6,8 @@ ghost use Rattle.ideal_heap.specs.declared.reply.Reply.TheVariants as reply;
 ghost use Rattle.ideal_heap.specs.Names.{name, IsName};
 ghost use Rattle.ideal_heap.specs.Ideal.{empty, born, HasShapeOf};
 ghost use Rattle.ideal_heap.specs.Commands.{size_wanted};
-ghost use Rattle.ideal_heap.specs.Runs.{Entry, IsRun, IsOrder, IsOrderPrefix, alone, after, entry};
+ghost use Rattle.ideal_heap.specs.Reach.{Reaches};
+ghost use Rattle.ideal_heap.specs.Runs.{Entry, IsRun, IsOrder, IsOrderPrefix, alone, after, entry, replies_of};
 
 /// Numbers: the maximum, a sum that wraps, a swap that fails and one that succeeds, and sums, which
 /// reply the number before.
@@ -91,7 +92,45 @@ pub fn run_examples()
         ∷ [])
         (entry 1 command.Meet reply.Done ∷ entry 1 command.Gc reply.Done ∷ []) → ⊥ }
     ensures full_is_new { IsRun empty (entry 1 command.Gc reply.Full ∷ []) → ⊥ }
+    ensures replies { replies_of 2 (entry 1 command.Gc reply.Done
+        ∷ entry 2 (command.Load 0 0) reply.Nil ∷ []) ≡ reply.Nil ∷ [] }
     ensures name { IsName (name 17 1) → ⊥ }
     ensures size { size_wanted (command.New 0 1 2) ≡ 6 }
+    ensures no_size { size_wanted command.Gc ≡ 0 }
     ensures shape { HasShapeOf (born 0 1) (born 0 2) → ⊥ }
+{}
+
+/// What is no order of the traces, or no prefix of one: an entry of no mutator of the traces, an
+/// order that leaves out a command, a prefix with another command, and one whose levels fall.
+pub fn order_examples()
+    ensures nobody { IsOrder ([] ∷ []) (entry 0 command.Gc reply.Done ∷ []) → ⊥ }
+    ensures stranger { IsOrder ([] ∷ []) (entry 2 command.Gc reply.Done ∷ []) → ⊥ }
+    ensures prefix { IsOrderPrefix ([] ∷ []) (entry 2 command.Gc reply.Done ∷ []) → ⊥ }
+    ensures missing { IsOrder ((command.Gc ∷ []) ∷ []) [] → ⊥ }
+    ensures other { IsOrderPrefix ((command.Gc ∷ []) ∷ []) (entry 1 command.Meet reply.Done
+        ∷ []) → ⊥ }
+    ensures falls { IsOrderPrefix ((command.Meet ∷ []) ∷ (command.Gc ∷ []) ∷ [])
+        (entry 1 command.Meet reply.Done ∷ entry 2 command.Gc reply.Done ∷ []) → ⊥ }
+{}
+
+/// The least and the greatest name of an object, and what lies beyond.
+pub fn name_examples()
+    ensures least { IsName (name 1 1) }
+    ensures most { IsName (name 16 4294967295) }
+    ensures nobody { IsName (name 0 1) → ⊥ }
+    ensures unborn { IsName (name 1 0) → ⊥ }
+    ensures late { IsName (name 1 4294967296) → ⊥ }
+{}
+
+/// Paths begin in a register or a global, and go on through each field.
+pub fn path_examples()
+    ensures register { Reaches (after empty (entry 1 (command.New 5 0 0) (reply.New (name 1 1))
+        ∷ [])) (name 1 1) }
+    ensures global { Reaches (after empty (entry 2 (command.New 0 0 0) (reply.New (name 2 1))
+        ∷ entry 2 (command.Share 3 0) reply.Done ∷ entry 2 (command.DropReg 0) reply.Done
+        ∷ [])) (name 2 1) }
+    ensures field { Reaches (after empty (entry 1 (command.New 0 2 0) (reply.New (name 1 1))
+        ∷ entry 1 (command.New 1 0 0) (reply.New (name 1 2))
+        ∷ entry 1 (command.Put 0 0 1) reply.Done ∷ entry 1 (command.DropReg 1) reply.Done
+        ∷ [])) (name 1 2) }
 {}

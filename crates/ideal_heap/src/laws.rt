@@ -1,10 +1,10 @@
 //! Laws of names, updates, steps, runs and orders.
 
-ghost use Rattle.std.specs.Prelude.{◌≤◌, IsTrue, ◌≡◌, ◌↔◌, ℕ, ◌+◌, ◌<◌, List, ◌++◌, ◌∷◌, [], map, take, length, false, Option, Contains, IsSomeAnd};
+ghost use Rattle.std.specs.Prelude.{◌≤◌, IsTrue, ◌≡◌, ◌↔◌, ℕ, ◌+◌, ◌<◌, List, ◌++◌, ◌∷◌, [], map, take, length, false, Option, Some, Contains, IsSomeAnd};
 ghost use Rattle.std.specs.List.{AllByRecursion};
 ghost use Rattle.ideal_heap.specs.declared.name.Name.{Name};
 ghost use Rattle.ideal_heap.specs.declared.command.Command.{Command};
-ghost use Rattle.ideal_heap.specs.Names.{IsName, IsBefore, name_code, name_of};
+ghost use Rattle.ideal_heap.specs.Names.{name, IsName, IsBefore, name_code, name_of};
 ghost use Rattle.std.specs.declared.cmp.Ordering.TheVariants.{Less};
 ghost use Rattle.ideal_heap.specs.Commands.{IsValid};
 ghost use Rattle.ideal_heap.specs.Ideal.{IdealHeap, Record, IsIdeal, IsClosed, HasRecord, HasShapeOf, at_name, at_number, empty, step};
@@ -57,6 +57,21 @@ pub fn steps()
     ensures run { (ms : List ℕ) (h : IdealHeap) (es : List Entry) → IsIdeal ms h
         → AllByRecursion (λ e. Contains ms e.mutator × IsValid e.command) es
         → IsIdeal ms (after h es) }
+{}
+
+/// In an ideal heap no object has birth 0, and none has the name of a mutator's next object. The
+/// registers and globals from 16 on are nil, and all registers of those who are no mutators.
+pub fn ideal_heaps()
+    ensures unborn { (ms : List ℕ) (h : IdealHeap) (m : ℕ) → IsIdeal ms h
+        → HasRecord h (name m 0) → ⊥ }
+    ensures fresh { (ms : List ℕ) (h : IdealHeap) (m : ℕ) → IsIdeal ms h
+        → HasRecord h (name m (h.births m + 1)) → ⊥ }
+    ensures registers { (ms : List ℕ) (h : IdealHeap) (m : ℕ) (n : Name) → IsIdeal ms h
+        → h.registers m 16 ≡ Some n → ⊥ }
+    ensures globals { (ms : List ℕ) (h : IdealHeap) (n : Name) → IsIdeal ms h
+        → h.globals 16 ≡ Some n → ⊥ }
+    ensures mutators { (ms : List ℕ) (h : IdealHeap) (m d : ℕ) (n : Name) → IsIdeal ms h
+        → h.registers m d ≡ Some n → Contains ms m }
 {}
 
 /// No step, and so no run, removes a record or changes how many references and numbers it has.

@@ -21,10 +21,13 @@ mod tables;
 pub use command::{
     Command, GLOBALS, MAX_GLOBAL, MAX_MUTATORS, MAX_NUMS, MAX_REFS, MAX_REGISTER, REGISTERS,
 };
-pub use examples::{number_examples, object_examples, register_examples, run_examples};
+pub use examples::{
+    name_examples, number_examples, object_examples, order_examples, path_examples,
+    register_examples, run_examples,
+};
 pub use laws::{
-    names_and_codes, names_are_ordered, one_mutator, paths_reach_objects, records_stay, runs_go_on,
-    steps, updates,
+    ideal_heaps, names_and_codes, names_are_ordered, one_mutator, paths_reach_objects,
+    records_stay, runs_go_on, steps, updates,
 };
 pub use name::Name;
 pub use plain::Ideal;

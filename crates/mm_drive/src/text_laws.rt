@@ -88,8 +88,10 @@ pub fn settings_of_jobs()
 /// A random command of each row, drawn from one state of the generator.
 pub fn made_rows()
     ensures { map (λ row. (in_row row 1665).0) (range_with_len 0 16)
-        ≡ command.New 15 6 31 ∷ command.New 15 6 31 ∷ command.New 15 6 31 ∷ command.New 15 6 31
-        ∷ command.Put 15 6 15 ∷ command.Put 15 6 15 ∷ command.Get 15 14 7 ∷ command.Get 15 14 7
+        ≡ command.New 15 6 31 ∷ command.New 15 6 31 ∷ command.New 15 6 31
+        ∷ command.New 15 6 31
+        ∷ command.Put 15 6 15 ∷ command.Put 15 6 15 ∷ command.Get 15 14 7
+        ∷ command.Get 15 14 7
         ∷ command.Read 15 30 ∷ command.Write 15 30 559166303 ∷ command.Add 15 30 559166303
         ∷ command.Swap 15 30 3 2 ∷ command.Move 15 14 ∷ command.Load 15 14
         ∷ command.Share 15 14 ∷ command.Pin 15 ∷ [] }

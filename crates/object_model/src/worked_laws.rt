@@ -104,7 +104,8 @@ pub fn unlawful_objects()
         (plain_object 0 0 1 [] 1 0 ∷ plain_object 0 3 2 [] 0 0 ∷ [])) → ⊥ }
     ensures same_name { IsLawful (bump_with
         (plain_object 0 0 1 [] 0 0 ∷ plain_object 0 3 1 [] 0 0 ∷ [])) → ⊥ }
-    ensures field { IsLawful (bump_with (plain_object 0 0 1 (0 ∷ 807 ∷ []) 0 0 ∷ [])) → ⊥ }
+    ensures field { IsLawful (bump_with
+        (plain_object 0 0 1 (0 ∷ 807 ∷ []) 0 0 ∷ [])) → ⊥ }
     ensures global { IsLawful (with_word (bump_with []) 17 806) → ⊥ }
     ensures pin { IsLawful (with_word (bump_with []) 294 1) → ⊥ }
     ensures unlog { IsLawful (with_word (bump_with []) 550 1) → ⊥ }

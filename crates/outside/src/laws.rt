@@ -1,8 +1,12 @@
 //! Laws of sources and sinks.
 
-ghost use Rattle.std.specs.Prelude.{◌≡◌, ◌≢◌, ℕ, ◌+◌, ◌<◌, List, [], ◌∷◌, ◌++◌, length, take, Some, None, Option, Ok, Err, Result, false};
-ghost use Rattle.outside.specs.Outside.{LAST, HasRisen, AppendsText, AppendsPrefix, Opens};
+ghost use Rattle.std.specs.Prelude.{◌≡◌, ◌≢◌, ℕ, ◌+◌, ◌<◌, ◌≤◌, List, [], ◌∷◌, ◌++◌, length, take, Some, None, Option, Ok, Err, Result, false};
+ghost use Rattle.outside.specs.Outside.{LAST, HasRisen, AppendsText, AppendsPrefix, Opens, Moves, Asked};
+ghost use Rattle.outside.specs.Reading.{Moved, TakesMore, TakesAll, AsksFor};
 ghost use Rattle.outside.specs.declared.traits.OpenFault.{OpenFault};
+ghost use Rattle.outside.specs.declared.reader.ReadFault.{ReadFault};
+ghost use Rattle.outside.specs.declared.reader.ReadFault.TheVariants as fault;
+ghost use Rattle.outside.specs.declared.reader.TheConstants.{MAX_FILE_BYTES};
 ghost use Rattle.outside.specs.declared.memory_sources.MemSources.{MemSources};
 ghost use Rattle.outside.specs.declared.memory_sources.SureSources.{SureSources};
 ghost use Rattle.outside.specs.declared.memory_sinks.MemSink.{MemSink};
@@ -56,4 +60,30 @@ pub fn memory_is_known()
         ≡ record { written = Some (written.bytes_of s); faults = written.faults_of s } }
     ensures real { (remaining : ℕ → Option (List ℕ)) (file : ℕ)
         → left_of_file remaining (Some file) ≡ remaining file }
+{}
+
+/// What is read and what is left after it are what was left before. What is taken of a file follows
+/// what was taken before: the next bytes, and of a whole file all, which is no longer than the
+/// maximum. Each name is asked for once, after all others, unless memory runs out.
+pub fn files_are_taken_in_order()
+    ensures moved { (n : ℕ) (left buf rest : List ℕ) → Moves n left buf (Some rest)
+        → (take n buf ++ rest ≡ left) × (n + length rest ≡ length left) }
+    ensures left { (n : ℕ) (left rest : List ℕ) → Moved n left (Some rest)
+        → (take n left ++ rest ≡ left) × (n + length rest ≡ length left) }
+    ensures next { (n : ℕ) (had has left : List ℕ)
+        → TakesMore (λ b. b ≡ had) (λ b. b ≡ has) n (Some left)
+        → has ≡ had ++ take n left }
+    ensures count { (n : ℕ) (had has : List ℕ) (left : Option (List ℕ))
+        → TakesMore (λ b. b ≡ had) (λ b. b ≡ has) n left → length has ≡ length had + n }
+    ensures all { (had has content : List ℕ)
+        → TakesAll (λ b. b ≡ had) (λ b. b ≡ has) (Some content) → has ≡ had ++ content }
+    ensures within { (had has : List ℕ) (content : Option (List ℕ))
+        → TakesAll (λ b. b ≡ had) (λ b. b ≡ has) content
+        → length has ≤ length had + MAX_FILE_BYTES }
+    ensures named { (r : Result (Unit {0}) ReadFault) (name : List ℕ) (count : ℕ)
+        (before now : Asked) → AsksFor r name count before now → r ≢ Err fault.OutOfMemory
+        → now ≡ before ++ (name, count) ∷ [] }
+    ensures kept { (r : Result (Unit {0}) ReadFault) (name : List ℕ) (count : ℕ)
+        (before now : Asked) → AsksFor r name count before now
+        → take (length before) now ≡ before }
 {}

@@ -19,7 +19,7 @@ mod writer;
 
 pub use consumer::Consumer;
 pub use file_sources::FileSources;
-pub use laws::{faults_and_prefixes, memory_is_known, texts_in_turn};
+pub use laws::{faults_and_prefixes, files_are_taken_in_order, memory_is_known, texts_in_turn};
 pub use memory_sinks::{MemSink, SureSink};
 pub use memory_sources::{MemSources, SureSources};
 pub use reader::{MAX_FILE_BYTES, ReadFault, read_file};

@@ -16,7 +16,8 @@ ghost use Rattle.sessions.specs.WorkedCollections.{aged_heap, large_heap, lined_
 /// four is enough, and one of five is not. A young large object is a young object, but its block is
 /// not counted.
 pub fn first_collections_have_bounds()
-    ensures plans { map (λ p. first_collection (rules_of p) (aged_heap (kinds.Young ∷ kinds.Mature
+    ensures plans { map (λ p. first_collection (rules_of p) (aged_heap (kinds.Young
+        ∷ kinds.Mature
         ∷ kinds.Mature ∷ kinds.Mature ∷ kinds.Free ∷ kinds.Free ∷ []) 1 2)) all_plans
         ≡ Full ∷ Full ∷ Full ∷ Nursery ∷ Full ∷ Nursery ∷ [] }
     ensures full_made { first_collection (rules_of GenCopy) (aged_heap (kinds.Young ∷ kinds.Mature
@@ -24,7 +25,8 @@ pub fn first_collections_have_bounds()
     ensures less { first_collection (rules_of GenCopy) (aged_heap (kinds.Young ∷ kinds.Mature
         ∷ kinds.Mature ∷ kinds.Mature ∷ kinds.Mature ∷ kinds.Free ∷ []) 1 2) ≡ Full }
     ensures counted { map (λ number. young_blocks (rules_of GenCopy) (aged_heap (kinds.Young
-        ∷ kinds.Mature ∷ kinds.Free ∷ kinds.Free ∷ []) number 2)) (0 ∷ 1 ∷ 2 ∷ 3 ∷ [])
+        ∷ kinds.Mature ∷ kinds.Free ∷ kinds.Free ∷ []) number 2)) (0 ∷ 1 ∷ 2 ∷ 3
+        ∷ [])
         ≡ 1 ∷ 1 ∷ 0 ∷ 0 ∷ [] }
     ensures large { map (λ number. first_collection (rules_of GenCopy) (large_heap (kinds.LargeHead
         ∷ kinds.Free ∷ kinds.Free ∷ kinds.Free ∷ []) number [])) (1 ∷ 2 ∷ [])
@@ -65,7 +67,8 @@ pub fn candidates_fit_the_free_blocks()
 /// Which blocks, one of each kind, a collection of each plan evacuates.
 pub fn plans_evacuate_kinds()
     ensures full { map (evacuated_kinds Full) all_plans
-        ≡ [] ∷ [] ∷ (1 ∷ 8 ∷ []) ∷ (2 ∷ 3 ∷ 8 ∷ []) ∷ (4 ∷ []) ∷ (4 ∷ []) ∷ [] }
+        ≡ [] ∷ [] ∷ (1 ∷ 8 ∷ []) ∷ (2 ∷ 3 ∷ 8 ∷ []) ∷ (4 ∷ []) ∷ (4 ∷ [])
+        ∷ [] }
     ensures nursery { map (evacuated_kinds Nursery) all_plans
         ≡ [] ∷ [] ∷ [] ∷ (2 ∷ []) ∷ [] ∷ [] ∷ [] }
 {}
@@ -146,7 +149,8 @@ pub fn objects_left_in_place()
     ensures full { IsCollection (rules_of GenCopy) 0 Full
         (heap_before kinds.Young kinds.Mature 0) (0 ∷ 4902 ∷ [])
         (heap_after (four_kinds kinds.Kept kinds.Kept kinds.Mature kinds.Free)
-        (moved_out ++ plain_object 2 12 5 [] 3 4 ∷ plain_object 1 0 6 (9010 ∷ 0 ∷ []) 1 4 ∷ [])
+        (moved_out ++ plain_object 2 12 5 [] 3 4 ∷ plain_object 1 0 6 (9010 ∷ 0 ∷ []) 1 4
+        ∷ [])
         9004 4) (0 ∷ 4902 ∷ []) → ⊥ }
     ensures free { still_free (heap_before kinds.Bump kinds.Bump 0)
         (heap_after (four_kinds kinds.Kept kinds.Free kinds.Bump kinds.Free) in_place 818 4) ≡ 1 }

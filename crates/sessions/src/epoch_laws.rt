@@ -43,11 +43,13 @@ pub fn causes_follow_the_commands()
         → (ends m ≡ AtNeed) ⊎ ((by : ℕ) × (ends m ≡ Raised by)) }
     ensures others { (t : Setting) (before now : Moment) (ends : ℕ → Cause) (m : ℕ)
         (command : Command) → RunsPart t before ends now → IsMutator t.traces m
-        → next_in t now m ≡ Some command → is_gc command ≡ false → is_meet command ≡ false
+        → next_in t now m ≡ Some command → is_gc command ≡ false
+        → is_meet command ≡ false
         → is_new command ≡ false → (by : ℕ) × (ends m ≡ Raised by) }
     ensures raised { (t : Setting) (before now : Moment) (ends : ℕ → Cause) (m by : ℕ)
         → RunsPart t before ends now → IsMutator t.traces m → ends m ≡ Raised by
-        → IsMutator t.traces by × ((next_in t now by ≡ Some c.Gc) ⊎ ((d : ℕ) × (refs : ℕ)
+        → IsMutator t.traces by × ((next_in t now by ≡ Some c.Gc) ⊎ ((d : ℕ)
+        × (refs : ℕ)
         × (nums : ℕ) × (next_in t now by ≡ Some (c.New d refs nums)))) }
     ensures raises { (t : Setting) (now : Moment) (ends : ℕ → Cause) (m by : ℕ)
         → next_in t now m ≢ None → IsMutator t.traces by
@@ -85,7 +87,8 @@ pub fn parts_have_plain_entries()
 pub fn parts_keep_the_heap()
     ensures held { (rules : Rules) (numbers : List ℕ) (old : HeapState) (h : IdealHeap)
         (part : List Entry) (new : HeapState) (ms : List MutatorState)
-        → Stopped rules numbers old h part new ms → (a : ℕ) → IsHeld old a → IsHeld new a }
+        → Stopped rules numbers old h part new ms → (a : ℕ) → IsHeld old a
+        → IsHeld new a }
     ensures header { (rules : Rules) (numbers : List ℕ) (old : HeapState) (h : IdealHeap)
         (part : List Entry) (new : HeapState) (ms : List MutatorState)
         → Stopped rules numbers old h part new ms → (a : ℕ) → IsHeld old a
@@ -107,7 +110,8 @@ pub fn parts_keep_the_heap()
         → (a : ℕ) × IsHeld new a × (name_at new a ≡ n) }
     ensures young { (rules : Rules) (numbers : List ℕ) (old : HeapState) (h : IdealHeap)
         (part : List Entry) (new : HeapState) (ms : List MutatorState)
-        → Stopped rules numbers old h part new ms → (a : ℕ) → IsHeld new a → (IsHeld old a → ⊥)
+        → Stopped rules numbers old h part new ms → (a : ℕ) → IsHeld new a → (IsHeld old a
+        → ⊥)
         → (is_old new a ≡ false) × (is_unlogged new a ≡ false) }
     ensures headroom { (rules : Rules) (numbers : List ℕ) (old : HeapState) (h : IdealHeap)
         (part : List Entry) (new : HeapState) (ms : List MutatorState)
@@ -120,7 +124,8 @@ pub fn parts_keep_the_heap()
         → used_of old + (free_of old - free_of new) ≤ free_of new }
     ensures words { (rules : Rules) (numbers : List ℕ) (old : HeapState) (h : IdealHeap)
         (part : List Entry) (new : HeapState) (ms : List MutatorState)
-        → Stopped rules numbers old h part new ms → (k : ℕ) (kind : Kind) → HasKind old k kind
+        → Stopped rules numbers old h part new ms → (k : ℕ) (kind : Kind)
+        → HasKind old k kind
         → kind ≢ kinds.Free → block_word new k ≡ block_word old k }
     ensures taken { (rules : Rules) (numbers : List ℕ) (old : HeapState) (h : IdealHeap)
         (part : List Entry) (new : HeapState) (ms : List MutatorState)
@@ -145,7 +150,8 @@ pub fn births_lie_in_holes()
         → HasKind old (block_at new.blocks a) kinds.Bump → (x : ℕ) → IsHeld old x
         → block_at old.blocks x ≡ block_at new.blocks a
         → offset_at old.blocks x + size_at old x ≤ offset_at new.blocks a }
-    ensures lines { (rules : Rules) (old : HeapState) (part : List Entry) (new : HeapState) (a : ℕ)
+    ensures lines { (rules : Rules) (old : HeapState) (part : List Entry) (new : HeapState)
+        (a : ℕ)
         → IsBirth rules old part new a → rules.fill ≡ kinds.Immix
         → HasKind old (block_at new.blocks a) kinds.Immix → (line : ℕ)
         → 16 * line < offset_at new.blocks a + size_at new a
@@ -214,7 +220,8 @@ pub fn stores_are_logged()
         (new : HeapState) (ms : List MutatorState) (first : Entry) (m s i v : ℕ)
         → ((s' i' v' : ℕ) → first.command ≢ c.Put s' i' v')
         → Stopped rules numbers old h (first ∷ entry m (c.Put s i v) r.Done ∷ []) new ms
-        → (a : ℕ) → is_logged_under rules new a ≡ true → (is_logged_under rules old a ≡ true)
+        → (a : ℕ) → is_logged_under rules new a ≡ true
+        → (is_logged_under rules old a ≡ true)
         ⊎ ((after h (first ∷ [])).registers m s ≡ Some (name_at new a)) }
     ensures stores { (h : IdealHeap) (prefix rest : List Entry) (m s i v : ℕ) (n : Name)
         → (after h prefix).registers m s ≡ Some n
@@ -226,7 +233,8 @@ pub fn stores_are_logged()
 /// ends a part with nothing taken, so a part may be empty.
 pub fn needs_exhaust_the_allowance()
     ensures fewer { (t : Setting) (old new : HeapState) → free_of new ≤ free_of old
-        → ExhaustsAllowance t old new ↔ ((free_of new ≡ 0) ⊎ (allowance_of t.rules.reserve old
+        → ExhaustsAllowance t old new ↔ ((free_of new ≡ 0)
+        ⊎ (allowance_of t.rules.reserve old
         < (free_of old - free_of new) + length t.traces)) }
     ensures alone { (t : Setting) (before now : Moment) (ends : ℕ → Cause) (d refs nums : ℕ)
         → RunsPart t before ends now → length t.traces ≡ 1 → ends 1 ≡ AtNeed

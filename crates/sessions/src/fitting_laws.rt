@@ -117,7 +117,8 @@ pub fn fits_by_size()
         → MAX_MEDIUM_WORDS < size }
     ensures large { (p : Plan) (s : HeapState) (size : ℕ) → MAX_MEDIUM_WORDS < size
         → Fits (rules_of p) s size → ⊥ }
-    ensures full { (p : Plan) (size : ℕ) → 1 ≤ size → Fits (rules_of p) full_heap size → ⊥ }
+    ensures full { (p : Plan) (size : ℕ) → 1 ≤ size → Fits (rules_of p) full_heap size
+        → ⊥ }
 {}
 
 /// Counts of worked heaps. A large run's head and tails are large, and neither in use nor Free.
@@ -128,7 +129,8 @@ pub fn counts_of_worked_heaps()
     ensures totals { (total_of mixed_heap ∷ used_of mixed_heap ∷ headroom_of mixed_heap ∷ [])
         ≡ 6 ∷ 5 ∷ 1 ∷ [] }
     ensures used { map (λ n. counts_of (used_heap n)) (range_with_len 0 5) ≡ counts_with 4 4 0
-        ∷ counts_with 4 3 0 ∷ counts_with 4 2 0 ∷ counts_with 4 1 0 ∷ counts_with 4 0 0 ∷ [] }
+        ∷ counts_with 4 3 0 ∷ counts_with 4 2 0 ∷ counts_with 4 1 0 ∷ counts_with 4 0 0
+        ∷ [] }
     ensures full { counts_of full_heap ≡ counts_with 4 0 0 }
     ensures nothing { map (λ n. allowance_of Nothing (used_heap n)) (range_with_len 0 5)
         ≡ 4 ∷ 3 ∷ 2 ∷ 1 ∷ 0 ∷ [] }
@@ -144,16 +146,21 @@ pub fn counts_of_worked_heaps()
 pub fn grants_on_worked_heaps()
     ensures nothing { MayGrant Nothing (used_heap 3) × (MayGrant Nothing (used_heap 4) → ⊥) }
     ensures copies { MayGrant Copies (used_heap 1) × (MayGrant Copies (used_heap 2) → ⊥) }
-    ensures headroom { MayGrant Headroom (used_heap 2) × (MayGrant Headroom (used_heap 3) → ⊥) }
-    ensures run { MayGrantRun Nothing (used_heap 1) 3 × (MayGrantRun Nothing (used_heap 1) 4 → ⊥) }
-    ensures copied { MayGrantRun Copies (used_heap 1) 2 × (MayGrantRun Copies (used_heap 1) 3 → ⊥) }
+    ensures headroom { MayGrant Headroom (used_heap 2) × (MayGrant Headroom (used_heap 3)
+        → ⊥) }
+    ensures run { MayGrantRun Nothing (used_heap 1) 3 × (MayGrantRun Nothing (used_heap 1) 4
+        → ⊥) }
+    ensures copied { MayGrantRun Copies (used_heap 1) 2 × (MayGrantRun Copies (used_heap 1) 3
+        → ⊥) }
     ensures headed { MayGrantRun Headroom (used_heap 1) 2
         × (MayGrantRun Headroom (used_heap 1) 3 → ⊥) }
     ensures mixed { MayGrant Nothing mixed_heap × (MayGrant Copies mixed_heap → ⊥)
         × (MayGrant Headroom mixed_heap → ⊥) }
-    ensures odd { MayGrantRun Copies (heap_used 2 3) 1 × (MayGrant Copies (heap_used 2 3) → ⊥) }
+    ensures odd { MayGrantRun Copies (heap_used 2 3) 1 × (MayGrant Copies (heap_used 2 3)
+        → ⊥) }
     ensures holds { (r : Reserve) (c : BlockCounts) → HoldsReserve r c ↔ IsRunGrantable r c 0 }
-    ensures after { (r : Reserve) (c : BlockCounts) → c.free + c.large ≤ c.blocks → 1 ≤ c.free
+    ensures after { (r : Reserve) (c : BlockCounts) → c.free + c.large ≤ c.blocks
+        → 1 ≤ c.free
         → IsGrantable r c ↔ HoldsReserve r (after_taking c 1) }
 {}
 

@@ -60,9 +60,12 @@ pub fn stops_make_collections()
 
 /// The heap and the size determine where a stop places an object.
 pub fn places_are_determined()
-    ensures small { (s : HeapState) (a x size : ℕ) → IsAddress s.blocks a → IsAddress s.blocks x
-        → (rules : Rules) → PlacesSmall rules s a size → PlacesSmall rules s x size → a ≡ x }
-    ensures large { (s : HeapState) (a x size : ℕ) → IsAddress s.blocks a → IsAddress s.blocks x
+    ensures small { (s : HeapState) (a x size : ℕ) → IsAddress s.blocks a
+        → IsAddress s.blocks x
+        → (rules : Rules) → PlacesSmall rules s a size → PlacesSmall rules s x size
+        → a ≡ x }
+    ensures large { (s : HeapState) (a x size : ℕ) → IsAddress s.blocks a
+        → IsAddress s.blocks x
         → PlacesLarge s a size → PlacesLarge s x size → a ≡ x }
 {}
 
@@ -74,7 +77,8 @@ pub fn placed_objects_are_blank()
         → refs < 65536 → (refs_at new a ≡ refs) × (nums_at new a ≡ nums) }
     ensures number { (old new : HeapState) (a refs nums : ℕ) → AddsObject old new a refs nums
         → number_at new a ≡ 0 }
-    ensures references { (old new : HeapState) (a refs nums : ℕ) → AddsObject old new a refs nums
+    ensures references { (old new : HeapState) (a refs nums : ℕ)
+        → AddsObject old new a refs nums
         → (i : ℕ) → i < refs → ref_at new a i ≡ 0 }
     ensures numbers { (old new : HeapState) (a refs nums : ℕ) → AddsObject old new a refs nums
         → refs < 65536 → (j : ℕ) → j < nums → num_at new a j ≡ 0 }
@@ -84,18 +88,21 @@ pub fn placed_objects_are_blank()
         → IsHeld old a → ⊥ }
     ensures bits { (old new : HeapState) (a refs nums : ℕ) → AddsObject old new a refs nums
         → (is_pinned new a ≡ false) × (is_unlogged new a ≡ false) }
-    ensures other_name { (old new : HeapState) (a refs nums : ℕ) → AddsObject old new a refs nums
+    ensures other_name { (old new : HeapState) (a refs nums : ℕ)
+        → AddsObject old new a refs nums
         → (x : ℕ) → IsHeld old x → name_at new x ≡ name_at old x }
     ensures other_shape { (old new : HeapState) (a refs nums : ℕ)
         → AddsObject old new a refs nums → (x : ℕ) → IsHeld old x
         → (refs_at new x ≡ refs_at old x) × (nums_at new x ≡ nums_at old x) }
     ensures other_field { (old new : HeapState) (a refs nums : ℕ)
-        → AddsObject old new a refs nums → (x : ℕ) → IsHeld old x → (i : ℕ) → i < refs_at old x
+        → AddsObject old new a refs nums → (x : ℕ) → IsHeld old x → (i : ℕ)
+        → i < refs_at old x
         → ref_at new x i ≡ ref_at old x i }
     ensures other_num { (old new : HeapState) (a refs nums : ℕ) → AddsObject old new a refs nums
         → (x : ℕ) → IsHeld old x → (j : ℕ) → j < nums_at old x
         → num_at new x j ≡ num_at old x j }
-    ensures other_bits { (old new : HeapState) (a refs nums : ℕ) → AddsObject old new a refs nums
+    ensures other_bits { (old new : HeapState) (a refs nums : ℕ)
+        → AddsObject old new a refs nums
         → (x : ℕ) → IsHeld old x
         → (is_pinned new x ≡ is_pinned old x) × (is_unlogged new x ≡ is_unlogged old x) }
 {}
@@ -190,29 +197,36 @@ pub fn needs_are_served()
         × (Places t m d refs nums mid now ⊎ ((Fits t.rules mid.heap (size_of refs nums) → ⊥)
         × (now.nursery ≡ mid.nursery) × (now.full ≡ mid.full + 1))) }
     ensures one_entry { (t : Setting) (m d refs nums : ℕ) (before now : Moment)
-        → Serves t m d refs nums before now → (e : Entry) × (now.done ≡ before.done ++ e ∷ [])
+        → Serves t m d refs nums before now
+        → (e : Entry) × (now.done ≡ before.done ++ e ∷ [])
         × (e.mutator ≡ m) × (e.command ≡ c.New d refs nums) }
     ensures after_nursery { (t : Setting) (m d refs nums : ℕ) (before now mid : Moment)
         → (Fits t.rules before.heap (size_of refs nums) → ⊥)
-        → first_collection t.rules before.heap ≡ Nursery → MakesCollection t Nursery before mid
+        → first_collection t.rules before.heap ≡ Nursery
+        → MakesCollection t Nursery before mid
         → Places t m d refs nums mid now → Serves t m d refs nums before now }
     ensures after_full { (t : Setting) (m d refs nums : ℕ) (before now late : Moment)
         → (Fits t.rules before.heap (size_of refs nums) → ⊥)
         → first_collection t.rules before.heap ≡ Full → MakesCollection t Full before late
-        → Places t m d refs nums late now ⊎ ((Fits t.rules late.heap (size_of refs nums) → ⊥)
+        → Places t m d refs nums late now ⊎ ((Fits t.rules late.heap (size_of refs nums)
+        → ⊥)
         × Replies (refusal m d refs nums ∷ []) late now) → Serves t m d refs nums before now }
     ensures after_both { (t : Setting) (m d refs nums : ℕ) (before now mid late : Moment)
         → (Fits t.rules before.heap (size_of refs nums) → ⊥)
-        → first_collection t.rules before.heap ≡ Nursery → MakesCollection t Nursery before mid
+        → first_collection t.rules before.heap ≡ Nursery
+        → MakesCollection t Nursery before mid
         → (Fits t.rules mid.heap (size_of refs nums) → ⊥) → MakesCollection t Full mid late
-        → Places t m d refs nums late now ⊎ ((Fits t.rules late.heap (size_of refs nums) → ⊥)
+        → Places t m d refs nums late now ⊎ ((Fits t.rules late.heap (size_of refs nums)
+        → ⊥)
         × Replies (refusal m d refs nums ∷ []) late now) → Serves t m d refs nums before now }
     ensures refused { refusal 2 0 1 3 ≡ entry 2 (c.New 0 1 3) r.Full }
-    ensures order { (t : Setting) (ms : List ℕ) (before now : Moment) → ServesAll t ms before now
+    ensures order { (t : Setting) (ms : List ℕ) (before now : Moment)
+        → ServesAll t ms before now
         → (es : List Entry) × (now.done ≡ before.done ++ es)
         × (map (λ e. e.mutator) es ≡ ms) }
     ensures next { (t : Setting) (m : ℕ) (ms : List ℕ) (before now : Moment)
-        → ServesAll t (m ∷ ms) before now → (d : ℕ) × (refs : ℕ) × (nums : ℕ) × (mid : Moment)
+        → ServesAll t (m ∷ ms) before now
+        → (d : ℕ) × (refs : ℕ) × (nums : ℕ) × (mid : Moment)
         × (next_in t before m ≡ Some (c.New d refs nums)) × Serves t m d refs nums before mid
         × ServesAll t ms mid now }
 {}
@@ -220,9 +234,11 @@ pub fn needs_are_served()
 /// Each `meet` gets its reply if all mutators are at `meet` or have ended. One that is at another
 /// command holds up all.
 pub fn meets_are_replied()
-    ensures waiting { map is_waiting (None ∷ Some c.Meet ∷ Some c.Gc ∷ Some (c.New 0 1 1) ∷ [])
+    ensures waiting { map is_waiting (None ∷ Some c.Meet ∷ Some c.Gc ∷ Some (c.New 0 1 1)
+        ∷ [])
         ≡ true ∷ true ∷ false ∷ false ∷ [] }
-    ensures at_meet { map is_at_meet (None ∷ Some c.Meet ∷ Some c.Gc ∷ Some (c.New 0 1 1) ∷ [])
+    ensures at_meet { map is_at_meet (None ∷ Some c.Meet ∷ Some c.Gc ∷ Some (c.New 0 1 1)
+        ∷ [])
         ≡ false ∷ true ∷ false ∷ false ∷ [] }
     ensures held_up { (t : Setting) (m : ℕ) (before now : Moment) → IsMutator t.traces m
         → is_waiting (next_in t before m) ≡ false → Meets t before now → now ≡ before }
@@ -268,7 +284,8 @@ pub fn epochs_add_entries()
 /// young objects an old object that is unlogged refers to old ones alone. Each object that the
 /// ideal heap reaches is reached in the heap, and there are as many mutators as traces.
 pub fn sound_moments_have_no_loose_references()
-    ensures held { (t : Setting) (now : Moment) → IsSound t now → (a i : ℕ) → IsHeld now.heap a
+    ensures held { (t : Setting) (now : Moment) → IsSound t now → (a i : ℕ)
+        → IsHeld now.heap a
         → i < refs_at now.heap a → 0 < ref_at now.heap a i
         → IsHeld now.heap (ref_at now.heap a i) }
     ensures old { (t : Setting) (now : Moment) → IsSound t now → t.rules.young ≡ true
@@ -277,7 +294,8 @@ pub fn sound_moments_have_no_loose_references()
         → is_old now.heap (ref_at now.heap a i) ≡ true }
     ensures reached { (t : Setting) (now : Moment) → IsSound t now → (n : Name)
         → Reaches (ideal_at now) n
-        → (a : ℕ) × IsReachable now.heap (roots_of now.mutators) a × (name_at now.heap a ≡ n) }
+        → (a : ℕ) × IsReachable now.heap (roots_of now.mutators) a
+        × (name_at now.heap a ≡ n) }
     ensures mutators { (t : Setting) (now : Moment) → IsSound t now
         → length now.mutators ≡ length t.traces }
 {}
@@ -293,7 +311,8 @@ pub fn sessions_begin_empty()
         ≡ new_mutator 1 ∷ new_mutator 2 ∷ new_mutator 3 ∷ [] }
     ensures commands { (rules : Rules)
         → map (next_in (worked_setting rules ((c.Gc ∷ []) ∷ [] ∷ (c.Meet ∷ []) ∷ []))
-        (worked_moment rules ((c.Gc ∷ []) ∷ [] ∷ (c.Meet ∷ []) ∷ []))) (1 ∷ 2 ∷ 3 ∷ [])
+        (worked_moment rules ((c.Gc ∷ []) ∷ [] ∷ (c.Meet ∷ []) ∷ []))) (1 ∷ 2 ∷ 3
+        ∷ [])
         ≡ Some c.Gc ∷ None ∷ Some c.Meet ∷ [] }
     ensures state { (t : Setting) → ((first_moment t).heap ≡ empty_heap t.blocks)
         × ((first_moment t).done ≡ []) × ((first_moment t).nursery ≡ 0)
