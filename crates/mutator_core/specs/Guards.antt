@@ -3,9 +3,10 @@
 use Rattle.heap_layout.specs.declared.layout.TheConstants.{BLOCK_WORDS}
 use Rattle.ideal_heap.specs.declared.command.TheConstants.{REGISTERS, GLOBALS, MAX_REFS, MAX_NUMS}
 use Rattle.object_model.specs.declared.shape.TheConstants.{MAX_MEDIUM_WORDS}
-use Rattle.std.specs.Prelude.{◌≡◌, ℕ, ◌+◌, ◌*◌, ◌/◌, ◌^◌, ◌<◌, ◌≤◌, ◌⊎◌, Bool, false, ◌&&◌, IsTrue, nat_lt, nat_le, Some, None, List}
+use Rattle.std.specs.Prelude.{◌≡◌, ℕ, ◌+◌, ◌*◌, ◌^◌, ◌<◌, ◌≤◌, ◌⊎◌, Bool, false, ◌&&◌, IsTrue, Some, None, List}
 use Rattle.std.specs.List.{Contains}
 use Rattle.std.specs.Int.{bit_at}
+use Rattle.forward_word.specs.CollectorWords.{is_old_word}
 use Rattle.heap_layout.specs.Zones.{LineWords, StartBits, InZone, block_at, offset_at, IsAddress}
 use Rattle.heap_layout.specs.Blocks.{IsValid}
 use Rattle.heap_layout.specs.declared.block.Kind.TheVariants as kinds
@@ -56,12 +57,12 @@ IsMiss l (c.Unpin s) = LacksObject l s
 IsMiss l _ = ⊥
 
 -- the plan is generational, and an object with this collector word is old
-abbrev pub is_old_word : Epoch → ℕ → Bool
-is_old_word p word = p.rules.young && (nat_lt 0 p.before.base && nat_le p.before.base (word / 2 ^ 24))
+abbrev pub is_old_word_under : Epoch → ℕ → Bool
+is_old_word_under p word = p.rules.young && is_old_word p.before.base word
 
 -- the collector word last loaded is that of the object in register s, which is not old
 abbrev pub IsNotOld : Epoch → Local → ℕ → Type 0
-IsNotOld p l s = (l.collector.at ≡ address_in l s) × (is_old_word p l.collector.word ≡ false)
+IsNotOld p l s = (l.collector.at ≡ address_in l s) × (is_old_word_under p l.collector.word ≡ false)
 
 -- A reference may be stored into the object in register s: the plan is not generational, the object is not old, or its
 -- unlog bit is known to be clear.

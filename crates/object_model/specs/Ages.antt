@@ -1,10 +1,11 @@
 -- Old, logged and surviving objects. The heap's words and base decide, under every plan.
-use Rattle.std.specs.Prelude.{ℕ, ◌<◌, Bool, ◌&&◌, not, IsTrue, nat_eq, nat_lt, nat_le}
-use Rattle.object_model.specs.Objects.{HeapState, is_start, is_unlogged, IsHeld, refs_at, number_at, target_at, ref_at, is_reference}
+use Rattle.std.specs.Prelude.{ℕ, ◌+◌, ◌<◌, Bool, ◌&&◌, not, IsTrue, nat_eq, nat_le}
+use Rattle.forward_word.specs.CollectorWords.{is_old_word}
+use Rattle.object_model.specs.Objects.{HeapState, word_at, is_start, is_unlogged, IsHeld, refs_at, number_at, target_at, ref_at, is_reference}
 
 -- The object is old: the last full collection or a later one claimed it. Before the first full collection none is old.
 abbrev pub is_old : HeapState → ℕ → Bool
-is_old s a = nat_lt 0 s.base && nat_le s.base (number_at s a)
+is_old s a = is_old_word s.base (word_at s (a + 2))
 
 -- an old object whose unlog bit is clear, as it is after a store (MMTk's object barrier)
 abbrev pub is_logged : HeapState → ℕ → Bool

@@ -1,6 +1,7 @@
 -- The state of a heap, and how blocks, bits, globals and objects are read from its row of words.
-use Rattle.std.specs.Prelude.{ℕ, ◌+◌, ◌*◌, ◌/◌, ◌%◌, ◌^◌, ◌<◌, ◌≤◌, Bool, ◌&&◌, not, List, [], ◌∷◌, map, replicate, slice_index, nat_eq, nat_lt, IsTrue, if◌then◌else◌, count_by}
+use Rattle.std.specs.Prelude.{ℕ, ◌+◌, ◌*◌, ◌/◌, ◌%◌, ◌<◌, ◌≤◌, Bool, ◌&&◌, not, List, [], ◌∷◌, map, replicate, slice_index, nat_eq, nat_lt, IsTrue, if◌then◌else◌, count_by}
 use Rattle.std.specs.List.{range_with_len}
+use Rattle.forward_word.specs.CollectorWords.{number_in, target_in}
 use Rattle.heap_layout.specs.Zones.{row_words, first, Globals, BlockWords, LineWords, StartBits, PinBits, UnlogBits, bit_of, address_bit, IsAddress}
 use Rattle.heap_layout.specs.declared.block.Kind.{Kind}
 use Rattle.heap_layout.specs.declared.layout.Layout.{Layout}
@@ -98,10 +99,10 @@ abbrev pub size_at : HeapState → ℕ → ℕ
 size_at s a = size_of (refs_at s a) (nums_at s a)
 
 abbrev pub number_at : HeapState → ℕ → ℕ
-number_at s a = word_at s (a + 2) / 2 ^ 24
+number_at s a = number_in (word_at s (a + 2))
 
 abbrev pub target_at : HeapState → ℕ → ℕ
-target_at s a = word_at s (a + 2) % 2 ^ 24
+target_at s a = target_in (word_at s (a + 2))
 
 abbrev pub ref_at : HeapState → ℕ → ℕ → ℕ
 ref_at s a i = word_at s (a + 3 + i)

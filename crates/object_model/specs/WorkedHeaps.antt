@@ -1,6 +1,7 @@
 -- Worked heaps: four blocks with one object at the first address, and heaps that are built from blocks and objects.
 use Rattle.std.specs.Prelude.{ℕ, ◌+◌, ◌*◌, ◌-◌, ◌/◌, ◌%◌, ◌^◌, Bool, true, false, ◌&&◌, if◌then◌else◌, nat_eq, nat_le, nat_lt, List, ◌∷◌, ◌++◌, length, map, replicate, sum_by, slice_index, slice_set}
 use Rattle.std.specs.List.{range_with_len, list_any}
+use Rattle.forward_word.specs.CollectorWords.{collector_word}
 use Rattle.heap_layout.specs.Zones.{row_words, first, Globals, BlockWords, LineWords, StartBits, PinBits, UnlogBits, HeapWords}
 use Rattle.heap_layout.specs.Blocks.{code_of}
 use Rattle.heap_layout.specs.declared.block.BlockWord.{BlockWord}
@@ -70,7 +71,7 @@ worked_size o = size_of (length o.refs) (length o.nums)
 abbrev pub words_at : ℕ → WorkedObject → List ℕ
 words_at a o =
     name_code o.name ∷ shape_code (length o.refs) (length o.nums)
-    ∷ (if nat_eq o.number 0 then 0 else 16777216 * o.number + a) ∷ o.refs ++ o.nums
+    ∷ (if nat_eq o.number 0 then 0 else collector_word o.number a) ∷ o.refs ++ o.nums
 
 -- word i of the heap's blocks, where the first is at the address
 abbrev pub object_word : ℕ → List WorkedObject → ℕ → ℕ

@@ -1,7 +1,8 @@
 //! Laws on the definitions of heaps, objects and blocks.
 
-ghost use Rattle.std.specs.Prelude.{◌≡◌, ◌≢◌, ◌⊎◌, ◌↔◌, ℕ, ◌≤◌, ◌<◌, ◌+◌, ◌*◌, ◌/◌, ◌%◌, nat_eq, IsTrue, true, false, replicate, List, [], ◌∷◌, map, if◌then◌else◌, Bool};
+ghost use Rattle.std.specs.Prelude.{◌≡◌, ◌≢◌, ◌⊎◌, ◌↔◌, ℕ, ◌≤◌, ◌<◌, ◌+◌, ◌*◌, ◌/◌, ◌%◌, ◌^◌, nat_eq, IsTrue, true, false, replicate, List, [], ◌∷◌, map, if◌then◌else◌, Bool};
 ghost use Rattle.std.specs.List.{AllByRecursion};
+ghost use Rattle.forward_word.specs.CollectorWords.{collector_word};
 ghost use Rattle.heap_layout.specs.Zones.{row_words, first, LineWords, IsAddress, line_at, block_at, offset_at};
 ghost use Rattle.ideal_heap.specs.declared.name.Name.{Name};
 ghost use Rattle.ideal_heap.specs.Names.{IsName};
@@ -18,7 +19,8 @@ ghost use Rattle.object_model.specs.Ages.{is_old, is_logged, is_survivor, Rememb
 ghost use Rattle.object_model.specs.Preserving.{may_leave, PreservesObjects, field_after};
 ghost use Rattle.object_model.specs.Graphs.{AreDifferent, Represents, new_mutator};
 
-use crate::shape::{MAX_MEDIUM_WORDS, NUMBER_UNIT};
+use crate::shape::MAX_MEDIUM_WORDS;
+use forward_word::TARGET_BITS;
 use heap_layout::{BLOCK_LINES, BLOCK_WORDS, CLASS_UNIT, MAX_BLOCKS, MIN_BLOCKS, OWNER_UNIT};
 use ideal_heap::{MAX_MUTATORS, MAX_NUMS, MAX_REFS};
 
@@ -123,10 +125,10 @@ pub fn block_words_read()
         × (owner_at s k ≡ w.owner) }
 {}
 
-/// A collector word has an address in its low 24 bits, enough for every heap, and a number above.
+/// A collector word has room for an address of every heap: number and address are read back.
 pub fn collector_words_read()
     ensures { (s : HeapState) (a n t : ℕ) → s.blocks ≤ MAX_BLOCKS → IsAddress s.blocks t
-        → word_at s (a + 2) ≡ t + NUMBER_UNIT * n
+        → word_at s (a + 2) ≡ collector_word n t
         → (number_at s a ≡ n) × (target_at s a ≡ t) }
 {}
 
@@ -193,12 +195,12 @@ pub fn lawful_words()
     ensures base { (s : HeapState) → IsLawful s → s.base < s.number + 1 }
 {}
 
-/// A collector word is below `NUMBER_UNIT` before any collection reaches the object. After that it
-/// has the number of a past collection above the object's address.
+/// Before any collection reaches the object, its collector word has the number 0. After that it is
+/// the word of a past collection and the object's address.
 pub fn headers_are_read()
-    ensures from { (s : HeapState) (a n : ℕ) → HasObject s a → a < NUMBER_UNIT
-        → n ≤ s.number → word_at s (a + 2) ≡ a + NUMBER_UNIT * n → HasHeader s a }
+    ensures from { (s : HeapState) (a n : ℕ) → HasObject s a → a < 2 ^ TARGET_BITS
+        → n ≤ s.number → word_at s (a + 2) ≡ collector_word n a → HasHeader s a }
     ensures into { (s : HeapState) (a : ℕ) → HasHeader s a
-        → (word_at s (a + 2) < NUMBER_UNIT) ⊎ ((n : ℕ) × (n ≤ s.number)
-        × (word_at s (a + 2) ≡ a + NUMBER_UNIT * n)) }
+        → (word_at s (a + 2) < 2 ^ TARGET_BITS) ⊎ ((n : ℕ) × (n ≤ s.number)
+        × (word_at s (a + 2) ≡ collector_word n a)) }
 {}

@@ -30,8 +30,7 @@ pub use object_graph::{are_roots, graph};
 pub use place::Place;
 pub use row::Row;
 pub use shape::{
-    HEADER_WORDS, MAX_MEDIUM_WORDS, NUMBER_UNIT, NUMS_UNIT, Shape, decode_shape, encode_shape,
-    size_words,
+    HEADER_WORDS, MAX_MEDIUM_WORDS, NUMS_UNIT, Shape, decode_shape, encode_shape, size_words,
 };
 pub use worked_laws::{
     built_heaps_read_back, cleared_bits_log, heap_of_five_kinds, kinds_heap_represents,

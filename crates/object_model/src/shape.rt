@@ -15,9 +15,6 @@ pub const HEADER_WORDS: u32 = 3;
 /// The factor of the numbers in a shape word. The references are below it.
 pub const NUMS_UNIT: u64 = 65_536;
 
-/// The factor of the collection's number in a collector word. The target is below it.
-pub const NUMBER_UNIT: u64 = 16_777_216;
-
 /// How many references and numbers an object has: at most `MAX_REFS` and `MAX_NUMS`.
 #[derive(Clone, Copy, Debug, PartialEq, Eq)]
 pub struct Shape {

@@ -3,6 +3,7 @@ use Rattle.std.proofs.Common.{◌≡◌, ◌≢◌, refl, sym, ◌∙◌, ap, su
 use Rattle.std.specs.Prelude.{if◌then◌else◌, ◌&&◌, ◌^◌, nat_lt, nat_le, MatchBool, slice_get, slice_index, slice_set}
 use Rattle.std.proofs.lemmas.Bool.{cases_lt, cond-true, cond-false, ne_eqb, eq-eqb}
 use Rattle.std.proofs.lemmas.List.{get_or-set_same}
+use Rattle.forward_word.specs.CollectorWords.{is_old_word}
 use Rattle.heap_layout.specs.Zones.{UnlogBits, first, heap_of, IsAddress, row_words}
 use Rattle.heap_layout.proofs.MarkLemmas.{address_bit-at_address}
 use Rattle.std.specs.Int.{bit_at}
@@ -17,6 +18,7 @@ use Rattle.ideal_heap.specs.Runs.{entry}
 use Rattle.object_model.specs.declared.shape.Shape.{Shape}
 use Rattle.object_model.specs.Objects.{HeapState, state_of, word_at, global_at, ref_at, name_at, IsHeld, is_unlogged, size_at}
 use Rattle.object_model.specs.Lawful.{IsWellFormed, IsReadable}
+use Rattle.object_model.specs.Ages.{is_old}
 use Rattle.mutator_core.specs.declared.state.LogEntry.{LogEntry}
 use Rattle.mutator_core.specs.declared.state.Event.TheVariants as e
 use Rattle.mutator_core.specs.Machine.{Epoch, source, address_in}
@@ -76,12 +78,11 @@ module _ (a : PlainRow) (ready : IsReady a) where
       let below : n < 18 + 4293 * a.row.layout.blocks = is.below in
       omega arith
 
--- what the words of an old object and of a set unlog bit tell
-pub aged-by : (a : PlainRow) (s n word : ℕ) → n ≡ address_at a s → word ≡ word_at (state_of a.row) (n + 2) → nat_lt 0 a.row.base ≡ true
-    → nat_le a.row.base (word / 2 ^ 24) ≡ true → IsAged a s
-aged-by a s n word here is some least =
-    ap (λ t. t && nat_le a.row.base (word_at (state_of a.row) (address_at a s + 2) / 2 ^ 24)) some
-    ∙ ap (λ k. nat_le a.row.base (word_at (state_of a.row) (k + 2) / 2 ^ 24)) (sym here) ∙ ap (λ w. nat_le a.row.base (w / 2 ^ 24)) (sym is) ∙ least
+-- what an object's collector word and the word of its unlog bit tell
+pub is_old-by_word : (a : PlainRow) (s n word : ℕ) → n ≡ address_at a s → word ≡ word_at (state_of a.row) (n + 2)
+    → is_old (state_of a.row) (address_at a s) ≡ is_old_word a.row.base word
+is_old-by_word a s n word here is =
+    ap (λ k. is_old_word a.row.base (word_at (state_of a.row) (k + 2))) (sym here) ∙ ap (λ w. is_old_word a.row.base w) (sym is)
 
 pub marked-by : (a : PlainRow) (s n at bit zone : ℕ) → IsAddress a.row.layout.blocks (address_at a s) → n ≡ address_at a s → zone ≡ first a.row.layout.blocks UnlogBits
     → at ≡ zone + (n - heap_of a.row.layout.blocks) / 64 → bit ≡ (n - heap_of a.row.layout.blocks) % 64

@@ -5,6 +5,7 @@ use Rattle.std.proofs.lemmas.Option.{get_or_from_slice_get}
 use Rattle.plain_world.proofs.Elements.{read-some}
 use Rattle.std.proofs.lemmas.Bool.{cases_lt, cond-false, cond-true, ne_eqb, eq-eqb}
 use Rattle.std.specs.Int.{bit_at}
+use Rattle.forward_word.specs.CollectorWords.{is_old_word}
 use Rattle.heap_layout.specs.Zones.{PinBits, UnlogBits, first, row_words, heap_of, IsAddress}
 use Rattle.heap_layout.proofs.MarkLemmas.{address_bit-at_address}
 use Rattle.ideal_heap.specs.declared.command.Command.{Command}
@@ -22,7 +23,7 @@ use Rattle.mutator_core.specs.declared.state.Event.{Event}
 use Rattle.mutator_core.specs.declared.state.Event.TheVariants as e
 use Rattle.mutator_core.specs.declared.state.Answer.TheVariants.{Plain}
 use Rattle.mutator_core.specs.Machine.{Epoch, next, found, local_after, address_in, place_of_command, store_of_command, answer_of_command, local_after_command, number_word, refs_in, nums_in, bit_word, bit_place, with_bit, without_bit}
-use Rattle.mutator_core.specs.Guards.{MayPerform, is_old_word}
+use Rattle.mutator_core.specs.Guards.{MayPerform, is_old_word_under}
 use Rattle.mutator_core.specs.Guards as guards
 use Rattle.mutator_core.specs.Histories.{reply_in}
 use Rattle.mutator_core.specs.Logs.{machine_after, heap_after, local_after_log}
@@ -360,8 +361,8 @@ module _ (a b : PlainRow) (ready : IsReady a) (s k v : ℕ) (shape : Shape) (reg
       | inr (inl young) ↦ after-collector a ready.turn (exchange (c.Put s k v) r.Done) b p i s register has.some log at knows (λ next now shape collector.
           puts-next next now shape (inr (inl (
             ap (λ x. x.at) collector ∙ sym (entering.address-is p i next a now ready.turn s),
-            ap (λ x. is_old_word p x.word) collector
-                ∙ ap (λ n. p.rules.young && (nat_lt 0 n && nat_le n (word_at (state_of a.row) (address_at a s + 2) / 2 ^ 24))) (ap (λ t. t.base) (sym at.heap))
+            ap (λ x. is_old_word_under p x.word) collector
+                ∙ ap (λ n. p.rules.young && is_old_word n (word_at (state_of a.row) (address_at a s + 2))) (ap (λ t. t.base) (sym at.heap))
                 ∙ ap (λ x. p.rules.young && x) young ∙ never p.rules.young,
           ))))
       | inr (inr logged) ↦ after-unlog a ready.turn (exchange (c.Put s k v) r.Done) b p i s register has.some log at knows logged (held-in a ready s register has.some).address (λ next now shape own.

@@ -10,7 +10,7 @@ ghost use Rattle.std.proofs.Common.{refl, sym, ◌∙◌, ap, subst};
 use crate::plain_row::PlainRow;
 use ideal_heap::{Command, Name};
 use mutator_calls::Seat;
-use object_model::{NUMBER_UNIT, Shape};
+use object_model::Shape;
 
 impl Seat for PlainRow {
     ghost is_ready = { λ w. IsReady w };
@@ -92,7 +92,7 @@ impl Seat for PlainRow {
 
     fn is_old(&mut self, register: u32) -> bool {
         let word = self.row.words[self.register(register) as usize + 2];
-        0 < self.row.base && self.row.base <= word / NUMBER_UNIT
+        forward_word::is_old(word, self.row.base)
     }
 
     fn is_unlogged(&mut self, register: u32) -> bool {
