@@ -1,6 +1,6 @@
 -- The steps that load a word: what they may read, and the entries that they make.
 use Rattle.std.proofs.Common.{◌≡◌, ◌≢◌, refl, sym, ◌∙◌, ap, subst, ℕ, ◌+◌, ◌*◌, ◌-◌, ◌%◌, ◌/◌, ◌<◌, ◌≤◌, inl, inr, arith, true, false, nat_eq, List, [], ◌∷◌, length}
-use Rattle.std.specs.Prelude.{if◌then◌else◌, ◌&&◌, ◌^◌, nat_lt, nat_le, MatchBool, slice_get, slice_index, slice_set}
+use Rattle.std.specs.Prelude.{if◌then◌else◌, MatchBool, slice_get, slice_index, slice_set}
 use Rattle.std.proofs.lemmas.Bool.{cases_lt, cond-true, cond-false, ne_eqb, eq-eqb}
 use Rattle.std.proofs.lemmas.List.{get_or-set_same}
 use Rattle.forward_word.specs.CollectorWords.{is_old_word}
@@ -29,7 +29,7 @@ use Rattle.mutator_calls.specs.Accesses.{IsAccess, LacksIndex}
 use Rattle.mutator_calls.specs.Effects.{Answered, IsFound}
 use Rattle.plain_world.specs.declared.plain_row.PlainRow.{PlainRow}
 use Rattle.plain_world.specs.Rows.{IsTurn, SetsRegister, number_of, registers_of, number_at_turn, mutator_at_turn, address_at}
-use Rattle.plain_world.specs.Steps.{HasShape, HasName, IsAged}
+use Rattle.plain_world.specs.Steps.{HasShape, HasName}
 use Rattle.plain_world.specs.Worlds.{IsAt, IsReady, Goes}
 use Rattle.plain_world.proofs.Facts as facts
 use Rattle.plain_world.proofs.Turns as turns

@@ -1,5 +1,5 @@
 -- The collector word of the object is in the row.
-use Rattle.std.proofs.Common.{◌≡◌, sym, ◌∙◌, subst, ℕ, ◌+◌, ◌<◌, inl, inr, length, rules}
+use Rattle.std.proofs.Common.{sym, ◌∙◌, subst, ℕ, ◌+◌, ◌<◌, inl, inr, length, rules}
 use Rattle.std.proofs.lemmas.List.{get_or_read}
 use Rattle.plain_world.proofs.Loading.{collector-word, is_old-by_word}
 use Rattle.plain_world.proofs.plain_seat.PlainRowSeat.is_old.Goals as goal
