@@ -98,6 +98,7 @@ pub fn run_examples()
     ensures size { size_wanted (command.New 0 1 2) ≡ 6 }
     ensures no_size { size_wanted command.Gc ≡ 0 }
     ensures shape { HasShapeOf (born 0 1) (born 0 2) → ⊥ }
+    ensures refs { HasShapeOf (born 1 0) (born 2 0) → ⊥ }
 {}
 
 /// What is no order of the traces, or no prefix of one: an entry of no mutator of the traces, an
