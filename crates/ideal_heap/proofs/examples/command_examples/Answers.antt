@@ -1,4 +1,4 @@
-use Rattle.std.proofs.Common.{ℕ, ◌<◌, arith}
+use Rattle.std.proofs.Common.{◌<◌, arith}
 use Rattle.ideal_heap.proofs.examples.command_examples.Goals as goal
 
 pub returns-clause-write : goal.returns-clause-write
