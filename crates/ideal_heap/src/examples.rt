@@ -1,13 +1,13 @@
 //! Replies of some commands, computed by hand.
 
-ghost use Rattle.std.specs.Prelude.{◌≡◌, ℕ, ◌∷◌, [], List, Option};
+ghost use Rattle.std.specs.Prelude.{◌≡◌, ℕ, ◌^◌, ◌∷◌, [], List, map, Option};
 ghost use Rattle.ideal_heap.specs.declared.command.Command.TheVariants as command;
 ghost use Rattle.ideal_heap.specs.declared.reply.Reply.TheVariants as reply;
 ghost use Rattle.ideal_heap.specs.Names.{name, IsName};
 ghost use Rattle.ideal_heap.specs.Ideal.{empty, born, HasShapeOf};
-ghost use Rattle.ideal_heap.specs.Commands.{size_wanted};
+ghost use Rattle.ideal_heap.specs.Commands.{IsValid, size_wanted};
 ghost use Rattle.ideal_heap.specs.Reach.{Reaches};
-ghost use Rattle.ideal_heap.specs.Runs.{Entry, IsRun, IsOrder, IsOrderPrefix, alone, after, entry, replies_of};
+ghost use Rattle.ideal_heap.specs.Runs.{Entry, IsRun, IsOrder, IsOrderPrefix, alone, after, entry, replies_of, trace_of};
 
 /// Numbers: the maximum, a sum that wraps, a swap that fails and one that succeeds, and sums, which
 /// reply the number before.
@@ -98,6 +98,7 @@ pub fn run_examples()
     ensures size { size_wanted (command.New 0 1 2) ≡ 6 }
     ensures no_size { size_wanted command.Gc ≡ 0 }
     ensures shape { HasShapeOf (born 0 1) (born 0 2) → ⊥ }
+    ensures refs { HasShapeOf (born 1 0) (born 2 0) → ⊥ }
 {}
 
 /// What is no order of the traces, or no prefix of one: an entry of no mutator of the traces, an
@@ -111,6 +112,21 @@ pub fn order_examples()
         ∷ []) → ⊥ }
     ensures falls { IsOrderPrefix ((command.Meet ∷ []) ∷ (command.Gc ∷ []) ∷ [])
         (entry 1 command.Meet reply.Done ∷ entry 2 command.Gc reply.Done ∷ []) → ⊥ }
+{}
+
+/// A mutator's trace, counted from 1. Who is no mutator has none.
+pub fn trace_examples()
+    ensures { map (trace_of ((command.Gc ∷ []) ∷ (command.Meet ∷ []) ∷ []))
+        (0 ∷ 1 ∷ 2 ∷ 3 ∷ [])
+        ≡ [] ∷ (command.Gc ∷ []) ∷ (command.Meet ∷ []) ∷ [] ∷ [] }
+{}
+
+/// The numbers that a command stores or compares with are below 2 ^ 64.
+pub fn command_examples()
+    ensures write { IsValid (command.Write 0 0 (2 ^ 64)) → ⊥ }
+    ensures add { IsValid (command.Add 0 0 (2 ^ 64)) → ⊥ }
+    ensures was { IsValid (command.Swap 0 0 (2 ^ 64) 0) → ⊥ }
+    ensures next { IsValid (command.Swap 0 0 0 (2 ^ 64)) → ⊥ }
 {}
 
 /// The least and the greatest name of an object, and what lies beyond.

@@ -22,8 +22,8 @@ pub use command::{
     Command, GLOBALS, MAX_GLOBAL, MAX_MUTATORS, MAX_NUMS, MAX_REFS, MAX_REGISTER, REGISTERS,
 };
 pub use examples::{
-    name_examples, number_examples, object_examples, order_examples, path_examples,
-    register_examples, run_examples,
+    command_examples, name_examples, number_examples, object_examples, order_examples,
+    path_examples, register_examples, run_examples, trace_examples,
 };
 pub use laws::{
     ideal_heaps, names_and_codes, names_are_ordered, one_mutator, paths_reach_objects,

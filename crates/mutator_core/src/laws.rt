@@ -1,14 +1,18 @@
 //! Laws of the mutator machine. Each holds after every log of an epoch, in any order of steps.
 
-ghost use Rattle.std.specs.Prelude.{◌≡◌, ◌⊎◌, ℕ, ◌<◌, ◌+◌, Some, None, List, [], ◌∷◌, ◌++◌, IsTrue};
+ghost use Rattle.std.specs.Prelude.{◌≡◌, ◌≢◌, ◌⊎◌, ℕ, ◌<◌, ◌+◌, ◌^◌, Some, None, List, [], ◌∷◌, ◌++◌, IsTrue, slice_set};
 ghost use Rattle.std.specs.List.{Contains, AllByRecursion};
 ghost use Rattle.heap_layout.specs.Zones.{StartBits, block_at, IsAddress};
 ghost use Rattle.ideal_heap.specs.declared.command.Command.{Command};
+ghost use Rattle.ideal_heap.specs.declared.command.Command.TheVariants as commands;
+ghost use Rattle.ideal_heap.specs.declared.reply.Reply.TheVariants as replies;
 ghost use Rattle.ideal_heap.specs.Ideal.{IdealHeap};
 ghost use Rattle.ideal_heap.specs.Runs.{entry, IsRun, after};
-ghost use Rattle.object_model.specs.Objects.{HeapState, size_of, IsHeld, IsInExtent, is_unlogged, name_at, word_at, owner_at};
+ghost use Rattle.object_model.specs.Objects.{HeapState, with_words, size_of, IsHeld, IsInExtent, is_unlogged, name_at, refs_at, nums_at, word_at, owner_at};
 ghost use Rattle.object_model.specs.Lawful.{IsWellFormed, FreeBlockIsClear, LineBitsAreExact};
-ghost use Rattle.object_model.specs.Graphs.{Represents};
+ghost use Rattle.object_model.specs.Graphs.{MutatorState, Represents, register_at, with_register};
+ghost use Rattle.object_model.specs.Changes.{ObjectsStay, ClearsUnlog};
+ghost use Rattle.object_model.specs.Steps.{TakesStep};
 ghost use Rattle.sessions.specs.Collecting.{Remembers};
 ghost use Rattle.sessions.specs.Fitting.{free_of};
 ghost use Rattle.sessions.specs.Sessions.{IsOfPart};
@@ -26,6 +30,9 @@ ghost use Rattle.mutator_core.specs.Tickets.{taken_by, drawn_by, allowed_to, sma
 ghost use Rattle.mutator_core.specs.Closing.{GivesBack};
 ghost use Rattle.mutator_core.specs.Logs.{IsEpochLog, machine_after, heap_after, mutators_after, local_after_log, history_of, IsUnpublishedWord, HasAvailable, IsUntaken, IsTaken, IsOwnedBy, IsListed, sum_after, HasRaised, AreBetweenCalls, IsStoppedAfter};
 
+use ideal_heap::REGISTERS;
+use object_model::HEADER_WORDS;
+
 /// The step of a command makes one entry, of that command, whether the command has an effect or
 /// not. Every other step makes none.
 pub fn entries_are_made_at_one_step()
@@ -38,6 +45,26 @@ pub fn entries_are_made_at_one_step()
         → entries_of s x ≡ entry x.mutator command (reply_in s x.answer) ∷ [] }
     ensures none { (s : HeapState) (x : LogEntry) → entry_of x.event ≡ None
         → entries_of s x ≡ [] }
+{}
+
+/// A command that allocates nothing takes a step of its mutator, in any heap. Clearing an unlog bit
+/// leaves the objects where they are.
+pub fn commands_take_steps()
+    ensures move_register { (s : HeapState) (m : MutatorState) (d e : ℕ) → d < REGISTERS
+        → e < REGISTERS → TakesStep s m (commands.Move d e) replies.Done s
+        (with_register m d (register_at m e)) }
+    ensures write { (s : HeapState) (m : MutatorState) (e j v : ℕ) → IsWellFormed s
+        → IsHeld s (register_at m e) → e < REGISTERS → register_at m e ≢ 0
+        → j < nums_at s (register_at m e) → v < 2 ^ 64
+        → TakesStep s m (commands.Write e j v) replies.Done (with_words s (slice_set s.words
+        (register_at m e + HEADER_WORDS + refs_at s (register_at m e) + j) v)) m }
+    ensures put { (s : HeapState) (m : MutatorState) (e i q : ℕ) → IsWellFormed s
+        → IsHeld s (register_at m e) → e < REGISTERS → q < REGISTERS → register_at m e ≢ 0
+        → i < refs_at s (register_at m e)
+        → TakesStep s m (commands.Put e i q) replies.Done (with_words s (slice_set s.words
+        (register_at m e + HEADER_WORDS + i) (register_at m q))) m }
+    ensures log { (s : HeapState) (words : List ℕ) (a : ℕ)
+        → ClearsUnlog s (with_words s words) a → ObjectsStay s (with_words s words) }
 {}
 
 /// Each entry of the history is one that an epoch of a session may have: it is no `gc` and no

@@ -33,9 +33,9 @@ pub use shape::{
     HEADER_WORDS, MAX_MEDIUM_WORDS, NUMS_UNIT, Shape, decode_shape, encode_shape, size_words,
 };
 pub use worked_laws::{
-    built_heaps_read_back, cleared_bits_log, heap_of_five_kinds, kinds_heap_represents,
-    preserved_heaps_represent, steps_follow_steps, unlawful_blocks, unlawful_objects, worked_ages,
-    wrong_graphs,
+    built_heaps_read_back, changes_of_nothing, cleared_bits_log, heap_of_five_kinds,
+    heaps_agree_on_sets, kinds_heap_represents, preserved_heaps_represent, steps_follow_steps,
+    unlawful_blocks, unlawful_objects, worked_ages, wrong_graphs,
 };
 
 #[cfg(test)]

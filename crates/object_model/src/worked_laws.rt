@@ -1,22 +1,23 @@
 //! Laws by example, on heaps that are built from blocks and objects.
 
-ghost use Rattle.std.specs.Prelude.{None, Some, nat_eq, if◌then◌else◌, ◌≡◌, ◌≢◌, ℕ, ◌^◌, Bool, IsTrue, false, true, List, [], ◌∷◌, map, filter, replicate, ◌++◌};
-ghost use Rattle.std.specs.List.{Contains, range_with_len};
+ghost use Rattle.std.specs.Prelude.{◌↔◌, None, Some, nat_eq, if◌then◌else◌, ◌≡◌, ◌≢◌, ℕ, ◌^◌, Bool, IsTrue, false, true, List, [], ◌∷◌, map, filter, replicate, ◌++◌};
+ghost use Rattle.std.specs.List.{Contains, range_with_len, list_any};
 ghost use Rattle.heap_layout.specs.Zones.{row_words};
 ghost use Rattle.ideal_heap.specs.Names.{name};
-ghost use Rattle.ideal_heap.specs.Ideal.{IdealHeap, Nil, At, step};
+ghost use Rattle.ideal_heap.specs.Ideal.{IdealHeap, Nil, At, empty, no_fields, step};
 ghost use Rattle.ideal_heap.specs.declared.name.Name.{Name};
 ghost use Rattle.ideal_heap.specs.declared.command.Command.{Command};
 ghost use Rattle.ideal_heap.specs.declared.reply.Reply.{Reply};
 ghost use Rattle.ideal_heap.specs.declared.reply.Reply.TheVariants as replies;
-ghost use Rattle.object_model.specs.Objects.{HeapState, IsHeld, global_at, block_word, line_marked, is_start, is_pinned, is_unlogged, name_at, size_at, refs_at, nums_at, number_at, target_at, ref_at, num_at, record_at};
+ghost use Rattle.object_model.specs.Objects.{HeapState, empty_heap, IsHeld, global_at, block_word, line_marked, is_start, is_pinned, is_unlogged, name_at, size_at, refs_at, nums_at, number_at, target_at, ref_at, num_at, record_at};
 ghost use Rattle.object_model.specs.Ages.{is_old, is_logged, is_survivor, RemembersYoung};
 ghost use Rattle.object_model.specs.Places.{IsGraphOf};
-ghost use Rattle.object_model.specs.Graphs.{MutatorState, IsMutatorState, AreMutators, Represents, new_mutator, roots_of, with_mutator};
+ghost use Rattle.object_model.specs.Graphs.{MutatorState, IsMutatorState, AreMutators, IsReachable, Represents, new_mutator, roots_of, with_mutator};
 ghost use Rattle.object_model.specs.Changes.{ClearsUnlog, ObjectsStay};
 ghost use Rattle.object_model.specs.Preserving.{PreservesObjects};
 ghost use Rattle.object_model.specs.Steps.{TakesStep};
-ghost use Rattle.object_model.specs.Agreement.{RepresentsOn};
+ghost use Rattle.object_model.specs.Agreement.{AgreesOn, RepresentsOn};
+ghost use Rattle.object_model.specs.Births.{MarksLines, MakesRun};
 ghost use Rattle.object_model.specs.Lawful.{IsLawful, IsWellFormed};
 ghost use Rattle.object_model.specs.WorkedHeaps.{unowned, plain_object};
 ghost use Rattle.object_model.specs.WorkedKinds.{kinds_heap, kinds_held, kinds_mutators, kinds_ideal, worked_object, three_free, small_heap, bump_with, with_word};
@@ -191,6 +192,30 @@ pub fn wrong_graphs()
     ensures extra { IsGraphOf kinds_heap [] ((record { name = name 1 1; at = 1212; size = 6 })
         ∷ (record { name = name 1 2; at = 9384; size = 8 })
         ∷ (record { name = name 1 3; at = 9392; size = 4097 }) ∷ []) → ⊥ }
+{}
+
+/// A heap is well formed and represents an ideal heap if and only if it does so on the set of its
+/// reachable addresses. No heap agrees with one on a set with an address that no object has, or
+/// without the address in a register, a global or a field of the set.
+pub fn heaps_agree_on_sets()
+    ensures reachable { (s : HeapState) (ms : List MutatorState) (h : IdealHeap)
+        → (IsWellFormed s × Represents s ms h)
+        ↔ RepresentsOn s ms h (IsReachable s (roots_of ms)) }
+    ensures closed { AgreesOn kinds_heap kinds_mutators kinds_ideal (λ a. IsTrue
+        (list_any (nat_eq a) (1212 ∷ 9384 ∷ 9392 ∷ 19632 ∷ []))) → ⊥ }
+    ensures registers { AgreesOn kinds_heap kinds_mutators kinds_ideal (λ a. IsTrue
+        (list_any (nat_eq a) (1212 ∷ 5312 ∷ 9392 ∷ 19632 ∷ []))) → ⊥ }
+    ensures globals { AgreesOn kinds_heap [] kinds_ideal (λ a. ⊥) → ⊥ }
+    ensures held { AgreesOn (empty_heap 4) [] (record empty { records = λ n. Some no_fields })
+        (λ a. a ≡ 0) → ⊥ }
+{}
+
+/// Changes whose result is there already leave the heap of five kinds as it is: marked lines, a
+/// large run, and a clear unlog bit.
+pub fn changes_of_nothing()
+    ensures lines { MarksLines kinds_heap kinds_heap 1212 6 }
+    ensures run { MakesRun kinds_heap kinds_heap 2 2 }
+    ensures log { ClearsUnlog kinds_heap kinds_heap 9392 }
 {}
 
 /// A heap whose objects are preserved represents the same ideal heap, each register with the target

@@ -1,4 +1,4 @@
-use Rattle.std.proofs.Common.{◌≡◌, refl, sym, ◌∙◌, ap, subst, ℕ, ◌<◌, inl, inr, arith, Bool, true, false, ◌||◌, IsTrue, [], ◌∷◌, nat_eq, lit<}
+use Rattle.std.proofs.Common.{◌≡◌, refl, sym, ◌∙◌, ap, subst, ℕ, ◌<◌, inl, inr, arith, Bool, true, false, ◌||◌, [], nat_eq, lit<}
 use Rattle.std.specs.List.{range_with_len, list_all}
 use Rattle.std.proofs.lemmas.Bool.{eqb-true, or_cases}
 use Rattle.ideal_heap.specs.Names.{name}
