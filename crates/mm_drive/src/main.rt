@@ -29,9 +29,10 @@ pub use status::Status;
 use std::env;
 use std::process::ExitCode;
 pub use text_laws::{
-    exits_have_causes, fault_lines_are_written, files_are_asked_in_order, kinds_are_counted,
-    live_objects, made_rows, printed_of_one_file, settings_of_jobs, texts_of_no_commands,
-    traces_of_contents, worked_texts,
+    contents_are_known, exits_have_causes, fault_lines_are_written, files_are_asked_in_order,
+    kinds_are_counted, live_objects, made_rows, printed_of_one_file,
+    replies_and_objects_are_counted, settings_of_jobs, texts_of_no_commands,
+    texts_tell_of_sessions, traces_of_contents, worked_texts,
 };
 pub use top::run;
 pub use work_packets::{Gate, OpenGate, Point};

@@ -1,6 +1,6 @@
 //! Laws on what a session prints at its end, and worked texts.
 
-ghost use Rattle.std.specs.Prelude.{◌≡◌, ◌≢◌, ◌⊎◌, ℕ, suc, ◌++◌, ◌∷◌, [], List, length, map, take, replicate, slice_get, codes, true, false, Option, Some, None, IfSome, Ok};
+ghost use Rattle.std.specs.Prelude.{◌≡◌, ◌≢◌, ◌⊎◌, ℕ, suc, ◌++◌, ◌∷◌, [], List, length, map, take, replicate, slice_get, codes, true, false, Option, Some, None, IfSome, Ok, Err};
 ghost use Rattle.std.specs.List.{range_with_len, AllByRecursion};
 ghost use Rattle.heap_layout.specs.declared.block.Kind.TheVariants as kinds;
 ghost use Rattle.heap_layout.specs.Blocks.{code_of};
@@ -13,8 +13,9 @@ ghost use Rattle.ideal_heap.specs.Runs.{is_full, alone, replies_of};
 ghost use Rattle.object_model.specs.Objects.{empty_heap};
 ghost use Rattle.object_model.specs.Graphs.{IsReachable, roots_of};
 ghost use Rattle.object_model.specs.WorkedHeaps.{unowned, plain_object, build_heap};
-ghost use Rattle.sessions.specs.Plans.{Plan, GenCopy, StickyImmix, rules_of};
+ghost use Rattle.sessions.specs.Plans.{Plan, NoGc, GenCopy, StickyImmix, rules_of};
 ghost use Rattle.sessions.specs.Sessions.{Moment};
+ghost use Rattle.trace_text.specs.declared.fault.TraceFault.{TraceFault};
 ghost use Rattle.trace_text.specs.Grammar.{trace};
 ghost use Rattle.trace_text.specs.Text.{mutator_text};
 ghost use Rattle.command_line.specs.Words.{Job, Work, Files, Made};
@@ -22,7 +23,7 @@ ghost use Rattle.outside.specs.Outside.{Asked, SourceState, SinkState, HasRisen,
 ghost use Rattle.mm_drive.specs.declared.status.Status.TheVariants as status;
 ghost use Rattle.mm_drive.specs.Exits.{IsExit, Ran};
 ghost use Rattle.mm_drive.specs.Made.{in_row};
-ghost use Rattle.mm_drive.specs.Printed.{Content, AreTraces, Prints, PrintsPrefix, AsksFirst, Unread, IsTooLong, IsBad, IsUsage, IsLong, HasFault, WritesFaultLine, setting_of, IsWholeText, fault_line, usage_line};
+ghost use Rattle.mm_drive.specs.Printed.{Content, AreTraces, Prints, PrintsPrefix, AsksFirst, AsksPrefix, Unread, IsTooLong, IsBad, IsUsage, IsLong, IsNoTrace, HasFault, HasTraces, EndsAtKnown, WritesFaultLine, setting_of, IsWholeText, fault_line, usage_line};
 ghost use Rattle.mm_drive.specs.Texts.{AreLive, IsSessionText, IsSummary, kinds_line, held_line, replies_part, report_part, summary_part};
 ghost use Rattle.mm_drive.specs.WorkedEnds.{worked_end};
 
@@ -130,6 +131,9 @@ pub fn files_are_asked_in_order()
     ensures first { (n : ℕ) (files : List (List ℕ)) (before after : Asked)
         → AsksFirst n files before after
         → map (λ a. a.0) after ≡ map (λ a. a.0) before ++ take n files }
+    ensures prefix { (files : List (List ℕ)) (before after : Asked)
+        → AsksPrefix files before after → (n : ℕ)
+        × (map (λ a. a.0) after ≡ map (λ a. a.0) before ++ take n files) }
     ensures unread { (files : List (List ℕ)) (before after : SourceState) (line : List ℕ)
         → (u : Unread files before after (λ l. l ≡ line))
         → AsksFirst (suc u.place) files before.asked after.asked
@@ -238,4 +242,37 @@ pub fn replies_and_objects_are_counted()
       number = 7;
       base = 7;
     })) ≡ codes "held objects 2 words 6\n" }
+{}
+
+/// Contents are known to be traces where each file of a job has one. A made trace needs no file.
+/// Reading is known to end at a file that is too long or no trace, if those before it have traces.
+pub fn contents_are_known()
+    ensures traces { (content : Content) (a b first second : List ℕ) (cs ds : List Command)
+        → content a ≡ Some first → content b ≡ Some second → length first ≡ 16777216
+        → length second ≡ 16777216 → trace first ≡ Ok cs → trace second ≡ Ok ds
+        → HasTraces content (record {
+          plan = NoGc;
+          blocks = 4;
+          workers = 1;
+          map = false;
+          work = Files (a ∷ b ∷ []);
+        }) }
+    ensures made { HasTraces (λ _. None) (record {
+      plan = NoGc;
+      blocks = 4;
+      workers = 1;
+      map = false;
+      work = Made 40;
+    }) }
+    ensures long { (content : Content) (a b c first second : List ℕ) (cs : List Command)
+        → content a ≡ Some first → content b ≡ Some second → length first ≡ 16777216
+        → trace first ≡ Ok cs → length second ≡ 16777217
+        → EndsAtKnown content (a ∷ b ∷ c ∷ []) IsLong }
+    ensures short { (bytes : List ℕ) → length bytes ≡ 16777216 → IsLong bytes → ⊥ }
+    ensures no_trace { (content : Content) (a b bytes : List ℕ) (fault : TraceFault)
+        → content a ≡ Some bytes → length bytes ≡ 16777216 → trace bytes ≡ Err fault
+        → EndsAtKnown content (a ∷ b ∷ []) IsNoTrace }
+    ensures read { (bytes : List ℕ) (cs : List Command) → trace bytes ≡ Ok cs
+        → IsNoTrace bytes → ⊥ }
+    ensures too_long { (bytes : List ℕ) → length bytes ≡ 16777217 → IsNoTrace bytes → ⊥ }
 {}
