@@ -26,13 +26,14 @@ use Rattle.object_model.proofs.RegisterSteps as registers
 use Rattle.mutator_core.specs.declared.state.Local.{Local}
 use Rattle.mutator_core.specs.declared.state.Event.TheVariants as e
 use Rattle.mutator_core.specs.declared.state.Answer.TheVariants.{Reference}
-use Rattle.mutator_core.specs.Machine.{Epoch, Machine, heap_in, address_in, with_address, mutator_of, mutators_in, next, source, refs_in, nums_in, number_word, bit_word, bit_place, with_bit, without_bit}
+use Rattle.mutator_core.specs.Machine.{Epoch, Machine, heap_in, address_in, with_address, mutator_of, mutators_in, next, source, refs_in, nums_in, number_word}
+use Rattle.object_model.specs.BitWords.{bit_word, bit_place, with_bit, without_bit}
 use Rattle.mutator_core.specs.Guards.{IsBarred, HasShape, HasField, HasNumber, LacksField, LacksNumber, IsMiss}
 use Rattle.mutator_core.specs.Histories.{reply_in}
 use Rattle.mutator_core.specs.Epochs.{IsReady, KnowsItsState}
 use Rattle.mutator_core.proofs.Kept as kept
 use Rattle.mutator_core.proofs.Kept.{Untouched, KeepsFields, Grows, grown}
-use Rattle.mutator_core.proofs.Bits as bits
+use Rattle.object_model.proofs.BitWords as bits
 use Rattle.mutator_core.proofs.Moments.{Holds, Replies, machine_with, same-words, finish, one-of}
 
 module _ (p : Epoch) (ready : IsReady p) (h : Machine) (i : IdealHeap) (set : ℕ → Type 0) (now : Holds p h i set) (m : ℕ) (known : Contains (numbers_of p.mutators) m) where

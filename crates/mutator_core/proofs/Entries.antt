@@ -32,7 +32,7 @@ use Rattle.mutator_core.specs.Histories.{after, IsLog, history, reply_in, entry_
 use Rattle.mutator_core.specs.Epochs.{IsReady}
 use Rattle.mutator_core.proofs.Lists.{contains-cases, local-cases, any-cases, any-here, any-left, any-right, any-split, all-append}
 use Rattle.mutator_core.proofs.Kept.{Leaves}
-use Rattle.mutator_core.proofs.Bits as bits
+use Rattle.object_model.proofs.BitWords as bits
 use Rattle.mutator_core.proofs.Published as published
 use Rattle.mutator_core.proofs.Quiet.{in-register}
 use Rattle.mutator_core.proofs.Spots.{Spot, spot, clears_unlog}

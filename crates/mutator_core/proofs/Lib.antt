@@ -1,7 +1,6 @@
 pub mod Lists
 pub mod Places
 pub mod Kept
-pub mod Bits
 pub mod Moments
 pub mod Commands
 pub mod Quiet

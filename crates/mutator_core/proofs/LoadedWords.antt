@@ -17,7 +17,8 @@ use Rattle.mutator_core.specs.declared.state.Loaded.{Loaded}
 use Rattle.mutator_core.specs.declared.state.Event.{Event}
 use Rattle.mutator_core.specs.declared.state.Event.TheVariants as e
 use Rattle.mutator_core.specs.declared.state.LogEntry.{LogEntry}
-use Rattle.mutator_core.specs.Machine.{Epoch, Machine, heap_in, address_in, next, found, found_code, local_after, taken, bit_word, bit_place, with_bit, first_local_of}
+use Rattle.mutator_core.specs.Machine.{Epoch, Machine, heap_in, address_in, next, found, found_code, local_after, taken, first_local_of}
+use Rattle.object_model.specs.BitWords.{bit_word, bit_place, with_bit}
 use Rattle.mutator_core.specs.Guards.{MayStep, MayPerform}
 use Rattle.mutator_core.specs.Histories.{after, IsLog}
 use Rattle.mutator_core.specs.Epochs.{IsReady}
@@ -25,7 +26,7 @@ use Rattle.mutator_core.specs.Seen.{IsLoaded, AreLoaded}
 use Rattle.mutator_core.proofs.Lists.{contains-cases, contains-none, with_local, local-cases}
 use Rattle.mutator_core.proofs.Spots.{spot}
 use Rattle.mutator_core.proofs.Kept.{Leaves}
-use Rattle.mutator_core.proofs.Bits as bits
+use Rattle.object_model.proofs.BitWords as bits
 use Rattle.mutator_core.proofs.Quiet.{in-register}
 use Rattle.mutator_core.proofs.Published as published
 use Rattle.mutator_core.proofs.Beginnings.{first-states}

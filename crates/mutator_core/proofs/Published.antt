@@ -31,14 +31,15 @@ use Rattle.mutator_core.specs.declared.state.Extent.{Extent}
 use Rattle.mutator_core.specs.declared.state.OwnedBlock.{OwnedBlock}
 use Rattle.mutator_core.specs.declared.state.Unpublished.{Unpublished}
 use Rattle.mutator_core.specs.declared.state.Event.TheVariants as e
-use Rattle.mutator_core.specs.Machine.{Epoch, Machine, heap_in, mutators_in, mutator_of, next, next_name, birth_word, bit_word, bit_place, with_bit, published}
+use Rattle.mutator_core.specs.Machine.{Epoch, Machine, heap_in, mutators_in, mutator_of, next, next_name, birth_word, published}
+use Rattle.object_model.specs.BitWords.{bit_word, bit_place, with_bit}
 use Rattle.mutator_core.specs.Guards.{IsPlace, IsCell, IsWriting, BeginsRegion}
 use Rattle.mutator_core.specs.Epochs.{IsReady, IsInEpoch, IsOwned, IsMade, IsUnpublished, KnowsItsState}
 use Rattle.mutator_core.proofs.Lists.{contains-cases, contains-here, contains-there, with_local, local-cases, mutators-with_birth}
 use Rattle.mutator_core.proofs.Places.{place-clear}
 use Rattle.mutator_core.proofs.Fills.{fill-small, fill-not-free, fills-cells, owned-kind, owned-class}
 use Rattle.mutator_core.proofs.Kept.{Leaves, knows-left, size-left, remembers-left}
-use Rattle.mutator_core.proofs.Bits as bits
+use Rattle.object_model.proofs.BitWords as bits
 use Rattle.mutator_core.proofs.Moments.{Holds, one-of}
 
 birth-blank : (n : Name) (refs nums offset : ℕ) → 2 ≤ offset → birth_word n refs nums offset ≡ 0

@@ -21,13 +21,14 @@ use Rattle.object_model.proofs.LawfulStores as unlogs
 use Rattle.object_model.proofs.QuietStores.{quiet-models}
 use Rattle.mutator_core.specs.declared.state.Local.{Local}
 use Rattle.mutator_core.specs.declared.state.Event.TheVariants as e
-use Rattle.mutator_core.specs.Machine.{Epoch, Machine, heap_in, mutators_in, mutator_of, address_in, next, bit_word, bit_place, without_bit}
+use Rattle.mutator_core.specs.Machine.{Epoch, Machine, heap_in, mutators_in, mutator_of, address_in, next}
+use Rattle.object_model.specs.BitWords.{bit_word, bit_place, without_bit}
 use Rattle.mutator_core.specs.Guards.{HasObjectIn}
 use Rattle.mutator_core.specs.Epochs.{IsReady, IsInEpoch, KnowsItsState}
 use Rattle.mutator_core.proofs.Lists.{mutators-same}
 use Rattle.mutator_core.proofs.Kept as kept
 use Rattle.mutator_core.proofs.Kept.{Untouched, KeepsFields, Grows, grown, leaves-kept, free-kept, epoch-left, epoch-with}
-use Rattle.mutator_core.proofs.Bits as bits
+use Rattle.object_model.proofs.BitWords as bits
 use Rattle.mutator_core.proofs.Moments.{Holds, Moved, machine_with, same-words, one-of}
 
 module _ (p : Epoch) (ready : IsReady p) (h : Machine) (i : IdealHeap) (set : ℕ → Type 0) (now : Holds p h i set) (m : ℕ) (known : Contains (numbers_of p.mutators) m) where

@@ -19,7 +19,8 @@ use Rattle.object_model.proofs.ObjectParts.{line-block}
 use Rattle.object_model.proofs.OneKind.{kind-from, kind-code, kind-within}
 use Rattle.mutator_core.specs.declared.state.OwnedBlock.{OwnedBlock}
 use Rattle.mutator_core.specs.declared.state.LogEntry.{LogEntry}
-use Rattle.mutator_core.specs.Machine.{Epoch, Machine, heap_in, next, first_machine, bit_word, bit_place}
+use Rattle.mutator_core.specs.Machine.{Epoch, Machine, heap_in, next, first_machine}
+use Rattle.object_model.specs.BitWords.{bit_word, bit_place}
 use Rattle.mutator_core.specs.Histories.{after, IsLog, history, entries_of}
 use Rattle.mutator_core.specs.Guards.{IsAvailable}
 use Rattle.mutator_core.specs.Epochs.{IsReady, IsInEpoch, IsOwned, IsMade}

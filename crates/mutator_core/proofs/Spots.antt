@@ -13,7 +13,8 @@ use Rattle.object_model.proofs.Marks.{mark-same}
 use Rattle.mutator_core.specs.declared.state.Local.{Local}
 use Rattle.mutator_core.specs.declared.state.Event.{Event}
 use Rattle.mutator_core.specs.declared.state.Event.TheVariants as e
-use Rattle.mutator_core.specs.Machine.{Epoch, Machine, heap_in, address_in, next, number_word, bit_word}
+use Rattle.mutator_core.specs.Machine.{Epoch, Machine, heap_in, address_in, next, number_word}
+use Rattle.object_model.specs.BitWords.{bit_word}
 use Rattle.mutator_core.specs.Guards.{MayStep, MayPerform, HasObjectIn}
 use Rattle.mutator_core.specs.Epochs.{IsReady}
 use Rattle.mutator_core.proofs.Moments.{Holds, same-words}

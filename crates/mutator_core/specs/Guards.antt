@@ -20,7 +20,8 @@ use Rattle.mutator_core.specs.declared.state.Extent.{Extent}
 use Rattle.mutator_core.specs.declared.state.OwnedBlock.{OwnedBlock}
 use Rattle.mutator_core.specs.declared.state.Event.{Event}
 use Rattle.mutator_core.specs.declared.state.Event.TheVariants as e
-use Rattle.mutator_core.specs.Machine.{Epoch, address_in, refs_in, nums_in, bit_word, bit_place, nothing_unpublished}
+use Rattle.mutator_core.specs.Machine.{Epoch, address_in, refs_in, nums_in, nothing_unpublished}
+use Rattle.object_model.specs.BitWords.{bit_word, bit_place}
 
 -- register s holds an object, and the shape last loaded is that object's
 abbrev pub HasShape : Local → ℕ → Type 0

@@ -3,7 +3,7 @@
 use Rattle.object_model.specs.declared.shape.TheConstants.{NUMS_UNIT}
 use Rattle.std.specs.Prelude.{ℕ, zero, suc, ◌+◌, ◌-◌, ◌/◌, ◌%◌, ◌^◌, Bool, true, false, if◌then◌else◌, nat_eq, Some, None, List, [], ◌∷◌, map, slice_index, slice_set, bit_or, bit_and}
 use Rattle.std.specs.Int.{bit_at}
-use Rattle.heap_layout.specs.Zones.{Zone, StopWord, BudgetWord, Globals, BlockWords, StartBits, PinBits, UnlogBits, first, heap_of}
+use Rattle.heap_layout.specs.Zones.{StopWord, BudgetWord, Globals, BlockWords, StartBits, PinBits, UnlogBits, first, heap_of}
 use Rattle.heap_layout.specs.Blocks.{code_of}
 use Rattle.heap_layout.specs.declared.block.Kind.TheVariants as kinds
 use Rattle.ideal_heap.specs.declared.command.Command.{Command}
@@ -12,6 +12,7 @@ use Rattle.ideal_heap.specs.declared.reply.Reply.TheVariants as r
 use Rattle.ideal_heap.specs.declared.name.Name.{Name}
 use Rattle.ideal_heap.specs.Names.{name, name_code}
 use Rattle.object_model.specs.Objects.{HeapState, with_words, size_of, shape_code}
+use Rattle.object_model.specs.BitWords.{bit_word, bit_place, with_bit, without_bit}
 use Rattle.object_model.specs.Graphs.{MutatorState, numbers_of}
 use Rattle.sessions.specs.Plans.{Rules}
 use Rattle.sessions.specs.Sessions.{block_of_kind}
@@ -54,20 +55,6 @@ refs_in word = word % NUMS_UNIT
 
 abbrev pub nums_in : ℕ → ℕ
 nums_in word = word / NUMS_UNIT
-
--- the index of the word of zone z with the bit of address a, and the position of the bit in that word
-abbrev pub bit_word : ℕ → Zone → ℕ → ℕ
-bit_word b z a = first b z + (a - heap_of b) / 64
-
-abbrev pub bit_place : ℕ → ℕ → ℕ
-bit_place b a = (a - heap_of b) % 64
-
--- the word with bit k set, or clear
-abbrev pub with_bit : ℕ → ℕ → ℕ
-with_bit word k = bit_or word (2 ^ k)
-
-abbrev pub without_bit : ℕ → ℕ → ℕ
-without_bit word k = bit_and word (2 ^ 64 - 1 - 2 ^ k)
 
 -- in a word of side metadata, the bit of the object in register s
 abbrev pub bit_in : Epoch → Local → ℕ → ℕ → ℕ

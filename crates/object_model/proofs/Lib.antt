@@ -48,3 +48,4 @@ pub mod KindsRepresent
 pub mod WalkLemmas
 pub mod GraphLemmas
 pub mod OwnedBlocks
+pub mod BitWords

@@ -13,3 +13,4 @@ pub mod WorkedKinds
 pub mod AddressSets
 pub mod Places
 pub mod Walks
+pub mod BitWords

@@ -19,12 +19,13 @@ use Rattle.mutator_core.specs.declared.state.Local.{Local}
 use Rattle.mutator_core.specs.declared.state.LogEntry.{LogEntry}
 use Rattle.mutator_core.specs.declared.state.Event.{Event}
 use Rattle.mutator_core.specs.declared.state.Event.TheVariants as e
-use Rattle.mutator_core.specs.Machine.{Epoch, Machine, heap_in, next, found, place, stored, answer_at, local_after, address_in, bit_word, bit_place, without_bit}
+use Rattle.mutator_core.specs.Machine.{Epoch, Machine, heap_in, next, found, place, stored, answer_at, local_after, address_in}
+use Rattle.object_model.specs.BitWords.{bit_word, bit_place, without_bit}
 use Rattle.mutator_core.specs.Guards.{MayStep}
 use Rattle.mutator_core.specs.Guards as guards
 use Rattle.mutator_core.specs.Logs.{machine_after, heap_after, local_after_log, history_of}
 use Rattle.mutator_core.proofs.Kept.{Leaves}
-use Rattle.mutator_core.proofs.Bits as bits
+use Rattle.object_model.proofs.BitWords as bits
 use Rattle.mutator_core.proofs.Law as law
 use Rattle.mutator_core.proofs.Law.{is_publication}
 use Rattle.mutator_core.proofs.Spots as spots

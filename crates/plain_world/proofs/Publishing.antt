@@ -15,7 +15,8 @@ use Rattle.mutator_core.specs.declared.state.Local.{Local}
 use Rattle.mutator_core.specs.declared.state.LogEntry.{LogEntry}
 use Rattle.mutator_core.specs.declared.state.Event.{Event}
 use Rattle.mutator_core.specs.declared.state.Event.TheVariants as e
-use Rattle.mutator_core.specs.Machine.{Epoch, Machine, next, answer_at, place, stored, found, local_after, bit_word, bit_place, with_bit, birth_word, next_name, published, nothing_unpublished}
+use Rattle.mutator_core.specs.Machine.{Epoch, Machine, next, answer_at, place, stored, found, local_after, birth_word, next_name, published, nothing_unpublished}
+use Rattle.object_model.specs.BitWords.{bit_word, bit_place, with_bit}
 use Rattle.mutator_core.specs.Guards.{MayStep, MayBegin}
 use Rattle.mutator_core.specs.Histories.{after, IsLog, history}
 

@@ -22,8 +22,9 @@ use Rattle.mutator_core.specs.declared.state.LogEntry.{LogEntry}
 use Rattle.mutator_core.specs.declared.state.Event.{Event}
 use Rattle.mutator_core.specs.declared.state.Event.TheVariants as e
 use Rattle.mutator_core.specs.declared.state.Answer.TheVariants.{Plain}
-use Rattle.mutator_core.specs.Machine.{Epoch, next, found, local_after, address_in, place_of_command, store_of_command, answer_of_command, local_after_command, number_word, refs_in, nums_in, bit_word, bit_place, with_bit, without_bit}
+use Rattle.mutator_core.specs.Machine.{Epoch, next, found, local_after, address_in, place_of_command, store_of_command, answer_of_command, local_after_command, number_word, refs_in, nums_in}
 use Rattle.mutator_core.specs.Guards.{MayPerform, is_old_word_under}
+use Rattle.object_model.specs.BitWords.{bit_word, bit_place, with_bit, without_bit}
 use Rattle.mutator_core.specs.Guards as guards
 use Rattle.mutator_core.specs.Histories.{reply_in}
 use Rattle.mutator_core.specs.Logs.{machine_after, heap_after, local_after_log}

@@ -9,8 +9,9 @@ use Rattle.heap_layout.specs.Zones.{StartBits, heap_of, row_words, first, bit_of
 use Rattle.ideal_heap.specs.declared.name.Name.{Name}
 use Rattle.object_model.specs.Objects.{HeapState, with_words, word_at, size_of}
 use Rattle.object_model.specs.Changes.{WritesObject}
-use Rattle.mutator_core.specs.Machine.{bit_word, bit_place, birth_word}
-use Rattle.mutator_core.proofs.Bits as bits
+use Rattle.mutator_core.specs.Machine.{birth_word}
+use Rattle.object_model.specs.BitWords.{bit_word, bit_place}
+use Rattle.object_model.proofs.BitWords as bits
 use Rattle.plain_world.proofs.Publishing.{Stores}
 
 -- a heap with the numbers of another is that with its own words

@@ -3,7 +3,7 @@
 ghost use Rattle.std.specs.Prelude.{◌≡◌, ◌+◌, ◌-◌, ◌/◌, ◌%◌, ◌^◌, ◌<◌, ◌≤◌, length, slice_index, nat_eq};
 ghost use Rattle.std.specs.Int.{bit_at};
 ghost use Rattle.heap_layout.specs.Zones.{heap_of, row_words, IsAddress};
-ghost use Rattle.mutator_core.specs.Machine.{with_bit, without_bit};
+ghost use Rattle.object_model.specs.BitWords.{with_bit, without_bit};
 ghost use Rattle.plain_world.specs.Rows.{IsTurn, address_at};
 ghost use Rattle.plain_world.specs.Changes.{StoresWord};
 

@@ -1,5 +1,5 @@
 -- One bit of a word before the heap is set or cleared.
-use Rattle.std.proofs.Common.{◌≡◌, ◌≢◌, refl, sym, ◌∙◌, ap, subst, ℕ, ◌+◌, ◌*◌, ◌-◌, ◌/◌, ◌%◌, ◌^◌, ◌<◌, ◌≤◌, inl, inr, arith, Bool, List, length, slice_set, nat_eq}
+use Rattle.std.proofs.Common.{◌≡◌, ◌≢◌, refl, sym, ◌∙◌, ap, subst, ℕ, ◌+◌, ◌*◌, ◌-◌, ◌/◌, ◌%◌, ◌^◌, ◌<◌, ◌≤◌, inl, inr, arith, Bool, List, length, slice_index, slice_set, nat_eq}
 use Rattle.std.specs.Int.{bit_at, w64}
 use Rattle.std.proofs.lemmas.Bool.{cases_eq}
 use Rattle.std.proofs.lemmas.List.{get_or-set_same, get_or-set_other, length-set}
@@ -11,7 +11,7 @@ use Rattle.object_model.specs.Objects.{HeapState, with_words, word_at}
 use Rattle.object_model.specs.Lawful.{IsWellFormed}
 use Rattle.object_model.specs.Changes.{SetsPin, ClearsUnlog}
 use Rattle.object_model.proofs.Marks.{mark-same}
-use Rattle.mutator_core.specs.Machine.{bit_word, bit_place, with_bit, without_bit}
+use Rattle.object_model.specs.BitWords.{bit_word, bit_place, with_bit, without_bit}
 
 pub with-same : (n k : ℕ) → bit_at (with_bit n k) k ≡ 1
 with-same n k = omega (arith, bit_at_or n (2 ^ k) k, bit_at-pow_same k, bit_at-lt n k)
@@ -31,49 +31,74 @@ without-other n k i low small other = omega (arith, bit_at_and n (2 ^ 64 - 1 - 2
 pub without-fits : (n k : ℕ) → n < 2 ^ 64 → without_bit n k < 2 ^ 64
 without-fits n k fits = let less = and_le_l n (2 ^ 64 - 1 - 2 ^ k) in omega arith
 
+-- the row with another word v where the bit of address a lies, which has the other bits of that word
+module _ (b : ℕ) (w : List ℕ) (long : length w ≡ row_words b) (z : Zone) (a v : ℕ) (there : IsAddress b a)
+    (inside : first b z + 64 * b ≤ heap_of b)
+    (rest : (k : ℕ) → k < 64 → k ≢ bit_place b a → bit_at v k ≡ bit_at (slice_index w (bit_word b z a)) k) where
+  abbrev at : ℕ
+  at = bit_word b z a
+
+  abbrev after : List ℕ
+  after = slice_set w (bit_word b z a) v
+
+  pub at-side : bit_word b z a < heap_of b
+  at-side = let from : heap_of b ≤ a = there.from in let below : a < row_words b = there.below in omega arith
+
+  pub at-own : slice_index after (bit_word b z a) ≡ v
+  at-own = get_or-set_same w at v 0 (let many : length w ≡ row_words b = long in let before : at < heap_of b = at-side in omega arith)
+
+  pub own-bit : bit_of b z after (a - heap_of b) ≡ nat_eq (bit_at v (bit_place b a)) 1
+  own-bit = ap (λ x. nat_eq (bit_at x (bit_place b a)) 1) at-own
+
+  pub own-mark : address_bit b z after a ≡ nat_eq (bit_at v (bit_place b a)) 1
+  own-mark = address_bit-at_address b z after a there ∙ own-bit
+
+  pub other-bit : (n : ℕ) → n ≢ a - heap_of b → bit_of b z after n ≡ bit_of b z w n
+  other-bit n other = elim (cases_eq (n / 64) ((a - heap_of b) / 64)) as (λ _. bit_of b z after n ≡ bit_of b z w n) [
+    | inl same ↦
+        (let here : first b z + n / 64 ≡ at = omega arith in
+        ap (λ i. nat_eq (bit_at (slice_index after i) (n % 64)) 1) here ∙ ap (λ x. nat_eq (bit_at x (n % 64)) 1) at-own
+        ∙ ap (λ x. nat_eq x 1) (rest (n % 64) (omega arith) (λ e. other (omega arith))) ∙ ap (λ i. nat_eq (bit_at (slice_index w i) (n % 64)) 1) (sym here))
+    | inr differ ↦ ap (λ x. nat_eq (bit_at x (n % 64)) 1) (get_or-set_other w at (first b z + n / 64) v 0 (λ e. differ (omega arith)))
+  ]
+
+  pub other-mark : (x : ℕ) → x ≢ a → address_bit b z after x ≡ address_bit b z w x
+  other-mark x other = mark-same b z w after x (λ here.
+      let from : heap_of b ≤ x = here.from in let base : heap_of b ≤ a = there.from in
+      other-bit (x - heap_of b) (λ e. other (omega arith)))
+
 module _ (s : HeapState) (order : IsWellFormed s) (z : Zone) (a v : ℕ) (there : IsAddress s.blocks a)
     (inside : first s.blocks z + 64 * s.blocks ≤ heap_of s.blocks) (fits : v < 2 ^ 64)
     (rest : (k : ℕ) → k < 64 → k ≢ bit_place s.blocks a → bit_at v k ≡ bit_at (word_at s (bit_word s.blocks z a)) k) where
-  abbrev at : ℕ
-  at = bit_word s.blocks z a
-
-  abbrev pub set : List ℕ
+  abbrev set : List ℕ
   set = slice_set s.words (bit_word s.blocks z a) v
 
   pub word-before : bit_word s.blocks z a < heap_of s.blocks
-  word-before = let from : heap_of s.blocks ≤ a = there.from in let below : a < row_words s.blocks = there.below in omega arith
+  word-before = at-side s.blocks s.words order.row.extent z a v there inside rest
 
   pub word-own : word_at (with_words s set) (bit_word s.blocks z a) ≡ v
-  word-own = get_or-set_same s.words at v 0 (let many : length s.words ≡ row_words s.blocks = order.row.extent in let before : at < heap_of s.blocks = word-before in omega arith)
+  word-own = at-own s.blocks s.words order.row.extent z a v there inside rest
 
   pub word-other : (i : ℕ) → i ≢ bit_word s.blocks z a → word_at (with_words s set) i ≡ word_at s i
-  word-other i other = get_or-set_other s.words at i v 0 other
+  word-other i other = get_or-set_other s.words (bit_word s.blocks z a) i v 0 other
 
   pub words-fit : (i : ℕ) → word_at (with_words s set) i < 2 ^ 64
-  words-fit i = elim (cases_eq i at) as (λ _. word_at (with_words s set) i < 2 ^ 64) [
+  words-fit i = elim (cases_eq i (bit_word s.blocks z a)) as (λ _. word_at (with_words s set) i < 2 ^ 64) [
     | inl e ↦ subst (λ (x : ℕ). x < 2 ^ 64) (sym (ap (word_at (with_words s set)) e ∙ word-own)) fits
     | inr other ↦ subst (λ (x : ℕ). x < 2 ^ 64) (sym (word-other i other)) (order.row.words i)
   ]
 
   pub bit-own : bit_of s.blocks z set (a - heap_of s.blocks) ≡ nat_eq (bit_at v (bit_place s.blocks a)) 1
-  bit-own = ap (λ x. nat_eq (bit_at x (bit_place s.blocks a)) 1) word-own
-
-  pub mark-own : address_bit s.blocks z set a ≡ nat_eq (bit_at v (bit_place s.blocks a)) 1
-  mark-own = address_bit-at_address s.blocks z set a there ∙ bit-own
+  bit-own = own-bit s.blocks s.words order.row.extent z a v there inside rest
 
   pub bit-other : (n : ℕ) → n ≢ a - heap_of s.blocks → bit_of s.blocks z set n ≡ bit_of s.blocks z s.words n
-  bit-other n other = elim (cases_eq (n / 64) ((a - heap_of s.blocks) / 64)) as (λ _. bit_of s.blocks z set n ≡ bit_of s.blocks z s.words n) [
-    | inl same ↦
-        (let here : first s.blocks z + n / 64 ≡ at = omega arith in
-        ap (λ i. nat_eq (bit_at (word_at (with_words s set) i) (n % 64)) 1) here ∙ ap (λ x. nat_eq (bit_at x (n % 64)) 1) word-own
-        ∙ ap (λ x. nat_eq x 1) (rest (n % 64) (omega arith) (λ e. other (omega arith))) ∙ ap (λ i. nat_eq (bit_at (word_at s i) (n % 64)) 1) (sym here))
-    | inr differ ↦ ap (λ x. nat_eq (bit_at x (n % 64)) 1) (word-other (first s.blocks z + n / 64) (λ e. differ (omega arith)))
-  ]
+  bit-other n other = other-bit s.blocks s.words order.row.extent z a v there inside rest n other
+
+  pub mark-own : address_bit s.blocks z set a ≡ nat_eq (bit_at v (bit_place s.blocks a)) 1
+  mark-own = own-mark s.blocks s.words order.row.extent z a v there inside rest
 
   pub mark-other : (x : ℕ) → x ≢ a → address_bit s.blocks z set x ≡ address_bit s.blocks z s.words x
-  mark-other x other = mark-same s.blocks z s.words set x (λ here.
-      let from : heap_of s.blocks ≤ x = here.from in let base : heap_of s.blocks ≤ a = there.from in
-      bit-other (x - heap_of s.blocks) (λ e. other (omega arith)))
+  mark-other x other = other-mark s.blocks s.words order.row.extent z a v there inside rest x other
 
 -- a pin bit
 pub sets-pin : (s : HeapState) (order : IsWellFormed s) (a v : ℕ) (b : Bool) → IsAddress s.blocks a → v < 2 ^ 64 → nat_eq (bit_at v (bit_place s.blocks a)) 1 ≡ b
