@@ -1,0 +1,14 @@
+mod Puts
+mod Objects
+mod Places
+mod Steps
+mod ObjectEvents
+mod Beginning
+mod ObjectLaw
+mod Sides
+mod SideEvents
+mod SideLaw
+mod Reasons
+mod Law
+mod Once
+mod Clauses

@@ -1,0 +1,79 @@
+-- A collection as its trace begins, and what is read from the heap as it was then.
+use Rattle.std.specs.Prelude.{◌≡◌, ℕ, ◌+◌, ◌<◌, ◌≤◌, ◌^◌, Bool, true, false, ◌&&◌, ◌||◌, not, IsTrue}
+use Rattle.heap_layout.specs.declared.block.Kind.{Kind}
+use Rattle.heap_layout.specs.declared.block.Kind.TheVariants as kinds
+use Rattle.object_model.specs.Objects.{HeapState, has_kind, is_start, is_unlogged, refs_at, size_at}
+use Rattle.object_model.specs.Ages as ages
+use Rattle.object_model.specs.Ages.{RemembersYoung}
+use Rattle.object_model.specs.Lawful.{IsLawfulButLines}
+use Rattle.object_model.specs.Preserving.{may_leave}
+
+-- A collection as its trace begins: the heap, whether it is a nursery collection, the blocks to evacuate, the kind of
+-- the blocks that objects are copied into (Free if none are copied), and how many workers trace.
+pub record Setup : Type 0 where
+  pub before : HeapState
+  pub nursery : Bool
+  pub from : ℕ → Bool
+  pub copy : Kind
+  pub workers : ℕ
+
+abbrev pub blocks : Setup → ℕ
+blocks p = p.before.blocks
+
+-- the number of this collection, one more than that of the last one
+abbrev pub collection : Setup → ℕ
+collection p = p.before.number + 1
+
+-- an object was held at x
+abbrev pub held : Setup → ℕ → Bool
+held p x = is_start p.before x
+
+abbrev pub size : Setup → ℕ → ℕ
+size p x = size_at p.before x
+
+abbrev pub refs : Setup → ℕ → ℕ
+refs p x = refs_at p.before x
+
+-- In a nursery collection old objects stay where they are and are not claimed.
+abbrev pub is_old : Setup → ℕ → Bool
+is_old p x = p.nursery && (held p x && ages.is_old p.before x)
+
+-- the old object was stored into since the last collection, so it may refer to young objects
+abbrev pub is_logged : Setup → ℕ → Bool
+is_logged p x = is_old p x && not (is_unlogged p.before x)
+
+-- a nursery collection does nothing with the old object
+abbrev pub is_idle : Setup → ℕ → Bool
+is_idle p x = is_old p x && is_unlogged p.before x
+
+-- the object may be moved: it lies in a block to evacuate, and is neither pinned nor large
+abbrev pub may_move : Setup → ℕ → Bool
+may_move p x = may_leave p.from p.before x
+
+-- the kinds of a block that objects are copied into, and Free where none are copied
+abbrev pub is_copy_kind : Kind → Bool
+is_copy_kind kinds.Free = true
+is_copy_kind kinds.Bump = true
+is_copy_kind kinds.Young = true
+is_copy_kind kinds.Mature = true
+is_copy_kind kinds.Immix = true
+is_copy_kind kinds.Cells = false
+is_copy_kind kinds.LargeHead = false
+is_copy_kind kinds.LargeTail = false
+is_copy_kind kinds.Kept = false
+
+-- A trace may begin. The heap is lawful but for its line bits, which a full collection of a plan with lines clears
+-- first.
+pub record IsReady (p : Setup) : Type 0 where
+  pub lawful : IsLawfulButLines p.before
+  -- the number fits a collector word
+  pub number : collection p < 2 ^ 40
+  pub some : 1 ≤ p.workers
+  pub few : p.workers ≤ 16
+  -- a nursery collection comes after a full one, and finds each reference from an old object to a young one logged
+  pub base : IsTrue p.nursery → 0 < p.before.base
+  pub remembers : IsTrue p.nursery → RemembersYoung p.before
+  pub kind : IsTrue (is_copy_kind p.copy)
+  -- no object leaves a large block, and none leaves any block where none are copied
+  pub small : (b : ℕ) → IsTrue (p.from b) → IsTrue (has_kind p.before b kinds.LargeHead || has_kind p.before b kinds.LargeTail) → ⊥
+  pub fixed : p.copy ≡ kinds.Free → (b : ℕ) → p.from b ≡ false

@@ -1,0 +1,171 @@
+//! Laws of the trace machine. Each holds after every list of events of a trace, by any number of
+//! workers in any order.
+
+ghost use Rattle.std.specs.Prelude.{◌≡◌, ◌≢◌, ◌⊎◌, ℕ, ◌+◌, ◌*◌, ◌<◌, ◌≤◌, Bool, false, Some, None, List, IsTrue, if◌then◌else◌, is_some, count_by};
+ghost use Rattle.forward_word.specs.CollectorWords.{collector_word};
+ghost use Rattle.heap_layout.specs.Zones.{LineWords, StopWord, BudgetWord, PinBits, InZone, IsAddress, bit_of};
+ghost use Rattle.heap_layout.specs.declared.block.Kind.TheVariants as kinds;
+ghost use Rattle.object_model.specs.Objects.{word_at, global_at, block_word, HasKind, IsHeld, IsInExtent, IsInExtentOf, ref_at, is_pinned, is_unlogged, is_reference};
+ghost use Rattle.trace_core.specs.Setups.{Setup, blocks, collection, size, refs, is_old, is_logged, is_idle, may_move};
+ghost use Rattle.trace_core.specs.Machine.{Event, Copying, Scanning, copied_word, step_of_offset, forward, IsSettled, taken_word};
+ghost use Rattle.trace_core.specs.Traces.{HasRoom, TouchesLine, IsTrace, Reaches, machine_after, heap_after, stage_of, target_of, fields_scanned, is_claim_of, is_scan_of};
+
+/// No two objects have the same target.
+pub fn targets_are_one_to_one()
+    ensures { (p : Setup) (es : List Event) → IsTrace p es → (x y t : ℕ)
+        → target_of p es x ≡ Some t → target_of p es y ≡ Some t → x ≡ y }
+{}
+
+/// The words of a target are words of the heap. They belong to no other target, and to no object
+/// held as the collection began, unless they are that object's own and it stays in place. An object
+/// that moves may, and goes to room in a block that a worker took, which was Free.
+pub fn targets_are_apart()
+    ensures inside { (p : Setup) (es : List Event) → IsTrace p es → (x t i : ℕ)
+        → target_of p es x ≡ Some t → IsInExtentOf t (size p x) i → IsAddress (blocks p) i }
+    ensures targets { (p : Setup) (es : List Event) → IsTrace p es → (x y t u i : ℕ) → x ≢ y
+        → target_of p es x ≡ Some t → target_of p es y ≡ Some u
+        → IsInExtentOf t (size p x) i → IsInExtentOf u (size p y) i → ⊥ }
+    ensures extents { (p : Setup) (es : List Event) → IsTrace p es → (x y t i : ℕ)
+        → target_of p es x ≡ Some t → IsHeld p.before y → IsInExtentOf t (size p x) i
+        → IsInExtent p.before y i → (x ≡ y) × (t ≡ x) }
+    ensures room { (p : Setup) (es : List Event) → IsTrace p es → (x t : ℕ)
+        → target_of p es x ≡ Some t → t ≢ x → HasRoom p (machine_after p es).taken x t }
+    ensures free { (p : Setup) (es : List Event) → IsTrace p es → (b : ℕ)
+        → 0 < (machine_after p es).taken b → HasKind p.before b kinds.Free }
+{}
+
+/// Until an object is scanned in place, each of its words but the collector word is as it was. The
+/// collector word has the collection's number and the target if the object was claimed; it is as it
+/// was if the object was not claimed, or is old in a nursery collection.
+pub fn objects_wait_to_be_scanned()
+    ensures words { (p : Setup) (es : List Event) → IsTrace p es → (x o : ℕ) → IsHeld p.before x
+        → o < size p x → o ≢ 2 → (word_at (heap_after p es) (x + o) ≡ word_at p.before (x + o))
+        ⊎ ((k : ℕ) × (stage_of p es x ≡ Scanning x k) × (3 ≤ o) × (o < 3 + k)) }
+    ensures claimed { (p : Setup) (es : List Event) → IsTrace p es → (x t : ℕ)
+        → target_of p es x ≡ Some t → is_old p x ≡ false
+        → word_at (heap_after p es) (x + 2) ≡ collector_word (collection p) t }
+    ensures unclaimed { (p : Setup) (es : List Event) → IsTrace p es → (x : ℕ) → IsHeld p.before x
+        → target_of p es x ≡ None
+        → word_at (heap_after p es) (x + 2) ≡ word_at p.before (x + 2) }
+    ensures old { (p : Setup) (es : List Event) → IsTrace p es → (x : ℕ) → IsTrue (is_old p x)
+        → word_at (heap_after p es) (x + 2) ≡ word_at p.before (x + 2) }
+{}
+
+/// The words of an object are copied in their order, the collector word last. A start bit is set
+/// where an object was held, and where one is copied whole: no word of it but its fields changes
+/// any more.
+pub fn copies_are_whole()
+    ensures copied { (p : Setup) (es : List Event) → IsTrace p es → (x t k o : ℕ)
+        → stage_of p es x ≡ Copying t k → o < size p x → step_of_offset (size p x) o < k
+        → word_at (heap_after p es) (t + o) ≡ copied_word p x t o }
+    ensures whole { (p : Setup) (es : List Event) → IsTrace p es → (x t k o : ℕ)
+        → stage_of p es x ≡ Scanning t k → o < size p x → (o < 3) ⊎ (3 + k ≤ o)
+        → word_at (heap_after p es) (t + o) ≡ copied_word p x t o }
+    ensures from { (p : Setup) (es : List Event) → IsTrace p es → (a : ℕ)
+        → IsHeld (heap_after p es) a
+        → IsHeld p.before a ⊎ ((x k : ℕ) × (stage_of p es x ≡ Scanning a k)) }
+    ensures kept { (p : Setup) (es : List Event) → IsTrace p es → (a : ℕ) → IsHeld p.before a
+        → IsHeld (heap_after p es) a }
+    ensures done { (p : Setup) (es : List Event) → IsTrace p es → (x t k : ℕ)
+        → stage_of p es x ≡ Scanning t k → IsHeld (heap_after p es) t }
+{}
+
+/// A scanned field, and a global that is set, has the target of what it referred to. Other globals
+/// are as they were.
+pub fn references_are_forwarded()
+    ensures known { (p : Setup) (es : List Event) → IsTrace p es → (x t k i : ℕ)
+        → stage_of p es x ≡ Scanning t k → i < k
+        → IsSettled (stage_of p es) (ref_at p.before x i) }
+    ensures field { (p : Setup) (es : List Event) → IsTrace p es → (x t k i : ℕ)
+        → stage_of p es x ≡ Scanning t k → i < k
+        → ref_at (heap_after p es) t i ≡ forward (stage_of p es) (ref_at p.before x i) }
+    ensures fields { (p : Setup) (es : List Event) → IsTrace p es → (x t k : ℕ)
+        → stage_of p es x ≡ Scanning t k → k ≤ refs p x }
+    ensures global { (p : Setup) (es : List Event) → IsTrace p es → (g : ℕ) → g < 16
+        → global_at (heap_after p es) g ≡ (if (machine_after p es).set g
+        then forward (stage_of p es) (global_at p.before g) else global_at p.before g) }
+    ensures set { (p : Setup) (es : List Event) → IsTrace p es → (g : ℕ) → g < 16
+        → IsTrue ((machine_after p es).set g)
+        → IsSettled (stage_of p es) (global_at p.before g) }
+{}
+
+/// A root or a path leads to each object that has a target, and each root that asked for an object
+/// has its target.
+pub fn claims_have_reasons()
+    ensures reached { (p : Setup) (es : List Event) → IsTrace p es → (x t : ℕ)
+        → target_of p es x ≡ Some t → Reaches p (machine_after p es).asked x }
+    ensures roots { (p : Setup) (es : List Event) → IsTrace p es → (x : ℕ)
+        → 0 < (machine_after p es).asked x → (t : ℕ) × (target_of p es x ≡ Some t) }
+{}
+
+/// An object that may move is in place only if no block is Free.
+pub fn objects_stay_for_want_of_blocks()
+    ensures { (p : Setup) (es : List Event) → IsTrace p es → (x b : ℕ)
+        → target_of p es x ≡ Some x → is_old p x ≡ false → IsTrue (may_move p x)
+        → HasKind (heap_after p es) b kinds.Free → ⊥ }
+{}
+
+/// An object is claimed once if it has a target and is not old, and each of its fields is scanned
+/// once. The fields of an old object are scanned only if it is logged.
+pub fn each_field_is_scanned_once()
+    ensures claims { (p : Setup) (es : List Event) → IsTrace p es → (x : ℕ) → is_old p x ≡ false
+        → count_by (is_claim_of x) es ≡ (if is_some (target_of p es x) then 1 else 0) }
+    ensures scans { (p : Setup) (es : List Event) → IsTrace p es → (x : ℕ)
+        → is_idle p x ≡ false
+        → count_by (is_scan_of x) es ≡ fields_scanned (stage_of p es x) }
+    ensures old { (p : Setup) (es : List Event) → IsTrace p es → (x : ℕ) → IsTrue (is_old p x)
+        → count_by (is_claim_of x) es ≡ 0 }
+    ensures idle { (p : Setup) (es : List Event) → IsTrace p es → (x : ℕ) → IsTrue (is_idle p x)
+        → count_by (is_scan_of x) es ≡ 0 }
+{}
+
+/// In a nursery collection an old object is its own target. If it is not logged, its fields are as
+/// they were.
+pub fn old_objects_stay()
+    ensures target { (p : Setup) (es : List Event) → IsTrace p es → (x : ℕ) → IsTrue (is_old p x)
+        → target_of p es x ≡ Some x }
+    ensures idle { (p : Setup) (es : List Event) → IsTrace p es → (x : ℕ) → IsTrue (is_idle p x)
+        → stage_of p es x ≡ Scanning x (refs p x) }
+    ensures fields { (p : Setup) (es : List Event) → IsTrace p es → (x i : ℕ)
+        → IsTrue (is_idle p x) → i < refs p x
+        → ref_at (heap_after p es) x i ≡ ref_at p.before x i }
+{}
+
+/// An unlog bit is set if it was set, or if a worker copied or claimed the object there; it is set
+/// for each that is copied whole. Pin bits are as they were.
+pub fn bits_of_objects_are_set()
+    ensures from { (p : Setup) (es : List Event) → IsTrace p es → (a : ℕ)
+        → IsTrue (is_unlogged (heap_after p es) a) → IsTrue (is_unlogged p.before a)
+        ⊎ ((x : ℕ) × (target_of p es x ≡ Some a) × (is_old p x ≡ false)) }
+    ensures kept { (p : Setup) (es : List Event) → IsTrace p es → (a : ℕ)
+        → IsTrue (is_unlogged p.before a) → IsTrue (is_unlogged (heap_after p es) a) }
+    ensures done { (p : Setup) (es : List Event) → IsTrace p es → (x t k : ℕ)
+        → is_old p x ≡ false → stage_of p es x ≡ Scanning t k
+        → IsTrue (is_unlogged (heap_after p es) t) }
+    ensures pins { (p : Setup) (es : List Event) → IsTrace p es → (a : ℕ)
+        → is_pinned (heap_after p es) a ≡ is_pinned p.before a }
+{}
+
+/// The word of a block that a worker took has the kind to copy into and the worker as owner. Other
+/// block words, the stop word and the budget word are as they were. A line bit is set if it was set,
+/// or if a target touches the line.
+pub fn side_words_follow_events()
+    ensures block { (p : Setup) (es : List Event) → IsTrace p es → (b : ℕ) → b < blocks p
+        → (machine_after p es).taken b ≡ 0
+        → block_word (heap_after p es) b ≡ block_word p.before b }
+    ensures taken { (p : Setup) (es : List Event) → IsTrace p es → (b : ℕ) → b < blocks p
+        → 0 < (machine_after p es).taken b
+        → block_word (heap_after p es) b ≡ taken_word p ((machine_after p es).taken b) }
+    ensures worker { (p : Setup) (es : List Event) → IsTrace p es → (b : ℕ)
+        → (machine_after p es).taken b ≤ p.workers }
+    ensures stop { (p : Setup) (es : List Event) → IsTrace p es → (i : ℕ)
+        → InZone (blocks p) StopWord i ⊎ InZone (blocks p) BudgetWord i
+        → word_at (heap_after p es) i ≡ word_at p.before i }
+    ensures line { (p : Setup) (es : List Event) → IsTrace p es → (n : ℕ) → n < 256 * blocks p
+        → IsTrue (bit_of (blocks p) LineWords (heap_after p es).words n)
+        → IsTrue (bit_of (blocks p) LineWords p.before.words n)
+        ⊎ ((x t : ℕ) × (target_of p es x ≡ Some t) × TouchesLine (blocks p) t (size p x) n) }
+    ensures lines { (p : Setup) (es : List Event) → IsTrace p es → (n : ℕ) → n < 256 * blocks p
+        → IsTrue (bit_of (blocks p) LineWords p.before.words n)
+        → IsTrue (bit_of (blocks p) LineWords (heap_after p es).words n) }
+{}
