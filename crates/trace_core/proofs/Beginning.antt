@@ -1,13 +1,13 @@
 -- The invariant for objects holds as a trace begins.
-use Rattle.std.proofs.Common.{◌≡◌, ◌≢◌, ℕ, ◌+◌, ◌-◌, ◌<◌, ◌≤◌, inl, inr, Bool, true, false, true≢false, cond, if◌then◌else◌, ◌&&◌, not, IsTrue, refl, sym, ap, ◌∙◌, subst, arith, Some, None, slice_index}
-use Rattle.std.proofs.lemmas.Bool.{cases_Bool, cond-true, cond-false, and_parts, and_from, and_left, not_from_false, not_from_true}
-use Rattle.object_model.specs.Objects.{HeapState, word_at, IsHeld, ref_at, is_reference, is_unlogged}
+use Rattle.std.proofs.Common.{◌≡◌, ℕ, ◌+◌, ◌<◌, ◌≤◌, inl, inr, false, true≢false, if◌then◌else◌, ◌&&◌, not, IsTrue, refl, sym, ap, ◌∙◌, subst, arith, None, slice_index}
+use Rattle.std.proofs.lemmas.Bool.{cases_Bool, cond-true, cond-false, and_parts, and_from, not_from_false}
+use Rattle.object_model.specs.Objects.{word_at, ref_at, is_reference, is_unlogged}
 use Rattle.object_model.specs.Ages as ages
 use Rattle.object_model.proofs.Marks as marks
-use Rattle.trace_core.specs.Setups.{Setup, IsReady, blocks, held, size, refs, is_old, is_logged, is_idle}
-use Rattle.trace_core.specs.Machine.{Stage, Unclaimed, Copying, Scanning, target, Machine, first_machine, first_stage, copied_word, claimed_word, forward, IsSettled, address_or_nil}
+use Rattle.trace_core.specs.Setups.{Setup, IsReady, held, refs, is_old, is_logged}
+use Rattle.trace_core.specs.Machine.{Unclaimed, Scanning, target, first_machine, first_stage, copied_word, forward, IsSettled, address_or_nil}
 use Rattle.trace_core.proofs.Steps.{copied-plain, copied-collector}
-use Rattle.trace_core.proofs.Objects.{UnclaimedObject, ScanningObject, ObjectIs, OldObject, KeepsObjects, None-not-Some}
+use Rattle.trace_core.proofs.Objects.{ScanningObject, ObjectIs, None-not-Some}
 use Rattle.trace_core.proofs.ObjectEvents.{Keeps}
 use Rattle.std.proofs.lemmas.Bool.{cases_eq}
 
@@ -36,7 +36,7 @@ module _ (p : Setup) (ready : IsReady p) where
       ]) in
       let met = ready.remembers (nursery-of x aged) x i (marks.held p.before x (held-of-old x aged)) (age-of x aged) unlogged more reference in
       and_from p.nursery (held p (ref_at p.before x i) && ages.is_old p.before (ref_at p.before x i)) (nursery-of x aged)
-          (and_from (held p (ref_at p.before x i)) (ages.is_old p.before (ref_at p.before x i)) met.0.start met.1)
+      (and_from (held p (ref_at p.before x i)) (ages.is_old p.before (ref_at p.before x i)) met.0.start met.1)
 
   old-settled : (x i : ℕ) → IsTrue (is_old p x) → is_logged p x ≡ false → i < refs p x → IsSettled (first_stage p) (ref_at p.before x i)
   old-settled x i aged idle more reference = let v : ℕ = ref_at p.before x i in (v, ap target (first-old v (remembered x i aged idle more reference)))

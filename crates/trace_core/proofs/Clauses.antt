@@ -1,21 +1,20 @@
 -- What the invariants say of a heap after a trace, clause by clause.
-use Rattle.std.proofs.Common.{◌≡◌, ◌≢◌, ℕ, ◌+◌, ◌-◌, ◌*◌, ◌/◌, ◌%◌, ◌<◌, ◌≤◌, ◌⊎◌, inl, inr, Bool, true, false, true≢false, if◌then◌else◌, cond, ◌&&◌, not, IsTrue, nat_eq, nat_lt, List, [], ◌∷◌, slice_index, refl, sym, ap, ◌∙◌, subst, arith, Option, Some, None, count_by}
+use Rattle.std.proofs.Common.{◌≡◌, ◌≢◌, ℕ, ◌+◌, ◌-◌, ◌/◌, ◌%◌, ◌<◌, ◌≤◌, ◌⊎◌, inl, inr, false, true≢false, if◌then◌else◌, ◌&&◌, not, IsTrue, nat_eq, nat_lt, List, slice_index, refl, sym, ap, ◌∙◌, subst, arith, Option, Some, None, count_by}
 use Rattle.std.specs.Prelude.{is_some}
 use Rattle.std.specs.Int.{bit_at}
-use Rattle.std.proofs.lemmas.Bool.{cases_eq, cases_lt, cases_Bool, cond-true, cond-false, and_parts, eqb-true, ltb-true, ne_eqb, eq-eqb, not_from_true, not_from_false, and_from, and_right, true_from_ne_false, false_from_ne_true}
-use Rattle.forward_word.specs.CollectorWords.{collector_word}
-use Rattle.heap_layout.specs.Zones.{StopWord, BudgetWord, InZone, StartBits, PinBits, UnlogBits, LineWords, row_words, heap_of, first, BlockWords, Globals, block_at, offset_at, address_bit, bit_of, IsAddress}
+use Rattle.std.proofs.lemmas.Bool.{cases_eq, cases_lt, cases_Bool, cond-true, cond-false, and_parts, eqb-true, ltb-true, ne_eqb, eq-eqb, not_from_true, not_from_false, and_from, and_right, false_from_ne_true}
+use Rattle.heap_layout.specs.Zones.{StopWord, BudgetWord, InZone, PinBits, row_words, heap_of, first, IsAddress}
 use Rattle.heap_layout.specs.declared.block.Kind.{Kind}
 use Rattle.heap_layout.specs.declared.block.Kind.TheVariants as kinds
 use Rattle.heap_layout.specs.Blocks.{kind_code, kind_of_code}
 use Rattle.heap_layout.proofs.BlockLemmas.{kind_of_code-kind_code, kind_code_most}
-use Rattle.object_model.specs.Objects.{HeapState, word_at, global_at, block_word, HasKind, IsHeld, IsInExtent, IsInExtentOf, ref_at, is_reference, is_unlogged, is_pinned, is_start}
+use Rattle.object_model.specs.Objects.{word_at, block_word, HasKind, IsHeld, IsInExtent, IsInExtentOf, ref_at, is_reference, is_unlogged, is_pinned}
 use Rattle.object_model.proofs.Marks as marks
-use Rattle.trace_core.specs.Setups.{Setup, IsReady, blocks, collection, held, size, refs, is_old, is_logged, is_idle, may_move}
+use Rattle.trace_core.specs.Setups.{Setup, blocks, held, size, refs, is_old, is_logged, is_idle, may_move}
 use Rattle.trace_core.specs.Machine.{Stage, Unclaimed, Copying, Scanning, target, Machine, Event, claimed_word, copied_word, step_of_offset, forward, IsSettled, taken_word, address_or_nil, first_stage, first_machine}
-use Rattle.trace_core.specs.Traces.{NoneIsFree, HasRoom, TouchesLine, IsTrace, Reaches, machine_after, heap_after, stage_of, target_of, fields_scanned, is_claim_of, is_scan_of}
+use Rattle.trace_core.specs.Traces.{HasRoom, IsTrace, machine_after, heap_after, stage_of, target_of, fields_scanned, is_claim_of, is_scan_of}
 use Rattle.trace_core.proofs.Steps.{copied-plain}
-use Rattle.trace_core.proofs.Objects.{IsPlaced, Intact, UnclaimedObject, CopyingObject, ScanningObject, ObjectIs, KeepsObjects, Some-injective, None-not-Some}
+use Rattle.trace_core.proofs.Objects.{IsPlaced, CopyingObject, ScanningObject, ObjectIs, Some-injective, None-not-Some}
 use Rattle.trace_core.proofs.Places as places
 use Rattle.trace_core.proofs.Beginning.{remembered, first-old, first-young}
 use Rattle.trace_core.proofs.Once.{one_if, targets-in, claims, scans}
@@ -63,10 +62,13 @@ module _ (p : Setup) (es : List Event) (trace : IsTrace p es) where
   extents-apart x y t i is there inside within =
       let a : t ≤ i = inside.from in let b : i < t + size p x = inside.below in let c : y ≤ i = within.from in let d : i < y + size p y = within.below in
       elim (cases_eq y x) as (λ _. (x ≡ y) × (t ≡ x)) [
-        | inl e ↦ (sym e, elim (placed x t is) as (λ _. t ≡ x) [
+        | inl e ↦ (
+          sym e,
+          elim (placed x t is) as (λ _. t ≡ x) [
             | inl same ↦ same
             | inr room ↦ absurd (places.room-clear p trace.ready m.words m.stage m.owner m.taken s.objects x t (i - t) y (i - y) room.0 (omega arith) there.start (omega arith) (omega arith))
-          ])
+          ],
+        )
         | inr differ ↦ absurd (target-apart x t (i - t) is (omega arith) y (i - y) there.start differ (omega arith) (omega arith))
       ]
 
@@ -89,12 +91,12 @@ module _ (p : Setup) (es : List Event) (trace : IsTrace p es) where
   waits-by x o l ne (Copying t k) is = inl (is.intact o l ne)
   waits-by x o l ne (Scanning t k) is = elim is.source as (λ _. Waits x o (Scanning t k)) [
     | inl same ↦ elim (cases_lt o 3) as (λ _. Waits x o (Scanning t k)) [
-        | inl early ↦ inl (is.header o (omega arith))
-        | inr late ↦ elim (cases_lt o (3 + k)) as (λ _. Waits x o (Scanning t k)) [
-            | inl scanned ↦ inr (k, ap (λ z. Scanning z k) same, omega arith, scanned)
-            | inr rest ↦ inl (ap (λ z. slice_index m.words (z + o)) (sym same) ∙ is.rest o l (inr (omega arith)) ∙ copied-plain p x t o ne)
-          ]
+      | inl early ↦ inl (is.header o (omega arith))
+      | inr late ↦ elim (cases_lt o (3 + k)) as (λ _. Waits x o (Scanning t k)) [
+        | inl scanned ↦ inr (k, ap (λ z. Scanning z k) same, omega arith, scanned)
+        | inr rest ↦ inl (ap (λ z. slice_index m.words (z + o)) (sym same) ∙ is.rest o l (inr (omega arith)) ∙ copied-plain p x t o ne)
       ]
+    ]
     | inr intact ↦ inl (intact o l ne)
   ]
 
@@ -199,7 +201,7 @@ module _ (p : Setup) (es : List Event) (trace : IsTrace p es) where
       ]
     where
       Some-kind : Some p.copy ≡ Some kinds.Free → p.copy ≡ kinds.Free
-      Some-kind e = ap (λ (o : Option Kind). (elim o as (λ _. Kind) [ | None ↦ kinds.Free | Some k ↦ k ])) e
+      Some-kind e = ap (λ (o : Option Kind). (elim o as (λ _. Kind) [ None ↦ kinds.Free | Some k ↦ k ])) e
 
   -- old objects
   pub old-target : (x : ℕ) → IsTrue (is_old p x) → target_of p es x ≡ Some x
@@ -234,7 +236,7 @@ module _ (p : Setup) (es : List Event) (trace : IsTrace p es) where
   taken-block-word b there some = s.sides.blocks.word b there ∙ cond-false (nat_eq (m.taken b) 0) (block_word p.before b) (taken_word p (m.taken b)) (ne_eqb (m.taken b) 0 (λ z. omega arith))
 
   pub stop-word : (i : ℕ) → InZone (blocks p) StopWord i ⊎ InZone (blocks p) BudgetWord i → word_at (heap_after p es) i ≡ word_at p.before i
-  stop-word i there = elim there as (λ _. word_at (heap_after p es) i ≡ word_at p.before i) [ | inl a ↦ s.sides.rest.stop i a | inr a ↦ s.sides.rest.budget i a ]
+  stop-word i there = elim there as (λ _. word_at (heap_after p es) i ≡ word_at p.before i) [ inl a ↦ s.sides.rest.stop i a | inr a ↦ s.sides.rest.budget i a ]
 
   -- counts
   pub claimed-once : (x : ℕ) → is_old p x ≡ false → count_by (is_claim_of x) es ≡ (if is_some (target_of p es x) then 1 else 0)

@@ -1,16 +1,14 @@
 -- What holds after every trace.
-use Rattle.std.proofs.Common.{◌≡◌, ◌≢◌, ℕ, ◌+◌, ◌-◌, ◌<◌, ◌≤◌, ◌⊎◌, inl, inr, Bool, true, false, true≢false, if◌then◌else◌, cond, ◌&&◌, not, IsTrue, nat_eq, nat_lt, List, [], ◌∷◌, slice_index, refl, sym, ap, ◌∙◌, subst, arith, Option, Some, None, count_by}
-use Rattle.std.proofs.lemmas.Bool.{cases_eq, cases_Bool, cond-true, cond-false, and_left, and_parts, not_from_true, and_right}
-use Rattle.heap_layout.specs.Zones.{StartBits, UnlogBits, row_words, first, BlockWords, Globals, address_bit}
-use Rattle.object_model.specs.Objects.{HeapState, word_at, global_at, block_word}
-use Rattle.trace_core.specs.Setups.{Setup, IsReady, blocks, held, size, refs, is_old, is_logged}
-use Rattle.trace_core.specs.Machine.{Stage, Unclaimed, Copying, Scanning, target, Machine, Event, Claim, Ask, Copy, Scan, SetGlobal, MarkLines, TakeBlock, next, first_stage, first_machine, forward}
+use Rattle.std.proofs.Common.{◌≡◌, ℕ, ◌⊎◌, inl, inr, false, true≢false, if◌then◌else◌, IsTrue, List, [], ◌∷◌, refl, sym, ◌∙◌, subst, arith}
+use Rattle.std.proofs.lemmas.Bool.{cases_Bool}
+use Rattle.heap_layout.specs.Zones.{StartBits, address_bit}
+use Rattle.trace_core.specs.Setups.{Setup, IsReady, blocks, held, refs, is_old, is_logged}
+use Rattle.trace_core.specs.Machine.{Stage, Unclaimed, Scanning, Machine, Event, next, first_stage, first_machine}
 use Rattle.trace_core.specs.Traces.{May, after, AreNext, IsTrace, machine_after}
-use Rattle.trace_core.proofs.Objects.{None-not-Some, KeepsObjects, ObjectIs}
 use Rattle.trace_core.proofs.ObjectEvents.{Keeps}
 use Rattle.trace_core.proofs.ObjectLaw.{object-event}
 use Rattle.trace_core.proofs.Beginning.{first-keeps, first-old, first-young, held-of-old}
-use Rattle.trace_core.proofs.Sides.{StartsAt, UnlogsAt, Somewhere, BitsAre, KeepsSides}
+use Rattle.trace_core.proofs.Sides.{StartsAt, UnlogsAt}
 use Rattle.trace_core.proofs.SideEvents.{Sides}
 use Rattle.trace_core.proofs.SideLaw.{side-event}
 use Rattle.trace_core.proofs.Reasons.{Reasons, reason-event, first-reasons}

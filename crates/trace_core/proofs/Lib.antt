@@ -12,3 +12,4 @@ mod Reasons
 mod Law
 mod Once
 mod Clauses
+mod WorkedTraces

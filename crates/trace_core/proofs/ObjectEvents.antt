@@ -1,17 +1,17 @@
 -- Each event keeps the invariant for objects.
-use Rattle.std.proofs.Common.{◌≡◌, ◌≢◌, ℕ, ◌+◌, ◌-◌, ◌*◌, ◌/◌, ◌%◌, ◌<◌, ◌≤◌, ◌⊎◌, inl, inr, Bool, true, false, true≢false, cond, ◌&&◌, not, IsTrue, nat_eq, nat_lt, List, length, slice_index, slice_set, refl, sym, ap, ◌∙◌, subst, arith, length-set, get_or-set_other, get_or-set_same, Option, Some, None, eq-eqb, ne_eqb, lt-ltb, ltb-false}
-use Rattle.std.proofs.lemmas.Bool.{cases_eq, cases_lt, cases_Bool, cond-true, cond-false, false_from_ne_true}
+use Rattle.std.proofs.Common.{◌≡◌, ◌≢◌, ℕ, ◌+◌, ◌<◌, ◌≤◌, ◌⊎◌, inl, inr, false, true≢false, IsTrue, List, slice_index, slice_set, refl, sym, ap, ◌∙◌, subst, arith, length-set, get_or-set_other, get_or-set_same, Some}
+use Rattle.std.proofs.lemmas.Bool.{cases_eq, cases_lt, cond-false, false_from_ne_true}
 use Rattle.forward_word.specs.CollectorWords.{collector_word}
-use Rattle.heap_layout.specs.Zones.{row_words, heap_of, block_at, offset_at, IsAddress}
+use Rattle.heap_layout.specs.Zones.{row_words, heap_of}
 use Rattle.heap_layout.specs.declared.block.Kind.TheVariants as kinds
-use Rattle.object_model.specs.Objects.{HeapState, word_at, HasKind, IsHeld, IsInExtentOf, ref_at}
-use Rattle.trace_core.specs.Setups.{Setup, IsReady, blocks, collection, held, size, refs, is_old, is_logged}
+use Rattle.object_model.specs.Objects.{word_at, HasKind, ref_at}
+use Rattle.trace_core.specs.Setups.{Setup, IsReady, blocks, collection, held, size, refs, is_old}
 use Rattle.trace_core.specs.Machine.{Stage, Unclaimed, Copying, Scanning, target, Machine, put, put_all, claimed_word, copied_word, step_of_offset, offset_of_step, forward, IsSettled}
 use Rattle.trace_core.specs.Traces.{HasRoom, Moves}
-use Rattle.trace_core.proofs.Puts.{put_here, put_else, all_here, all_else}
+use Rattle.trace_core.proofs.Puts.{put_here, all_here, all_else}
 use Rattle.trace_core.proofs.Steps.{step-inside, offset-inside, offset-of-step, offset-step, copied-plain, copied-collector}
-use Rattle.trace_core.proofs.Objects.{IsPlaced, Intact, UnclaimedObject, CopyingObject, ScanningObject, ObjectIs, OldObject, OwnedWord, KeepsObjects, Some-injective, None-not-Some, Grows, settled_grows, forward_grows, grows_put, moved, beside}
-use Rattle.trace_core.proofs.Places.{object-from, object-below, objects-apart, room-of, room-clear, owned-clear, owned-from, placed, target-apart, target-unowned, target-from, target-below}
+use Rattle.trace_core.proofs.Objects.{Intact, ObjectIs, OwnedWord, KeepsObjects, Some-injective, None-not-Some, Grows, settled_grows, forward_grows, grows_put, moved, beside}
+use Rattle.trace_core.proofs.Places.{object-from, object-below, objects-apart, room-of, room-clear, owned-clear, owned-from, target-apart, target-unowned, target-from, target-below}
 
 abbrev fields-of : Stage → ℕ
 fields-of (Scanning t k) = k
@@ -81,36 +81,40 @@ module _ (p : Setup) (ready : IsReady p) (m : Machine) (h : Keeps p m) (x : ℕ)
     pub claimed-to-move : Moves p m x t → (t ≢ x) × KeepsObjects p words (put m.stage x (Copying t 0)) (put_all m.owner t (size p x) (Some x)) m.taken
     claimed-to-move may =
         let n : ℕ = size p x in
-        let away : t ≢ x = λ e. room-clear p ready m.words m.stage m.owner m.taken h x t 0 x 0 may.room (omega arith) here (omega arith) (omega arith) in
-        (away, moved p m.words m.stage m.owner m.taken h x (x + 2) mark (Copying t 0) (put_all m.owner t (size p x) (Some x)) here
-        (λ u e. absurd (no-target u e))
-        (λ y o there ne l. objects-apart p ready y x o 2 there here ne l (omega arith))
-        (λ y a ne own e. owned-clear p ready m.words m.stage m.owner m.taken h a y x 2 own here (omega arith) (sym e))
-        (λ y a ne own. all_else m.owner t (Some x) n a (elim (cases_lt a t) as (λ _. (a < t) ⊎ (t + n ≤ a)) [
-            | inl before ↦ inl before
-            | inr from ↦ elim (cases_lt a (t + n)) as (λ _. (a < t) ⊎ (t + n ≤ a)) [
-                | inl below ↦ absurd (None-not-Some y (sym (may.unowned a (record { from = omega arith; below = below })) ∙ own))
-                | inr beyond ↦ inr (omega arith)
-              ]
-          ]) ∙ own)
-        (λ y a own. elim (cases_lt a t) as (λ _. (m.owner a ≡ Some y) ⊎ ((y ≡ x) × OwnedWord p (put m.stage x (Copying t 0)) x a)) [
-            | inl before ↦ inl (sym (all_else m.owner t (Some x) n a (inl before)) ∙ own)
-            | inr from ↦ elim (cases_lt a (t + n)) as (λ _. (m.owner a ≡ Some y) ⊎ ((y ≡ x) × OwnedWord p (put m.stage x (Copying t 0)) x a)) [
-                | inl below ↦ inr (Some-injective y x (sym own ∙ all_here m.owner t (Some x) n a (omega arith) below),
-                    record { at = t; same = ap target (put_here m.stage x (Copying t 0)); moved = away; from = omega arith; below = below })
-                | inr beyond ↦ inl (sym (all_else m.owner t (Some x) n a (inr (omega arith))) ∙ own)
-              ]
-          ])
-        (λ aged. absurd (true≢false (sym aged ∙ not-old)))
-        (record {
-          collector = word-here;
-          placed = inr (may.room, λ o l. all_here m.owner t (Some x) n (t + o) (omega arith) (omega arith));
-          young = not-old;
-          steps = omega arith;
-          in_place = λ e. absurd (away e);
-          intact = still;
-          copied = λ o l before. absurd (omega arith);
-        }))
+        let away : t ≢ x = λ e. room-clear p ready m.words m.stage m.owner m.taken h x t 0 x 0 may.room (omega arith) here (omega arith) (omega arith) in (
+          away,
+          moved p m.words m.stage m.owner m.taken h x (x + 2) mark (Copying t 0) (put_all m.owner t (size p x) (Some x)) here
+              (λ u e. absurd (no-target u e))
+              (λ y o there ne l. objects-apart p ready y x o 2 there here ne l (omega arith))
+              (λ y a ne own e. owned-clear p ready m.words m.stage m.owner m.taken h a y x 2 own here (omega arith) (sym e))
+              (λ y a ne own. all_else m.owner t (Some x) n a (elim (cases_lt a t) as (λ _. (a < t) ⊎ (t + n ≤ a)) [
+                | inl before ↦ inl before
+                | inr from ↦ elim (cases_lt a (t + n)) as (λ _. (a < t) ⊎ (t + n ≤ a)) [
+                  | inl below ↦ absurd (None-not-Some y (sym (may.unowned a (record { from = omega arith; below = below })) ∙ own))
+                  | inr beyond ↦ inr (omega arith)
+                ]
+              ]) ∙ own)
+              (λ y a own. elim (cases_lt a t) as (λ _. (m.owner a ≡ Some y) ⊎ ((y ≡ x) × OwnedWord p (put m.stage x (Copying t 0)) x a)) [
+                | inl before ↦ inl (sym (all_else m.owner t (Some x) n a (inl before)) ∙ own)
+                | inr from ↦ elim (cases_lt a (t + n)) as (λ _. (m.owner a ≡ Some y) ⊎ ((y ≡ x) × OwnedWord p (put m.stage x (Copying t 0)) x a)) [
+                  | inl below ↦ inr (
+                    Some-injective y x (sym own ∙ all_here m.owner t (Some x) n a (omega arith) below),
+                    record { at = t; same = ap target (put_here m.stage x (Copying t 0)); moved = away; from = omega arith; below = below },
+                  )
+                  | inr beyond ↦ inl (sym (all_else m.owner t (Some x) n a (inr (omega arith))) ∙ own)
+                ]
+              ])
+              (λ aged. absurd (true≢false (sym aged ∙ not-old)))
+              (record {
+                collector = word-here;
+                placed = inr (may.room, λ o l. all_here m.owner t (Some x) n (t + o) (omega arith) (omega arith));
+                young = not-old;
+                steps = omega arith;
+                in_place = λ e. absurd (away e);
+                intact = still;
+                copied = λ o l before. absurd (omega arith);
+              }),
+        )
 
   -- one step of copying the object at x
   module _ (t k : ℕ) (now : m.stage x ≡ Copying t k) where
@@ -246,9 +250,9 @@ module _ (p : Setup) (ready : IsReady p) (m : Machine) (h : Keeps p m) (x : ℕ)
         source = elim was.placed as (λ _. (t ≡ x) ⊎ Intact p (slice_index (slice_set m.words (t + 3 + k) (forward m.stage (ref_at p.before x k)))) (put m.stage x (Scanning t (k + 1))) m.owner m.taken x) [
           | inl same ↦ inl same
           | inr room ↦ elim was.source as (λ _. (t ≡ x) ⊎ Intact p (slice_index (slice_set m.words (t + 3 + k) (forward m.stage (ref_at p.before x k)))) (put m.stage x (Scanning t (k + 1))) m.owner m.taken x) [
-              | inl same ↦ inl same
-              | inr intact ↦ inr (λ o l ne. other (x + o) (λ e. room-clear p ready m.words m.stage m.owner m.taken h x t (3 + k) x o room.0 within here l (omega arith)) ∙ intact o l ne)
-            ]
+            | inl same ↦ inl same
+            | inr intact ↦ inr (λ o l ne. other (x + o) (λ e. room-clear p ready m.words m.stage m.owner m.taken h x t (3 + k) x o room.0 within here l (omega arith)) ∙ intact o l ne)
+          ]
         ];
         fields = omega arith;
         rest = λ o l w. elim w as (λ _. slice_index (slice_set m.words (t + 3 + k) (forward m.stage (ref_at p.before x k))) (t + o) ≡ copied_word p x t o) [

@@ -1,15 +1,15 @@
 -- Every event keeps the invariant for objects.
-use Rattle.std.proofs.Common.{◌≡◌, ◌≢◌, ℕ, ◌+◌, ◌-◌, ◌*◌, ◌/◌, ◌<◌, ◌≤◌, ◌⊎◌, inl, inr, Bool, true, false, true≢false, cond, if◌then◌else◌, ◌&&◌, not, IsTrue, nat_eq, nat_lt, List, slice_index, slice_set, refl, sym, ap, ◌∙◌, subst, arith, Option, Some, None}
-use Rattle.std.proofs.lemmas.Bool.{cases_eq, cases_lt, cases_Bool, cond-true, cond-false, lt-ltb, le-ltb, eq-eqb, ne_eqb, and_from, and_left, and_right, not_from_true, not_from_false, and_parts, ltb-true, eqb-true}
+use Rattle.std.proofs.Common.{◌≡◌, ◌≢◌, ℕ, ◌+◌, ◌*◌, ◌<◌, ◌≤◌, inl, inr, Bool, true, false, true≢false, if◌then◌else◌, ◌&&◌, not, IsTrue, nat_eq, nat_lt, List, slice_index, slice_set, sym, ap, ◌∙◌, subst, arith, Some}
+use Rattle.std.proofs.lemmas.Bool.{cases_eq, cases_lt, cases_Bool, cond-true, cond-false, lt-ltb, le-ltb, eq-eqb, ne_eqb, and_parts, ltb-true, eqb-true}
 use Rattle.std.proofs.lemmas.List.{set-get_or}
 use Rattle.forward_word.specs.CollectorWords.{collector_word}
-use Rattle.heap_layout.specs.Zones.{Globals, BlockWords, LineWords, StartBits, UnlogBits, first, row_words, heap_of, InZone, IsAddress}
+use Rattle.heap_layout.specs.Zones.{Globals, BlockWords, LineWords, StartBits, UnlogBits, first, row_words, heap_of, IsAddress}
 use Rattle.heap_layout.specs.declared.block.Kind.TheVariants as kinds
-use Rattle.object_model.specs.Objects.{HeapState, word_at, HasKind, ref_at}
-use Rattle.object_model.specs.BitWords.{bit_word, with_bit}
-use Rattle.trace_core.specs.Setups.{Setup, IsReady, blocks, collection, held, size, refs}
-use Rattle.trace_core.specs.Machine.{Stage, Unclaimed, Copying, Scanning, target, Machine, Event, Cause, Claim, Ask, Copy, Scan, SetGlobal, MarkLines, TakeBlock, put, put_all, copied_word, offset_of_step, copy_place, copy_value, copy_stage, scan_place, scan_value, scan_stage, next, first_machine}
-use Rattle.trace_core.specs.Traces.{Stays, Moves, May, after, AreNext}
+use Rattle.object_model.specs.Objects.{HasKind}
+use Rattle.object_model.specs.BitWords.{bit_word}
+use Rattle.trace_core.specs.Setups.{Setup, IsReady, blocks, collection, held, size}
+use Rattle.trace_core.specs.Machine.{Stage, Copying, Scanning, target, Machine, Event, Cause, Claim, Ask, Copy, Scan, SetGlobal, MarkLines, TakeBlock, put, put_all, copied_word, offset_of_step, copy_place, copy_value, copy_stage, scan_place, scan_value, scan_stage, next}
+use Rattle.trace_core.specs.Traces.{May}
 use Rattle.trace_core.proofs.Puts.{put_here, put_else}
 use Rattle.trace_core.proofs.Objects.{CopyingObject, ObjectIs, KeepsObjects}
 use Rattle.trace_core.proofs.Places.{held-of, target-from, target-below}

@@ -1,9 +1,9 @@
 -- The invariant for objects: what the words of each object are, at its old place and at its target, by its stage.
-use Rattle.std.proofs.Common.{◌≡◌, ◌≢◌, ℕ, ◌+◌, ◌-◌, ◌<◌, ◌≤◌, ◌⊎◌, inl, inr, Bool, true, false, true≢false, cond, IsTrue, not, nat_eq, nat_lt, List, length, slice_index, slice_set, refl, sym, ap, ◌∙◌, subst, arith, length-set, get_or-set_other, get_or-set_same, Option, Some, None}
-use Rattle.std.proofs.lemmas.Bool.{cases_eq, cases_lt, cases_Bool}
-use Rattle.heap_layout.specs.Zones.{row_words, heap_of, block_at, offset_at, IsAddress}
+use Rattle.std.proofs.Common.{◌≡◌, ◌≢◌, ℕ, ◌+◌, ◌<◌, ◌≤◌, ◌⊎◌, inl, inr, Bool, true, false, true≢false, cond, IsTrue, List, length, slice_index, slice_set, refl, sym, ap, ◌∙◌, subst, arith, length-set, get_or-set_other, Option, Some, None}
+use Rattle.std.proofs.lemmas.Bool.{cases_eq}
+use Rattle.heap_layout.specs.Zones.{row_words, block_at}
 use Rattle.heap_layout.specs.declared.block.Kind.TheVariants as kinds
-use Rattle.object_model.specs.Objects.{HeapState, word_at, HasKind, IsHeld, ref_at}
+use Rattle.object_model.specs.Objects.{word_at, HasKind, ref_at}
 use Rattle.trace_core.specs.Setups.{Setup, blocks, held, size, refs, is_old, is_logged}
 use Rattle.trace_core.specs.Machine.{Stage, Unclaimed, Copying, Scanning, target, put, claimed_word, copied_word, step_of_offset, forward, IsSettled, address_or_nil}
 use Rattle.trace_core.specs.Traces.{HasRoom}
@@ -74,7 +74,7 @@ pub Some-injective : (a b : ℕ) → Some a ≡ Some b → a ≡ b
 Some-injective a b e = ap address_or_nil e
 
 pub None-not-Some : (a : ℕ) → None ≡ Some a → ⊥
-None-not-Some a e = let f : Option ℕ → Bool = λ o. (elim o as (λ _. Bool) [ | None ↦ false | Some v ↦ true ]) in true≢false (sym (ap f e))
+None-not-Some a e = let f : Option ℕ → Bool = λ o. (elim o as (λ _. Bool) [ None ↦ false | Some v ↦ true ]) in true≢false (sym (ap f e))
 
 -- a target stays
 abbrev pub Grows : (ℕ → Stage) → (ℕ → Stage) → Type 0
@@ -177,9 +177,9 @@ module _ (p : Setup) (words : List ℕ) (stage : ℕ → Stage) (owner : ℕ →
               (subst (ObjectIs p (slice_index words') stage' owner' taken x) (sym new_stage) mine)
           | inr ne ↦ subst (ObjectIs p (slice_index words') stage' owner' taken y) (sym (put_else stage x new y ne))
               (others p (slice_index words) (slice_index words') stage stage' owner owner' taken taken y
-                (λ o l. get_or-set_other words i (y + o) v 0 (apart y o there ne l))
-                (λ a own. get_or-set_other words i a v 0 (unowned y a ne own))
-                (λ a own. owns y a ne own) (λ b some. some) grows (stage y) (h.objects y there))
+              (λ o l. get_or-set_other words i (y + o) v 0 (apart y o there ne l))
+              (λ a own. get_or-set_other words i a v 0 (unowned y a ne own))
+              (λ a own. owns y a ne own) (λ b some. some) grows (stage y) (h.objects y there))
         ];
         outside = λ y none. put_else stage x new y (λ e. true≢false (sym (sym none ∙ ap (held p) e ∙ inside))) ∙ h.outside y none;
         old = λ y aged. elim (cases_eq y x) as (λ _. OldObject p stage' y) [

@@ -1,10 +1,10 @@
 -- Each object is claimed once, and each of its fields is scanned once.
-use Rattle.std.proofs.Common.{◌≡◌, ◌≢◌, ℕ, ◌+◌, ◌-◌, ◌<◌, ◌≤◌, inl, inr, Bool, true, false, true≢false, if◌then◌else◌, cond, ◌&&◌, not, IsTrue, nat_eq, nat_lt, List, [], ◌∷◌, refl, sym, ap, ◌∙◌, subst, arith, Option, Some, None, count_by}
+use Rattle.std.proofs.Common.{◌≡◌, ℕ, ◌+◌, inl, inr, Bool, if◌then◌else◌, ◌&&◌, not, nat_eq, nat_lt, List, [], ◌∷◌, refl, sym, ap, ◌∙◌, arith, count_by}
 use Rattle.std.specs.Prelude.{is_some}
 use Rattle.std.proofs.lemmas.Bool.{cases_eq, cases_Bool, cond-true, cond-false, eq-eqb, ne_eqb}
 use Rattle.std.proofs.lemmas.List.Sums.{sum_by-cons}
 use Rattle.trace_core.specs.Setups.{Setup, size}
-use Rattle.trace_core.specs.Machine.{Stage, Unclaimed, Copying, Scanning, target, Machine, Event, Cause, Claim, Ask, Copy, Scan, SetGlobal, MarkLines, TakeBlock, put, copy_stage, scan_stage, next}
+use Rattle.trace_core.specs.Machine.{Stage, Copying, Scanning, target, Machine, Event, Claim, Ask, Copy, Scan, SetGlobal, MarkLines, TakeBlock, put, copy_stage, scan_stage, next}
 use Rattle.trace_core.specs.Traces.{May, after, AreNext, fields_scanned, is_claim_of, is_scan_of}
 use Rattle.trace_core.proofs.Puts.{put_here, put_else}
 
@@ -35,9 +35,9 @@ module _ (f : Stage → ℕ) (p : Setup) (x t k : ℕ) (to : f (Copying t (k + 1
   copied-count = elim (cases_Bool (nat_lt k (size p x))) as (λ _. f (copy_stage p x (Copying t k)) ≡ f (Copying t k)) [
     | inl e ↦ ap f (cond-true (nat_lt k (size p x)) (Copying t (k + 1)) _ e) ∙ to
     | inr e ↦ ap f (cond-false (nat_lt k (size p x)) (Copying t (k + 1)) _ e) ∙ elim (cases_Bool (nat_eq k (size p x) && not (nat_eq t x))) as (λ _. f (if nat_eq k (size p x) && not (nat_eq t x) then Copying t (k + 1) else Scanning t 0) ≡ f (Copying t k)) [
-        | inl d ↦ ap f (cond-true (nat_eq k (size p x) && not (nat_eq t x)) (Copying t (k + 1)) (Scanning t 0) d) ∙ to
-        | inr d ↦ ap f (cond-false (nat_eq k (size p x) && not (nat_eq t x)) (Copying t (k + 1)) (Scanning t 0) d) ∙ end
-      ]
+      | inl d ↦ ap f (cond-true (nat_eq k (size p x) && not (nat_eq t x)) (Copying t (k + 1)) (Scanning t 0) d) ∙ to
+      | inr d ↦ ap f (cond-false (nat_eq k (size p x) && not (nat_eq t x)) (Copying t (k + 1)) (Scanning t 0) d) ∙ end
+    ]
   ]
 
 module _ (p : Setup) (x : ℕ) where
@@ -64,8 +64,8 @@ module _ (p : Setup) (x : ℕ) where
       (λ e. ap (λ st. fields_scanned (copy_stage p y st)) may.2 ∙ copied-count fields_scanned p y may.0 may.1 refl refl ∙ sym (ap fields_scanned may.2) ∙ ap (λ z. fields_scanned (m.stage z)) e)
   scan-count m (Scan y) may = put-count fields_scanned m.stage x y (scan_stage (m.stage y))
       (λ e. (let one : one_if (nat_eq y x) ≡ 1 = ap one_if (eq-eqb y x e) in
-          let now : fields_scanned (scan_stage (m.stage y)) ≡ may.1 + 1 = ap (λ st. fields_scanned (scan_stage st)) may.2 in
-          let was : fields_scanned (m.stage x) ≡ may.1 = ap (λ z. fields_scanned (m.stage z)) (sym e) ∙ ap fields_scanned may.2 in omega arith))
+      let now : fields_scanned (scan_stage (m.stage y)) ≡ may.1 + 1 = ap (λ st. fields_scanned (scan_stage st)) may.2 in
+      let was : fields_scanned (m.stage x) ≡ may.1 = ap (λ z. fields_scanned (m.stage z)) (sym e) ∙ ap fields_scanned may.2 in omega arith))
   scan-count m (SetGlobal g) may = plus-none (fields_scanned (m.stage x))
   scan-count m (MarkLines y word mask) may = plus-none (fields_scanned (m.stage x))
   scan-count m (TakeBlock b w) may = plus-none (fields_scanned (m.stage x))

@@ -1,15 +1,15 @@
 -- Words of held objects, of targets, and of the side metadata are apart.
-use Rattle.std.proofs.Common.{◌≡◌, ◌≢◌, ℕ, ◌+◌, ◌-◌, ◌*◌, ◌/◌, ◌%◌, ◌<◌, ◌≤◌, ◌⊎◌, inl, inr, Bool, true, false, true≢false, IsTrue, List, slice_index, refl, sym, ap, ◌∙◌, subst, arith, Option, Some, None}
-use Rattle.std.proofs.lemmas.Bool.{cases_eq, true_from_ne_false}
+use Rattle.std.proofs.Common.{◌≡◌, ◌≢◌, ℕ, ◌+◌, ◌-◌, ◌<◌, ◌≤◌, inl, inr, IsTrue, List, slice_index, sym, ap, ◌∙◌, subst, arith, Option, Some}
+use Rattle.std.proofs.lemmas.Bool.{true_from_ne_false}
 use Rattle.heap_layout.specs.Zones.{row_words, heap_of, block_at, offset_at, IsAddress}
 use Rattle.heap_layout.specs.declared.block.Kind.TheVariants as kinds
-use Rattle.object_model.specs.Objects.{HeapState, word_at, HasKind, IsHeld, size_at}
+use Rattle.object_model.specs.Objects.{HasKind, IsHeld}
 use Rattle.object_model.proofs.Marks as marks
 use Rattle.object_model.proofs.ObjectReads.{in_row}
-use Rattle.trace_core.specs.Setups.{Setup, IsReady, blocks, held, size, refs, is_old}
+use Rattle.trace_core.specs.Setups.{Setup, IsReady, blocks, held, size}
 use Rattle.trace_core.specs.Machine.{Stage, Unclaimed, Copying, Scanning, target}
 use Rattle.trace_core.specs.Traces.{HasRoom}
-use Rattle.trace_core.proofs.Objects.{IsPlaced, ObjectIs, KeepsObjects, OwnedWord, Some-injective, None-not-Some}
+use Rattle.trace_core.proofs.Objects.{IsPlaced, ObjectIs, KeepsObjects, Some-injective, None-not-Some}
 
 module _ (p : Setup) (ready : IsReady p) where
   held-at : (x : ℕ) → IsTrue (held p x) → IsHeld p.before x
@@ -33,7 +33,7 @@ module _ (p : Setup) (ready : IsReady p) where
       let from : heap_of (blocks p) ≤ t = address.from in
       let same : block_at (blocks p) (t + o) ≡ block_at (blocks p) t = omega arith in
       (ready.lawful.free (block_at (blocks p) t) free).empty y (y + j) (held-at y there) (record { from = omega arith; below = omega arith })
-          (ap (block_at (blocks p)) e ∙ same)
+      (ap (block_at (blocks p)) e ∙ same)
 
 module _ (p : Setup) (ready : IsReady p) (words : List ℕ) (stage : ℕ → Stage) (owner : ℕ → Option ℕ) (taken : ℕ → ℕ) (h : KeepsObjects p words stage owner taken) where
   abbrev Placed : ℕ → ℕ → Type 0
@@ -52,7 +52,7 @@ module _ (p : Setup) (ready : IsReady p) (words : List ℕ) (stage : ℕ → Sta
   placed x t e = placed-at x t (stage x) (h.objects x (held-of x t e)) e
 
   pub room-of : (x t : ℕ) → Placed x t → t ≢ x → HasRoom p taken x t
-  room-of x t at moved = elim at as (λ _. HasRoom p taken x t) [ | inl e ↦ absurd (moved e) | inr room ↦ room.0 ]
+  room-of x t at moved = elim at as (λ _. HasRoom p taken x t) [ inl e ↦ absurd (moved e) | inr room ↦ room.0 ]
 
   -- no word of the room of a moved object is a word of a held object
   pub room-clear : (x t o y j : ℕ) → HasRoom p taken x t → o < size p x → IsTrue (held p y) → j < size p y → y + j ≢ t + o

@@ -1,6 +1,6 @@
 -- A function changed at one place, or at a range of places.
-use Rattle.std.proofs.Common.{◌≡◌, ◌≢◌, ℕ, ◌+◌, ◌<◌, ◌≤◌, ◌⊎◌, inl, inr, Bool, true, false, ◌&&◌, nat_le, nat_lt, nat_eq, eq-eqb, ne_eqb, refl, ap, ◌∙◌, arith}
-use Rattle.std.proofs.lemmas.Bool.{le-leb, lt-ltb, lt-leb, le-ltb, cond-true, cond-false, and_from, and_left, and_right, cases_lt}
+use Rattle.std.proofs.Common.{◌≡◌, ◌≢◌, ℕ, ◌+◌, ◌<◌, ◌≤◌, ◌⊎◌, inl, inr, false, ◌&&◌, nat_le, nat_lt, nat_eq, eq-eqb, ne_eqb, refl, arith}
+use Rattle.std.proofs.lemmas.Bool.{le-leb, lt-ltb, lt-leb, le-ltb, cond-true, cond-false, and_from, and_left, and_right}
 use Rattle.trace_core.specs.Machine.{put, put_all}
 
 module _ {B : Type 0} (f : ℕ → B) (a : ℕ) (b : B) where

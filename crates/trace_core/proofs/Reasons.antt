@@ -1,16 +1,15 @@
 -- The invariant for reasons: a root or a path leads to each object that has a target, and an object that could have moved
 -- is in place only where no block is Free.
-use Rattle.std.proofs.Common.{◌≡◌, ◌≢◌, ℕ, ◌+◌, ◌<◌, ◌≤◌, ◌⊎◌, inl, inr, Bool, true, false, true≢false, if◌then◌else◌, cond, ◌&&◌, not, IsTrue, nat_eq, nat_lt, refl, sym, ap, ◌∙◌, subst, arith, Option, Some, None}
-use Rattle.std.proofs.lemmas.Bool.{cases_eq, cases_Bool, cond-true, cond-false, ne_eqb, not_from_false, and_parts}
+use Rattle.std.proofs.Common.{◌≡◌, ℕ, ◌+◌, ◌<◌, ◌≤◌, inl, inr, false, if◌then◌else◌, ◌&&◌, not, IsTrue, nat_eq, nat_lt, sym, ap, ◌∙◌, subst, arith, Some}
+use Rattle.std.proofs.lemmas.Bool.{cases_eq, cases_Bool, cond-true, cond-false, ne_eqb, not_from_false}
 use Rattle.heap_layout.specs.Zones.{heap_of}
-use Rattle.heap_layout.specs.declared.block.Kind.TheVariants as kinds
-use Rattle.object_model.specs.Objects.{HasKind, global_at, ref_at, is_reference}
-use Rattle.trace_core.specs.Setups.{Setup, IsReady, blocks, held, size, refs, is_old, is_logged, may_move}
-use Rattle.trace_core.specs.Machine.{Stage, Unclaimed, Copying, Scanning, target, Machine, Event, Cause, ByRoot, ByGlobal, ByField, Claim, Ask, Copy, Scan, SetGlobal, MarkLines, TakeBlock, put, copy_stage, scan_stage, asked_after, stage_after, taken_after, next, first_stage, first_machine}
-use Rattle.trace_core.specs.Traces.{NoneIsFree, IsAskedBy, Stays, Moves, May, Reaches, FromRoot, FromGlobal, FromOld, ByReference}
+use Rattle.object_model.specs.Objects.{is_reference}
+use Rattle.trace_core.specs.Setups.{Setup, IsReady, blocks, held, size, is_old, may_move}
+use Rattle.trace_core.specs.Machine.{Stage, Copying, Scanning, target, Machine, Event, Cause, ByRoot, ByGlobal, ByField, Claim, Ask, Copy, Scan, SetGlobal, MarkLines, TakeBlock, put, copy_stage, scan_stage, asked_after, next, first_machine}
+use Rattle.trace_core.specs.Traces.{NoneIsFree, IsAskedBy, May, Reaches, FromRoot, FromGlobal, FromOld, ByReference}
 use Rattle.trace_core.proofs.Puts.{put_here, put_else}
 use Rattle.trace_core.proofs.Objects.{Some-injective, None-not-Some, Grows, grows_put}
-use Rattle.trace_core.proofs.Places.{object-from, held-of}
+use Rattle.trace_core.proofs.Places.{object-from}
 use Rattle.trace_core.proofs.ObjectEvents.{Keeps, claimed-to-move}
 use Rattle.trace_core.proofs.Beginning.{first-young}
 
@@ -72,10 +71,10 @@ module _ (p : Setup) (ready : IsReady p) (m : Machine) (h : Keeps p m) (r : Reas
         ];
         stays = λ y is young moves. elim (cases_eq y x) as (λ _. NoneIsFree p m.taken) [
           | inl e ↦ elim may.3 as (λ _. NoneIsFree p m.taken) [
-              | inl stays ↦ stays.reason (subst (λ z. IsTrue (may_move p z)) e moves)
-              | inr room ↦ absurd ((claimed-to-move p ready m h x may.0 may.1 t room).0
-                  (Some-injective t x (sym (ap target (put_here m.stage x (Copying t k))) ∙ ap (λ z. target (put m.stage x (Copying t k) z)) (sym e) ∙ is ∙ ap Some e)))
-            ]
+            | inl stays ↦ stays.reason (subst (λ z. IsTrue (may_move p z)) e moves)
+            | inr room ↦ absurd ((claimed-to-move p ready m h x may.0 may.1 t room).0
+                (Some-injective t x (sym (ap target (put_here m.stage x (Copying t k))) ∙ ap (λ z. target (put m.stage x (Copying t k) z)) (sym e) ∙ is ∙ ap Some e)))
+          ]
           | inr ne ↦ r.stays y (sym (ap target (put_else m.stage x (Copying t k) y ne)) ∙ is) young moves
         ];
       }
@@ -98,9 +97,9 @@ module _ (p : Setup) (ready : IsReady p) (m : Machine) (h : Keeps p m) (r : Reas
   copied-target x t k = elim (cases_Bool (nat_lt k (size p x))) as (λ _. target (copy_stage p x (Copying t k)) ≡ Some t) [
     | inl e ↦ ap target (cond-true (nat_lt k (size p x)) (Copying t (k + 1)) _ e)
     | inr e ↦ ap target (cond-false (nat_lt k (size p x)) (Copying t (k + 1)) _ e) ∙ (elim (cases_Bool (nat_eq k (size p x) && not (nat_eq t x))) as (λ _. target (if nat_eq k (size p x) && not (nat_eq t x) then Copying t (k + 1) else Scanning t 0) ≡ Some t) [
-        | inl d ↦ ap target (cond-true (nat_eq k (size p x) && not (nat_eq t x)) (Copying t (k + 1)) (Scanning t 0) d)
-        | inr d ↦ ap target (cond-false (nat_eq k (size p x) && not (nat_eq t x)) (Copying t (k + 1)) (Scanning t 0) d)
-      ])
+      | inl d ↦ ap target (cond-true (nat_eq k (size p x) && not (nat_eq t x)) (Copying t (k + 1)) (Scanning t 0) d)
+      | inr d ↦ ap target (cond-false (nat_eq k (size p x) && not (nat_eq t x)) (Copying t (k + 1)) (Scanning t 0) d)
+    ])
   ]
 
   pub reason-event : (e : Event) → May p m e → Reasons p (next p m e)

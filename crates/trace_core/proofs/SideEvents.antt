@@ -1,23 +1,18 @@
 -- Each event keeps the invariant for side metadata and globals.
-use Rattle.std.proofs.Common.{◌≡◌, ◌≢◌, ℕ, ◌+◌, ◌-◌, ◌*◌, ◌/◌, ◌%◌, ◌^◌, ◌<◌, ◌≤◌, ◌⊎◌, inl, inr, Bool, true, false, true≢false, if◌then◌else◌, cond, ◌&&◌, not, IsTrue, nat_eq, nat_lt, List, length, slice_index, slice_set, bit_or, refl, sym, ap, ◌∙◌, subst, arith, get_or-set_other, get_or-set_same, Option, Some, None}
-use Rattle.std.specs.Int.{bit_at}
-use Rattle.std.proofs.lemmas.Bool.{cases_eq, cases_lt, cases_Bool, cond-true, cond-false, lt-ltb, le-ltb, eq-eqb, ne_eqb, eqb-true, and_parts, ltb-true}
-use Rattle.std.proofs.lemmas.List.{set-get_or}
-use Rattle.std.proofs.lemmas.Nat.Bits.{bit_at_or}
+use Rattle.std.proofs.Common.{◌≡◌, ℕ, ◌+◌, ◌*◌, ◌<◌, ◌≤◌, ◌⊎◌, inl, inr, if◌then◌else◌, IsTrue, nat_eq, slice_index, slice_set, refl, sym, ap, ◌∙◌, subst, arith, Some}
+use Rattle.std.proofs.lemmas.Bool.{cases_eq, cases_Bool, cond-true, cond-false}
 use Rattle.forward_word.specs.CollectorWords.{collector_word}
-use Rattle.heap_layout.specs.Zones.{Zone, StopWord, BudgetWord, Globals, BlockWords, LineWords, StartBits, PinBits, UnlogBits, HeapWords, first, extent, row_words, heap_of, InZone, IsAddress, bit_of, address_bit}
-use Rattle.heap_layout.specs.declared.block.Kind.TheVariants as kinds
-use Rattle.object_model.specs.Objects.{HeapState, word_at, global_at, block_word, HasKind, ref_at}
+use Rattle.heap_layout.specs.Zones.{Zone, StopWord, BudgetWord, Globals, BlockWords, LineWords, StartBits, PinBits, UnlogBits, HeapWords, extent, row_words, heap_of, InZone, IsAddress, address_bit}
 use Rattle.object_model.specs.BitWords.{bit_word, bit_place, with_bit}
-use Rattle.trace_core.specs.Setups.{Setup, IsReady, blocks, collection, held, size, refs, is_old}
-use Rattle.trace_core.specs.Machine.{Stage, Unclaimed, Copying, Scanning, target, Machine, Event, Cause, Claim, Ask, Copy, Scan, SetGlobal, MarkLines, TakeBlock, put, copied_word, offset_of_step, copy_place, copy_value, copy_stage, scan_place, scan_value, scan_stage, forward, IsSettled, taken_word, next}
-use Rattle.trace_core.specs.Traces.{May, TouchesLine}
+use Rattle.trace_core.specs.Setups.{Setup, IsReady, blocks, collection, held, size, refs}
+use Rattle.trace_core.specs.Machine.{Stage, Unclaimed, Copying, Scanning, target, Machine, Cause, Claim, put, offset_of_step, next}
+use Rattle.trace_core.specs.Traces.{May}
 use Rattle.trace_core.proofs.Puts.{put_here, put_else}
 use Rattle.trace_core.proofs.Steps.{step-inside}
-use Rattle.trace_core.proofs.Objects.{CopyingObject, ScanningObject, ObjectIs, KeepsObjects, Grows, grows_put, None-not-Some}
+use Rattle.trace_core.proofs.Objects.{CopyingObject, ScanningObject, ObjectIs, Grows, grows_put, None-not-Some}
 use Rattle.trace_core.proofs.Places.{object-from, object-below, held-of, target-from, target-below}
 use Rattle.trace_core.proofs.ObjectEvents.{Keeps}
-use Rattle.trace_core.proofs.Sides.{SameZone, other-zone, StartsAt, UnlogsAt, Somewhere, BitsAre, LinesAre, BlocksAre, GlobalsAre, RestIs, KeepsSides, bits-stay, lines-stay, blocks-stay, globals-stay, rest-stays, bit-sets, somewhere-to, somewhere-back}
+use Rattle.trace_core.proofs.Sides.{SameZone, other-zone, StartsAt, UnlogsAt, Somewhere, BitsAre, KeepsSides, bits-stay, lines-stay, blocks-stay, globals-stay, rest-stays, bit-sets, somewhere-to, somewhere-back}
 
 abbrev pub Sides : Setup → Machine → Type 0
 Sides p m = KeepsSides p m.words m.stage m.taken m.set

@@ -1,20 +1,18 @@
 -- Every event keeps the invariant for side metadata and globals.
-use Rattle.std.proofs.Common.{◌≡◌, ◌≢◌, ℕ, ◌+◌, ◌-◌, ◌*◌, ◌/◌, ◌%◌, ◌^◌, ◌<◌, ◌≤◌, ◌⊎◌, inl, inr, Bool, true, false, true≢false, if◌then◌else◌, cond, ◌&&◌, not, IsTrue, nat_eq, nat_lt, List, length, slice_index, slice_set, bit_or, refl, sym, ap, ◌∙◌, subst, arith, get_or-set_other, get_or-set_same, Option, Some, None}
+use Rattle.std.proofs.Common.{◌≡◌, ◌≢◌, ℕ, ◌+◌, ◌*◌, ◌/◌, ◌%◌, ◌<◌, ◌≤◌, ◌⊎◌, inl, inr, true, false, if◌then◌else◌, ◌&&◌, not, IsTrue, nat_eq, nat_lt, List, slice_index, slice_set, bit_or, refl, sym, ap, ◌∙◌, subst, arith, get_or-set_other, get_or-set_same, Some}
 use Rattle.std.specs.Int.{bit_at}
-use Rattle.std.proofs.lemmas.Bool.{cases_eq, cases_lt, cases_Bool, cond-true, cond-false, lt-ltb, le-ltb, eq-eqb, ne_eqb, eqb-true, and_parts, ltb-true, and_from, not_from_false}
+use Rattle.std.proofs.lemmas.Bool.{cases_eq, cases_lt, cond-true, cond-false, lt-ltb, le-ltb, eq-eqb, ne_eqb, eqb-true, and_parts, ltb-true}
 use Rattle.std.proofs.lemmas.List.{set-get_or}
 use Rattle.std.proofs.lemmas.Nat.Bits.{bit_at_or, bit_at-lt}
-use Rattle.heap_layout.specs.Zones.{Zone, StopWord, BudgetWord, Globals, BlockWords, LineWords, StartBits, PinBits, UnlogBits, HeapWords, first, extent, row_words, heap_of, InZone, IsAddress, bit_of}
-use Rattle.heap_layout.specs.declared.block.Kind.TheVariants as kinds
-use Rattle.object_model.specs.Objects.{HeapState, word_at, global_at, block_word, HasKind, ref_at}
+use Rattle.heap_layout.specs.Zones.{Zone, StopWord, BudgetWord, Globals, BlockWords, LineWords, StartBits, PinBits, UnlogBits, first, InZone, bit_of}
+use Rattle.object_model.specs.Objects.{global_at, block_word, ref_at}
 use Rattle.object_model.specs.BitWords.{bit_word, bit_place, with_bit}
-use Rattle.trace_core.specs.Setups.{Setup, IsReady, blocks, held, size, refs, is_old}
-use Rattle.trace_core.specs.Machine.{Stage, Unclaimed, Copying, Scanning, target, Machine, Event, Cause, Claim, Ask, Copy, Scan, SetGlobal, MarkLines, TakeBlock, put, copied_word, offset_of_step, copy_place, copy_value, copy_stage, scan_place, scan_value, scan_stage, forward, IsSettled, taken_word, next, first_machine}
+use Rattle.trace_core.specs.Setups.{Setup, IsReady, blocks, held, size}
+use Rattle.trace_core.specs.Machine.{Stage, Copying, Scanning, target, Machine, Event, Claim, Ask, Copy, Scan, SetGlobal, MarkLines, TakeBlock, put, copied_word, offset_of_step, copy_place, copy_value, copy_stage, scan_place, scan_value, scan_stage, forward, IsSettled, taken_word, next}
 use Rattle.trace_core.specs.Traces.{May, TouchesLine}
 use Rattle.trace_core.proofs.Puts.{put_here, put_else}
-use Rattle.trace_core.proofs.Objects.{KeepsObjects, Grows}
 use Rattle.trace_core.proofs.ObjectEvents.{Keeps}
-use Rattle.trace_core.proofs.Sides.{SameZone, other-zone, StartsAt, UnlogsAt, Somewhere, BitsAre, LinesAre, BlocksAre, GlobalsAre, RestIs, KeepsSides, bits-stay, lines-stay, blocks-stay, globals-stay, rest-stays}
+use Rattle.trace_core.proofs.Sides.{SameZone, other-zone, StartsAt, UnlogsAt, Somewhere, BitsAre, LinesAre, GlobalsAre, KeepsSides, bits-stay, lines-stay, blocks-stay, globals-stay, rest-stays}
 use Rattle.trace_core.proofs.SideEvents.{Sides, claim-side, scan-side, copy-word-side, unlog-side, start-side, was, here}
 
 abbrev S : Setup → Machine → List ℕ → (ℕ → Stage) → Type 0
@@ -61,11 +59,11 @@ module _ (p : Setup) (ready : IsReady p) (m : Machine) (h : Keeps p m) (s : Side
           unlog-step x t k now full = elim (cases_eq t x) as (λ _. S p m (stored-at t (bit_word (blocks p) UnlogBits t)) (put m.stage x (if not (nat_eq t x) then Copying t (k + 1) else Scanning t 0))) [
             | inl same ↦ subst (λ b. S p m (stored-at t (bit_word (blocks p) UnlogBits t)) (put m.stage x (if not b then Copying t (k + 1) else Scanning t 0))) (sym (eq-eqb t x same))
                 (unlog-side p ready m h s x t k now full (Scanning t 0) refl (λ a none. absurd none)
-                  (λ a is. (is, subst (λ y. IsTrue (held p y)) (sym same ∙ is) (here p ready m h s x t k now)))
-                  (refl, (was p ready m h s x t k now).young) (λ a some. some.0))
+                (λ a is. (is, subst (λ y. IsTrue (held p y)) (sym same ∙ is) (here p ready m h s x t k now)))
+                (refl, (was p ready m h s x t k now).young) (λ a some. some.0))
             | inr away ↦ subst (λ b. S p m (stored-at t (bit_word (blocks p) UnlogBits t)) (put m.stage x (if not b then Copying t (k + 1) else Scanning t 0))) (sym (ne_eqb t x away))
                 (unlog-side p ready m h s x t k now full (Copying t (k + 1)) refl (λ a none. none) (λ a none. absurd none)
-                  (refl, omega arith) (λ a some. some.0))
+                (refl, omega arith) (λ a some. some.0))
           ]
 
   after-copy : (x : ℕ) → May p m (Copy x) → Sides p (next p m (Copy x))
@@ -141,7 +139,7 @@ module _ (p : Setup) (ready : IsReady p) (m : Machine) (h : Keeps p m) (s : Side
           word = λ c l. elim (cases_eq c b) as (λ _. slice_index (slice_set m.words i v) (first (blocks p) BlockWords + c) ≡ (if nat_eq (put m.taken b w c) 0 then block_word p.before c else taken_word p (put m.taken b w c))) [
             | inl e ↦ ap (λ z. slice_index (slice_set m.words i v) (first (blocks p) BlockWords + z)) e ∙ get_or-set_same m.words i v 0 (omega arith)
                 ∙ sym (ap (λ n. if nat_eq n 0 then block_word p.before c else taken_word p n) (ap (put m.taken b w) e ∙ put_here m.taken b w)
-                  ∙ cond-false (nat_eq w 0) (block_word p.before c) (taken_word p w) (ne_eqb w 0 (λ z. omega arith)))
+                ∙ cond-false (nat_eq w 0) (block_word p.before c) (taken_word p w) (ne_eqb w 0 (λ z. omega arith)))
             | inr ne ↦ get_or-set_other m.words i (first (blocks p) BlockWords + c) v 0 (let differ : c ≢ b = ne in λ same. differ (omega arith)) ∙ s.blocks.word c l
                 ∙ ap (λ n. if nat_eq n 0 then block_word p.before c else taken_word p n) (sym (put_else m.taken b w c ne))
           ];

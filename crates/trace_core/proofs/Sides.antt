@@ -1,15 +1,15 @@
 -- The invariant for side metadata and globals, and what keeps each part of it.
-use Rattle.std.proofs.Common.{◌≡◌, ◌≢◌, ℕ, ◌+◌, ◌-◌, ◌*◌, ◌/◌, ◌%◌, ◌^◌, ◌<◌, ◌≤◌, ◌⊎◌, inl, inr, Bool, true, false, true≢false, if◌then◌else◌, cond, IsTrue, nat_eq, List, length, slice_index, slice_set, bit_or, refl, sym, ap, ◌∙◌, subst, arith, get_or-set_other, get_or-set_same, Option, Some, None}
+use Rattle.std.proofs.Common.{◌≡◌, ◌≢◌, ℕ, ◌+◌, ◌-◌, ◌*◌, ◌/◌, ◌%◌, ◌<◌, ◌≤◌, ◌⊎◌, inl, inr, Bool, false, if◌then◌else◌, IsTrue, nat_eq, List, length, slice_index, slice_set, sym, ap, ◌∙◌, subst, arith, get_or-set_other, Some}
 use Rattle.std.specs.Int.{bit_at}
-use Rattle.std.proofs.lemmas.Bool.{cases_eq, cases_Bool, cond-true, cond-false, eqb-true, eq-eqb}
+use Rattle.std.proofs.lemmas.Bool.{cases_eq, cases_Bool, cond-true, cond-false}
 use Rattle.heap_layout.specs.Zones.{Zone, StopWord, BudgetWord, Globals, BlockWords, LineWords, StartBits, PinBits, UnlogBits, HeapWords, first, extent, row_words, heap_of, InZone, IsAddress, bit_of, address_bit}
 use Rattle.heap_layout.specs.declared.block.Kind.TheVariants as kinds
 use Rattle.heap_layout.proofs.ZoneLemmas.{apart}
-use Rattle.object_model.specs.Objects.{HeapState, word_at, global_at, block_word, HasKind}
+use Rattle.object_model.specs.Objects.{global_at, block_word}
 use Rattle.object_model.specs.BitWords.{bit_word, bit_place, with_bit}
 use Rattle.object_model.proofs.Marks.{mark-same}
 use Rattle.object_model.proofs.BitWords.{own-mark, other-mark, with-same, with-other}
-use Rattle.trace_core.specs.Setups.{Setup, blocks, held, size, is_old}
+use Rattle.trace_core.specs.Setups.{Setup, blocks, size, is_old}
 use Rattle.trace_core.specs.Machine.{Stage, Unclaimed, Copying, Scanning, target, put, forward, IsSettled, taken_word}
 use Rattle.trace_core.specs.Traces.{TouchesLine}
 use Rattle.trace_core.proofs.Puts.{put_here, put_else}
@@ -92,7 +92,7 @@ module _ (p : Setup) (words words' : List ℕ) where
   pub bits-stay : (z : Zone) (by by' : ℕ → Type 0) → extent (blocks p) z ≡ 64 * blocks p → SameZone p z words words'
       → ((a : ℕ) → by a → by' a) → ((a : ℕ) → by' a → by a) → BitsAre p z words by → BitsAre p z words' by'
   bits-stay z by by' wide same to back old = record {
-    from = λ a set. elim (old.from a (sym (same-mark z wide same a) ∙ set)) as (λ _. IsTrue (address_bit (blocks p) z p.before.words a) ⊎ by' a) [ | inl was ↦ inl was | inr now ↦ inr (to a now) ];
+    from = λ a set. elim (old.from a (sym (same-mark z wide same a) ∙ set)) as (λ _. IsTrue (address_bit (blocks p) z p.before.words a) ⊎ by' a) [ inl was ↦ inl was | inr now ↦ inr (to a now) ];
     kept = λ a was. same-mark z wide same a ∙ old.kept a was;
     done = λ a now. same-mark z wide same a ∙ old.done a (back a now);
   }
@@ -100,7 +100,7 @@ module _ (p : Setup) (words words' : List ℕ) where
   pub lines-stay : (stage stage' : ℕ → Stage) → SameZone p LineWords words words' → Grows stage stage' → LinesAre p words stage → LinesAre p words' stage'
   lines-stay stage stage' same grows old =
       let at : (n : ℕ) → n < 256 * blocks p → bit_of (blocks p) LineWords words' n ≡ bit_of (blocks p) LineWords words n =
-          λ n l. ap (λ w. nat_eq (bit_at w (n % 64)) 1) (same (first (blocks p) LineWords + n / 64) (record { from = omega arith; below = omega arith })) in
+      λ n l. ap (λ w. nat_eq (bit_at w (n % 64)) 1) (same (first (blocks p) LineWords + n / 64) (record { from = omega arith; below = omega arith })) in
       record {
         from = λ n l set. elim (old.from n l (sym (at n l) ∙ set)) as (λ _. IsTrue (bit_of (blocks p) LineWords p.before.words n) ⊎ ((x t : ℕ) × (target (stage' x) ≡ Some t) × TouchesLine (blocks p) t (size p x) n)) [
           | inl was ↦ inl was
@@ -149,7 +149,7 @@ bit-sets p words z by by' t long there inside to here back old =
     record {
       from = λ a is. elim (cases_eq a t) as (λ _. IsTrue (address_bit (blocks p) z p.before.words a) ⊎ by' a) [
         | inl e ↦ inr (subst by' (sym e) here)
-        | inr ne ↦ elim (old.from a (sym (same a ne) ∙ is)) as (λ _. IsTrue (address_bit (blocks p) z p.before.words a) ⊎ by' a) [ | inl was ↦ inl was | inr now ↦ inr (to a now) ]
+        | inr ne ↦ elim (old.from a (sym (same a ne) ∙ is)) as (λ _. IsTrue (address_bit (blocks p) z p.before.words a) ⊎ by' a) [ inl was ↦ inl was | inr now ↦ inr (to a now) ]
       ];
       kept = λ a was. elim (cases_eq a t) as (λ _. IsTrue (address_bit (blocks p) z (slice_set words (bit_word (blocks p) z t) v) a)) [
         | inl e ↦ subst (λ x. IsTrue (address_bit (blocks p) z (slice_set words (bit_word (blocks p) z t) v) x)) (sym e) set

@@ -1,5 +1,5 @@
 -- The order in which the words of an object are copied.
-use Rattle.std.proofs.Common.{◌≡◌, ◌≢◌, ℕ, ◌+◌, ◌-◌, ◌<◌, ◌≤◌, inl, inr, nat_eq, nat_lt, refl, sym, ap, ◌∙◌, arith}
+use Rattle.std.proofs.Common.{◌≡◌, ◌≢◌, ℕ, ◌+◌, ◌-◌, ◌<◌, ◌≤◌, inl, inr, nat_eq, nat_lt, refl, ap, ◌∙◌, arith}
 use Rattle.std.proofs.lemmas.Bool.{lt-ltb, le-ltb, eq-eqb, ne_eqb, cases_eq, cases_lt, cond-true, cond-false}
 use Rattle.object_model.specs.Objects.{word_at}
 use Rattle.trace_core.specs.Setups.{Setup}
@@ -29,36 +29,36 @@ module _ (n : ℕ) (least : 3 ≤ n) where
   step-inside k l = elim (cases_lt k 2) as (λ _. offset_of_step n k < n) [
     | inl early ↦ (let e = first-step k early in omega arith)
     | inr late ↦ elim (cases_lt (k + 1) n) as (λ _. offset_of_step n k < n) [
-        | inl more ↦ (let e = middle-step k (omega arith) more in omega arith)
-        | inr end ↦ (let e = last-step k (omega arith) (omega arith) in omega arith)
-      ]
+      | inl more ↦ (let e = middle-step k (omega arith) more in omega arith)
+      | inr end ↦ (let e = last-step k (omega arith) (omega arith) in omega arith)
+    ]
   ]
 
   pub offset-inside : (o : ℕ) → o < n → step_of_offset n o < n
   offset-inside o l = elim (cases_lt o 2) as (λ _. step_of_offset n o < n) [
     | inl early ↦ (let e = first-offset o early in omega arith)
     | inr late ↦ elim (cases_eq o 2) as (λ _. step_of_offset n o < n) [
-        | inl at ↦ (let e : step_of_offset n o ≡ n - 1 = ap (step_of_offset n) at in omega arith)
-        | inr other ↦ (let ne : o ≢ 2 = other in let e = later-offset o (omega arith) in omega arith)
-      ]
+      | inl at ↦ (let e : step_of_offset n o ≡ n - 1 = ap (step_of_offset n) at in omega arith)
+      | inr other ↦ (let ne : o ≢ 2 = other in let e = later-offset o (omega arith) in omega arith)
+    ]
   ]
 
   pub offset-of-step : (o k : ℕ) → o < n → step_of_offset n o ≡ k → o ≡ offset_of_step n k
   offset-of-step o k l is = elim (cases_lt o 2) as (λ _. o ≡ offset_of_step n k) [
     | inl early ↦ (let e = first-offset o early in let d = first-step k (omega arith) in omega arith)
     | inr late ↦ elim (cases_eq o 2) as (λ _. o ≡ offset_of_step n k) [
-        | inl at ↦ (let e : step_of_offset n o ≡ n - 1 = ap (step_of_offset n) at in let d = last-step k (omega arith) (omega arith) in omega arith)
-        | inr other ↦ (let ne : o ≢ 2 = other in let e = later-offset o (omega arith) in let d = middle-step k (omega arith) (omega arith) in omega arith)
-      ]
+      | inl at ↦ (let e : step_of_offset n o ≡ n - 1 = ap (step_of_offset n) at in let d = last-step k (omega arith) (omega arith) in omega arith)
+      | inr other ↦ (let ne : o ≢ 2 = other in let e = later-offset o (omega arith) in let d = middle-step k (omega arith) (omega arith) in omega arith)
+    ]
   ]
 
   pub offset-step : (k : ℕ) → k < n → step_of_offset n (offset_of_step n k) ≡ k
   offset-step k l = elim (cases_lt k 2) as (λ _. step_of_offset n (offset_of_step n k) ≡ k) [
     | inl early ↦ ap (step_of_offset n) (first-step k early) ∙ first-offset k early
     | inr late ↦ elim (cases_lt (k + 1) n) as (λ _. step_of_offset n (offset_of_step n k) ≡ k) [
-        | inl more ↦ ap (step_of_offset n) (middle-step k (omega arith) more) ∙ later-offset (k + 1) (omega arith) ∙ (omega arith)
-        | inr end ↦ ap (step_of_offset n) (last-step k (omega arith) (omega arith)) ∙ (omega arith)
-      ]
+      | inl more ↦ ap (step_of_offset n) (middle-step k (omega arith) more) ∙ later-offset (k + 1) (omega arith) ∙ (omega arith)
+      | inr end ↦ ap (step_of_offset n) (last-step k (omega arith) (omega arith)) ∙ (omega arith)
+    ]
   ]
 
 -- the word of the copy at an offset

@@ -1,3 +1,4 @@
 pub mod Setups
 pub mod Machine
 pub mod Traces
+pub mod WorkedTraces

@@ -1,15 +1,12 @@
 -- The trace machine: what any number of workers do to the row, one step at a time, while mutators are stopped. A step
 -- changes one word at most, and what is known of objects, addresses, blocks, globals and roots.
-use Rattle.std.specs.Prelude.{◌≡◌, ◌≢◌, ℕ, ◌+◌, ◌-◌, ◌*◌, ◌/◌, ◌%◌, ◌^◌, ◌<◌, ◌≤◌, ◌⊎◌, Bool, true, false, ◌&&◌, not, IsTrue, if◌then◌else◌, nat_eq, nat_lt, nat_le, Option, Some, None, List, slice_index, slice_set, bit_or}
-use Rattle.std.specs.Int.{bit_at}
+use Rattle.std.specs.Prelude.{◌≡◌, ℕ, ◌+◌, ◌-◌, Bool, true, false, ◌&&◌, not, IsTrue, if◌then◌else◌, nat_eq, nat_lt, nat_le, Option, Some, None, List, slice_index, slice_set, bit_or}
 use Rattle.forward_word.specs.CollectorWords.{collector_word}
-use Rattle.heap_layout.specs.Zones.{Zone, Globals, BlockWords, LineWords, StartBits, UnlogBits, first, heap_of, InZone, block_at, offset_at, IsAddress}
-use Rattle.heap_layout.specs.declared.layout.TheConstants.{BLOCK_WORDS, LINE_WORDS, GLOBALS}
-use Rattle.heap_layout.specs.declared.block.Kind.TheVariants as kinds
+use Rattle.heap_layout.specs.Zones.{Globals, BlockWords, StartBits, UnlogBits, first}
 use Rattle.heap_layout.specs.Blocks.{code_of}
-use Rattle.object_model.specs.Objects.{HeapState, with_words, word_at, global_at, HasKind, ref_at, is_reference}
+use Rattle.object_model.specs.Objects.{HeapState, with_words, word_at, global_at, ref_at, is_reference}
 use Rattle.object_model.specs.BitWords.{bit_word, bit_place, with_bit}
-use Rattle.trace_core.specs.Setups.{Setup, blocks, collection, held, size, refs, is_old, is_logged, may_move}
+use Rattle.trace_core.specs.Setups.{Setup, blocks, collection, size, refs, is_old, is_logged}
 
 -- How far an object has come. `target` is where it will be after the collection.
 pub data Stage : Type 0 where

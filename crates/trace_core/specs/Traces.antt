@@ -1,5 +1,5 @@
 -- When an event of the trace machine may come, and the traces that begin with a collection.
-use Rattle.std.specs.Prelude.{◌≡◌, ◌≢◌, ℕ, ◌+◌, ◌-◌, ◌*◌, ◌<◌, ◌≤◌, ◌⊎◌, Bool, true, false, IsTrue, nat_eq, Option, Some, None, List, [], ◌∷◌}
+use Rattle.std.specs.Prelude.{◌≡◌, ◌≢◌, ℕ, ◌+◌, ◌-◌, ◌*◌, ◌<◌, ◌≤◌, ◌⊎◌, Bool, false, IsTrue, nat_eq, Option, Some, None, List, [], ◌∷◌}
 use Rattle.std.specs.Int.{bit_at}
 use Rattle.heap_layout.specs.Zones.{LineWords, first, heap_of, InZone, block_at, offset_at, IsAddress}
 use Rattle.heap_layout.specs.declared.layout.TheConstants.{BLOCK_WORDS, LINE_WORDS, GLOBALS}

@@ -8,7 +8,7 @@ ghost use Rattle.heap_layout.specs.declared.block.Kind.TheVariants as kinds;
 ghost use Rattle.object_model.specs.Objects.{word_at, global_at, block_word, HasKind, IsHeld, IsInExtent, IsInExtentOf, ref_at, is_pinned, is_unlogged, is_reference};
 ghost use Rattle.trace_core.specs.Setups.{Setup, blocks, collection, size, refs, is_old, is_logged, is_idle, may_move};
 ghost use Rattle.trace_core.specs.Machine.{Event, Copying, Scanning, copied_word, step_of_offset, forward, IsSettled, taken_word};
-ghost use Rattle.trace_core.specs.Traces.{HasRoom, TouchesLine, IsTrace, Reaches, machine_after, heap_after, stage_of, target_of, fields_scanned, is_claim_of, is_scan_of};
+ghost use Rattle.trace_core.specs.Traces.{HasRoom, TouchesLine, IsTrace, IsFinished, Reaches, machine_after, heap_after, stage_of, target_of, fields_scanned, is_claim_of, is_scan_of};
 
 /// No two objects have the same target.
 pub fn targets_are_one_to_one()
@@ -22,7 +22,8 @@ pub fn targets_are_one_to_one()
 pub fn targets_are_apart()
     ensures inside { (p : Setup) (es : List Event) → IsTrace p es → (x t i : ℕ)
         → target_of p es x ≡ Some t → IsInExtentOf t (size p x) i → IsAddress (blocks p) i }
-    ensures targets { (p : Setup) (es : List Event) → IsTrace p es → (x y t u i : ℕ) → x ≢ y
+    ensures targets { (p : Setup) (es : List Event) → IsTrace p es → (x y t u i : ℕ)
+        → x ≢ y
         → target_of p es x ≡ Some t → target_of p es y ≡ Some u
         → IsInExtentOf t (size p x) i → IsInExtentOf u (size p y) i → ⊥ }
     ensures extents { (p : Setup) (es : List Event) → IsTrace p es → (x y t i : ℕ)
@@ -38,16 +39,20 @@ pub fn targets_are_apart()
 /// collector word has the collection's number and the target if the object was claimed; it is as it
 /// was if the object was not claimed, or is old in a nursery collection.
 pub fn objects_wait_to_be_scanned()
-    ensures words { (p : Setup) (es : List Event) → IsTrace p es → (x o : ℕ) → IsHeld p.before x
-        → o < size p x → o ≢ 2 → (word_at (heap_after p es) (x + o) ≡ word_at p.before (x + o))
+    ensures words { (p : Setup) (es : List Event) → IsTrace p es → (x o : ℕ)
+        → IsHeld p.before x
+        → o < size p x → o ≢ 2 → (word_at (heap_after p es) (x + o) ≡ word_at p.before
+        (x + o))
         ⊎ ((k : ℕ) × (stage_of p es x ≡ Scanning x k) × (3 ≤ o) × (o < 3 + k)) }
     ensures claimed { (p : Setup) (es : List Event) → IsTrace p es → (x t : ℕ)
         → target_of p es x ≡ Some t → is_old p x ≡ false
         → word_at (heap_after p es) (x + 2) ≡ collector_word (collection p) t }
-    ensures unclaimed { (p : Setup) (es : List Event) → IsTrace p es → (x : ℕ) → IsHeld p.before x
+    ensures unclaimed { (p : Setup) (es : List Event) → IsTrace p es → (x : ℕ)
+        → IsHeld p.before x
         → target_of p es x ≡ None
         → word_at (heap_after p es) (x + 2) ≡ word_at p.before (x + 2) }
-    ensures old { (p : Setup) (es : List Event) → IsTrace p es → (x : ℕ) → IsTrue (is_old p x)
+    ensures old { (p : Setup) (es : List Event) → IsTrace p es → (x : ℕ) → IsTrue
+        (is_old p x)
         → word_at (heap_after p es) (x + 2) ≡ word_at p.before (x + 2) }
 {}
 
@@ -64,7 +69,8 @@ pub fn copies_are_whole()
     ensures from { (p : Setup) (es : List Event) → IsTrace p es → (a : ℕ)
         → IsHeld (heap_after p es) a
         → IsHeld p.before a ⊎ ((x k : ℕ) × (stage_of p es x ≡ Scanning a k)) }
-    ensures kept { (p : Setup) (es : List Event) → IsTrace p es → (a : ℕ) → IsHeld p.before a
+    ensures kept { (p : Setup) (es : List Event) → IsTrace p es → (a : ℕ)
+        → IsHeld p.before a
         → IsHeld (heap_after p es) a }
     ensures done { (p : Setup) (es : List Event) → IsTrace p es → (x t k : ℕ)
         → stage_of p es x ≡ Scanning t k → IsHeld (heap_after p es) t }
@@ -108,23 +114,44 @@ pub fn objects_stay_for_want_of_blocks()
 /// An object is claimed once if it has a target and is not old, and each of its fields is scanned
 /// once. The fields of an old object are scanned only if it is logged.
 pub fn each_field_is_scanned_once()
-    ensures claims { (p : Setup) (es : List Event) → IsTrace p es → (x : ℕ) → is_old p x ≡ false
+    ensures claims { (p : Setup) (es : List Event) → IsTrace p es → (x : ℕ) → is_old p x
+        ≡ false
         → count_by (is_claim_of x) es ≡ (if is_some (target_of p es x) then 1 else 0) }
     ensures scans { (p : Setup) (es : List Event) → IsTrace p es → (x : ℕ)
         → is_idle p x ≡ false
         → count_by (is_scan_of x) es ≡ fields_scanned (stage_of p es x) }
-    ensures old { (p : Setup) (es : List Event) → IsTrace p es → (x : ℕ) → IsTrue (is_old p x)
+    ensures old { (p : Setup) (es : List Event) → IsTrace p es → (x : ℕ) → IsTrue
+        (is_old p x)
         → count_by (is_claim_of x) es ≡ 0 }
-    ensures idle { (p : Setup) (es : List Event) → IsTrace p es → (x : ℕ) → IsTrue (is_idle p x)
+    ensures idle { (p : Setup) (es : List Event) → IsTrace p es → (x : ℕ) → IsTrue
+        (is_idle p x)
         → count_by (is_scan_of x) es ≡ 0 }
+{}
+
+/// In a finished trace each field of a claimed or logged object was scanned once. Each field of an
+/// object that has a target, and each global, has the target of what it referred to.
+pub fn finished_traces_are_whole()
+    ensures scans { (p : Setup) (es : List Event) → IsTrace p es → IsFinished p
+        (machine_after p es)
+        → (x t : ℕ) → target_of p es x ≡ Some t → is_idle p x ≡ false
+        → count_by (is_scan_of x) es ≡ refs p x }
+    ensures fields { (p : Setup) (es : List Event) → IsTrace p es → IsFinished p
+        (machine_after p es)
+        → (x t i : ℕ) → target_of p es x ≡ Some t → i < refs p x
+        → ref_at (heap_after p es) t i ≡ forward (stage_of p es) (ref_at p.before x i) }
+    ensures globals { (p : Setup) (es : List Event) → IsTrace p es
+        → IsFinished p (machine_after p es) → (g : ℕ) → g < 16
+        → global_at (heap_after p es) g ≡ forward (stage_of p es) (global_at p.before g) }
 {}
 
 /// In a nursery collection an old object is its own target. If it is not logged, its fields are as
 /// they were.
 pub fn old_objects_stay()
-    ensures target { (p : Setup) (es : List Event) → IsTrace p es → (x : ℕ) → IsTrue (is_old p x)
+    ensures target { (p : Setup) (es : List Event) → IsTrace p es → (x : ℕ) → IsTrue
+        (is_old p x)
         → target_of p es x ≡ Some x }
-    ensures idle { (p : Setup) (es : List Event) → IsTrace p es → (x : ℕ) → IsTrue (is_idle p x)
+    ensures idle { (p : Setup) (es : List Event) → IsTrace p es → (x : ℕ) → IsTrue
+        (is_idle p x)
         → stage_of p es x ≡ Scanning x (refs p x) }
     ensures fields { (p : Setup) (es : List Event) → IsTrace p es → (x i : ℕ)
         → IsTrue (is_idle p x) → i < refs p x
@@ -147,8 +174,8 @@ pub fn bits_of_objects_are_set()
 {}
 
 /// The word of a block that a worker took has the kind to copy into and the worker as owner. Other
-/// block words, the stop word and the budget word are as they were. A line bit is set if it was set,
-/// or if a target touches the line.
+/// block words, the stop word and the budget word are as they were. A line bit is set if it was
+/// set, or if a target touches the line.
 pub fn side_words_follow_events()
     ensures block { (p : Setup) (es : List Event) → IsTrace p es → (b : ℕ) → b < blocks p
         → (machine_after p es).taken b ≡ 0
@@ -161,11 +188,14 @@ pub fn side_words_follow_events()
     ensures stop { (p : Setup) (es : List Event) → IsTrace p es → (i : ℕ)
         → InZone (blocks p) StopWord i ⊎ InZone (blocks p) BudgetWord i
         → word_at (heap_after p es) i ≡ word_at p.before i }
-    ensures line { (p : Setup) (es : List Event) → IsTrace p es → (n : ℕ) → n < 256 * blocks p
+    ensures line { (p : Setup) (es : List Event) → IsTrace p es → (n : ℕ)
+        → n < 256 * blocks p
         → IsTrue (bit_of (blocks p) LineWords (heap_after p es).words n)
         → IsTrue (bit_of (blocks p) LineWords p.before.words n)
-        ⊎ ((x t : ℕ) × (target_of p es x ≡ Some t) × TouchesLine (blocks p) t (size p x) n) }
-    ensures lines { (p : Setup) (es : List Event) → IsTrace p es → (n : ℕ) → n < 256 * blocks p
+        ⊎ ((x t : ℕ) × (target_of p es x ≡ Some t) × TouchesLine (blocks p) t
+        (size p x) n) }
+    ensures lines { (p : Setup) (es : List Event) → IsTrace p es → (n : ℕ)
+        → n < 256 * blocks p
         → IsTrue (bit_of (blocks p) LineWords p.before.words n)
         → IsTrue (bit_of (blocks p) LineWords (heap_after p es).words n) }
 {}

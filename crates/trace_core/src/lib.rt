@@ -2,4 +2,5 @@
 //! while mutators are stopped, and its laws.
 #![tactic(auto)]
 
+pub mod examples;
 pub mod laws;

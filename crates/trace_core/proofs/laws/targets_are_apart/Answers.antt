@@ -1,4 +1,3 @@
-use Rattle.trace_core.specs.Traces.{machine_after}
 use Rattle.trace_core.proofs.Law.{sound}
 use Rattle.trace_core.proofs.Clauses.{targets-inside, targets-apart, extents-apart, has-room}
 use Rattle.trace_core.proofs.laws.targets_are_apart.Goals as goal

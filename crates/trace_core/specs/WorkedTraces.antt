@@ -1,0 +1,47 @@
+-- Worked traces: two objects that refer to each other move, and a nursery collection begins.
+use Rattle.std.specs.Prelude.{true, false, nat_eq, List, [], ◌∷◌, ◌++◌, map, replicate}
+use Rattle.std.specs.List.{range_with_len}
+use Rattle.heap_layout.specs.declared.block.Kind.TheVariants as kinds
+use Rattle.object_model.specs.WorkedHeaps.{WorkedHeap, plain_object, build_heap, unowned}
+use Rattle.trace_core.specs.Setups.{Setup}
+use Rattle.trace_core.specs.Machine.{Event, ByGlobal, ByField, Claim, Ask, Copy, Scan, SetGlobal, MarkLines, TakeBlock}
+
+-- Block 0 has two objects, at 806 and 810. Each has one field, which refers to the other, and the second has a number.
+-- Global 0 refers to the first. Blocks 1 to 3 are Free.
+abbrev pub cycle_parts : WorkedHeap
+cycle_parts = record {
+  blocks = unowned kinds.Bump 0 ∷ replicate 3 (unowned kinds.Free 0);
+  objects = plain_object 0 0 1 (810 ∷ []) 0 0 ∷ plain_object 0 4 2 (806 ∷ []) 1 0 ∷ [];
+  globals = 806 ∷ replicate 15 0;
+  number = 0;
+  base = 0;
+}
+
+-- a full collection by one worker, which moves the objects of block 0 into Bump blocks
+abbrev pub cycle_setup : Setup
+cycle_setup = record { before = build_heap cycle_parts; nursery = false; from = λ b. nat_eq b 0; copy = kinds.Bump; workers = 1 }
+
+-- The worker takes block 1. It claims, copies and scans the first object and then the second, and sets the globals. A
+-- root asks for the first object too, and the line of its target is marked.
+abbrev pub cycle_events : List Event
+cycle_events = TakeBlock 1 1 ∷ Claim 806 4902 (ByGlobal 0) ∷ replicate 6 (Copy 806)
+    ++ Ask 806 ∷ MarkLines 806 26 1 ∷ Claim 810 4906 (ByField 806 0) ∷ replicate 7 (Copy 810) ++ Scan 806 ∷ Scan 810 ∷ map SetGlobal (range_with_len 0 16)
+
+-- Block 0 has an old object that is not logged, an old one that is, and a young one, to which the latter refers. The
+-- base is 1.
+abbrev pub nursery_parts : WorkedHeap
+nursery_parts = record {
+  blocks = unowned kinds.Young 0 ∷ replicate 3 (unowned kinds.Free 0);
+  objects = (record (plain_object 0 0 1 (810 ∷ []) 0 1) { unlogged = true }) ∷ plain_object 0 4 2 (814 ∷ []) 0 1 ∷ plain_object 0 8 3 [] 0 0 ∷ [];
+  globals = replicate 16 0;
+  number = 1;
+  base = 1;
+}
+
+-- a nursery collection in which no object moves
+abbrev pub nursery_setup : Setup
+nursery_setup = record { before = build_heap nursery_parts; nursery = true; from = λ b. false; copy = kinds.Free; workers = 2 }
+
+-- a worker claims the young object in place, and scans the logged object
+abbrev pub nursery_events : List Event
+nursery_events = Claim 814 814 (ByField 810 0) ∷ Copy 814 ∷ Scan 810 ∷ []

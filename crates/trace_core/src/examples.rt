@@ -1,0 +1,65 @@
+//! Worked traces: the machine, step by step, on small heaps.
+
+ghost use Rattle.std.specs.Prelude.{◌≡◌, ℕ, ◌+◌, ◌*◌, ◌^◌, true, false, List, [], ◌∷◌, map};
+ghost use Rattle.heap_layout.specs.declared.block.Kind.TheVariants as kinds;
+ghost use Rattle.object_model.specs.Objects.{word_at};
+ghost use Rattle.trace_core.specs.Setups.{Setup, IsReady, is_old, is_logged, is_idle, may_move};
+ghost use Rattle.trace_core.specs.Machine.{Unclaimed, Scanning, first_stage};
+ghost use Rattle.trace_core.specs.Traces.{IsTrace, machine_after, heap_after, stage_of};
+ghost use Rattle.trace_core.specs.WorkedTraces.{cycle_setup, cycle_events, nursery_setup, nursery_events};
+
+/// Two objects that refer to each other move to block 1, and the global follows. Their old words
+/// have the collector word alone changed.
+pub fn cycle_moves()
+    ensures trace { IsTrace cycle_setup cycle_events }
+    ensures stages { map (stage_of cycle_setup cycle_events) (806 ∷ 810 ∷ [])
+        ≡ Scanning 4902 1 ∷ Scanning 4906 1 ∷ [] }
+    ensures first { map (word_at (heap_after cycle_setup cycle_events))
+        (4902 ∷ 4903 ∷ 4904 ∷ 4905 ∷ [])
+        ≡ 33 ∷ 1 ∷ (2 ^ 24 + 4902) ∷ 4906 ∷ [] }
+    ensures second { map (word_at (heap_after cycle_setup cycle_events))
+        (4906 ∷ 4907 ∷ 4908 ∷ 4909 ∷ 4910 ∷ [])
+        ≡ 65 ∷ 65537 ∷ (2 ^ 24 + 4906) ∷ 4902 ∷ 0 ∷ [] }
+    ensures left { map (word_at (heap_after cycle_setup cycle_events))
+        (806 ∷ 807 ∷ 808 ∷ 809 ∷ 810 ∷ 811 ∷ 812 ∷ 813 ∷ 814 ∷ [])
+        ≡ 33 ∷ 1 ∷ (2 ^ 24 + 4902) ∷ 810 ∷ 65 ∷ 65537 ∷ (2 ^ 24 + 4906) ∷ 806
+        ∷ 0 ∷ [] }
+    ensures asked { map (machine_after cycle_setup cycle_events).asked (806 ∷ 810 ∷ [])
+        ≡ 1 ∷ 0 ∷ [] }
+    // global 0, the words of blocks 0 and 1, line bits of block 1, start bits, unlog bits
+    ensures sides { map (word_at (heap_after cycle_setup cycle_events))
+        (2 ∷ 18 ∷ 19 ∷ 26 ∷ 38 ∷ 102 ∷ 550 ∷ 614 ∷ [])
+        ≡ 4902 ∷ 1 ∷ (1 + 65536 * 17) ∷ 1 ∷ 17 ∷ 17 ∷ 0 ∷ 17 ∷ [] }
+{}
+
+/// In a nursery collection old objects begin in place: the fields of a logged one are to be
+/// scanned, and those of another count as scanned. Young objects begin unclaimed.
+pub fn nursery_begins()
+    ensures trace { IsTrace nursery_setup nursery_events }
+    ensures old { map (is_old nursery_setup) (806 ∷ 810 ∷ 814 ∷ []) ≡ true ∷ true
+        ∷ false ∷ [] }
+    ensures logged { map (is_logged nursery_setup) (806 ∷ 810 ∷ 814 ∷ [])
+        ≡ false ∷ true ∷ false ∷ [] }
+    ensures first { map (first_stage nursery_setup) (806 ∷ 810 ∷ 814 ∷ [])
+        ≡ Scanning 806 1 ∷ Scanning 810 0 ∷ Unclaimed ∷ [] }
+    ensures stages { map (stage_of nursery_setup nursery_events) (806 ∷ 810 ∷ 814 ∷ [])
+        ≡ Scanning 806 1 ∷ Scanning 810 1 ∷ Scanning 814 0 ∷ [] }
+    // the collector words, and the unlog bits
+    ensures words { map (word_at (heap_after nursery_setup nursery_events))
+        (808 ∷ 812 ∷ 816 ∷ 813 ∷ 550 ∷ [])
+        ≡ (2 ^ 24 + 806) ∷ (2 ^ 24 + 810) ∷ (2 * 2 ^ 24 + 814) ∷ 814 ∷ 257 ∷ [] }
+{}
+
+/// A trace of the cycle may begin. It may not with no worker, more than 16, cells or a block kept in place to copy
+/// into, objects that leave a block where none are copied, a nursery collection before a full one.
+pub fn setups_are_refused()
+    ensures ready { IsReady cycle_setup }
+    ensures none { IsReady (record cycle_setup { workers = 0 }) → ⊥ }
+    ensures many { IsReady (record cycle_setup { workers = 17 }) → ⊥ }
+    ensures cells { IsReady (record cycle_setup { copy = kinds.Cells }) → ⊥ }
+    ensures kept { IsReady (record cycle_setup { copy = kinds.Kept }) → ⊥ }
+    ensures fixed { IsReady (record cycle_setup { copy = kinds.Free }) → ⊥ }
+    ensures base { IsReady (record cycle_setup { nursery = true }) → ⊥ }
+    ensures moves { map (may_move cycle_setup) (806 ∷ 810 ∷ 4902 ∷ [])
+        ≡ true ∷ true ∷ false ∷ [] }
+{}
