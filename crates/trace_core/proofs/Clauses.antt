@@ -166,15 +166,18 @@ module _ (p : Setup) (es : List Event) (trace : IsTrace p es) where
   pub unlogs-done : (x t k : ℕ) → is_old p x ≡ false → stage_of p es x ≡ Scanning t k → IsTrue (is_unlogged (heap_after p es) t)
   unlogs-done x t k young is = s.sides.unlogs.done t (x, subst (λ st. UnlogsAt p x st t) (sym is) (refl, young))
 
-  unlog-target : (x a : ℕ) (st : Stage) → m.stage x ≡ st → UnlogsAt p x st a → (target_of p es x ≡ Some a) × (is_old p x ≡ false)
-  unlog-target x a Unclaimed is now = absurd now
-  unlog-target x a (Copying t k) is now = (ap target is ∙ ap Some now.0, (copying x t k is).young)
-  unlog-target x a (Scanning t k) is now = (ap target is ∙ ap Some now.0, now.1)
+  abbrev Unlogged : ℕ → Type 0
+  Unlogged a = (x k : ℕ) × (is_old p x ≡ false) × ((stage_of p es x ≡ Scanning a k) ⊎ ((stage_of p es x ≡ Copying a k) × (size p x < k)))
 
-  pub unlogs-from : (a : ℕ) → IsTrue (is_unlogged (heap_after p es) a) → IsTrue (is_unlogged p.before a) ⊎ ((x : ℕ) × (target_of p es x ≡ Some a) × (is_old p x ≡ false))
-  unlogs-from a now = elim (s.sides.unlogs.from a now) as (λ _. IsTrue (is_unlogged p.before a) ⊎ ((x : ℕ) × (target_of p es x ≡ Some a) × (is_old p x ≡ false))) [
+  unlog-stage : (x a : ℕ) (st : Stage) → m.stage x ≡ st → UnlogsAt p x st a → Unlogged a
+  unlog-stage x a Unclaimed is now = absurd now
+  unlog-stage x a (Copying t k) is now = (x, k, (copying x t k is).young, inr (is ∙ ap (λ z. Copying z k) now.0, now.1))
+  unlog-stage x a (Scanning t k) is now = (x, k, now.1, inl (is ∙ ap (λ z. Scanning z k) now.0))
+
+  pub unlogs-from : (a : ℕ) → IsTrue (is_unlogged (heap_after p es) a) → IsTrue (is_unlogged p.before a) ⊎ Unlogged a
+  unlogs-from a now = elim (s.sides.unlogs.from a now) as (λ _. IsTrue (is_unlogged p.before a) ⊎ Unlogged a) [
     | inl was ↦ inl was
-    | inr by ↦ (let d = unlog-target by.0 a (m.stage by.0) refl by.1 in inr (by.0, d.0, d.1))
+    | inr by ↦ inr (unlog-stage by.0 a (m.stage by.0) refl by.1)
   ]
 
   pub pins : (a : ℕ) → is_pinned (heap_after p es) a ≡ is_pinned p.before a

@@ -50,8 +50,9 @@ pub fn nursery_begins()
         ≡ (2 ^ 24 + 806) ∷ (2 ^ 24 + 810) ∷ (2 * 2 ^ 24 + 814) ∷ 814 ∷ 257 ∷ [] }
 {}
 
-/// A trace of the cycle may begin. It may not with no worker, more than 16, cells or a block kept in place to copy
-/// into, objects that leave a block where none are copied, a nursery collection before a full one.
+/// A trace of the cycle may begin. It may not with no worker or more than 16, with cells or a block
+/// kept in place to copy into, with objects that leave a block where none are copied, or as a
+/// nursery collection before a full one.
 pub fn setups_are_refused()
     ensures ready { IsReady cycle_setup }
     ensures none { IsReady (record cycle_setup { workers = 0 }) → ⊥ }

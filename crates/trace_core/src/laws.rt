@@ -23,8 +23,7 @@ pub fn targets_are_apart()
     ensures inside { (p : Setup) (es : List Event) → IsTrace p es → (x t i : ℕ)
         → target_of p es x ≡ Some t → IsInExtentOf t (size p x) i → IsAddress (blocks p) i }
     ensures targets { (p : Setup) (es : List Event) → IsTrace p es → (x y t u i : ℕ)
-        → x ≢ y
-        → target_of p es x ≡ Some t → target_of p es y ≡ Some u
+        → x ≢ y → target_of p es x ≡ Some t → target_of p es y ≡ Some u
         → IsInExtentOf t (size p x) i → IsInExtentOf u (size p y) i → ⊥ }
     ensures extents { (p : Setup) (es : List Event) → IsTrace p es → (x y t i : ℕ)
         → target_of p es x ≡ Some t → IsHeld p.before y → IsInExtentOf t (size p x) i
@@ -40,20 +39,17 @@ pub fn targets_are_apart()
 /// was if the object was not claimed, or is old in a nursery collection.
 pub fn objects_wait_to_be_scanned()
     ensures words { (p : Setup) (es : List Event) → IsTrace p es → (x o : ℕ)
-        → IsHeld p.before x
-        → o < size p x → o ≢ 2 → (word_at (heap_after p es) (x + o) ≡ word_at p.before
-        (x + o))
+        → IsHeld p.before x → o < size p x → o ≢ 2
+        → (word_at (heap_after p es) (x + o) ≡ word_at p.before (x + o))
         ⊎ ((k : ℕ) × (stage_of p es x ≡ Scanning x k) × (3 ≤ o) × (o < 3 + k)) }
     ensures claimed { (p : Setup) (es : List Event) → IsTrace p es → (x t : ℕ)
         → target_of p es x ≡ Some t → is_old p x ≡ false
         → word_at (heap_after p es) (x + 2) ≡ collector_word (collection p) t }
     ensures unclaimed { (p : Setup) (es : List Event) → IsTrace p es → (x : ℕ)
-        → IsHeld p.before x
-        → target_of p es x ≡ None
+        → IsHeld p.before x → target_of p es x ≡ None
         → word_at (heap_after p es) (x + 2) ≡ word_at p.before (x + 2) }
-    ensures old { (p : Setup) (es : List Event) → IsTrace p es → (x : ℕ) → IsTrue
-        (is_old p x)
-        → word_at (heap_after p es) (x + 2) ≡ word_at p.before (x + 2) }
+    ensures old { (p : Setup) (es : List Event) → IsTrace p es → (x : ℕ)
+        → IsTrue (is_old p x) → word_at (heap_after p es) (x + 2) ≡ word_at p.before (x + 2) }
 {}
 
 /// The words of an object are copied in their order, the collector word last. A start bit is set
@@ -70,8 +66,7 @@ pub fn copies_are_whole()
         → IsHeld (heap_after p es) a
         → IsHeld p.before a ⊎ ((x k : ℕ) × (stage_of p es x ≡ Scanning a k)) }
     ensures kept { (p : Setup) (es : List Event) → IsTrace p es → (a : ℕ)
-        → IsHeld p.before a
-        → IsHeld (heap_after p es) a }
+        → IsHeld p.before a → IsHeld (heap_after p es) a }
     ensures done { (p : Setup) (es : List Event) → IsTrace p es → (x t k : ℕ)
         → stage_of p es x ≡ Scanning t k → IsHeld (heap_after p es) t }
 {}
@@ -88,8 +83,9 @@ pub fn references_are_forwarded()
     ensures fields { (p : Setup) (es : List Event) → IsTrace p es → (x t k : ℕ)
         → stage_of p es x ≡ Scanning t k → k ≤ refs p x }
     ensures global { (p : Setup) (es : List Event) → IsTrace p es → (g : ℕ) → g < 16
-        → global_at (heap_after p es) g ≡ (if (machine_after p es).set g
-        then forward (stage_of p es) (global_at p.before g) else global_at p.before g) }
+        → global_at (heap_after p es) g
+        ≡ (if (machine_after p es).set g then forward (stage_of p es) (global_at p.before g)
+        else global_at p.before g) }
     ensures set { (p : Setup) (es : List Event) → IsTrace p es → (g : ℕ) → g < 16
         → IsTrue ((machine_after p es).set g)
         → IsSettled (stage_of p es) (global_at p.before g) }
@@ -114,30 +110,27 @@ pub fn objects_stay_for_want_of_blocks()
 /// An object is claimed once if it has a target and is not old, and each of its fields is scanned
 /// once. The fields of an old object are scanned only if it is logged.
 pub fn each_field_is_scanned_once()
-    ensures claims { (p : Setup) (es : List Event) → IsTrace p es → (x : ℕ) → is_old p x
-        ≡ false
+    ensures claims { (p : Setup) (es : List Event) → IsTrace p es → (x : ℕ)
+        → is_old p x ≡ false
         → count_by (is_claim_of x) es ≡ (if is_some (target_of p es x) then 1 else 0) }
     ensures scans { (p : Setup) (es : List Event) → IsTrace p es → (x : ℕ)
         → is_idle p x ≡ false
         → count_by (is_scan_of x) es ≡ fields_scanned (stage_of p es x) }
-    ensures old { (p : Setup) (es : List Event) → IsTrace p es → (x : ℕ) → IsTrue
-        (is_old p x)
-        → count_by (is_claim_of x) es ≡ 0 }
-    ensures idle { (p : Setup) (es : List Event) → IsTrace p es → (x : ℕ) → IsTrue
-        (is_idle p x)
-        → count_by (is_scan_of x) es ≡ 0 }
+    ensures old { (p : Setup) (es : List Event) → IsTrace p es → (x : ℕ)
+        → IsTrue (is_old p x) → count_by (is_claim_of x) es ≡ 0 }
+    ensures idle { (p : Setup) (es : List Event) → IsTrace p es → (x : ℕ)
+        → IsTrue (is_idle p x) → count_by (is_scan_of x) es ≡ 0 }
 {}
 
 /// In a finished trace each field of a claimed or logged object was scanned once. Each field of an
 /// object that has a target, and each global, has the target of what it referred to.
 pub fn finished_traces_are_whole()
-    ensures scans { (p : Setup) (es : List Event) → IsTrace p es → IsFinished p
-        (machine_after p es)
-        → (x t : ℕ) → target_of p es x ≡ Some t → is_idle p x ≡ false
-        → count_by (is_scan_of x) es ≡ refs p x }
-    ensures fields { (p : Setup) (es : List Event) → IsTrace p es → IsFinished p
-        (machine_after p es)
-        → (x t i : ℕ) → target_of p es x ≡ Some t → i < refs p x
+    ensures scans { (p : Setup) (es : List Event) → IsTrace p es
+        → IsFinished p (machine_after p es) → (x t : ℕ) → target_of p es x ≡ Some t
+        → is_idle p x ≡ false → count_by (is_scan_of x) es ≡ refs p x }
+    ensures fields { (p : Setup) (es : List Event) → IsTrace p es
+        → IsFinished p (machine_after p es) → (x t i : ℕ) → target_of p es x ≡ Some t
+        → i < refs p x
         → ref_at (heap_after p es) t i ≡ forward (stage_of p es) (ref_at p.before x i) }
     ensures globals { (p : Setup) (es : List Event) → IsTrace p es
         → IsFinished p (machine_after p es) → (g : ℕ) → g < 16
@@ -147,23 +140,22 @@ pub fn finished_traces_are_whole()
 /// In a nursery collection an old object is its own target. If it is not logged, its fields are as
 /// they were.
 pub fn old_objects_stay()
-    ensures target { (p : Setup) (es : List Event) → IsTrace p es → (x : ℕ) → IsTrue
-        (is_old p x)
-        → target_of p es x ≡ Some x }
-    ensures idle { (p : Setup) (es : List Event) → IsTrace p es → (x : ℕ) → IsTrue
-        (is_idle p x)
-        → stage_of p es x ≡ Scanning x (refs p x) }
+    ensures target { (p : Setup) (es : List Event) → IsTrace p es → (x : ℕ)
+        → IsTrue (is_old p x) → target_of p es x ≡ Some x }
+    ensures idle { (p : Setup) (es : List Event) → IsTrace p es → (x : ℕ)
+        → IsTrue (is_idle p x) → stage_of p es x ≡ Scanning x (refs p x) }
     ensures fields { (p : Setup) (es : List Event) → IsTrace p es → (x i : ℕ)
         → IsTrue (is_idle p x) → i < refs p x
         → ref_at (heap_after p es) x i ≡ ref_at p.before x i }
 {}
 
-/// An unlog bit is set if it was set, or if a worker copied or claimed the object there; it is set
-/// for each that is copied whole. Pin bits are as they were.
+/// An unlog bit is set if it was set, or if all words of an object that is not old are copied
+/// there; it is set before the start bit. Pin bits are as they were.
 pub fn bits_of_objects_are_set()
     ensures from { (p : Setup) (es : List Event) → IsTrace p es → (a : ℕ)
         → IsTrue (is_unlogged (heap_after p es) a) → IsTrue (is_unlogged p.before a)
-        ⊎ ((x : ℕ) × (target_of p es x ≡ Some a) × (is_old p x ≡ false)) }
+        ⊎ ((x k : ℕ) × (is_old p x ≡ false) × ((stage_of p es x ≡ Scanning a k)
+        ⊎ ((stage_of p es x ≡ Copying a k) × (size p x < k)))) }
     ensures kept { (p : Setup) (es : List Event) → IsTrace p es → (a : ℕ)
         → IsTrue (is_unlogged p.before a) → IsTrue (is_unlogged (heap_after p es) a) }
     ensures done { (p : Setup) (es : List Event) → IsTrace p es → (x t k : ℕ)
@@ -189,13 +181,11 @@ pub fn side_words_follow_events()
         → InZone (blocks p) StopWord i ⊎ InZone (blocks p) BudgetWord i
         → word_at (heap_after p es) i ≡ word_at p.before i }
     ensures line { (p : Setup) (es : List Event) → IsTrace p es → (n : ℕ)
-        → n < 256 * blocks p
-        → IsTrue (bit_of (blocks p) LineWords (heap_after p es).words n)
+        → n < 256 * blocks p → IsTrue (bit_of (blocks p) LineWords (heap_after p es).words n)
         → IsTrue (bit_of (blocks p) LineWords p.before.words n)
-        ⊎ ((x t : ℕ) × (target_of p es x ≡ Some t) × TouchesLine (blocks p) t
-        (size p x) n) }
+        ⊎ ((x t : ℕ) × (target_of p es x ≡ Some t)
+        × TouchesLine (blocks p) t (size p x) n) }
     ensures lines { (p : Setup) (es : List Event) → IsTrace p es → (n : ℕ)
-        → n < 256 * blocks p
-        → IsTrue (bit_of (blocks p) LineWords p.before.words n)
+        → n < 256 * blocks p → IsTrue (bit_of (blocks p) LineWords p.before.words n)
         → IsTrue (bit_of (blocks p) LineWords (heap_after p es).words n) }
 {}
