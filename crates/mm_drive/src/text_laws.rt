@@ -274,5 +274,6 @@ pub fn contents_are_known()
         → EndsAtKnown content (a ∷ b ∷ []) IsNoTrace }
     ensures read { (bytes : List ℕ) (cs : List Command) → trace bytes ≡ Ok cs
         → IsNoTrace bytes → ⊥ }
-    ensures too_long { (bytes : List ℕ) → length bytes ≡ 16777217 → IsNoTrace bytes → ⊥ }
+    ensures too_long { (bytes : List ℕ) → length bytes ≡ 16777217 → IsNoTrace bytes
+        → ⊥ }
 {}

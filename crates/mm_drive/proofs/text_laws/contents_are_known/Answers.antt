@@ -25,8 +25,7 @@ returns-clause-made c = record { reported = tt; traces = made_trace 40 ∷ []; r
 
 pub returns-clause-long : goal.returns-clause-long
 returns-clause-long c content a b more first second cs knows_a knows_b long_a is_a long_b =
-    let above : IsLong second = omega (arith, long_b) in
-    (
+    let above : IsLong second = omega (arith, long_b) in (
       1,
       record {
         file = b;
