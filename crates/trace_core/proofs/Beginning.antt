@@ -12,13 +12,13 @@ use Rattle.trace_core.proofs.ObjectEvents.{Keeps}
 use Rattle.std.proofs.lemmas.Bool.{cases_eq}
 
 module _ (p : Setup) (ready : IsReady p) where
-  nursery-of : (x : ℕ) → IsTrue (is_old p x) → IsTrue p.nursery
+  pub nursery-of : (x : ℕ) → IsTrue (is_old p x) → IsTrue p.nursery
   nursery-of x aged = (and_parts p.nursery (held p x && ages.is_old p.before x) aged).0
 
   pub held-of-old : (x : ℕ) → IsTrue (is_old p x) → IsTrue (held p x)
   held-of-old x aged = (and_parts (held p x) (ages.is_old p.before x) (and_parts p.nursery (held p x && ages.is_old p.before x) aged).1).0
 
-  age-of : (x : ℕ) → IsTrue (is_old p x) → IsTrue (ages.is_old p.before x)
+  pub age-of : (x : ℕ) → IsTrue (is_old p x) → IsTrue (ages.is_old p.before x)
   age-of x aged = (and_parts (held p x) (ages.is_old p.before x) (and_parts p.nursery (held p x && ages.is_old p.before x) aged).1).1
 
   pub first-old : (x : ℕ) → IsTrue (is_old p x) → first_stage p x ≡ Scanning x (if is_logged p x then 0 else refs p x)

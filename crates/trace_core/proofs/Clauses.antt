@@ -32,7 +32,7 @@ module _ (p : Setup) (es : List Event) (trace : IsTrace p es) where
   abbrev Placed : ℕ → ℕ → Type 0
   Placed x t = IsPlaced p (slice_index m.words) m.stage m.owner m.taken x t
 
-  held-of : (x t : ℕ) → target_of p es x ≡ Some t → IsTrue (held p x)
+  pub held-of : (x t : ℕ) → target_of p es x ≡ Some t → IsTrue (held p x)
   held-of x t is = places.held-of p trace.ready m.words m.stage m.owner m.taken s.objects x t is
 
   placed : (x t : ℕ) → target_of p es x ≡ Some t → Placed x t

@@ -12,4 +12,5 @@ mod Reasons
 mod Law
 mod Once
 mod Clauses
+mod Finished
 mod WorkedTraces

@@ -1,4 +1,5 @@
 pub mod Setups
 pub mod Machine
 pub mod Traces
+pub mod Outcomes
 pub mod WorkedTraces

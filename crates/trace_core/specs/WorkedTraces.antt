@@ -45,3 +45,39 @@ nursery_setup = record { before = build_heap nursery_parts; nursery = true; from
 -- a worker claims the young object in place, and scans the logged object
 abbrev pub nursery_events : List Event
 nursery_events = Claim 814 814 (ByField 810 0) ∷ Copy 814 ∷ Scan 810 ∷ []
+
+-- Block 0 has a pinned object at 806, one at 810, and one at 814, to which both refer. Globals 0 and 1 refer to the first
+-- two. Blocks 1 to 3 are Free.
+abbrev pub shared_parts : WorkedHeap
+shared_parts = record {
+  blocks = unowned kinds.Bump 0 ∷ replicate 3 (unowned kinds.Free 0);
+  objects = (record (plain_object 0 0 1 (814 ∷ []) 0 0) { pinned = true }) ∷ plain_object 0 4 2 (814 ∷ []) 0 0 ∷ plain_object 0 8 3 [] 0 0 ∷ [];
+  globals = 806 ∷ 810 ∷ replicate 14 0;
+  number = 0;
+  base = 0;
+}
+
+abbrev pub shared_setup : Setup
+shared_setup = record { before = build_heap shared_parts; nursery = false; from = λ b. nat_eq b 0; copy = kinds.Bump; workers = 1 }
+
+-- the pinned object is claimed in place, the others move
+abbrev pub shared_events : List Event
+shared_events = TakeBlock 1 1 ∷ Claim 806 806 (ByGlobal 0) ∷ Copy 806 ∷ Claim 810 4902 (ByGlobal 1) ∷ replicate 6 (Copy 810)
+    ++ Claim 814 4906 (ByField 806 0) ∷ replicate 5 (Copy 814) ++ Scan 806 ∷ Scan 810 ∷ map SetGlobal (range_with_len 0 16)
+
+-- each of the four blocks has an object, so none is Free
+abbrev pub full_parts : WorkedHeap
+full_parts = record {
+  blocks = replicate 4 (unowned kinds.Bump 0);
+  objects = plain_object 0 0 1 [] 0 0 ∷ plain_object 1 0 2 [] 0 0 ∷ plain_object 2 0 3 [] 0 0 ∷ plain_object 3 0 4 [] 0 0 ∷ [];
+  globals = 806 ∷ replicate 15 0;
+  number = 0;
+  base = 0;
+}
+
+abbrev pub full_setup : Setup
+full_setup = record { before = build_heap full_parts; nursery = false; from = λ b. true; copy = kinds.Bump; workers = 1 }
+
+-- the object of block 0 is claimed in place, though it may move
+abbrev pub full_events : List Event
+full_events = Claim 806 806 (ByGlobal 0) ∷ Copy 806 ∷ map SetGlobal (range_with_len 0 16)

@@ -6,7 +6,7 @@ ghost use Rattle.object_model.specs.Objects.{word_at};
 ghost use Rattle.trace_core.specs.Setups.{Setup, IsReady, is_old, is_logged, is_idle, may_move};
 ghost use Rattle.trace_core.specs.Machine.{Unclaimed, Scanning, first_stage};
 ghost use Rattle.trace_core.specs.Traces.{IsTrace, machine_after, heap_after, stage_of};
-ghost use Rattle.trace_core.specs.WorkedTraces.{cycle_setup, cycle_events, nursery_setup, nursery_events};
+ghost use Rattle.trace_core.specs.WorkedTraces.{cycle_setup, cycle_events, nursery_setup, nursery_events, shared_setup, shared_events, full_setup, full_events};
 
 /// Two objects that refer to each other move to block 1, and the global follows. Their old words
 /// have the collector word alone changed.
@@ -30,6 +30,28 @@ pub fn cycle_moves()
     ensures sides { map (word_at (heap_after cycle_setup cycle_events))
         (2 ∷ 18 ∷ 19 ∷ 26 ∷ 38 ∷ 102 ∷ 550 ∷ 614 ∷ [])
         ≡ 4902 ∷ 1 ∷ (1 + 65536 * 17) ∷ 1 ∷ 17 ∷ 17 ∷ 0 ∷ 17 ∷ [] }
+{}
+
+/// A pinned object stays in the block that is evacuated. The object that it and another one refer
+/// to moves once, and both fields follow.
+pub fn shared_object_moves_once()
+    ensures trace { IsTrace shared_setup shared_events }
+    ensures stages { map (stage_of shared_setup shared_events) (806 ∷ 810 ∷ 814 ∷ [])
+        ≡ Scanning 806 1 ∷ Scanning 4902 1 ∷ Scanning 4906 0 ∷ [] }
+    // the fields of the first two objects, the globals, the unlog bits
+    ensures words { map (word_at (heap_after shared_setup shared_events))
+        (809 ∷ 4905 ∷ 2 ∷ 3 ∷ 550 ∷ 614 ∷ [])
+        ≡ 4906 ∷ 4906 ∷ 806 ∷ 4902 ∷ 1 ∷ 17 ∷ [] }
+    ensures moves { map (may_move shared_setup) (806 ∷ 810 ∷ 814 ∷ []) ≡ false ∷ true ∷ true ∷ [] }
+{}
+
+/// With no Free block an object that may move is claimed where it is.
+pub fn object_stays_in_a_full_heap()
+    ensures trace { IsTrace full_setup full_events }
+    ensures moves { may_move full_setup 806 ≡ true }
+    ensures stage { stage_of full_setup full_events 806 ≡ Scanning 806 0 }
+    ensures words { map (word_at (heap_after full_setup full_events)) (2 ∷ 808 ∷ 550 ∷ [])
+        ≡ 806 ∷ (2 ^ 24 + 806) ∷ 1 ∷ [] }
 {}
 
 /// In a nursery collection old objects begin in place: the fields of a logged one are to be

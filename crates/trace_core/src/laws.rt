@@ -1,13 +1,16 @@
 //! Laws of the trace machine. Each holds after every list of events of a trace, by any number of
 //! workers in any order.
 
-ghost use Rattle.std.specs.Prelude.{◌≡◌, ◌≢◌, ◌⊎◌, ℕ, ◌+◌, ◌*◌, ◌<◌, ◌≤◌, Bool, false, Some, None, List, IsTrue, if◌then◌else◌, is_some, count_by};
+ghost use Rattle.std.specs.Prelude.{◌≡◌, ◌≢◌, ◌⊎◌, ◌↔◌, ℕ, ◌+◌, ◌*◌, ◌<◌, ◌≤◌, Bool, false, Some, None, List, IsTrue, map, if◌then◌else◌, is_some, count_by};
 ghost use Rattle.forward_word.specs.CollectorWords.{collector_word};
 ghost use Rattle.heap_layout.specs.Zones.{LineWords, StopWord, BudgetWord, PinBits, InZone, IsAddress, bit_of};
 ghost use Rattle.heap_layout.specs.declared.block.Kind.TheVariants as kinds;
 ghost use Rattle.object_model.specs.Objects.{word_at, global_at, block_word, HasKind, IsHeld, IsInExtent, IsInExtentOf, ref_at, is_pinned, is_unlogged, is_reference};
 ghost use Rattle.trace_core.specs.Setups.{Setup, blocks, collection, size, refs, is_old, is_logged, is_idle, may_move};
 ghost use Rattle.trace_core.specs.Machine.{Event, Copying, Scanning, copied_word, step_of_offset, forward, IsSettled, taken_word};
+ghost use Rattle.object_model.specs.Graphs.{IsReachable};
+ghost use Rattle.object_model.specs.Preserving.{PreservesObjects};
+ghost use Rattle.trace_core.specs.Outcomes.{Lives, image, HaveAsked, NoOthersAsked};
 ghost use Rattle.trace_core.specs.Traces.{HasRoom, TouchesLine, IsTrace, IsFinished, Reaches, machine_after, heap_after, stage_of, target_of, fields_scanned, is_claim_of, is_scan_of};
 
 /// No two objects have the same target.
@@ -135,6 +138,30 @@ pub fn finished_traces_are_whole()
     ensures globals { (p : Setup) (es : List Event) → IsTrace p es
         → IsFinished p (machine_after p es) → (g : ℕ) → g < 16
         → global_at (heap_after p es) g ≡ forward (stage_of p es) (global_at p.before g) }
+{}
+
+/// A finished trace preserves the graph: targets are one to one onto what lives, with the names,
+/// shapes, numbers and pins of their objects; fields, globals and roots have the targets of what
+/// they referred to; what may not move stays; and everything that roots and globals reach lives.
+/// Roots are the registers that asked.
+pub fn finished_traces_preserve_the_graph()
+    ensures { (p : Setup) (es : List Event) → IsTrace p es → IsFinished p (machine_after p es)
+        → (roots : List ℕ) → HaveAsked roots (machine_after p es).asked
+        → PreservesObjects (may_move p) p.before roots (Lives p (heap_after p es))
+        (heap_after p es) (map (image (stage_of p es)) roots) (image (stage_of p es)) }
+{}
+
+/// A finished trace keeps exactly the objects that a root, a global or, in a nursery collection, an
+/// old object leads to. In a full collection these are the reachable objects.
+pub fn finished_traces_are_precise()
+    ensures kept { (p : Setup) (es : List Event) → IsTrace p es
+        → IsFinished p (machine_after p es) → (a : ℕ)
+        → (0 < image (stage_of p es) a) ↔ Reaches p (machine_after p es).asked a }
+    ensures full { (p : Setup) (es : List Event) → IsTrace p es
+        → IsFinished p (machine_after p es) → (roots : List ℕ)
+        → HaveAsked roots (machine_after p es).asked → p.nursery ≡ false
+        → NoOthersAsked roots (machine_after p es).asked → (a : ℕ)
+        → (0 < image (stage_of p es) a) ↔ IsReachable p.before roots a }
 {}
 
 /// In a nursery collection an old object is its own target. If it is not logged, its fields are as
