@@ -42,7 +42,8 @@ pub fn shared_object_moves_once()
     ensures words { map (word_at (heap_after shared_setup shared_events))
         (809 ∷ 4905 ∷ 2 ∷ 3 ∷ 550 ∷ 614 ∷ [])
         ≡ 4906 ∷ 4906 ∷ 806 ∷ 4902 ∷ 1 ∷ 17 ∷ [] }
-    ensures moves { map (may_move shared_setup) (806 ∷ 810 ∷ 814 ∷ []) ≡ false ∷ true ∷ true ∷ [] }
+    ensures moves { map (may_move shared_setup) (806 ∷ 810 ∷ 814 ∷ [])
+        ≡ false ∷ true ∷ true ∷ [] }
 {}
 
 /// With no Free block an object that may move is claimed where it is.
