@@ -43,13 +43,13 @@ module _ (p : Setup) (es : List Event) (trace : IsTrace p es) (finished : IsFini
   target-from : (a t : ℕ) → target_of p es a ≡ Some t → (heap_of (blocks p) ≤ t) × (t < row_words (blocks p))
   target-from a t is = let at = targets-inside p es trace a t t is (record { from = omega arith; below = omega arith }) in (at.from, at.below)
 
-  image-is : (a t : ℕ) → target_of p es a ≡ Some t → F a ≡ t
+  pub image-is : (a t : ℕ) → target_of p es a ≡ Some t → F a ≡ t
   image-is a t is = ap address_or_nil is
 
-  image-some : (a t : ℕ) → target_of p es a ≡ Some t → 0 < F a
+  pub image-some : (a t : ℕ) → target_of p es a ≡ Some t → 0 < F a
   image-some a t is = let e = image-is a t is in let at = (target-from a t is).0 in omega arith
 
-  has-target : (a : ℕ) → 0 < F a → target_of p es a ≡ Some (F a)
+  pub has-target : (a : ℕ) → 0 < F a → target_of p es a ≡ Some (F a)
   has-target a some = some-by (target_of p es a) some
 
   none-at-nil : held p 0 ≡ false
@@ -95,7 +95,7 @@ module _ (p : Setup) (es : List Event) (trace : IsTrace p es) (finished : IsFini
   survivor-from : (x : ℕ) → base_after p ≤ number_at after x → target_at after x ≡ x → IsTrue (is_survivor after (base_after p) x)
   survivor-from x least same = and_from (nat_le (base_after p) (number_at after x)) (nat_eq (target_at after x) x) (le-leb (base_after p) (number_at after x) least) (eq-eqb (target_at after x) x same)
 
-  lives : (a t : ℕ) → target_of p es a ≡ Some t → Lives p after t
+  pub lives : (a t : ℕ) → target_of p es a ≡ Some t → Lives p after t
   lives a t is = record {
     held = starts-done p es trace a t (refs p a) (finished.objects a t is);
     survives = elim (cases_Bool (is_old p a)) as (λ _. IsTrue (is_survivor after (base_after p) t)) [
@@ -135,7 +135,7 @@ module _ (p : Setup) (es : List Event) (trace : IsTrace p es) (finished : IsFini
         | inr young ↦ (let parts = parts-of (collection p) t (word_at after (x + 2)) (small t (target-from x t is).1) (collector p es trace x t is ∙ young-mark x t young) in sym parts.1 ∙ at)
       ]
 
-  onto : (x : ℕ) → Lives p after x → (a : ℕ) × (0 < F a) × (F a ≡ x)
+  pub onto : (x : ℕ) → Lives p after x → (a : ℕ) × (0 < F a) × (F a ≡ x)
   onto x live = elim (starts-from p es trace x live.held) as (λ _. (a : ℕ) × (0 < F a) × (F a ≡ x)) [
     | inl there ↦ elim (option-cases (target_of p es x)) as (λ _. (a : ℕ) × (0 < F a) × (F a ≡ x)) [
       | inl none ↦ absurd (unclaimed-dies x there none live.survives)
@@ -161,10 +161,10 @@ module _ (p : Setup) (es : List Event) (trace : IsTrace p es) (finished : IsFini
         ∙ sym (not-pinned a room.moves))
   ]
 
-  same-shape : (a t : ℕ) → target_of p es a ≡ Some t → word_at after (t + 1) ≡ word_at p.before (a + 1)
+  pub same-shape : (a t : ℕ) → target_of p es a ≡ Some t → word_at after (t + 1) ≡ word_at p.before (a + 1)
   same-shape a t is = plain-word a t 1 is (omega arith) (λ e. omega arith) (inl (omega arith))
 
-  same-object : (a t : ℕ) → target_of p es a ≡ Some t → SameObject p.before a after t
+  pub same-object : (a t : ℕ) → target_of p es a ≡ Some t → SameObject p.before a after t
   same-object a t is =
       let name : word_at after (t + 0) ≡ word_at p.before (a + 0) = plain-word a t 0 is (omega arith) (λ e. omega arith) (inl (omega arith)) in
       let left : t ≡ t + 0 = omega arith in let right : a + 0 ≡ a = omega arith in

@@ -13,4 +13,5 @@ mod Law
 mod Once
 mod Clauses
 mod Finished
+mod Rows
 mod WorkedTraces

@@ -1,9 +1,13 @@
 -- What a finished trace leaves: which objects live, and where.
-use Rattle.std.specs.Prelude.{◌≡◌, ℕ, ◌<◌, IsTrue, if◌then◌else◌, List, slice_index}
-use Rattle.object_model.specs.Objects.{HeapState, IsHeld}
+use Rattle.std.specs.Prelude.{◌≡◌, ℕ, ◌<◌, ◌≤◌, ◌⊎◌, ◌↔◌, false, IsTrue, if◌then◌else◌, List, length, slice_index}
+use Rattle.heap_layout.specs.Zones.{row_words}
+use Rattle.heap_layout.specs.declared.block.Kind.TheVariants as kinds
+use Rattle.object_model.specs.Objects.{HeapState, HasKind, IsHeld, IsInExtent, block_word, name_at, refs_at, nums_at, is_pinned, is_unlogged}
+use Rattle.object_model.specs.Lawful.{FreeBlockIsClear}
 use Rattle.object_model.specs.Ages.{is_survivor}
-use Rattle.trace_core.specs.Setups.{Setup, collection}
-use Rattle.trace_core.specs.Machine.{Stage, target, address_or_nil}
+use Rattle.trace_core.specs.Setups.{Setup, blocks, collection, is_old, is_logged, may_move}
+use Rattle.trace_core.specs.Machine.{Stage, target, address_or_nil, taken_word}
+use Rattle.trace_core.specs.Traces.{HasRoom}
 
 -- the base after the collection: its number if it is a full one
 abbrev pub base_after : Setup → ℕ
@@ -17,6 +21,32 @@ pub record Lives (p : Setup) (s : HeapState) (x : ℕ) : Type 0 where
 -- the target of the object at x, 0 if it has none
 abbrev pub image : (ℕ → Stage) → ℕ → ℕ
 image stage x = address_or_nil (target (stage x))
+
+-- The row after a finished trace, where F gives targets and `taken` the workers that took blocks. It is no lawful heap: a
+-- moved object and its copy have one name, and dead objects are still held.
+pub record FinishedRow (p : Setup) (after : HeapState) (F taken : ℕ → ℕ) : Type 0 where
+  pub extent : length after.words ≡ row_words (blocks p)
+  -- what is held was held, or is a target; what lives is a target
+  pub held : (x : ℕ) → IsHeld after x ↔ (IsHeld p.before x ⊎ ((a : ℕ) × (0 < F a) × (F a ≡ x)))
+  pub lives : (x : ℕ) → Lives p after x ↔ ((a : ℕ) × (0 < F a) × (F a ≡ x))
+  -- an object that was held still has its name and shape
+  pub names : (x : ℕ) → IsHeld p.before x → name_at after x ≡ name_at p.before x
+  pub shapes : (x : ℕ) → IsHeld p.before x → (refs_at after x ≡ refs_at p.before x) × (nums_at after x ≡ nums_at p.before x)
+  -- no word belongs to two objects, dead and moved ones included
+  pub apart : (x y i : ℕ) → IsHeld after x → IsHeld after y → IsInExtent after x i → IsInExtent after y i → x ≡ y
+  pub places : (a : ℕ) → 0 < F a → (F a ≡ a) ⊎ HasRoom p taken a (F a)
+  -- blocks that workers took were Free, and have their words; the others have those that they had
+  pub of_worker : (b : ℕ) → b < blocks p → 0 < taken b → block_word after b ≡ taken_word p (taken b)
+  pub as_before : (b : ℕ) → b < blocks p → taken b ≡ 0 → block_word after b ≡ block_word p.before b
+  pub was_free : (b : ℕ) → 0 < taken b → HasKind p.before b kinds.Free
+  pub worker : (b : ℕ) → taken b ≤ p.workers
+  pub clear : (b : ℕ) → FreeBlockIsClear after b
+  pub pins : (x : ℕ) → is_pinned after x ≡ is_pinned p.before x
+  -- an unlog bit is set only at an object, and at each target but those of logged objects
+  pub unlogs : (x : ℕ) → IsTrue (is_unlogged after x) → IsHeld after x
+  pub unlogged : (a : ℕ) → 0 < F a → is_logged p a ≡ false → IsTrue (is_unlogged after (F a))
+  -- an object that may move is in place only if no block is Free
+  pub moved : (a b : ℕ) → F a ≡ a → 0 < a → is_old p a ≡ false → IsTrue (may_move p a) → HasKind after b kinds.Free → ⊥
 
 -- each of these roots is nil or asked for its object
 abbrev pub HaveAsked : List ℕ → (ℕ → ℕ) → Type 0

@@ -10,7 +10,7 @@ ghost use Rattle.trace_core.specs.Setups.{Setup, blocks, collection, size, refs,
 ghost use Rattle.trace_core.specs.Machine.{Event, Copying, Scanning, copied_word, step_of_offset, forward, IsSettled, taken_word};
 ghost use Rattle.object_model.specs.Graphs.{IsReachable};
 ghost use Rattle.object_model.specs.Preserving.{PreservesObjects};
-ghost use Rattle.trace_core.specs.Outcomes.{Lives, image, HaveAsked, NoOthersAsked};
+ghost use Rattle.trace_core.specs.Outcomes.{FinishedRow, Lives, image, HaveAsked, NoOthersAsked};
 ghost use Rattle.trace_core.specs.Traces.{HasRoom, TouchesLine, IsTrace, IsFinished, Reaches, machine_after, heap_after, stage_of, target_of, fields_scanned, is_claim_of, is_scan_of};
 
 /// No two objects have the same target.
@@ -162,6 +162,12 @@ pub fn finished_traces_are_precise()
         → HaveAsked roots (machine_after p es).asked → p.nursery ≡ false
         → NoOthersAsked roots (machine_after p es).asked → (a : ℕ)
         → (0 < image (stage_of p es) a) ↔ IsReachable p.before roots a }
+{}
+
+/// What the row is after a finished trace, without stages: what release of its blocks begins with.
+pub fn finished_traces_leave_rows()
+    ensures { (p : Setup) (es : List Event) → IsTrace p es → IsFinished p (machine_after p es)
+        → FinishedRow p (heap_after p es) (image (stage_of p es)) (machine_after p es).taken }
 {}
 
 /// In a nursery collection an old object is its own target. If it is not logged, its fields are as
