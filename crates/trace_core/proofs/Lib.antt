@@ -14,4 +14,5 @@ mod Once
 mod Clauses
 mod Finished
 mod Rows
+mod Releasable
 mod WorkedTraces

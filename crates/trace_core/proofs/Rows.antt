@@ -36,23 +36,23 @@ module _ (p : Setup) (es : List Event) (trace : IsTrace p es) (finished : IsFini
     | inr d ↦ absurd (let late : 3 ≤ o = d.2 in omega arith)
   ]
 
-  shape : (x : ℕ) → IsHeld p.before x → word_at after (x + 1) ≡ word_at p.before (x + 1)
+  pub shape : (x : ℕ) → IsHeld p.before x → word_at after (x + 1) ≡ word_at p.before (x + 1)
   shape x there = header x 1 there (omega arith)
 
-  name : (x : ℕ) → IsHeld p.before x → name_at after x ≡ name_at p.before x
+  pub name : (x : ℕ) → IsHeld p.before x → name_at after x ≡ name_at p.before x
   name x there = let at : x ≡ x + 0 = omega arith in ap name_of (ap (word_at after) at ∙ header x 0 there (omega arith) ∙ ap (word_at p.before) (sym at))
 
-  same-size : (x : ℕ) → IsHeld p.before x → size_at after x ≡ size p x
+  pub same-size : (x : ℕ) → IsHeld p.before x → size_at after x ≡ size p x
   same-size x there = ap (λ w. 3 + w % 65536 + w / 65536) (shape x there)
 
-  target-size : (a t : ℕ) → target_of p es a ≡ Some t → size_at after t ≡ size p a
+  pub target-size : (a t : ℕ) → target_of p es a ≡ Some t → size_at after t ≡ size p a
   target-size a t is = ap (λ w. 3 + w % 65536 + w / 65536) (same-shape p es trace finished a t is)
 
   -- what is held is the object of a: at its old place or at its target
   abbrev Holds : ℕ → Type 0
   Holds x = IsHeld p.before x ⊎ ((a : ℕ) × (target_of p es a ≡ Some x))
 
-  holds : (x : ℕ) → IsHeld after x → Holds x
+  pub holds : (x : ℕ) → IsHeld after x → Holds x
   holds x there = elim (starts-from p es trace x there) as (λ _. Holds x) [ inl was ↦ inl was | inr by ↦ inr (by.0, ap target by.2) ]
 
   within-old : (x i : ℕ) → IsHeld p.before x → IsInExtent after x i → IsInExtent p.before x i
@@ -139,7 +139,7 @@ module _ (p : Setup) (es : List Event) (trace : IsTrace p es) (finished : IsFini
   own-word : (x : ℕ) → IsInExtent after x x
   own-word x = record { from = omega arith; below = omega arith }
 
-  unlog-held : (x : ℕ) → IsTrue (is_unlogged after x) → IsHeld after x
+  pub unlog-held : (x : ℕ) → IsTrue (is_unlogged after x) → IsHeld after x
   unlog-held x set = elim (unlogs-from p es trace x set) as (λ _. IsHeld after x) [
     | inl was ↦ starts-kept p es trace x (trace.ready.lawful.order.objects.marks x (or_right (is_pinned p.before x) (is_unlogged p.before x) was))
     | inr by ↦ elim by.3 as (λ _. IsHeld after x) [
@@ -148,7 +148,7 @@ module _ (p : Setup) (es : List Event) (trace : IsTrace p es) (finished : IsFini
     ]
   ]
 
-  clear : (b : ℕ) → FreeBlockIsClear after b
+  pub clear : (b : ℕ) → FreeBlockIsClear after b
   clear b free = record {
     empty = λ x i there inside. held-elsewhere x i b there inside free;
     lines = λ line l set. line-clear b line free l set;

@@ -2,4 +2,5 @@ pub mod Setups
 pub mod Machine
 pub mod Traces
 pub mod Outcomes
+pub mod Releasing
 pub mod WorkedTraces

@@ -10,6 +10,7 @@ ghost use Rattle.trace_core.specs.Setups.{Setup, blocks, collection, size, refs,
 ghost use Rattle.trace_core.specs.Machine.{Event, Copying, Scanning, copied_word, step_of_offset, forward, IsSettled, taken_word};
 ghost use Rattle.object_model.specs.Graphs.{IsReachable};
 ghost use Rattle.object_model.specs.Preserving.{PreservesObjects};
+ghost use Rattle.trace_core.specs.Releasing.{IsReleasable};
 ghost use Rattle.trace_core.specs.Outcomes.{FinishedRow, Lives, image, HaveAsked, NoOthersAsked};
 ghost use Rattle.trace_core.specs.Traces.{HasRoom, TouchesLine, IsTrace, IsFinished, Reaches, machine_after, heap_after, stage_of, target_of, fields_scanned, is_claim_of, is_scan_of};
 
@@ -168,6 +169,12 @@ pub fn finished_traces_are_precise()
 pub fn finished_traces_leave_rows()
     ensures { (p : Setup) (es : List Event) → IsTrace p es → IsFinished p (machine_after p es)
         → FinishedRow p (heap_after p es) (image (stage_of p es)) (machine_after p es).taken }
+{}
+
+/// After a finished trace each block may be released.
+pub fn finished_traces_may_be_released()
+    ensures { (p : Setup) (es : List Event) → IsTrace p es → IsFinished p (machine_after p es)
+        → (k : ℕ) → k < blocks p → IsReleasable (heap_after p es) k }
 {}
 
 /// In a nursery collection an old object is its own target. If it is not logged, its fields are as
