@@ -3,7 +3,7 @@ use Rattle.std.proofs.Common.{◌≡◌, ◌≤◌, refl, ◌∙◌, arith, leng
 use Rattle.std.proofs.lemmas.List.{length-map}
 use Rattle.mm_runtime.specs.Managers.{lists_of}
 use Rattle.mm_runtime.proofs.FirstManager as first
-use Rattle.mm_runtime.proofs.manager.Manager.begin.Goals as goal
+use Rattle.mm_runtime.proofs.manager.Manager.begin_stored.Goals as goal
 
 pub returns-clause-ready : goal.returns-clause-ready
 returns-clause-ready g c =

@@ -1,0 +1,9 @@
+//! Commands as a trace keeps them: in 16 bytes, half of what a `Command` takes.
+#![tactic(auto)]
+
+mod form;
+mod lists;
+mod stored_command;
+
+pub use lists::{commands_of, stored_traces};
+pub use stored_command::StoredCommand;
