@@ -4,6 +4,8 @@
 mod form;
 mod lists;
 mod stored_command;
+#[cfg(test)]
+mod tests;
 
 pub use lists::{commands_of, stored_traces};
 pub use stored_command::StoredCommand;
