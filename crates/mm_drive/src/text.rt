@@ -11,10 +11,11 @@ ghost use Rattle.mm_drive.specs.Printed.{setting_of, IsPrinted};
 
 use command_line::Order;
 use heap_layout::{Layout, MAX_BLOCKS, MIN_BLOCKS};
-use ideal_heap::{Command, MAX_MUTATORS};
+use ideal_heap::MAX_MUTATORS;
 use mm_runtime::{Manager, Turn};
 use plans::NoGc;
 use std::alloc::{AllocError, Global};
+use stored_commands::StoredCommand;
 use trace_text::print_replies;
 use work_packets::Gate;
 
@@ -22,7 +23,7 @@ use work_packets::Gate;
 fn run_to_end<G: Gate>(
     alloc: Global,
     layout: Layout,
-    traces: Vec<Vec<Command>>,
+    traces: Vec<Vec<StoredCommand>>,
     gate: &G,
 ) -> Result<Manager<NoGc>, AllocError>
     requires some { 1 ≤ length traces.items }
@@ -34,7 +35,7 @@ fn run_to_end<G: Gate>(
         → IfOk result (λ m. (last : Moment) × IsWhole t last
         × Closes (rules_of no_gc) m t last) }
 {
-    let mut manager = Manager::<NoGc>::begin(alloc, layout, traces, 1)?;
+    let mut manager = Manager::<NoGc>::begin_stored(alloc, layout, traces, 1)?;
     'epochs: loop {
         let (next, turn) = manager.advance(gate)?;
         manager = next;
@@ -64,7 +65,7 @@ fn text_of_replies(alloc: Global, manager: &Manager<NoGc>) -> Result<Vec<u8>, Al
 pub(crate) fn text_of_session<G: Gate>(
     alloc: Global,
     order: &Order,
-    traces: Vec<Vec<Command>>,
+    traces: Vec<Vec<StoredCommand>>,
     gate: &G,
 ) -> Result<Vec<u8>, AllocError>
     requires supported { is_supported (job_of_order order.now) ≡ true }

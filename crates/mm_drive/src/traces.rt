@@ -11,9 +11,9 @@ ghost use Rattle.mm_runtime.specs.Managers.{lists_of, IsRunnable};
 ghost use Rattle.mm_drive.specs.Reading.{AsksName, Halts, fault_at};
 
 use crate::fault_lines::Flaw;
-use ideal_heap::Command;
 use outside::{Consumer, ReadFault, Sources, read_file};
 use std::alloc::{AllocError, Global};
+use stored_commands::StoredCommand;
 use trace_text::{TraceFault, TraceReader};
 
 /// Why a file has no trace.
@@ -77,7 +77,7 @@ impl Consumer for FileReader {
 }
 
 // The trace of the text that was read.
-fn trace_read(reader: TraceReader) -> Result<Vec<Command>, FileFault>
+fn trace_read(reader: TraceReader) -> Result<Vec<StoredCommand>, FileFault>
     ensures ok { (bytes : List ℕ) → HasRead reader bytes
         → IfOk result (λ v. trace bytes ≡ Ok v.items) }
     ensures fit { (bytes : List ℕ) → HasRead reader bytes
@@ -100,7 +100,7 @@ fn trace_of_file<S: Sources>(
     alloc: Global,
     sources: &mut S,
     name: &str,
-) -> Result<Vec<Command>, FileFault>
+) -> Result<Vec<StoredCommand>, FileFault>
     ensures ok { IfOk result (λ v. IsTraceIn ((S.state sources.old).content name.now) v.items) }
     ensures fit { IfOk result (λ v. IsRunnable v.items) }
     ensures unread { IsErrOf result FileFault.Unread
@@ -130,7 +130,7 @@ pub(crate) fn traces_of_files<S: Sources>(
     alloc: Global,
     sources: &mut S,
     files: &[String],
-) -> Result<Vec<Vec<Command>>, FilesFault>
+) -> Result<Vec<Vec<StoredCommand>>, FilesFault>
     ensures ok { IfOk result (λ v. AreTraces (S.state sources.old).content (texts files.now)
         (lists_of v.items)) }
     ensures fit { IfOk result (λ v. All IsRunnable (lists_of v.items)) }

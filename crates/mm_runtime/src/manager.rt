@@ -16,6 +16,7 @@ use plain_world::{BlockNotes, new_mutators};
 use plan_api::Plan;
 use std::alloc::{AllocError, Global};
 use std::marker::PhantomData;
+use stored_commands::{StoredCommand, stored_traces};
 use work_packets::Gate;
 
 /// Whether a command is left without a reply.
@@ -43,7 +44,7 @@ pub struct Manager<P> {
 }
 
 /// A trace with room for its replies.
-fn new_progress(alloc: Global, trace: Vec<Command>) -> Result<Progress, AllocError>
+fn new_progress(alloc: Global, trace: Vec<StoredCommand>) -> Result<Progress, AllocError>
     ensures { IfOk result (λ p. IsFresh trace.items p) }
 {
     let replies = Vec::with_capacity(alloc, trace.len())?;
@@ -51,7 +52,7 @@ fn new_progress(alloc: Global, trace: Vec<Command>) -> Result<Progress, AllocErr
 }
 
 /// Each trace with room for its replies.
-fn all_progress(alloc: Global, traces: Vec<Vec<Command>>) -> Result<Vec<Progress>, AllocError>
+fn all_progress(alloc: Global, traces: Vec<Vec<StoredCommand>>) -> Result<Vec<Progress>, AllocError>
     ensures traces { IfOk result (λ v. traces_of v.items ≡ lists_of traces.items) }
     ensures fresh { IfOk result (λ v. (k : ℕ) (p : State) → slice_get v.items k ≡ Some p
         → IsFresh p.trace.items p) }
@@ -72,6 +73,28 @@ impl<P: Plan> Manager<P> {
         alloc: Global,
         layout: Layout,
         traces: Vec<Vec<Command>>,
+        workers: u32,
+    ) -> Result<Manager<P>, AllocError>
+        requires workers { workers ≡ 1 }
+        requires some { 1 ≤ length traces.items }
+        requires few { length traces.items ≤ MAX_MUTATORS }
+        requires runnable { All IsRunnable (lists_of traces.items) }
+        ensures ready { IfOk result (λ m. IsReady P.rules m) }
+        ensures closes { IfOk result (λ m. (t : Setting) → t.rules ≡ P.rules
+            → t.blocks ≡ layout.blocks → t.workers ≡ workers
+            → t.traces ≡ lists_of traces.items → Closes P.rules m t (first_moment t)) }
+    {
+        let stored = stored_traces(alloc, &traces)?;
+        Manager::begin_stored(alloc, layout, stored, workers)
+    }
+
+    /// A manager as `begin` makes it, of stored traces, which it keeps.
+    ///
+    /// Fails if memory runs out.
+    pub fn begin_stored(
+        alloc: Global,
+        layout: Layout,
+        traces: Vec<Vec<StoredCommand>>,
         workers: u32,
     ) -> Result<Manager<P>, AllocError>
         requires workers { workers ≡ 1 }

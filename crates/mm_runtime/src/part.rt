@@ -12,6 +12,7 @@ use crate::progress::{End, Progress};
 use ideal_heap::{Command, MAX_MUTATORS, MAX_NUMS, MAX_REFS, REGISTERS, Reply};
 use mutator_calls::{Allocated, Polled};
 use plain_world::PlainWorld;
+use stored_commands::StoredCommand;
 use work_packets::{Gate, Point};
 
 /// Allocates the object of a `new`: the reply, or the end of the part if the stop is to serve it.
@@ -55,24 +56,25 @@ fn allocate<P, G: Gate>(
 fn step<P, G: Gate>(
     world: &mut PlainWorld<P>,
     m: u32,
-    command: Command,
+    stored: &StoredCommand,
     gate: &G,
 ) -> Result<Reply, End>
     requires open { IsOpen world.old }
     requires place { HasPlace world.old m }
     requires few { places_of world.old ≤ MAX_MUTATORS }
-    requires valid { IsValid command }
+    requires valid { IsValid stored.now }
     requires births { births_at world.old m + 1 < 2 ^ 32 }
     ensures reply { IfOk result (λ r. Answers world.old m
-        (record { command = command; reply = r } ∷ []) world.new) }
+        (record { command = stored.now; reply = r } ∷ []) world.new) }
     ensures stop { IfOk result (λ r. stop_word world.new ≡ stop_word world.old) }
     ensures stopped { IfErr result (λ end. Answers world.old m [] world.new) }
-    ensures end { IfErr result (EndsFor (stop_word world.old) world.new m (Some command)) }
+    ensures end { IfErr result (EndsFor (stop_word world.old) world.new m (Some stored.now)) }
 {
     gate.pass(m + 1, Point::Poll);
     if let Polled::Raised(by) = world.poll(m) {
         return Err(End::Raised(by));
     }
+    let command = stored.command();
     match command {
         Command::Gc => {
             world.raise(m);
@@ -101,8 +103,8 @@ pub(crate) fn run_part<P, G: Gate>(
     ensures births { births_at world.new m ≤ length progress.new.replies.items }
     ensures end { EndsFor (stop_word world.old) world.new m (next_of progress.new) result }
 {
-    while let Some(command) = progress.next() {
-        match step(world, m, command, gate) {
+    while let Some(stored) = progress.next_stored() {
+        match step(world, m, stored, gate) {
             Ok(reply) => progress.replies.push_reserved(reply),
             Err(end) => return end,
         }

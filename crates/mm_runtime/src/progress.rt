@@ -1,12 +1,13 @@
 //! How far a mutator has come in its trace.
 
-ghost use Rattle.std.specs.Prelude.{◌≡◌, ◌<◌, length};
+ghost use Rattle.std.specs.Prelude.{◌≡◌, ◌<◌, length, Some, None, MatchOption};
 ghost use Rattle.sessions.specs.Sessions.{is_at_meet, is_waiting};
 ghost use Rattle.mm_runtime.specs.Managers.{next_of, IsProgress};
 ghost use Rattle.mm_runtime.specs.Replying.{GetsOk};
 
 use ideal_heap::{Command, Reply};
 use mutator_calls::Need;
+use stored_commands::StoredCommand;
 
 /// The greatest number of commands of a trace.
 pub const MAX_COMMANDS: usize = 1_000_000;
@@ -14,7 +15,7 @@ pub const MAX_COMMANDS: usize = 1_000_000;
 /// A mutator's trace, and the replies to its first commands.
 #[derive(Debug, Drop)]
 pub(crate) struct Progress {
-    pub(crate) trace: Vec<Command>,
+    pub(crate) trace: Vec<StoredCommand>,
     // There is room for the reply to each command.
     pub(crate) replies: Vec<Reply>,
 }
@@ -35,11 +36,23 @@ pub(crate) enum End {
 }
 
 impl Progress {
+    /// The next command as it is stored, `None` at the end of the trace.
+    #[inline(always)]
+    pub(crate) fn next_stored(&self) -> Option<&StoredCommand>
+        ensures { MatchOption result (next_of self.now ≡ None)
+            (λ c. next_of self.now ≡ Some c.now) }
+    {
+        self.trace.get(self.replies.len())
+    }
+
     /// The next command, `None` at the end of the trace.
     pub(crate) fn next(&self) -> Option<Command>
         ensures { result ≡ next_of self.now }
     {
-        self.trace.get(self.replies.len()).copied()
+        match self.next_stored() {
+            Some(stored) => Some(stored.command()),
+            None => None,
+        }
     }
 
     /// Whether it is at `meet`.

@@ -2,21 +2,27 @@
 
 ghost use Rattle.std.specs.Prelude.{◌<◌};
 
-use crate::lines::{command_of, next_command};
+use crate::good_lines::first_command;
+use crate::lines::command_of;
 use crate::splitter::next_line;
 use crate::{TraceFault, TraceReader, Why, read_trace};
 use ideal_heap::Command;
 use std::alloc::{AllocError, Global};
 use std::test::Fail;
+use stored_commands::{StoredCommand, commands_of};
 
 // Both readers give the same result for the line, and the rest begins after its newline.
 fn agrees_on(alloc: Global, line: &[u8]) -> Result<bool, AllocError> {
     let mut text = Vec::from_slice(alloc, line)?;
     text.push(b'\n')?;
     text.resize(line.len().saturating_add(65), b'x')?;
-    match next_command(&text) {
-        Some((read, rest)) => Ok(read == command_of(line) && rest.len() == 64),
-        None => Ok(false),
+    match (first_command(&text), command_of(line)) {
+        (Some((stored, end)), Ok(command)) => {
+            Ok(stored.command() == command && end == text.len().saturating_sub(64))
+        }
+        (None, Err(_)) => Ok(true),
+        (None, Ok(command)) => Ok(StoredCommand::short(&command).is_none()),
+        _ => Ok(false),
     }
 }
 
@@ -180,7 +186,8 @@ fn read_in_pieces(alloc: Global, text: &[u8], size: usize) -> Result<Vec<Command
     for piece in text.chunks(size) {
         reader.read(piece)?;
     }
-    reader.finish()
+    let stored = reader.finish()?;
+    Ok(commands_of(alloc, &stored)?)
 }
 
 #[test]

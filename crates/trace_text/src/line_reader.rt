@@ -1,15 +1,16 @@
 //! The reader of lines: the commands of the lines that it has read, or the first fault.
 
-ghost use Rattle.std.specs.Prelude.{◌≡◌, ◌<◌, List, ℕ, [], None, OnOk, MatchOption};
+ghost use Rattle.std.specs.Prelude.{◌≡◌, ◌<◌, ◌≤◌, List, ℕ, [], None, length, IfOk, OnOk, MatchOption};
 ghost use Rattle.trace_text.specs.Grammar.{Gives, lines_of, with_header};
 ghost use Rattle.trace_text.specs.Readers.{end_of_lines, GoesOn};
 
 use crate::fault::{TraceFault, Why};
+use crate::good_lines::first_command;
 use crate::limits::MAX_COMMANDS;
 use crate::lines::next_command;
 use crate::splitter::next_line;
-use ideal_heap::Command;
 use std::alloc::{AllocError, Global};
+use stored_commands::StoredCommand;
 
 // The number of the last line that a trace may have: one after its header for each command.
 const LAST_LINE: u32 = MAX_COMMANDS + 1;
@@ -23,7 +24,7 @@ const LONG_TEXT: usize = 32_768;
 /// The lines read so far. Lines after the first bad one are not read.
 #[derive(Debug, Drop)]
 pub(crate) struct LineReader {
-    pub(crate) commands: Vec<Command>,
+    pub(crate) commands: Vec<StoredCommand>,
     /// The number of the next line, from 1 on.
     pub(crate) number: u32,
     pub(crate) fault: Option<TraceFault>,
@@ -81,21 +82,48 @@ impl LineReader {
         Some(rest)
     }
 
-    /// Reads the lines of a text.
+    // Reads the lines at the start of a text whose commands are short. Returns the other lines.
     #[inline(never)]
+    fn read_short<'t>(&mut self, text: &'t [u8]) -> Result<&'t [u8], AllocError>
+        requires none { self.old.fault ≡ None }
+        requires begun { 1 < self.old.number }
+        ensures lines { IfOk result (λ rest. GoesOn self.old self.new
+            (lines_of text.now) (lines_of rest.now)) }
+        ensures none { IfOk result (λ rest. self.new.fault ≡ None) }
+        ensures begun { IfOk result (λ rest. 1 < self.new.number) }
+        ensures fewer { IfOk result (λ rest. length rest.now ≤ length text.now) }
+    {
+        let mut rest = text;
+        while let Some((command, end)) = first_command(rest) {
+            if LAST_LINE < self.number {
+                return Ok(rest);
+            }
+            self.commands.push(command)?;
+            self.number += 1;
+            rest = &rest[end..];
+        }
+        Ok(rest)
+    }
+
+    /// Reads the lines of a text.
     pub(crate) fn read(&mut self, text: &[u8]) -> Result<(), AllocError>
         ensures { OnOk result (GoesOn self.old self.new (lines_of text.now) []) }
     {
         let Some(mut rest) = self.after_header(text) else {
             return Ok(());
         };
-        while let Some((read, remaining)) = next_command(rest) {
+        let alloc = *self.commands.allocator();
+        'lines: loop {
+            rest = self.read_short(rest)?;
+            let Some((read, remaining)) = next_command(rest) else {
+                return Ok(());
+            };
             if self.number > LAST_LINE {
                 self.fault = Some(TraceFault::TooMany);
                 return Ok(());
             }
             match read {
-                Ok(command) => self.commands.push(command)?,
+                Ok(command) => self.commands.push(StoredCommand::new(alloc, &command)?)?,
                 Err(why) => {
                     self.fault = Some(TraceFault::Line(self.number, why));
                     return Ok(());
@@ -104,11 +132,10 @@ impl LineReader {
             self.number += 1;
             rest = remaining;
         }
-        Ok(())
     }
 
     /// The commands of all lines, or the first fault.
-    pub(crate) fn finish(self) -> Result<Vec<Command>, TraceFault>
+    pub(crate) fn finish(self) -> Result<Vec<StoredCommand>, TraceFault>
         ensures { Gives (λ v. v.items) result (end_of_lines self []) }
     {
         match self.fault {

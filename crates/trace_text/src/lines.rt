@@ -7,7 +7,6 @@ ghost use Rattle.trace_text.specs.Grammar.{line, lines_of, op_of as read_op};
 
 use crate::commands::command;
 use crate::fault::Why;
-use crate::good_lines::first_command;
 use crate::op::Op;
 use crate::splitter::{next_line, next_part};
 use ideal_heap::Command;
@@ -64,15 +63,11 @@ pub(crate) fn command_of(bytes: &[u8]) -> Result<Command, Why>
 }
 
 // The result of reading the first line, and the text after the line. `None` if the text is empty.
-#[inline(always)]
 pub(crate) fn next_command(text: &[u8]) -> Option<(Result<Command, Why>, &[u8])>
     ensures lines { MatchOption result (lines_of text.now ≡ [])
         (λ x. IsReadAs text.now x.0 x.1.now) }
     ensures shorter { IfSome result (λ x. length x.1.now < length text.now) }
 {
-    if let Some((command, end)) = first_command(text) {
-        return Some((Ok(command), &text[end..]));
-    }
     let (line, rest) = next_line(text)?;
     Some((command_of(line), rest))
 }

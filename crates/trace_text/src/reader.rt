@@ -9,6 +9,19 @@ use crate::limits::MAX_COMMANDS;
 use crate::line_reader::LineReader;
 use ideal_heap::Command;
 use std::alloc::Global;
+use stored_commands::{StoredCommand, commands_of};
+
+// The commands of the trace, stored.
+fn read_stored(alloc: Global, bytes: &[u8]) -> Result<Vec<StoredCommand>, TraceFault>
+    ensures text { Gives (λ v. v.items) result (trace bytes.now) }
+    ensures valid { IfOk result (λ v. All IsValid v.items) }
+    ensures few { IfOk result (λ v. length v.items ≤ MAX_COMMANDS) }
+{
+    let mut lines = LineReader::new(alloc);
+    lines.reserve(bytes.len())?;
+    lines.read(bytes)?;
+    lines.finish()
+}
 
 /// Reads a trace in the format `mmtrace 1`: a header line, and after it one command per line.
 ///
@@ -21,8 +34,6 @@ pub fn read_trace(alloc: Global, bytes: &[u8]) -> Result<Vec<Command>, TraceFaul
     ensures valid { IfOk result (λ v. All IsValid v.items) }
     ensures few { IfOk result (λ v. length v.items ≤ MAX_COMMANDS) }
 {
-    let mut lines = LineReader::new(alloc);
-    lines.reserve(bytes.len())?;
-    lines.read(bytes)?;
-    lines.finish()
+    let stored = read_stored(alloc, bytes)?;
+    Ok(commands_of(alloc, &stored)?)
 }

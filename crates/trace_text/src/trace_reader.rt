@@ -8,9 +8,9 @@ ghost use Rattle.trace_text.specs.Readers.{HasRead, IsWhole};
 use crate::fault::TraceFault;
 use crate::limits::MAX_COMMANDS;
 use crate::line_reader::LineReader;
-use ideal_heap::Command;
 use memchr::{memchr, memrchr};
 use std::alloc::{AllocError, Global};
+use stored_commands::StoredCommand;
 
 /// Reads a trace in the format `mmtrace 1` from its text, which comes in pieces of any size.
 ///
@@ -80,7 +80,7 @@ impl TraceReader {
     /// The commands, after the last piece.
     ///
     /// Errors: those of `read_trace`.
-    pub fn finish(mut self) -> Result<Vec<Command>, TraceFault>
+    pub fn finish(mut self) -> Result<Vec<StoredCommand>, TraceFault>
         ensures text { (text : List ℕ) → HasRead self text
             → Gives (λ v. v.items) result (trace text) }
         ensures valid { (text : List ℕ) → HasRead self text

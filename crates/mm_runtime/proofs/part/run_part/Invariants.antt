@@ -6,8 +6,8 @@ use Rattle.mm_runtime.specs.Managers.{IsProgress}
 use Rattle.mm_runtime.specs.Parts.{RunsTrace}
 use Rattle.mm_runtime.proofs.part.run_part.Given as goal
 
-abbrev pub invariant-loop-command : goal.invariant-loop-command
-invariant-loop-command g l = record {
+abbrev pub invariant-loop-stored : goal.invariant-loop-stored
+invariant-loop-stored g l = record {
   is_open : IsOpen l.world;
   place : HasPlace l.world l.m;
   few : places_of l.world ≤ MAX_MUTATORS;
@@ -17,5 +17,5 @@ invariant-loop-command g l = record {
   stop : stop_word l.world ≡ stop_word l.fn.world;
 }
 
-abbrev pub decreases-loop-command : goal.decreases-loop-command
-decreases-loop-command g l = length l.progress.trace.items - length l.progress.replies.items
+abbrev pub decreases-loop-stored : goal.decreases-loop-stored
+decreases-loop-stored g l = length l.progress.trace.items - length l.progress.replies.items

@@ -4,12 +4,12 @@ use Rattle.trace_text.specs.Readers.{GoesOn}
 use Rattle.trace_text.proofs.line_reader.LineReader.read.Given as goal
 
 -- the lines so far are read, and none was bad
-abbrev pub invariant-loop-read : goal.invariant-loop-read
-invariant-loop-read l = record {
+abbrev pub invariant-lines : goal.invariant-lines
+invariant-lines l = record {
   none : l.self.fault ≡ None;
   begun : 1 < l.self.number;
   so_far : GoesOn l.fn.self l.self (lines_of l.text) (lines_of l.rest);
 }
 
-abbrev pub decreases-loop-read : goal.decreases-loop-read
-decreases-loop-read l = length l.rest
+abbrev pub decreases-lines : goal.decreases-lines
+decreases-lines l = length l.rest

@@ -4,7 +4,7 @@ use Rattle.trace_text.specs.Grammar.{Gives, lines_of}
 use Rattle.trace_text.specs.Readers.{end_of_lines}
 use Rattle.trace_text.proofs.ReaderLemmas.{trace_is}
 use Rattle.trace_text.proofs.ValidLemmas.{read_valid, read_few}
-use Rattle.trace_text.proofs.reader.read_trace.Goals as goal
+use Rattle.trace_text.proofs.reader.read_stored.Goals as goal
 
 pub returns-clause-text : goal.returns-clause-text
 returns-clause-text c =

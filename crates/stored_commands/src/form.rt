@@ -1,0 +1,24 @@
+//! Forms of commands whose numbers take the bytes that they need.
+
+use ideal_heap::Command;
+
+/// A command with narrow numbers. `Other` holds a command whose numbers do not fit.
+#[derive(Debug, Drop)]
+pub(crate) enum Form {
+    New { d: u8, refs: u16, nums: u16 },
+    Get { d: u8, s: u8, i: u16 },
+    Put { s: u8, i: u16, v: u8 },
+    Read { s: u8, j: u16 },
+    Write { s: u8, j: u16, n: u64 },
+    Add { s: u8, j: u16, n: u64 },
+    Swap { s: u8, j: u16, was: u32, next: u32 },
+    Move { d: u8, s: u8 },
+    DropReg { s: u8 },
+    Load { d: u8, g: u8 },
+    Share { g: u8, s: u8 },
+    Pin { s: u8 },
+    Unpin { s: u8 },
+    Gc,
+    Meet,
+    Other(Box<Command>),
+}
