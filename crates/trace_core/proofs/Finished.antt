@@ -109,6 +109,15 @@ module _ (p : Setup) (es : List Event) (trace : IsTrace p es) (finished : IsFini
     ];
   }
 
+  -- its number is that of the collection, or of an earlier one if the object is old
+  pub low-number : (a t : ℕ) → target_of p es a ≡ Some t → number_at after t ≤ collection p
+  low-number a t is = elim (cases_Bool (is_old p a)) as (λ _. number_at after t ≤ collection p) [
+    | inl aged ↦ (let past : number_at p.before a ≤ p.before.number = (trace.ready.lawful.order.objects.headers a (marks.held p.before a (held-of-old p trace.ready a aged))).number in
+        subst (λ w. number_in w ≤ collection p) (sym (mark-of a t is ∙ old-mark a t aged)) (omega arith))
+    | inr young ↦ (let parts = parts-of (collection p) t (word_at after (t + 2)) (small t (target-from a t is).1) (mark-of a t is ∙ young-mark a t young) in
+        subst (λ n. n ≤ collection p) (sym parts.0) (omega arith))
+  ]
+
   -- an object that was not claimed does not survive
   unclaimed-dies : (x : ℕ) → IsHeld p.before x → target_of p es x ≡ None → IsTrue (is_survivor after (base_after p) x) → ⊥
   unclaimed-dies x there none survives =

@@ -11,6 +11,7 @@ mod SideLaw
 mod Reasons
 mod Law
 mod Once
+mod Staying
 mod Clauses
 mod Finished
 mod Rows

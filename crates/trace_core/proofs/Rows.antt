@@ -1,5 +1,5 @@
 -- The row after a finished trace.
-use Rattle.std.proofs.Common.{◌≡◌, ◌≢◌, ℕ, ◌+◌, ◌*◌, ◌/◌, ◌%◌, ◌<◌, ◌≤◌, ◌⊎◌, inl, inr, true≢false, ◌&&◌, ◌||◌, not, IsTrue, nat_eq, nat_lt, List, sym, ap, ◌∙◌, subst, arith, Option, Some, None}
+use Rattle.std.proofs.Common.{◌≡◌, ◌≢◌, ℕ, ◌+◌, ◌*◌, ◌/◌, ◌%◌, ◌<◌, ◌≤◌, ◌⊎◌, inl, inr, true≢false, ◌&&◌, ◌||◌, not, IsTrue, nat_eq, nat_lt, List, refl, sym, ap, ◌∙◌, subst, arith, Option, Some, None}
 use Rattle.std.proofs.lemmas.Bool.{cases_eq, cases_lt, cases_Bool, and_parts, and_from, or_cases, or_left, or_right, eqb-true, ltb-true, not_from_false, true_from_ne_false}
 use Rattle.heap_layout.specs.Zones.{heap_of, block_at, offset_at}
 use Rattle.heap_layout.specs.declared.block.Kind.{Kind}
@@ -7,17 +7,17 @@ use Rattle.heap_layout.specs.declared.block.Kind.TheVariants as kinds
 use Rattle.heap_layout.specs.Blocks.{kind_code, kind_of_code}
 use Rattle.heap_layout.proofs.BlockLemmas.{kind_of_code-kind_code, kind_code_most}
 use Rattle.ideal_heap.specs.Names.{name_of}
-use Rattle.object_model.specs.Objects.{HeapState, word_at, block_word, HasKind, IsHeld, IsInExtent, IsInExtentOf, name_at, size_at, is_start, is_pinned, is_unlogged, line_marked}
+use Rattle.object_model.specs.Objects.{HeapState, word_at, block_word, HasKind, IsHeld, IsInExtent, IsInExtentOf, number_at, name_at, size_at, is_start, is_pinned, is_unlogged, line_marked}
 use Rattle.object_model.specs.Lawful.{FreeBlockIsClear}
 use Rattle.object_model.proofs.Marks as marks
-use Rattle.trace_core.specs.Setups.{Setup, blocks, size, refs, is_old}
+use Rattle.trace_core.specs.Setups.{collection, Setup, blocks, size, refs, is_old}
 use Rattle.trace_core.specs.Machine.{target, Event, taken_word}
 use Rattle.trace_core.specs.Traces.{IsTrace, IsFinished, HasRoom, TouchesLine, machine_after, heap_after, stage_of, target_of}
 use Rattle.trace_core.specs.Outcomes.{Lives, image, FinishedRow}
 use Rattle.trace_core.proofs.Objects.{Some-injective}
 use Rattle.trace_core.proofs.Law.{sound}
 use Rattle.trace_core.proofs.Clauses.{held-of, targets-apart, extents-apart, has-room, waits, starts-from, starts-kept, starts-done, unlogs-from, unlogs-kept, unlogs-done, pins, none-is-free, old-target, untaken-word, taken-block-word}
-use Rattle.trace_core.proofs.Finished.{has-target, image-is, image-some, lives, onto, same-shape}
+use Rattle.trace_core.proofs.Finished.{low-number, has-target, image-is, image-some, lives, onto, same-shape}
 
 module _ (p : Setup) (es : List Event) (trace : IsTrace p es) (finished : IsFinished p (machine_after p es)) where
   abbrev after : HeapState
@@ -164,6 +164,10 @@ module _ (p : Setup) (es : List Event) (trace : IsTrace p es) (finished : IsFini
   pub row : FinishedRow p (heap_after p es) (image (stage_of p es)) (machine_after p es).taken
   row = record {
     extent = (sound p es trace).objects.long;
+    layout = refl;
+    stop = (sound p es trace).sides.rest.stop 0 (record { from = omega arith; below = omega arith });
+    budget = (sound p es trace).sides.rest.budget 1 (record { from = omega arith; below = omega arith });
+    number = λ x live. (let new = onto p es trace finished x live in subst (λ z. number_at after z ≤ collection p) new.2 (low-number p es trace finished new.0 (F new.0) (has-target p es trace finished new.0 new.1)));
     held = λ x. (
       (λ there. elim (holds x there) as (λ _. IsHeld p.before x ⊎ ((a : ℕ) × (0 < F a) × (F a ≡ x))) [
         | inl was ↦ inl was

@@ -1,5 +1,5 @@
 -- The worked traces may begin, and each of their events may come.
-use Rattle.std.proofs.Common.{◌≡◌, ℕ, ◌+◌, ◌-◌, ◌*◌, ◌^◌, ◌<◌, ◌≤◌, inl, inr, Bool, true, true≢false, IsTrue, not, nat_eq, nat_lt, ◌∙◌, if◌then◌else◌, ◌&&◌, ◌||◌, [], ◌∷◌, refl, sym, ap, subst, arith, Some, None, lit<}
+use Rattle.std.proofs.Common.{◌≢◌, slice_index, false, List, suc, zero, ◌≡◌, ℕ, ◌+◌, ◌-◌, ◌*◌, ◌^◌, ◌<◌, ◌≤◌, inl, inr, Bool, true, true≢false, IsTrue, not, nat_eq, nat_lt, ◌∙◌, if◌then◌else◌, ◌&&◌, ◌||◌, [], ◌∷◌, refl, sym, ap, subst, arith, Some, None, lit<}
 use Rattle.std.specs.Int.{bit_at}
 use Rattle.std.proofs.lemmas.Nat.Bits.{bit_at-pow_other}
 use Rattle.std.proofs.lemmas.Bool.{cases_eq, eqb-true, and_parts, and_from, or_cases, ltb-true}
@@ -10,13 +10,18 @@ use Rattle.object_model.specs.Objects.{has_kind, is_start, is_unlogged, is_refer
 use Rattle.object_model.specs.Ages.{RemembersYoung, is_old}
 use Rattle.object_model.proofs.Marks as marks
 use Rattle.std.specs.List.{range_with_len, list_all}
-use Rattle.trace_core.proofs.Puts.{all_else}
+use Rattle.trace_core.proofs.Puts.{all_else, put_else}
 use Rattle.object_model.specs.Lawful.{IsLawful}
 use Rattle.object_model.proofs.LawfulTests as tests
 use Rattle.object_model.proofs.BuiltWords.{built-fits}
-use Rattle.trace_core.specs.Setups.{IsReady}
-use Rattle.trace_core.specs.Machine.{first_machine}
-use Rattle.trace_core.specs.Traces.{AreNext, TouchesLine}
+use Rattle.std.specs.Prelude.{filter}
+use Rattle.heap_layout.specs.Zones.{heap_of}
+use Rattle.trace_core.specs.Setups.{Setup, IsReady, refs}
+use Rattle.trace_core.specs.Machine.{Stage, Unclaimed, Copying, Scanning, target, Event, first_machine, put}
+use Rattle.trace_core.specs.Outcomes.{HaveAsked, NoOthersAsked}
+use Rattle.trace_core.proofs.Objects.{Some-injective, None-not-Some}
+use Rattle.trace_core.proofs.Clauses.{held-of}
+use Rattle.trace_core.specs.Traces.{AreNext, TouchesLine, IsTrace, IsFinished, machine_after, stage_of}
 use Rattle.trace_core.specs.WorkedTraces.{cycle_parts, cycle_setup, cycle_events, nursery_parts, nursery_setup, nursery_events, shared_parts, shared_setup, shared_events, full_parts, full_setup, full_events}
 
 pub cycle-lawful : IsLawful cycle_setup.before
@@ -179,6 +184,9 @@ nursery-remembers a i held aged unlogged more reference =
     (and_from (is_unlogged nursery_setup.before a) (is_reference (ref_at nursery_setup.before a i)) unlogged reference))) in
     (marks.held nursery_setup.before (ref_at nursery_setup.before a i) both.0, both.1)
 
+mature-not-free : kinds.Mature ≡ kinds.Free → ⊥
+mature-not-free e = true≢false (sym (ap (λ k. nat_eq (kind_code k) 0) e))
+
 pub nursery-ready : IsReady nursery_setup
 nursery-ready = record {
   lawful = nursery-lawful.but_lines;
@@ -188,18 +196,82 @@ nursery-ready = record {
   base = λ nursery. omega arith;
   remembers = λ nursery. nursery-remembers;
   kind = refl;
-  small = λ b from. absurd (true≢false (sym from));
-  fixed = λ none b. refl;
+  small = λ b from large. (let at : b ≡ 0 = eqb-true b 0 from in
+      true≢false (sym (subst (λ k. IsTrue (has_kind nursery_setup.before k kinds.LargeHead || has_kind nursery_setup.before k kinds.LargeTail)) at large)));
+  fixed = λ none. absurd (mature-not-free none);
 }
 
 pub nursery-events : AreNext nursery_setup (first_machine nursery_setup) nursery_events
 nursery-events = (
-  (refl, refl, ((omega arith), refl, (810, refl)), inl (record { same = refl; reason = λ moves. absurd (true≢false (sym moves)) })),
+  (refl, refl, (omega arith), (omega arith), mature-not-free),
   (
-    (814, 3, refl),
+    (refl, refl, ((omega arith), refl, (810, refl)), inr (record { room = record { moves = refl; address = record { from = omega arith; below = omega arith }; block = omega arith; within = omega arith }; unowned = λ i inside. refl })),
     (
-      (810, 0, refl, (omega arith), λ reference. (814, refl)),
-      tt,
+      (4902, 0, refl),
+      (
+        (4902, 1, refl),
+        (
+          (4902, 2, refl),
+          (
+            (4902, 3, refl),
+            (
+              (4902, 4, refl),
+              (
+                (810, 0, refl, (omega arith), λ reference. (4902, refl)),
+                (
+                  ((omega arith), refl, λ reference. absurd (true≢false (sym reference))),
+                  (
+                    ((omega arith), refl, λ reference. absurd (true≢false (sym reference))),
+                    (
+                      ((omega arith), refl, λ reference. absurd (true≢false (sym reference))),
+                      (
+                        ((omega arith), refl, λ reference. absurd (true≢false (sym reference))),
+                        (
+                          ((omega arith), refl, λ reference. absurd (true≢false (sym reference))),
+                          (
+                            ((omega arith), refl, λ reference. absurd (true≢false (sym reference))),
+                            (
+                              ((omega arith), refl, λ reference. absurd (true≢false (sym reference))),
+                              (
+                                ((omega arith), refl, λ reference. absurd (true≢false (sym reference))),
+                                (
+                                  ((omega arith), refl, λ reference. absurd (true≢false (sym reference))),
+                                  (
+                                    ((omega arith), refl, λ reference. absurd (true≢false (sym reference))),
+                                    (
+                                      ((omega arith), refl, λ reference. absurd (true≢false (sym reference))),
+                                      (
+                                        ((omega arith), refl, λ reference. absurd (true≢false (sym reference))),
+                                        (
+                                          ((omega arith), refl, λ reference. absurd (true≢false (sym reference))),
+                                          (
+                                            ((omega arith), refl, λ reference. absurd (true≢false (sym reference))),
+                                            (
+                                              ((omega arith), refl, λ reference. absurd (true≢false (sym reference))),
+                                              (
+                                                ((omega arith), refl, λ reference. absurd (true≢false (sym reference))),
+                                                tt,
+                                              ),
+                                            ),
+                                          ),
+                                        ),
+                                      ),
+                                    ),
+                                  ),
+                                ),
+                              ),
+                            ),
+                          ),
+                        ),
+                      ),
+                    ),
+                  ),
+                ),
+              ),
+            ),
+          ),
+        ),
+      ),
     ),
   ),
 )
@@ -327,15 +399,21 @@ shared-events = (
 )
 
 full-lawful : IsLawful full_setup.before
-full-lawful = tests.lawful full_setup.before (806 ∷ 4902 ∷ 8998 ∷ 13094 ∷ []) (record { held = refl; starts = refl; least = refl; most = refl; extent = refl; words = built-fits full_parts (lit< tt) refl refl; base = refl; named = refl; refs = refl; nums = refl; number = refl; target = refl; marks = refl; within = refl; kind = refl; cell = refl; run = refl; apart = refl; heads = refl; tails = refl; references = refl; globals = refl; names = refl; codes = refl; owners = refl; free_words = refl; free_lines = refl; free_marks = refl; lines = refl })
+full-lawful = tests.lawful full_setup.before (806 ∷ 4902 ∷ 8998 ∷ []) (record { held = refl; starts = refl; least = refl; most = refl; extent = refl; words = built-fits full_parts (lit< tt) refl refl; base = refl; named = refl; refs = refl; nums = refl; number = refl; target = refl; marks = refl; within = refl; kind = refl; cell = refl; run = refl; apart = refl; heads = refl; tails = refl; references = refl; globals = refl; names = refl; codes = refl; owners = refl; free_words = refl; free_lines = refl; free_marks = refl; lines = refl })
 
 -- what no block of four passes, no block passes
 no-kind : (kind : Kind) → list_all (λ b. not (has_kind full_setup.before b kind)) (range_with_len 0 4) ≡ true → (b : ℕ) → IsTrue (has_kind full_setup.before b kind) → ⊥
 no-kind kind none b is = let there : b < 4 = ltb-true b 4 (and_parts (nat_lt b 4) _ is).0 in
     true≢false (sym (tests.below (λ b. not (has_kind full_setup.before b kind)) 4 none b there) ∙ ap not is)
 
-full-none : (b : ℕ) → IsTrue (has_kind full_setup.before b kinds.Free) → ⊥
-full-none = no-kind kinds.Free refl
+-- block 3 alone was Free
+last-free : (b : ℕ) → IsTrue (has_kind full_setup.before b kinds.Free) → b ≡ 3
+last-free b is = let there : b < 4 = ltb-true b 4 (and_parts (nat_lt b 4) _ is).0 in
+    let test = tests.below (λ b. not (has_kind full_setup.before b kinds.Free) || nat_eq b 3) 4 refl b there in
+    elim (or_cases (not (has_kind full_setup.before b kinds.Free)) (nat_eq b 3) test) as (λ _. b ≡ 3) [
+      | inl none ↦ absurd (true≢false (sym none ∙ ap not is))
+      | inr at ↦ eqb-true b 3 at
+    ]
 
 pub full-ready : IsReady full_setup
 full-ready = record {
@@ -355,13 +433,13 @@ full-ready = record {
 
 pub full-events : AreNext full_setup (first_machine full_setup) full_events
 full-events = (
-  (refl, refl, ((omega arith), refl), inl (record { same = refl; reason = λ moves b free. absurd (full-none b free) })),
+  (refl, refl, (omega arith), (omega arith), bump-not-free),
   (
-    (806, 3, refl),
+    (refl, refl, tt, inl (record { same = refl; reason = λ moves b free. subst (λ k. 0 < put (λ b. 0) 3 1 k) (sym (last-free b free)) (omega arith) })),
     (
-      ((omega arith), refl, λ reference. (806, refl)),
+      (806, 3, refl),
       (
-        ((omega arith), refl, λ reference. absurd (true≢false (sym reference))),
+        ((omega arith), refl, λ reference. (806, refl)),
         (
           ((omega arith), refl, λ reference. absurd (true≢false (sym reference))),
           (
@@ -390,7 +468,10 @@ full-events = (
                                   ((omega arith), refl, λ reference. absurd (true≢false (sym reference))),
                                   (
                                     ((omega arith), refl, λ reference. absurd (true≢false (sym reference))),
-                                    tt,
+                                    (
+                                      ((omega arith), refl, λ reference. absurd (true≢false (sym reference))),
+                                      tt,
+                                    ),
                                   ),
                                 ),
                               ),
@@ -409,3 +490,50 @@ full-events = (
     ),
   ),
 )
+
+-- A trace is finished if its globals are set and each object that was held is done.
+abbrev is-done : Setup → ℕ → Stage → Bool
+is-done p x Unclaimed = true
+is-done p x (Copying t k) = false
+is-done p x (Scanning t k) = nat_eq k (refs p x)
+
+done-stage : (p : Setup) (x t : ℕ) (st : Stage) → is-done p x st ≡ true → target st ≡ Some t → st ≡ Scanning t (refs p x)
+done-stage p x t Unclaimed done is = absurd (None-not-Some t is)
+done-stage p x t (Copying u k) done is = absurd (true≢false (sym done))
+done-stage p x t (Scanning u k) done is = ap (λ z. Scanning z k) (Some-injective u t is) ∙ ap (Scanning t) (eqb-true k (refs p x) done)
+
+finished-by : (p : Setup) (es : List Event) (hs : List ℕ) → IsTrace p es → filter (is_start p.before) (range_with_len (heap_of p.before.blocks) (4096 * p.before.blocks)) ≡ hs
+    → list_all (λ x. is-done p x (stage_of p es x)) hs ≡ true → list_all (λ g. (machine_after p es).set g) (range_with_len 0 16) ≡ true → IsFinished p (machine_after p es)
+finished-by p es hs trace held all set = record {
+  globals = λ g few. tests.below (λ g. (machine_after p es).set g) 16 set g few;
+  objects = λ x t is. done-stage p x t (stage_of p es x) (tests.held-test p.before hs held (λ x. is-done p x (stage_of p es x)) all x (marks.held p.before x (held-of p es trace x t is))) is;
+}
+
+pub cycle-finished : IsFinished cycle_setup (machine_after cycle_setup cycle_events)
+cycle-finished = finished-by cycle_setup cycle_events (806 ∷ 810 ∷ []) (record { ready = cycle-ready; events = cycle-events }) refl refl refl
+
+pub nursery-finished : IsFinished nursery_setup (machine_after nursery_setup nursery_events)
+nursery-finished = finished-by nursery_setup nursery_events (806 ∷ 810 ∷ 814 ∷ []) (record { ready = nursery-ready; events = nursery-events }) refl refl refl
+
+pub shared-finished : IsFinished shared_setup (machine_after shared_setup shared_events)
+shared-finished = finished-by shared_setup shared_events (806 ∷ 810 ∷ 814 ∷ []) (record { ready = shared-ready; events = shared-events }) refl refl refl
+
+pub full-finished : IsFinished full_setup (machine_after full_setup full_events)
+full-finished = finished-by full_setup full_events (806 ∷ 4902 ∷ 8998 ∷ []) (record { ready = full-ready; events = full-events }) refl refl refl
+
+-- register 0 of the cycle's mutator asked, and no other
+pub cycle-asked : HaveAsked (806 ∷ 0 ∷ []) (machine_after cycle_setup cycle_events).asked
+cycle-asked zero some = omega arith
+cycle-asked (suc zero) some = absurd (omega arith)
+cycle-asked (suc (suc i)) some = absurd (omega arith)
+
+not-asked : (x : ℕ) → x ≢ 806 → 0 < (machine_after cycle_setup cycle_events).asked x → ⊥
+not-asked x ne some =
+    let none : (machine_after cycle_setup cycle_events).asked x ≡ 0 = put_else {B = ℕ} (λ z. 0) 806 1 x ne in
+    omega (arith, none, some)
+
+pub cycle-alone : NoOthersAsked (806 ∷ 0 ∷ []) (machine_after cycle_setup cycle_events).asked
+cycle-alone x some = elim (cases_eq x 806) as (λ _. (i : ℕ) × (slice_index (806 ∷ 0 ∷ []) i ≡ x)) [
+  | inl e ↦ (0, sym e)
+  | inr ne ↦ absurd (not-asked x ne some)
+]

@@ -44,7 +44,7 @@ pub data Cause : Type 0 where
 pub data Event : Type 0 where
   -- a worker claims the object at x, which will be at t
   Claim : (x t : ℕ) (cause : Cause) → Event
-  -- a root asks for the object at x, which was claimed before
+  -- a root asks for the object at x, which has its target
   Ask : (x : ℕ) → Event
   -- the next step of copying the object that was at x
   Copy : (x : ℕ) → Event

@@ -2,7 +2,7 @@
 use Rattle.std.specs.Prelude.{◌≡◌, ℕ, ◌<◌, ◌≤◌, ◌⊎◌, ◌↔◌, false, IsTrue, if◌then◌else◌, List, length, slice_index}
 use Rattle.heap_layout.specs.Zones.{row_words}
 use Rattle.heap_layout.specs.declared.block.Kind.TheVariants as kinds
-use Rattle.object_model.specs.Objects.{HeapState, HasKind, IsHeld, IsInExtent, block_word, name_at, refs_at, nums_at, is_pinned, is_unlogged}
+use Rattle.object_model.specs.Objects.{HeapState, HasKind, IsHeld, IsInExtent, word_at, block_word, number_at, name_at, refs_at, nums_at, is_pinned, is_unlogged}
 use Rattle.object_model.specs.Lawful.{FreeBlockIsClear}
 use Rattle.object_model.specs.Ages.{is_survivor}
 use Rattle.trace_core.specs.Setups.{Setup, blocks, collection, is_old, is_logged, may_move}
@@ -26,9 +26,13 @@ image stage x = address_or_nil (target (stage x))
 -- moved object and its copy have one name, and dead objects are still held.
 pub record FinishedRow (p : Setup) (after : HeapState) (F taken : ℕ → ℕ) : Type 0 where
   pub extent : length after.words ≡ row_words (blocks p)
+  pub layout : after.blocks ≡ blocks p
+  pub stop : word_at after 0 ≡ word_at p.before 0
+  pub budget : word_at after 1 ≡ word_at p.before 1
   -- what is held was held, or is a target; what lives is a target
   pub held : (x : ℕ) → IsHeld after x ↔ (IsHeld p.before x ⊎ ((a : ℕ) × (0 < F a) × (F a ≡ x)))
   pub lives : (x : ℕ) → Lives p after x ↔ ((a : ℕ) × (0 < F a) × (F a ≡ x))
+  pub number : (x : ℕ) → Lives p after x → number_at after x ≤ collection p
   -- an object that was held still has its name and shape
   pub names : (x : ℕ) → IsHeld p.before x → name_at after x ≡ name_at p.before x
   pub shapes : (x : ℕ) → IsHeld p.before x → (refs_at after x ≡ refs_at p.before x) × (nums_at after x ≡ nums_at p.before x)

@@ -42,7 +42,7 @@ is_old p x = p.nursery && (held p x && ages.is_old p.before x)
 abbrev pub is_logged : Setup → ℕ → Bool
 is_logged p x = is_old p x && not (is_unlogged p.before x)
 
--- a nursery collection does nothing with the old object
+-- a nursery collection leaves the words of the old object as they are
 abbrev pub is_idle : Setup → ℕ → Bool
 is_idle p x = is_old p x && is_unlogged p.before x
 

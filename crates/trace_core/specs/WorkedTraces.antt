@@ -4,7 +4,7 @@ use Rattle.std.specs.List.{range_with_len}
 use Rattle.heap_layout.specs.declared.block.Kind.TheVariants as kinds
 use Rattle.object_model.specs.WorkedHeaps.{WorkedHeap, plain_object, build_heap, unowned}
 use Rattle.trace_core.specs.Setups.{Setup}
-use Rattle.trace_core.specs.Machine.{Event, ByGlobal, ByField, Claim, Ask, Copy, Scan, SetGlobal, MarkLines, TakeBlock}
+use Rattle.trace_core.specs.Machine.{Event, ByRoot, ByGlobal, ByField, Claim, Ask, Copy, Scan, SetGlobal, MarkLines, TakeBlock}
 
 -- Block 0 has two objects, at 806 and 810. Each has one field, which refers to the other, and the second has a number.
 -- Global 0 refers to the first. Blocks 1 to 3 are Free.
@@ -38,13 +38,14 @@ nursery_parts = record {
   base = 1;
 }
 
--- a nursery collection in which no object moves
+-- a nursery collection by two workers, which moves young objects of block 0 into Mature blocks
 abbrev pub nursery_setup : Setup
-nursery_setup = record { before = build_heap nursery_parts; nursery = true; from = λ b. false; copy = kinds.Free; workers = 2 }
+nursery_setup = record { before = build_heap nursery_parts; nursery = true; from = λ b. nat_eq b 0; copy = kinds.Mature; workers = 2 }
 
--- a worker claims the young object in place, and scans the logged object
+-- the second worker takes block 1, moves the young object, and scans the logged one
 abbrev pub nursery_events : List Event
-nursery_events = Claim 814 814 (ByField 810 0) ∷ Copy 814 ∷ Scan 810 ∷ []
+nursery_events = TakeBlock 1 2 ∷ Claim 814 4902 (ByField 810 0) ∷ replicate 5 (Copy 814)
+    ++ Scan 810 ∷ map SetGlobal (range_with_len 0 16)
 
 -- Block 0 has a pinned object at 806, one at 810, and one at 814, to which both refer. Globals 0 and 1 refer to the first
 -- two. Blocks 1 to 3 are Free.
@@ -65,11 +66,11 @@ abbrev pub shared_events : List Event
 shared_events = TakeBlock 1 1 ∷ Claim 806 806 (ByGlobal 0) ∷ Copy 806 ∷ Claim 810 4902 (ByGlobal 1) ∷ replicate 6 (Copy 810)
     ++ Claim 814 4906 (ByField 806 0) ∷ replicate 5 (Copy 814) ++ Scan 806 ∷ Scan 810 ∷ map SetGlobal (range_with_len 0 16)
 
--- each of the four blocks has an object, so none is Free
+-- block 3 is Free, and each other block has an object
 abbrev pub full_parts : WorkedHeap
 full_parts = record {
-  blocks = replicate 4 (unowned kinds.Bump 0);
-  objects = plain_object 0 0 1 [] 0 0 ∷ plain_object 1 0 2 [] 0 0 ∷ plain_object 2 0 3 [] 0 0 ∷ plain_object 3 0 4 [] 0 0 ∷ [];
+  blocks = replicate 3 (unowned kinds.Bump 0) ++ unowned kinds.Free 0 ∷ [];
+  objects = plain_object 0 0 1 [] 0 0 ∷ plain_object 1 0 2 [] 0 0 ∷ plain_object 2 0 3 [] 0 0 ∷ [];
   globals = 806 ∷ replicate 15 0;
   number = 0;
   base = 0;
@@ -78,6 +79,6 @@ full_parts = record {
 abbrev pub full_setup : Setup
 full_setup = record { before = build_heap full_parts; nursery = false; from = λ b. true; copy = kinds.Bump; workers = 1 }
 
--- the object of block 0 is claimed in place, though it may move
+-- a worker takes the last Free block; then the object of block 0 is claimed in place for a root, though it may move
 abbrev pub full_events : List Event
-full_events = Claim 806 806 (ByGlobal 0) ∷ Copy 806 ∷ map SetGlobal (range_with_len 0 16)
+full_events = TakeBlock 3 1 ∷ Claim 806 806 ByRoot ∷ Copy 806 ∷ map SetGlobal (range_with_len 0 16)

@@ -1,17 +1,25 @@
 //! Worked traces: the machine, step by step, on small heaps.
 
-ghost use Rattle.std.specs.Prelude.{◌≡◌, ℕ, ◌+◌, ◌*◌, ◌^◌, true, false, List, [], ◌∷◌, map};
+ghost use Rattle.std.specs.Prelude.{◌≡◌, ℕ, ◌+◌, ◌*◌, ◌^◌, true, false, List, [], ◌∷◌, map, replicate};
 ghost use Rattle.heap_layout.specs.declared.block.Kind.TheVariants as kinds;
 ghost use Rattle.object_model.specs.Objects.{word_at};
 ghost use Rattle.trace_core.specs.Setups.{Setup, IsReady, is_old, is_logged, is_idle, may_move};
-ghost use Rattle.trace_core.specs.Machine.{Unclaimed, Scanning, first_stage};
-ghost use Rattle.trace_core.specs.Traces.{IsTrace, machine_after, heap_after, stage_of};
+ghost use Rattle.trace_core.specs.Machine.{Unclaimed, Scanning, Claim, Copy, TakeBlock, ByGlobal, first_stage};
+ghost use Rattle.trace_core.specs.Outcomes.{image, HaveAsked, NoOthersAsked};
+ghost use Rattle.trace_core.specs.Traces.{IsTrace, IsFinished, machine_after, heap_after, stage_of};
 ghost use Rattle.trace_core.specs.WorkedTraces.{cycle_setup, cycle_events, nursery_setup, nursery_events, shared_setup, shared_events, full_setup, full_events};
 
 /// Two objects that refer to each other move to block 1, and the global follows. Their old words
 /// have the collector word alone changed.
 pub fn cycle_moves()
     ensures trace { IsTrace cycle_setup cycle_events }
+    ensures finished { IsFinished cycle_setup (machine_after cycle_setup cycle_events) }
+    ensures roots { HaveAsked (806 ∷ 0 ∷ [])
+        (machine_after cycle_setup cycle_events).asked }
+    ensures alone { NoOthersAsked (806 ∷ 0 ∷ [])
+        (machine_after cycle_setup cycle_events).asked }
+    ensures targets { map (image (stage_of cycle_setup cycle_events)) (0 ∷ 806 ∷ 810 ∷ 814 ∷ [])
+        ≡ 0 ∷ 4902 ∷ 4906 ∷ 0 ∷ [] }
     ensures stages { map (stage_of cycle_setup cycle_events) (806 ∷ 810 ∷ [])
         ≡ Scanning 4902 1 ∷ Scanning 4906 1 ∷ [] }
     ensures first { map (word_at (heap_after cycle_setup cycle_events))
@@ -32,10 +40,18 @@ pub fn cycle_moves()
         ≡ 4902 ∷ 1 ∷ (1 + 65536 * 17) ∷ 1 ∷ 17 ∷ 17 ∷ 0 ∷ 17 ∷ [] }
 {}
 
+/// The words of an object are copied in order, but for the collector word.
+pub fn collector_word_is_copied_last()
+    ensures { map (word_at (heap_after cycle_setup (TakeBlock 1 1
+        ∷ Claim 806 4902 (ByGlobal 0) ∷ replicate 3 (Copy 806))))
+        (4902 ∷ 4903 ∷ 4904 ∷ 4905 ∷ []) ≡ 33 ∷ 1 ∷ 0 ∷ 810 ∷ [] }
+{}
+
 /// A pinned object stays in the block that is evacuated. The object that it and another one refer
 /// to moves once, and both fields follow.
 pub fn shared_object_moves_once()
     ensures trace { IsTrace shared_setup shared_events }
+    ensures finished { IsFinished shared_setup (machine_after shared_setup shared_events) }
     ensures stages { map (stage_of shared_setup shared_events) (806 ∷ 810 ∷ 814 ∷ [])
         ≡ Scanning 806 1 ∷ Scanning 4902 1 ∷ Scanning 4906 0 ∷ [] }
     // the fields of the first two objects, the globals, the unlog bits
@@ -46,9 +62,11 @@ pub fn shared_object_moves_once()
         ≡ false ∷ true ∷ true ∷ [] }
 {}
 
-/// With no Free block an object that may move is claimed where it is.
+/// When the last Free block is taken, an object that may move is claimed where it is.
 pub fn object_stays_in_a_full_heap()
     ensures trace { IsTrace full_setup full_events }
+    ensures finished { IsFinished full_setup (machine_after full_setup full_events) }
+    ensures asked { (machine_after full_setup full_events).asked 806 ≡ 1 }
     ensures moves { may_move full_setup 806 ≡ true }
     ensures stage { stage_of full_setup full_events 806 ≡ Scanning 806 0 }
     ensures words { map (word_at (heap_after full_setup full_events)) (2 ∷ 808 ∷ 550 ∷ [])
@@ -56,21 +74,23 @@ pub fn object_stays_in_a_full_heap()
 {}
 
 /// In a nursery collection old objects begin in place: the fields of a logged one are to be
-/// scanned, and those of another count as scanned. Young objects begin unclaimed.
-pub fn nursery_begins()
+/// scanned, and those of another count as scanned. The young object moves, and the field follows.
+pub fn nursery_moves_young_objects()
     ensures trace { IsTrace nursery_setup nursery_events }
-    ensures old { map (is_old nursery_setup) (806 ∷ 810 ∷ 814 ∷ []) ≡ true ∷ true
-        ∷ false ∷ [] }
+    ensures finished { IsFinished nursery_setup (machine_after nursery_setup nursery_events) }
+    ensures old { map (is_old nursery_setup) (806 ∷ 810 ∷ 814 ∷ [])
+        ≡ true ∷ true ∷ false ∷ [] }
     ensures logged { map (is_logged nursery_setup) (806 ∷ 810 ∷ 814 ∷ [])
         ≡ false ∷ true ∷ false ∷ [] }
     ensures first { map (first_stage nursery_setup) (806 ∷ 810 ∷ 814 ∷ [])
         ≡ Scanning 806 1 ∷ Scanning 810 0 ∷ Unclaimed ∷ [] }
     ensures stages { map (stage_of nursery_setup nursery_events) (806 ∷ 810 ∷ 814 ∷ [])
-        ≡ Scanning 806 1 ∷ Scanning 810 1 ∷ Scanning 814 0 ∷ [] }
-    // the collector words, and the unlog bits
+        ≡ Scanning 806 1 ∷ Scanning 810 1 ∷ Scanning 4902 0 ∷ [] }
+    // the collector words, the field, the word of block 1, the unlog bits
     ensures words { map (word_at (heap_after nursery_setup nursery_events))
-        (808 ∷ 812 ∷ 816 ∷ 813 ∷ 550 ∷ [])
-        ≡ (2 ^ 24 + 806) ∷ (2 ^ 24 + 810) ∷ (2 * 2 ^ 24 + 814) ∷ 814 ∷ 257 ∷ [] }
+        (808 ∷ 812 ∷ 816 ∷ 4904 ∷ 813 ∷ 19 ∷ 550 ∷ 614 ∷ [])
+        ≡ (2 ^ 24 + 806) ∷ (2 ^ 24 + 810) ∷ (2 * 2 ^ 24 + 4902) ∷ (2 * 2 ^ 24 + 4902)
+        ∷ 4902 ∷ (3 + 65536 * 18) ∷ 1 ∷ 1 ∷ [] }
 {}
 
 /// A trace of the cycle may begin. It may not with no worker or more than 16, with cells or a block

@@ -3,16 +3,16 @@
 
 ghost use Rattle.std.specs.Prelude.{◌≡◌, ◌≢◌, ◌⊎◌, ◌↔◌, ℕ, ◌+◌, ◌*◌, ◌<◌, ◌≤◌, Bool, false, Some, None, List, IsTrue, map, if◌then◌else◌, is_some, count_by};
 ghost use Rattle.forward_word.specs.CollectorWords.{collector_word};
-ghost use Rattle.heap_layout.specs.Zones.{LineWords, StopWord, BudgetWord, PinBits, InZone, IsAddress, bit_of};
+ghost use Rattle.heap_layout.specs.Zones.{heap_of, line_at, LineWords, StopWord, BudgetWord, PinBits, InZone, IsAddress, bit_of};
 ghost use Rattle.heap_layout.specs.declared.block.Kind.TheVariants as kinds;
 ghost use Rattle.object_model.specs.Objects.{word_at, global_at, block_word, HasKind, IsHeld, IsInExtent, IsInExtentOf, ref_at, is_pinned, is_unlogged, is_reference};
 ghost use Rattle.trace_core.specs.Setups.{Setup, blocks, collection, size, refs, is_old, is_logged, is_idle, may_move};
-ghost use Rattle.trace_core.specs.Machine.{Event, Copying, Scanning, copied_word, step_of_offset, forward, IsSettled, taken_word};
+ghost use Rattle.trace_core.specs.Machine.{Machine, Event, next, Copying, Scanning, copied_word, step_of_offset, forward, IsSettled, taken_word};
 ghost use Rattle.object_model.specs.Graphs.{IsReachable};
 ghost use Rattle.object_model.specs.Preserving.{PreservesObjects};
 ghost use Rattle.trace_core.specs.Releasing.{IsReleasable};
 ghost use Rattle.trace_core.specs.Outcomes.{FinishedRow, Lives, image, HaveAsked, NoOthersAsked};
-ghost use Rattle.trace_core.specs.Traces.{HasRoom, TouchesLine, IsTrace, IsFinished, Reaches, machine_after, heap_after, stage_of, target_of, fields_scanned, is_claim_of, is_scan_of};
+ghost use Rattle.trace_core.specs.Traces.{May, HasRoom, TouchesLine, IsTrace, IsFinished, Reaches, machine_after, heap_after, stage_of, target_of, fields_scanned, is_claim_of, is_scan_of};
 
 /// No two objects have the same target.
 pub fn targets_are_one_to_one()
@@ -95,8 +95,8 @@ pub fn references_are_forwarded()
         → IsSettled (stage_of p es) (global_at p.before g) }
 {}
 
-/// A root or a path leads to each object that has a target, and each root that asked for an object
-/// has its target.
+/// A root, a global or an old object leads to each object that has a target, and each root that
+/// asked for an object has its target.
 pub fn claims_have_reasons()
     ensures reached { (p : Setup) (es : List Event) → IsTrace p es → (x t : ℕ)
         → target_of p es x ≡ Some t → Reaches p (machine_after p es).asked x }
@@ -153,7 +153,8 @@ pub fn finished_traces_preserve_the_graph()
 {}
 
 /// A finished trace keeps exactly the objects that a root, a global or, in a nursery collection, an
-/// old object leads to. In a full collection these are the reachable objects.
+/// old object leads to. In a full collection in which the roots, and no others, asked, these are
+/// the reachable objects.
 pub fn finished_traces_are_precise()
     ensures kept { (p : Setup) (es : List Event) → IsTrace p es
         → IsFinished p (machine_after p es) → (a : ℕ)
@@ -187,6 +188,20 @@ pub fn old_objects_stay()
     ensures fields { (p : Setup) (es : List Event) → IsTrace p es → (x i : ℕ)
         → IsTrue (is_idle p x) → i < refs p x
         → ref_at (heap_after p es) x i ≡ ref_at p.before x i }
+{}
+
+/// A block that a worker took stays that worker's.
+pub fn taken_blocks_stay_taken()
+    ensures { (p : Setup) (m : Machine) (e : Event) → May p m e → (b : ℕ) → 0 < m.taken b
+        → (next p m e).taken b ≡ m.taken b }
+{}
+
+/// An object touches the lines in which it has a word.
+pub fn touched_lines_have_words()
+    ensures word { (b t n k : ℕ) → heap_of b ≤ t → 0 < n → TouchesLine b t n k
+        → (i : ℕ) × IsInExtentOf t n i × (line_at b i ≡ k) }
+    ensures touched { (b t n k i : ℕ) → heap_of b ≤ t → IsInExtentOf t n i → line_at b i ≡ k
+        → TouchesLine b t n k }
 {}
 
 /// An unlog bit is set if it was set, or if all words of an object that is not old are copied

@@ -1,5 +1,5 @@
 use Rattle.std.proofs.Common.{refl}
-use Rattle.trace_core.proofs.WorkedTraces.{shared-ready, shared-events}
+use Rattle.trace_core.proofs.WorkedTraces.{shared-ready, shared-events, shared-finished}
 use Rattle.trace_core.proofs.examples.shared_object_moves_once.Goals as goal
 
 pub returns-clause-trace : goal.returns-clause-trace
@@ -13,3 +13,6 @@ returns-clause-words c = refl
 
 pub returns-clause-moves : goal.returns-clause-moves
 returns-clause-moves c = refl
+
+pub returns-clause-finished : goal.returns-clause-finished
+returns-clause-finished c = shared-finished

@@ -1,6 +1,6 @@
 use Rattle.std.proofs.Common.{refl}
-use Rattle.trace_core.proofs.WorkedTraces.{nursery-ready, nursery-events}
-use Rattle.trace_core.proofs.examples.nursery_begins.Goals as goal
+use Rattle.trace_core.proofs.WorkedTraces.{nursery-ready, nursery-events, nursery-finished}
+use Rattle.trace_core.proofs.examples.nursery_moves_young_objects.Goals as goal
 
 pub returns-clause-old : goal.returns-clause-old
 returns-clause-old c = refl
@@ -19,3 +19,6 @@ returns-clause-words c = refl
 
 pub returns-clause-trace : goal.returns-clause-trace
 returns-clause-trace c = record { ready = nursery-ready; events = nursery-events }
+
+pub returns-clause-finished : goal.returns-clause-finished
+returns-clause-finished c = nursery-finished
