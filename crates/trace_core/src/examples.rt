@@ -18,8 +18,8 @@ pub fn cycle_moves()
         (machine_after cycle_setup cycle_events).asked }
     ensures alone { NoOthersAsked (806 ∷ 0 ∷ [])
         (machine_after cycle_setup cycle_events).asked }
-    ensures targets { map (image (stage_of cycle_setup cycle_events)) (0 ∷ 806 ∷ 810 ∷ 814 ∷ [])
-        ≡ 0 ∷ 4902 ∷ 4906 ∷ 0 ∷ [] }
+    ensures targets { map (image (stage_of cycle_setup cycle_events))
+        (0 ∷ 806 ∷ 810 ∷ 814 ∷ []) ≡ 0 ∷ 4902 ∷ 4906 ∷ 0 ∷ [] }
     ensures stages { map (stage_of cycle_setup cycle_events) (806 ∷ 810 ∷ [])
         ≡ Scanning 4902 1 ∷ Scanning 4906 1 ∷ [] }
     ensures first { map (word_at (heap_after cycle_setup cycle_events))

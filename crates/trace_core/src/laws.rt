@@ -200,8 +200,8 @@ pub fn taken_blocks_stay_taken()
 pub fn touched_lines_have_words()
     ensures word { (b t n k : ℕ) → heap_of b ≤ t → 0 < n → TouchesLine b t n k
         → (i : ℕ) × IsInExtentOf t n i × (line_at b i ≡ k) }
-    ensures touched { (b t n k i : ℕ) → heap_of b ≤ t → IsInExtentOf t n i → line_at b i ≡ k
-        → TouchesLine b t n k }
+    ensures touched { (b t n k i : ℕ) → heap_of b ≤ t → IsInExtentOf t n i
+        → line_at b i ≡ k → TouchesLine b t n k }
 {}
 
 /// An unlog bit is set if it was set, or if all words of an object that is not old are copied
