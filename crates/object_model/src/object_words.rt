@@ -35,8 +35,8 @@ fn encode_name(name: &Name) -> u64
     BIRTH_UNIT * name.birth as u64 + name.mutator as u64
 }
 
-/// Writes name and shape at `address`, and zeros to the other words of the object. No collection has
-/// claimed an object whose collector word is 0.
+/// Writes name and shape at `address`, and zeros to the other words of the object. No collection
+/// has claimed an object whose collector word is 0.
 pub(crate) fn write_words(words: &mut Vec<u64>, address: u32, name: &Name, shape: &Shape)
     requires refs { shape.now.refs ≤ MAX_REFS }
     requires nums { shape.now.nums ≤ MAX_NUMS }

@@ -1,5 +1,5 @@
 -- The order in which the words of an object are copied.
-use Rattle.std.proofs.Common.{◌≡◌, ◌≢◌, ℕ, ◌+◌, ◌-◌, ◌<◌, ◌≤◌, inl, inr, nat_eq, nat_lt, refl, ap, ◌∙◌, arith}
+use Rattle.std.proofs.Common.{◌≡◌, ◌≢◌, ℕ, ◌+◌, ◌-◌, ◌<◌, ◌≤◌, inl, inr, nat_eq, nat_lt, ap, ◌∙◌, arith}
 use Rattle.std.proofs.lemmas.Bool.{lt-ltb, le-ltb, eq-eqb, ne_eqb, cases_eq, cases_lt, cond-true, cond-false}
 use Rattle.object_model.specs.Objects.{word_at}
 use Rattle.trace_core.specs.Setups.{Setup}
@@ -17,9 +17,6 @@ module _ (n : ℕ) (least : 3 ≤ n) where
 
   first-offset : (o : ℕ) → o < 2 → step_of_offset n o ≡ o
   first-offset o l = cond-true (nat_lt o 2) o _ (lt-ltb o 2 l)
-
-  collector-offset : step_of_offset n 2 ≡ n - 1
-  collector-offset = refl
 
   later-offset : (o : ℕ) → 3 ≤ o → step_of_offset n o ≡ o - 1
   later-offset o l = cond-false (nat_lt o 2) o _ (le-ltb o 2 (omega arith)) ∙ cond-false (nat_eq o 2) (n - 1) (o - 1) (ne_eqb o 2 (λ e. omega arith))
