@@ -37,7 +37,8 @@ pub fn stored_traces(
     alloc: Global,
     traces: &[Vec<Command>],
 ) -> Result<Vec<Vec<StoredCommand>>, AllocError>
-    ensures same { IfOk result (λ v. map (λ t. t.items) v.items ≡ map (λ t. t.items) traces.now) }
+    ensures same { IfOk result (λ v.
+        map (λ t. t.items) v.items ≡ map (λ t. t.items) traces.now) }
     ensures count { IfOk result (λ v. length v.items ≡ length traces.now) }
 {
     let mut all = Vec::with_capacity(alloc, traces.len())?;
