@@ -5,7 +5,8 @@ ghost use Rattle.sessions.specs.Plans.{NoGc as no_gc, rules_of};
 ghost use Rattle.sessions.specs.Sessions.{Setting, Moment, IsWhole};
 ghost use Rattle.command_line.specs.Orders.{job_of_order};
 ghost use Rattle.command_line.specs.Words.{is_supported};
-ghost use Rattle.mm_runtime.specs.Managers.{lists_of, Closes, IsReady, IsRunnable};
+ghost use Rattle.mm_runtime.specs.Managers.{Closes, IsReady, IsRunnable};
+ghost use Rattle.stored_commands.specs.Lists.{lists_of};
 ghost use Rattle.mm_drive.specs.Texts.{replies_part};
 ghost use Rattle.mm_drive.specs.Printed.{setting_of, IsPrinted};
 

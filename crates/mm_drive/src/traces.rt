@@ -7,7 +7,8 @@ ghost use Rattle.command_line.specs.Orders.{texts};
 ghost use Rattle.outside.specs.Outside.{HasRisen};
 ghost use Rattle.mm_drive.specs.declared.fault_lines.Flaw.{Flaw as AnyFlaw};
 ghost use Rattle.mm_drive.specs.Printed.{AreTraces, IsTraceIn, IsLong, HasFault, AsksFirst, AsksPrefix, fault_of};
-ghost use Rattle.mm_runtime.specs.Managers.{lists_of, IsRunnable};
+ghost use Rattle.mm_runtime.specs.Managers.{IsRunnable};
+ghost use Rattle.stored_commands.specs.Lists.{lists_of};
 ghost use Rattle.mm_drive.specs.Reading.{AsksName, Halts, fault_at};
 
 use crate::fault_lines::Flaw;

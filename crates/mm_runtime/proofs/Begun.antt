@@ -6,7 +6,8 @@ use Rattle.std.proofs.lemmas.List.{map-append}
 use Rattle.ideal_heap.specs.declared.command.Command.{Command}
 use Rattle.plain_world.proofs.Lists.{one-element}
 use Rattle.mm_runtime.specs.declared.progress.Progress.{Progress}
-use Rattle.mm_runtime.specs.Managers.{lists_of, traces_of, IsFresh}
+use Rattle.mm_runtime.specs.Managers.{traces_of, IsFresh}
+use Rattle.stored_commands.specs.Lists.{lists_of}
 
 -- what holds of each element, and of one more
 pub pushed : {A : Type 0} (Q : A → Type 0) (xs : List A) (y : A) → ((k : ℕ) (x : A) → slice_get xs k ≡ Some x → Q x) → Q y

@@ -1,7 +1,6 @@
 -- A manager and the session that it runs.
-use Rattle.std.specs.Prelude.{◌≡◌, ℕ, ◌+◌, ◌-◌, ◌*◌, ◌≤◌, Vec, vec_capacity, Option, Some, None, List, [], map, length, take, All, sum_by, slice_get}
+use Rattle.std.specs.Prelude.{◌≡◌, ℕ, ◌+◌, ◌-◌, ◌*◌, ◌≤◌, vec_capacity, Option, Some, None, List, [], map, length, take, All, sum_by, slice_get}
 use Rattle.std.specs.List.{AllByRecursion, range_with_len}
-use Rattle.std.specs.declared.alloc.Global.{Global}
 use Rattle.ideal_heap.specs.declared.command.Command.{Command}
 use Rattle.ideal_heap.specs.declared.command.TheConstants.{MAX_MUTATORS}
 use Rattle.ideal_heap.specs.Commands.{IsValid}
@@ -22,10 +21,6 @@ use Rattle.mm_runtime.specs.declared.progress.TheConstants.{MAX_COMMANDS}
 -- the command that comes next in a trace, None at its end
 abbrev pub next_of : Progress → Option Command
 next_of p = slice_get p.trace.items (length p.replies.items)
-
--- the lists of some vectors
-abbrev pub lists_of : {A : Type 0} → List (Vec A Global) → List (List A)
-lists_of vs = map (λ v. v.items) vs
 
 -- the traces of some mutators
 abbrev pub traces_of : List Progress → List (List Command)

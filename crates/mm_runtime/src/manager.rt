@@ -5,7 +5,8 @@ ghost use Rattle.heap_layout.specs.declared.layout.TheConstants.{MIN_BLOCKS, MAX
 ghost use Rattle.sessions.specs.Plans.{NoGc};
 ghost use Rattle.sessions.specs.Sessions.{Setting, Moment, IsEpoch, IsWhole, first_moment};
 ghost use Rattle.mm_runtime.specs.declared.progress.Progress.{Progress as State};
-ghost use Rattle.mm_runtime.specs.Managers.{left, lists_of, traces_of, replied, Closes, IsFresh, IsReady, IsRunnable, HasEnded};
+ghost use Rattle.mm_runtime.specs.Managers.{left, traces_of, replied, Closes, IsFresh, IsReady, IsRunnable, HasEnded};
+ghost use Rattle.stored_commands.specs.Lists.{lists_of};
 
 use crate::progress::Progress;
 use heap_layout::Layout;

@@ -12,7 +12,7 @@ use Rattle.ideal_heap.specs.Commands.{is_new}
 use Rattle.sessions.specs.Sessions.{HasBirth}
 use Rattle.ideal_heap.specs.Ideal.{IdealHeap, step}
 use Rattle.ideal_heap.specs.Runs as runs
-use Rattle.ideal_heap.specs.Runs.{entry, is_full, after_entry}
+use Rattle.ideal_heap.specs.Runs.{entry, is_full}
 use Rattle.ideal_heap.proofs.StepLemmas.{never_full}
 use Rattle.object_model.specs.Graphs.{numbers_of}
 use Rattle.mutator_core.specs.declared.state.Local.{Local}

@@ -1,9 +1,9 @@
 -- The mutator machine. A step reads the mutator's own state and one word of the row. The definitions give the index of
 -- that word, the word after the step, the answer, and the mutator's state after the step.
 use Rattle.object_model.specs.declared.shape.TheConstants.{NUMS_UNIT}
-use Rattle.std.specs.Prelude.{ℕ, zero, suc, ◌+◌, ◌-◌, ◌/◌, ◌%◌, ◌^◌, Bool, true, false, if◌then◌else◌, nat_eq, Some, None, List, [], ◌∷◌, map, slice_index, slice_set, bit_or, bit_and}
+use Rattle.std.specs.Prelude.{ℕ, zero, suc, ◌+◌, ◌/◌, ◌%◌, ◌^◌, Bool, true, false, if◌then◌else◌, nat_eq, Some, None, List, [], ◌∷◌, map, slice_index, slice_set}
 use Rattle.std.specs.Int.{bit_at}
-use Rattle.heap_layout.specs.Zones.{StopWord, BudgetWord, Globals, BlockWords, StartBits, PinBits, UnlogBits, first, heap_of}
+use Rattle.heap_layout.specs.Zones.{StopWord, BudgetWord, Globals, BlockWords, StartBits, PinBits, UnlogBits, first}
 use Rattle.heap_layout.specs.Blocks.{code_of}
 use Rattle.heap_layout.specs.declared.block.Kind.TheVariants as kinds
 use Rattle.ideal_heap.specs.declared.command.Command.{Command}

@@ -17,7 +17,7 @@ use Rattle.object_model.specs.Changes.{WritesObject}
 use Rattle.object_model.specs.Births.{IsVacant, IsLargeRoom, MakesRun}
 use Rattle.object_model.proofs.Blocks.{SameHeap}
 use Rattle.object_model.proofs.Births as births
-use Rattle.object_model.proofs.Births.{Adds, IsCovered}
+use Rattle.object_model.proofs.Births.{Adds}
 use Rattle.object_model.proofs.ObjectParts.{objects-of, places-of, together, line-block}
 use Rattle.object_model.proofs.Marks.{mark-same}
 use Rattle.object_model.proofs.OneKind.{kind-code, kind-within, kind-from, one-kind}

@@ -14,7 +14,7 @@ use Rattle.ideal_heap.specs.Reach as reach
 use Rattle.ideal_heap.specs.Reach.{Reaches}
 use Rattle.object_model.specs.Objects.{HeapState, global_at, IsHeld, name_at, refs_at, ref_at, record_at, field_of_word, is_reference}
 use Rattle.object_model.specs.Graphs as graphs
-use Rattle.object_model.specs.Graphs.{MutatorState, IsMutatorState, AreMutators, ArePointers, PointsTo, IsReachable, Represents, numbers_of, roots_of, register_at}
+use Rattle.object_model.specs.Graphs.{MutatorState, IsMutatorState, PointsTo, IsReachable, Represents, numbers_of, roots_of, register_at}
 use Rattle.object_model.specs.Lawful.{IsWellFormed, IsRoot}
 use Rattle.object_model.specs.Agreement.{RepresentsOn}
 use Rattle.object_model.proofs.Among.{all-to}

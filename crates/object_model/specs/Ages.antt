@@ -19,3 +19,8 @@ RemembersYoung s = (a i : ℕ) → IsHeld s a → IsTrue (is_old s a) → IsTrue
 -- The object has survived collection `base` or a later one, and its target is its own address.
 abbrev pub is_survivor : HeapState → ℕ → ℕ → Bool
 is_survivor s base a = nat_le base (number_at s a) && nat_eq (target_at s a) a
+
+-- An object is held at a and survived collection `base` or a later one. Others that are held are dead, or moved away.
+pub record Lives (base : ℕ) (s : HeapState) (a : ℕ) : Type 0 where
+  pub held : IsHeld s a
+  pub survives : IsTrue (is_survivor s base a)

@@ -2,6 +2,7 @@ pub mod Objects
 pub mod Lawful
 pub mod Graphs
 pub mod Ages
+pub mod Releasing
 pub mod Preserving
 pub mod Changes
 pub mod Agreement

@@ -25,7 +25,6 @@ use Rattle.plain_world.specs.Worlds.{IsAt, IsInEpoch, IsReady, Goes}
 use Rattle.plain_world.specs.Steps.{Lacks, Offers, IsOffer, books_of}
 use Rattle.mutator_calls.specs.Allocating.{Books}
 use Rattle.plain_world.proofs.Stepping as stepping
-use Rattle.plain_world.proofs.Stepping.{Updates}
 use Rattle.plain_world.proofs.Entering as entering
 use Rattle.plain_world.proofs.Entering.{SteppedWith}
 use Rattle.plain_world.proofs.NoteLemmas as notes

@@ -12,7 +12,6 @@ use Rattle.ideal_heap.specs.Ideal.{IdealHeap}
 use Rattle.object_model.specs.Objects.{HeapState, state_of, word_at, block_word, has_kind, HasKind, class_at, owner_at, is_unlogged}
 use Rattle.object_model.specs.Lawful.{IsClear}
 use Rattle.object_model.proofs.Blocks as blocks
-use Rattle.object_model.proofs.Blocks.{set_block}
 use Rattle.sessions.specs.Fitting.{IsTail, HasHole}
 use Rattle.sessions.proofs.Tails.{tail-unique}
 use Rattle.plan_api.specs.Holes.{IsHolePart, IsTailPart, HasRoomFrom, IsFirstHole}
@@ -47,7 +46,7 @@ use Rattle.plain_world.proofs.Drawing.{lacks-after}
 use Rattle.plain_world.proofs.Rooms as rooms
 use Rattle.plain_world.proofs.Offering.{own-offer, offers-back}
 use Rattle.plain_world.proofs.Taking as taking
-use Rattle.plain_world.proofs.Taking.{Gains, changes-cases, kind_found, ticket_left, unowned-code, valid-parts}
+use Rattle.plain_world.proofs.Taking.{Gains, changes-cases, ticket_left, unowned-code, valid-parts}
 
 and-true : (b : Bool) → b ≡ (b && not false)
 and-true true = refl

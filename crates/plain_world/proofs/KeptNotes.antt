@@ -8,8 +8,7 @@ use Rattle.heap_layout.specs.declared.block.Kind.{Kind}
 use Rattle.heap_layout.specs.declared.block.Kind.TheVariants as kinds
 use Rattle.object_model.specs.Objects.{HeapState, HasKind, class_at, owner_at, cell_words}
 use Rattle.object_model.specs.Lawful.{IsLawful}
-use Rattle.object_model.proofs.OneKind.{kind-within}
-use Rattle.sessions.specs.Fitting.{IsTail, HasHole, HasSomeHole, class_of, free_of}
+use Rattle.sessions.specs.Fitting.{IsTail, HasHole, class_of, free_of}
 use Rattle.sessions.proofs.Placing.{free-some}
 use Rattle.sessions.proofs.Tails.{tail-unique}
 use Rattle.plan_api.specs.Holes.{IsFirstHole}

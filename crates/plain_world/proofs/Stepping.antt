@@ -19,7 +19,7 @@ use Rattle.mutator_core.proofs.Regions.{after-append}
 use Rattle.mutator_core.proofs.Law as law
 use Rattle.mutator_core.proofs.Law.{is_publication}
 use Rattle.mutator_core.proofs.Spots as spots
-use Rattle.mutator_core.proofs.Spots.{Spot, takes_block, clears_unlog}
+use Rattle.mutator_core.proofs.Spots.{Spot, takes_block}
 use Rattle.mutator_core.proofs.Kept.{Leaves}
 use Rattle.mutator_calls.specs.declared.need.Mutator.{Mutator}
 use Rattle.plain_world.specs.declared.plain_row.PlainRow.{PlainRow}

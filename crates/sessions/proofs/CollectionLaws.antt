@@ -16,7 +16,7 @@ use Rattle.sessions.specs.Collecting.{Collects, CollectsIf, IsCollection, base_a
 use Rattle.heap_layout.specs.Zones.{block_at}
 use Rattle.sessions.proofs.Counting.{counts-one}
 use Rattle.sessions.specs.Sessions as sessions
-use Rattle.sessions.specs.Sessions.{Setting, Moment, Replies, RunsPart, MakesCollection, CollectsFor, FirstTry, Serves, ServesAll, MeetsIf, InSession, IsEpoch, refusal, first_moment}
+use Rattle.sessions.specs.Sessions.{Setting, Moment, Replies, MakesCollection, CollectsFor, FirstTry, Serves, ServesAll, MeetsIf, InSession, IsEpoch, refusal}
 
 -- objects that stay
 

@@ -24,7 +24,7 @@ use Rattle.sessions.specs.Plans.{Rules, Copies, Headroom}
 use Rattle.sessions.specs.Fitting.{free_of, used_of, headroom_of, allowance_of}
 use Rattle.sessions.specs.Collecting.{is_logged_under}
 use Rattle.sessions.specs.Sessions as sessions
-use Rattle.sessions.specs.Sessions.{Setting, Moment, Cause, Needs, EndsBy, next_in, is_at_gc, is_at_need, IsOfPart, IsBirthOf, IsBirth, StoresInto, Stopped, ExhaustsAllowance, RunsPart, IsSound, ideal_at, mutators_of}
+use Rattle.sessions.specs.Sessions.{Setting, Moment, Cause, Needs, EndsBy, next_in, is_at_gc, is_at_need, IsOfPart, IsBirthOf, IsBirth, StoresInto, Stopped, ExhaustsAllowance, RunsPart, IsSound}
 
 -- why a mutator stopped
 

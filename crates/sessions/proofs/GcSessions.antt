@@ -19,7 +19,7 @@ use Rattle.object_model.proofs.OneKind.{kind-within, one-kind}
 use Rattle.object_model.proofs.Zeros as zeros
 use Rattle.sessions.specs.Plans.{Plan, rules_of}
 use Rattle.sessions.specs.Sessions as sessions
-use Rattle.sessions.specs.Sessions.{Setting, Moment, Cause, EndsBy, IsSound, MakesCollection, Replies, RunsPart, IsEpoch, IsWhole, first_moment, all_done}
+use Rattle.sessions.specs.Sessions.{Setting, Moment, Cause, EndsBy, IsSound, MakesCollection, RunsPart, IsEpoch, IsWhole}
 use Rattle.sessions.specs.WorkedSessions.{worked_setting, worked_moment}
 use Rattle.sessions.proofs.Beginning.{is-free}
 use Rattle.sessions.proofs.Counting.{collected-empty}

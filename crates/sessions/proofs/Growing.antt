@@ -7,7 +7,7 @@ use Rattle.ideal_heap.specs.declared.command.Command.{Command}
 use Rattle.ideal_heap.specs.declared.command.Command.TheVariants as c
 use Rattle.ideal_heap.specs.Runs.{Entry, IsMutator, next_of}
 use Rattle.sessions.specs.Sessions as sessions
-use Rattle.sessions.specs.Sessions.{Setting, Moment, Cause, Serves, mutators_of, next_in, is_at_gc, is_at_need, is_at_meet, is_waiting, all_done, RunsPart, CollectsFor, ServesAll, MeetsIf, Meets, EndsBy, IsEpoch}
+use Rattle.sessions.specs.Sessions.{Setting, Moment, Cause, Serves, mutators_of, next_in, is_at_gc, is_at_need, is_at_meet, is_waiting, all_done, CollectsFor, ServesAll, MeetsIf, EndsBy, IsEpoch}
 use Rattle.sessions.proofs.Orders as orders
 use Rattle.sessions.proofs.Orders.{AddsNoMeet}
 

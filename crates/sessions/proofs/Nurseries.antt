@@ -7,7 +7,7 @@ use Rattle.object_model.specs.Graphs.{IsReachable}
 use Rattle.object_model.specs.Ages.{is_old}
 use Rattle.sessions.specs.Plans.{Rules}
 use Rattle.sessions.specs.Collecting as collecting
-use Rattle.sessions.specs.Collecting.{IsNurseryReachable, is_old_under}
+use Rattle.sessions.specs.Collecting.{IsNurseryReachable}
 
 module _ (r : Rules) (s : HeapState) (roots : List ℕ) where
   pub arrives-kept : (a : ℕ) → IsReachable s roots a → IsNurseryReachable r s roots a

@@ -9,7 +9,7 @@ use Rattle.object_model.specs.declared.collect.Collect.{Collect}
 use Rattle.object_model.specs.declared.collect.Collect.TheVariants.{Nursery, Full}
 use Rattle.object_model.proofs.Among.{all-to}
 use Rattle.sessions.specs.Sessions as sessions
-use Rattle.sessions.specs.Sessions.{Setting, Moment, Cause, mutators_of, next_in, is_at_gc, is_at_need, is_at_meet, is_waiting, all_done, IsOfPart, RunsPart, MakesCollection, CollectsFor, FirstTry, Serves, ServesAll, MeetsIf, Meets, InSession, IsEpoch, IsWhole}
+use Rattle.sessions.specs.Sessions.{Setting, Moment, Cause, mutators_of, next_in, is_at_gc, is_at_need, is_at_meet, is_waiting, all_done, IsOfPart, RunsPart, CollectsFor, FirstTry, Serves, ServesAll, MeetsIf, Meets, InSession, IsWhole}
 use Rattle.sessions.proofs.Levels as levels
 use Rattle.sessions.proofs.Levels.{IsInRound, AreWithin, all-left, all-right, all-append}
 use Rattle.sessions.proofs.Meeting.{next-round}

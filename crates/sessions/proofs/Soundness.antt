@@ -12,7 +12,7 @@ use Rattle.ideal_heap.specs.Runs.{Entry, entry, Answers, IsRun, after, after_ent
 use Rattle.ideal_heap.proofs.RunLemmas.{after-append}
 use Rattle.object_model.specs.Graphs.{Represents, AreDifferent, numbers_of, new_mutator}
 use Rattle.sessions.specs.Sessions as sessions
-use Rattle.sessions.specs.Sessions.{Setting, Moment, IsSound, ideal_at, all_done, refusal, Replies, RunsPart, MakesCollection, CollectsFor, FirstTry, Serves, ServesAll, MeetsIf, InSession, IsEpoch, IsWhole, first_moment, mutators_of}
+use Rattle.sessions.specs.Sessions.{Setting, Moment, IsSound, ideal_at, all_done, Replies, RunsPart, CollectsFor, Serves, ServesAll, MeetsIf, InSession, IsEpoch, first_moment, mutators_of}
 
 -- `gc` and `meet` leave the ideal heap unchanged
 gc-heap : (h : IdealHeap) (m : ℕ) → after_entry h (entry m c.Gc r.Done) ≡ h

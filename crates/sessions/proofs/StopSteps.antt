@@ -16,7 +16,7 @@ use Rattle.sessions.specs.Plans.{Rules}
 use Rattle.sessions.specs.Fitting.{Fits}
 use Rattle.sessions.specs.Collecting.{Collects, CollectsIf, first_collection}
 use Rattle.sessions.specs.Sessions as sessions
-use Rattle.sessions.specs.Sessions.{Setting, Moment, Cause, mutators_of, next_in, is_at_gc, is_at_need, is_at_meet, is_waiting, all_done, birth_count, refusal, IsOfPart, RunsPart, MakesCollection, Replies, CollectsFor, Places, FirstTry, Serves, ServesAll, MeetsIf, Meets, IsEpoch, InSession, IsWhole}
+use Rattle.sessions.specs.Sessions.{Setting, Moment, Cause, mutators_of, next_in, is_at_gc, is_at_need, is_at_meet, is_waiting, all_done, birth_count, refusal, IsOfPart, MakesCollection, Replies, CollectsFor, Places, FirstTry, Serves, ServesAll, MeetsIf, Meets, IsEpoch, InSession, IsWhole}
 use Rattle.sessions.proofs.Counting.{counts-one}
 
 -- collections

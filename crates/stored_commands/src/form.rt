@@ -2,9 +2,11 @@
 
 use ideal_heap::Command;
 
-/// A command with narrow numbers. `Other` holds a command whose numbers do not fit.
+/// A command with narrow numbers. `Other` holds a command whose numbers do not fit. It stands first
+/// so that no form has the tag of its command: with equal tags LLVM jumps by the tag twice.
 #[derive(Debug, Drop)]
 pub(crate) enum Form {
+    Other(Box<Command>),
     New { d: u8, refs: u16, nums: u16 },
     Get { d: u8, s: u8, i: u16 },
     Put { s: u8, i: u16, v: u8 },
@@ -20,5 +22,4 @@ pub(crate) enum Form {
     Unpin { s: u8 },
     Gc,
     Meet,
-    Other(Box<Command>),
 }

@@ -1,6 +1,7 @@
 //! Lists of commands, stored and not.
 
-ghost use Rattle.std.specs.Prelude.{◌≡◌, IfOk, length, map};
+ghost use Rattle.std.specs.Prelude.{◌≡◌, IfOk, length};
+ghost use Rattle.stored_commands.specs.Lists.{lists_of};
 
 use crate::stored_command::StoredCommand;
 use ideal_heap::Command;
@@ -37,8 +38,7 @@ pub fn stored_traces(
     alloc: Global,
     traces: &[Vec<Command>],
 ) -> Result<Vec<Vec<StoredCommand>>, AllocError>
-    ensures same { IfOk result (λ v.
-        map (λ t. t.items) v.items ≡ map (λ t. t.items) traces.now) }
+    ensures same { IfOk result (λ v. lists_of v.items ≡ lists_of traces.now) }
     ensures count { IfOk result (λ v. length v.items ≡ length traces.now) }
 {
     let mut all = Vec::with_capacity(alloc, traces.len())?;

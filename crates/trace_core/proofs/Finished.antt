@@ -6,14 +6,14 @@ use Rattle.heap_layout.specs.Zones.{row_words, heap_of, block_at}
 use Rattle.ideal_heap.specs.Names.{name_of}
 use Rattle.object_model.specs.Objects.{HeapState, word_at, global_at, IsHeld, refs_at, ref_at, number_at, target_at, is_reference, is_pinned, is_start}
 use Rattle.object_model.specs.Ages as ages
-use Rattle.object_model.specs.Ages.{is_survivor}
+use Rattle.object_model.specs.Ages.{is_survivor, Lives}
 use Rattle.object_model.specs.Graphs.{IsReachable, from_root, from_global, from_field}
 use Rattle.object_model.specs.Preserving.{PreservesObjects, SameObject, field_after}
 use Rattle.object_model.proofs.Marks as marks
 use Rattle.trace_core.specs.Setups.{Setup, blocks, collection, held, size, refs, is_old, may_move}
 use Rattle.trace_core.specs.Machine.{target, Event, claimed_word, copied_word, forward, IsSettled, address_or_nil}
 use Rattle.trace_core.specs.Traces.{IsTrace, IsFinished, Reaches, FromRoot, FromGlobal, FromOld, ByReference, machine_after, heap_after, stage_of, target_of}
-use Rattle.trace_core.specs.Outcomes.{base_after, Lives, image, HaveAsked, NoOthersAsked}
+use Rattle.trace_core.specs.Outcomes.{base_after, image, HaveAsked, NoOthersAsked}
 use Rattle.trace_core.proofs.Steps.{copied-plain, copied-collector}
 use Rattle.trace_core.proofs.Beginning.{held-of-old, age-of, nursery-of}
 use Rattle.trace_core.proofs.Objects.{Some-injective, None-not-Some}
@@ -95,7 +95,7 @@ module _ (p : Setup) (es : List Event) (trace : IsTrace p es) (finished : IsFini
   survivor-from : (x : ℕ) → base_after p ≤ number_at after x → target_at after x ≡ x → IsTrue (is_survivor after (base_after p) x)
   survivor-from x least same = and_from (nat_le (base_after p) (number_at after x)) (nat_eq (target_at after x) x) (le-leb (base_after p) (number_at after x) least) (eq-eqb (target_at after x) x same)
 
-  pub lives : (a t : ℕ) → target_of p es a ≡ Some t → Lives p after t
+  pub lives : (a t : ℕ) → target_of p es a ≡ Some t → Lives (base_after p) after t
   lives a t is = record {
     held = starts-done p es trace a t (refs p a) (finished.objects a t is);
     survives = elim (cases_Bool (is_old p a)) as (λ _. IsTrue (is_survivor after (base_after p) t)) [
@@ -144,7 +144,7 @@ module _ (p : Setup) (es : List Event) (trace : IsTrace p es) (finished : IsFini
         | inr young ↦ (let parts = parts-of (collection p) t (word_at after (x + 2)) (small t (target-from x t is).1) (collector p es trace x t is ∙ young-mark x t young) in sym parts.1 ∙ at)
       ]
 
-  pub onto : (x : ℕ) → Lives p after x → (a : ℕ) × (0 < F a) × (F a ≡ x)
+  pub onto : (x : ℕ) → Lives (base_after p) after x → (a : ℕ) × (0 < F a) × (F a ≡ x)
   onto x live = elim (starts-from p es trace x live.held) as (λ _. (a : ℕ) × (0 < F a) × (F a ≡ x)) [
     | inl there ↦ elim (option-cases (target_of p es x)) as (λ _. (a : ℕ) × (0 < F a) × (F a ≡ x)) [
       | inl none ↦ absurd (unclaimed-dies x there none live.survives)
@@ -226,7 +226,7 @@ module _ (p : Setup) (es : List Event) (trace : IsTrace p es) (finished : IsFini
     reached a (from_global g few is some) = subst (Reaches p (machine_after p es).asked) is (FromGlobal g few (subst (λ v. IsTrue (is_reference v)) (sym is) (reference-from a some)))
     reached a (from_field y i from few is reference) = subst (Reaches p (machine_after p es).asked) is (ByReference y i (reached y from) few (subst (λ v. IsTrue (is_reference v)) (sym is) reference))
 
-    pub preserved : PreservesObjects (may_move p) p.before roots (Lives p (heap_after p es)) (heap_after p es) (map (image (stage_of p es)) roots) (image (stage_of p es))
+    pub preserved : PreservesObjects (may_move p) p.before roots (Lives (base_after p) (heap_after p es)) (heap_after p es) (map (image (stage_of p es)) roots) (image (stage_of p es))
     preserved = record {
       nil = nil-stays;
       held = λ a some. marks.held p.before a (held-of p es trace a (F a) (has-target a some));

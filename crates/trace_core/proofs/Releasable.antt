@@ -9,7 +9,7 @@ use Rattle.heap_layout.proofs.BlockLemmas.{is_block_code-code_of, kind_code_most
 use Rattle.ideal_heap.specs.Names.{IsName}
 use Rattle.object_model.specs.Objects.{HeapState, block_word, HasKind, IsHeld, size_at, is_pinned, is_unlogged}
 use Rattle.object_model.specs.Lawful.{HasObject, Lies}
-use Rattle.trace_core.specs.Releasing.{IsReleasable}
+use Rattle.object_model.specs.Releasing.{IsReleasable}
 use Rattle.object_model.specs.Preserving.{SameObject}
 use Rattle.trace_core.specs.Setups.{Setup, blocks, size, is_copy_kind}
 use Rattle.trace_core.specs.Machine.{Event, taken_word}

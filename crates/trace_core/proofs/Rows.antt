@@ -13,7 +13,7 @@ use Rattle.object_model.proofs.Marks as marks
 use Rattle.trace_core.specs.Setups.{collection, Setup, blocks, size, refs, is_old}
 use Rattle.trace_core.specs.Machine.{target, Event, taken_word}
 use Rattle.trace_core.specs.Traces.{IsTrace, IsFinished, HasRoom, TouchesLine, machine_after, heap_after, stage_of, target_of}
-use Rattle.trace_core.specs.Outcomes.{Lives, image, FinishedRow}
+use Rattle.trace_core.specs.Outcomes.{base_after, image, FinishedRow}
 use Rattle.trace_core.proofs.Objects.{Some-injective}
 use Rattle.trace_core.proofs.Law.{sound}
 use Rattle.trace_core.proofs.Clauses.{held-of, targets-apart, extents-apart, has-room, waits, starts-from, starts-kept, starts-done, unlogs-from, unlogs-kept, unlogs-done, pins, none-is-free, old-target, untaken-word, taken-block-word}
@@ -178,7 +178,7 @@ module _ (p : Setup) (es : List Event) (trace : IsTrace p es) (finished : IsFini
         | inr new ↦ subst (IsHeld after) new.2 (starts-done p es trace new.0 (F new.0) (refs p new.0) (finished.objects new.0 (F new.0) (has-target p es trace finished new.0 new.1)))
       ]),
     );
-    lives = λ x. (onto p es trace finished x, λ new. subst (Lives p after) new.2 (lives p es trace finished new.0 (F new.0) (has-target p es trace finished new.0 new.1)));
+    lives = λ x. (onto p es trace finished x, λ new. subst (Lives (base_after p) after) new.2 (lives p es trace finished new.0 (F new.0) (has-target p es trace finished new.0 new.1)));
     names = name;
     shapes = λ x there. (ap (λ w. w % 65536) (shape x there), ap (λ w. w / 65536) (shape x there));
     apart = apart;

@@ -2,5 +2,4 @@ pub mod Setups
 pub mod Machine
 pub mod Traces
 pub mod Outcomes
-pub mod Releasing
 pub mod WorkedTraces

@@ -4,7 +4,7 @@ use Rattle.heap_layout.specs.Zones.{row_words}
 use Rattle.heap_layout.specs.declared.block.Kind.TheVariants as kinds
 use Rattle.object_model.specs.Objects.{HeapState, HasKind, IsHeld, IsInExtent, word_at, block_word, number_at, name_at, refs_at, nums_at, is_pinned, is_unlogged}
 use Rattle.object_model.specs.Lawful.{FreeBlockIsClear}
-use Rattle.object_model.specs.Ages.{is_survivor}
+use Rattle.object_model.specs.Ages.{Lives}
 use Rattle.trace_core.specs.Setups.{Setup, blocks, collection, is_old, is_logged, may_move}
 use Rattle.trace_core.specs.Machine.{Stage, target, address_or_nil, taken_word}
 use Rattle.trace_core.specs.Traces.{HasRoom}
@@ -12,11 +12,6 @@ use Rattle.trace_core.specs.Traces.{HasRoom}
 -- the base after the collection: its number if it is a full one
 abbrev pub base_after : Setup → ℕ
 base_after p = if p.nursery then p.before.base else collection p
-
--- An object is held at x and survived the collection. Others that are held are dead, or moved away.
-pub record Lives (p : Setup) (s : HeapState) (x : ℕ) : Type 0 where
-  pub held : IsHeld s x
-  pub survives : IsTrue (is_survivor s (base_after p) x)
 
 -- the target of the object at x, 0 if it has none
 abbrev pub image : (ℕ → Stage) → ℕ → ℕ
@@ -31,8 +26,8 @@ pub record FinishedRow (p : Setup) (after : HeapState) (F taken : ℕ → ℕ) :
   pub budget : word_at after 1 ≡ word_at p.before 1
   -- what is held was held, or is a target; what lives is a target
   pub held : (x : ℕ) → IsHeld after x ↔ (IsHeld p.before x ⊎ ((a : ℕ) × (0 < F a) × (F a ≡ x)))
-  pub lives : (x : ℕ) → Lives p after x ↔ ((a : ℕ) × (0 < F a) × (F a ≡ x))
-  pub number : (x : ℕ) → Lives p after x → number_at after x ≤ collection p
+  pub lives : (x : ℕ) → Lives (base_after p) after x ↔ ((a : ℕ) × (0 < F a) × (F a ≡ x))
+  pub number : (x : ℕ) → Lives (base_after p) after x → number_at after x ≤ collection p
   -- an object that was held still has its name and shape
   pub names : (x : ℕ) → IsHeld p.before x → name_at after x ≡ name_at p.before x
   pub shapes : (x : ℕ) → IsHeld p.before x → (refs_at after x ≡ refs_at p.before x) × (nums_at after x ≡ nums_at p.before x)

@@ -9,9 +9,10 @@ ghost use Rattle.object_model.specs.Objects.{word_at, global_at, block_word, Has
 ghost use Rattle.trace_core.specs.Setups.{Setup, blocks, collection, size, refs, is_old, is_logged, is_idle, may_move};
 ghost use Rattle.trace_core.specs.Machine.{Machine, Event, next, Copying, Scanning, copied_word, step_of_offset, forward, IsSettled, taken_word};
 ghost use Rattle.object_model.specs.Graphs.{IsReachable};
+ghost use Rattle.object_model.specs.Ages.{Lives};
 ghost use Rattle.object_model.specs.Preserving.{PreservesObjects};
-ghost use Rattle.trace_core.specs.Releasing.{IsReleasable};
-ghost use Rattle.trace_core.specs.Outcomes.{FinishedRow, Lives, image, HaveAsked, NoOthersAsked};
+ghost use Rattle.object_model.specs.Releasing.{IsReleasable};
+ghost use Rattle.trace_core.specs.Outcomes.{FinishedRow, base_after, image, HaveAsked, NoOthersAsked};
 ghost use Rattle.trace_core.specs.Traces.{May, HasRoom, TouchesLine, IsTrace, IsFinished, Reaches, machine_after, heap_after, stage_of, target_of, fields_scanned, is_claim_of, is_scan_of};
 
 /// No two objects have the same target.
@@ -148,7 +149,7 @@ pub fn finished_traces_are_whole()
 pub fn finished_traces_preserve_the_graph()
     ensures { (p : Setup) (es : List Event) → IsTrace p es → IsFinished p (machine_after p es)
         → (roots : List ℕ) → HaveAsked roots (machine_after p es).asked
-        → PreservesObjects (may_move p) p.before roots (Lives p (heap_after p es))
+        → PreservesObjects (may_move p) p.before roots (Lives (base_after p) (heap_after p es))
         (heap_after p es) (map (image (stage_of p es)) roots) (image (stage_of p es)) }
 {}
 

@@ -1,7 +1,8 @@
 use Rattle.std.proofs.Common.{◌≡◌}
 use Rattle.sessions.specs.Plans.{NoGc, rules_of}
 use Rattle.sessions.specs.Sessions.{Setting, Moment}
-use Rattle.mm_runtime.specs.Managers.{lists_of, left, Closes, IsReady}
+use Rattle.mm_runtime.specs.Managers.{left, Closes, IsReady}
+use Rattle.stored_commands.specs.Lists.{lists_of}
 use Rattle.mm_drive.proofs.text.run_to_end.Given as goal
 
 abbrev pub invariant-epochs : goal.invariant-epochs

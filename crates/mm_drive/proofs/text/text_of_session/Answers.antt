@@ -3,7 +3,7 @@ use Rattle.sessions.specs.Plans.{rules_of}
 use Rattle.sessions.specs.Sessions.{Setting}
 use Rattle.command_line.specs.Orders.{job_of_order}
 use Rattle.command_line.specs.Words.{Job}
-use Rattle.mm_runtime.specs.Managers.{lists_of}
+use Rattle.stored_commands.specs.Lists.{lists_of}
 use Rattle.mm_drive.specs.Texts.{replies_part}
 use Rattle.mm_drive.specs.Printed.{setting_of, IsPrinted}
 use Rattle.mm_drive.proofs.Jobs.{supported-plan, supported-workers}

@@ -6,7 +6,8 @@ use Rattle.std.proofs.lemmas.List.Elements.{All-push}
 use Rattle.std.proofs.lemmas.Option.{slice_get-map, slice_get-get_or}
 use Rattle.ideal_heap.specs.declared.command.Command.{Command}
 use Rattle.command_line.specs.Orders.{texts}
-use Rattle.mm_runtime.specs.Managers.{lists_of, IsRunnable}
+use Rattle.mm_runtime.specs.Managers.{IsRunnable}
+use Rattle.stored_commands.specs.Lists.{lists_of}
 use Rattle.mm_drive.proofs.Joining.{halts, more-traces, one-more, asks-more, asks-prefix}
 use Rattle.mm_drive.proofs.traces.traces_of_files.Goals as goal
 

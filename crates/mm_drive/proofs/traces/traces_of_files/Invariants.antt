@@ -2,7 +2,8 @@ use Rattle.std.proofs.Common.{◌≡◌, ◌≤◌, All, length, take}
 use Rattle.std.specs.Prelude.{vec_len, vec_capacity}
 use Rattle.command_line.specs.Orders.{texts}
 use Rattle.mm_drive.specs.Printed.{AreTraces, AsksFirst}
-use Rattle.mm_runtime.specs.Managers.{lists_of, IsRunnable}
+use Rattle.mm_runtime.specs.Managers.{IsRunnable}
+use Rattle.stored_commands.specs.Lists.{lists_of}
 use Rattle.mm_drive.proofs.traces.traces_of_files.Given as goal
 
 abbrev pub invariant-loop-place : goal.invariant-loop-place

@@ -1,7 +1,8 @@
 use Rattle.std.proofs.Common.{◌≡◌, subst, sym, ◌++◌, ◌∷◌, [], ℕ, List}
 use Rattle.std.specs.Prelude.{slice_get, Some}
 use Rattle.mm_runtime.specs.declared.progress.Progress.{Progress}
-use Rattle.mm_runtime.specs.Managers.{lists_of, traces_of, IsFresh}
+use Rattle.mm_runtime.specs.Managers.{traces_of, IsFresh}
+use Rattle.stored_commands.specs.Lists.{lists_of}
 use Rattle.mm_runtime.proofs.Begun as begun
 use Rattle.mm_runtime.proofs.manager.all_progress.Goals as goal
 

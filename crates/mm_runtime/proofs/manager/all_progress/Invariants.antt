@@ -1,7 +1,8 @@
 use Rattle.std.proofs.Common.{◌≡◌, ℕ}
 use Rattle.std.specs.Prelude.{Some, slice_get}
 use Rattle.mm_runtime.specs.declared.progress.Progress.{Progress}
-use Rattle.mm_runtime.specs.Managers.{lists_of, traces_of, IsFresh}
+use Rattle.mm_runtime.specs.Managers.{traces_of, IsFresh}
+use Rattle.stored_commands.specs.Lists.{lists_of}
 use Rattle.mm_runtime.proofs.manager.all_progress.Given as goal
 
 abbrev pub invariant-loop-trace : goal.invariant-loop-trace

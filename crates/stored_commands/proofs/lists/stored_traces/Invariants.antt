@@ -1,8 +1,7 @@
 -- The first traces are stored.
-use Rattle.std.proofs.Common.{◌≡◌, map, take, Vec, Global}
-use Rattle.ideal_heap.specs.declared.command.Command.{Command}
+use Rattle.std.proofs.Common.{◌≡◌, take}
+use Rattle.stored_commands.specs.Lists.{lists_of}
 use Rattle.stored_commands.proofs.lists.stored_traces.Given as goal
 
 abbrev pub invariant-loop-trace : goal.invariant-loop-trace
-invariant-loop-trace l = map (λ (t : Vec Command Global). t.items) l.all.items
-    ≡ map (λ (t : Vec Command Global). t.items) (take l.trace-index l.traces)
+invariant-loop-trace l = lists_of l.all.items ≡ lists_of (take l.trace-index l.traces)

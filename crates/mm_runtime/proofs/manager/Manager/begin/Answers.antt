@@ -1,9 +1,10 @@
 -- The stored traces are the same.
-use Rattle.std.proofs.Common.{◌≡◌, sym, ◌∙◌, ap, subst, List, Vec, Global, arith, ◌≤◌, length}
+use Rattle.std.proofs.Common.{◌≡◌, sym, ◌∙◌, ap, subst, List}
 use Rattle.std.specs.Prelude.{All}
 use Rattle.std.proofs.lemmas.Result.{IfOk-weaker}
 use Rattle.ideal_heap.specs.declared.command.Command.{Command}
-use Rattle.mm_runtime.specs.Managers.{lists_of, IsRunnable}
+use Rattle.mm_runtime.specs.Managers.{IsRunnable}
+use Rattle.stored_commands.specs.Lists.{lists_of}
 use Rattle.mm_runtime.proofs.manager.Manager.begin.Goals as goal
 
 pub begin_stored-requires-clause-runnable : goal.begin_stored-requires-clause-runnable

@@ -1,7 +1,7 @@
 -- The first moment of a session.
 use Rattle.std.proofs.Common.{◌≡◌, ◌≤◌, refl, ◌∙◌, arith, length}
 use Rattle.std.proofs.lemmas.List.{length-map}
-use Rattle.mm_runtime.specs.Managers.{lists_of}
+use Rattle.stored_commands.specs.Lists.{lists_of}
 use Rattle.mm_runtime.proofs.FirstManager as first
 use Rattle.mm_runtime.proofs.manager.Manager.begin_stored.Goals as goal
 

@@ -1,5 +1,5 @@
 -- One good line more.
-use Rattle.std.proofs.Common.{◌≡◌, ◌∙◌, ◌+◌, ◌-◌, ◌<◌, ℕ, List, arith, refl, take, drop, length}
+use Rattle.std.proofs.Common.{◌∙◌, ◌+◌, ◌-◌, ◌<◌, ℕ, List, arith, refl, take, drop, length}
 use Rattle.std.proofs.lemmas.Bool.{le-ltb}
 use Rattle.trace_text.specs.declared.line_reader.LineReader.{LineReader}
 use Rattle.trace_text.specs.declared.limits.TheConstants.{MAX_COMMANDS}

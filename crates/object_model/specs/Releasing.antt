@@ -1,4 +1,4 @@
--- When a block may be released after a trace: what the release of one block asks of the row.
+-- When a block may be released: what the release of one block asks of the row.
 use Rattle.std.specs.Prelude.{◌≡◌, ℕ, ◌+◌, ◌<◌, ◌⊎◌, ◌||◌, IsTrue}
 use Rattle.heap_layout.specs.Zones.{block_at, block_start, IsAddress}
 use Rattle.heap_layout.specs.declared.block.Kind.TheVariants as kinds
