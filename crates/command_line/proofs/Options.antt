@@ -4,7 +4,7 @@ use Rattle.std.specs.Prelude.{Option, None, Some, is_some, option_and_then, slic
 use Rattle.std.specs.List.{list_all, find}
 use Rattle.std.specs.Str.{bytes_eq}
 use Rattle.std.proofs.lemmas.Slice.Eq.{bytes_eq-Decides}
-use Rattle.clap.specs.Walk.{Rule, Row, Text, at_row, first_of, has_row, more_values, reading_by, used}
+use Rattle.clap.specs.Walk.{Rule, Row, Text, at_row, first_of, has_row, more_values, one_of, reading_by, used}
 use Rattle.clap.specs.Simple.{filled}
 use Rattle.clap.specs.declared.parser.matches.ValueSource.TheVariants.{CommandLine}
 use Rattle.command_line.specs.Words.{GivenOption, takes_value, value_of}

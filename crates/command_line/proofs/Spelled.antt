@@ -1,5 +1,5 @@
 -- Words are split into the settings and files that they spell.
-use Rattle.std.proofs.Common.{◌≡◌, refl, ◌∙◌, sym, ap, subst, cond, ℕ, Bool, true, false, ◌&&◌, not, nat_lt, List, [], ◌∷◌, ◌++◌, length, codes, inl, inr}
+use Rattle.std.proofs.Common.{◌≡◌, refl, ◌∙◌, sym, ap, ap₂, subst, cond, ℕ, Bool, true, false, ◌&&◌, not, nat_lt, List, [], ◌∷◌, ◌++◌, length, codes, inl, inr, arith, lt-ltb}
 use Rattle.std.specs.Prelude.{Option, None, Some, option_map, option_and_then}
 use Rattle.std.specs.List.{list_all}
 use Rattle.command_line.specs.Words.{GivenOption, Line, split_line, has_dash, if_takes_value, in_one_word, in_two_words, is_file, only_files, setting_or, takes_value, with_setting}

@@ -11,9 +11,9 @@ use Rattle.clap.specs.Walk.{Rule, Row, Text, Walk, has_row, idle, more_values, p
 use Rattle.clap.specs.Simple.{built, is_simple, filled}
 use Rattle.clap.specs.declared.parser.matches.ValueSource.TheVariants.{CommandLine}
 use Rattle.clap.proofs.OnLiterals.{clap_on_literals}
-use Rattle.command_line.specs.Words.{GivenOption, Line, are_single, split_line, has_dash, if_takes_value, in_one_word, in_two_words, is_equals, is_file, only_files, setting_or, takes_value, value_of, with_setting}
+use Rattle.command_line.specs.Words.{GivenOption, Line, at_equals, are_single, split_line, has_dash, if_takes_value, in_one_word, in_two_words, is_equals, is_file, only_files, setting_or, takes_value, value_of, with_setting}
 use Rattle.command_line.specs.Reader.{reader, files_rule}
-use Rattle.command_line.proofs.Options.{absent, are_options, has_row_for, is_map, is_option, no_files_row, option_cases, row_for, used_by, used_new, valued_cases}
+use Rattle.command_line.proofs.Options.{absent, are_options, has_row_for, is_map, is_option, no_files_row, option_cases, row_for, same_bytes, used_by, used_new, valued_cases}
 
 abbrev pub rules : List Rule
 rules = (built reader).top.rules
