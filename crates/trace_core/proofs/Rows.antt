@@ -9,6 +9,7 @@ use Rattle.heap_layout.proofs.BlockLemmas.{kind_of_code-kind_code, kind_code_mos
 use Rattle.ideal_heap.specs.Names.{name_of}
 use Rattle.object_model.specs.Objects.{HeapState, word_at, block_word, HasKind, IsHeld, IsInExtent, IsInExtentOf, number_at, name_at, size_at, is_start, is_pinned, is_unlogged, line_marked}
 use Rattle.object_model.specs.Lawful.{FreeBlockIsClear}
+use Rattle.object_model.specs.Ages.{Lives}
 use Rattle.object_model.proofs.Marks as marks
 use Rattle.trace_core.specs.Setups.{collection, Setup, blocks, size, refs, is_old}
 use Rattle.trace_core.specs.Machine.{target, Event, taken_word}
