@@ -121,7 +121,7 @@ module _ (p : Setup) (es : List Event) (trace : IsTrace p es) where
   unclaimed x there is = unclaimed-by x (m.stage x) (s.objects.objects x there.start) is
 
   -- the words of a target
-  copying : (x t k : ℕ) → stage_of p es x ≡ Copying t k → CopyingObject p (slice_index m.words) m.stage m.owner m.taken x t k
+  pub copying : (x t k : ℕ) → stage_of p es x ≡ Copying t k → CopyingObject p (slice_index m.words) m.stage m.owner m.taken x t k
   copying x t k is = subst (ObjectIs p (slice_index m.words) m.stage m.owner m.taken x) is (s.objects.objects x (held-of x t (ap target is)))
 
   scanning : (x t k : ℕ) → stage_of p es x ≡ Scanning t k → ScanningObject p (slice_index m.words) m.stage m.owner m.taken x t k

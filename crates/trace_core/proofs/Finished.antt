@@ -21,7 +21,7 @@ use Rattle.trace_core.proofs.Places as places
 use Rattle.trace_core.proofs.Law.{sound}
 use Rattle.trace_core.proofs.Clauses.{held-of, one-to-one, targets-inside, has-room, collector, unclaimed, whole, forwarded, settled, starts-from, starts-done, pins, old-target}
 
-option-cases : (o : Option ℕ) → (o ≡ None) ⊎ ((t : ℕ) × (o ≡ Some t))
+pub option-cases : (o : Option ℕ) → (o ≡ None) ⊎ ((t : ℕ) × (o ≡ Some t))
 option-cases None = inl refl
 option-cases (Some t) = inr (t, refl)
 
@@ -30,7 +30,7 @@ some-by None some = absurd (omega arith)
 some-by (Some t) some = refl
 
 -- the parts of a collector word
-parts-of : (n t w : ℕ) → t < 2 ^ 24 → w ≡ collector_word n t → (number_in w ≡ n) × (target_in w ≡ t)
+pub parts-of : (n t w : ℕ) → t < 2 ^ 24 → w ≡ collector_word n t → (number_in w ≡ n) × (target_in w ≡ t)
 parts-of n t w small is = let e : w ≡ n * 16777216 + t = is in (omega arith, omega arith)
 
 module _ (p : Setup) (es : List Event) (trace : IsTrace p es) (finished : IsFinished p (machine_after p es)) where

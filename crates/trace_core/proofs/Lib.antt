@@ -16,4 +16,28 @@ mod Clauses
 mod Finished
 mod Rows
 mod Releasable
+mod Appending
+pub mod Counting
+mod Idle
+mod LastBlocks
+mod Tracking
+mod TakenRoom
+mod Reading
+mod ClaimedObjects
+mod Deciding
+mod Winning
+mod Asking
+mod CopyEvents
+mod BitStores
+mod CopiedObjects
+mod LineMasks
+mod LineMarks
+mod WithoutLines
+mod FirstView
+mod BeginningTracer
+pub mod Following
+mod Storing
+mod ScanRights
+mod ScanSteps
+mod FieldScans
 mod WorkedTraces

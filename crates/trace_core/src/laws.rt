@@ -1,17 +1,20 @@
 //! Laws of the trace machine. Each holds after every list of events of a trace, by any number of
 //! workers in any order.
 
-ghost use Rattle.std.specs.Prelude.{◌≡◌, ◌≢◌, ◌⊎◌, ◌↔◌, ℕ, ◌+◌, ◌*◌, ◌<◌, ◌≤◌, Bool, false, Some, None, List, IsTrue, map, if◌then◌else◌, is_some, count_by};
+ghost use Rattle.std.specs.Prelude.{◌≡◌, ◌≢◌, ◌⊎◌, ◌↔◌, ◌&&◌, not, ℕ, ◌+◌, ◌*◌, ◌<◌, ◌≤◌, Bool, false, Some, None, List, IsTrue, map, if◌then◌else◌, is_some, count_by};
 ghost use Rattle.forward_word.specs.CollectorWords.{collector_word};
 ghost use Rattle.heap_layout.specs.Zones.{heap_of, line_at, LineWords, StopWord, BudgetWord, PinBits, InZone, IsAddress, bit_of};
 ghost use Rattle.heap_layout.specs.declared.block.Kind.TheVariants as kinds;
-ghost use Rattle.object_model.specs.Objects.{word_at, global_at, block_word, HasKind, IsHeld, IsInExtent, IsInExtentOf, ref_at, is_pinned, is_unlogged, is_reference};
+ghost use Rattle.object_model.specs.Lawful.{IsLawfulButLines};
+ghost use Rattle.object_model.specs.Objects.{HeapState, word_at, global_at, block_word, HasKind, IsHeld, line_marked, IsInExtent, IsInExtentOf, ref_at, is_pinned, is_unlogged, is_reference};
 ghost use Rattle.trace_core.specs.Setups.{Setup, blocks, collection, size, refs, is_old, is_logged, is_idle, may_move};
 ghost use Rattle.trace_core.specs.Machine.{Machine, Event, next, Copying, Scanning, copied_word, step_of_offset, forward, IsSettled, taken_word};
 ghost use Rattle.object_model.specs.Graphs.{IsReachable};
 ghost use Rattle.object_model.specs.Ages.{Lives};
 ghost use Rattle.object_model.specs.Preserving.{PreservesObjects};
 ghost use Rattle.object_model.specs.Releasing.{IsReleasable};
+ghost use Rattle.trace_core.specs.Tracers.{setup_of, is_nursery};
+ghost use Rattle.trace_core.specs.declared.run.TraceRun.{TraceRun};
 ghost use Rattle.trace_core.specs.Outcomes.{FinishedRow, base_after, image, HaveAsked, NoOthersAsked};
 ghost use Rattle.trace_core.specs.Traces.{May, HasRoom, TouchesLine, IsTrace, IsFinished, Reaches, machine_after, heap_after, stage_of, target_of, fields_scanned, is_claim_of, is_scan_of};
 
@@ -96,13 +99,15 @@ pub fn references_are_forwarded()
         → IsSettled (stage_of p es) (global_at p.before g) }
 {}
 
-/// A root, a global or an old object leads to each object that has a target, and each root that
-/// asked for an object has its target.
+/// A root, a global or an old object leads to each object that has a target, which was held as the
+/// trace began. Each root that asked for an object has its target.
 pub fn claims_have_reasons()
     ensures reached { (p : Setup) (es : List Event) → IsTrace p es → (x t : ℕ)
         → target_of p es x ≡ Some t → Reaches p (machine_after p es).asked x }
     ensures roots { (p : Setup) (es : List Event) → IsTrace p es → (x : ℕ)
         → 0 < (machine_after p es).asked x → (t : ℕ) × (target_of p es x ≡ Some t) }
+    ensures held { (p : Setup) (es : List Event) → IsTrace p es → (x t : ℕ)
+        → target_of p es x ≡ Some t → IsHeld p.before x }
 {}
 
 /// An object that may move is in place only if no block is Free.
@@ -244,4 +249,18 @@ pub fn side_words_follow_events()
     ensures lines { (p : Setup) (es : List Event) → IsTrace p es → (n : ℕ)
         → n < 256 * blocks p → IsTrue (bit_of (blocks p) LineWords p.before.words n)
         → IsTrue (bit_of (blocks p) LineWords (heap_after p es).words n) }
+{}
+
+/// A trace begins with the words of the heap that it is given. A full collection of a plan with
+/// lines begins with all line bits clear.
+pub fn traces_begin_with_the_heap()
+    ensures words { (s : HeapState) (run : TraceRun) (w i : ℕ) → IsLawfulButLines s
+        → (InZone s.blocks LineWords i → ⊥) → word_at (setup_of s run w).before i ≡ word_at s i }
+    ensures held { (s : HeapState) (run : TraceRun) (w a : ℕ) → IsLawfulButLines s
+        → IsHeld (setup_of s run w).before a ↔ IsHeld s a }
+    ensures same { (s : HeapState) (run : TraceRun) (w : ℕ)
+        → (run.lines && not (is_nursery run.collect)) ≡ false → (setup_of s run w).before ≡ s }
+    ensures clear { (s : HeapState) (run : TraceRun) (w k line : ℕ) → IsLawfulButLines s
+        → IsTrue (run.lines && not (is_nursery run.collect)) → k < s.blocks → line < 256
+        → line_marked (setup_of s run w).before k line ≡ false }
 {}

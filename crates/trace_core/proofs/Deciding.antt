@@ -1,0 +1,91 @@
+-- What the collector word of an object tells a tracer.
+use Rattle.std.proofs.Common.{◌≡◌, ◌≢◌, ℕ, ◌+◌, ◌<◌, ◌≤◌, inl, inr, false, true≢false, ◌&&◌, IsTrue, nat_lt, nat_le, List, get_or, sym, ap, ◌∙◌, subst, arith, Some, None}
+use Rattle.std.proofs.lemmas.Bool.{cases_Bool, cond-true, cond-false, and_parts, and_from, leb-true}
+use Rattle.std.proofs.lemmas.Grind.{get_or_default_zero}
+use Rattle.forward_word.specs.CollectorWords.{collector_word, number_in, target_in, is_old_word}
+use Rattle.heap_layout.specs.Zones.{row_words}
+use Rattle.object_model.specs.Objects.{IsHeld, word_at}
+use Rattle.object_model.specs.Ages as ages
+use Rattle.trace_core.specs.Setups.{Setup, blocks, collection, held, is_old}
+use Rattle.trace_core.specs.Machine.{Event}
+use Rattle.trace_core.specs.Traces.{IsTrace, heap_after, target_of}
+use Rattle.trace_core.specs.Outcomes.{base_after}
+use Rattle.trace_core.specs.Views.{View}
+use Rattle.trace_core.specs.Tracers.{Tracks}
+use Rattle.trace_core.specs.declared.plain_trace.PlainTrace.{PlainTrace}
+use Rattle.trace_core.proofs.Beginning.{nursery-of, age-of}
+use Rattle.trace_core.proofs.Clauses.{collector, unclaimed, targets-inside}
+use Rattle.trace_core.proofs.Finished.{parts-of, option-cases}
+use Rattle.trace_core.proofs.Reading.{word-within}
+use Rattle.trace_core.proofs.Tracking.{words-are}
+
+module _ (p : Setup) (es : List Event) (trace : IsTrace p es) (x : ℕ) (there : IsHeld p.before x) where
+  abbrev word : ℕ
+  word = word_at (heap_after p es) (x + 2)
+
+  abbrev before : ℕ
+  before = word_at p.before (x + 2)
+
+  past : number_in before ≤ p.before.number
+  past = (trace.ready.lawful.order.objects.headers x there).number
+
+  -- the word of a claimed object that is not old
+  claimed-parts : (t : ℕ) → target_of p es x ≡ Some t → is_old p x ≡ false → (number_in word ≡ collection p) × (target_in word ≡ t)
+  claimed-parts t is young =
+      let inside = targets-inside p es trace x t t is (record { from = omega arith; below = omega arith }) in
+      let below : t < row_words (blocks p) = inside.below in
+      let most : blocks p ≤ 1024 = trace.ready.lawful.order.row.most in
+      parts-of (collection p) t word (omega arith) (collector p es trace x t is ∙ cond-false (is_old p x) before (collector_word (collection p) t) young)
+
+  -- the word of an old object, and of an unclaimed one
+  old-word : (t : ℕ) → target_of p es x ≡ Some t → IsTrue (is_old p x) → word ≡ before
+  old-word t is aged = collector p es trace x t is ∙ cond-true (is_old p x) before (collector_word (collection p) t) aged
+
+  -- which words are old for the base after the collection
+  old-from : IsTrue (is_old_word (base_after p) before) → IsTrue (is_old p x)
+  old-from is = elim (cases_Bool p.nursery) as (λ _. IsTrue (is_old p x)) [
+    | inl nursery ↦ and_from p.nursery (held p x && ages.is_old p.before x) nursery (and_from (held p x) (ages.is_old p.before x) there.start
+        (subst (λ n. IsTrue (is_old_word n before)) (cond-true p.nursery p.before.base (collection p) nursery) is))
+    | inr full ↦ absurd (let base : base_after p ≡ collection p = cond-false p.nursery p.before.base (collection p) full in
+        let least : base_after p ≤ number_in before = leb-true (base_after p) (number_in before) (and_parts (nat_lt 0 (base_after p)) (nat_le (base_after p) (number_in before)) is).1 in
+        let low : number_in before ≤ p.before.number = past in omega arith)
+  ]
+
+  old-to : IsTrue (is_old p x) → IsTrue (is_old_word (base_after p) before)
+  old-to aged = subst (λ n. IsTrue (is_old_word n before)) (sym (cond-true p.nursery p.before.base (collection p) (nursery-of p trace.ready x aged))) (age-of p trace.ready x aged)
+
+  -- the word has the number of this collection
+  pub seen : number_in word ≡ collection p → (is_old p x ≡ false) × (target_of p es x ≡ Some (target_in word))
+  seen number = elim (option-cases (target_of p es x)) as (λ _. (is_old p x ≡ false) × (target_of p es x ≡ Some (target_in word))) [
+    | inl none ↦ absurd (let same : number_in word ≡ number_in before = ap number_in (unclaimed p es trace x there none) in let low : number_in before ≤ p.before.number = past in omega arith)
+    | inr some ↦ elim (cases_Bool (is_old p x)) as (λ _. (is_old p x ≡ false) × (target_of p es x ≡ Some (target_in word))) [
+      | inl aged ↦ absurd (let same : number_in word ≡ number_in before = ap number_in (old-word some.0 some.1 aged) in let low : number_in before ≤ p.before.number = past in omega arith)
+      | inr young ↦ (young, some.1 ∙ ap Some (sym (claimed-parts some.0 some.1 young).1))
+    ]
+  ]
+
+  -- it has another number, and is old
+  pub aged : number_in word ≢ collection p → IsTrue (is_old_word (base_after p) word) → IsTrue (is_old p x)
+  aged other is = elim (option-cases (target_of p es x)) as (λ _. IsTrue (is_old p x)) [
+    | inl none ↦ old-from (subst (λ w. IsTrue (is_old_word (base_after p) w)) (unclaimed p es trace x there none) is)
+    | inr some ↦ elim (cases_Bool (is_old p x)) as (λ _. IsTrue (is_old p x)) [
+      | inl old ↦ old
+      | inr young ↦ absurd (other (claimed-parts some.0 some.1 young).0)
+    ]
+  ]
+
+  -- it has another number, and is not old
+  pub waits-for-claim : number_in word ≢ collection p → is_old_word (base_after p) word ≡ false → target_of p es x ≡ None
+  waits-for-claim other young = elim (option-cases (target_of p es x)) as (λ _. target_of p es x ≡ None) [
+    | inl none ↦ none
+    | inr some ↦ elim (cases_Bool (is_old p x)) as (λ _. target_of p es x ≡ None) [
+      | inl old ↦ absurd (true≢false (sym (old-to old) ∙ ap (is_old_word (base_after p)) (sym (old-word some.0 some.1 old)) ∙ young))
+      | inr new ↦ absurd (other (claimed-parts some.0 some.1 new).0)
+    ]
+  ]
+
+-- the collector word that a tracer reads
+pub collector-read : (p : Setup) (es : List Event) (t : PlainTrace) (v : View) → Tracks p es t v → (x : ℕ) → IsHeld p.before x → (w : ℕ)
+    → w ≡ get_or t.row.words.items (x + 2) w → w ≡ word_at (heap_after p es) (x + 2)
+collector-read p es t v tracks x there w is = is ∙ get_or_default_zero t.row.words.items (x + 2) w (word-within p es t v tracks x there 2 (omega arith))
+    ∙ ap (λ ws. get_or ws (x + 2) 0) (words-are p es t v tracks)
