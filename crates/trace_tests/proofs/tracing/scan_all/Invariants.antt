@@ -1,0 +1,6 @@
+use Rattle.trace_core.specs.Tracers.{IsTracing}
+use Rattle.trace_tests.specs.Tokens.{AreGrey}
+use Rattle.trace_tests.proofs.tracing.scan_all.Given as goal
+
+abbrev pub invariant-loop-scanned : goal.invariant-loop-scanned
+invariant-loop-scanned g l = IsTracing l.tracer (λ p es v. AreGrey p v l.stack.items)
