@@ -167,11 +167,11 @@ module _ (content : Content) (names : List (List ℕ)) where
       ]
 
 -- what was read is the content, if that is known
-pub trace-in : {X : Type 0} (r : Result X FileFault) (view : X → List Command) (content : Option (List ℕ)) (bytes : List ℕ) → length bytes ≤ MAX_FILE_BYTES → IfSome content (λ known. bytes ≡ known)
-    → IfOk r (λ x. trace bytes ≡ Ok (view x)) → IfOk r (λ x. IsTraceIn content (view x))
-trace-in (Err e) view content bytes few is read = tt
-trace-in (Ok x) view None bytes few is read = tt
-trace-in (Ok x) view (Some known) bytes few is read = subst (λ (b : List ℕ). (length b ≤ MAX_FILE_BYTES) × (trace b ≡ Ok (view x))) is (few, read)
+pub trace-in : (r : Result (List Command) FileFault) (content : Option (List ℕ)) (bytes : List ℕ) → length bytes ≤ MAX_FILE_BYTES → IfSome content (λ known. bytes ≡ known)
+    → IfOk r (λ commands. trace bytes ≡ Ok commands) → IfOk r (IsTraceIn content)
+trace-in (Err e) content bytes few is read = tt
+trace-in (Ok commands) None bytes few is read = tt
+trace-in (Ok commands) (Some known) bytes few is read = subst (λ (b : List ℕ). (length b ≤ MAX_FILE_BYTES) × (trace b ≡ Ok commands)) is (few, read)
 
 pub fault-in : (f : Flaw) (content : Option (List ℕ)) (bytes : List ℕ) → length bytes ≤ MAX_FILE_BYTES → IfSome content (λ known. bytes ≡ known) → trace bytes ≡ Err (fault_of f) → IfSome content (HasFault f)
 fault-in f None bytes few is bad = tt

@@ -6,7 +6,6 @@ ghost use Rattle.sessions.specs.Sessions.{Setting, Moment, IsWhole};
 ghost use Rattle.command_line.specs.Orders.{job_of_order};
 ghost use Rattle.command_line.specs.Words.{is_supported};
 ghost use Rattle.mm_runtime.specs.Managers.{Closes, IsReady, IsRunnable};
-ghost use Rattle.stored_commands.specs.Lists.{lists_of};
 ghost use Rattle.mm_drive.specs.Texts.{replies_part};
 ghost use Rattle.mm_drive.specs.Printed.{setting_of, IsPrinted};
 
@@ -16,7 +15,7 @@ use ideal_heap::MAX_MUTATORS;
 use mm_runtime::{Manager, Turn};
 use plans::NoGc;
 use std::alloc::{AllocError, Global};
-use stored_commands::StoredCommand;
+use stored_commands::StoredTrace;
 use trace_text::print_replies;
 use work_packets::Gate;
 
@@ -24,15 +23,15 @@ use work_packets::Gate;
 fn run_to_end<G: Gate>(
     alloc: Global,
     layout: Layout,
-    traces: Vec<Vec<StoredCommand>>,
+    traces: Vec<StoredTrace>,
     gate: &G,
 ) -> Result<Manager<NoGc>, AllocError>
     requires some { 1 ≤ length traces.items }
     requires few { length traces.items ≤ MAX_MUTATORS }
-    requires fit { All IsRunnable (lists_of traces.items) }
+    requires fit { All IsRunnable traces.items }
     ensures ready { IfOk result (λ m. IsReady (rules_of no_gc) m) }
     ensures whole { (t : Setting) → t.rules ≡ rules_of no_gc → t.blocks ≡ layout.blocks
-        → t.workers ≡ 1 → t.traces ≡ lists_of traces.items
+        → t.workers ≡ 1 → t.traces ≡ traces.items
         → IfOk result (λ m. (last : Moment) × IsWhole t last
         × Closes (rules_of no_gc) m t last) }
 {
@@ -66,7 +65,7 @@ fn text_of_replies(alloc: Global, manager: &Manager<NoGc>) -> Result<Vec<u8>, Al
 pub(crate) fn text_of_session<G: Gate>(
     alloc: Global,
     order: &Order,
-    traces: Vec<Vec<StoredCommand>>,
+    traces: Vec<StoredTrace>,
     gate: &G,
 ) -> Result<Vec<u8>, AllocError>
     requires supported { is_supported (job_of_order order.now) ≡ true }
@@ -74,9 +73,9 @@ pub(crate) fn text_of_session<G: Gate>(
     requires most { order.now.blocks ≤ MAX_BLOCKS }
     requires some { 1 ≤ length traces.items }
     requires few { length traces.items ≤ MAX_MUTATORS }
-    requires fit { All IsRunnable (lists_of traces.items) }
+    requires fit { All IsRunnable traces.items }
     ensures { IfOk result (λ v. IsPrinted (job_of_order order.now)
-        (lists_of traces.items) v.items) }
+        traces.items v.items) }
 {
     let layout = Layout::new(order.blocks).unwrap();
     let manager = run_to_end(alloc, layout, traces, gate)?;

@@ -8,13 +8,12 @@ ghost use Rattle.outside.specs.Outside.{HasRisen};
 ghost use Rattle.mm_drive.specs.declared.fault_lines.Flaw.{Flaw as AnyFlaw};
 ghost use Rattle.mm_drive.specs.Printed.{AreTraces, IsTraceIn, IsLong, HasFault, AsksFirst, AsksPrefix, fault_of};
 ghost use Rattle.mm_runtime.specs.Managers.{IsRunnable};
-ghost use Rattle.stored_commands.specs.Lists.{lists_of};
 ghost use Rattle.mm_drive.specs.Reading.{AsksName, Halts, fault_at};
 
 use crate::fault_lines::Flaw;
 use outside::{Consumer, ReadFault, Sources, read_file};
 use std::alloc::{AllocError, Global};
-use stored_commands::StoredCommand;
+use stored_commands::StoredTrace;
 use trace_text::{TraceFault, TraceReader};
 
 /// Why a file has no trace.
@@ -78,11 +77,11 @@ impl Consumer for FileReader {
 }
 
 // The trace of the text that was read.
-fn trace_read(reader: TraceReader) -> Result<Vec<StoredCommand>, FileFault>
+fn trace_read(reader: TraceReader) -> Result<StoredTrace, FileFault>
     ensures ok { (bytes : List ℕ) → HasRead reader bytes
-        → IfOk result (λ v. trace bytes ≡ Ok v.items) }
+        → IfOk result (λ v. trace bytes ≡ Ok v) }
     ensures fit { (bytes : List ℕ) → HasRead reader bytes
-        → IfOk result (λ v. IsRunnable v.items) }
+        → IfOk result IsRunnable }
     ensures bad { (bytes : List ℕ) → HasRead reader bytes → (f : AnyFlaw)
         → IsErrOf result (FileFault.Bad f) → trace bytes ≡ Err (fault_of f) }
     ensures read { (IsErrOf result FileFault.Unread → ⊥)
@@ -101,9 +100,9 @@ fn trace_of_file<S: Sources>(
     alloc: Global,
     sources: &mut S,
     name: &str,
-) -> Result<Vec<StoredCommand>, FileFault>
-    ensures ok { IfOk result (λ v. IsTraceIn ((S.state sources.old).content name.now) v.items) }
-    ensures fit { IfOk result (λ v. IsRunnable v.items) }
+) -> Result<StoredTrace, FileFault>
+    ensures ok { IfOk result (λ v. IsTraceIn ((S.state sources.old).content name.now) v) }
+    ensures fit { IfOk result IsRunnable }
     ensures unread { IsErrOf result FileFault.Unread
         → HasRisen (S.state sources.old).faults (S.state sources.new).faults }
     ensures asked { AsksName result name.now (S.state sources.old) (S.state sources.new) }
@@ -131,10 +130,10 @@ pub(crate) fn traces_of_files<S: Sources>(
     alloc: Global,
     sources: &mut S,
     files: &[String],
-) -> Result<Vec<Vec<StoredCommand>>, FilesFault>
+) -> Result<Vec<StoredTrace>, FilesFault>
     ensures ok { IfOk result (λ v. AreTraces (S.state sources.old).content (texts files.now)
-        (lists_of v.items)) }
-    ensures fit { IfOk result (λ v. All IsRunnable (lists_of v.items)) }
+        v.items) }
+    ensures fit { IfOk result (λ v. All IsRunnable v.items) }
     ensures all { OnOk result (AsksFirst (length files.now) (texts files.now)
         (S.state sources.old).asked (S.state sources.new).asked) }
     ensures fault { IfErr result (Halts (texts files.now) (S.state sources.old)

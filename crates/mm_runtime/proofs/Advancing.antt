@@ -33,7 +33,7 @@ module _ {P : Type 0} (rules : Rules) where
 
     commands-at : (k : ℕ) (p : Progress) → slice_get m.progress.items k ≡ Some p → commands_of (k + 1) now.done ≡ take (length (of_mutator (k + 1) now.done)) (trace_of t.traces (k + 1))
     commands-at k p is =
-        at.replies.commands k p is ∙ ap (λ n. take n p.trace.items) (sym (own-entries m.progress.items now.done at.replies k p is))
+        at.replies.commands k p is ∙ ap (λ n. take n p.trace) (sym (own-entries m.progress.items now.done at.replies k p is))
         ∙ ap (λ cs. take (length (of_mutator (k + 1) now.done)) cs) (sym (trace-is rules m t now at k p is))
 
     commands-are : (j : ℕ) → IsMutator t.traces j → commands_of j now.done ≡ take (length (of_mutator j now.done)) (trace_of t.traces j)

@@ -11,8 +11,8 @@ replied-below : (ps : List Progress) → ((k : ℕ) (p : Progress) → slice_get
 replied-below [] each = omega arith
 replied-below (p ∷ ps) each =
     let first : IsProgress p = each 0 p refl in
-    let within : length p.replies.items ≤ length p.trace.items = first.within in
-    let few : length p.trace.items ≤ 1000000 = first.few in
+    let within : length p.replies.items ≤ length p.trace = first.within in
+    let few : length p.trace ≤ 1000000 = first.few in
     let rest : replied ps ≤ length ps * 1000000 = replied-below ps (λ k q is. each (suc k) q is) in
     let sum : replied (p ∷ ps) ≡ length p.replies.items + replied ps = sum_by-cons (λ (x : Progress). length x.replies.items) p ps in
     omega arith

@@ -24,8 +24,8 @@ next-at t stop qs traces replies k q is =
     let count : n ≡ length q.replies.items = sym (length-map (of_mutator (suc k) stop.done) (λ (e : Entry). e.reply))
     ∙ ap (λ j. length (map (λ (e : Entry). e.reply) (of_mutator j stop.done))) (sym (add-one k)) ∙ ap length (replies.replies k q is) in
     ap (λ (ts : List (List Command)). slice_get (unwrap_or (slice_get ts k) []) n) traces
-    ∙ ap (λ (o : Option (List Command)). slice_get (unwrap_or o []) n) (get-map (λ (p : Progress). p.trace.items) qs k q is)
-    ∙ ap (slice_get q.trace.items) count
+    ∙ ap (λ (o : Option (List Command)). slice_get (unwrap_or o []) n) (get-map (λ (p : Progress). p.trace) qs k q is)
+    ∙ ap (slice_get q.trace) count
 
 -- a mutator whose end raises a stop is at `gc` or at a need
 gc-or-need : (e : End) → raises_stop e ≡ true → (is_at_gc (cause_of (Some e)) ≡ true) ⊎ (is_at_need (cause_of (Some e)) ≡ true)
@@ -45,7 +45,7 @@ module _ {P : Type 0} (w : PlainWorld P) (t : Setting) (stop : Moment) (qs : Lis
     (replies : HasReplies qs stop.done) (many : length ends ≡ length qs)
     (each : (k : ℕ) (q : Progress) (e : End) → slice_get qs k ≡ Some q → slice_get ends k ≡ Some e → EndedFor w ends k (next_of q) e) where
   count : length t.traces ≡ length qs
-  count = ap length traces ∙ length-map qs (λ (p : Progress). p.trace.items)
+  count = ap length traces ∙ length-map qs (λ (p : Progress). p.trace)
 
   ends-by : (k : ℕ) (q : Progress) (e : End) → slice_get qs k ≡ Some q → EndedFor w ends k (next_of q) e → EndsBy t stop (causes ends) (suc k) (cause_of (Some e))
   ends-by k q end.Gc here is = next-at t stop qs traces replies k q here ∙ is

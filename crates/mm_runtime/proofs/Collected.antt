@@ -72,7 +72,7 @@ module _ (rules : Rules) (plan : rules ≡ rules_of NoGc) where
     stands t now at = record {
       rules_are = at.rules_are;
       workers = at.workers;
-      traces = at.traces ∙ ap (λ (v : Vec Progress Global). map (λ p. p.trace.items) v.items) (sym counts.progress);
+      traces = at.traces ∙ ap (λ (v : Vec Progress Global). map (λ p. p.trace) v.items) (sym counts.progress);
       heap = counts.heap ∙ ap counted at.heap;
       mutators = ap (λ (v : Vec Mutator Global). map mutator_state v.items) counts.mutators ∙ at.mutators;
       replies = subst (λ (v : Vec Progress Global). HasReplies v.items now.done) (sym counts.progress) at.replies;

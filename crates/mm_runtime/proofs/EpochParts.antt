@@ -86,7 +86,7 @@ module _ {P : Type 0} (rules : Rules) (old new : Manager P) (ends : List End) (r
   many = r.runs.ended ∙ sym r.runs.count
 
   count : length t.traces ≡ length old.progress.items
-  count = ap length stands.traces ∙ length-map old.progress.items (λ (q : Progress). q.trace.items)
+  count = ap length stands.traces ∙ length-map old.progress.items (λ (q : Progress). q.trace)
 
   exhausted : (k : ℕ) → IsExhausted r.last k → ExhaustsAllowance t now.heap stop.heap
   exhausted k is =

@@ -33,18 +33,18 @@ module _ {P : Type 0} (rules : Rules) (m : Manager P) (blocks count : ℕ) (trac
     (heap : heap_state m.heap ≡ empty_heap blocks) (notes : AreNotes rules.fill (heap_state m.heap) m.notes)
     (mutators : map mutator_state m.mutators.items ≡ map new_mutator (range_with_len 1 count)) (as_many : length m.mutators.items ≡ count)
     (counted : count ≡ length traces) (same : traces_of m.progress.items ≡ traces)
-    (fresh : (k : ℕ) (p : Progress) → slice_get m.progress.items k ≡ Some p → IsFresh p.trace.items p)
+    (fresh : (k : ℕ) (p : Progress) → slice_get m.progress.items k ≡ Some p → IsFresh p.trace p)
     (nursery : m.nursery ≡ 0) (full : m.full ≡ 0) (some : 1 ≤ length traces) (few : length traces ≤ 16) (runnable : All IsRunnable traces) where
   many : length m.progress.items ≡ length traces
-  many = sym (length-map m.progress.items (λ p. p.trace.items)) ∙ ap length same
+  many = sym (length-map m.progress.items (λ p. p.trace)) ∙ ap length same
 
   no-replies : (k : ℕ) (p : Progress) → slice_get m.progress.items k ≡ Some p → length p.replies.items ≡ 0
   no-replies k p is = ap length (fresh k p is).replies
 
-  runs : (k : ℕ) (p : Progress) → slice_get m.progress.items k ≡ Some p → IsRunnable p.trace.items
+  runs : (k : ℕ) (p : Progress) → slice_get m.progress.items k ≡ Some p → IsRunnable p.trace
   runs k p is =
-      let at : slice_get traces k ≡ Some p.trace.items = ap (λ ts. slice_get ts k) (sym same) ∙ get-map (λ (x : Progress). x.trace.items) m.progress.items k p is in
-      subst IsRunnable (get_or_from_slice_get traces k p.trace.items [] at) (runnable k [] (get-below traces k p.trace.items at))
+      let at : slice_get traces k ≡ Some p.trace = ap (λ ts. slice_get ts k) (sym same) ∙ get-map (λ (x : Progress). x.trace) m.progress.items k p is in
+      subst IsRunnable (get_or_from_slice_get traces k p.trace [] at) (runnable k [] (get-below traces k p.trace at))
 
   pub in-order : IsInOrder rules 0 m
   in-order = record {
@@ -80,7 +80,7 @@ module _ {P : Type 0} (rules : Rules) (m : Manager P) (blocks count : ℕ) (trac
           mutators = mutators ∙ ap (λ n. map new_mutator (range_with_len 1 n)) (counted ∙ sym as_traces);
           replies = record {
             mutators = tt;
-            commands = λ k p is. ap (λ n. take n p.trace.items) (sym (no-replies k p is));
+            commands = λ k p is. ap (λ n. take n p.trace) (sym (no-replies k p is));
             replies = λ k p is. sym (fresh k p is).replies;
           };
           nursery = nursery;

@@ -24,7 +24,7 @@ grows-none : (n : ℕ) (p : Progress) → Grows n [] p p
 grows-none n p = record {
   trace = refl;
   replies = sym (append-nil p.replies.items);
-  commands = sym (append-nil (take (length p.replies.items) p.trace.items));
+  commands = sym (append-nil (take (length p.replies.items) p.trace));
 }
 
 pub parts-none : {P : Type 0} (w : PlainWorld P) (ps : List Progress) → IsOpen w → stop_word w ≡ 0
@@ -53,7 +53,7 @@ parts-ends old new ps qs n ends same is runs = subst (λ (l : List End). RunsPar
 -- entries of the mutator, and of another
 grows-own : (n : ℕ) (part : List Entry) (es : List Answered) (p between q : Progress) → Grows n part p between → q.trace ≡ between.trace
     → q.replies.items ≡ between.replies.items ++ map (λ e. e.reply) es
-    → take (length q.replies.items) q.trace.items ≡ take (length between.replies.items) between.trace.items ++ map (λ e. e.command) es
+    → take (length q.replies.items) q.trace ≡ take (length between.replies.items) between.trace ++ map (λ e. e.command) es
     → Grows n (part ++ entries-of n es) p q
 grows-own n part es p between q grows trace replies commands =
     let own = of_mutator-append n part (entries-of n es) in record {
@@ -64,8 +64,8 @@ grows-own n part es p between q grows trace replies commands =
           ∙ sym (map-append (λ (e : Entry). e.reply) (of_mutator n part) (of_mutator n (entries-of n es)))
           ∙ ap (map (λ (e : Entry). e.reply)) (sym own));
       commands = commands ∙ ap (λ l. l ++ map (λ e. e.command) es) grows.commands
-          ∙ append_assoc (take (length p.replies.items) p.trace.items) (commands_of n part) (map (λ e. e.command) es)
-          ∙ ap (λ l. take (length p.replies.items) p.trace.items ++ l) (ap (λ l. commands_of n part ++ l) (sym (commands-own n es))
+          ∙ append_assoc (take (length p.replies.items) p.trace) (commands_of n part) (map (λ e. e.command) es)
+          ∙ ap (λ l. take (length p.replies.items) p.trace ++ l) (ap (λ l. commands_of n part ++ l) (sym (commands-own n es))
           ∙ sym (map-append (λ (e : Entry). e.command) (of_mutator n part) (of_mutator n (entries-of n es)))
           ∙ ap (map (λ (e : Entry). e.command)) (sym own));
     }
@@ -76,7 +76,7 @@ grows-other k n part es p q other grows =
     of_mutator-append k part (entries-of n es) ∙ ap (λ l. of_mutator k part ++ l) (entries-other k n es other) ∙ append-nil (of_mutator k part) in record {
       trace = grows.trace;
       replies = grows.replies ∙ ap (λ l. p.replies.items ++ map (λ (e : Entry). e.reply) l) (sym same);
-      commands = grows.commands ∙ ap (λ l. take (length p.replies.items) p.trace.items ++ map (λ (e : Entry). e.command) l) (sym same);
+      commands = grows.commands ∙ ap (λ l. take (length p.replies.items) p.trace ++ map (λ (e : Entry). e.command) l) (sym same);
     }
 
 -- one more part

@@ -68,6 +68,6 @@ module _ {P : Type 0} (rules : Rules) (plan : rules ≡ rules_of NoGc) (ends : L
         let ms : List ℕ = filter (λ m. is_at_gc (causes ends m)) (mutators_of t) in
         let then = oks.stands rules mid v (is_gc_at ends) so c.Gc (λ m. is_at_gc (causes ends m)) (λ k below. gcs.at-place ends k) asks t (collected.later now) at
         (soundness.gcs-run (ideal_at (collected.later now)) ms) (soundness.all-gc (ideal_at (collected.later now)) ms) in
-        let many : length t.traces ≡ length mid.progress.items = ap length at.traces ∙ length-map mid.progress.items (λ p. p.trace.items) in
+        let many : length t.traces ≡ length mid.progress.items = ap length at.traces ∙ length-map mid.progress.items (λ p. p.trace) in
         let one = oks.picks-one rules mid v (is_gc_at ends) so c.Gc (λ m. is_at_gc (causes ends m)) (λ k below. gcs.at-place ends k) asks some.0 inside is-chosen in
         (_, collected.for-some rules plan t ms one.0 one.1 now _ (ap (λ n. filter (λ m. is_at_gc (causes ends m)) (range_with_len 1 n)) many ∙ one.2) before.rules_are before.sound then.0, then.1)

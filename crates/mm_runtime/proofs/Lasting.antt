@@ -22,10 +22,10 @@ left-and-replied : (ps : List Progress) → ((k : ℕ) (p : Progress) → slice_
 left-and-replied [] each = refl
 left-and-replied (p ∷ ps) each =
     let rest : left ps + replied ps ≡ total (traces_of ps) = left-and-replied ps (λ k q is. each (suc k) q is) in
-    let few : length p.replies.items ≤ length p.trace.items = (each 0 p refl).within in
-    let one : left (p ∷ ps) ≡ (length p.trace.items - length p.replies.items) + left ps = sum_by-cons (λ (q : Progress). length q.trace.items - length q.replies.items) p ps in
+    let few : length p.replies.items ≤ length p.trace = (each 0 p refl).within in
+    let one : left (p ∷ ps) ≡ (length p.trace - length p.replies.items) + left ps = sum_by-cons (λ (q : Progress). length q.trace - length q.replies.items) p ps in
     let two : replied (p ∷ ps) ≡ length p.replies.items + replied ps = sum_by-cons (λ (q : Progress). length q.replies.items) p ps in
-    let three : total (traces_of (p ∷ ps)) ≡ length p.trace.items + total (traces_of ps) = sum_by-cons (λ (trace : List Command). length trace) p.trace.items (traces_of ps) in
+    let three : total (traces_of (p ∷ ps)) ≡ length p.trace + total (traces_of ps) = sum_by-cons (λ (trace : List Command). length trace) p.trace (traces_of ps) in
     omega (arith, rest, few, one, two, three)
 
 module _ {P : Type 0} (rules : Rules) where
@@ -45,7 +45,7 @@ module _ {P : Type 0} (rules : Rules) where
   whole m t now closes ended = session-whole t now closes.session none
     where
       many : length t.traces ≡ length m.progress.items
-      many = ap length closes.stands.traces ∙ length-map m.progress.items (λ (p : Progress). p.trace.items)
+      many = ap length closes.stands.traces ∙ length-map m.progress.items (λ (p : Progress). p.trace)
 
       none : (j : ℕ) → IsMutator t.traces j → next_in t now j ≡ None
       none zero is = let low : 1 ≤ 0 = is.0 in absurd (omega arith)

@@ -39,11 +39,11 @@ module _ {P : Type 0} (rules : Rules) (m : Manager P) where
   AllWait = (k : ℕ) (p : Progress) → slice_get m.progress.items k ≡ Some p → IsTrue (is_waiting (next_of p))
 
   module _ (t : Setting) (now : Moment) (at : StandsAt rules m t now) where
-    pub trace-is : (k : ℕ) (p : Progress) → slice_get m.progress.items k ≡ Some p → trace_of t.traces (k + 1) ≡ p.trace.items
+    pub trace-is : (k : ℕ) (p : Progress) → slice_get m.progress.items k ≡ Some p → trace_of t.traces (k + 1) ≡ p.trace
     trace-is k p is =
         let same : k + 1 ≡ suc k = omega arith in
         ap (trace_of t.traces) same ∙ ap (λ ts. unwrap_or (slice_get ts k) []) at.traces
-        ∙ ap (λ o. unwrap_or o []) (get-map (λ (x : Progress). x.trace.items) m.progress.items k p is)
+        ∙ ap (λ o. unwrap_or o []) (get-map (λ (x : Progress). x.trace) m.progress.items k p is)
 
     -- a mutator's next command is that of its progress
     pub next-is : (k : ℕ) (p : Progress) → slice_get m.progress.items k ≡ Some p → next_in t now (k + 1) ≡ next_of p
@@ -51,7 +51,7 @@ module _ {P : Type 0} (rules : Rules) (m : Manager P) where
         ∙ ap (λ cs. slice_get cs (length p.replies.items)) (trace-is k p is)
 
     pub as-many : length t.traces ≡ length m.progress.items
-    as-many = ap length at.traces ∙ length-map m.progress.items (λ p. p.trace.items)
+    as-many = ap length at.traces ∙ length-map m.progress.items (λ p. p.trace)
 
     pub test-is : (k : ℕ) → k < length m.progress.items → is_at_meet (next_in t now (k + 1)) ≡ is_meet_at m.progress.items k
     test-is k inside =

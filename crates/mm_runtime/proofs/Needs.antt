@@ -24,7 +24,7 @@ pub record HasNeed (us : List Mutator) (ps : List Progress) (k m d refs nums : �
   pub there : slice_get ps k ≡ Some progress
   pub is : IsProgress progress
   pub next : next_of progress ≡ Some (c.New d refs nums)
-  pub within : length progress.replies.items < length progress.trace.items
+  pub within : length progress.replies.items < length progress.trace
   pub valid : IsValid (c.New d refs nums)
   pub births : user.births ≤ length progress.replies.items
   pub most : m ≤ 16
@@ -40,7 +40,7 @@ has-need rules more manager m need order needs =
     let same : length manager.mutators.items ≡ length manager.progress.items = order.count in
     let user = get-some manager.mutators.items (m - 1) (omega arith) in
     let is : IsProgress p = order.each (m - 1) p there in
-    let within : length p.replies.items < length p.trace.items = slice_get_within p.trace.items (length p.replies.items) (c.New need.register need.refs need.nums) next.2 in
+    let within : length p.replies.items < length p.trace = slice_get_within p.trace (length p.replies.items) (c.New need.register need.refs need.nums) next.2 in
     let few : length manager.progress.items ≤ 16 = order.few in
     record {
       at = at;
@@ -51,8 +51,8 @@ has-need rules more manager m need order needs =
       is = is;
       next = next.2;
       within = within;
-      valid = subst IsValid (get_or_from_slice_get p.trace.items (length p.replies.items) (c.New need.register need.refs need.nums) c.Gc next.2)
-          (All-get_or IsValid p.trace.items (length p.replies.items) c.Gc within is.valid);
+      valid = subst IsValid (get_or_from_slice_get p.trace (length p.replies.items) (c.New need.register need.refs need.nums) c.Gc next.2)
+          (All-get_or IsValid p.trace (length p.replies.items) c.Gc within is.valid);
       births = order.births (m - 1) user.0 p user.1 there;
       most = omega arith;
     }
@@ -63,6 +63,6 @@ next-name us ps k m d refs nums has =
     let at : k + 1 ≡ m = has.at in
     let most : m ≤ 16 = has.most in
     let births : has.user.births ≤ length has.progress.replies.items = has.births in
-    let within : length has.progress.replies.items < length has.progress.trace.items = has.within in
-    let few : length has.progress.trace.items ≤ 1000000 = has.is.few in
+    let within : length has.progress.replies.items < length has.progress.trace = has.within in
+    let few : length has.progress.trace ≤ 1000000 = has.is.few in
     record { least = omega arith; most = omega arith; born = omega arith; fits = omega arith }

@@ -47,9 +47,9 @@ adds-reply rules old new m refs nums (placed.HeapFull size) least is = adds-one 
 next-is : {P : Type 0} (rules : Rules) (manager : Manager P) (t : Setting) (now : Moment) (k : ℕ) (p : Progress) → StandsAt rules manager t now → slice_get manager.progress.items k ≡ Some p
     → next_in t now (suc k) ≡ next_of p
 next-is rules manager t now k p stands here =
-    let trace : trace_of t.traces (suc k) ≡ p.trace.items =
-    ap (λ ts. unwrap_or (slice_get ts k) []) stands.traces ∙ ap (λ o. unwrap_or o []) (slice_get-map (λ (q : Progress). q.trace.items) manager.progress.items k)
-    ∙ ap (λ o. unwrap_or (option_map (λ (q : Progress). q.trace.items) o) []) here in
+    let trace : trace_of t.traces (suc k) ≡ p.trace =
+    ap (λ ts. unwrap_or (slice_get ts k) []) stands.traces ∙ ap (λ o. unwrap_or o []) (slice_get-map (λ (q : Progress). q.trace) manager.progress.items k)
+    ∙ ap (λ o. unwrap_or (option_map (λ (q : Progress). q.trace) o) []) here in
     let next : k + 1 ≡ suc k = omega arith in
     let many : length (of_mutator (suc k) now.done) ≡ length p.replies.items =
     sym (length-map (of_mutator (suc k) now.done) (λ (e : Entry). e.reply)) ∙ ap (λ m. length (replies_of m now.done)) (sym next) ∙ ap length (stands.replies.replies k p here) in
@@ -136,7 +136,7 @@ module _ {P : Type 0} (rules : Rules) (first : Manager P) (ends : List End) (i :
 pub serves-all : {P : Type 0} (rules : Rules) (first last : Manager P) (ends : List End) (n : ℕ) → n ≡ length ends → length ends ≡ length first.progress.items → ServesBelow rules first ends n last
     → (t : Setting) (now : Moment) → StandsAt rules first t now → (mid : Moment) × ServesAll t (filter (λ m. is_at_need (causes ends m)) (mutators_of t)) now mid × StandsAt rules last t mid
 serves-all rules first last ends n is count below t now stands =
-    let many : length t.traces ≡ length first.progress.items = ap length stands.traces ∙ length-map first.progress.items (λ (p : Progress). p.trace.items) in
+    let many : length t.traces ≡ length first.progress.items = ap length stands.traces ∙ length-map first.progress.items (λ (p : Progress). p.trace) in
     let same : n ≡ length t.traces = omega arith in
     let served = below.serves t now stands in
     (served.0, subst (λ (k : ℕ). ServesAll t (needs_below ends k) now served.0) same served.1, served.2)

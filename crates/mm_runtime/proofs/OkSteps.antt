@@ -76,8 +76,8 @@ not-gc (Some (end.Need need)) other = refl
 not-gc (Some (end.Raised by)) other = refl
 
 -- where a command is next, there is one reply less than commands
-pub has-next : (p : Progress) (command : Command) → next_of p ≡ Some command → length p.replies.items < length p.trace.items
-has-next p command next = get-below p.trace.items (length p.replies.items) command next
+pub has-next : (p : Progress) (command : Command) → next_of p ≡ Some command → length p.replies.items < length p.trace
+has-next p command next = get-below p.trace (length p.replies.items) command next
 
 abbrev pub is-gc : Option End → Bool
 is-gc o = is_at_gc (cause_of o)

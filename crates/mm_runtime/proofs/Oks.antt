@@ -32,9 +32,9 @@ same-map f (x ∷ xs) (y ∷ ys) many each =
     let rest : map f ys ≡ map f xs = same-map f xs ys fewer (λ k a b is at. each (suc k) a b is at) in
     ap (λ b. b ∷ map f ys) (each 0 x y refl refl) ∙ ap (λ bs. f x ∷ bs) rest
 
-trace-kept : (b : Bool) (p now : Progress) → GetsOkIf b p now → now.trace.items ≡ p.trace.items
-trace-kept true p now gets = ap (λ (v : Vec Command Global). v.items) gets.trace
-trace-kept false p now same = ap (λ (x : Progress). x.trace.items) same
+trace-kept : (b : Bool) (p now : Progress) → GetsOkIf b p now → now.trace ≡ p.trace
+trace-kept true p now gets = gets.trace
+trace-kept false p now same = ap (λ (x : Progress). x.trace) same
 
 order-kept : (b : Bool) (p now : Progress) → GetsOkIf b p now → IsProgress p → IsProgress now
 order-kept true p now gets order = gets.order
@@ -55,10 +55,10 @@ module _ {P : Type 0} (rules : Rules) (m : Manager P) (v : Vec Progress Global) 
   new = v.items
 
   same-traces : traces_of new ≡ traces_of old
-  same-traces = same-map (λ p. p.trace.items) old new so.count (λ k p now is at.
+  same-traces = same-map (λ p. p.trace) old new so.count (λ k p now is at.
       let was = back chosen old new so k now at in
       let same : was.0 ≡ p = one-element (slice_get old k) was.0 p was.2 is in
-      trace-kept (chosen k) was.0 now was.3 ∙ ap (λ (x : Progress). x.trace.items) same)
+      trace-kept (chosen k) was.0 now was.3 ∙ ap (λ (x : Progress). x.trace) same)
 
   pub in-order : (more less : ℕ) → IsInOrder rules more m → m.nursery + m.full ≤ 2 * replied new + less → IsInOrder rules less (record m { progress = v })
   in-order more less order few =
@@ -113,7 +113,7 @@ module _ {P : Type 0} (rules : Rules) (m : Manager P) (v : Vec Progress Global) 
         → Replies (all_done asked (filter pick (mutators_of t))) now (then t now) × StandsAt rules (record m { progress = v }) t (then t now)
     unfolding then
     stands t now at runs same =
-        let many : length t.traces ≡ length old = ap length at.traces ∙ length-map old (λ p. p.trace.items) in
+        let many : length t.traces ≡ length old = ap length at.traces ∙ length-map old (λ p. p.trace) in
         let replies : Replies (all_done asked (filter pick (mutators_of t))) now (then t now) = record { rest = refl; runs = runs } in (
           replies,
           record {

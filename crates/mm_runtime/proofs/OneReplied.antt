@@ -54,13 +54,13 @@ module _ (old new : List Progress) (k : ℕ) (reply : Reply) (at : RepliesAt old
   replied-more = sum-at (λ p. length p.replies.items) old new k at.before at.after 1 at.count at.was at.is at.others count-more
 
   pub traces-same : traces_of new ≡ traces_of old
-  traces-same = same-list (traces_of new) (traces_of old) (λ j. slice_get-map (λ (p : Progress). p.trace.items) new j ∙ each j ∙ sym (slice_get-map (λ (p : Progress). p.trace.items) old j))
+  traces-same = same-list (traces_of new) (traces_of old) (λ j. slice_get-map (λ (p : Progress). p.trace) new j ∙ each j ∙ sym (slice_get-map (λ (p : Progress). p.trace) old j))
     where
-      each : (j : ℕ) → option_map (λ (p : Progress). p.trace.items) (slice_get new j) ≡ option_map (λ (p : Progress). p.trace.items) (slice_get old j)
-      each j = elim (cases_eq j k) as (λ _. option_map (λ (p : Progress). p.trace.items) (slice_get new j) ≡ option_map (λ (p : Progress). p.trace.items) (slice_get old j)) [
-        | inl e ↦ subst (λ (q : ℕ). option_map (λ (p : Progress). p.trace.items) (slice_get new q) ≡ option_map (λ (p : Progress). p.trace.items) (slice_get old q)) (sym e)
-            (ap (option_map (λ (p : Progress). p.trace.items)) at.is ∙ ap (λ t. Some t.items) at.trace ∙ sym (ap (option_map (λ (p : Progress). p.trace.items)) at.was))
-        | inr other ↦ ap (option_map (λ (p : Progress). p.trace.items)) (at.others j other)
+      each : (j : ℕ) → option_map (λ (p : Progress). p.trace) (slice_get new j) ≡ option_map (λ (p : Progress). p.trace) (slice_get old j)
+      each j = elim (cases_eq j k) as (λ _. option_map (λ (p : Progress). p.trace) (slice_get new j) ≡ option_map (λ (p : Progress). p.trace) (slice_get old j)) [
+        | inl e ↦ subst (λ (q : ℕ). option_map (λ (p : Progress). p.trace) (slice_get new q) ≡ option_map (λ (p : Progress). p.trace) (slice_get old q)) (sym e)
+            (ap (option_map (λ (p : Progress). p.trace)) at.is ∙ ap Some at.trace ∙ sym (ap (option_map (λ (p : Progress). p.trace)) at.was))
+        | inr other ↦ ap (option_map (λ (p : Progress). p.trace)) (at.others j other)
       ]
 
   -- what holds of the mutator's progress, and of that of the others
@@ -70,20 +70,20 @@ module _ (old new : List Progress) (k : ℕ) (reply : Reply) (at : RepliesAt old
     | inr other ↦ rest j p other (sym (at.others j other) ∙ is)
   ]
 
-  pub is-progress : ((j : ℕ) (p : Progress) → slice_get old j ≡ Some p → IsProgress p) → length at.before.replies.items < length at.before.trace.items
+  pub is-progress : ((j : ℕ) (p : Progress) → slice_get old j ≡ Some p → IsProgress p) → length at.before.replies.items < length at.before.trace
       → (j : ℕ) (p : Progress) → slice_get new j ≡ Some p → IsProgress p
   is-progress each within = progress-each (λ j p. IsProgress p) own (λ j p other is. each j p is)
     where
       own : IsProgress at.after
       own =
           let was : IsProgress at.before = each k at.before at.was in
-          let trace : length at.after.trace.items ≡ length at.before.trace.items = ap (λ t. length t.items) at.trace in
+          let trace : length at.after.trace ≡ length at.before.trace = ap length at.trace in
           let more : length at.after.replies.items ≡ length at.before.replies.items + 1 = count-more in
-          let few : length at.before.trace.items ≤ 1000000 = was.few in
-          let room : length at.before.trace.items ≤ vec_capacity at.before.replies = was.room in
+          let few : length at.before.trace ≤ 1000000 = was.few in
+          let room : length at.before.trace ≤ vec_capacity at.before.replies = was.room in
           let same : vec_capacity at.after.replies ≡ vec_capacity at.before.replies = at.capacity in
           record {
-            valid = subst (λ t. All IsValid t.items) (sym at.trace) was.valid;
+            valid = subst (All IsValid) (sym at.trace) was.valid;
             few = omega arith;
             within = omega arith;
             room = omega arith;
@@ -94,7 +94,7 @@ module _ (old new : List Progress) (k : ℕ) (reply : Reply) (at : RepliesAt old
   has-replies done command has next = record {
     mutators = subst (λ ts. AllByRecursion (λ e. IsMutator ts e.mutator) (done ++ e ∷ [])) (sym traces-same)
         (all-append (λ x. IsMutator (traces_of old) x.mutator) done (e ∷ []) has.mutators (one, tt));
-    commands = progress-each (λ j p. commands_of (j + 1) (done ++ e ∷ []) ≡ take (length p.replies.items) p.trace.items) own-commands
+    commands = progress-each (λ j p. commands_of (j + 1) (done ++ e ∷ []) ≡ take (length p.replies.items) p.trace) own-commands
         (λ j p other is. ap (λ l. map (λ x. x.command) l) (of_mutator-other (j + 1) done e (λ same. other (omega arith))) ∙ has.commands j p is);
     replies = progress-each (λ j p. replies_of (j + 1) (done ++ e ∷ []) ≡ p.replies.items) own-replies
         (λ j p other is. ap (λ l. map (λ x. x.reply) l) (of_mutator-other (j + 1) done e (λ same. other (omega arith))) ∙ has.replies j p is);
@@ -104,16 +104,16 @@ module _ (old new : List Progress) (k : ℕ) (reply : Reply) (at : RepliesAt old
       e = entry (k + 1) command reply
 
       one : IsMutator (traces_of old) (k + 1)
-      one = (omega arith, (let below : k < length old = get-below old k at.before at.was in let many : length (traces_of old) ≡ length old = length-map old (λ (p : Progress). p.trace.items) in omega arith))
+      one = (omega arith, (let below : k < length old = get-below old k at.before at.was in let many : length (traces_of old) ≡ length old = length-map old (λ (p : Progress). p.trace) in omega arith))
 
-      read : get_or at.before.trace.items (length at.before.replies.items) command ≡ command
-      read = get_or_from_slice_get at.before.trace.items (length at.before.replies.items) command command next
+      read : get_or at.before.trace (length at.before.replies.items) command ≡ command
+      read = get_or_from_slice_get at.before.trace (length at.before.replies.items) command command next
 
-      own-commands : commands_of (k + 1) (done ++ e ∷ []) ≡ take (length at.after.replies.items) at.after.trace.items
+      own-commands : commands_of (k + 1) (done ++ e ∷ []) ≡ take (length at.after.replies.items) at.after.trace
       own-commands = commands_of-own (k + 1) done e refl ∙ ap (λ l. l ++ command ∷ []) (has.commands k at.before at.was)
-          ∙ ap (λ x. take (length at.before.replies.items) at.before.trace.items ++ x ∷ []) (sym read)
-          ∙ sym (take_more at.before.trace.items (length at.before.replies.items) command (slice_get_within at.before.trace.items (length at.before.replies.items) command next))
-          ∙ ap (λ n. take n at.before.trace.items) (sym count-more) ∙ ap (λ t. take (length at.after.replies.items) t.items) (sym at.trace)
+          ∙ ap (λ x. take (length at.before.replies.items) at.before.trace ++ x ∷ []) (sym read)
+          ∙ sym (take_more at.before.trace (length at.before.replies.items) command (slice_get_within at.before.trace (length at.before.replies.items) command next))
+          ∙ ap (λ n. take n at.before.trace) (sym count-more) ∙ ap (take (length at.after.replies.items)) (sym at.trace)
 
       own-replies : replies_of (k + 1) (done ++ e ∷ []) ≡ at.after.replies.items
       own-replies = ap (λ l. map (λ x. x.reply) l) (of_mutator-own (k + 1) done e refl) ∙ map-append (λ x. x.reply) (of_mutator (k + 1) done) (e ∷ [])

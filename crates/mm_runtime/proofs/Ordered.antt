@@ -18,7 +18,7 @@ AddsBirth old k new = (j : ℕ) (u : Mutator) → slice_get new.mutators.items j
     → (v : Mutator) × (slice_get old.mutators.items j ≡ Some v) × ((u.births ≤ v.births) ⊎ ((j ≡ k) × (u.births ≤ v.births + 1)))
 
 module _ {P : Type 0} (rules : Rules) (old new : Manager P) (k : ℕ) (reply : Reply) (at : RepliesAt old.progress.items new.progress.items k reply) (order : IsInOrder rules 1 old)
-    (within : length at.before.replies.items < length at.before.trace.items) where
+    (within : length at.before.replies.items < length at.before.trace) where
   births-after : AddsBirth old k new → (j : ℕ) (p : Progress) → slice_get new.progress.items j ≡ Some p → (u : Mutator) → slice_get new.mutators.items j ≡ Some u → u.births ≤ length p.replies.items
   births-after adds = replies.progress-each old.progress.items new.progress.items k reply at
       (λ j p. (u : Mutator) → slice_get new.mutators.items j ≡ Some u → u.births ≤ length p.replies.items) own rest

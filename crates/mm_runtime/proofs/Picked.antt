@@ -71,15 +71,15 @@ module _ (asked : Command) where
   -- the commands and replies of one mutator
 
   own-commands : (b : Bool) (m : ℕ) (p after : Progress) → GetsOkIf b p after → (b ≡ true → next_of p ≡ Some asked)
-      → take (length p.replies.items) p.trace.items ++ map (λ e. e.command) (cond b (ok m ∷ []) []) ≡ take (length after.replies.items) after.trace.items
+      → take (length p.replies.items) p.trace ++ map (λ e. e.command) (cond b (ok m ∷ []) []) ≡ take (length after.replies.items) after.trace
   own-commands true m p after gets next =
       let more : length after.replies.items ≡ length p.replies.items + 1 = ap length gets.replies ∙ length-append p.replies.items (r.Done ∷ []) in
-      let inside : length p.replies.items < length p.trace.items = get-below p.trace.items (length p.replies.items) asked (next refl) in
-      let last : get_or p.trace.items (length p.replies.items) asked ≡ asked = get_or_from_slice_get p.trace.items (length p.replies.items) asked asked (next refl) in
-      sym (ap (λ x. take (length p.replies.items) p.trace.items ++ x ∷ []) last) ∙ sym (take_more p.trace.items (length p.replies.items) asked inside)
-      ∙ ap (λ n. take n p.trace.items) (sym more) ∙ ap (λ (t : _). take (length after.replies.items) t.items) (sym gets.trace)
+      let inside : length p.replies.items < length p.trace = get-below p.trace (length p.replies.items) asked (next refl) in
+      let last : get_or p.trace (length p.replies.items) asked ≡ asked = get_or_from_slice_get p.trace (length p.replies.items) asked asked (next refl) in
+      sym (ap (λ x. take (length p.replies.items) p.trace ++ x ∷ []) last) ∙ sym (take_more p.trace (length p.replies.items) asked inside)
+      ∙ ap (λ n. take n p.trace) (sym more) ∙ ap (take (length after.replies.items)) (sym gets.trace)
   own-commands false m p after same next =
-      append-nil (take (length p.replies.items) p.trace.items) ∙ ap (λ (x : Progress). take (length x.replies.items) x.trace.items) (sym same)
+      append-nil (take (length p.replies.items) p.trace) ∙ ap (λ (x : Progress). take (length x.replies.items) x.trace) (sym same)
 
   own-replies : (b : Bool) (m : ℕ) (p after : Progress) → GetsOkIf b p after → p.replies.items ++ map (λ e. e.reply) (cond b (ok m ∷ []) []) ≡ after.replies.items
   own-replies true m p after gets = sym gets.replies
@@ -96,8 +96,8 @@ module _ (asked : Command) where
 
     pub now-replies : (done : List Entry) → HasReplies old done → HasReplies new (done ++ picked)
     now-replies done has =
-        let few : length (traces_of new) ≡ length old = length-map new (λ p. p.trace.items) ∙ so.count in
-        let before : length (traces_of old) ≡ length old = length-map old (λ p. p.trace.items) in
+        let few : length (traces_of new) ≡ length old = length-map new (λ p. p.trace) ∙ so.count in
+        let before : length (traces_of old) ≡ length old = length-map old (λ p. p.trace) in
         record {
           mutators = all-append (λ e. IsMutator (traces_of new) e.mutator) done picked
               (all-to (λ e. IsMutator (traces_of old) e.mutator) (λ e. IsMutator (traces_of new) e.mutator)

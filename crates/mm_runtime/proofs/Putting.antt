@@ -112,8 +112,8 @@ module _ {P : Type 0} (rules : Rules) (more : ℕ) (manager : Manager P) (m : �
       let at' : (m - 1) + 1 ≡ m = the-need.at in
       let place : k ≡ m - 1 = omega arith in
       let same : p ≡ the-need.progress = one-element (slice_get manager.progress.items (m - 1)) p the-need.progress (ap (slice_get manager.progress.items) (sym place) ∙ there) the-need.there in
-      let within : length the-need.progress.replies.items < length the-need.progress.trace.items = the-need.within in
-      let room : length the-need.progress.trace.items ≤ vec_capacity the-need.progress.replies = the-need.is.room in
+      let within : length the-need.progress.replies.items < length the-need.progress.trace = the-need.within in
+      let room : length the-need.progress.trace ≤ vec_capacity the-need.progress.replies = the-need.is.room in
       subst (λ (x : Progress). length x.replies.items < vec_capacity x.replies) (sym same) (omega arith)
 
   -- the name that its birth has

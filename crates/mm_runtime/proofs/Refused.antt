@@ -42,8 +42,8 @@ module _ {P : Type 0} (rules : Rules) (old new : Manager P) (m : ℕ) (need : Ne
   next-is : next_of replied.before ≡ Some (c.New need.register need.refs need.nums)
   next-is = ap next_of same-progress ∙ (putting.the-need rules 1 old m need stop next).next
 
-  within : length replied.before.replies.items < length replied.before.trace.items
-  within = subst (λ (p : Progress). length p.replies.items < length p.trace.items) (sym same-progress) (putting.the-need rules 1 old m need stop next).within
+  within : length replied.before.replies.items < length replied.before.trace
+  within = subst (λ (p : Progress). length p.replies.items < length p.trace) (sym same-progress) (putting.the-need rules 1 old m need stop next).within
 
   adds-birth : AddsBirth old k new
   adds-birth j u here = (u, ap (λ (us : Vec Mutator Global). slice_get us.items j) (sym refuses.mutators) ∙ here, inl (omega arith))

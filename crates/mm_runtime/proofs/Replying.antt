@@ -22,12 +22,12 @@ take-more xs k x is =
     ∙ ap (λ y. take k xs ++ y ∷ []) (get_or_from_slice_get xs k x x is)
 
 -- the next command is one of the trace
-pub next-within : (p : Progress) (command : Command) → next_of p ≡ Some command → length p.replies.items < length p.trace.items
-next-within p command is = slice_get_within p.trace.items (length p.replies.items) command is
+pub next-within : (p : Progress) (command : Command) → next_of p ≡ Some command → length p.replies.items < length p.trace
+next-within p command is = slice_get_within p.trace (length p.replies.items) command is
 
 pub next-valid : (p : Progress) (command : Command) → IsProgress p → next_of p ≡ Some command → IsValid command
 next-valid p command order is =
-    subst IsValid (get_or_from_slice_get p.trace.items (length p.replies.items) command command is)
+    subst IsValid (get_or_from_slice_get p.trace (length p.replies.items) command command is)
     (order.valid (length p.replies.items) command (next-within p command is))
 
 -- one more reply is in order
@@ -35,10 +35,9 @@ pub order-more : (old new : Progress) (command : Command) (reply : Reply) → Is
     → new.replies.items ≡ old.replies.items ++ reply ∷ [] → vec_capacity new.replies ≡ vec_capacity old.replies → IsProgress new
 order-more old new command reply order is trace replies capacity =
     let more = next-within old command is in
-    let same : new.trace.items ≡ old.trace.items = ap (λ v. v.items) trace in
     let count : length new.replies.items ≡ length old.replies.items + 1 = ap length replies ∙ length-append old.replies.items (reply ∷ []) in
-    let many : length new.trace.items ≡ length old.trace.items = ap length same in record {
-      valid = subst (All IsValid) (sym same) order.valid;
+    let many : length new.trace ≡ length old.trace = ap length trace in record {
+      valid = subst (All IsValid) (sym trace) order.valid;
       few = let few = order.few in omega arith;
       within = omega arith;
       room = let room = order.room in omega arith;
@@ -51,7 +50,7 @@ runs-none w m p is = record {
   answers = answers-none w m is;
   trace = refl;
   replies = sym (append-nil p.replies.items);
-  commands = sym (append-nil (take (length p.replies.items) p.trace.items));
+  commands = sym (append-nil (take (length p.replies.items) p.trace));
 }
 
 -- one more reply
@@ -60,7 +59,6 @@ pub runs-more : {P : Type 0} (old mid new : PlainWorld P) (m : ℕ) (before betw
     → after.trace ≡ between.trace → after.replies.items ≡ between.replies.items ++ reply ∷ [] → RunsTrace old m before new after
 runs-more old mid new m before between after command reply runs answers is trace replies =
     let one : List Answered = record { command = command; reply = reply } ∷ [] in
-    let same : after.trace.items ≡ between.trace.items = ap (λ v. v.items) trace in
     let count : length after.replies.items ≡ length between.replies.items + 1 = ap length replies ∙ length-append between.replies.items (reply ∷ []) in record {
       answered = runs.answered ++ one;
       answers = answers-append old mid new m runs.answered one runs.answers answers;
@@ -68,11 +66,11 @@ runs-more old mid new m before between after command reply runs answers is trace
       replies = replies ∙ ap (λ l. l ++ reply ∷ []) runs.replies
           ∙ append_assoc before.replies.items (map (λ e. e.reply) runs.answered) (reply ∷ [])
           ∙ ap (λ l. before.replies.items ++ l) (sym (map-append (λ (e : Answered). e.reply) runs.answered one));
-      commands = ap (λ n. take n after.trace.items) count ∙ ap (take (length between.replies.items + 1)) same
-          ∙ take-more between.trace.items (length between.replies.items) command is
+      commands = ap (λ n. take n after.trace) count ∙ ap (take (length between.replies.items + 1)) trace
+          ∙ take-more between.trace (length between.replies.items) command is
           ∙ ap (λ l. l ++ command ∷ []) runs.commands
-          ∙ append_assoc (take (length before.replies.items) before.trace.items) (map (λ e. e.command) runs.answered) (command ∷ [])
-          ∙ ap (λ l. take (length before.replies.items) before.trace.items ++ l) (sym (map-append (λ (e : Answered). e.command) runs.answered one));
+          ∙ append_assoc (take (length before.replies.items) before.trace) (map (λ e. e.command) runs.answered) (command ∷ [])
+          ∙ ap (λ l. take (length before.replies.items) before.trace ++ l) (sym (map-append (λ (e : Answered). e.command) runs.answered one));
     }
 
 -- and no reply more

@@ -86,8 +86,8 @@ traces-agree [] [] same each = refl
 traces-agree [] (q ∷ qs) same each = absurd (let n = length qs in omega arith)
 traces-agree (p ∷ ps) [] same each = absurd (let n = length ps in omega arith)
 traces-agree (p ∷ ps) (q ∷ qs) same each =
-    ap (λ (t : List Command). t ∷ traces_of qs) (ap (λ v. v.items) (each 0 p q refl refl))
-    ∙ ap (λ (ts : List (List Command)). p.trace.items ∷ ts) (traces-agree ps qs (let e : suc (length qs) ≡ suc (length ps) = same in omega arith) (λ k. each (suc k)))
+    ap (λ (t : List Command). t ∷ traces_of qs) (each 0 p q refl refl)
+    ∙ ap (λ (ts : List (List Command)). p.trace ∷ ts) (traces-agree ps qs (let e : suc (length qs) ≡ suc (length ps) = same in omega arith) (λ k. each (suc k)))
 
 module _ {P : Type 0} (rules : Rules) (old new : Manager P) (ends : List End) (r : RunsEpoch rules old new ends) where
   abbrev ps : List Progress
@@ -119,7 +119,7 @@ module _ {P : Type 0} (rules : Rules) (old new : Manager P) (ends : List End) (r
       mutators = all-append (λ e. IsMutator (traces_of qs) e.mutator) done r.runs.part
           (subst (λ (ts : List (List Command)). AllByRecursion (λ e. IsMutator ts e.mutator) done) (sym traces-same) replies.mutators)
           (all-weaker (λ e. (1 ≤ e.mutator) × (e.mutator ≤ length ps)) (λ e. IsMutator (traces_of qs) e.mutator)
-          (λ e is. (is.0, let many : length (traces_of qs) ≡ length qs = length-map qs (λ (p : Progress). p.trace.items) in let count = r.runs.count in omega (arith, is.1))) r.runs.part r.runs.mutators);
+          (λ e is. (is.0, let many : length (traces_of qs) ≡ length qs = length-map qs (λ (p : Progress). p.trace) in let count = r.runs.count in omega (arith, is.1))) r.runs.part r.runs.mutators);
       commands = λ k q is. let p = before k q is in
           ap (map (λ (e : Entry). e.command)) (of_mutator-append (k + 1) done r.runs.part)
           ∙ map-append (λ (e : Entry). e.command) (of_mutator (k + 1) done) (of_mutator (k + 1) r.runs.part)

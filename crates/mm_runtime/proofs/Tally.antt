@@ -74,7 +74,7 @@ own-entries ps done has k p is = sym (length-map (of_mutator (k + 1) done) (λ e
 
 pub entries-are-replies : (ps : List Progress) (done : List Entry) → HasReplies ps done → length done ≡ replied ps
 entries-are-replies ps done has =
-    let many : length (traces_of ps) ≡ length ps = length-map ps (λ p. p.trace.items) in
+    let many : length (traces_of ps) ≡ length ps = length-map ps (λ p. p.trace) in
     sym (tally-all 1 (length ps) done (all-to (λ e. IsMutator (traces_of ps) e.mutator) (λ e. (1 ≤ e.mutator) × (e.mutator < 1 + length ps))
     (λ e is. (is.0, let most : e.mutator ≤ length (traces_of ps) = is.1 in omega arith)) done has.mutators))
     ∙ tally-replies 1 ps done (λ k p is. ap (λ m. length (of_mutator m done)) (omega arith) ∙ own-entries ps done has k p is)

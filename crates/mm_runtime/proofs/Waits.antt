@@ -12,19 +12,17 @@ use Rattle.mm_runtime.specs.Managers.{next_of}
 use Rattle.mm_runtime.proofs.OkSteps.{at-most}
 
 -- a trace with a command left
-pub goes-on : (p : Progress) → vec_len p.replies < vec_len p.trace → next_of p ≢ None
+pub goes-on : (p : Progress) → vec_len p.replies < length p.trace → next_of p ≢ None
 goes-on p less none =
     let replies : vec_len p.replies ≡ length p.replies.items = p.replies.ok.0 in
-    let trace : vec_len p.trace ≡ length p.trace.items = p.trace.ok.0 in
-    let next = get-some p.trace.items (length p.replies.items) (omega arith) in
+    let next = get-some p.trace (length p.replies.items) (omega arith) in
     let wrong : None ≡ Some next.0 = sym none ∙ next.1 in cc
 
 -- and with none left
-pub has-ended : (p : Progress) → vec_len p.trace ≤ vec_len p.replies → next_of p ≡ None
+pub has-ended : (p : Progress) → length p.trace ≤ vec_len p.replies → next_of p ≡ None
 has-ended p most =
     let replies : vec_len p.replies ≡ length p.replies.items = p.replies.ok.0 in
-    let trace : vec_len p.trace ≡ length p.trace.items = p.trace.ok.0 in
-    slice_get_past p.trace.items (length p.replies.items) (omega arith)
+    slice_get_past p.trace (length p.replies.items) (omega arith)
 
 -- the element that a loop reads
 pub item : {A : Type 0} (xs ys : List A) (i : ℕ) (x : A) → ys ≡ xs → i < length ys → x ≡ get_or ys i x → slice_get xs i ≡ Some x

@@ -20,11 +20,11 @@ use Rattle.mm_runtime.specs.declared.progress.TheConstants.{MAX_COMMANDS}
 
 -- the command that comes next in a trace, None at its end
 abbrev pub next_of : Progress → Option Command
-next_of p = slice_get p.trace.items (length p.replies.items)
+next_of p = slice_get p.trace (length p.replies.items)
 
 -- the traces of some mutators
 abbrev pub traces_of : List Progress → List (List Command)
-traces_of ps = map (λ p. p.trace.items) ps
+traces_of ps = map (λ p. p.trace) ps
 
 -- the number of replies so far
 abbrev pub replied : List Progress → ℕ
@@ -32,14 +32,14 @@ replied ps = sum_by (λ p. length p.replies.items) ps
 
 -- the number of commands that have no reply yet
 abbrev pub left : List Progress → ℕ
-left ps = sum_by (λ p. length p.trace.items - length p.replies.items) ps
+left ps = sum_by (λ p. length p.trace - length p.replies.items) ps
 
 -- a trace of valid commands, which has at most as many replies as commands, and room for a reply to each
 pub record IsProgress (p : Progress) : Type 0 where
-  pub valid : All IsValid p.trace.items
-  pub few : length p.trace.items ≤ MAX_COMMANDS
-  pub within : length p.replies.items ≤ length p.trace.items
-  pub room : length p.trace.items ≤ vec_capacity p.replies
+  pub valid : All IsValid p.trace
+  pub few : length p.trace ≤ MAX_COMMANDS
+  pub within : length p.replies.items ≤ length p.trace
+  pub room : length p.trace ≤ vec_capacity p.replies
 
 -- a trace that can be run
 pub record IsRunnable (trace : List Command) : Type 0 where
@@ -48,7 +48,7 @@ pub record IsRunnable (trace : List Command) : Type 0 where
 
 -- a trace without replies, and with room for a reply to each command
 pub record IsFresh (trace : List Command) (p : Progress) : Type 0 where
-  pub trace_is : p.trace.items ≡ trace
+  pub trace_is : p.trace ≡ trace
   pub replies : p.replies.items ≡ []
   pub room : length trace ≤ vec_capacity p.replies
 
@@ -61,7 +61,7 @@ pub record HasMutator {P : Type 0} (manager : Manager P) (m : ℕ) : Type 0 wher
 pub record HasReplies (ps : List Progress) (done : List Entry) : Type 0 where
   pub mutators : AllByRecursion (λ e. IsMutator (traces_of ps) e.mutator) done
   pub commands : (k : ℕ) (p : Progress) → slice_get ps k ≡ Some p
-      → commands_of (k + 1) done ≡ take (length p.replies.items) p.trace.items
+      → commands_of (k + 1) done ≡ take (length p.replies.items) p.trace
   pub replies : (k : ℕ) (p : Progress) → slice_get ps k ≡ Some p → replies_of (k + 1) done ≡ p.replies.items
 
 -- What a manager keeps in order, whatever its session. A command causes at most two collections; `more` of those made are

@@ -57,15 +57,15 @@ pub record RunsTrace {P : Type 0} (old : PlainWorld P) (m : ℕ) (before : Progr
   pub answers : Answers old m answered new
   pub trace : after.trace ≡ before.trace
   pub replies : after.replies.items ≡ before.replies.items ++ map (λ e. e.reply) answered
-  pub commands : take (length after.replies.items) after.trace.items
-      ≡ take (length before.replies.items) before.trace.items ++ map (λ e. e.command) answered
+  pub commands : take (length after.replies.items) after.trace
+      ≡ take (length before.replies.items) before.trace ++ map (λ e. e.command) answered
 
 -- the mutator with this number got these replies to its commands in the part
 pub record Grows (number : ℕ) (part : List Entry) (before after : Progress) : Type 0 where
   pub trace : after.trace ≡ before.trace
   pub replies : after.replies.items ≡ before.replies.items ++ replies_of number part
-  pub commands : take (length after.replies.items) after.trace.items
-      ≡ take (length before.replies.items) before.trace.items ++ commands_of number part
+  pub commands : take (length after.replies.items) after.trace
+      ≡ take (length before.replies.items) before.trace ++ commands_of number part
 
 -- a mutator at `gc` or at a need raises a stop
 abbrev pub raises_stop : End → Bool

@@ -17,7 +17,7 @@ use plain_world::{BlockNotes, new_mutators};
 use plan_api::Plan;
 use std::alloc::{AllocError, Global};
 use std::marker::PhantomData;
-use stored_commands::{StoredCommand, stored_traces};
+use stored_commands::{StoredTrace, stored_traces};
 use work_packets::Gate;
 
 /// Whether a command is left without a reply.
@@ -45,18 +45,18 @@ pub struct Manager<P> {
 }
 
 /// A trace with room for its replies.
-fn new_progress(alloc: Global, trace: Vec<StoredCommand>) -> Result<Progress, AllocError>
-    ensures { IfOk result (λ p. IsFresh trace.items p) }
+fn new_progress(alloc: Global, trace: StoredTrace) -> Result<Progress, AllocError>
+    ensures { IfOk result (λ p. IsFresh trace p) }
 {
     let replies = Vec::with_capacity(alloc, trace.len())?;
     Ok(Progress { trace, replies })
 }
 
 /// Each trace with room for its replies.
-fn all_progress(alloc: Global, traces: Vec<Vec<StoredCommand>>) -> Result<Vec<Progress>, AllocError>
-    ensures traces { IfOk result (λ v. traces_of v.items ≡ lists_of traces.items) }
+fn all_progress(alloc: Global, traces: Vec<StoredTrace>) -> Result<Vec<Progress>, AllocError>
+    ensures traces { IfOk result (λ v. traces_of v.items ≡ traces.items) }
     ensures fresh { IfOk result (λ v. (k : ℕ) (p : State) → slice_get v.items k ≡ Some p
-        → IsFresh p.trace.items p) }
+        → IsFresh p.trace p) }
 {
     let mut progress = Vec::with_capacity(alloc, traces.len())?;
     for trace in traces {
@@ -95,17 +95,17 @@ impl<P: Plan> Manager<P> {
     pub fn begin_stored(
         alloc: Global,
         layout: Layout,
-        traces: Vec<Vec<StoredCommand>>,
+        traces: Vec<StoredTrace>,
         workers: u32,
     ) -> Result<Manager<P>, AllocError>
         requires workers { workers ≡ 1 }
         requires some { 1 ≤ length traces.items }
         requires few { length traces.items ≤ MAX_MUTATORS }
-        requires runnable { All IsRunnable (lists_of traces.items) }
+        requires runnable { All IsRunnable (traces.items) }
         ensures ready { IfOk result (λ m. IsReady P.rules m) }
         ensures closes { IfOk result (λ m. (t : Setting) → t.rules ≡ P.rules
             → t.blocks ≡ layout.blocks → t.workers ≡ workers
-            → t.traces ≡ lists_of traces.items → Closes P.rules m t (first_moment t)) }
+            → t.traces ≡ traces.items → Closes P.rules m t (first_moment t)) }
     {
         let _one = workers;
         let heap = Heap::new(alloc, layout)?;

@@ -56,19 +56,19 @@ fn allocate<P, G: Gate>(
 fn step<P, G: Gate>(
     world: &mut PlainWorld<P>,
     m: u32,
-    stored: &StoredCommand,
+    stored: StoredCommand<'_>,
     gate: &G,
 ) -> Result<Reply, End>
     requires open { IsOpen world.old }
     requires place { HasPlace world.old m }
     requires few { places_of world.old ≤ MAX_MUTATORS }
-    requires valid { IsValid stored.now }
+    requires valid { IsValid stored }
     requires births { births_at world.old m + 1 < 2 ^ 32 }
     ensures reply { IfOk result (λ r. Answers world.old m
-        (record { command = stored.now; reply = r } ∷ []) world.new) }
+        (record { command = stored.entry; reply = r } ∷ []) world.new) }
     ensures stop { IfOk result (λ r. stop_word world.new ≡ stop_word world.old) }
     ensures stopped { IfErr result (λ end. Answers world.old m [] world.new) }
-    ensures end { IfErr result (EndsFor (stop_word world.old) world.new m (Some stored.now)) }
+    ensures end { IfErr result (EndsFor (stop_word world.old) world.new m (Some stored.entry)) }
 {
     gate.pass(m + 1, Point::Poll);
     if let Polled::Raised(by) = world.poll(m) {

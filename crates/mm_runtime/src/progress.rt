@@ -7,7 +7,7 @@ ghost use Rattle.mm_runtime.specs.Replying.{GetsOk};
 
 use ideal_heap::{Command, Reply};
 use mutator_calls::Need;
-use stored_commands::StoredCommand;
+use stored_commands::{StoredCommand, StoredTrace};
 
 /// The greatest number of commands of a trace.
 pub const MAX_COMMANDS: usize = 1_000_000;
@@ -15,7 +15,7 @@ pub const MAX_COMMANDS: usize = 1_000_000;
 /// A mutator's trace, and the replies to its first commands.
 #[derive(Debug, Drop)]
 pub(crate) struct Progress {
-    pub(crate) trace: Vec<StoredCommand>,
+    pub(crate) trace: StoredTrace,
     // There is room for the reply to each command.
     pub(crate) replies: Vec<Reply>,
 }
@@ -38,9 +38,9 @@ pub(crate) enum End {
 impl Progress {
     /// The next command as it is stored, `None` at the end of the trace.
     #[inline(always)]
-    pub(crate) fn next_stored(&self) -> Option<&StoredCommand>
+    pub(crate) fn next_stored(&self) -> Option<StoredCommand<'_>>
         ensures { MatchOption result (next_of self.now ≡ None)
-            (λ c. next_of self.now ≡ Some c.now) }
+            (λ c. next_of self.now ≡ Some c) }
     {
         self.trace.get(self.replies.len())
     }
@@ -79,7 +79,7 @@ impl Progress {
 /// The reply `ok` to the next command.
 pub(crate) fn reply_ok(progress: &mut Progress)
     requires order { IsProgress progress.old }
-    requires next { length progress.old.replies.items < length progress.old.trace.items }
+    requires next { length progress.old.replies.items < length progress.old.trace }
     ensures { GetsOk progress.old progress.new }
 {
     progress.replies.push_reserved(Reply::Done);

@@ -3,42 +3,41 @@
 ghost use Rattle.std.specs.Prelude.{◌≡◌, IfOk, length};
 ghost use Rattle.stored_commands.specs.Lists.{lists_of};
 
-use crate::stored_command::StoredCommand;
+use crate::packed_command::PackedCommand;
+use crate::stored_trace::StoredTrace;
 use ideal_heap::Command;
 use std::alloc::{AllocError, Global};
 
-/// The commands of a stored list.
+/// The commands of a trace.
 ///
 /// Fails if memory runs out.
-pub fn commands_of(alloc: Global, stored: &[StoredCommand]) -> Result<Vec<Command>, AllocError>
-    ensures { IfOk result (λ v. v.items ≡ stored.now) }
+pub fn commands_of(alloc: Global, trace: &StoredTrace) -> Result<Vec<Command>, AllocError>
+    ensures { IfOk result (λ v. v.items ≡ trace.now) }
 {
-    let mut commands = Vec::with_capacity(alloc, stored.len())?;
-    for command in stored {
+    let mut commands = Vec::with_capacity(alloc, trace.len())?;
+    while let Some(command) = trace.get(commands.len()) {
         commands.push(command.command())?;
     }
     Ok(commands)
 }
 
-// The commands, each stored.
-fn stored(alloc: Global, commands: &[Command]) -> Result<Vec<StoredCommand>, AllocError>
-    ensures { IfOk result (λ v. v.items ≡ commands.now) }
+// A trace of these commands.
+fn stored(alloc: Global, commands: &[Command]) -> Result<StoredTrace, AllocError>
+    ensures { IfOk result (λ t. t ≡ commands.now) }
 {
-    let mut stored = Vec::with_capacity(alloc, commands.len())?;
+    let mut trace = StoredTrace::new(alloc);
+    trace.reserve(commands.len())?;
     for command in commands {
-        stored.push(StoredCommand::new(alloc, command)?)?;
+        trace.push(PackedCommand::new(command))?;
     }
-    Ok(stored)
+    Ok(trace)
 }
 
 /// Each trace with its commands stored.
 ///
 /// Fails if memory runs out.
-pub fn stored_traces(
-    alloc: Global,
-    traces: &[Vec<Command>],
-) -> Result<Vec<Vec<StoredCommand>>, AllocError>
-    ensures same { IfOk result (λ v. lists_of v.items ≡ lists_of traces.now) }
+pub fn stored_traces(alloc: Global, traces: &[Vec<Command>]) -> Result<Vec<StoredTrace>, AllocError>
+    ensures same { IfOk result (λ v. v.items ≡ lists_of traces.now) }
     ensures count { IfOk result (λ v. length v.items ≡ length traces.now) }
 {
     let mut all = Vec::with_capacity(alloc, traces.len())?;

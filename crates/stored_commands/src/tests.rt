@@ -1,11 +1,11 @@
 //! Commands that are stored and read again.
 
-use crate::{StoredCommand, commands_of, stored_traces};
+use crate::{commands_of, stored_traces};
 use ideal_heap::Command;
 use std::test::Fail;
 
 // Commands at the limits of a trace.
-const SHORT: [Command; 6] = [
+const SHORT: [Command; 7] = [
     Command::New {
         d: 15,
         refs: 1024,
@@ -16,15 +16,20 @@ const SHORT: [Command; 6] = [
         i: 1023,
         v: 4,
     },
+    Command::Write {
+        s: 255,
+        j: 65_535,
+        n: 4_294_967_295,
+    },
     Command::Add {
         s: 0,
         j: 59_999,
-        n: u64::MAX,
+        n: 4_294_967_295,
     },
     Command::Swap {
         s: 1,
         j: 2,
-        was: 4_294_967_295,
+        was: 65_535,
         next: 7,
     },
     Command::Share { g: 9, s: 8 },
@@ -32,40 +37,51 @@ const SHORT: [Command; 6] = [
 ];
 
 // Commands that take memory of their own.
-const LONG: [Command; 3] = [
+const LONG: [Command; 6] = [
+    Command::Write {
+        s: 1,
+        j: 2,
+        n: 4_294_967_296,
+    },
+    Command::Add {
+        s: 3,
+        j: 4,
+        n: u64::MAX,
+    },
     Command::Swap {
         s: 1,
         j: 2,
-        was: 4_294_967_296,
+        was: 65_536,
         next: 7,
+    },
+    Command::Swap {
+        s: 1,
+        j: 2,
+        was: 7,
+        next: 65_536,
     },
     Command::Unpin { s: 256 },
     Command::Read { s: 0, j: 65_536 },
 ];
 
 #[test]
-fn short_and_long(rt: HostRuntime) {
-    for command in &SHORT {
-        match StoredCommand::short(command) {
-            Some(stored) => assert_eq!(rt; stored.command(), *command),
-            None => assert!(rt; false, "{command:?}"),
-        }
-    }
-    for command in &LONG {
-        assert!(rt; StoredCommand::short(command).is_none(), "{command:?}");
-    }
-}
-
-#[test]
 fn stored_and_read_again(rt: HostRuntime) -> Result<(), Fail> {
     let alloc = rt.alloc();
+    let mut mixed = Vec::new(alloc);
+    for (short, long) in SHORT.iter().zip(&LONG) {
+        mixed.push(*short)?;
+        mixed.push(*long)?;
+    }
     let traces = vec![in alloc;
         Vec::from_slice(alloc, &SHORT)?,
         Vec::from_slice(alloc, &LONG)?,
+        mixed,
     ]?;
     let stored = stored_traces(alloc, &traces)?;
     for (trace, stored) in traces.iter().zip(&stored) {
         assert_eq!(rt; commands_of(alloc, stored)?.as_slice(), trace.as_slice());
+        assert_eq!(rt; stored.len(), trace.len());
+        assert!(rt; stored.get(trace.len()).is_none());
     }
     Ok(())
 }

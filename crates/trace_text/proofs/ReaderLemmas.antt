@@ -1,5 +1,5 @@
 -- Readers: the result is that of all the lines.
-use Rattle.std.proofs.Common.{◌≡◌, refl, sym, ◌∙◌, ap, ℕ, ◌+◌, ◌-◌, ◌<◌, arith, false, nat_lt, List, [], ◌∷◌, ◌++◌, take, drop, length, append_assoc, None, Result, Ok, Err, inl, inr, subst, Vec, Global}
+use Rattle.std.proofs.Common.{◌≡◌, refl, sym, ◌∙◌, ap, ℕ, ◌+◌, ◌-◌, ◌<◌, arith, false, nat_lt, List, [], ◌∷◌, ◌++◌, take, drop, length, append_assoc, None, Result, Ok, Err, inl, inr, subst}
 use Rattle.std.specs.Prelude.{OnOk, if◌then◌else◌}
 use Rattle.std.specs.Result.{is_ok}
 use Rattle.std.proofs.lemmas.List.{take_rest, take-append-drop}
@@ -21,7 +21,7 @@ with_prefix-one prefix c (Ok cs) = ap Ok (sym (append_assoc prefix (c ∷ []) cs
 with_prefix-one prefix c (Err f) = refl
 
 -- a reader that goes on after the header
-pub end_is : (r : LineReader) (ls : List (List ℕ)) → r.fault ≡ None → 1 < r.number → end_of_lines r ls ≡ with_prefix r.commands.items (lines_from (line all_ops) r.number ls)
+pub end_is : (r : LineReader) (ls : List (List ℕ)) → r.fault ≡ None → 1 < r.number → end_of_lines r ls ≡ with_prefix r.commands (lines_from (line all_ops) r.number ls)
 end_is r ls none begun = rw (none, lt-ltb 1 r.number begun) refl
 
 next_command : (prefix : List Command) (n : ℕ) (l : List ℕ) (ls : List (List ℕ)) (c : Command) → nat_lt (MAX_COMMANDS + 1) n ≡ false → line all_ops l ≡ Ok c
@@ -30,9 +30,9 @@ next_command prefix n l ls c early good = rw (early, good) (with_prefix-one pref
 
 -- one good line more
 pub one_more : (old new : LineReader) (rest remaining : List ℕ) (c : Command) → IsReadAs rest (Ok c) remaining → old.fault ≡ None → 1 < old.number → nat_lt (MAX_COMMANDS + 1) old.number ≡ false
-    → new.fault ≡ None → 1 < new.number → new.number ≡ old.number + 1 → new.commands.items ≡ old.commands.items ++ c ∷ [] → GoesOn old new (lines_of rest) (lines_of remaining)
+    → new.fault ≡ None → 1 < new.number → new.number ≡ old.number + 1 → new.commands ≡ old.commands ++ c ∷ [] → GoesOn old new (lines_of rest) (lines_of remaining)
 one_more old new rest remaining c read none begun early still after number pushed more =
-    end_is new (lines_of remaining ++ more) still after ∙ rw (number, pushed) (sym (next_command old.commands.items old.number read.0 (lines_of remaining ++ more) c early (sym read.2)))
+    end_is new (lines_of remaining ++ more) still after ∙ rw (number, pushed) (sym (next_command old.commands old.number read.0 (lines_of remaining ++ more) c early (sym read.2)))
     ∙ sym (end_is old (read.0 ∷ lines_of remaining ++ more) none begun) ∙ ap (λ ls. end_of_lines old (ls ++ more)) (sym read.1)
 
 -- the lines of a text of whole lines, and of a text after it
@@ -72,12 +72,12 @@ unfolding trace
 trace_is bytes = refl
 
 -- the result at the end of the text
-pub ends : (r : TraceReader) (text : List ℕ) (result : Result (Vec Command Global) TraceFault) (done : LineReader) → HasRead r text
-    → GoesOn r.lines done (lines_of r.begun.items) [] → Gives (λ v. v.items) result (end_of_lines done []) → Gives (λ v. v.items) result (trace text)
+pub ends : (r : TraceReader) (text : List ℕ) (result : Result (List Command) TraceFault) (done : LineReader) → HasRead r text
+    → GoesOn r.lines done (lines_of r.begun.items) [] → Gives (λ v. v) result (end_of_lines done []) → Gives (λ v. v) result (trace text)
 ends r text result done had read gives =
     let whole : end_of_lines done [] ≡ trace text =
     read [] ∙ ap (end_of_lines r.lines) (append-nil (lines_of r.begun.items)) ∙ ap (λ l. end_of_lines r.lines (lines_of l)) (sym (append-nil r.begun.items)) ∙ sym (had []) ∙ ap trace (append-nil text) in
-    subst (λ e. Gives (λ v. v.items) result e) whole gives
+    subst (λ e. Gives (λ v. v) result e) whole gives
 
 -- a list that is x after Ok
 pub on_ok : {X E A : Type 0} {Q : Type 0} (r : Result X E) (x a b : List A) → x ≡ (if is_ok r then a else b) → (x ≡ a → Q) → OnOk r Q

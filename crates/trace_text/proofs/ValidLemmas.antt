@@ -1,5 +1,5 @@
 -- Commands that are read are valid, and at most `MAX_COMMANDS`.
-use Rattle.std.proofs.Common.{◌≡◌, refl, subst, ℕ, zero, suc, ◌+◌, ◌<◌, ◌≤◌, arith, Bool, true, false, cond, nat_eq, nat_lt, nat_le, List, [], ◌∷◌, map, length, get_or, Option, Some, None, Result, Ok, Err, Vec, Global}
+use Rattle.std.proofs.Common.{◌≡◌, refl, subst, ℕ, zero, suc, ◌+◌, ◌<◌, ◌≤◌, arith, Bool, true, false, cond, nat_eq, nat_lt, nat_le, List, [], ◌∷◌, map, length, get_or, Option, Some, None, Result, Ok, Err}
 use Rattle.std.specs.Prelude.{IfOk}
 use Rattle.std.specs.List.{All, AllByRecursion}
 use Rattle.std.proofs.lemmas.Bool.{leb-true, ltb-false}
@@ -136,10 +136,10 @@ trace_good bytes cs e =
     let good = under_header (lines_of bytes) cs e in
     (by_index IsValid cs good.0, good.1)
 
-pub read_valid : (bytes : List ℕ) (r : Result (Vec Command Global) TraceFault) → Gives (λ v. v.items) r (trace bytes) → IfOk r (λ v. All IsValid v.items)
-read_valid bytes (Ok v) e = (trace_good bytes v.items e).0
+pub read_valid : (bytes : List ℕ) (r : Result (List Command) TraceFault) → Gives (λ v. v) r (trace bytes) → IfOk r (All IsValid)
+read_valid bytes (Ok v) e = (trace_good bytes v e).0
 read_valid bytes (Err d) e = tt
 
-pub read_few : (bytes : List ℕ) (r : Result (Vec Command Global) TraceFault) → Gives (λ v. v.items) r (trace bytes) → IfOk r (λ v. length v.items ≤ MAX_COMMANDS)
-read_few bytes (Ok v) e = (trace_good bytes v.items e).1
+pub read_few : (bytes : List ℕ) (r : Result (List Command) TraceFault) → Gives (λ v. v) r (trace bytes) → IfOk r (λ v. length v ≤ MAX_COMMANDS)
+read_few bytes (Ok v) e = (trace_good bytes v e).1
 read_few bytes (Err d) e = tt

@@ -22,7 +22,7 @@ result_after None commands number lines = with_prefix commands (result_of number
 
 -- the result of a reader, if these lines follow
 abbrev pub end_of_lines : LineReader → List (List ℕ) → Result (List Command) TraceFault
-end_of_lines r lines = result_after r.fault r.commands.items r.number lines
+end_of_lines r lines = result_after r.fault r.commands r.number lines
 
 -- the reader has read the first lines, and `after` are left
 abbrev pub GoesOn : LineReader → LineReader → List (List ℕ) → List (List ℕ) → Type 0

@@ -9,7 +9,7 @@ use crate::{TraceFault, TraceReader, Why, read_trace};
 use ideal_heap::Command;
 use std::alloc::{AllocError, Global};
 use std::test::Fail;
-use stored_commands::{StoredCommand, commands_of};
+use stored_commands::{StoredTrace, commands_of};
 
 // Both readers give the same result for the line, and the rest begins after its newline.
 fn agrees_on(alloc: Global, line: &[u8]) -> Result<bool, AllocError> {
@@ -17,11 +17,13 @@ fn agrees_on(alloc: Global, line: &[u8]) -> Result<bool, AllocError> {
     text.push(b'\n')?;
     text.resize(line.len().saturating_add(65), b'x')?;
     match (first_command(&text), command_of(line)) {
-        (Some((stored, end)), Ok(command)) => {
-            Ok(stored.command() == command && end == text.len().saturating_sub(64))
+        (Some((packed, end)), Ok(command)) => {
+            let mut trace = StoredTrace::new(alloc);
+            trace.push(packed)?;
+            let read = commands_of(alloc, &trace)?;
+            Ok(read.as_slice() == [command].as_slice() && end == text.len().saturating_sub(64))
         }
         (None, Err(_)) => Ok(true),
-        (None, Ok(command)) => Ok(StoredCommand::short(&command).is_none()),
         _ => Ok(false),
     }
 }

@@ -10,7 +10,7 @@ use crate::limits::MAX_COMMANDS;
 use crate::lines::next_command;
 use crate::splitter::next_line;
 use std::alloc::{AllocError, Global};
-use stored_commands::StoredCommand;
+use stored_commands::{PackedCommand, StoredTrace};
 
 // The number of the last line that a trace may have: one after its header for each command.
 const LAST_LINE: u32 = MAX_COMMANDS + 1;
@@ -24,7 +24,7 @@ const LONG_TEXT: usize = 32_768;
 /// The lines read so far. Lines after the first bad one are not read.
 #[derive(Debug, Drop)]
 pub(crate) struct LineReader {
-    pub(crate) commands: Vec<StoredCommand>,
+    pub(crate) commands: StoredTrace,
     /// The number of the next line, from 1 on.
     pub(crate) number: u32,
     pub(crate) fault: Option<TraceFault>,
@@ -36,7 +36,7 @@ impl LineReader {
         ensures { (lines : List (List ℕ)) → end_of_lines result lines ≡ with_header lines }
     {
         LineReader {
-            commands: Vec::new(alloc),
+            commands: StoredTrace::new(alloc),
             number: 1,
             fault: None,
         }
@@ -48,9 +48,6 @@ impl LineReader {
         ensures { OnOk result ((lines : List (List ℕ))
             → end_of_lines self.new lines ≡ end_of_lines self.old lines) }
     {
-        if self.commands.capacity() > 0 {
-            return Ok(());
-        }
         let most = if bytes < LONG_TEXT {
             bytes / LEAST_LINE + 1
         } else {
@@ -112,7 +109,6 @@ impl LineReader {
         let Some(mut rest) = self.after_header(text) else {
             return Ok(());
         };
-        let alloc = *self.commands.allocator();
         'lines: loop {
             rest = self.read_short(rest)?;
             let Some((read, remaining)) = next_command(rest) else {
@@ -123,7 +119,7 @@ impl LineReader {
                 return Ok(());
             }
             match read {
-                Ok(command) => self.commands.push(StoredCommand::new(alloc, &command)?)?,
+                Ok(command) => self.commands.push(PackedCommand::new(&command))?,
                 Err(why) => {
                     self.fault = Some(TraceFault::Line(self.number, why));
                     return Ok(());
@@ -135,8 +131,8 @@ impl LineReader {
     }
 
     /// The commands of all lines, or the first fault.
-    pub(crate) fn finish(self) -> Result<Vec<StoredCommand>, TraceFault>
-        ensures { Gives (λ v. v.items) result (end_of_lines self []) }
+    pub(crate) fn finish(self) -> Result<StoredTrace, TraceFault>
+        ensures { Gives (λ v. v) result (end_of_lines self []) }
     {
         match self.fault {
             Some(fault) => Err(fault),

@@ -9,13 +9,13 @@ use crate::limits::MAX_COMMANDS;
 use crate::line_reader::LineReader;
 use ideal_heap::Command;
 use std::alloc::Global;
-use stored_commands::{StoredCommand, commands_of};
+use stored_commands::{StoredTrace, commands_of};
 
 // The commands of the trace, stored.
-fn read_stored(alloc: Global, bytes: &[u8]) -> Result<Vec<StoredCommand>, TraceFault>
-    ensures text { Gives (λ v. v.items) result (trace bytes.now) }
-    ensures valid { IfOk result (λ v. All IsValid v.items) }
-    ensures few { IfOk result (λ v. length v.items ≤ MAX_COMMANDS) }
+fn read_stored(alloc: Global, bytes: &[u8]) -> Result<StoredTrace, TraceFault>
+    ensures text { Gives (λ v. v) result (trace bytes.now) }
+    ensures valid { IfOk result (All IsValid) }
+    ensures few { IfOk result (λ v. length v ≤ MAX_COMMANDS) }
 {
     let mut lines = LineReader::new(alloc);
     lines.reserve(bytes.len())?;

@@ -10,7 +10,7 @@ use crate::limits::MAX_COMMANDS;
 use crate::line_reader::LineReader;
 use memchr::{memchr, memrchr};
 use std::alloc::{AllocError, Global};
-use stored_commands::StoredCommand;
+use stored_commands::StoredTrace;
 
 /// Reads a trace in the format `mmtrace 1` from its text, which comes in pieces of any size.
 ///
@@ -80,13 +80,13 @@ impl TraceReader {
     /// The commands, after the last piece.
     ///
     /// Errors: those of `read_trace`.
-    pub fn finish(mut self) -> Result<Vec<StoredCommand>, TraceFault>
+    pub fn finish(mut self) -> Result<StoredTrace, TraceFault>
         ensures text { (text : List ℕ) → HasRead self text
-            → Gives (λ v. v.items) result (trace text) }
+            → Gives (λ v. v) result (trace text) }
         ensures valid { (text : List ℕ) → HasRead self text
-            → IfOk result (λ v. All IsValid v.items) }
+            → IfOk result (All IsValid) }
         ensures few { (text : List ℕ) → HasRead self text
-            → IfOk result (λ v. length v.items ≤ MAX_COMMANDS) }
+            → IfOk result (λ v. length v ≤ MAX_COMMANDS) }
     {
         self.lines.read(&self.begun)?;
         self.lines.finish()

@@ -1,5 +1,4 @@
-use Rattle.std.proofs.Common.{◌∙◌, sym, subst, ◌≤◌, rules}
-use Rattle.std.proofs.lemmas.List.{length-map}
+use Rattle.std.proofs.Common.{sym, subst, ◌≤◌, rules}
 use Rattle.command_line.specs.Orders.{texts, job_of_order}
 use Rattle.mm_drive.proofs.Jobs.{job-supported, job-blocks, job-files, supported-work}
 use Rattle.mm_drive.proofs.Joining.{long-off, bad-off, fault-off, long-bad, fault-long, traces-clash, reported-clash, ends-clash}
@@ -80,7 +79,7 @@ text_of_session-requires-clause-some g c κs within =
     let job = job_of_order c.in-Ok-Some.order in
     let supported = job-supported (texts c.args.words.now) job (named-job _ c.in-Ok-Some.order _ c.in-Ok-Some.field-0-is c.in-Ok-Some.ensures) in
     let good = rw c.files_named-files.ensures at c.in-Ok.ensures.ok in
-    let count = sym (length-map c.in-Ok.traces.items (λ t. t.items)) ∙ traces-count _ job _ good in
+    let count = traces-count _ job _ good in
     subst (λ n. 1 ≤ n) (sym count) (job-files (texts c.args.words.now) job supported.1 (supported-work job supported.0)).0
 
 pub text_of_session-requires-clause-few : goal.text_of_session-requires-clause-few
@@ -88,7 +87,7 @@ text_of_session-requires-clause-few g c κs within =
     let job = job_of_order c.in-Ok-Some.order in
     let supported = job-supported (texts c.args.words.now) job (named-job _ c.in-Ok-Some.order _ c.in-Ok-Some.field-0-is c.in-Ok-Some.ensures) in
     let good = rw c.files_named-files.ensures at c.in-Ok.ensures.ok in
-    let count = sym (length-map c.in-Ok.traces.items (λ t. t.items)) ∙ traces-count _ job _ good in
+    let count = traces-count _ job _ good in
     subst (λ n. n ≤ 16) (sym count) (job-files (texts c.args.words.now) job supported.1 (supported-work job supported.0)).1
 
 pub returns-then-is_err-clause-write_fault : goal.returns-then-is_err-clause-write_fault

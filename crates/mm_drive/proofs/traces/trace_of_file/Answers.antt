@@ -8,7 +8,7 @@ returns-in-Ok-clause-asked g c = asks-all c.trace_read.result _ _ _ c.in-Ok.ensu
 pub returns-in-Ok-clause-ok : goal.returns-in-Ok-clause-ok
 returns-in-Ok-clause-ok g c =
     let all = c.in-Ok.ensures.taken [] c.new.ensures in
-    trace-in c.trace_read.result (λ v. v.items) _ all.0 all.1 all.3 (c.trace_read.ensures.ok all.0 all.2)
+    trace-in c.trace_read.result _ all.0 all.1 all.3 (c.trace_read.ensures.ok all.0 all.2)
 
 pub returns-in-Ok-clause-bad : goal.returns-in-Ok-clause-bad
 returns-in-Ok-clause-bad g c f is =

@@ -18,4 +18,4 @@ invariant-loop-stored g l = record {
 }
 
 abbrev pub decreases-loop-stored : goal.decreases-loop-stored
-decreases-loop-stored g l = length l.progress.trace.items - length l.progress.replies.items
+decreases-loop-stored g l = length l.progress.trace - length l.progress.replies.items

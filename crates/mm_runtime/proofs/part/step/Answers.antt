@@ -20,7 +20,7 @@ pub returns-in-Raised-clause-end : goal.returns-in-Raised-clause-end
 returns-in-Raised-clause-end g c =
     let poll = c.in-Raised.ensures in
     let word : stop_word c.poll.new.self ≡ stop_word c.args.world.now = word-same c.args.world.now c.poll.new.self poll.same in (
-      (λ e. let wrong : Some c.args.stored.now ≡ None = e in cc),
+      (λ e. let wrong : Some c.args.stored ≡ None = e in cc),
       number-some c.args.world.now c.requires.open c.in-Raised.by (poll.mutator c.in-Raised.by refl),
       poll.stop,
       word ∙ poll.stop,
@@ -57,7 +57,7 @@ pub returns-in-New-clause-reply : goal.returns-in-New-clause-reply
 returns-in-New-clause-reply g c =
     let poll = c.poll.ensures in
     IfOk-weaker c.allocate.result _ _
-    (λ r answers. answers-append c.args.world.now c.poll.new.self c.allocate.new.world c.args.m [] (record { command = c.args.stored.now; reply = r } ∷ [])
+    (λ r answers. answers-append c.args.world.now c.poll.new.self c.allocate.new.world c.args.m [] (record { command = c.args.stored; reply = r } ∷ [])
     (answers-unchanged c.args.world.now c.poll.new.self c.args.m c.requires.open poll.open poll.places poll.history poll.same)
     (subst (λ (x : Command). Answers c.poll.new.self c.args.m (record { command = x; reply = r } ∷ []) c.allocate.new.world) (sym c.in-New.is ∙ c.command-command.ensures) answers))
     c.allocate.ensures.reply
@@ -73,13 +73,13 @@ returns-in-New-clause-stopped g c =
 pub returns-in-New-clause-end : goal.returns-in-New-clause-end
 returns-in-New-clause-end g c =
     let poll = c.in_default.ensures in
-    subst (λ (n : ℕ). IfErr c.allocate.result (EndsFor n c.allocate.new.world c.args.m (Some c.args.stored.now))) (sym poll.stop)
+    subst (λ (n : ℕ). IfErr c.allocate.result (EndsFor n c.allocate.new.world c.args.m (Some c.args.stored))) (sym poll.stop)
     (subst (λ (x : Command). IfErr c.allocate.result (EndsFor 0 c.allocate.new.world c.args.m (Some x))) (sym c.in-New.is ∙ c.command-command.ensures) c.allocate.ensures.end)
 
 pub returns-in_default-command : goal.returns-in_default-command
 returns-in_default-command g c =
     let poll = c.poll.ensures in record {
-      reply = answers-append c.args.world.now c.poll.new.self c.perform.new.world c.args.m [] (record { command = c.args.stored.now; reply = c.perform.result } ∷ [])
+      reply = answers-append c.args.world.now c.poll.new.self c.perform.new.world c.args.m [] (record { command = c.args.stored; reply = c.perform.result } ∷ [])
           (answers-unchanged c.args.world.now c.poll.new.self c.args.m c.requires.open poll.open poll.places poll.history poll.same)
           (subst (λ (x : Command). Answers c.poll.new.self c.args.m (record { command = x; reply = c.perform.result } ∷ []) c.perform.new.world) c.command-command.ensures c.perform.ensures.answers);
       stop = c.perform.ensures.stop ∙ word-same c.args.world.now c.poll.new.self poll.same;

@@ -3,4 +3,4 @@ use Rattle.std.proofs.Common.{◌≡◌, take}
 use Rattle.stored_commands.proofs.lists.stored.Given as goal
 
 abbrev pub invariant-loop-command : goal.invariant-loop-command
-invariant-loop-command l = l.stored.items ≡ take l.command-index l.commands
+invariant-loop-command l = l.trace ≡ take l.command-index l.commands

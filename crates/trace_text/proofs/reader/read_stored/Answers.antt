@@ -8,7 +8,7 @@ use Rattle.trace_text.proofs.reader.read_stored.Goals as goal
 
 pub returns-clause-text : goal.returns-clause-text
 returns-clause-text c =
-    subst (λ e. Gives (λ v. v.items) c.finish.result e)
+    subst (λ e. Gives (λ v. v) c.finish.result e)
     (c.in_ok-read.ensures [] ∙ ap (λ ls. end_of_lines c.reserve.new.self ls) (append-nil (lines_of c.args.bytes.now)) ∙ c.in_ok-reserve.ensures (lines_of c.args.bytes.now) ∙ c.new-lines.ensures (lines_of c.args.bytes.now) ∙ sym (trace_is c.args.bytes.now))
     c.finish.ensures
 

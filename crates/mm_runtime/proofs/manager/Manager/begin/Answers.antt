@@ -9,10 +9,10 @@ use Rattle.mm_runtime.proofs.manager.Manager.begin.Goals as goal
 
 pub begin_stored-requires-clause-runnable : goal.begin_stored-requires-clause-runnable
 begin_stored-requires-clause-runnable g c =
-    let same : lists_of c.in_ok-stored.stored.items ≡ lists_of c.args.traces.items = c.in_ok-stored.ensures.same ∙ ap lists_of c.deref.ensures.value in
+    let same : c.in_ok-stored.stored.items ≡ lists_of c.args.traces.items = c.in_ok-stored.ensures.same ∙ ap lists_of c.deref.ensures.value in
     subst (λ (ts : List (List Command)). All IsRunnable ts) (sym same) c.requires.runnable
 
 pub returns-clause-closes : goal.returns-clause-closes
 returns-clause-closes g c =
-    let same : lists_of c.in_ok-stored.stored.items ≡ lists_of c.args.traces.items = c.in_ok-stored.ensures.same ∙ ap lists_of c.deref.ensures.value in
+    let same : c.in_ok-stored.stored.items ≡ lists_of c.args.traces.items = c.in_ok-stored.ensures.same ∙ ap lists_of c.deref.ensures.value in
     IfOk-weaker c.begin_stored.result _ _ (λ m closes t rules blocks workers traces. closes t rules blocks workers (traces ∙ sym same)) c.begin_stored.ensures.closes

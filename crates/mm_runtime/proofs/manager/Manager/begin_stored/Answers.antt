@@ -1,24 +1,20 @@
 -- The first moment of a session.
 use Rattle.std.proofs.Common.{◌≡◌, ◌≤◌, refl, ◌∙◌, arith, length}
-use Rattle.std.proofs.lemmas.List.{length-map}
-use Rattle.stored_commands.specs.Lists.{lists_of}
 use Rattle.mm_runtime.proofs.FirstManager as first
 use Rattle.mm_runtime.proofs.manager.Manager.begin_stored.Goals as goal
 
 pub returns-clause-ready : goal.returns-clause-ready
 returns-clause-ready g c =
-    let many : length (lists_of c.args.traces.items) ≡ length c.args.traces.items = length-map c.args.traces.items (λ v. v.items) in
-    let count : c.len.result ≡ length (lists_of c.args.traces.items) = omega (arith, c.len.ensures, c.args.traces.ok.0) in
-    first.ready g.P.Plan.rules _ c.args.layout.blocks c.len.result (lists_of c.args.traces.items)
+    let count : c.len.result ≡ length c.args.traces.items = omega (arith, c.len.ensures, c.args.traces.ok.0) in
+    first.ready g.P.Plan.rules _ c.args.layout.blocks c.len.result c.args.traces.items
     c.in_ok-heap.ensures (c.in_ok-notes.ensures g.P.Plan.rules.fill) c.in_ok-mutators.ensures.states c.in_ok-mutators.ensures.places
     count c.in_ok-progress.ensures.traces c.in_ok-progress.ensures.fresh refl refl
     (let some : 1 ≤ length c.args.traces.items = c.requires.some in omega arith) (let few : length c.args.traces.items ≤ 16 = c.requires.few in omega arith) c.requires.runnable
 
 pub returns-clause-closes : goal.returns-clause-closes
 returns-clause-closes g c t rules blocks workers traces =
-    let many : length (lists_of c.args.traces.items) ≡ length c.args.traces.items = length-map c.args.traces.items (λ v. v.items) in
-    let count : c.len.result ≡ length (lists_of c.args.traces.items) = omega (arith, c.len.ensures, c.args.traces.ok.0) in
-    first.closes g.P.Plan.rules _ c.args.layout.blocks c.len.result (lists_of c.args.traces.items)
+    let count : c.len.result ≡ length c.args.traces.items = omega (arith, c.len.ensures, c.args.traces.ok.0) in
+    first.closes g.P.Plan.rules _ c.args.layout.blocks c.len.result c.args.traces.items
     c.in_ok-heap.ensures (c.in_ok-notes.ensures g.P.Plan.rules.fill) c.in_ok-mutators.ensures.states c.in_ok-mutators.ensures.places
     count c.in_ok-progress.ensures.traces c.in_ok-progress.ensures.fresh refl refl
     (let some : 1 ≤ length c.args.traces.items = c.requires.some in omega arith) (let few : length c.args.traces.items ≤ 16 = c.requires.few in omega arith) c.requires.runnable

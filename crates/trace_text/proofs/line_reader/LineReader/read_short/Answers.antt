@@ -17,7 +17,7 @@ loop-command-preserved c =
     let now = c.loop-command.invariant in
     let after : 1 < old.number + 1 = omega (arith, now.begun) in
     let more = one_more old new rest left c.in-Some.command (front_read c.in-Some.command rest end c.in-Some.ensures) now.none now.begun
-    (le-ltb (MAX_COMMANDS + 1) old.number (grind arith)) now.none after refl c.in_ok-push.ensures.items in
+    (le-ltb (MAX_COMMANDS + 1) old.number (grind arith)) now.none after refl c.in_ok-push.ensures in
     let shorter : length left < length rest = front_shorter c.in-Some.command rest end c.in-Some.ensures in record {
       none = now.none;
       begun = after;
