@@ -16,7 +16,7 @@ use Rattle.object_model.specs.Ages.{RemembersYoung}
 use Rattle.trace_core.specs.Setups.{Setup, IsReady, blocks, collection, is_logged}
 use Rattle.trace_core.specs.Outcomes.{base_after}
 use Rattle.trace_core.specs.Views.{one_if, times, first_view}
-use Rattle.trace_core.specs.Tracers.{is_nursery, without_lines, setup_of, MayRun, IsRunOf, Tracks}
+use Rattle.trace_core.specs.Tracers.{is_nursery, is_set, clears_lines, without_lines, setup_of, MayRun, IsRunOf, Tracks}
 use Rattle.trace_core.proofs.Objects.{None-not-Some}
 use Rattle.trace_core.proofs.Beginning.{first-young}
 use Rattle.trace_core.specs.Machine.{target}
@@ -29,11 +29,6 @@ use Rattle.trace_core.proofs.FirstView.{first-holds}
 pub is-full : (c : Collect) (b : Bool) → b ≡ sameb the_type c Full → not (is_nursery c) ≡ b
 is-full Nursery b e = sym e
 is-full Full b e = sym e
-
--- the test of `setup_of`, which is private there
-abbrev is_set : Option Bool → Bool
-is_set None = false
-is_set (Some b) = b
 
 set-some : (o : Option Bool) → is_set o ≡ true → o ≡ Some true
 set-some None is = absurd (true≢false (sym is))
@@ -50,18 +45,15 @@ module _ (s : HeapState) (run : TraceRun) (lawful : IsLawfulButLines s) (may : M
   abbrev nursery : Bool
   nursery = is_nursery run.collect
 
-  abbrev clears : Bool
-  clears = run.lines && not (is_nursery run.collect)
-
   -- what is so of the heap as it is, and with all line bits clear, is so as the trace begins
   either : (P : HeapState → Type 0) → P s → P (without_lines s) → P p.before
-  either P same clear = elim (cases_Bool clears) as (λ _. P p.before) [
-    | inl is ↦ subst P (sym (cond-true clears (without_lines s) s is)) clear
-    | inr none ↦ subst P (sym (cond-false clears (without_lines s) s none)) same
+  either P same clear = elim (cases_Bool (clears_lines run)) as (λ _. P p.before) [
+    | inl is ↦ subst P (sym (cond-true (clears_lines run) (without_lines s) s is)) clear
+    | inr none ↦ subst P (sym (cond-false (clears_lines run) (without_lines s) s none)) same
   ]
 
   pub before-same : IsTrue nursery → p.before ≡ s
-  before-same young = cond-false clears (without_lines s) s (and_right run.lines (not nursery) (ap not young))
+  before-same young = cond-false (clears_lines run) (without_lines s) s (and_right run.lines (not nursery) (ap not young))
 
   number-same : p.before.number ≡ s.number
   number-same = either (λ h. h.number ≡ s.number) refl refl

@@ -78,7 +78,7 @@ module _ (p : Setup) (es : List Event) (trace : IsTrace p es) (finished : IsFini
   old-mark : (a t : ℕ) → IsTrue (is_old p a) → claimed_word p a t ≡ word_at p.before (a + 2)
   old-mark a t aged = cond-true (is_old p a) (word_at p.before (a + 2)) (collector_word (collection p) t) aged
 
-  base-below : base_after p ≤ collection p
+  pub base-below : base_after p ≤ collection p
   base-below = elim (cases_Bool p.nursery) as (λ _. base_after p ≤ collection p) [
     | inl nursery ↦ subst (λ n. n ≤ collection p) (sym (cond-true p.nursery p.before.base (collection p) nursery)) (let less : p.before.base ≤ p.before.number = trace.ready.lawful.order.row.base in omega arith)
     | inr full ↦ subst (λ n. n ≤ collection p) (sym (cond-false p.nursery p.before.base (collection p) full)) (omega arith)

@@ -123,8 +123,8 @@ module _ (p : Setup) (ready : IsReady p) (run : TraceRun) (logged : (x : ℕ) �
         | inl set ↦ absurd (true≢false (sym is ∙ and_right (is_old p x) (not (is_unlogged p.before x)) (ap not set)))
         | inr clear ↦ clear
       ]) in
-      let busy : IsTrue (not (is_idle p x)) = not_from_false (is_idle p x) (and_right (is_old p x) (is_unlogged p.before x) clear) in
-      grey-from k (sym (ap (λ b. one_if (b && is_scanning k (first_stage p x))) busy ∙ ap (λ st. one_if (is_scanning k st)) stage))
+      let busy : IsTrue (not (is_idle p x)) = not_from_false (is_idle p x) (and_right (is_old p x) (is_unlogged p.before x) clear) in grey-from k
+      (sym (ap (λ b. one_if (b && is_scanning k (first_stage p x))) busy ∙ ap (λ st. one_if (is_scanning k st)) stage))
     where
       grey-from : (k : ℕ) → one_if (nat_eq 0 k) ≡ one_if (not (is_idle p x) && is_scanning k (first_stage p x))
           → hits x k (map (λ y. (y, 0)) l) ≡ one_if (not (is_idle p x) && is_scanning k (first_stage p x))

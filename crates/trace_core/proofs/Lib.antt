@@ -13,9 +13,9 @@ mod Law
 mod Once
 mod Staying
 mod Clauses
-mod Finished
-mod Rows
-mod Releasable
+pub mod Finished
+pub mod Rows
+pub mod Releasable
 mod Appending
 pub mod Counting
 mod Idle
@@ -32,7 +32,7 @@ mod BitStores
 mod CopiedObjects
 mod LineMasks
 mod LineMarks
-mod WithoutLines
+pub mod WithoutLines
 mod FirstView
 mod BeginningTracer
 pub mod Following

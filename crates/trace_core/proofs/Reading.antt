@@ -80,9 +80,6 @@ module _ (p : Setup) (es : List Event) (t : PlainTrace) (v : View) (tracks : Tra
   pub from-within : (b : ℕ) → b ≡ block_at t.row.layout.blocks x → b < length t.run.from.items
   from-within b is = slice_get_within t.run.from.items b (p.from (block_at (blocks p) x)) (from-read b is)
 
-  pub address-read : IsAddress t.row.layout.blocks x
-  address-read = subst (λ n. IsAddress n x) (sym (blocks-are p es t v tracks)) held.address
-
   -- the word at an offset of the object is a word of the row
   pub word-within : (o : ℕ) → o < size p x → x + o < length t.row.words.items
   word-within o l =

@@ -8,7 +8,7 @@ use Rattle.heap_layout.specs.Blocks.{kind_code, IsValid, is_block_code}
 use Rattle.heap_layout.proofs.BlockLemmas.{is_block_code-code_of, kind_code_most}
 use Rattle.ideal_heap.specs.Names.{IsName}
 use Rattle.object_model.specs.Objects.{HeapState, block_word, HasKind, IsHeld, size_at, is_pinned, is_unlogged}
-use Rattle.object_model.specs.Lawful.{HasObject, Lies}
+use Rattle.object_model.specs.Lawful.{HasObject, Lies, is_in_run}
 use Rattle.object_model.specs.Releasing.{IsReleasable}
 use Rattle.object_model.specs.Preserving.{SameObject}
 use Rattle.trace_core.specs.Setups.{Setup, blocks, size, is_copy_kind}
@@ -19,7 +19,7 @@ use Rattle.trace_core.proofs.Clauses.{has-room, held-of}
 use Rattle.trace_core.proofs.Finished.{same-object}
 use Rattle.trace_core.proofs.Rows.{row, holds, same-size, target-size, name, shape, unlog-held, clear}
 use Rattle.object_model.proofs.OneKind.{kind-from, kind-within, kind-code, one-kind, has_small-code, is_small_code}
-use Rattle.object_model.proofs.UsedBlocks.{lies-kept}
+use Rattle.object_model.proofs.UsedBlocks.{lies-kept, in_run-kept}
 use Rattle.trace_core.proofs.Clauses.{untaken-word, taken-block-word, starts-kept, pins}
 use Rattle.object_model.proofs.Marks as marks
 
@@ -46,7 +46,7 @@ copy-small kinds.LargeHead some copies = absurd (true≢false (sym copies))
 copy-small kinds.LargeTail some copies = absurd (true≢false (sym copies))
 copy-small kinds.Kept some copies = absurd (true≢false (sym copies))
 
-copy-low : (kind : Kind) → IsTrue (is_copy_kind kind) → kind_code kind ≤ 4
+pub copy-low : (kind : Kind) → IsTrue (is_copy_kind kind) → kind_code kind ≤ 4
 copy-low kinds.Free copies = omega arith
 copy-low kinds.Bump copies = omega arith
 copy-low kinds.Young copies = omega arith
@@ -133,16 +133,22 @@ module _ (p : Setup) (es : List Event) (trace : IsTrace p es) (finished : IsFini
         (sym (taken-block-word p es trace k there (omega arith))))
   ]
 
+  -- a block of a kind that no objects are copied into had that kind
+  was-kind : (k : ℕ) (kind : Kind) → 4 < kind_code kind → HasKind after k kind → HasKind p.before k kind
+  was-kind k kind high is =
+      let there : k < blocks p = kind-within after k kind is in
+      elim (cases_eq (taken k) 0) as (λ _. HasKind p.before k kind) [
+        | inl none ↦ kind-from p.before k kind there (ap (λ w. w % 256) (sym (untaken-word p es trace k there none)) ∙ kind-code after k kind is)
+        | inr some ↦ absurd (let at : taken k ≢ 0 = some in let same = one-kind after k p.copy kind (taken-kind k (omega arith)) is in let low = copy-low p.copy trace.ready.kind in omega arith)
+      ]
+
   large-head : (k : ℕ) → HasKind after k kinds.LargeHead → IsHeld after (block_start (blocks p) k) × (2048 < size_at after (block_start (blocks p) k))
   large-head k head =
-      let there : k < blocks p = kind-within after k kinds.LargeHead head in
-      let none : taken k ≡ 0 = (elim (cases_eq (taken k) 0) as (λ _. taken k ≡ 0) [
-        | inl none ↦ none
-        | inr some ↦ absurd (let at : taken k ≢ 0 = some in let same = one-kind after k p.copy kinds.LargeHead (taken-kind k (omega arith)) head in let low = copy-low p.copy trace.ready.kind in omega arith)
-      ]) in
-      let was : HasKind p.before k kinds.LargeHead = kind-from p.before k kinds.LargeHead there (ap (λ w. w % 256) (sym (untaken-word p es trace k there none)) ∙ kind-code after k kinds.LargeHead head) in
-      let old = trace.ready.lawful.order.objects.heads k was in
+      let old = trace.ready.lawful.order.objects.heads k (was-kind k kinds.LargeHead (omega arith) head) in
       (starts-kept p es trace (block_start (blocks p) k) old.0, subst (λ n. 2048 < n) (sym (same-size p es trace finished (block_start (blocks p) k) old.0)) old.1)
+
+  pub tail-in-run : (k : ℕ) → HasKind (heap_after p es) k kinds.LargeTail → IsTrue (is_in_run (heap_after p es) k)
+  tail-in-run k tail = in_run-kept p.before (machine_after p es).words kept-word k (trace.ready.lawful.order.objects.tails k (was-kind k kinds.LargeTail (omega arith) tail))
 
   pub releasable : (k : ℕ) → k < blocks p → IsReleasable (heap_after p es) k
   releasable k there = record {

@@ -77,6 +77,11 @@ module _ (p : Setup) (es : List Event) (trace : IsTrace p es) (finished : IsFini
     ]
   ]
 
+  -- a word that an object was copied to belongs to what lives there
+  pub owner-lives : (i a : ℕ) → (machine_after p es).owner i ≡ Some a → (x : ℕ) × Lives (base_after p) after x × IsInExtent after x i
+  owner-lives i a own = let d = (sound p es trace).objects.owned i a own in
+      (d.at, lives p es trace finished a d.at d.same, record { from = d.from; below = subst (λ n. i < d.at + n) (sym (target-size a d.at d.same)) d.below })
+
   -- a Free block was Free, and no worker took it
   kept-free : (b : ℕ) → HasKind after b kinds.Free → (b < blocks p) × (taken b ≡ 0) × HasKind p.before b kinds.Free
   kept-free b free =

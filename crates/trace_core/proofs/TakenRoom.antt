@@ -261,12 +261,6 @@ module _ (p : Setup) (es : List Event) (t : PlainTrace) (v : View) (tracks : Tra
       let there : t.block < blocks p = ltb-true t.block (blocks p) (and_parts (nat_lt t.block (blocks p)) (nat_eq (block_word p.before t.block % 256) 0) free).0 in
       let same : t.row.layout.blocks ≡ blocks p = blocks-are p es t v tracks in omega arith
 
--- a block that is taken is a block of the row
-pub taken-inside : (old new : PlainTrace) (b : ℕ) → TakesBlock old new b → b < new.row.layout.blocks
-taken-inside old new b takes =
-    let same : new.row.layout.blocks ≡ old.row.layout.blocks = ap (λ s. s.blocks) takes.row in
-    let there : b < old.row.layout.blocks = ltb-true b old.row.layout.blocks (and_parts (nat_lt b old.row.layout.blocks) _ takes.free).0 in omega arith
-
 pub blocks-now : (p : Setup) (es : List Event) (old new : PlainTrace) (b : ℕ) (v : View) → Tracks p es old v → TakesBlock old new b → new.row.layout.blocks ≡ blocks p
 blocks-now p es old new b v tracks takes = ap (λ s. s.blocks) takes.row ∙ blocks-are p es old v tracks
 

@@ -73,7 +73,7 @@ module _ (s : HeapState) (lawful : IsLawfulButLines s) where
   pub beyond : (i : ℕ) → first s.blocks StartBits ≤ i → word_at cleared i ≡ word_at s i
   beyond i from = zeroed-beyond s.words (first s.blocks LineWords) (4 * s.blocks) inside i (omega arith)
 
-  block-same : (k : ℕ) → k < s.blocks → block_word cleared k ≡ block_word s k
+  pub block-same : (k : ℕ) → k < s.blocks → block_word cleared k ≡ block_word s k
   block-same k there = before (first s.blocks BlockWords + k) (omega arith)
 
   pub kind-same : (k : ℕ) (kind : Kind) → has_kind (without_lines s) k kind ≡ has_kind s k kind

@@ -30,7 +30,8 @@ abbrev pub is_nursery : Collect → Bool
 is_nursery Nursery = true
 is_nursery Full = false
 
-abbrev is_set : Option Bool → Bool
+-- a flag of a list, false beyond its end
+abbrev pub is_set : Option Bool → Bool
 is_set None = false
 is_set (Some b) = b
 
@@ -39,10 +40,14 @@ abbrev pub without_lines : HeapState → HeapState
 without_lines s = with_words s (take (first s.blocks LineWords) s.words
     ++ (replicate (4 * s.blocks) 0 ++ drop (first s.blocks LineWords + 4 * s.blocks) s.words))
 
--- The collection as its trace begins. A full collection of a plan with lines begins with all line bits clear.
+-- a full collection of a plan with lines begins by clearing the line bits
+abbrev pub clears_lines : TraceRun → Bool
+clears_lines run = run.lines && not (is_nursery run.collect)
+
+-- the collection as its trace begins
 abbrev pub setup_of : HeapState → TraceRun → ℕ → Setup
 setup_of s run workers = record {
-  before = if run.lines && not (is_nursery run.collect) then without_lines s else s;
+  before = if clears_lines run then without_lines s else s;
   nursery = is_nursery run.collect;
   from = λ b. is_set (slice_get run.from.items b);
   copy = run.copy_kind;

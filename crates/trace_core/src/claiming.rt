@@ -21,8 +21,8 @@ impl PlainTrace {
     /// Claims the object at `x` for a root: a register. The root is set once this call has
     /// answered, or once its `Won` is copied. The caller keeps the target.
     ///
-    /// The target is `x` itself if the object may not move, or does not fit the worker's room and no
-    /// block is Free. Else it is the front of the room (Immix's opportunistic evacuation).
+    /// The target is `x` itself if the object may not move, or does not fit the worker's room and
+    /// no block is Free. Else it is the front of the room (Immix's opportunistic evacuation).
     pub fn claim(&mut self, x: u32) -> Claim
         requires { IsTracing self.old (WasHeld x) }
         ensures claims { (p : Setup) (es : List Event) (v : View) → Tracks p es self.old v

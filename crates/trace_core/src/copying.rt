@@ -52,8 +52,8 @@ impl PlainTrace {
     fn move_object(&mut self, object: u32, target: u32, size: u32)
         requires { IsTracing self.old (IsMoving object target size) }
         ensures moves { (p : Setup) (es : List Event) (v : View) → Tracks p es self.old v
-            → IsMoving object target size p es v → Tracks p (es ++ copying p object target) self.new
-            (copied_view p object target v) }
+            → IsMoving object target size p es v
+            → Tracks p (es ++ copying p object target) self.new (copied_view p object target v) }
         ensures keeps { KeepsRun self.old self.new }
     {
         let at = object as usize;

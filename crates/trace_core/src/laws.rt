@@ -1,7 +1,7 @@
 //! Laws of the trace machine. Each holds after every list of events of a trace, by any number of
 //! workers in any order.
 
-ghost use Rattle.std.specs.Prelude.{◌≡◌, ◌≢◌, ◌⊎◌, ◌↔◌, ◌&&◌, not, ℕ, ◌+◌, ◌*◌, ◌<◌, ◌≤◌, Bool, false, Some, None, List, IsTrue, map, if◌then◌else◌, is_some, count_by};
+ghost use Rattle.std.specs.Prelude.{◌≡◌, ◌≢◌, ◌⊎◌, ◌↔◌, ℕ, ◌+◌, ◌*◌, ◌<◌, ◌≤◌, false, Some, None, List, IsTrue, map, if◌then◌else◌, is_some, count_by};
 ghost use Rattle.forward_word.specs.CollectorWords.{collector_word};
 ghost use Rattle.heap_layout.specs.Zones.{heap_of, line_at, LineWords, StopWord, BudgetWord, PinBits, InZone, IsAddress, bit_of};
 ghost use Rattle.heap_layout.specs.declared.block.Kind.TheVariants as kinds;
@@ -13,7 +13,7 @@ ghost use Rattle.object_model.specs.Graphs.{IsReachable};
 ghost use Rattle.object_model.specs.Ages.{Lives};
 ghost use Rattle.object_model.specs.Preserving.{PreservesObjects};
 ghost use Rattle.object_model.specs.Releasing.{IsReleasable};
-ghost use Rattle.trace_core.specs.Tracers.{setup_of, is_nursery};
+ghost use Rattle.trace_core.specs.Tracers.{setup_of, clears_lines};
 ghost use Rattle.trace_core.specs.declared.run.TraceRun.{TraceRun};
 ghost use Rattle.trace_core.specs.Outcomes.{FinishedRow, base_after, image, HaveAsked, NoOthersAsked};
 ghost use Rattle.trace_core.specs.Traces.{May, HasRoom, TouchesLine, IsTrace, IsFinished, Reaches, machine_after, heap_after, stage_of, target_of, fields_scanned, is_claim_of, is_scan_of};
@@ -255,12 +255,13 @@ pub fn side_words_follow_events()
 /// lines begins with all line bits clear.
 pub fn traces_begin_with_the_heap()
     ensures words { (s : HeapState) (run : TraceRun) (w i : ℕ) → IsLawfulButLines s
-        → (InZone s.blocks LineWords i → ⊥) → word_at (setup_of s run w).before i ≡ word_at s i }
+        → (InZone s.blocks LineWords i → ⊥)
+        → word_at (setup_of s run w).before i ≡ word_at s i }
     ensures held { (s : HeapState) (run : TraceRun) (w a : ℕ) → IsLawfulButLines s
         → IsHeld (setup_of s run w).before a ↔ IsHeld s a }
     ensures same { (s : HeapState) (run : TraceRun) (w : ℕ)
-        → (run.lines && not (is_nursery run.collect)) ≡ false → (setup_of s run w).before ≡ s }
+        → clears_lines run ≡ false → (setup_of s run w).before ≡ s }
     ensures clear { (s : HeapState) (run : TraceRun) (w k line : ℕ) → IsLawfulButLines s
-        → IsTrue (run.lines && not (is_nursery run.collect)) → k < s.blocks → line < 256
+        → IsTrue (clears_lines run) → k < s.blocks → line < 256
         → line_marked (setup_of s run w).before k line ≡ false }
 {}

@@ -1,5 +1,6 @@
 //! The trace machine: the steps by which any number of workers find what is reachable and move it,
-//! while mutators are stopped, and its laws. And the tracer for one worker, which makes these steps.
+//! while mutators are stopped, and its laws. And the tracer for one worker, which makes these
+//! steps.
 #![tactic(auto)]
 
 mod claiming;

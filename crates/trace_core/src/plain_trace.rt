@@ -79,8 +79,8 @@ impl PlainTrace {
         }
     }
 
-    /// Takes the lowest Free block to copy into, and gives up the rest of the last one. `None` if no
-    /// block is Free.
+    /// Takes the lowest Free block to copy into, and gives up the rest of the last one. `None` if
+    /// no block is Free.
     pub fn take_copy_block(&mut self) -> Option<u32>
         requires tracing { IsTracing self.old (λ p es v. Unit {0}) }
         requires copies { self.old.run.copy_kind ≢ kinds.Free }

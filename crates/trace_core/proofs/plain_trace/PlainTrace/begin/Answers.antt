@@ -1,8 +1,8 @@
-use Rattle.std.proofs.Common.{◌≡◌, Bool, false, ◌&&◌, not, refl, sym, ◌∙◌, ap}
+use Rattle.std.proofs.Common.{◌≡◌, Bool, false, not, refl, sym, ◌∙◌, ap}
 use Rattle.std.proofs.lemmas.Bool.{cond-true, cond-false, and_from, and_left, and_right}
 use Rattle.object_model.specs.Objects.{HeapState, state_of}
 use Rattle.object_model.specs.Heaps.{heap_state}
-use Rattle.trace_core.specs.Tracers.{is_nursery, without_lines, setup_of}
+use Rattle.trace_core.specs.Tracers.{is_nursery, clears_lines, without_lines, setup_of}
 use Rattle.trace_core.proofs.BeginningTracer.{is-full, begins}
 use Rattle.trace_core.proofs.plain_trace.PlainTrace.begin.Goals.{then-run+then-eq, else-run, else-run-via-then-run+else-eq, else-run-via-else-run}
 use Rattle.trace_core.proofs.plain_trace.PlainTrace.begin.Goals as goal
@@ -28,7 +28,7 @@ row c = elim c.if-run.branch as (λ _. state_of c.if-run.row ≡ (setup_of (heap
     full = not (is_nursery c.args.run.collect)
 
     clears : Bool
-    clears = lines && full
+    clears = clears_lines c.args.run
 
 pub returns-clause-tracks : goal.returns-clause-tracks
 returns-clause-tracks c = begins (heap_state c.args.heap) c.args.run c.args.heap.lawful.but_lines c.requires _ (row c) refl refl refl
