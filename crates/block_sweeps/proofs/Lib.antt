@@ -1,0 +1,17 @@
+pub mod Changing
+pub mod FreedRuns
+pub mod RunSpans
+pub mod SweptRuns
+pub mod LivingBits
+pub mod SweptWords
+pub mod BitCounts
+pub mod SweptBlocks
+pub mod BlockSweeps
+pub mod RunMasks
+pub mod AddedLines
+pub mod TouchedLines
+pub mod TouchedWords
+pub mod WorkedRows
+pub mod ReleaseTests
+pub mod TestedBlocks
+pub mod ReleasableBlocks

@@ -1,0 +1,116 @@
+-- The lines that objects of a block touch.
+use Rattle.std.proofs.Common.{◌≡◌, ℕ, ◌+◌, ◌*◌, ◌-◌, ◌/◌, ◌%◌, ◌<◌, ◌≤◌, ◌⊎◌, ◌↔◌, inl, inr, true≢false, refl, sym, ap, ◌∙◌, subst, max, arith, IsTrue, nat_eq, List, slice_index, replicate}
+use Rattle.std.specs.Int.{bit_at}
+use Rattle.std.proofs.Math.Logic.{∥∥₁_elim}
+use Rattle.std.proofs.lemmas.Bool.{cases_Bool, cases_lt, false≢true}
+use Rattle.std.proofs.lemmas.List.{get_or-replicate}
+use Rattle.std.proofs.lemmas.Nat.Bits.{bit_at-zero}
+use Rattle.heap_layout.specs.Zones.{block_at, block_start, offset_at, first, LineWords}
+use Rattle.heap_layout.specs.declared.layout.Layout.{Layout}
+use Rattle.object_model.specs.Objects.{HeapState, state_over, word_at, size_at, is_start, line_marked}
+use Rattle.object_model.proofs.ObjectReads.{place_of_address}
+use Rattle.block_sweeps.specs.Stores.{Fills}
+use Rattle.block_sweeps.specs.Sweeping.{MarksTouched, IsTouchedHere}
+use Rattle.block_sweeps.specs.Touches.{AddsLines, IsFromTo, HasWordIn, IsTouchedFrom, has_line}
+use Rattle.block_sweeps.proofs.AddedLines.{adds-same, adds-both}
+
+-- the lines from that of an object's first word to that of its last
+pub adds-object : (s : HeapState) (k offset at word size : ℕ) (old new : List ℕ) → at ≡ block_start s.blocks k + offset → word ≡ word_at s (at + 1) → size ≡ 3 + word % 65536 + word / 65536
+    → AddsLines (IsFromTo (offset / 16) ((offset + size - 1) / 16)) old new → AddsLines (HasWordIn s k offset) old new
+adds-object s k offset at word size old new place read is adds =
+    let shape : word ≡ word_at s (block_start s.blocks k + offset + 1) = read ∙ ap (λ i. word_at s (i + 1)) place in
+    let same : size ≡ size_at s (block_start s.blocks k + offset) = is ∙ ap (λ w. 3 + w % 65536 + w / 65536) shape in
+    adds-same (IsFromTo (offset / 16) ((offset + size - 1) / 16)) (HasWordIn s k offset) old new adds
+    (λ n has. let first : offset < 16 * (n + 1) = has.first in let last : 16 * n < offset + size_at s (block_start s.blocks k + offset) = has.last in
+    record { after = (omega arith); most = (omega arith) })
+    (λ n run. let after : offset / 16 ≤ n = run.after in let most : n ≤ (offset + size - 1) / 16 = run.most in record { first = (omega arith); last = (omega arith) })
+
+-- the objects that begin at the addresses of one word of start bits more
+pub touched-more : (s : HeapState) (k index : ℕ) (old lines new : List ℕ) → AddsLines (IsTouchedFrom s k 0 (64 * index)) old lines
+    → AddsLines (IsTouchedFrom s k (64 * index) (64 * index + 64)) lines new → AddsLines (IsTouchedFrom s k 0 (64 * (index + 1))) old new
+touched-more s k index old lines new one two = adds-both (IsTouchedFrom s k 0 (64 * index)) (IsTouchedFrom s k (64 * index) (64 * index + 64)) (IsTouchedFrom s k 0 (64 * (index + 1))) old lines new one two
+    (λ n is. let less : is.offset < 64 * (index + 1) = is.below in
+    elim (cases_lt is.offset (64 * index)) as (λ _. IsTouchedFrom s k 0 (64 * index) n ⊎ IsTouchedFrom s k (64 * index) (64 * index + 64) n) [
+      | inl earlier ↦ inl (record { offset = is.offset; after = is.after; below = earlier; start = is.start; touches = is.touches })
+      | inr here ↦ inr (record { offset = is.offset; after = here; below = omega arith; start = is.start; touches = is.touches })
+    ])
+    (λ n is. record { offset = is.offset; after = is.after; below = (let less : is.offset < 64 * index = is.below in omega arith); start = is.start; touches = is.touches })
+    (λ n is. record { offset = is.offset; after = omega arith; below = (let less : is.offset < 64 * index + 64 = is.below in omega arith); start = is.start; touches = is.touches })
+
+module _ (s : HeapState) (k line : ℕ) (there : k < s.blocks) where
+  -- the line has the object's first word, or its own first word belongs to the object
+  pub here-from : IsTouchedFrom s k 0 4096 line → IsTouchedHere s k line
+  here-from is =
+      let below : is.offset < 4096 = is.below in
+      let first : is.offset < 16 * (line + 1) = is.touches.first in
+      let last : 16 * line < is.offset + size_at s (block_start s.blocks k + is.offset) = is.touches.last in
+      record {
+        touched = record {
+          object = block_start s.blocks k + is.offset;
+          word = block_start s.blocks k + max is.offset (16 * line);
+          held = record { address = record { from = omega arith; below = omega arith }; start = is.start };
+          inside = record { from = omega arith; below = omega arith };
+          from = omega arith;
+          below = omega arith;
+        };
+        here = omega arith;
+      }
+
+  pub from-here : IsTouchedHere s k line → IsTouchedFrom s k 0 4096 line
+  from-here is =
+      let place = place_of_address s.blocks is.touched.object is.touched.held.address in
+      let here : block_at s.blocks is.touched.object ≡ k = is.here in
+      let at : is.touched.object ≡ block_start s.blocks k + offset_at s.blocks is.touched.object = omega arith in
+      let size : size_at s is.touched.object ≡ size_at s (block_start s.blocks k + offset_at s.blocks is.touched.object) = ap (size_at s) at in
+      let from : is.touched.object ≤ is.touched.word = is.touched.inside.from in
+      let end : is.touched.word < is.touched.object + size_at s is.touched.object = is.touched.inside.below in
+      let after : block_start s.blocks k + 16 * line ≤ is.touched.word = is.touched.from in
+      let below : is.touched.word < block_start s.blocks k + 16 * (line + 1) = is.touched.below in
+      record {
+        offset = offset_at s.blocks is.touched.object;
+        after = omega arith;
+        below = place.1;
+        start = subst (λ a. IsTrue (is_start s a)) at is.touched.held.start;
+        touches = record { first = omega arith; last = omega arith };
+      }
+
+no-line : (line : ℕ) → line < 256 → IsTrue (has_line (replicate 4 0) line) → ⊥
+no-line line small is = false≢true (sym (ap (λ v. nat_eq (bit_at v (line % 64)) 1) (get_or-replicate 4 (line / 64) 0 0 (omega arith)) ∙ ap (λ v. nat_eq v 1) (bit_at-zero (line % 64))) ∙ is)
+
+pub touched-all : (s : HeapState) (k index : ℕ) (lines : List ℕ) → k < s.blocks → 64 * index ≡ 4096 → AddsLines (IsTouchedFrom s k 0 (64 * index)) (replicate 4 0) lines
+    → (line : ℕ) → line < 256 → IsTrue (has_line lines line) ↔ IsTouchedHere s k line
+touched-all s k index lines there all adds line small = (
+  λ is. elim (adds.only line is) as (λ _. IsTouchedHere s k line) [
+    | inl before ↦ absurd (no-line line small before)
+    | inr touched ↦ here-from s k line there (subst (λ to. IsTouchedFrom s k 0 to line) all touched)
+  ],
+  λ is. adds.added line (subst (λ to. IsTouchedFrom s k 0 to line) (sym all) (from-here s k line there is)),
+)
+
+-- the words with these bits are stored
+module _ (old new lines : List ℕ) (l : Layout) (k : ℕ) (exact : (line : ℕ) → line < 256 → IsTrue (has_line lines line) ↔ IsTouchedHere (state_over old l 0 0) k line)
+    (fills : Fills old new (first l.blocks LineWords + 4 * k) (first l.blocks LineWords + 4 * k + 4) (λ i. slice_index lines (i - (first l.blocks LineWords + 4 * k)))) where
+  marked : (line : ℕ) → line < 256 → line_marked (state_over new l 0 0) k line ≡ has_line lines line
+  marked line small =
+      let i : ℕ = first l.blocks LineWords + (256 * k + line) / 64 in
+      let word : i - (first l.blocks LineWords + 4 * k) ≡ line / 64 = omega arith in
+      let bit : (256 * k + line) % 64 ≡ line % 64 = omega arith in
+      ap (λ v. nat_eq (bit_at v ((256 * k + line) % 64)) 1) (fills.own i (omega arith) (omega arith) ∙ ap (slice_index lines) word)
+      ∙ ap (λ j. nat_eq (bit_at (slice_index lines (line / 64)) j) 1) bit
+
+  touched : (line : ℕ) → line < 256 → ∥ IsTouchedHere (state_over old l 0 0) k line ∥₁ → IsTrue (has_line lines line)
+  touched line small some = elim (cases_Bool (has_line lines line)) as (λ _. IsTrue (has_line lines line)) [
+    | inl set ↦ set
+    | inr clear ↦ absurd (∥∥₁_elim some (λ x. absurd x) (λ t. true≢false (sym ((exact line small).1 t) ∙ clear)))
+  ]
+
+  pub marks-touched : MarksTouched (state_over old l 0 0) (state_over new l 0 0) k
+  marks-touched = record {
+    lines = λ line small. (λ is. ∣ (exact line small).0 (sym (marked line small) ∙ is) ∣₁, λ some. marked line small ∙ touched line small some);
+    rest = record {
+      blocks = refl;
+      extent = fills.extent;
+      others = λ i outside. fills.others i (λ inside. outside (record { after = inside.0; below = inside.1 }));
+      fit = fills.fit;
+    };
+  }

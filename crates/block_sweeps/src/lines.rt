@@ -1,0 +1,115 @@
+//! Line bits of a block, by the objects in it.
+
+ghost use Rattle.std.specs.Prelude.{◌≡◌, ◌↔◌, ◌+◌, ◌-◌, ◌*◌, ◌<◌, ◌≤◌, ℕ, IsTrue, length, slice_index};
+ghost use Rattle.std.specs.Int.{bit_at};
+ghost use Rattle.heap_layout.specs.Zones.{row_words, first, block_start, LineWords};
+ghost use Rattle.heap_layout.specs.declared.block.Kind.TheVariants as kinds;
+ghost use Rattle.object_model.specs.Objects.{state_over, HasKind, is_start};
+ghost use Rattle.object_model.specs.Lawful.{IsReadableBlock};
+ghost use Rattle.block_sweeps.specs.Stores.{Fills};
+ghost use Rattle.block_sweeps.specs.Touches.{AddsLines, IsFromTo, HasWordIn, IsTouchedFrom, has_line};
+ghost use Rattle.block_sweeps.specs.Sweeping.{MarksTouched, IsTouchedHere};
+
+use crate::clearing::store;
+use crate::objects::object_size;
+use heap_layout::{BLOCK_LINES, BLOCK_WORDS, LINE_WORDS, Layout};
+use side_meta::Words;
+
+/// Makes the line bits of an Immix block those of the lines that objects in it touch. Reads the
+/// shape word of each object, and writes only words that change.
+pub fn mark_touched_lines<W: Words>(words: &mut W, layout: &Layout, block: u32)
+    requires block { IsReadableBlock (state_over (W.words words.old) layout.now 0 0) block }
+    requires kind { HasKind (state_over (W.words words.old) layout.now 0 0) block kinds.Immix }
+    ensures { MarksTouched (state_over (W.words words.old) layout.now 0 0)
+        (state_over (W.words words.new) layout.now 0 0) block }
+{
+    let lines = touched_lines(words, layout, block);
+    store_lines(words, layout, block, &lines);
+}
+
+/// Stores the line words of a block.
+fn store_lines<W: Words>(words: &mut W, layout: &Layout, block: u32, lines: &[u64; 4])
+    requires extent { length (W.words words.old) ≡ row_words layout.now.blocks }
+    requires block { block < layout.now.blocks }
+    requires len { length lines.now ≡ 4 }
+    ensures { Fills (W.words words.old) (W.words words.new)
+        (first layout.now.blocks LineWords + 4 * block)
+        (first layout.now.blocks LineWords + 4 * block + 4)
+        (λ i. slice_index lines.now (i - (first layout.now.blocks LineWords + 4 * block))) }
+{
+    let at = layout.line_at(block);
+    for index in 0..4 {
+        store(words, at + index, lines[index as usize]);
+    }
+}
+
+/// The line bits of the lines that objects in the block touch.
+fn touched_lines<W: Words>(words: &W, layout: &Layout, block: u32) -> [u64; 4]
+    requires block { IsReadableBlock (state_over (W.words words.now) layout.now 0 0) block }
+    requires kind { HasKind (state_over (W.words words.now) layout.now 0 0) block kinds.Immix }
+    ensures len { length result ≡ 4 }
+    ensures lines { (line : ℕ) → line < BLOCK_LINES → IsTrue (has_line result line)
+        ↔ IsTouchedHere (state_over (W.words words.now) layout.now 0 0) block line }
+{
+    let mut lines = [0; 4];
+    for index in 0..64 {
+        add_lines(words, layout, block, index, &mut lines);
+    }
+    lines
+}
+
+/// Adds the lines that objects touch which begin at the addresses of one word of start bits.
+fn add_lines<W: Words>(words: &W, layout: &Layout, block: u32, index: u32, lines: &mut [u64; 4])
+    requires block { IsReadableBlock (state_over (W.words words.now) layout.now 0 0) block }
+    requires kind { HasKind (state_over (W.words words.now) layout.now 0 0) block kinds.Immix }
+    requires index { index < 64 }
+    requires len { length lines.old ≡ 4 }
+    ensures { AddsLines (IsTouchedFrom (state_over (W.words words.now) layout.now 0 0) block
+        (64 * index) (64 * index + 64)) lines.old lines.new }
+{
+    let mut rest = words.get(layout.start_base() + 64 * block + index);
+    while rest != 0 {
+        let bit = rest.trailing_zeros();
+        rest &= !(1 << bit);
+        add_object(words, layout, block, 64 * index + bit, lines);
+    }
+}
+
+/// Adds the lines that the object at this offset touches.
+fn add_object<W: Words>(words: &W, layout: &Layout, block: u32, offset: u32, lines: &mut [u64; 4])
+    requires block { IsReadableBlock (state_over (W.words words.now) layout.now 0 0) block }
+    requires kind { HasKind (state_over (W.words words.now) layout.now 0 0) block kinds.Immix }
+    requires offset { offset < BLOCK_WORDS }
+    requires start { IsTrue (is_start (state_over (W.words words.now) layout.now 0 0)
+        (block_start layout.now.blocks block + offset)) }
+    requires len { length lines.old ≡ 4 }
+    ensures { AddsLines (HasWordIn (state_over (W.words words.now) layout.now 0 0) block offset)
+        lines.old lines.new }
+{
+    let size = object_size(words, layout.address(block, offset));
+    set_run(lines, offset / LINE_WORDS, (offset + size - 1) / LINE_WORDS);
+}
+
+/// Sets bits `from` to `to`.
+fn set_run(lines: &mut [u64; 4], from: u32, to: u32)
+    requires len { length lines.old ≡ 4 }
+    requires order { from ≤ to }
+    requires to { to < BLOCK_LINES }
+    ensures { AddsLines (IsFromTo from to) lines.old lines.new }
+{
+    for word in from / 64..to / 64 + 1 {
+        let low = from.saturating_sub(64 * word);
+        let high = (to - 64 * word).min(63);
+        lines[word as usize] |= run_mask(low, high);
+    }
+}
+
+/// A word with bits `low` to `high` set.
+fn run_mask(low: u32, high: u32) -> u64
+    requires order { low ≤ high }
+    requires high { high < 64 }
+    ensures inside { (k : ℕ) → IsFromTo low high k → bit_at result k ≡ 1 }
+    ensures only { (k : ℕ) → bit_at result k ≡ 1 → IsFromTo low high k }
+{
+    u64::MAX << low & u64::MAX >> (63 - high)
+}

@@ -1,0 +1,54 @@
+//! The free words at the end of a block.
+
+ghost use Rattle.std.specs.Prelude.{◌≡◌, ◌<◌, ◌≤◌, length, MatchOption};
+ghost use Rattle.heap_layout.specs.Zones.{row_words};
+ghost use Rattle.heap_layout.specs.declared.block.Kind.TheVariants as kinds;
+ghost use Rattle.object_model.specs.Objects.{state_over, HasKind};
+ghost use Rattle.object_model.specs.Lawful.{IsReadableBlock};
+ghost use Rattle.sessions.specs.Fitting.{IsTail};
+ghost use Rattle.block_sweeps.specs.Sweeping.{AreApart};
+ghost use Rattle.copy_space.specs.LastOffsets.{HasNone, IsLast};
+
+use block_sweeps::object_size;
+use heap_layout::{BLOCK_WORDS, Layout, Region};
+use side_meta::Words;
+
+/// The tail of a block: the words after its last object, or all words if no object begins in it.
+pub fn tail<W: Words>(words: &W, layout: &Layout, block: u32) -> Region
+    requires block { IsReadableBlock (state_over (W.words words.now) layout.now 0 0) block }
+    requires apart { AreApart (state_over (W.words words.now) layout.now 0 0) block }
+    requires head { HasKind (state_over (W.words words.now) layout.now 0 0) block
+        kinds.LargeHead → ⊥ }
+    requires tail { HasKind (state_over (W.words words.now) layout.now 0 0) block
+        kinds.LargeTail → ⊥ }
+    ensures tail { IsTail (state_over (W.words words.now) layout.now 0 0) block result.next }
+    ensures end { result.end ≡ BLOCK_WORDS }
+    ensures inside { result.next ≤ BLOCK_WORDS }
+{
+    let next = match last_object(words, layout, block) {
+        Some(offset) => offset + object_size(words, layout.address(block, offset)),
+        None => 0,
+    };
+    Region {
+        next,
+        end: BLOCK_WORDS,
+    }
+}
+
+/// The offset of the last object that begins in the block. Looks for it from the end of the block,
+/// a word of start bits at a time.
+fn last_object<W: Words>(words: &W, layout: &Layout, block: u32) -> Option<u32>
+    requires extent { length (W.words words.now) ≡ row_words layout.now.blocks }
+    requires block { block < layout.now.blocks }
+    ensures { MatchOption result
+        (HasNone (state_over (W.words words.now) layout.now 0 0) block)
+        (λ offset. IsLast (state_over (W.words words.now) layout.now 0 0) block offset) }
+{
+    for index in (0..64).rev() {
+        let starts = words.get(layout.start_base() + 64 * block + index);
+        if starts != 0 {
+            return Some(64 * index + (63 - starts.leading_zeros()));
+        }
+    }
+    None
+}
