@@ -1,0 +1,2 @@
+pub mod FreeCells
+pub mod WordCells

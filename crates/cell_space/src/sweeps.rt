@@ -1,0 +1,26 @@
+//! The sweep of a block of cells.
+
+ghost use Rattle.std.specs.Prelude.{◌≡◌, ◌<◌, length};
+ghost use Rattle.heap_layout.specs.Zones.{row_words};
+ghost use Rattle.object_model.specs.Objects.{state_over, block_word};
+ghost use Rattle.object_model.specs.Releasing.{IsReleasable};
+ghost use Rattle.block_sweeps.specs.Sweeping.{Sweeps, object_count};
+
+use heap_layout::{Layout, decode};
+use side_meta::Words;
+
+/// Sweeps a block: objects in it that do not live are held no more. The block becomes Free if none
+/// is left, else it stays as it is. Answers how many are left.
+pub fn sweep_block<W: Words>(words: &mut W, layout: &Layout, block: u32, base: u64) -> u32
+    requires extent { length (W.words words.old) ≡ row_words layout.now.blocks }
+    requires block { block < layout.now.blocks }
+    requires releasable { IsReleasable (state_over (W.words words.old) layout.now 0 0) block }
+    ensures swept { Sweeps base (block_word (state_over (W.words words.old) layout.now 0 0) block)
+        (state_over (W.words words.old) layout.now 0 0)
+        (state_over (W.words words.new) layout.now 0 0) block }
+    ensures count { result
+        ≡ object_count (state_over (W.words words.new) layout.now 0 0) block }
+{
+    let living = decode(words.get(layout.block_at(block))).unwrap();
+    block_sweeps::sweep_block(words, layout, block, base, &living)
+}

@@ -1,0 +1,2 @@
+pub mod RunSearch
+pub mod PlacedRuns

@@ -1,0 +1,171 @@
+//! Tests of the search for runs, of placing and of sweeps, on rows of 8 blocks.
+
+ghost use Rattle.std.specs.Prelude.{◌≡◌, ◌%◌, ◌<◌, IsTrue, length};
+ghost use Rattle.heap_layout.specs.Zones.{row_words};
+ghost use Rattle.heap_layout.specs.declared.block.Kind.TheVariants as kinds;
+ghost use Rattle.object_model.specs.Objects.{state_over, HasKind};
+
+use crate::{blocks_for, find_run, place_large, sweep_large};
+use block_sweeps::is_releasable;
+use heap_layout::{BLOCK_WORDS, CLASS_UNIT, Kind, Layout};
+use std::alloc::{AllocError, Global};
+use std::test::Fail;
+
+#[test]
+fn blocks_of_sizes(rt: HostRuntime) -> Result<(), Fail> {
+    for (size, want) in [
+        (0, 0),
+        (2049, 1),
+        (4096, 1),
+        (4097, 2),
+        (57_344, 14),
+        (57_345, 15),
+        (61_027, 15),
+        (u32::MAX, 1_048_576),
+    ] {
+        assert_eq!(rt; blocks_for(size), want, "{size}");
+    }
+    Ok(())
+}
+
+/// A row of zeros, but for the blocks of the list: they are of the kind Bump.
+fn row_of_used(alloc: Global, layout: &Layout, used: &[u32]) -> Result<Vec<u64>, AllocError> {
+    let count = layout.words() as usize;
+    let mut words = Vec::with_capacity(alloc, count)?;
+    words.resize(count, 0)?;
+    for block in used {
+        put(&mut words, *block % 8 + 18, Kind::Bump as u64);
+    }
+    Ok(words)
+}
+
+/// Sets a word of the row, if there is such a word.
+fn put(words: &mut Vec<u64>, index: u32, value: u64) {
+    if let Some(word) = words.get_mut(index as usize) {
+        *word = value;
+    }
+}
+
+/// The lowest run, or a block outside if this is no row of the layout, or no run is so long.
+fn lowest_run(words: &Vec<u64>, layout: &Layout, count: u32) -> Option<u32> {
+    if words.len() != layout.words() as usize || count == 0 || count > 15 {
+        return Some(layout.blocks());
+    }
+    find_run(words, layout, count)
+}
+
+#[test]
+fn runs(rt: HostRuntime) -> Result<(), Fail> {
+    let layout = Layout::new(8)?;
+    for (used, count, want) in [
+        ([].as_slice(), 1, Some(0)),
+        ([].as_slice(), 8, Some(0)),
+        ([].as_slice(), 9, None),
+        ([0].as_slice(), 7, Some(1)),
+        ([0].as_slice(), 8, None),
+        ([3].as_slice(), 3, Some(0)),
+        ([3].as_slice(), 4, Some(4)),
+        ([3].as_slice(), 5, None),
+        ([2, 5].as_slice(), 2, Some(0)),
+        ([1, 3, 6].as_slice(), 2, Some(4)),
+        ([1, 3, 5].as_slice(), 2, Some(6)),
+        ([1, 3, 5].as_slice(), 3, None),
+        ([0, 1, 2, 3, 4, 5, 6].as_slice(), 1, Some(7)),
+        ([7].as_slice(), 7, Some(0)),
+        ([7].as_slice(), 8, None),
+        ([0, 1, 2, 3, 4, 5, 6, 7].as_slice(), 1, None),
+    ] {
+        let words = row_of_used(rt.alloc(), &layout, used)?;
+        assert_eq!(rt;
+            lowest_run(&words, &layout, count),
+            want,
+            "{count} beside {}",
+            used.len()
+        );
+    }
+    Ok(())
+}
+
+/// Places a run of `count` blocks at the lowest place, and answers where.
+fn place_lowest(words: &mut Vec<u64>, layout: &Layout, count: u32) -> Option<u32> {
+    if words.len() != layout.words() as usize || count == 0 || count > 15 {
+        return None;
+    }
+    let block = find_run(words, layout, count)?;
+    place_large(words, layout, block, count);
+    Some(block)
+}
+
+#[test]
+fn placed_runs(rt: HostRuntime) -> Result<(), Fail> {
+    let layout = Layout::new(8)?;
+    let mut words = row_of_used(rt.alloc(), &layout, &[2])?;
+    assert_eq!(rt; place_lowest(&mut words, &layout, 4), Some(3));
+    assert_eq!(rt; place_lowest(&mut words, &layout, 2), Some(0));
+    assert_eq!(rt; place_lowest(&mut words, &layout, 2), None);
+    assert_eq!(rt; place_lowest(&mut words, &layout, 1), Some(7));
+    // kinds and classes: heads of 2, 4 and 1 blocks
+    assert_eq!(rt;
+        words.get(18..27),
+        Some([518, 7, 1, 1030, 7, 7, 7, 262, 0].as_slice())
+    );
+    Ok(())
+}
+
+/// Writes the large object of 5,003 words at the start of a block, which collection `number`
+/// claimed. Its start, pin and unlog bits are set.
+fn write_object(words: &mut Vec<u64>, layout: &Layout, block: u32, number: u32) {
+    let address = layout.heap_base() + BLOCK_WORDS * (block % 8);
+    put(words, address, 33);
+    put(words, address + 1, 65_536 * 5000);
+    put(words, address + 2, ((number as u64) << 24) + address as u64);
+    for zone in [layout.start_base(), layout.pin_base(), layout.unlog_base()] {
+        put(words, zone + 64 * (block % 8), 1);
+    }
+}
+
+/// Whether a block begins a run.
+fn is_head(words: &Vec<u64>, layout: &Layout, block: u32) -> bool
+    requires extent { length words.now.items ≡ row_words layout.now.blocks }
+    requires block { block < layout.now.blocks }
+    ensures { IsTrue result → HasKind (state_over words.now.items layout.now 0 0) block
+        kinds.LargeHead }
+{
+    words[layout.block_at(block) as usize] % CLASS_UNIT == Kind::LargeHead as u64
+}
+
+/// Whether a run was freed. `None` if it may not be swept.
+fn sweep(words: &mut Vec<u64>, layout: &Layout, block: u32, base: u64) -> Option<bool> {
+    if words.len() != layout.words() as usize || block >= layout.blocks() {
+        return None;
+    }
+    if !is_head(words, layout, block) || !is_releasable(words, layout, block) {
+        return None;
+    }
+    Some(sweep_large(words, layout, block, base))
+}
+
+// of two runs of two blocks, collection 2 claimed the object of the second
+#[test]
+fn swept_runs(rt: HostRuntime) -> Result<(), Fail> {
+    let layout = Layout::new(8)?;
+    let mut words = row_of_used(rt.alloc(), &layout, &[0])?;
+    for number in [1, 2] {
+        let block = place_lowest(&mut words, &layout, 2).unwrap_or(0);
+        write_object(&mut words, &layout, block, number);
+    }
+    assert_eq!(rt; sweep(&mut words, &layout, 0, 2), None);
+    assert_eq!(rt; sweep(&mut words, &layout, 1, 2), Some(true));
+    assert_eq!(rt; sweep(&mut words, &layout, 3, 2), Some(false));
+    assert_eq!(rt;
+        words.get(18..26),
+        Some([1, 0, 0, 518, 7, 0, 0, 0].as_slice())
+    );
+    // start bits from word 58 on, pin bits from 570, unlog bits from 1082
+    for zone in [58, 570, 1082] {
+        assert_eq!(rt; words.get(zone + 64), Some(&0), "{zone}");
+        assert_eq!(rt; words.get(zone + 192), Some(&1), "{zone}");
+    }
+    assert_eq!(rt; place_lowest(&mut words, &layout, 2), Some(1));
+    Ok(())
+}
