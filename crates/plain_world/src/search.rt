@@ -7,7 +7,7 @@ ghost use Rattle.heap_layout.specs.declared.region.Region.{Region};
 ghost use Rattle.ideal_heap.specs.Names.{IsName};
 ghost use Rattle.object_model.specs.Objects.{state_of, size_of, HasKind};
 ghost use Rattle.object_model.specs.Lawful.{IsWellFormed, IsReadableBlock};
-ghost use Rattle.plan_api.specs.Views.{AreApart};
+ghost use Rattle.block_sweeps.specs.Sweeping.{AreApart};
 ghost use Rattle.plan_api.specs.Holes.{IsFirstHole};
 ghost use Rattle.heap_layout.specs.declared.block.Kind.TheVariants as kinds;
 ghost use Rattle.plain_world.specs.declared.plain_row.BlockNote.TheVariants.{Unowned};

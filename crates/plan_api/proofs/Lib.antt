@@ -8,3 +8,6 @@ pub mod Runs
 pub mod Takings
 pub mod Tallies
 pub mod Viewing
+pub mod CopiedKinds
+pub mod EvacuationLaws
+pub mod ReleasedBlocks

@@ -16,7 +16,8 @@ use Rattle.sessions.proofs.Holes.{class-room}
 use Rattle.plan_api.specs.declared.block_view.BlockView.{BlockView}
 use Rattle.plan_api.specs.Bits.{bit_in, IsClearFrom, IsFirstRun, HasNoRun}
 use Rattle.plan_api.specs.Cells.{IsClearCell, IsFirstCell, HasNoCell}
-use Rattle.plan_api.specs.Views.{IsLastObject, IsViewOf, AreApart}
+use Rattle.plan_api.specs.Views.{IsLastObject, IsViewOf}
+use Rattle.block_sweeps.specs.Sweeping.{AreApart}
 use Rattle.plan_api.specs.Holes.{IsTailPart, IsLinePart, IsHolePart, IsFirstHole}
 use Rattle.plan_api.proofs.Viewing.{at-offset}
 

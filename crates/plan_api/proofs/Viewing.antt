@@ -10,7 +10,8 @@ use Rattle.object_model.specs.Lawful.{HasObject, Lies, IsReadableBlock, IsWellFo
 use Rattle.object_model.proofs.ObjectReads.{place_of_address, lies_in_row}
 use Rattle.plan_api.specs.declared.block_view.BlockView.{BlockView}
 use Rattle.plan_api.specs.Bits.{bit_in, HasNoBit, IsLastBit}
-use Rattle.plan_api.specs.Views.{IsLastObject, HasNoObject, IsObjectsEnd, IsViewOf, AreApart}
+use Rattle.plan_api.specs.Views.{IsLastObject, HasNoObject, IsObjectsEnd, IsViewOf}
+use Rattle.block_sweeps.specs.Sweeping.{AreApart}
 
 -- the words of a block's line bits, and those of its start bits, have its bits
 pub lines-read : (s : HeapState) (lines : List ℕ) (k line : ℕ) → ((n : ℕ) → n < 4 → slice_index lines n ≡ slice_index s.words (first s.blocks LineWords + 4 * k + n)) → line < 256

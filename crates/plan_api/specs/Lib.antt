@@ -5,3 +5,5 @@ pub mod Views
 pub mod Holes
 pub mod Taking
 pub mod Counting
+pub mod Releasing
+pub mod Evacuation

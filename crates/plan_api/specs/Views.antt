@@ -3,7 +3,7 @@ use Rattle.heap_layout.specs.declared.layout.TheConstants.{BLOCK_LINES, BLOCK_WO
 use Rattle.std.specs.Prelude.{◌≡◌, ℕ, ◌+◌, ◌<◌, ◌≤◌, ◌⊎◌}
 use Rattle.heap_layout.specs.Zones.{block_at, offset_at, block_start}
 use Rattle.heap_layout.specs.Blocks.{code_of, IsValid}
-use Rattle.object_model.specs.Objects.{HeapState, block_word, line_marked, is_start, IsHeld, IsInExtent, size_at}
+use Rattle.object_model.specs.Objects.{HeapState, block_word, line_marked, is_start, IsHeld, size_at}
 use Rattle.plan_api.specs.Bits.{bit_in}
 use Rattle.plan_api.specs.declared.block_view.BlockView.{BlockView}
 
@@ -30,8 +30,3 @@ pub record IsViewOf (s : HeapState) (k : ℕ) (v : BlockView) : Type 0 where
   pub lines : (line : ℕ) → line < BLOCK_LINES → bit_in v.lines line ≡ line_marked s k line
   pub starts : (w : ℕ) → w < BLOCK_WORDS → bit_in v.starts w ≡ is_start s (block_start s.blocks k + w)
   pub end : IsObjectsEnd s k v.end
-
--- two objects that begin in block k share no word
-abbrev pub AreApart : HeapState → ℕ → Type 0
-AreApart s k = (a x i : ℕ) → IsHeld s a → IsHeld s x → block_at s.blocks a ≡ k → block_at s.blocks x ≡ k
-    → IsInExtent s a i → IsInExtent s x i → a ≡ x

@@ -1,37 +1,14 @@
-//! Size classes of cells, and the search for a free cell.
+//! The class of a block that is taken for cells, and the search for a free cell in a view.
 
-ghost use Rattle.std.specs.Prelude.{◌≡◌, ◌+◌, ◌*◌, ◌<◌, ◌≤◌, length, IfSome, MatchOption};
+ghost use Rattle.std.specs.Prelude.{◌≡◌, ◌+◌, ◌*◌, ◌<◌, ◌≤◌, length, MatchOption};
 ghost use Rattle.heap_layout.specs.declared.block.Kind.{Kind};
-ghost use Rattle.object_model.specs.Objects.{cell_words as words_of_class};
-ghost use Rattle.sessions.specs.Fitting.{class_of as class_of_size, class_for as class_for_size};
+ghost use Rattle.sessions.specs.Fitting.{class_for as class_for_size};
 ghost use Rattle.plan_api.specs.Bits.{bit_in};
 ghost use Rattle.plan_api.specs.Cells.{IsFirstCell, HasNoCell};
 
+use cell_space::class_of;
 use heap_layout::{BLOCK_WORDS, Kind, Region};
 use object_model::MAX_MEDIUM_WORDS;
-
-/// The size in words of a cell of each class.
-const CELL_WORDS: [u32; 19] = [
-    4, 6, 8, 12, 16, 24, 32, 48, 64, 96, 128, 192, 256, 384, 512, 768, 1024, 1536, 2048,
-];
-
-/// The size in words of a cell of this class.
-pub(crate) fn cell_words(class: u32) -> u32
-    requires { class ≤ 18 }
-    ensures words { result ≡ words_of_class class }
-    ensures least { 4 ≤ result }
-    ensures most { result ≤ MAX_MEDIUM_WORDS }
-{
-    CELL_WORDS[class as usize]
-}
-
-/// The least class whose cells have room for `size` words. `None` above `MAX_MEDIUM_WORDS`.
-pub(crate) fn class_of(size: u32) -> Option<u32>
-    ensures class { result ≡ class_of_size size }
-    ensures most { IfSome result (λ class. class ≤ 18) }
-{
-    (0..19).find(|class| size <= cell_words(*class))
-}
 
 /// The class of a Free block taken for an object of `size` words, where mutators fill blocks of the
 /// kind `fill`. It is 0 for a kind without cells.

@@ -3,12 +3,14 @@
 ghost use Rattle.std.specs.Prelude.{◌≡◌, ◌+◌, ◌*◌, ◌/◌, ◌<◌, ◌≤◌, ℕ, max, false, length, MatchOption};
 ghost use Rattle.object_model.specs.Objects.{HeapState, lines_for};
 ghost use Rattle.plan_api.specs.Bits.{bit_in, IsRunEnd, IsFirstRun, HasNoRun};
-ghost use Rattle.plan_api.specs.Views.{IsViewOf, AreApart};
+ghost use Rattle.plan_api.specs.Views.{IsViewOf};
+ghost use Rattle.block_sweeps.specs.Sweeping.{AreApart};
 ghost use Rattle.plan_api.specs.Holes.{IsFirstHole};
 
 use crate::bits::first_bit;
 use crate::block_view::BlockView;
-use crate::cells::{cell_words, class_of, free_cell};
+use crate::cells::free_cell;
+use cell_space::{cell_size, class_of};
 use heap_layout::{BLOCK_LINES, BLOCK_WORDS, Kind, LINE_WORDS, Region};
 use object_model::MAX_MEDIUM_WORDS;
 
@@ -47,7 +49,7 @@ fn cell_part(view: &BlockView, from: u32, size: u32) -> Option<Region>
     if class != view.word.class {
         return None;
     }
-    free_cell(&view.starts, cell_words(class), from)
+    free_cell(&view.starts, cell_size(class), from)
 }
 
 /// The part of the tail at or after the offset `from`, if it has room for `size` words. The tail

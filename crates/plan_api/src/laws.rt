@@ -15,7 +15,8 @@ ghost use Rattle.sessions.specs.Fitting.{IsTail, HasHole, LiesInHole, free_of, c
 ghost use Rattle.plan_api.specs.Flags.{flags_of, has_cells};
 ghost use Rattle.plan_api.specs.Taking.{TakesBlocks};
 ghost use Rattle.plan_api.specs.declared.block_view.BlockView.{BlockView};
-ghost use Rattle.plan_api.specs.Views.{IsViewOf, AreApart};
+ghost use Rattle.plan_api.specs.Views.{IsViewOf};
+ghost use Rattle.block_sweeps.specs.Sweeping.{AreApart};
 ghost use Rattle.heap_layout.specs.declared.region.Region.{Region};
 ghost use Rattle.plan_api.specs.Holes.{IsHolePart, HasRoomFrom, IsFirstPart, IsFirstHole, has_holes};
 

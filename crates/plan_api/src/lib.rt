@@ -5,6 +5,8 @@ mod bits;
 mod block_view;
 mod cells;
 mod counts;
+mod evacuation;
+mod evacuation_laws;
 mod fit;
 mod flags;
 mod grants;
@@ -12,10 +14,13 @@ mod holes;
 mod laws;
 mod plan;
 mod readers;
+mod release_laws;
 
 pub use block_view::BlockView;
 pub use cells::class_for;
 pub use counts::{BlockCounts, Reserve};
+pub use evacuation::{Fills, copied_blocks, may_leave, no_blocks};
+pub use evacuation_laws::{evacuated_blocks, kept_blocks};
 pub use fit::{fits_small, has_hole};
 pub use flags::PlanFlags;
 pub use grants::block_counts;
@@ -26,6 +31,7 @@ pub use laws::{
 };
 pub use plan::Plan;
 pub use readers::{block_word_in, view, view_in};
+pub use release_laws::releases_are_sweeps;
 
 #[cfg(test)]
 mod tests;

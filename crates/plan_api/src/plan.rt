@@ -1,26 +1,37 @@
 //! The trait of a plan: its operations and the laws that each plan meets.
 
-ghost use Rattle.std.specs.Prelude.{◌≡◌, ◌↔◌, ◌<◌, ◌≤◌, ℕ, IsTrue};
-ghost use Rattle.heap_layout.specs.Zones.{block_at, offset_at};
-ghost use Rattle.object_model.specs.Objects.{HeapState, size_of, IsHeld, IsInExtent};
+ghost use Rattle.std.specs.Prelude.{◌≡◌, ◌↔◌, ◌<◌, ◌≤◌, ◌&&◌, ◌||◌, ℕ, IsTrue, length, map, IfOk};
+ghost use Rattle.std.specs.List.{range_with_len};
+ghost use Rattle.heap_layout.specs.Zones.{block_at, offset_at, row_words};
+ghost use Rattle.heap_layout.specs.declared.block.Kind.TheVariants as kinds;
+ghost use Rattle.object_model.specs.Objects.{HeapState, state_over, size_of, has_kind, IsHeld, IsInExtent};
+ghost use Rattle.object_model.specs.declared.collect.Collect.{Collect};
+ghost use Rattle.object_model.specs.declared.collect.Collect.TheVariants.{Nursery};
+ghost use Rattle.object_model.specs.Preserving.{may_leave};
+ghost use Rattle.object_model.specs.Releasing.{IsReleasable};
 ghost use Rattle.object_model.specs.Lawful.{IsWellFormed, LineBitsAreExact};
 ghost use Rattle.object_model.specs.Heaps.{heap_state};
 ghost use Rattle.sessions.specs.Plans.{Rules, Plan as PlanName, rules_of, plan_word};
 ghost use Rattle.sessions.specs.Grants.{BlockCounts as Counts, HoldsReserve, allowance_in, after_taking};
 ghost use Rattle.sessions.specs.Fitting.{Fits, allowance_of, class_for as class_for_size};
-ghost use Rattle.sessions.specs.Collecting.{first_collection};
+ghost use Rattle.sessions.specs.Collecting.{first_collection, is_evacuated};
 ghost use Rattle.plan_api.specs.declared.flags.PlanFlags.{PlanFlags};
 ghost use Rattle.plan_api.specs.Flags.{flags_of};
 ghost use Rattle.plan_api.specs.Counting.{session_reserve};
-ghost use Rattle.plan_api.specs.Views.{IsViewOf, AreApart};
+ghost use Rattle.plan_api.specs.Views.{IsViewOf};
+ghost use Rattle.block_sweeps.specs.Sweeping.{AreApart};
 ghost use Rattle.plan_api.specs.Holes.{IsFirstHole, IsHolePart, has_holes};
+ghost use Rattle.plan_api.specs.Evacuation.{listed};
+ghost use Rattle.plan_api.specs.Releasing.{Releases};
 
 use crate::block_view::BlockView;
 use crate::counts::Reserve;
 use crate::flags::PlanFlags;
-use heap_layout::{Kind, Region};
+use heap_layout::{Kind, Layout, Region};
 use ideal_heap::{MAX_NUMS, MAX_REFS};
 use object_model::{Collect, Heap, MAX_MEDIUM_WORDS};
+use side_meta::Words;
+use std::alloc::{AllocError, Global};
 
 /// A plan, as in MMTk: how blocks are filled, which objects fit, and which collection comes first.
 ///
@@ -83,6 +94,39 @@ pub trait Plan {
     fn allowance(heap: &Heap) -> u32
         ensures { result ≡ allowance_of rules.reserve (heap_state heap.now) };
 
+    /// Whether a collection that evacuates the blocks in `from`, which has an entry for each block,
+    /// may move the object.
+    fn may_move(heap: &Heap, from: &[bool], address: u32) -> bool
+        requires held { IsHeld (heap_state heap.now) address }
+        requires from { length from.now ≡ (heap_state heap.now).blocks }
+        ensures { result ≡ (rules.moves
+            && may_leave (listed from.now) (heap_state heap.now) address) };
+
+    /// For each block whether a collection of this kind evacuates it.
+    ///
+    /// Fails if memory runs out.
+    fn from_blocks(alloc: Global, heap: &Heap, collect: Collect) -> Result<Vec<bool>, AllocError>
+        requires { collect ≡ Nursery → IsTrue rules.young }
+        ensures { IfOk result (λ v. v.items
+            ≡ map (is_evacuated rules collect (heap_state heap.now))
+            (range_with_len 0 (heap_state heap.now).blocks)) };
+
+    /// Ends a collection for one block of the row after a trace: `base` is the base after the
+    /// collection. Other blocks may have been released before.
+    fn release_block<W: Words>(
+        words: &mut W,
+        layout: &Layout,
+        block: u32,
+        collect: Collect,
+        base: u64,
+    )
+        requires extent { length (W.words words.old) ≡ row_words layout.now.blocks }
+        requires block { block < layout.now.blocks }
+        requires releasable { IsReleasable
+            (state_over (W.words words.old) layout.now 0 0) block }
+        ensures { Releases rules collect base (state_over (W.words words.old) layout.now 0 0)
+            (state_over (W.words words.new) layout.now 0 0) block };
+
     // The rules are those of the plan, and the flags are those of the rules.
     ghost rules_are_of_plan: { rules ≡ rules_of plan };
 
@@ -96,6 +140,11 @@ pub trait Plan {
         → IsWellFormed s → LineBitsAreExact s k → IsHolePart rules.fill s k from size next end
         → IsHeld s a → IsInExtent s a i → block_at s.blocks i ≡ k
         → next ≤ offset_at s.blocks i → offset_at s.blocks i < end → ⊥ };
+
+    // No block of a large object is evacuated.
+    ghost large_objects_stay: { (c : Collect) (s : HeapState) (k : ℕ)
+        → IsTrue (is_evacuated rules c s k)
+        → IsTrue (has_kind s k kinds.LargeHead || has_kind s k kinds.LargeTail) → ⊥ };
 
     // If the reserve is there, it is still there after mutators took at most the allowance of Free
     // blocks.

@@ -1,18 +1,18 @@
 //! The functions that read blocks of a heap's row. Plans decide by their results alone.
 
-ghost use Rattle.std.specs.Prelude.{◌≡◌, ◌+◌, ◌*◌, ◌%◌, ◌/◌, ◌^◌, ◌<◌, ◌≤◌, ℕ, IsTrue, length, slice_index};
+ghost use Rattle.std.specs.Prelude.{◌≡◌, ◌+◌, ◌*◌, ◌<◌, ℕ, IsTrue, length, slice_index};
 ghost use Rattle.heap_layout.specs.Zones.{first, row_words, BlockWords, LineWords, StartBits};
 ghost use Rattle.heap_layout.specs.Blocks.{code_of, is_block_code, IsValid};
-ghost use Rattle.object_model.specs.Objects.{state_over, block_word, size_at};
-ghost use Rattle.object_model.specs.Lawful.{HasObject, IsReadableBlock};
+ghost use Rattle.object_model.specs.Objects.{state_over, block_word};
+ghost use Rattle.object_model.specs.Lawful.{IsReadableBlock};
 ghost use Rattle.object_model.specs.Heaps.{heap_state};
 ghost use Rattle.plan_api.specs.Views.{IsViewOf};
 
 use crate::bits::last_bit;
 use crate::block_view::BlockView;
+use block_sweeps::object_size;
 use heap_layout::{BlockWord, Layout, decode};
-use ideal_heap::{MAX_NUMS, MAX_REFS};
-use object_model::{Heap, NUMS_UNIT, Shape, size_words};
+use object_model::Heap;
 use side_meta::Words;
 
 /// The view of a block of a heap.
@@ -86,20 +86,4 @@ fn start_words<W: Words>(words: &W, layout: &Layout, block: u32) -> [u64; 64]
         starts[index as usize] = words.get(at + index);
     }
     starts
-}
-
-/// The size in words of the object at the address.
-fn object_size<W: Words>(words: &W, address: u32) -> u32
-    requires word { address + 1 < length (W.words words.now) }
-    requires index { address + 1 < 2 ^ 32 }
-    requires refs { slice_index (W.words words.now) (address + 1) % NUMS_UNIT ≤ MAX_REFS }
-    requires nums { slice_index (W.words words.now) (address + 1) / NUMS_UNIT ≤ MAX_NUMS }
-    ensures { result ≡ 3 + slice_index (W.words words.now) (address + 1) % NUMS_UNIT
-        + slice_index (W.words words.now) (address + 1) / NUMS_UNIT }
-{
-    let word = words.get(address + 1);
-    size_words(&Shape {
-        refs: (word % NUMS_UNIT) as u32,
-        nums: (word / NUMS_UNIT) as u32,
-    })
 }

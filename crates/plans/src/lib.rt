@@ -2,8 +2,15 @@
 #![tactic(auto)]
 
 mod nogc;
+mod release;
+mod semispace;
 
 pub use nogc::NoGc;
+pub use semispace::SemiSpace;
 
+#[cfg(test)]
+mod evacuation_tests;
+#[cfg(test)]
+mod release_tests;
 #[cfg(test)]
 mod tests;

@@ -1,13 +1,20 @@
 //! The plan that never reclaims memory.
 
 ghost use Rattle.sessions.specs.Plans.{NoGc as no_gc, rules_of};
+ghost use Rattle.plan_api.proofs.EvacuationLaws.{none-large};
 ghost use Rattle.plan_api.proofs.PartLaws.{part-clear};
 ghost use Rattle.plan_api.proofs.ReserveLaws.{nothing-kept};
 ghost use Rattle.std.proofs.Common.{refl};
 
-use heap_layout::{Kind, Region};
+use crate::release::release;
+use heap_layout::{Kind, Layout, Region};
 use object_model::{Collect, Heap, MAX_MEDIUM_WORDS};
-use plan_api::{BlockView, Plan, PlanFlags, Reserve, block_counts, first_hole, fits_small};
+use plan_api::{
+    BlockView, Plan, PlanFlags, Reserve, block_counts, block_word_in, first_hole, fits_small,
+    no_blocks,
+};
+use side_meta::Words;
+use std::alloc::{AllocError, Global};
 
 /// MMTk's NoGC: mutators fill blocks from start to end, and nothing is reclaimed. A collection
 /// frees nothing and advances the heap's collection number.
@@ -32,6 +39,8 @@ impl Plan for NoGc {
     ghost fill_has_holes = { refl };
 
     ghost holes_are_clear = { part-clear (rules_of no_gc).fill };
+
+    ghost large_objects_stay = { none-large no_gc };
 
     ghost reserve_is_kept = { nothing-kept };
 
@@ -69,5 +78,24 @@ impl Plan for NoGc {
 
     fn allowance(heap: &Heap) -> u32 {
         block_counts(heap).allowance(NoGc::reserve())
+    }
+
+    fn may_move(_heap: &Heap, _from: &[bool], _address: u32) -> bool {
+        false
+    }
+
+    fn from_blocks(alloc: Global, heap: &Heap, _collect: Collect) -> Result<Vec<bool>, AllocError> {
+        no_blocks(alloc, heap)
+    }
+
+    fn release_block<W: Words>(
+        words: &mut W,
+        layout: &Layout,
+        block: u32,
+        _collect: Collect,
+        base: u64,
+    ) {
+        let word = block_word_in(words, layout, block);
+        release(words, layout, block, &word, false, base);
     }
 }

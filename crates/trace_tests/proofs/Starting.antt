@@ -1,5 +1,5 @@
 -- A trace begins with the roots and the globals of its heap.
-use Rattle.std.proofs.Common.{◌≡◌, ℕ, ◌+◌, ◌*◌, ◌-◌, ◌/◌, ◌%◌, ◌≤◌, inl, inr, Bool, ◌&&◌, not, nat_eq, List, [], ◌++◌, take, drop, length, replicate, slice_index, refl, sym, ap, ◌∙◌, subst, arith, map}
+use Rattle.std.proofs.Common.{◌≡◌, ℕ, ◌+◌, ◌*◌, ◌-◌, ◌/◌, ◌%◌, ◌≤◌, inl, inr, nat_eq, List, [], ◌++◌, take, drop, length, replicate, slice_index, refl, sym, ap, ◌∙◌, subst, arith, map}
 use Rattle.std.specs.Int.{bit_at}
 use Rattle.std.specs.List.{range_with_len}
 use Rattle.std.proofs.lemmas.Bool.{cases_Bool, cond-true, cond-false}
@@ -13,7 +13,7 @@ use Rattle.object_model.specs.Places.{AreRoots}
 use Rattle.object_model.proofs.Marks.{mark-same}
 use Rattle.trace_core.specs.Setups.{Setup}
 use Rattle.trace_core.specs.Views.{View, hits, times, to_scan_in, first_view}
-use Rattle.trace_core.specs.Tracers.{is_nursery, without_lines, setup_of}
+use Rattle.trace_core.specs.Tracers.{clears_lines, without_lines, setup_of}
 use Rattle.trace_core.specs.declared.run.TraceRun.{TraceRun}
 use Rattle.trace_core.specs.declared.tokens.Grey.{Grey}
 use Rattle.trace_core.specs.declared.tokens.GlobalRoot.{GlobalRoot}
@@ -55,14 +55,11 @@ module _ (s : HeapState) (extent : length s.words ≡ row_words s.blocks) where
 
   -- roots stay roots where line bits are cleared
   roots-before : (run : TraceRun) (registers : List ℕ) → AreRoots s registers → AreRoots (setup_of s run 1).before registers
-  roots-before run registers roots = elim (cases_Bool clears) as (λ _. AreRoots (setup_of s run 1).before registers) [
-    | inl is ↦ subst (λ h. AreRoots h registers) (sym (cond-true clears (without_lines s) s is))
+  roots-before run registers roots = elim (cases_Bool (clears_lines run)) as (λ _. AreRoots (setup_of s run 1).before registers) [
+    | inl is ↦ subst (λ h. AreRoots h registers) (sym (cond-true (clears_lines run) (without_lines s) s is))
         (λ i. λ below. root-clear (slice_index registers i) (roots i below))
-    | inr none ↦ subst (λ h. AreRoots h registers) (sym (cond-false clears (without_lines s) s none)) roots
+    | inr none ↦ subst (λ h. AreRoots h registers) (sym (cond-false (clears_lines run) (without_lines s) s none)) roots
   ]
-    where
-      clears : Bool
-      clears = run.lines && not (is_nursery run.collect)
 
   pub roots-begin : (run : TraceRun) (registers now : List ℕ) → now ≡ registers → AreRoots s registers → AreRoots (setup_of s run 1).before now
   roots-begin run registers now same roots = subst (AreRoots (setup_of s run 1).before) (sym same) (roots-before run registers roots)

@@ -2,7 +2,10 @@
 #![tactic(auto)]
 
 #[cfg(test)]
+mod evacuation_tests;
+#[cfg(test)]
 mod heaps;
+mod roots;
 #[cfg(test)]
 mod tests;
 #[cfg(test)]

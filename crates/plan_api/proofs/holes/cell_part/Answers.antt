@@ -10,7 +10,7 @@ returns-then-class-view c = λ s k view kind. parts.other-class s k c.args.view.
 
 pub returns : goal.returns
 returns c = λ s k view kind.
-    let words : c.cell_words.result ≡ words_of_class c.args.view.now.word.class = c.cell_words.ensures.words ∙ ap words_of_class c.if-class-view.false in
+    let words : c.cell_size.result ≡ words_of_class c.args.view.now.word.class = c.cell_size.ensures.words ∙ ap words_of_class c.if-class-view.false in
     let class : class_of_size c.args.size ≡ Some c.args.view.now.word.class = sym c.in_ok-class.ensures.class ∙ ap (λ (n : ℕ). Some n) c.if-class-view.false in
     parts.cells-hole s k c.args.view.now view c.args.from c.args.size (omega arith) class kind c.free_cell.result
     (subst (λ (n : ℕ). parts.FindsCell c.args.view.now n c.args.from c.free_cell.result) words c.free_cell.ensures)

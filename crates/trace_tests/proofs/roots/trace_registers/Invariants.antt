@@ -5,7 +5,7 @@ use Rattle.trace_core.specs.Machine.{Event}
 use Rattle.trace_core.specs.Views.{View}
 use Rattle.trace_core.specs.Tracers.{Tracks}
 use Rattle.trace_tests.specs.Tokens.{AreGrey, GoesOn}
-use Rattle.trace_tests.proofs.tracing.trace_registers.Given as goal
+use Rattle.trace_tests.proofs.roots.trace_registers.Given as goal
 
 abbrev pub invariant-loop-register : goal.invariant-loop-register
 invariant-loop-register l = (p : Setup) (es : List Event) (v : View) → Tracks p es l.fn.tracer v

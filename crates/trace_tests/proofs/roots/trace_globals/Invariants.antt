@@ -1,7 +1,7 @@
 use Rattle.std.specs.Vec.Iter.{into_iter_items}
 use Rattle.trace_core.specs.Tracers.{IsTracing}
 use Rattle.trace_tests.specs.Tokens.{AreGrey, AreUnset}
-use Rattle.trace_tests.proofs.tracing.trace_globals.Given as goal
+use Rattle.trace_tests.proofs.roots.trace_globals.Given as goal
 
 abbrev pub invariant-loop-global : goal.invariant-loop-global
 invariant-loop-global l = IsTracing l.tracer (λ p es v. AreGrey p v l.stack.items × AreUnset v (into_iter_items l.global-iterator))

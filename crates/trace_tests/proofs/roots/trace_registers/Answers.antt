@@ -1,5 +1,5 @@
 use Rattle.std.proofs.Common.{◌∙◌}
-use Rattle.trace_tests.proofs.tracing.trace_registers.Goals as goal
+use Rattle.trace_tests.proofs.roots.trace_registers.Goals as goal
 
 pub loop-register-preserved : goal.loop-register-preserved
 loop-register-preserved c p es v tracks are roots =

@@ -5,7 +5,7 @@ use Rattle.trace_core.specs.Tracers.{ClaimsRoot, taken_in}
 use Rattle.trace_core.proofs.Counting.{hits-more}
 use Rattle.trace_core.proofs.Following.{won-token}
 use Rattle.trace_tests.proofs.Going.{same-grey, won-goes}
-use Rattle.trace_tests.proofs.tracing.trace_register.Goals as goal
+use Rattle.trace_tests.proofs.roots.trace_register.Goals as goal
 
 pub copy-grey-requires : goal.copy-grey-requires
 copy-grey-requires c =

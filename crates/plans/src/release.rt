@@ -1,0 +1,162 @@
+//! The release of a block at the end of a collection, for every plan.
+
+ghost use Rattle.std.specs.Prelude.{◌≡◌, ◌<◌, ◌%◌, ◌||◌, ℕ, length, nat_eq, true, if◌then◌else◌};
+ghost use Rattle.heap_layout.specs.Zones.{row_words};
+ghost use Rattle.heap_layout.specs.Blocks.{code_of, kind_code, IsValid};
+ghost use Rattle.heap_layout.specs.declared.block.Kind.TheVariants as kinds;
+ghost use Rattle.object_model.specs.declared.collect.Collect.{Collect};
+ghost use Rattle.object_model.specs.Objects.{HeapState, state_over, block_word, HasKind};
+ghost use Rattle.object_model.specs.Lawful.{IsReadableBlock};
+ghost use Rattle.object_model.specs.Releasing.{IsReleasable};
+ghost use Rattle.sessions.specs.Plans.{Rules, Copies};
+ghost use Rattle.plan_api.specs.Evacuation.{HasFills};
+ghost use Rattle.plan_api.specs.Releasing.{Releases, is_kept_after};
+ghost use Rattle.block_sweeps.specs.Sweeping.{Sweeps, MarksTouched, object_count};
+
+use block_sweeps::{mark_touched_lines, sweep_block, sweep_run, unlog_block};
+use copy_space::release_block;
+use heap_layout::{BlockWord, Kind, Layout, OWNER_UNIT};
+use object_model::Collect;
+use plan_api::Fills;
+use side_meta::Words;
+
+/// Whether a block with this word is Kept if something stays in it, under a plan that copies whole
+/// blocks. A block with an owner has copies, and is none.
+pub(crate) fn is_kept(fills: &Fills, collect: Collect, word: &BlockWord) -> bool
+    ensures { (r : Rules) (s : HeapState) (k : ℕ) → HasFills r fills.now
+        → r.reserve ≡ Copies → k < s.blocks → IsValid word.now
+        → code_of word.now ≡ block_word s k
+        → is_kept_after r collect s k ≡ result }
+{
+    if !may_be_kept(word.kind) {
+        return false;
+    }
+    if word.owner != 0 {
+        return false;
+    }
+    fills.is_copied(collect, word.kind)
+}
+
+/// Whether a block of this kind is Kept if something stays in it as it is evacuated.
+fn may_be_kept(kind: Kind) -> bool
+    ensures { result ≡ (nat_eq (kind_code kind) 1 || nat_eq (kind_code kind) 2
+        || nat_eq (kind_code kind) 3 || nat_eq (kind_code kind) 8) }
+{
+    matches!(kind, Kind::Bump | Kind::Young | Kind::Mature | Kind::Kept)
+}
+
+/// Releases a block whose word is `word`: what does not live is held no more, what lives has its
+/// unlog bit. A block in which nothing lives becomes Free, another one Kept if `kept`.
+pub(crate) fn release<W: Words>(
+    words: &mut W,
+    layout: &Layout,
+    block: u32,
+    word: &BlockWord,
+    kept: bool,
+    base: u64,
+)
+    requires extent { length (W.words words.old) ≡ row_words layout.now.blocks }
+    requires block { block < layout.now.blocks }
+    requires releasable { IsReleasable (state_over (W.words words.old) layout.now 0 0) block }
+    requires valid { IsValid word.now }
+    requires code { code_of word.now
+        ≡ block_word (state_over (W.words words.old) layout.now 0 0) block }
+    requires small { kept ≡ true → word.now.kind ≡ kinds.Immix → ⊥ }
+    ensures { (r : Rules) (c : Collect)
+        → is_kept_after r c (state_over (W.words words.old) layout.now 0 0) block ≡ kept
+        → Releases r c base (state_over (W.words words.old) layout.now 0 0)
+        (state_over (W.words words.new) layout.now 0 0) block }
+{
+    match word.kind {
+        Kind::Free | Kind::LargeTail => {}
+        Kind::LargeHead => {
+            if !sweep_run(words, layout, block, base) {
+                unlog_block(words, layout, block);
+            }
+        }
+        _ => release_small(words, layout, block, word, kept, base),
+    }
+}
+
+/// Releases a block of small and medium objects.
+fn release_small<W: Words>(
+    words: &mut W,
+    layout: &Layout,
+    block: u32,
+    word: &BlockWord,
+    kept: bool,
+    base: u64,
+)
+    requires extent { length (W.words words.old) ≡ row_words layout.now.blocks }
+    requires block { block < layout.now.blocks }
+    requires releasable { IsReleasable (state_over (W.words words.old) layout.now 0 0) block }
+    requires valid { IsValid word.now }
+    requires code { code_of word.now
+        ≡ block_word (state_over (W.words words.old) layout.now 0 0) block }
+    requires small { kept ≡ true → word.now.kind ≡ kinds.Immix → ⊥ }
+    requires head { word.now.kind ≡ kinds.LargeHead → ⊥ }
+    requires tail { word.now.kind ≡ kinds.LargeTail → ⊥ }
+    ensures { (r : Rules) (c : Collect)
+        → is_kept_after r c (state_over (W.words words.old) layout.now 0 0) block ≡ kept
+        → Releases r c base (state_over (W.words words.old) layout.now 0 0)
+        (state_over (W.words words.new) layout.now 0 0) block }
+{
+    if sweep(words, layout, block, word, kept, base) == 0 {
+        return;
+    }
+    mark_lines(words, layout, block, word.kind);
+    unlog_block(words, layout, block);
+}
+
+/// Makes the line bits of a block of the kind `kind` those of the lines that objects in it touch,
+/// if it is an Immix block.
+fn mark_lines<W: Words>(words: &mut W, layout: &Layout, block: u32, kind: Kind)
+    requires extent { length (W.words words.old) ≡ row_words layout.now.blocks }
+    requires block { kind ≡ kinds.Immix
+        → IsReadableBlock (state_over (W.words words.old) layout.now 0 0) block }
+    requires kind { kind ≡ kinds.Immix
+        → HasKind (state_over (W.words words.old) layout.now 0 0) block kinds.Immix }
+    ensures immix { kind ≡ kinds.Immix
+        → MarksTouched (state_over (W.words words.old) layout.now 0 0)
+        (state_over (W.words words.new) layout.now 0 0) block }
+    ensures others { (kind ≡ kinds.Immix → ⊥) → W.words words.new ≡ W.words words.old }
+    ensures extent { length (W.words words.new) ≡ row_words layout.now.blocks }
+{
+    if kind == Kind::Immix {
+        mark_touched_lines(words, layout, block);
+    }
+}
+
+/// Sweeps a block of small and medium objects. One in which something lives becomes Kept if `kept`,
+/// else its kind and class stay and it has no owner. Answers how many objects live.
+fn sweep<W: Words>(
+    words: &mut W,
+    layout: &Layout,
+    block: u32,
+    word: &BlockWord,
+    kept: bool,
+    base: u64,
+) -> u32
+    requires extent { length (W.words words.old) ≡ row_words layout.now.blocks }
+    requires block { block < layout.now.blocks }
+    requires releasable { IsReleasable (state_over (W.words words.old) layout.now 0 0) block }
+    requires valid { IsValid word.now }
+    requires code { code_of word.now
+        ≡ block_word (state_over (W.words words.old) layout.now 0 0) block }
+    ensures swept { Sweeps base (if kept then kind_code kinds.Kept
+        else block_word (state_over (W.words words.old) layout.now 0 0) block % OWNER_UNIT)
+        (state_over (W.words words.old) layout.now 0 0)
+        (state_over (W.words words.new) layout.now 0 0) block }
+    ensures count { result
+        ≡ object_count (state_over (W.words words.new) layout.now 0 0) block }
+{
+    if kept {
+        return release_block(words, layout, block, base);
+    }
+    let living = BlockWord {
+        kind: word.kind,
+        class: word.class,
+        owner: 0,
+    };
+    sweep_block(words, layout, block, base, &living)
+}

@@ -1,0 +1,110 @@
+//! The copying plan with two spaces.
+
+ghost use Rattle.sessions.specs.Plans.{SemiSpace as semi_space, rules_of};
+ghost use Rattle.plan_api.proofs.EvacuationLaws.{none-large};
+ghost use Rattle.plan_api.proofs.PartLaws.{part-clear};
+ghost use Rattle.plan_api.proofs.ReserveLaws.{copies-kept};
+ghost use Rattle.std.proofs.Common.{refl};
+
+use crate::release::{is_kept, release};
+use heap_layout::{Kind, Layout, Region};
+use object_model::{Collect, Heap, MAX_MEDIUM_WORDS};
+use plan_api::{
+    BlockView, Fills, Plan, PlanFlags, Reserve, block_counts, block_word_in, copied_blocks,
+    first_hole, fits_small, may_leave,
+};
+use side_meta::Words;
+use std::alloc::{AllocError, Global};
+
+/// MMTk's SemiSpace: mutators fill blocks from start to end, and a collection copies what is
+/// reachable out of them into others. A Free block is held back for each block in use.
+#[derive(Clone, Copy, Debug)]
+pub struct SemiSpace;
+
+// What mutators and tracers fill.
+const FILLS: Fills = Fills {
+    fill: Kind::Bump,
+    copy: Kind::Bump,
+    young: false,
+};
+
+impl Plan for SemiSpace {
+    ghost plan = { semi_space };
+
+    ghost rules = { rules_of semi_space };
+
+    ghost FLAGS = { record { 0 = 1 } };
+
+    const FLAGS: PlanFlags = PlanFlags::MOVES;
+
+    const NAME: &'static str = "semispace";
+
+    ghost rules_are_of_plan = { refl };
+
+    ghost flags_are_of_rules = { refl };
+
+    ghost fill_has_holes = { refl };
+
+    ghost holes_are_clear = { part-clear (rules_of semi_space).fill };
+
+    ghost large_objects_stay = { none-large semi_space };
+
+    ghost reserve_is_kept = { copies-kept };
+
+    fn plan_name() -> &'static str {
+        SemiSpace::NAME
+    }
+
+    fn alloc_kind() -> Kind {
+        Kind::Bump
+    }
+
+    fn copy_kind() -> Kind {
+        Kind::Bump
+    }
+
+    fn reserve() -> Reserve {
+        Reserve::Copies
+    }
+
+    fn class_for(_size: u32) -> u32 {
+        0
+    }
+
+    fn hole_in(view: &BlockView, from: u32, size: u32) -> Option<Region> {
+        first_hole(Kind::Bump, view, from, size)
+    }
+
+    fn fits(heap: &Heap, size: u32) -> bool {
+        size <= MAX_MEDIUM_WORDS && fits_small(heap, Kind::Bump, SemiSpace::reserve(), size)
+    }
+
+    fn kind(_heap: &Heap) -> Collect {
+        Collect::Full
+    }
+
+    fn allowance(heap: &Heap) -> u32 {
+        block_counts(heap).allowance(SemiSpace::reserve())
+    }
+
+    fn may_move(heap: &Heap, from: &[bool], address: u32) -> bool {
+        may_leave(heap, from, address)
+    }
+
+    fn from_blocks(alloc: Global, heap: &Heap, collect: Collect) -> Result<Vec<bool>, AllocError> {
+        let from = copied_blocks(alloc, heap, &FILLS, collect)?;
+        Ok(from)
+    }
+
+    fn release_block<W: Words>(
+        words: &mut W,
+        layout: &Layout,
+        block: u32,
+        collect: Collect,
+        base: u64,
+    ) {
+        let word = block_word_in(words, layout, block);
+        let kept = is_kept(&FILLS, collect, &word);
+        release(words, layout, block, &word, kept, base);
+    }
+}
