@@ -1,0 +1,159 @@
+-- A finished trace and the release of all blocks make a collection.
+use Rattle.std.proofs.Common.{◌≡◌, refl, sym, ◌∙◌, ap, ap₂, subst, subst₂, ℕ, ◌+◌, ◌^◌, ◌<◌, ◌≤◌, inl, inr, arith, Bool, false, List, map, length, Option, Some, None}
+use Rattle.std.specs.Prelude.{if◌then◌else◌, slice_get, unwrap_or}
+use Rattle.std.proofs.lemmas.Bool.{cases_Bool, cond-true, cond-false}
+use Rattle.object_model.specs.declared.collect.Collect.{Collect}
+use Rattle.object_model.specs.declared.collect.Collect.TheVariants.{Nursery, Full}
+use Rattle.object_model.specs.Objects.{HeapState, word_at, with_words}
+use Rattle.object_model.specs.Lawful.{IsLawful}
+use Rattle.sessions.specs.Plans.{Rules, Plan, rules_of}
+use Rattle.sessions.specs.Collecting as collecting
+use Rattle.sessions.specs.Collecting.{is_evacuated, still_free, Collects}
+use Rattle.plan_api.specs.Evacuation.{listed}
+use Rattle.plan_api.proofs.EvacuationLaws.{flag-of}
+use Rattle.trace_core.specs.Setups.{Setup, blocks, collection}
+use Rattle.trace_core.specs.Machine.{Event}
+use Rattle.trace_core.specs.Traces.{IsTrace, IsFinished, machine_after, heap_after, stage_of}
+use Rattle.trace_core.specs.Outcomes.{base_after, image, HaveAsked, NoOthersAsked}
+use Rattle.trace_core.specs.Tracers.{is_nursery, is_set, clears_lines, without_lines, setup_of, MayRun}
+use Rattle.trace_core.specs.declared.run.TraceRun.{TraceRun}
+use Rattle.trace_core.proofs.WithoutLines as lines
+use Rattle.collector.specs.Released.{ReleasesBelow, AreReleased, heap_with}
+use Rattle.collector.specs.Collected.{IsRunUnder, FillsBlocks}
+use Rattle.collector.proofs.Given.{SameButLines, IsSetupUnder}
+use Rattle.collector.proofs.Fates.{IsAllReleased}
+use Rattle.collector.proofs.InOrder.{released}
+use Rattle.collector.proofs.LawfulReleases.{all-numbered, lawful}
+use Rattle.collector.proofs.CollectedObjects.{kept, precise, aged, unlogged}
+use Rattle.collector.proofs.CollectedBlocks.{block-after}
+use Rattle.collector.proofs.StillFree.{in-place}
+
+abbrev with : List ℕ → ℕ → ℕ → ℕ → HeapState
+with w b number base = record { words = w; blocks = b; number = number; base = base }
+
+module _ {q : Plan} {c : Collect} {p : Setup} {u : List ℕ} (under : IsSetupUnder q c p u) {es : List Event} (trace : IsTrace p es) (finished : IsFinished p (machine_after p es))
+    {v : List ℕ} (all : IsAllReleased (rules_of q) c (base_after p) (heap_after p es) v (collection p) (base_after p))
+    (roots : List ℕ) (asked : HaveAsked roots (machine_after p es).asked) (no-others : NoOthersAsked roots (machine_after p es).asked) (fills : FillsBlocks p (machine_after p es)) where
+  base-by : (kind : Collect) → p.nursery ≡ is_nursery kind → base_after p ≡ collecting.base_after kind (collection p) p.before.base
+  base-by Full full = cond-false p.nursery p.before.base (collection p) full
+  base-by Nursery nursery = cond-true p.nursery p.before.base (collection p) nursery
+
+  collects : Collects (rules_of q) p.workers c (with_words p.before u) roots (with v (blocks p) (collection p) (base_after p)) (map (image (stage_of p es)) roots)
+  collects = record {
+    target = image (stage_of p es);
+    kept = kept under trace finished all roots asked;
+    precise = precise under trace finished all roots asked no-others;
+    ages = aged under trace finished all;
+    block = block-after under trace finished all;
+    logged = unlogged under trace finished all;
+    number = refl;
+    base = base-by c under.nursery;
+    layout = refl;
+    moved = λ a some young moves same.
+        let most : still_free (with_words p.before u) (with v (blocks p) (collection p) (base_after p)) ≤ length fills.last = in-place under trace finished all fills.last fills.full a some young moves same in
+        let few : length fills.last ≤ p.workers = fills.few in omega (arith, most, few);
+  }
+
+-- the flag of a block, as setups and as lists read it
+set-listed : (o : Option Bool) → is_set o ≡ unwrap_or o false
+set-listed None = refl
+set-listed (Some b) = refl
+
+-- the number and the base that the tracer is told are those of the setup
+record IsNumbered (s : HeapState) (run : TraceRun) (p : Setup) : Type 0 where
+  pub blocks : blocks p ≡ s.blocks
+  pub number : run.number ≡ collection p
+  pub base : run.base ≡ base_after p
+
+module _ (s : HeapState) (run : TraceRun) (w : ℕ) where
+  -- the setup, by the heap as its trace begins
+  abbrev setup : HeapState → Setup
+  setup h = record { before = h; nursery = is_nursery run.collect; from = λ b. is_set (slice_get run.from.items b); copy = run.copy_kind; workers = w }
+
+  by-heap : (P : Setup → Type 0) → P (setup (without_lines s)) → P (setup s) → P (setup_of s run w)
+  by-heap P cleared itself = elim (cases_Bool (clears_lines run)) as (λ _. P (setup_of s run w)) [
+    | inl clears ↦ subst (λ h. P (setup h)) (sym (cond-true (clears_lines run) (without_lines s) s clears)) cleared
+    | inr keeps ↦ subst (λ h. P (setup h)) (sym (cond-false (clears_lines run) (without_lines s) s keeps)) itself
+  ]
+
+  module _ (may : MayRun s run) where
+    numbered-by : (h : HeapState) → with_words h s.words ≡ s → IsNumbered s run (setup h)
+    numbered-by h same =
+        let number : run.number ≡ collection (setup h) = may.number ∙ ap (λ (x : HeapState). x.number + 1) (sym same) in
+        record {
+          blocks = ap (λ (x : HeapState). x.blocks) same;
+          number = number;
+          base = may.base ∙ ap₂ (λ b n. if is_nursery run.collect then b else n) (ap (λ (x : HeapState). x.base) (sym same)) number;
+        }
+
+    numbered : (p : Setup) → p ≡ setup_of s run w → IsNumbered s run p
+    numbered p is = subst (IsNumbered s run) (sym is) (by-heap (IsNumbered s run) (numbered-by (without_lines s) refl) (numbered-by s refl))
+
+    -- what the release of all blocks left, by the setup's numbers
+    releases : (p : Setup) → IsNumbered s run p → (es : List Event) (r : Rules) (c : Collect) (new : HeapState) → IsTrace p es → IsFinished p (machine_after p es)
+        → ReleasesBelow r c run.base (heap_after p es) new s.blocks → AreReleased r c (base_after p) (heap_after p es) new (blocks p)
+    releases p is es r c new trace finished below = released p es r c new (blocks p) trace finished (subst₂ (λ b n. ReleasesBelow r c b (heap_after p es) new n) is.base (sym is.blocks) below)
+
+    pub lawful-after : (p : Setup) → p ≡ setup_of s run w → (es : List Event) (r : Rules) (c : Collect) (new : HeapState) → IsTrace p es → IsFinished p (machine_after p es)
+        → ((i : ℕ) → word_at (heap_after p es) i < 2 ^ 64) → ReleasesBelow r c run.base (heap_after p es) new s.blocks → IsLawful (heap_with new run.number run.base)
+    lawful-after p is es r c new trace finished fits below =
+        let numbers = numbered p is in
+        subst₂ (λ n b. IsLawful (heap_with new n b)) (sym numbers.number) (sym numbers.base) (lawful p es trace finished r c new fits (releases p numbers es r c new trace finished below))
+
+module _ (q : Plan) (c : Collect) (s : HeapState) (run : TraceRun) (w : ℕ) (lawful-before : IsLawful s) (may : MayRun s run) (told : IsRunUnder (rules_of q) c s run) where
+  abbrev r : Rules
+  r = rules_of q
+
+  abbrev Makes : Setup → Type 0
+  Makes p = (es : List Event) (roots : List ℕ) (new : HeapState) → IsTrace p es → IsFinished p (machine_after p es)
+      → HaveAsked roots (machine_after p es).asked → NoOthersAsked roots (machine_after p es).asked → FillsBlocks p (machine_after p es)
+      → ReleasesBelow r c run.base (heap_after p es) new s.blocks
+      → Collects r w c s roots (heap_with new run.number run.base) (map (image (stage_of p es)) roots)
+
+  cleared : SameButLines (without_lines s) s.words
+  cleared = let same = lines.same s lawful-before.but_lines in record {
+    heap = record {
+      words = λ i above. sym (same.words i above);
+      globals = λ g few. sym (same.globals g few);
+      starts = λ x. sym (same.starts x);
+      pins = λ x. sym (same.pins x);
+      unlogs = λ x. sym (same.unlogs x);
+    };
+    blocks = λ k there. sym (lines.block-same s lawful-before.but_lines k there);
+  }
+
+  itself : SameButLines s s.words
+  itself = record {
+    heap = record { words = λ i above. refl; globals = λ g few. refl; starts = λ x. refl; pins = λ x. refl; unlogs = λ x. refl };
+    blocks = λ k there. refl;
+  }
+
+  module _ (h : HeapState) (like : SameButLines h s.words) (same : with_words h s.words ≡ s) where
+    abbrev p : Setup
+    p = setup s run w h
+
+    numbers : IsNumbered s run p
+    numbers = numbered-by s run w may h same
+
+    under : IsSetupUnder q c p s.words
+    under = record {
+      like = like;
+      nursery = ap is_nursery told.collect;
+      young = told.young;
+      from = λ k there. set-listed (slice_get run.from.items k) ∙ ap (λ l. listed l k) told.from
+          ∙ flag-of (is_evacuated r c s) s.blocks k (subst (λ n. k < n) numbers.blocks there) ∙ ap (λ (x : HeapState). is_evacuated r c x k) (sym same);
+      copy = told.copy;
+    }
+
+    of-setup : Makes p
+    of-setup es roots new trace finished asked no-others fills below =
+        let are : AreReleased r c (base_after p) (heap_after p es) new (blocks p) = releases s run w may p numbers es r c new trace finished below in
+        let after : List ℕ = map (image (stage_of p es)) roots in
+        subst (λ n. Collects r w c s roots (with new.words new.blocks run.number n) after) (sym numbers.base)
+        (subst (λ n. Collects r w c s roots (with new.words new.blocks n (base_after p)) after) (sym numbers.number)
+        (subst (λ n. Collects r w c s roots (with new.words n (collection p) (base_after p)) after) (sym are.blocks)
+        (subst (λ old. Collects r w c old roots (with new.words (blocks p) (collection p) (base_after p)) after) same
+        (collects under trace finished (all-numbered p es trace finished r c new (collection p) (base_after p) are) roots asked no-others fills))))
+
+  pub makes : (p : Setup) → p ≡ setup_of s run w → Makes p
+  makes p is = subst Makes (sym is) (by-heap s run w Makes (of-setup (without_lines s) cleared refl) (of-setup s itself refl))

@@ -1,0 +1,70 @@
+//! Laws of the release of all blocks after a trace, and of the collection that both make.
+
+ghost use Rattle.std.specs.Prelude.{◌≡◌, ◌↔◌, ◌^◌, ◌<◌, ℕ, List, IsTrue, map};
+ghost use Rattle.object_model.specs.declared.collect.Collect.{Collect};
+ghost use Rattle.object_model.specs.Objects.{HeapState, word_at, IsHeld, is_unlogged};
+ghost use Rattle.object_model.specs.Lawful.{IsLawful};
+ghost use Rattle.object_model.specs.Ages.{Lives};
+ghost use Rattle.object_model.specs.Releasing.{IsReleasable};
+ghost use Rattle.sessions.specs.Plans.{Rules, Plan, rules_of};
+ghost use Rattle.sessions.specs.Collecting.{Collects};
+ghost use Rattle.trace_core.specs.Setups.{Setup, blocks, collection};
+ghost use Rattle.trace_core.specs.Machine.{Event};
+ghost use Rattle.trace_core.specs.Traces.{IsTrace, IsFinished, machine_after, heap_after, stage_of};
+ghost use Rattle.trace_core.specs.Outcomes.{base_after, image, HaveAsked, NoOthersAsked};
+ghost use Rattle.trace_core.specs.Tracers.{setup_of, MayRun};
+ghost use Rattle.trace_core.specs.declared.run.TraceRun.{TraceRun};
+ghost use Rattle.collector.specs.Collected.{IsRunUnder, FillsBlocks};
+ghost use Rattle.collector.specs.Released.{ReleasesBelow, AreReleased, heap_with};
+
+/// After a finished trace the blocks can be released in order: the next block may be released each
+/// time. What each release left stays, and no word but metadata of blocks changes.
+pub fn blocks_are_released_in_order()
+    ensures next { (p : Setup) (es : List Event) (r : Rules) (c : Collect) (mid : HeapState)
+        (n : ℕ) → IsTrace p es → IsFinished p (machine_after p es)
+        → ReleasesBelow r c (base_after p) (heap_after p es) mid n → n < blocks p
+        → IsReleasable mid n }
+    ensures released { (p : Setup) (es : List Event) (r : Rules) (c : Collect) (mid : HeapState)
+        (n : ℕ) → IsTrace p es → IsFinished p (machine_after p es)
+        → ReleasesBelow r c (base_after p) (heap_after p es) mid n
+        → AreReleased r c (base_after p) (heap_after p es) mid n }
+{}
+
+/// If each block of the row after a finished trace was released, the objects held are exactly those
+/// that survive, each with its unlog bit, and the heap is lawful.
+pub fn released_heaps_are_lawful()
+    ensures held { (p : Setup) (es : List Event) (r : Rules) (c : Collect) (new : HeapState)
+        (a : ℕ) → IsTrace p es → IsFinished p (machine_after p es)
+        → ReleasesBelow r c (base_after p) (heap_after p es) new (blocks p)
+        → IsHeld new a ↔ Lives (base_after p) (heap_after p es) a }
+    ensures unlogged { (p : Setup) (es : List Event) (r : Rules) (c : Collect) (new : HeapState)
+        (a : ℕ) → IsTrace p es → IsFinished p (machine_after p es)
+        → ReleasesBelow r c (base_after p) (heap_after p es) new (blocks p)
+        → IsHeld new a → IsTrue (is_unlogged new a) }
+    ensures lawful { (p : Setup) (es : List Event) (r : Rules) (c : Collect) (new : HeapState)
+        → IsTrace p es → IsFinished p (machine_after p es)
+        → ((i : ℕ) → word_at (heap_after p es) i < 2 ^ 64)
+        → ReleasesBelow r c (base_after p) (heap_after p es) new (blocks p)
+        → IsLawful (heap_with new (collection p) (base_after p)) }
+{}
+
+/// Under every plan a finished trace and the release of all blocks make a collection: if the roots,
+/// and no others, asked, the heap after it and the roots' targets are those that a collection
+/// leaves. That heap is lawful.
+pub fn released_traces_are_collections()
+    ensures collects { (q : Plan) (c : Collect) (s : HeapState) (run : TraceRun) (w : ℕ)
+        (p : Setup) (es : List Event) (roots : List ℕ) (new : HeapState) → IsLawful s
+        → MayRun s run → IsRunUnder (rules_of q) c s run → p ≡ setup_of s run w
+        → IsTrace p es → IsFinished p (machine_after p es)
+        → HaveAsked roots (machine_after p es).asked
+        → NoOthersAsked roots (machine_after p es).asked → FillsBlocks p (machine_after p es)
+        → ReleasesBelow (rules_of q) c run.base (heap_after p es) new s.blocks
+        → Collects (rules_of q) w c s roots (heap_with new run.number run.base)
+        (map (image (stage_of p es)) roots) }
+    ensures lawful { (s : HeapState) (run : TraceRun) (w : ℕ) (p : Setup) (es : List Event)
+        (r : Rules) (c : Collect) (new : HeapState) → MayRun s run → p ≡ setup_of s run w
+        → IsTrace p es → IsFinished p (machine_after p es)
+        → ((i : ℕ) → word_at (heap_after p es) i < 2 ^ 64)
+        → ReleasesBelow r c run.base (heap_after p es) new s.blocks
+        → IsLawful (heap_with new run.number run.base) }
+{}
