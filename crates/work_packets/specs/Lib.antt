@@ -1,0 +1,4 @@
+pub mod Buckets
+pub mod Packets
+pub mod Steps
+pub mod Shares

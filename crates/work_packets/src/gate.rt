@@ -22,7 +22,8 @@ pub enum Point {
 /// What mutators and workers call at each `Point`. It may delay a thread, and changes nothing that
 /// contracts describe.
 pub trait Gate: Sync {
-    /// Called before the thread goes on: `who` is a mutator's number, or 16 + w for worker w.
+    /// Called before the thread goes on: `who` is a mutator's number, from 1 to 16, or 16 and the
+    /// number of a worker, which is counted from 1 too.
     fn pass(&self, who: u32, point: Point);
 }
 

@@ -1,6 +1,17 @@
-//! Gates: points at which tests can hold the threads of a heap.
+//! Packets of collection work: buckets, workers that run packets, the plain split of a bucket among
+//! workers, and gates, at which tests can hold threads.
 #![tactic(auto)]
 
 mod gate;
+mod laws;
+mod packet;
+mod plain_split;
+mod share;
+mod worker;
 
 pub use gate::{Gate, OpenGate, Point};
+pub use laws::{buckets_have_an_order, runs_lose_nothing};
+pub use packet::{Bucket, MAX_ITEMS, Packet};
+pub use plain_split::run_plain_split;
+pub use share::{Share, deal};
+pub use worker::PacketWorker;

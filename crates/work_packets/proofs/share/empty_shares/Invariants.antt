@@ -1,0 +1,10 @@
+use Rattle.std.proofs.Common.{◌≡◌, [], map}
+use Rattle.work_packets.specs.Shares.{packets_in, sizes}
+use Rattle.work_packets.proofs.share.empty_shares.Given as goal
+
+abbrev pub invariant-loop-worker : goal.invariant-loop-worker
+invariant-loop-worker g l = record {
+  workers : map (λ s. s.worker) l.shares.items ≡ l.yielded;
+  none : packets_in l.shares.items ≡ [];
+  sizes_are : sizes l.shares.items ≡ map (λ w. 0) l.yielded;
+}
