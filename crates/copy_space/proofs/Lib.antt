@@ -1,1 +1,2 @@
 mod LastObjects
+mod ClearTails

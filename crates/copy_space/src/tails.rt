@@ -1,13 +1,13 @@
 //! The free words at the end of a block.
 
-ghost use Rattle.std.specs.Prelude.{◌≡◌, ◌<◌, ◌≤◌, length, MatchOption};
+ghost use Rattle.std.specs.Prelude.{◌≡◌, ◌<◌, ◌≤◌, ℕ, length, MatchOption};
 ghost use Rattle.heap_layout.specs.Zones.{row_words};
 ghost use Rattle.heap_layout.specs.declared.block.Kind.TheVariants as kinds;
-ghost use Rattle.object_model.specs.Objects.{state_over, HasKind};
-ghost use Rattle.object_model.specs.Lawful.{IsReadableBlock};
+ghost use Rattle.object_model.specs.Objects.{state_over, HasKind, IsHeld, size_at};
+ghost use Rattle.object_model.specs.Lawful.{IsReadableBlock, Lies};
 ghost use Rattle.sessions.specs.Fitting.{IsTail};
 ghost use Rattle.block_sweeps.specs.Sweeping.{AreApart};
-ghost use Rattle.copy_space.specs.LastOffsets.{HasNone, IsLast};
+ghost use Rattle.copy_space.specs.LastOffsets.{HasNone, IsLast, HasNoWordFrom};
 
 use block_sweeps::object_size;
 use heap_layout::{BLOCK_WORDS, Layout, Region};
@@ -22,16 +22,31 @@ pub fn tail<W: Words>(words: &W, layout: &Layout, block: u32) -> Region
     requires tail { HasKind (state_over (W.words words.now) layout.now 0 0) block
         kinds.LargeTail → ⊥ }
     ensures tail { IsTail (state_over (W.words words.now) layout.now 0 0) block result.next }
+    ensures clear { ((a : ℕ) → IsHeld (state_over (W.words words.now) layout.now 0 0) a
+        → Lies (state_over (W.words words.now) layout.now 0 0) a
+        (size_at (state_over (W.words words.now) layout.now 0 0) a))
+        → HasNoWordFrom (state_over (W.words words.now) layout.now 0 0) block result.next }
     ensures end { result.end ≡ BLOCK_WORDS }
     ensures inside { result.next ≤ BLOCK_WORDS }
 {
-    let next = match last_object(words, layout, block) {
+    Region {
+        next: objects_end(words, layout, block),
+        end: BLOCK_WORDS,
+    }
+}
+
+/// The offset after the last object that begins in the block, or 0.
+fn objects_end<W: Words>(words: &W, layout: &Layout, block: u32) -> u32
+    requires block { IsReadableBlock (state_over (W.words words.now) layout.now 0 0) block }
+    requires apart { AreApart (state_over (W.words words.now) layout.now 0 0) block }
+    requires head { HasKind (state_over (W.words words.now) layout.now 0 0) block
+        kinds.LargeHead → ⊥ }
+    ensures tail { IsTail (state_over (W.words words.now) layout.now 0 0) block result }
+    ensures inside { result ≤ BLOCK_WORDS }
+{
+    match last_object(words, layout, block) {
         Some(offset) => offset + object_size(words, layout.address(block, offset)),
         None => 0,
-    };
-    Region {
-        next,
-        end: BLOCK_WORDS,
     }
 }
 

@@ -1,2 +1,3 @@
 pub mod RunSearch
 pub mod PlacedRuns
+pub mod FreeRunLaws

@@ -1,9 +1,10 @@
 //! The search for a run of Free blocks.
 
-ghost use Rattle.std.specs.Prelude.{◌≡◌, ◌+◌, ◌<◌, ◌≤◌, ℕ, IfSome, MatchOption, length};
-ghost use Rattle.heap_layout.specs.Zones.{row_words};
+ghost use Rattle.std.specs.Prelude.{◌≡◌, ◌+◌, ◌*◌, ◌<◌, ◌≤◌, ℕ, IfSome, MatchOption, length};
+ghost use Rattle.heap_layout.specs.Zones.{row_words, block_start};
 ghost use Rattle.object_model.specs.Objects.{state_over, blocks_for as blocks_for_size};
 ghost use Rattle.object_model.specs.Lawful.{FreeBlockIsClear, IsClear};
+ghost use Rattle.cell_space.specs.FreeCells.{AllLie, MeetsNoObject};
 ghost use Rattle.large_space.specs.FreeRuns.{IsFirstRun, HasNoRun};
 
 use heap_layout::{BLOCK_WORDS, CLASS_UNIT, Kind, Layout};
@@ -30,6 +31,9 @@ pub fn find_run<W: Words>(words: &W, layout: &Layout, count: u32) -> Option<u32>
         → FreeBlockIsClear (state_over (W.words words.now) layout.now 0 0) k)
         → IfSome result (λ block. (j : ℕ) → j < count
         → IsClear (state_over (W.words words.now) layout.now 0 0) (block + j)) }
+    ensures apart { AllLie (state_over (W.words words.now) layout.now 0 0)
+        → IfSome result (λ block. MeetsNoObject (state_over (W.words words.now) layout.now 0 0)
+        (block_start layout.now.blocks block) (4096 * count)) }
 {
     let mut from = 0;
     for block in 0..layout.blocks() {

@@ -1,4 +1,4 @@
-//! Tests of the search for runs, of placing and of sweeps, on rows of 8 blocks.
+//! Tests of the search for runs, of placing and of sweeps, on rows of 8 blocks and of 16.
 
 ghost use Rattle.std.specs.Prelude.{◌≡◌, ◌%◌, ◌<◌, IsTrue, length};
 ghost use Rattle.heap_layout.specs.Zones.{row_words};
@@ -112,12 +112,12 @@ fn placed_runs(rt: HostRuntime) -> Result<(), Fail> {
     Ok(())
 }
 
-/// Writes the large object of 5,003 words at the start of a block, which collection `number`
-/// claimed. Its start, pin and unlog bits are set.
-fn write_object(words: &mut Vec<u64>, layout: &Layout, block: u32, number: u32) {
+/// Writes an object with `nums` numbers at the start of a block, which collection `number` claimed.
+/// Its start, pin and unlog bits are set.
+fn write_object(words: &mut Vec<u64>, layout: &Layout, block: u32, nums: u32, number: u32) {
     let address = layout.heap_base() + BLOCK_WORDS * (block % 8);
     put(words, address, 33);
-    put(words, address + 1, 65_536 * 5000);
+    put(words, address + 1, 65_536 * nums as u64);
     put(words, address + 2, ((number as u64) << 24) + address as u64);
     for zone in [layout.start_base(), layout.pin_base(), layout.unlog_base()] {
         put(words, zone + 64 * (block % 8), 1);
@@ -152,7 +152,7 @@ fn swept_runs(rt: HostRuntime) -> Result<(), Fail> {
     let mut words = row_of_used(rt.alloc(), &layout, &[0])?;
     for number in [1, 2] {
         let block = place_lowest(&mut words, &layout, 2).unwrap_or(0);
-        write_object(&mut words, &layout, block, number);
+        write_object(&mut words, &layout, block, 5000, number);
     }
     assert_eq!(rt; sweep(&mut words, &layout, 0, 2), None);
     assert_eq!(rt; sweep(&mut words, &layout, 1, 2), Some(true));
@@ -167,5 +167,27 @@ fn swept_runs(rt: HostRuntime) -> Result<(), Fail> {
         assert_eq!(rt; words.get(zone + 192), Some(&1), "{zone}");
     }
     assert_eq!(rt; place_lowest(&mut words, &layout, 2), Some(1));
+    Ok(())
+}
+
+// 60,003 words, the most numbers that an object has, need 15 blocks, the most that a run has
+#[test]
+fn longest_run(rt: HostRuntime) -> Result<(), Fail> {
+    let layout = Layout::new(16)?;
+    let mut words = row_of_used(rt.alloc(), &layout, &[0])?;
+    assert_eq!(rt; place_lowest(&mut words, &layout, 15), Some(1));
+    assert_eq!(rt; place_lowest(&mut words, &layout, 1), None);
+    assert_eq!(rt;
+        words.get(18..35),
+        Some([1, 3846, 7, 7, 7, 7, 7, 7, 7, 7, 7, 7, 7, 7, 7, 7, 0].as_slice())
+    );
+    write_object(&mut words, &layout, 1, 60_000, 1);
+    assert_eq!(rt; sweep(&mut words, &layout, 1, 1), Some(false));
+    assert_eq!(rt; sweep(&mut words, &layout, 1, 2), Some(true));
+    // the words of the first two blocks and the last, and the object's start, pin and unlog bits
+    for index in [19, 20, 33, 162, 1186, 2210] {
+        assert_eq!(rt; words.get(index), Some(&0), "{index}");
+    }
+    assert_eq!(rt; place_lowest(&mut words, &layout, 15), Some(1));
     Ok(())
 }

@@ -1,6 +1,7 @@
 use Rattle.std.proofs.Common.{◌≡◌, ℕ, ◌+◌, ◌%◌, sym, ◌∙◌, ap, subst, arith, slice_index}
 use Rattle.object_model.specs.Objects.{HeapState, state_over, block_word}
 use Rattle.large_space.proofs.RunSearch as runs
+use Rattle.large_space.proofs.FreeRunLaws.{apart-run}
 use Rattle.large_space.proofs.search.find_run.Goals as goal
 use Rattle.large_space.proofs.search.find_run.Goals.{then-get, else-get+else-block-from}
 
@@ -15,6 +16,11 @@ pub returns-then-block-from-clause-clear : goal.returns-then-block-from-clause-c
 returns-then-block-from-clause-clear g c =
     let s : HeapState = state_over (g.W.Words.words c.args.words.now) c.args.layout.now 0 0 in
     runs.clear-run s c.loop-block.from c.args.count (returns-then-block-from-clause-run g c)
+
+pub returns-then-block-from-clause-apart : goal.returns-then-block-from-clause-apart
+returns-then-block-from-clause-apart g c =
+    let s : HeapState = state_over (g.W.Words.words c.args.words.now) c.args.layout.now 0 0 in
+    apart-run s c.loop-block.from c.args.count (returns-then-block-from-clause-run g c).run
 
 pub loop-block-preserved : goal.loop-block-preserved
 loop-block-preserved g c =
