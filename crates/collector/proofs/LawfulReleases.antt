@@ -22,7 +22,7 @@ use Rattle.collector.proofs.ReleasedBlocks as released_blocks
 use Rattle.collector.proofs.ReleasedObjects as released_objects
 
 -- The numbers of a heap are no part of what a release leaves.
-touched-again : (b k line : ℕ) (w : List ℕ) (number age number' age' : ℕ) → IsTouchedHere (record { words = w; blocks = b; number = number; base = age }) k line
+pub touched-again : (b k line : ℕ) (w : List ℕ) (number age number' age' : ℕ) → IsTouchedHere (record { words = w; blocks = b; number = number; base = age }) k line
     → IsTouchedHere (record { words = w; blocks = b; number = number'; base = age' }) k line
 touched-again b k line w number age number' age' is = (let t = is.touched in record {
   touched = record {

@@ -19,3 +19,4 @@ mod CollectedObjects
 mod CollectedBlocks
 mod StillFree
 mod WholeCollections
+pub mod Numbers

@@ -1,19 +1,21 @@
 //! Laws of the release of all blocks after a trace, and of the collection that both make.
 
-ghost use Rattle.std.specs.Prelude.{◌≡◌, ◌↔◌, ◌^◌, ◌<◌, ℕ, List, IsTrue, map};
+ghost use Rattle.std.specs.Prelude.{◌≡◌, ◌↔◌, ◌^◌, ◌<◌, ℕ, List, IsTrue, true, map};
+ghost use Rattle.heap_layout.specs.declared.layout.Layout.{Layout};
 ghost use Rattle.object_model.specs.declared.collect.Collect.{Collect};
-ghost use Rattle.object_model.specs.Objects.{HeapState, word_at, IsHeld, is_unlogged};
+ghost use Rattle.object_model.specs.Objects.{HeapState, state_over, word_at, IsHeld, is_unlogged};
 ghost use Rattle.object_model.specs.Lawful.{IsLawful};
 ghost use Rattle.object_model.specs.Ages.{Lives};
 ghost use Rattle.object_model.specs.Releasing.{IsReleasable};
 ghost use Rattle.sessions.specs.Plans.{Rules, Plan, rules_of};
-ghost use Rattle.sessions.specs.Collecting.{Collects};
+ghost use Rattle.sessions.specs.Collecting.{IsCollection};
 ghost use Rattle.trace_core.specs.Setups.{Setup, blocks, collection};
 ghost use Rattle.trace_core.specs.Machine.{Event};
 ghost use Rattle.trace_core.specs.Traces.{IsTrace, IsFinished, machine_after, heap_after, stage_of};
 ghost use Rattle.trace_core.specs.Outcomes.{base_after, image, HaveAsked, NoOthersAsked};
 ghost use Rattle.trace_core.specs.Tracers.{setup_of, MayRun};
 ghost use Rattle.trace_core.specs.declared.run.TraceRun.{TraceRun};
+ghost use Rattle.plan_api.specs.Releasing.{Releases};
 ghost use Rattle.collector.specs.Collected.{IsRunUnder, FillsBlocks};
 ghost use Rattle.collector.specs.Released.{ReleasesBelow, AreReleased, heap_with};
 
@@ -48,18 +50,18 @@ pub fn released_heaps_are_lawful()
         → IsLawful (heap_with new (collection p) (base_after p)) }
 {}
 
-/// Under every plan a finished trace and the release of all blocks make a collection: if the roots,
-/// and no others, asked, the heap after it and the roots' targets are those that a collection
-/// leaves. That heap is lawful.
+/// Under every plan that reclaims, a finished trace and the release of all blocks make a
+/// collection: if the roots, and no others, asked, the heap after it and the roots' targets are
+/// those that a collection leaves. That heap is lawful.
 pub fn released_traces_are_collections()
     ensures collects { (q : Plan) (c : Collect) (s : HeapState) (run : TraceRun) (w : ℕ)
         (p : Setup) (es : List Event) (roots : List ℕ) (new : HeapState) → IsLawful s
-        → MayRun s run → IsRunUnder (rules_of q) c s run → p ≡ setup_of s run w
-        → IsTrace p es → IsFinished p (machine_after p es)
+        → MayRun s run → IsRunUnder (rules_of q) c s run → (rules_of q).collects ≡ true
+        → p ≡ setup_of s run w → IsTrace p es → IsFinished p (machine_after p es)
         → HaveAsked roots (machine_after p es).asked
         → NoOthersAsked roots (machine_after p es).asked → FillsBlocks p (machine_after p es)
         → ReleasesBelow (rules_of q) c run.base (heap_after p es) new s.blocks
-        → Collects (rules_of q) w c s roots (heap_with new run.number run.base)
+        → IsCollection (rules_of q) w c s roots (heap_with new run.number run.base)
         (map (image (stage_of p es)) roots) }
     ensures lawful { (s : HeapState) (run : TraceRun) (w : ℕ) (p : Setup) (es : List Event)
         (r : Rules) (c : Collect) (new : HeapState) → MayRun s run → p ≡ setup_of s run w
@@ -67,4 +69,16 @@ pub fn released_traces_are_collections()
         → ((i : ℕ) → word_at (heap_after p es) i < 2 ^ 64)
         → ReleasesBelow r c run.base (heap_after p es) new s.blocks
         → IsLawful (heap_with new run.number run.base) }
+{}
+
+/// Whether a block may be released, and what its release does, does not depend on the heap's
+/// collection numbers.
+pub fn releases_ignore_numbers()
+    ensures releasable { (words : List ℕ) (l : Layout) (number base number' base' k : ℕ)
+        → IsReleasable (state_over words l number base) k
+        → IsReleasable (state_over words l number' base') k }
+    ensures releases { (r : Rules) (c : Collect) (age : ℕ) (old new : List ℕ) (l : Layout)
+        (number base number' base' k : ℕ)
+        → Releases r c age (state_over old l number base) (state_over new l number base) k
+        → Releases r c age (state_over old l number' base') (state_over new l number' base') k }
 {}

@@ -5,4 +5,5 @@ mod laws;
 
 pub use laws::{
     blocks_are_released_in_order, released_heaps_are_lawful, released_traces_are_collections,
+    releases_ignore_numbers,
 };
