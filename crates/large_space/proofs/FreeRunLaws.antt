@@ -24,12 +24,6 @@ module _ (s : HeapState) (k n : ℕ) (run : IsFreeRun s k n) (x i : ℕ) (held :
   object-below : i < x + size
   object-below = in-object.below
 
-  run-from : block_start s.blocks k ≤ i
-  run-from = in-run.from
-
-  run-below : i < block_start s.blocks k + 4096 * n
-  run-below = in-run.below
-
   -- a block of the run is Free
   free-in : (b : ℕ) → k ≤ b → b < k + n → HasKind s b kinds.Free
   free-in b after before = subst (λ (c : ℕ). HasKind s c kinds.Free) (let e : k + (b - k) ≡ b = omega (arith, after) in e) (run.free (b - k) (omega (arith, after, before)))
