@@ -1,6 +1,7 @@
 //! What a pool does with a bucket.
 
-ghost use Rattle.std.specs.Prelude.{◌≡◌, ◌<◌, List, length, All, IfOk};
+ghost use Rattle.std.specs.Prelude.{◌≡◌, ◌<◌, List, [], ◌∷◌, length, All, IfOk};
+ghost use Rattle.work_packets.specs.Awaiting.{AwaitsAll, MayAwait};
 ghost use Rattle.work_packets.specs.Packets.{HasItems, HaveHome};
 ghost use Rattle.work_packets.specs.Steps.{Step, RunsBucket};
 ghost use Rattle.pools.specs.declared.pool.Style.TheVariants as styles;
@@ -41,6 +42,7 @@ pub trait Pool {
         requires items { All HasItems first.items }
         requires takes { (h : W.Home) × HaveHome W.home h workers.items
             × All (W.takes h) first.items }
+        requires awaits { MayAwait W.awaits workers.items first.items }
         ensures home { IfOk result (λ r. (h : W.Home) → HaveHome W.home h workers.items
             → HaveHome W.home h r.0.items) }
         ensures items { IfOk result (λ r. All HasItems r.1.items) }
@@ -48,6 +50,9 @@ pub trait Pool {
             → All (W.takes h) r.1.items) }
         ensures once { IfOk result (λ r. (logs : List (List (Step W T)))
             × RunsBucket W.steps b workers.items first.items logs r.0.items r.1.items) }
+        ensures awaits { IfOk result (λ r. (start : W.Start) (w : W) → workers.items ≡ w ∷ []
+            → AwaitsAll W.awaits start w first.items
+            → (v : W) × (r.0.items ≡ v ∷ []) × AwaitsAll W.awaits start v r.1.items) }
     {
         self.note(b);
         match self.style() {

@@ -1,6 +1,6 @@
 //! Pools run trees of packets, by several workers and bucket after bucket.
 
-ghost use Rattle.std.specs.Prelude.{◌≡◌, ℕ, ◌+◌, ◌≤◌, ◌<◌, ◌++◌, ◌∷◌, [], All, IfOk, length};
+ghost use Rattle.std.specs.Prelude.{◌≡◌, ℕ, ◌+◌, ◌^◌, ◌≤◌, ◌<◌, ◌++◌, ◌∷◌, [], All, IfOk, length, map};
 ghost use Rattle.work_packets.specs.Buckets.{IsSameOrLater};
 ghost use Rattle.work_packets.specs.Packets.{HasItems};
 ghost use Rattle.work_packets.specs.declared.packet.Bucket.TheVariants as buckets;
@@ -11,7 +11,7 @@ use std::alloc::{AllocError, Global};
 use std::sync::atomic::{AtomicU64, Ordering};
 use std::test::Fail;
 use std::thread::Threads;
-use work_packets::{Bucket, Gate, OpenGate, Packet, PacketWorker, Point};
+use work_packets::{Bucket, Gate, OpenGate, Packet, PacketWorker, Point, workers_are_reached};
 
 // Pushes a packet whose one item is the height of the tree that it stands for.
 fn push_tree(packets: &mut Vec<Packet<u32>>, bucket: Bucket, height: u32) -> Result<(), AllocError>
@@ -28,6 +28,7 @@ fn push_tree(packets: &mut Vec<Packet<u32>>, bucket: Bucket, height: u32) -> Res
 // For a packet of height n + 1 it pushes two of height n for this bucket, and one for `Release`.
 #[derive(Debug, Drop)]
 struct TreeWorker {
+    number: u32,
     highest: u32,
     ran: u64,
     left: u64,
@@ -36,15 +37,19 @@ struct TreeWorker {
 impl PacketWorker<u32> for TreeWorker {
     type Home = u32;
 
+    type Start = ();
+
     ghost use Rattle.std.specs.Prelude.{◌≡◌, ◌+◌, ◌≤◌, All, length};
 
     ghost home = { λ w. w.highest };
 
     ghost takes = { λ h p. All (λ x. x ≤ h) p.items.items };
 
-    ghost steps = { λ w p q v. v.left + length q ≡ w.left };
+    ghost steps = { λ w p q v. (v.left + length q ≡ w.left) × (v.number ≡ w.number) };
 
     ghost left = { λ w. w.left };
+
+    ghost awaits = { λ s w ps. Unit {0} };
 
     fn run(&mut self, p: Packet<u32>, pushed: &mut Vec<Packet<u32>>) -> Result<(), AllocError>
         requires takes { All (λ x. x ≤ self.old.highest) p.items.items }
@@ -52,7 +57,8 @@ impl PacketWorker<u32> for TreeWorker {
         requires empty { pushed.old.items ≡ [] }
         ensures home { IfOk result (λ _. self.new.highest ≡ self.old.highest) }
         ensures step { IfOk result
-            (λ _. self.new.left + length pushed.new.items ≡ self.old.left) }
+            (λ _. (self.new.left + length pushed.new.items ≡ self.old.left)
+            × (self.new.number ≡ self.old.number)) }
         ensures left { IfOk result
             (λ _. self.new.left + length pushed.new.items ≤ self.old.left) }
         ensures takes { IfOk result
@@ -84,8 +90,11 @@ fn workers(alloc: Global, count: usize) -> Result<Vec<TreeWorker>, AllocError>
     ensures home { IfOk result (λ ws. All (λ w. w.highest ≡ HIGHEST) ws.items) }
 {
     let mut workers = Vec::new(alloc);
+    let mut number: u32 = 0;
     for _ in 0..count {
+        number = number.saturating_add(1);
         workers.push(TreeWorker {
+            number,
             highest: HIGHEST,
             ran: 0,
             left: 1_000_000,
@@ -116,10 +125,12 @@ fn ran(workers: &Vec<TreeWorker>) -> u64 {
     ran
 }
 
-// A pool that counts the buckets it runs.
+// A pool that counts how often it runs `Closure`, `Release` and other buckets.
 #[derive(Drop)]
 struct CountingPool {
-    buckets: AtomicU64,
+    closure: AtomicU64,
+    release: AtomicU64,
+    others: AtomicU64,
 }
 
 impl Pool for CountingPool {
@@ -127,8 +138,18 @@ impl Pool for CountingPool {
         Style::Plain
     }
 
-    fn note(&self, _b: Bucket) {
-        self.buckets.fetch_add(1, Ordering::SeqCst);
+    fn note(&self, b: Bucket) {
+        match b {
+            Bucket::Closure => {
+                self.closure.fetch_add(1, Ordering::SeqCst);
+            }
+            Bucket::Release => {
+                self.release.fetch_add(1, Ordering::SeqCst);
+            }
+            _ => {
+                self.others.fetch_add(1, Ordering::SeqCst);
+            }
+        }
     }
 }
 
@@ -209,6 +230,7 @@ fn packets_are_dealt_evenly(rt: HostRuntime) -> Result<(), Fail> {
     let expected: [u64; 4] = [8, 4, 1, 1];
     assert_eq!(rt; workers.len(), 4);
     for (i, worker) in workers.iter().enumerate() {
+        assert_eq!(rt; worker.number as usize, i + 1);
         assert_eq!(rt; worker.ran, expected[i % 4]);
         assert_eq!(rt; gate.packets[i % 4].load(Ordering::SeqCst), expected[i % 4]);
     }
@@ -233,7 +255,8 @@ fn some_workers_may_have_nothing_to_run(rt: HostRuntime) -> Result<(), Fail> {
     Ok(())
 }
 
-// Runs the packets for `Release`.
+// Runs the packets for `Release`. Each worker is reached by its steps, none of which changes its
+// number, so the numbers come back in order.
 fn run_later<Q: Pool, R: Threads + Sync>(
     rt: &R,
     pool: &Q,
@@ -245,8 +268,12 @@ fn run_later<Q: Pool, R: Threads + Sync>(
     requires bucket { All (λ p. p.bucket ≡ buckets.Release) later.items }
     requires items { All HasItems later.items }
     requires takes { All (λ p. All (λ x. x ≤ HIGHEST) p.items.items) later.items }
+    ensures { IfOk result
+        (λ r. map (λ w. w.number) r.0.items ≡ map (λ w. w.number) workers.items) }
 {
-    pool.run_bucket(rt, Bucket::Release, workers, later, &OpenGate)
+    workers_are_reached::<u32, TreeWorker>();
+    let ran = pool.run_bucket(rt, Bucket::Release, workers, later, &OpenGate)?;
+    Ok(ran)
 }
 
 // In `Release` all three packets are for this bucket: a tree of height n has (3 ^ (n + 1) - 1) / 2.
@@ -254,7 +281,9 @@ fn run_later<Q: Pool, R: Threads + Sync>(
 fn later_packets_are_run_in_their_bucket(rt: HostRuntime) -> Result<(), Fail> {
     let alloc = rt.alloc();
     let pool = CountingPool {
-        buckets: AtomicU64::new(0),
+        closure: AtomicU64::new(0),
+        release: AtomicU64::new(0),
+        others: AtomicU64::new(0),
     };
     for count in [1usize, 2, 4] {
         let (workers, later) = run_forest(&rt, alloc, &pool, &OpenGate, count.max(1), &[3])?;
@@ -263,6 +292,113 @@ fn later_packets_are_run_in_their_bucket(rt: HostRuntime) -> Result<(), Fail> {
         assert_eq!(rt; ran(&workers), 15 + (13 + 2 * 4 + 4 * 1));
         assert!(rt; later.is_empty());
     }
-    assert_eq!(rt; pool.buckets.load(Ordering::SeqCst), 6);
+    assert_eq!(rt; pool.closure.load(Ordering::SeqCst), 3);
+    assert_eq!(rt; pool.release.load(Ordering::SeqCst), 3);
+    assert_eq!(rt; pool.others.load(Ordering::SeqCst), 0);
+    Ok(())
+}
+
+// Runs trees as `TreeWorker` does, and counts what it has still to run. At most as many packets as
+// the work began with are ever left.
+#[derive(Debug, Drop)]
+struct TallyWorker {
+    trees: TreeWorker,
+    waiting: u64,
+}
+
+impl PacketWorker<u32> for TallyWorker {
+    type Home = u32;
+
+    type Start = u64;
+
+    ghost use Rattle.std.specs.Prelude.{◌≡◌, ◌+◌, ◌^◌, ◌<◌, ◌≤◌, All, length};
+
+    ghost home = { λ w. w.trees.highest };
+
+    ghost takes = { λ h p. All (λ x. x ≤ h) p.items.items };
+
+    ghost steps = { λ w p q v. v.trees.left + length q ≡ w.trees.left };
+
+    ghost left = { λ w. w.trees.left };
+
+    ghost awaits = { λ most w ps. (length ps ≡ w.waiting)
+        × (w.waiting + w.trees.left ≤ most) × (most < 2 ^ 64) };
+
+    fn run(&mut self, p: Packet<u32>, pushed: &mut Vec<Packet<u32>>) -> Result<(), AllocError>
+        requires takes { All (λ x. x ≤ self.old.trees.highest) p.items.items }
+        requires items { HasItems p }
+        requires empty { pushed.old.items ≡ [] }
+        requires awaited { (1 ≤ self.old.waiting)
+            × (self.old.waiting + self.old.trees.left < 2 ^ 64) }
+        ensures home { IfOk result (λ _. self.new.trees.highest ≡ self.old.trees.highest) }
+        ensures step { IfOk result
+            (λ _. self.new.trees.left + length pushed.new.items ≡ self.old.trees.left) }
+        ensures left { IfOk result
+            (λ _. self.new.trees.left + length pushed.new.items ≤ self.old.trees.left) }
+        ensures takes { IfOk result (λ _. All
+            (λ q. All (λ x. x ≤ self.old.trees.highest) q.items.items) pushed.new.items) }
+        ensures items { IfOk result (λ _. All HasItems pushed.new.items) }
+        ensures order { IfOk result
+            (λ _. All (λ q. IsSameOrLater p.bucket q.bucket) pushed.new.items) }
+        ensures awaits { IfOk result
+            (λ _. self.new.waiting + 1 ≡ self.old.waiting + length pushed.new.items) }
+    {
+        self.waiting -= 1;
+        self.trees.run(p, pushed)?;
+        self.waiting += pushed.len() as u64;
+        Ok(())
+    }
+}
+
+// One worker that counts, with these packets waiting.
+fn tally_worker(alloc: Global, first: &Vec<Packet<u32>>) -> Result<Vec<TallyWorker>, AllocError>
+    ensures { IfOk result (λ ws. (w : TallyWorker) × (ws.items ≡ w ∷ [])
+        × (w.trees.highest ≡ HIGHEST) × (w.waiting ≡ length first.now.items)
+        × (w.trees.left ≡ 1_000_000) × (w.waiting < 2 ^ 63)) }
+{
+    let waiting = first.len() as u64;
+    let trees = TreeWorker {
+        number: 1,
+        highest: HIGHEST,
+        ran: 0,
+        left: 1_000_000,
+    };
+    let mut workers = Vec::new(alloc);
+    workers.push(TallyWorker { trees, waiting })?;
+    Ok(workers)
+}
+
+// Runs trees of these heights, and then the packets for `Release`, by one worker that counts: what
+// is left at the end is what it still counts, and that is nothing.
+fn run_alone<Q: Pool, R: Threads + Sync>(
+    rt: &R,
+    alloc: Global,
+    pool: &Q,
+    heights: &[u32],
+) -> Result<(Vec<TallyWorker>, Vec<Packet<u32>>), AllocError>
+    ensures one { IfOk result (λ r. length r.0.items ≡ 1) }
+    ensures none { IfOk result (λ r. r.1.items ≡ []) }
+    ensures waiting { IfOk result (λ r. All (λ w. w.waiting ≡ 0) r.0.items) }
+{
+    let first = forest(alloc, heights)?;
+    let workers = tally_worker(alloc, &first)?;
+    let (workers, later) = pool.run_bucket(rt, Bucket::Closure, workers, first, &OpenGate)?;
+    let ran = pool.run_bucket(rt, Bucket::Release, workers, later, &OpenGate)?;
+    Ok(ran)
+}
+
+// A tree of height n has as many packets, with those for `Release`, as a tree there.
+#[test]
+fn one_worker_knows_what_it_awaits(rt: HostRuntime) -> Result<(), Fail> {
+    let alloc = rt.alloc();
+    for (height, count) in [(0u32, 1u64), (1, 4), (2, 13), (3, 40)] {
+        let (workers, later) = run_alone(&rt, alloc, &PlainPool, &[1, 0, height])?;
+        assert_eq!(rt; workers.len(), 1);
+        for worker in &workers {
+            assert_eq!(rt; worker.waiting, 0);
+            assert_eq!(rt; worker.trees.ran, 4 + 1 + count);
+        }
+        assert!(rt; later.is_empty());
+    }
     Ok(())
 }

@@ -1,5 +1,5 @@
 -- Of two buckets one comes first, or they are one.
-use Rattle.std.proofs.Common.{◌≡◌, Bool, true, false, refl, sym}
+use Rattle.std.proofs.Common.{◌≡◌, Bool, true, false, not, refl, sym, ◌∙◌, subst}
 use Rattle.work_packets.specs.declared.packet.Bucket.{Bucket}
 use Rattle.work_packets.specs.declared.packet.Bucket.TheVariants.{Prepare, Roots, Closure, Release}
 use Rattle.work_packets.specs.Buckets.{is_before, is_same}
@@ -61,3 +61,8 @@ then-later Release Prepare differ e = absurd (no-truth (sym e))
 then-later Release Roots differ e = absurd (no-truth (sym e))
 then-later Release Closure differ e = absurd (no-truth (sym e))
 then-later Release Release differ e = absurd (differ refl)
+
+-- a bucket that is not before b is after it if it is another one
+pub after-or-same : (b c : Bucket) (same : Bool) → is_same b c ≡ same → is_before c b ≡ false → is_before b c ≡ not same
+after-or-same b c true e order = subst (λ k. is_before b k ≡ false) (one-bucket b c e) (never-before-itself b)
+after-or-same b c false e order = then-later b c (λ k. no-truth (sym e ∙ subst (λ d. is_same b d ≡ true) k (same-itself b))) order

@@ -1,9 +1,12 @@
 -- Packets are dealt to shares in turn.
-use Rattle.std.proofs.Common.{◌≡◌, ℕ, zero, suc, ◌+◌, ◌<◌, ◌≤◌, List, [], ◌∷◌, ◌++◌, All, map, refl, sym, ap, ◌∙◌, subst, length, length-set, set, get_or, inl, inr, ◌⊎◌, arith}
+use Rattle.std.proofs.Common.{◌≡◌, ℕ, zero, suc, ◌+◌, ◌<◌, ◌≤◌, ◌^◌, List, [], ◌∷◌, ◌++◌, All, map, refl, sym, ap, ◌∙◌, subst, length, length-set, set, get_or, min, ◌-◌, inl, inr, ◌⊎◌, arith}
 use Rattle.std.specs.List.{flat_map}
+use Rattle.std.proofs.Math.Nat.{min-eq_left}
+use Rattle.std.proofs.lemmas.List.{map-append}
 use Rattle.std.proofs.lemmas.List.Elements.{All-cons, All-nil}
 use Rattle.std.proofs.lemmas.List.Sorted.{IsPermutation-trans, IsPermutation-append_right, IsPermutation-sym, IsPermutation-middle}
 use Rattle.std.specs.List.Sorted.{IsPermutation}
+use Rattle.work_packets.specs.Shares.{AreCounted}
 use Rattle.work_packets.proofs.Pieces.{piece, join, rearranged}
 
 module _ {X Y : Type 0} where
@@ -21,6 +24,11 @@ abbrev pub AreDealt : ℕ → ℕ → List ℕ → Type 0
 AreDealt n i [] = Unit {0}
 AreDealt n zero (x ∷ xs) = (x ≡ n) × AreDealt n zero xs
 AreDealt n (suc i) (x ∷ xs) = (x ≡ n + 1) × AreDealt n i xs
+
+-- one number more
+counted-more : (a : ℕ) (ns : List ℕ) (n : ℕ) → AreCounted a ns → (a + length ns < 2 ^ 32 → n ≡ a + length ns) → AreCounted a (ns ++ n ∷ [])
+counted-more a [] n h is = (λ lt. let e = is (omega arith) in omega arith, tt)
+counted-more a (m ∷ ns) n h is = (h.0, counted-more (a + 1) ns n h.1 (λ lt. let e = is (omega arith) in omega arith))
 
 plus-one : (i : ℕ) → i + 1 ≡ suc i
 plus-one i = omega arith
@@ -69,6 +77,17 @@ module _ {X : Type 0} where
   pub length-push : (xs : List X) (x : X) → length (xs ++ x ∷ []) ≡ length xs + 1
   length-push [] x = refl
   length-push (y ∷ xs) x = let e = length-push xs x in omega arith
+
+-- a sum that stays below the end of `u32`
+pub small-sum : (r n : ℕ) → r ≡ min (n + 1) (2 ^ 32 - 1) → n + 1 ≤ 2 ^ 32 - 1 → r ≡ n + 1
+small-sum r n e le = e ∙ min-eq_left le
+
+module _ {X : Type 0} where
+  -- one element more, with the next number
+  pub counted-push : (f : X → ℕ) (old new : List X) (x : X) → new ≡ old ++ x ∷ [] → AreCounted 1 (map f old) → (1 + length (map f old) < 2 ^ 32 → f x ≡ 1 + length (map f old)) → AreCounted 1 (map f new) × (length (map f new) ≡ length (map f old) + 1)
+  counted-push f old new x e h is =
+      let more : map f new ≡ map f old ++ f x ∷ [] = ap (map f) e ∙ map-append f old (x ∷ []) in
+      (subst (AreCounted 1) (sym more) (counted-more 1 (map f old) (f x) h is), ap length more ∙ length-push (map f old) (f x))
 
   -- one element is replaced by one whose size is greater by one
   pub given-one : (size : X → ℕ) (xs : List X) (i : ℕ) (x y : X) → i < length xs → x ≡ get_or xs i x → size y ≡ size x + 1 → map size (set xs i y) ≡ set (map size xs) i (get_or (map size xs) i 0 + 1)

@@ -12,6 +12,8 @@ use Rattle.work_packets.specs.declared.packet.Bucket.{Bucket}
 use Rattle.work_packets.specs.declared.packet.Packet.{Packet}
 use Rattle.work_packets.specs.declared.plain_split.Finished.{Finished}
 use Rattle.work_packets.specs.declared.share.Share.{Share}
+use Rattle.work_packets.specs.Awaiting.{AwaitsAll}
+use Rattle.work_packets.specs.Buckets.{IsSameOrLater}
 use Rattle.work_packets.specs.Packets.{HasItems, packets_of, packets_after}
 use Rattle.work_packets.specs.Shares.{packets_in, IsRunnable, Finishes}
 use Rattle.work_packets.specs.Steps.{Step, ran, pushed, ran_by_all, pushed_by_all, RunsBucket}
@@ -24,25 +26,27 @@ module _ {X : Type 0} where
   all-right : (P : X → Type 0) (xs ys : List X) → All P (xs ++ ys) → All P ys
   all-right P xs ys h = subst (All P) (drop-append_seam xs ys) (All-drop P (length xs) (xs ++ ys) h)
 
-module _ {T W H : Type 0} (home : W → H) (takes : H → Packet T → Type 0) (b : Bucket) where
+module _ {T W H S : Type 0} (home : W → H) (takes : H → Packet T → Type 0) (awaits : S → W → List (Packet T) → Type 0) (b : Bucket) where
   pub runnable : (h : H) (shares : List (Share T W)) → All (λ w. home w ≡ h) (map (λ s. s.worker) shares) → All (λ p. p.bucket ≡ b) (packets_in shares) → All HasItems (packets_in shares) → All (takes h) (packets_in shares)
-      → All (IsRunnable home takes b) shares
-  runnable h [] own bucket sized taken = All-nil _
-  runnable h (s ∷ shares) own bucket sized taken =
+      → All (λ s. (start : S) × AwaitsAll awaits start s.worker s.packets.items) shares → All (IsRunnable home takes awaits b) shares
+  runnable h [] own bucket sized taken awaited = All-nil _
+  runnable h (s ∷ shares) own bucket sized taken awaited =
       let own-head : home s.worker ≡ h = All-head (λ w. home w ≡ h) s.worker (map (λ s. s.worker) shares) own in
-      let here : IsRunnable home takes b s = record {
+      let here : IsRunnable home takes awaits b s = record {
         in_bucket = all-left (λ p. p.bucket ≡ b) s.packets.items (packets_in shares) bucket;
         sized = all-left HasItems s.packets.items (packets_in shares) sized;
         taken = subst (λ k. All (takes k) s.packets.items) (sym own-head) (all-left (takes h) s.packets.items (packets_in shares) taken);
+        awaited = All-head (λ s. (start : S) × AwaitsAll awaits start s.worker s.packets.items) s shares awaited;
       } in
-      All-cons (IsRunnable home takes b) s shares here
+      All-cons (IsRunnable home takes awaits b) s shares here
       (runnable h shares (All-tail (λ w. home w ≡ h) s.worker (map (λ s. s.worker) shares) own) (all-right (λ p. p.bucket ≡ b) s.packets.items (packets_in shares) bucket)
-      (all-right HasItems s.packets.items (packets_in shares) sized) (all-right (takes h) s.packets.items (packets_in shares) taken))
+      (all-right HasItems s.packets.items (packets_in shares) sized) (all-right (takes h) s.packets.items (packets_in shares) taken)
+      (All-tail (λ s. (start : S) × AwaitsAll awaits start s.worker s.packets.items) s shares awaited))
 
-module _ {T W H : Type 0} (home : W → H) (takes : H → Packet T → Type 0) (b : Bucket) (steps : W → Packet T → List (Packet T) → W → Type 0) where
-  pub bucket-runs : (shares : List (Share T W)) (fs : List (Finished T W)) → AllZip (Finishes home takes b steps) shares fs
+module _ {T W H S : Type 0} (home : W → H) (takes : H → Packet T → Type 0) (awaits : S → W → List (Packet T) → Type 0) (b : Bucket) (steps : W → Packet T → List (Packet T) → W → Type 0) where
+  pub bucket-runs : (shares : List (Share T W)) (fs : List (Finished T W)) → AllZip (Finishes home takes awaits b steps) shares fs
       → (logs : List (List (Step W T))) × RunsBucket steps b (map (λ s. s.worker) shares) (packets_in shares) logs (map (λ f. f.worker) fs) (flat_map (λ f. f.later.items) fs)
-  bucket-runs [] [] z = ([], record { reached = tt; once = IsPermutation-refl []; left = IsPermutation-refl [] })
+  bucket-runs [] [] z = ([], record { reached = tt; once = IsPermutation-refl []; left = IsPermutation-refl []; order = All-nil _ })
   bucket-runs [] (f ∷ fs) z = absurd z
   bucket-runs (s ∷ shares) [] z = absurd z
   bucket-runs (s ∷ shares) (f ∷ fs) z =
@@ -59,10 +63,11 @@ module _ {T W H : Type 0} (home : W → H) (takes : H → Packet T → Type 0) (
           reached = (z.0.runs.reached, rest.1.reached);
           once = subst (λ l. IsPermutation ((s.packets.items ++ packets_in shares) ++ l) (ran log ++ ran_by_all logs)) (sym now) (IsPermutation-trans _ _ _ order both);
           left = subst (λ l. IsPermutation l (f.later.items ++ flat_map (λ f. f.later.items) fs)) (sym after) (IsPermutation-append _ _ _ _ z.0.runs.left rest.1.left);
+          order = All-append (λ p. IsSameOrLater b p.bucket) (pushed log) (pushed_by_all logs) z.0.runs.order rest.1.order;
         },
       )
 
-  pub homes-stay : (h : H) (shares : List (Share T W)) (fs : List (Finished T W)) → AllZip (Finishes home takes b steps) shares fs → All (λ w. home w ≡ h) (map (λ s. s.worker) shares)
+  pub homes-stay : (h : H) (shares : List (Share T W)) (fs : List (Finished T W)) → AllZip (Finishes home takes awaits b steps) shares fs → All (λ w. home w ≡ h) (map (λ s. s.worker) shares)
       → All (λ w. home w ≡ h) (map (λ f. f.worker) fs)
   homes-stay h [] [] z own = All-nil _
   homes-stay h [] (f ∷ fs) z own = absurd z
@@ -70,7 +75,7 @@ module _ {T W H : Type 0} (home : W → H) (takes : H → Packet T → Type 0) (
   homes-stay h (s ∷ shares) (f ∷ fs) z own = All-cons (λ w. home w ≡ h) f.worker _ (z.0.same_home ∙ All-head (λ w. home w ≡ h) s.worker (map (λ s. s.worker) shares) own)
       (homes-stay h shares fs z.1 (All-tail (λ w. home w ≡ h) s.worker (map (λ s. s.worker) shares) own))
 
-  pub later-taken : (h : H) (shares : List (Share T W)) (fs : List (Finished T W)) → AllZip (Finishes home takes b steps) shares fs → All (λ w. home w ≡ h) (map (λ s. s.worker) shares)
+  pub later-taken : (h : H) (shares : List (Share T W)) (fs : List (Finished T W)) → AllZip (Finishes home takes awaits b steps) shares fs → All (λ w. home w ≡ h) (map (λ s. s.worker) shares)
       → All (takes h) (flat_map (λ f. f.later.items) fs)
   later-taken h [] [] z own = All-nil _
   later-taken h [] (f ∷ fs) z own = absurd z
@@ -78,7 +83,7 @@ module _ {T W H : Type 0} (home : W → H) (takes : H → Packet T → Type 0) (
   later-taken h (s ∷ shares) (f ∷ fs) z own = All-append (takes h) f.later.items _ (subst (λ k. All (takes k) f.later.items) (All-head (λ w. home w ≡ h) s.worker (map (λ s. s.worker) shares) own) z.0.taken)
       (later-taken h shares fs z.1 (All-tail (λ w. home w ≡ h) s.worker (map (λ s. s.worker) shares) own))
 
-  pub later-sized : (shares : List (Share T W)) (fs : List (Finished T W)) → AllZip (Finishes home takes b steps) shares fs → All HasItems (flat_map (λ f. f.later.items) fs)
+  pub later-sized : (shares : List (Share T W)) (fs : List (Finished T W)) → AllZip (Finishes home takes awaits b steps) shares fs → All HasItems (flat_map (λ f. f.later.items) fs)
   later-sized [] [] z = All-nil _
   later-sized [] (f ∷ fs) z = absurd z
   later-sized (s ∷ shares) [] z = absurd z

@@ -3,12 +3,12 @@ use Rattle.std.proofs.Common.{◌≡◌, Bool, true, false, cond, List, [], ◌�
 use Rattle.std.specs.List.{filter}
 use Rattle.std.proofs.lemmas.List.{append-nil, map-append}
 use Rattle.std.proofs.lemmas.Grind.{flat_map-append}
-use Rattle.std.proofs.lemmas.List.Elements.{filter-append, filter_passes}
+use Rattle.std.proofs.lemmas.List.Elements.{All-append, All-nil, filter-append, filter_passes}
 use Rattle.std.proofs.lemmas.List.Sorted.{IsPermutation-refl, IsPermutation-trans, IsPermutation-append_right, IsPermutation-append_left}
 use Rattle.std.specs.List.Sorted.{IsPermutation}
 use Rattle.work_packets.specs.declared.packet.Bucket.{Bucket}
 use Rattle.work_packets.specs.declared.packet.Packet.{Packet}
-use Rattle.work_packets.specs.Buckets.{is_same}
+use Rattle.work_packets.specs.Buckets.{is_same, IsSameOrLater}
 use Rattle.work_packets.specs.Packets.{packets_of, packets_after}
 use Rattle.work_packets.specs.Steps.{Step, Reaches, AllReach, ran, pushed, RunsShare}
 use Rattle.work_packets.proofs.BucketOrder.{one-bucket}
@@ -41,12 +41,13 @@ module _ {W T : Type 0} where
     reached = refl;
     once = subst (λ l. IsPermutation l first) (sym (append-nil first)) (IsPermutation-refl first);
     left = IsPermutation-refl [];
+    order = All-nil _;
   }
 
   pub share-goes-on : (steps : W → Packet T → List (Packet T) → W → Type 0) (b : Bucket) (w : W) (first : List (Packet T)) (log : List (Step W T)) (u : W) (s : Step W T) (todo todo' later later' : List (Packet T))
-      → RunsShare steps b w first log u (todo ++ s.packet ∷ []) later → steps u s.packet s.pushed s.worker → IsPermutation (todo ++ packets_of b s.pushed) todo' → IsPermutation (later ++ packets_after b s.pushed) later'
+      → RunsShare steps b w first log u (todo ++ s.packet ∷ []) later → steps u s.packet s.pushed s.worker → IsPermutation (todo ++ packets_of b s.pushed) todo' → IsPermutation (later ++ packets_after b s.pushed) later' → All (λ p. IsSameOrLater b p.bucket) s.pushed
       → RunsShare steps b w first (log ++ s ∷ []) s.worker todo' later'
-  share-goes-on steps b w first log u s todo todo' later later' h step now after =
+  share-goes-on steps b w first log u s todo todo' later later' h step now after order =
       let of : packets_of b (pushed (log ++ s ∷ [])) ≡ packets_of b (pushed log) ++ packets_of b s.pushed = ap (packets_of b) (pushed-more log s) ∙ filter-append _ (pushed log) s.pushed in
       let rest : packets_after b (pushed (log ++ s ∷ [])) ≡ packets_after b (pushed log) ++ packets_after b s.pushed = ap (packets_after b) (pushed-more log s) ∙ filter-append _ (pushed log) s.pushed in
       record {
@@ -55,6 +56,7 @@ module _ {W T : Type 0} where
             (subst (λ l. IsPermutation (first ++ (packets_of b (pushed log) ++ packets_of b s.pushed)) (l ++ todo')) (sym (ran-more log s))
             (goes-on first _ _ (ran log) todo (s.packet ∷ []) todo' h.once now));
         left = subst (λ l. IsPermutation l later') (sym rest) (IsPermutation-trans _ _ _ (IsPermutation-append_left (packets_after b s.pushed) _ _ h.left) after);
+        order = subst (All (λ p. IsSameOrLater b p.bucket)) (sym (pushed-more log s)) (All-append (λ p. IsSameOrLater b p.bucket) (pushed log) s.pushed h.order order);
       }
 
 module _ {T : Type 0} where

@@ -1,4 +1,5 @@
 pub mod Buckets
 pub mod Packets
 pub mod Steps
+pub mod Awaiting
 pub mod Shares

@@ -1,9 +1,10 @@
 -- Steps of workers, and what they say of a bucket that was run.
-use Rattle.std.specs.Prelude.{◌≡◌, List, [], ◌∷◌, ◌++◌, map}
+use Rattle.std.specs.Prelude.{◌≡◌, List, [], ◌∷◌, ◌++◌, All, map}
 use Rattle.std.specs.List.{flat_map}
 use Rattle.std.specs.List.Sorted.{IsPermutation}
 use Rattle.work_packets.specs.declared.packet.Bucket.{Bucket}
 use Rattle.work_packets.specs.declared.packet.Packet.{Packet}
+use Rattle.work_packets.specs.Buckets.{IsSameOrLater}
 use Rattle.work_packets.specs.Packets.{packets_of, packets_after}
 
 -- a worker ran a packet, pushed packets in this order, and became another
@@ -39,15 +40,17 @@ module _ {W T : Type 0} where
   pushed_by_all logs = flat_map (λ log. pushed log) logs
 
   -- By these steps the workers ran a bucket: each became the one at its place; the packets that all of them ran are the
-  -- first ones and those that they pushed for this bucket, each once; and those that they pushed for later buckets are
-  -- left, each once.
+  -- first ones and those that they pushed for this bucket, each once; those that they pushed for later buckets are left,
+  -- each once; and they pushed for no other bucket.
   pub record RunsBucket (steps : W → Packet T → List (Packet T) → W → Type 0) (b : Bucket) (before : List W) (first : List (Packet T)) (logs : List (List (Step W T))) (after : List W) (later : List (Packet T)) : Type 0 where
     pub reached : AllReach steps before logs after
     pub once : IsPermutation (first ++ packets_of b (pushed_by_all logs)) (ran_by_all logs)
     pub left : IsPermutation (packets_after b (pushed_by_all logs)) later
+    pub order : All (λ p. IsSameOrLater b p.bucket) (pushed_by_all logs)
 
   -- The same of one worker that has yet to run the packets `todo`.
   pub record RunsShare (steps : W → Packet T → List (Packet T) → W → Type 0) (b : Bucket) (before : W) (first : List (Packet T)) (log : List (Step W T)) (after : W) (todo later : List (Packet T)) : Type 0 where
     pub reached : Reaches steps before log after
     pub once : IsPermutation (first ++ packets_of b (pushed log)) (ran log ++ todo)
     pub left : IsPermutation (packets_after b (pushed log)) later
+    pub order : All (λ p. IsSameOrLater b p.bucket) (pushed log)

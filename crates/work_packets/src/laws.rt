@@ -1,9 +1,9 @@
-//! Laws of buckets and of their runs.
+//! Laws of buckets, of packets and of runs.
 
-ghost use Rattle.std.specs.Prelude.{◌≡◌, ◌+◌, List, [], ◌∷◌, length, map};
-ghost use Rattle.std.specs.List.{filter};
+ghost use Rattle.std.specs.Prelude.{◌≡◌, ℕ, ◌+◌, ◌≤◌, ◌↔◌, List, [], ◌∷◌, length, map};
+ghost use Rattle.std.specs.List.{filter, sum_by};
 ghost use Rattle.work_packets.specs.Buckets.{is_before, is_same};
-ghost use Rattle.work_packets.specs.Packets.{packets_of, packets_after};
+ghost use Rattle.work_packets.specs.Packets.{HasItems, packets_of, packets_after};
 ghost use Rattle.work_packets.specs.Steps.{Step, RunsBucket, ran_by_all, pushed_by_all};
 ghost use Rattle.work_packets.specs.declared.packet.Bucket.{Bucket};
 ghost use Rattle.work_packets.specs.declared.packet.Bucket.TheVariants.{Prepare, Roots, Closure, Release};
@@ -22,7 +22,14 @@ pub fn buckets_have_an_order()
         ≡ (Prepare ∷ []) ∷ (Roots ∷ []) ∷ (Closure ∷ []) ∷ (Release ∷ []) ∷ [] }
 {}
 
-/// A run of a bucket loses no packet and no worker.
+/// A packet has 1 to 64 items.
+pub fn packets_are_small<T>()
+    ensures { (p : Packet T) → HasItems p
+        ↔ (1 ≤ length p.items.items) × (length p.items.items ≤ 64) }
+{}
+
+/// A run of a bucket loses no packet and no worker: every packet that was there or was pushed is
+/// run or left.
 pub fn runs_lose_nothing<T, W: PacketWorker<T>>()
     ensures workers { (b : Bucket) (ws vs : List W) (first later : List (Packet T))
         (logs : List (List (Step W T))) → RunsBucket W.steps b ws first logs vs later
@@ -33,4 +40,23 @@ pub fn runs_lose_nothing<T, W: PacketWorker<T>>()
     ensures left { (b : Bucket) (ws vs : List W) (first later : List (Packet T))
         (logs : List (List (Step W T))) → RunsBucket W.steps b ws first logs vs later
         → length later ≡ length (packets_after b (pushed_by_all logs)) }
+    ensures all { (b : Bucket) (ws vs : List W) (first later : List (Packet T))
+        (logs : List (List (Step W T))) → RunsBucket W.steps b ws first logs vs later
+        → length (ran_by_all logs) + length later
+        ≡ length first + length (pushed_by_all logs) }
+{}
+
+/// Each worker is the one at its place after all of its steps: what no step changes stays, place by
+/// place, and what rises by 1 in each step rises by the number of packets that were run.
+pub fn workers_are_reached<T, W: PacketWorker<T>>()
+    ensures stays { (f : W → ℕ) → ((w v : W) (p : Packet T) (q : List (Packet T))
+        → W.steps w p q v → f v ≡ f w)
+        → (b : Bucket) (ws vs : List W) (first later : List (Packet T))
+        (logs : List (List (Step W T))) → RunsBucket W.steps b ws first logs vs later
+        → map f vs ≡ map f ws }
+    ensures rises { (f : W → ℕ) → ((w v : W) (p : Packet T) (q : List (Packet T))
+        → W.steps w p q v → f v ≡ f w + 1)
+        → (b : Bucket) (ws vs : List W) (first later : List (Packet T))
+        (logs : List (List (Step W T))) → RunsBucket W.steps b ws first logs vs later
+        → sum_by f vs ≡ sum_by f ws + length (ran_by_all logs) }
 {}

@@ -10,7 +10,7 @@ mod share;
 mod worker;
 
 pub use gate::{Gate, OpenGate, Point};
-pub use laws::{buckets_have_an_order, runs_lose_nothing};
+pub use laws::{buckets_have_an_order, packets_are_small, runs_lose_nothing, workers_are_reached};
 pub use packet::{Bucket, MAX_ITEMS, Packet};
 pub use plain_split::run_plain_split;
 pub use share::{Share, deal};

@@ -1,10 +1,11 @@
 //! The plain split of a bucket: its first packets are dealt to the workers, and each worker runs
 //! its own and all that it pushes for this bucket.
 
-ghost use Rattle.std.specs.Prelude.{◌≡◌, ◌+◌, ◌<◌, ◌≤◌, List, [], ◌++◌, length, All, IfOk, map, Ok};
+ghost use Rattle.std.specs.Prelude.{◌≡◌, ◌+◌, ◌<◌, ◌≤◌, List, [], ◌∷◌, ◌++◌, length, All, IfOk, map, Ok};
 ghost use Rattle.std.specs.List.{flat_map};
 ghost use Rattle.std.specs.List.Sorted.{IsPermutation};
 ghost use Rattle.std.specs.Thread.{IsSync, IsSend};
+ghost use Rattle.work_packets.specs.Awaiting.{AwaitsAll, MayAwait};
 ghost use Rattle.work_packets.specs.Buckets.{IsSameOrLater};
 ghost use Rattle.work_packets.specs.Packets.{HasItems, HaveHome, packets_of, packets_after};
 ghost use Rattle.work_packets.specs.Steps.{Step, RunsBucket};
@@ -59,8 +60,8 @@ fn run_share<T: Drop, W: PacketWorker<T>, G: Gate>(
     gate: &G,
     share: Share<T, W>,
 ) -> Result<Finished<T, W>, AllocError>
-    requires { IsRunnable W.home W.takes b share }
-    ensures { IfOk result (λ f. Finishes W.home W.takes b W.steps share f) }
+    requires { IsRunnable W.home W.takes W.awaits b share }
+    ensures { IfOk result (λ f. Finishes W.home W.takes W.awaits b W.steps share f) }
 {
     let Share {
         number,
@@ -115,6 +116,7 @@ pub fn run_plain_split<T: Send + Drop, W: PacketWorker<T>, G: Gate, R: Threads +
     requires items { All HasItems first.items }
     requires takes { (h : W.Home) × HaveHome W.home h workers.items
         × All (W.takes h) first.items }
+    requires awaits { MayAwait W.awaits workers.items first.items }
     ensures home { IfOk result (λ r. (h : W.Home) → HaveHome W.home h workers.items
         → HaveHome W.home h r.0.items) }
     ensures items { IfOk result (λ r. All HasItems r.1.items) }
@@ -122,6 +124,9 @@ pub fn run_plain_split<T: Send + Drop, W: PacketWorker<T>, G: Gate, R: Threads +
         → All (W.takes h) r.1.items) }
     ensures once { IfOk result (λ r. (logs : List (List (Step W T)))
         × RunsBucket W.steps b workers.items first.items logs r.0.items r.1.items) }
+    ensures awaits { IfOk result (λ r. (start : W.Start) (w : W) → workers.items ≡ w ∷ []
+        → AwaitsAll W.awaits start w first.items
+        → (v : W) × (r.0.items ≡ v ∷ []) × AwaitsAll W.awaits start v r.1.items) }
 {
     let shares = deal(workers, first)?;
     let results = thread::map_vec(
@@ -129,8 +134,9 @@ pub fn run_plain_split<T: Send + Drop, W: PacketWorker<T>, G: Gate, R: Threads +
         shares,
         &|share: Share<T, W>| -> Result<Finished<T, W>, AllocError>
             requires { IsSync G.row × IsSend W.row × IsSend T.row
-                × IsRunnable W.home W.takes b share }
-            ensures { IfOk result (λ f. Finishes W.home W.takes b W.steps share f) }
+                × IsRunnable W.home W.takes W.awaits b share }
+            ensures { IfOk result
+                (λ f. Finishes W.home W.takes W.awaits b W.steps share f) }
         { run_share(b, gate, share) },
     )?;
     gather(results)

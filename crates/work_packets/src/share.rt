@@ -2,7 +2,7 @@
 
 ghost use Rattle.std.specs.Prelude.{◌≡◌, ◌⊎◌, ◌+◌, ◌<◌, ◌∷◌, [], length, get_or, set, map, IfOk};
 ghost use Rattle.std.specs.List.Sorted.{IsPermutation};
-ghost use Rattle.work_packets.specs.Shares.{packets_in, sizes, AreEven};
+ghost use Rattle.work_packets.specs.Shares.{packets_in, sizes, AreCounted, AreEven};
 
 use crate::packet::Packet;
 use std::alloc::AllocError;
@@ -10,7 +10,7 @@ use std::alloc::AllocError;
 /// A worker with the packets that it is to run first.
 #[derive(Debug, Drop)]
 pub struct Share<T, W> {
-    /// The worker's number, counted from 1.
+    /// The worker's number, counted from 1. After 2^32 - 1 it rises no more.
     pub number: u32,
     pub worker: W,
     pub packets: Vec<Packet<T>>,
@@ -22,6 +22,8 @@ fn empty_shares<T: Drop, W: Drop>(workers: Vec<W>) -> Result<Vec<Share<T, W>>, A
     ensures none { IfOk result (λ shares. packets_in shares.items ≡ []) }
     ensures sizes { IfOk result
         (λ shares. sizes shares.items ≡ map (λ w. 0) workers.items) }
+    ensures numbers { IfOk result
+        (λ shares. AreCounted 1 (map (λ s. s.number) shares.items)) }
 {
     let alloc = *workers.allocator();
     let mut shares = Vec::new(alloc);
@@ -47,6 +49,8 @@ fn give<T: Drop, W: Drop>(
     requires { i < length shares.old.items }
     ensures workers { IfOk result
         (λ _. map (λ s. s.worker) shares.new.items ≡ map (λ s. s.worker) shares.old.items) }
+    ensures numbers { IfOk result
+        (λ _. map (λ s. s.number) shares.new.items ≡ map (λ s. s.number) shares.old.items) }
     ensures packets { IfOk result
         (λ _. IsPermutation (p ∷ packets_in shares.old.items) (packets_in shares.new.items)) }
     ensures sizes { IfOk result (λ _. sizes shares.new.items
@@ -75,6 +79,8 @@ pub fn deal<T: Drop, W: Drop>(
     ensures workers { IfOk result (λ shares. map (λ s. s.worker) shares.items ≡ workers.items) }
     ensures packets { IfOk result (λ shares. IsPermutation first.items (packets_in shares.items)) }
     ensures even { IfOk result (λ shares. AreEven shares.items) }
+    ensures numbers { IfOk result
+        (λ shares. AreCounted 1 (map (λ s. s.number) shares.items)) }
 {
     let mut shares = empty_shares(workers)?;
     let mut i = 0;

@@ -1,11 +1,14 @@
-use Rattle.std.proofs.Common.{◌≡◌, List, [], ◌∷◌, ◌++◌, All, ◌∙◌, sym, refl, subst, Some}
+use Rattle.std.proofs.Common.{rules, ◌≡◌, List, [], ◌∷◌, ◌++◌, All, ◌∙◌, sym, refl, subst, Some}
+use Rattle.std.proofs.lemmas.List.{append-nil}
 use Rattle.std.proofs.lemmas.List.Elements.{All-nil, All-pop, All-append, All-filter}
 use Rattle.std.proofs.lemmas.List.Sorted.{All-permutation}
 use Rattle.work_packets.specs.declared.packet.Packet.{Packet}
+use Rattle.work_packets.specs.Awaiting.{AwaitsAll}
 use Rattle.work_packets.specs.Buckets.{IsSameOrLater}
 use Rattle.work_packets.specs.Packets.{HasItems, packets_of, packets_after}
 use Rattle.work_packets.specs.Steps.{Step, RunsShare}
 use Rattle.work_packets.proofs.Logs.{share-begins, share-goes-on, in-bucket}
+use Rattle.work_packets.proofs.Waiting.{next-first, sorted-out}
 use Rattle.work_packets.proofs.plain_split.run_share.Goals as goal
 
 pub loop-p-init : goal.loop-p-init
@@ -20,6 +23,8 @@ loop-p-init g c =
       later_taken = subst (All (g.W.PacketWorker.takes (g.W.PacketWorker.home c.args.share.worker))) none (All-nil _);
       none_pushed = c.new-pushed.ensures.items;
       log = [];
+      awaited = λ start h. subst (λ l. AwaitsAll g.W.PacketWorker.awaits start c.args.share.worker (c.args.share.packets.items ++ l)) none
+          (subst (AwaitsAll g.W.PacketWorker.awaits start c.args.share.worker) (sym (append-nil c.args.share.packets.items)) h);
       runs = subst (λ l. RunsShare g.W.PacketWorker.steps c.args.b c.args.share.worker c.args.share.packets.items [] c.args.share.worker c.args.share.packets.items l) none
           (share-begins g.W.PacketWorker.steps c.args.b c.args.share.worker c.args.share.packets.items);
     }
@@ -31,6 +36,15 @@ run-requires-clause-takes g c =
 
 pub run-requires-clause-items : goal.run-requires-clause-items
 run-requires-clause-items g c = (All-pop HasItems _ _ (Some c.in-Some.p) c.in-Some.ensures.items c.loop-p.invariant.sized).1
+
+pub run-requires-clause-awaited : goal.run-requires-clause-awaited
+run-requires-clause-awaited g c =
+    let awaits = g.W.PacketWorker.awaits in let start = c.requires.awaited.0 in (
+      start,
+      c.pop.new.self.items ++ c.loop-p.later.items,
+      next-first awaits start c.loop-p.worker c.pop.new.self.items c.loop-p.later.items c.in-Some.p
+          (subst (λ l. AwaitsAll awaits start c.loop-p.worker (l ++ c.loop-p.later.items)) c.in-Some.ensures.items (c.loop-p.invariant.awaited start c.requires.awaited.1)),
+    )
 
 pub sort_out-requires : goal.sort_out-requires
 sort_out-requires g c =
@@ -49,6 +63,8 @@ loop-p-preserved g c =
     let todo : List (Packet T) = c.pop.new.self.items in let todo' : List (Packet T) = c.sort_out.new.todo.items in
     let later : List (Packet T) = c.loop-p.later.items in let later' : List (Packet T) = c.sort_out.new.later.items in
     let b = c.args.b in
+    let awaits = g.W.PacketWorker.awaits in
+    let order : All (λ q. IsSameOrLater b q.bucket) pushed = subst (λ k. All (λ q. IsSameOrLater k q.bucket) pushed) (All-pop in_b c.loop-p.todo.items todo (Some c.in-Some.p) c.in-Some.ensures.items c.loop-p.invariant.in_bucket).1 c.in_ok-run.ensures.order in
     record {
       same_home = c.in_ok-run.ensures.home ∙ c.loop-p.invariant.same_home;
       in_bucket = All-permutation in_b (todo ++ packets_of b pushed) todo' now (All-append in_b todo (packets_of b pushed) (All-pop in_b c.loop-p.todo.items todo (Some c.in-Some.p) c.in-Some.ensures.items c.loop-p.invariant.in_bucket).0 (in-bucket c.args.b pushed));
@@ -60,5 +76,21 @@ loop-p-preserved g c =
       log = c.loop-p.invariant.log ++ s ∷ [];
       runs = share-goes-on g.W.PacketWorker.steps c.args.b c.args.share.worker c.args.share.packets.items c.loop-p.invariant.log c.loop-p.worker s todo todo' later later'
           (subst (λ l. RunsShare g.W.PacketWorker.steps c.args.b c.args.share.worker c.args.share.packets.items c.loop-p.invariant.log c.loop-p.worker l c.loop-p.later.items) c.in-Some.ensures.items c.loop-p.invariant.runs)
-          c.in_ok-run.ensures.step now after;
+          c.in_ok-run.ensures.step now after order;
+      awaited = λ start h. sorted-out awaits b start c.run.new.self todo later pushed todo' later' order now after
+          (c.in_ok-run.ensures.awaits start (todo ++ later) (next-first awaits start c.loop-p.worker todo later c.in-Some.p
+          (subst (λ l. AwaitsAll awaits start c.loop-p.worker (l ++ later)) c.in-Some.ensures.items (c.loop-p.invariant.awaited start h))));
+    }
+
+pub returns : goal.returns
+returns g c =
+    let i = c.loop-p.invariant in let steps = g.W.PacketWorker.steps in let awaits = g.W.PacketWorker.awaits in
+    let none : c.loop-p.todo.items ≡ [] = search rules in
+    record {
+      same_home = i.same_home;
+      sized = i.later_sized;
+      taken = i.later_taken;
+      log = i.log;
+      runs = subst (λ l. RunsShare steps c.args.b c.args.share.worker c.args.share.packets.items i.log c.loop-p.worker l c.loop-p.later.items) none i.runs;
+      awaits_later = λ start h. subst (λ l. AwaitsAll awaits start c.loop-p.worker (l ++ c.loop-p.later.items)) none (i.awaited start h);
     }

@@ -1,4 +1,5 @@
-use Rattle.std.proofs.Common.{◌≡◌, ◌+◌, List, [], length, All}
+use Rattle.std.proofs.Common.{◌≡◌, ◌+◌, List, [], ◌++◌, length, All}
+use Rattle.work_packets.specs.Awaiting.{AwaitsAll}
 use Rattle.work_packets.specs.Packets.{HasItems}
 use Rattle.work_packets.specs.Steps.{Step, RunsShare}
 use Rattle.work_packets.proofs.plain_split.run_share.Given as goal
@@ -13,6 +14,7 @@ invariant-loop-p g l = record {
   later_taken : All (g.W.PacketWorker.takes (g.W.PacketWorker.home l.initial.worker)) l.later.items;
   none_pushed : l.pushed.items ≡ [];
   log : List (Step g.row.W.Denot g.row.T.Denot);
+  awaited : (start : g.row.W-Start.Denot) → AwaitsAll g.W.PacketWorker.awaits start l.initial.worker l.initial.todo.items → AwaitsAll g.W.PacketWorker.awaits start l.worker (l.todo.items ++ l.later.items);
   runs : RunsShare g.W.PacketWorker.steps l.b l.initial.worker l.initial.todo.items log l.worker l.todo.items l.later.items;
 }
 

@@ -2,7 +2,7 @@ use Rattle.std.proofs.Common.{rules, ◌≡◌, ◌⊎◌, ◌<◌, ◌+◌, ◌
 use Rattle.std.specs.List.Sorted.{IsPermutation}
 use Rattle.std.proofs.lemmas.List.{length-map}
 use Rattle.std.proofs.lemmas.List.Sorted.{IsPermutation-refl, IsPermutation-push_more}
-use Rattle.work_packets.specs.Shares.{packets_in, sizes}
+use Rattle.work_packets.specs.Shares.{packets_in, sizes, AreCounted}
 use Rattle.work_packets.proofs.Dealing.{AreDealt, none-dealt, next-dealt, then-even}
 use Rattle.work_packets.proofs.share.deal.Goals as goal
 
@@ -11,6 +11,7 @@ loop-p-init g c =
     let e : length c.in_ok-shares.shares.items ≡ length c.args.workers.items = sym (length-map c.in_ok-shares.shares.items (λ s. s.worker)) ∙ ap length c.in_ok-shares.ensures.workers in
     record {
       workers = refl;
+      numbers = refl;
       inside = omega arith;
       packets = subst (IsPermutation []) (sym c.in_ok-shares.ensures.none) (IsPermutation-refl []);
       dealt = (0, subst (AreDealt 0 0) (sym c.in_ok-shares.ensures.sizes) (none-dealt c.args.workers.items));
@@ -33,6 +34,7 @@ loop-p-preserved g c =
     (subst (λ n. (c.following-i.result ≡ c.loop-p.i + 1) ⊎ ((c.following-i.result ≡ 0) × (c.loop-p.i + 1 ≡ n))) counted c.following-i.ensures.next) in
     record {
       workers = c.in_ok-give.ensures.workers ∙ c.loop-p.invariant.workers;
+      numbers = c.in_ok-give.ensures.numbers ∙ c.loop-p.invariant.numbers;
       inside = omega arith;
       packets = IsPermutation-push_more c.loop-p.yielded (packets_in c.loop-p.shares.items) (packets_in c.give.new.shares.items) c.in-Some.p c.loop-p.invariant.packets c.in_ok-give.ensures.packets;
       dealt = (more.0, subst (AreDealt more.0 c.following-i.result) (sym one-more) more.1);
@@ -40,3 +42,6 @@ loop-p-preserved g c =
 
 pub returns-clause-even : goal.returns-clause-even
 returns-clause-even g c = let h = c.loop-p.invariant.dealt in (h.0, then-even h.0 c.loop-p.i _ h.1)
+
+pub returns-clause-numbers : goal.returns-clause-numbers
+returns-clause-numbers g c = subst (AreCounted 1) (sym c.loop-p.invariant.numbers) c.in_ok-shares.ensures.numbers
