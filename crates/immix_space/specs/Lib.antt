@@ -1,0 +1,2 @@
+pub mod LineSweeps
+pub mod Candidates

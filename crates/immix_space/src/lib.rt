@@ -1,0 +1,15 @@
+//! The Immix space: blocks of lines, whose free lines are filled again.
+#![tactic(auto)]
+
+mod evacuation;
+mod reserve;
+mod sweeps;
+
+pub use evacuation::candidates;
+pub use reserve::headroom;
+pub use sweeps::{relist, sweep_block};
+
+#[cfg(test)]
+mod candidate_tests;
+#[cfg(test)]
+mod tests;

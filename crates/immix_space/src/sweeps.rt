@@ -1,0 +1,50 @@
+//! The sweep of an Immix block, after which a line is free exactly where no object touches it.
+
+ghost use Rattle.std.specs.Prelude.{◌≡◌, ◌<◌, length};
+ghost use Rattle.heap_layout.specs.Zones.{row_words};
+ghost use Rattle.heap_layout.specs.declared.block.Kind.TheVariants as kinds;
+ghost use Rattle.object_model.specs.Objects.{state_over, HasKind};
+ghost use Rattle.object_model.specs.Lawful.{IsReadableBlock};
+ghost use Rattle.object_model.specs.Releasing.{IsReleasable};
+ghost use Rattle.block_sweeps.specs.Sweeping.{MarksTouched, object_count};
+ghost use Rattle.immix_space.specs.LineSweeps.{SweepsLines};
+
+use block_sweeps::mark_touched_lines;
+use heap_layout::{BlockWord, Kind, Layout};
+use side_meta::Words;
+
+/// Sweeps an Immix block: objects in it that do not live are held no more, and its line bits become
+/// those of the lines that the others touch. The block becomes Free if none is left. Answers how
+/// many are left.
+pub fn sweep_block<W: Words>(words: &mut W, layout: &Layout, block: u32, base: u64) -> u32
+    requires extent { length (W.words words.old) ≡ row_words layout.now.blocks }
+    requires block { block < layout.now.blocks }
+    requires releasable { IsReleasable (state_over (W.words words.old) layout.now 0 0) block }
+    requires kind { HasKind (state_over (W.words words.old) layout.now 0 0) block kinds.Immix }
+    ensures swept { SweepsLines base (state_over (W.words words.old) layout.now 0 0)
+        (state_over (W.words words.new) layout.now 0 0) block }
+    ensures count { result
+        ≡ object_count (state_over (W.words words.new) layout.now 0 0) block }
+{
+    let living = BlockWord {
+        kind: Kind::Immix,
+        class: 0,
+        owner: 0,
+    };
+    let count = block_sweeps::sweep_block(words, layout, block, base, &living);
+    if count == 0 {
+        return 0;
+    }
+    relist(words, layout, block);
+    count
+}
+
+/// Makes the line bits of an Immix block those of the lines that objects in it touch.
+pub fn relist<W: Words>(words: &mut W, layout: &Layout, block: u32)
+    requires block { IsReadableBlock (state_over (W.words words.old) layout.now 0 0) block }
+    requires kind { HasKind (state_over (W.words words.old) layout.now 0 0) block kinds.Immix }
+    ensures { MarksTouched (state_over (W.words words.old) layout.now 0 0)
+        (state_over (W.words words.new) layout.now 0 0) block }
+{
+    mark_touched_lines(words, layout, block);
+}

@@ -1,0 +1,8 @@
+pub mod BitSearch
+pub mod RunSearch
+pub mod HoleRuns
+pub mod CountedLines
+pub mod HoleStarts
+pub mod MarkedLines
+pub mod SetBits
+pub mod HoleObjects

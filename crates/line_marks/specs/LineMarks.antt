@@ -1,0 +1,33 @@
+-- Marks of the lines that an object touches.
+use Rattle.std.specs.Prelude.{◌≡◌, ℕ, ◌+◌, ◌*◌, ◌<◌, ◌^◌, ◌⊎◌, IsTrue, List, length, slice_index}
+use Rattle.heap_layout.specs.Zones.{LineWords, heap_of, block_at, bit_of}
+use Rattle.heap_layout.specs.declared.layout.TheConstants.{LINE_WORDS}
+use Rattle.object_model.specs.Objects.{HeapState}
+use Rattle.block_sweeps.specs.Sweeping.{ChangesOnly, IsLineWord}
+use Rattle.block_sweeps.specs.Touches.{IsFromTo}
+use Rattle.block_sweeps.specs.WordSweeps.{has_bit}
+
+-- an object of this size at address a has a word in line n of the heap
+pub record TouchesLine (b a size n : ℕ) : Type 0 where
+  pub from : heap_of b + LINE_WORDS * n < a + size
+  pub below : a < heap_of b + LINE_WORDS * (n + 1)
+
+-- line n of the heap is marked
+abbrev pub IsMarked : HeapState → ℕ → Type 0
+IsMarked s n = IsTrue (bit_of s.blocks LineWords s.words n)
+
+-- The lines that an object of this size at address a touches were marked, and nothing else changed.
+pub record MarksLines (s s' : HeapState) (a size : ℕ) : Type 0 where
+  pub marked : (n : ℕ) → TouchesLine s.blocks a size n → IsMarked s' n
+  pub kept : (n : ℕ) → IsMarked s n → IsMarked s' n
+  pub only : (n : ℕ) → IsMarked s' n → IsMarked s n ⊎ TouchesLine s.blocks a size n
+  pub rest : ChangesOnly (IsLineWord s.blocks (block_at s.blocks a)) s s'
+
+-- Bits `low` to `high` of the word at this index were set, and nothing else changed.
+pub record SetsRun (old new : List ℕ) (index low high : ℕ) : Type 0 where
+  pub extent : length new ≡ length old
+  pub added : (k : ℕ) → IsFromTo low high k → IsTrue (has_bit (slice_index new index) k)
+  pub kept : (k : ℕ) → IsTrue (has_bit (slice_index old index) k) → IsTrue (has_bit (slice_index new index) k)
+  pub only : (k : ℕ) → IsTrue (has_bit (slice_index new index) k) → IsTrue (has_bit (slice_index old index) k) ⊎ IsFromTo low high k
+  pub others : (i : ℕ) → (i ≡ index → ⊥) → slice_index new i ≡ slice_index old i
+  pub fit : ((i : ℕ) → slice_index old i < 2 ^ 64) → (i : ℕ) → slice_index new i < 2 ^ 64

@@ -1,0 +1,131 @@
+//! Holes of a block, and how many holes and marked lines it has.
+
+ghost use Rattle.std.specs.Prelude.{◌≡◌, ◌+◌, ◌*◌, ◌-◌, ◌<◌, ◌≤◌, ◌&&◌, ℕ, not, nat_eq, length, slice_index, MatchOption, IfSome};
+ghost use Rattle.heap_layout.specs.Zones.{first, row_words, LineWords};
+ghost use Rattle.heap_layout.specs.declared.block.Kind.TheVariants as kinds;
+ghost use Rattle.heap_layout.specs.declared.layout.TheConstants.{LINE_WORDS};
+ghost use Rattle.object_model.specs.Objects.{state_over, HasKind};
+ghost use Rattle.object_model.specs.Lawful.{LineBitsAreExact};
+ghost use Rattle.cell_space.specs.FreeCells.{MeetsNoObject};
+ghost use Rattle.sessions.specs.Collecting.{holes_in, marked_in};
+ghost use Rattle.block_sweeps.specs.WordSweeps.{has_bit};
+ghost use Rattle.line_marks.specs.LineHoles.{IsNextHole, HasNoHole};
+
+use crate::runs::first_run;
+use heap_layout::{LINE_WORDS, Layout};
+use side_meta::Words;
+
+/// A run of clear lines, or the part of it from a line on.
+#[derive(Clone, Copy, Debug, PartialEq, Eq)]
+pub struct Hole {
+    /// The address of its first word.
+    pub start: u32,
+    /// How many lines it has.
+    pub lines: u32,
+}
+
+/// How many holes and how many marked lines a block has.
+#[derive(Clone, Copy, Debug, PartialEq, Eq)]
+pub struct LineCounts {
+    /// How many holes it has.
+    pub holes: u32,
+    /// How many of its lines are marked.
+    pub marked: u32,
+}
+
+/// The four words with the line bits of a block.
+pub fn line_words<W: Words>(words: &W, layout: &Layout, block: u32) -> [u64; 4]
+    requires extent { length (W.words words.now) ≡ row_words layout.now.blocks }
+    requires block { block < layout.now.blocks }
+    ensures len { length result ≡ 4 }
+    ensures words { (n : ℕ) → n < 4 → slice_index result n
+        ≡ slice_index (W.words words.now) (first layout.now.blocks LineWords + 4 * block + n) }
+{
+    let at = layout.line_at(block);
+    [
+        words.get(at),
+        words.get(at + 1),
+        words.get(at + 2),
+        words.get(at + 3),
+    ]
+}
+
+/// The first hole of the block with at least `lines` lines, among its lines from `from` on. Of a
+/// hole that begins before `from` the part from `from` on counts. No held object has a word in it
+/// if the line bits are those of the lines that held objects touch.
+pub fn next_hole<W: Words>(
+    words: &W,
+    layout: &Layout,
+    block: u32,
+    from: u32,
+    lines: u32,
+) -> Option<Hole>
+    requires extent { length (W.words words.now) ≡ row_words layout.now.blocks }
+    requires block { block < layout.now.blocks }
+    requires some { 1 ≤ lines }
+    ensures hole { MatchOption result
+        (HasNoHole (state_over (W.words words.now) layout.now 0 0) block from lines)
+        (λ hole. IsNextHole (state_over (W.words words.now) layout.now 0 0)
+        block from lines hole) }
+    ensures apart { HasKind (state_over (W.words words.now) layout.now 0 0) block kinds.Immix
+        → LineBitsAreExact (state_over (W.words words.now) layout.now 0 0) block
+        → IfSome result (λ hole. MeetsNoObject (state_over (W.words words.now) layout.now 0 0)
+        hole.start (LINE_WORDS * hole.lines)) }
+{
+    let bits = line_words(words, layout, block);
+    let Some(run) = first_run(&bits, from, lines) else {
+        return None;
+    };
+    Some(Hole {
+        start: layout.address(block, LINE_WORDS * run.start),
+        lines: run.end - run.start,
+    })
+}
+
+/// How many holes and how many marked lines the block has, from one pass over its line words.
+pub fn line_counts<W: Words>(words: &W, layout: &Layout, block: u32) -> LineCounts
+    requires extent { length (W.words words.now) ≡ row_words layout.now.blocks }
+    requires block { block < layout.now.blocks }
+    ensures holes { result.holes ≡ holes_in (state_over (W.words words.now) layout.now 0 0) block }
+    ensures marked { result.marked
+        ≡ marked_in (state_over (W.words words.now) layout.now 0 0) block }
+{
+    let mut holes = 0;
+    let mut marked = 0;
+    let mut before = 1;
+    for index in 4 * block..4 * block + 4 {
+        let word = words.get(layout.line_at(0) + index);
+        holes += hole_starts(word, before).count_ones();
+        marked += word.count_ones();
+        before = word >> 63;
+    }
+    LineCounts { holes, marked }
+}
+
+/// The lines of a word with which holes begin. `before` is the bit of the line before it.
+fn hole_starts(word: u64, before: u64) -> u64
+    requires { before < 2 }
+    ensures lowest { has_bit result 0 ≡ (not (has_bit word 0) && nat_eq before 1) }
+    ensures others { (j : ℕ) → 0 < j → j < 64
+        → has_bit result j ≡ (not (has_bit word j) && has_bit word (j - 1)) }
+{
+    !word & (word << 1 | before)
+}
+
+/// How many holes the block has.
+pub fn count_holes<W: Words>(words: &W, layout: &Layout, block: u32) -> u32
+    requires extent { length (W.words words.now) ≡ row_words layout.now.blocks }
+    requires block { block < layout.now.blocks }
+    ensures { result ≡ holes_in (state_over (W.words words.now) layout.now 0 0) block }
+{
+    line_counts(words, layout, block).holes
+}
+
+/// How many lines of the block are marked.
+pub fn marked_lines<W: Words>(words: &W, layout: &Layout, block: u32) -> u32
+    requires extent { length (W.words words.now) ≡ row_words layout.now.blocks }
+    requires block { block < layout.now.blocks }
+    ensures { result ≡ marked_in (state_over (W.words words.now) layout.now 0 0) block }
+{
+    line_counts(words, layout, block).marked
+}
