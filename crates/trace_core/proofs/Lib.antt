@@ -12,7 +12,7 @@ mod Reasons
 mod Law
 mod Once
 mod Staying
-mod Clauses
+pub mod Clauses
 pub mod Finished
 pub mod Rows
 pub mod Releasable

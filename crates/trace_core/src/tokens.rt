@@ -30,7 +30,7 @@ pub struct Grey {
 }
 
 impl Grey {
-    ghost use Rattle.std.specs.Prelude.{◌≡◌};
+    ghost use Rattle.std.specs.Prelude.{◌≡◌, not, nat_eq};
 
     /// The address where the object is after the collection.
     pub fn at(&self) -> u32
@@ -44,6 +44,20 @@ impl Grey {
         ensures { result ≡ self.now.refs }
     {
         self.refs
+    }
+
+    /// The words of the object.
+    pub fn size(&self) -> u32
+        ensures { result ≡ self.now.size }
+    {
+        self.size
+    }
+
+    /// Whether the object leaves its place.
+    pub fn has_moved(&self) -> bool
+        ensures { result ≡ not (nat_eq self.now.target self.now.object) }
+    {
+        self.target != self.object
     }
 }
 
