@@ -1,5 +1,5 @@
 -- The heap after a finished trace whose blocks were all released.
-use Rattle.std.proofs.Common.{sym, ◌∙◌, subst, ℕ, ◌^◌, ◌<◌, ◌↔◌, arith, IsTrue, List, []}
+use Rattle.std.proofs.Common.{slice_index, sym, ◌∙◌, subst, ℕ, ◌^◌, ◌<◌, ◌↔◌, arith, IsTrue, List, []}
 use Rattle.std.proofs.Math.Logic.{∥∥₁_map}
 use Rattle.object_model.specs.declared.collect.Collect.{Collect}
 use Rattle.object_model.specs.Objects.{HeapState, word_at, is_unlogged, IsHeld}
@@ -87,7 +87,7 @@ module _ (p : Setup) (es : List Event) (trace : IsTrace p es) (finished : IsFini
       subst (λ q. IsHeld (with new.words q new.number new.base) a → IsTrue (is_unlogged (with new.words q new.number new.base) a)) (sym all.blocks) (fates.unlogged (all-released new all) a)
 
   -- the heap with its new numbers
-  lawful-words : (w : List ℕ) → IsAllReleased r c (base_after p) (heap_after p es) w (collection p) (base_after p) → ((i : ℕ) → word_at (heap_after p es) i < 2 ^ 64)
+  lawful-words : (w : List ℕ) → IsAllReleased r c (base_after p) (heap_after p es) w (collection p) (base_after p) → ((i : ℕ) → slice_index w i < 2 ^ 64)
       → IsLawful (with w (blocks p) (collection p) (base_after p))
   lawful-words w all fits =
       let before = trace.ready.lawful.order in
@@ -96,7 +96,7 @@ module _ (p : Setup) (es : List Event) (trace : IsTrace p es) (finished : IsFini
       record {
         but_lines = record {
           order = record {
-            row = record { least = before.row.least; most = before.row.most; extent = all.after.extent ∙ left.extent; words = all.after.fit fits; base = base-below p es trace finished };
+            row = record { least = before.row.least; most = before.row.most; extent = all.after.extent ∙ left.extent; words = fits; base = base-below p es trace finished };
             objects = together (with w (blocks p) (collection p) (base_after p))
                 (released_objects.objects all (may_move p) p.before [] [] (image (stage_of p es)) kept left.number left.apart before.objects.names) (released_blocks.places all);
           };
@@ -106,7 +106,11 @@ module _ (p : Setup) (es : List Event) (trace : IsTrace p es) (finished : IsFini
         lines = released_blocks.lines all;
       }
 
+  pub lawful-with : (new : HeapState) → ((i : ℕ) → word_at new i < 2 ^ 64)
+      → AreReleased r c (base_after p) (heap_after p es) new (blocks p) → IsLawful (heap_with new (collection p) (base_after p))
+  lawful-with new fits all = subst (λ q. IsLawful (with new.words q (collection p) (base_after p))) (sym all.blocks)
+      (lawful-words new.words (all-numbered new (collection p) (base_after p) all) fits)
+
   pub lawful : (new : HeapState) → ((i : ℕ) → word_at (heap_after p es) i < 2 ^ 64)
       → AreReleased r c (base_after p) (heap_after p es) new (blocks p) → IsLawful (heap_with new (collection p) (base_after p))
-  lawful new fits all = subst (λ q. IsLawful (with new.words q (collection p) (base_after p))) (sym all.blocks)
-      (lawful-words new.words (all-numbered new (collection p) (base_after p) all) fits)
+  lawful new fits all = lawful-with new (all.fit fits) all

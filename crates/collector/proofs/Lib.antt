@@ -19,4 +19,24 @@ mod CollectedObjects
 mod CollectedBlocks
 mod StillFree
 mod WholeCollections
+pub mod FinishedTraces
+mod Prepared
+mod WholeNotes
+mod ReleaseLoop
+mod ServedRoots
+mod ServedItems
+mod HandedOn
+mod RootLists
+mod FirstItems
+mod HeldCounts
+mod HeldWords
 pub mod Numbers
+mod ServesAppend
+mod RunningPackets
+pub mod ItemCounts
+pub mod AwaitedSteps
+pub mod TallySums
+pub mod TracedObjects
+pub mod LeftFalls
+pub mod NextTally
+mod TwoBuckets

@@ -1,10 +1,10 @@
 -- What is said of a block and its release does not depend on the heap's collection numbers.
-use Rattle.std.proofs.Common.{◌≡◌, sym, ◌∙◌, refl, ℕ, Bool, true, false, List}
+use Rattle.std.proofs.Common.{sym, ◌∙◌, refl, ℕ, Bool, true, false, List}
 use Rattle.std.proofs.Math.Logic.{∥∥₁_map}
 use Rattle.heap_layout.specs.declared.layout.Layout.{Layout}
 use Rattle.heap_layout.specs.declared.block.Kind.TheVariants as kinds
 use Rattle.object_model.specs.declared.collect.Collect.{Collect}
-use Rattle.object_model.specs.Objects.{HeapState, state_over, has_kind, IsHeld, size_at}
+use Rattle.object_model.specs.Objects.{HeapState, state_over, has_kind, IsHeld}
 use Rattle.object_model.specs.Lawful.{HasObject, Lies, LiesInCell, IsRunOfBlocks}
 use Rattle.object_model.specs.Releasing.{InSpan, IsReleasable}
 use Rattle.object_model.specs.Ages.{Lives}

@@ -28,6 +28,10 @@ use Rattle.collector.proofs.CollectedObjects.{kept, precise, aged, unlogged}
 use Rattle.collector.proofs.CollectedBlocks.{block-after}
 use Rattle.collector.proofs.StillFree.{in-place}
 
+-- a collection by this map
+abbrev pub CollectsBy : (ℕ → ℕ) → Rules → ℕ → Collect → HeapState → List ℕ → HeapState → List ℕ → Type 0
+CollectsBy F r w c old roots new after = (made : Collects r w c old roots new after) × (made.target ≡ F)
+
 abbrev with : List ℕ → ℕ → ℕ → ℕ → HeapState
 with w b number base = record { words = w; blocks = b; number = number; base = base }
 
@@ -60,7 +64,7 @@ set-listed None = refl
 set-listed (Some b) = refl
 
 -- the number and the base that the tracer is told are those of the setup
-record IsNumbered (s : HeapState) (run : TraceRun) (p : Setup) : Type 0 where
+pub record IsNumbered (s : HeapState) (run : TraceRun) (p : Setup) : Type 0 where
   pub blocks : blocks p ≡ s.blocks
   pub number : run.number ≡ collection p
   pub base : run.base ≡ base_after p
@@ -86,7 +90,7 @@ module _ (s : HeapState) (run : TraceRun) (w : ℕ) where
           base = may.base ∙ ap₂ (λ b n. if is_nursery run.collect then b else n) (ap (λ (x : HeapState). x.base) (sym same)) number;
         }
 
-    numbered : (p : Setup) → p ≡ setup_of s run w → IsNumbered s run p
+    pub numbered : (p : Setup) → p ≡ setup_of s run w → IsNumbered s run p
     numbered p is = subst (IsNumbered s run) (sym is) (by-heap (IsNumbered s run) (numbered-by (without_lines s) refl) (numbered-by s refl))
 
     -- what the release of all blocks left, by the setup's numbers
@@ -108,7 +112,7 @@ module _ (q : Plan) (c : Collect) (s : HeapState) (run : TraceRun) (w : ℕ) (la
   Makes p = (es : List Event) (roots : List ℕ) (new : HeapState) → IsTrace p es → IsFinished p (machine_after p es)
       → HaveAsked roots (machine_after p es).asked → NoOthersAsked roots (machine_after p es).asked → FillsBlocks p (machine_after p es)
       → ReleasesBelow r c run.base (heap_after p es) new s.blocks
-      → Collects r w c s roots (heap_with new run.number run.base) (map (image (stage_of p es)) roots)
+      → CollectsBy (image (stage_of p es)) r w c s roots (heap_with new run.number run.base) (map (image (stage_of p es)) roots)
 
   cleared : SameButLines (without_lines s) s.words
   cleared = let same = lines.same s lawful-before.but_lines in record {
@@ -146,14 +150,16 @@ module _ (q : Plan) (c : Collect) (s : HeapState) (run : TraceRun) (w : ℕ) (la
     }
 
     of-setup : Makes p
+    unfolding collects
     of-setup es roots new trace finished asked no-others fills below =
         let are : AreReleased r c (base_after p) (heap_after p es) new (blocks p) = releases s run w may p numbers es r c new trace finished below in
         let after : List ℕ = map (image (stage_of p es)) roots in
-        subst (λ n. Collects r w c s roots (with new.words new.blocks run.number n) after) (sym numbers.base)
-        (subst (λ n. Collects r w c s roots (with new.words new.blocks n (base_after p)) after) (sym numbers.number)
-        (subst (λ n. Collects r w c s roots (with new.words n (collection p) (base_after p)) after) (sym are.blocks)
-        (subst (λ old. Collects r w c old roots (with new.words (blocks p) (collection p) (base_after p)) after) same
-        (collects under trace finished (all-numbered p es trace finished r c new (collection p) (base_after p) are) roots asked no-others fills))))
+        let F : ℕ → ℕ = image (stage_of p es) in
+        subst (λ n. CollectsBy F r w c s roots (with new.words new.blocks run.number n) after) (sym numbers.base)
+        (subst (λ n. CollectsBy F r w c s roots (with new.words new.blocks n (base_after p)) after) (sym numbers.number)
+        (subst (λ n. CollectsBy F r w c s roots (with new.words n (collection p) (base_after p)) after) (sym are.blocks)
+        (subst (λ old. CollectsBy F r w c old roots (with new.words (blocks p) (collection p) (base_after p)) after) same
+        (collects under trace finished (all-numbered p es trace finished r c new (collection p) (base_after p) are) roots asked no-others fills, refl))))
 
   pub makes : (p : Setup) → p ≡ setup_of s run w → Makes p
   makes p is = subst Makes (sym is) (by-heap s run w Makes (of-setup (without_lines s) cleared refl) (of-setup s itself refl))

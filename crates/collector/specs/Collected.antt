@@ -14,12 +14,13 @@ use Rattle.trace_core.specs.Tracers.{IsFilled}
 use Rattle.trace_core.specs.declared.run.TraceRun.{TraceRun}
 
 -- The tracer is told of a collection of this kind under these rules: which blocks the rules evacuate, the kind of blocks
--- that workers fill. Only rules with young objects have nursery collections.
+-- that workers fill, and whether lines are marked. Only rules with young objects have nursery collections.
 pub record IsRunUnder (r : Rules) (c : Collect) (s : HeapState) (run : TraceRun) : Type 0 where
   pub collect : run.collect ≡ c
   pub young : c ≡ Nursery → IsTrue r.young
   pub from : run.from.items ≡ map (is_evacuated r c s) (range_with_len 0 s.blocks)
   pub copy : run.copy_kind ≡ r.copy
+  pub lines : run.lines ≡ r.lines
 
 -- Each block that was taken to copy into has more than 2,048 words of targets, but for at most as many as there are
 -- workers.

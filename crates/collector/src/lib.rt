@@ -1,9 +1,22 @@
-//! Whole collections: what the release of all blocks makes of the row after a trace.
+//! Whole collections: the trace of a heap by packets of work, and the release of its blocks.
 #![tactic(auto)]
 
+mod collecting;
+mod counting;
+mod item;
 mod laws;
+mod outcome;
+mod packet_trace;
+mod releasing;
+mod roots;
+mod tally;
+mod worker;
 
+pub use collecting::collect;
+pub use item::Item;
 pub use laws::{
     blocks_are_released_in_order, released_heaps_are_lawful, released_traces_are_collections,
     releases_ignore_numbers,
 };
+pub use outcome::{Collected, Note};
+pub use releasing::release;

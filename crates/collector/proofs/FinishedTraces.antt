@@ -1,0 +1,203 @@
+-- A trace of which nothing is left is finished, and the release of its blocks makes a collection.
+use Rattle.std.proofs.Common.{◌≡◌, refl, sym, ◌∙◌, ap, subst, ℕ, ◌+◌, ◌*◌, ◌-◌, ◌<◌, ◌⊎◌, inl, inr, arith, Bool, true, false, List, map, length, slice_index, true≢false}
+use Rattle.std.specs.Prelude.{◌&&◌, not, nat_eq, nat_lt}
+use Rattle.std.proofs.lemmas.Bool.{lt-ltb}
+use Rattle.std.proofs.lemmas.List.{ext_get_or, get_or-map, length-map}
+use Rattle.object_model.specs.Heaps.{heap_state}
+use Rattle.object_model.specs.Objects.{HeapState, state_of, size_at, is_unlogged}
+use Rattle.object_model.specs.Ages as ages
+use Rattle.object_model.specs.declared.shape.TheConstants.{MAX_MEDIUM_WORDS}
+use Rattle.sessions.specs.Plans.{Rules, Plan, rules_of}
+use Rattle.trace_core.specs.Setups.{Setup, held, refs, is_old, is_logged}
+use Rattle.trace_core.specs.Machine.{Event, Stage, Unclaimed, Copying, Scanning, Machine, target, address_or_nil}
+use Rattle.trace_core.specs.Traces.{IsFinished, machine_after, heap_after, stage_of}
+use Rattle.trace_core.specs.Outcomes.{image, HaveAsked, NoOthersAsked}
+use Rattle.trace_core.specs.Views.{View, IsIdle, one_if, hits, times, is_copied}
+use Rattle.trace_core.specs.Tracers.{Tracks, IsTraced, IsFilled, setup_of, is_nursery}
+use Rattle.trace_core.specs.declared.run.TraceRun.{TraceRun}
+use Rattle.trace_core.specs.declared.run.Traced.{Traced}
+use Rattle.trace_core.proofs.Finished.{image-some}
+use Rattle.collector.specs.Collected.{FillsBlocks, IsRunUnder}
+use Rattle.collector.specs.Serving.{IsTargetOf}
+use Rattle.collector.specs.Working.{IsFullTrace}
+use Rattle.collector.specs.Tallies.{total}
+use Rattle.collector.specs.declared.packet_trace.PacketTrace.{PacketTrace}
+use Rattle.collector.specs.declared.worker.TraceStart.{TraceStart}
+use Rattle.trace_core.proofs.Rows.{row}
+use Rattle.object_model.specs.declared.heap.Heap.{Heap}
+use Rattle.object_model.specs.Objects.{block_count, has_kind}
+use Rattle.heap_layout.specs.declared.block.Kind.TheVariants as kinds
+use Rattle.sessions.specs.Collecting.{Collects}
+use Rattle.collector.specs.Released.{ReleasesBelow, heap_with}
+use Rattle.collector.specs.Tallies.{IsNote}
+use Rattle.collector.specs.declared.outcome.Note.{Note}
+use Rattle.collector.proofs.WholeCollections.{CollectsBy, makes, numbered}
+use Rattle.collector.proofs.TallySums.{total-same, total-both}
+
+and-none : (t u : Bool) → t ≡ false → (t && u) ≡ false
+and-none false u none = refl
+and-none true u wrong = absurd (true≢false wrong)
+
+module _ (start : TraceStart) (w : PacketTrace) (full : IsFullTrace start w) where
+  abbrev s : HeapState
+  s = heap_state start.heap
+
+  abbrev p : Setup
+  p = setup_of s start.run 1
+
+  abbrev es : List Event
+  es = full.awaited.events
+
+  abbrev v : View
+  v = full.awaited.view
+
+  abbrev m : Machine
+  m = machine_after p es
+
+  abbrev F : ℕ → ℕ
+  F = image (stage_of p es)
+
+  pub tracks : Tracks p es w.tracer v
+  tracks = full.awaited.tracks
+
+  -- no object is old in a full collection
+  no-nursery : is_nursery start.run.collect ≡ false
+  no-nursery = ap is_nursery full.full
+
+  none-old : (x : ℕ) → is_old p x ≡ false
+  none-old x = and-none p.nursery (held p x && ages.is_old p.before x) no-nursery
+
+  none-logged : (x : ℕ) → is_logged p x ≡ false
+  none-logged x = and-none (is_old p x) (not (is_unlogged p.before x)) (none-old x)
+
+  pub idle : IsIdle p v
+  idle = record {
+    won = full.awaited.rights.idle;
+    copied = λ x some. elim (full.awaited.scanned x some) as (λ _. 0 < hits x (refs p x) v.grey) [
+      | inl left ↦ absurd (omega (arith, left))
+      | inr scanned ↦ scanned
+    ];
+    logged = λ x is. absurd (true≢false (sym is ∙ none-logged x));
+    globals = λ g few. elim (full.awaited.settled g few) as (λ _. 0 < times g v.set) [
+      | inl left ↦ absurd (omega (arith, left))
+      | inr set ↦ set
+    ];
+  }
+
+  pub asked : HaveAsked start.roots.items m.asked
+  asked i some = subst (λ n. 0 < n) (tracks.holds.asked _) (full.awaited.asked i refl some)
+
+  pub no-others : NoOthersAsked start.roots.items m.asked
+  no-others x some = full.awaited.by_roots x (subst (λ n. 0 < n) (sym (tracks.holds.asked x)) some)
+
+  module _ (traced : Traced) (is : IsTraced p es v traced) where
+    pub fills : FillsBlocks p m
+    fills = record {
+      last = is.last;
+      few = is.few;
+      full = λ b taken. elim (is.full b taken) as (λ _. (0 < times b is.last) ⊎ ((n : ℕ) × (MAX_MEDIUM_WORDS < n) × IsFilled p m b n)) [
+        | inl last ↦ inl last
+        | inr (inl sparse) ↦ absurd (let none : times b v.sparse ≡ 0 = ap (times b) full.awaited.sparse in omega (arith, none, sparse))
+        | inr (inr filled) ↦ inr filled
+      ];
+    }
+
+  module _ (finished : IsFinished p m) where
+    -- the roots are replaced by their targets
+    root-is : F 0 ≡ 0 → (r t : ℕ) → IsTargetOf v r t → t ≡ F r
+    root-is nil r t (inl none) = none.1 ∙ sym (ap F none.0 ∙ nil)
+    root-is nil r t (inr known) = sym (ap address_or_nil (tracks.holds.known r t known.1))
+
+    pub roots-are : F 0 ≡ 0 → w.roots.items ≡ map F start.roots.items
+    roots-are nil = ext_get_or 0 w.roots.items (map F start.roots.items) (full.awaited.as_many ∙ sym (length-map start.roots.items F))
+        (λ i below. let there : i < length start.roots.items = subst (λ n. i < n) full.awaited.as_many below in
+        root-is nil (slice_index start.roots.items i) (slice_index w.roots.items i) (full.awaited.served i there refl)
+        ∙ sym (get_or-map F start.roots.items i 0 0 there))
+
+    -- what is copied has a target
+    copied-stage : (a : ℕ) (stage : Stage) → stage ≡ stage_of p es a → one_if (is_copied stage) ≡ one_if (nat_lt 0 (address_or_nil (target stage)))
+    copied-stage a Unclaimed is = refl
+    copied-stage a (Copying t k) is = absurd (let wrong : Copying t k ≡ Scanning t _ = is ∙ finished.objects a t (sym (ap target is)) in cc)
+    copied-stage a (Scanning t k) is =
+        let some : 0 < F a = image-some p es tracks.trace finished a t (sym (ap target is)) in
+        let at : F a ≡ t = ap address_or_nil (sym (ap target is)) in
+        sym (ap one_if (lt-ltb 0 t (omega (arith, some, at))))
+
+    pub copied-image : (a : ℕ) → times a v.copied ≡ one_if (nat_lt 0 (F a))
+    copied-image a = tracks.holds.copied a ∙ ap (λ o. one_if (not o && is_copied (stage_of p es a))) (none-old a) ∙ copied-stage a (stage_of p es a) refl
+
+    -- the counts are those of the map
+    pub kept-is : w.tally.kept ≡ total s.blocks (λ a. one_if (nat_lt 0 (F a)))
+    kept-is = full.awaited.tally.kept ∙ total-same s.blocks _ _ (λ a below. copied-image a)
+
+    pub words-is : w.tally.words ≡ total s.blocks (λ a. one_if (nat_lt 0 (F a)) * size_at s a)
+    words-is = full.awaited.tally.words ∙ total-same s.blocks _ _ (λ a below. ap (λ n. n * size_at s a) (copied-image a))
+
+    both-one : (t u : Bool) → one_if t * one_if u ≡ one_if (t && u)
+    both-one true u = omega arith
+    both-one false u = omega arith
+
+    pub moved-is : w.tally.moved ≡ total s.blocks (λ a. one_if (nat_lt 0 (F a) && not (nat_eq (F a) a)))
+    moved-is = full.awaited.tally.moved ∙ total-same s.blocks _ _
+        (λ a below. ap (λ n. n * one_if (not (nat_eq (F a) a))) (copied-image a) ∙ both-one (nat_lt 0 (F a)) (not (nat_eq (F a) a)))
+
+    split : (t u : Bool) → one_if (t && u) + one_if (t && not u) ≡ one_if t
+    split true true = refl
+    split true false = refl
+    split false u = refl
+
+    pub in-place-is : w.tally.kept - w.tally.moved ≡ total s.blocks (λ a. one_if (nat_lt 0 (F a) && nat_eq (F a) a))
+    in-place-is =
+        let f : ℕ → ℕ = λ a. one_if (nat_lt 0 (F a) && nat_eq (F a) a) in
+        let g : ℕ → ℕ = λ a. one_if (nat_lt 0 (F a) && not (nat_eq (F a) a)) in
+        let sum : total s.blocks (λ a. f a + g a) ≡ total s.blocks (λ a. one_if (nat_lt 0 (F a))) = total-same s.blocks _ _ (λ a below. split (nat_lt 0 (F a)) (nat_eq (F a) a)) in
+        let parts : total s.blocks (λ a. f a + g a) ≡ total s.blocks f + total s.blocks g = total-both s.blocks f g in
+        omega (arith, kept-is, moved-is, sum, parts)
+
+-- what the blocks' release makes of a finished trace
+module _ (q : Plan) (r : Rules) (of : r ≡ rules_of q) (start : TraceStart) (w : PacketTrace) (full : IsFullTrace start w) (told : IsRunUnder r start.run.collect (heap_state start.heap) start.run)
+    (traced : Traced) (runs : traced.run ≡ w.tracer.run) (is : IsTraced (p start w full) (es start w full) (v start w full) traced) (finished : IsFinished (p start w full) (m start w full))
+    (heap : Heap) (new : HeapState) (below : ReleasesBelow r traced.run.collect traced.run.base (state_of traced.row) new traced.row.layout.blocks)
+    (after : heap_state heap ≡ heap_with new traced.run.number traced.run.base) where
+  abbrev h : HeapState
+  h = heap_state start.heap
+
+  same-run : traced.run ≡ start.run
+  same-run = runs ∙ full.awaited.runs
+
+  same-blocks : traced.row.layout.blocks ≡ h.blocks
+  same-blocks = ap (λ (x : HeapState). x.blocks) is.row ∙ (row (p start w full) (es start w full) (tracks start w full).trace finished).layout
+      ∙ (numbered h start.run 1 full.may (p start w full) refl).blocks
+
+  released : ReleasesBelow (rules_of q) start.run.collect start.run.base (heap_after (p start w full) (es start w full)) new h.blocks
+  released = subst (λ n. ReleasesBelow (rules_of q) start.run.collect start.run.base (heap_after (p start w full) (es start w full)) new n) same-blocks
+      (subst (λ x. ReleasesBelow (rules_of q) start.run.collect start.run.base x new traced.row.layout.blocks) is.row
+      (subst (λ (t : TraceRun). ReleasesBelow (rules_of q) t.collect t.base (state_of traced.row) new traced.row.layout.blocks) same-run
+      (subst (λ r. ReleasesBelow r traced.run.collect traced.run.base (state_of traced.row) new traced.row.layout.blocks) of below)))
+
+  collected : CollectsBy (F start w full) (rules_of q) 1 start.run.collect h start.roots.items (heap_with new start.run.number start.run.base) (map (F start w full) start.roots.items)
+  collected = makes q start.run.collect h start.run 1 start.heap.lawful full.may (subst (λ r. IsRunUnder r start.run.collect h start.run) of told) (p start w full) refl (es start w full)
+      start.roots.items new (tracks start w full).trace finished (asked start w full) (no-others start w full) (fills start w full traced is) released
+
+  nil : F start w full 0 ≡ 0
+  nil = ap (λ f. f 0) (sym collected.1) ∙ collected.0.kept.nil
+
+  made : CollectsBy (F start w full) r 1 start.run.collect h start.roots.items (heap_state heap) w.roots.items
+  made = subst (λ l. CollectsBy (F start w full) r 1 start.run.collect h start.roots.items (heap_state heap) l) (sym (roots-are start w full finished nil))
+      (subst (λ x. CollectsBy (F start w full) r 1 start.run.collect h start.roots.items x (map (F start w full) start.roots.items)) (sym (after ∙ ap (λ (t : TraceRun). heap_with new t.number t.base) same-run))
+      (subst (λ r. CollectsBy (F start w full) r 1 start.run.collect h start.roots.items (heap_with new start.run.number start.run.base) (map (F start w full) start.roots.items)) (sym of) collected))
+
+  pub finishes : (note : Note) → note.collect ≡ traced.run.collect → note.kept ≡ w.tally.kept → note.moved ≡ w.tally.moved → note.in_place ≡ w.tally.kept - w.tally.moved
+      → note.kept_words ≡ w.tally.words → note.free_blocks ≡ block_count (heap_state heap) (λ k. has_kind (heap_state heap) k kinds.Free)
+      → (made : Collects r 1 start.run.collect h start.roots.items (heap_state heap) w.roots.items) × IsNote start.run.collect h made.target (heap_state heap) note
+  finishes note collect kept moved in-place words free = (
+    made.0,
+    subst (λ f. IsNote start.run.collect h f (heap_state heap) note) (sym made.1) (record {
+      collect = collect ∙ ap (λ (t : TraceRun). t.collect) same-run;
+      kept = kept ∙ kept-is start w full finished;
+      moved = moved ∙ moved-is start w full finished;
+      in_place = in-place ∙ in-place-is start w full finished;
+      words = words ∙ words-is start w full finished;
+      free = free;
+    }),
+  )

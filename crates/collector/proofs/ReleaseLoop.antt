@@ -1,0 +1,68 @@
+-- The blocks that were released so far.
+use Rattle.std.proofs.Common.{◌≡◌, sym, subst, subst₂, ap, refl, ◌∙◌, ℕ, ◌+◌, ◌<◌, ◌^◌, List, length}
+use Rattle.heap_layout.specs.Zones.{row_words}
+use Rattle.heap_layout.specs.declared.layout.Layout.{Layout}
+use Rattle.object_model.specs.Objects.{HeapState, state_of, state_over, word_at}
+use Rattle.object_model.specs.Lawful.{IsLawful}
+use Rattle.object_model.specs.Releasing.{IsReleasable}
+use Rattle.object_model.specs.declared.row.Row.{Row}
+use Rattle.object_model.specs.declared.collect.Collect.{Collect}
+use Rattle.sessions.specs.Plans.{Rules}
+use Rattle.trace_core.specs.Setups.{Setup, blocks, collection}
+use Rattle.trace_core.specs.Machine.{Event}
+use Rattle.trace_core.specs.Traces.{IsTrace, IsFinished, machine_after, heap_after, stage_of}
+use Rattle.trace_core.specs.Outcomes.{base_after, image, FinishedRow}
+use Rattle.trace_core.proofs.Rows.{row}
+use Rattle.plan_api.specs.Releasing.{Releases}
+use Rattle.collector.specs.Released.{ReleasesBelow, none, one_more}
+use Rattle.collector.proofs.InOrder.{next, released}
+use Rattle.collector.proofs.LawfulReleases.{lawful-with}
+use Rattle.collector.proofs.Numbers.{releasable-again, releases-again}
+
+-- the blocks of the row below n are released in these words
+pub record Going (r : Rules) (c : Collect) (base : ℕ) (old : Row) (words : List ℕ) (layout : Layout) (n : ℕ) : Type 0 where
+  pub same : layout ≡ old.layout
+  pub below : ReleasesBelow r c base (state_of old) (state_over words old.layout old.number old.base) n
+
+pub going-first : (r : Rules) (c : Collect) (base : ℕ) (old : Row) → Going r c base old old.words.items old.layout 0
+going-first r c base old = record { same = refl; below = none }
+
+pub going-on : (r : Rules) (c : Collect) (base : ℕ) (old : Row) (words words' : List ℕ) (n : ℕ) → Going r c base old words old.layout n → n < old.layout.blocks
+    → Releases r c base (state_over words old.layout 0 0) (state_over words' old.layout 0 0) n → Going r c base old words' old.layout (n + 1)
+going-on r c base old words words' n going there releases = record {
+  same = refl;
+  below = one_more going.below there (releases-again r c base words words' old.layout 0 0 old.number old.base n releases);
+}
+
+pub at-end : (r : Rules) (c : Collect) (base : ℕ) (old : Row) (words : List ℕ) (n : ℕ) → n ≡ old.layout.blocks → Going r c base old words old.layout n
+    → ReleasesBelow r c base (state_of old) (state_over words old.layout old.number old.base) old.layout.blocks
+at-end r c base old words n all going = subst (ReleasesBelow r c base (state_of old) (state_over words old.layout old.number old.base)) all going.below
+
+module _ (r : Rules) (c : Collect) (base : ℕ) (old : Row) (p : Setup) (es : List Event) (trace : IsTrace p es) (finished : IsFinished p (machine_after p es))
+    (same : state_of old ≡ heap_after p es) (is-base : base ≡ base_after p) where
+  left : FinishedRow p (heap_after p es) (image (stage_of p es)) (machine_after p es).taken
+  left = row p es trace finished
+
+  blocks-same : old.layout.blocks ≡ blocks p
+  blocks-same = ap (λ (s : HeapState). s.blocks) same ∙ left.layout
+
+  module _ (words : List ℕ) (n : ℕ) (going : Going r c base old words old.layout n) where
+    abbrev now : HeapState
+    now = state_over words old.layout old.number old.base
+
+    below : ReleasesBelow r c (base_after p) (heap_after p es) now n
+    below = subst₂ (λ b s. ReleasesBelow r c b s now n) is-base same going.below
+
+    pub extent : length words ≡ row_words old.layout.blocks
+    extent = (released p es r c now n trace finished below).extent ∙ left.extent ∙ ap row_words (sym blocks-same)
+
+    pub releasable : n < old.layout.blocks → IsReleasable (state_over words old.layout 0 0) n
+    releasable there = releasable-again words old.layout old.number old.base 0 0 n (next p es r c now n trace finished below (subst (λ b. n < b) blocks-same there))
+
+  pub lawful-after : (words : List ℕ) → ReleasesBelow r c base (state_of old) (state_over words old.layout old.number old.base) old.layout.blocks → ((i : ℕ) → word_at (state_over words old.layout old.number old.base) i < 2 ^ 64)
+      → (number : ℕ) → number ≡ collection p → IsLawful (state_over words old.layout number base)
+  lawful-after words all-below fits number is =
+      let now : HeapState = state_over words old.layout old.number old.base in
+      let all = released p es r c now (blocks p) trace finished (subst (ReleasesBelow r c (base_after p) (heap_after p es) now) blocks-same (subst₂ (λ b s. ReleasesBelow r c b s now old.layout.blocks) is-base same all-below)) in
+      subst₂ (λ n b. IsLawful (state_over words old.layout n b)) (sym is) (sym is-base)
+      (lawful-with p es trace finished r c now fits all)

@@ -1,0 +1,42 @@
+use Rattle.std.proofs.Common.{◌≡◌, ◌∙◌, sym, ap, subst, subst₂, true, nat_eq, true≢false}
+use Rattle.object_model.specs.Heaps.{heap_state}
+use Rattle.sessions.specs.Collecting.{Collects}
+use Rattle.plan_api.specs.declared.flags.PlanFlags.{PlanFlags}
+use Rattle.collector.specs.Collected.{IsRunUnder}
+use Rattle.collector.specs.Working.{IsFullTrace}
+use Rattle.collector.specs.Tallies.{IsNote}
+use Rattle.collector.specs.declared.worker.TraceStart.{TraceStart}
+use Rattle.collector.proofs.WholeNotes.{reclaims, collects-all, root-buckets}
+use Rattle.collector.proofs.collecting.collect.Goals as goal
+
+pub run_packets-requires-clause-awaits : goal.run_packets-requires-clause-awaits
+run_packets-requires-clause-awaits g c κs within =
+    let start : TraceStart = record { heap = c.args.heap; run = c.in_ok-run.run'; roots = c.args.roots } in
+    (start, record { awaited = c.in_ok-trace.ensures.awaits; buckets = root-buckets c.in_ok-trace.first.items c.in_ok-trace.ensures.packets })
+
+pub finish-requires : goal.finish-requires
+finish-requires g c =
+    let start : TraceStart = record { heap = c.args.heap; run = c.in_ok-run.run'; roots = c.args.roots } in (
+      start,
+      record {
+        may = c.in_ok-run.ensures.may;
+        full = c.in_ok-run.ensures.under.collect ∙ c.requires.full;
+        awaited = (c.in_ok-trace-2.ensures start (record { awaited = c.in_ok-trace.ensures.awaits; buckets = root-buckets c.in_ok-trace.first.items c.in_ok-trace.ensures.packets })).awaited;
+      },
+    )
+
+pub returns : goal.returns
+returns g c =
+    let start : TraceStart = record { heap = c.args.heap; run = c.in_ok-run.run'; roots = c.args.roots } in
+    let full : IsFullTrace start c.in_ok-trace-2.trace = record {
+      may = c.in_ok-run.ensures.may;
+      full = c.in_ok-run.ensures.under.collect ∙ c.requires.full;
+      awaited = (c.in_ok-trace-2.ensures start (record { awaited = c.in_ok-trace.ensures.awaits; buckets = root-buckets c.in_ok-trace.first.items c.in_ok-trace.ensures.packets })).awaited;
+    } in
+    let all : g.P.Plan.rules.collects ≡ true = reclaims g.P.Plan.plan g.P.Plan.rules g.met.P.Plan.rules_are_of_plan c.FLAGS.result.0
+    (ap (λ (f : PlanFlags). f.0) c.FLAGS.ensures ∙ g.met.P.Plan.flags_are_of_rules) (λ none. true≢false (sym (c.if-eq.ensures ∙ ap (λ n. nat_eq n 0) none))) in
+    collects-all g.P.Plan.rules c.args.workers c.args.collect (heap_state c.args.heap) c.args.roots.items (heap_state c.finish.result.heap) c.finish.result.roots.items c.finish.result.note
+    g.P.Plan.rules.collects all
+    (subst₂ (λ w k. (made : Collects g.P.Plan.rules w k (heap_state c.args.heap) c.args.roots.items (heap_state c.finish.result.heap) c.finish.result.roots.items) × IsNote k (heap_state c.args.heap) made.target (heap_state c.finish.result.heap) c.finish.result.note)
+    (sym c.requires.one) c.in_ok-run.ensures.under.collect
+    (c.finish.ensures start full all (subst (λ k. IsRunUnder g.P.Plan.rules k (heap_state c.args.heap) c.in_ok-run.run') (sym c.in_ok-run.ensures.under.collect) c.in_ok-run.ensures.under)))

@@ -1,0 +1,53 @@
+-- What it takes to serve items of packets, and what is done then.
+use Rattle.std.specs.Prelude.{◌≡◌, ℕ, ◌+◌, ◌<◌, ◌≤◌, ◌⊎◌, nat_eq, List, [], ◌++◌, length, slice_index, if◌then◌else◌, All}
+use Rattle.object_model.specs.Objects.{IsHeld}
+use Rattle.trace_core.specs.Setups.{Setup, refs}
+use Rattle.trace_core.specs.Machine.{Event}
+use Rattle.trace_core.specs.Views.{View, IsGrey, hits, times, copied_in, to_scan_in}
+use Rattle.trace_core.specs.Tracers.{Tracks}
+use Rattle.trace_core.specs.declared.plain_trace.PlainTrace.{PlainTrace}
+use Rattle.trace_core.specs.declared.tokens.Grey.{Grey}
+use Rattle.collector.specs.declared.item.Item.{Item}
+use Rattle.collector.specs.Items.{registers, globals, objects, tokens_of}
+
+-- The view has the rights that these items need, each once, and these roots are nil or refer to objects.
+pub record HasRights (p : Setup) (v : View) (roots : List ℕ) (items : List Item) : Type 0 where
+  pub idle : v.won ≡ []
+  pub tokens : All (IsGrey p v) (tokens_of items)
+  pub objects_once : (x : ℕ) → objects x items ≤ hits x 0 v.grey
+  pub globals_once : (g : ℕ) → globals g items ≤ times g v.unset
+  pub roots_once : (i : ℕ) → registers i items ≤ 1
+  pub places : (i : ℕ) → 0 < registers i items → i < length roots
+  pub refer : (i : ℕ) → 0 < registers i items → (slice_index roots i ≡ 0) ⊎ IsHeld p.before (slice_index roots i)
+
+-- t is the target of the root r, nil of nil
+abbrev pub IsTargetOf : View → ℕ → ℕ → Type 0
+IsTargetOf v r t = ((r ≡ 0) × (t ≡ 0)) ⊎ ((0 < r) × (0 < hits r t v.known))
+
+-- The items were served: the tracer, whose view was v, made more events, the objects of the items were scanned, the
+-- globals set and the roots replaced by their targets. The tokens are those of the objects that were copied meanwhile.
+pub record Serves (p : Setup) (es : List Event) (v : View) (t : PlainTrace) (roots : List ℕ) (items : List Item)
+    (t' : PlainTrace) (roots' : List ℕ) (pushed : List Grey) : Type 0 where
+  pub events : List Event
+  pub view : View
+  pub tracks : Tracks p (es ++ events) t' view
+  pub run : t'.run ≡ t.run
+  pub idle : view.won ≡ []
+  pub sparse : view.sparse ≡ v.sparse
+  pub known : (x u : ℕ) → 0 < hits x u v.known → 0 < hits x u view.known
+  -- objects
+  pub copied : (x : ℕ) → times x view.copied ≡ times x (copied_in pushed) + times x v.copied
+  pub tokens : All (IsGrey p view) pushed
+  pub grey : (x k : ℕ) → hits x k view.grey + (if nat_eq k 0 then objects x items else 0)
+      ≡ hits x k (to_scan_in pushed) + hits x k v.grey + (if nat_eq k (refs p x) then objects x items else 0)
+  -- globals
+  pub unset : (g : ℕ) → times g view.unset + globals g items ≡ times g v.unset
+  pub set : (g : ℕ) → times g view.set ≡ globals g items + times g v.set
+  -- roots
+  pub as_many : length roots' ≡ length roots
+  pub served : (i : ℕ) → 0 < registers i items → IsTargetOf view (slice_index roots i) (slice_index roots' i)
+  pub others : (i : ℕ) → registers i items ≡ 0 → slice_index roots' i ≡ slice_index roots i
+  pub asks : (i : ℕ) → 0 < registers i items → 0 < slice_index roots i → 0 < times (slice_index roots i) view.asked
+  pub asked : (x : ℕ) → 0 < times x v.asked → 0 < times x view.asked
+  pub by_roots : (x : ℕ) → 0 < times x view.asked
+      → (0 < times x v.asked) ⊎ ((i : ℕ) × (0 < registers i items) × (slice_index roots i ≡ x))

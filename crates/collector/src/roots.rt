@@ -1,0 +1,68 @@
+//! The packets of the roots.
+
+ghost use Rattle.std.specs.Prelude.{◌≡◌, ◌++◌, ◌∷◌, [], IfOk, map};
+ghost use Rattle.std.specs.List.{range_with_len};
+ghost use Rattle.collector.specs.declared.item.Item.TheVariants as item;
+ghost use Rattle.collector.specs.Items.{items_of};
+ghost use Rattle.collector.specs.RootPackets.{AreRootPackets};
+
+use crate::item::Item;
+use std::alloc::{AllocError, Global};
+use trace_core::GlobalRoot;
+use work_packets::{Bucket, MAX_ITEMS, Packet};
+
+/// The packets of `count` roots, in order, and of the globals after them. Each but the last has 64
+/// items.
+///
+/// Fails if memory runs out.
+pub(crate) fn root_packets(
+    alloc: Global,
+    count: u32,
+    globals: Vec<GlobalRoot>,
+) -> Result<Vec<Packet<Item>>, AllocError>
+    ensures items { IfOk result (λ ps. items_of ps.items
+        ≡ map (λ i. item.Register i) (range_with_len 0 count)
+        ++ map (λ root. item.Global root) globals.items) }
+    ensures packets { IfOk result (λ ps. AreRootPackets ps.items) }
+{
+    let mut packets = register_packets(alloc, count)?;
+    for root in globals {
+        add(&mut packets, Item::Global(root))?;
+    }
+    Ok(packets)
+}
+
+/// The packets of the roots that are no globals.
+fn register_packets(alloc: Global, count: u32) -> Result<Vec<Packet<Item>>, AllocError>
+    ensures items { IfOk result (λ ps. items_of ps.items
+        ≡ map (λ i. item.Register i) (range_with_len 0 count)) }
+    ensures packets { IfOk result (λ ps. AreRootPackets ps.items) }
+{
+    let mut packets = Vec::new(alloc);
+    for place in 0..count {
+        add(&mut packets, Item::Register(place))?;
+    }
+    Ok(packets)
+}
+
+/// Adds an item to the last packet, or in a new packet if that one is full.
+fn add(packets: &mut Vec<Packet<Item>>, item: Item) -> Result<(), AllocError>
+    requires { AreRootPackets packets.old.items }
+    ensures items { IfOk result (λ _. items_of packets.new.items
+        ≡ items_of packets.old.items ++ item ∷ []) }
+    ensures packets { IfOk result (λ _. AreRootPackets packets.new.items) }
+{
+    if let Some(last) = packets.last_mut() {
+        if last.items.len() < MAX_ITEMS {
+            last.items.push(item)?;
+            return Ok(());
+        }
+    }
+    let mut items = Vec::with_capacity(*packets.allocator(), MAX_ITEMS)?;
+    items.push(item)?;
+    packets.push(Packet {
+        bucket: Bucket::Roots,
+        items,
+    })?;
+    Ok(())
+}
