@@ -51,7 +51,7 @@ pub(crate) fn build(
 }
 
 /// A heap with these registers, which are roots.
-fn with_roots(rt: &impl Abort, heap: Heap, registers: Vec<u32>) -> Built {
+pub(crate) fn with_roots(rt: &impl Abort, heap: Heap, registers: Vec<u32>) -> Built {
     assert!(rt; are_roots(&heap, &registers));
     Built { heap, registers }
 }

@@ -2,7 +2,11 @@
 #![tactic(auto)]
 
 #[cfg(test)]
+mod collection_tests;
+#[cfg(test)]
 mod evacuation_tests;
+#[cfg(test)]
+mod graphs;
 #[cfg(test)]
 mod heaps;
 mod roots;
