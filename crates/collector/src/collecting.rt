@@ -33,8 +33,8 @@ use trace_core::{PlainTrace, TraceRun};
 use work_packets::{Bucket, Gate, Packet};
 
 /// Runs a full collection of a heap in buckets of work, as MMTk does: the tracer is prepared, the
-/// worker serves the roots, `roots` and the heap's globals, and scans what it claims, and the blocks
-/// are released. Under NoGC the collection number rises, and nothing else changes.
+/// worker serves the roots, `roots` and the heap's globals, and scans what it claims, and the
+/// blocks are released. Under NoGC the collection number rises, and nothing else changes.
 ///
 /// `roots` are the mutators' registers. There is one worker, and only full collections are made.
 ///

@@ -99,7 +99,8 @@ impl PacketTrace {
         ensures tokens { IfOk result (λ _. IsPermutation self.old.won.items
             (tokens_of (items_of pushed.new.items))) }
         ensures objects { IfOk result (λ _. All IsObject (items_of pushed.new.items)) }
-        ensures bucket { IfOk result (λ _. All (λ q. q.bucket ≡ buckets.Closure) pushed.new.items) }
+        ensures bucket { IfOk result
+            (λ _. All (λ q. q.bucket ≡ buckets.Closure) pushed.new.items) }
         ensures sizes { IfOk result (λ _. All HasItems pushed.new.items) }
         ensures few { IfOk result
             (λ _. length pushed.new.items ≤ length self.old.won.items) }

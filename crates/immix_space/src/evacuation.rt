@@ -100,7 +100,8 @@ fn lines_with(alloc: Global, counts: &[LineCounts]) -> Result<Vec<u32>, AllocErr
     requires blocks { length counts.now ≤ MAX_BLOCKS }
     requires few { All HasFewLines counts.now }
     ensures { IfOk result (λ v. (length v.items ≡ BLOCK_LINES + 1)
-        × ((n : ℕ) → n ≤ BLOCK_LINES → slice_index v.items n ≡ marked_with n counts.now)) }
+        × ((n : ℕ) → n ≤ BLOCK_LINES
+        → slice_index v.items n ≡ marked_with n counts.now)) }
 {
     let mut lines = vec![in alloc; 0u32; 257]?;
     for i in 0..counts.len() {
@@ -115,7 +116,8 @@ fn lines_above(alloc: Global, counts: &[LineCounts]) -> Result<Vec<u32>, AllocEr
     requires blocks { length counts.now ≤ MAX_BLOCKS }
     requires few { All HasFewLines counts.now }
     ensures { IfOk result (λ v. (length v.items ≡ BLOCK_LINES + 1)
-        × ((n : ℕ) → n ≤ BLOCK_LINES → slice_index v.items n ≡ marked_above n counts.now)) }
+        × ((n : ℕ) → n ≤ BLOCK_LINES
+        → slice_index v.items n ≡ marked_above n counts.now)) }
 {
     let mut lines = lines_with(alloc, counts)?;
     let mut above = 0;

@@ -86,7 +86,8 @@ pub fn next_hole<W: Words>(
 pub fn line_counts<W: Words>(words: &W, layout: &Layout, block: u32) -> LineCounts
     requires extent { length (W.words words.now) ≡ row_words layout.now.blocks }
     requires block { block < layout.now.blocks }
-    ensures holes { result.holes ≡ holes_in (state_over (W.words words.now) layout.now 0 0) block }
+    ensures holes { result.holes
+        ≡ holes_in (state_over (W.words words.now) layout.now 0 0) block }
     ensures marked { result.marked
         ≡ marked_in (state_over (W.words words.now) layout.now 0 0) block }
 {
