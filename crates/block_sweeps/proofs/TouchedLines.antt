@@ -1,29 +1,32 @@
 -- The lines that objects of a block touch.
-use Rattle.std.proofs.Common.{◌≡◌, ℕ, ◌+◌, ◌*◌, ◌-◌, ◌/◌, ◌%◌, ◌<◌, ◌≤◌, ◌⊎◌, ◌↔◌, inl, inr, true≢false, refl, sym, ap, ◌∙◌, subst, max, arith, IsTrue, nat_eq, List, slice_index, replicate}
+use Rattle.std.proofs.Common.{◌≡◌, ℕ, ◌+◌, ◌*◌, ◌-◌, ◌/◌, ◌%◌, ◌<◌, ◌≤◌, ◌⊎◌, ◌↔◌, inl, inr, true≢false, refl, sym, ap, ◌∙◌, subst, arith, IsTrue, nat_eq, List, slice_index, replicate}
 use Rattle.std.specs.Int.{bit_at}
 use Rattle.std.proofs.Math.Logic.{∥∥₁_elim}
 use Rattle.std.proofs.lemmas.Bool.{cases_Bool, cases_lt, false≢true}
 use Rattle.std.proofs.lemmas.List.{get_or-replicate}
 use Rattle.std.proofs.lemmas.Nat.Bits.{bit_at-zero}
-use Rattle.heap_layout.specs.Zones.{block_at, block_start, offset_at, first, LineWords}
+use Rattle.heap_layout.specs.Zones.{heap_of, block_at, block_start, offset_at, first, LineWords}
 use Rattle.heap_layout.specs.declared.layout.Layout.{Layout}
+use Rattle.object_model.specs.Lines.{TouchesLine}
 use Rattle.object_model.specs.Objects.{HeapState, state_over, word_at, size_at, is_start, line_marked}
 use Rattle.object_model.proofs.ObjectReads.{place_of_address}
 use Rattle.block_sweeps.specs.Stores.{Fills}
 use Rattle.block_sweeps.specs.Sweeping.{MarksTouched, IsTouchedHere}
-use Rattle.block_sweeps.specs.Touches.{AddsLines, IsFromTo, HasWordIn, IsTouchedFrom, has_line}
+use Rattle.block_sweeps.specs.Touches.{AddsLines, IsFromTo, TouchesAt, IsTouchedFrom, has_line}
 use Rattle.block_sweeps.proofs.AddedLines.{adds-same, adds-both}
 
 -- the lines from that of an object's first word to that of its last
 pub adds-object : (s : HeapState) (k offset at word size : ℕ) (old new : List ℕ) → at ≡ block_start s.blocks k + offset → word ≡ word_at s (at + 1) → size ≡ 3 + word % 65536 + word / 65536
-    → AddsLines (IsFromTo (offset / 16) ((offset + size - 1) / 16)) old new → AddsLines (HasWordIn s k offset) old new
+    → AddsLines (IsFromTo (offset / 16) ((offset + size - 1) / 16)) old new → AddsLines (TouchesAt s k offset) old new
 adds-object s k offset at word size old new place read is adds =
     let shape : word ≡ word_at s (block_start s.blocks k + offset + 1) = read ∙ ap (λ i. word_at s (i + 1)) place in
     let same : size ≡ size_at s (block_start s.blocks k + offset) = is ∙ ap (λ w. 3 + w % 65536 + w / 65536) shape in
-    adds-same (IsFromTo (offset / 16) ((offset + size - 1) / 16)) (HasWordIn s k offset) old new adds
-    (λ n has. let first : offset < 16 * (n + 1) = has.first in let last : 16 * n < offset + size_at s (block_start s.blocks k + offset) = has.last in
+    adds-same (IsFromTo (offset / 16) ((offset + size - 1) / 16)) (TouchesAt s k offset) old new adds
+    (λ n has.
+    let from : heap_of s.blocks + 16 * (256 * k + n) < block_start s.blocks k + offset + size_at s (block_start s.blocks k + offset) = has.from in
+    let below : block_start s.blocks k + offset < heap_of s.blocks + 16 * (256 * k + n + 1) = has.below in
     record { after = (omega arith); most = (omega arith) })
-    (λ n run. let after : offset / 16 ≤ n = run.after in let most : n ≤ (offset + size - 1) / 16 = run.most in record { first = (omega arith); last = (omega arith) })
+    (λ n run. let after : offset / 16 ≤ n = run.after in let most : n ≤ (offset + size - 1) / 16 = run.most in record { from = (omega arith); below = (omega arith) })
 
 -- the objects that begin at the addresses of one word of start bits more
 pub touched-more : (s : HeapState) (k index : ℕ) (old lines new : List ℕ) → AddsLines (IsTouchedFrom s k 0 (64 * index)) old lines
@@ -38,20 +41,14 @@ touched-more s k index old lines new one two = adds-both (IsTouchedFrom s k 0 (6
     (λ n is. record { offset = is.offset; after = omega arith; below = (let less : is.offset < 64 * index + 64 = is.below in omega arith); start = is.start; touches = is.touches })
 
 module _ (s : HeapState) (k line : ℕ) (there : k < s.blocks) where
-  -- the line has the object's first word, or its own first word belongs to the object
   pub here-from : IsTouchedFrom s k 0 4096 line → IsTouchedHere s k line
   here-from is =
       let below : is.offset < 4096 = is.below in
-      let first : is.offset < 16 * (line + 1) = is.touches.first in
-      let last : 16 * line < is.offset + size_at s (block_start s.blocks k + is.offset) = is.touches.last in
       record {
         touched = record {
           object = block_start s.blocks k + is.offset;
-          word = block_start s.blocks k + max is.offset (16 * line);
           held = record { address = record { from = omega arith; below = omega arith }; start = is.start };
-          inside = record { from = omega arith; below = omega arith };
-          from = omega arith;
-          below = omega arith;
+          touches = is.touches;
         };
         here = omega arith;
       }
@@ -61,17 +58,12 @@ module _ (s : HeapState) (k line : ℕ) (there : k < s.blocks) where
       let place = place_of_address s.blocks is.touched.object is.touched.held.address in
       let here : block_at s.blocks is.touched.object ≡ k = is.here in
       let at : is.touched.object ≡ block_start s.blocks k + offset_at s.blocks is.touched.object = omega arith in
-      let size : size_at s is.touched.object ≡ size_at s (block_start s.blocks k + offset_at s.blocks is.touched.object) = ap (size_at s) at in
-      let from : is.touched.object ≤ is.touched.word = is.touched.inside.from in
-      let end : is.touched.word < is.touched.object + size_at s is.touched.object = is.touched.inside.below in
-      let after : block_start s.blocks k + 16 * line ≤ is.touched.word = is.touched.from in
-      let below : is.touched.word < block_start s.blocks k + 16 * (line + 1) = is.touched.below in
       record {
         offset = offset_at s.blocks is.touched.object;
         after = omega arith;
         below = place.1;
         start = subst (λ a. IsTrue (is_start s a)) at is.touched.held.start;
-        touches = record { first = omega arith; last = omega arith };
+        touches = subst (λ a. TouchesLine s.blocks a (size_at s a) (256 * k + line)) at is.touched.touches;
       }
 
 no-line : (line : ℕ) → line < 256 → IsTrue (has_line (replicate 4 0) line) → ⊥

@@ -7,7 +7,7 @@ use Rattle.std.proofs.lemmas.Nat.Bits.{bit_at-zero, bit_at_clear_same, bit_at_cl
 use Rattle.heap_layout.specs.Zones.{StartBits, first, heap_of, block_start, bit_of}
 use Rattle.heap_layout.proofs.MarkLemmas.{address_bit-at_address}
 use Rattle.object_model.specs.Objects.{HeapState, word_at, is_start}
-use Rattle.block_sweeps.specs.Touches.{AddsLines, HasWordIn, IsTouchedFrom}
+use Rattle.block_sweeps.specs.Touches.{AddsLines, TouchesAt, IsTouchedFrom}
 use Rattle.block_sweeps.proofs.AddedLines.{adds-both, adds-same}
 
 -- the word without bit b
@@ -51,20 +51,20 @@ module _ (s : HeapState) (k index : ℕ) (there : k < s.blocks) (within : index 
   pub start-set : (i : ℕ) → i < 64 → bit_at starts i ≡ 1 → IsTrue (is_start s (block_start s.blocks k + (64 * index + i)))
   start-set i small set = start-is i small ∙ eq-eqb (bit_at starts i) 1 set
 
-  module _ (old lines new : List ℕ) (rest b : ℕ) (low : b < 64) (set : bit_at rest b ≡ 1) (added : AddedBut s k index old lines rest) (adds : AddsLines (HasWordIn s k (64 * index + b)) lines new) where
+  module _ (old lines new : List ℕ) (rest b : ℕ) (low : b < 64) (set : bit_at rest b ≡ 1) (added : AddedBut s k index old lines rest) (adds : AddsLines (TouchesAt s k (64 * index + b)) lines new) where
     left-now : (i : ℕ) → i < 64 → bit_at (without rest b) i ≡ 1 → bit_at starts i ≡ 1
     left-now i small is = elim (cases_eq i b) as (λ _. bit_at starts i ≡ 1) [
       | inl same ↦ absurd (let clear : bit_at (without rest b) i ≡ 0 = ap (bit_at (without rest b)) same ∙ bit_at_clear_same w64 rest b low in omega arith)
       | inr other ↦ added.left i small (sym (bit_at_clear_other w64 rest b low i small other) ∙ is)
     ]
 
-    parts : (n : ℕ) → IsTouchedBut s k index (without rest b) n → IsTouchedBut s k index rest n ⊎ HasWordIn s k (64 * index + b) n
-    parts n touched = elim (cases_eq (touched.object.offset % 64) b) as (λ _. IsTouchedBut s k index rest n ⊎ HasWordIn s k (64 * index + b) n) [
+    parts : (n : ℕ) → IsTouchedBut s k index (without rest b) n → IsTouchedBut s k index rest n ⊎ TouchesAt s k (64 * index + b) n
+    parts n touched = elim (cases_eq (touched.object.offset % 64) b) as (λ _. IsTouchedBut s k index rest n ⊎ TouchesAt s k (64 * index + b) n) [
       | inl same ↦
           (let after : 64 * index ≤ touched.object.offset = touched.object.after in
           let below : touched.object.offset < 64 * index + 64 = touched.object.below in
           let at : touched.object.offset ≡ 64 * index + b = omega arith in
-          inr (subst (λ o. HasWordIn s k o n) at touched.object.touches))
+          inr (subst (λ o. TouchesAt s k o n) at touched.object.touches))
       | inr other ↦ inl (record { object = touched.object; done = sym (bit_at_clear_other w64 rest b low (touched.object.offset % 64) (omega arith) other) ∙ touched.done })
     ]
 
@@ -77,14 +77,14 @@ module _ (s : HeapState) (k index : ℕ) (there : k < s.blocks) (within : index 
       ];
     }
 
-    now : (n : ℕ) → HasWordIn s k (64 * index + b) n → IsTouchedBut s k index (without rest b) n
+    now : (n : ℕ) → TouchesAt s k (64 * index + b) n → IsTouchedBut s k index (without rest b) n
     now n has = record {
       object = record { offset = 64 * index + b; after = omega arith; below = omega arith; start = start-set b low (added.left b low set); touches = has };
       done = (let at : (64 * index + b) % 64 ≡ b = omega arith in ap (bit_at (without rest b)) at ∙ bit_at_clear_same w64 rest b low);
     }
 
     pub added-more : AddedBut s k index old new (without rest b)
-    added-more = record { left = left-now; adds = adds-both (IsTouchedBut s k index rest) (HasWordIn s k (64 * index + b)) (IsTouchedBut s k index (without rest b)) old lines new added.adds adds parts before now }
+    added-more = record { left = left-now; adds = adds-both (IsTouchedBut s k index rest) (TouchesAt s k (64 * index + b)) (IsTouchedBut s k index (without rest b)) old lines new added.adds adds parts before now }
 
 pub added-all : (s : HeapState) (k index : ℕ) (old lines : List ℕ) (rest : ℕ) → rest ≡ 0 → AddedBut s k index old lines rest → AddsLines (IsTouchedFrom s k (64 * index) (64 * index + 64)) old lines
 added-all s k index old lines rest none added = adds-same (IsTouchedBut s k index rest) (IsTouchedFrom s k (64 * index) (64 * index + 64)) old lines added.adds

@@ -2,6 +2,8 @@
 use Rattle.std.specs.Prelude.{◌≡◌, ℕ, ◌+◌, ◌*◌, ◌/◌, ◌%◌, ◌<◌, ◌≤◌, ◌⊎◌, Bool, IsTrue, List, length, slice_index, nat_eq}
 use Rattle.std.specs.Int.{bit_at}
 use Rattle.heap_layout.specs.Zones.{block_start}
+use Rattle.heap_layout.specs.declared.layout.TheConstants.{BLOCK_LINES}
+use Rattle.object_model.specs.Lines.{TouchesLine}
 use Rattle.object_model.specs.Objects.{HeapState, is_start, size_at}
 
 -- bit n of a list of words
@@ -20,15 +22,15 @@ pub record IsFromTo (from to n : ℕ) : Type 0 where
   pub after : from ≤ n
   pub most : n ≤ to
 
--- an object at this offset of block k has a word in the line
-pub record HasWordIn (s : HeapState) (k offset line : ℕ) : Type 0 where
-  pub first : offset < 16 * (line + 1)
-  pub last : 16 * line < offset + size_at s (block_start s.blocks k + offset)
+-- an object at this offset of block k touches this line of the block
+abbrev pub TouchesAt : HeapState → ℕ → ℕ → ℕ → Type 0
+TouchesAt s k offset line = TouchesLine s.blocks (block_start s.blocks k + offset)
+    (size_at s (block_start s.blocks k + offset)) (BLOCK_LINES * k + line)
 
--- an object that begins at an offset of block k from `from` on, before `to`, has a word in the line
+-- an object that begins at an offset of block k from `from` on, before `to`, touches this line of the block
 pub record IsTouchedFrom (s : HeapState) (k from to line : ℕ) : Type 0 where
   pub offset : ℕ
   pub after : from ≤ offset
   pub below : offset < to
   pub start : IsTrue (is_start s (block_start s.blocks k + offset))
-  pub touches : HasWordIn s k offset line
+  pub touches : TouchesAt s k offset line

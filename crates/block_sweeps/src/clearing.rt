@@ -1,4 +1,4 @@
-//! Blocks made Free, and unlog bits set.
+//! Words stored, blocks made Free, and unlog bits set.
 
 ghost use Rattle.std.specs.Prelude.{◌≡◌, ◌+◌, ◌<◌, length};
 ghost use Rattle.heap_layout.specs.Zones.{row_words};
@@ -10,7 +10,7 @@ use heap_layout::{Kind, Layout};
 use side_meta::Words;
 
 /// Sets a word of the row if it differs.
-pub(crate) fn store<W: Words>(words: &mut W, index: u32, value: u64)
+pub fn store<W: Words>(words: &mut W, index: u32, value: u64)
     requires { index < length (W.words words.old) }
     ensures { Stores (W.words words.old) (W.words words.new) index value }
 {

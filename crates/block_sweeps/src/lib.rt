@@ -10,8 +10,8 @@ pub mod rows;
 mod runs;
 mod sweep;
 
-pub use clearing::{free_block, unlog_block};
-pub use lines::mark_touched_lines;
+pub use clearing::{free_block, store, unlog_block};
+pub use lines::{mark_touched_lines, run_mask};
 pub use objects::object_size;
 pub use releasable::is_releasable;
 pub use runs::sweep_run;

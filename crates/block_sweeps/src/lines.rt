@@ -7,7 +7,7 @@ ghost use Rattle.heap_layout.specs.declared.block.Kind.TheVariants as kinds;
 ghost use Rattle.object_model.specs.Objects.{state_over, HasKind, is_start};
 ghost use Rattle.object_model.specs.Lawful.{IsReadableBlock};
 ghost use Rattle.block_sweeps.specs.Stores.{Fills};
-ghost use Rattle.block_sweeps.specs.Touches.{AddsLines, IsFromTo, HasWordIn, IsTouchedFrom, has_line};
+ghost use Rattle.block_sweeps.specs.Touches.{AddsLines, IsFromTo, TouchesAt, IsTouchedFrom, has_line};
 ghost use Rattle.block_sweeps.specs.Sweeping.{MarksTouched, IsTouchedHere};
 
 use crate::clearing::store;
@@ -83,7 +83,7 @@ fn add_object<W: Words>(words: &W, layout: &Layout, block: u32, offset: u32, lin
     requires start { IsTrue (is_start (state_over (W.words words.now) layout.now 0 0)
         (block_start layout.now.blocks block + offset)) }
     requires len { length lines.old ≡ 4 }
-    ensures { AddsLines (HasWordIn (state_over (W.words words.now) layout.now 0 0) block offset)
+    ensures { AddsLines (TouchesAt (state_over (W.words words.now) layout.now 0 0) block offset)
         lines.old lines.new }
 {
     let size = object_size(words, layout.address(block, offset));
@@ -104,8 +104,8 @@ fn set_run(lines: &mut [u64; 4], from: u32, to: u32)
     }
 }
 
-/// A word with bits `low` to `high` set.
-fn run_mask(low: u32, high: u32) -> u64
+/// The word in which exactly bits `low` to `high` are set.
+pub fn run_mask(low: u32, high: u32) -> u64
     requires order { low ≤ high }
     requires high { high < 64 }
     ensures inside { (k : ℕ) → IsFromTo low high k → bit_at result k ≡ 1 }

@@ -3,3 +3,5 @@ pub mod SweptLines
 pub mod MarkedSums
 pub mod CandidateSums
 pub mod RecyclableBlocks
+pub mod LyingObjects
+pub mod ExactLines

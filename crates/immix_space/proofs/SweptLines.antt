@@ -1,5 +1,5 @@
 -- The line bits of a swept Immix block.
-use Rattle.std.proofs.Common.{◌≡◌, sym, ap, ◌∙◌, inl, inr, ℕ, ◌+◌, ◌*◌, ◌-◌, ◌/◌, ◌%◌, ◌<◌, ◌≤◌, ◌&&◌, List, slice_index, nat_eq, nat_le, nat_lt, arith}
+use Rattle.std.proofs.Common.{◌≡◌, sym, ap, ◌∙◌, subst, inl, inr, ℕ, ◌+◌, ◌*◌, ◌-◌, ◌/◌, ◌%◌, ◌<◌, ◌≤◌, ◌&&◌, List, slice_index, nat_eq, nat_le, nat_lt, arith}
 use Rattle.std.specs.Int.{bit_at}
 use Rattle.std.proofs.Math.Logic.{∥∥₁_elim, ∥∥₁_map}
 use Rattle.std.proofs.lemmas.Bool.{true≢false}
@@ -8,11 +8,13 @@ use Rattle.heap_layout.specs.Blocks.{kind_code}
 use Rattle.heap_layout.specs.declared.block.Kind.TheVariants as kinds
 use Rattle.heap_layout.specs.declared.layout.Layout.{Layout}
 use Rattle.object_model.specs.Objects.{HeapState, state_over, is_start, is_pinned, is_unlogged, IsHeld, size_at}
+use Rattle.object_model.specs.Lines.{TouchesLine}
+use Rattle.object_model.specs.Lawful.{IsTouched, LineBitsAreExact}
 use Rattle.object_model.specs.Ages.{Lives}
 use Rattle.block_sweeps.specs.Sweeping.{InBlock, HasNoLiving, Sweeps, MarksTouched, IsTouchedHere, IsLineWord, IsMetadata, object_count}
 use Rattle.block_sweeps.proofs.Changing.{changes-more, changes-both}
 use Rattle.block_sweeps.proofs.BitCounts.{count-same}
-use Rattle.immix_space.specs.LineSweeps.{SweepsLines}
+use Rattle.immix_space.specs.LineSweeps.{SweepsLines, IsTouchedFromWithin}
 
 -- Nothing is left in the block.
 pub swept-empty : (l : Layout) (k base after : ℕ) (old new : List ℕ) → HasNoLiving base (state_over old l 0 0) (InBlock (state_over old l 0 0) k)
@@ -62,31 +64,31 @@ module _ (l : Layout) (k : ℕ) (mid new : List ℕ) (there : k < l.blocks) (mar
   size-same : (a : ℕ) → heap_of b ≤ a → size_at u a ≡ size_at t a
   size-same a from = ap (λ w. 3 + w % 65536 + w / 65536) (same (a + 1) (omega arith))
 
+  abbrev then : (line : ℕ) → IsTouched u k line → IsTouched t k line
+  then line is = record {
+    object = is.object;
+    held = held-then is.object is.held;
+    touches = subst (λ (n : ℕ). TouchesLine b is.object n (256 * k + line)) (size-same is.object is.held.address.from) is.touches;
+  }
+
+  abbrev now : (line : ℕ) → IsTouched t k line → IsTouched u k line
+  now line is = record {
+    object = is.object;
+    held = held-now is.object is.held;
+    touches = subst (λ (n : ℕ). TouchesLine b is.object n (256 * k + line)) (sym (size-same is.object is.held.address.from)) is.touches;
+  }
+
   touched-then : (line : ℕ) → IsTouchedHere u k line → IsTouchedHere t k line
-  touched-then line is = (let from = is.touched.held.address.from in let size = size-same is.touched.object from in let after = is.touched.inside.from in let below = is.touched.inside.below in record {
-    touched = record {
-      object = is.touched.object;
-      word = is.touched.word;
-      held = held-then is.touched.object is.touched.held;
-      inside = record { from = after; below = omega arith };
-      from = is.touched.from;
-      below = is.touched.below;
-    };
-    here = is.here;
-  })
+  touched-then line is = record { touched = then line is.touched; here = is.here }
 
   touched-now : (line : ℕ) → IsTouchedHere t k line → IsTouchedHere u k line
-  touched-now line is = (let from = is.touched.held.address.from in let size = size-same is.touched.object from in let after = is.touched.inside.from in let below = is.touched.inside.below in record {
-    touched = record {
-      object = is.touched.object;
-      word = is.touched.word;
-      held = held-now is.touched.object is.touched.held;
-      inside = record { from = after; below = omega arith };
-      from = is.touched.from;
-      below = is.touched.below;
-    };
-    here = is.here;
-  })
+  touched-now line is = record { touched = now line is.touched; here = is.here }
+
+  pub lines-exact : IsTouchedFromWithin t k → LineBitsAreExact u k
+  lines-exact within = record {
+    marked = λ line immix small set. ∥∥₁_map ((marks.lines line small).0 set) (λ is. (touched-now line is).touched);
+    touched = λ line immix small is. (marks.lines line small).1 ∣ (record { touched = then line is; here = within line small (then line is) }) ∣₁;
+  }
 
   module _ (old : List ℕ) (base a : ℕ) (here : InBlock (state_over old l 0 0) k a) (lives : Lives base (state_over old l 0 0) a)
       (swept : Sweeps base (kind_code kinds.Immix) (state_over old l 0 0) t k) where

@@ -169,3 +169,36 @@ fn random_heaps(rt: HostRuntime) -> Result<(), Fail> {
     }
     Ok(())
 }
+
+#[test]
+fn largest_heap(rt: HostRuntime) -> Result<(), Fail> {
+    let layout = Layout::new(1024)?;
+    let mut words = empty_row(rt.alloc(), &layout)?;
+    let mut random = 88_172_645_463_325_252;
+    for block in 0..1024 {
+        random = next_random(random);
+        fill_block(&mut words, &layout, block, random);
+    }
+    let found = candidates(rt.alloc(), &words, &layout)?;
+    let plain = plain_candidates(rt.alloc(), &words, &layout)?;
+    assert_eq!(rt; found, plain);
+    Ok(())
+}
+
+// Of blocks that are alike the lowest are taken, as many as there is room for.
+#[test]
+fn blocks_alike(rt: HostRuntime) -> Result<(), Fail> {
+    let layout = Layout::new(1024)?;
+    let mut words = empty_row(rt.alloc(), &layout)?;
+    for block in 0..1024 {
+        set_lines(&mut words, &layout, block, &[1, 0, 0, 0]);
+    }
+    set_block(&mut words, &layout, 100, Kind::Free, 0);
+    let found = candidates(rt.alloc(), &words, &layout)?;
+    let plain = plain_candidates(rt.alloc(), &words, &layout)?;
+    assert_eq!(rt; found, plain);
+    // block 100 gives room for 256 lines
+    assert_eq!(rt; found.get(256).copied(), Some(true));
+    assert_eq!(rt; found.get(257).copied(), Some(false));
+    Ok(())
+}

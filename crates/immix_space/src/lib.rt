@@ -2,10 +2,12 @@
 #![tactic(auto)]
 
 mod evacuation;
+mod laws;
 mod reserve;
 mod sweeps;
 
 pub use evacuation::candidates;
+pub use laws::immix_blocks_are_touched_from_within;
 pub use reserve::headroom;
 pub use sweeps::{relist, sweep_block};
 

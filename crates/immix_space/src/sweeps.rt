@@ -4,18 +4,18 @@ ghost use Rattle.std.specs.Prelude.{◌≡◌, ◌<◌, length};
 ghost use Rattle.heap_layout.specs.Zones.{row_words};
 ghost use Rattle.heap_layout.specs.declared.block.Kind.TheVariants as kinds;
 ghost use Rattle.object_model.specs.Objects.{state_over, HasKind};
-ghost use Rattle.object_model.specs.Lawful.{IsReadableBlock};
+ghost use Rattle.object_model.specs.Lawful.{IsReadableBlock, LineBitsAreExact};
 ghost use Rattle.object_model.specs.Releasing.{IsReleasable};
 ghost use Rattle.block_sweeps.specs.Sweeping.{MarksTouched, object_count};
-ghost use Rattle.immix_space.specs.LineSweeps.{SweepsLines};
+ghost use Rattle.immix_space.specs.LineSweeps.{SweepsLines, IsTouchedFromWithin};
 
 use block_sweeps::mark_touched_lines;
 use heap_layout::{BlockWord, Kind, Layout};
 use side_meta::Words;
 
 /// Sweeps an Immix block: objects in it that do not live are held no more, and its line bits become
-/// those of the lines that the others touch. The block becomes Free if none is left. Answers how
-/// many are left.
+/// those of the lines that the others touch, so they are exact if no object reaches in from another
+/// block. The block becomes Free if none is left. Answers how many are left.
 pub fn sweep_block<W: Words>(words: &mut W, layout: &Layout, block: u32, base: u64) -> u32
     requires extent { length (W.words words.old) ≡ row_words layout.now.blocks }
     requires block { block < layout.now.blocks }
@@ -25,6 +25,8 @@ pub fn sweep_block<W: Words>(words: &mut W, layout: &Layout, block: u32, base: u
         (state_over (W.words words.new) layout.now 0 0) block }
     ensures count { result
         ≡ object_count (state_over (W.words words.new) layout.now 0 0) block }
+    ensures exact { IsTouchedFromWithin (state_over (W.words words.old) layout.now 0 0) block
+        → LineBitsAreExact (state_over (W.words words.new) layout.now 0 0) block }
 {
     let living = BlockWord {
         kind: Kind::Immix,
@@ -39,12 +41,15 @@ pub fn sweep_block<W: Words>(words: &mut W, layout: &Layout, block: u32, base: u
     count
 }
 
-/// Makes the line bits of an Immix block those of the lines that objects in it touch.
+/// Makes the line bits of an Immix block those of the lines that objects in it touch, so they are
+/// exact if no object reaches in from another block.
 pub fn relist<W: Words>(words: &mut W, layout: &Layout, block: u32)
     requires block { IsReadableBlock (state_over (W.words words.old) layout.now 0 0) block }
     requires kind { HasKind (state_over (W.words words.old) layout.now 0 0) block kinds.Immix }
-    ensures { MarksTouched (state_over (W.words words.old) layout.now 0 0)
+    ensures marked { MarksTouched (state_over (W.words words.old) layout.now 0 0)
         (state_over (W.words words.new) layout.now 0 0) block }
+    ensures exact { IsTouchedFromWithin (state_over (W.words words.old) layout.now 0 0) block
+        → LineBitsAreExact (state_over (W.words words.new) layout.now 0 0) block }
 {
     mark_touched_lines(words, layout, block);
 }

@@ -31,7 +31,7 @@ fn claimed(offset: u32, nums: u32, number: u64) -> Object
 fn swept(words: &mut Vec<u64>, layout: &Layout) -> Option<u32>
     requires { length words.old.items ≡ row_words layout.now.blocks }
 {
-    if words[layout.block_at(1) as usize] != 4 {
+    if words[layout.block_at(1) as usize] % 256 != 4 {
         return None;
     }
     if !is_releasable(words, layout, 1) {
@@ -44,7 +44,7 @@ fn swept(words: &mut Vec<u64>, layout: &Layout) -> Option<u32>
 fn relisted(words: &mut Vec<u64>, layout: &Layout) -> bool
     requires { length words.old.items ≡ row_words layout.now.blocks }
 {
-    if words[layout.block_at(1) as usize] != 4 {
+    if words[layout.block_at(1) as usize] % 256 != 4 {
         return false;
     }
     if !is_releasable(words, layout, 1) {
@@ -152,6 +152,100 @@ fn relists(rt: HostRuntime) -> Result<(), Fail> {
     let mut words = row_with(rt.alloc(), &layout, &objects)?;
     assert!(rt; relisted(&mut words, &layout));
     check_lines(&rt, &words, &objects, 0);
+    Ok(())
+}
+
+// Block 1 has an owner, mutator 7: a sweep gives it back, and `relist` does not.
+#[test]
+fn owned_blocks(rt: HostRuntime) -> Result<(), Fail> {
+    let layout = Layout::new(4)?;
+    let objects = [
+        claimed(0, 2, 1),
+        claimed(15, 2, 2),
+        claimed(100, 2045, 0),
+        claimed(4080, 13, 2),
+    ];
+    let owned = 4 + 7 * 65_536;
+    let mut listed = row_with(rt.alloc(), &layout, &objects)?;
+    put(&mut listed, 19, owned);
+    assert!(rt; relisted(&mut listed, &layout));
+    check_lines(&rt, &listed, &objects, 0);
+    assert_eq!(rt; listed.get(19).copied(), Some(owned));
+    let mut words = row_with(rt.alloc(), &layout, &objects)?;
+    put(&mut words, 19, owned);
+    assert_eq!(rt; swept(&mut words, &layout), Some(2));
+    check_lines(&rt, &words, &objects, 2);
+    assert_eq!(rt; words.get(19).copied(), Some(4));
+    // nothing is left
+    let mut emptied = row_with(rt.alloc(), &layout, &[claimed(15, 2, 1)])?;
+    put(&mut emptied, 19, owned);
+    assert_eq!(rt; swept(&mut emptied, &layout), Some(0));
+    assert_eq!(rt; emptied.get(19).copied(), Some(0));
+    Ok(())
+}
+
+/// The next number of a xorshift sequence.
+fn next_random(last: u64) -> u64 {
+    let first = last ^ last << 13;
+    let second = first ^ first >> 7;
+    second ^ second << 17
+}
+
+/// Objects of random sizes and collections, with gaps between some of them. The greater `mix`, the
+/// larger they are.
+fn random_objects(alloc: Global, random: u64, mix: u64) -> Result<Vec<Object>, AllocError> {
+    let mut objects = Vec::new(alloc);
+    let mut last = random;
+    let mut offset: u64 = 0;
+    for _turn in 0..400 {
+        last = next_random(last);
+        let most = match mix % 4 {
+            0 => 8,
+            1 => 64,
+            2 => 400,
+            _ => 2046,
+        };
+        let nums = (last >> 20) % most;
+        let gap = if last % 2 == 0 { (last >> 8) % 50 } else { 0 };
+        let at = offset.saturating_add(gap);
+        if at.saturating_add(nums) > 4093 {
+            break;
+        }
+        objects.push(claimed(at as u32, nums as u32, last >> 40 & 3))?;
+        offset = at.saturating_add(nums).saturating_add(3);
+    }
+    Ok(objects)
+}
+
+/// How many of the objects were claimed by collection `base` or later.
+fn plain_count(objects: &[Object], base: u64) -> u32 {
+    let mut count: u32 = 0;
+    for object in objects {
+        if object.collector >> 24 >= base {
+            count = count.wrapping_add(1);
+        }
+    }
+    count
+}
+
+#[test]
+fn random_blocks(rt: HostRuntime) -> Result<(), Fail> {
+    let layout = Layout::new(4)?;
+    let mut random = 88_172_645_463_325_252;
+    for turn in 0..200u64 {
+        random = next_random(random);
+        let objects = random_objects(rt.alloc(), random, turn)?;
+        let owned = 4 + random % 33 * 65_536;
+        let mut listed = row_with(rt.alloc(), &layout, &objects)?;
+        put(&mut listed, 19, owned);
+        assert!(rt; relisted(&mut listed, &layout), "block {turn}");
+        check_lines(&rt, &listed, &objects, 0);
+        let mut words = row_with(rt.alloc(), &layout, &objects)?;
+        put(&mut words, 19, owned);
+        let left = plain_count(&objects, 2);
+        assert_eq!(rt; swept(&mut words, &layout), Some(left), "block {turn}");
+        check_lines(&rt, &words, &objects, 2);
+    }
     Ok(())
 }
 

@@ -1,13 +1,14 @@
 -- Line bits are set in one word after another.
-use Rattle.std.proofs.Common.{◌≡◌, ◌≢◌, ℕ, ◌+◌, ◌*◌, ◌-◌, ◌/◌, ◌%◌, ◌^◌, ◌<◌, ◌≤◌, ◌⊎◌, inl, inr, refl, sym, ap, ◌∙◌, arith, IsTrue, nat_eq, min, List, length, slice_index}
+use Rattle.std.proofs.Common.{◌≡◌, ◌≢◌, ℕ, ◌+◌, ◌*◌, ◌-◌, ◌/◌, ◌%◌, ◌^◌, ◌<◌, ◌≤◌, ◌⊎◌, inl, inr, refl, sym, ap, ◌∙◌, arith, IsTrue, nat_eq, min, max, List, length, slice_index}
 use Rattle.std.specs.Int.{bit_at}
 use Rattle.std.proofs.lemmas.Bool.{cases_eq, cases_lt}
-use Rattle.heap_layout.specs.Zones.{LineWords, first, line_at, offset_at, bit_of, IsAddress}
+use Rattle.heap_layout.specs.Zones.{LineWords, first, heap_of, row_words, line_at, bit_of, IsAddress}
 use Rattle.heap_layout.specs.declared.layout.Layout.{Layout}
+use Rattle.object_model.specs.Lines.{TouchesLine}
 use Rattle.object_model.specs.Objects.{state_over}
 use Rattle.block_sweeps.specs.Touches.{IsFromTo}
 use Rattle.block_sweeps.specs.WordSweeps.{has_bit}
-use Rattle.line_marks.specs.LineMarks.{TouchesLine, MarksLines, SetsRun}
+use Rattle.line_marks.specs.LineMarks.{HasTouched, MarksLines, SetsRun}
 
 abbrev IsSet : ℕ → List ℕ → ℕ → Type 0
 IsSet b words n = IsTrue (bit_of b LineWords words n)
@@ -87,15 +88,23 @@ marks-more b from to word low high old mid new after below low-is high-is marks 
   fit = λ fits. sets.fit (marks.fit fits);
 }
 
--- an object's last word is one of its block
-pub last-address : (b a size : ℕ) → IsAddress b a → 1 ≤ size → offset_at b a + size ≤ 4096 → IsAddress b (a + size - 1)
-last-address b a size address some within = let from = address.from in let below = address.below in record { from = omega arith; below = omega arith }
+-- an object's last word is one of the heap
+pub last-address : (b a size : ℕ) → IsAddress b a → 1 ≤ size → a + size ≤ row_words b → IsAddress b (a + size - 1)
+last-address b a size address some last = let from = address.from in record { from = omega arith; below = omega arith }
 
--- the lines that an object touches are those of its first word up to that of its last word
-pub marks-lines : (l : Layout) (a size first-line last-line word : ℕ) (old new : List ℕ) → IsAddress l.blocks a → 1 ≤ size → offset_at l.blocks a + size ≤ 4096
+-- the words between those of the first and the last line have bits of touched lines
+touched-word : (b a size i : ℕ) → heap_of b ≤ a → 1 ≤ size → first b LineWords + line_at b a / 64 ≤ i → i < first b LineWords + (line_at b (a + size - 1) / 64 + 1) → HasTouched b a size i
+touched-word b a size i from some after below = record {
+  line = max (line_at b a) (64 * (i - first b LineWords));
+  touches = record { from = omega arith; below = omega arith };
+  word = omega arith;
+}
+
+-- then all lines of an object are marked
+pub marks-lines : (l : Layout) (a size first-line last-line word : ℕ) (old new : List ℕ) → IsAddress l.blocks a → 1 ≤ size
     → first-line ≡ line_at l.blocks a → last-line ≡ line_at l.blocks (a + size - 1) → word ≡ last-line / 64 + 1
     → MarksTo l.blocks first-line last-line word old new → MarksLines (state_over old l 0 0) (state_over new l 0 0) a size
-marks-lines l a size first-line last-line word old new address some within first-is last-is end marks = let from = address.from in record {
+marks-lines l a size first-line last-line word old new address some first-is last-is end marks = let from = address.from in record {
   marked = λ n has. let after = has.from in let before = has.below in marks.added n (record { after = omega arith; most = omega arith; before = omega arith });
   kept = marks.kept;
   only = λ n is. elim (marks.only n is) as (λ _. IsSet l.blocks old n ⊎ TouchesLine l.blocks a size n) [
@@ -105,7 +114,7 @@ marks-lines l a size first-line last-line word old new address some within first
   rest = record {
     blocks = refl;
     extent = marks.extent;
-    others = λ i outside. marks.others i (λ after below. outside (record { after = omega arith; below = omega arith }));
+    others = λ i outside. marks.others i (λ after below. outside (touched-word l.blocks a size i from some (omega arith) (omega arith)));
     fit = marks.fit;
   };
 }

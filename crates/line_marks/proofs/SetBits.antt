@@ -1,5 +1,5 @@
--- A run of bits is set in a word by a mask of two shifts.
-use Rattle.std.proofs.Common.{◌≡◌, ℕ, ◌*◌, ◌-◌, ◌/◌, ◌%◌, ◌^◌, ◌<◌, ◌≤◌, ◌⊎◌, inl, inr, arith, IsTrue, bit_and, bit_or, refl, sym, ◌∙◌, ap, subst, List, length, slice_index, slice_set}
+-- A run of bits is set in a word by a mask.
+use Rattle.std.proofs.Common.{◌≡◌, ℕ, ◌^◌, ◌<◌, ◌⊎◌, inl, inr, arith, IsTrue, bit_or, refl, sym, ◌∙◌, ap, subst, List, length, slice_index, slice_set}
 use Rattle.std.specs.Int.{bit_at}
 use Rattle.std.proofs.lemmas.Bool.{cases_eq, eq-eqb, eqb-true}
 use Rattle.std.proofs.lemmas.Nat.Bits.{bit_at_or, bit_at-lt}
@@ -7,25 +7,22 @@ use Rattle.std.proofs.lemmas.List.{get_or-set_same, get_or-set_other}
 use Rattle.std.proofs.Math.ListN.{length-set}
 use Rattle.block_sweeps.specs.Touches.{IsFromTo}
 use Rattle.block_sweeps.specs.WordSweeps.{has_bit}
-use Rattle.block_sweeps.proofs.RunMasks as masks
 use Rattle.line_marks.specs.LineMarks.{SetsRun}
 
-module _ (low high : ℕ) (rising : low ≤ high) (within : high < 64) (word : ℕ) where
-  abbrev mask : ℕ
-  mask = bit_and ((2 ^ 64 - 1) * 2 ^ low % 2 ^ 64) ((2 ^ 64 - 1) / 2 ^ (63 - high))
-
+-- the mask has exactly the bits `low` to `high`
+module _ (low high mask : ℕ) (inside : (k : ℕ) → IsFromTo low high k → bit_at mask k ≡ 1) (outside : (k : ℕ) → bit_at mask k ≡ 1 → IsFromTo low high k) (word : ℕ) where
   abbrev value : ℕ
   value = bit_or word mask
 
   pub added : (k : ℕ) → IsFromTo low high k → IsTrue (has_bit value k)
-  added k run = eq-eqb (bit_at value k) 1 (omega (arith, masks.inside low high rising within k run, bit_at_or word mask k, bit_at-lt word k))
+  added k run = eq-eqb (bit_at value k) 1 (omega (arith, inside k run, bit_at_or word mask k, bit_at-lt word k))
 
   pub kept : (k : ℕ) → IsTrue (has_bit word k) → IsTrue (has_bit value k)
   kept k was = eq-eqb (bit_at value k) 1 (omega (arith, eqb-true (bit_at word k) 1 was, bit_at_or word mask k, bit_at-lt mask k))
 
   pub only : (k : ℕ) → IsTrue (has_bit value k) → IsTrue (has_bit word k) ⊎ IsFromTo low high k
   only k is = elim (cases_eq (bit_at mask k) 1) as (λ _. IsTrue (has_bit word k) ⊎ IsFromTo low high k) [
-    | inl set ↦ inr (masks.only low high rising within k set)
+    | inl set ↦ inr (outside k set)
     | inr clear ↦ inl (eq-eqb (bit_at word k) 1 (omega (arith, eqb-true (bit_at value k) 1 is, bit_at_or word mask k, bit_at-lt mask k, bit_at-lt word k)))
   ]
 

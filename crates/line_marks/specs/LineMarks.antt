@@ -1,16 +1,17 @@
 -- Marks of the lines that an object touches.
-use Rattle.std.specs.Prelude.{◌≡◌, ℕ, ◌+◌, ◌*◌, ◌<◌, ◌^◌, ◌⊎◌, IsTrue, List, length, slice_index}
-use Rattle.heap_layout.specs.Zones.{LineWords, heap_of, block_at, bit_of}
-use Rattle.heap_layout.specs.declared.layout.TheConstants.{LINE_WORDS}
+use Rattle.std.specs.Prelude.{◌≡◌, ℕ, ◌+◌, ◌/◌, ◌<◌, ◌^◌, ◌⊎◌, IsTrue, List, length, slice_index}
+use Rattle.heap_layout.specs.Zones.{LineWords, first, bit_of}
+use Rattle.object_model.specs.Lines.{TouchesLine}
 use Rattle.object_model.specs.Objects.{HeapState}
-use Rattle.block_sweeps.specs.Sweeping.{ChangesOnly, IsLineWord}
+use Rattle.block_sweeps.specs.Sweeping.{ChangesOnly}
 use Rattle.block_sweeps.specs.Touches.{IsFromTo}
 use Rattle.block_sweeps.specs.WordSweeps.{has_bit}
 
--- an object of this size at address a has a word in line n of the heap
-pub record TouchesLine (b a size n : ℕ) : Type 0 where
-  pub from : heap_of b + LINE_WORDS * n < a + size
-  pub below : a < heap_of b + LINE_WORDS * (n + 1)
+-- word i has the bit of a line that an object of this size at address a touches
+pub record HasTouched (b a size i : ℕ) : Type 0 where
+  pub line : ℕ
+  pub touches : TouchesLine b a size line
+  pub word : i ≡ first b LineWords + line / 64
 
 -- line n of the heap is marked
 abbrev pub IsMarked : HeapState → ℕ → Type 0
@@ -21,7 +22,7 @@ pub record MarksLines (s s' : HeapState) (a size : ℕ) : Type 0 where
   pub marked : (n : ℕ) → TouchesLine s.blocks a size n → IsMarked s' n
   pub kept : (n : ℕ) → IsMarked s n → IsMarked s' n
   pub only : (n : ℕ) → IsMarked s' n → IsMarked s n ⊎ TouchesLine s.blocks a size n
-  pub rest : ChangesOnly (IsLineWord s.blocks (block_at s.blocks a)) s s'
+  pub rest : ChangesOnly (HasTouched s.blocks a size) s s'
 
 -- Bits `low` to `high` of the word at this index were set, and nothing else changed.
 pub record SetsRun (old new : List ℕ) (index low high : ℕ) : Type 0 where

@@ -1,21 +1,21 @@
 //! Marks of the lines that an object touches.
 
 ghost use Rattle.std.specs.Prelude.{◌≡◌, ◌+◌, ◌<◌, ◌≤◌, length};
-ghost use Rattle.heap_layout.specs.Zones.{row_words, offset_at, IsAddress};
-ghost use Rattle.heap_layout.specs.declared.layout.TheConstants.{BLOCK_WORDS};
+ghost use Rattle.heap_layout.specs.Zones.{row_words, IsAddress};
 ghost use Rattle.object_model.specs.Objects.{state_over};
 ghost use Rattle.line_marks.specs.LineMarks.{MarksLines, SetsRun};
 
+use block_sweeps::run_mask;
 use heap_layout::{Layout, line_of};
 use side_meta::Words;
 
-/// Marks the lines that an object of `size` words at the address touches, which lies in one block.
+/// Marks the lines that an object of `size` words at the address touches, in one block or several.
 /// Writes only words that change.
 pub fn mark<W: Words>(words: &mut W, layout: &Layout, address: u32, size: u32)
     requires extent { length (W.words words.old) ≡ row_words layout.now.blocks }
     requires address { IsAddress layout.now.blocks address }
     requires some { 1 ≤ size }
-    requires within { offset_at layout.now.blocks address + size ≤ BLOCK_WORDS }
+    requires last { address + size ≤ row_words layout.now.blocks }
     ensures { MarksLines (state_over (W.words words.old) layout.now 0 0)
         (state_over (W.words words.new) layout.now 0 0) address size }
 {
@@ -37,7 +37,7 @@ fn set_run<W: Words>(words: &mut W, index: u32, low: u32, high: u32)
     ensures { SetsRun (W.words words.old) (W.words words.new) index low high }
 {
     let before = words.get(index);
-    let marked = before | u64::MAX << low & u64::MAX >> (63 - high);
+    let marked = before | run_mask(low, high);
     if marked != before {
         words.set(index, marked);
     }

@@ -227,3 +227,60 @@ fn marks(rt: HostRuntime) -> Result<(), Fail> {
     assert_eq!(rt; words.get(30).copied(), Some(0));
     Ok(())
 }
+
+/// Which lines of a heap of 4 blocks have a word of an object, by its words.
+fn plain_lines(alloc: Global, offset: u32, size: u32) -> Result<Vec<bool>, AllocError>
+    requires { offset + size ≤ 16384 }
+{
+    let mut lines = vec![in alloc; false; 1024]?;
+    for word in offset..offset + size {
+        if let Some(line) = lines.get_mut((word / 16) as usize) {
+            *line = true;
+        }
+    }
+    Ok(lines)
+}
+
+/// Of an empty heap of 4 blocks exactly the lines with a word of an object are marked. The offset
+/// is from the first word of the heap.
+fn check_lines(rt: &impl Abort, alloc: Global, offset: u32, size: u32) -> Result<(), Fail>
+    requires some { 1 ≤ size }
+    requires within { offset + size ≤ 16384 }
+{
+    let layout = Layout::new(4)?;
+    let mut words = empty_row(alloc, &layout)?;
+    mark(&mut words, &layout, layout.heap_base() + offset, size);
+    let plain = plain_lines(alloc, offset, size)?;
+    for line in 0..1024 {
+        let word = words.get(22 + line / 64).copied().unwrap_or(0);
+        let marked = word >> (line % 64) & 1 == 1;
+        assert_eq!(rt;
+            Some(marked),
+            plain.get(line).copied(),
+            "line {line} of {size} words from {offset}"
+        );
+    }
+    // the words beside the line words are as before
+    assert_eq!(rt; words.get(21).copied(), Some(0));
+    assert_eq!(rt; words.get(38).copied(), Some(0));
+    Ok(())
+}
+
+// Objects at the edges of blocks, of whole blocks, and 200 others of up to 4 blocks.
+#[test]
+fn marks_over_blocks(rt: HostRuntime) -> Result<(), Fail> {
+    check_lines(&rt, rt.alloc(), 4095, 2)?;
+    check_lines(&rt, rt.alloc(), 4080, 16)?;
+    check_lines(&rt, rt.alloc(), 4000, 5000)?;
+    check_lines(&rt, rt.alloc(), 4096, 8192)?;
+    check_lines(&rt, rt.alloc(), 0, 16384)?;
+    check_lines(&rt, rt.alloc(), 16383, 1)?;
+    let mut random = 88_172_645_463_325_252;
+    for _turn in 0..200 {
+        random = next_random(random);
+        let offset = (random % 16384) as u32;
+        let most = 1 + (random >> 32) as u32 % 16384;
+        check_lines(&rt, rt.alloc(), offset, most.min(16384 - offset))?;
+    }
+    Ok(())
+}

@@ -15,7 +15,7 @@ use Rattle.ideal_heap.specs.Ideal.{IdealHeap}
 use Rattle.object_model.specs.Objects.{HeapState, word_at, owner_at, class_at, HasKind, line_marked, IsHeld, IsInExtent, size_at, size_of}
 use Rattle.object_model.specs.Lawful.{IsTouched, LineBitsAreExact}
 use Rattle.object_model.specs.Graphs.{numbers_of}
-use Rattle.object_model.proofs.ObjectParts.{line-block}
+use Rattle.object_model.proofs.Lines.{touched-as, held-block}
 use Rattle.object_model.proofs.OneKind.{kind-from, kind-code, kind-within}
 use Rattle.mutator_core.specs.declared.state.OwnedBlock.{OwnedBlock}
 use Rattle.mutator_core.specs.declared.state.LogEntry.{LogEntry}
@@ -25,7 +25,7 @@ use Rattle.mutator_core.specs.Histories.{after, IsLog, history, entries_of}
 use Rattle.mutator_core.specs.Guards.{IsAvailable}
 use Rattle.mutator_core.specs.Epochs.{IsReady, IsInEpoch, IsOwned, IsMade}
 use Rattle.mutator_core.proofs.Fills.{owned-owner, owned-class, owned-kind}
-use Rattle.mutator_core.proofs.Places.{unowned-word, place-owner, place-clear, extent-then}
+use Rattle.mutator_core.proofs.Places.{unowned-word, place-owner, place-clear}
 use Rattle.mutator_core.specs.Logs.{IsEpochLog, machine_after, heap_after, IsUntaken, IsTaken, IsOwnedBy, IsListed}
 use Rattle.mutator_core.proofs.Beginnings.{log-ends}
 use Rattle.mutator_core.proofs.Law.{Goes, goes}
@@ -91,18 +91,11 @@ module _ (p : Epoch) (ready : IsReady p) (h : Machine) (now : IsInEpoch p (heap_
   pub unowned-lines : (k : ℕ) → owner_at s k ≡ 0 → LineBitsAreExact s k
   unowned-lines k nobody = record {
     marked = λ line is small marked. let there : k < p.before.blocks = kind-within s k kinds.Immix is in
-        ∥∥₁_map ((ready.lawful.lines k).marked line (kind-then is there) small (sym (now.lines k line there small) ∙ marked)) (λ t. record {
-          object = t.object;
-          word = t.word;
-          held = (now.stays t.object t.held).0;
-          inside = record { from = t.inside.from; below = subst (λ (n : ℕ). t.word < t.object + n) (sym (size-then t.object t.held)) t.inside.below };
-          from = t.from;
-          below = t.below;
-        });
+        ∥∥₁_map ((ready.lawful.lines k).marked line (kind-then is there) small (sym (now.lines k line there small) ∙ marked))
+        (λ t. touched-as p.before s k line t refl (now.stays t.object t.held).0 (size-then t.object t.held));
     touched = λ line is small t. let there : k < p.before.blocks = kind-within s k kinds.Immix is in
         now.lines k line there small ∙ elim (now.births t.object t.held) as (λ _. IsTrue (line_marked p.before k line)) [
-          | inl before ↦ (ready.lawful.lines k).touched line (kind-then is there) small
-              (record { object = t.object; word = t.word; held = before; inside = extent-then p h now t.object t.word before t.inside; from = t.from; below = t.below })
+          | inl before ↦ (ready.lawful.lines k).touched line (kind-then is there) small (touched-as s p.before k line t refl before (sym (size-then t.object before)))
           | inr allocated ↦ absurd (allocated-elsewhere k t.object nobody allocated.0 allocated.1 (same-block line small t allocated.0 allocated.1))
         ];
   }
@@ -116,12 +109,7 @@ module _ (p : Epoch) (ready : IsReady p) (h : Machine) (now : IsInEpoch p (heap_
       same-block : (line : ℕ) → line < 256 → (t : IsTouched s k line) → (m : ℕ) → Contains (h.locals m).made (record { address = t.object; size = size_at s t.object }) → block_at s.blocks t.object ≡ k
       same-block line small t m made =
           let is : IsMade p s (h.locals m).owned (record { address = t.object; size = size_at s t.object }) = (now.knows m).objects (record { address = t.object; size = size_at s t.object }) made in
-          let inside : offset_at p.before.blocks t.object + size_at s t.object ≤ 4096 = is.place.inside in
-          let base : heap_of p.before.blocks ≤ t.object = is.place.address.from in
-          let from : t.object ≤ t.word = t.inside.from in
-          let below : t.word < t.object + size_at s t.object = t.inside.below in
-          let here : block_at s.blocks t.word ≡ k = line-block s k line t.word small t.from t.below in
-          omega arith
+          held-block s k line small t is.place.inside
 
   -- the address for another bit in the word of an address's start bit, and the position of that bit
   beside : (b a k : ℕ) → IsAddress b a → k < 64

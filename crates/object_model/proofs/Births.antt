@@ -13,8 +13,10 @@ use Rattle.object_model.specs.Objects.{HeapState, with_words, word_at, global_at
 use Rattle.object_model.specs.Lawful.{IsLawful, IsLawfulButLines, IsWellFormed, HasHeader, Lies, IsRefField, IsRoot, IsClear, FreeBlockIsClear, IsTouched, LineBitsAreExact, is_in_run}
 use Rattle.object_model.specs.Changes.{WritesObject}
 use Rattle.object_model.specs.Births.{IsVacant, IsRoom}
+use Rattle.object_model.specs.Lines.{TouchesLine}
 use Rattle.object_model.proofs.Blocks.{SameHeap}
-use Rattle.object_model.proofs.ObjectParts.{AreObjectsRight, ArePlacesRight, objects-of, places-of, together, line-block}
+use Rattle.object_model.proofs.ObjectParts.{AreObjectsRight, ArePlacesRight, objects-of, places-of, together}
+use Rattle.object_model.proofs.Lines.{touched-as, touched-block}
 use Rattle.object_model.proofs.UsedBlocks as used
 use Rattle.object_model.proofs.Marks.{mark-same, mark-from}
 use Rattle.object_model.proofs.References.{refers-some}
@@ -105,14 +107,6 @@ module _ (s : HeapState) (w : List ℕ) (a : ℕ) (n : Name) (refs nums : ℕ) (
     globals = λ g small. zone-word (first s.blocks Globals + g) (omega arith) (λ e. let zone = start-in-zone.1 in omega arith);
     others = λ i above outside. writes.others i outside (λ e. let zone = start-in-zone.0 in omega arith);
   }
-
--- the line has one of the `size` words from a on
-pub record IsCovered (s : HeapState) (a size k line : ℕ) : Type 0 where
-  pub word : ℕ
-  pub from : a ≤ word
-  pub below : word < a + size
-  pub first : block_start s.blocks k + 16 * line ≤ word
-  pub last : word < block_start s.blocks k + 16 * (line + 1)
 
 -- the heap with one object more
 module _ (s : HeapState) (w : List ℕ) (a : ℕ) (n : Name) (refs nums : ℕ) (adds : Adds s w a n refs nums) (vacant : IsVacant s a n refs nums) where
@@ -299,33 +293,18 @@ module _ (s : HeapState) (w : List ℕ) (a : ℕ) (n : Name) (refs nums : ℕ) (
   -- the line bits of a block are exact, if those of the new object's lines are set as well
   pub lines-after : (k : ℕ) → (HasKind after k kinds.Immix → HasKind s k kinds.Immix)
       → ((line : ℕ) → line < 256 → IsTrue (line_marked s k line) → IsTrue (line_marked after k line))
-      → ((line : ℕ) → line < 256 → IsTrue (line_marked after k line) → IsTrue (line_marked s k line) ⊎ IsCovered s a (size_of refs nums) k line)
-      → ((line : ℕ) → line < 256 → IsCovered s a (size_of refs nums) k line → IsTrue (line_marked after k line))
+      → ((line : ℕ) → line < 256 → IsTrue (line_marked after k line) → IsTrue (line_marked s k line) ⊎ TouchesLine s.blocks a (size_of refs nums) (256 * k + line))
+      → ((line : ℕ) → line < 256 → TouchesLine s.blocks a (size_of refs nums) (256 * k + line) → IsTrue (line_marked after k line))
       → LineBitsAreExact s k → LineBitsAreExact after k
   lines-after k before stay grown covered old = record {
     marked = λ line now small marked. elim (grown line small marked) as (λ _. ∥ IsTouched after k line ∥₁) [
-      | inl was ↦ ∥∥₁_map (old.marked line (before now) small was) (λ t. record {
-        object = t.object;
-        word = t.word;
-        held = held-after t.object t.held;
-        inside = record { from = t.inside.from; below = subst (λ (q : ℕ). t.word < t.object + q) (sym (size-same t.object t.held)) t.inside.below };
-        from = t.from;
-        below = t.below;
-      })
-      | inr here ↦ ∣ record {
-        object = a;
-        word = here.word;
-        held = held-new;
-        inside = record { from = here.from; below = subst (λ (q : ℕ). here.word < a + q) (sym new-size) here.below };
-        from = here.first;
-        below = here.last;
-      } ∣₁
+      | inl was ↦ ∥∥₁_map (old.marked line (before now) small was) (λ t. touched-as s after k line t refl (held-after t.object t.held) (size-same t.object t.held))
+      | inr here ↦ ∣ record { object = a; held = held-new; touches = subst (λ (q : ℕ). TouchesLine s.blocks a q (256 * k + line)) (sym new-size) here } ∣₁
     ];
     touched = λ line now small t. elim (held-cases t.object t.held) as (λ _. IsTrue (line_marked after k line)) [
-      | inl e ↦ (let inside : IsInExtent after a t.word = subst (λ (q : ℕ). IsInExtent after q t.word) e t.inside in
-          covered line small (record { word = t.word; from = inside.from; below = new-inside t.word inside; first = t.from; last = t.below }))
-      | inr holds ↦ stay line small (old.touched line (before now) small
-          (record { object = t.object; word = t.word; held = holds; inside = extent-before t.object t.word holds t.inside; from = t.from; below = t.below }))
+      | inl e ↦ covered line small (subst (λ (q : ℕ). TouchesLine s.blocks a q (256 * k + line)) new-size
+          (subst (λ (x : ℕ). TouchesLine s.blocks x (size_at after x) (256 * k + line)) e t.touches))
+      | inr holds ↦ stay line small (old.touched line (before now) small (touched-as after s k line t refl holds (sym (size-same t.object holds))))
     ];
   }
 
@@ -382,8 +361,8 @@ module _ (s : HeapState) (w : List ℕ) (a : ℕ) (n : Name) (refs nums : ℕ) (
   -- if the line bits of the object's lines are set as well
   pub lines-born : (k : ℕ)
       → ((line : ℕ) → HasKind s k kinds.Immix → line < 256 → IsTrue (line_marked s k line) → IsTrue (line_marked born k line))
-      → ((line : ℕ) → HasKind s k kinds.Immix → line < 256 → IsTrue (line_marked born k line) → IsTrue (line_marked s k line) ⊎ IsCovered s a (size_of refs nums) k line)
-      → ((line : ℕ) → HasKind s k kinds.Immix → line < 256 → IsCovered s a (size_of refs nums) k line → IsTrue (line_marked born k line))
+      → ((line : ℕ) → HasKind s k kinds.Immix → line < 256 → IsTrue (line_marked born k line) → IsTrue (line_marked s k line) ⊎ TouchesLine s.blocks a (size_of refs nums) (256 * k + line))
+      → ((line : ℕ) → HasKind s k kinds.Immix → line < 256 → TouchesLine s.blocks a (size_of refs nums) (256 * k + line) → IsTrue (line_marked born k line))
       → LineBitsAreExact s k → LineBitsAreExact born k
   lines-born k stay grown covered old = record { marked = λ line now. (right now).marked line now; touched = λ line now. (right now).touched line now }
     where
@@ -392,9 +371,9 @@ module _ (s : HeapState) (w : List ℕ) (a : ℕ) (n : Name) (refs nums : ℕ) (
           let is : HasKind s k kinds.Immix = HasKind-back s w same_words k kinds.Immix now in
           lines-after s w a n refs nums one_more room.vacant k (λ again. is) (λ line. stay line is) (λ line. grown line is) (λ line. covered line is) old
 
-  -- the line of a word of the object belongs to the object's block
-  pub covered-block : (k line : ℕ) → line < 256 → IsCovered s a (size_of refs nums) k line → k ≡ block_at s.blocks a
-  covered-block k line small here = sym (line-block s k line here.word small here.first here.last) ∙ in-block here.word here.from here.below
+  -- a line that the object touches belongs to the object's block
+  pub covered-block : (k line : ℕ) → line < 256 → TouchesLine s.blocks a (size_of refs nums) (256 * k + line) → k ≡ block_at s.blocks a
+  covered-block k line small here = sym (touched-block s.blocks a (size_of refs nums) k line room.vacant.address.from room.place.within small here)
 
 -- A small or medium object is written: its block is not an Immix block, or its lines are marked.
 module _ (s : HeapState) (w : List ℕ) (a : ℕ) (n : Name) (refs nums : ℕ) (writes : WritesObject s (with_words s w) a n refs nums)
@@ -414,7 +393,7 @@ module _ (s : HeapState) (w : List ℕ) (a : ℕ) (n : Name) (refs nums : ℕ) (
   pub but_lines-written : IsLawfulButLines s → IsLawfulButLines (with_words s w)
   but_lines-written = but_lines-born s w a n refs nums one_more same_words order room order-written (λ k line there small away. same_lines k line there small)
 
-  pub lawful-written : ((line : ℕ) → HasKind s (block_at s.blocks a) kinds.Immix → line < 256 → IsCovered s a (size_of refs nums) (block_at s.blocks a) line → IsTrue (line_marked s (block_at s.blocks a) line))
+  pub lawful-written : ((line : ℕ) → HasKind s (block_at s.blocks a) kinds.Immix → line < 256 → TouchesLine s.blocks a (size_of refs nums) (256 * block_at s.blocks a + line) → IsTrue (line_marked s (block_at s.blocks a) line))
       → IsLawful s → IsLawful (with_words s w)
   lawful-written marked lawful = record {
     but_lines = but_lines-written lawful.but_lines;
@@ -425,8 +404,8 @@ module _ (s : HeapState) (w : List ℕ) (a : ℕ) (n : Name) (refs nums : ℕ) (
         (lawful.lines k);
   }
     where
-      own : (k line : ℕ) → HasKind s k kinds.Immix → line < 256 → IsCovered s a (size_of refs nums) k line → IsTrue (line_marked s k line)
+      own : (k line : ℕ) → HasKind s k kinds.Immix → line < 256 → TouchesLine s.blocks a (size_of refs nums) (256 * k + line) → IsTrue (line_marked s k line)
       own k line is small here =
           let e : k ≡ block_at s.blocks a = covered-block s w a n refs nums one_more same_words order room k line small here in
           subst (λ (q : ℕ). IsTrue (line_marked s q line)) (sym e)
-          (marked line (subst (λ (q : ℕ). HasKind s q kinds.Immix) e is) small (subst (λ (q : ℕ). IsCovered s a (size_of refs nums) q line) e here))
+          (marked line (subst (λ (q : ℕ). HasKind s q kinds.Immix) e is) small (subst (λ (q : ℕ). TouchesLine s.blocks a (size_of refs nums) (256 * q + line)) e here))

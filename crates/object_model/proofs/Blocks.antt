@@ -19,7 +19,8 @@ use Rattle.object_model.specs.Agreement.{RepresentsOn}
 use Rattle.object_model.proofs.Marks.{mark-same}
 use Rattle.object_model.proofs.References.{refers-cases}
 use Rattle.object_model.proofs.OneKind.{kind-code, kind-within, kind-from, one-kind, is_small_code}
-use Rattle.object_model.proofs.ObjectParts.{AreObjectsRight, ArePlacesRight, objects-of, places-of, together, line-block}
+use Rattle.object_model.proofs.ObjectParts.{AreObjectsRight, ArePlacesRight, objects-of, places-of, together}
+use Rattle.object_model.proofs.Lines.{held-block_word, touched-as}
 use Rattle.object_model.proofs.UsedBlocks as used
 use Rattle.object_model.proofs.Records.{record-parts, fields_at, numbers_at}
 use Rattle.object_model.proofs.Representation.{word-named, nil-word}
@@ -126,24 +127,10 @@ module _ (s : HeapState) (w : List ℕ) (same : SameHeap s w) where
   }
 
   pub touched-after : (k line : ℕ) → IsTouched s k line → IsTouched after k line
-  touched-after k line t = record {
-    object = t.object;
-    word = t.word;
-    held = held-after t.object t.held;
-    inside = extent-after t.object t.word t.held t.inside;
-    from = t.from;
-    below = t.below;
-  }
+  touched-after k line t = touched-as s after k line t refl (held-after t.object t.held) (size-same t.object t.held)
 
   pub touched-before : (k line : ℕ) → IsTouched after k line → IsTouched s k line
-  touched-before k line t = let before = held-before t.object t.held in record {
-    object = t.object;
-    word = t.word;
-    held = before;
-    inside = extent-before t.object t.word before t.inside;
-    from = t.from;
-    below = t.below;
-  }
+  touched-before k line t = let before = held-before t.object t.held in touched-as after s k line t refl before (sym (size-same t.object before))
 
   pub points-after : (v : ℕ) (o : Option Name) → PointsTo s v o → PointsTo after v o
   points-after v None p = p
@@ -303,7 +290,7 @@ module _ (s : HeapState) (order : IsWellFormed s) (k v : ℕ) (is : HasKind s k 
 
   -- no line of the block is touched
   none-touched : (line : ℕ) → line < 256 → IsTouched s k line → ⊥
-  none-touched line few t = clear.empty t.object t.word t.held t.inside (line-block s k line t.word few t.from t.below)
+  none-touched line few t = let word = held-block_word s k line few t in clear.empty t.object word.0 t.held word.1 word.2
 
   pub lines-taken : ((j : ℕ) → LineBitsAreExact s j) → (j : ℕ) → LineBitsAreExact taken j
   lines-taken old j = record {

@@ -69,22 +69,10 @@ module _ (s : HeapState) where
       };
     };
     lines = λ k. record {
-      marked = λ line is small marked. ∥∥₁_map ((lawful.lines k).marked line is small marked) (λ t. record {
-        object = t.object;
-        word = t.word;
-        held = held-counted t.object t.held;
-        inside = record { from = t.inside.from; below = t.inside.below };
-        from = t.from;
-        below = t.below;
-      });
-      touched = λ line is small t. (lawful.lines k).touched line is small (record {
-        object = t.object;
-        word = t.word;
-        held = held-back t.object t.held;
-        inside = inside-back t.object t.word t.inside;
-        from = t.from;
-        below = t.below;
-      });
+      marked = λ line is small marked. ∥∥₁_map ((lawful.lines k).marked line is small marked) (λ t.
+          record { object = t.object; held = held-counted t.object t.held; touches = t.touches });
+      touched = λ line is small t. (lawful.lines k).touched line is small
+          (record { object = t.object; held = held-back t.object t.held; touches = t.touches });
     };
   }
 

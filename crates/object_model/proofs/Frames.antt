@@ -1,5 +1,5 @@
 -- A heap whose objects, blocks and bits stay is lawful as before, if references refer to objects and only objects are pinned.
-use Rattle.std.proofs.Common.{◌≡◌, sym, ◌∙◌, ap, subst, ℕ, ◌+◌, ◌/◌, ◌%◌, ◌^◌, ◌<◌, ◌≤◌, inl, inr, arith, ◌&&◌, ◌||◌, IsTrue, List, nat_eq, nat_lt, add-zero, ◌↔◌}
+use Rattle.std.proofs.Common.{◌≡◌, refl, sym, ◌∙◌, ap, subst, ℕ, ◌+◌, ◌/◌, ◌%◌, ◌^◌, ◌<◌, ◌≤◌, inl, inr, arith, ◌&&◌, ◌||◌, IsTrue, List, nat_eq, nat_lt, add-zero, ◌↔◌}
 use Rattle.std.proofs.Math.Logic.{∥∥₁_map}
 use Rattle.std.proofs.lemmas.Bool.{cases_lt, and_parts, and_left, le-ltb, ltb-true, or_cases, or_left, or_right}
 use Rattle.heap_layout.specs.Zones.{IsAddress}
@@ -11,6 +11,7 @@ use Rattle.object_model.specs.Lawful.{IsLawful, IsWellFormed, HasLawfulObjects, 
 use Rattle.ideal_heap.specs.Names.{IsName, name_of}
 use Rattle.object_model.specs.Changes.{ObjectsStay}
 use Rattle.object_model.proofs.UsedBlocks as used
+use Rattle.object_model.proofs.Lines.{touched-as}
 
 -- block words alone decide kinds
 module _ (s : HeapState) (w : List ℕ) (same : (k : ℕ) → k < s.blocks → block_word (with_words s w) k ≡ block_word s k) where
@@ -130,24 +131,10 @@ module _ (s : HeapState) (w : List ℕ) (keeps : ObjectsStay s (with_words s w))
   }
 
   touched-after : (k line : ℕ) → IsTouched s k line → IsTouched after k line
-  touched-after k line t = record {
-    object = t.object;
-    word = t.word;
-    held = held-after t.object t.held;
-    inside = record { from = t.inside.from; below = subst (λ (n : ℕ). t.word < t.object + n) (sym (size-after t.object t.held)) t.inside.below };
-    from = t.from;
-    below = t.below;
-  }
+  touched-after k line t = touched-as s after k line t refl (held-after t.object t.held) (size-after t.object t.held)
 
   touched-before : (k line : ℕ) → IsTouched after k line → IsTouched s k line
-  touched-before k line t = let before = held-before t.object t.held in record {
-    object = t.object;
-    word = t.word;
-    held = before;
-    inside = extent-before t.object t.word before t.inside;
-    from = t.from;
-    below = t.below;
-  }
+  touched-before k line t = let before = held-before t.object t.held in touched-as after s k line t refl before (sym (size-after t.object before))
 
   pub lines-after : (k : ℕ) → LineBitsAreExact s k → LineBitsAreExact after k
   lines-after k old = record {

@@ -18,7 +18,8 @@ use Rattle.object_model.specs.Births.{IsVacant, IsLargeRoom, MakesRun}
 use Rattle.object_model.proofs.Blocks.{SameHeap}
 use Rattle.object_model.proofs.Births as births
 use Rattle.object_model.proofs.Births.{Adds}
-use Rattle.object_model.proofs.ObjectParts.{objects-of, places-of, together, line-block}
+use Rattle.object_model.proofs.ObjectParts.{objects-of, places-of, together}
+use Rattle.object_model.proofs.Lines.{touched-block_word}
 use Rattle.object_model.proofs.Marks.{mark-same}
 use Rattle.object_model.proofs.OneKind.{kind-code, kind-within, kind-from, one-kind}
 
@@ -246,7 +247,8 @@ module _ (s : HeapState) (w1 w2 : List ℕ) (k : ℕ) (n : Name) (refs nums : �
           let there : j < s.blocks = kind-within s j kinds.Immix was.0 in
           births.lines-after s w2 a n refs nums one_more vacant j (λ again. was.0) (λ line small set. same_lines j line there small ∙ set)
           (λ line small set. inl (sym (same_lines j line there small) ∙ set))
-          (λ line small here. absurd (away-from j here.word was.1 here.from here.below (line-block s j line here.word small here.first here.last))) old
+          (λ line small here. let word = touched-block_word s.blocks a size j line address.from (omega arith) small here in
+          absurd (away-from j word.0 was.1 word.1.from word.1.below word.2)) old
 
   pub lawful-run : IsLawful s → IsLawful after
   lawful-run lawful = record { but_lines = but_lines-run lawful.but_lines; lines = λ j. lines-run j (lawful.lines j) }

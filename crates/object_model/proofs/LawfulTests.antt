@@ -2,7 +2,7 @@
 use Rattle.std.proofs.Common.{◌≡◌, refl, sym, ◌∙◌, ap, ℕ, zero, suc, ◌+◌, ◌*◌, ◌-◌, ◌%◌, ◌^◌, ◌<◌, ◌≤◌, inl, inr, arith, Bool, true, false, ◌&&◌, ◌||◌, IsTrue, List, [], ◌∷◌, length, slice_index, nat_eq, nat_lt, nat_le}
 use Rattle.std.specs.Prelude.{if◌then◌else◌, not, filter}
 use Rattle.std.specs.List.{range_with_len, list_all, list_any}
-use Rattle.std.proofs.lemmas.Bool.{and_parts, cases_Bool, cases_eq, cases_lt, eqb-true, leb-true, ltb-true, lt-ltb, le-leb, eq-eqb, cond-true, cond-false, or_cases, and_from}
+use Rattle.std.proofs.lemmas.Bool.{and_parts, cases_Bool, cases_eq, eqb-true, leb-true, ltb-true, lt-ltb, le-leb, eq-eqb, cond-true, cond-false, or_cases, and_from}
 use Rattle.heap_layout.specs.Zones.{row_words, heap_of, block_at, offset_at, block_start, IsAddress, StartBits, PinBits, UnlogBits}
 use Rattle.heap_layout.proofs.MarkLemmas.{is-address_from_mark}
 use Rattle.heap_layout.specs.Blocks.{is_block_code}
@@ -358,32 +358,13 @@ module _ (s : HeapState) (hs : List ℕ) (tests : PassesTests s hs) where
       let both = and_parts (nat_lt a (block_start s.blocks k + 16 * (line + 1))) _ some.1 in
       let before : a < block_start s.blocks k + 16 * (line + 1) = ltb-true _ _ both.0 in
       let past : block_start s.blocks k + 16 * line < a + size_at s a = ltb-true _ _ both.1 in
-      elim (cases_lt a (block_start s.blocks k + 16 * line)) as (λ _. IsTouched s k line) [
-        | inl low ↦ record {
-          object = a;
-          word = block_start s.blocks k + 16 * line;
-          held = marks.held s a some.2;
-          inside = record { from = omega arith; below = past };
-          from = omega arith;
-          below = omega arith;
-        }
-        | inr high ↦ record {
-          object = a;
-          word = a;
-          held = marks.held s a some.2;
-          inside = record { from = omega arith; below = omega arith };
-          from = high;
-          below = before;
-        }
-      ]
+      record { object = a; held = marks.held s a some.2; touches = record { from = omega arith; below = omega arith } }
 
   marked-line : (k line : ℕ) → HasKind s k kinds.Immix → line < 256 → IsTouched s k line → IsTrue (line_marked s k line)
   marked-line k line is less touched =
       let a : ℕ = touched.object in
-      let from : a ≤ touched.word = touched.inside.from in
-      let below : touched.word < a + size_at s a = touched.inside.below in
-      let first : block_start s.blocks k + 16 * line ≤ touched.word = touched.from in
-      let last : touched.word < block_start s.blocks k + 16 * (line + 1) = touched.below in
+      let from : heap_of s.blocks + 16 * (256 * k + line) < a + size_at s a = touched.touches.from in
+      let below : a < heap_of s.blocks + 16 * (256 * k + line + 1) = touched.touches.below in
       let there : touches s k line a ≡ true = and_from _ _ (lt-ltb a (block_start s.blocks k + 16 * (line + 1)) (omega arith)) (lt-ltb (block_start s.blocks k + 16 * line) (a + size_at s a) (omega arith)) in
       elim (cases_Bool (list_any (touches s k line) hs)) as (λ _. IsTrue (line_marked s k line)) [
         | inl any ↦ exact k line is less ∙ any

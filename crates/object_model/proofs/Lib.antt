@@ -16,6 +16,7 @@ pub mod StepClauses
 pub mod StepCases
 pub mod UsedBlocks
 pub mod ObjectParts
+pub mod Lines
 pub mod Blocks
 pub mod BirthRepresentation
 pub mod Births

@@ -1,17 +1,18 @@
 -- An object is written and its lines are marked, in a block of any kind that has small objects.
 use Rattle.std.proofs.Common.{◌≡◌, ◌≢◌, sym, ◌∙◌, ap, ℕ, ◌+◌, ◌*◌, ◌-◌, ◌/◌, ◌%◌, ◌<◌, ◌≤◌, ◌⊎◌, inl, inr, arith, IsTrue, List, nat_eq}
 use Rattle.std.specs.Int.{bit_at}
-use Rattle.std.proofs.lemmas.Bool.{cases_lt}
-use Rattle.heap_layout.specs.Zones.{Zone, StartBits, PinBits, UnlogBits, BlockWords, Globals, heap_of, first, address_bit, block_at, block_start, line_at}
+use Rattle.heap_layout.specs.Zones.{Zone, StartBits, PinBits, UnlogBits, BlockWords, Globals, heap_of, first, address_bit, block_at}
 use Rattle.heap_layout.specs.declared.block.Kind.TheVariants as kinds
 use Rattle.ideal_heap.specs.declared.name.Name.{Name}
 use Rattle.object_model.specs.Objects.{HeapState, with_words, block_word, line_marked, size_of}
 use Rattle.object_model.specs.Lawful.{IsLawful, IsLawfulButLines, IsWellFormed}
 use Rattle.object_model.specs.Changes.{WritesObject}
 use Rattle.object_model.specs.Births.{IsRoom, MarksLines}
+use Rattle.object_model.specs.Lines.{TouchesLine}
 use Rattle.object_model.proofs.Blocks.{SameHeap}
 use Rattle.object_model.proofs.Births as births
-use Rattle.object_model.proofs.Births.{Adds, IsCovered}
+use Rattle.object_model.proofs.Births.{Adds}
+use Rattle.object_model.proofs.Lines.{touched-or-not}
 use Rattle.object_model.proofs.Marks.{mark-same}
 use Rattle.object_model.proofs.OneKind.{kind-within}
 
@@ -32,46 +33,16 @@ marks-same s w a size marks = record {
 -- the lines of a new object are marked, and no others
 module _ (s : HeapState) (w : List ℕ) (a : ℕ) (n : Name) (refs nums : ℕ) (one_more : Adds s w a n refs nums)
     (same_words : (k : ℕ) → k < s.blocks → block_word (with_words s w) k ≡ block_word s k) (order : IsWellFormed s) (room : IsRoom s a n refs nums)
-    (line-other : (k line : ℕ) → k < s.blocks → line < 256 → (256 * k + line < line_at s.blocks a) ⊎ (line_at s.blocks (a + size_of refs nums - 1) < 256 * k + line)
-    → line_marked (with_words s w) k line ≡ line_marked s k line)
-    (line-marked : (k line : ℕ) → k < s.blocks → line < 256 → line_at s.blocks a ≤ 256 * k + line → 256 * k + line ≤ line_at s.blocks (a + size_of refs nums - 1) → IsTrue (line_marked (with_words s w) k line))
+    (line-other : (k line : ℕ) → k < s.blocks → line < 256 → (TouchesLine s.blocks a (size_of refs nums) (256 * k + line) → ⊥) → line_marked (with_words s w) k line ≡ line_marked s k line)
+    (line-marked : (k line : ℕ) → k < s.blocks → line < 256 → TouchesLine s.blocks a (size_of refs nums) (256 * k + line) → IsTrue (line_marked (with_words s w) k line))
     (order-marked : IsWellFormed (with_words s w)) where
-  base : heap_of s.blocks ≤ a
-  base = room.vacant.address.from
-
-  -- a line is before the object's lines, after them, or has one of the object's words
-  line-cases : (k line : ℕ) → (256 * k + line < line_at s.blocks a) ⊎ ((line_at s.blocks (a + size_of refs nums - 1) < 256 * k + line) ⊎ IsCovered s a (size_of refs nums) k line)
-  line-cases k line = elim (cases_lt (256 * k + line) (line_at s.blocks a)) as (λ _. (256 * k + line < line_at s.blocks a) ⊎ ((line_at s.blocks (a + size_of refs nums - 1) < 256 * k + line) ⊎ IsCovered s a (size_of refs nums) k line)) [
-    | inl before ↦ inl before
-    | inr from ↦ inr (elim (cases_lt (line_at s.blocks (a + size_of refs nums - 1)) (256 * k + line)) as (λ _. (line_at s.blocks (a + size_of refs nums - 1) < 256 * k + line) ⊎ IsCovered s a (size_of refs nums) k line) [
-      | inl past ↦ inl past
-      | inr upto ↦ inr (covers from upto)
-    ])
-  ]
-    where
-      covers : line_at s.blocks a ≤ 256 * k + line → 256 * k + line ≤ line_at s.blocks (a + size_of refs nums - 1) → IsCovered s a (size_of refs nums) k line
-      covers from upto = let heap : heap_of s.blocks ≤ a = base in elim (cases_lt (block_start s.blocks k + 16 * line) a) as (λ _. IsCovered s a (size_of refs nums) k line) [
-        | inl inside ↦ record { word = a; from = omega arith; below = omega arith; first = omega arith; last = omega arith }
-        | inr whole ↦ record { word = block_start s.blocks k + 16 * line; from = whole; below = omega arith; first = omega arith; last = omega arith }
-      ]
-
-  line-own : (k line : ℕ) → k < s.blocks → line < 256 → IsCovered s a (size_of refs nums) k line → IsTrue (line_marked (with_words s w) k line)
-  line-own k line there small here =
-      let heap : heap_of s.blocks ≤ a = base in
-      let from : a ≤ here.word = here.from in
-      let below : here.word < a + size_of refs nums = here.below in
-      let low : block_start s.blocks k + 16 * line ≤ here.word = here.first in
-      let high : here.word < block_start s.blocks k + 16 * (line + 1) = here.last in
-      line-marked k line there small (omega arith) (omega arith)
+  -- a line that is not touched, or one that is
+  either : (P : Type 0) (k line : ℕ) → ((TouchesLine s.blocks a (size_of refs nums) (256 * k + line) → ⊥) → P) → (TouchesLine s.blocks a (size_of refs nums) (256 * k + line) → P) → P
+  either P k line none here = elim (touched-or-not s.blocks a (size_of refs nums) (256 * k + line)) as (λ _. P) [ inl touches ↦ here touches | inr not ↦ none not ]
 
   line-away : (k line : ℕ) → k < s.blocks → line < 256 → k ≢ block_at s.blocks a → line_marked (with_words s w) k line ≡ line_marked s k line
-  line-away k line there small away = elim (line-cases k line) as (λ _. line_marked (with_words s w) k line ≡ line_marked s k line) [
-    | inl before ↦ line-other k line there small (inl before)
-    | inr rest ↦ elim rest as (λ _. line_marked (with_words s w) k line ≡ line_marked s k line) [
-      | inl past ↦ line-other k line there small (inr past)
-      | inr here ↦ absurd (away (births.covered-block s w a n refs nums one_more same_words order room k line small here))
-    ]
-  ]
+  line-away k line there small away = either (line_marked (with_words s w) k line ≡ line_marked s k line) k line (line-other k line there small)
+      (λ here. absurd (away (births.covered-block s w a n refs nums one_more same_words order room k line small here)))
 
   pub but_lines-marked : IsLawfulButLines s → IsLawfulButLines (with_words s w)
   but_lines-marked = births.but_lines-born s w a n refs nums one_more same_words order room order-marked line-away
@@ -80,26 +51,14 @@ module _ (s : HeapState) (w : List ℕ) (a : ℕ) (n : Name) (refs nums : ℕ) (
   lawful-marked lawful = record {
     but_lines = but_lines-marked lawful.but_lines;
     lines = λ k. births.lines-born s w a n refs nums one_more same_words order room k (λ line is small was. stay k line (kind-within s k kinds.Immix is) small was)
-        (λ line is small set. grown k line (kind-within s k kinds.Immix is) small set) (λ line is small here. line-own k line (kind-within s k kinds.Immix is) small here) (lawful.lines k);
+        (λ line is small set. grown k line (kind-within s k kinds.Immix is) small set) (λ line is small here. line-marked k line (kind-within s k kinds.Immix is) small here) (lawful.lines k);
   }
     where
       stay : (k line : ℕ) → k < s.blocks → line < 256 → IsTrue (line_marked s k line) → IsTrue (line_marked (with_words s w) k line)
-      stay k line there small was = elim (line-cases k line) as (λ _. IsTrue (line_marked (with_words s w) k line)) [
-        | inl before ↦ line-other k line there small (inl before) ∙ was
-        | inr rest ↦ elim rest as (λ _. IsTrue (line_marked (with_words s w) k line)) [
-          | inl past ↦ line-other k line there small (inr past) ∙ was
-          | inr here ↦ line-own k line there small here
-        ]
-      ]
+      stay k line there small was = either (IsTrue (line_marked (with_words s w) k line)) k line (λ none. line-other k line there small none ∙ was) (line-marked k line there small)
 
-      grown : (k line : ℕ) → k < s.blocks → line < 256 → IsTrue (line_marked (with_words s w) k line) → IsTrue (line_marked s k line) ⊎ IsCovered s a (size_of refs nums) k line
-      grown k line there small set = elim (line-cases k line) as (λ _. IsTrue (line_marked s k line) ⊎ IsCovered s a (size_of refs nums) k line) [
-        | inl before ↦ inl (sym (line-other k line there small (inl before)) ∙ set)
-        | inr rest ↦ elim rest as (λ _. IsTrue (line_marked s k line) ⊎ IsCovered s a (size_of refs nums) k line) [
-          | inl past ↦ inl (sym (line-other k line there small (inr past)) ∙ set)
-          | inr here ↦ inr here
-        ]
-      ]
+      grown : (k line : ℕ) → k < s.blocks → line < 256 → IsTrue (line_marked (with_words s w) k line) → IsTrue (line_marked s k line) ⊎ TouchesLine s.blocks a (size_of refs nums) (256 * k + line)
+      grown k line there small set = either (IsTrue (line_marked s k line) ⊎ TouchesLine s.blocks a (size_of refs nums) (256 * k + line)) k line (λ none. inl (sym (line-other k line there small none) ∙ set)) (λ here. inr here)
 
 -- the object is written, then its lines are marked
 module _ (s : HeapState) (w1 w2 : List ℕ) (a : ℕ) (n : Name) (refs nums : ℕ) (order : IsWellFormed s) (room : IsRoom s a n refs nums)
@@ -113,7 +72,7 @@ module _ (s : HeapState) (w1 w2 : List ℕ) (a : ℕ) (n : Name) (refs nums : �
   pub lawful-then : IsLawful s → IsLawful (with_words s w2)
   lawful-then = lawful-marked s w2 a n refs nums one_then words_then order room
       (λ k line there small outside. marks.others (256 * k + line) (omega arith) outside ∙ births.lines-same s w1 a n refs nums writes room.vacant.address k line there small)
-      (λ k line there small from upto. marks.marked (256 * k + line) from upto)
+      (λ k line there small touches. marks.marked (256 * k + line) touches)
       (births.order-born s w2 a n refs nums one_then words_then order room (marks.extent ∙ writes.extent) marks.words)
 
 -- its lines are marked, then it is written
@@ -128,5 +87,5 @@ module _ (s : HeapState) (w1 w2 : List ℕ) (a : ℕ) (n : Name) (refs nums : �
   pub lawful-first : IsLawful s → IsLawful (with_words s w2)
   lawful-first = lawful-marked s w2 a n refs nums one_first words_first order room
       (λ k line there small outside. births.lines-same (with_words s w1) w2 a n refs nums writes room.vacant.address k line there small ∙ marks.others (256 * k + line) (omega arith) outside)
-      (λ k line there small from upto. births.lines-same (with_words s w1) w2 a n refs nums writes room.vacant.address k line there small ∙ marks.marked (256 * k + line) from upto)
+      (λ k line there small touches. births.lines-same (with_words s w1) w2 a n refs nums writes room.vacant.address k line there small ∙ marks.marked (256 * k + line) touches)
       (births.order-born s w2 a n refs nums one_first words_first order room (writes.extent ∙ marks.extent) writes.words)

@@ -1,6 +1,6 @@
 -- The invariant of objects in two parts: of each object's own words, and of where objects lie.
-use Rattle.std.proofs.Common.{◌≡◌, ℕ, ◌+◌, ◌*◌, ◌<◌, ◌≤◌, arith, ◌||◌, IsTrue}
-use Rattle.heap_layout.specs.Zones.{block_at, block_start}
+use Rattle.std.proofs.Common.{◌≡◌, ℕ, ◌<◌, ◌||◌, IsTrue}
+use Rattle.heap_layout.specs.Zones.{block_start}
 use Rattle.heap_layout.specs.declared.block.Kind.TheVariants as kinds
 use Rattle.object_model.specs.Objects.{HeapState, HasKind, global_at, is_pinned, is_unlogged, IsHeld, IsInExtent, name_at, refs_at, size_at, ref_at}
 use Rattle.object_model.specs.Lawful.{HasLawfulObjects, HasHeader, Lies, IsRefField, IsRoot, is_in_run}
@@ -36,7 +36,3 @@ together s objects places = record {
   globals = objects.globals;
   names = objects.names;
 }
-
--- a word of a line lies in the line's block
-pub line-block : (s : HeapState) (k line word : ℕ) → line < 256 → block_start s.blocks k + 16 * line ≤ word → word < block_start s.blocks k + 16 * (line + 1) → block_at s.blocks word ≡ k
-line-block s k line word small from below = omega arith

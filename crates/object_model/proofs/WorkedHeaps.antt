@@ -4,7 +4,7 @@ use Rattle.std.specs.Int.{bit_at}
 use Rattle.std.proofs.Math.Pow.{pow_mono}
 use Rattle.std.proofs.Math.Nat.{div-eq_of_lt}
 use Rattle.std.proofs.lemmas.Nat.Bits.{bit_at-zero, bit_at-pow_other}
-use Rattle.std.proofs.lemmas.Bool.{cases_eq, eqb-true}
+use Rattle.std.proofs.lemmas.Bool.{cases_eq, cases_lt, eqb-true}
 use Rattle.std.proofs.lemmas.List.{get_or-set_same, get_or-set_other, length-set, length-replicate}
 use Rattle.heap_layout.specs.Zones.{StartBits, LineWords, bit_of}
 use Rattle.heap_layout.specs.Blocks.{IsValid, code_of, kind_code}
@@ -226,14 +226,18 @@ module _ (w : List ℕ) (long : length w ≡ 17190) (zero : (i : ℕ) → 22 ≤
     base = refl;
     extent = length-set w 22 3;
     words = set-fits w 22 3 (omega (arith, long)) (lit< tt) fits;
-    marked = λ line from upto.
+    marked = λ line touches.
+        let from : 806 + 16 * line < 806 + 23 = touches.from in
         let e : 22 + line / 64 ≡ 22 = omega arith in
         let place : line % 64 ≡ line = omega arith in
         ap (λ i. nat_eq (bit_at (slice_index lined i) (line % 64)) 1) e ∙ ap (λ v. nat_eq (bit_at v (line % 64)) 1) own ∙ ap (λ k. nat_eq (bit_at 3 k) 1) place ∙ low-two line (omega arith);
     others = λ line below outside. elim (cases_eq (line / 64) 0) as (λ _. bit_of 4 LineWords lined line ≡ bit_of 4 LineWords w line) [
       | inl e ↦
           let new : slice_index lined (22 + line / 64) ≡ 3 = ap (λ k. slice_index lined (22 + k)) e ∙ own in
-          let more : 2 ≤ line % 64 = elim outside as (λ _. 2 ≤ line % 64) [ inl before ↦ omega arith | inr past ↦ omega arith ] in
+          let more : 2 ≤ line % 64 = elim (cases_lt line 2) as (λ _. 2 ≤ line % 64) [
+            | inl low ↦ absurd (outside (record { from = omega arith; below = omega arith }))
+            | inr high ↦ omega arith
+          ] in
           ap (λ v. nat_eq v 1) (ap (λ v. bit_at v (line % 64)) new ∙ no-third (line % 64) more
           ∙ sym (ap (λ v. bit_at v (line % 64)) (zero (22 + line / 64) (omega arith)) ∙ bit_at-zero (line % 64)))
       | inr later ↦ ap (λ v. nat_eq (bit_at v (line % 64)) 1) (get_or-set_other w 22 (22 + line / 64) 3 0 (omega arith))

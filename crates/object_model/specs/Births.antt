@@ -1,13 +1,15 @@
 -- Where a new object may be written, and how that changes objects, block words and line bits.
-use Rattle.std.specs.Prelude.{◌≡◌, ◌≢◌, ℕ, ◌+◌, ◌*◌, ◌-◌, ◌<◌, ◌≤◌, ◌⊎◌, ◌^◌, IsTrue, length, slice_set}
-use Rattle.heap_layout.specs.Zones.{BlockWords, LineWords, StartBits, first, bit_of, block_start, line_at, IsAddress}
+use Rattle.std.specs.Prelude.{◌≡◌, ◌≢◌, ℕ, ◌+◌, ◌*◌, ◌<◌, ◌≤◌, ◌⊎◌, ◌^◌, IsTrue, length, slice_set}
+use Rattle.heap_layout.specs.Zones.{BlockWords, LineWords, StartBits, first, bit_of, block_start, IsAddress}
 use Rattle.heap_layout.specs.Blocks.{code_of}
+use Rattle.heap_layout.specs.declared.layout.TheConstants.{BLOCK_LINES}
 use Rattle.heap_layout.specs.declared.block.BlockWord.{BlockWord}
 use Rattle.heap_layout.specs.declared.block.Kind.TheVariants as kinds
 use Rattle.ideal_heap.specs.declared.name.Name.{Name}
 use Rattle.ideal_heap.specs.Names.{IsName}
 use Rattle.object_model.specs.Objects.{HeapState, with_words, word_at, block_word, HasKind, IsHeld, IsInExtent, name_at, size_of, blocks_for}
 use Rattle.object_model.specs.Lawful.{LiesInBlock, IsClear}
+use Rattle.object_model.specs.Lines.{TouchesLine}
 use Rattle.object_model.specs.Changes.{WritesObject}
 use Rattle.ideal_heap.specs.declared.command.TheConstants.{MAX_REFS, MAX_NUMS}
 use Rattle.object_model.specs.declared.shape.TheConstants.{MAX_MEDIUM_WORDS}
@@ -43,17 +45,16 @@ pub record IsLargeRoom (s : HeapState) (k : ℕ) (n : Name) (refs nums : ℕ) : 
 abbrev pub with_block : HeapState → ℕ → BlockWord → HeapState
 with_block s k word = with_words s (slice_set s.words (first s.blocks BlockWords + k) (code_of word))
 
--- The line bit of each line that has one of the `size` words from a on is set. All else is unchanged.
+-- The line bit of each line that an object of `size` words at a touches is set. All else is unchanged.
 pub record MarksLines (old new : HeapState) (a size : ℕ) : Type 0 where
   pub blocks : new.blocks ≡ old.blocks
   pub number : new.number ≡ old.number
   pub base : new.base ≡ old.base
   pub extent : length new.words ≡ length old.words
   pub words : (i : ℕ) → word_at new i < 2 ^ 64
-  pub marked : (line : ℕ) → line_at old.blocks a ≤ line → line ≤ line_at old.blocks (a + size - 1)
+  pub marked : (line : ℕ) → TouchesLine old.blocks a size line
       → IsTrue (bit_of old.blocks LineWords new.words line)
-  pub others : (line : ℕ) → line < 256 * old.blocks
-      → (line < line_at old.blocks a) ⊎ (line_at old.blocks (a + size - 1) < line)
+  pub others : (line : ℕ) → line < BLOCK_LINES * old.blocks → (TouchesLine old.blocks a size line → ⊥)
       → bit_of old.blocks LineWords new.words line ≡ bit_of old.blocks LineWords old.words line
   pub rest : (i : ℕ) → (i < first old.blocks LineWords) ⊎ (first old.blocks StartBits ≤ i)
       → word_at new i ≡ word_at old i

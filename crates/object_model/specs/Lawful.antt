@@ -6,8 +6,9 @@ use Rattle.heap_layout.specs.declared.block.Kind.TheVariants as kinds
 use Rattle.heap_layout.specs.Blocks.{is_block_code}
 use Rattle.ideal_heap.specs.Names.{IsName}
 use Rattle.object_model.specs.Objects.{HeapState, word_at, global_at, block_word, has_kind, HasKind, class_at, owner_at, line_marked, is_start, is_pinned, is_unlogged, IsHeld, name_at, refs_at, nums_at, size_at, number_at, target_at, ref_at, is_reference, IsInExtent, cell_words, blocks_for}
-use Rattle.heap_layout.specs.declared.layout.TheConstants.{BLOCK_WORDS, MAX_BLOCKS}
+use Rattle.heap_layout.specs.declared.layout.TheConstants.{BLOCK_LINES, BLOCK_WORDS, MAX_BLOCKS}
 use Rattle.ideal_heap.specs.declared.command.TheConstants.{MAX_REFS, MAX_NUMS}
+use Rattle.object_model.specs.Lines.{TouchesLine}
 use Rattle.object_model.specs.declared.shape.TheConstants.{MAX_MEDIUM_WORDS}
 
 -- The row has as many words as its layout, each of 64 bits, and the last full collection is no later than the last one.
@@ -118,16 +119,13 @@ pub record IsClear (s : HeapState) (k : ℕ) : Type 0 where
 abbrev pub FreeBlockIsClear : HeapState → ℕ → Type 0
 FreeBlockIsClear s k = HasKind s k kinds.Free → IsClear s k
 
--- a held object has a word in this line of block k (a line has 16 words)
+-- a held object touches this line of block k
 pub record IsTouched (s : HeapState) (k line : ℕ) : Type 0 where
   pub object : ℕ
-  pub word : ℕ
   pub held : IsHeld s object
-  pub inside : IsInExtent s object word
-  pub from : block_start s.blocks k + 16 * line ≤ word
-  pub below : word < block_start s.blocks k + 16 * (line + 1)
+  pub touches : TouchesLine s.blocks object (size_at s object) (BLOCK_LINES * k + line)
 
--- A line bit of an Immix block is set if and only if a held object has a word in the line.
+-- A line bit of an Immix block is set if and only if a held object touches the line.
 pub record LineBitsAreExact (s : HeapState) (k : ℕ) : Type 0 where
   pub marked : (line : ℕ) → HasKind s k kinds.Immix → line < 256 → IsTrue (line_marked s k line)
       → ∥ IsTouched s k line ∥₁

@@ -1,4 +1,5 @@
 pub mod Objects
+pub mod Lines
 pub mod Lawful
 pub mod Graphs
 pub mod Ages

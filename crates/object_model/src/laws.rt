@@ -3,7 +3,7 @@
 ghost use Rattle.std.specs.Prelude.{◌≡◌, ◌≢◌, ◌⊎◌, ◌↔◌, ℕ, ◌≤◌, ◌<◌, ◌+◌, ◌*◌, ◌/◌, ◌%◌, ◌^◌, nat_eq, IsTrue, true, false, replicate, List, [], ◌∷◌, map, if◌then◌else◌, Bool};
 ghost use Rattle.std.specs.List.{AllByRecursion};
 ghost use Rattle.forward_word.specs.CollectorWords.{collector_word};
-ghost use Rattle.heap_layout.specs.Zones.{row_words, first, LineWords, IsAddress, line_at, block_at, offset_at};
+ghost use Rattle.heap_layout.specs.Zones.{row_words, heap_of, first, LineWords, IsAddress, line_at, block_at, offset_at};
 ghost use Rattle.ideal_heap.specs.declared.name.Name.{Name};
 ghost use Rattle.ideal_heap.specs.Names.{IsName};
 ghost use Rattle.object_model.specs.Changes.{WritesObject, ObjectsStay};
@@ -13,8 +13,9 @@ ghost use Rattle.heap_layout.specs.declared.block.BlockWord.{BlockWord};
 ghost use Rattle.heap_layout.specs.declared.block.Kind.TheVariants as kinds;
 ghost use Rattle.heap_layout.specs.Blocks.{IsValid, code_of, kind_code, is_block_code};
 ghost use Rattle.ideal_heap.specs.Ideal.{empty};
-ghost use Rattle.object_model.specs.Objects.{HeapState, empty_heap, word_at, block_word, HasKind, class_at, owner_at, number_at, target_at, line_marked, cell_words, blocks_for, lines_for, is_start, is_pinned, is_unlogged, IsHeld, IsInExtent, refs_at, ref_at, is_reference, size_of, size_at, name_at};
+ghost use Rattle.object_model.specs.Objects.{HeapState, empty_heap, word_at, block_word, HasKind, class_at, owner_at, number_at, target_at, line_marked, cell_words, blocks_for, lines_for, is_start, is_pinned, is_unlogged, IsHeld, IsInExtent, IsInExtentOf, refs_at, ref_at, is_reference, size_of, size_at, name_at};
 ghost use Rattle.object_model.specs.Lawful.{IsLawful, IsLawfulButLines, IsWellFormed, IsClear, LineBitsAreExact, Lies, IsRoot, IsReadable, IsReadableBlock, HasObject, HasHeader, has_small};
+ghost use Rattle.object_model.specs.Lines.{TouchesLine};
 ghost use Rattle.object_model.specs.Ages.{is_old, is_logged, is_survivor, RemembersYoung};
 ghost use Rattle.object_model.specs.Preserving.{may_leave, PreservesObjects, field_after};
 ghost use Rattle.object_model.specs.Graphs.{AreDifferent, Represents, new_mutator};
@@ -137,6 +138,14 @@ pub fn lines_have_words()
     ensures { (s : HeapState) (k line : ℕ) → line < BLOCK_LINES
         → line_marked s k line ≡ nat_eq (bit_at
         (word_at s (first s.blocks LineWords + 4 * k + line / 64)) (line % 64)) 1 }
+{}
+
+/// An object touches the lines in which it has a word.
+pub fn touched_lines_have_words()
+    ensures word { (b a n k : ℕ) → heap_of b ≤ a → 0 < n → TouchesLine b a n k
+        → (i : ℕ) × IsInExtentOf a n i × (line_at b i ≡ k) }
+    ensures touched { (b a n k i : ℕ) → heap_of b ≤ a → IsInExtentOf a n i
+        → line_at b i ≡ k → TouchesLine b a n k }
 {}
 
 /// Sizes of cells, of lines and of runs.

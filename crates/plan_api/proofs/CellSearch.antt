@@ -3,7 +3,7 @@ use Rattle.std.proofs.Common.{◌≡◌, refl, sym, ◌∙◌, ap, ℕ, ◌+◌,
 use Rattle.std.proofs.Math.Nat.{le-div_iff_mul-le}
 use Rattle.std.proofs.lemmas.Bool.{cases_eq, true≢false}
 use Rattle.std.proofs.lemmas.Grind.{div_ceil_times}
-use Rattle.plan_api.specs.Bits.{bit_in}
+use Rattle.line_marks.specs.Bits.{bit_in}
 use Rattle.plan_api.specs.Cells.{IsClearCell, IsFirstCell, HasNoCell}
 
 module _ (starts : List ℕ) (words from index : ℕ) (some : 0 < words)

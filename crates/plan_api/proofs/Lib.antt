@@ -1,10 +1,8 @@
-pub mod BitSearch
 pub mod CellSearch
 pub mod HoleTests
 pub mod PartLaws
 pub mod Parts
 pub mod ReserveLaws
-pub mod Runs
 pub mod Takings
 pub mod Tallies
 pub mod Viewing

@@ -1,20 +1,21 @@
 -- The hole found in the view of a block is the first hole of the block.
-use Rattle.std.proofs.Common.{◌≡◌, sym, ◌∙◌, ap, subst, ℕ, zero, suc, ◌+◌, ◌*◌, ◌-◌, ◌/◌, ◌%◌, ◌<◌, ◌≤◌, inl, inr, max, arith, true, false, IsTrue, Option, Some, None}
+use Rattle.std.proofs.Common.{◌≡◌, refl, sym, ◌∙◌, ap, subst, ℕ, ◌+◌, ◌*◌, ◌-◌, ◌/◌, ◌%◌, ◌<◌, ◌≤◌, inl, inr, max, arith, Option, Some, None}
 use Rattle.std.specs.Prelude.{MatchOption}
-use Rattle.std.proofs.lemmas.Bool.{cases_lt, cases_eq, cases_Bool, false_from_ne_true, true≢false}
+use Rattle.std.proofs.lemmas.Bool.{cases_lt, cases_eq, false_from_ne_true, true≢false}
 use Rattle.heap_layout.specs.Zones.{block_at, offset_at, block_start}
 use Rattle.heap_layout.specs.declared.block.Kind.{Kind}
 use Rattle.heap_layout.specs.declared.block.Kind.TheVariants as kinds
 use Rattle.heap_layout.specs.declared.region.Region.{Region}
 use Rattle.heap_layout.specs.Blocks.{kind_of_code}
 use Rattle.heap_layout.proofs.BlockLemmas.{parts_of_code, kind_of_code-kind_code, kind_code_of}
-use Rattle.object_model.specs.Objects.{HeapState, HasKind, block_word, class_at, owner_at, line_marked, is_start, IsHeld, size_at, cell_words, lines_for}
+use Rattle.object_model.specs.Objects.{HeapState, HasKind, block_word, class_at, owner_at, is_start, IsHeld, size_at, cell_words, lines_for}
 use Rattle.object_model.proofs.OneKind.{kind-from, kind-code}
 use Rattle.sessions.specs.Fitting.{IsTail, IsFreeCell, class_of}
 use Rattle.sessions.proofs.Tails.{tail-unique}
 use Rattle.sessions.proofs.Holes.{class-room}
 use Rattle.plan_api.specs.declared.block_view.BlockView.{BlockView}
-use Rattle.plan_api.specs.Bits.{bit_in, IsClearFrom, IsFirstRun, HasNoRun}
+use Rattle.line_marks.specs.Bits.{IsClearFrom, IsFirstRun, HasNoRun}
+use Rattle.line_marks.proofs.HoleRuns.{run-hole, hole-clear}
 use Rattle.plan_api.specs.Cells.{IsClearCell, IsFirstCell, HasNoCell}
 use Rattle.plan_api.specs.Views.{IsLastObject, IsViewOf}
 use Rattle.block_sweeps.specs.Sweeping.{AreApart}
@@ -77,52 +78,13 @@ module _ (s : HeapState) (k : ℕ) (v : BlockView) (view : IsViewOf s k v) where
     tail-next : (from next end : ℕ) → IsTailPart s k from next end → next ≡ max v.end from
     tail-next from next end part = part.starts ∙ ap (λ b. max b from) (tail-unique s k part.begin v.end part.tail tail-viewed)
 
-  -- marked lines and start bits, in the view
-  line-clear : (line : ℕ) → line < 256 → bit_in v.lines line ≡ false → IsTrue (line_marked s k line) → ⊥
-  line-clear line below clear marked = true≢false (sym marked ∙ sym (view.lines line below) ∙ clear)
-
-  line-set : (line : ℕ) → line < 256 → bit_in v.lines line ≡ true → IsTrue (line_marked s k line)
-  line-set line below set = sym (view.lines line below) ∙ set
-
-  clear-line : (line : ℕ) → line < 256 → (IsTrue (line_marked s k line) → ⊥) → bit_in v.lines line ≡ false
-  clear-line line below clear = view.lines line below ∙ false_from_ne_true (line_marked s k line) clear
-
-  -- the run that contains a clear line has a first line
-  run-start : (x : ℕ) → bit_in v.lines x ≡ false → (start : ℕ) × (start ≤ x) × ((m : ℕ) → start ≤ m → m ≤ x → bit_in v.lines m ≡ false) × (0 < start → bit_in v.lines (start - 1) ≡ true)
-  run-start zero clear = (0, omega arith, (λ m from below. subst (λ (q : ℕ). bit_in v.lines q ≡ false) (let e : 0 ≡ m = omega arith in e) clear), (λ some. absurd (omega arith)))
-  run-start (suc x) clear = elim (cases_Bool (bit_in v.lines x)) as (λ _. (start : ℕ) × (start ≤ suc x) × ((m : ℕ) → start ≤ m → m ≤ suc x → bit_in v.lines m ≡ false) × (0 < start → bit_in v.lines (start - 1) ≡ true)) [
-    | inl set ↦ (suc x, omega arith, (λ m from below. subst (λ (q : ℕ). bit_in v.lines q ≡ false) (let e : suc x ≡ m = omega arith in e) clear), (λ some. subst (λ (q : ℕ). bit_in v.lines q ≡ true) (let e : x ≡ suc x - 1 = omega arith in e) set))
-    | inr more ↦
-        let before = run-start x more in
-        (before.0, (let le = before.1 in omega arith), (λ m from below. elim (cases_eq m (suc x)) as (λ _. bit_in v.lines m ≡ false) [ inl e ↦ subst (λ (q : ℕ). bit_in v.lines q ≡ false) (sym e) clear | inr other ↦ before.2 m from (omega arith) ]), before.3)
-  ]
-
+  -- runs of clear lines in the view
   line-part : (from size x end : ℕ) → 1 ≤ size → IsFirstRun v.lines (lines_for from) (lines_for size) x end → IsLinePart s k from (16 * x) (16 * end)
   line-part from size x end some run =
       let room = run.room in
-      let inside = run.inside in
-      let here : bit_in v.lines x ≡ false = run.clear x (omega arith) (omega arith) in
-      let start = run-start x here in
-      let le : start.0 ≤ x = start.1 in
-      let after = run.after in
-      let first : x ≡ max start.0 (lines_for from) = elim run.begins as (λ _. x ≡ max start.0 (lines_for from)) [
-        | inl e ↦ omega arith
-        | inr set ↦ (let same : start.0 ≡ x = elim (cases_eq start.0 x) as (λ _. start.0 ≡ x) [ inl e ↦ e | inr other ↦ absurd (let past = set.0 in true≢false (sym set.1 ∙ start.2 (x - 1) (omega arith) (omega arith))) ] in omega arith)
-      ] in
-      record {
-        line = start.0;
-        len = end - start.0;
-        hole = record {
-          some = omega arith;
-          inside = omega arith;
-          clear = λ line past below. line-clear line (omega arith)
-              (elim (cases_lt x line) as (λ _. bit_in v.lines line ≡ false) [ inl more ↦ run.clear line (omega arith) (omega arith) | inr within ↦ start.2 line past within ]);
-          before = λ more. line-set (start.0 - 1) (omega arith) (start.3 more);
-          after = λ more. subst (λ (q : ℕ). IsTrue (line_marked s k q)) (let e : end ≡ start.0 + (end - start.0) = omega arith in e) (line-set end (omega arith) (run.ends (omega arith)));
-        };
-        starts = ap (λ q. 16 * q) first;
-        ends = omega arith;
-      }
+      let hole = run-hole s k v.lines view.lines (lines_for from) (lines_for size) x end (omega arith) run in
+      let ends : x + (end - x) ≡ hole.line + hole.all = hole.ends in
+      record { line = hole.line; len = hole.all; hole = hole.hole; starts = ap (λ q. 16 * q) hole.starts; ends = omega arith }
 
   -- a part with room begins with enough clear lines
   part-clear : (from size next end : ℕ) → 1 ≤ size → IsLinePart s k from next end → next + size ≤ end → (x : ℕ) × (next ≡ 16 * x) × (lines_for from ≤ x) × IsClearFrom v.lines x (lines_for size)
@@ -132,15 +94,10 @@ module _ (s : HeapState) (k : ℕ) (v : BlockView) (view : IsViewOf s k v) where
       let ends : end ≡ 16 * (part.line + part.len) = part.ends in
       let inside : part.line + part.len ≤ 256 = part.hole.inside in
       let least : part.line ≤ x = omega arith in
-      let fits : x + lines_for size ≤ part.line + part.len = fits-lines x (part.line + part.len) size (omega arith) in (
-        x,
-        starts,
-        omega arith,
-        record {
-          inside = omega arith;
-          clear = λ m past below. clear-line m (omega arith) (part.hole.clear m (omega arith) (omega arith));
-        },
-      )
+      let fits : x + lines_for size ≤ part.line + part.len = fits-lines x (part.line + part.len) size (omega arith) in
+      let clear = hole-clear s k v.lines view.lines (lines_for from) (lines_for size) x (part.line + part.len - x)
+      (record { line = part.line; all = part.len; hole = part.hole; starts = refl; ends = omega arith }) (omega arith) in
+      (x, starts, clear.0, clear.1)
     where
       fits-lines : (x e size : ℕ) → 16 * x + size ≤ 16 * e → x + (size + 15) / 16 ≤ e
       fits-lines x e size room = omega arith

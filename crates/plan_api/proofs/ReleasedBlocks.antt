@@ -14,6 +14,7 @@ use Rattle.heap_layout.specs.Blocks.{kind_code, is_block_code, is_valid_for, is_
 use Rattle.object_model.proofs.OneKind.{kind-code}
 use Rattle.object_model.specs.declared.collect.Collect.{Collect}
 use Rattle.object_model.specs.Objects.{HeapState, state_over, block_word, has_kind, HasKind, line_marked, is_start, is_pinned, is_unlogged, IsHeld, size_at}
+use Rattle.object_model.specs.Lines.{TouchesLine}
 use Rattle.object_model.specs.Releasing.{IsReleasable, InSpan}
 use Rattle.object_model.specs.Ages.{Lives}
 use Rattle.sessions.specs.Plans.{Rules}
@@ -113,11 +114,8 @@ module _ (l : Layout) where
     touched-same line is = (let touched = is.touched in record {
       touched = record {
         object = touched.object;
-        word = touched.word;
         held = (held-same touched.object).1 touched.held;
-        inside = record { from = touched.inside.from; below = subst (λ n. touched.word < touched.object + n) (sym (size-same touched.object touched.held.address)) touched.inside.below };
-        from = touched.from;
-        below = touched.below;
+        touches = subst (λ n. TouchesLine b touched.object n (256 * k + line)) (sym (size-same touched.object touched.held.address)) touched.touches;
       };
       here = is.here;
     })
@@ -126,11 +124,8 @@ module _ (l : Layout) where
     touched-back line is = (let touched = is.touched in record {
       touched = record {
         object = touched.object;
-        word = touched.word;
         held = (held-same touched.object).0 touched.held;
-        inside = record { from = touched.inside.from; below = subst (λ n. touched.word < touched.object + n) (size-same touched.object touched.held.address) touched.inside.below };
-        from = touched.from;
-        below = touched.below;
+        touches = subst (λ n. TouchesLine b touched.object n (256 * k + line)) (size-same touched.object touched.held.address) touched.touches;
       };
       here = is.here;
     })

@@ -5,23 +5,14 @@ use Rattle.heap_layout.specs.Zones.{first, BlockWords, LineWords, StartBits, IsA
 use Rattle.heap_layout.specs.declared.layout.Layout.{Layout}
 use Rattle.heap_layout.specs.Blocks.{code_of, IsValid}
 use Rattle.heap_layout.proofs.MarkLemmas.{address_bit-at_address}
-use Rattle.object_model.specs.Objects.{HeapState, state_over, line_marked, is_start, IsHeld, size_at}
+use Rattle.object_model.specs.Objects.{HeapState, state_over, is_start, IsHeld, size_at}
 use Rattle.object_model.specs.Lawful.{HasObject, Lies, IsReadableBlock, IsWellFormed, IsLawful}
 use Rattle.object_model.proofs.ObjectReads.{place_of_address, lies_in_row}
 use Rattle.plan_api.specs.declared.block_view.BlockView.{BlockView}
-use Rattle.plan_api.specs.Bits.{bit_in, HasNoBit, IsLastBit}
+use Rattle.line_marks.proofs.HoleRuns.{lines-read}
+use Rattle.line_marks.specs.Bits.{bit_in, HasNoBit, IsLastBit}
 use Rattle.plan_api.specs.Views.{IsLastObject, HasNoObject, IsObjectsEnd, IsViewOf}
 use Rattle.block_sweeps.specs.Sweeping.{AreApart}
-
--- the words of a block's line bits, and those of its start bits, have its bits
-pub lines-read : (s : HeapState) (lines : List ℕ) (k line : ℕ) → ((n : ℕ) → n < 4 → slice_index lines n ≡ slice_index s.words (first s.blocks LineWords + 4 * k + n)) → line < 256
-    → bit_in lines line ≡ line_marked s k line
-lines-read s lines k line read below =
-    let n : ℕ = line / 64 in
-    let word : slice_index lines n ≡ slice_index s.words (first s.blocks LineWords + 4 * k + n) = read n (omega arith) in
-    let place : first s.blocks LineWords + 4 * k + n ≡ first s.blocks LineWords + (256 * k + line) / 64 = omega arith in
-    let bit : line % 64 ≡ (256 * k + line) % 64 = omega arith in
-    ap (λ v. nat_eq (bit_at v (line % 64)) 1) (word ∙ ap (slice_index s.words) place) ∙ ap (λ i. nat_eq (bit_at (slice_index s.words (first s.blocks LineWords + (256 * k + line) / 64)) i) 1) bit
 
 -- the address of word w of block k
 pub word-address : (b k w : ℕ) → k < b → w < 4096 → IsAddress b (block_start b k + w)

@@ -1,7 +1,7 @@
 -- Free cells, by the start bits of a block.
 use Rattle.heap_layout.specs.declared.layout.TheConstants.{BLOCK_WORDS}
 use Rattle.std.specs.Prelude.{◌≡◌, ℕ, ◌+◌, ◌*◌, ◌≤◌, List, false}
-use Rattle.plan_api.specs.Bits.{bit_in}
+use Rattle.line_marks.specs.Bits.{bit_in}
 
 -- a cell of `words` words begins at the offset `at`, and no object begins there
 pub record IsClearCell (starts : List ℕ) (words at : ℕ) : Type 0 where

@@ -1,5 +1,4 @@
 pub mod Flags
-pub mod Bits
 pub mod Cells
 pub mod Views
 pub mod Holes

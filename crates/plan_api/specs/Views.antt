@@ -4,7 +4,7 @@ use Rattle.std.specs.Prelude.{◌≡◌, ℕ, ◌+◌, ◌<◌, ◌≤◌, ◌�
 use Rattle.heap_layout.specs.Zones.{block_at, offset_at, block_start}
 use Rattle.heap_layout.specs.Blocks.{code_of, IsValid}
 use Rattle.object_model.specs.Objects.{HeapState, block_word, line_marked, is_start, IsHeld, size_at}
-use Rattle.plan_api.specs.Bits.{bit_in}
+use Rattle.line_marks.specs.Bits.{bit_in}
 use Rattle.plan_api.specs.declared.block_view.BlockView.{BlockView}
 
 -- a is the address of the last object that begins in block k, which ends before the offset `end`

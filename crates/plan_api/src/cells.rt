@@ -3,7 +3,7 @@
 ghost use Rattle.std.specs.Prelude.{◌≡◌, ◌+◌, ◌*◌, ◌<◌, ◌≤◌, length, MatchOption};
 ghost use Rattle.heap_layout.specs.declared.block.Kind.{Kind};
 ghost use Rattle.sessions.specs.Fitting.{class_for as class_for_size};
-ghost use Rattle.plan_api.specs.Bits.{bit_in};
+ghost use Rattle.line_marks.specs.Bits.{bit_in};
 ghost use Rattle.plan_api.specs.Cells.{IsFirstCell, HasNoCell};
 
 use cell_space::class_of;

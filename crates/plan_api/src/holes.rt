@@ -2,16 +2,16 @@
 
 ghost use Rattle.std.specs.Prelude.{◌≡◌, ◌+◌, ◌*◌, ◌/◌, ◌<◌, ◌≤◌, ℕ, max, false, length, MatchOption};
 ghost use Rattle.object_model.specs.Objects.{HeapState, lines_for};
-ghost use Rattle.plan_api.specs.Bits.{bit_in, IsRunEnd, IsFirstRun, HasNoRun};
+ghost use Rattle.line_marks.specs.Bits.{IsFirstRun, HasNoRun};
 ghost use Rattle.plan_api.specs.Views.{IsViewOf};
 ghost use Rattle.block_sweeps.specs.Sweeping.{AreApart};
 ghost use Rattle.plan_api.specs.Holes.{IsFirstHole};
 
-use crate::bits::first_bit;
 use crate::block_view::BlockView;
 use crate::cells::free_cell;
 use cell_space::{cell_size, class_of};
-use heap_layout::{BLOCK_LINES, BLOCK_WORDS, Kind, LINE_WORDS, Region};
+use heap_layout::{BLOCK_WORDS, Kind, LINE_WORDS, Region};
+use line_marks::first_run;
 use object_model::MAX_MEDIUM_WORDS;
 
 /// The first part of a hole of the block that has room for `size` words and begins at or after the
@@ -70,16 +70,6 @@ fn tail_part(end: u32, from: u32, size: u32) -> Option<Region>
     })
 }
 
-/// The line after the run of clear lines that contains `line`.
-fn run_end(lines: &[u64], line: u32) -> u32
-    requires words { length lines.now ≡ 4 }
-    requires line { line < BLOCK_LINES }
-    requires clear { bit_in lines.now line ≡ false }
-    ensures { IsRunEnd lines.now line result }
-{
-    first_bit(lines, true, line).unwrap_or(BLOCK_LINES)
-}
-
 /// The first run of clear lines with room for `size` words, among the lines that begin at or after
 /// the offset `from`.
 fn clear_lines(lines: &[u64], from: u32, size: u32) -> Option<Region>
@@ -91,17 +81,12 @@ fn clear_lines(lines: &[u64], from: u32, size: u32) -> Option<Region>
         × (r.end ≡ LINE_WORDS * end)
         × IsFirstRun lines.now (lines_for from) (lines_for size) x end) }
 {
-    let needed = size.div_ceil(LINE_WORDS);
-    let mut at = from.div_ceil(LINE_WORDS);
-    while let Some(line) = first_bit(lines, false, at) {
-        let end = run_end(lines, line);
-        if end - line >= needed {
-            return Some(Region {
-                next: LINE_WORDS * line,
-                end: LINE_WORDS * end,
-            });
-        }
-        at = end;
-    }
-    None
+    let first = from.div_ceil(LINE_WORDS);
+    let Some(run) = first_run(lines, first, size.div_ceil(LINE_WORDS)) else {
+        return None;
+    };
+    Some(Region {
+        next: LINE_WORDS * run.start,
+        end: LINE_WORDS * run.end,
+    })
 }

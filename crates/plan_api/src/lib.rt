@@ -1,7 +1,6 @@
 //! The interface of a plan, for a runtime that is generic over plans.
 #![tactic(auto)]
 
-mod bits;
 mod block_view;
 mod cells;
 mod counts;

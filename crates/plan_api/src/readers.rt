@@ -1,17 +1,17 @@
 //! The functions that read blocks of a heap's row. Plans decide by their results alone.
 
 ghost use Rattle.std.specs.Prelude.{◌≡◌, ◌+◌, ◌*◌, ◌<◌, ℕ, IsTrue, length, slice_index};
-ghost use Rattle.heap_layout.specs.Zones.{first, row_words, BlockWords, LineWords, StartBits};
+ghost use Rattle.heap_layout.specs.Zones.{first, row_words, BlockWords, StartBits};
 ghost use Rattle.heap_layout.specs.Blocks.{code_of, is_block_code, IsValid};
 ghost use Rattle.object_model.specs.Objects.{state_over, block_word};
 ghost use Rattle.object_model.specs.Lawful.{IsReadableBlock};
 ghost use Rattle.object_model.specs.Heaps.{heap_state};
 ghost use Rattle.plan_api.specs.Views.{IsViewOf};
 
-use crate::bits::last_bit;
 use crate::block_view::BlockView;
 use block_sweeps::object_size;
 use heap_layout::{BlockWord, Layout, decode};
+use line_marks::{last_bit, line_words};
 use object_model::Heap;
 use side_meta::Words;
 
@@ -54,22 +54,6 @@ pub fn block_word_in<W: Words>(words: &W, layout: &Layout, block: u32) -> BlockW
     ensures valid { IsValid result }
 {
     decode(words.get(layout.block_at(block))).unwrap()
-}
-
-/// The 4 words with the line bits of a block.
-fn line_words<W: Words>(words: &W, layout: &Layout, block: u32) -> [u64; 4]
-    requires extent { length (W.words words.now) ≡ row_words layout.now.blocks }
-    requires block { block < layout.now.blocks }
-    ensures { (n : ℕ) → n < 4 → slice_index result n
-        ≡ slice_index (W.words words.now) (first layout.now.blocks LineWords + 4 * block + n) }
-{
-    let at = layout.line_at(block);
-    [
-        words.get(at),
-        words.get(at + 1),
-        words.get(at + 2),
-        words.get(at + 3),
-    ]
 }
 
 /// The 64 words with the start bits of a block.

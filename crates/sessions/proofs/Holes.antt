@@ -10,6 +10,7 @@ use Rattle.heap_layout.specs.declared.block.Kind.TheVariants as kinds
 use Rattle.heap_layout.specs.Blocks.{kind_code}
 use Rattle.object_model.specs.Objects.{HeapState, HasKind, class_at, is_start, IsHeld, IsInExtent, size_at, cell_words}
 use Rattle.object_model.specs.Lawful.{IsWellFormed, IsRunOfBlocks, LiesInBlock, LineBitsAreExact}
+use Rattle.object_model.proofs.Lines.{word-touched}
 use Rattle.object_model.proofs.ObjectReads.{place_of_address}
 use Rattle.object_model.proofs.OneKind.{one-kind}
 use Rattle.sessions.specs.Fitting.{IsTail, IsFreeCell, HasLineHole, HasHole, LiesInLineHole, LiesInHole, class_of}
@@ -112,7 +113,7 @@ hole-clear kinds.Immix s k from size a i order right lies holds inside here past
     let base : heap_of s.blocks ≤ a = holds.address.from in
     let before : a ≤ i = inside.from in
     hole.hole.clear line (omega arith) (omega arith)
-    (right.touched line lies.0 (omega arith) (record { object = a; word = i; held = holds; inside = inside; from = omega arith; below = omega arith }))
+    (right.touched line lies.0 (omega arith) (record { object = a; held = holds; touches = word-touched s.blocks a (size_at s a) (256 * k + line) i base inside (omega arith) }))
 hole-clear kinds.Free s k from size a i order right lies holds inside here past below = lies
 hole-clear kinds.Mature s k from size a i order right lies holds inside here past below = lies
 hole-clear kinds.LargeHead s k from size a i order right lies holds inside here past below = lies

@@ -5,7 +5,8 @@ pub mod Beginning
 pub mod Holes
 pub mod Counting
 pub mod HoleKinds
-mod WorkedFits
+pub mod HoleStarts
+pub mod WorkedFits
 mod Nurseries
 pub mod Soundness
 pub mod CollectionLaws
@@ -23,3 +24,5 @@ pub mod StopSteps
 pub mod PlacedObjects
 mod SoundMoments
 mod GcSessions
+pub mod SameStates
+pub mod CollectedMoments

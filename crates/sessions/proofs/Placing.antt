@@ -1,14 +1,14 @@
 -- A small object under the plan that collects nothing: where it fits, where it is placed, and when it does not fit.
 use Rattle.std.proofs.Common.{◌≡◌, ◌≢◌, refl, sym, ◌∙◌, ap, subst, ℕ, zero, suc, ◌+◌, ◌<◌, ◌≤◌, ◌⊎◌, inl, inr, arith, Bool, true, false, ◌||◌, IsTrue, List, [], ◌∷◌, length, slice_index, cond, zero-add}
-use Rattle.std.specs.Prelude.{MatchBool, count_by}
+use Rattle.std.specs.Prelude.{count_by}
 use Rattle.std.specs.List.{range_with_len}
-use Rattle.std.proofs.lemmas.Bool.{le-leb, or_left, or_right, false_from_ne_true}
+use Rattle.std.proofs.lemmas.Bool.{or_left, or_right, false_from_ne_true}
 use Rattle.std.proofs.lemmas.List.Sums.{sum_by-cons}
 use Rattle.std.proofs.lemmas.List.FromFn.{get_or-range_with_len, length-range_with_len}
 use Rattle.heap_layout.specs.Zones.{BlockWords, first, heap_of, block_at, offset_at, block_start}
 use Rattle.heap_layout.specs.declared.block.Kind.TheVariants as kinds
 use Rattle.ideal_heap.specs.declared.name.Name.{Name}
-use Rattle.object_model.specs.Objects.{HeapState, with_words, word_at, block_word, has_kind, HasKind, is_pinned, is_unlogged, IsHeld, name_at, size_of, blocks_for}
+use Rattle.object_model.specs.Objects.{HeapState, with_words, word_at, block_word, has_kind, HasKind, is_pinned, is_unlogged, IsHeld, name_at, size_of}
 use Rattle.object_model.specs.Lawful.{IsWellFormed}
 use Rattle.object_model.specs.Changes.{WritesObject}
 use Rattle.object_model.proofs.Births as births
@@ -18,8 +18,7 @@ use Rattle.object_model.proofs.Blocks as blocks
 use Rattle.object_model.proofs.Blocks.{SameHeap}
 use Rattle.object_model.proofs.OneKind.{kind-within, one-kind, has_small-bump}
 use Rattle.ideal_heap.specs.Names.{IsName}
-use Rattle.sessions.specs.Plans.{NoGc, rules_of}
-use Rattle.sessions.specs.Fitting.{IsTail, Fits, FitsSmall, FitsLarge, free_of}
+use Rattle.sessions.specs.Fitting.{IsTail, free_of}
 use Rattle.sessions.specs.Sessions.{ChangesBlocks, AddsObject}
 use Rattle.sessions.proofs.Tails.{place-block, place-offset, place-address, place-apart}
 
@@ -55,13 +54,6 @@ free-none s none = count-none (λ q. has_kind s q kinds.Free) (range_with_len 0 
     (λ i less. let there : i < s.blocks = (let many : length (range_with_len 0 s.blocks) ≡ s.blocks = length-range_with_len 0 s.blocks in omega arith) in
     let e : slice_index (range_with_len 0 s.blocks) i ≡ i = get_or-range_with_len 0 s.blocks i 0 there ∙ zero-add i in
     ap (λ q. has_kind s q kinds.Free) e ∙ false_from_ne_true (has_kind s i kinds.Free) (none i there))
-
--- whether a size fits
-pub fits-from : (s : HeapState) (size : ℕ) → size ≤ 2048 → FitsSmall (rules_of NoGc) s size → Fits (rules_of NoGc) s size
-fits-from s size small fits = subst (λ (b : Bool). MatchBool b (FitsSmall (rules_of NoGc) s size) (FitsLarge (rules_of NoGc) s (blocks_for size))) (sym (le-leb size 2048 small)) fits
-
-pub fits-small : (s : HeapState) (size : ℕ) → size ≤ 2048 → Fits (rules_of NoGc) s size → FitsSmall (rules_of NoGc) s size
-fits-small s size small fits = subst (λ (b : Bool). MatchBool b (FitsSmall (rules_of NoGc) s size) (FitsLarge (rules_of NoGc) s (blocks_for size))) (le-leb size 2048 small) fits
 
 -- A small object that is written at the front of the tail of block low, from a heap in which that block is unchanged, or was Free.
 module _ (s : HeapState) (w1 w2 : List ℕ) (same : SameHeap s w1) (low : ℕ) (front : (i : ℕ) → i < first s.blocks BlockWords → word_at (with_words s w1) i ≡ word_at s i)

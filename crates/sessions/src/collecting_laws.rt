@@ -1,13 +1,16 @@
 //! Laws of collections: worked heaps, and what a collection makes of them.
 
-ghost use Rattle.std.specs.Prelude.{ℕ, ◌≡◌, List, [], ◌∷◌, ◌++◌, map, filter, replicate, true, false};
+ghost use Rattle.std.specs.Prelude.{ℕ, ◌≡◌, ◌<◌, IsTrue, List, [], ◌∷◌, ◌++◌, map, filter, replicate, true, false};
 ghost use Rattle.std.specs.List.{range_with_len};
 ghost use Rattle.heap_layout.specs.declared.block.Kind.TheVariants as kinds;
+ghost use Rattle.heap_layout.specs.declared.layout.TheConstants.{BLOCK_LINES};
 ghost use Rattle.object_model.specs.declared.collect.Collect.TheVariants.{Full, Nursery};
 ghost use Rattle.object_model.specs.Births.{with_block};
+ghost use Rattle.object_model.specs.Objects.{HeapState};
 ghost use Rattle.object_model.specs.WorkedHeaps.{plain_object, unowned};
 ghost use Rattle.sessions.specs.Plans.{NoGc, MarkSweep, SemiSpace, GenCopy, Immix, StickyImmix, rules_of};
 ghost use Rattle.sessions.specs.Grants.{all_plans};
+ghost use Rattle.sessions.specs.Fitting.{IsLineHole};
 ghost use Rattle.sessions.specs.Collecting.{first_collection, young_blocks, holes_in, marked_in, is_hole_start, is_recyclable, is_candidate, is_evacuated, may_move, still_free, IsEmptied, IsCollection};
 ghost use Rattle.sessions.specs.WorkedCollections.{aged_heap, large_heap, lined_heap, fragmented_heap, evacuated_kinds, movable_heap, heap_before, heap_after, roots_before, roots_moved, unlogged_after, in_place, moved_out, first_one, second_one, pinned_one, lonely_one, old_one, remembered_ones, four_kinds, cells_left, run_heap};
 
@@ -48,6 +51,14 @@ pub fn holes_and_lines_are_counted()
     ensures recyclable { filter (is_recyclable lined_heap) (range_with_len 0 6)
         ≡ 1 ∷ 3 ∷ 4 ∷ [] }
     ensures kind { is_recyclable (with_block lined_heap 1 (unowned kinds.Bump 0)) 1 ≡ false }
+{}
+
+/// A hole of lines begins where `is_hole_start` says so, and nowhere else.
+pub fn hole_starts_begin_holes()
+    ensures hole { (s : HeapState) (k line : ℕ) → line < BLOCK_LINES → IsTrue (is_hole_start s k line)
+        → (n : ℕ) × IsLineHole s k line n }
+    ensures start { (s : HeapState) (k line n : ℕ) → IsLineHole s k line n
+        → IsTrue (is_hole_start s k line) }
 {}
 
 /// Recyclable blocks are candidates as long as the Free blocks have as many lines as they and those

@@ -5,6 +5,7 @@
 #![tactic(auto)]
 
 mod collecting_laws;
+mod collection_laws;
 mod epoch_laws;
 mod fitting_laws;
 mod laws;
@@ -14,9 +15,11 @@ mod stop_laws;
 
 pub use collecting_laws::{
     candidates_fit_the_free_blocks, first_collections_have_bounds, full_collections,
-    holes_and_lines_are_counted, movable_objects, nursery_collections, objects_left_in_place,
-    plans_evacuate_kinds, wrong_ages, wrong_blocks, wrong_nurseries, wrong_objects,
+    hole_starts_begin_holes, holes_and_lines_are_counted, movable_objects, nursery_collections,
+    objects_left_in_place, plans_evacuate_kinds, wrong_ages, wrong_blocks, wrong_nurseries,
+    wrong_objects,
 };
+pub use collection_laws::collections_keep_moments_sound;
 pub use epoch_laws::{
     births_are_packed, births_lie_in_holes, births_use_free_blocks, causes_follow_the_commands,
     needs_exhaust_the_allowance, parts_have_plain_entries, parts_keep_the_heap, stores_are_logged,

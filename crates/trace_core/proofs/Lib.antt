@@ -30,7 +30,7 @@ mod Asking
 mod CopyEvents
 mod BitStores
 mod CopiedObjects
-mod LineMasks
+mod MarkedWords
 mod LineMarks
 pub mod WithoutLines
 mod FirstView

@@ -11,9 +11,10 @@ use Rattle.object_model.specs.Objects.{HeapState, word_at, block_word, HasKind, 
 use Rattle.object_model.specs.Lawful.{FreeBlockIsClear}
 use Rattle.object_model.specs.Ages.{Lives}
 use Rattle.object_model.proofs.Marks as marks
+use Rattle.object_model.specs.Lines.{TouchesLine}
 use Rattle.trace_core.specs.Setups.{collection, Setup, blocks, size, refs, is_old}
 use Rattle.trace_core.specs.Machine.{target, Event, taken_word}
-use Rattle.trace_core.specs.Traces.{IsTrace, IsFinished, HasRoom, TouchesLine, machine_after, heap_after, stage_of, target_of}
+use Rattle.trace_core.specs.Traces.{IsTrace, IsFinished, HasRoom, machine_after, heap_after, stage_of, target_of}
 use Rattle.trace_core.specs.Outcomes.{base_after, image, FinishedRow}
 use Rattle.trace_core.proofs.Objects.{Some-injective}
 use Rattle.trace_core.proofs.Law.{sound}

@@ -11,7 +11,7 @@ use Rattle.object_model.proofs.Marks.{mark-same}
 use Rattle.object_model.proofs.BitWords.{own-mark, other-mark, with-same, with-other}
 use Rattle.trace_core.specs.Setups.{Setup, blocks, size, is_old}
 use Rattle.trace_core.specs.Machine.{Stage, Unclaimed, Copying, Scanning, target, put, forward, IsSettled, taken_word}
-use Rattle.trace_core.specs.Traces.{TouchesLine}
+use Rattle.object_model.specs.Lines.{TouchesLine}
 use Rattle.trace_core.proofs.Puts.{put_here, put_else}
 use Rattle.trace_core.proofs.Objects.{Grows, settled_grows, forward_grows}
 

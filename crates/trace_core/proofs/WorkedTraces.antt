@@ -16,12 +16,13 @@ use Rattle.object_model.proofs.LawfulTests as tests
 use Rattle.object_model.proofs.BuiltWords.{built-fits}
 use Rattle.std.specs.Prelude.{filter}
 use Rattle.heap_layout.specs.Zones.{heap_of}
+use Rattle.object_model.specs.Lines.{TouchesLine}
 use Rattle.trace_core.specs.Setups.{Setup, IsReady, refs}
 use Rattle.trace_core.specs.Machine.{Stage, Unclaimed, Copying, Scanning, target, Event, first_machine, put}
 use Rattle.trace_core.specs.Outcomes.{HaveAsked, NoOthersAsked}
 use Rattle.trace_core.proofs.Objects.{Some-injective, None-not-Some}
 use Rattle.trace_core.proofs.Clauses.{held-of}
-use Rattle.trace_core.specs.Traces.{AreNext, TouchesLine, IsTrace, IsFinished, machine_after, stage_of}
+use Rattle.trace_core.specs.Traces.{AreNext, IsTrace, IsFinished, machine_after, stage_of}
 use Rattle.trace_core.specs.WorkedTraces.{cycle_parts, cycle_setup, cycle_events, nursery_parts, nursery_setup, nursery_events, shared_parts, shared_setup, shared_events, full_parts, full_setup, full_events}
 
 pub cycle-lawful : IsLawful cycle_setup.before

@@ -1,10 +1,11 @@
 -- When an event of the trace machine may come, and the traces that begin with a collection.
 use Rattle.std.specs.Prelude.{◌≡◌, ◌≢◌, ℕ, ◌+◌, ◌-◌, ◌*◌, ◌<◌, ◌≤◌, ◌⊎◌, Bool, false, IsTrue, nat_eq, Option, Some, None, List, [], ◌∷◌}
 use Rattle.std.specs.Int.{bit_at}
-use Rattle.heap_layout.specs.Zones.{LineWords, first, heap_of, InZone, block_at, offset_at, IsAddress}
-use Rattle.heap_layout.specs.declared.layout.TheConstants.{BLOCK_WORDS, LINE_WORDS, GLOBALS}
+use Rattle.heap_layout.specs.Zones.{LineWords, first, InZone, block_at, offset_at, IsAddress}
+use Rattle.heap_layout.specs.declared.layout.TheConstants.{BLOCK_WORDS, GLOBALS}
 use Rattle.heap_layout.specs.declared.block.Kind.TheVariants as kinds
 use Rattle.object_model.specs.Objects.{HeapState, HasKind, global_at, ref_at, is_reference, IsInExtentOf}
+use Rattle.object_model.specs.Lines.{TouchesLine}
 use Rattle.trace_core.specs.Setups.{Setup, IsReady, blocks, held, size, refs, is_old, may_move}
 use Rattle.trace_core.specs.Machine.{Stage, Unclaimed, Copying, Scanning, target, Machine, Cause, ByRoot, ByGlobal, ByField, Event, Claim, Ask, Copy, Scan, SetGlobal, MarkLines, TakeBlock, IsSettled, next, first_machine, heap_in}
 
@@ -34,11 +35,6 @@ abbrev pub IsAskedBy : Setup → Machine → ℕ → Cause → Type 0
 IsAskedBy p m x ByRoot = Unit {0}
 IsAskedBy p m x (ByGlobal g) = (g < GLOBALS) × (global_at p.before g ≡ x)
 IsAskedBy p m x (ByField y i) = (i < refs p y) × (ref_at p.before y i ≡ x) × ((t : ℕ) × (target (m.stage y) ≡ Some t))
-
--- Line k of the heap is touched by an object of this size at t.
-pub record TouchesLine (b t size k : ℕ) : Type 0 where
-  pub from : heap_of b + LINE_WORDS * k < t + size
-  pub below : t < heap_of b + LINE_WORDS * (k + 1)
 
 -- The event may come next. What loses a race changes nothing, so it is no event.
 abbrev pub May : Setup → Machine → Event → Type 0

@@ -1,18 +1,16 @@
 //! Copies, and marks of lines.
 
-ghost use Rattle.std.specs.Prelude.{◌≡◌, ◌+◌, ◌*◌, ◌-◌, ◌/◌, ◌%◌, ◌^◌, ◌<◌, ◌≤◌, ◌++◌, ◌⊎◌, ℕ, List, IsTrue, length, slice_index, slice_set, bit_or};
-ghost use Rattle.heap_layout.specs.Zones.{heap_of, first, IsAddress, LineWords, bit_of, row_words};
+ghost use Rattle.std.specs.Prelude.{◌≡◌, ◌+◌, ◌*◌, ◌-◌, ◌/◌, ◌%◌, ◌^◌, ◌<◌, ◌≤◌, ◌++◌, ℕ, List, IsTrue, length, slice_index, slice_set};
+ghost use Rattle.heap_layout.specs.Zones.{heap_of, IsAddress, LineWords, bit_of, row_words};
 ghost use Rattle.object_model.specs.BitWords.{with_bit};
-ghost use Rattle.object_model.specs.Objects.{IsInExtentOf};
+ghost use Rattle.object_model.specs.Lines.{TouchesLine};
 ghost use Rattle.trace_core.specs.Setups.{Setup, blocks};
 ghost use Rattle.trace_core.specs.Machine.{Event};
-ghost use Rattle.trace_core.specs.Traces.{TouchesLine};
 ghost use Rattle.trace_core.specs.Views.{View, IsWon, IsGrey, copied_view};
 ghost use Rattle.trace_core.specs.Tracers.{Tracks, IsTracing, Grows, Marks, IsMarking, IsMoving, ChangesWords, KeepsRun, copying};
 
 use crate::plain_trace::PlainTrace;
 use crate::tokens::{Grey, Won};
-use heap_layout::line_of;
 
 impl PlainTrace {
     /// Copies a claimed object to its target, and sets the target's unlog bit and its start bit. In
@@ -94,29 +92,13 @@ impl PlainTrace {
             → IsTrue (bit_of (blocks p) LineWords self.new.row.words.items k) }
         ensures keeps { KeepsRun self.old self.new }
     {
-        let first = line_of(&self.row.layout, grey.target);
-        let last = line_of(&self.row.layout, grey.target + grey.size - 1);
-        for word in first / 64..last / 64 + 1 {
-            let low = first.saturating_sub(64 * word);
-            let high = (last - 64 * word).min(63);
-            self.mark_word(word, low, high);
-        }
-    }
-
-    /// Sets bits `low` to `high` of a line word.
-    fn mark_word(&mut self, word: u32, low: u32, high: u32)
-        requires extent { length self.old.row.words.items ≡ row_words self.old.row.layout.blocks }
-        requires word { word < 4 * self.old.row.layout.blocks }
-        requires low { low ≤ high }
-        requires high { high < 64 }
-        ensures { ChangesWords self.old self.new (slice_set self.old.row.words.items
-            (first self.old.row.layout.blocks LineWords + word)
-            (bit_or (slice_index self.old.row.words.items
-            (first self.old.row.layout.blocks LineWords + word)) (2 ^ (high + 1) - 2 ^ low))) }
-    {
-        let at = (self.row.layout.line_at(0) + word) as usize;
-        let mask = u64::MAX << low & u64::MAX >> (63 - high);
-        let marked = self.row.words[at];
-        self.row.words[at] = marked | mask;
+        words_fit(&self.row.words);
+        let layout = self.row.layout;
+        line_marks::mark(&mut self.row.words, &layout, grey.target, grey.size);
     }
 }
+
+/// Each word has 64 bits, which a definition that speaks of numbers does not know.
+fn words_fit(words: &[u64])
+    ensures { (i : ℕ) → slice_index words.now i < 2 ^ 64 }
+{}

@@ -3,9 +3,10 @@
 
 ghost use Rattle.std.specs.Prelude.{◌≡◌, ◌≢◌, ◌⊎◌, ◌↔◌, ℕ, ◌+◌, ◌*◌, ◌<◌, ◌≤◌, false, Some, None, List, IsTrue, map, if◌then◌else◌, is_some, count_by};
 ghost use Rattle.forward_word.specs.CollectorWords.{collector_word};
-ghost use Rattle.heap_layout.specs.Zones.{heap_of, line_at, LineWords, StopWord, BudgetWord, PinBits, InZone, IsAddress, bit_of};
+ghost use Rattle.heap_layout.specs.Zones.{LineWords, StopWord, BudgetWord, PinBits, InZone, IsAddress, bit_of};
 ghost use Rattle.heap_layout.specs.declared.block.Kind.TheVariants as kinds;
 ghost use Rattle.object_model.specs.Lawful.{IsLawfulButLines};
+ghost use Rattle.object_model.specs.Lines.{TouchesLine};
 ghost use Rattle.object_model.specs.Objects.{HeapState, word_at, global_at, block_word, HasKind, IsHeld, line_marked, IsInExtent, IsInExtentOf, ref_at, is_pinned, is_unlogged, is_reference};
 ghost use Rattle.trace_core.specs.Setups.{Setup, blocks, collection, size, refs, is_old, is_logged, is_idle, may_move};
 ghost use Rattle.trace_core.specs.Machine.{Machine, Event, next, Copying, Scanning, copied_word, step_of_offset, forward, IsSettled, taken_word};
@@ -16,7 +17,7 @@ ghost use Rattle.object_model.specs.Releasing.{IsReleasable};
 ghost use Rattle.trace_core.specs.Tracers.{setup_of, clears_lines};
 ghost use Rattle.trace_core.specs.declared.run.TraceRun.{TraceRun};
 ghost use Rattle.trace_core.specs.Outcomes.{FinishedRow, base_after, image, HaveAsked, NoOthersAsked};
-ghost use Rattle.trace_core.specs.Traces.{May, HasRoom, TouchesLine, IsTrace, IsFinished, Reaches, machine_after, heap_after, stage_of, target_of, fields_scanned, is_claim_of, is_scan_of};
+ghost use Rattle.trace_core.specs.Traces.{May, HasRoom, IsTrace, IsFinished, Reaches, machine_after, heap_after, stage_of, target_of, fields_scanned, is_claim_of, is_scan_of};
 
 /// No two objects have the same target.
 pub fn targets_are_one_to_one()
@@ -200,14 +201,6 @@ pub fn old_objects_stay()
 pub fn taken_blocks_stay_taken()
     ensures { (p : Setup) (m : Machine) (e : Event) → May p m e → (b : ℕ) → 0 < m.taken b
         → (next p m e).taken b ≡ m.taken b }
-{}
-
-/// An object touches the lines in which it has a word.
-pub fn touched_lines_have_words()
-    ensures word { (b t n k : ℕ) → heap_of b ≤ t → 0 < n → TouchesLine b t n k
-        → (i : ℕ) × IsInExtentOf t n i × (line_at b i ≡ k) }
-    ensures touched { (b t n k i : ℕ) → heap_of b ≤ t → IsInExtentOf t n i
-        → line_at b i ≡ k → TouchesLine b t n k }
 {}
 
 /// An unlog bit is set if it was set, or if all words of an object that is not old are copied

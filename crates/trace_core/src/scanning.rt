@@ -2,9 +2,10 @@
 
 ghost use Rattle.std.specs.Prelude.{◌≡◌, ◌+◌, ◌<◌, ◌≤◌, ℕ, List, IsTrue, false, length, slice_set, vec_len, vec_capacity};
 ghost use Rattle.heap_layout.specs.Zones.{bit_of, LineWords};
+ghost use Rattle.object_model.specs.Lines.{TouchesLine};
 ghost use Rattle.trace_core.specs.Setups.{Setup, blocks};
 ghost use Rattle.trace_core.specs.Machine.{Event, Cause};
-ghost use Rattle.trace_core.specs.Traces.{IsAskedBy, TouchesLine, machine_after};
+ghost use Rattle.trace_core.specs.Traces.{IsAskedBy, machine_after};
 ghost use Rattle.trace_core.specs.Views.{View, IsGrey, times};
 ghost use Rattle.trace_core.specs.Tracers.{Tracks, IsTracing, IsReferred, IsNoRoot, Forwards, IsNextField, ScansField, ScansFields, SetsGlobal, ChangesWords, KeepsRun};
 

@@ -1,6 +1,7 @@
 use Rattle.std.proofs.Common.{◌∙◌, sym, refl, ℕ, List}
 use Rattle.immix_space.proofs.SweptObjects.{none-living, some-living, readable, immix-now}
 use Rattle.immix_space.proofs.SweptLines.{swept-empty, swept-some, count-kept}
+use Rattle.immix_space.proofs.ExactLines.{swept-exact}
 use Rattle.immix_space.proofs.sweeps.sweep_block.Goals as goal
 
 pub returns-then-count-eq0-clause-swept : goal.returns-then-count-eq0-clause-swept
@@ -40,8 +41,16 @@ returns-clause-swept g c =
     let mid : List ℕ = g.W.Words.words c.sweep_block-count.new.words in
     let new : List ℕ = g.W.Words.words c.relist.new.words in
     let found = some-living l k old mid c.args.base 4 c.requires.block c.sweep_block-count.ensures.swept (λ none. c.if-count-eq0.false (c.sweep_block-count.ensures.count ∙ none)) in
-    swept-some l k mid new c.requires.block c.relist.ensures old c.args.base found.0 found.1 found.2 c.sweep_block-count.ensures.swept
+    swept-some l k mid new c.requires.block c.relist.ensures.marked old c.args.base found.0 found.1 found.2 c.sweep_block-count.ensures.swept
 
 pub returns-clause-count : goal.returns-clause-count
 returns-clause-count g c =
-    c.sweep_block-count.ensures.count ∙ sym (count-kept c.args.layout.now c.args.block (g.W.Words.words c.sweep_block-count.new.words) (g.W.Words.words c.relist.new.words) c.requires.block c.relist.ensures)
+    c.sweep_block-count.ensures.count ∙ sym (count-kept c.args.layout.now c.args.block (g.W.Words.words c.sweep_block-count.new.words) (g.W.Words.words c.relist.new.words) c.requires.block c.relist.ensures.marked)
+
+pub returns-then-count-eq0-clause-exact : goal.returns-then-count-eq0-clause-exact
+returns-then-count-eq0-clause-exact g c =
+    swept-exact c.args.layout.now c.args.block (g.W.Words.words c.args.words.now) (g.W.Words.words c.sweep_block-count.new.words) c.args.base c.requires.block (returns-then-count-eq0-clause-swept g c)
+
+pub returns-clause-exact : goal.returns-clause-exact
+returns-clause-exact g c =
+    swept-exact c.args.layout.now c.args.block (g.W.Words.words c.args.words.now) (g.W.Words.words c.relist.new.words) c.args.base c.requires.block (returns-clause-swept g c)

@@ -5,7 +5,7 @@ use Rattle.line_marks.proofs.MarkedLines.{marks-none, marks-more, marks-lines, l
 use Rattle.line_marks.proofs.marks.mark.Goals as goal
 
 pub line_of-last-requires : goal.line_of-last-requires
-line_of-last-requires g c = last-address c.args.layout.now.blocks c.args.address c.args.size c.requires.address c.requires.some c.requires.within
+line_of-last-requires g c = last-address c.args.layout.now.blocks c.args.address c.args.size c.requires.address c.requires.some c.requires.last
 
 pub loop-word-init : goal.loop-word-init
 loop-word-init g c = marks-none c.args.layout.now.blocks c.line_of-first.result c.line_of-last.result (g.W.Words.words c.args.words.now)
@@ -28,4 +28,4 @@ pub returns : goal.returns
 returns g c =
     let most = c.loop-word.auto.word-end (omega arith) in
     marks-lines c.args.layout.now c.args.address c.args.size c.line_of-first.result c.line_of-last.result c.loop-word.word (g.W.Words.words c.args.words.now) (g.W.Words.words c.loop-word.words)
-    c.requires.address c.requires.some c.requires.within c.line_of-first.ensures.line c.line_of-last.ensures.line (omega arith) c.loop-word.invariant
+    c.requires.address c.requires.some c.line_of-first.ensures.line c.line_of-last.ensures.line (omega arith) c.loop-word.invariant

@@ -1,20 +1,19 @@
-use Rattle.std.proofs.Common.{ℕ, ◌≡◌, ◌<◌, ◌≤◌, ◌+◌, ◌*◌, arith}
+use Rattle.std.proofs.Common.{ℕ, ◌≡◌, ◌<◌, ◌+◌, ◌*◌, arith}
 use Rattle.std.proofs.Math.Logic.{∥∥₁_map}
-use Rattle.heap_layout.specs.Zones.{block_start}
 use Rattle.std.proofs.Common.{◌&&◌, nat_lt, ◌∙◌, sym, length}
 use Rattle.std.specs.List.{range_with_len}
 use Rattle.std.proofs.lemmas.List.Folds.{Any-from_list_any}
 use Rattle.std.proofs.lemmas.List.FromFn.{get_or-range_with_len, length-range_with_len}
 use Rattle.std.proofs.lemmas.Bool.{and_parts, ltb-true}
 use Rattle.heap_layout.specs.declared.block.Kind.TheVariants as kinds
-use Rattle.object_model.specs.Objects.{has_kind, class_at}
+use Rattle.object_model.specs.Objects.{has_kind, class_at, size_at}
+use Rattle.object_model.proofs.Lines.{touched-word}
 use Rattle.object_model.proofs.laws.lawful_blocks.Goals as goal
 
 pub returns-clause-lines : goal.returns-clause-lines
 returns-clause-lines c s k line lawful is small marked = ∥∥₁_map ((lawful.lines k).marked line is small marked) (λ t.
-    let from : block_start s.blocks k + 16 * line ≤ t.word = t.from in
-    let below : t.word < block_start s.blocks k + 16 * (line + 1) = t.below in
-    (t.object, t.word, t.held, t.inside, omega arith))
+    let word = touched-word s.blocks t.object (size_at s t.object) (256 * k + line) t.held.address.from (omega arith) t.touches in
+    (t.object, word.0, t.held, word.1, word.2))
 
 pub returns-clause-tails : goal.returns-clause-tails
 returns-clause-tails c s k lawful is =

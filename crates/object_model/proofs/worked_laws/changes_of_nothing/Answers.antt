@@ -1,4 +1,4 @@
-use Rattle.std.proofs.Common.{◌≡◌, refl, sym, subst, ℕ, ◌+◌, ◌≤◌, arith}
+use Rattle.std.proofs.Common.{◌≡◌, refl, sym, subst, ℕ, ◌+◌, ◌*◌, ◌<◌, arith}
 use Rattle.heap_layout.specs.Zones.{LineWords, bit_of}
 use Rattle.object_model.specs.Objects.{block_word}
 use Rattle.object_model.specs.WorkedKinds.{kinds_heap}
@@ -13,7 +13,7 @@ returns-clause-lines c = record {
   base = refl;
   extent = refl;
   words = lawful.but_lines.order.row.words;
-  marked = λ line from to. let most : line ≤ 1 = to in below (λ l. bit_of 6 LineWords kinds_heap.words l) 2 refl line (omega arith);
+  marked = λ line touches. let from : 1200 + 16 * line < 1218 = touches.from in below (λ l. bit_of 6 LineWords kinds_heap.words l) 2 refl line (omega arith);
   others = λ line less apart. refl;
   rest = λ i apart. refl;
 }

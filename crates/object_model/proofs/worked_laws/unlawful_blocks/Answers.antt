@@ -49,4 +49,4 @@ pub returns-clause-marked_line : goal.returns-clause-marked_line
 returns-clause-marked_line c l = ∥∥₁_elim ((l.lines 0).marked 255 refl (lit< tt) refl) (λ x. absurd x) (λ t. none-held-by (with_word (small_heap (three_free (unowned kinds.Immix 0)) []) 25 (2 ^ 63)) refl t.object t.held)
 
 pub returns-clause-unmarked_line : goal.returns-clause-unmarked_line
-returns-clause-unmarked_line c l = (let e : false ≡ true = (l.lines 0).touched 255 refl (lit< tt) (record { object = 4899; word = 4901; held = held-at (with_word (small_heap (three_free (unowned kinds.Immix 0)) (plain_object 0 4093 1 [] 0 0 ∷ [])) 25 0) 4899 refl; inside = record { from = lit< tt; below = lit< tt }; from = lit< tt; below = lit< tt }) in cc)
+returns-clause-unmarked_line c l = (let e : false ≡ true = (l.lines 0).touched 255 refl (lit< tt) (record { object = 4899; held = held-at (with_word (small_heap (three_free (unowned kinds.Immix 0)) (plain_object 0 4093 1 [] 0 0 ∷ [])) 25 0) 4899 refl; touches = record { from = lit< tt; below = lit< tt } }) in cc)

@@ -1,20 +1,21 @@
-use Rattle.std.proofs.Common.{◌+◌, ◌/◌, ◌<◌, arith, refl}
-use Rattle.plan_api.proofs.Runs as runs
+use Rattle.std.proofs.Common.{◌≡◌, ◌+◌, ◌/◌, ℕ, refl, subst, arith}
+use Rattle.line_marks.specs.Bits.{IsFirstRun, HasNoRun}
 use Rattle.plan_api.proofs.holes.clear_lines.Goals as goal
 
-pub returns-then-end-line : goal.returns-then-end-line
-returns-then-end-line c = (
-  c.in-Some.line,
-  c.run_end-end.result,
-  refl,
-  refl,
-  runs.run-found c.args.lines.now c.requires.words ((c.args.from + 15) / 16) ((c.args.size + 15) / 16) c.loop-line.at (omega arith) c.loop-line.invariant c.in-Some.line c.in-Some.ensures c.run_end-end.result c.run_end-end.ensures (omega arith),
-)
-
-pub loop-line-preserved : goal.loop-line-preserved
-loop-line-preserved c =
-    runs.searched-more c.args.lines.now c.requires.words ((c.args.from + 15) / 16) ((c.args.size + 15) / 16) c.loop-line.at (omega arith) c.loop-line.invariant c.in-Some.line c.in-Some.ensures c.run_end-end.result c.run_end-end.ensures (let short : c.run_end-end.result < c.in-Some.line + (c.args.size + 15) / 16 = omega arith in short)
+pub returns-in_default : goal.returns-in_default
+returns-in_default c =
+    let first : c.div_ceil-first.result ≡ (c.args.from + 15) / 16 = omega (arith, c.div_ceil-first.ensures) in
+    let needed : c.div_ceil.result ≡ (c.args.size + 15) / 16 = omega (arith, c.div_ceil.ensures) in
+    subst (λ (n : ℕ). HasNoRun c.args.lines.now n ((c.args.size + 15) / 16)) first (subst (λ (n : ℕ). HasNoRun c.args.lines.now c.div_ceil-first.result n) needed c.in_default.ensures)
 
 pub returns : goal.returns
 returns c =
-    runs.none-found c.args.lines.now ((c.args.from + 15) / 16) ((c.args.size + 15) / 16) c.loop-line.at c.requires.words (omega arith) c.loop-line.invariant c.in_default.ensures
+    let first : c.div_ceil-first.result ≡ (c.args.from + 15) / 16 = omega (arith, c.div_ceil-first.ensures) in
+    let needed : c.div_ceil.result ≡ (c.args.size + 15) / 16 = omega (arith, c.div_ceil.ensures) in (
+      c.in-Some.run'.start,
+      c.in-Some.run'.end,
+      refl,
+      refl,
+      subst (λ (n : ℕ). IsFirstRun c.args.lines.now n ((c.args.size + 15) / 16) c.in-Some.run'.start c.in-Some.run'.end) first
+          (subst (λ (n : ℕ). IsFirstRun c.args.lines.now c.div_ceil-first.result n c.in-Some.run'.start c.in-Some.run'.end) needed c.in-Some.ensures),
+    )

@@ -51,4 +51,4 @@ returns g c =
           )
       | in-None w ↦ inl (viewing.none-held s c.args.block starts c.requires.block c.start_words-starts.ensures.len (λ x below. viewing.starts-read s starts c.args.block x c.requires.block c.start_words-starts.ensures.words below) w.in-None.ensures, w.end-is)
     ] in
-    viewing.view-of words c.args.layout.now c.args.block _ c.requires c.block_word_in.ensures.code c.block_word_in.ensures.valid c.line_words.ensures c.start_words-starts.ensures.words end
+    viewing.view-of words c.args.layout.now c.args.block _ c.requires c.block_word_in.ensures.code c.block_word_in.ensures.valid c.line_words.ensures.words c.start_words-starts.ensures.words end

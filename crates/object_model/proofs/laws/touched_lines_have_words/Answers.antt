@@ -1,5 +1,5 @@
-use Rattle.trace_core.proofs.Staying.{touched-word, word-touched}
-use Rattle.trace_core.proofs.laws.touched_lines_have_words.Goals as goal
+use Rattle.object_model.proofs.Lines.{touched-word, word-touched}
+use Rattle.object_model.proofs.laws.touched_lines_have_words.Goals as goal
 
 pub returns-clause-word : goal.returns-clause-word
 returns-clause-word c = touched-word
