@@ -1,6 +1,6 @@
 //! Tests of the blocks that a collection evacuates.
 
-use crate::{NoGc, SemiSpace};
+use crate::{MarkSweep, NoGc, SemiSpace};
 use heap_layout::Layout;
 use object_model::{Collect, Heap};
 use plan_api::Plan;
@@ -17,6 +17,8 @@ fn from_blocks<P: Plan>(alloc: Global, layout: Layout) -> Result<Vec<bool>, Allo
 fn empty_heaps(rt: HostRuntime) -> Result<(), Fail> {
     let none = [false; 5];
     let from = from_blocks::<NoGc>(rt.alloc(), Layout::new(5)?)?;
+    assert_eq!(rt; from.as_slice(), none.as_slice());
+    let from = from_blocks::<MarkSweep>(rt.alloc(), Layout::new(5)?)?;
     assert_eq!(rt; from.as_slice(), none.as_slice());
     let from = from_blocks::<SemiSpace>(rt.alloc(), Layout::new(5)?)?;
     assert_eq!(rt; from.as_slice(), none.as_slice());

@@ -1,10 +1,12 @@
 //! The plans: one type for each.
 #![tactic(auto)]
 
+mod marksweep;
 mod nogc;
 mod release;
 mod semispace;
 
+pub use marksweep::MarkSweep;
 pub use nogc::NoGc;
 pub use semispace::SemiSpace;
 

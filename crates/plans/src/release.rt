@@ -13,9 +13,10 @@ ghost use Rattle.plan_api.specs.Evacuation.{HasFills};
 ghost use Rattle.plan_api.specs.Releasing.{Releases, is_kept_after};
 ghost use Rattle.block_sweeps.specs.Sweeping.{Sweeps, MarksTouched, object_count};
 
-use block_sweeps::{mark_touched_lines, sweep_block, sweep_run, unlog_block};
+use block_sweeps::{sweep_block, sweep_run, unlog_block};
 use copy_space::release_block;
 use heap_layout::{BlockWord, Kind, Layout, OWNER_UNIT};
+use immix_space::relist;
 use object_model::Collect;
 use plan_api::Fills;
 use side_meta::Words;
@@ -123,7 +124,7 @@ fn mark_lines<W: Words>(words: &mut W, layout: &Layout, block: u32, kind: Kind)
     ensures extent { length (W.words words.new) ≡ row_words layout.now.blocks }
 {
     if kind == Kind::Immix {
-        mark_touched_lines(words, layout, block);
+        relist(words, layout, block);
     }
 }
 

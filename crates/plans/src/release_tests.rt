@@ -6,7 +6,7 @@ ghost use Rattle.std.specs.Prelude.{◌≡◌, ◌+◌, ◌<◌, ◌≤◌, leng
 ghost use Rattle.heap_layout.specs.Zones.{row_words};
 ghost use Rattle.heap_layout.specs.declared.layout.TheConstants.{BLOCK_WORDS};
 
-use crate::{NoGc, SemiSpace};
+use crate::{MarkSweep, NoGc, SemiSpace};
 use block_sweeps::is_releasable;
 use block_sweeps::rows::{Object, empty_row, set_block, write_object};
 use heap_layout::{Kind, Layout};
@@ -150,6 +150,7 @@ fn some_live(rt: HostRuntime) -> Result<(), Fail> {
     ] {
         let block = (kind, class);
         check_some_live::<NoGc>(&rt, rt.alloc(), &layout, block, plain, lines)?;
+        check_some_live::<MarkSweep>(&rt, rt.alloc(), &layout, block, plain, lines)?;
         check_some_live::<SemiSpace>(&rt, rt.alloc(), &layout, block, copied, lines)?;
     }
     Ok(())
@@ -195,6 +196,7 @@ fn none_lives(rt: HostRuntime) -> Result<(), Fail> {
         (Kind::Kept, 0),
     ] {
         check_none_lives::<NoGc>(&rt, rt.alloc(), &layout, kind, class)?;
+        check_none_lives::<MarkSweep>(&rt, rt.alloc(), &layout, kind, class)?;
         check_none_lives::<SemiSpace>(&rt, rt.alloc(), &layout, kind, class)?;
     }
     Ok(())
@@ -227,6 +229,7 @@ fn check_copies<P: Plan>(rt: &impl Abort, alloc: Global, layout: &Layout) -> Res
 fn copies(rt: HostRuntime) -> Result<(), Fail> {
     let layout = Layout::new(4)?;
     check_copies::<NoGc>(&rt, rt.alloc(), &layout)?;
+    check_copies::<MarkSweep>(&rt, rt.alloc(), &layout)?;
     check_copies::<SemiSpace>(&rt, rt.alloc(), &layout)?;
     Ok(())
 }
@@ -268,6 +271,7 @@ fn check_runs<P: Plan>(rt: &impl Abort, alloc: Global, layout: &Layout) -> Resul
 fn runs(rt: HostRuntime) -> Result<(), Fail> {
     let layout = Layout::new(4)?;
     check_runs::<NoGc>(&rt, rt.alloc(), &layout)?;
+    check_runs::<MarkSweep>(&rt, rt.alloc(), &layout)?;
     check_runs::<SemiSpace>(&rt, rt.alloc(), &layout)?;
     Ok(())
 }

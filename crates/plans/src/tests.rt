@@ -1,6 +1,8 @@
 //! Tests of the plans.
 
-use crate::NoGc;
+ghost use Rattle.std.specs.Prelude.{◌<◌};
+
+use crate::{MarkSweep, NoGc};
 use heap_layout::{BlockWord, Kind, Layout, Region};
 use object_model::{Collect, Heap};
 use plan_api::{BlockView, Plan, PlanFlags, Reserve, plans_hold_reserves};
@@ -63,6 +65,74 @@ fn nogc_holes(rt: HostRuntime) -> Result<(), Fail> {
             NoGc::hole_in(&view, from, size),
             want,
             "from {from} for {size}"
+        );
+    }
+    Ok(())
+}
+
+#[test]
+fn marksweep(rt: HostRuntime) -> Result<(), Fail> {
+    assert_eq!(rt;
+        (MarkSweep::NAME, MarkSweep::plan_name()),
+        ("marksweep", "marksweep")
+    );
+    assert_eq!(rt; MarkSweep::FLAGS, PlanFlags(8));
+    assert_eq!(rt;
+        (MarkSweep::alloc_kind(), MarkSweep::copy_kind()),
+        (Kind::Cells, Kind::Free)
+    );
+    assert_eq!(rt; MarkSweep::reserve(), Reserve::Nothing);
+    for blocks in [4, 5, 16] {
+        let heap = Heap::new(rt.alloc(), Layout::new(blocks)?)?;
+        assert_eq!(rt;
+            asks::<MarkSweep>(&heap),
+            (blocks, true, true, false),
+            "of {blocks}"
+        );
+        assert_eq!(rt; MarkSweep::kind(&heap), Collect::Full);
+    }
+    for (size, class) in [(3, 0), (4, 0), (5, 1), (1536, 17), (1537, 18), (2048, 18)] {
+        assert_eq!(rt; MarkSweep::class_for(size), class, "for {size}");
+    }
+    Ok(())
+}
+
+// A block of this class whose first two cells are taken.
+fn cells(class: u32, second: u32) -> BlockView
+    requires { second < 4096 }
+{
+    let mut starts = [0; 64];
+    starts[0] = 1;
+    starts[second as usize / 64] |= 1 << (second % 64);
+    BlockView {
+        word: BlockWord {
+            kind: Kind::Cells,
+            class,
+            owner: 0,
+        },
+        lines: [0; 4],
+        starts,
+        end: second + 3,
+    }
+}
+
+#[test]
+fn marksweep_holes(rt: HostRuntime) -> Result<(), Fail> {
+    for (class, second, from, size, want) in [
+        (0, 4, 0, 3, Some((8, 12))),
+        (0, 4, 9, 4, Some((12, 16))),
+        (0, 4, 0, 5, None),
+        (9, 96, 0, 96, Some((192, 288))),
+        (9, 96, 3937, 96, None),
+        (18, 2048, 0, 2048, None),
+    ] {
+        assert!(rt; 3 <= size && size <= 2048);
+        assert!(rt; second < 4096);
+        let want = want.map(|(next, end)| Region { next, end });
+        assert_eq!(rt;
+            MarkSweep::hole_in(&cells(class, second), from, size),
+            want,
+            "of class {class} from {from} for {size}"
         );
     }
     Ok(())

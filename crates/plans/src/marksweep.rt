@@ -1,0 +1,101 @@
+//! The plan of cells that are swept in place.
+
+ghost use Rattle.sessions.specs.Plans.{MarkSweep as mark_sweep, rules_of};
+ghost use Rattle.plan_api.proofs.EvacuationLaws.{none-large};
+ghost use Rattle.plan_api.proofs.PartLaws.{part-clear};
+ghost use Rattle.plan_api.proofs.ReserveLaws.{nothing-kept};
+ghost use Rattle.std.proofs.Common.{refl};
+
+use crate::release::release;
+use heap_layout::{Kind, Layout, Region};
+use object_model::{Collect, Heap, MAX_MEDIUM_WORDS};
+use plan_api::{
+    BlockView, Plan, PlanFlags, Reserve, block_counts, block_word_in, class_for, first_hole,
+    fits_small, no_blocks,
+};
+use side_meta::Words;
+use std::alloc::{AllocError, Global};
+
+/// MMTk's MarkSweep: each block has cells of one size, and a collection frees the cells of the
+/// objects that it does not reach. No object moves, and no Free block is held back.
+#[derive(Clone, Copy, Debug)]
+pub struct MarkSweep;
+
+impl Plan for MarkSweep {
+    ghost plan = { mark_sweep };
+
+    ghost rules = { rules_of mark_sweep };
+
+    ghost FLAGS = { record { 0 = 8 } };
+
+    const FLAGS: PlanFlags = PlanFlags::CELLS;
+
+    const NAME: &'static str = "marksweep";
+
+    ghost rules_are_of_plan = { refl };
+
+    ghost flags_are_of_rules = { refl };
+
+    ghost fill_has_holes = { refl };
+
+    ghost holes_are_clear = { part-clear (rules_of mark_sweep).fill };
+
+    ghost large_objects_stay = { none-large mark_sweep };
+
+    ghost reserve_is_kept = { nothing-kept };
+
+    fn plan_name() -> &'static str {
+        MarkSweep::NAME
+    }
+
+    fn alloc_kind() -> Kind {
+        Kind::Cells
+    }
+
+    fn copy_kind() -> Kind {
+        Kind::Free
+    }
+
+    fn reserve() -> Reserve {
+        Reserve::Nothing
+    }
+
+    fn class_for(size: u32) -> u32 {
+        class_for(Kind::Cells, size)
+    }
+
+    fn hole_in(view: &BlockView, from: u32, size: u32) -> Option<Region> {
+        first_hole(Kind::Cells, view, from, size)
+    }
+
+    fn fits(heap: &Heap, size: u32) -> bool {
+        size <= MAX_MEDIUM_WORDS && fits_small(heap, Kind::Cells, MarkSweep::reserve(), size)
+    }
+
+    fn kind(_heap: &Heap) -> Collect {
+        Collect::Full
+    }
+
+    fn allowance(heap: &Heap) -> u32 {
+        block_counts(heap).allowance(MarkSweep::reserve())
+    }
+
+    fn may_move(_heap: &Heap, _from: &[bool], _address: u32) -> bool {
+        false
+    }
+
+    fn from_blocks(alloc: Global, heap: &Heap, _collect: Collect) -> Result<Vec<bool>, AllocError> {
+        no_blocks(alloc, heap)
+    }
+
+    fn release_block<W: Words>(
+        words: &mut W,
+        layout: &Layout,
+        block: u32,
+        _collect: Collect,
+        base: u64,
+    ) {
+        let word = block_word_in(words, layout, block);
+        release(words, layout, block, &word, false, base);
+    }
+}
