@@ -1,7 +1,7 @@
 -- States with the same words but for metadata of some blocks.
 use Rattle.std.proofs.Common.{◌≡◌, sym, ◌∙◌, ap, ap₂, subst, ℕ, ◌+◌, ◌*◌, ◌/◌, ◌%◌, ◌<◌, ◌≤◌, inl, inr, arith, ◌&&◌, nat_eq, nat_lt, nat_le}
 use Rattle.forward_word.specs.CollectorWords.{number_in, target_in}
-use Rattle.heap_layout.specs.Zones.{heap_of, block_at, block_start, IsAddress}
+use Rattle.heap_layout.specs.Zones.{heap_of, block_at, IsAddress}
 use Rattle.heap_layout.specs.declared.block.Kind.{Kind}
 use Rattle.heap_layout.specs.declared.block.Kind.TheVariants as kinds
 use Rattle.heap_layout.specs.Blocks.{kind_code}
@@ -10,6 +10,7 @@ use Rattle.object_model.specs.Objects.{HeapState, word_at, has_kind, class_at, I
 use Rattle.object_model.specs.Lawful.{HasObject}
 use Rattle.object_model.specs.Ages.{is_survivor, Lives}
 use Rattle.object_model.specs.Releasing.{InSpan}
+use Rattle.object_model.specs.Lines.{TouchesLine}
 use Rattle.block_sweeps.specs.Sweeping.{IsOfSpan, IsMetadata, IsFreed, IsTouchedHere}
 use Rattle.collector.proofs.Metadata.{heap-word, SameReads}
 
@@ -105,11 +106,9 @@ module _ (s t : HeapState) (rest : SameRest s t) (j : ℕ) (same : SameReads s t
   touched-after line is = (let touch = is.touched in record {
     touched = record {
       object = touch.object;
-      word = touch.word;
       held = held-after touch.object is.here touch.held;
-      inside = extent-after s t rest touch.object touch.word touch.held.address touch.inside;
-      from = subst (λ b. block_start b j + 16 * line ≤ touch.word) (sym rest.blocks) touch.from;
-      below = subst (λ b. touch.word < block_start b j + 16 * (line + 1)) (sym rest.blocks) touch.below;
+      touches = subst (λ b. TouchesLine b touch.object (size_at t touch.object) (256 * j + line)) (sym rest.blocks)
+          (subst (λ n. TouchesLine s.blocks touch.object n (256 * j + line)) (sym (size-same s t rest touch.object touch.held.address)) touch.touches);
     };
     here = ap (λ b. block_at b touch.object) rest.blocks ∙ is.here;
   })

@@ -1,8 +1,10 @@
 -- A trace of which nothing is left is finished, and the release of its blocks makes a collection.
-use Rattle.std.proofs.Common.{◌≡◌, refl, sym, ◌∙◌, ap, subst, ℕ, ◌+◌, ◌*◌, ◌-◌, ◌<◌, ◌⊎◌, inl, inr, arith, Bool, true, false, List, map, length, slice_index, true≢false}
+use Rattle.std.proofs.Common.{◌≡◌, refl, sym, ◌∙◌, ap, ap₂, subst, ℕ, ◌+◌, ◌*◌, ◌-◌, ◌<◌, ◌≤◌, ◌⊎◌, inl, inr, arith, Bool, true, false, List, map, length, slice_index, true≢false}
 use Rattle.std.specs.Prelude.{◌&&◌, not, nat_eq, nat_lt}
-use Rattle.std.proofs.lemmas.Bool.{lt-ltb}
+use Rattle.std.proofs.lemmas.Bool.{lt-ltb, eq-eqb}
 use Rattle.std.proofs.lemmas.List.{ext_get_or, get_or-map, length-map}
+use Rattle.heap_layout.specs.Zones.{row_words}
+use Rattle.object_model.proofs.Marks as marks
 use Rattle.object_model.specs.Heaps.{heap_state}
 use Rattle.object_model.specs.Objects.{HeapState, state_of, size_at, is_unlogged}
 use Rattle.object_model.specs.Ages as ages
@@ -16,6 +18,7 @@ use Rattle.trace_core.specs.Views.{View, IsIdle, one_if, hits, times, is_copied}
 use Rattle.trace_core.specs.Tracers.{Tracks, IsTraced, IsFilled, setup_of, is_nursery}
 use Rattle.trace_core.specs.declared.run.TraceRun.{TraceRun}
 use Rattle.trace_core.specs.declared.run.Traced.{Traced}
+use Rattle.trace_core.proofs.Clauses.{held-of}
 use Rattle.trace_core.proofs.Finished.{image-some}
 use Rattle.collector.specs.Collected.{FillsBlocks, IsRunUnder}
 use Rattle.collector.specs.Serving.{IsTargetOf}
@@ -28,11 +31,11 @@ use Rattle.object_model.specs.declared.heap.Heap.{Heap}
 use Rattle.object_model.specs.Objects.{block_count, has_kind}
 use Rattle.heap_layout.specs.declared.block.Kind.TheVariants as kinds
 use Rattle.sessions.specs.Collecting.{Collects}
-use Rattle.collector.specs.Released.{ReleasesBelow, heap_with}
+use Rattle.collector.specs.Released.{ReleasesBelow, heap_with, MoveAll}
 use Rattle.collector.specs.Tallies.{IsNote}
 use Rattle.collector.specs.declared.outcome.Note.{Note}
 use Rattle.collector.proofs.WholeCollections.{CollectsBy, makes, numbered}
-use Rattle.collector.proofs.TallySums.{total-same, total-both}
+use Rattle.collector.proofs.TallySums.{total-same, total-both, total-part}
 
 and-none : (t u : Bool) → t ≡ false → (t && u) ≡ false
 and-none false u none = refl
@@ -153,6 +156,18 @@ module _ (start : TraceStart) (w : PacketTrace) (full : IsFullTrace start w) whe
         let sum : total s.blocks (λ a. f a + g a) ≡ total s.blocks (λ a. one_if (nat_lt 0 (F a))) = total-same s.blocks _ _ (λ a below. split (nat_lt 0 (F a)) (nat_eq (F a) a)) in
         let parts : total s.blocks (λ a. f a + g a) ≡ total s.blocks f + total s.blocks g = total-both s.blocks f g in
         omega (arith, kept-is, moved-is, sum, parts)
+
+    -- if as many moved as were kept, none stays in its place
+    pub moves-all : w.tally.kept ≡ w.tally.moved → MoveAll p es
+    moves-all equal x t is same =
+        let f : ℕ → ℕ = λ a. one_if (nat_lt 0 (F a) && nat_eq (F a) a) in
+        let at : F x ≡ x = ap address_or_nil is ∙ same in
+        let one : f x ≡ 1 = ap₂ (λ t u. one_if (t && u)) (lt-ltb 0 (F x) (image-some p es tracks.trace finished x t is)) (eq-eqb (F x) x at) in
+        let there : x < row_words s.blocks = subst (λ b. x < row_words b) (numbered s start.run 1 full.may p refl).blocks
+        (marks.held p.before x (held-of p es tracks.trace x t is)).address.below in
+        let part : f x ≤ total s.blocks f = total-part s.blocks f x there in
+        let none : w.tally.kept - w.tally.moved ≡ total s.blocks f = in-place-is in
+        omega (arith, equal, none, one, part)
 
 -- what the blocks' release makes of a finished trace
 module _ (q : Plan) (r : Rules) (of : r ≡ rules_of q) (start : TraceStart) (w : PacketTrace) (full : IsFullTrace start w) (told : IsRunUnder r start.run.collect (heap_state start.heap) start.run)

@@ -21,7 +21,7 @@ use Rattle.collector.proofs.Releasables.{releasable-after}
 use Rattle.collector.proofs.Steps.{IsReleasedBelow, own-span, tail-bare, tail-word, one-more}
 
 module _ (r : Rules) (c : Collect) (base : ℕ) (s : HeapState) (ready : (k : ℕ) → k < s.blocks → IsReleasable s k) where
-  released-below : (mid : HeapState) (n : ℕ) → ReleasesBelow r c base s mid n → IsReleasedBelow r c base s mid n
+  pub released-below : (mid : HeapState) (n : ℕ) → ReleasesBelow r c base s mid n → IsReleasedBelow r c base s mid n
   released-below _ _ none = record {
     rest = record { blocks = refl; others = λ i beside. refl };
     extent = refl;

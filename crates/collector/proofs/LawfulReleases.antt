@@ -27,11 +27,8 @@ pub touched-again : (b k line : ℕ) (w : List ℕ) (number age number' age' : �
 touched-again b k line w number age number' age' is = (let t = is.touched in record {
   touched = record {
     object = t.object;
-    word = t.word;
     held = let there = t.held in record { address = there.address; start = there.start };
-    inside = t.inside;
-    from = t.from;
-    below = t.below;
+    touches = t.touches;
   };
   here = is.here;
 })

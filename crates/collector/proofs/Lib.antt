@@ -8,6 +8,8 @@ mod Beside
 mod Releasables
 mod Steps
 mod InOrder
+mod Owners
+mod MovedBlocks
 mod Spans
 mod Fates
 mod ReleasedBlocks
@@ -40,3 +42,4 @@ pub mod TracedObjects
 pub mod LeftFalls
 pub mod NextTally
 mod TwoBuckets
+pub mod Offered

@@ -14,9 +14,10 @@ use Rattle.trace_core.specs.Traces.{IsTrace, IsFinished, machine_after, heap_aft
 use Rattle.trace_core.specs.Outcomes.{base_after, image, FinishedRow}
 use Rattle.trace_core.proofs.Rows.{row}
 use Rattle.plan_api.specs.Releasing.{Releases}
-use Rattle.collector.specs.Released.{ReleasesBelow, none, one_more}
+use Rattle.collector.specs.Released.{ReleasesBelow, none, one_more, MoveAll, OwnerTells}
 use Rattle.collector.proofs.InOrder.{next, released}
 use Rattle.collector.proofs.LawfulReleases.{lawful-with}
+use Rattle.collector.proofs.Owners.{tells-next, tells-again}
 use Rattle.collector.proofs.Numbers.{releasable-again, releases-again}
 
 -- the blocks of the row below n are released in these words
@@ -58,6 +59,10 @@ module _ (r : Rules) (c : Collect) (base : ℕ) (old : Row) (p : Setup) (es : Li
 
     pub releasable : n < old.layout.blocks → IsReleasable (state_over words old.layout 0 0) n
     releasable there = releasable-again words old.layout old.number old.base 0 0 n (next p es r c now n trace finished below (subst (λ b. n < b) blocks-same there))
+
+    pub tells : MoveAll p es → n < old.layout.blocks → OwnerTells base (state_over words old.layout 0 0) n
+    tells move there = subst (λ b. OwnerTells b (state_over words old.layout 0 0) n) (sym is-base)
+        (tells-again (base_after p) words old.layout old.number old.base 0 0 n (tells-next p es r c now n trace finished move below (subst (λ b. n < b) blocks-same there)))
 
   pub lawful-after : (words : List ℕ) → ReleasesBelow r c base (state_of old) (state_over words old.layout old.number old.base) old.layout.blocks → ((i : ℕ) → word_at (state_over words old.layout old.number old.base) i < 2 ^ 64)
       → (number : ℕ) → number ≡ collection p → IsLawful (state_over words old.layout number base)

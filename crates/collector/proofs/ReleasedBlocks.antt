@@ -14,7 +14,8 @@ use Rattle.object_model.specs.Objects.{HeapState, block_word, has_kind, HasKind,
 use Rattle.object_model.specs.Lawful.{Lies, LiesInCell, LiesInBlock, LiesInRun, IsUnowned, FreeBlockIsClear, IsTouched, LineBitsAreExact, has_small, is_in_run}
 use Rattle.object_model.specs.Ages.{Lives}
 use Rattle.object_model.proofs.OneKind.{kind-code, kind-within, kind-from, one-kind, has_small-code, is_small_code}
-use Rattle.object_model.proofs.ObjectParts.{ArePlacesRight, line-block}
+use Rattle.object_model.proofs.Lines.{held-block_word}
+use Rattle.object_model.proofs.ObjectParts.{ArePlacesRight}
 use Rattle.object_model.proofs.Marks as marks
 use Rattle.block_sweeps.specs.Sweeping.{IsOfSpan}
 use Rattle.sessions.specs.Plans.{Rules}
@@ -195,8 +196,8 @@ module _ {r : Rules} {c : Collect} {base : ℕ} {s : HeapState} {w : List ℕ} {
       is-immix now = fates.kind-in-use all k kinds.Immix (λ e. omega arith) (λ e. omega arith) (λ e. omega arith) now
 
       here : IsInUse r c base s new k → HasKind s k kinds.Immix → (line : ℕ) → line < 256 → (t : IsTouched new k line) → block_at s.blocks t.object ≡ k
-      here used immix line few t = elim (begins-in all.before k t.object t.word used.plain (lives-of t.object t.held).held (inside-before t.object t.word t.held t.inside)
-          (inl (line-block s k line t.word few t.from t.below))) as (λ _. block_at s.blocks t.object ≡ k) [
+      here used immix line few t = let word = held-block_word new k line few t in
+          elim (begins-in all.before k t.object word.0 used.plain (lives-of t.object t.held).held (inside-before t.object word.0 t.held word.1) (inl word.2)) as (λ _. block_at s.blocks t.object ≡ k) [
             | inl e ↦ e
             | inr later ↦ absurd (let e = one-kind s k kinds.LargeHead kinds.Immix later.0 immix in omega arith)
           ]

@@ -2,7 +2,7 @@
 use Rattle.std.specs.Prelude.{◌≡◌, ℕ, ◌<◌, ◌≤◌, ◌⊎◌, IsTrue, List, length, map}
 use Rattle.std.specs.List.{range_with_len}
 use Rattle.object_model.specs.declared.collect.Collect.{Collect}
-use Rattle.object_model.specs.declared.collect.Collect.TheVariants.{Nursery}
+use Rattle.object_model.specs.declared.collect.Collect.TheVariants.{Nursery, Full}
 use Rattle.object_model.specs.declared.shape.TheConstants.{MAX_MEDIUM_WORDS}
 use Rattle.object_model.specs.Objects.{HeapState}
 use Rattle.sessions.specs.Plans.{Rules}
@@ -12,6 +12,10 @@ use Rattle.trace_core.specs.Machine.{Machine}
 use Rattle.trace_core.specs.Views.{times}
 use Rattle.trace_core.specs.Tracers.{IsFilled}
 use Rattle.trace_core.specs.declared.run.TraceRun.{TraceRun}
+
+-- `collect` makes collections of this kind under these rules: full ones, today
+unfoldable pub IsOffered : Rules → Collect → Type 0
+IsOffered r c = c ≡ Full
 
 -- The tracer is told of a collection of this kind under these rules: which blocks the rules evacuate, the kind of blocks
 -- that workers fill, and whether lines are marked. Only rules with young objects have nursery collections.

@@ -1,10 +1,14 @@
 -- The release of all blocks of a row, one after another.
-use Rattle.std.specs.Prelude.{◌≡◌, ℕ, ◌+◌, ◌<◌, ◌^◌, length}
+use Rattle.std.specs.Prelude.{◌≡◌, ◌≢◌, ℕ, ◌+◌, ◌<◌, ◌^◌, length, Some, List}
 use Rattle.heap_layout.specs.declared.block.Kind.TheVariants as kinds
 use Rattle.object_model.specs.declared.collect.Collect.{Collect}
-use Rattle.object_model.specs.Objects.{HeapState, HasKind, word_at}
-use Rattle.block_sweeps.specs.Sweeping.{IsMetadata}
+use Rattle.object_model.specs.Objects.{HeapState, HasKind, word_at, owner_at, IsHeld}
+use Rattle.object_model.specs.Ages.{Lives}
+use Rattle.block_sweeps.specs.Sweeping.{IsMetadata, InBlock, HasNoLiving}
 use Rattle.sessions.specs.Plans.{Rules}
+use Rattle.trace_core.specs.Setups.{Setup}
+use Rattle.trace_core.specs.Machine.{Event}
+use Rattle.trace_core.specs.Traces.{target_of}
 use Rattle.plan_api.specs.Releasing.{Releases, IsReleased}
 
 -- The blocks below n were released, in order: the row was s and is now the last state.
@@ -25,3 +29,13 @@ pub record AreReleased (r : Rules) (c : Collect) (base : ℕ) (s s' : HeapState)
 -- the heap with this row after a collection with these numbers
 abbrev pub heap_with : HeapState → ℕ → ℕ → HeapState
 heap_with s number base = record { words = s.words; blocks = s.blocks; number = number; base = base }
+
+-- each object that the trace keeps has a target other than its own place
+abbrev pub MoveAll : Setup → List Event → Type 0
+MoveAll p es = (x t : ℕ) → target_of p es x ≡ Some t → t ≢ x
+
+-- The owner of block k tells what lives in it: all objects that begin in it if it has an owner, as the workers of a trace
+-- are of the blocks that they copy into, and none if it has no owner.
+pub record OwnerTells (base : ℕ) (s : HeapState) (k : ℕ) : Type 0 where
+  pub owned : 0 < owner_at s k → (a : ℕ) → InBlock s k a → IsHeld s a → Lives base s a
+  pub unowned : owner_at s k ≡ 0 → HasNoLiving base s (InBlock s k)

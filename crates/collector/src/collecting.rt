@@ -6,7 +6,7 @@ ghost use Rattle.object_model.specs.Objects.{IsHeld};
 ghost use Rattle.object_model.specs.Heaps.{heap_state};
 ghost use Rattle.sessions.specs.Collecting.{IsCollection, Collects, OnlyCounts};
 ghost use Rattle.trace_core.specs.Tracers.{MayRun, is_nursery};
-ghost use Rattle.collector.specs.Collected.{IsRunUnder};
+ghost use Rattle.collector.specs.Collected.{IsOffered, IsRunUnder};
 ghost use Rattle.collector.specs.Items.{items_of};
 ghost use Rattle.collector.specs.RootPackets.{AreRootPackets};
 ghost use Rattle.collector.specs.Awaited.{IsAwaited};
@@ -19,7 +19,7 @@ use crate::counting::count_held;
 use crate::item::Item;
 use crate::outcome::{Collected, Note};
 use crate::packet_trace::PacketTrace;
-use crate::releasing::release;
+use crate::releasing::release_by;
 use crate::roots::root_packets;
 use crate::tally::Tally;
 use crate::worker::TraceWorker;
@@ -36,7 +36,8 @@ use work_packets::{Bucket, Gate, Packet};
 /// worker serves the roots, `roots` and the heap's globals, and scans what it claims, and the
 /// blocks are released. Under NoGC the collection number rises, and nothing else changes.
 ///
-/// `roots` are the mutators' registers. There is one worker, and only full collections are made.
+/// `roots` are the mutators' registers. There is one worker. Only collections that are offered are
+/// made: full ones.
 ///
 /// Fails if memory runs out. The heap is lost then.
 pub fn collect<P: Plan, Q: Pool, G: Gate, R: Threads + Sync>(
@@ -49,7 +50,7 @@ pub fn collect<P: Plan, Q: Pool, G: Gate, R: Threads + Sync>(
     pool: &Q,
     gate: &G,
 ) -> Result<Collected, AllocError>
-    requires full { collect ≡ Full }
+    requires offered { IsOffered P.rules collect }
     requires one { workers ≡ 1 }
     requires few { length roots.items ≤ 1000000 }
     requires held { AreRoots (heap_state heap) roots.items }
@@ -193,7 +194,7 @@ fn finish<P: Plan>(trace: PacketTrace) -> Collected
     } = trace;
     let traced = tracer.close();
     let collect = traced.run.collect;
-    let heap = release::<P>(traced);
+    let heap = release_by::<P>(traced, tally.kept == tally.moved);
     let free_blocks = block_counts(&heap).free;
     Collected {
         heap,

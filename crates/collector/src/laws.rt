@@ -3,6 +3,7 @@
 ghost use Rattle.std.specs.Prelude.{◌≡◌, ◌↔◌, ◌^◌, ◌<◌, ℕ, List, IsTrue, true, map};
 ghost use Rattle.heap_layout.specs.declared.layout.Layout.{Layout};
 ghost use Rattle.object_model.specs.declared.collect.Collect.{Collect};
+ghost use Rattle.object_model.specs.declared.collect.Collect.TheVariants.{Full, Nursery};
 ghost use Rattle.object_model.specs.Objects.{HeapState, state_over, word_at, IsHeld, is_unlogged};
 ghost use Rattle.object_model.specs.Lawful.{IsLawful};
 ghost use Rattle.object_model.specs.Ages.{Lives};
@@ -16,8 +17,8 @@ ghost use Rattle.trace_core.specs.Outcomes.{base_after, image, HaveAsked, NoOthe
 ghost use Rattle.trace_core.specs.Tracers.{setup_of, MayRun};
 ghost use Rattle.trace_core.specs.declared.run.TraceRun.{TraceRun};
 ghost use Rattle.plan_api.specs.Releasing.{Releases};
-ghost use Rattle.collector.specs.Collected.{IsRunUnder, FillsBlocks};
-ghost use Rattle.collector.specs.Released.{ReleasesBelow, AreReleased, heap_with};
+ghost use Rattle.collector.specs.Collected.{IsOffered, IsRunUnder, FillsBlocks};
+ghost use Rattle.collector.specs.Released.{ReleasesBelow, AreReleased, heap_with, MoveAll, OwnerTells};
 
 /// After a finished trace the blocks can be released in order: the next block may be released each
 /// time. What each release left stays, and no word but metadata of blocks changes.
@@ -30,6 +31,14 @@ pub fn blocks_are_released_in_order()
         (n : ℕ) → IsTrace p es → IsFinished p (machine_after p es)
         → ReleasesBelow r c (base_after p) (heap_after p es) mid n
         → AreReleased r c (base_after p) (heap_after p es) mid n }
+{}
+
+/// After a finished trace in which all that is kept moved, the owner of a block tells what lives in
+/// it.
+pub fn owners_tell_what_lives()
+    ensures { (p : Setup) (es : List Event) (k : ℕ) → IsTrace p es
+        → IsFinished p (machine_after p es) → MoveAll p es → k < blocks p
+        → OwnerTells (base_after p) (heap_after p es) k }
 {}
 
 /// If each block of the row after a finished trace was released, the objects held are exactly those
@@ -81,4 +90,10 @@ pub fn releases_ignore_numbers()
         (number base number' base' k : ℕ)
         → Releases r c age (state_over old l number base) (state_over new l number base) k
         → Releases r c age (state_over old l number' base') (state_over new l number' base') k }
+{}
+
+/// Full collections are made under all rules, and nursery collections under none.
+pub fn offered_collections()
+    ensures full { (r : Rules) → IsOffered r Full }
+    ensures only { (r : Rules) → IsOffered r Nursery → ⊥ }
 {}

@@ -5,6 +5,7 @@ mod collecting;
 mod counting;
 mod item;
 mod laws;
+mod moved;
 mod outcome;
 mod packet_trace;
 mod releasing;
@@ -15,8 +16,8 @@ mod worker;
 pub use collecting::collect;
 pub use item::Item;
 pub use laws::{
-    blocks_are_released_in_order, released_heaps_are_lawful, released_traces_are_collections,
-    releases_ignore_numbers,
+    blocks_are_released_in_order, offered_collections, owners_tell_what_lives,
+    released_heaps_are_lawful, released_traces_are_collections, releases_ignore_numbers,
 };
 pub use outcome::{Collected, Note};
 pub use releasing::release;

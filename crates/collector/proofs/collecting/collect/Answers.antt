@@ -1,13 +1,24 @@
 use Rattle.std.proofs.Common.{◌≡◌, ◌∙◌, sym, ap, subst, subst₂, true, nat_eq, true≢false}
 use Rattle.object_model.specs.Heaps.{heap_state}
 use Rattle.sessions.specs.Collecting.{Collects}
+use Rattle.trace_core.specs.Tracers.{is_nursery}
 use Rattle.plan_api.specs.declared.flags.PlanFlags.{PlanFlags}
 use Rattle.collector.specs.Collected.{IsRunUnder}
 use Rattle.collector.specs.Working.{IsFullTrace}
 use Rattle.collector.specs.Tallies.{IsNote}
 use Rattle.collector.specs.declared.worker.TraceStart.{TraceStart}
+use Rattle.collector.proofs.Offered.{offered-full}
 use Rattle.collector.proofs.WholeNotes.{reclaims, collects-all, root-buckets}
 use Rattle.collector.proofs.collecting.collect.Goals as goal
+
+pub count_only-requires-clause-full : goal.count_only-requires-clause-full
+count_only-requires-clause-full g c = offered-full g.P.Plan.rules c.args.collect c.requires.offered
+
+pub prepare-requires-clause-full : goal.prepare-requires-clause-full
+prepare-requires-clause-full g c = offered-full g.P.Plan.rules c.args.collect c.requires.offered
+
+pub begin-requires-clause-full : goal.begin-requires-clause-full
+begin-requires-clause-full g c = ap is_nursery (c.in_ok-run.ensures.under.collect ∙ offered-full g.P.Plan.rules c.args.collect c.requires.offered)
 
 pub run_packets-requires-clause-awaits : goal.run_packets-requires-clause-awaits
 run_packets-requires-clause-awaits g c κs within =
@@ -20,7 +31,7 @@ finish-requires g c =
       start,
       record {
         may = c.in_ok-run.ensures.may;
-        full = c.in_ok-run.ensures.under.collect ∙ c.requires.full;
+        full = c.in_ok-run.ensures.under.collect ∙ offered-full g.P.Plan.rules c.args.collect c.requires.offered;
         awaited = (c.in_ok-trace-2.ensures start (record { awaited = c.in_ok-trace.ensures.awaits; buckets = root-buckets c.in_ok-trace.first.items c.in_ok-trace.ensures.packets })).awaited;
       },
     )
@@ -30,7 +41,7 @@ returns g c =
     let start : TraceStart = record { heap = c.args.heap; run = c.in_ok-run.run'; roots = c.args.roots } in
     let full : IsFullTrace start c.in_ok-trace-2.trace = record {
       may = c.in_ok-run.ensures.may;
-      full = c.in_ok-run.ensures.under.collect ∙ c.requires.full;
+      full = c.in_ok-run.ensures.under.collect ∙ offered-full g.P.Plan.rules c.args.collect c.requires.offered;
       awaited = (c.in_ok-trace-2.ensures start (record { awaited = c.in_ok-trace.ensures.awaits; buckets = root-buckets c.in_ok-trace.first.items c.in_ok-trace.ensures.packets })).awaited;
     } in
     let all : g.P.Plan.rules.collects ≡ true = reclaims g.P.Plan.plan g.P.Plan.rules g.met.P.Plan.rules_are_of_plan c.FLAGS.result.0

@@ -1,25 +1,30 @@
 use Rattle.std.proofs.Common.{subst, ℕ, ◌<◌, ◌^◌, arith, List, slice_index}
 use Rattle.object_model.specs.Objects.{state_over}
-use Rattle.collector.proofs.ReleaseLoop.{going-first, going-on, extent, releasable, lawful-after, at-end}
-use Rattle.collector.proofs.releasing.release.Goals as goal
+use Rattle.collector.proofs.ReleaseLoop.{going-first, going-on, extent, releasable, tells, lawful-after, at-end}
+use Rattle.collector.proofs.releasing.release_by.Goals as goal
 
 pub loop-block-init : goal.loop-block-init
 loop-block-init g c = going-first g.P.Plan.rules c.args.traced.run.collect c.args.traced.run.base c.args.traced.row
 
-pub release_block-requires-clause-extent : goal.release_block-requires-clause-extent
-release_block-requires-clause-extent g c =
+pub release_next-requires-clause-extent : goal.release_next-requires-clause-extent
+release_next-requires-clause-extent g c =
     let t = c.args.traced in let is = c.requires in
     extent g.P.Plan.rules t.run.collect t.run.base t.row is.0 is.1 is.2 is.3 is.4 is.5 c.loop-block.words.items c.loop-block.block c.loop-block.invariant
 
-pub release_block-requires-clause-releasable : goal.release_block-requires-clause-releasable
-release_block-requires-clause-releasable g c =
+pub release_next-requires-clause-releasable : goal.release_next-requires-clause-releasable
+release_next-requires-clause-releasable g c =
     let t = c.args.traced in let is = c.requires in
     releasable g.P.Plan.rules t.run.collect t.run.base t.row is.0 is.1 is.2 is.3 is.4 is.5 c.loop-block.words.items c.loop-block.block c.loop-block.invariant (subst (λ n. c.loop-block.block < n) c.blocks-block-end.ensures c.loop-block-test.true)
+
+pub release_next-requires-clause-tells : goal.release_next-requires-clause-tells
+release_next-requires-clause-tells g c = λ all.
+    let t = c.args.traced in let is = c.requires in
+    tells g.P.Plan.rules t.run.collect t.run.base t.row is.0 is.1 is.2 is.3 is.4 is.5 c.loop-block.words.items c.loop-block.block c.loop-block.invariant (is.7 all) (subst (λ n. c.loop-block.block < n) c.blocks-block-end.ensures c.loop-block-test.true)
 
 pub loop-block-preserved : goal.loop-block-preserved
 loop-block-preserved g c =
     let t = c.args.traced in
-    going-on g.P.Plan.rules t.run.collect t.run.base t.row c.loop-block.words.items c.release_block.new.words.items c.loop-block.block c.loop-block.invariant (subst (λ n. c.loop-block.block < n) c.blocks-block-end.ensures c.loop-block-test.true) c.release_block.ensures
+    going-on g.P.Plan.rules t.run.collect t.run.base t.row c.loop-block.words.items c.release_next.new.words.items c.loop-block.block c.loop-block.invariant (subst (λ n. c.loop-block.block < n) c.blocks-block-end.ensures c.loop-block-test.true) c.release_next.ensures
 
 pub from_row-requires : goal.from_row-requires
 from_row-requires g c =
