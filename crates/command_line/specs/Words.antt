@@ -177,19 +177,20 @@ line_of words = option_and_then if_single (split_line words)
 unfoldable pub form_of : List (List ℕ) → Option Job
 form_of words = option_and_then job_in (line_of words)
 
--- the plan that never collects
-abbrev pub is_nogc : Plan → Bool
-is_nogc NoGc = true
-is_nogc _ = false
+-- the plans that the program runs
+abbrev pub is_implemented : Plan → Bool
+is_implemented NoGc = true
+is_implemented SemiSpace = true
+is_implemented _ = false
 
 -- the work of mutators from files
 abbrev pub has_files : Work → Bool
 has_files (Files files) = true
 has_files (Made n) = false
 
--- the jobs that are implemented: traces from files under NoGC, with one worker and no map
+-- the jobs that are implemented: traces from files under NoGC or SemiSpace, with one worker and no map
 abbrev pub is_supported : Job → Bool
-is_supported job = is_nogc job.plan && nat_eq job.workers 1 && not job.map && has_files job.work
+is_supported job = is_implemented job.plan && nat_eq job.workers 1 && not job.map && has_files job.work
 
 -- the job, if it is implemented
 abbrev pub if_supported : Job → Option Job

@@ -34,6 +34,8 @@ fn reads_command_lines(rt: HostRuntime) -> Result<(), Fail> {
         ("--heap=1024 --plan nogc a", 1024),
         ("--workers 1 --plan nogc --heap 64 a", 64),
         ("--plan nogc --workers=1 --heap 10 a", 10),
+        ("--plan semispace --heap 4 a", 4),
+        ("--heap=5 --workers=1 --plan=semispace a", 5),
     ];
     for (line, blocks) in supported {
         let words = words_in(alloc, line)?;
@@ -50,6 +52,7 @@ fn reads_command_lines(rt: HostRuntime) -> Result<(), Fail> {
     for line in [
         "--plan nogc --heap 4 a b",
         "--plan nogc --heap 4 a a",
+        "--plan semispace --heap 4 a b",
         "--plan nogc --heap 4 a b c d e f g h i j k l m n o p",
     ] {
         assert!(rt; is_supported(alloc, line)?, "{line}");
@@ -59,20 +62,22 @@ fn reads_command_lines(rt: HostRuntime) -> Result<(), Fail> {
 }
 
 #[test]
-fn supports_files_under_nogc(rt: HostRuntime) -> Result<(), Fail> {
+fn refuses_what_is_not_implemented(rt: HostRuntime) -> Result<(), Fail> {
     let alloc = rt.alloc();
     let unsupported = [
         "--plan marksweep --heap 4 a",
-        "--plan semispace --heap 4 a",
         "--plan gencopy --heap 4 a",
         "--plan immix --heap 4 a",
         "--plan stickyimmix --heap 4 a",
         "--heap=4 --plan=immix a",
         "--plan nogc --heap 4 --workers 2 a",
         "--plan nogc --heap 4 --workers 16 a",
+        "--plan semispace --heap 4 --workers 2 a",
         "--plan nogc --heap 4 --map a",
         "--map --plan nogc --heap 4 a",
+        "--plan semispace --heap 4 --map a",
         "--plan nogc --heap 4 --make 5",
+        "--plan semispace --heap 4 --make 5",
         "--make=1 --plan nogc --heap 4",
         "--plan nogc --make 1000000 --workers 3 --heap 4",
         "--plan nogc --heap 4 --workers 2 a b c d e f g h i j k l m n o p",

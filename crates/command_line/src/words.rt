@@ -48,11 +48,11 @@ pub(crate) fn read_form<'a>(
     Ok(order_of(&found, parts.files))
 }
 
-// Whether the order is implemented: `nogc`, files, one worker and no map.
+// Whether the order is implemented: `nogc` or `semispace`, files, one worker and no map.
 fn is_supported(order: &Order) -> bool
     ensures { result ≡ can_run (job_of_order order.now) }
 {
-    matches!(order.plan, PlanName::NoGc)
+    matches!(order.plan, PlanName::NoGc | PlanName::SemiSpace)
         && order.workers == 1
         && !order.map
         && matches!(order.work, Target::Files(_))
@@ -61,7 +61,7 @@ fn is_supported(order: &Order) -> bool
 /// What the arguments after the program's name ask for.
 ///
 /// `None` if the arguments do not match the usage, or ask for a feature that is not implemented
-/// yet: a plan other than `nogc`, several workers, a map or a made trace. The order
+/// yet: a plan other than `nogc` and `semispace`, several workers, a map or a made trace. The order
 /// borrows the names of its files from the arguments.
 ///
 /// Errors: out of memory.

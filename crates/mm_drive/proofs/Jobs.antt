@@ -1,11 +1,11 @@
 -- What is known of a job that arguments name.
 use Rattle.std.proofs.Common.{◌≡◌, refl, sym, ◌∙◌, ap, subst, ℕ, ◌≤◌, Bool, true, false, ◌&&◌, List, nat_eq}
 use Rattle.std.specs.Prelude.{Option, None, Some, option_and_then, option_map, unwrap_or, nat_le, nat_lt, not, ◌||◌, length, if◌then◌else◌}
-use Rattle.std.proofs.lemmas.Bool.{true≢false, leb-true, eqb-true}
+use Rattle.std.proofs.lemmas.Bool.{true≢false, leb-true}
 use Rattle.std.proofs.lemmas.Option.{none-some}
 use Rattle.trace_text.specs.Grammar.{numeral}
-use Rattle.sessions.specs.Plans.{Plan, NoGc, MarkSweep, SemiSpace, GenCopy, Immix, StickyImmix}
-use Rattle.command_line.specs.Words.{Job, Work, Files, Made, Line, Values, job_of, form_of, line_of, job_in, job_with, plan_of, number_in, if_within, workers_of, work_of, values_in, is_supported, if_supported, is_nogc, has_files}
+use Rattle.sessions.specs.Plans.{Plan}
+use Rattle.command_line.specs.Words.{Job, Work, Files, Made, Line, Values, job_of, form_of, line_of, job_in, job_with, plan_of, number_in, if_within, workers_of, work_of, values_in, is_supported, if_supported, is_implemented, has_files}
 use Rattle.mm_drive.specs.Printed.{files_in, job_files}
 
 both : (a b : Bool) → (a && b) ≡ true → (a ≡ true) × (b ≡ true)
@@ -95,23 +95,4 @@ job-files words job e kept = line-files (line_of words) job e kept
 
 -- its work is files
 pub supported-work : (job : Job) → is_supported job ≡ true → has_files job.work ≡ true
-supported-work job supported = (both (is_nogc job.plan && nat_eq job.workers 1 && not job.map) (has_files job.work) supported).1
-
-nogc-only : (p : Plan) → is_nogc p ≡ true → p ≡ NoGc
-nogc-only NoGc is = refl
-nogc-only MarkSweep is = absurd (true≢false (sym is))
-nogc-only SemiSpace is = absurd (true≢false (sym is))
-nogc-only GenCopy is = absurd (true≢false (sym is))
-nogc-only Immix is = absurd (true≢false (sym is))
-nogc-only StickyImmix is = absurd (true≢false (sym is))
-
-first-two : (job : Job) → is_supported job ≡ true → (is_nogc job.plan && nat_eq job.workers 1) ≡ true
-first-two job supported =
-    (both (is_nogc job.plan && nat_eq job.workers 1) (not job.map) (both (is_nogc job.plan && nat_eq job.workers 1 && not job.map) (has_files job.work) supported).0).0
-
--- its plan is `nogc`, and one worker traces
-pub supported-plan : (job : Job) → is_supported job ≡ true → job.plan ≡ NoGc
-supported-plan job supported = nogc-only job.plan (both (is_nogc job.plan) (nat_eq job.workers 1) (first-two job supported)).0
-
-pub supported-workers : (job : Job) → is_supported job ≡ true → job.workers ≡ 1
-supported-workers job supported = eqb-true job.workers 1 (both (is_nogc job.plan) (nat_eq job.workers 1) (first-two job supported)).1
+supported-work job supported = (both (is_implemented job.plan && nat_eq job.workers 1 && not job.map) (has_files job.work) supported).1

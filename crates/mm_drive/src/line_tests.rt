@@ -38,6 +38,8 @@ fn supported(rt: HostRuntime) -> Result<(), Fail> {
         "--heap=1024 --plan nogc a",
         "--workers 1 --plan nogc --heap 64 a",
         "--plan nogc --workers=1 --heap 10 a",
+        "--plan semispace --heap 4 a",
+        "--heap=5 --workers=1 --plan=semispace a",
     ];
     for line in lines {
         let ran = run_words(&rt, alloc, line, trace_in(alloc, FIRST)?)?;
@@ -64,13 +66,13 @@ fn unsupported(rt: HostRuntime) -> Result<(), Fail> {
         rt.alloc(),
         &[
             "--plan marksweep --heap 4 a",
-            "--plan semispace --heap 4 a",
             "--plan gencopy --heap 4 a",
             "--plan immix --heap 4 a",
             "--plan stickyimmix --heap 4 a",
             "--heap=4 --plan=immix a",
             "--plan nogc --heap 4 --workers 2 a",
             "--plan nogc --heap 4 --workers 16 a",
+            "--plan semispace --heap 4 --workers 2 a",
             "--plan nogc --heap 4 --map a",
             "--map --plan nogc --heap 4 a",
             "--plan nogc --heap 4 --make 5",

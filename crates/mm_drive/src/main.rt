@@ -9,6 +9,8 @@ mod laws;
 mod line_tests;
 #[cfg(test)]
 mod mutator_tests;
+#[cfg(test)]
+mod plan_tests;
 mod program;
 mod status;
 #[cfg(test)]

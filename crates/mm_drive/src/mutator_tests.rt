@@ -1,57 +1,15 @@
 //! Runs of several traces: replies and fault lines.
 
 use crate::status::Status;
-use crate::test_runs::{Ran, run_files, trace_in, words_in};
+use crate::test_runs::{check_replies, files_of, repeat, run_traces, text_in, words_in};
 use crate::top::run;
 use outside::{MemSink, MemSources};
 use std::alloc::{AllocError, Global};
-use std::fmt::Write;
 use std::process::Abort;
 use std::sync::atomic::{AtomicU64, Ordering};
 use std::test::Fail;
 use std::thread::Threads;
 use work_packets::{Gate, Point};
-
-// Files `f0`, `f1` and so on, with one trace each. Semicolons separate commands; an empty trace has
-// none.
-fn files_of(alloc: Global, traces: &[&str]) -> Result<Vec<(String, Vec<u8>)>, AllocError> {
-    let mut files = Vec::new(alloc);
-    for (m, commands) in traces.iter().enumerate() {
-        let mut name = String::new(alloc);
-        write!(name, "f{m}")?;
-        files.push((name, trace_in(alloc, commands)?))?;
-    }
-    Ok(files)
-}
-
-// Runs one trace for each mutator.
-fn run_traces<R: Threads + Sync>(
-    rt: &R,
-    alloc: Global,
-    heap: u32,
-    traces: &[&str],
-) -> Result<Ran, AllocError> {
-    let mut line = String::new(alloc);
-    write!(line, "--plan nogc --heap {heap}")?;
-    for m in 0..traces.len() {
-        write!(line, " f{m}")?;
-    }
-    run_files(rt, alloc, &line, files_of(alloc, traces)?)
-}
-
-// The text of the replies, mutator by mutator, which semicolons separate.
-fn text_in(alloc: Global, replies: &[&str]) -> Result<Vec<u8>, AllocError> {
-    let mut text = String::new(alloc);
-    for (m, replies) in replies.iter().enumerate() {
-        writeln!(text, "mutator {}", m + 1)?;
-        for reply in replies.split(';') {
-            if !reply.is_empty() {
-                writeln!(text, "{reply}")?;
-            }
-        }
-    }
-    Ok(text.into_bytes())
-}
 
 fn check<R: Threads + Sync + Abort>(
     rt: &R,
@@ -60,15 +18,7 @@ fn check<R: Threads + Sync + Abort>(
     traces: &[&str],
     replies: &[&str],
 ) -> Result<(), AllocError> {
-    let ran = run_traces(rt, alloc, heap, traces)?;
-    assert_eq!(rt; ran.status, Status::Ok, "{traces:?}");
-    assert_eq!(rt;
-        ran.out.as_slice(),
-        text_in(alloc, replies)?.as_slice(),
-        "{traces:?}"
-    );
-    assert!(rt; ran.err.is_empty(), "{traces:?}");
-    Ok(())
+    check_replies(rt, alloc, "nogc", heap, traces, replies)
 }
 
 #[test]
@@ -133,18 +83,10 @@ fn faults_of_files(rt: HostRuntime) -> Result<(), Fail> {
         ),
     ];
     for (traces, line) in table {
-        let ran = run_traces(&rt, alloc, 4, &traces)?;
+        let ran = run_traces(&rt, alloc, "nogc", 4, &traces)?;
         assert_eq!(rt; ran.status, Status::BadTrace, "{line}");
         assert!(rt; ran.out.is_empty(), "{line}");
         assert_eq!(rt; ran.err.as_slice(), line.as_bytes());
-    }
-    Ok(())
-}
-
-// Appends a piece so many times.
-fn repeat(text: &mut String, count: u32, piece: &str) -> Result<(), AllocError> {
-    for _ in 0..count {
-        text.push_str(piece)?;
     }
     Ok(())
 }
@@ -187,9 +129,11 @@ fn additions(rt: HostRuntime) -> Result<(), Fail> {
     repeat(&mut other, 500, ";add r1 0 1")?;
     other.push_str(";meet")?;
     let other = other.as_str();
-    let ran = run_traces(&rt, alloc, 8, &[first.as_str(), other, other, other])?;
-    assert_eq!(rt; ran.status, Status::Ok);
-    assert!(rt; are_all_below(alloc, &ran.out, 4000)?);
+    for plan in ["nogc", "semispace"] {
+        let ran = run_traces(&rt, alloc, plan, 8, &[first.as_str(), other, other, other])?;
+        assert_eq!(rt; ran.status, Status::Ok, "{plan}");
+        assert!(rt; are_all_below(alloc, &ran.out, 4000)?, "{plan}");
+    }
     Ok(())
 }
 
@@ -198,7 +142,7 @@ fn additions(rt: HostRuntime) -> Result<(), Fail> {
 fn sixteen_mutators(rt: HostRuntime) -> Result<(), Fail> {
     let alloc = rt.alloc();
     let trace = "new r0 0 1;share g3 r0;meet;load r0 g3;pin r0;gc;meet";
-    let ran = run_traces(&rt, alloc, 16, &[trace; 16])?;
+    let ran = run_traces(&rt, alloc, "nogc", 16, &[trace; 16])?;
     assert_eq!(rt; ran.status, Status::Ok);
     let mut lines = 0u32;
     for line in ran.out.split(|b| *b == b'\n') {

@@ -3,6 +3,8 @@ use crate::status::Status;
 use crate::top::run;
 use outside::{MemSink, MemSources};
 use std::alloc::{AllocError, Global};
+use std::fmt::Write;
+use std::process::Abort;
 use std::thread::Threads;
 use work_packets::OpenGate;
 
@@ -106,4 +108,77 @@ pub(crate) fn run_words<R: Threads + Sync>(
 ) -> Result<Ran, AllocError> {
     let words = words_in(alloc, line)?;
     run_list(rt, alloc, &words, content)
+}
+
+// Files `f0`, `f1` and so on, with one trace each. Semicolons separate commands; an empty trace has
+// none.
+pub(crate) fn files_of(
+    alloc: Global,
+    traces: &[&str],
+) -> Result<Vec<(String, Vec<u8>)>, AllocError> {
+    let mut files = Vec::new(alloc);
+    for (m, commands) in traces.iter().enumerate() {
+        let mut name = String::new(alloc);
+        write!(name, "f{m}")?;
+        files.push((name, trace_in(alloc, commands)?))?;
+    }
+    Ok(files)
+}
+
+// Runs one trace for each mutator, under a plan.
+pub(crate) fn run_traces<R: Threads + Sync>(
+    rt: &R,
+    alloc: Global,
+    plan: &str,
+    heap: u32,
+    traces: &[&str],
+) -> Result<Ran, AllocError> {
+    let mut line = String::new(alloc);
+    write!(line, "--plan {plan} --heap {heap}")?;
+    for m in 0..traces.len() {
+        write!(line, " f{m}")?;
+    }
+    run_files(rt, alloc, &line, files_of(alloc, traces)?)
+}
+
+// The text of the replies, mutator by mutator, which semicolons separate.
+pub(crate) fn text_in(alloc: Global, replies: &[&str]) -> Result<Vec<u8>, AllocError> {
+    let mut text = String::new(alloc);
+    for (m, replies) in replies.iter().enumerate() {
+        writeln!(text, "mutator {}", m + 1)?;
+        for reply in replies.split(';') {
+            if !reply.is_empty() {
+                writeln!(text, "{reply}")?;
+            }
+        }
+    }
+    Ok(text.into_bytes())
+}
+
+// The run of these traces ends well, with these replies.
+pub(crate) fn check_replies<R: Threads + Sync + Abort>(
+    rt: &R,
+    alloc: Global,
+    plan: &str,
+    heap: u32,
+    traces: &[&str],
+    replies: &[&str],
+) -> Result<(), AllocError> {
+    let ran = run_traces(rt, alloc, plan, heap, traces)?;
+    assert_eq!(rt; ran.status, Status::Ok, "{plan} {traces:?}");
+    assert_eq!(rt;
+        ran.out.as_slice(),
+        text_in(alloc, replies)?.as_slice(),
+        "{plan} {traces:?}"
+    );
+    assert!(rt; ran.err.is_empty(), "{plan} {traces:?}");
+    Ok(())
+}
+
+// Appends a piece so many times.
+pub(crate) fn repeat(text: &mut String, count: u32, piece: &str) -> Result<(), AllocError> {
+    for _ in 0..count {
+        text.push_str(piece)?;
+    }
+    Ok(())
 }

@@ -43,7 +43,7 @@ fn name_at(files: &[String], place: usize) -> &str
 /// its grammar. Then it runs the traces, and builds the whole text before the first write. The
 /// first fault ends the run, with its `Status` and one line on standard error.
 pub fn run<R: Threads + Sync, S: Sources, O: Sink, E: Sink, G: Gate>(
-    _rt: &R,
+    rt: &R,
     alloc: Global,
     words: &[String],
     sources: &mut S,
@@ -153,7 +153,7 @@ pub fn run<R: Threads + Sync, S: Sources, O: Sink, E: Sink, G: Gate>(
             return Status::OutOfMemory;
         }
     };
-    let Ok(text) = text_of_session(alloc, &order, traces, gate) else {
+    let Ok(text) = text_of_session(rt, alloc, &order, traces, gate) else {
         write_memory_fault(err);
         return Status::OutOfMemory;
     };

@@ -145,10 +145,11 @@ fn limits(rt: HostRuntime) -> Result<(), Fail> {
         b"mm_drive: a: line 1: header\n".as_slice()
     );
     let mut text = Vec::from_slice(alloc, b"mmtrace 1\n")?;
+    let mut full = Vec::from_slice(alloc, b"mmtrace 1\n")?;
     for _ in 0..1_000_000 {
         text.extend_from_slice(b"gc\n")?;
+        full.extend_from_slice(b"drop r0\n")?;
     }
-    let full = text.as_slice().to_vec(alloc)?;
     text.extend_from_slice(b"gc\n")?;
     let ran = run_words(&rt, alloc, line, text)?;
     assert_eq!(rt; ran.status, Status::BadTrace);
@@ -353,14 +354,11 @@ fn random_commands(rt: HostRuntime) -> Result<(), Fail> {
         assert!(rt; ideal.births(1) < 1_000_000);
         print_reply(&ideal.apply(1, command)?, &mut want)?;
     }
-    let ran = run_words(
-        &rt,
-        alloc,
-        "--plan nogc --heap 64 a",
-        text.as_bytes().to_vec(alloc)?,
-    )?;
-    assert_eq!(rt; ran.status, Status::Ok);
-    assert!(rt; ran.out.as_slice() == want.as_slice());
+    for line in ["--plan nogc --heap 64 a", "--plan semispace --heap 64 a"] {
+        let ran = run_words(&rt, alloc, line, text.as_bytes().to_vec(alloc)?)?;
+        assert_eq!(rt; ran.status, Status::Ok, "{line}");
+        assert!(rt; ran.out.as_slice() == want.as_slice(), "{line}");
+    }
     Ok(())
 }
 
@@ -399,13 +397,10 @@ fn plain_records(rt: HostRuntime) -> Result<(), Fail> {
             }
         }
     }
-    let ran = run_words(
-        &rt,
-        alloc,
-        "--plan nogc --heap 64 a",
-        text.as_bytes().to_vec(alloc)?,
-    )?;
-    assert_eq!(rt; ran.status, Status::Ok);
-    assert!(rt; ran.out.as_slice() == want.as_bytes());
+    for line in ["--plan nogc --heap 64 a", "--plan semispace --heap 4 a"] {
+        let ran = run_words(&rt, alloc, line, text.as_bytes().to_vec(alloc)?)?;
+        assert_eq!(rt; ran.status, Status::Ok, "{line}");
+        assert!(rt; ran.out.as_slice() == want.as_bytes(), "{line}");
+    }
     Ok(())
 }

@@ -1,111 +1,150 @@
--- The first step of a stop under the plan that reclaims nothing.
-use Rattle.std.proofs.Common.{◌≡◌, refl, sym, ◌∙◌, ap, subst, ℕ, ◌+◌, ◌*◌, ◌≤◌, arith, false, List, ◌∷◌, length, map, Vec}
+-- A manager after a collection, which was made and counted.
+use Rattle.std.proofs.Common.{◌≡◌, refl, sym, ◌∙◌, ap, subst, ℕ, zero, suc, ◌+◌, ◌*◌, ◌<◌, ◌≤◌, arith, List, [], ◌∷◌, length, map, Vec}
 use Rattle.std.specs.Prelude.{slice_get, Some}
+use Rattle.std.specs.List.{AllByRecursion}
 use Rattle.std.specs.declared.alloc.Global.{Global}
-use Rattle.std.proofs.lemmas.Bool.{false≢true}
-use Rattle.heap_layout.specs.declared.block.Kind.{Kind}
+use Rattle.std.proofs.lemmas.List.{length-map}
 use Rattle.ideal_heap.specs.declared.command.Command.TheVariants as c
-use Rattle.ideal_heap.specs.Ideal.{IdealHeap}
-use Rattle.object_model.specs.declared.collect.Collect.TheVariants.{Full}
+use Rattle.object_model.specs.declared.collect.Collect.{Collect}
+use Rattle.object_model.specs.declared.collect.Collect.TheVariants.{Nursery, Full}
 use Rattle.object_model.specs.Heaps.{heap_state}
 use Rattle.object_model.specs.Objects.{HeapState}
-use Rattle.object_model.specs.Graphs.{MutatorState, Represents, IsReachable, roots_of}
-use Rattle.object_model.specs.Lawful.{IsLawful}
-use Rattle.object_model.proofs.Counts.{counted, lawful-counted, models-counted}
-use Rattle.object_model.proofs.Representation as standing
-use Rattle.sessions.specs.Plans.{Rules, NoGc, rules_of}
-use Rattle.sessions.specs.Collecting.{CollectsIf}
-use Rattle.sessions.specs.Sessions.{Setting, Moment, IsSound, MakesCollection, Replies, CollectsFor, all_done, ideal_at}
-use Rattle.plain_world.specs.Rows.{mutator_state}
+use Rattle.object_model.specs.Graphs.{MutatorState, roots_of}
+use Rattle.sessions.specs.Plans.{Rules}
+use Rattle.sessions.specs.Collecting.{IsCollection}
+use Rattle.sessions.specs.Sessions.{Setting, Moment, MakesCollection, Replies, CollectsFor, all_done, birth_count, counts_after}
+use Rattle.sessions.proofs.Counting.{counts-one}
+use Rattle.sessions.proofs.CollectedMoments as moments
+use Rattle.sessions.proofs.SameStates.{HaveRegisters, first_count, other_counts}
 use Rattle.mutator_calls.specs.declared.need.Mutator.{Mutator}
+use Rattle.mutator_calls.specs.declared.need.Need.{Need}
+use Rattle.plain_world.specs.Rows.{mutator_state}
+use Rattle.plain_world.proofs.Lists.{get-below, one-element}
 use Rattle.mm_runtime.specs.declared.progress.Progress.{Progress}
-use Rattle.plain_world.specs.declared.block_notes.BlockNotes.{BlockNotes}
 use Rattle.mm_runtime.specs.declared.manager.Manager.{Manager}
-use Rattle.plain_world.specs.Notes.{AreNotes}
-use Rattle.mm_runtime.specs.Managers.{replied, IsProgress, IsInOrder, StandsAt, HasReplies}
-use Rattle.mm_runtime.specs.Stops.{Counts}
-use Rattle.mm_runtime.proofs.CountedNotes.{has-notes-counted}
+use Rattle.mm_runtime.specs.Managers.{next_of, replied, IsProgress, IsInOrder, IsAtStop, StandsAt, HasReplies}
+use Rattle.mm_runtime.specs.Stops.{counted, HasCollected, NeedsNext}
 
--- the notes are still those of the heap with the higher number
-pub notes-counted : (fill : Kind) (s : HeapState) (n : BlockNotes) → AreNotes fill s n → AreNotes fill (counted s) n
-notes-counted fill s n notes = record {
-  counts = notes.counts;
-  notes = has-notes-counted fill s n.notes.items notes.notes;
-  unowned = notes.unowned;
-  owned = notes.owned;
-  room = notes.room;
+-- more collections may be for a command that has no reply
+pub more-order : {P : Type 0} (rules : Rules) (more : ℕ) (m : Manager P) → IsInOrder rules more m → IsInOrder rules (more + 1) m
+more-order rules more m order = record {
+  some = order.some;
+  few = order.few;
+  count = order.count;
+  each = order.each;
+  births = order.births;
+  notes = order.notes;
+  number = order.number;
+  collections = (let most : m.nursery + m.full ≤ 2 * replied m.progress.items + more = order.collections in omega arith);
 }
 
-pub represents-counted : (s : HeapState) (ms : List MutatorState) (h : IdealHeap) → IsLawful s → Represents s ms h → Represents (counted s) ms h
-represents-counted s ms h lawful represents =
-    standing.represents (counted s) ms h (IsReachable s (roots_of ms))
-    (models-counted s ms h (IsReachable s (roots_of ms)) (standing.models s ms h lawful.but_lines.order represents))
+pub more-stop : {P : Type 0} (rules : Rules) (more : ℕ) (m : Manager P) → IsAtStop rules more m → IsAtStop rules (more + 1) m
+more-stop rules more m stop = record { order = more-order rules more m stop.order; setting = stop.setting; now = stop.now; stands = stop.stands }
 
--- the moment after a collection that only counts
-pub later : Moment → Moment
-later now = record now { heap = counted now.heap; full = now.full + 1 }
+-- registers, births and counts
 
-module _ (rules : Rules) (plan : rules ≡ rules_of NoGc) where
-  pub collects : (t : Setting) (now : Moment) → t.rules ≡ rules → IsSound t now → MakesCollection t Full now (later now)
-  unfolding later
-  collects t now are sound =
-      let nogc : t.rules ≡ rules_of NoGc = are ∙ plan in
-      let none : t.rules.collects ≡ false = ap (λ (r : Rules). r.collects) nogc in
-      let old : t.rules.young ≡ false = ap (λ (r : Rules). r.young) nogc in
-      record {
-        collection = subst (λ b. CollectsIf b t.rules t.workers Full now.heap (roots_of now.mutators) (counted now.heap) (roots_of now.mutators)) (sym none)
-            (record { full = refl; heap = refl; registers = refl });
-        mutators = refl;
-        done = refl;
-        counts = refl;
-        sound = record {
-          lawful = lawful-counted now.heap sound.lawful;
-          remembers = λ young. absurd (false≢true (sym old ∙ young));
-          represents = represents-counted now.heap now.mutators (ideal_at now) sound.lawful sound.represents;
-          listed = sound.listed;
-        };
-      }
+pub states-registers : (us : List Mutator) → AllByRecursion (λ u. length u.registers ≡ 16) us → HaveRegisters (map mutator_state us)
+states-registers [] all = tt
+states-registers (u ∷ us) all = (all.0, states-registers us all.1)
 
-  module _ {P : Type 0} (old new : Manager P) (counts : Counts old new) where
-    pub stands : (t : Setting) (now : Moment) → StandsAt rules old t now → StandsAt rules new t (later now)
-    unfolding later
-    stands t now at = record {
+abbrev counts_of : List Mutator → List (ℕ × ℕ)
+counts_of us = map birth_count (map mutator_state us)
+
+pub as-many : (us vs : List Mutator) → counts_of us ≡ counts_of vs → length us ≡ length vs
+as-many us vs same = sym (length-map us mutator_state) ∙ sym (length-map (map mutator_state us) birth_count) ∙ ap length same
+    ∙ length-map (map mutator_state vs) birth_count ∙ length-map vs mutator_state
+
+pub births-from : (us vs : List Mutator) → counts_of us ≡ counts_of vs → (k : ℕ) (u : Mutator) → slice_get us k ≡ Some u
+    → (v : Mutator) × (slice_get vs k ≡ Some v) × (u.births ≡ v.births)
+births-from [] vs same k u is = absurd (let below : k < 0 = get-below {A = Mutator} [] k u is in omega arith)
+births-from (x ∷ us) [] same k u is = absurd (let many : length (x ∷ us) ≡ 0 = as-many (x ∷ us) [] same in omega arith)
+births-from (x ∷ us) (y ∷ vs) same zero u is =
+    (y, refl, ap (λ (m : Mutator). m.births) (one-element (Some x) u x is refl) ∙ ap (λ (p : ℕ × ℕ). p.1) (ap (first_count (0, 0)) same))
+births-from (x ∷ us) (y ∷ vs) same (suc k) u is = births-from us vs (ap other_counts same) k u is
+
+counted-after : (kind : Collect) (n f : ℕ) (now : Moment) → n ≡ now.nursery → f ≡ now.full → counted kind n f ≡ counts_after kind now
+counted-after Nursery n f now e g = ap (λ (k : ℕ). (k + 1, f)) e ∙ ap (λ (k : ℕ). (now.nursery + 1, k)) g
+counted-after Full n f now e g = ap (λ (k : ℕ). (k, f + 1)) e ∙ ap (λ (k : ℕ). (now.nursery, k + 1)) g
+
+pub one-more : (kind : Collect) (n f a b : ℕ) → (a, b) ≡ counted kind n f → a + b ≡ n + f + 1
+one-more Nursery n f a b is = (let e : a ≡ n + 1 = ap (λ (p : ℕ × ℕ). p.0) is in let g : b ≡ f = ap (λ (p : ℕ × ℕ). p.1) is in omega arith)
+one-more Full n f a b is = (let e : a ≡ n = ap (λ (p : ℕ × ℕ). p.0) is in let g : b ≡ f + 1 = ap (λ (p : ℕ × ℕ). p.1) is in omega arith)
+
+module _ {P : Type 0} (rules : Rules) (kind : Collect) (old new : Manager P) (made : HasCollected rules kind old new) where
+  -- the moment after it
+  abbrev pub late : Moment → Moment
+  late now = record {
+    heap = heap_state new.heap;
+    mutators = map mutator_state new.mutators.items;
+    done = now.done;
+    nursery = new.nursery;
+    full = new.full;
+  }
+
+  module _ (t : Setting) (now : Moment) (at : StandsAt rules old t now) where
+    collection-at : IsCollection t.rules t.workers kind now.heap (roots_of now.mutators) (heap_state new.heap) (roots_of (map mutator_state new.mutators.items))
+    collection-at =
+        subst (λ (r : Rules). IsCollection r t.workers kind now.heap (roots_of now.mutators) (heap_state new.heap) (roots_of (map mutator_state new.mutators.items))) (sym at.rules_are)
+        (subst (λ (w : ℕ). IsCollection rules w kind now.heap (roots_of now.mutators) (heap_state new.heap) (roots_of (map mutator_state new.mutators.items))) (sym at.workers)
+        (subst (λ (s : HeapState). IsCollection rules 1 kind s (roots_of now.mutators) (heap_state new.heap) (roots_of (map mutator_state new.mutators.items))) at.heap
+        (subst (λ (ms : List MutatorState). IsCollection rules 1 kind (heap_state old.heap) (roots_of ms) (heap_state new.heap) (roots_of (map mutator_state new.mutators.items))) at.mutators made.collection)))
+
+    pub makes : MakesCollection t kind now (late now)
+    makes = moments.makes-after t kind now (late now) at.sound collection-at new.heap.lawful (made.births ∙ ap (map birth_count) at.mutators)
+        (states-registers new.mutators.items made.registers) refl (made.counts ∙ counted-after kind old.nursery old.full now at.nursery at.full)
+
+    pub stands : StandsAt rules new t (late now)
+    stands = record {
       rules_are = at.rules_are;
       workers = at.workers;
-      traces = at.traces ∙ ap (λ (v : Vec Progress Global). map (λ p. p.trace) v.items) (sym counts.progress);
-      heap = counts.heap ∙ ap counted at.heap;
-      mutators = ap (λ (v : Vec Mutator Global). map mutator_state v.items) counts.mutators ∙ at.mutators;
-      replies = subst (λ (v : Vec Progress Global). HasReplies v.items now.done) (sym counts.progress) at.replies;
-      nursery = counts.nursery ∙ at.nursery;
-      full = counts.full ∙ ap (λ n. n + 1) at.full;
-      sound = (collects t now at.rules_are at.sound).sound;
+      traces = at.traces ∙ ap (λ (v : Vec Progress Global). map (λ p. p.trace) v.items) (sym made.progress);
+      heap = refl;
+      mutators = refl;
+      replies = subst (λ (v : Vec Progress Global). HasReplies v.items now.done) (sym made.progress) at.replies;
+      nursery = refl;
+      full = refl;
+      sound = makes.sound;
       run = at.run;
     }
 
-    pub in-order : (more : ℕ) → IsInOrder rules more old → IsInOrder rules (more + 1) new
-    in-order more order =
-        let same : new.progress ≡ old.progress = counts.progress in
-        let full : new.full ≡ old.full + 1 = counts.full in
-        let nursery : new.nursery ≡ old.nursery = counts.nursery in
-        let number : (heap_state old.heap).number ≡ old.nursery + old.full = order.number in
-        let few : old.nursery + old.full ≤ 2 * replied old.progress.items + more = order.collections in
-        let as_many : replied new.progress.items ≡ replied old.progress.items = ap (λ (v : Vec Progress Global). replied v.items) same in
-        let more_number : (heap_state new.heap).number ≡ (heap_state old.heap).number + 1 = ap (λ (s : HeapState). s.number) counts.heap in
-        record {
-          some = subst (λ (v : Vec Progress Global). 1 ≤ length v.items) (sym same) order.some;
-          few = subst (λ (v : Vec Progress Global). length v.items ≤ 16) (sym same) order.few;
-          count = ap (λ (v : Vec Mutator Global). length v.items) counts.mutators ∙ order.count ∙ ap (λ (v : Vec Progress Global). length v.items) (sym same);
-          each = subst (λ (v : Vec Progress Global). (k : ℕ) (p : Progress) → slice_get v.items k ≡ Some p → IsProgress p) (sym same) order.each;
-          births = λ k u p is at. order.births k u p (ap (λ (v : Vec Mutator Global). slice_get v.items k) (sym counts.mutators) ∙ is) (ap (λ (v : Vec Progress Global). slice_get v.items k) (sym same) ∙ at);
-          notes = subst (λ (n : BlockNotes). AreNotes rules.fill (heap_state new.heap) n) (sym counts.notes)
-              (subst (λ (s : HeapState). AreNotes rules.fill s old.notes) (sym counts.heap) (notes-counted rules.fill (heap_state old.heap) old.notes order.notes));
-          number = omega arith;
-          collections = omega arith;
-        }
+  pub next : (m : ℕ) (need : Need) → NeedsNext old m need → NeedsNext new m need
+  next m need needs = subst (λ (v : Vec Progress Global). (1 ≤ m) × ((k : ℕ) → k + 1 ≡ m → (p : Progress) × (slice_get v.items k ≡ Some p) × (next_of p ≡ Some (c.New need.register need.refs need.nums)))) (sym made.progress) needs
 
-  -- a collection and the replies for mutators at `gc`
-  pub for-some : (t : Setting) (ms : List ℕ) (x : ℕ) (xs : List ℕ) (now next : Moment) → ms ≡ x ∷ xs → t.rules ≡ rules → IsSound t now
-      → Replies (all_done c.Gc ms) (later now) next → CollectsFor t ms now next
-  for-some t ms x xs now next is are sound replies =
-      subst (λ ys. CollectsFor t ys now next) (sym is)
-      (later now, collects t now are sound, subst (λ ys. Replies (all_done c.Gc ys) (later now) next) is replies)
+  pub in-order : (more : ℕ) → IsInOrder rules more old → IsInOrder rules (more + 1) new
+  in-order more order =
+      let same : new.progress ≡ old.progress = made.progress in
+      let sum : new.nursery + new.full ≡ old.nursery + old.full + 1 = one-more kind old.nursery old.full new.nursery new.full made.counts in
+      let number : (heap_state old.heap).number ≡ old.nursery + old.full = order.number in
+      let few : old.nursery + old.full ≤ 2 * replied old.progress.items + more = order.collections in
+      let replies : replied new.progress.items ≡ replied old.progress.items = ap (λ (v : Vec Progress Global). replied v.items) same in
+      let risen : (heap_state new.heap).number ≡ (heap_state old.heap).number + 1 =
+      (counts-one rules 1 kind (heap_state old.heap) (heap_state new.heap) (roots_of (map mutator_state old.mutators.items)) (roots_of (map mutator_state new.mutators.items)) made.collection).0 in
+      record {
+        some = subst (λ (v : Vec Progress Global). 1 ≤ length v.items) (sym same) order.some;
+        few = subst (λ (v : Vec Progress Global). length v.items ≤ 16) (sym same) order.few;
+        count = as-many new.mutators.items old.mutators.items made.births ∙ order.count ∙ ap (λ (v : Vec Progress Global). length v.items) (sym same);
+        each = subst (λ (v : Vec Progress Global). (k : ℕ) (p : Progress) → slice_get v.items k ≡ Some p → IsProgress p) (sym same) order.each;
+        births = λ k u p is at.
+            let from = births-from new.mutators.items old.mutators.items made.births k u is in
+            let most : from.0.births ≤ length p.replies.items = order.births k from.0 p from.1 (ap (λ (v : Vec Progress Global). slice_get v.items k) (sym same) ∙ at) in
+            let as_old : u.births ≡ from.0.births = from.2 in
+            omega arith;
+        notes = made.notes;
+        number = omega arith;
+        collections = omega arith;
+      }
+
+  pub stop-made : (more : ℕ) → IsAtStop rules more old → IsAtStop rules (more + 1) new
+  stop-made more stop = record {
+    order = in-order more stop.order;
+    setting = stop.setting;
+    now = late stop.now;
+    stands = stands stop.setting stop.now stop.stands;
+  }
+
+-- a full collection and the replies for mutators at `gc`
+pub for-some : {P : Type 0} (rules : Rules) (old new : Manager P) (made : HasCollected rules Full old new) (t : Setting) (ms : List ℕ) (x : ℕ) (xs : List ℕ) (now next : Moment)
+    → ms ≡ x ∷ xs → StandsAt rules old t now → Replies (all_done c.Gc ms) (late rules Full old new made now) next → CollectsFor t ms now next
+for-some rules old new made t ms x xs now next is at replies =
+    subst (λ ys. CollectsFor t ys now next) (sym is)
+    (late rules Full old new made now, makes rules Full old new made t now at, subst (λ ys. Replies (all_done c.Gc ys) (late rules Full old new made now) next) is replies)

@@ -5,7 +5,8 @@ use Rattle.std.specs.List.{range_with_len}
 use Rattle.std.specs.declared.alloc.Global.{Global}
 use Rattle.std.proofs.lemmas.List.{length-map}
 use Rattle.ideal_heap.specs.declared.command.Command.TheVariants as c
-use Rattle.sessions.specs.Plans.{Rules, NoGc, rules_of}
+use Rattle.object_model.specs.declared.collect.Collect.TheVariants.{Full}
+use Rattle.sessions.specs.Plans.{Rules}
 use Rattle.sessions.specs.Sessions.{Setting, Moment, CollectsFor, is_at_gc, mutators_of, ideal_at}
 use Rattle.sessions.proofs.Soundness as soundness
 use Rattle.plain_world.proofs.Lists.{get-below}
@@ -15,27 +16,27 @@ use Rattle.mm_runtime.specs.declared.progress.End.TheVariants as end
 use Rattle.mm_runtime.specs.declared.manager.Manager.{Manager}
 use Rattle.mm_runtime.specs.Managers.{next_of, replied, IsInOrder, IsAtStop, StandsAt}
 use Rattle.mm_runtime.specs.Parts.{causes, AreGcs}
-use Rattle.mm_runtime.specs.Stops.{Counts}
+use Rattle.mm_runtime.specs.Stops.{HasCollected}
 use Rattle.mm_runtime.specs.Replying.{is_gc_at, HasGc, RepliesBelow}
 use Rattle.mm_runtime.proofs.OkSteps as replies
 use Rattle.mm_runtime.proofs.Oks as oks
 use Rattle.mm_runtime.proofs.Collected as collected
 use Rattle.mm_runtime.proofs.Gcs as gcs
 
-module _ {P : Type 0} (rules : Rules) (plan : rules ≡ rules_of NoGc) (ends : List End) where
+module _ {P : Type 0} (rules : Rules) (ends : List End) where
   -- no mutator is at `gc`
   pub nothing : (m : Manager P) → (HasGc ends → ⊥) → (t : Setting) (now : Moment) → StandsAt rules m t now
       → (mid : Moment) × CollectsFor t (filter (λ m. is_at_gc (causes ends m)) (mutators_of t)) now mid × StandsAt rules m t mid
   nothing m none t now at = (now, subst (λ ms. CollectsFor t ms now now) (sym (gcs.none-at-gc ends (length t.traces) none)) refl, at)
 
-  module _ (old mid : Manager P) (v : Vec Progress Global) (counts : Counts old mid) (at_gc : AreGcs mid.progress.items ends)
+  module _ (old mid : Manager P) (v : Vec Progress Global) (made : HasCollected rules Full old mid) (at_gc : AreGcs mid.progress.items ends)
       (so : RepliesBelow (is_gc_at ends) (length mid.progress.items) mid.progress.items v.items) (some : HasGc ends)
       (as_many : length ends ≡ length old.progress.items) where
     asks : (k : ℕ) (p : Progress) → slice_get mid.progress.items k ≡ Some p → is_gc_at ends k ≡ true → next_of p ≡ Some c.Gc
     asks k p is chosen = at_gc k p is (gcs.at-gc ends k chosen)
 
     same : mid.progress.items ≡ old.progress.items
-    same = ap (λ (v : Vec Progress Global). v.items) counts.progress
+    same = ap (λ (v : Vec Progress Global). v.items) made.progress
 
     inside : some.0 < length mid.progress.items
     inside = let below : some.0 < length ends = get-below ends some.0 end.Gc some.1 in let many : length mid.progress.items ≡ length old.progress.items = ap length same in omega arith
@@ -45,8 +46,8 @@ module _ {P : Type 0} (rules : Rules) (plan : rules ≡ rules_of NoGc) (ends : L
 
     pub in-order : IsAtStop rules 0 old → IsInOrder rules 0 (record mid { progress = v })
     in-order stop =
-        let order : IsInOrder rules 1 mid = collected.in-order rules plan old mid counts 0 stop.order in
-        let at = collected.stands rules plan old mid counts stop.setting stop.now stop.stands in
+        let order : IsInOrder rules 1 mid = collected.in-order rules Full old mid made 0 stop.order in
+        let at = collected.stands rules Full old mid made stop.setting stop.now stop.stands in
         let more : replied mid.progress.items < replied v.items =
         oks.replied-more rules mid v (is_gc_at ends) so c.Gc (λ m. is_at_gc (causes ends m)) (λ k below. gcs.at-place ends k) asks _ at.replies some.0 inside is-chosen in
         let few : mid.nursery + mid.full ≤ 2 * replied mid.progress.items + 1 = order.collections in
@@ -54,7 +55,7 @@ module _ {P : Type 0} (rules : Rules) (plan : rules ≡ rules_of NoGc) (ends : L
 
     pub replied-kept : IsAtStop rules 0 old → replied old.progress.items ≤ replied v.items
     replied-kept stop =
-        let at = collected.stands rules plan old mid counts stop.setting stop.now stop.stands in
+        let at = collected.stands rules Full old mid made stop.setting stop.now stop.stands in
         subst (λ ps. replied ps ≤ replied v.items) same
         (oks.replied-kept rules mid v (is_gc_at ends) so c.Gc (λ m. is_at_gc (causes ends m)) (λ k below. gcs.at-place ends k) asks _ at.replies)
 
@@ -64,10 +65,10 @@ module _ {P : Type 0} (rules : Rules) (plan : rules ≡ rules_of NoGc) (ends : L
     pub for-gcs : (t : Setting) (now : Moment) → StandsAt rules old t now
         → (next : Moment) × CollectsFor t (filter (λ m. is_at_gc (causes ends m)) (mutators_of t)) now next × StandsAt rules (record mid { progress = v }) t next
     for-gcs t now before =
-        let at = collected.stands rules plan old mid counts t now before in
+        let at = collected.stands rules Full old mid made t now before in
         let ms : List ℕ = filter (λ m. is_at_gc (causes ends m)) (mutators_of t) in
-        let then = oks.stands rules mid v (is_gc_at ends) so c.Gc (λ m. is_at_gc (causes ends m)) (λ k below. gcs.at-place ends k) asks t (collected.later now) at
-        (soundness.gcs-run (ideal_at (collected.later now)) ms) (soundness.all-gc (ideal_at (collected.later now)) ms) in
+        let then = oks.stands rules mid v (is_gc_at ends) so c.Gc (λ m. is_at_gc (causes ends m)) (λ k below. gcs.at-place ends k) asks t (collected.late rules Full old mid made now) at
+        (soundness.gcs-run (ideal_at (collected.late rules Full old mid made now)) ms) (soundness.all-gc (ideal_at (collected.late rules Full old mid made now)) ms) in
         let many : length t.traces ≡ length mid.progress.items = ap length at.traces ∙ length-map mid.progress.items (λ p. p.trace) in
         let one = oks.picks-one rules mid v (is_gc_at ends) so c.Gc (λ m. is_at_gc (causes ends m)) (λ k below. gcs.at-place ends k) asks some.0 inside is-chosen in
-        (_, collected.for-some rules plan t ms one.0 one.1 now _ (ap (λ n. filter (λ m. is_at_gc (causes ends m)) (range_with_len 1 n)) many ∙ one.2) before.rules_are before.sound then.0, then.1)
+        (_, collected.for-some rules old mid made t ms one.0 one.1 now _ (ap (λ n. filter (λ m. is_at_gc (causes ends m)) (range_with_len 1 n)) many ∙ one.2) before then.0, then.1)

@@ -4,9 +4,9 @@ pub mod Begun
 pub mod Bounds
 pub mod Causes
 pub mod Collected
+pub mod Rooms
+pub mod RootLists
 pub mod Composing
-pub mod Counted
-pub mod CountedNotes
 pub mod EpochParts
 pub mod Exhausting
 pub mod FirstManager
@@ -40,3 +40,5 @@ pub mod Users
 pub mod Waits
 pub mod Written
 pub mod Lasting
+pub mod ManagedPlans
+pub mod SetRegisters

@@ -1,7 +1,7 @@
 -- The moment after an object was placed.
 use Rattle.std.proofs.Common.{◌≡◌, refl, sym, ◌∙◌, ap, subst, ℕ, ◌+◌, ◌-◌, ◌<◌, ◌≤◌, ◌⊎◌, inl, inr, arith, List, [], ◌∷◌, ◌++◌, length, map, Some}
 use Rattle.std.specs.Prelude.{slice_get}
-use Rattle.std.proofs.lemmas.Bool.{cases_eq, true≢false}
+use Rattle.std.proofs.lemmas.Bool.{cases_eq}
 use Rattle.heap_layout.specs.Zones.{block_at}
 use Rattle.ideal_heap.specs.declared.name.Name.{Name}
 use Rattle.ideal_heap.specs.declared.command.Command.TheVariants as c
@@ -14,10 +14,11 @@ use Rattle.object_model.specs.Heaps.{heap_state}
 use Rattle.object_model.specs.Objects.{HeapState, size_of}
 use Rattle.object_model.specs.Graphs.{MutatorState, Represents, numbers_of, with_birth, add_birth, with_register, set_register_of}
 use Rattle.object_model.proofs.Registers.{numbers-changed}
-use Rattle.sessions.specs.Plans.{NoGc, Rules, rules_of}
+use Rattle.sessions.specs.Plans.{Rules}
 use Rattle.sessions.specs.Fitting.{Fits}
 use Rattle.sessions.specs.Collecting.{Remembers}
 use Rattle.sessions.specs.Sessions.{Setting, Moment, IsSound, Places, PlacesSmall, UsesBlock, ChangesBlocks, ideal_at}
+use Rattle.sessions.proofs.CollectedMoments.{remembers-placed}
 use Rattle.mutator_calls.specs.declared.need.Need.{Need}
 use Rattle.mutator_calls.specs.declared.need.Mutator.{Mutator}
 use Rattle.plain_world.specs.Rows.{mutator_state}
@@ -25,8 +26,8 @@ use Rattle.plain_world.proofs.Lists.{one-element}
 use Rattle.mm_runtime.specs.declared.progress.Progress.{Progress}
 use Rattle.mm_runtime.specs.declared.manager.Manager.{Manager}
 use Rattle.mm_runtime.specs.declared.place.Spot.{Spot}
-use Rattle.mm_runtime.specs.Managers.{next_of, IsInOrder, IsAtStop, HasReplies, StandsAt}
-use Rattle.mm_runtime.specs.Stops.{IsSpot, NeedsNext, WritesAt, BearsAt, RepliesAt, PutsAt, bearing}
+use Rattle.mm_runtime.specs.Managers.{FillsTailsOrCells, next_of, IsInOrder, IsAtStop, HasReplies, StandsAt}
+use Rattle.mm_runtime.specs.Stops.{IsSpot, NeedsNext, BearsAt, RepliesAt, PutsAt, bearing}
 use Rattle.mm_runtime.proofs.Users.{known-number, births-here, mutators-after}
 use Rattle.mm_runtime.proofs.Written.{address_of, IsBorn}
 use Rattle.mm_runtime.proofs.Putting as putting
@@ -42,44 +43,40 @@ new-heap : (h : IdealHeap) (m d refs nums : ℕ) (n : Name) → after_entry h (e
 unfolding step
 new-heap h m d refs nums n = refl
 
-module _ {P : Type 0} (rules : Rules) (old new : Manager P) (m : ℕ) (need : Need) (spot : Spot) (n : Name) (are : rules ≡ rules_of NoGc) (stop : IsAtStop rules 1 old) (next : NeedsNext old m need)
+module _ {P : Type 0} (rules : Rules) (old new : Manager P) (m : ℕ) (need : Need) (spot : Spot) (n : Name) (fills : FillsTailsOrCells rules.fill) (stop : IsAtStop rules 2 old) (next : NeedsNext old m need)
     (is : IsSpot rules (heap_state old.heap) (size_of need.refs need.nums) spot) (puts : PutsAt rules old m need spot n new) where
   abbrev k : ℕ
   k = m - 1
 
   at : k + 1 ≡ m
-  at = (putting.the-need rules 1 old m need stop next).at
+  at = (putting.the-need rules 2 old m need stop next).at
 
   abbrev user : Mutator
-  user = (putting.the-need rules 1 old m need stop next).user
+  user = (putting.the-need rules 2 old m need stop next).user
 
   bears : BearsAt old.mutators.items new.mutators.items k m need.register (address_of (heap_state old.heap) spot) n
   bears = puts.births k at
 
   same-user : bears.mutator ≡ user
-  same-user = one-element (slice_get old.mutators.items k) bears.mutator user bears.was (putting.the-need rules 1 old m need stop next).here
+  same-user = one-element (slice_get old.mutators.items k) bears.mutator user bears.was (putting.the-need rules 2 old m need stop next).here
 
   name-is : n ≡ name m (user.births + 1)
   name-is = bears.name ∙ ap (λ u. name m (u.births + 1)) same-user
 
-  writes : WritesAt (rules_of NoGc) (heap_state old.heap) spot n need.refs need.nums (heap_state new.heap)
-  writes = subst (λ (x : Rules). WritesAt x (heap_state old.heap) spot n need.refs need.nums (heap_state new.heap)) are puts.heap
-
-  born : IsBorn (heap_state old.heap) spot n need.refs need.nums (heap_state new.heap)
-  born = putting.born-need rules 1 old m need stop next spot n (heap_state new.heap) name-is
-      (subst (λ (x : Rules). IsSpot x (heap_state old.heap) (size_of need.refs need.nums) spot) are is) writes
+  born : IsBorn rules (heap_state old.heap) spot n need.refs need.nums (heap_state new.heap)
+  born = putting.born-need rules 2 old m need stop next fills spot n (heap_state new.heap) name-is is.place puts.heap
 
   replied : RepliesAt old.progress.items new.progress.items k (r.New n)
   replied = puts.replies k at
 
-  same-progress : replied.before ≡ (putting.the-need rules 1 old m need stop next).progress
-  same-progress = one-element (slice_get old.progress.items k) replied.before (putting.the-need rules 1 old m need stop next).progress replied.was (putting.the-need rules 1 old m need stop next).there
+  same-progress : replied.before ≡ (putting.the-need rules 2 old m need stop next).progress
+  same-progress = one-element (slice_get old.progress.items k) replied.before (putting.the-need rules 2 old m need stop next).progress replied.was (putting.the-need rules 2 old m need stop next).there
 
   next-is : next_of replied.before ≡ Some (c.New need.register need.refs need.nums)
-  next-is = ap next_of same-progress ∙ (putting.the-need rules 1 old m need stop next).next
+  next-is = ap next_of same-progress ∙ (putting.the-need rules 2 old m need stop next).next
 
   within : length replied.before.replies.items < length replied.before.trace
-  within = subst (λ (p : Progress). length p.replies.items < length p.trace) (sym same-progress) (putting.the-need rules 1 old m need stop next).within
+  within = subst (λ (p : Progress). length p.replies.items < length p.trace) (sym same-progress) (putting.the-need rules 2 old m need stop next).within
 
   adds-birth : AddsBirth old k new
   adds-birth j u here = elim (cases_eq j k) as (λ _. (v : Mutator) × (slice_get old.mutators.items j ≡ Some v) × ((u.births ≤ v.births) ⊎ ((j ≡ k) × (u.births ≤ v.births + 1)))) [
@@ -112,7 +109,7 @@ module _ {P : Type 0} (rules : Rules) (old new : Manager P) (m : ℕ) (need : Ne
 
     named : n ≡ name m (h.births m + 1)
     named = name-is ∙ ap (λ b. name m (b + 1)) (sym (births-here old.mutators.items (length t.traces) (putting.stands-listed rules old t now stands) k m user at
-        (putting.the-need rules 1 old m need stop next).here (heap_state old.heap) h (putting.stands-represents rules old t now stands)))
+        (putting.the-need rules 2 old m need stop next).here (heap_state old.heap) h (putting.stands-represents rules old t now stands)))
 
     changed-mutators : map mutator_state new.mutators.items ≡ set_register_of (add_birth (map mutator_state old.mutators.items) m) m need.register (address_of (heap_state old.heap) spot)
     changed-mutators = mutators-after old.mutators.items (length t.traces) (putting.stands-listed rules old t now stands) k m bears.mutator at bears.was new.mutators.items need.register
@@ -128,19 +125,14 @@ module _ {P : Type 0} (rules : Rules) (old new : Manager P) (m : ℕ) (need : Ne
     represents-after = subst (λ (ms : List MutatorState). Represents (heap_state new.heap) ms (after empty moment.done)) (sym changed-mutators)
         (subst (λ (x : IdealHeap). Represents (heap_state new.heap) (set_register_of (add_birth (map mutator_state old.mutators.items) m) m need.register (address_of (heap_state old.heap) spot)) x) (sym ideal-after)
         (born.represents (map mutator_state old.mutators.items) h m need.register (putting.stands-represents rules old t now stands) named
-        (known-number old.mutators.items (length t.traces) (putting.stands-listed rules old t now stands) k m user at (putting.the-need rules 1 old m need stop next).here)
-        (let few : need.register ≤ 15 = (putting.the-need rules 1 old m need stop next).valid.0 in omega arith)))
-
-    the-rules : t.rules ≡ rules_of NoGc
-    the-rules = stands.rules_are ∙ are
-
-    remembers-none : (x : Rules) (s : HeapState) → x ≡ rules_of NoGc → Remembers x s
-    remembers-none x s plain young = absurd (true≢false (sym young ∙ ap (λ q. q.young) plain))
+        (known-number old.mutators.items (length t.traces) (putting.stands-listed rules old t now stands) k m user at (putting.the-need rules 2 old m need stop next).here)
+        (let few : need.register ≤ 15 = (putting.the-need rules 2 old m need stop next).valid.0 in omega arith)))
 
     sound-after : IsSound t moment
     sound-after = record {
       lawful = born.lawful;
-      remembers = remembers-none t.rules (heap_state new.heap) the-rules;
+      remembers = remembers-placed t.rules (heap_state old.heap) (heap_state new.heap) (address_of (heap_state old.heap) spot) need.refs need.nums
+          (subst (Remembers t.rules) (sym stands.heap) stands.sound.remembers) born.object born.layout.2;
       represents = represents-after;
       listed = ap numbers_of changed-mutators
           ∙ numbers-changed m (λ x. with_register x need.register (address_of (heap_state old.heap) spot)) (λ x. refl) (add_birth (map mutator_state old.mutators.items) m)
@@ -175,12 +167,12 @@ module _ {P : Type 0} (rules : Rules) (old new : Manager P) (m : ℕ) (need : Ne
       place = address_of (heap_state old.heap) spot;
       object = born.object;
       small = λ _. (
-        subst (λ (x : Rules). PlacesSmall x (heap_state old.heap) (address_of (heap_state old.heap) spot) (size_of need.refs need.nums)) (sym the-rules) born.places,
-        subst (λ (x : Rules). UsesBlock x (heap_state old.heap) (heap_state new.heap) (block_at (heap_state old.heap).blocks (address_of (heap_state old.heap) spot)) (size_of need.refs need.nums)) (sym the-rules)
-            (subst (λ (b : ℕ). UsesBlock (rules_of NoGc) (heap_state old.heap) (heap_state new.heap) b (size_of need.refs need.nums)) (sym born.block) born.uses),
+        subst (λ (x : Rules). PlacesSmall x (heap_state old.heap) (address_of (heap_state old.heap) spot) (size_of need.refs need.nums)) (sym stands.rules_are) born.places,
+        subst (λ (x : Rules). UsesBlock x (heap_state old.heap) (heap_state new.heap) (block_at (heap_state old.heap).blocks (address_of (heap_state old.heap) spot)) (size_of need.refs need.nums)) (sym stands.rules_are)
+            (subst (λ (b : ℕ). UsesBlock rules (heap_state old.heap) (heap_state new.heap) b (size_of need.refs need.nums)) (sym born.block) born.uses),
         subst (λ (b : ℕ). ChangesBlocks (heap_state old.heap) (heap_state new.heap) b 1) (sym born.block) born.changes,
       );
-      large = λ large. absurd (let small : size_of need.refs need.nums ≤ 2048 = is.small in omega arith);
+      large = λ large. absurd (let small : size_of need.refs need.nums ≤ 2048 = is.place.small in omega arith);
       layout = born.layout;
       counts = (refl, refl);
       done = ap (λ q. now.done ++ entry m (c.New need.register need.refs need.nums) (r.New q) ∷ []) (sym born.name);

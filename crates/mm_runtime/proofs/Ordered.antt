@@ -17,7 +17,7 @@ abbrev pub AddsBirth : {P : Type 0} → Manager P → ℕ → Manager P → Type
 AddsBirth old k new = (j : ℕ) (u : Mutator) → slice_get new.mutators.items j ≡ Some u
     → (v : Mutator) × (slice_get old.mutators.items j ≡ Some v) × ((u.births ≤ v.births) ⊎ ((j ≡ k) × (u.births ≤ v.births + 1)))
 
-module _ {P : Type 0} (rules : Rules) (old new : Manager P) (k : ℕ) (reply : Reply) (at : RepliesAt old.progress.items new.progress.items k reply) (order : IsInOrder rules 1 old)
+module _ {P : Type 0} (rules : Rules) (old new : Manager P) (k : ℕ) (reply : Reply) (at : RepliesAt old.progress.items new.progress.items k reply) (order : IsInOrder rules 2 old)
     (within : length at.before.replies.items < length at.before.trace) where
   births-after : AddsBirth old k new → (j : ℕ) (p : Progress) → slice_get new.progress.items j ≡ Some p → (u : Mutator) → slice_get new.mutators.items j ≡ Some u → u.births ≤ length p.replies.items
   births-after adds = replies.progress-each old.progress.items new.progress.items k reply at
@@ -43,7 +43,7 @@ module _ {P : Type 0} (rules : Rules) (old new : Manager P) (k : ℕ) (reply : R
       let some : 1 ≤ length old.progress.items = order.some in
       let few : length old.progress.items ≤ 16 = order.few in
       let same : length old.mutators.items ≡ length old.progress.items = order.count in
-      let collected : old.nursery + old.full ≤ 2 * replied old.progress.items + 1 = order.collections in
+      let collected : old.nursery + old.full ≤ 2 * replied old.progress.items + 2 = order.collections in
       let more : replied new.progress.items ≡ replied old.progress.items + 1 = replies.replied-more old.progress.items new.progress.items k reply at in
       let numbered : (heap_state old.heap).number ≡ old.nursery + old.full = order.number in
       record {

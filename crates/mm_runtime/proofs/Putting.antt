@@ -1,10 +1,11 @@
 -- An object of a need is put at a spot: the heap between, and the new heap.
-use Rattle.std.proofs.Common.{◌≡◌, ◌≢◌, refl, sym, ◌∙◌, ap, subst, ℕ, ◌+◌, ◌-◌, ◌<◌, ◌≤◌, inl, arith, Bool, true, false, List, length, map}
+use Rattle.std.proofs.Common.{◌≡◌, ◌≢◌, sym, ◌∙◌, ap, subst, ℕ, ◌+◌, ◌-◌, ◌<◌, ◌≤◌, arith, Bool, true, false, List, length, map}
 use Rattle.std.specs.Prelude.{Some, slice_get, vec_capacity}
 use Rattle.std.specs.List.{range_with_len}
 use Rattle.std.proofs.lemmas.Bool.{false_from_ne_true}
 use Rattle.std.proofs.lemmas.Option.{slice_get_within}
 use Rattle.heap_layout.specs.Zones.{block_start, IsAddress}
+use Rattle.heap_layout.specs.declared.block.Kind.{Kind}
 use Rattle.heap_layout.specs.declared.block.Kind.TheVariants as kinds
 use Rattle.ideal_heap.specs.declared.name.Name.{Name}
 use Rattle.ideal_heap.specs.Names.{IsName, name}
@@ -13,50 +14,45 @@ use Rattle.object_model.specs.Heaps.{heap_state}
 use Rattle.object_model.specs.Lawful.{IsLawful}
 use Rattle.object_model.specs.Graphs.{MutatorState, Represents, numbers_of}
 use Rattle.object_model.specs.Changes.{WritesObject}
-use Rattle.object_model.proofs.OneKind.{one-kind}
-use Rattle.sessions.specs.Plans.{NoGc, Rules, rules_of}
+use Rattle.sessions.specs.Plans.{Rules}
 use Rattle.sessions.specs.Sessions.{Setting, Moment, ideal_at}
 use Rattle.mutator_calls.specs.declared.need.Need.{Need}
 use Rattle.mutator_calls.specs.declared.need.Mutator.{Mutator}
 use Rattle.plain_world.specs.Rows.{mutator_state}
-use Rattle.plain_world.specs.Notes.{FillsTails}
 use Rattle.plain_world.proofs.Lists.{one-element}
 use Rattle.mm_runtime.specs.declared.manager.Manager.{Manager}
 use Rattle.mm_runtime.specs.declared.progress.Progress.{Progress}
 use Rattle.mm_runtime.specs.declared.place.Spot.{Spot}
-use Rattle.mm_runtime.specs.Managers.{IsAtStop, StandsAt}
-use Rattle.mm_runtime.specs.Stops.{IsSpot, NeedsNext, TakesBlock, WritesAt, BearsAt}
+use Rattle.mm_runtime.specs.Managers.{FillsTailsOrCells, IsAtStop, StandsAt}
+use Rattle.mm_runtime.specs.Stops.{IsPlaceIn, NeedsNext, TakesBlock, WritesAt, BearsAt}
 use Rattle.mm_runtime.proofs.Needs.{HasNeed, has-need, next-name}
+use Rattle.mm_runtime.proofs.Rooms.{hole-not-free, hole-within}
 use Rattle.mm_runtime.proofs.Users.{fresh-name}
 use Rattle.mm_runtime.proofs.Written.{IsFreeOrHole, IsOpened, opened, IsBorn, born-at}
 
 -- the spot lies within its block
-spot-within : (b : Bool) (s : HeapState) (k at size : ℕ) → size ≤ 2048 → IsFreeOrHole b s k at size → at + size ≤ 4096
-spot-within true s k at size small is = (let front : at ≡ 0 = is.1 in omega arith)
-spot-within false s k at size small is = is.2
+spot-within : (fill : Kind) (b : Bool) (s : HeapState) (k at size : ℕ) → size ≤ 2048 → IsFreeOrHole fill b s k at size → at + size ≤ 4096
+spot-within fill true s k at size small is = (let front : at ≡ 0 = is.1 in omega arith)
+spot-within fill false s k at size small is = hole-within fill s k at size is
 
-spot-free : (b : Bool) (s : HeapState) (k at size : ℕ) → IsFreeOrHole b s k at size → b ≡ has_kind s k kinds.Free
-spot-free true s k at size is = sym is.0
-spot-free false s k at size is = sym (false_from_ne_true (has_kind s k kinds.Free) (λ free. let both = one-kind s k kinds.Bump kinds.Free is.0 free in cc))
+spot-free : (fill : Kind) (b : Bool) (s : HeapState) (k at size : ℕ) → IsFreeOrHole fill b s k at size → b ≡ has_kind s k kinds.Free
+spot-free fill true s k at size is = sym is.0
+spot-free fill false s k at size is = sym (false_from_ne_true (has_kind s k kinds.Free) (hole-not-free fill s k at size is))
 
-pub was-free : (s : HeapState) (size : ℕ) (spot : Spot) → IsSpot (rules_of NoGc) s size spot → spot.free ≡ has_kind s spot.block kinds.Free
-was-free s size spot is = spot-free spot.free s spot.block spot.offset size is.spot_is
-
-pub fills-tails : (rules : Rules) → rules ≡ rules_of NoGc → FillsTails rules.fill
-fills-tails rules are = subst (λ (r : Rules). FillsTails r.fill) (sym are) (inl refl)
+pub was-free : (fill : Kind) (s : HeapState) (size : ℕ) (spot : Spot) → IsPlaceIn fill s size spot → spot.free ≡ has_kind s spot.block kinds.Free
+was-free fill s size spot is = spot-free fill spot.free s spot.block spot.offset size is.spot_is
 
 -- the heap between, in the terms of the definitions
-pub took : (rules : Rules) (s row between : HeapState) (spot : Spot) (size r q refs nums : ℕ) → rules ≡ rules_of NoGc → row ≡ s → size ≡ size_of r q → r ≡ refs → q ≡ nums
-    → TakesBlock rules row spot size between → TakesBlock (rules_of NoGc) s spot (size_of refs nums) between
-took rules s row between spot size r q refs nums are same is er eq takes =
+pub took : (fill : Kind) (s row between : HeapState) (spot : Spot) (size r q refs nums : ℕ) → row ≡ s → size ≡ size_of r q → r ≡ refs → q ≡ nums
+    → TakesBlock fill row spot size between → TakesBlock fill s spot (size_of refs nums) between
+took fill s row between spot size r q refs nums same is er eq takes =
     let wanted : size ≡ size_of refs nums = is ∙ ap (λ x. size_of x q) er ∙ ap (λ x. size_of refs x) eq in
-    subst (λ (x : Rules). TakesBlock x s spot (size_of refs nums) between) are
-    (subst (λ (x : HeapState). TakesBlock rules x spot (size_of refs nums) between) same (subst (λ (x : ℕ). TakesBlock rules row spot x between) wanted takes))
+    subst (λ (x : HeapState). TakesBlock fill x spot (size_of refs nums) between) same (subst (λ (x : ℕ). TakesBlock fill row spot x between) wanted takes)
 
-module _ (s between : HeapState) (spot : Spot) (refs nums : ℕ) (lawful : IsLawful s) (is : IsSpot (rules_of NoGc) s (size_of refs nums) spot)
-    (takes : TakesBlock (rules_of NoGc) s spot (size_of refs nums) between) where
-  open-there : IsOpened s between spot.block spot.offset (size_of refs nums)
-  open-there = opened spot.free s between spot.block spot.offset (size_of refs nums) lawful is.small is.spot_is takes
+module _ (fill : Kind) (fills : FillsTailsOrCells fill) (s between : HeapState) (spot : Spot) (refs nums : ℕ) (lawful : IsLawful s) (is : IsPlaceIn fill s (size_of refs nums) spot)
+    (takes : TakesBlock fill s spot (size_of refs nums) between) where
+  open-there : IsOpened fill s between spot.block spot.offset (size_of refs nums)
+  open-there = opened fill spot.free s between spot.block spot.offset (size_of refs nums) fills lawful is.small is.spot_is takes
 
   pub blocks-between : between.blocks ≡ s.blocks
   blocks-between = ap (λ (x : HeapState). x.blocks) open-there.1
@@ -66,12 +62,12 @@ module _ (s between : HeapState) (spot : Spot) (refs nums : ℕ) (lawful : IsLaw
 
   pub address-between : (a : ℕ) → a ≡ block_start between.blocks spot.block + spot.offset → IsAddress between.blocks a
   address-between a at =
-      let within : spot.offset + size_of refs nums ≤ 4096 = spot-within spot.free s spot.block spot.offset (size_of refs nums) is.small is.spot_is in
+      let within : spot.offset + size_of refs nums ≤ 4096 = spot-within fill spot.free s spot.block spot.offset (size_of refs nums) is.small is.spot_is in
       let inside : spot.block < between.blocks = subst (λ (b : ℕ). spot.block < b) (sym blocks-between) is.inside in
       subst (IsAddress between.blocks) (sym at) (record { from = omega arith; below = omega arith })
 
   pub written : (new : HeapState) (a r q : ℕ) (n : Name) → a ≡ block_start between.blocks spot.block + spot.offset → r ≡ refs → q ≡ nums → WritesObject between new a n r q
-      → WritesAt (rules_of NoGc) s spot n refs nums new
+      → WritesAt fill s spot n refs nums new
   written new a r q n at er eq writes = record {
     between = between;
     block = takes;
@@ -133,7 +129,8 @@ module _ {P : Type 0} (rules : Rules) (more : ℕ) (manager : Manager P) (m : �
       (heap_state manager.heap) (ideal_at stop.now) (stands-represents rules manager stop.setting stop.now stop.stands) x holds (e ∙ is)
 
   -- the new heap
-  pub born-need : (spot : Spot) (n : Name) (new : HeapState) → n ≡ name m (the-need.user.births + 1) → IsSpot (rules_of NoGc) (heap_state manager.heap) (size_of need.refs need.nums) spot
-      → WritesAt (rules_of NoGc) (heap_state manager.heap) spot n need.refs need.nums new → IsBorn (heap_state manager.heap) spot n need.refs need.nums new
-  born-need spot n new is found writes =
-      born-at (heap_state manager.heap) new spot n need.refs need.nums manager.heap.lawful found writes the-need.valid.1 the-need.valid.2 (is-name n is) (is-fresh n is)
+  pub born-need : FillsTailsOrCells rules.fill → (spot : Spot) (n : Name) (new : HeapState) → n ≡ name m (the-need.user.births + 1)
+      → IsPlaceIn rules.fill (heap_state manager.heap) (size_of need.refs need.nums) spot
+      → WritesAt rules.fill (heap_state manager.heap) spot n need.refs need.nums new → IsBorn rules (heap_state manager.heap) spot n need.refs need.nums new
+  born-need fills spot n new is found writes =
+      born-at rules fills (heap_state manager.heap) new spot n need.refs need.nums manager.heap.lawful found writes the-need.valid.1 the-need.valid.2 (is-name n is) (is-fresh n is)

@@ -26,24 +26,24 @@ use Rattle.mm_runtime.proofs.Putting as putting
 use Rattle.mm_runtime.proofs.OneReplied as replies
 use Rattle.mm_runtime.proofs.Ordered.{AddsBirth, order-after}
 
-module _ {P : Type 0} (rules : Rules) (old new : Manager P) (m : ℕ) (need : Need) (stop : IsAtStop rules 1 old) (next : NeedsNext old m need) (refuses : Refuses old m new) where
+module _ {P : Type 0} (rules : Rules) (old new : Manager P) (m : ℕ) (need : Need) (stop : IsAtStop rules 2 old) (next : NeedsNext old m need) (refuses : Refuses old m new) where
   abbrev k : ℕ
   k = m - 1
 
   at : k + 1 ≡ m
-  at = (putting.the-need rules 1 old m need stop next).at
+  at = (putting.the-need rules 2 old m need stop next).at
 
   replied : RepliesAt old.progress.items new.progress.items k r.Full
   replied = refuses.replies k at
 
-  same-progress : replied.before ≡ (putting.the-need rules 1 old m need stop next).progress
-  same-progress = one-element (slice_get old.progress.items k) replied.before (putting.the-need rules 1 old m need stop next).progress replied.was (putting.the-need rules 1 old m need stop next).there
+  same-progress : replied.before ≡ (putting.the-need rules 2 old m need stop next).progress
+  same-progress = one-element (slice_get old.progress.items k) replied.before (putting.the-need rules 2 old m need stop next).progress replied.was (putting.the-need rules 2 old m need stop next).there
 
   next-is : next_of replied.before ≡ Some (c.New need.register need.refs need.nums)
-  next-is = ap next_of same-progress ∙ (putting.the-need rules 1 old m need stop next).next
+  next-is = ap next_of same-progress ∙ (putting.the-need rules 2 old m need stop next).next
 
   within : length replied.before.replies.items < length replied.before.trace
-  within = subst (λ (p : Progress). length p.replies.items < length p.trace) (sym same-progress) (putting.the-need rules 1 old m need stop next).within
+  within = subst (λ (p : Progress). length p.replies.items < length p.trace) (sym same-progress) (putting.the-need rules 2 old m need stop next).within
 
   adds-birth : AddsBirth old k new
   adds-birth j u here = (u, ap (λ (us : Vec Mutator Global). slice_get us.items j) (sym refuses.mutators) ∙ here, inl (omega arith))

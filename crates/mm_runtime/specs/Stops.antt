@@ -1,5 +1,7 @@
 -- What the steps of a stop do to a manager.
-use Rattle.std.specs.Prelude.{◌≡◌, ◌≢◌, ℕ, ◌+◌, ◌<◌, ◌≤◌, ◌⊎◌, MatchBool, Some, List, [], ◌∷◌, ◌++◌, length, slice_get, slice_set, vec_capacity}
+use Rattle.std.specs.Prelude.{◌≡◌, ◌≢◌, ℕ, ◌+◌, ◌<◌, ◌≤◌, ◌⊎◌, MatchBool, Some, List, [], ◌∷◌, ◌++◌, map, length, slice_get, slice_set, vec_capacity}
+use Rattle.std.specs.List.{AllByRecursion}
+use Rattle.heap_layout.specs.declared.block.Kind.{Kind}
 use Rattle.heap_layout.specs.declared.block.Kind.TheVariants as kinds
 use Rattle.ideal_heap.specs.declared.command.Command.TheVariants as c
 use Rattle.ideal_heap.specs.declared.reply.Reply.{Reply}
@@ -9,12 +11,16 @@ use Rattle.heap_layout.specs.Zones.{block_start}
 use Rattle.object_model.specs.Heaps.{heap_state}
 use Rattle.object_model.specs.Objects.{HeapState, HasKind, size_of}
 use Rattle.object_model.specs.declared.shape.TheConstants.{MAX_MEDIUM_WORDS}
+use Rattle.object_model.specs.declared.collect.Collect.{Collect}
+use Rattle.object_model.specs.declared.collect.Collect.TheVariants.{Nursery, Full}
+use Rattle.object_model.specs.Graphs.{roots_of}
 use Rattle.sessions.specs.Plans.{Rules}
 use Rattle.object_model.specs.Births.{with_block}
 use Rattle.object_model.specs.Changes.{WritesObject}
 use Rattle.sessions.specs.Fitting.{Fits, HasHole, HasSomeHole, class_for}
-use Rattle.sessions.specs.Sessions.{Setting, Moment, Serves, block_of_kind}
-use Rattle.plain_world.specs.Rows.{ChangesAt}
+use Rattle.sessions.specs.Collecting.{IsCollection, first_collection}
+use Rattle.sessions.specs.Sessions.{Setting, Moment, MakesCollection, FirstTry, Places, Replies, Serves, birth_count, block_of_kind, refusal}
+use Rattle.plain_world.specs.Rows.{ChangesAt, mutator_state}
 use Rattle.mutator_calls.specs.declared.need.Mutator.{Mutator}
 use Rattle.mutator_calls.specs.declared.need.Need.{Need}
 use Rattle.mm_runtime.specs.declared.progress.Progress.{Progress}
@@ -28,16 +34,36 @@ use Rattle.mm_runtime.specs.declared.progress.End.TheVariants as end
 use Rattle.mm_runtime.specs.Managers.{next_of, replied as replied_in}
 use Rattle.plain_world.specs.Notes.{AreNotes}
 
--- a full collection that only counts
-pub record Counts {P : Type 0} (old new : Manager P) : Type 0 where
-  pub heap : heap_state new.heap ≡ record (heap_state old.heap) { number = (heap_state old.heap).number + 1 }
-  pub full : new.full ≡ old.full + 1
-  pub nursery : new.nursery ≡ old.nursery
-  pub mutators : new.mutators ≡ old.mutators
-  pub progress : new.progress ≡ old.progress
-  pub notes : new.notes ≡ old.notes
+-- the numbers of nursery and full collections after one more of this kind
+abbrev pub counted : Collect → ℕ → ℕ → ℕ × ℕ
+counted Nursery nursery full = (nursery + 1, full)
+counted Full nursery full = (nursery, full + 1)
 
--- one more reply, or none
+-- A collection was made and counted. The heap and the registers are those that it left, and the notes those of that heap.
+-- Mutators keep their numbers and births, and get no reply.
+pub record HasCollected {P : Type 0} (rules : Rules) (kind : Collect) (old new : Manager P) : Type 0 where
+  pub collection : IsCollection rules 1 kind (heap_state old.heap) (roots_of (map mutator_state old.mutators.items))
+      (heap_state new.heap) (roots_of (map mutator_state new.mutators.items))
+  pub births : map birth_count (map mutator_state new.mutators.items)
+      ≡ map birth_count (map mutator_state old.mutators.items)
+  pub registers : AllByRecursion (λ u. length u.registers ≡ 16) new.mutators.items
+  pub progress : new.progress ≡ old.progress
+  pub counts : (new.nursery, new.full) ≡ counted kind old.nursery old.full
+  pub notes : AreNotes rules.fill (heap_state new.heap) new.notes
+
+-- The collections for a size are made: a nursery collection after which it fits, or a full one, which is the first or
+-- follows a nursery one after which it does not fit.
+abbrev pub MakesRoom : Setting → ℕ → Moment → Moment → Type 0
+MakesRoom t size before late =
+    ((first_collection t.rules before.heap ≡ Nursery) × MakesCollection t Nursery before late × Fits t.rules late.heap size)
+    ⊎ ((mid : Moment) × FirstTry t size (first_collection t.rules before.heap) before mid × MakesCollection t Full mid late)
+
+-- the object is placed, or it does not fit and is refused
+abbrev pub Settles : Setting → ℕ → ℕ → ℕ → ℕ → Moment → Moment → Type 0
+Settles t m d refs nums late now = Places t m d refs nums late now
+    ⊎ ((Fits t.rules late.heap (size_of refs nums) → ⊥) × Replies (refusal m d refs nums ∷ []) late now)
+
+-- the replies, and one more
 abbrev pub with_reply : Progress → Reply → List Reply
 with_reply p reply = p.replies.items ++ reply ∷ []
 
@@ -60,26 +86,30 @@ NeedsNext manager m need = (1 ≤ m) × ((k : ℕ) → k + 1 ≡ m → (p : Prog
 
 -- An object of this size is to be placed here: at the start of the first hole with room in the lowest block that has
 -- one, or, if there is none, at the start of the lowest Free block.
-pub record IsSpot (rules : Rules) (s : HeapState) (size : ℕ) (spot : Spot) : Type 0 where
+pub record IsPlaceIn (fill : Kind) (s : HeapState) (size : ℕ) (spot : Spot) : Type 0 where
   pub small : size ≤ MAX_MEDIUM_WORDS
-  pub fits : Fits rules s size
   pub inside : spot.block < s.blocks
   pub spot_is : MatchBool spot.free
-      (HasKind s spot.block kinds.Free × (spot.offset ≡ 0) × (HasSomeHole rules.fill s size → ⊥))
-      (HasHole rules.fill s spot.block spot.offset size)
-  pub lowest : (k from : ℕ) → HasHole rules.fill s k from size
+      (HasKind s spot.block kinds.Free × (spot.offset ≡ 0) × (HasSomeHole fill s size → ⊥))
+      (HasHole fill s spot.block spot.offset size)
+  pub lowest : (k from : ℕ) → HasHole fill s k from size
       → (spot.block < k) ⊎ ((spot.block ≡ k) × (spot.offset ≤ from))
   pub lowest_free : HasKind s spot.block kinds.Free → (k : ℕ) → HasKind s k kinds.Free → spot.block ≤ k
 
+-- the size fits, and this is its place
+pub record IsSpot (rules : Rules) (s : HeapState) (size : ℕ) (spot : Spot) : Type 0 where
+  pub fits : Fits rules s size
+  pub place : IsPlaceIn rules.fill s size spot
+
 -- The block of the spot gets its word if it is Free. All else is unchanged.
-abbrev pub TakesBlock : Rules → HeapState → Spot → ℕ → HeapState → Type 0
-TakesBlock rules old spot size new = MatchBool spot.free
-    (new ≡ with_block old spot.block (block_of_kind rules.fill (class_for rules.fill size))) (new ≡ old)
+abbrev pub TakesBlock : Kind → HeapState → Spot → ℕ → HeapState → Type 0
+TakesBlock fill old spot size new = MatchBool spot.free
+    (new ≡ with_block old spot.block (block_of_kind fill (class_for fill size))) (new ≡ old)
 
 -- the object is written at the spot, whose block gets its word first if it is Free
-pub record WritesAt (rules : Rules) (old : HeapState) (spot : Spot) (n : Name) (refs nums : ℕ) (new : HeapState) : Type 0 where
+pub record WritesAt (fill : Kind) (old : HeapState) (spot : Spot) (n : Name) (refs nums : ℕ) (new : HeapState) : Type 0 where
   pub between : HeapState
-  pub block : TakesBlock rules old spot (size_of refs nums) between
+  pub block : TakesBlock fill old spot (size_of refs nums) between
   pub object : WritesObject between new (block_start old.blocks spot.block + spot.offset) n refs nums
 
 -- one more object of the mutator, with its address in register d
@@ -100,7 +130,7 @@ RepliesTo old m reply new = (k : ℕ) → k + 1 ≡ m → RepliesAt old.progress
 -- An object of the need is placed at the spot. It is written and counted, and mutator m, counted from 1, gets its name.
 pub record PutsAt {P : Type 0} (rules : Rules) (old : Manager P) (m : ℕ) (need : Need) (spot : Spot) (n : Name)
     (new : Manager P) : Type 0 where
-  pub heap : WritesAt rules (heap_state old.heap) spot n need.refs need.nums (heap_state new.heap)
+  pub heap : WritesAt rules.fill (heap_state old.heap) spot n need.refs need.nums (heap_state new.heap)
   pub births : (k : ℕ) → k + 1 ≡ m → BearsAt old.mutators.items new.mutators.items k m need.register
       (block_start (heap_state old.heap).blocks spot.block + spot.offset) n
   pub replies : RepliesTo old m (r.New n) new
@@ -130,7 +160,7 @@ ServesEnd t m end.Meet before now = now ≡ before
 ServesEnd t m end.Trace before now = now ≡ before
 ServesEnd t m (end.Raised by) before now = now ≡ before
 
--- mutator m, counted from 1, may have one more reply, the others have none
+-- Mutator m, counted from 1, may have other replies, in all no fewer than before. The others have the same.
 pub record AddsReply {P : Type 0} (old : Manager P) (m : ℕ) (new : Manager P) : Type 0 where
   pub count : length new.progress.items ≡ length old.progress.items
   pub others : (j : ℕ) → j + 1 ≢ m → slice_get new.progress.items j ≡ slice_get old.progress.items j

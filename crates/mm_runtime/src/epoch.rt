@@ -1,10 +1,9 @@
 //! An epoch: each mutator runs until it stops.
 
 ghost use Rattle.std.specs.Prelude.{◌≡◌, ◌+◌, ◌<◌, ◌≤◌, ℕ, length, slice_get, Some, IfOk};
-ghost use Rattle.sessions.specs.Plans.{NoGc};
 ghost use Rattle.sessions.specs.Sessions.{Setting, Moment, RunsPart};
 ghost use Rattle.plain_world.specs.Calls.{births_at, number_at, places_of, stop_word, IsOpen};
-ghost use Rattle.mm_runtime.specs.Managers.{replied, IsProgress, Closes, IsInOrder, IsReady, StandsAt};
+ghost use Rattle.mm_runtime.specs.Managers.{replied, IsProgress, Closes, IsInOrder, IsManaged, IsReady, StandsAt};
 ghost use Rattle.mm_runtime.specs.Parts.{causes, AreGcs, AreNeeds, RunsParts};
 
 use crate::manager::Manager;
@@ -45,7 +44,7 @@ fn run_parts<P, G: Gate>(
 impl<P: Plan> Manager<P> {
     /// Runs an epoch. Tells how each mutator's part of it ended.
     pub(crate) fn run_epoch<G: Gate>(self, gate: &G) -> Result<(Manager<P>, Vec<End>), AllocError>
-        requires plan { P.plan ≡ NoGc }
+        requires plan { IsManaged P.rules }
         requires ready { IsReady P.rules self }
         ensures order { IfOk result (λ r. IsInOrder P.rules 0 r.0) }
         ensures part { (t : Setting) (now : Moment) → Closes P.rules self t now

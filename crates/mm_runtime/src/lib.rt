@@ -2,8 +2,12 @@
 //! needs.
 #![tactic(auto)]
 
+mod collect;
+#[cfg(test)]
+mod collection_tests;
 mod epoch;
 mod gc;
+mod laws;
 mod manager;
 mod meets;
 mod part;
@@ -15,5 +19,6 @@ mod serve;
 #[cfg(test)]
 mod tests;
 
+pub use laws::managed_plans;
 pub use manager::{Manager, Turn};
 pub use place::Placed;

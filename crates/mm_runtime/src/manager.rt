@@ -2,10 +2,9 @@
 
 ghost use Rattle.std.specs.Prelude.{◌≡◌, ◌↔◌, ◌<◌, ◌≤◌, ℕ, All, Some, length, slice_get, IfOk, IsTrue};
 ghost use Rattle.heap_layout.specs.declared.layout.TheConstants.{MIN_BLOCKS, MAX_BLOCKS};
-ghost use Rattle.sessions.specs.Plans.{NoGc};
 ghost use Rattle.sessions.specs.Sessions.{Setting, Moment, IsEpoch, IsWhole, first_moment};
 ghost use Rattle.mm_runtime.specs.declared.progress.Progress.{Progress as State};
-ghost use Rattle.mm_runtime.specs.Managers.{left, traces_of, replied, Closes, IsFresh, IsReady, IsRunnable, HasEnded};
+ghost use Rattle.mm_runtime.specs.Managers.{left, traces_of, replied, Closes, IsFresh, IsManaged, IsReady, IsRunnable, HasEnded};
 ghost use Rattle.stored_commands.specs.Lists.{lists_of};
 
 use crate::progress::Progress;
@@ -15,8 +14,10 @@ use mutator_calls::Mutator;
 use object_model::Heap;
 use plain_world::{BlockNotes, new_mutators};
 use plan_api::Plan;
+use pools::Pool;
 use std::alloc::{AllocError, Global};
 use std::marker::PhantomData;
+use std::thread::Threads;
 use stored_commands::{StoredTrace, stored_traces};
 use work_packets::Gate;
 
@@ -125,11 +126,16 @@ impl<P: Plan> Manager<P> {
     }
 
     /// Runs one epoch and its stop: each mutator runs until it stops, and then collections are made
-    /// and needs are served.
+    /// and needs are served. The packets of collections run in `pool`.
     ///
     /// Fails if memory runs out. The manager is lost then.
-    pub fn advance<G: Gate>(self, gate: &G) -> Result<(Manager<P>, Turn), AllocError>
-        requires plan { P.plan ≡ NoGc }
+    pub fn advance<Q: Pool, G: Gate, R: Threads + Sync>(
+        self,
+        rt: &R,
+        pool: &Q,
+        gate: &G,
+    ) -> Result<(Manager<P>, Turn), AllocError>
+        requires plan { IsManaged P.rules }
         requires ready { IsReady P.rules self }
         ensures ready { IfOk result (λ r. IsReady P.rules r.0) }
         ensures epoch { (t : Setting) (now : Moment) → Closes P.rules self t now
@@ -144,8 +150,8 @@ impl<P: Plan> Manager<P> {
             → Closes P.rules r.0 t now → IsWhole t now) }
     {
         let (manager, ends) = self.run_epoch(gate)?;
-        let manager = manager.collect_at(&ends);
-        let mut manager = manager.serve(&ends, gate)?;
+        let manager = manager.collect_at(rt, &ends, pool, gate)?;
+        let mut manager = manager.serve(rt, &ends, pool, gate)?;
         manager.meet();
         let turn = manager.turn();
         Ok((manager, turn))

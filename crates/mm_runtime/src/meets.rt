@@ -1,7 +1,6 @@
 //! The last step of a stop: mutators that meet.
 
 ghost use Rattle.std.specs.Prelude.{◌≡◌, ◌↔◌, ◌≤◌, ℕ, IsTrue, Some, length, slice_get};
-ghost use Rattle.sessions.specs.Plans.{NoGc};
 ghost use Rattle.sessions.specs.Sessions.{Setting, Moment, Meets, is_waiting};
 ghost use Rattle.mm_runtime.specs.declared.progress.Progress.{Progress as State};
 ghost use Rattle.mm_runtime.specs.Managers.{next_of, replied, HasEnded, IsProgress, IsAtStop, IsInOrder, StandsAt};

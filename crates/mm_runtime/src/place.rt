@@ -5,23 +5,24 @@ ghost use Rattle.heap_layout.specs.Zones.{row_words};
 ghost use Rattle.ideal_heap.specs.declared.reply.Reply.TheVariants as reply_is;
 ghost use Rattle.object_model.specs.Heaps.{heap_state};
 ghost use Rattle.object_model.specs.Objects.{size_of, state_of};
-ghost use Rattle.sessions.specs.Plans.{NoGc};
 ghost use Rattle.sessions.specs.Fitting.{Fits};
 ghost use Rattle.sessions.specs.Sessions.{Setting, Moment, Places, Serves};
 ghost use Rattle.mutator_calls.specs.declared.need.Mutator.{Mutator};
 ghost use Rattle.plain_world.specs.Notes.{AreNotes};
-ghost use Rattle.mm_runtime.specs.Managers.{IsAtStop, IsInOrder, StandsAt};
+ghost use Rattle.mm_runtime.specs.Managers.{IsAtStop, IsInOrder, IsManaged, StandsAt};
 ghost use Rattle.mm_runtime.specs.declared.progress.Progress.{Progress};
-ghost use Rattle.mm_runtime.specs.Stops.{IsSpot, NeedsNext, RepliesAt, RepliesTo, TakesBlock, BearsAt, PutsAt, Refuses, MatchPlaced};
+ghost use Rattle.mm_runtime.specs.Stops.{IsSpot, NeedsNext, RepliesAt, RepliesTo, TakesBlock, BearsAt, PutsAt, Refuses, MakesRoom, Settles, MatchPlaced};
 
 use crate::manager::Manager;
 use crate::progress::Progress;
 use heap_layout::BlockWord;
-use ideal_heap::{Name, REGISTERS, Reply};
+use ideal_heap::{MAX_NUMS, MAX_REFS, Name, REGISTERS, Reply};
 use mutator_calls::{Mutator, Need};
-use object_model::{Heap, MAX_MEDIUM_WORDS, Row, Shape, size_words};
+use object_model::{Collect, Heap, MAX_MEDIUM_WORDS, Row, Shape, size_words};
 use plan_api::Plan;
+use pools::Pool;
 use std::alloc::AllocError;
+use std::thread::Threads;
 use work_packets::Gate;
 
 /// What became of a need.
@@ -54,12 +55,12 @@ fn shape_of(need: &Need) -> Shape
 
 /// Gives the block of a spot its word, if it is Free.
 fn take_block<P: Plan>(row: Row, spot: &Spot, size: u32) -> Row
-    requires plan { P.plan ≡ NoGc }
+    requires plan { IsManaged P.rules }
     requires extent { length row.words.items ≡ row_words (state_of row).blocks }
     requires block { spot.now.block < (state_of row).blocks }
     requires least { 3 ≤ size }
     requires most { size ≤ MAX_MEDIUM_WORDS }
-    ensures { TakesBlock P.rules (state_of row) spot.now size (state_of result) }
+    ensures { TakesBlock P.rules.fill (state_of row) spot.now size (state_of result) }
 {
     let mut row = row;
     if !spot.free {
@@ -110,7 +111,7 @@ impl<P: Plan> Manager<P> {
     /// Where an object of `size` words is to be placed: in the first hole with room of the lowest
     /// block that has one, else at the start of the lowest Free block, if one may be granted.
     fn find(&mut self, size: u32) -> Option<Spot>
-        requires plan { P.plan ≡ NoGc }
+        requires plan { IsManaged P.rules }
         requires notes { AreNotes P.rules.fill (heap_state self.old.heap) self.old.notes }
         requires least { 3 ≤ size }
         ensures notes { AreNotes P.rules.fill (heap_state self.new.heap) self.new.notes }
@@ -128,7 +129,8 @@ impl<P: Plan> Manager<P> {
                 free: false,
             });
         }
-        if !self.notes.counts().is_grantable(P::reserve()) {
+        let reserve = P::reserve();
+        if !self.notes.counts().is_grantable(reserve) {
             return None;
         }
         let block = self.notes.lowest_free(&self.heap)?;
@@ -141,8 +143,8 @@ impl<P: Plan> Manager<P> {
 
     /// Writes, names and counts the object of a need of mutator `m` at a spot. Replies its name.
     fn put(self, m: u32, need: &Need, spot: Spot) -> (Manager<P>, Name)
-        requires plan { P.plan ≡ NoGc }
-        requires stop { IsAtStop P.rules 1 self }
+        requires plan { IsManaged P.rules }
+        requires stop { IsAtStop P.rules 2 self }
         requires next { NeedsNext self m need.now }
         requires spot { IsSpot P.rules (heap_state self.heap) (size_of need.now.refs need.now.nums)
             spot }
@@ -181,8 +183,8 @@ impl<P: Plan> Manager<P> {
 
     /// Places the object of a need of mutator `m` there.
     fn place(self, m: u32, need: &Need, spot: Spot) -> (Manager<P>, Name)
-        requires plan { P.plan ≡ NoGc }
-        requires stop { IsAtStop P.rules 1 self }
+        requires plan { IsManaged P.rules }
+        requires stop { IsAtStop P.rules 2 self }
         requires next { NeedsNext self m need.now }
         requires spot { IsSpot P.rules (heap_state self.heap) (size_of need.now.refs need.now.nums)
             spot }
@@ -210,17 +212,80 @@ impl<P: Plan> Manager<P> {
         manager
     }
 
-    /// Serves a need of mutator `m`. If the object does not fit, a full collection is made. It is
+    /// The collections for an object of `size` words that does not fit: the one to try first, and a
+    /// full one if that was a nursery one and the object still does not fit.
+    ///
+    /// Fails if memory runs out. The manager is lost then.
+    fn make_room<Q: Pool, G: Gate, R: Threads + Sync>(
+        self,
+        rt: &R,
+        size: u32,
+        pool: &Q,
+        gate: &G,
+    ) -> Result<Manager<P>, AllocError>
+        requires plan { IsManaged P.rules }
+        requires stop { IsAtStop P.rules 0 self }
+        requires least { 3 ≤ size }
+        requires most { size ≤ size_of MAX_REFS MAX_NUMS }
+        ensures order { IfOk result (λ r. IsInOrder P.rules 2 r) }
+        ensures room { (t : Setting) (now : Moment) → StandsAt P.rules self t now
+            → IfOk result (λ r. (late : Moment) × MakesRoom t size now late
+            × StandsAt P.rules r t late) }
+        ensures full { IfOk result (λ r. (Fits P.rules (heap_state r.heap) size → ⊥)
+            → r.full ≡ self.full + 1) }
+        ensures progress { IfOk result (λ r. r.progress ≡ self.progress) }
+    {
+        let first = P::kind(&self.heap);
+        let manager = self.collect(rt, first, pool, gate)?;
+        if first == Collect::Full {
+            return Ok(manager);
+        }
+        if P::fits(&manager.heap, size) {
+            return Ok(manager);
+        }
+        manager.collect(rt, Collect::Full, pool, gate)
+    }
+
+    /// Places the object of a need of mutator `m` if it fits, and replies `full` if it does not.
+    fn settle(self, m: u32, need: &Need) -> (Manager<P>, Placed)
+        requires plan { IsManaged P.rules }
+        requires stop { IsAtStop P.rules 2 self }
+        requires next { NeedsNext self m need.now }
+        ensures order { IsInOrder P.rules 0 result.0 }
+        ensures settles { (t : Setting) (now : Moment) → StandsAt P.rules self t now
+            → (next : Moment)
+            × Settles t m need.now.register need.now.refs need.now.nums now next
+            × StandsAt P.rules result.0 t next }
+        ensures placed { MatchPlaced result.1
+            (λ n. RepliesTo self m (reply_is.New n) result.0)
+            (λ size. RepliesTo self m reply_is.Full result.0
+            × (size ≡ size_of need.now.refs need.now.nums) × (result.0.full ≡ self.full)
+            × (heap_state result.0.heap ≡ heap_state self.heap)
+            × (Fits P.rules (heap_state result.0.heap) size → ⊥)) }
+    {
+        let size = size_words(&shape_of(need));
+        let mut manager = self;
+        if let Some(spot) = manager.find(size) {
+            let (manager, name) = manager.place(m, need, spot);
+            return (manager, Placed::Placed(name));
+        }
+        (manager.refuse(m), Placed::HeapFull { size })
+    }
+
+    /// Serves a need of mutator `m`. If the object does not fit, the collection to try first is
+    /// made, and a full one if that was a nursery one and the object still does not fit. It is
     /// placed if it fits then, and the reply is `full` if it does not.
     ///
     /// Fails if memory runs out. The manager is lost then.
-    pub fn place_or_collect<G: Gate>(
+    pub fn place_or_collect<Q: Pool, G: Gate, R: Threads + Sync>(
         self,
+        rt: &R,
         m: u32,
         need: Need,
-        _gate: &G,
+        pool: &Q,
+        gate: &G,
     ) -> Result<(Manager<P>, Placed), AllocError>
-        requires plan { P.plan ≡ NoGc }
+        requires plan { IsManaged P.rules }
         requires stop { IsAtStop P.rules 0 self }
         requires next { NeedsNext self m need }
         ensures order { IfOk result (λ r. IsInOrder P.rules 0 r.0) }
@@ -239,11 +304,7 @@ impl<P: Plan> Manager<P> {
             let (manager, name) = manager.place(m, &need, spot);
             return Ok((manager, Placed::Placed(name)));
         }
-        let mut manager = manager.collect();
-        if let Some(spot) = manager.find(size) {
-            let (manager, name) = manager.place(m, &need, spot);
-            return Ok((manager, Placed::Placed(name)));
-        }
-        Ok((manager.refuse(m), Placed::HeapFull { size }))
+        let manager = manager.make_room(rt, size, pool, gate)?;
+        Ok(manager.settle(m, &need))
     }
 }

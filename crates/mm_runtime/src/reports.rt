@@ -19,7 +19,7 @@ use plan_api::Plan;
 use std::alloc::{AllocError, Global};
 
 /// The registers of some mutators, one mutator after another.
-fn all_registers(alloc: Global, mutators: &[Mutator]) -> Result<Vec<u32>, AllocError>
+pub(crate) fn all_registers(alloc: Global, mutators: &[Mutator]) -> Result<Vec<u32>, AllocError>
     ensures { IfOk result (λ v. v.items ≡ roots_of (map mutator_state mutators.now)) }
 {
     let mut roots = Vec::new(alloc);

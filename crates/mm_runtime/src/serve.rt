@@ -1,9 +1,8 @@
 //! All needs of a stop.
 
 ghost use Rattle.std.specs.Prelude.{◌≡◌, ◌≤◌, ℕ, filter, length, IfOk};
-ghost use Rattle.sessions.specs.Plans.{NoGc};
 ghost use Rattle.sessions.specs.Sessions.{Setting, Moment, ServesAll, is_at_need, mutators_of};
-ghost use Rattle.mm_runtime.specs.Managers.{replied, IsAtStop, IsInOrder, StandsAt};
+ghost use Rattle.mm_runtime.specs.Managers.{replied, IsAtStop, IsInOrder, IsManaged, StandsAt};
 ghost use Rattle.mutator_calls.specs.declared.need.Need.{Need};
 ghost use Rattle.mm_runtime.specs.Parts.{causes, AreNeeds};
 ghost use Rattle.mm_runtime.specs.Stops.{NeedsNext, ServesEnd, AddsReply};
@@ -11,13 +10,22 @@ ghost use Rattle.mm_runtime.specs.Stops.{NeedsNext, ServesEnd, AddsReply};
 use crate::manager::Manager;
 use crate::progress::End;
 use plan_api::Plan;
+use pools::Pool;
 use std::alloc::AllocError;
+use std::thread::Threads;
 use work_packets::Gate;
 
 impl<P: Plan> Manager<P> {
     /// Serves the need of mutator `m`, if its part of the epoch ended at one.
-    fn serve_end<G: Gate>(self, m: u32, end: End, gate: &G) -> Result<Manager<P>, AllocError>
-        requires plan { P.plan ≡ NoGc }
+    fn serve_end<Q: Pool, G: Gate, R: Threads + Sync>(
+        self,
+        rt: &R,
+        m: u32,
+        end: End,
+        pool: &Q,
+        gate: &G,
+    ) -> Result<Manager<P>, AllocError>
+        requires plan { IsManaged P.rules }
         requires stop { IsAtStop P.rules 0 self }
         requires least { 1 ≤ m }
         requires next { (need : Need) → end ≡ End.Need need → NeedsNext self m need }
@@ -30,13 +38,19 @@ impl<P: Plan> Manager<P> {
         let End::Need(need) = end else {
             return Ok(self);
         };
-        let (manager, _placed) = self.place_or_collect(m, need, gate)?;
+        let (manager, _placed) = self.place_or_collect(rt, m, need, pool, gate)?;
         Ok(manager)
     }
 
     /// Serves each need, in ascending order of the mutators.
-    pub(crate) fn serve<G: Gate>(self, ends: &[End], gate: &G) -> Result<Manager<P>, AllocError>
-        requires plan { P.plan ≡ NoGc }
+    pub(crate) fn serve<Q: Pool, G: Gate, R: Threads + Sync>(
+        self,
+        rt: &R,
+        ends: &[End],
+        pool: &Q,
+        gate: &G,
+    ) -> Result<Manager<P>, AllocError>
+        requires plan { IsManaged P.rules }
         requires stop { IsAtStop P.rules 0 self }
         requires count { length ends.now ≡ length self.progress.items }
         requires needs { AreNeeds self.progress.items ends.now }
@@ -50,7 +64,7 @@ impl<P: Plan> Manager<P> {
     {
         let mut manager = self;
         for m in 0..ends.len() {
-            manager = manager.serve_end(m as u32 + 1, ends[m], gate)?;
+            manager = manager.serve_end(rt, m as u32 + 1, ends[m], pool, gate)?;
         }
         Ok(manager)
     }

@@ -1,21 +1,23 @@
 //! Sessions of a manager: replies, graphs of the heap, roots and counts of collections.
 
 ghost use Rattle.std.specs.Prelude.{◌≤◌, ℕ, All, IfOk, IsTrue, length};
-ghost use Rattle.sessions.specs.Plans.{NoGc as no_gc, rules_of};
-ghost use Rattle.mm_runtime.specs.Managers.{IsReady, IsRunnable};
+ghost use Rattle.mm_runtime.specs.Managers.{IsManaged, IsReady, IsRunnable};
 
 use crate::manager::{Manager, Turn};
 use crate::progress::MAX_COMMANDS;
 use heap_layout::Layout;
 use ideal_heap::{Command, Name, Reply, valid};
 use object_model::{Heap, Place, are_roots, graph};
+use plan_api::Plan;
 use plans::NoGc;
+use pools::PlainPool;
 use std::alloc::{AllocError, Global};
 use std::process::Abort;
 use std::test::Fail;
+use std::thread::Threads;
 use work_packets::OpenGate;
 
-fn create(d: u32, refs: u32, nums: u32) -> Command {
+pub(crate) fn create(d: u32, refs: u32, nums: u32) -> Command {
     Command::New { d, refs, nums }
 }
 
@@ -38,19 +40,20 @@ fn check_runnable(rt: &impl Abort, traces: &Vec<Vec<Command>>)
 }
 
 // Runs one trace for each mutator to the end, in a heap of `blocks` blocks.
-fn run_traces(
-    rt: &impl Abort,
+pub(crate) fn run_traces<P: Plan, R: Abort + Threads + Sync>(
+    rt: &R,
     alloc: Global,
     blocks: u32,
     traces: Vec<Vec<Command>>,
-) -> Result<Manager<NoGc>, Fail>
-    ensures { IfOk result (λ m. IsReady (rules_of no_gc) m) }
+) -> Result<Manager<P>, Fail>
+    requires plan { IsManaged P.rules }
+    ensures { IfOk result (λ m. IsReady P.rules m) }
 {
     assert!(rt; 1 <= traces.len() && traces.len() <= 16);
     check_runnable(rt, &traces);
-    let mut manager = Manager::<NoGc>::begin(alloc, Layout::new(blocks)?, traces, 1)?;
+    let mut manager = Manager::<P>::begin(alloc, Layout::new(blocks)?, traces, 1)?;
     'epochs: loop {
-        let (next, turn) = manager.advance(&OpenGate)?;
+        let (next, turn) = manager.advance(rt, &PlainPool, &OpenGate)?;
         manager = next;
         if turn == Turn::Ended {
             return Ok(manager);
@@ -103,7 +106,7 @@ fn graphs(rt: HostRuntime) -> Result<(), Fail> {
         put(1, 2, 2),
         put(2, 0, 4),
     ]?;
-    let manager = run_traces(&rt, alloc, 4, vec![in alloc; first, second]?)?;
+    let manager = run_traces::<NoGc, HostRuntime>(&rt, alloc, 4, vec![in alloc; first, second]?)?;
     let mut wanted = [0; 48];
     wanted[..5].copy_from_slice(&[2854, 2858, 2864, 806, 4902]);
     wanted[16..19].copy_from_slice(&[806, 2854, 4902]);
@@ -141,7 +144,7 @@ fn long_list(rt: HostRuntime) -> Result<(), Fail> {
             trace.push(put(d, 0, v))?;
         }
     }
-    let manager = run_traces(&rt, alloc, 128, vec![in alloc; trace]?)?;
+    let manager = run_traces::<NoGc, HostRuntime>(&rt, alloc, 128, vec![in alloc; trace]?)?;
     let roots = [25_234 + 4 * 99_999];
     let places = graph_from(&rt, alloc, manager.heap(), &roots)?;
     assert_eq!(rt; places.len(), 100_000);
@@ -172,7 +175,7 @@ fn full_heap(rt: HostRuntime) -> Result<(), Fail> {
         Command::Read { s: 9, j: 0 },
     ]?;
     let second = vec![in alloc; create(0, 0, 2046), create(1, 0, 0)]?;
-    let manager = run_traces(&rt, alloc, 4, vec![in alloc; first, second]?)?;
+    let manager = run_traces::<NoGc, HostRuntime>(&rt, alloc, 4, vec![in alloc; first, second]?)?;
     assert_eq!(rt; manager.mutators(), 2);
     let mut wanted = Vec::new(alloc);
     for birth in 1..9 {

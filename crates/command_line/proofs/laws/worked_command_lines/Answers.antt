@@ -62,6 +62,10 @@ pub returns-clause-unsupported : goal.returns-clause-unsupported
 unfolding form_of job_of
 returns-clause-unsupported c = refl
 
+pub returns-clause-semispace : goal.returns-clause-semispace
+unfolding form_of job_of
+returns-clause-semispace c = refl
+
 pub returns-clause-supported : goal.returns-clause-supported
 unfolding form_of job_of
 returns-clause-supported c = refl

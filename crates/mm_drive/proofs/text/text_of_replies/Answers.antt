@@ -5,7 +5,7 @@ use Rattle.mm_drive.proofs.Printing.{replies-more}
 use Rattle.mm_drive.proofs.text.text_of_replies.Goals as goal
 
 pub loop-m-preserved : goal.loop-m-preserved
-loop-m-preserved c t last closes =
+loop-m-preserved g c t last closes =
     let m = c.loop-m.m in
     c.in_ok-print_replies.ensures
     ∙ ap (λ rs. c.loop-m.text.items ++ mutator_text (m + 1) rs) (c.replies.ensures.session t last closes)

@@ -1,16 +1,52 @@
--- The number of collections is small, and the heap stays lawful.
-use Rattle.std.proofs.Common.{arith, ap}
-use Rattle.object_model.specs.Objects.{HeapState}
-use Rattle.object_model.proofs.Counts.{lawful-counted}
+-- The roots are those of a stop, and the collection is counted.
+use Rattle.std.proofs.Common.{◌≡◌, refl, sym, ◌∙◌, ap, subst, ℕ, ◌+◌, ◌*◌, ◌≤◌, arith, List, length, map}
+use Rattle.object_model.specs.Heaps.{heap_state}
+use Rattle.object_model.specs.Places.{AreRoots}
+use Rattle.object_model.specs.Graphs.{roots_of}
+use Rattle.sessions.specs.Collecting.{IsCollection}
+use Rattle.sessions.proofs.CollectedMoments.{roots-kept}
+use Rattle.mutator_calls.specs.declared.need.Mutator.{Mutator}
+use Rattle.plain_world.specs.Rows.{mutator_state}
 use Rattle.mm_runtime.proofs.Bounds.{collections-few}
+use Rattle.mm_runtime.proofs.RootLists as roots
 use Rattle.mm_runtime.proofs.manager.Manager.collect.Goals as goal
 
-pub overflow_add-row : goal.overflow_add-row
-overflow_add-row g c =
-    let few = collections-few _ 1 c.args.self c.requires in
-    let number = c.requires.number in
-    let same = ap (λ (s : HeapState). s.number) c.into_row-row.ensures.state in
+pub collect-requires-clause-few : goal.collect-requires-clause-few
+collect-requires-clause-few g c κs within =
+    subst (λ (l : List ℕ). length l ≤ 1000000) (sym (c.in_ok-roots.ensures ∙ ap (λ (us : List Mutator). roots_of (map mutator_state us)) c.deref.ensures.value)) (roots.roots-few g.P.Plan.rules 1 c.args.self c.requires.stop)
+
+pub collect-requires-clause-held : goal.collect-requires-clause-held
+collect-requires-clause-held g c κs within =
+    subst (λ (l : List ℕ). AreRoots (heap_state c.args.self.heap) l) (sym (c.in_ok-roots.ensures ∙ ap (λ (us : List Mutator). roots_of (map mutator_state us)) c.deref.ensures.value)) (roots.roots-held g.P.Plan.rules 1 c.args.self c.requires.stop)
+
+pub collect-requires-clause-number : goal.collect-requires-clause-number
+collect-requires-clause-number g c κs within =
+    let few : c.args.self.nursery + c.args.self.full ≤ 32000000 + 1 = collections-few g.P.Plan.rules 1 c.args.self c.requires.stop.order in
+    let number : (heap_state c.args.self.heap).number ≡ c.args.self.nursery + c.args.self.full = c.requires.stop.order.number in
     omega arith
 
-pub from_row-requires : goal.from_row-requires
-from_row-requires g c = lawful-counted _ c.into_row-row.ensures.lawful
+pub count_one-nursery-requires : goal.count_one-nursery-requires
+count_one-nursery-requires g c =
+    let few : c.args.self.nursery + c.args.self.full ≤ 32000000 + 1 = collections-few g.P.Plan.rules 1 c.args.self c.requires.stop.order in
+    omega arith
+
+pub set_registers-requires : goal.set_registers-requires
+set_registers-requires g c =
+    let kept : length c.in_ok-after.after.roots.items ≡ length c.in_ok-roots.roots.items =
+    roots-kept g.P.Plan.rules 1 c.args.kind (heap_state c.args.self.heap) (heap_state c.in_ok-after.after.heap) c.in_ok-roots.roots.items c.in_ok-after.after.roots.items c.in_ok-after.ensures.0 in
+    let read : length c.in_ok-roots.roots.items ≡ length (roots_of (map mutator_state c.args.self.mutators.items)) = ap length (c.in_ok-roots.ensures ∙ ap (λ (us : List Mutator). roots_of (map mutator_state us)) c.deref.ensures.value) in
+    let many : length (roots_of (map mutator_state c.args.self.mutators.items)) ≡ 16 * length c.args.self.mutators.items = roots.roots-many g.P.Plan.rules 1 c.args.self c.requires.stop in
+    let same : length c.deref-2.result.now ≡ length c.in_ok-after.after.roots.items = ap length c.deref-2.ensures.value in
+    omega arith
+
+pub returns : goal.returns
+returns g c = record {
+  collection = subst (λ (l : List ℕ). IsCollection g.P.Plan.rules 1 c.args.kind (heap_state c.args.self.heap) l (heap_state c.in_ok-after.after.heap) (roots_of (map mutator_state c.set_registers.new.mutators.items))) (c.in_ok-roots.ensures ∙ ap (λ (us : List Mutator). roots_of (map mutator_state us)) c.deref.ensures.value)
+      (subst (λ (l : List ℕ). IsCollection g.P.Plan.rules 1 c.args.kind (heap_state c.args.self.heap) c.in_ok-roots.roots.items (heap_state c.in_ok-after.after.heap) l)
+      (sym (c.set_registers.ensures.roots ∙ c.deref-2.ensures.value)) c.in_ok-after.ensures.0);
+  births = c.set_registers.ensures.births;
+  registers = c.set_registers.ensures.registers;
+  progress = refl;
+  counts = c.count_one-nursery.ensures;
+  notes = c.in_ok-notes.ensures g.P.Plan.rules.fill;
+}

@@ -1,7 +1,9 @@
 -- An epoch, from the facts of its world.
-use Rattle.std.proofs.Common.{refl, sym, ◌∙◌, ap, List, map, length}
+use Rattle.std.proofs.Common.{refl, sym, ◌∙◌, ap, subst, List, map, length}
 use Rattle.object_model.specs.Heaps.{heap_state}
+use Rattle.object_model.specs.Objects.{HeapState}
 use Rattle.object_model.specs.Graphs.{numbers_of}
+use Rattle.sessions.specs.Collecting.{Remembers}
 use Rattle.sessions.specs.Sessions.{ideal_at}
 use Rattle.plain_world.specs.Rows.{mutator_state}
 use Rattle.plain_world.proofs.Closed.{may-use}
@@ -19,6 +21,15 @@ begin_with-requires-clause-users g c =
     let ready = c.requires.ready in
     may-use (heap_state c.args.self.heap) (map mutator_state c.args.self.mutators.items) (ideal_at ready.now)
     (standing.stands-represents g.P.Plan.rules c.args.self ready.setting ready.now ready.closes.stands)
+
+pub begin_with-requires-clause-tails : goal.begin_with-requires-clause-tails
+begin_with-requires-clause-tails g c = c.requires.plan.fill
+
+pub begin_with-requires-clause-remembers : goal.begin_with-requires-clause-remembers
+begin_with-requires-clause-remembers g c =
+    let stands = c.requires.ready.closes.stands in
+    subst (λ (s : HeapState). Remembers g.P.Plan.rules s) (sym stands.heap)
+    (subst (λ (x : Rules). Remembers x c.requires.ready.now.heap) stands.rules_are stands.sound.remembers)
 
 pub run_parts-requires-clause-numbers : goal.run_parts-requires-clause-numbers
 run_parts-requires-clause-numbers g c κs within =

@@ -1,0 +1,8 @@
+use Rattle.mm_runtime.proofs.ManagedPlans as managed
+use Rattle.mm_runtime.proofs.collection_tests.counts.Goals as goal
+
+pub tell-requires-clause-plan : goal.tell-requires-clause-plan
+tell-requires-clause-plan g c κs = managed.nogc
+
+pub tell-requires-in-loop-letters-clause-plan : goal.tell-requires-in-loop-letters-clause-plan
+tell-requires-in-loop-letters-clause-plan g c κs = managed.semispace

@@ -1,0 +1,17 @@
+use Rattle.mm_runtime.proofs.ManagedPlans as managed
+use Rattle.mm_runtime.proofs.laws.managed_plans.Goals as goal
+
+pub returns-clause-nogc : goal.returns-clause-nogc
+returns-clause-nogc c = managed.nogc
+
+pub returns-clause-semispace : goal.returns-clause-semispace
+returns-clause-semispace c = managed.semispace
+
+pub returns-clause-young_tails : goal.returns-clause-young_tails
+returns-clause-young_tails c = managed.young-tails
+
+pub returns-clause-cells : goal.returns-clause-cells
+returns-clause-cells c = managed.cells
+
+pub returns-clause-young : goal.returns-clause-young
+returns-clause-young c = managed.young
