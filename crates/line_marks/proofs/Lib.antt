@@ -6,3 +6,4 @@ pub mod HoleStarts
 pub mod MarkedLines
 pub mod SetBits
 pub mod HoleObjects
+mod BornLines

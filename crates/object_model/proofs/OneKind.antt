@@ -27,9 +27,6 @@ pub has_small-code : (s : HeapState) (k : ℕ) (kind : Kind) → HasKind s k kin
 has_small-code s k kind is =
     ap (λ t. is_small_code t (block_word s k % 256)) (and_parts (nat_lt k s.blocks) _ is).0 ∙ ap (is_small_code true) (kind-code s k kind is)
 
--- a Free block has no small objects, and a Bump block has
+-- a Free block has no small objects
 pub has_small-free : (s : HeapState) (k : ℕ) → HasKind s k kinds.Free → has_small s k ≡ false
 has_small-free s k is = has_small-code s k kinds.Free is
-
-pub has_small-bump : (s : HeapState) (k : ℕ) → HasKind s k kinds.Bump → has_small s k ≡ true
-has_small-bump s k is = has_small-code s k kinds.Bump is

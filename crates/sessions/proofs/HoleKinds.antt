@@ -10,14 +10,10 @@ use Rattle.std.proofs.lemmas.List.Sums.{AllPass-from_list_all}
 use Rattle.heap_layout.specs.Zones.{block_start}
 use Rattle.heap_layout.specs.declared.block.Kind.{Kind}
 use Rattle.heap_layout.specs.declared.block.Kind.TheVariants as kinds
-use Rattle.heap_layout.specs.Blocks.{kind_code, code_of}
-use Rattle.heap_layout.proofs.BlockLemmas.{code_parts, kind_code_most}
+use Rattle.heap_layout.specs.Blocks.{kind_code}
 use Rattle.object_model.specs.Objects.{HeapState, HasKind, class_at, is_start, is_pinned, is_unlogged, cell_words}
-use Rattle.object_model.specs.Lawful.{IsLawful, IsClear}
-use Rattle.object_model.specs.Births.{with_block}
-use Rattle.object_model.specs.WorkedHeaps.{unowned}
-use Rattle.object_model.proofs.Blocks as blocks
-use Rattle.object_model.proofs.OneKind.{one-kind, kind-within}
+use Rattle.object_model.specs.Lawful.{IsClear}
+use Rattle.object_model.proofs.OneKind.{one-kind}
 use Rattle.sessions.specs.Plans.{Plan, NoGc, MarkSweep, SemiSpace, GenCopy, Immix, StickyImmix, rules_of}
 use Rattle.sessions.specs.Fitting.{IsTail, IsLineHole, HasLineHole, HasHole, LiesInLineHole, LiesInHole, class_of, class_for, HasCellFor}
 use Rattle.sessions.proofs.Holes.{class-room}
@@ -78,7 +74,7 @@ pub none-above : (size : ℕ) → 2048 < size → class_of size ≡ None
 none-above size large = no-class (class_of size) (λ class e. let room : size ≤ cell_words class = class-room size class e in let most : cell_words class ≤ 2048 = cell-most class in omega arith)
 
 -- the codes of the kinds of blocks that have holes
-abbrev is_holed : ℕ → Bool
+abbrev pub is_holed : ℕ → Bool
 is_holed code = nat_eq code 1 || nat_eq code 2 || nat_eq code 4 || nat_eq code 5
 
 or_first : (a b c : Bool) → IsTrue a → IsTrue (a || b || c)
@@ -132,17 +128,29 @@ module _ (s : HeapState) (k size : ℕ) (clear : IsClear s k) (small : size ≤ 
         same,
       )
 
-pub clear-hole : (p : Plan) (s : HeapState) (k size : ℕ) → HasKind s k (rules_of p).fill → class_at s k ≡ class_for (rules_of p).fill size → IsClear s k → size ≤ 2048
-    → HasHole (rules_of p).fill s k 0 size
-clear-hole NoGc s k size kind class clear small = clear-bump s k size clear small kind
-clear-hole MarkSweep s k size kind class clear small = clear-cells s k size clear small kind class
-clear-hole SemiSpace s k size kind class clear small = clear-bump s k size clear small kind
-clear-hole GenCopy s k size kind class clear small = clear-young s k size clear small kind
-clear-hole Immix s k size kind class clear small = clear-immix s k size clear small kind
-clear-hole StickyImmix s k size kind class clear small = clear-immix s k size clear small kind
+pub clear-hole : (fill : Kind) (s : HeapState) (k size : ℕ) → IsTrue (is_holed (kind_code fill)) → HasKind s k fill → class_at s k ≡ class_for fill size → IsClear s k → size ≤ 2048
+    → HasHole fill s k 0 size
+clear-hole kinds.Bump s k size holed kind class clear small = clear-bump s k size clear small kind
+clear-hole kinds.Young s k size holed kind class clear small = clear-young s k size clear small kind
+clear-hole kinds.Immix s k size holed kind class clear small = clear-immix s k size clear small kind
+clear-hole kinds.Cells s k size holed kind class clear small = clear-cells s k size clear small kind class
+clear-hole kinds.Free s k size holed kind class clear small = absurd (let wrong : false ≡ true = holed in cc)
+clear-hole kinds.Mature s k size holed kind class clear small = absurd (let wrong : false ≡ true = holed in cc)
+clear-hole kinds.LargeHead s k size holed kind class clear small = absurd (let wrong : false ≡ true = holed in cc)
+clear-hole kinds.LargeTail s k size holed kind class clear small = absurd (let wrong : false ≡ true = holed in cc)
+clear-hole kinds.Kept s k size holed kind class clear small = absurd (let wrong : false ≡ true = holed in cc)
+
+-- the mutators of each plan fill blocks with holes
+pub plan-holed : (p : Plan) → IsTrue (is_holed (kind_code (rules_of p).fill))
+plan-holed NoGc = refl
+plan-holed MarkSweep = refl
+plan-holed SemiSpace = refl
+plan-holed GenCopy = refl
+plan-holed Immix = refl
+plan-holed StickyImmix = refl
 
 -- the class of a new block
-few-classes : (fill : Kind) (size : ℕ) → size ≤ 2048 → class_for fill size ≤ 18
+pub few-classes : (fill : Kind) (size : ℕ) → size ≤ 2048 → class_for fill size ≤ 18
 few-classes kinds.Cells size small =
     let least = class-least size small in
     let same : unwrap_or (class_of size) 0 ≡ least.class = ap (λ o. unwrap_or o 0) least.same in
@@ -155,22 +163,6 @@ few-classes kinds.Immix size small = omega arith
 few-classes kinds.LargeHead size small = omega arith
 few-classes kinds.LargeTail size small = omega arith
 few-classes kinds.Kept size small = omega arith
-
--- a Free block that is taken for a size
-pub taken-hole : (p : Plan) (s : HeapState) (k size : ℕ) → IsLawful s → HasKind s k kinds.Free → size ≤ 2048
-    → HasHole (rules_of p).fill (with_block s k (unowned (rules_of p).fill (class_for (rules_of p).fill size))) k 0 size
-taken-hole p s k size right free small =
-    let fill : Kind = (rules_of p).fill in
-    let class : ℕ = class_for fill size in
-    let code : ℕ = code_of (unowned fill class) in
-    let there : k < s.blocks = kind-within s k kinds.Free free in
-    let extent = right.but_lines.order.row.extent in
-    let parts = code_parts (kind_code fill) class 0 code (kind_code_most fill) (few-classes fill size small) refl in
-    clear-hole p (with_block s k (unowned fill class)) k size
-    (blocks.kind-own s k code there extent fill parts.0)
-    (ap (λ v. v / 256 % 256) (blocks.block-set s k code there extent) ∙ parts.1)
-    (blocks.clear-after s (blocks.set_block s k code) (blocks.same_heap s k code there) k (λ line less. blocks.lines-same s k code there k line) (right.but_lines.free k free))
-    small
 
 -- a hole lies in a block of its kind
 pub lies-kind : (fill : Kind) (s : HeapState) (k from size : ℕ) → LiesInHole fill s k from size → HasKind s k fill

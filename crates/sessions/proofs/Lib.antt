@@ -6,6 +6,7 @@ pub mod Holes
 pub mod Counting
 pub mod HoleKinds
 pub mod HoleStarts
+pub mod HoleRooms
 pub mod WorkedFits
 mod Nurseries
 pub mod Soundness

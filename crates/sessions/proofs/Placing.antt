@@ -1,14 +1,14 @@
--- A small object under the plan that collects nothing: where it fits, where it is placed, and when it does not fit.
+-- How many blocks are Free, and what changes where a small object is written.
 use Rattle.std.proofs.Common.{◌≡◌, ◌≢◌, refl, sym, ◌∙◌, ap, subst, ℕ, zero, suc, ◌+◌, ◌<◌, ◌≤◌, ◌⊎◌, inl, inr, arith, Bool, true, false, ◌||◌, IsTrue, List, [], ◌∷◌, length, slice_index, cond, zero-add}
 use Rattle.std.specs.Prelude.{count_by}
 use Rattle.std.specs.List.{range_with_len}
 use Rattle.std.proofs.lemmas.Bool.{or_left, or_right, false_from_ne_true}
 use Rattle.std.proofs.lemmas.List.Sums.{sum_by-cons}
 use Rattle.std.proofs.lemmas.List.FromFn.{get_or-range_with_len, length-range_with_len}
-use Rattle.heap_layout.specs.Zones.{BlockWords, first, heap_of, block_at, offset_at, block_start}
+use Rattle.heap_layout.specs.Zones.{BlockWords, first, heap_of, block_at, offset_at}
 use Rattle.heap_layout.specs.declared.block.Kind.TheVariants as kinds
 use Rattle.ideal_heap.specs.declared.name.Name.{Name}
-use Rattle.object_model.specs.Objects.{HeapState, with_words, word_at, block_word, has_kind, HasKind, is_pinned, is_unlogged, IsHeld, name_at, size_of}
+use Rattle.object_model.specs.Objects.{HeapState, with_words, word_at, block_word, has_kind, HasKind, is_pinned, is_unlogged, IsHeld, size_of}
 use Rattle.object_model.specs.Lawful.{IsWellFormed}
 use Rattle.object_model.specs.Changes.{WritesObject}
 use Rattle.object_model.proofs.Births as births
@@ -16,11 +16,9 @@ use Rattle.object_model.proofs.Births.{Adds}
 use Rattle.object_model.specs.Births.{IsRoom}
 use Rattle.object_model.proofs.Blocks as blocks
 use Rattle.object_model.proofs.Blocks.{SameHeap}
-use Rattle.object_model.proofs.OneKind.{kind-within, one-kind, has_small-bump}
-use Rattle.ideal_heap.specs.Names.{IsName}
-use Rattle.sessions.specs.Fitting.{IsTail, free_of}
+use Rattle.object_model.proofs.OneKind.{kind-within}
+use Rattle.sessions.specs.Fitting.{free_of}
 use Rattle.sessions.specs.Sessions.{ChangesBlocks, AddsObject}
-use Rattle.sessions.proofs.Tails.{place-block, place-offset, place-address, place-apart}
 
 -- an element that passes is counted, and if none passes the count is 0
 abbrev pub one_if : Bool → ℕ
@@ -114,29 +112,3 @@ module _ (s : HeapState) (w1 w2 : List ℕ) (same : SameHeap s w1) (low : ℕ) (
         let outside : (i < a) ⊎ (a + size_of refs nums ≤ i) = elim away as (λ _. (i < a) ⊎ (a + size_of refs nums ≤ i)) [ inl before ↦ inl (omega arith) | inr beyond ↦ inr (omega arith) ] in
         writes.others i outside (λ e. let zone = (births.start-in-zone between w2 a n refs nums writes room.vacant.address).0 in omega arith) ∙ same.words i base;
   }
-
--- the front of a tail with room is room for the object
-pub room-in-tail : (s : HeapState) (order : IsWellFormed s) (k at : ℕ) (bump : HasKind s k kinds.Bump) (tail : IsTail s k at) (n : Name) (refs nums : ℕ)
-    → at + size_of refs nums ≤ 4096 → size_of refs nums ≤ 2048 → refs ≤ 1024 → nums ≤ 60000 → IsName n → ((x : ℕ) → IsHeld s x → name_at s x ≢ n)
-    → IsRoom s (block_start s.blocks k + at) n refs nums
-room-in-tail s order k at bump tail n refs nums fits small few_refs few_nums named fresh =
-    let block : block_at s.blocks (block_start s.blocks k + at) ≡ k = place-block s order k at (size_of refs nums) bump tail fits (omega arith) in
-    let offset : offset_at s.blocks (block_start s.blocks k + at) ≡ at = place-offset s order k at (size_of refs nums) bump tail fits (omega arith) in
-    let bump' : HasKind s (block_at s.blocks (block_start s.blocks k + at)) kinds.Bump = subst (λ (q : ℕ). HasKind s q kinds.Bump) (sym block) bump in
-    record {
-      vacant = record {
-        address = place-address s order k at (size_of refs nums) bump tail fits (omega arith);
-        named = named;
-        few_refs = few_refs;
-        few_nums = few_nums;
-        apart = place-apart s order k at (size_of refs nums) bump tail fits (omega arith);
-        fresh = fresh;
-      };
-      small = small;
-      place = record {
-        address = place-address s order k at (size_of refs nums) bump tail fits (omega arith);
-        within = omega arith;
-        kind = has_small-bump s _ bump';
-        cell = λ is. absurd (let same = one-kind s _ kinds.Bump kinds.Cells bump' is in cc);
-      };
-    }

@@ -32,14 +32,6 @@ from-large r s size large fits = subst (FitsIf r s size) (sym (lt-leb size 2048 
 pub to-large : (r : Rules) (s : HeapState) (size : ℕ) → 2048 < size → Fits r s size → FitsLarge r s (blocks_for size)
 to-large r s size large fits = subst (FitsIf r s size) (lt-leb size 2048 large) fits
 
-pub unsupported : (p : Plan) (s : HeapState) (n : ℕ) → FitsLarge (rules_of p) s n → ⊥
-unsupported NoGc s n fits = let wrong : false ≡ true = fits.placed in cc
-unsupported MarkSweep s n fits = let wrong : false ≡ true = fits.placed in cc
-unsupported SemiSpace s n fits = let wrong : false ≡ true = fits.placed in cc
-unsupported GenCopy s n fits = let wrong : false ≡ true = fits.placed in cc
-unsupported Immix s n fits = let wrong : false ≡ true = fits.placed in cc
-unsupported StickyImmix s n fits = let wrong : false ≡ true = fits.placed in cc
-
 -- the object that may begin at this offset of block k ends by `at`
 abbrev pub ends_by : HeapState → ℕ → ℕ → ℕ → Bool
 ends_by s k at offset = not (is_start s (block_start s.blocks k + offset)) || nat_le (offset + size_at s (block_start s.blocks k + offset)) at
@@ -119,9 +111,12 @@ full-grant GenCopy grant = (let wrong : 5 < 0 = grant in omega arith)
 full-grant Immix grant = (let wrong : 1 < 0 = grant in omega arith)
 full-grant StickyImmix grant = (let wrong : 1 < 0 = grant in omega arith)
 
+full-run : (k n : ℕ) → 1 ≤ n → IsFreeRun full_heap k n → ⊥
+full-run k n some run = (let wrong : kind_code kinds.Free ≡ 1 = full-other kinds.Free (k + 0) (run.free 0 (omega arith)) in omega arith)
+
 pub full-none : (p : Plan) (size : ℕ) → 1 ≤ size → Fits (rules_of p) full_heap size → ⊥
 full-none p size some fits = elim (cases_lt 2048 size) as (λ _. ⊥) [
-  | inl large ↦ unsupported p full_heap (blocks_for size) (to-large (rules_of p) full_heap size large fits)
+  | inl large ↦ (let found = to-large (rules_of p) full_heap size large fits in full-run found.block (blocks_for size) (omega arith) found.run)
   | inr small ↦ elim (to-small (rules_of p) full_heap size small fits) as (λ _. ⊥) [
     | inl hole ↦ full-hole (rules_of p).fill hole.block hole.offset size some hole.hole
     | inr grant ↦ full-grant p grant

@@ -156,9 +156,8 @@ pub record HasSomeHole (fill : Kind) (s : HeapState) (size : ℕ) : Type 0 where
 abbrev pub FitsSmall : Rules → HeapState → ℕ → Type 0
 FitsSmall r s size = HasSomeHole r.fill s size ⊎ MayGrant r.reserve s
 
--- the plan supports large objects, and there is a run of n Free blocks that may be granted
+-- there is a run of n Free blocks that may be granted
 pub record FitsLarge (r : Rules) (s : HeapState) (n : ℕ) : Type 0 where
-  pub placed : IsTrue r.large
   pub granted : MayGrantRun r.reserve s n
   pub block : ℕ
   pub run : IsFreeRun s block n

@@ -35,8 +35,6 @@ pub record Rules : Type 0 where
   pub young : Bool
   -- whether blocks are filled through the clear lines between objects
   pub lines : Bool
-  -- whether objects above 2,048 words are supported
-  pub large : Bool
   -- the kinds of the blocks that mutators and tracing workers fill; copy is Free if workers fill none
   pub fill : Kind
   pub copy : Kind
@@ -48,7 +46,6 @@ rules_of NoGc = record {
   moves = false;
   young = false;
   lines = false;
-  large = false;
   fill = kinds.Bump;
   copy = kinds.Free;
   reserve = Nothing;
@@ -58,7 +55,6 @@ rules_of MarkSweep = record {
   moves = false;
   young = false;
   lines = false;
-  large = false;
   fill = kinds.Cells;
   copy = kinds.Free;
   reserve = Nothing;
@@ -68,7 +64,6 @@ rules_of SemiSpace = record {
   moves = true;
   young = false;
   lines = false;
-  large = false;
   fill = kinds.Bump;
   copy = kinds.Bump;
   reserve = Copies;
@@ -78,7 +73,6 @@ rules_of GenCopy = record {
   moves = true;
   young = true;
   lines = false;
-  large = false;
   fill = kinds.Young;
   copy = kinds.Mature;
   reserve = Copies;
@@ -88,7 +82,6 @@ rules_of Immix = record {
   moves = true;
   young = false;
   lines = true;
-  large = false;
   fill = kinds.Immix;
   copy = kinds.Immix;
   reserve = Headroom;
@@ -98,7 +91,6 @@ rules_of StickyImmix = record {
   moves = true;
   young = true;
   lines = true;
-  large = false;
   fill = kinds.Immix;
   copy = kinds.Immix;
   reserve = Headroom;

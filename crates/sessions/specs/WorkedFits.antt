@@ -1,11 +1,10 @@
 -- Worked heaps for holes, counts and grants.
-use Rattle.std.specs.Prelude.{ℕ, ◌+◌, ◌-◌, true, List, [], ◌∷◌, ◌++◌, map, replicate}
+use Rattle.std.specs.Prelude.{ℕ, ◌+◌, ◌-◌, List, [], ◌∷◌, ◌++◌, map, replicate}
 use Rattle.std.specs.List.{range_with_len}
 use Rattle.heap_layout.specs.declared.block.BlockWord.{BlockWord}
 use Rattle.heap_layout.specs.declared.block.Kind.TheVariants as kinds
 use Rattle.object_model.specs.Objects.{HeapState}
 use Rattle.object_model.specs.WorkedHeaps.{WorkedObject, unowned, plain_object, build_heap}
-use Rattle.sessions.specs.Plans.{Plan, Rules, rules_of}
 
 -- a new heap that was never collected, with these blocks and objects
 abbrev pub heap_with : List BlockWord → List WorkedObject → HeapState
@@ -42,7 +41,3 @@ full_heap = heap_with (replicate 4 (unowned kinds.Bump 0))
 abbrev pub split_heap : HeapState
 split_heap = heap_with (unowned kinds.Free 0 ∷ unowned kinds.Bump 0 ∷ unowned kinds.Free 0 ∷ unowned kinds.Bump 0 ∷ [])
     (plain_object 1 0 1 [] 1 0 ∷ plain_object 3 0 2 [] 1 0 ∷ [])
-
--- the plan's rules, with large objects
-abbrev pub with_large : Plan → Rules
-with_large p = record (rules_of p) { large = true }

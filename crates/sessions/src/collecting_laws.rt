@@ -55,8 +55,8 @@ pub fn holes_and_lines_are_counted()
 
 /// A hole of lines begins where `is_hole_start` says so, and nowhere else.
 pub fn hole_starts_begin_holes()
-    ensures hole { (s : HeapState) (k line : ℕ) → line < BLOCK_LINES → IsTrue (is_hole_start s k line)
-        → (n : ℕ) × IsLineHole s k line n }
+    ensures hole { (s : HeapState) (k line : ℕ) → line < BLOCK_LINES
+        → IsTrue (is_hole_start s k line) → (n : ℕ) × IsLineHole s k line n }
     ensures start { (s : HeapState) (k line n : ℕ) → IsLineHole s k line n
         → IsTrue (is_hole_start s k line) }
 {}

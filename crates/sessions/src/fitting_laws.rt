@@ -12,14 +12,14 @@ ghost use Rattle.object_model.specs.WorkedHeaps.{unowned};
 ghost use Rattle.sessions.specs.Plans.{Plan, NoGc, SemiSpace, GenCopy, Immix, Rules, Reserve, Nothing, Copies, Headroom, rules_of, plan_word};
 ghost use Rattle.sessions.specs.Grants.{BlockCounts, HoldsReserve, IsGrantable, IsRunGrantable, after_taking, all_plans, counts_with};
 ghost use Rattle.sessions.specs.Fitting.{Fits, MayGrant, MayGrantRun, IsFreeRun, IsTail, IsLineHole, class_of, class_for, HasHole, LiesInHole, HasCellFor, counts_of, total_of, used_of, headroom_of, allowance_of};
-ghost use Rattle.sessions.specs.WorkedFits.{mixed_heap, heap_used, used_heap, full_heap, split_heap, with_large};
+ghost use Rattle.sessions.specs.WorkedFits.{mixed_heap, heap_used, used_heap, full_heap, split_heap};
 
 use heap_layout::BLOCK_WORDS;
 use object_model::MAX_MEDIUM_WORDS;
 
 /// The six plans as data, in the order nogc, marksweep, semispace, gencopy, immix, stickyimmix:
 /// which reclaim, move objects, have young objects, and fill blocks through clear lines; which
-/// kinds of blocks mutators and workers fill; what is held back. No plan supports large objects.
+/// kinds of blocks mutators and workers fill; what is held back.
 pub fn plans_as_data()
     ensures words { map plan_word all_plans ≡ codes "nogc" ∷ codes "marksweep"
         ∷ codes "semispace" ∷ codes "gencopy" ∷ codes "immix" ∷ codes "stickyimmix" ∷ [] }
@@ -31,7 +31,6 @@ pub fn plans_as_data()
         ≡ false ∷ false ∷ false ∷ true ∷ false ∷ true ∷ [] }
     ensures lines { map (λ p. (rules_of p).lines) all_plans
         ≡ false ∷ false ∷ false ∷ false ∷ true ∷ true ∷ [] }
-    ensures large { map (λ p. (rules_of p).large) all_plans ≡ replicate 6 false }
     ensures fills { map (λ p. (rules_of p).fill) all_plans ≡ kinds.Bump ∷ kinds.Cells
         ∷ kinds.Bump ∷ kinds.Young ∷ kinds.Immix ∷ kinds.Immix ∷ [] }
     ensures copies { map (λ p. (rules_of p).copy) all_plans ≡ kinds.Free ∷ kinds.Free
@@ -101,8 +100,8 @@ pub fn holes_by_kinds()
         → HasCellFor fill s k from size }
 {}
 
-/// Which sizes fit. Up to `MAX_MEDIUM_WORDS` a hole with room or a Free block to grant serves.
-/// Above it a run of Free blocks to grant serves, if the plan supports large objects. No plan does.
+/// Which sizes fit, under each plan. Up to `MAX_MEDIUM_WORDS` a hole with room or a Free block to
+/// grant serves, and nothing else. Above it a run of Free blocks to grant serves, and nothing else.
 /// Nothing fits a full heap.
 pub fn fits_by_size()
     ensures hole { (r : Rules) (s : HeapState) (k at size : ℕ) → size ≤ MAX_MEDIUM_WORDS
@@ -110,13 +109,14 @@ pub fn fits_by_size()
     ensures grant { (r : Rules) (s : HeapState) (size : ℕ) → size ≤ MAX_MEDIUM_WORDS
         → MayGrant r.reserve s → Fits r s size }
     ensures run { (r : Rules) (s : HeapState) (k size : ℕ) → MAX_MEDIUM_WORDS < size
-        → r.large ≡ true → IsFreeRun s k (blocks_for size)
-        → MayGrantRun r.reserve s (blocks_for size) → Fits r s size }
+        → IsFreeRun s k (blocks_for size) → MayGrantRun r.reserve s (blocks_for size)
+        → Fits r s size }
     ensures neither { (r : Rules) (s : HeapState) (size : ℕ) → Fits r s size
         → ((k at : ℕ) → HasHole r.fill s k at size → ⊥) → (MayGrant r.reserve s → ⊥)
         → MAX_MEDIUM_WORDS < size }
-    ensures large { (p : Plan) (s : HeapState) (size : ℕ) → MAX_MEDIUM_WORDS < size
-        → Fits (rules_of p) s size → ⊥ }
+    ensures large { (r : Rules) (s : HeapState) (size : ℕ) → MAX_MEDIUM_WORDS < size
+        → Fits r s size → MayGrantRun r.reserve s (blocks_for size)
+        × ((k : ℕ) × IsFreeRun s k (blocks_for size)) }
     ensures full { (p : Plan) (size : ℕ) → 1 ≤ size → Fits (rules_of p) full_heap size
         → ⊥ }
 {}
@@ -184,16 +184,16 @@ pub fn fits_of_worked_heaps()
     ensures other_kind { Fits (rules_of GenCopy) (used_heap 4) 3 → ⊥ }
     ensures granted { Fits (rules_of GenCopy) (used_heap 1) 2048 }
     ensures held_back { Fits (rules_of GenCopy) (used_heap 2) 3 → ⊥ }
-    ensures large { Fits (with_large NoGc) (used_heap 4) 2048
-        × (Fits (with_large NoGc) (used_heap 4) 2049 → ⊥) }
-    ensures blocks { Fits (with_large NoGc) (used_heap 2) 8192
-        × (Fits (with_large NoGc) (used_heap 2) 8193 → ⊥) }
-    ensures copied { Fits (with_large SemiSpace) (used_heap 1) 8192
-        × (Fits (with_large SemiSpace) (used_heap 1) 8193 → ⊥) }
-    ensures headed { Fits (with_large Immix) (used_heap 1) 8192
-        × (Fits (with_large Immix) (used_heap 1) 8193 → ⊥) }
-    ensures split { Fits (with_large NoGc) split_heap 4096
-        × (Fits (with_large NoGc) split_heap 4097 → ⊥) }
+    ensures large { Fits (rules_of NoGc) (used_heap 4) 2048
+        × (Fits (rules_of NoGc) (used_heap 4) 2049 → ⊥) }
+    ensures blocks { Fits (rules_of NoGc) (used_heap 2) 8192
+        × (Fits (rules_of NoGc) (used_heap 2) 8193 → ⊥) }
+    ensures copied { Fits (rules_of SemiSpace) (used_heap 1) 8192
+        × (Fits (rules_of SemiSpace) (used_heap 1) 8193 → ⊥) }
+    ensures headed { Fits (rules_of Immix) (used_heap 1) 8192
+        × (Fits (rules_of Immix) (used_heap 1) 8193 → ⊥) }
+    ensures split { Fits (rules_of NoGc) split_heap 4096
+        × (Fits (rules_of NoGc) split_heap 4097 → ⊥) }
 {}
 
 /// Holes of a worked heap: the tails after the last objects, the runs of clear lines, and the free

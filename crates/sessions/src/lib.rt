@@ -35,7 +35,7 @@ pub use laws::{
     refusals_follow_a_full_collection, sessions, sessions_count, sessions_of_one,
 };
 pub use order_laws::{epochs_go_on, epochs_keep_the_order};
-pub use placement_laws::{large_objects_are_placed, tails_have_room};
+pub use placement_laws::{holes_have_room, large_objects_are_placed};
 pub use stop_laws::{
     a_gc_makes_one_full_collection, epochs_add_entries, meets_are_replied, needs_are_served,
     placed_objects_are_blank, places_add_one_object, places_are_determined, sessions_begin_empty,

@@ -2,23 +2,23 @@
 
 ghost use Rattle.std.specs.Prelude.{ℕ, ◌≢◌, ◌+◌, ◌≤◌};
 ghost use Rattle.heap_layout.specs.Zones.{block_start};
-ghost use Rattle.heap_layout.specs.declared.block.Kind.TheVariants as kinds;
+ghost use Rattle.heap_layout.specs.declared.block.Kind.{Kind};
 ghost use Rattle.ideal_heap.specs.declared.name.Name.{Name};
 ghost use Rattle.ideal_heap.specs.Names.{IsName};
-ghost use Rattle.object_model.specs.Objects.{HeapState, HasKind, IsHeld, name_at, size_of, blocks_for};
-ghost use Rattle.object_model.specs.Lawful.{IsWellFormed};
+ghost use Rattle.object_model.specs.Objects.{HeapState, IsHeld, name_at, size_of, blocks_for};
+ghost use Rattle.object_model.specs.Lawful.{IsWellFormed, LineBitsAreExact};
 ghost use Rattle.object_model.specs.Births.{IsRoom, IsLargeRoom, WritesLargeObject};
-ghost use Rattle.sessions.specs.Fitting.{IsTail, IsFreeRun};
+ghost use Rattle.sessions.specs.Fitting.{HasHole, IsFreeRun};
 ghost use Rattle.sessions.specs.Sessions.{PlacesLarge, AddsObject, UsesRun, ChangesBlocks};
 
-use heap_layout::BLOCK_WORDS;
 use ideal_heap::{MAX_NUMS, MAX_REFS};
 use object_model::MAX_MEDIUM_WORDS;
 
-/// There is room for a small or medium object at the start of a Bump block's tail, if it fits.
-pub fn tails_have_room()
-    ensures { (s : HeapState) (k at refs nums : ℕ) (n : Name) → IsWellFormed s
-        → HasKind s k kinds.Bump → IsTail s k at → at + size_of refs nums ≤ BLOCK_WORDS
+/// There is room for a small or medium object at the start of each hole with room: in the tail of a
+/// block, in a free cell, and in a run of clear lines, if the line bits are exact.
+pub fn holes_have_room()
+    ensures { (fill : Kind) (s : HeapState) (k at refs nums : ℕ) (n : Name) → IsWellFormed s
+        → LineBitsAreExact s k → HasHole fill s k at (size_of refs nums)
         → size_of refs nums ≤ MAX_MEDIUM_WORDS → refs ≤ MAX_REFS → nums ≤ MAX_NUMS
         → IsName n → ((x : ℕ) → IsHeld s x → name_at s x ≢ n)
         → IsRoom s (block_start s.blocks k + at) n refs nums }

@@ -1,7 +1,5 @@
 use Rattle.std.proofs.Common.{◌<◌, inl, inr}
 use Rattle.std.proofs.lemmas.Bool.{cases_lt}
-use Rattle.object_model.specs.Objects.{blocks_for}
-use Rattle.sessions.specs.Plans.{rules_of}
 use Rattle.sessions.proofs.WorkedFits as worked
 use Rattle.sessions.proofs.fitting_laws.fits_by_size.Goals as goal
 
@@ -12,7 +10,7 @@ pub returns-clause-grant : goal.returns-clause-grant
 returns-clause-grant c r s size small grant = worked.from-small r s size small (inr grant)
 
 pub returns-clause-run : goal.returns-clause-run
-returns-clause-run c r s k size large placed run grant = worked.from-large r s size large (record { placed = placed; granted = grant; block = k; run = run })
+returns-clause-run c r s k size large run grant = worked.from-large r s size large (record { granted = grant; block = k; run = run })
 
 pub returns-clause-neither : goal.returns-clause-neither
 returns-clause-neither c r s size fits no_hole no_grant = elim (cases_lt 2048 size) as (λ _. 2048 < size) [
@@ -21,7 +19,7 @@ returns-clause-neither c r s size fits no_hole no_grant = elim (cases_lt 2048 si
 ]
 
 pub returns-clause-large : goal.returns-clause-large
-returns-clause-large c p s size large fits = worked.unsupported p s (blocks_for size) (worked.to-large (rules_of p) s size large fits)
+returns-clause-large c r s size large fits = (let found = worked.to-large r s size large fits in (found.granted, (found.block, found.run)))
 
 pub returns-clause-full : goal.returns-clause-full
 returns-clause-full c = worked.full-none

@@ -16,9 +16,6 @@ returns-clause-young c = refl
 pub returns-clause-lines : goal.returns-clause-lines
 returns-clause-lines c = refl
 
-pub returns-clause-large : goal.returns-clause-large
-returns-clause-large c = refl
-
 pub returns-clause-fills : goal.returns-clause-fills
 returns-clause-fills c = refl
 
