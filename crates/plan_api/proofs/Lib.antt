@@ -9,3 +9,6 @@ pub mod Viewing
 pub mod CopiedKinds
 pub mod EvacuationLaws
 pub mod ReleasedBlocks
+pub mod FreeRuns
+pub mod CellParts
+pub mod TestedRows

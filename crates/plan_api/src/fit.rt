@@ -1,8 +1,10 @@
-//! The test whether an object fits a heap.
+//! The tests whether an object fits a heap.
 
 ghost use Rattle.std.specs.Prelude.{◌≡◌, ◌↔◌, ◌⊎◌, ◌<◌, ◌≤◌, ℕ, IsTrue};
 ghost use Rattle.object_model.specs.Heaps.{heap_state};
-ghost use Rattle.sessions.specs.Fitting.{HasHole, HasSomeHole, MayGrant};
+ghost use Rattle.object_model.specs.Objects.{size_of, blocks_for as blocks_for_size};
+ghost use Rattle.sessions.specs.Plans.{Rules};
+ghost use Rattle.sessions.specs.Fitting.{HasHole, HasSomeHole, MayGrant, MayGrantRun, IsFreeRun, Fits};
 ghost use Rattle.plan_api.specs.Counting.{session_reserve};
 
 use crate::counts::Reserve;
@@ -10,6 +12,8 @@ use crate::grants::block_counts;
 use crate::holes::first_hole;
 use crate::readers::view;
 use heap_layout::Kind;
+use ideal_heap::{MAX_NUMS, MAX_REFS};
+use large_space::{blocks_for, find_run};
 use object_model::{Heap, MAX_MEDIUM_WORDS};
 
 /// Whether the block has a hole with room for `size` words.
@@ -46,4 +50,32 @@ pub fn fits_small(heap: &Heap, fill: Kind, reserve: Reserve, size: u32) -> bool
         ⊎ MayGrant (session_reserve reserve) (heap_state heap.now)) }
 {
     block_counts(heap).is_grantable(reserve) || has_hole(heap, fill, size)
+}
+
+/// Whether a large object of `size` words fits: there is a run of as many Free blocks as it needs,
+/// and they may be granted. Reads block words alone.
+pub fn has_run(heap: &Heap, reserve: Reserve, size: u32) -> bool
+    requires least { MAX_MEDIUM_WORDS < size }
+    requires most { size ≤ size_of MAX_REFS MAX_NUMS }
+    ensures { IsTrue result ↔ (MayGrantRun (session_reserve reserve) (heap_state heap.now)
+        (blocks_for_size size)
+        × ((k : ℕ) × IsFreeRun (heap_state heap.now) k (blocks_for_size size))) }
+{
+    let count = blocks_for(size);
+    block_counts(heap).is_run_grantable(reserve, count)
+        && find_run(heap.words(), heap.layout(), count).is_some()
+}
+
+/// Whether an object of `size` words fits: up to `MAX_MEDIUM_WORDS` in a hole or a Free block,
+/// above in a run of Free blocks.
+pub fn fits(heap: &Heap, fill: Kind, reserve: Reserve, size: u32) -> bool
+    requires least { 3 ≤ size }
+    requires most { size ≤ size_of MAX_REFS MAX_NUMS }
+    ensures { (r : Rules) → r.fill ≡ fill → r.reserve ≡ session_reserve reserve
+        → IsTrue result ↔ Fits r (heap_state heap.now) size }
+{
+    if size > MAX_MEDIUM_WORDS {
+        return has_run(heap, reserve, size);
+    }
+    fits_small(heap, fill, reserve, size)
 }

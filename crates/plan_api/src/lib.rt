@@ -20,7 +20,7 @@ pub use cells::class_for;
 pub use counts::{BlockCounts, Reserve};
 pub use evacuation::{Fills, copied_blocks, may_leave, no_blocks};
 pub use evacuation_laws::{evacuated_blocks, kept_blocks};
-pub use fit::{fits_small, has_hole};
+pub use fit::{fits, fits_small, has_hole, has_run};
 pub use flags::PlanFlags;
 pub use grants::block_counts;
 pub use holes::first_hole;
@@ -29,8 +29,10 @@ pub use laws::{
     taken_blocks_are_counted, views_show_blocks,
 };
 pub use plan::Plan;
-pub use readers::{block_word_in, view, view_in};
+pub use readers::{block_word_in, hole_in_block, view, view_in};
 pub use release_laws::releases_are_sweeps;
 
+#[cfg(test)]
+mod search_tests;
 #[cfg(test)]
 mod tests;

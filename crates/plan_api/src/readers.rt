@@ -1,18 +1,22 @@
 //! The functions that read blocks of a heap's row. Plans decide by their results alone.
 
-ghost use Rattle.std.specs.Prelude.{◌≡◌, ◌+◌, ◌*◌, ◌<◌, ℕ, IsTrue, length, slice_index};
+ghost use Rattle.std.specs.Prelude.{◌≡◌, ◌+◌, ◌*◌, ◌<◌, ◌≤◌, ℕ, IsTrue, length, slice_index};
 ghost use Rattle.heap_layout.specs.Zones.{first, row_words, BlockWords, StartBits};
 ghost use Rattle.heap_layout.specs.Blocks.{code_of, is_block_code, IsValid};
 ghost use Rattle.object_model.specs.Objects.{state_over, block_word};
 ghost use Rattle.object_model.specs.Lawful.{IsReadableBlock};
 ghost use Rattle.object_model.specs.Heaps.{heap_state};
+ghost use Rattle.block_sweeps.specs.Sweeping.{AreApart};
 ghost use Rattle.plan_api.specs.Views.{IsViewOf};
+ghost use Rattle.plan_api.specs.Holes.{IsFirstHole};
 
 use crate::block_view::BlockView;
+use crate::holes::first_hole;
 use block_sweeps::object_size;
-use heap_layout::{BlockWord, Layout, decode};
+use cell_space::{cell_size, class_of, next_cell};
+use heap_layout::{BlockWord, Kind, Layout, Region, decode};
 use line_marks::{last_bit, line_words};
-use object_model::Heap;
+use object_model::{Heap, MAX_MEDIUM_WORDS};
 use side_meta::Words;
 
 /// The view of a block of a heap.
@@ -41,6 +45,41 @@ pub fn view_in<W: Words>(words: &W, layout: &Layout, block: u32) -> BlockView
         starts,
         end,
     }
+}
+
+/// The first hole of a block with room for `size` words, as `first_hole` finds it in the block's
+/// view. Reads the block word alone if kind or class do not suit; of a block of cells it reads
+/// start words up to that of the first free cell, and no object.
+pub fn hole_in_block<W: Words>(
+    words: &W,
+    layout: &Layout,
+    fill: Kind,
+    block: u32,
+    size: u32,
+) -> Option<Region>
+    requires block { IsReadableBlock (state_over (W.words words.now) layout.now 0 0) block }
+    requires apart { AreApart (state_over (W.words words.now) layout.now 0 0) block }
+    requires least { 3 ≤ size }
+    requires most { size ≤ MAX_MEDIUM_WORDS }
+    ensures { (number base : ℕ) → IsFirstHole fill (state_over
+        (W.words words.now) layout.now number base) block 0 size result }
+{
+    let word = block_word_in(words, layout, block);
+    if word.kind != fill {
+        return None;
+    }
+    if fill != Kind::Cells {
+        return first_hole(fill, &view_in(words, layout, block), 0, size);
+    }
+    let class = class_of(size)?;
+    if class != word.class {
+        return None;
+    }
+    let next = next_cell(words, layout, block, class, 0)?;
+    Some(Region {
+        next,
+        end: next + cell_size(class),
+    })
 }
 
 /// The kind, class and owner of a block of the row `words`, whose block word must be valid.

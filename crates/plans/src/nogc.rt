@@ -8,10 +8,9 @@ ghost use Rattle.std.proofs.Common.{refl};
 
 use crate::release::release;
 use heap_layout::{Kind, Layout, Region};
-use object_model::{Collect, Heap, MAX_MEDIUM_WORDS};
+use object_model::{Collect, Heap};
 use plan_api::{
-    BlockView, Plan, PlanFlags, Reserve, block_counts, block_word_in, first_hole, fits_small,
-    no_blocks,
+    BlockView, Plan, PlanFlags, Reserve, block_counts, block_word_in, first_hole, fits, no_blocks,
 };
 use side_meta::Words;
 use std::alloc::{AllocError, Global};
@@ -69,7 +68,7 @@ impl Plan for NoGc {
     }
 
     fn fits(heap: &Heap, size: u32) -> bool {
-        size <= MAX_MEDIUM_WORDS && fits_small(heap, Kind::Bump, NoGc::reserve(), size)
+        fits(heap, Kind::Bump, NoGc::reserve(), size)
     }
 
     fn kind(_heap: &Heap) -> Collect {

@@ -8,10 +8,10 @@ ghost use Rattle.std.proofs.Common.{refl};
 
 use crate::release::{is_kept, release};
 use heap_layout::{Kind, Layout, Region};
-use object_model::{Collect, Heap, MAX_MEDIUM_WORDS};
+use object_model::{Collect, Heap};
 use plan_api::{
     BlockView, Fills, Plan, PlanFlags, Reserve, block_counts, block_word_in, copied_blocks,
-    first_hole, fits_small, may_leave,
+    first_hole, fits, may_leave,
 };
 use side_meta::Words;
 use std::alloc::{AllocError, Global};
@@ -76,7 +76,7 @@ impl Plan for SemiSpace {
     }
 
     fn fits(heap: &Heap, size: u32) -> bool {
-        size <= MAX_MEDIUM_WORDS && fits_small(heap, Kind::Bump, SemiSpace::reserve(), size)
+        fits(heap, Kind::Bump, SemiSpace::reserve(), size)
     }
 
     fn kind(_heap: &Heap) -> Collect {

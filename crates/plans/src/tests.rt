@@ -2,20 +2,20 @@
 
 ghost use Rattle.std.specs.Prelude.{◌<◌};
 
-use crate::{MarkSweep, NoGc};
+use crate::{MarkSweep, NoGc, SemiSpace};
 use heap_layout::{BlockWord, Kind, Layout, Region};
 use object_model::{Collect, Heap};
 use plan_api::{BlockView, Plan, PlanFlags, Reserve, plans_hold_reserves};
 use std::test::Fail;
 
-// The allowance of an empty heap, and whether objects of 3, 2,048 and 2,049 words fit.
-fn asks<P: Plan>(heap: &Heap) -> (u32, bool, bool, bool) {
+// The allowance of an empty heap, whether objects of 3, 2,048 and 2,049 words fit, and whether one
+// of 61,027 words does, which needs 15 blocks.
+fn asks<P: Plan>(heap: &Heap) -> (u32, [bool; 3], bool) {
     plans_hold_reserves::<P>();
     (
         P::allowance(heap),
-        P::fits(heap, 3),
-        P::fits(heap, 2048),
-        P::fits(heap, 2049),
+        [P::fits(heap, 3), P::fits(heap, 2048), P::fits(heap, 2049)],
+        P::fits(heap, 61_027),
     )
 }
 
@@ -29,11 +29,11 @@ fn nogc(rt: HostRuntime) -> Result<(), Fail> {
     );
     assert_eq!(rt; NoGc::reserve(), Reserve::Nothing);
     assert_eq!(rt; NoGc::class_for(2048), 0);
-    for blocks in [4, 5, 16] {
+    for (blocks, largest) in [(4, false), (14, false), (15, true), (16, true)] {
         let heap = Heap::new(rt.alloc(), Layout::new(blocks)?)?;
         assert_eq!(rt;
             asks::<NoGc>(&heap),
-            (blocks, true, true, false),
+            (blocks, [true; 3], largest),
             "of {blocks}"
         );
         assert_eq!(rt; NoGc::kind(&heap), Collect::Full);
@@ -82,17 +82,30 @@ fn marksweep(rt: HostRuntime) -> Result<(), Fail> {
         (Kind::Cells, Kind::Free)
     );
     assert_eq!(rt; MarkSweep::reserve(), Reserve::Nothing);
-    for blocks in [4, 5, 16] {
+    for (blocks, largest) in [(4, false), (14, false), (15, true), (16, true)] {
         let heap = Heap::new(rt.alloc(), Layout::new(blocks)?)?;
         assert_eq!(rt;
             asks::<MarkSweep>(&heap),
-            (blocks, true, true, false),
+            (blocks, [true; 3], largest),
             "of {blocks}"
         );
         assert_eq!(rt; MarkSweep::kind(&heap), Collect::Full);
     }
     for (size, class) in [(3, 0), (4, 0), (5, 1), (1536, 17), (1537, 18), (2048, 18)] {
         assert_eq!(rt; MarkSweep::class_for(size), class, "for {size}");
+    }
+    Ok(())
+}
+
+#[test]
+fn semispace(rt: HostRuntime) -> Result<(), Fail> {
+    for (blocks, allowance, largest) in [(4, 2, false), (14, 7, false), (15, 7, true)] {
+        let heap = Heap::new(rt.alloc(), Layout::new(blocks)?)?;
+        assert_eq!(rt;
+            asks::<SemiSpace>(&heap),
+            (allowance, [true; 3], largest),
+            "of {blocks}"
+        );
     }
     Ok(())
 }

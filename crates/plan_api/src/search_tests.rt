@@ -1,0 +1,238 @@
+//! Tests of what is found by words alone: holes of block 1 in rows of 4 blocks, and runs in heaps
+//! of 8 blocks.
+
+use crate::{Reserve, first_hole, fits, fits_small, has_run, hole_in_block, view_in};
+use block_sweeps::is_releasable;
+use heap_layout::{BLOCK_WORDS, BlockWord, CLASS_UNIT, Kind, Layout, Region};
+use object_model::Heap;
+use std::alloc::{AllocError, Global};
+use std::test::Fail;
+
+/// A row with objects of 5 words at these offsets of block 1, which has its first line marked.
+fn row_with(
+    alloc: Global,
+    layout: &Layout,
+    kind: Kind,
+    class: u32,
+    offsets: &[u32],
+) -> Result<Vec<u64>, AllocError> {
+    let count = layout.words() as usize;
+    let mut words = Vec::with_capacity(alloc, count)?;
+    words.resize(count, 0)?;
+    put(
+        &mut words,
+        layout.block_at(1),
+        kind as u64 + CLASS_UNIT * class as u64,
+    );
+    put(&mut words, layout.line_at(1), (kind != Kind::Free) as u64);
+    for offset in offsets {
+        write_object(&mut words, layout, *offset);
+    }
+    Ok(words)
+}
+
+/// Sets a word of the row, if there is such a word.
+fn put(words: &mut Vec<u64>, index: u32, value: u64) {
+    if let Some(word) = words.get_mut(index as usize) {
+        *word = value;
+    }
+}
+
+/// Writes an object of 5 words at an offset of block 1, and sets its start bit.
+fn write_object(words: &mut Vec<u64>, layout: &Layout, offset: u32) {
+    let at = offset.min(BLOCK_WORDS - 5);
+    let address = layout.heap_base() + BLOCK_WORDS + at;
+    put(words, address, 33 + 32 * at as u64);
+    put(words, address + 1, 65_536 * 2);
+    if let Some(word) = words.get_mut(layout.start_base() as usize + 64 + at as usize / 64) {
+        *word |= 1 << (at % 64);
+    }
+}
+
+/// The first hole of block 1 by words and by its view, or `None` if there is no such block or size.
+fn holes(
+    words: &Vec<u64>,
+    layout: &Layout,
+    fill: Kind,
+    size: u32,
+) -> Option<(Option<Region>, Option<Region>)> {
+    if words.len() != layout.words() as usize || !is_releasable(words, layout, 1) {
+        return None;
+    }
+    if size < 3 || size > 2048 {
+        return None;
+    }
+    let seen = first_hole(fill, &view_in(words, layout, 1), 0, size);
+    Some((hole_in_block(words, layout, fill, 1, size), seen))
+}
+
+#[test]
+fn holes_by_words(rt: HostRuntime) -> Result<(), Fail> {
+    let layout = Layout::new(4)?;
+    for (kind, class, offsets, fill, size, want) in [
+        (
+            Kind::Bump,
+            0,
+            [].as_slice(),
+            Kind::Bump,
+            2048,
+            Some((0, 4096)),
+        ),
+        (
+            Kind::Bump,
+            0,
+            [0, 10].as_slice(),
+            Kind::Bump,
+            3,
+            Some((15, 4096)),
+        ),
+        (
+            Kind::Bump,
+            0,
+            [0, 2043].as_slice(),
+            Kind::Bump,
+            2048,
+            Some((2048, 4096)),
+        ),
+        (Kind::Bump, 0, [0, 2044].as_slice(), Kind::Bump, 2048, None),
+        (Kind::Bump, 0, [0, 10].as_slice(), Kind::Young, 3, None),
+        (
+            Kind::Young,
+            0,
+            [0, 10].as_slice(),
+            Kind::Young,
+            3,
+            Some((15, 4096)),
+        ),
+        (Kind::Young, 0, [4091].as_slice(), Kind::Young, 3, None),
+        (
+            Kind::Immix,
+            0,
+            [0].as_slice(),
+            Kind::Immix,
+            3,
+            Some((16, 4096)),
+        ),
+        (Kind::Immix, 0, [0].as_slice(), Kind::Cells, 5, None),
+        (Kind::Cells, 0, [].as_slice(), Kind::Cells, 3, Some((0, 4))),
+        (
+            Kind::Cells,
+            1,
+            [0, 6].as_slice(),
+            Kind::Cells,
+            5,
+            Some((12, 18)),
+        ),
+        (
+            Kind::Cells,
+            1,
+            [6, 12].as_slice(),
+            Kind::Cells,
+            6,
+            Some((0, 6)),
+        ),
+        (Kind::Cells, 1, [0, 6].as_slice(), Kind::Cells, 4, None),
+        (Kind::Cells, 1, [0, 6].as_slice(), Kind::Cells, 7, None),
+        (Kind::Cells, 1, [0, 6].as_slice(), Kind::Bump, 5, None),
+        (
+            Kind::Cells,
+            18,
+            [0].as_slice(),
+            Kind::Cells,
+            2048,
+            Some((2048, 4096)),
+        ),
+        (
+            Kind::Cells,
+            18,
+            [0, 2048].as_slice(),
+            Kind::Cells,
+            2048,
+            None,
+        ),
+        (
+            Kind::Cells,
+            17,
+            [0].as_slice(),
+            Kind::Cells,
+            1025,
+            Some((1536, 3072)),
+        ),
+        (Kind::Kept, 0, [0].as_slice(), Kind::Bump, 3, None),
+        (Kind::Mature, 0, [0].as_slice(), Kind::Mature, 3, None),
+        (Kind::Free, 0, [].as_slice(), Kind::Free, 3, None),
+        (Kind::Free, 0, [].as_slice(), Kind::Cells, 3, None),
+    ] {
+        let want = want.map(|(next, end)| Region { next, end });
+        let words = row_with(rt.alloc(), &layout, kind, class, offsets)?;
+        assert_eq!(rt;
+            holes(&words, &layout, fill, size),
+            Some((want, want)),
+            "for {size} of class {class}"
+        );
+    }
+    Ok(())
+}
+
+/// The heap after mutators that fill tails took a block, if it is there and Free.
+fn take(heap: Heap, block: u32) -> Heap {
+    if block >= heap.layout().blocks() || heap.block(block).kind != Kind::Free {
+        return heap;
+    }
+    let mut row = heap.into_row();
+    row.set_block(
+        block,
+        &BlockWord {
+            kind: Kind::Bump,
+            class: 0,
+            owner: 0,
+        },
+    );
+    Heap::from_row(row)
+}
+
+/// A heap of 8 blocks with these in use.
+fn heap_with(alloc: Global, used: &[u32]) -> Result<Heap, Fail> {
+    let mut heap = Heap::new(alloc, Layout::new(8)?)?;
+    for block in used {
+        heap = take(heap, *block);
+    }
+    Ok(heap)
+}
+
+// the blocks in use, and the longest runs that fit under each reserve
+#[test]
+fn runs(rt: HostRuntime) -> Result<(), Fail> {
+    for (used, nothing, copies, headroom) in [
+        ([].as_slice(), 8, 8, 7),
+        ([2, 5].as_slice(), 2, 2, 2),
+        ([3].as_slice(), 4, 4, 4),
+        ([0, 1, 2].as_slice(), 5, 2, 4),
+        ([1, 3, 5, 7].as_slice(), 1, 0, 1),
+        ([0, 1, 2, 3, 4, 6, 7].as_slice(), 1, 0, 0),
+        ([0, 1, 2, 3, 4, 5, 6, 7].as_slice(), 0, 0, 0),
+    ] {
+        let heap = heap_with(rt.alloc(), used)?;
+        for (reserve, longest) in [
+            (Reserve::Nothing, nothing),
+            (Reserve::Copies, copies),
+            (Reserve::Headroom, headroom),
+        ] {
+            for count in 1..10 {
+                let fit = (count as u32) <= longest;
+                for size in [4096 * count, 4096 * count - 2000] {
+                    assert!(rt; 2048 < size && size <= 61027);
+                    assert_eq!(rt; has_run(&heap, reserve, size), fit, "{size}");
+                    assert_eq!(rt; fits(&heap, Kind::Bump, reserve, size), fit, "{size}");
+                }
+            }
+            for kind in [Kind::Bump, Kind::Cells] {
+                assert_eq!(rt;
+                    fits(&heap, kind, reserve, 2048),
+                    fits_small(&heap, kind, reserve, 2048)
+                );
+            }
+        }
+    }
+    Ok(())
+}
