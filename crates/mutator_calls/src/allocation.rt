@@ -20,7 +20,7 @@ fn take_some_hole<S: Seat>(seat: &mut S, size: u32) -> bool
     ensures offered { result ≡ true → S.offers seat.old seat.new size }
     ensures taken { result ≡ true → (k : ℕ) × (taken : List ℕ)
         × ((taken ≡ []) ⊎ (taken ≡ k ∷ [])) × S.goes seat.old (takes taken) seat.new
-        × ((j : ℕ) → j < k → S.lacks seat.new size j) × S.allocates_in seat.new k
+        × ((j : ℕ) → j < k → S.lacks seat.new size j) × S.allocates_in seat.new size k
         × ((j : ℕ) → S.lacks seat.old size j → j ≢ k → S.lacks seat.new size j) }
     ensures ready { result ≡ false → S.is_ready seat.new }
     ensures goes { result ≡ false → S.goes seat.old nothing seat.new }
@@ -47,8 +47,8 @@ fn find_hole<S: Seat>(seat: &mut S, size: u32) -> bool
     ensures found { result ≡ true → S.has_room seat.new size }
     ensures offered { result ≡ true → S.offers seat.old seat.new size }
     ensures finds { result ≡ true → (taken : List ℕ) × S.goes seat.old (takes taken) seat.new
-        × FindsRoom (S.lacks seat.new size) (S.is_used seat.new) (S.allocates_in seat.old)
-        (S.allocates_in seat.new) (IsNextTicket S.goes S.has_budget seat.old)
+        × FindsRoom (S.lacks seat.new size) (S.is_used seat.new) (S.allocates_in seat.old size)
+        (S.allocates_in seat.new size) (IsNextTicket S.goes S.has_budget seat.old)
         (S.books seat.new).blocks (S.books seat.new).allowance
         (S.books seat.old).ticket (S.books seat.new).ticket taken [] 0 }
     ensures ready { result ≡ false → S.is_ready seat.new }
@@ -93,7 +93,7 @@ fn take_some_free<S: Seat>(seat: &mut S, size: u32) -> bool
     ensures offered { result ≡ true → S.offers seat.old seat.new size }
     ensures grants { result ≡ true → (k : ℕ) × S.goes seat.old (grants k) seat.new
         × ((j : ℕ) → j < (S.books seat.new).blocks → j ≢ k → S.lacks seat.new size j)
-        × ((j : ℕ) → j < k → S.is_used seat.new j) × S.allocates_in seat.new k }
+        × ((j : ℕ) → j < k → S.is_used seat.new j) × S.allocates_in seat.new size k }
     ensures books { S.books seat.new ≡ record (S.books seat.old)
         { ticket = if result then None else (S.books seat.old).ticket } }
     ensures ready { result ≡ false → S.is_ready seat.new }
@@ -121,8 +121,8 @@ fn find_room<S: Seat>(seat: &mut S, size: u32) -> Result<(), NeedCause>
     ensures offered { IsOk result → S.offers seat.old seat.new size }
     ensures finds { IsOk result → (taken : List ℕ) × (granted : List ℕ) × (drawn : ℕ)
         × S.goes seat.old (searches taken granted drawn) seat.new
-        × FindsRoom (S.lacks seat.new size) (S.is_used seat.new) (S.allocates_in seat.old)
-        (S.allocates_in seat.new) (IsNextTicket S.goes S.has_budget seat.old)
+        × FindsRoom (S.lacks seat.new size) (S.is_used seat.new) (S.allocates_in seat.old size)
+        (S.allocates_in seat.new size) (IsNextTicket S.goes S.has_budget seat.old)
         (S.books seat.new).blocks (S.books seat.new).allowance
         (S.books seat.old).ticket (S.books seat.new).ticket taken granted drawn }
     ensures births { (S.books seat.new).births ≡ (S.books seat.old).births }
@@ -162,8 +162,8 @@ pub fn new_object<S: Seat>(seat: &mut S, d: u32, refs: u32, nums: u32) -> Alloca
         (λ name. (taken : List ℕ) × (granted : List ℕ) × (drawn : ℕ)
         × S.goes seat.old (births_with d refs nums name taken granted drawn) seat.new
         × FindsRoom (S.lacks seat.new (size_of refs nums)) (S.is_used seat.new)
-        (S.allocates_in seat.old) (S.allocates_in seat.new)
-        (IsNextTicket S.goes S.has_budget seat.old)
+        (S.allocates_in seat.old (size_of refs nums))
+        (S.allocates_in seat.new (size_of refs nums)) (IsNextTicket S.goes S.has_budget seat.old)
         (S.books seat.new).blocks (S.books seat.new).allowance
         (S.books seat.old).ticket (S.books seat.new).ticket
         taken granted drawn) (λ need. ⊤) }

@@ -61,11 +61,11 @@ pub trait Seat {
     // The block is not Free.
     ghost is_used: { Self → ℕ → Type 0 };
 
-    // The seat's region has room for an object of the size.
+    // The seat's region for objects of the size has room for one.
     ghost has_room: { Self → ℕ → Type 0 };
 
-    // The seat's region is in this block.
-    ghost allocates_in: { Self → ℕ → Type 0 };
+    // The seat's region for objects of the size is in this block: size, block.
+    ghost allocates_in: { Self → ℕ → ℕ → Type 0 };
 
     // The region of the second state is room for the size that the mutator may fill in the first:
     // a hole of a block that it owns or nobody does, or a Free block. Only blocks were taken.
@@ -293,14 +293,14 @@ pub trait Seat {
         requires most { size ≤ MAX_MEDIUM_WORDS }
         ensures room { result ≡ true → has_room self.now size }
         ensures offered { result ≡ true → offers self.now self.now size }
-        ensures region { result ≡ true → (k : ℕ) × allocates_in self.now k }
-        ensures lacks { (k : ℕ) → result ≡ false → allocates_in self.now k
+        ensures region { result ≡ true → (k : ℕ) × allocates_in self.now size k }
+        ensures lacks { (k : ℕ) → result ≡ false → allocates_in self.now size k
             → lacks self.now size k };
 
     /// Looks at a block for a hole with room for `size` words that the mutator may fill: its block
-    /// word, its side words, and the shape word of its last object, unless a look in this epoch
-    /// tells. If there is one, the mutator takes the block, if it is not its own, and the hole is
-    /// its region.
+    /// word, its side words, and, if it has no cells, the shape word of its last object, unless a
+    /// look in this epoch tells. If there is one, the mutator takes the block, if it is not its
+    /// own, and the hole is its region for the size.
     fn take_hole(&mut self, block: u32, size: u32) -> bool
         requires ready { is_ready self.old }
         requires block { block < (books self.old).blocks }
@@ -308,7 +308,7 @@ pub trait Seat {
         requires most { size ≤ MAX_MEDIUM_WORDS }
         ensures found { result ≡ true → has_room self.new size }
         ensures offered { result ≡ true → offers self.old self.new size }
-        ensures region { result ≡ true → allocates_in self.new block }
+        ensures region { result ≡ true → allocates_in self.new size block }
         ensures taken { result ≡ true → (taken : List ℕ)
             × ((taken ≡ []) ⊎ (taken ≡ block ∷ []))
             × goes self.old (takes taken) self.new }
@@ -345,7 +345,7 @@ pub trait Seat {
         ensures goes { goes self.old (if result then grants block else nothing) self.new }
         ensures found { result ≡ true → has_room self.new size }
         ensures offered { result ≡ true → offers self.old self.new size }
-        ensures region { result ≡ true → allocates_in self.new block }
+        ensures region { result ≡ true → allocates_in self.new size block }
         ensures ready { result ≡ false → is_ready self.new }
         ensures used { result ≡ false → is_used self.new block }
         ensures offers { (c : Self) (n : ℕ) → result ≡ false → offers self.new c n
@@ -373,7 +373,9 @@ pub trait Seat {
         ensures stays { (n k : ℕ) → lacks self.old n k → lacks self.new n k }
         ensures still { (k : ℕ) → is_used self.old k → is_used self.new k }
         ensures placed { places self.old self.new d (size_of shape.now.refs shape.now.nums) }
-        ensures region { (k : ℕ) → allocates_in self.old k → allocates_in self.new k }
+        ensures region { (k : ℕ)
+            → allocates_in self.old (size_of shape.now.refs shape.now.nums) k
+            → allocates_in self.new (size_of shape.now.refs shape.now.nums) k }
         ensures books { books self.new
             ≡ record (books self.old) { births = (books self.old).births + 1 } };
 

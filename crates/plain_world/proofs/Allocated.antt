@@ -8,17 +8,20 @@ use Rattle.ideal_heap.specs.Names.{name}
 use Rattle.object_model.specs.declared.row.Row.{Row}
 use Rattle.object_model.specs.Objects.{state_of, size_of}
 use Rattle.object_model.specs.Changes.{WritesObject}
+use Rattle.sessions.specs.Fitting.{class_for}
 use Rattle.mutator_calls.specs.declared.need.Mutator.{Mutator}
 use Rattle.plain_world.specs.declared.plain_row.PlainRow.{PlainRow}
 use Rattle.plain_world.specs.declared.plain_row.BlockNote.{BlockNote}
 use Rattle.plain_world.specs.declared.plain_row.BlockNote.TheVariants.{Owned}
 use Rattle.plain_world.specs.Rows.{ChangesAt, mutator_at_turn, seat_at_turn, number_at_turn, block_of}
+use Rattle.plain_world.specs.Regions.{IsRestAfter}
 use Rattle.plain_world.specs.Changes.{Allocates}
 
--- the mutator has an object more, in the region that it owned, which begins later now
+-- the mutator has an object more, at the start of the region that it allocates in, and owns what that leaves
 pub record IsBorn (a b : PlainRow) (d : ℕ) (n : Name) (refs nums : ℕ) : Type 0 where
   pub block : ℕ
   pub region : Region
+  pub left : Region
   pub turn : b.turn ≡ a.turn
   pub fill : b.fill ≡ a.fill
   pub young : b.young ≡ a.young
@@ -26,11 +29,11 @@ pub record IsBorn (a b : PlainRow) (d : ℕ) (n : Name) (refs nums : ℕ) : Type
   pub counts : b.counts ≡ a.counts
   pub owned : b.owned ≡ a.owned
   pub seats : b.seats ≡ a.seats
-  pub current : block_of (seat_at_turn a) ≡ Some block
+  pub current : block_of (seat_at_turn a) (class_for a.fill (size_of refs nums)) ≡ Some block
   pub was : slice_get a.notes.items block ≡ Some (Owned (number_at_turn a) region)
   pub room : region.next + size_of refs nums ≤ region.end
-  pub notes : ChangesAt a.notes.items b.notes.items block
-      (Owned (number_at_turn a) (record { next = region.next + size_of refs nums; end = region.end }))
+  pub rest : IsRestAfter a.fill (state_of a.row) block (size_of refs nums) region left
+  pub notes : ChangesAt a.notes.items b.notes.items block (Owned (number_at_turn a) left)
   pub mutator : Mutator
   pub is : mutator_at_turn a ≡ Some mutator
   pub mutators : ChangesAt a.mutators.items b.mutators.items a.turn (record mutator {
@@ -44,6 +47,7 @@ pub allocated : (a b : PlainRow) (d : ℕ) (n : Name) (refs nums : ℕ) → Allo
 allocated a b d n refs nums by = record {
   block = by.block;
   region = by.region.region;
+  left = by.region.rest;
   turn = ap (λ w. w.turn) by.rest ∙ by.count.plan.turn ∙ by.region.plan.turn;
   fill = ap (λ w. w.fill) by.rest ∙ by.count.plan.fill ∙ by.region.plan.fill;
   young = ap (λ w. w.young) by.rest ∙ by.count.plan.young ∙ by.region.plan.young;
@@ -54,8 +58,8 @@ allocated a b d n refs nums by = record {
   current = by.region.current;
   was = by.region.was;
   room = by.region.room;
-  notes = subst (λ (v : Vec BlockNote Global). ChangesAt a.notes.items v.items by.block
-      (Owned (number_at_turn a) (record { next = by.region.region.next + size_of refs nums; end = by.region.region.end })))
+  rest = by.region.left;
+  notes = subst (λ (v : Vec BlockNote Global). ChangesAt a.notes.items v.items by.block (Owned (number_at_turn a) by.region.rest))
       (sym (ap (λ w. w.notes) by.rest ∙ by.count.notes)) by.region.notes;
   mutator = by.count.mutator;
   is = ap (λ k. slice_get a.mutators.items k) (sym by.region.plan.turn)

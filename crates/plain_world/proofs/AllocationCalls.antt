@@ -5,7 +5,7 @@ use Rattle.ideal_heap.specs.declared.name.Name.{Name}
 use Rattle.heap_layout.specs.Zones.{block_start}
 use Rattle.heap_layout.specs.declared.region.Region.{Region}
 use Rattle.object_model.specs.Objects.{state_of, word_at, owner_at}
-use Rattle.sessions.specs.Fitting.{HasHole}
+use Rattle.sessions.specs.Fitting.{HasHole, HasCellFor, class_for}
 use Rattle.mutator_calls.specs.declared.need.Need.{Need}
 use Rattle.mutator_calls.specs.declared.need.NeedCause.{NeedCause}
 use Rattle.mutator_calls.specs.declared.need.NeedCause.TheVariants.{Large, Budget, Seen}
@@ -97,7 +97,8 @@ pub record IsPlaced (a b : PlainRow) (m d size : ℕ) : Type 0 where
   pub offset : ℕ
   pub address : slice_index (registers_of (slice_get b.mutators.items m)) d ≡ block_start (state_of b.row).blocks block + offset
   pub owner : owner_at (state_of b.row) block ≡ number_of (slice_get b.mutators.items m)
-  pub current : block_of (slice_get b.seats.items m) ≡ Some block
+  pub current : block_of (slice_get b.seats.items m) (class_for b.fill size) ≡ Some block
+  pub cell : HasCellFor b.fill (state_of b.row) block offset size
   pub spot : IsOffer (record a { turn = m }) block offset size
 
 pub placed-at : (a mid b : PlainRow) (m d size : ℕ) → b.turn ≡ m → Offers (record a { turn = m }) mid size → PlacesObject mid b d size → IsPlaced a b m d size
@@ -110,7 +111,8 @@ placed-at a mid b m d size turn offers places =
       offset = places.region.next;
       address = ap (λ t. slice_index (registers_of (slice_get b.mutators.items t)) d) (sym turn) ∙ places.address;
       owner = places.owner ∙ ap (λ t. number_of (slice_get b.mutators.items t)) turn;
-      current = ap (λ t. block_of (slice_get b.seats.items t)) (sym turn) ∙ places.current;
+      current = ap (λ t. block_of (slice_get b.seats.items t) (class_for b.fill size)) (sym turn) ∙ places.current;
+      cell = places.cell;
       spot = subst (λ k. IsOffer (record a { turn = m }) k places.region.next size) block
           (subst (λ r. IsOffer (record a { turn = m }) offers.block r.next size) region offers.offer);
     }

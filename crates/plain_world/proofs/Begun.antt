@@ -19,11 +19,12 @@ use Rattle.mutator_core.specs.Epochs.{IsReady, is_filled}
 use Rattle.mutator_calls.specs.declared.need.Mutator.{Mutator}
 use Rattle.plain_world.specs.declared.plain_row.PlainRow.{PlainRow}
 use Rattle.plain_world.specs.declared.plain_row.PlainSeat.{PlainSeat}
+use Rattle.plain_world.specs.declared.plain_row.TheConstants.{CLASSES}
 use Rattle.plain_world.specs.declared.block_notes.BlockNotes.{BlockNotes}
-use Rattle.plain_world.specs.Rows.{mutator_state}
-use Rattle.plain_world.specs.Notes.{FillsTails, HasNotes, ListsOwned, AreUnowned, AreNotes}
+use Rattle.plain_world.specs.Rows.{mutator_state, ticket_of}
+use Rattle.plain_world.specs.Notes.{FillsTailsOrCells, HasNotes, ListsOwned, AreUnowned, AreNotes}
 use Rattle.plain_world.specs.Beginnings.{MayUse, without_stop, epoch_of}
-use Rattle.plain_world.specs.Worlds.{HasState, HasLists, IsAt, IsAfter, IsIdle}
+use Rattle.plain_world.specs.Worlds.{HasState, HasCursors, HasLists, IsAt, IsAfter, IsIdle}
 use Rattle.plain_world.proofs.Lists.{get-map}
 use Rattle.plain_world.proofs.NoteLemmas.{notes-after}
 use Rattle.plain_world.proofs.Owning.{lists-none}
@@ -53,15 +54,21 @@ young-of false false false false = refl
 pub young-flag : (r : Rules) → (bit_and (flags_of r) 2 == 2) ≡ r.young
 young-flag r = young-of r.moves r.young r.lines (has_cells r.fill)
 
--- a seat without a ticket and a block
+-- a seat without a ticket and blocks
 abbrev pub no_seat : PlainSeat
-no_seat = record { ticket = None; block = None }
+no_seat = record { ticket = None; blocks = replicate CLASSES None }
 
 -- an element of a list of copies
 pub get-copy : {A : Type 0} (n : ℕ) (x y : A) (k : ℕ) → slice_get (replicate n x) k ≡ Some y → y ≡ x
 get-copy zero x y k is = let wrong : None ≡ Some y = is in cc
 get-copy (suc n) x y zero is = let e : Some x ≡ Some y = is in cc
 get-copy (suc n) x y (suc k) is = get-copy n x y k is
+
+-- and none of its copies has a ticket
+pub no-ticket : (n k : ℕ) → ticket_of (slice_get (replicate n no_seat) k) ≡ None
+no-ticket zero k = refl
+no-ticket (suc n) zero = refl
+no-ticket (suc n) (suc k) = no-ticket n k
 
 -- an element that a list has is among its elements
 get-among : {A : Type 0} (xs : List A) (k : ℕ) (x : A) → slice_get xs k ≡ Some x → Contains xs x
@@ -73,9 +80,10 @@ pub same-blocks : {s t : HeapState} → s ≡ t → s.blocks ≡ t.blocks
 same-blocks same = ap (λ (x : HeapState). x.blocks) same
 
 -- the plan's kind is one that mutators fill
-tail-filled : (fill : Kind) → FillsTails fill → IsTrue (is_filled fill)
-tail-filled fill (inl bump) = subst (λ k. IsTrue (is_filled k)) (sym bump) refl
-tail-filled fill (inr young) = subst (λ k. IsTrue (is_filled k)) (sym young) refl
+kind-filled : (fill : Kind) → FillsTailsOrCells fill → IsTrue (is_filled fill)
+kind-filled fill (inl (inl bump)) = subst (λ k. IsTrue (is_filled k)) (sym bump) refl
+kind-filled fill (inl (inr young)) = subst (λ k. IsTrue (is_filled k)) (sym young) refl
+kind-filled fill (inr cells) = subst (λ k. IsTrue (is_filled k)) (sym cells) refl
 
 -- the parts of a world as an epoch begins
 pub record IsBegun (r : Rules) (s : HeapState) (ms : List MutatorState) (w : PlainRow) : Type 0 where
@@ -92,7 +100,7 @@ pub record IsBegun (r : Rules) (s : HeapState) (ms : List MutatorState) (w : Pla
   pub allowance : w.allowance ≡ allowance_of r.reserve s
 
 module _ (r : Rules) (s : HeapState) (ms : List MutatorState) (w : PlainRow) (begun : IsBegun r s ms w)
-    (lawful : IsLawful s) (may : MayUse s ms) (tails : FillsTails r.fill) (remembers : Remembers r s) (few : length w.mutators.items ≤ MAX_MUTATORS) where
+    (lawful : IsLawful s) (may : MayUse s ms) (fills : FillsTailsOrCells r.fill) (remembers : Remembers r s) (few : length w.mutators.items ≤ MAX_MUTATORS) where
   abbrev p : Epoch
   p = epoch_of r s ms
 
@@ -100,14 +108,14 @@ module _ (r : Rules) (s : HeapState) (ms : List MutatorState) (w : PlainRow) (be
   ready = record {
     lawful = cleared.lawful-cleared s lawful;
     remembers = cleared.remembers-cleared s lawful r remembers;
-    fills = tail-filled r.fill tails;
+    fills = kind-filled r.fill fills;
     stop = cleared.stop s lawful;
     tickets = cleared.tickets s lawful;
     few = subst (λ n. n ≤ MAX_MUTATORS) (sym (length-map w.mutators.items mutator_state) ∙ ap length begun.mutators) few;
   }
 
   notes-begun : HasNotes r.fill (without_stop s) w.notes.items
-  notes-begun = notes-after s (without_stop s).words (cleared.keeps-blocks s lawful) r.fill tails w.notes.items
+  notes-begun = notes-after s (without_stop s).words (cleared.keeps-blocks s lawful) r.fill fills w.notes.items
       (subst (λ v. HasNotes r.fill s v.items) (sym begun.notes) begun.are.notes)
 
   lists-begun : HasLists p w
@@ -120,6 +128,13 @@ module _ (r : Rules) (s : HeapState) (ms : List MutatorState) (w : PlainRow) (be
 
   no-seat : (k : ℕ) (x : PlainSeat) → slice_get w.seats.items k ≡ Some x → x ≡ no_seat
   no-seat k x some = get-copy (length w.mutators.items) no_seat x k (ap (λ xs. slice_get xs k) (sym begun.seats) ∙ some)
+
+  -- no mutator allocates in a block
+  no-cursors : (number : ℕ) → HasCursors w.notes.items (state_of w.row) number no_seat
+  no-cursors number = record {
+    classes = refl;
+    each = λ class block is. absurd (let wrong : Some block ≡ None = get-copy CLASSES None (Some block) class is in cc);
+  }
 
   state-begun : (k : ℕ) (m : Mutator) (x : PlainSeat) → slice_get w.mutators.items k ≡ Some m → slice_get w.seats.items k ≡ Some x
       → HasState m x (first_local_of ms m.number)
@@ -135,10 +150,10 @@ module _ (r : Rules) (s : HeapState) (ms : List MutatorState) (w : PlainRow) (be
     numbers = sym (numbers-mapped w.mutators.items) ∙ ap numbers_of begun.mutators;
     seats = ap length begun.seats ∙ length-replicate (length w.mutators.items) no_seat;
     each = state-begun;
-    regions = λ k m x b some seat is. absurd (let wrong : None ≡ Some b = sym (ap (λ y. y.block) (no-seat k x seat)) ∙ is in cc);
+    cursors = λ k m x some seat. subst (HasCursors w.notes.items (state_of w.row) m.number) (sym (no-seat k x seat)) (no-cursors m.number);
     notes = subst (λ f. HasNotes f (state_of w.row) w.notes.items) (sym begun.fill) (subst (λ t. HasNotes r.fill t w.notes.items) (sym begun.heap) notes-begun);
     fill = begun.fill;
-    tails = subst FillsTails (sym begun.fill) tails;
+    fills = subst FillsTailsOrCells (sym begun.fill) fills;
     young = begun.young;
     allowed = begun.allowance ∙ sym (cleared.allowance-cleared s lawful r.reserve);
     lists = lists-begun;

@@ -30,10 +30,10 @@ at-turn p i log a m at = record {
   numbers = at.numbers;
   seats = at.seats;
   each = at.each;
-  regions = at.regions;
+  cursors = at.cursors;
   notes = at.notes;
   fill = at.fill;
-  tails = at.tails;
+  fills = at.fills;
   young = at.young;
   allowed = at.allowed;
   lists = record { owned = at.lists.owned; room = at.lists.room; counts = at.lists.counts };

@@ -16,6 +16,7 @@ use Rattle.object_model.specs.Graphs.{MutatorState, numbers_of, Represents, Poin
 use Rattle.object_model.proofs.Frames.{same-layout}
 use Rattle.object_model.proofs.OneKind.{one-kind}
 use Rattle.ideal_heap.specs.Runs.{Entry}
+use Rattle.object_model.proofs.OneKind.{kind-within}
 use Rattle.sessions.specs.Plans.{Rules}
 use Rattle.sessions.specs.Grants.{BlockCounts, counts_with}
 use Rattle.sessions.specs.Fitting.{free_of, large_of, counts_of}
@@ -45,10 +46,12 @@ use Rattle.plain_world.specs.declared.plain_row.PlainSeat.{PlainSeat}
 use Rattle.plain_world.specs.declared.plain_row.BlockNote.{BlockNote}
 use Rattle.plain_world.specs.declared.plain_row.BlockNote.TheVariants.{Unowned, Owned}
 use Rattle.plain_world.specs.Rows.{mutator_state, ticket_of}
-use Rattle.plain_world.specs.Notes.{FillsTails, IsNote, IsOwnedNote, AreFilled}
+use Rattle.plain_world.specs.Notes.{FillsTailsOrCells, IsNote, IsOwnedNote, AreFilled}
 use Rattle.plain_world.specs.Worlds.{HasState, IsAt, IsInEpoch}
+use Rattle.plain_world.proofs.Regions.{region-some}
 use Rattle.plain_world.proofs.Lists.{get-some, get-below}
 use Rattle.plain_world.proofs.Turns.{seat, note-right, owned-note, most-blocks, extent}
+use Rattle.plain_world.proofs.PlacedNotes.{filled-code}
 use Rattle.plain_world.proofs.Facts as facts
 
 -- the mutator with a number of the list
@@ -140,10 +143,8 @@ module _ (p : Epoch) (i : IdealHeap) (log : List LogEntry) (w : PlainRow) (at : 
       of-note m o free own some (Owned owner region) is =
           let right : IsOwnedNote w.fill (heap_after p log) o.block owner region = subst (λ (t : HeapState). IsOwnedNote w.fill t o.block owner region) at.heap (owned-note p i log w at o.block owner region is) in
           let full : 0 < region.next = filled o.block owner region is in
-          elim right.tail.least as (λ _. (x : Extent) × Contains (h.locals m).made x × (block_at p.before.blocks x.address ≡ o.block)) [
-            | inl none ↦ absurd (omega arith)
-            | inr last ↦ of-tail m o free own last.0 last.1 last.2
-          ]
+          let some = region-some w.fill (heap_after p log) o.block region (kind-within (heap_after p log) o.block w.fill right.kind) right.left full in
+          of-tail m o free own some.0 some.1 some.2
 
   -- each mutator is between two calls
   pub between : AreFilled w.notes.items → AreBetweenCalls p log
@@ -237,7 +238,7 @@ more-words w some =
     omega arith
 
 -- the large blocks stay
-large-same : (rules : Rules) → FillsTails rules.fill → (ns : List ℕ) (old : HeapState) (i : IdealHeap) (part : List Entry) (new : HeapState) (ms : List MutatorState)
+large-same : (rules : Rules) → FillsTailsOrCells rules.fill → (ns : List ℕ) (old : HeapState) (i : IdealHeap) (part : List Entry) (new : HeapState) (ms : List MutatorState)
     → Stopped rules ns old i part new ms → large_of new ≡ large_of old
 large-same rules fills ns old i part new ms stopped =
     ap (λ n. count_by (λ k. has_kind new k kinds.LargeHead || has_kind new k kinds.LargeTail) (range_with_len 0 n)) stopped.blocks
@@ -246,7 +247,7 @@ large-same rules fills ns old i part new ms stopped =
     ∙ ap (λ b. has_kind old k kinds.LargeHead || b) (same k kinds.LargeTail (omega arith) (omega arith))))
   where
     -- a kind that is neither Free nor one that mutators fill
-    same : (k : ℕ) (kind : Kind) → kind_code kind ≢ 0 → 2 < kind_code kind → has_kind new k kind ≡ has_kind old k kind
+    same : (k : ℕ) (kind : Kind) → kind_code kind ≢ 0 → 5 < kind_code kind → has_kind new k kind ≡ has_kind old k kind
     same k kind some other = elim (cases_lt k old.blocks) as (λ _. has_kind new k kind ≡ has_kind old k kind) [
       | inr past ↦ (let none : nat_lt k old.blocks ≡ false = le-ltb k old.blocks past in
           ap (λ n. nat_lt k n && nat_eq (block_word new k % 256) (kind_code kind)) stopped.blocks
@@ -255,7 +256,7 @@ large-same rules fills ns old i part new ms stopped =
         | inr word ↦ ap (λ n. nat_lt k n && nat_eq (block_word new k % 256) (kind_code kind)) stopped.blocks
             ∙ ap (λ v. nat_lt k old.blocks && nat_eq (v % 256) (kind_code kind)) word
         | inl taken ↦ (
-            let fill : kind_code rules.fill ≤ 2 = elim fills as (λ _. kind_code rules.fill ≤ 2) [ inl bump ↦ subst (λ f. kind_code f ≤ 2) (sym bump) (omega arith) | inr young ↦ subst (λ f. kind_code f ≤ 2) (sym young) (omega arith) ] in
+            let fill : kind_code rules.fill ≤ 5 = (filled-code rules.fill fills).1 in
             false_from_ne_true (has_kind new k kind) (λ is. let e : kind_code kind ≡ kind_code rules.fill = one-kind new k kind rules.fill is taken.1 in omega arith)
             ∙ sym (false_from_ne_true (has_kind old k kind) (λ is. some (one-kind old k kind kinds.Free is taken.0))))
       ]
@@ -270,7 +271,7 @@ counts-after p i log w at new gives filled free is =
     let before : w.counts.free ≡ free_of p.before = ap (λ (c : BlockCounts). c.free) at.lists.counts in
     let blocks : w.counts.blocks ≡ new.blocks = ap (λ (c : BlockCounts). c.blocks) at.lists.counts ∙ sym stopped.blocks in
     let large : w.counts.large ≡ large_of new = ap (λ (c : BlockCounts). c.large) at.lists.counts
-    ∙ sym (large-same p.rules (subst FillsTails at.fill at.tails) (numbers_of p.mutators) p.before i (history_of p log) new (map mutator_state w.mutators.items) stopped) in
+    ∙ sym (large-same p.rules (subst FillsTailsOrCells at.fill at.fills) (numbers_of p.mutators) p.before i (history_of p log) new (map mutator_state w.mutators.items) stopped) in
     let drawn : free_of p.before + sum_by (λ x. tickets_in x.ticket) w.seats.items ≡ free_of new + word_at (state_of w.row) 1 = tickets-drawn p i log w at new gives in
     let left : free ≡ free_of new = omega arith in
     ap (λ n. counts_with n free w.counts.large) blocks ∙ ap (λ n. counts_with new.blocks n w.counts.large) left ∙ ap (counts_with new.blocks (free_of new)) large

@@ -3,7 +3,7 @@ use Rattle.std.proofs.Common.{◌≡◌, refl, sym, ◌∙◌, ap, subst, ℕ, �
 use Rattle.std.specs.Prelude.{Some, None, slice_index, slice_get, slice_set, sum_by}
 use Rattle.std.proofs.lemmas.List.{length-map, get_or-set_same, get_or-set_other}
 use Rattle.ideal_heap.specs.Ideal.{IdealHeap}
-use Rattle.object_model.specs.Objects.{HeapState, state_of, with_words, word_at, block_word, owner_at, has_kind, HasKind}
+use Rattle.object_model.specs.Objects.{HeapState, state_of, with_words, word_at, block_word, owner_at, has_kind}
 use Rattle.object_model.specs.Graphs.{numbers_of}
 use Rattle.object_model.proofs.OneKind.{kind-within}
 use Rattle.heap_layout.specs.declared.block.Kind.{Kind}
@@ -19,11 +19,11 @@ use Rattle.mutator_core.proofs.Sums.{sum-more, free-most}
 use Rattle.mutator_core.proofs.Ending.{log-counted}
 use Rattle.mutator_calls.specs.Effects.{draws as draw_effect}
 use Rattle.plain_world.specs.declared.plain_row.PlainRow.{PlainRow}
-use Rattle.plain_world.specs.Notes.{FillsTails}
-use Rattle.plain_world.specs.Rows.{ChangesAt, number_at_turn, seat_at_turn, mutator_at_turn, births_of, block_of, ticket_of}
+use Rattle.plain_world.specs.Rows.{ChangesAt, number_at_turn, seat_at_turn, mutator_at_turn, births_of, blocks_of, ticket_of}
 use Rattle.plain_world.specs.Worlds.{IsAt, IsInEpoch, IsReady, Goes}
 use Rattle.plain_world.specs.Steps.{Lacks, Offers, IsOffer, books_of}
 use Rattle.mutator_calls.specs.Allocating.{Books}
+use Rattle.plain_world.proofs.Regions.{hole-kind}
 use Rattle.plain_world.proofs.Stepping as stepping
 use Rattle.plain_world.proofs.Entering as entering
 use Rattle.plain_world.proofs.Entering.{SteppedWith}
@@ -56,34 +56,31 @@ tickets-few w now =
     let bound : w.row.layout.blocks ≤ 1024 = turns.most-blocks p now.ideal now.log w now.at in
     subst (λ (t : HeapState). word_at t 1 ≤ 1040) (sym now.at.heap) (omega arith)
 
--- a block with a hole has the kind that mutators fill
-pub hole-kind : (fill : Kind) → FillsTails fill → (s : HeapState) (k at size : ℕ) → HasHole fill s k at size → HasKind s k fill
-hole-kind fill fills s k at size = elim fills as (λ _. HasHole fill s k at size → HasKind s k fill) [
-  | inl bump ↦ subst (λ (f : Kind). HasHole f s k at size → HasKind s k f) (sym bump) (λ hole. hole.0)
-  | inr young ↦ subst (λ (f : Kind). HasHole f s k at size → HasKind s k f) (sym young) (λ hole. hole.0)
-]
-
 -- a block still has no room if it has no new hole and no new owner
-pub lacks-after : (a b : PlainRow) (n k : ℕ) → FillsTails a.fill → b.fill ≡ a.fill → number_at_turn b ≡ number_at_turn a
+pub lacks-after : (a b : PlainRow) (n k : ℕ) → b.fill ≡ a.fill → number_at_turn b ≡ number_at_turn a
     → (k < b.row.layout.blocks → owner_at (state_of b.row) k ≡ owner_at (state_of a.row) k)
     → ((at size : ℕ) → HasHole a.fill (state_of b.row) k at size → HasHole a.fill (state_of a.row) k at size) → Lacks a n k → Lacks b n k
-lacks-after a b n k fills fill number owner hole lacks at whose there =
+lacks-after a b n k fill number owner hole lacks at whose there =
     let then : HasHole a.fill (state_of b.row) k at n = subst (λ (f : Kind). HasHole f (state_of b.row) k at n) fill there in
-    let same : owner_at (state_of b.row) k ≡ owner_at (state_of a.row) k = owner (kind-within (state_of b.row) k a.fill (hole-kind a.fill fills (state_of b.row) k at n then)) in
+    let same : owner_at (state_of b.row) k ≡ owner_at (state_of a.row) k = owner (kind-within (state_of b.row) k a.fill (hole-kind a.fill (state_of b.row) k at n then)) in
     lacks at (elim whose as (λ _. _) [ inl none ↦ inl (sym same ∙ none) | inr own ↦ inr (sym same ∙ own ∙ number) ]) (hole at n then)
 
 -- and what it offers it offered before
-offer-before : (a b : PlainRow) (k offset n : ℕ) → FillsTails a.fill → b.fill ≡ a.fill → number_at_turn b ≡ number_at_turn a
+offer-before : (a b : PlainRow) (k offset n : ℕ) → b.fill ≡ a.fill → number_at_turn b ≡ number_at_turn a
     → (k < b.row.layout.blocks → block_word (state_of b.row) k ≡ block_word (state_of a.row) k)
     → ((at size : ℕ) → HasHole a.fill (state_of b.row) k at size → HasHole a.fill (state_of a.row) k at size)
+    → ((at size : ℕ) → HasHole a.fill (state_of a.row) k at size → HasHole a.fill (state_of b.row) k at size)
     → has_kind (state_of b.row) k kinds.Free ≡ has_kind (state_of a.row) k kinds.Free → IsOffer b k offset n → IsOffer a k offset n
-offer-before a b k offset n fills fill number word hole kind offer = elim offer as (λ _. IsOffer a k offset n) [
+offer-before a b k offset n fill number word hole back kind offer = elim offer as (λ _. IsOffer a k offset n) [
   | inl there ↦ (
-      let then : HasHole a.fill (state_of b.row) k offset n = subst (λ (f : Kind). HasHole f (state_of b.row) k offset n) fill there.0 in
+      let then : HasHole a.fill (state_of b.row) k offset n = subst (λ (f : Kind). HasHole f (state_of b.row) k offset n) fill there.0.hole in
       let same : owner_at (state_of b.row) k ≡ owner_at (state_of a.row) k =
-      ap (λ v. v / 65536) (word (kind-within (state_of b.row) k a.fill (hole-kind a.fill fills (state_of b.row) k offset n then))) in
+      ap (λ v. v / 65536) (word (kind-within (state_of b.row) k a.fill (hole-kind a.fill (state_of b.row) k offset n then))) in
       inl (
-        hole offset n then,
+        record {
+          hole = hole offset n then;
+          first = λ from was. there.0.first from (subst (λ (f : Kind). HasHole f (state_of b.row) k from n) (sym fill) (back from n was));
+        },
         elim there.1 as (λ _. (owner_at (state_of a.row) k ≡ 0) ⊎ (owner_at (state_of a.row) k ≡ number_at_turn a)) [
           | inl none ↦ inl (sym same ∙ none)
           | inr own ↦ inr (sym same ∙ own ∙ number)
@@ -96,7 +93,7 @@ offer-before a b k offset n fills fill number word hole kind offer = elim offer 
 pub record DrawsTicket (a b : PlainRow) : Type 0 where
   pub rest : b ≡ record a { row = b.row; seats = b.seats }
   pub words : state_of b.row ≡ with_words (state_of a.row) (slice_set (state_of a.row).words 1 (word_at (state_of a.row) 1 + 1))
-  pub seats : ChangesAt a.seats.items b.seats.items a.turn (record { ticket = Some (word_at (state_of a.row) 1); block = block_of (seat_at_turn a) })
+  pub seats : ChangesAt a.seats.items b.seats.items a.turn (record { ticket = Some (word_at (state_of a.row) 1); blocks = blocks_of (seat_at_turn a) })
 
 module _ (a b : PlainRow) (draws : DrawsTicket a b) (ready : IsReady a) (none : ticket_of (seat_at_turn a) ≡ None) where
   budget-rises : word_at (state_of b.row) 1 ≡ word_at (state_of a.row) 1 + 1
@@ -131,7 +128,7 @@ module _ (a b : PlainRow) (draws : DrawsTicket a b) (ready : IsReady a) (none : 
         owned = ap (λ w. w.owned) draws.rest;
         counts = ap (λ w. w.counts) draws.rest;
         mutator = (stepping.mutator p i log a at ready.turn).0;
-        seat = record { ticket = Some (word_at (state_of a.row) 1); block = block_of (seat_at_turn a) };
+        seat = record { ticket = Some (word_at (state_of a.row) 1); blocks = blocks_of (seat_at_turn a) };
         mutators = record {
           len = ap (λ w. length w.mutators.items) draws.rest;
           here = ap (λ w. slice_get w.mutators.items a.turn) draws.rest ∙ (stepping.mutator p i log a at ready.turn).1;
@@ -139,7 +136,7 @@ module _ (a b : PlainRow) (draws : DrawsTicket a b) (ready : IsReady a) (none : 
         };
         seats = draws.seats;
         number = sym (stepping.number-is p i log a at ready.turn);
-        block = refl;
+        blocks = refl;
         state = let state = stepping.state p i log a at ready.turn in record {
           births = state.births;
           registers = state.registers;
@@ -167,10 +164,10 @@ module _ (a b : PlainRow) (draws : DrawsTicket a b) (ready : IsReady a) (none : 
       let ws : List ℕ = (next p (machine_after p now.log) (number_at_turn a) e.DrawTicket).words in
       let keeps = draws-keeps p now.ideal now.log now.at in
       let is = words p now.ideal now.log now.at in
-      lacks-after a b n k now.at.tails (ap (λ w. w.fill) draws.rest) (ap number_at_turn draws.rest)
+      lacks-after a b n k (ap (λ w. w.fill) draws.rest) (ap number_at_turn draws.rest)
       (λ there. ap (λ t. owner_at t k) is ∙ ap (λ v. v / 65536) (keeps.words k (subst (λ (t : HeapState). k < t.blocks) is there)) ∙ ap (λ t. owner_at t k) (sym now.at.heap))
       (λ at size hole. subst (λ (t : HeapState). HasHole a.fill t k at size) (sym now.at.heap)
-      (notes.hole-before (heap_after p now.log) ws keeps a.fill now.at.tails k at size (subst (λ (t : HeapState). HasHole a.fill t k at size) is hole)))
+      (notes.hole-before (heap_after p now.log) ws keeps a.fill now.at.fills k at size (subst (λ (t : HeapState). HasHole a.fill t k at size) is hole)))
 
   pub drawn-offers : (c : PlainRow) (n : ℕ) → Offers b c n → Offers a c n
   drawn-offers c n offers =
@@ -183,10 +180,12 @@ module _ (a b : PlainRow) (draws : DrawsTicket a b) (ready : IsReady a) (none : 
         block = offers.block;
         region = offers.region;
         now = offers.now;
-        offer = offer-before a b offers.block offers.region.next n now.at.tails (ap (λ w. w.fill) draws.rest) (ap number_at_turn draws.rest)
+        offer = offer-before a b offers.block offers.region.next n (ap (λ w. w.fill) draws.rest) (ap number_at_turn draws.rest)
             (λ there. ap (λ t. block_word t offers.block) is ∙ keeps.words offers.block (subst (λ (t : HeapState). offers.block < t.blocks) is there) ∙ ap (λ t. block_word t offers.block) (sym now.at.heap))
             (λ at size hole. subst (λ (t : HeapState). HasHole a.fill t offers.block at size) (sym now.at.heap)
-            (notes.hole-before (heap_after p now.log) ws keeps a.fill now.at.tails offers.block at size (subst (λ (t : HeapState). HasHole a.fill t offers.block at size) is hole)))
+            (notes.hole-before (heap_after p now.log) ws keeps a.fill now.at.fills offers.block at size (subst (λ (t : HeapState). HasHole a.fill t offers.block at size) is hole)))
+            (λ at size hole. subst (λ (t : HeapState). HasHole a.fill t offers.block at size) (sym is)
+            (notes.hole-after (heap_after p now.log) ws keeps a.fill now.at.fills offers.block at size (subst (λ (t : HeapState). HasHole a.fill t offers.block at size) now.at.heap hole)))
             ((reach p now.ideal now.log now.at).kinds offers.block)
             offers.offer;
       }

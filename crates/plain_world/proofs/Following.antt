@@ -6,7 +6,7 @@ use Rattle.std.proofs.lemmas.Bool.{cases_eq}
 use Rattle.std.proofs.lemmas.List.{length-map}
 use Rattle.std.proofs.lemmas.Option.{slice_get-map, get_or_from_slice_get}
 use Rattle.ideal_heap.specs.Ideal.{IdealHeap}
-use Rattle.object_model.specs.Objects.{state_of, with_words}
+use Rattle.object_model.specs.Objects.{HeapState, state_of, with_words, class_at}
 use Rattle.mutator_core.specs.declared.state.LogEntry.{LogEntry}
 use Rattle.mutator_core.specs.Machine.{Epoch, Machine, first_machine, heap_in, next}
 use Rattle.mutator_core.specs.Histories.{IsLog, after}
@@ -15,9 +15,10 @@ use Rattle.mutator_core.proofs.Regions.{after-append}
 use Rattle.mutator_calls.specs.declared.need.Mutator.{Mutator}
 use Rattle.plain_world.specs.declared.plain_row.PlainRow.{PlainRow}
 use Rattle.plain_world.specs.declared.plain_row.PlainSeat.{PlainSeat}
-use Rattle.plain_world.specs.Rows.{IsTurn, ChangesAt, number_of, number_at_turn, seat_at_turn, block_of}
-use Rattle.plain_world.specs.Notes.{FillsTails, HasNotes, IsRegionOf}
-use Rattle.plain_world.specs.Worlds.{IsAt, HasState, HasLists}
+use Rattle.plain_world.specs.declared.plain_row.BlockNote.TheVariants.{Owned}
+use Rattle.plain_world.specs.Rows.{IsTurn, ChangesAt, number_of, number_at_turn, seat_at_turn, blocks_of}
+use Rattle.plain_world.specs.Notes.{FillsTailsOrCells, HasNotes, IsRegionOf}
+use Rattle.plain_world.specs.Worlds.{IsAt, HasState, HasCursors, HasLists}
 use Rattle.plain_world.proofs.Lists.{get-some, get-below, one-element, get-map}
 
 -- two lists that differ at one place, and a function that does not see it
@@ -36,11 +37,12 @@ log-longer p h [] more is later = later
 log-longer p h (x ∷ xs) more is later = (is.0, is.1, is.2, log-longer p (next p h x.mutator x.event) xs more is.3 later)
 
 -- The world b after steps that leave the machine k: its row has the machine's words, and it has another mutator and
--- another seat for the one whose turn it is, with the machine's state. Its notes are right.
+-- another seat for the one whose turn it is, with the machine's state. Its notes are right, and blocks keep their classes.
 pub record Follows (p : Epoch) (log : List LogEntry) (a b : PlainRow) (k : Machine) : Type 0 where
   pub words : state_of b.row ≡ with_words (heap_after p log) k.words
   pub notes : HasNotes b.fill (state_of b.row) b.notes.items
   pub regions : (n c : ℕ) → IsRegionOf a.notes.items n c → IsRegionOf b.notes.items n c
+  pub classes : (c : ℕ) → c < p.before.blocks → class_at (state_of b.row) c ≡ class_at (heap_after p log) c
   pub fill : b.fill ≡ a.fill
   pub young : b.young ≡ a.young
   pub allowed : b.allowance ≡ a.allowance
@@ -50,9 +52,16 @@ pub record Follows (p : Epoch) (log : List LogEntry) (a b : PlainRow) (k : Machi
   pub mutators : ChangesAt a.mutators.items b.mutators.items a.turn mutator
   pub seats : ChangesAt a.seats.items b.seats.items a.turn seat
   pub number : mutator.number ≡ number_at_turn a
-  pub block : seat.block ≡ block_of (seat_at_turn a)
+  pub blocks : seat.blocks ≡ blocks_of (seat_at_turn a)
   pub state : HasState mutator seat (k.locals (number_at_turn a))
   pub others : (n : ℕ) → n ≢ number_at_turn a → k.locals n ≡ local_after_log p log n
+
+-- the same blocks
+pub cursors-of : (w : PlainRow) (n : ℕ) (x y : PlainSeat) → y.blocks ≡ x.blocks → HasCursors w.notes.items (state_of w.row) n x → HasCursors w.notes.items (state_of w.row) n y
+cursors-of w n x y same is = record {
+  classes = ap length same ∙ is.classes;
+  each = λ class block some. is.each class block (ap (λ bs. slice_get bs class) (sym same) ∙ some);
+}
 
 module _ (p : Epoch) (i : IdealHeap) (log : List LogEntry) (a : PlainRow) (at : IsAt p i log a) (turn : IsTurn a)
     (more : List LogEntry) (is : IsLog p (machine_after p log) more) (b : PlainRow) (up : Follows p log a b (after p (machine_after p log) more)) where
@@ -106,13 +115,23 @@ module _ (p : Epoch) (i : IdealHeap) (log : List LogEntry) (a : PlainRow) (at : 
     | inr theirs ↦ subst (HasState q y) (sym (up.others q.number (apart k q theirs.0 theirs.1))) (at.each k q y theirs.1 theirs.2)
   ])
 
-  regions : (k : ℕ) (q : Mutator) (y : PlainSeat) (c : ℕ) → slice_get b.mutators.items k ≡ Some q → slice_get b.seats.items k ≡ Some y
-      → y.block ≡ Some c → IsRegionOf b.notes.items q.number c
-  regions k q y c e f is = up.regions q.number c
-      (elim (others k q y e f) as (λ _. IsRegionOf a.notes.items q.number c) [
-        | inl mine ↦ subst (λ n. IsRegionOf a.notes.items n c) (sym number-is ∙ sym up.number ∙ ap (λ z. z.number) (sym mine.1))
-            (at.regions a.turn mutator.0 seat.0 c mutator.1 seat.1 (ap block_of (sym seat.1) ∙ sym up.block ∙ ap (λ z. z.block) (sym mine.2) ∙ is))
-        | inr theirs ↦ at.regions k q y c theirs.1 theirs.2 is
+  cursors-kept : (n : ℕ) (y : PlainSeat) → HasCursors a.notes.items (state_of a.row) n y → HasCursors b.notes.items (state_of b.row) n y
+  cursors-kept n y was = record {
+    classes = was.classes;
+    each = λ class block is.
+        let old = was.each class block is in
+        let there : block < p.before.blocks = subst (λ j. block < j) (at.notes.len ∙ ap (λ (t : HeapState). t.blocks) at.heap)
+        (get-below a.notes.items block (Owned n old.0.region) old.0.note) in
+        (up.regions n block old.0, up.classes block there ∙ ap (λ (t : HeapState). class_at t block) (sym at.heap) ∙ old.1);
+  }
+
+  cursors : (k : ℕ) (q : Mutator) (y : PlainSeat) → slice_get b.mutators.items k ≡ Some q → slice_get b.seats.items k ≡ Some y → HasCursors b.notes.items (state_of b.row) q.number y
+  cursors k q y e f = cursors-kept q.number y
+      (elim (others k q y e f) as (λ _. HasCursors a.notes.items (state_of a.row) q.number y) [
+        | inl mine ↦ subst (λ n. HasCursors a.notes.items (state_of a.row) n y) (sym number-is ∙ sym up.number ∙ ap (λ z. z.number) (sym mine.1))
+            (cursors-of a mutator.0.number seat.0 y (ap (λ z. z.blocks) mine.2 ∙ up.blocks ∙ ap blocks_of seat.1)
+            (at.cursors a.turn mutator.0 seat.0 mutator.1 seat.1))
+        | inr theirs ↦ at.cursors k q y theirs.1 theirs.2
       ])
 
   pub at-follows : IsAt p i (log ++ more) b
@@ -123,10 +142,10 @@ module _ (p : Epoch) (i : IdealHeap) (log : List LogEntry) (a : PlainRow) (at : 
         (length-map b.mutators.items (λ q. q.number) ∙ up.mutators.len ∙ sym (length-map a.mutators.items (λ q. q.number))) numbers-same ∙ at.numbers;
     seats = up.seats.len ∙ at.seats ∙ sym up.mutators.len;
     each = each;
-    regions = regions;
+    cursors = cursors;
     notes = up.notes;
     fill = up.fill ∙ at.fill;
-    tails = subst FillsTails (sym up.fill) at.tails;
+    fills = subst FillsTailsOrCells (sym up.fill) at.fills;
     young = up.young ∙ at.young;
     allowed = up.allowed ∙ at.allowed;
     lists = up.lists at.lists;

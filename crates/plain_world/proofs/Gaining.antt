@@ -1,20 +1,26 @@
 -- What a mutator that takes a block, or returns to one of its own, has and does.
-use Rattle.std.proofs.Common.{◌≡◌, ◌≢◌, refl, sym, ◌∙◌, ap, subst, ℕ, ◌+◌, ◌<◌, ◌≤◌, ◌⊎◌, inl, inr, arith, add-zero, Bool, true, false, ◌&&◌, ◌||◌, not, IsTrue, eq-eqb, ne_eqb, List, [], ◌∷◌, ◌++◌, map, length, max}
-use Rattle.std.specs.Prelude.{Some, None, slice_get}
+use Rattle.std.proofs.Common.{◌≡◌, ◌≢◌, refl, sym, ◌∙◌, ap, subst, ℕ, ◌+◌, ◌/◌, ◌%◌, ◌<◌, ◌≤◌, ◌⊎◌, inl, inr, arith, add-zero, Bool, true, false, ◌&&◌, ◌||◌, not, IsTrue, eq-eqb, ne_eqb, List, [], ◌∷◌, ◌++◌, map, length, length-set}
+use Rattle.std.specs.Prelude.{Option, Some, None, slice_get, slice_set, unwrap_or}
 use Rattle.std.proofs.lemmas.Bool.{cases_eq, and_parts}
 use Rattle.std.proofs.lemmas.List.{get_or-set_other}
 use Rattle.heap_layout.specs.Zones.{BlockWords, first}
-use Rattle.heap_layout.specs.Blocks.{code_of, IsValid}
+use Rattle.heap_layout.specs.Blocks.{kind_code, code_of, is_block_code, IsValid}
+use Rattle.heap_layout.proofs.BlockLemmas.{code_parts, kind_code_most}
+use Rattle.sessions.specs.Sessions.{block_of_kind}
 use Rattle.heap_layout.specs.declared.block.Kind.{Kind}
 use Rattle.heap_layout.specs.declared.block.Kind.TheVariants as kinds
 use Rattle.heap_layout.specs.declared.region.Region.{Region}
 use Rattle.ideal_heap.specs.Ideal.{IdealHeap}
-use Rattle.object_model.specs.Objects.{HeapState, state_of, word_at, block_word, has_kind, HasKind, class_at, owner_at, is_unlogged}
+use Rattle.object_model.specs.Objects.{HeapState, state_of, with_words, word_at, block_word, has_kind, HasKind, class_at, owner_at, is_unlogged}
 use Rattle.object_model.specs.Lawful.{IsClear}
 use Rattle.object_model.proofs.Blocks as blocks
-use Rattle.sessions.specs.Fitting.{IsTail, HasHole}
-use Rattle.sessions.proofs.Tails.{tail-unique}
-use Rattle.plan_api.specs.Holes.{IsHolePart, IsTailPart, HasRoomFrom, IsFirstHole}
+use Rattle.object_model.proofs.OneKind.{kind-within}
+use Rattle.sessions.specs.Fitting.{HasHole, class_for}
+use Rattle.plan_api.specs.Holes.{IsFirstHole}
+use Rattle.plan_api.proofs.Parts.{part-kind}
+use Rattle.plain_world.specs.Regions.{IsRegionIn, first_region}
+use Rattle.plain_world.proofs.Regions.{none-first, hole-region, hole-kind, first-hole, region-before, part-class, suits-class, region-lacks}
+use Rattle.plain_world.proofs.RegionFrames.{region-as}
 use Rattle.mutator_core.specs.declared.state.LogEntry.{LogEntry}
 use Rattle.mutator_core.specs.declared.state.Event.TheVariants as e
 use Rattle.mutator_core.specs.Machine.{Epoch}
@@ -29,24 +35,25 @@ use Rattle.plain_world.specs.declared.plain_row.PlainRow.{PlainRow}
 use Rattle.plain_world.specs.declared.plain_row.PlainSeat.{PlainSeat}
 use Rattle.plain_world.specs.declared.plain_row.BlockNote.{BlockNote}
 use Rattle.plain_world.specs.declared.plain_row.BlockNote.TheVariants.{Unowned, Owned}
-use Rattle.plain_world.specs.Rows.{IsTurn, number_of, births_of, number_at_turn, mutator_at_turn, seat_at_turn, ticket_of, block_of}
-use Rattle.plain_world.specs.Notes.{FillsTails, IsNote, IsUnownedNote, HasNotes, IsRegionOf}
+use Rattle.plain_world.specs.Rows.{IsTurn, number_of, births_of, number_at_turn, mutator_at_turn, seat_at_turn, ticket_of, blocks_of, block_of}
+use Rattle.plain_world.specs.Notes.{FillsTails, FillsTailsOrCells, IsNote, IsUnownedNote, HasNotes, IsRegionOf}
 use Rattle.plain_world.specs.Changes.{TakesBlock, ReturnsTo, NotesBlock, KeepsPlan, FindsHole, LacksHole}
 use Rattle.plain_world.specs.Changes.FindsHole.{own, taken}
-use Rattle.plain_world.specs.Changes.LacksHole.{known, seen, foreign}
-use Rattle.plain_world.specs.Worlds.{IsAt, IsInEpoch, IsReady, HasRoom, HasState, Goes, has}
+use Rattle.plain_world.specs.Changes.LacksHole.{known, seen, unsuited, foreign}
+use Rattle.plain_world.specs.Worlds.{IsAt, IsInEpoch, IsReady, HasRoom, HasState, HasCursors, Goes, has}
 use Rattle.plain_world.specs.Steps.{AllocatesIn, Lacks, IsUsed, IsRegion, Offers}
 use Rattle.plain_world.specs.SeatLaws.{append-nil, goes-nothing}
+use Rattle.plain_world.proofs.Elements.{set-here, set-changes}
 use Rattle.plain_world.proofs.Lists.{one-element}
 use Rattle.plain_world.proofs.Owning.{lists-kept, lists-moved, listed-noted}
 use Rattle.plain_world.proofs.Stepping as stepping
 use Rattle.plain_world.proofs.Facts as facts
 use Rattle.plain_world.proofs.Turns as turns
 use Rattle.plain_world.proofs.Drawing.{lacks-after}
-use Rattle.plain_world.proofs.Rooms as rooms
 use Rattle.plain_world.proofs.Offering.{own-offer, offers-back}
 use Rattle.plain_world.proofs.Taking as taking
-use Rattle.plain_world.proofs.Taking.{Gains, changes-cases, ticket_left, unowned-code, valid-parts}
+use Rattle.plain_world.proofs.Taking.{Gains, changes-cases, ticket_left, unowned-code}
+use Rattle.plain_world.proofs.Turns.{valid-parts}
 
 and-true : (b : Bool) → b ≡ (b && not false)
 and-true true = refl
@@ -99,12 +106,30 @@ still-goes a b plan mutators row ticket seats reach = record {
   others = λ k other. (ap (λ y. slice_get y.items k) mutators, seats k other);
 }
 
-module _ (a b : PlainRow) (ready : IsReady a) (block : ℕ) (region : Region) (free : Bool) (gains : Gains a b block region free) where
+-- the word of a block that the mutator takes, and the heap with it
+abbrev word-taken : PlainRow → ℕ → ℕ
+word-taken a class = code_of (record { kind = a.fill; class = class; owner = number_at_turn a })
+
+abbrev heap-taken : PlainRow → ℕ → ℕ → HeapState
+heap-taken a block class = with_words (state_of a.row) (blocks.set_block (state_of a.row) block (word-taken a class))
+
+-- the class for a size
+abbrev class-in : PlainRow → ℕ → ℕ
+class-in a size = class_for a.fill size
+
+-- a seat that allocates objects of the class in the block
+seat-has : (xs : List (Option ℕ)) (class block : ℕ) → class ≤ 18 → length xs ≡ 19 → unwrap_or (slice_get (slice_set xs class (Some block)) class) None ≡ Some block
+seat-has xs class block few many = ap (λ o. unwrap_or o None) (set-here xs class (Some block) (omega arith))
+
+module _ (a b : PlainRow) (ready : IsReady a) (block size : ℕ) (region : Region) (free : Bool) (gains : Gains a b block (class-in a size) region free) where
+  abbrev class : ℕ
+  class = class_for a.fill size
+
   abbrev s : HeapState
   s = state_of a.row
 
   abbrev v : ℕ
-  v = code_of (record { kind = a.fill; class = 0; owner = number_at_turn a })
+  v = code_of (record { kind = a.fill; class = class_for a.fill size; owner = number_at_turn a })
 
   pub number : number_at_turn b ≡ number_at_turn a
   number = number-kept a b gains.takes.plan gains.takes.mutators
@@ -113,21 +138,25 @@ module _ (a b : PlainRow) (ready : IsReady a) (block : ℕ) (region : Region) (f
   in-epoch = let now = ready.idle.some in record {
     epoch = now.epoch;
     ideal = now.ideal;
-    log = now.log ++ stepping.entry-for now.epoch now.ideal now.log a now.at ready.turn (e.TakeBlock block 0 free) ∷ [];
-    at = taking.at-taken now.epoch now.ideal now.log a b now.at ready.turn block region free gains;
+    log = now.log ++ stepping.entry-for now.epoch now.ideal now.log a now.at ready.turn (e.TakeBlock block class free) ∷ [];
+    at = taking.at-taken now.epoch now.ideal now.log a b now.at ready.turn block class region free gains;
   }
 
-  seat-now : seat_at_turn b ≡ Some (record { ticket = ticket_left free (ticket_of (seat_at_turn a)); block = Some block })
+  seat-now : seat_at_turn b ≡ Some (record { ticket = ticket_left free (ticket_of (seat_at_turn a)); blocks = slice_set (blocks_of (seat_at_turn a)) class (Some block) })
   seat-now = ap (λ n. slice_get b.seats.items n) gains.takes.plan.turn ∙ gains.takes.seats.here
 
-  pub region-now : IsRegion b block region
+  current : block_of (seat_at_turn b) class ≡ Some block
+  current = let now = ready.idle.some in ap (λ o. block_of o class) seat-now
+      ∙ seat-has (blocks_of (seat_at_turn a)) class block (turns.class-few a.fill size) (turns.own-classes now.epoch now.ideal now.log a now.at ready.turn)
+
+  pub region-now : IsRegion b size block region
   region-now = record {
-    current = ap block_of seat-now;
+    current = ap (λ (f : Kind). block_of (seat_at_turn b) (class_for f size)) gains.takes.plan.fill ∙ current;
     note = gains.takes.notes.here ∙ ap (λ n. Some (Owned n region)) (sym number);
   }
 
-  pub room : (size : ℕ) → region.next + size ≤ region.end → HasRoom b size
-  room size fits = record {
+  pub room : region.next + size ≤ region.end → HasRoom b size
+  room fits = record {
     turn = turn-kept a b ready.turn gains.takes.plan gains.takes.mutators gains.takes.seats.len;
     some = in-epoch;
     block = block;
@@ -145,15 +174,15 @@ module _ (a b : PlainRow) (ready : IsReady a) (block : ℕ) (region : Region) (f
 
   -- another block is as it was
   pub other-lacks : (n k : ℕ) → k ≢ block → Lacks a n k → Lacks b n k
-  other-lacks n k other = lacks-after a b n k ready.idle.some.at.tails gains.takes.plan.fill number
+  other-lacks n k other = lacks-after a b n k gains.takes.plan.fill number
       (λ there. ap (λ (t : HeapState). owner_at t k) gains.takes.words ∙ taking.owner-same s block v gains.there k other)
-      (λ at size hole. taking.hole-before s block v gains.there k other a.fill ready.idle.some.at.tails at size (subst (λ (t : HeapState). HasHole a.fill t k at size) gains.takes.words hole))
+      (λ at n hole. taking.hole-before s block v gains.there k other a.fill ready.idle.some.at.fills at n (subst (λ (t : HeapState). HasHole a.fill t k at n) gains.takes.words hole))
 
   unlogs : (x : ℕ) → is_unlogged (state_of b.row) x ≡ (is_unlogged s x && not false)
   unlogs x = ap (λ (t : HeapState). is_unlogged t x) gains.takes.words ∙ (blocks.same_heap s block v gains.there).unlogs x ∙ and-true (is_unlogged s x)
 
   now-filled : HasKind (state_of b.row) block a.fill
-  now-filled = let now = ready.idle.some in subst (λ (t : HeapState). HasKind t block a.fill) (sym gains.takes.words) (taking.kind-now now.epoch now.ideal now.log a b now.at ready.turn block region free gains)
+  now-filled = let now = ready.idle.some in subst (λ (t : HeapState). HasKind t block a.fill) (sym gains.takes.words) (taking.kind-now now.epoch now.ideal now.log a b now.at ready.turn block class region free gains)
 
   fills : IsTrue (is_filled a.fill)
   fills = subst (λ (k : Kind). IsTrue (is_filled k)) (sym ready.idle.some.at.fill) ready.idle.some.at.epoch.ready.fills
@@ -189,7 +218,7 @@ module _ (a b : PlainRow) (ready : IsReady a) (block : ℕ) (region : Region) (f
   goes-free is = record {
     turn = gains.takes.plan.turn;
     number = number;
-    steps = λ p i log at. let c = taking.continues p i log a b at ready.turn block region free gains in record { more = c.more; own = c.own; at = c.at; entries = c.entries };
+    steps = λ p i log at. let c = taking.continues p i log a b at ready.turn block class region free gains in record { more = c.more; own = c.own; at = c.at; entries = c.entries };
     logged = unlogs;
     granted = λ k. elim (cases_eq k block) as (λ _. has_kind (state_of b.row) k kinds.Free ≡ (has_kind s k kinds.Free && not (has (block ∷ []) k))) [
       | inl here ↦ ap (λ q. has_kind (state_of b.row) q kinds.Free) here ∙ not-free ∙ and-false (has_kind s k kinds.Free) ∙ ap (λ t. has_kind s k kinds.Free && not t) (sym (has-it k block here))
@@ -213,7 +242,7 @@ module _ (a b : PlainRow) (ready : IsReady a) (block : ℕ) (region : Region) (f
   goes-used is used = record {
     turn = gains.takes.plan.turn;
     number = number;
-    steps = λ p i log at. taking.continues p i log a b at ready.turn block region free gains;
+    steps = λ p i log at. taking.continues p i log a b at ready.turn block class region free gains;
     logged = unlogs;
     granted = λ k. elim (cases_eq k block) as (λ _. has_kind (state_of b.row) k kinds.Free ≡ (has_kind s k kinds.Free && not false)) [
       | inl here ↦ ap (λ q. has_kind (state_of b.row) q kinds.Free) here ∙ not-free ∙ sym (not-true (has_kind s block kinds.Free) (fill-not-free s block a.fill fills is))
@@ -231,7 +260,7 @@ module _ (a b : PlainRow) (ready : IsReady a) (block : ℕ) (region : Region) (f
   }
 
 -- a Free block
-module _ (a b : PlainRow) (ready : IsReady a) (block : ℕ) (there : block < a.row.layout.blocks) (is : HasKind (state_of a.row) block kinds.Free) where
+module _ (a b : PlainRow) (ready : IsReady a) (block size : ℕ) (there : block < a.row.layout.blocks) (is : HasKind (state_of a.row) block kinds.Free) where
   valid : IsValid (record { kind = kinds.Free; class = class_at (state_of a.row) block; owner = owner_at (state_of a.row) block })
   valid = let now = ready.idle.some in valid-parts (state_of a.row) block kinds.Free is (facts.code now.epoch now.ideal now.log a now.at block there)
 
@@ -246,62 +275,81 @@ module _ (a b : PlainRow) (ready : IsReady a) (block : ℕ) (there : block < a.r
       subst (λ (t : HeapState). IsClear t block) (sym now.at.heap)
       ((facts.moment now.epoch now.ideal now.log a now.at).epoch.free block (subst (λ (t : HeapState). HasKind t block kinds.Free) now.at.heap is))
 
-  pub gains-free : TakesBlock a b block (record { next = 0; end = 4096 }) None → (t : ℕ) × (ticket_of (seat_at_turn a) ≡ Some t) × (t < a.allowance)
-      → Gains a b block (record { next = 0; end = 4096 }) true
+  -- the block after that has the class for the size, and is clear
+  abbrev then : HeapState
+  then = heap-taken a block (class-in a size)
+
+  class-then : class_at then block ≡ class-in a size
+  class-then =
+      let now = ready.idle.some in
+      ap (λ n. n / 256 % 256) (blocks.block-set (state_of a.row) block (word-taken a (class-in a size)) there (turns.extent now.epoch now.ideal now.log a now.at))
+      ∙ (code_parts (kind_code a.fill) (class-in a size) (number_at_turn a) (word-taken a (class-in a size)) (kind_code_most a.fill) (turns.class-few a.fill size) refl).1
+
+  clear-then : IsClear then block
+  clear-then = blocks.clear-after (state_of a.row) (blocks.set_block (state_of a.row) block (word-taken a (class-in a size)))
+      (blocks.same_heap (state_of a.row) block (word-taken a (class-in a size)) there) block
+      (λ line less. blocks.lines-same (state_of a.row) block (word-taken a (class-in a size)) there block line) clear
+
+  -- the mutator has drawn a ticket below the allowance
+  abbrev pub HasTicket : Type 0
+  HasTicket = (t : ℕ) × (ticket_of (seat_at_turn a) ≡ Some t) × (t < a.allowance)
+
+  pub gains-free : TakesBlock a b block (class-in a size) (first_region a.fill (class-in a size)) None → HasTicket → Gains a b block (class-in a size) (first_region a.fill (class-in a size)) true
   gains-free takes ticket = record {
     takes = takes;
     there = there;
-    word = unowned-code (state_of a.row) block kinds.Free is (class-none _ _ valid) (owner-none _ _ valid);
+    valid = let now = ready.idle.some in turns.own-valid now.epoch now.ideal now.log a now.at ready.turn size;
+    word = unowned-code (state_of a.row) block 0 kinds.Free is (class-none _ _ valid) (owner-none _ _ valid);
     tickets = λ _. ticket;
-    tail = record {
-      after = λ x holds here. absurd (clear.empty x x holds (record { from = omega arith; below = omega arith }) here);
-      least = inl refl;
-    };
-    inside = omega arith;
-    end = refl;
+    left = subst (λ (t : HeapState). IsRegionIn a.fill t block (first_region a.fill (class-in a size))) (sym takes.words)
+        (subst (λ (c : ℕ). IsRegionIn a.fill then block (first_region a.fill c)) class-then (turns.clear-whole a.fill ready.idle.some.at.fills then block clear-then));
     unowned = λ owner r note. let now = ready.idle.some in
         fill-not-free (state_of a.row) block a.fill (subst (λ (k : Kind). IsTrue (is_filled k)) (sym now.at.fill) now.at.epoch.ready.fills)
         (turns.owned-note now.epoch now.ideal now.log a now.at block owner r note).kind is;
   }
 
-  pub free-offers : TakesBlock a b block (record { next = 0; end = 4096 }) None → (t : ℕ) × (ticket_of (seat_at_turn a) ≡ Some t) × (t < a.allowance) → (size : ℕ) → Offers a b size
-  free-offers takes ticket size = record {
+  pub free-offers : TakesBlock a b block (class-in a size) (first_region a.fill (class-in a size)) None → HasTicket → Offers a b size
+  free-offers takes ticket = record {
     block = block;
-    region = record { next = 0; end = 4096 };
-    now = region-now a b ready block (record { next = 0; end = 4096 }) true (gains-free takes ticket);
+    region = first_region a.fill (class-in a size);
+    now = region-now a b ready block size (first_region a.fill (class-in a size)) true (gains-free takes ticket);
     offer = inr (is, refl);
   }
 
   -- a block that is not Free stays so
-  pub free-used : TakesBlock a b block (record { next = 0; end = 4096 }) None → (t : ℕ) × (ticket_of (seat_at_turn a) ≡ Some t) × (t < a.allowance) → (k : ℕ) → IsUsed a k → IsUsed b k
+  pub free-used : TakesBlock a b block (class-in a size) (first_region a.fill (class-in a size)) None → HasTicket → (k : ℕ) → IsUsed a k → IsUsed b k
   free-used takes ticket k used free =
-      let gone = goes-free a b ready block (record { next = 0; end = 4096 }) true (gains-free takes ticket) is in
+      let gone = goes-free a b ready block size (first_region a.fill (class-in a size)) true (gains-free takes ticket) is in
       used (and_parts (has_kind (state_of a.row) k kinds.Free) (not (has (block ∷ []) k)) (sym (gone.granted k) ∙ free)).0
 
--- the part of a hole is a tail
-part-tail : (fill : Kind) → FillsTails fill → (s : HeapState) (k size next end : ℕ) → IsHolePart fill s k 0 size next end → HasKind s k fill × IsTailPart s k 0 next end
-part-tail fill fills s k size next end = elim fills as (λ _. IsHolePart fill s k 0 size next end → HasKind s k fill × IsTailPart s k 0 next end) [
-  | inl bump ↦ subst (λ (f : Kind). IsHolePart f s k 0 size next end → HasKind s k f × IsTailPart s k 0 next end) (sym bump) (λ part. part)
-  | inr young ↦ subst (λ (f : Kind). IsHolePart f s k 0 size next end → HasKind s k f × IsTailPart s k 0 next end) (sym young) (λ part. part)
-]
-
-hole-part : (fill : Kind) → FillsTails fill → (s : HeapState) (k at size : ℕ) → HasHole fill s k at size → HasRoomFrom fill s k 0 size at 4096
-hole-part fill fills s k at size = elim fills as (λ _. HasHole fill s k at size → HasRoomFrom fill s k 0 size at 4096) [
-  | inl bump ↦ subst (λ (f : Kind). HasHole f s k at size → HasRoomFrom f s k 0 size at 4096) (sym bump)
-      (λ hole. record { part = (hole.0, record { begin = at; tail = hole.1; starts = omega arith; ends = refl }); room = hole.2 })
-  | inr young ↦ subst (λ (f : Kind). HasHole f s k at size → HasRoomFrom f s k 0 size at 4096) (sym young)
-      (λ hole. record { part = (hole.0, record { begin = at; tail = hole.1; starts = omega arith; ends = refl }); room = hole.2 })
-]
-
+-- a tail with room has room for fewer words
 hole-less : (fill : Kind) → FillsTails fill → (s : HeapState) (k at size less : ℕ) → less ≤ size → HasHole fill s k at size → HasHole fill s k at less
 hole-less fill fills s k at size less most = elim fills as (λ _. HasHole fill s k at size → HasHole fill s k at less) [
   | inl bump ↦ subst (λ (f : Kind). HasHole f s k at size → HasHole f s k at less) (sym bump) (λ hole. (hole.0, hole.1, (let room : at + size ≤ 4096 = hole.2 in omega arith)))
   | inr young ↦ subst (λ (f : Kind). HasHole f s k at size → HasHole f s k at less) (sym young) (λ hole. (hole.0, hole.1, (let room : at + size ≤ 4096 = hole.2 in omega arith)))
 ]
 
--- no first hole: no hole
-pub no-hole : (fill : Kind) → FillsTails fill → (s : HeapState) (k least : ℕ) → IsFirstHole fill s k 0 least None → (at size : ℕ) → least ≤ size → HasHole fill s k at size → ⊥
-no-hole fill fills s k least none at size most hole = none at 4096 (hole-part fill fills s k at least (hole-less fill fills s k at size least most hole))
+-- a block of cells for the smaller size has no hole for more words either
+no-cell : (s : HeapState) (k least : ℕ) → 1 ≤ least → least ≤ 2048 → (HasKind s k kinds.Cells → class_at s k ≡ class_for kinds.Cells least) → IsFirstHole kinds.Cells s k 0 least None
+    → (at size : ℕ) → HasHole kinds.Cells s k at size → ⊥
+no-cell s k least some small suits none at size hole =
+    none-first kinds.Cells (inr refl) s k least none at (hole.0, hole.1, (suits-class s k least some small (suits hole.0)).class)
+
+-- A block that has no first hole for a size has no hole for as many words or more, if its class is the size's.
+pub no-hole : (fill : Kind) → FillsTailsOrCells fill → (s : HeapState) (k least : ℕ) → 1 ≤ least → least ≤ 2048 → (HasKind s k fill → class_at s k ≡ class_for fill least)
+    → IsFirstHole fill s k 0 least None → (at size : ℕ) → least ≤ size → HasHole fill s k at size → ⊥
+no-hole fill (inl tails) s k least some small suits none at size most hole = none-first fill (inl tails) s k least none at (hole-less fill tails s k at size least most hole)
+no-hole fill (inr cells) s k least some small suits none at size most hole = no-cell s k least some small
+    (subst (λ (f : Kind). HasKind s k f → class_at s k ≡ class_for f least) cells suits) (subst (λ (f : Kind). IsFirstHole f s k 0 least None) cells none)
+    at size (subst (λ (f : Kind). HasHole f s k at size) cells hole)
+
+-- a block with a first hole for a size has its class
+pub hole-class : (fill : Kind) → FillsTailsOrCells fill → (s : HeapState) (k size : ℕ) (region : Region) → IsTrue (is_block_code (block_word s k))
+    → IsFirstHole fill s k 0 size (Some region) → class_at s k ≡ class_for fill size
+hole-class fill (inl tails) s k size region code hole =
+    turns.tail-suits fill tails s k size code (part-kind fill s k 0 size region.next region.end hole.hole.part)
+hole-class fill (inr cells) s k size region code hole =
+    sym (ap (λ (o : Option ℕ). unwrap_or o 0) (part-class fill s k size region hole cells)) ∙ ap (λ (f : Kind). class_for f size) (sym cells)
 
 -- a block with a hole that nobody owns
 module _ (a b : PlainRow) (ready : IsReady a) (block least size : ℕ) (region : Region) (note : slice_get a.notes.items block ≡ Some (Unowned least))
@@ -309,36 +357,46 @@ module _ (a b : PlainRow) (ready : IsReady a) (block least size : ℕ) (region :
   there : block < a.row.layout.blocks
   there = let now = ready.idle.some in turns.note-block now.epoch now.ideal now.log a now.at block (Unowned least) note
 
-  part : HasKind (state_of a.row) block a.fill × IsTailPart (state_of a.row) block 0 region.next region.end
-  part = part-tail a.fill ready.idle.some.at.tails (state_of a.row) block size region.next region.end hole.hole.part
-
   pub hole-filled : HasKind (state_of a.row) block a.fill
-  hole-filled = part.0
+  hole-filled = part-kind a.fill (state_of a.row) block 0 size region.next region.end hole.hole.part
 
-  valid-hole : IsValid (record { kind = a.fill; class = class_at (state_of a.row) block; owner = owner_at (state_of a.row) block })
-  valid-hole = let now = ready.idle.some in valid-parts (state_of a.row) block a.fill part.0 (facts.code now.epoch now.ideal now.log a now.at block there)
+  suits-size : class_at (state_of a.row) block ≡ class-in a size
+  suits-size = let now = ready.idle.some in hole-class a.fill now.at.fills (state_of a.row) block size region (facts.code now.epoch now.ideal now.log a now.at block there) hole
 
-  begins : part.1.begin ≡ region.next
-  begins = let starts : region.next ≡ max part.1.begin 0 = part.1.starts in omega arith
+  word-before : block_word (state_of a.row) block ≡ code_of (block_of_kind a.fill (class-in a size))
+  word-before = unowned-code (state_of a.row) block (class-in a size) a.fill hole-filled suits-size
+      (let now = ready.idle.some in (turns.unowned-note now.epoch now.ideal now.log a now.at block least note).owner)
 
-  pub gains-hole : TakesBlock a b block region (ticket_of (seat_at_turn a)) → Gains a b block region false
+  same-class : block_word (heap-taken a block (class-in a size)) block % 65536 ≡ block_word (state_of a.row) block % 65536
+  same-class =
+      let now = ready.idle.some in
+      let after : block_word (heap-taken a block (class-in a size)) block ≡ word-taken a (class-in a size) =
+      blocks.block-set (state_of a.row) block (word-taken a (class-in a size)) there (turns.extent now.epoch now.ideal now.log a now.at) in
+      let class : class-in a size ≤ 18 = turns.class-few a.fill size in
+      let before = word-before in
+      let few : kind_code a.fill ≤ 8 = kind_code_most a.fill in
+      omega arith
+
+  pub gains-hole : TakesBlock a b block (class-in a size) region (ticket_of (seat_at_turn a)) → Gains a b block (class-in a size) region false
   gains-hole takes = record {
     takes = takes;
     there = there;
-    word = unowned-code (state_of a.row) block a.fill part.0 (turns.tail-class a.fill _ _ ready.idle.some.at.tails valid-hole)
-        (let now = ready.idle.some in (turns.unowned-note now.epoch now.ideal now.log a now.at block least note).owner);
+    valid = let now = ready.idle.some in turns.own-valid now.epoch now.ideal now.log a now.at ready.turn size;
+    word = word-before;
     tickets = λ wrong. absurd (let is : false ≡ true = wrong in cc);
-    tail = subst (IsTail (state_of a.row) block) begins part.1.tail;
-    inside = (let fits : region.next + size ≤ region.end = hole.hole.room in omega arith);
-    end = part.1.ends;
+    left = subst (λ (t : HeapState). IsRegionIn a.fill t block region) (sym takes.words)
+        (region-as a.fill (state_of a.row) (heap-taken a block (class-in a size)) block region
+        (taking.same-block (state_of a.row) block (word-taken a (class-in a size)) there block there same-class)
+        (hole-region a.fill ready.idle.some.at.fills (state_of a.row) block size region hole));
     unowned = λ owner r other. let wrong : Unowned least ≡ Owned owner r = one-element (slice_get a.notes.items block) (Unowned least) (Owned owner r) note other in cc;
   }
 
 -- the world after a mutator returned to a block of its own
-module _ (a b : PlainRow) (block size : ℕ) (region : Region) (note : slice_get a.notes.items block ≡ Some (Owned (number_at_turn a) region)) (fits : region.next + size ≤ region.end)
-    (returns : ReturnsTo a b block) (ready : IsReady a) where
+module _ (a b : PlainRow) (block size : ℕ) (region : Region) (note : slice_get a.notes.items block ≡ Some (Owned (number_at_turn a) region))
+    (suits : class_at (state_of a.row) block ≡ class_for a.fill size) (fits : region.next + size ≤ region.end)
+    (returns : ReturnsTo a b block (class_for a.fill size)) (ready : IsReady a) where
   abbrev seat : PlainSeat
-  seat = record { ticket = ticket_of (seat_at_turn a); block = Some block }
+  seat = record { ticket = ticket_of (seat_at_turn a); blocks = slice_set (blocks_of (seat_at_turn a)) (class_for a.fill size) (Some block) }
 
   same-heap : state_of b.row ≡ state_of a.row
   same-heap = ap (λ r. state_of r) returns.row
@@ -363,14 +421,38 @@ module _ (a b : PlainRow) (block size : ℕ) (region : Region) (note : slice_get
       | inr other ↦ at.each k q y (was k q is) other.1
     ]
 
-    regions : (k : ℕ) (q : Mutator) (y : PlainSeat) (c : ℕ) → slice_get b.mutators.items k ≡ Some q → slice_get b.seats.items k ≡ Some y → y.block ≡ Some c → IsRegionOf b.notes.items q.number c
-    regions k q y c is sits current = subst (λ v. IsRegionOf v.items q.number c) (sym returns.notes) (elim (changes-cases a.seats.items b.seats.items a.turn seat returns.seats k y sits) as (λ _. IsRegionOf a.notes.items q.number c) [
-      | inl mine ↦ (let same : block ≡ c = one-element (Some block) block c refl (ap (λ z. z.block) (sym mine.1) ∙ current) in record {
-        region = region;
-        note = ap (slice_get a.notes.items) (sym same) ∙ note ∙ ap (λ o. Some (Owned (number_of o) region)) (subst (λ n. slice_get a.mutators.items n ≡ Some q) mine.0 (was k q is));
+    -- a block that a mutator allocated in is its own still
+    still-own : (n c d : ℕ) → IsRegionOf a.notes.items n d × (class_at (state_of a.row) d ≡ c) → IsRegionOf b.notes.items n d × (class_at (state_of b.row) d ≡ c)
+    still-own n c d has = (
+      subst (λ v. IsRegionOf v.items n d) (sym returns.notes) has.0,
+      ap (λ (t : HeapState). class_at t d) same-heap ∙ has.1,
+    )
+
+    own-cursors : HasCursors b.notes.items (state_of b.row) (number_at_turn a) seat
+    own-cursors = record {
+      classes = length-set (blocks_of (seat_at_turn a)) (class_for a.fill size) (Some block) ∙ turns.own-classes p i log a at ready.turn;
+      each = λ c d is.
+          let many : length (blocks_of (seat_at_turn a)) ≡ 19 = turns.own-classes p i log a at ready.turn in
+          let few : class_for a.fill size ≤ 18 = turns.class-few a.fill size in
+          still-own (number_at_turn a) c d
+          (elim (changes-cases (blocks_of (seat_at_turn a)) seat.blocks (class_for a.fill size) (Some block)
+          (set-changes (blocks_of (seat_at_turn a)) (class_for a.fill size) (Some block) (omega arith)) c (Some d) is) as
+          (λ _. IsRegionOf a.notes.items (number_at_turn a) d × (class_at (state_of a.row) d ≡ c)) [
+            | inl here ↦ (let same : d ≡ block = one-element (Some block) d block (sym here.1) refl in
+                (record { region = region; note = ap (slice_get a.notes.items) same ∙ note }, ap (class_at (state_of a.row)) same ∙ suits ∙ sym here.0))
+            | inr other ↦ turns.own-region p i log a at ready.turn c d (ap (λ o. unwrap_or o None) other.1)
+          ]);
+    }
+
+    cursors : (k : ℕ) (q : Mutator) (y : PlainSeat) → slice_get b.mutators.items k ≡ Some q → slice_get b.seats.items k ≡ Some y → HasCursors b.notes.items (state_of b.row) q.number y
+    cursors k q y is sits = elim (changes-cases a.seats.items b.seats.items a.turn seat returns.seats k y sits) as (λ _. HasCursors b.notes.items (state_of b.row) q.number y) [
+      | inl mine ↦ subst (HasCursors b.notes.items (state_of b.row) q.number) (sym mine.1)
+          (subst (λ (n : ℕ). HasCursors b.notes.items (state_of b.row) n seat) (ap number_of (subst (λ n. slice_get a.mutators.items n ≡ Some q) mine.0 (was k q is))) own-cursors)
+      | inr other ↦ (let had = at.cursors k q y (was k q is) other.1 in record {
+        classes = had.classes;
+        each = λ c d there. still-own q.number c d (had.each c d there);
       })
-      | inr other ↦ at.regions k q y c (was k q is) other.1 current
-    ])
+    ]
 
     pub at-returned : IsAt p i log b
     at-returned = record {
@@ -379,11 +461,11 @@ module _ (a b : PlainRow) (block size : ℕ) (region : Region) (note : slice_get
       numbers = ap (λ y. map (λ z. z.number) y.items) returns.mutators ∙ at.numbers;
       seats = returns.seats.len ∙ at.seats ∙ ap (λ y. length y.items) (sym returns.mutators);
       each = each;
-      regions = regions;
+      cursors = cursors;
       notes = subst (λ f. HasNotes f (state_of b.row) b.notes.items) (sym returns.plan.fill)
           (subst (λ (t : HeapState). HasNotes a.fill t b.notes.items) (sym same-heap) (subst (λ v. HasNotes a.fill (state_of a.row) v.items) (sym returns.notes) at.notes));
       fill = returns.plan.fill ∙ at.fill;
-      tails = subst FillsTails (sym returns.plan.fill) at.tails;
+      fills = subst FillsTailsOrCells (sym returns.plan.fill) at.fills;
       young = returns.plan.young ∙ at.young;
       allowed = returns.plan.allowance ∙ at.allowed;
       lists = lists-kept p a b at.lists returns.notes returns.owned returns.plan.counts (ap (λ r. r.layout.blocks) returns.row);
@@ -395,9 +477,13 @@ module _ (a b : PlainRow) (block size : ℕ) (region : Region) (note : slice_get
   pub returned-goes : Goes a nothing b
   returned-goes = still-goes a b returns.plan returns.mutators returns.row (ap ticket_of seat-same) returns.seats.others at-returned
 
-  pub returned-region : IsRegion b block region
+  current-again : block_of (seat_at_turn b) (class_for a.fill size) ≡ Some block
+  current-again = let now = ready.idle.some in ap (λ o. block_of o (class_for a.fill size)) seat-same
+      ∙ seat-has (blocks_of (seat_at_turn a)) (class_for a.fill size) block (turns.class-few a.fill size) (turns.own-classes now.epoch now.ideal now.log a now.at ready.turn)
+
+  pub returned-region : IsRegion b size block region
   returned-region = record {
-    current = ap block_of seat-same;
+    current = ap (λ (f : Kind). block_of (seat_at_turn b) (class_for f size)) returns.plan.fill ∙ current-again;
     note = ap (λ y. slice_get y.items block) returns.notes ∙ note ∙ ap (λ n. Some (Owned n region)) (sym (number-kept a b returns.plan returns.mutators));
   }
 
@@ -417,6 +503,7 @@ module _ (a b : PlainRow) (block size : ℕ) (region : Region) (note : slice_get
 
 -- the world after a block was found to have no room
 module _ (a b : PlainRow) (block least size : ℕ) (note : slice_get a.notes.items block ≡ Some (Unowned least)) (none : IsFirstHole a.fill (state_of a.row) block 0 size None)
+    (suits : HasKind (state_of a.row) block a.fill → class_at (state_of a.row) block ≡ class_for a.fill size) (some : 3 ≤ size) (small : size ≤ 2048)
     (marks : NotesBlock a b block (Unowned size)) (ready : IsReady a) where
   same-row : state_of b.row ≡ state_of a.row
   same-row = ap (λ r. state_of r) marks.row
@@ -426,7 +513,7 @@ module _ (a b : PlainRow) (block least size : ℕ) (note : slice_get a.notes.ite
     each-noted k n is = elim (changes-cases a.notes.items b.notes.items block (Unowned size) marks.notes k n is) as (λ _. IsNote a.fill (state_of a.row) k n) [
       | inl here ↦ (let right : IsUnownedNote a.fill (state_of a.row) block size = record {
         owner = (turns.unowned-note p i log a at block least note).owner;
-        none = no-hole a.fill at.tails (state_of a.row) block size none;
+        none = no-hole a.fill at.fills (state_of a.row) block size (omega (arith, some)) small suits none;
       } in subst (λ (q : ℕ). IsNote a.fill (state_of a.row) q n) (sym here.0) (subst (IsNote a.fill (state_of a.row) block) (sym here.1) right))
       | inr other ↦ at.notes.each k n other.1
     ]
@@ -438,15 +525,21 @@ module _ (a b : PlainRow) (block least size : ℕ) (note : slice_get a.notes.ite
       numbers = ap (λ y. map (λ z. z.number) y.items) marks.mutators ∙ at.numbers;
       seats = ap (λ y. length y.items) marks.seats ∙ at.seats ∙ ap (λ y. length y.items) (sym marks.mutators);
       each = λ k q y is sits. at.each k q y (ap (λ z. slice_get z.items k) (sym marks.mutators) ∙ is) (ap (λ z. slice_get z.items k) (sym marks.seats) ∙ sits);
-      regions = λ k q y c is sits current. let was = at.regions k q y c (ap (λ z. slice_get z.items k) (sym marks.mutators) ∙ is) (ap (λ z. slice_get z.items k) (sym marks.seats) ∙ sits) current in record {
-        region = was.region;
-        note = marks.notes.others c (λ same. let wrong : Unowned least ≡ Owned q.number was.region = one-element (slice_get a.notes.items block) (Unowned least) (Owned q.number was.region) note (ap (slice_get a.notes.items) (sym same) ∙ was.note) in cc)
-            ∙ was.note;
+      cursors = λ k q y is sits. let had = at.cursors k q y (ap (λ z. slice_get z.items k) (sym marks.mutators) ∙ is) (ap (λ z. slice_get z.items k) (sym marks.seats) ∙ sits) in record {
+        classes = had.classes;
+        each = λ c d there. let has = had.each c d there in (
+          record {
+            region = has.0.region;
+            note = marks.notes.others d (λ same. let wrong : Unowned least ≡ Owned q.number has.0.region =
+                one-element (slice_get a.notes.items block) (Unowned least) (Owned q.number has.0.region) note (ap (slice_get a.notes.items) (sym same) ∙ has.0.note) in cc) ∙ has.0.note;
+          },
+          ap (λ (t : HeapState). class_at t d) same-row ∙ has.1,
+        );
       };
       notes = subst (λ f. HasNotes f (state_of b.row) b.notes.items) (sym marks.plan.fill)
           (subst (λ (t : HeapState). HasNotes a.fill t b.notes.items) (sym same-row) (record { len = marks.notes.len ∙ at.notes.len; each = each-noted }));
       fill = marks.plan.fill ∙ at.fill;
-      tails = subst FillsTails (sym marks.plan.fill) at.tails;
+      fills = subst FillsTailsOrCells (sym marks.plan.fill) at.fills;
       young = marks.plan.young ∙ at.young;
       allowed = marks.plan.allowance ∙ at.allowed;
       lists = lists-moved p a b at.lists (listed-noted a.notes.items b.notes.items a.owned.items block least size note marks.notes at.lists.owned)
@@ -470,76 +563,89 @@ module _ (a b : PlainRow) (block least size : ℕ) (note : slice_get a.notes.ite
   }
 
   pub noted-lacks : Lacks b size block
-  noted-lacks = λ at whose hole. no-hole a.fill ready.idle.some.at.tails (state_of a.row) block size none at size (omega arith)
+  noted-lacks = λ at whose hole. no-hole a.fill ready.idle.some.at.fills (state_of a.row) block size (omega (arith, some)) small suits none at size (omega arith)
       (subst (λ (t : HeapState). HasHole a.fill t block at size) same-row (subst (λ (f : Kind). HasHole f (state_of b.row) block at size) marks.plan.fill hole))
 
 -- a mutator that enters a block
 pub enters-goes : (a b : PlainRow) (block size : ℕ) → IsReady a → FindsHole a b block size
     → (blocks : List ℕ) × ((blocks ≡ []) ⊎ (blocks ≡ block ∷ [])) × Goes a (effects.takes blocks) b
-enters-goes a b block size ready (own region note fits returns) = ([], inl refl, returned-goes a b block size region note fits returns ready)
+enters-goes a b block size ready (own region note suits fits returns) = ([], inl refl, returned-goes a b block size region note suits fits returns ready)
 enters-goes a b block size ready (taken least region note hole takes) =
-    (block ∷ [], inr refl, goes-used a b ready block region false (gains-hole a b ready block least size region note hole takes) (hole-filled a b ready block least size region note hole) refl)
+    (block ∷ [], inr refl, goes-used a b ready block size region false (gains-hole a b ready block least size region note hole takes) (hole-filled a b ready block least size region note hole) refl)
 
-pub enters-offers : (a b : PlainRow) (block size : ℕ) → IsReady a → FindsHole a b block size → Offers a b size
-enters-offers a b block size ready (own region note fits returns) =
-    own-offer a b ready.idle.some block size region note fits (returned-region a b block size region note fits returns ready)
-enters-offers a b block size ready (taken least region note hole takes) =
+pub enters-offers : (a b : PlainRow) (block size : ℕ) → 3 ≤ size → size ≤ 2048 → IsReady a → FindsHole a b block size → Offers a b size
+enters-offers a b block size some small ready (own region note suits fits returns) =
+    own-offer a b ready.idle.some block size region note suits some small fits (returned-region a b block size region note suits fits returns ready)
+enters-offers a b block size some small ready (taken least region note hole takes) =
     let now = ready.idle.some in
     let gains = gains-hole a b ready block least size region note hole takes in record {
       block = block;
       region = region;
-      now = region-now a b ready block region false gains;
+      now = region-now a b ready block size region false gains;
       offer = inl (
-        rooms.has-hole a.fill now.at.tails (state_of a.row) block region.next size (hole-filled a b ready block least size region note hole) gains.tail
-            (let room : region.next + size ≤ region.end = hole.hole.room in let end : region.end ≡ 4096 = gains.end in omega arith),
+        record {
+          hole = first-hole a.fill now.at.fills (state_of a.row) block size region hole;
+          first = λ from there. region-before a.fill (state_of a.row) block region (hole-region a.fill now.at.fills (state_of a.row) block size region hole) from size there;
+        },
         inl (turns.unowned-note now.epoch now.ideal now.log a now.at block least note).owner,
       );
     }
 
 pub enters-room : (a b : PlainRow) (block size : ℕ) → IsReady a → FindsHole a b block size → HasRoom b size
-enters-room a b block size ready (own region note fits returns) = returned-room a b block size region note fits returns ready
+enters-room a b block size ready (own region note suits fits returns) = returned-room a b block size region note suits fits returns ready
 enters-room a b block size ready (taken least region note hole takes) =
-    room a b ready block region false (gains-hole a b ready block least size region note hole takes) size hole.hole.room
+    room a b ready block size region false (gains-hole a b ready block least size region note hole takes) hole.hole.room
 
-pub enters-current : (a b : PlainRow) (block size : ℕ) → IsReady a → FindsHole a b block size → AllocatesIn b block
-enters-current a b block size ready (own region note fits returns) = (returned-region a b block size region note fits returns ready).current
+pub enters-current : (a b : PlainRow) (block size : ℕ) → IsReady a → FindsHole a b block size → AllocatesIn b size block
+enters-current a b block size ready (own region note suits fits returns) = (returned-region a b block size region note suits fits returns ready).current
 enters-current a b block size ready (taken least region note hole takes) =
-    (region-now a b ready block region false (gains-hole a b ready block least size region note hole takes)).current
+    (region-now a b ready block size region false (gains-hole a b ready block least size region note hole takes)).current
 
 -- a mutator that leaves a block
-pub leaves-goes : (a b : PlainRow) (block size : ℕ) → IsReady a → LacksHole a b block size → Goes a nothing b
-leaves-goes a b block size ready (known least note most same) = goes-nothing a b same
-leaves-goes a b block size ready (seen least note none marks) = noted-goes a b block least size note none marks ready
-leaves-goes a b block size ready (foreign owner region note away same) = goes-nothing a b same
+pub leaves-goes : (a b : PlainRow) (block size : ℕ) → 3 ≤ size → size ≤ 2048 → IsReady a → LacksHole a b block size → Goes a nothing b
+leaves-goes a b block size some small ready (known least note most same) = goes-nothing a b same
+leaves-goes a b block size some small ready (seen least note none suits marks) = noted-goes a b block least size note none suits some small marks ready
+leaves-goes a b block size some small ready (foreign owner region note away same) = goes-nothing a b same
+leaves-goes a b block size some small ready (unsuited least note other same) = goes-nothing a b same
 
-pub leaves-ready : (a b : PlainRow) (block size : ℕ) → IsReady a → LacksHole a b block size → IsReady b
-leaves-ready a b block size ready (known least note most same) = subst IsReady (sym same) ready
-leaves-ready a b block size ready (seen least note none marks) = noted-ready a b block least size note none marks ready
-leaves-ready a b block size ready (foreign owner region note away same) = subst IsReady (sym same) ready
+pub leaves-ready : (a b : PlainRow) (block size : ℕ) → 3 ≤ size → size ≤ 2048 → IsReady a → LacksHole a b block size → IsReady b
+leaves-ready a b block size some small ready (known least note most same) = subst IsReady (sym same) ready
+leaves-ready a b block size some small ready (seen least note none suits marks) = noted-ready a b block least size note none suits some small marks ready
+leaves-ready a b block size some small ready (foreign owner region note away same) = subst IsReady (sym same) ready
+leaves-ready a b block size some small ready (unsuited least note other same) = subst IsReady (sym same) ready
 
 -- what the world offers then, it offered before
 pub leaves-offers : (a b : PlainRow) (block size : ℕ) → LacksHole a b block size → (c : PlainRow) (n : ℕ) → Offers b c n → Offers a c n
 leaves-offers a b block size (known least note most same) c n = subst (λ w. Offers b c n → Offers w c n) same (λ offers. offers)
-leaves-offers a b block size (seen least note none marks) c n = offers-back a b c n (ap (λ r. state_of r) marks.row) marks.plan.fill (number-kept a b marks.plan marks.mutators)
+leaves-offers a b block size (seen least note none suits marks) c n = offers-back a b c n (ap (λ r. state_of r) marks.row) marks.plan.fill (number-kept a b marks.plan marks.mutators)
 leaves-offers a b block size (foreign owner region note away same) c n = subst (λ w. Offers b c n → Offers w c n) same (λ offers. offers)
+leaves-offers a b block size (unsuited least note other same) c n = subst (λ w. Offers b c n → Offers w c n) same (λ offers. offers)
 
 -- another block is as it was
 lacks-kept : (a b : PlainRow) → IsReady a → b.row ≡ a.row → b.fill ≡ a.fill → number_at_turn b ≡ number_at_turn a → (n k : ℕ) → Lacks a n k → Lacks b n k
-lacks-kept a b ready row fill number n k = lacks-after a b n k ready.idle.some.at.tails fill number (λ there. ap (λ r. owner_at (state_of r) k) row)
+lacks-kept a b ready row fill number n k = lacks-after a b n k fill number (λ there. ap (λ r. owner_at (state_of r) k) row)
     (λ at size. subst (λ r. HasHole a.fill (state_of r) k at size → HasHole a.fill (state_of a.row) k at size) (sym row) (λ hole. hole))
 
 pub enters-others : (a b : PlainRow) (block size : ℕ) → IsReady a → FindsHole a b block size → (n k : ℕ) → k ≢ block → Lacks a n k → Lacks b n k
-enters-others a b block size ready (own region note fits returns) n k other = lacks-kept a b ready returns.row returns.plan.fill (number-kept a b returns.plan returns.mutators) n k
-enters-others a b block size ready (taken least region note hole takes) n k other = other-lacks a b ready block region false (gains-hole a b ready block least size region note hole takes) n k other
+enters-others a b block size ready (own region note suits fits returns) n k other = lacks-kept a b ready returns.row returns.plan.fill (number-kept a b returns.plan returns.mutators) n k
+enters-others a b block size ready (taken least region note hole takes) n k other = other-lacks a b ready block size region false (gains-hole a b ready block least size region note hole takes) n k other
 
 pub leaves-others : (a b : PlainRow) (block size : ℕ) → IsReady a → LacksHole a b block size → (n k : ℕ) → Lacks a n k → Lacks b n k
 leaves-others a b block size ready (known least note most same) n k = subst (λ w. Lacks a n k → Lacks w n k) (sym same) (λ lacks. lacks)
-leaves-others a b block size ready (seen least note none marks) n k = lacks-kept a b ready marks.row marks.plan.fill (number-kept a b marks.plan marks.mutators) n k
+leaves-others a b block size ready (seen least note none suits marks) n k = lacks-kept a b ready marks.row marks.plan.fill (number-kept a b marks.plan marks.mutators) n k
 leaves-others a b block size ready (foreign owner region note away same) n k = subst (λ w. Lacks a n k → Lacks w n k) (sym same) (λ lacks. lacks)
+leaves-others a b block size ready (unsuited least note other same) n k = subst (λ w. Lacks a n k → Lacks w n k) (sym same) (λ lacks. lacks)
 
--- a block that another mutator owns, or whose region has no room
+-- a block with cells for objects of other sizes
+pub unsuited-lacks : (a : PlainRow) (block size : ℕ) → IsReady a → class_at (state_of a.row) block ≢ class_for a.fill size → Lacks a size block
+unsuited-lacks a block size ready other at whose hole =
+    let now = ready.idle.some in
+    let there : block < a.row.layout.blocks = kind-within (state_of a.row) block a.fill (hole-kind a.fill (state_of a.row) block at size hole) in
+    turns.suits-hole a.fill now.at.fills (state_of a.row) block at size (facts.code now.epoch now.ideal now.log a now.at block there) other hole
+
+-- a block that another mutator owns, or whose region has no room, or of another class
 pub foreign-lacks : (a : PlainRow) (block size owner : ℕ) (region : Region) → IsReady a → slice_get a.notes.items block ≡ Some (Owned owner region)
-    → (owner ≢ number_at_turn a) ⊎ (region.end < region.next + size) → Lacks a size block
+    → (owner ≢ number_at_turn a) ⊎ (region.end < region.next + size) ⊎ (class_at (state_of a.row) block ≢ class_for a.fill size) → Lacks a size block
 foreign-lacks a block size owner region ready note away at whose hole =
     let now = ready.idle.some in
     let right = turns.owned-note now.epoch now.ideal now.log a now.at block owner region note in
@@ -547,22 +653,14 @@ foreign-lacks a block size owner region ready note away at whose hole =
       | inl nobody ↦ (let some : 0 < owner = right.some in let is : owner_at (state_of a.row) block ≡ owner = right.owner in let none : owner_at (state_of a.row) block ≡ 0 = nobody in omega arith)
       | inr mine ↦ elim away as (λ _. ⊥) [
         | inl other ↦ other (sym right.owner ∙ mine)
-        | inr full ↦
-            (let part = (hole-part a.fill now.at.tails (state_of a.row) block at size hole) in
-            let tail = (part-tail a.fill now.at.tails (state_of a.row) block size at 4096 part.part).1 in
-            let starts : at ≡ max tail.begin 0 = tail.starts in
-            let same : tail.begin ≡ region.next = tail-same tail.begin region.next tail.tail right.tail in
-            let room : at + size ≤ 4096 = part.room in
-            let end : region.end ≡ 4096 = right.end in
-            omega arith)
+        | inr (inl over) ↦ region-lacks a.fill (state_of a.row) block at size region right.left over hole
+        | inr (inr class) ↦ unsuited-lacks a block size ready class at whose hole
       ]
     ]
-  where
-    tail-same : (x y : ℕ) → IsTail (state_of a.row) block x → IsTail (state_of a.row) block y → x ≡ y
-    tail-same x y = tail-unique (state_of a.row) block x y
 
-pub leaves-lacks : (a b : PlainRow) (block size : ℕ) → IsReady a → LacksHole a b block size → Lacks b size block
-leaves-lacks a b block size ready (known least note most same) = subst (λ w. Lacks w size block) (sym same)
+pub leaves-lacks : (a b : PlainRow) (block size : ℕ) → 3 ≤ size → size ≤ 2048 → IsReady a → LacksHole a b block size → Lacks b size block
+leaves-lacks a b block size some small ready (known least note most same) = subst (λ w. Lacks w size block) (sym same)
     (λ at whose hole. let now = ready.idle.some in (turns.unowned-note now.epoch now.ideal now.log a now.at block least note).none at size most hole)
-leaves-lacks a b block size ready (seen least note none marks) = noted-lacks a b block least size note none marks ready
-leaves-lacks a b block size ready (foreign owner region note away same) = subst (λ w. Lacks w size block) (sym same) (foreign-lacks a block size owner region ready note away)
+leaves-lacks a b block size some small ready (seen least note none suits marks) = noted-lacks a b block least size note none suits some small marks ready
+leaves-lacks a b block size some small ready (foreign owner region note away same) = subst (λ w. Lacks w size block) (sym same) (foreign-lacks a block size owner region ready note away)
+leaves-lacks a b block size some small ready (unsuited least note other same) = subst (λ w. Lacks w size block) (sym same) (unsuited-lacks a block size ready other)

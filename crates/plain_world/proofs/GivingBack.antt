@@ -1,11 +1,11 @@
 -- The heap while its blocks are given back, one after another.
-use Rattle.std.proofs.Common.{◌≡◌, ◌≢◌, refl, sym, ◌∙◌, ap, subst, ℕ, ◌+◌, ◌-◌, ◌*◌, ◌/◌, ◌%◌, ◌^◌, ◌<◌, ◌≤◌, ◌⊎◌, inl, inr, arith, length, List, IsTrue, nat_eq, get_or-set_other, length-set, get_or}
+use Rattle.std.proofs.Common.{◌≡◌, ◌≢◌, refl, sym, ◌∙◌, ap, subst, ℕ, ◌+◌, ◌-◌, ◌*◌, ◌/◌, ◌%◌, ◌^◌, ◌<◌, ◌≤◌, ◌⊎◌, inl, inr, arith, length, List, nat_eq, get_or-set_other, length-set, get_or}
 use Rattle.std.specs.Prelude.{Some, slice_get}
 use Rattle.std.specs.Int.{bit_at}
 use Rattle.std.proofs.lemmas.Bool.{cases_eq}
 use Rattle.std.proofs.lemmas.List.{get_or_default}
 use Rattle.heap_layout.specs.Zones.{first, BlockWords, LineWords, row_words, bit_of}
-use Rattle.heap_layout.specs.Blocks.{is_block_code, is_valid_for_some, kind_of_code, kind_code, code_of}
+use Rattle.heap_layout.specs.Blocks.{kind_code}
 use Rattle.heap_layout.specs.declared.block.Kind.{Kind}
 use Rattle.heap_layout.specs.declared.block.Kind.TheVariants as kinds
 use Rattle.heap_layout.specs.declared.region.Region.{Region}
@@ -14,16 +14,15 @@ use Rattle.object_model.specs.Lawful.{IsWellFormed}
 use Rattle.object_model.proofs.Blocks as blocks
 use Rattle.object_model.proofs.Blocks.{set_block}
 use Rattle.object_model.proofs.OneKind.{kind-within, kind-code}
-use Rattle.sessions.proofs.Tails.{tail-unique}
 use Rattle.mutator_core.specs.Closing.{GivesBack}
 use Rattle.plain_world.specs.declared.plain_row.BlockNote.{BlockNote}
 use Rattle.plain_world.specs.declared.plain_row.BlockNote.TheVariants.{Unowned, Owned}
 use Rattle.plain_world.specs.Rows.{ChangesAt}
-use Rattle.plain_world.specs.Notes.{FillsTails, IsNote, IsOwnedNote, IsUnownedNote, HasNotes, ListsOwned, AreUnowned, GivesBackBlock, given, nobody}
+use Rattle.plain_world.specs.Notes.{FillsTailsOrCells, IsNote, IsOwnedNote, IsUnownedNote, HasNotes, ListsOwned, AreUnowned, GivesBackBlock, given, nobody}
 use Rattle.plain_world.proofs.Lists.{get-some, get-below, one-element}
-use Rattle.plain_world.proofs.Rooms.{hole-parts}
-use Rattle.plain_world.proofs.Taking.{changes-cases, tail-before, note-after}
-use Rattle.plain_world.proofs.Turns.{tail-class}
+use Rattle.plain_world.proofs.Regions.{region-inside, region-lacks}
+use Rattle.plain_world.proofs.RegionFrames.{SameBlock, region-as}
+use Rattle.plain_world.proofs.Taking.{changes-cases, same-block, note-after}
 
 -- the blocks below n have no owner, and all other words are the old ones
 pub record IsBackBelow (old new : HeapState) (n : ℕ) : Type 0 where
@@ -35,25 +34,15 @@ pub record IsBackBelow (old new : HeapState) (n : ℕ) : Type 0 where
   pub owners : (k : ℕ) → k < n → block_word new k ≡ block_word old k % 65536
   pub rest : (i : ℕ) → (i < first old.blocks BlockWords) ⊎ (first old.blocks BlockWords + n ≤ i) → word_at new i ≡ word_at old i
 
--- the word of a block that is filled by its tail, without its owner
-pub tail-word : (kind : Kind) (v : ℕ) → FillsTails kind → v % 256 ≡ kind_code kind → IsTrue (is_block_code v) → code_of (record { kind = kind; class = 0; owner = 0 }) ≡ v % 65536
-tail-word kind v tails is code =
-    let class : v / 256 % 256 ≡ 0 = elim tails as (λ _. v / 256 % 256 ≡ 0) [
-      | inl bump ↦ tail-class kinds.Bump (v / 256 % 256) (v / 65536) (inl refl) (subst (λ (q : ℕ). IsTrue (is_valid_for_some (kind_of_code q) (v / 256 % 256) (v / 65536))) (is ∙ ap kind_code bump) code)
-      | inr young ↦ tail-class kinds.Young (v / 256 % 256) (v / 65536) (inr refl) (subst (λ (q : ℕ). IsTrue (is_valid_for_some (kind_of_code q) (v / 256 % 256) (v / 65536))) (is ∙ ap kind_code young) code)
-    ] in
-    let low : v % 256 ≡ kind_code kind = is in
-    omega arith
-
-tail-code : (kind : Kind) → FillsTails kind → kind_code kind ≢ 4
-tail-code kind tails same = elim tails as (λ _. ⊥) [
-  | inl bump ↦ (let e : kind_code kind ≡ 1 = ap kind_code bump in omega arith)
-  | inr young ↦ (let e : kind_code kind ≡ 2 = ap kind_code young in omega arith)
-]
+-- mutators fill no lines
+no-lines-code : (kind : Kind) → FillsTailsOrCells kind → kind_code kind ≢ 4
+no-lines-code kind (inl (inl bump)) same = let e : kind_code kind ≡ 1 = ap kind_code bump in omega arith
+no-lines-code kind (inl (inr young)) same = let e : kind_code kind ≡ 2 = ap kind_code young in omega arith
+no-lines-code kind (inr cells) same = let e : kind_code kind ≡ 5 = ap kind_code cells in omega arith
 
 -- all blocks are given back
-pub gives-back : (fill : Kind) (old new : HeapState) (notes : List BlockNote) → FillsTails fill → HasNotes fill old notes → IsBackBelow old new old.blocks → GivesBack old new
-gives-back fill old new notes tails noted is = record {
+pub gives-back : (fill : Kind) (old new : HeapState) (notes : List BlockNote) → FillsTailsOrCells fill → HasNotes fill old notes → IsBackBelow old new old.blocks → GivesBack old new
+gives-back fill old new notes fills noted is = record {
   blocks = is.blocks;
   number = is.number;
   base = is.base;
@@ -81,7 +70,7 @@ gives-back fill old new notes tails noted is = record {
       where
         of-note : (k : ℕ) (note : BlockNote) → 0 < owner_at old k → block_word old k % 256 ≡ 4 → IsNote fill old k note → ⊥
         of-note k (Unowned least) some then right = let nobody : owner_at old k ≡ 0 = right.owner in omega arith
-        of-note k (Owned owner region) some then right = tail-code fill tails (sym (kind-code old k fill right.kind) ∙ then)
+        of-note k (Owned owner region) some then right = no-lines-code fill fills (sym (kind-code old k fill right.kind) ∙ then)
 
 -- a block with its note as they were, or given back
 abbrev pub IsKept : HeapState → HeapState → List BlockNote → List BlockNote → ℕ → Type 0
@@ -157,8 +146,8 @@ owned-below fill old notes owned noted lists j less =
     subst (λ b. get_or owned j 0 < b) noted.len (get-below notes (get_or owned j 0) (Owned is.0 is.1) is.2)
 
 -- the next block of the list
-module _ (fill : Kind) (tails : FillsTails fill) (old s : HeapState) (notes now : List BlockNote) (owned : List ℕ) (n block : ℕ)
-    (codes : (k : ℕ) → k < old.blocks → IsTrue (is_block_code (block_word old k))) (extent : length old.words ≡ row_words old.blocks)
+module _ (fill : Kind) (fills : FillsTailsOrCells fill) (old s : HeapState) (notes now : List BlockNote) (owned : List ℕ) (n block : ℕ)
+    (extent : length old.words ≡ row_words old.blocks)
     (is : IsGivingBack fill old s notes now owned n) (reads : get_or owned n 0 ≡ block) (there : block < old.blocks) where
   visits : (later : List BlockNote) → ((j owner : ℕ) (region : Region) → slice_get later j ≡ Some (Owned owner region) → slice_get now j ≡ Some (Owned owner region))
       → ((owner : ℕ) (region : Region) → slice_get later block ≡ Some (Owned owner region) → ⊥)
@@ -171,7 +160,7 @@ module _ (fill : Kind) (tails : FillsTails fill) (old s : HeapState) (notes now 
   module _ (owner : ℕ) (region : Region) (note : slice_get now block ≡ Some (Owned owner region)) (later : List BlockNote)
       (changes : ChangesAt now later block (Unowned (region.end - region.next + 1))) where
     abbrev v : ℕ
-    v = code_of (record { kind = fill; class = 0; owner = 0 })
+    v = block_word s block % 65536
 
     abbrev t : HeapState
     t = with_words s (set_block s block v)
@@ -196,30 +185,30 @@ module _ (fill : Kind) (tails : FillsTails fill) (old s : HeapState) (notes now 
     word = blocks.block-set s block v inside many
 
     code : v ≡ block_word old block % 65536
-    code = tail-word fill (block_word old block) tails (ap (λ n. n % 256) (sym kept.1) ∙ kind-code s block fill right.kind) (codes block there)
+    code = ap (λ n. n % 65536) kept.1
 
     small : v < 2 ^ 64
-    small = let e = code in omega arith
+    small = omega arith
+
+    -- its kind and class stay
+    same : SameBlock s t block
+    same = same-block s block v inside block inside (let e = word in omega arith)
 
     away : (i : ℕ) → i ≢ 18 + block → word_at t i ≡ word_at s i
     away i other = get_or-set_other s.words (18 + block) i v 0 other
 
     own-note : IsUnownedNote fill t block (region.end - region.next + 1)
     own-note = record {
-      owner = ap (λ n. n / 65536) word ∙ (let e = code in omega arith);
+      owner = ap (λ n. n / 65536) word ∙ omega arith;
       none = λ at size most hole.
-          let parts = hole-parts fill tails t block at size hole in
-          let same : at ≡ region.next = tail-unique s block at region.next (tail-before s block v inside block at parts.1) right.tail in
-          let end : region.end ≡ 4096 = right.end in
-          let room : at + size ≤ 4096 = parts.2 in
-          let within : region.next ≤ region.end = right.inside in
-          omega arith;
+          let within = region-inside fill s block region right.left in
+          region-lacks fill t block at size region (region-as fill s t block region same right.left) (omega arith) hole;
     }
 
     each-note : (k : ℕ) (x : BlockNote) → slice_get later k ≡ Some x → IsNote fill t k x
     each-note k x read = elim (changes-cases now later block (Unowned (region.end - region.next + 1)) changes k x read) as (λ _. IsNote fill t k x) [
       | inl here ↦ subst (λ q. IsNote fill t q x) (sym here.0) (subst (IsNote fill t block) (sym here.1) own-note)
-      | inr other ↦ note-after s block v inside k other.0 fill tails x (is.noted.each k x other.1)
+      | inr other ↦ note-after s block v inside k other.0 fill fills x (subst (λ (b : ℕ). k < b) is.noted.len (get-below now k x other.1)) (is.noted.each k x other.1)
     ]
 
     cleared : (owner' : ℕ) (region' : Region) → slice_get later block ≡ Some (Owned owner' region') → ⊥
@@ -257,7 +246,7 @@ module _ (fill : Kind) (tails : FillsTails fill) (old s : HeapState) (notes now 
       visited = visits later earlier cleared;
     }
 
-  pub gives-next : (new : HeapState) (later : List BlockNote) → GivesBackBlock fill s new now later block → IsGivingBack fill old new notes later owned (n + 1)
+  pub gives-next : (new : HeapState) (later : List BlockNote) → GivesBackBlock s new now later block → IsGivingBack fill old new notes later owned (n + 1)
   gives-next new later (given owner region note words changes) =
       subst (λ u. IsGivingBack fill old u notes later owned (n + 1)) (sym words) (gives-one owner region note later changes)
   gives-next new later (nobody least note heap same) =

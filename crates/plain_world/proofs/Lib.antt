@@ -1,6 +1,8 @@
 pub mod Lists
 pub mod Elements
 pub mod Facts
+pub mod Regions
+pub mod RegionFrames
 pub mod Owning
 pub mod NoteLemmas
 pub mod Following
@@ -9,9 +11,11 @@ pub mod Entering
 pub mod Publishing
 pub mod WrittenWords
 pub mod Rooms
+pub mod CellRooms
 pub mod NewNotes
 pub mod Allocated
 pub mod Turns
+pub mod RestCells
 pub mod NewObjects
 pub mod NewObjectCalls
 pub mod CallLemmas
@@ -30,6 +34,7 @@ pub mod LoggedStores
 pub mod GivingBack
 pub mod KeptNotes
 pub mod PlacedNotes
+pub mod PlacedRuns
 pub mod Closed
 pub mod StopWords
 pub mod UserLists

@@ -11,7 +11,7 @@ use Rattle.ideal_heap.specs.declared.reply.Reply.TheVariants as r
 use Rattle.ideal_heap.specs.Ideal.{IdealHeap}
 use Rattle.ideal_heap.specs.Runs as runs
 use Rattle.object_model.specs.declared.shape.Shape.{Shape}
-use Rattle.object_model.specs.Objects.{HeapState, state_of, with_words, word_at, block_word, has_kind, is_start, is_unlogged, size_of}
+use Rattle.object_model.specs.Objects.{HeapState, state_of, with_words, word_at, block_word, has_kind, is_start, is_unlogged, size_of, class_at}
 use Rattle.object_model.specs.Changes.{ClearsUnlog}
 use Rattle.object_model.proofs.Marks as marks
 use Rattle.object_model.proofs.Frames as frames
@@ -100,8 +100,8 @@ module _ (p : Epoch) (i : IdealHeap) (log : List LogEntry) (a b : PlainRow) (at 
         (law.goes p at.epoch.ready g _ one.set one.moment m (stepping.known p i log a at turn) y may-then).leaves next-quiet next-untaken
 
     notes-two : HasNotes a.fill (with_words (heap_in p g) (next p g m y).words) a.notes.items
-    notes-two = notes.notes-after (heap_in p g) (next p g m y).words keeps-two a.fill at.tails a.notes.items
-        (notes.notes-after (heap_in p h) g.words keeps-one a.fill at.tails a.notes.items (subst (λ t. HasNotes a.fill t a.notes.items) at.heap at.notes))
+    notes-two = notes.notes-after (heap_in p g) (next p g m y).words keeps-two a.fill at.fills a.notes.items
+        (notes.notes-after (heap_in p h) g.words keeps-one a.fill at.fills a.notes.items (subst (λ t. HasNotes a.fill t a.notes.items) at.heap at.notes))
 
     module _ (words : state_of b.row ≡ with_words (heap_after p log) (slice_set g.words (place p between y) (stored p between y (slice_index g.words (place p between y)))))
         (up : Updates a b (local_after p between y (slice_index g.words (place p between y)))) where
@@ -118,6 +118,7 @@ module _ (p : Epoch) (i : IdealHeap) (log : List LogEntry) (a b : PlainRow) (at 
             (subst (λ t. HasNotes a.fill t b.notes.items) (sym words-two)
             (subst (λ v. HasNotes a.fill (with_words (heap_after p log) (next p g m y).words) v.items) (sym up.notes) notes-two));
         regions = λ n q. subst (λ v. IsRegionOf v.items n q) (sym up.notes);
+        classes = λ q there. ap (λ (t : HeapState). class_at t q) words-two ∙ ap (λ v. v / 256 % 256) (keeps-two.words q there ∙ keeps-one.words q there);
         fill = up.fill;
         young = up.young;
         allowed = up.allowed;
@@ -127,7 +128,7 @@ module _ (p : Epoch) (i : IdealHeap) (log : List LogEntry) (a b : PlainRow) (at 
         mutators = up.mutators;
         seats = up.seats;
         number = up.number;
-        block = up.block;
+        blocks = up.blocks;
         state = subst (HasState up.mutator up.seat) (sym local-two) up.state;
         others = λ n other. cond-false (nat_eq n m) _ _ (ne_eqb n m other) ∙ cond-false (nat_eq n m) _ _ (ne_eqb n m other);
       })

@@ -1,22 +1,29 @@
 -- The call that allocates an object.
-use Rattle.std.proofs.Common.{◌≡◌, refl, sym, ◌∙◌, ap, subst, ℕ, ◌+◌, ◌<◌, ◌≤◌, ◌^◌, inl, inr, arith, add-zero, Bool, true, false, ◌&&◌, not, ◌++◌, length, Vec, Global}
+use Rattle.std.proofs.Common.{◌≡◌, refl, sym, ◌∙◌, ap, subst, ℕ, ◌+◌, ◌*◌, ◌/◌, ◌%◌, ◌<◌, ◌≤◌, ◌^◌, inl, inr, arith, add-zero, Bool, true, false, ◌&&◌, not, ◌++◌, length, Vec, Global}
 use Rattle.std.specs.Prelude.{Some, slice_get}
 use Rattle.std.proofs.lemmas.Bool.{cases_eq}
 use Rattle.heap_layout.specs.Zones.{block_start}
+use Rattle.heap_layout.specs.declared.block.Kind.{Kind}
 use Rattle.heap_layout.specs.declared.block.Kind.TheVariants as kinds
+use Rattle.heap_layout.specs.declared.region.Region.{Region}
 use Rattle.ideal_heap.specs.declared.command.Command.TheVariants as c
 use Rattle.ideal_heap.specs.declared.reply.Reply.TheVariants as r
 use Rattle.ideal_heap.specs.declared.name.Name.{Name}
-use Rattle.object_model.specs.Objects.{state_of, word_at, has_kind, is_unlogged, size_of}
+use Rattle.object_model.specs.Objects.{state_of, word_at, block_word, has_kind, HasKind, class_at, cell_words, is_unlogged, size_of}
+use Rattle.sessions.specs.Fitting.{IsFreeCell, HasCellFor, class_for}
 use Rattle.mutator_calls.specs.Effects.{enters}
 use Rattle.plain_world.specs.declared.plain_row.PlainRow.{PlainRow}
 use Rattle.plain_world.specs.declared.plain_row.BlockNote.{BlockNote}
 use Rattle.plain_world.specs.declared.plain_row.PlainSeat.{PlainSeat}
 use Rattle.plain_world.specs.declared.plain_row.BlockNote.TheVariants.{Owned}
 use Rattle.plain_world.specs.Rows.{births_of, ticket_of, block_of, mutator_at_turn, seat_at_turn, number_at_turn}
+use Rattle.plain_world.specs.Regions.{IsCellLeft, free, full, IsRegionIn}
 use Rattle.plain_world.specs.Notes.{AreFilled}
 use Rattle.plain_world.specs.Worlds.{IsReady, HasRoom, Continues, Goes}
 use Rattle.plain_world.specs.Steps.{Lacks, IsUsed, AllocatesIn, PlacesObject}
+use Rattle.plain_world.proofs.CellRooms.{rest-later}
+use Rattle.plain_world.proofs.Regions.{suits-class}
+use Rattle.plain_world.proofs.Turns as turns
 use Rattle.plain_world.proofs.Lists.{one-element}
 use Rattle.plain_world.proofs.Allocated.{IsBorn}
 use Rattle.plain_world.proofs.NewObjects as objects
@@ -47,9 +54,35 @@ module _ (a b : PlainRow) (d refs nums : ℕ) (n : Name) (born : IsBorn a b d n 
       low-word : (k : ℕ) → k < 18 → word_at (state_of b.row) k ≡ word_at (state_of a.row) k
       low-word = objects.low-word a b d refs nums n born has register few_refs few_nums small few_births has.some.epoch has.some.ideal has.some.log has.some.at
 
-  pub region : (k : ℕ) → AllocatesIn a k → AllocatesIn b k
-  region k is = ap (λ (v : Vec PlainSeat Global). block_of (slice_get v.items b.turn)) born.seats
-      ∙ ap (λ t. block_of (slice_get a.seats.items t)) born.turn ∙ is
+  pub region : (k : ℕ) → AllocatesIn a (size_of refs nums) k → AllocatesIn b (size_of refs nums) k
+  region k is = ap (λ (f : Kind). block_of (seat_at_turn b) (class_for f (size_of refs nums))) born.fill
+      ∙ ap (λ (v : Vec PlainSeat Global). block_of (slice_get v.items b.turn) (class_for a.fill (size_of refs nums))) born.seats
+      ∙ ap (λ t. block_of (slice_get a.seats.items t) (class_for a.fill (size_of refs nums))) born.turn ∙ is
+
+  -- in cells it has one of the class for its size
+  left-cell : (r : Region) → r.next + size_of refs nums ≤ r.end → IsCellLeft (state_of a.row) born.block 0 r → IsFreeCell (state_of a.row) born.block r.next
+  left-cell r room (free next ends) = next.cell
+  left-cell r room (full none starts ends) = absurd (omega arith)
+
+  cell : HasCellFor b.fill (state_of b.row) born.block born.region.next (size_of refs nums)
+  cell cells =
+      let now = has.some in
+      let right = turns.owned-note now.epoch now.ideal now.log a now.at born.block (number_at_turn a) born.region born.was in
+      let fill : a.fill ≡ kinds.Cells = sym born.fill ∙ cells in
+      let word : block_word (state_of b.row) born.block ≡ block_word (state_of a.row) born.block =
+      objects.block-word-same a b d refs nums n born has register few_refs few_nums small few_births now.epoch now.ideal now.log now.at born.block
+      (turns.note-block now.epoch now.ideal now.log a now.at born.block (Owned (number_at_turn a) born.region) born.was) in
+      let class : class_at (state_of b.row) born.block ≡ class_at (state_of a.row) born.block = ap (λ v. v / 256 % 256) word in
+      let was = left-cell born.region born.room (subst (λ (f : Kind). IsRegionIn f (state_of a.row) born.block born.region) fill right.left) in
+      record {
+        kind = objects.kinds-same a b d refs nums n born has register few_refs few_nums small few_births now.epoch now.ideal now.log now.at born.block kinds.Cells
+            ∙ subst (λ (f : Kind). HasKind (state_of a.row) born.block f) fill right.kind;
+        class = (suits-class (state_of a.row) born.block (size_of refs nums) (omega arith) small
+            ((turns.own-region now.epoch now.ideal now.log a now.at has.turn (class_for a.fill (size_of refs nums)) born.block born.current).1
+            ∙ ap (λ (f : Kind). class_for f (size_of refs nums)) fill)).class ∙ ap (λ c. Some c) (sym class);
+        index = was.index;
+        start = was.start ∙ ap (λ c. was.index * cell_words c) (sym class);
+      }
 
   pub places : PlacesObject a b d (size_of refs nums)
   places = record {
@@ -60,26 +93,27 @@ module _ (a b : PlainRow) (d refs nums : ℕ) (n : Name) (born : IsBorn a b d n 
         ∙ ap (λ k. block_start k born.block + born.region.next) (sym born.object.blocks);
     owner = objects.owner-now a b d refs nums n born has register few_refs few_nums small few_births has.some.epoch has.some.ideal has.some.log has.some.at;
     current = region born.block born.current;
+    cell = cell;
   }
 
   pub still : (k : ℕ) → IsUsed a k → IsUsed b k
-  still k used free = used (sym (objects.kinds-same a b d refs nums n born has register few_refs few_nums small few_births has.some.epoch has.some.ideal has.some.log has.some.at k kinds.Free) ∙ free)
+  still k used is = used (sym (objects.kinds-same a b d refs nums n born has register few_refs few_nums small few_births has.some.epoch has.some.ideal has.some.log has.some.at k kinds.Free) ∙ is)
 
   pub stays : (size k : ℕ) → Lacks a size k → Lacks b size k
   stays = objects.lacks-still a b d refs nums n born has register few_refs few_nums small few_births has.some.epoch has.some.ideal has.some.log has.some.at
 
   abbrev after_note : BlockNote
-  after_note = Owned (number_at_turn a) (record { next = born.region.next + size_of refs nums; end = born.region.end })
+  after_note = Owned (number_at_turn a) born.left
 
   filled : AreFilled b.notes.items
   filled k owner region is = elim (cases_eq k born.block) as (λ _. 0 < region.next) [
     | inl same ↦ (
         let alike : Owned owner region ≡ after_note = one-element (slice_get b.notes.items born.block) (Owned owner region) after_note
         (subst (λ j. slice_get b.notes.items j ≡ Some (Owned owner region)) same is) born.notes.here in
-        let own : region ≡ record { next = born.region.next + size_of refs nums; end = born.region.end } = cc in
-        subst (λ q. 0 < q.next) (sym own) (omega arith))
+        let own : region ≡ born.left = cc in
+        subst (λ q. 0 < q.next) (sym own) (rest-later a.fill (state_of a.row) born.block (size_of refs nums) born.region born.left (omega arith) born.room born.rest))
     | inr other ↦ elim (has.room.others k owner region (sym (born.notes.others k other) ∙ is)) as (λ _. 0 < region.next) [
-      | inl current ↦ absurd (other (current ∙ one-element (block_of (seat_at_turn a)) has.block born.block has.current born.current))
+      | inl current ↦ absurd (other (current ∙ one-element (block_of (seat_at_turn a) (class_for a.fill (size_of refs nums))) has.block born.block has.current born.current))
       | inr more ↦ more
     ]
   ]

@@ -1,5 +1,5 @@
 -- The mutator whose turn it is allocates an object.
-use Rattle.std.proofs.Common.{◌≡◌, ◌≢◌, refl, sym, ◌∙◌, ap, subst, ℕ, ◌+◌, ◌/◌, ◌<◌, ◌≤◌, ◌^◌, ◌⊎◌, inl, inr, arith, List, [], ◌∷◌, length, Vec, Global}
+use Rattle.std.proofs.Common.{◌≡◌, ◌≢◌, refl, sym, ◌∙◌, ap, subst, ℕ, ◌+◌, ◌/◌, ◌%◌, ◌<◌, ◌≤◌, ◌^◌, ◌⊎◌, inl, inr, arith, List, [], ◌∷◌, length, Vec, Global}
 use Rattle.std.specs.Prelude.{Some, slice_get, slice_index, slice_set}
 use Rattle.std.specs.List.{Contains}
 use Rattle.std.proofs.lemmas.Bool.{cases_eq}
@@ -13,7 +13,7 @@ use Rattle.ideal_heap.specs.Names.{IsName, name}
 use Rattle.ideal_heap.specs.Ideal.{IdealHeap}
 use Rattle.ideal_heap.specs.Runs as runs
 use Rattle.ideal_heap.specs.Runs.{entry}
-use Rattle.object_model.specs.Objects.{HeapState, state_of, with_words, word_at, block_word, owner_at, has_kind, is_unlogged, IsHeld, name_at, size_of}
+use Rattle.object_model.specs.Objects.{HeapState, state_of, with_words, word_at, block_word, class_at, owner_at, has_kind, is_unlogged, IsHeld, name_at, size_of}
 use Rattle.object_model.specs.Lawful.{IsWellFormed}
 use Rattle.object_model.specs.Graphs.{MutatorState, numbers_of}
 use Rattle.object_model.specs.Births.{IsVacant}
@@ -22,11 +22,12 @@ use Rattle.object_model.proofs.Among.{all-at}
 use Rattle.object_model.proofs.Births as births
 use Rattle.object_model.proofs.Births.{Adds}
 use Rattle.object_model.proofs.Frames as frames
-use Rattle.sessions.specs.Fitting.{IsTail, HasHole}
+use Rattle.sessions.specs.Fitting.{IsTail, HasHole, class_of, class_for}
 use Rattle.mutator_core.specs.declared.state.Local.{Local}
 use Rattle.mutator_core.specs.declared.state.LogEntry.{LogEntry}
+use Rattle.heap_layout.specs.declared.block.Kind.TheVariants as kinds
 use Rattle.mutator_core.specs.Machine.{Epoch, Machine, heap_in, mutators_in, mutator_of, next_name}
-use Rattle.mutator_core.specs.Guards.{IsAvailable, MayBegin}
+use Rattle.mutator_core.specs.Guards.{IsAvailable, BeginsRegion, MayBegin}
 use Rattle.mutator_core.specs.Histories.{after}
 use Rattle.mutator_core.specs.Logs.{machine_after, heap_after, local_after_log, history_of}
 use Rattle.mutator_core.proofs.Moments.{Holds, one-of}
@@ -35,10 +36,14 @@ use Rattle.mutator_calls.specs.Effects.{enters}
 use Rattle.plain_world.specs.declared.plain_row.PlainRow.{PlainRow}
 use Rattle.plain_world.specs.declared.plain_row.PlainSeat.{PlainSeat}
 use Rattle.plain_world.specs.declared.plain_row.BlockNote.TheVariants.{Owned}
-use Rattle.plain_world.specs.Rows.{number_of, births_of, registers_of, block_of, mutator_at_turn, number_at_turn, address_at}
-use Rattle.plain_world.specs.Notes.{FillsTails, IsOwnedNote, HasNotes, IsRegionOf}
+use Rattle.plain_world.specs.Rows.{number_of, births_of, registers_of, blocks_of, mutator_at_turn, number_at_turn, address_at}
+use Rattle.plain_world.specs.Notes.{FillsTails, FillsTailsOrCells, IsOwnedNote, HasNotes, IsRegionOf}
 use Rattle.plain_world.specs.Worlds.{HasState, IsAt, HasRoom, Continues}
 use Rattle.plain_world.specs.Steps.{Lacks}
+use Rattle.plain_world.specs.Regions.{IsRegionIn, IsRestAfter}
+use Rattle.object_model.proofs.OneKind.{kind-within}
+use Rattle.plain_world.proofs.Regions.{suits-class, hole-kind}
+use Rattle.plain_world.proofs.RegionFrames.{region-tail}
 use Rattle.plain_world.proofs.Lists.{one-element}
 use Rattle.plain_world.proofs.Owning.{lists-moved, listed-moved}
 use Rattle.plain_world.proofs.Facts as facts
@@ -47,7 +52,7 @@ use Rattle.plain_world.proofs.Stepping as stepping
 use Rattle.plain_world.proofs.Publishing as publishing
 use Rattle.plain_world.proofs.Publishing.{Stores, Publishes}
 use Rattle.plain_world.proofs.WrittenWords.{state-with, words-written}
-use Rattle.plain_world.proofs.Rooms as rooms
+use Rattle.plain_world.proofs.CellRooms as rooms
 use Rattle.plain_world.proofs.NewNotes as notes
 use Rattle.plain_world.proofs.Following.{Follows, at-follows}
 use Rattle.plain_world.proofs.Allocated.{IsBorn}
@@ -103,8 +108,8 @@ module _ (a b : PlainRow) (d refs nums : ℕ) (n : Name) (born : IsBorn a b d n 
     known : Contains (numbers_of p.mutators) (number_at_turn a)
     known = stepping.known p i log a at has.turn
 
-    fills : FillsTails p.rules.fill
-    fills = subst FillsTails at.fill at.tails
+    fills : FillsTailsOrCells p.rules.fill
+    fills = subst FillsTailsOrCells at.fill at.fills
 
     starts : x ≡ block_start p.before.blocks born.block + born.region.next
     starts = ap (λ q. block_start q born.block + born.region.next) (sym (facts.blocks p i log a at))
@@ -116,27 +121,37 @@ module _ (a b : PlainRow) (d refs nums : ℕ) (n : Name) (born : IsBorn a b d n 
     note = subst (λ f. IsOwnedNote f (heap_after p log) born.block m born.region) at.fill
         (subst (λ t. IsOwnedNote a.fill t born.block m born.region) at.heap (turns.owned-note p i log a at born.block m born.region born.was))
 
-    room : born.region.next + size_of refs nums ≤ 4096
-    room = let end : born.region.end ≡ 4096 = note.end in let inside : born.region.next + size_of refs nums ≤ born.region.end = born.room in omega arith
+    taken : Contains (local_after_log p log m).owned (record { block = born.block; class = class_at (heap_after p log) born.block })
+    taken = subst (λ (t : HeapState). Contains (local_after_log p log m).owned (record { block = born.block; class = class_at t born.block })) at.heap
+        (turns.note-taken p i log a at born.block m born.region born.was)
 
     some : 0 < size_of refs nums
     some = omega arith
 
+    class-now : class_at (heap_after p log) born.block ≡ class_for a.fill (size_of refs nums)
+    class-now = sym (ap (λ (t : HeapState). class_at t born.block) at.heap) ∙ (turns.own-region p i log a at has.turn (class_for a.fill (size_of refs nums)) born.block born.current).1
+
+    fits : p.rules.fill ≡ kinds.Cells → class_of (size_of refs nums) ≡ Some (class_at (heap_after p log) born.block)
+    fits cells = (suits-class (heap_after p log) born.block (size_of refs nums) (omega arith) small
+        (class-now ∙ ap (λ (f : Kind). class_for f (size_of refs nums)) (at.fill ∙ cells))).class
+
+    room : born.region.next + size_of refs nums ≤ 4096
+    room = rooms.inside p at.epoch.ready fills h moment.epoch m born.block x (size_of refs nums) born.region note taken there some born.room fits starts
+
     block-is : block_at p.before.blocks x ≡ born.block
-    block-is = rooms.block-is p at.epoch.ready fills h moment.epoch m born.block x (size_of refs nums) born.region note
-        (turns.note-taken p i log a at born.block m born.region born.was) there some room starts
+    block-is = rooms.block-is p.before.blocks born.block x born.region.next (size_of refs nums) there some room starts
 
     offset-is : offset_at p.before.blocks x ≡ born.region.next
-    offset-is = rooms.offset-is p at.epoch.ready fills h moment.epoch m born.block x (size_of refs nums) born.region note
-        (turns.note-taken p i log a at born.block m born.region born.was) there some room starts
+    offset-is = rooms.offset-is p.before.blocks born.block x born.region.next (size_of refs nums) there some room starts
 
     address : IsAddress p.before.blocks x
-    address = rooms.address p at.epoch.ready fills h moment.epoch m born.block x (size_of refs nums) born.region note
-        (turns.note-taken p i log a at born.block m born.region born.was) there some room starts
+    address = rooms.address p.before.blocks born.block x born.region.next (size_of refs nums) there some room starts
+
+    lies : IsAvailable p (local_after_log p log m).owned (local_after_log p log m).made x (size_of refs nums) × BeginsRegion p (local_after_log p log m).made x (size_of refs nums)
+    lies = rooms.may-lie p at.epoch.ready fills h moment.epoch m born.block x (size_of refs nums) born.region note taken there some born.room fits starts
 
     available : IsAvailable p (local_after_log p log m).owned (local_after_log p log m).made x (size_of refs nums)
-    available = rooms.available p at.epoch.ready fills h moment.epoch m born.block x (size_of refs nums) born.region note
-        (turns.note-taken p i log a at born.block m born.region born.was) there some room starts
+    available = lies.0
 
     few : (local_after_log p log m).births + 1 < 2 ^ 32
     few = subst (λ q. q + 1 < 2 ^ 32) (sym (turns.own-births p i log a at has.turn)) few_births
@@ -149,8 +164,7 @@ module _ (a b : PlainRow) (d refs nums : ℕ) (n : Name) (born : IsBorn a b d n 
       few_nums = few_nums;
       small = small;
       available = available;
-      region = rooms.begins-region p at.epoch.ready fills h moment.epoch m born.block x (size_of refs nums) born.region note
-          (turns.note-taken p i log a at born.block m born.region born.was) there some room starts;
+      region = lies.1;
     }
 
     own-name : next_name (local_after_log p log m) ≡ n
@@ -201,14 +215,17 @@ module _ (a b : PlainRow) (d refs nums : ℕ) (n : Name) (born : IsBorn a b d n 
     block-words : (k : ℕ) → k < p.before.blocks → block_word (with_words (heap_after p log) v) k ≡ block_word (heap_after p log) k
     block-words = births.block_words s v x n refs nums writes address
 
-    tail : IsTail (heap_after p log) born.block born.region.next
-    tail = note.tail
+    tail : FillsTails a.fill → IsTail (heap_after p log) born.block born.region.next
+    tail tails = (region-tail a.fill (heap_after p log) born.block born.region (subst (λ f. IsRegionIn f (heap_after p log) born.block born.region) (sym at.fill) note.left) tails).tail
+
+    rest : IsRestAfter a.fill (heap_after p log) born.block (size_of refs nums) born.region born.left
+    rest = subst (λ (t : HeapState). IsRestAfter a.fill t born.block (size_of refs nums) born.region born.left) at.heap born.rest
 
     notes-are : HasNotes b.fill (state_of b.row) b.notes.items
     notes-are = subst (λ f. HasNotes f (state_of b.row) b.notes.items) (sym born.fill)
         (subst (λ t. HasNotes a.fill t b.notes.items) (sym words-are)
-        (notes.notes-new s v x n refs nums adds vacant block-words born.block born.region.next block-is offset-is a.fill at.tails a.notes.items b.notes.items m born.region
-        (subst (λ t. HasNotes a.fill t a.notes.items) at.heap at.notes) born.was refl born.room born.notes))
+        (notes.notes-new s v x n refs nums adds vacant block-words born.block born.region.next block-is offset-is a.fill at.fills a.notes.items b.notes.items m born.region born.left
+        (subst (λ t. HasNotes a.fill t a.notes.items) at.heap at.notes) born.was refl born.room rest born.notes))
 
     regions : (q k : ℕ) → IsRegionOf a.notes.items q k → IsRegionOf b.notes.items q k
     regions q k old = elim (cases_eq k born.block) as (λ _. IsRegionOf b.notes.items q k) [
@@ -217,7 +234,7 @@ module _ (a b : PlainRow) (d refs nums : ℕ) (n : Name) (born : IsBorn a b d n 
           old.note (subst (λ j. slice_get a.notes.items j ≡ Some (Owned (number_at_turn a) born.region)) (sym same) born.was) in
           let own : q ≡ number_at_turn a = cc in
           subst (λ j. IsRegionOf b.notes.items q j) (sym same) (subst (λ j. IsRegionOf b.notes.items j born.block) (sym own) (record {
-            region = record { next = born.region.next + size_of refs nums; end = born.region.end };
+            region = born.left;
             note = born.notes.here;
           })))
       | inr other ↦ record { region = old.region; note = born.notes.others k other ∙ old.note }
@@ -231,11 +248,12 @@ module _ (a b : PlainRow) (d refs nums : ℕ) (n : Name) (born : IsBorn a b d n 
       words = words-are ∙ ap (λ ws. with_words s ws) words-same;
       notes = notes-are;
       regions = regions;
+      classes = λ c within. ap (λ (t : HeapState). class_at t c) words-are ∙ ap (λ q. q / 256 % 256) (block-words c within);
       fill = born.fill;
       young = born.young;
       allowed = born.allowance;
       lists = λ lists. lists-moved p a b lists (listed-moved a.notes.items b.notes.items a.owned.items born.block m m born.region
-          (record { next = born.region.next + size_of refs nums; end = born.region.end }) born.was born.notes lists.owned) born.owned born.counts
+          born.left born.was born.notes lists.owned) born.owned born.counts
           (ap (λ (t : HeapState). t.blocks) words-are ∙ ap (λ (t : HeapState). t.blocks) (sym at.heap));
       mutator = record born.mutator { births = born.mutator.births + 1; registers = slice_set born.mutator.registers d x };
       seat = (stepping.seat p i log a at has.turn).0;
@@ -246,7 +264,7 @@ module _ (a b : PlainRow) (d refs nums : ℕ) (n : Name) (born : IsBorn a b d n 
         others = λ k other. ap (λ (w : Vec PlainSeat Global). slice_get w.items k) born.seats;
       };
       number = ap number_of (sym born.is);
-      block = ap block_of (sym (stepping.seat p i log a at has.turn).1);
+      blocks = ap blocks_of (sym (stepping.seat p i log a at has.turn).1);
       state = subst (HasState (record born.mutator { births = born.mutator.births + 1; registers = slice_set born.mutator.registers d x }) (stepping.seat p i log a at has.turn).0) (sym run.own) (record {
         births = ap (λ q. q + 1) (was.births ∙ ap (λ q. q.births) own-mutator);
         registers = ap (λ q. slice_set q d x) (was.registers ∙ ap (λ q. q.registers) own-mutator);
@@ -297,9 +315,8 @@ module _ (a b : PlainRow) (d refs nums : ℕ) (n : Name) (born : IsBorn a b d n 
     lacks-still size k lacks from owner hole =
         let there-now : HasHole a.fill (with_words (heap_after p log) v) k from size = subst (λ f. HasHole f (with_words (heap_after p log) v) k from size) born.fill
         (subst (λ t. HasHole b.fill t k from size) words-are hole) in
-        let within : k < p.before.blocks = frames.kind-in s v block-words k a.fill (notes.kind-same s v x n refs nums adds vacant block-words born.block born.region.next block-is offset-is k a.fill
-        (rooms.hole-parts a.fill at.tails (with_words s v) k from size there-now).0) in
-        let old = notes.hole-back s v x n refs nums adds vacant block-words born.block born.region.next block-is offset-is a.fill at.tails tail k from size there-now in
+        let within : k < p.before.blocks = kind-within (with_words s v) k a.fill (hole-kind a.fill (with_words s v) k from size there-now) in
+        let old = notes.hole-back s v x n refs nums adds vacant block-words born.block born.region.next block-is offset-is a.fill at.fills tail k from size there-now in
         let same : owner_at (state_of b.row) k ≡ owner_at (state_of a.row) k =
         ap (λ t. owner_at t k) words-are ∙ ap (λ q. q / 65536) (block-words k within) ∙ ap (λ t. owner_at t k) (sym at.heap) in
         lacks old.0 (elim owner as (λ _. (owner_at (state_of a.row) k ≡ 0) ⊎ (owner_at (state_of a.row) k ≡ number_at_turn a)) [

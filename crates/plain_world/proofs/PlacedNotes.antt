@@ -1,21 +1,20 @@
 -- What is known of blocks is right after an object was placed in one of them.
-use Rattle.std.proofs.Common.{◌≡◌, ◌≢◌, sym, ◌∙◌, ap, subst, ℕ, ◌+◌, ◌-◌, ◌/◌, ◌%◌, ◌<◌, ◌≤◌, ◌⊎◌, inl, inr, arith, Bool, true, false, ◌&&◌, ◌||◌, nat_eq, nat_lt, List}
+use Rattle.std.proofs.Common.{◌≡◌, ◌≢◌, sym, ◌∙◌, ap, subst, ℕ, ◌+◌, ◌-◌, ◌/◌, ◌%◌, ◌<◌, ◌≤◌, ◌⊎◌, inl, inr, arith, Bool, true, false, ◌&&◌, ◌||◌, nat_eq, nat_lt, List, refl}
 use Rattle.std.specs.Prelude.{Some, slice_get, count_by, vec_capacity}
 use Rattle.std.specs.List.{range_with_len}
 use Rattle.std.proofs.Math.Path.{fun_ext}
 use Rattle.std.proofs.lemmas.Bool.{cases_eq, cases_lt, le-ltb, false_from_ne_true}
-use Rattle.heap_layout.specs.Zones.{block_at, offset_at}
-use Rattle.heap_layout.specs.Blocks.{kind_code, code_of}
+use Rattle.heap_layout.specs.Zones.{block_at, offset_at, block_start}
+use Rattle.heap_layout.specs.Blocks.{kind_code}
 use Rattle.heap_layout.specs.declared.block.Kind.{Kind}
 use Rattle.heap_layout.specs.declared.block.Kind.TheVariants as kinds
 use Rattle.heap_layout.proofs.BlockLemmas.{code_parts, kind_code_most}
 use Rattle.object_model.specs.Objects.{HeapState, with_words, block_word, has_kind, HasKind, IsHeld, size_at, size_of}
 use Rattle.object_model.proofs.Frames.{same-layout}
-use Rattle.object_model.proofs.OneKind.{kind-code, kind-from, kind-within, one-kind}
+use Rattle.object_model.proofs.OneKind.{kind-code, kind-within, one-kind}
 use Rattle.sessions.specs.Plans.{Rules}
-use Rattle.sessions.specs.Fitting.{IsTail, HasHole, class_for, free_of, large_of, counts_of}
+use Rattle.sessions.specs.Fitting.{HasHole, class_for, free_of, large_of, counts_of}
 use Rattle.sessions.specs.Grants.{BlockCounts, counts_with}
-use Rattle.sessions.specs.Sessions.{block_of_kind}
 use Rattle.sessions.proofs.Placing.{one_if}
 use Rattle.mutator_core.proofs.Sums.{sum-change, range-differs, range-has}
 use Rattle.plan_api.specs.Counting.{session_counts}
@@ -23,22 +22,20 @@ use Rattle.plain_world.specs.declared.block_notes.BlockNotes.{BlockNotes}
 use Rattle.plain_world.specs.declared.plain_row.BlockNote.{BlockNote}
 use Rattle.plain_world.specs.declared.plain_row.BlockNote.TheVariants.{Unowned, Owned}
 use Rattle.plain_world.specs.Rows.{ChangesAt}
-use Rattle.plain_world.specs.Notes.{FillsTails, IsNote, AreNotes, PlacesObject}
+use Rattle.plain_world.specs.Notes.{FillsTailsOrCells, IsNote, AreNotes, PlacesObject}
 use Rattle.plain_world.proofs.KeptNotes.{note-unknown, none-changed}
 use Rattle.plain_world.proofs.Lists.{get-below}
-use Rattle.plain_world.proofs.Rooms.{has-hole, hole-parts}
+use Rattle.plain_world.proofs.RegionFrames.{SameBlock, turn-round, hole-as, AddsInBlock, hole-born, hole-tail, place-of}
 use Rattle.plain_world.proofs.Taking.{changes-cases}
+use Rattle.plain_world.proofs.Turns.{class-few}
 
--- a kind that mutators fill
-filled-code : (fill : Kind) → FillsTails fill → (0 < kind_code fill) × (kind_code fill ≤ 2)
-filled-code fill (inl bump) = subst (λ f. (0 < kind_code f) × (kind_code f ≤ 2)) (sym bump) (omega arith, omega arith)
-filled-code fill (inr young) = subst (λ f. (0 < kind_code f) × (kind_code f ≤ 2)) (sym young) (omega arith, omega arith)
+-- a kind that mutators fill, which is neither Free nor large
+pub filled-code : (fill : Kind) → FillsTailsOrCells fill → (0 < kind_code fill) × (kind_code fill ≤ 5)
+filled-code fill (inl (inl bump)) = subst (λ f. (0 < kind_code f) × (kind_code f ≤ 5)) (sym bump) (omega arith, omega arith)
+filled-code fill (inl (inr young)) = subst (λ f. (0 < kind_code f) × (kind_code f ≤ 5)) (sym young) (omega arith, omega arith)
+filled-code fill (inr cells) = subst (λ f. (0 < kind_code f) × (kind_code f ≤ 5)) (sym cells) (omega arith, omega arith)
 
-class-none : (fill : Kind) → FillsTails fill → (size : ℕ) → class_for fill size ≡ 0
-class-none fill (inl bump) size = ap (λ f. class_for f size) bump
-class-none fill (inr young) size = ap (λ f. class_for f size) young
-
-module _ (rules : Rules) (fills : FillsTails rules.fill) (s : HeapState) (w : List ℕ) (a refs nums block : ℕ) (was_free : Bool)
+module _ (rules : Rules) (fills : FillsTailsOrCells rules.fill) (s : HeapState) (w : List ℕ) (a refs nums block : ℕ) (was_free : Bool)
     (placed : PlacesObject rules s (with_words s w) a refs nums block was_free) where
   abbrev t : HeapState
   t = with_words s w
@@ -52,33 +49,44 @@ module _ (rules : Rules) (fills : FillsTails rules.fill) (s : HeapState) (w : Li
     | inr other ↦ (placed.object.others x other).0 holds
   ]
 
-  -- an object of another block was held before
-  before : (x k : ℕ) → k ≢ block → IsHeld t x → block_at s.blocks x ≡ k → IsHeld s x
-  before x k other holds inside = elim (cases_eq x a) as (λ _. IsHeld s x) [
-    | inl own ↦ absurd (other (sym inside ∙ ap (block_at s.blocks) own ∙ placed.here))
-    | inr away ↦ (placed.object.others x away).1 holds
-  ]
-
-  tail-before : (k at : ℕ) → k ≢ block → IsTail t k at → IsTail s k at
-  tail-before k at other tail = record {
-    after = λ x holds inside. subst (λ q. offset_at s.blocks x + q ≤ at) (size-same x holds) (tail.after x (held-after x holds) inside);
-    least = elim tail.least as (λ _. (at ≡ 0) ⊎ ((x : ℕ) × IsHeld s x × (block_at s.blocks x ≡ k) × (offset_at s.blocks x + size_at s x ≡ at))) [
-      | inl none ↦ inl none
-      | inr last ↦ (let old = before last.0 k other last.1 last.2 in
-          inr (last.0, old, last.2, ap (λ q. offset_at s.blocks last.0 + q) (sym (size-same last.0 old)) ∙ last.3))
+  -- any other block with the same word
+  same-block : (k : ℕ) → k ≢ block → k < s.blocks → block_word t k ≡ block_word s k → SameBlock s t k
+  same-block k other there word = record {
+    there = there;
+    blocks = refl;
+    word = ap (λ v. v % 65536) word;
+    held = λ x holds inside. (held-after x holds, size-same x holds);
+    back = λ x holds inside. elim (cases_eq x a) as (λ _. IsHeld s x) [
+      | inl own ↦ absurd (other (sym inside ∙ ap (block_at s.blocks) own ∙ placed.here))
+      | inr away ↦ (placed.object.others x away).1 holds
     ];
   }
 
+  -- its own, if that has the same word
+  adds-in-block : (k : ℕ) → k ≡ block → k < s.blocks → block_word t k ≡ block_word s k → AddsInBlock s t k (offset_at s.blocks a) (size_at t a)
+  adds-in-block k own there word =
+      let place : a ≡ block_start s.blocks k + offset_at s.blocks a = place-of s.blocks a k placed.object.held.address (placed.here ∙ sym own) in
+      record {
+        there = there;
+        blocks = refl;
+        word = ap (λ v. v % 65536) word;
+        below = omega arith;
+        some = omega arith;
+        born = subst (IsHeld t) place placed.object.held;
+        words = ap (λ x. size_at t x) (sym place);
+        held = λ x holds inside. (held-after x holds, size-same x holds);
+        back = λ x holds inside. elim (cases_eq x a) as (λ _. (x ≡ block_start s.blocks k + offset_at s.blocks a) ⊎ IsHeld s x) [
+          | inl same ↦ inl (same ∙ place)
+          | inr away ↦ inr ((placed.object.others x away).1 holds)
+        ];
+      }
+
   -- a block with the same word
   module _ (k : ℕ) (there : k < s.blocks) (word : block_word t k ≡ block_word s k) where
-    kind-before : (kind : Kind) → HasKind t k kind → HasKind s k kind
-    kind-before kind is = kind-from s k kind there (ap (λ v. v % 256) (sym word) ∙ kind-code t k kind is)
-
     note-other : k ≢ block → (least : ℕ) → IsNote rules.fill s k (Unowned least) → IsNote rules.fill t k (Unowned least)
     note-other other least is = record {
       owner = ap (λ v. v / 65536) word ∙ is.owner;
-      none = λ at size most hole. let parts = hole-parts rules.fill fills t k at size hole in
-          is.none at size most (has-hole rules.fill fills s k at size (kind-before rules.fill parts.0) (tail-before k at other parts.1) parts.2);
+      none = λ at size most hole. is.none at size most (hole-as rules.fill fills t s k at size (turn-round s t k (same-block k other there word)) hole);
     }
 
     -- in its hole it takes room away
@@ -86,19 +94,16 @@ module _ (rules : Rules) (fills : FillsTails rules.fill) (s : HeapState) (w : Li
     note-own own spot least is = record {
       owner = ap (λ v. v / 65536) word ∙ is.owner;
       none = λ at size most hole.
-          let parts = hole-parts rules.fill fills t k at size hole in
-          let was = hole-parts rules.fill fills s block (offset_at s.blocks a) (size_of refs nums) spot in
-          let past : offset_at s.blocks a + size_at t a ≤ at = parts.1.after a placed.object.held (placed.here ∙ sym own) in
-          let room : at + size ≤ 4096 = parts.2 in
-          is.none (offset_at s.blocks a) size most (has-hole rules.fill fills s k (offset_at s.blocks a) size
-          (kind-before rules.fill parts.0) (subst (λ q. IsTail s q (offset_at s.blocks a)) (sym own) was.1) (omega arith));
+          let was = hole-born s t k (offset_at s.blocks a) (size_at t a) (adds-in-block k own there word) rules.fill fills
+          (hole-tail rules.fill s k (offset_at s.blocks a) (size_of refs nums) (subst (λ (q : ℕ). HasHole rules.fill s q (offset_at s.blocks a) (size_of refs nums)) (sym own) spot)) at size hole in
+          is.none was.0 size most was.1;
     }
 
   -- the word of a block that was Free
   free-word : HasKind s block kinds.Free → (block_word t block % 256 ≡ kind_code rules.fill) × (block_word t block / 65536 ≡ 0)
   free-word free =
-      let parts = code_parts (kind_code rules.fill) 0 0 (block_word t block) (kind_code_most rules.fill) (omega arith)
-      (sym (placed.uses.free free ∙ ap (λ c. code_of (block_of_kind rules.fill c)) (class-none rules.fill fills (size_of refs nums)))) in
+      let class : ℕ = class_for rules.fill (size_of refs nums) in
+      let parts = code_parts (kind_code rules.fill) class 0 (block_word t block) (kind_code_most rules.fill) (class-few rules.fill (size_of refs nums)) (sym (placed.uses.free free)) in
       (parts.0, parts.2)
 
   -- the words of the other blocks, and of its own if it was not Free
@@ -182,7 +187,7 @@ module _ (rules : Rules) (fills : FillsTails rules.fill) (s : HeapState) (w : Li
     large-same = ap (λ f. count_by f (range_with_len 0 s.blocks)) (fun_ext (λ k. elim (cases_eq k block) as (λ _. large t k ≡ large s k) [
       | inr other ↦ large-other k (λ below. other-word k below other)
       | inl own ↦ subst (λ q. large t q ≡ large s q) (sym own) (
-          let few : kind_code rules.fill ≤ 2 = (filled-code rules.fill fills).1 in
+          let few : kind_code rules.fill ≤ 5 = (filled-code rules.fill fills).1 in
           ap (λ b. b || has_kind t block kinds.LargeTail) (no-kind kinds.LargeHead (λ same. omega arith) ∙ sym (was-kind kinds.LargeHead (λ same. omega arith)))
           ∙ ap (λ b. has_kind s block kinds.LargeHead || b) (no-kind kinds.LargeTail (λ same. omega arith) ∙ sym (was-kind kinds.LargeTail (λ same. omega arith))))
     ]))
@@ -217,7 +222,7 @@ module _ (rules : Rules) (fills : FillsTails rules.fill) (s : HeapState) (w : Li
         ]
 
 -- from any heap to any other
-pub after-hole : (rules : Rules) → FillsTails rules.fill → (old new : HeapState) (a refs nums block : ℕ) (was_free : Bool) → was_free ≡ false → (n : BlockNotes) → AreNotes rules.fill old n
+pub after-hole : (rules : Rules) → FillsTailsOrCells rules.fill → (old new : HeapState) (a refs nums block : ℕ) (was_free : Bool) → was_free ≡ false → (n : BlockNotes) → AreNotes rules.fill old n
     → PlacesObject rules old new a refs nums block was_free → AreNotes rules.fill new n
 after-hole rules fills old new a refs nums block was_free used n are placed =
     let same : new ≡ with_words old new.words = same-layout old new placed.layout.0 placed.layout.1 placed.layout.2 in
@@ -225,7 +230,7 @@ after-hole rules fills old new a refs nums block was_free used n are placed =
     subst (λ t. AreNotes rules.fill t n) (sym same) (placed-hole rules fills old new.words a refs nums block was_free
     (subst (λ t. PlacesObject rules old t a refs nums block was_free) same placed) (λ is. let wrong : true ≡ false = sym is ∙ free in cc) n are)
 
-pub after-free : (rules : Rules) → FillsTails rules.fill → (old new : HeapState) (a refs nums block : ℕ) (was_free : Bool) → was_free ≡ true → (n later : BlockNotes) → AreNotes rules.fill old n
+pub after-free : (rules : Rules) → FillsTailsOrCells rules.fill → (old new : HeapState) (a refs nums block : ℕ) (was_free : Bool) → was_free ≡ true → (n later : BlockNotes) → AreNotes rules.fill old n
     → PlacesObject rules old new a refs nums block was_free → session_counts later.counts ≡ counts_with n.counts.blocks (n.counts.free - 1) n.counts.large
     → ChangesAt n.notes.items later.notes.items block (Unowned 4097) → later.owned ≡ n.owned → AreNotes rules.fill new later
 after-free rules fills old new a refs nums block was_free used n later are placed counts changes owned =

@@ -18,6 +18,8 @@ use Rattle.mutator_core.specs.Epochs.{IsReady, IsInEpoch, IsOwned, IsMade}
 use Rattle.mutator_core.proofs.Fills.{fill-not-free}
 use Rattle.mutator_core.proofs.Places.{place-owner}
 use Rattle.plain_world.specs.Notes.{FillsTails, IsOwnedNote}
+use Rattle.plain_world.proofs.Regions.{no-cells}
+use Rattle.plain_world.proofs.RegionFrames.{region-tail}
 
 module _ (fill : Kind) (fills : FillsTails fill) (s : HeapState) (k from size : ℕ) where
   pub lies-in : HasKind s k fill → LiesInTail s k from size → LiesInHole fill s k from size
@@ -38,18 +40,6 @@ module _ (fill : Kind) (fills : FillsTails fill) (s : HeapState) (k from size : 
     | inr young ↦ subst (λ (f : Kind). HasHole f s k from size) (sym young) (subst (HasKind s k) young kind, tail, room)
   ]
 
-  pub hole-parts : HasHole fill s k from size → HasKind s k fill × IsTail s k from × (from + size ≤ 4096)
-  hole-parts hole = elim fills as (λ _. HasKind s k fill × IsTail s k from × (from + size ≤ 4096)) [
-    | inl bump ↦ (let is = subst (λ (f : Kind). HasHole f s k from size) bump hole in (subst (HasKind s k) (sym bump) is.0, is.1, is.2))
-    | inr young ↦ (let is = subst (λ (f : Kind). HasHole f s k from size) young hole in (subst (HasKind s k) (sym young) is.0, is.1, is.2))
-  ]
-
-fills-no-cells : (fill : Kind) → FillsTails fill → fill ≡ kinds.Cells → ⊥
-fills-no-cells fill fills cells = elim fills as (λ _. ⊥) [
-  | inl bump ↦ (let wrong : kind_code kinds.Bump ≡ kind_code kinds.Cells = ap kind_code (sym bump ∙ cells) in omega arith)
-  | inr young ↦ (let wrong : kind_code kinds.Young ≡ kind_code kinds.Cells = ap kind_code (sym young ∙ cells) in omega arith)
-]
-
 module _ (p : Epoch) (ready : IsReady p) (fills : FillsTails p.rules.fill) (h : Machine) (now : IsInEpoch p (heap_in p h) h.locals)
     (m block a size : ℕ) (region : Region) (note : IsOwnedNote p.rules.fill (heap_in p h) block m region)
     (taken : Contains (h.locals m).owned (record { block = block; class = 0 }))
@@ -57,6 +47,9 @@ module _ (p : Epoch) (ready : IsReady p) (fills : FillsTails p.rules.fill) (h : 
     (starts : a ≡ block_start p.before.blocks block + region.next) where
   abbrev s : HeapState
   s = heap_in p h
+
+  tail : IsTail (heap_in p h) block region.next
+  tail = (region-tail p.rules.fill (heap_in p h) block region note.left fills).tail
 
   pub block-is : block_at p.before.blocks a ≡ block
   block-is = let b : ℕ = p.before.blocks in omega arith
@@ -82,7 +75,7 @@ module _ (p : Epoch) (ready : IsReady p) (fills : FillsTails p.rules.fill) (h : 
   size-then x before = ap (λ v. size_of (v % 65536) (v / 65536)) ((now.stays x before).1 1 (omega arith))
 
   after-then : (x : ℕ) → IsHeld p.before x → block_at p.before.blocks x ≡ block → offset_at p.before.blocks x + size_at p.before x ≤ region.next
-  after-then x before here = subst (λ (n : ℕ). offset_at p.before.blocks x + n ≤ region.next) (size-then x before) (note.tail.after x (now.stays x before).0 here)
+  after-then x before here = subst (λ (n : ℕ). offset_at p.before.blocks x + n ≤ region.next) (size-then x before) (tail.after x (now.stays x before).0 here)
 
   -- the tail is 0, or begins after an old object, or after one that this mutator made
   data Begins : Type 0 where
@@ -92,7 +85,7 @@ module _ (p : Epoch) (ready : IsReady p) (fills : FillsTails p.rules.fill) (h : 
         → block_at p.before.blocks x ≡ block → offset_at p.before.blocks x + size_at s x ≡ region.next → Begins
 
   begins : Begins
-  begins = elim note.tail.least as (λ _. Begins) [
+  begins = elim tail.least as (λ _. Begins) [
     | inl none ↦ empty none
     | inr last ↦ elim (now.births last.0 last.1) as (λ _. Begins) [
       | inl before ↦ old last.0 before last.2 (ap (λ n. offset_at p.before.blocks last.0 + n) (sym (size-then last.0 before)) ∙ last.3)
@@ -157,7 +150,7 @@ module _ (p : Epoch) (ready : IsReady p) (fills : FillsTails p.rules.fill) (h : 
       here = sym block-is;
       hole = subst (λ (k : ℕ). HasKind p.before k kinds.Free ⊎ LiesInHole p.rules.fill p.before k (offset_at p.before.blocks a) size) (sym block-is)
           (subst (λ (k : ℕ). HasKind p.before block kinds.Free ⊎ LiesInHole p.rules.fill p.before block k size) (sym offset-is) hole-then);
-      cell = λ cells. absurd (fills-no-cells p.rules.fill fills cells);
+      cell = λ cells. absurd (no-cells p.rules.fill fills cells);
     };
     beside = beside;
   }
@@ -175,7 +168,7 @@ module _ (p : Epoch) (ready : IsReady p) (fills : FillsTails p.rules.fill) (h : 
               | inr below ↦ (
                   let here : block_at p.before.blocks x.address ≡ block = omega arith in
                   let last : offset_at p.before.blocks x.address + x.size ≤ region.next =
-                  subst (λ (n : ℕ). offset_at p.before.blocks x.address + n ≤ region.next) is.same (note.tail.after x.address is.held here) in
+                  subst (λ (n : ℕ). offset_at p.before.blocks x.address + n ≤ region.next) is.same (tail.after x.address is.held here) in
                   inl (omega arith))
             ]
           ]

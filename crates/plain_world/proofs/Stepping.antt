@@ -6,7 +6,7 @@ use Rattle.std.specs.Int.{bit_at}
 use Rattle.std.proofs.lemmas.Bool.{cond-false, cond-true, ne_eqb, eq-eqb}
 use Rattle.heap_layout.specs.Zones.{StartBits, first, heap_of, row_words}
 use Rattle.ideal_heap.specs.Ideal.{IdealHeap}
-use Rattle.object_model.specs.Objects.{HeapState, state_of, with_words, is_start, size_of}
+use Rattle.object_model.specs.Objects.{HeapState, state_of, with_words, is_start, size_of, class_at}
 use Rattle.object_model.specs.Graphs.{numbers_of}
 use Rattle.object_model.proofs.Marks as marks
 use Rattle.mutator_core.specs.declared.state.Local.{Local}
@@ -24,7 +24,7 @@ use Rattle.mutator_core.proofs.Kept.{Leaves}
 use Rattle.mutator_calls.specs.declared.need.Mutator.{Mutator}
 use Rattle.plain_world.specs.declared.plain_row.PlainRow.{PlainRow}
 use Rattle.plain_world.specs.declared.plain_row.PlainSeat.{PlainSeat}
-use Rattle.plain_world.specs.Rows.{IsTurn, ChangesAt, number_of, number_at_turn, mutator_at_turn, seat_at_turn, block_of}
+use Rattle.plain_world.specs.Rows.{IsTurn, ChangesAt, number_of, number_at_turn, mutator_at_turn, seat_at_turn, blocks_of}
 use Rattle.std.proofs.lemmas.Option.{get_or_from_slice_get}
 use Rattle.std.proofs.lemmas.List.{length-map}
 use Rattle.plain_world.specs.Notes.{HasNotes, IsRegionOf}
@@ -49,7 +49,7 @@ pub record Updates (a b : PlainRow) (l' : Local) : Type 0 where
   pub mutators : ChangesAt a.mutators.items b.mutators.items a.turn mutator
   pub seats : ChangesAt a.seats.items b.seats.items a.turn seat
   pub number : mutator.number ≡ number_at_turn a
-  pub block : seat.block ≡ block_of (seat_at_turn a)
+  pub blocks : seat.blocks ≡ blocks_of (seat_at_turn a)
   pub state : HasState mutator seat l'
 
 module _ (p : Epoch) (i : IdealHeap) (log : List LogEntry) (a : PlainRow) (at : IsAt p i log a) (turn : IsTurn a) where
@@ -132,8 +132,9 @@ module _ (p : Epoch) (i : IdealHeap) (log : List LogEntry) (a : PlainRow) (at : 
         notes = subst (λ f. HasNotes f (state_of b.row) b.notes.items) (sym up.fill)
             (subst (λ t. HasNotes a.fill t b.notes.items) (sym words)
             (subst (λ v. HasNotes a.fill (with_words s (next p h m x).words) v.items) (sym up.notes)
-            (notes.notes-after s (next p h m x).words keeps a.fill at.tails a.notes.items (subst (λ t. HasNotes a.fill t a.notes.items) at.heap at.notes))));
+            (notes.notes-after s (next p h m x).words keeps a.fill at.fills a.notes.items (subst (λ t. HasNotes a.fill t a.notes.items) at.heap at.notes))));
         regions = λ n c. subst (λ v. IsRegionOf v.items n c) (sym up.notes);
+        classes = λ c there. ap (λ (t : HeapState). class_at t c) words ∙ ap (λ v. v / 256 % 256) (keeps.words c there);
         fill = up.fill;
         young = up.young;
         allowed = up.allowed;
@@ -143,7 +144,7 @@ module _ (p : Epoch) (i : IdealHeap) (log : List LogEntry) (a : PlainRow) (at : 
         mutators = up.mutators;
         seats = up.seats;
         number = up.number;
-        block = up.block;
+        blocks = up.blocks;
         state = subst (HasState up.mutator up.seat) (sym (cond-true (nat_eq m m) _ _ (eq-eqb m m refl))) up.state;
         others = λ n other. cond-false (nat_eq n m) _ _ (ne_eqb n m other);
       })

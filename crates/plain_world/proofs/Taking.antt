@@ -1,19 +1,18 @@
 -- A block is taken: a block that nobody owned becomes the mutator's.
-use Rattle.std.proofs.Common.{◌≡◌, ◌≢◌, refl, sym, ◌∙◌, ap, subst, ℕ, ◌+◌, ◌/◌, ◌%◌, ◌<◌, ◌≤◌, ◌⊎◌, inl, inr, arith, Bool, true, false, ◌&&◌, IsTrue, nat_eq, nat_lt, eq-eqb, List, [], ◌∷◌, ◌++◌, map, length}
-use Rattle.std.specs.Prelude.{Option, Some, None, slice_get}
+use Rattle.std.proofs.Common.{◌≡◌, ◌≢◌, refl, sym, ◌∙◌, ap, subst, ℕ, ◌/◌, ◌%◌, ◌<◌, ◌≤◌, ◌⊎◌, inl, inr, arith, Bool, true, false, ◌&&◌, IsTrue, nat_eq, nat_lt, eq-eqb, List, [], ◌∷◌, ◌++◌, map, length, length-set}
+use Rattle.std.specs.Prelude.{Option, Some, None, slice_get, slice_set, unwrap_or}
 use Rattle.std.proofs.lemmas.Bool.{cases_eq, cond-true}
-use Rattle.heap_layout.specs.Zones.{block_at, offset_at}
-use Rattle.heap_layout.specs.Blocks.{kind_code, kind_of_code, code_of, is_block_code, is_valid_for_some, IsValid}
+use Rattle.heap_layout.specs.Blocks.{kind_code, code_of, IsValid}
 use Rattle.heap_layout.specs.declared.block.Kind.{Kind}
 use Rattle.heap_layout.specs.declared.block.Kind.TheVariants as kinds
 use Rattle.heap_layout.specs.declared.region.Region.{Region}
-use Rattle.heap_layout.proofs.BlockLemmas.{code_parts, kind_code_most, kind_of_code-kind_code}
+use Rattle.heap_layout.proofs.BlockLemmas.{code_parts, kind_code_most, valid_most}
 use Rattle.ideal_heap.specs.Ideal.{IdealHeap}
-use Rattle.object_model.specs.Objects.{HeapState, state_of, with_words, block_word, has_kind, HasKind, class_at, owner_at, IsHeld, size_at}
+use Rattle.object_model.specs.Objects.{HeapState, state_of, with_words, block_word, has_kind, HasKind, class_at, owner_at}
 use Rattle.object_model.proofs.Blocks as blocks
 use Rattle.object_model.proofs.Blocks.{SameHeap, set_block}
-use Rattle.object_model.proofs.OneKind.{kind-code, kind-from}
-use Rattle.sessions.specs.Fitting.{IsTail, HasHole}
+use Rattle.object_model.proofs.OneKind.{kind-code, kind-from, kind-within}
+use Rattle.sessions.specs.Fitting.{HasHole}
 use Rattle.sessions.specs.Sessions.{block_of_kind}
 use Rattle.mutator_core.specs.declared.state.Local.{Local}
 use Rattle.mutator_core.specs.declared.state.LogEntry.{LogEntry}
@@ -28,12 +27,16 @@ use Rattle.plain_world.specs.declared.plain_row.PlainRow.{PlainRow}
 use Rattle.plain_world.specs.declared.plain_row.PlainSeat.{PlainSeat}
 use Rattle.plain_world.specs.declared.plain_row.BlockNote.{BlockNote}
 use Rattle.plain_world.specs.declared.plain_row.BlockNote.TheVariants.{Unowned, Owned}
-use Rattle.plain_world.specs.Rows.{IsTurn, ChangesAt, number_at_turn, seat_at_turn, ticket_of}
-use Rattle.plain_world.specs.Notes.{FillsTails, IsNote, IsOwnedNote, HasNotes, IsRegionOf}
+use Rattle.plain_world.specs.Rows.{IsTurn, ChangesAt, number_at_turn, seat_at_turn, ticket_of, blocks_of}
+use Rattle.plain_world.specs.Regions.{IsRegionIn}
+use Rattle.plain_world.specs.Notes.{FillsTailsOrCells, IsNote, IsOwnedNote, HasNotes, IsRegionOf}
 use Rattle.plain_world.specs.Changes.{TakesBlock}
-use Rattle.plain_world.specs.Worlds.{IsAt, HasState, Continues}
+use Rattle.plain_world.specs.Worlds.{IsAt, HasState, HasCursors, Continues}
+use Rattle.plain_world.proofs.Elements.{set-changes}
 use Rattle.plain_world.proofs.Lists.{one-element}
 use Rattle.plain_world.proofs.Owning.{lists-taken}
+use Rattle.plain_world.proofs.Regions.{hole-kind}
+use Rattle.plain_world.proofs.RegionFrames.{SameBlock, turn-round, region-as, hole-as}
 use Rattle.plain_world.proofs.Stepping as stepping
 use Rattle.plain_world.proofs.Turns as turns
 
@@ -45,16 +48,13 @@ changes-cases xs ys at x changes k y is = elim (cases_eq k at) as (λ _. ((k ≡
   | inr other ↦ inr (other, sym (changes.others k other) ∙ is)
 ]
 
--- the word of a block of a kind that has class 0 and no owner
-pub unowned-code : (s : HeapState) (k : ℕ) (kind : Kind) → HasKind s k kind → class_at s k ≡ 0 → owner_at s k ≡ 0 → block_word s k ≡ code_of (block_of_kind kind 0)
-unowned-code s k kind is class owner =
+-- the word of a block of a kind that has the class and no owner
+pub unowned-code : (s : HeapState) (k class : ℕ) (kind : Kind) → HasKind s k kind → class_at s k ≡ class → owner_at s k ≡ 0 → block_word s k ≡ code_of (block_of_kind kind class)
+unowned-code s k class kind is suits owner =
     let code : block_word s k % 256 ≡ kind_code kind = kind-code s k kind is in
     let v : ℕ = block_word s k in
     let n : ℕ = kind_code kind in
-    omega (arith, class, owner, code)
-
-pub valid-parts : (s : HeapState) (k : ℕ) (kind : Kind) → HasKind s k kind → IsTrue (is_block_code (block_word s k)) → IsValid (record { kind = kind; class = class_at s k; owner = owner_at s k })
-valid-parts s k kind is code = subst (λ (o : Option Kind). IsTrue (is_valid_for_some o (class_at s k) (owner_at s k))) (ap kind_of_code (kind-code s k kind is) ∙ kind_of_code-kind_code kind) code
+    omega (arith, suits, owner, code)
 
 -- the word of block k becomes v
 module _ (s : HeapState) (k v : ℕ) (there : k < s.blocks) where
@@ -64,52 +64,42 @@ module _ (s : HeapState) (k v : ℕ) (there : k < s.blocks) where
   same : SameHeap s (set_block s k v)
   same = blocks.same_heap s k v there
 
-  pub tail-after : (j at : ℕ) → IsTail s j at → IsTail t j at
-  tail-after j at tail = record {
-    after = λ a holds here. let before = blocks.held-before s (set_block s k v) same a holds in
-        subst (λ n. offset_at s.blocks a + n ≤ at) (sym (blocks.size-same s (set_block s k v) same a before)) (tail.after a before here);
-    least = elim tail.least as (λ _. (at ≡ 0) ⊎ ((a : ℕ) × IsHeld t a × (block_at s.blocks a ≡ j) × (offset_at s.blocks a + size_at t a ≡ at))) [
-      | inl none ↦ inl none
-      | inr last ↦ inr (last.0, blocks.held-after s (set_block s k v) same last.0 last.1, last.2, ap (λ n. offset_at s.blocks last.0 + n) (blocks.size-same s (set_block s k v) same last.0 last.1) ∙ last.3)
-    ];
-  }
-
-  pub tail-before : (j at : ℕ) → IsTail t j at → IsTail s j at
-  tail-before j at tail = record {
-    after = λ a holds here. subst (λ n. offset_at s.blocks a + n ≤ at) (blocks.size-same s (set_block s k v) same a holds) (tail.after a (blocks.held-after s (set_block s k v) same a holds) here);
-    least = elim tail.least as (λ _. (at ≡ 0) ⊎ ((a : ℕ) × IsHeld s a × (block_at s.blocks a ≡ j) × (offset_at s.blocks a + size_at s a ≡ at))) [
-      | inl none ↦ inl none
-      | inr last ↦ (let before = blocks.held-before s (set_block s k v) same last.0 last.1 in inr (last.0, before, last.2, ap (λ n. offset_at s.blocks last.0 + n) (sym (blocks.size-same s (set_block s k v) same last.0 before)) ∙ last.3))
-    ];
+  pub same-block : (j : ℕ) → j < s.blocks → block_word t j % 65536 ≡ block_word s j % 65536 → SameBlock s t j
+  same-block j inside word = record {
+    there = inside;
+    blocks = refl;
+    word = word;
+    held = λ a holds here. (blocks.held-after s (set_block s k v) same a holds, blocks.size-same s (set_block s k v) same a holds);
+    back = λ a holds here. blocks.held-before s (set_block s k v) same a holds;
   }
 
   module _ (j : ℕ) (other : j ≢ k) where
     pub kind-same : (kind : Kind) → has_kind t j kind ≡ has_kind s j kind
     kind-same kind = ap (λ x. nat_lt j s.blocks && nat_eq (x % 256) (kind_code kind)) (blocks.block-other s k v there j other)
 
+    pub class-same : class_at t j ≡ class_at s j
+    class-same = ap (λ x. x / 256 % 256) (blocks.block-other s k v there j other)
+
     pub owner-same : owner_at t j ≡ owner_at s j
     owner-same = ap (λ x. x / 65536) (blocks.block-other s k v there j other)
 
-    pub hole-before : (fill : Kind) → FillsTails fill → (at size : ℕ) → HasHole fill t j at size → HasHole fill s j at size
-    hole-before fill fills at size = elim fills as (λ _. HasHole fill t j at size → HasHole fill s j at size) [
-      | inl bump ↦ subst (λ f. HasHole f t j at size → HasHole f s j at size) (sym bump)
-          (λ hole. (sym (kind-same kinds.Bump) ∙ hole.0, tail-before j at hole.1, hole.2))
-      | inr young ↦ subst (λ f. HasHole f t j at size → HasHole f s j at size) (sym young)
-          (λ hole. (sym (kind-same kinds.Young) ∙ hole.0, tail-before j at hole.1, hole.2))
-    ]
+    other-block : j < s.blocks → SameBlock s t j
+    other-block inside = same-block j inside (ap (λ x. x % 65536) (blocks.block-other s k v there j other))
 
-    pub note-after : (fill : Kind) → FillsTails fill → (note : BlockNote) → IsNote fill s j note → IsNote fill t j note
-    note-after fill fills (Unowned least) is = record {
+    pub hole-before : (fill : Kind) → FillsTailsOrCells fill → (at size : ℕ) → HasHole fill t j at size → HasHole fill s j at size
+    hole-before fill fills at size hole =
+        hole-as fill fills t s j at size (turn-round s t j (other-block (kind-within t j fill (hole-kind fill t j at size hole)))) hole
+
+    pub note-after : (fill : Kind) → FillsTailsOrCells fill → (note : BlockNote) → j < s.blocks → IsNote fill s j note → IsNote fill t j note
+    note-after fill fills (Unowned least) inside is = record {
       owner = owner-same ∙ is.owner;
       none = λ at size most hole. is.none at size most (hole-before fill fills at size hole);
     }
-    note-after fill fills (Owned owner region) is = record {
+    note-after fill fills (Owned owner region) inside is = record {
       some = is.some;
       owner = owner-same ∙ is.owner;
       kind = kind-same fill ∙ is.kind;
-      tail = tail-after j region.next is.tail;
-      inside = is.inside;
-      end = is.end;
+      left = region-as fill s t j region (other-block inside) is.left;
     }
 
 -- the kind of the block, and the ticket after it is taken
@@ -121,43 +111,47 @@ abbrev pub ticket_left : Bool → Option ℕ → Option ℕ
 ticket_left true ticket = None
 ticket_left false ticket = ticket
 
--- the mutator takes a block that nobody owns, a Free one with its ticket, and its region is the block's tail
-pub record Gains (a b : PlainRow) (block : ℕ) (region : Region) (free : Bool) : Type 0 where
-  pub takes : TakesBlock a b block region (ticket_left free (ticket_of (seat_at_turn a)))
+abbrev pub class_found : Bool → ℕ → ℕ
+class_found true class = 0
+class_found false class = class
+
+-- The mutator takes a block that nobody owns for objects of the class, a Free one with its ticket, and its region is what
+-- is left of the block.
+pub record Gains (a b : PlainRow) (block class : ℕ) (region : Region) (free : Bool) : Type 0 where
+  pub takes : TakesBlock a b block class region (ticket_left free (ticket_of (seat_at_turn a)))
   pub there : block < a.row.layout.blocks
-  pub word : block_word (state_of a.row) block ≡ code_of (block_of_kind (kind_found free a.fill) 0)
+  pub valid : IsValid (record { kind = a.fill; class = class; owner = number_at_turn a })
+  pub word : block_word (state_of a.row) block ≡ code_of (block_of_kind (kind_found free a.fill) (class_found free class))
   pub tickets : IsTrue free → (t : ℕ) × (ticket_of (seat_at_turn a) ≡ Some t) × (t < a.allowance)
-  pub tail : IsTail (state_of a.row) block region.next
-  pub inside : region.next ≤ region.end
-  pub end : region.end ≡ 4096
+  pub left : IsRegionIn a.fill (state_of b.row) block region
   pub unowned : (owner : ℕ) (r : Region) → slice_get a.notes.items block ≡ Some (Owned owner r) → ⊥
 
-taken-ticket : (p : Epoch) (l : Local) (k : ℕ) (free : Bool) → (taken p l k 0 free).ticket ≡ ticket_left free l.ticket
-taken-ticket p l k true = refl
-taken-ticket p l k false = refl
+taken-ticket : (p : Epoch) (l : Local) (k class : ℕ) (free : Bool) → (taken p l k class free).ticket ≡ ticket_left free l.ticket
+taken-ticket p l k class true = refl
+taken-ticket p l k class false = refl
 
-taken-births : (p : Epoch) (l : Local) (k : ℕ) (free : Bool) → (taken p l k 0 free).births ≡ l.births
-taken-births p l k true = refl
-taken-births p l k false = refl
+taken-births : (p : Epoch) (l : Local) (k class : ℕ) (free : Bool) → (taken p l k class free).births ≡ l.births
+taken-births p l k class true = refl
+taken-births p l k class false = refl
 
-taken-registers : (p : Epoch) (l : Local) (k : ℕ) (free : Bool) → (taken p l k 0 free).registers ≡ l.registers
-taken-registers p l k true = refl
-taken-registers p l k false = refl
+taken-registers : (p : Epoch) (l : Local) (k class : ℕ) (free : Bool) → (taken p l k class free).registers ≡ l.registers
+taken-registers p l k class true = refl
+taken-registers p l k class false = refl
 
-taken-unpublished : (p : Epoch) (l : Local) (k : ℕ) (free : Bool) → (taken p l k 0 free).unpublished ≡ l.unpublished
-taken-unpublished p l k true = refl
-taken-unpublished p l k false = refl
+taken-unpublished : (p : Epoch) (l : Local) (k class : ℕ) (free : Bool) → (taken p l k class free).unpublished ≡ l.unpublished
+taken-unpublished p l k class true = refl
+taken-unpublished p l k class false = refl
 
-taken-pending : (p : Epoch) (l : Local) (k : ℕ) (free : Bool) → (taken p l k 0 free).pending ≡ l.pending
-taken-pending p l k true = refl
-taken-pending p l k false = refl
+taken-pending : (p : Epoch) (l : Local) (k class : ℕ) (free : Bool) → (taken p l k class free).pending ≡ l.pending
+taken-pending p l k class true = refl
+taken-pending p l k class false = refl
 
-found-same : (p : Epoch) (fill : Kind) (free : Bool) → fill ≡ p.rules.fill → code_of (block_of_kind (kind_found free fill) 0) ≡ found_code p 0 free
-found-same p fill true is = refl
-found-same p fill false is = ap (λ (k : Kind). code_of (block_of_kind k 0)) is
+found-same : (p : Epoch) (fill : Kind) (class : ℕ) (free : Bool) → fill ≡ p.rules.fill → code_of (block_of_kind (kind_found free fill) (class_found free class)) ≡ found_code p class free
+found-same p fill class true is = refl
+found-same p fill class false is = ap (λ (k : Kind). code_of (block_of_kind k class)) is
 
-module _ (p : Epoch) (i : IdealHeap) (log : List LogEntry) (a b : PlainRow) (at : IsAt p i log a) (turn : IsTurn a) (block : ℕ) (region : Region) (free : Bool)
-    (gains : Gains a b block region free) where
+module _ (p : Epoch) (i : IdealHeap) (log : List LogEntry) (a b : PlainRow) (at : IsAt p i log a) (turn : IsTurn a) (block class : ℕ) (region : Region) (free : Bool)
+    (gains : Gains a b block class region free) where
   abbrev m : ℕ
   m = number_at_turn a
 
@@ -168,33 +162,33 @@ module _ (p : Epoch) (i : IdealHeap) (log : List LogEntry) (a b : PlainRow) (at 
   s = state_of a.row
 
   abbrev v : ℕ
-  v = code_of (record { kind = a.fill; class = 0; owner = number_at_turn a })
+  v = code_of (record { kind = a.fill; class = class; owner = number_at_turn a })
 
   abbrev x : Event
-  x = e.TakeBlock block 0 free
+  x = e.TakeBlock block class free
 
   abbrev later : List LogEntry
   later = log ++ stepping.entry-for p i log a at turn x ∷ []
 
-  found : block_word (heap_after p log) block ≡ found_code p 0 free
-  found = ap (λ (t : HeapState). block_word t block) (sym at.heap) ∙ gains.word ∙ found-same p a.fill free at.fill
+  found : block_word (heap_after p log) block ≡ found_code p class free
+  found = ap (λ (t : HeapState). block_word t block) (sym at.heap) ∙ gains.word ∙ found-same p a.fill class free at.fill
 
-  value : v ≡ owned_code p l 0
-  value = ap (λ (k : Kind). code_of (record { kind = k; class = 0; owner = number_at_turn a })) at.fill
-      ∙ ap (λ (n : ℕ). code_of (record { kind = p.rules.fill; class = 0; owner = n })) (sym (turns.own-local-number p i log a at turn))
+  value : v ≡ owned_code p l class
+  value = ap (λ (k : Kind). code_of (record { kind = k; class = class; owner = number_at_turn a })) at.fill
+      ∙ ap (λ (n : ℕ). code_of (record { kind = p.rules.fill; class = class; owner = n })) (sym (turns.own-local-number p i log a at turn))
 
   pub may-take : MayStep p l x
   may-take = (
     subst (λ (n : ℕ). block < n) (ap (λ (t : HeapState). t.blocks) at.heap) gains.there,
-    subst (λ (k : Kind). IsValid (record { kind = k; class = 0; owner = l.number })) at.fill
-        (subst (λ (n : ℕ). IsValid (record { kind = a.fill; class = 0; owner = n })) (sym (turns.own-local-number p i log a at turn)) (turns.own-valid p i log a at turn)),
+    subst (λ (k : Kind). IsValid (record { kind = k; class = class; owner = l.number })) at.fill
+        (subst (λ (n : ℕ). IsValid (record { kind = a.fill; class = class; owner = n })) (sym (turns.own-local-number p i log a at turn)) gains.valid),
     λ is. let has = gains.tickets is in (has.0, turns.own-ticket p i log a at turn ∙ has.1, subst (λ (n : ℕ). has.0 < n) at.allowed has.2),
   )
 
-  next-words : (next p (machine_after p log) m x).words ≡ set_block (heap_after p log) block (owned_code p l 0)
+  next-words : (next p (machine_after p log) m x).words ≡ set_block (heap_after p log) block (owned_code p l class)
   next-words = ap (λ (n : ℕ). set_block (heap_after p log) block n)
-      (cond-true (nat_eq (block_word (heap_after p log) block) (found_code p 0 free)) (owned_code p l 0) (block_word (heap_after p log) block)
-      (eq-eqb (block_word (heap_after p log) block) (found_code p 0 free) found))
+      (cond-true (nat_eq (block_word (heap_after p log) block) (found_code p class free)) (owned_code p l class) (block_word (heap_after p log) block)
+      (eq-eqb (block_word (heap_after p log) block) (found_code p class free) found))
 
   heap : state_of b.row ≡ heap_after p later
   heap = gains.takes.words
@@ -203,24 +197,24 @@ module _ (p : Epoch) (i : IdealHeap) (log : List LogEntry) (a b : PlainRow) (at 
       ∙ ap (λ (ws : List ℕ). with_words (heap_after p log) ws) (sym next-words)
       ∙ ap (λ k. heap_in p k) (sym (stepping.machine-pushed p i log a at turn x))
 
-  local-is : local_after_log p later m ≡ taken p l block 0 free
+  local-is : local_after_log p later m ≡ taken p l block class free
   local-is = stepping.own-pushed p i log a at turn x
-      ∙ cond-true (nat_eq (block_word (heap_after p log) block) (found_code p 0 free)) (taken p l block 0 free) _
-      (eq-eqb (block_word (heap_after p log) block) (found_code p 0 free) found)
+      ∙ cond-true (nat_eq (block_word (heap_after p log) block) (found_code p class free)) (taken p l block class free) _
+      (eq-eqb (block_word (heap_after p log) block) (found_code p class free) found)
 
   abbrev seat : PlainSeat
-  seat = record { ticket = ticket_left free (ticket_of (seat_at_turn a)); block = Some block }
+  seat = record { ticket = ticket_left free (ticket_of (seat_at_turn a)); blocks = slice_set (blocks_of (seat_at_turn a)) class (Some block) }
 
   same-mutator : (k : ℕ) (q : Mutator) → slice_get b.mutators.items k ≡ Some q → slice_get a.mutators.items k ≡ Some q
   same-mutator k q is = ap (λ y. slice_get y.items k) (sym gains.takes.mutators) ∙ is
 
   own-state : HasState (stepping.mutator p i log a at turn).0 seat (local_after_log p later m)
   own-state = subst (HasState (stepping.mutator p i log a at turn).0 seat) (sym local-is) (let state = stepping.state p i log a at turn in record {
-    births = taken-births p l block free ∙ state.births;
-    registers = taken-registers p l block free ∙ state.registers;
-    ticket = taken-ticket p l block free ∙ ap (ticket_left free) (turns.own-ticket p i log a at turn);
-    none = taken-unpublished p l block free ∙ state.none;
-    stored = taken-pending p l block free ∙ state.stored;
+    births = taken-births p l block class free ∙ state.births;
+    registers = taken-registers p l block class free ∙ state.registers;
+    ticket = taken-ticket p l block class free ∙ ap (ticket_left free) (turns.own-ticket p i log a at turn);
+    none = taken-unpublished p l block class free ∙ state.none;
+    stored = taken-pending p l block class free ∙ state.stored;
   })
 
   mine : (k : ℕ) (q : Mutator) → k ≡ a.turn → slice_get b.mutators.items k ≡ Some q → (stepping.mutator p i log a at turn).0 ≡ q
@@ -236,26 +230,14 @@ module _ (p : Epoch) (i : IdealHeap) (log : List LogEntry) (a b : PlainRow) (at 
         (at.each k q y (same-mutator k q is) other.1)
   ]
 
-  regions : (k : ℕ) (q : Mutator) (y : PlainSeat) (c : ℕ) → slice_get b.mutators.items k ≡ Some q → slice_get b.seats.items k ≡ Some y → y.block ≡ Some c → IsRegionOf b.notes.items q.number c
-  regions k q y c is sits current = elim (changes-cases a.seats.items b.seats.items a.turn seat gains.takes.seats k y sits) as (λ _. IsRegionOf b.notes.items q.number c) [
-    | inl own ↦ (let same : block ≡ c = one-element (Some block) block c refl (ap (λ z. z.block) (sym own.1) ∙ current) in record {
-      region = region;
-      note = ap (slice_get b.notes.items) (sym same) ∙ gains.takes.notes.here ∙ ap (λ n. Some (Owned n region)) (stepping.number-is p i log a at turn ∙ ap (λ z. z.number) (mine k q own.0 is));
-    })
-    | inr other ↦ (let was = at.regions k q y c (same-mutator k q is) other.1 current in record {
-      region = was.region;
-      note = gains.takes.notes.others c (λ same. gains.unowned q.number was.region (ap (slice_get a.notes.items) (sym same) ∙ was.note)) ∙ was.note;
-    })
-  ]
-
   abbrev now : HeapState
-  now = with_words (state_of a.row) (set_block (state_of a.row) block (code_of (record { kind = a.fill; class = 0; owner = number_at_turn a })))
+  now = with_words (state_of a.row) (set_block (state_of a.row) block (code_of (record { kind = a.fill; class = class; owner = number_at_turn a })))
 
   word : block_word now block ≡ v
   word = blocks.block-set s block v gains.there (turns.extent p i log a at)
 
-  parts : (v % 256 ≡ kind_code a.fill) × (v / 256 % 256 ≡ 0) × (v / 65536 ≡ m)
-  parts = code_parts (kind_code a.fill) 0 m v (kind_code_most a.fill) (omega arith) refl
+  parts : (v % 256 ≡ kind_code a.fill) × (v / 256 % 256 ≡ class) × (v / 65536 ≡ m)
+  parts = code_parts (kind_code a.fill) class m v (kind_code_most a.fill) (valid_most a.fill class m gains.valid).0 refl
 
   pub kind-now : HasKind now block a.fill
   kind-now = kind-from now block a.fill gains.there (ap (λ n. n % 256) word ∙ parts.0)
@@ -265,15 +247,47 @@ module _ (p : Epoch) (i : IdealHeap) (log : List LogEntry) (a b : PlainRow) (at 
     some = (turns.own-range p i log a at turn).0;
     owner = ap (λ n. n / 65536) word ∙ parts.2;
     kind = kind-now;
-    tail = tail-after s block v gains.there block region.next gains.tail;
-    inside = gains.inside;
-    end = gains.end;
+    left = subst (λ (z : HeapState). IsRegionIn a.fill z block region) gains.takes.words gains.left;
   }
+
+  -- a block that a mutator allocated in is its own still
+  still-own : (number c d : ℕ) → IsRegionOf a.notes.items number d → class_at s d ≡ c → IsRegionOf b.notes.items number d × (class_at (state_of b.row) d ≡ c)
+  still-own number c d was suits =
+      let other : d ≢ block = λ same. gains.unowned number was.region (ap (slice_get a.notes.items) (sym same) ∙ was.note) in (
+        record { region = was.region; note = gains.takes.notes.others d other ∙ was.note },
+        ap (λ (z : HeapState). class_at z d) gains.takes.words ∙ class-same s block v gains.there d other ∙ suits,
+      )
+
+  own-cursors : HasCursors b.notes.items (state_of b.row) m seat
+  own-cursors = record {
+    classes = length-set (blocks_of (seat_at_turn a)) class (Some block) ∙ turns.own-classes p i log a at turn;
+    each = λ c d is.
+        let many : length (blocks_of (seat_at_turn a)) ≡ 19 = turns.own-classes p i log a at turn in
+        let few : class ≤ 18 = (valid_most a.fill class m gains.valid).0 in
+        elim (changes-cases (blocks_of (seat_at_turn a)) seat.blocks class (Some block) (set-changes (blocks_of (seat_at_turn a)) class (Some block) (omega arith)) c (Some d) is) as
+        (λ _. IsRegionOf b.notes.items m d × (class_at (state_of b.row) d ≡ c)) [
+          | inl here ↦ (let same : d ≡ block = one-element (Some block) d block (sym here.1) refl in (
+            record { region = region; note = ap (slice_get b.notes.items) same ∙ gains.takes.notes.here },
+            ap (λ (z : HeapState). class_at z d) gains.takes.words ∙ ap (class_at now) same ∙ ap (λ n. n / 256 % 256) word ∙ parts.1 ∙ sym here.0,
+          ))
+          | inr other ↦ (let was = turns.own-region p i log a at turn c d (ap (λ o. unwrap_or o None) other.1) in still-own m c d was.0 was.1)
+        ];
+  }
+
+  cursors : (k : ℕ) (q : Mutator) (y : PlainSeat) → slice_get b.mutators.items k ≡ Some q → slice_get b.seats.items k ≡ Some y → HasCursors b.notes.items (state_of b.row) q.number y
+  cursors k q y is sits = elim (changes-cases a.seats.items b.seats.items a.turn seat gains.takes.seats k y sits) as (λ _. HasCursors b.notes.items (state_of b.row) q.number y) [
+    | inl own ↦ subst (HasCursors b.notes.items (state_of b.row) q.number) (sym own.1)
+        (subst (λ (n : ℕ). HasCursors b.notes.items (state_of b.row) n seat) (stepping.number-is p i log a at turn ∙ ap (λ (z : Mutator). z.number) (mine k q own.0 is)) own-cursors)
+    | inr other ↦ (let was = at.cursors k q y (same-mutator k q is) other.1 in record {
+      classes = was.classes;
+      each = λ c d there. let has = was.each c d there in still-own q.number c d has.0 has.1;
+    })
+  ]
 
   note : (k : ℕ) (n : BlockNote) → slice_get b.notes.items k ≡ Some n → IsNote a.fill now k n
   note k n is = elim (changes-cases a.notes.items b.notes.items block (Owned m region) gains.takes.notes k n is) as (λ _. IsNote a.fill now k n) [
     | inl here ↦ subst (λ (q : ℕ). IsNote a.fill now q n) (sym here.0) (subst (IsNote a.fill now block) (sym here.1) own-note)
-    | inr other ↦ note-after s block v gains.there k other.0 a.fill at.tails n (at.notes.each k n other.1)
+    | inr other ↦ note-after s block v gains.there k other.0 a.fill at.fills n (turns.note-block p i log a at k n other.1) (at.notes.each k n other.1)
   ]
 
   pub at-taken : IsAt p i later b
@@ -283,11 +297,11 @@ module _ (p : Epoch) (i : IdealHeap) (log : List LogEntry) (a b : PlainRow) (at 
     numbers = ap (λ y. map (λ z. z.number) y.items) gains.takes.mutators ∙ at.numbers;
     seats = gains.takes.seats.len ∙ at.seats ∙ ap (λ y. length y.items) (sym gains.takes.mutators);
     each = each;
-    regions = regions;
+    cursors = cursors;
     notes = subst (λ f. HasNotes f (state_of b.row) b.notes.items) (sym gains.takes.plan.fill)
         (subst (λ z. HasNotes a.fill z b.notes.items) (sym gains.takes.words) (record { len = gains.takes.notes.len ∙ at.notes.len; each = note }));
     fill = gains.takes.plan.fill ∙ at.fill;
-    tails = subst FillsTails (sym gains.takes.plan.fill) at.tails;
+    fills = subst FillsTailsOrCells (sym gains.takes.plan.fill) at.fills;
     young = gains.takes.plan.young ∙ at.young;
     allowed = gains.takes.plan.allowance ∙ at.allowed;
     lists = lists-taken p a b block m region at.lists (λ was. gains.unowned was.owner was.region was.note) gains.takes.notes gains.takes.owned gains.takes.room

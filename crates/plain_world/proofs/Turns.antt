@@ -1,28 +1,33 @@
 -- The mutators, seats and notes of a world that is in an epoch.
-use Rattle.std.proofs.Common.{◌≡◌, sym, ◌∙◌, ap, subst, ℕ, ◌+◌, ◌<◌, ◌≤◌, ◌^◌, inl, inr, arith, length, get_or, List, map, Vec, Global}
-use Rattle.std.specs.Prelude.{Some, slice_get}
+use Rattle.std.proofs.Common.{◌≡◌, ◌≢◌, refl, sym, ◌∙◌, ap, subst, ℕ, zero, suc, ◌+◌, ◌<◌, ◌≤◌, ◌^◌, inl, inr, arith, true, false, ◌&&◌, IsTrue, nat_eq, nat_le, length, get_or, List, [], ◌∷◌, map, Vec, Global}
+use Rattle.std.specs.Prelude.{Option, Some, None, slice_get, unwrap_or}
 use Rattle.std.specs.List.{Contains}
+use Rattle.std.proofs.lemmas.Bool.{and_from, cases_lt, le-leb}
 use Rattle.std.proofs.lemmas.Option.{get_or_from_slice_get}
 use Rattle.heap_layout.specs.declared.block.Kind.{Kind}
 use Rattle.heap_layout.specs.declared.block.Kind.TheVariants as kinds
 use Rattle.heap_layout.specs.declared.block.BlockWord.{BlockWord}
 use Rattle.heap_layout.specs.declared.region.Region.{Region}
 use Rattle.heap_layout.specs.Zones.{row_words, block_start, IsAddress}
-use Rattle.heap_layout.specs.Blocks.{IsValid, code_of, kind_code, kind_of_code}
+use Rattle.heap_layout.specs.Blocks.{IsValid, code_of, is_block_code, is_valid_for_some, kind_code, kind_of_code}
 use Rattle.heap_layout.proofs.BlockLemmas.{parts_of_code, kind_of_code-kind_code}
 use Rattle.ideal_heap.specs.declared.name.Name.{Name}
 use Rattle.ideal_heap.specs.Names.{IsName}
 use Rattle.ideal_heap.specs.Ideal.{IdealHeap}
-use Rattle.object_model.specs.Objects.{HeapState, state_of, block_word, HasKind, owner_at}
+use Rattle.object_model.specs.Objects.{HeapState, state_of, block_word, HasKind, class_at, owner_at, cell_words}
+use Rattle.object_model.specs.Lawful.{IsClear}
 use Rattle.object_model.specs.Graphs.{MutatorState, IsMutatorState, AreMutators, numbers_of}
 use Rattle.object_model.proofs.Among.{all-at}
 use Rattle.object_model.proofs.BirthRepresentation.{any-number}
 use Rattle.object_model.proofs.OneKind.{kind-code}
+use Rattle.sessions.specs.Fitting.{HasHole, class_for}
+use Rattle.sessions.proofs.HoleKinds.{class-least, few-classes, is_holed, none-above}
 use Rattle.mutator_core.specs.declared.state.Local.{Local}
 use Rattle.mutator_core.specs.declared.state.LogEntry.{LogEntry}
 use Rattle.mutator_core.specs.declared.state.OwnedBlock.{OwnedBlock}
 use Rattle.mutator_core.specs.Machine.{Epoch, mutator_of}
 use Rattle.mutator_core.specs.Logs.{machine_after, heap_after, local_after_log, IsListed}
+use Rattle.mutator_core.proofs.Fills.{owned-class}
 use Rattle.mutator_core.proofs.Lists.{among}
 use Rattle.mutator_core.proofs.Regions.{owner-lists}
 use Rattle.mutator_calls.specs.declared.need.Mutator.{Mutator}
@@ -30,10 +35,12 @@ use Rattle.plain_world.specs.declared.plain_row.PlainRow.{PlainRow}
 use Rattle.plain_world.specs.declared.plain_row.PlainSeat.{PlainSeat}
 use Rattle.plain_world.specs.declared.plain_row.BlockNote.{BlockNote}
 use Rattle.plain_world.specs.declared.plain_row.BlockNote.TheVariants.{Unowned, Owned}
-use Rattle.plain_world.specs.Rows.{IsTurn, number_of, births_of, registers_of, ticket_of, block_of, mutator_at_turn, seat_at_turn, number_at_turn}
-use Rattle.plain_world.specs.Notes.{FillsTails, IsNote, IsOwnedNote, IsUnownedNote, IsRegionOf}
-use Rattle.plain_world.specs.Worlds.{HasState, IsAt, IsInEpoch, HasRoom}
+use Rattle.plain_world.specs.Rows.{IsTurn, number_of, births_of, registers_of, ticket_of, blocks_of, block_of, mutator_at_turn, seat_at_turn, number_at_turn}
+use Rattle.plain_world.specs.Notes.{FillsTails, FillsTailsOrCells, IsNote, IsOwnedNote, IsUnownedNote, IsRegionOf}
+use Rattle.plain_world.specs.Worlds.{HasState, HasCursors, IsAt, IsInEpoch, HasRoom}
 use Rattle.plain_world.specs.Changes.{Advances, CountsObject}
+use Rattle.plain_world.specs.Regions.{IsRegionIn, first_region}
+use Rattle.plain_world.proofs.Regions.{region-inside, hole-kind, class-lacks, no-lines, clear-region, clear-cells}
 use Rattle.plain_world.proofs.Lists.{get-some, get-below, get-map, one-element}
 use Rattle.plain_world.proofs.Elements.{read-some}
 use Rattle.plain_world.proofs.Facts as facts
@@ -41,6 +48,19 @@ use Rattle.plain_world.proofs.Facts as facts
 -- an element that is there is one of the list
 pub contains-at : {A : Type 0} (xs : List A) (k : ℕ) (x : A) → slice_get xs k ≡ Some x → Contains xs x
 contains-at xs k x is = (k, get-below xs k x is, get_or_from_slice_get xs k x x is)
+
+-- the block that is read of a cursor is there
+pub set-in : (xs : List (Option ℕ)) (k b : ℕ) → unwrap_or (slice_get xs k) None ≡ Some b → slice_get xs k ≡ Some (Some b)
+set-in xs k b is = of (slice_get xs k) is
+  where
+    of : (o : Option (Option ℕ)) → unwrap_or o None ≡ Some b → o ≡ Some (Some b)
+    of None wrong = let e : None ≡ Some b = wrong in cc
+    of (Some q) e = ap (λ (y : Option ℕ). Some y) e
+
+pub cursor-read : (xs : List (Option ℕ)) (k b : ℕ) → get_or xs k None ≡ Some b → unwrap_or (slice_get xs k) None ≡ Some b
+cursor-read [] k b is = let wrong : None ≡ Some b = is in cc
+cursor-read (y ∷ ys) zero b is = is
+cursor-read (y ∷ ys) (suc k) b is = cursor-read ys k b is
 
 -- mutators' numbers are 1 to 16
 pub number-range : (ms : List MutatorState) (n : ℕ) → AreMutators ms → Contains (numbers_of ms) n → (1 ≤ n) × (n ≤ 16)
@@ -55,22 +75,57 @@ kind-read s k b kind valid code is =
     (subst (λ (n : ℕ). kind_of_code n ≡ Some b.kind) (kind-code s k kind is) (parts_of_code b (block_word s k) valid code).0)
     (kind_of_code-kind_code kind)
 
--- the word of a block of a kind that is filled by its tail
-pub tail-valid : (kind : Kind) (owner : ℕ) → FillsTails kind → owner ≤ 16 → IsValid (record { kind = kind; class = 0; owner = owner })
-tail-valid kind owner tails few = elim tails as (λ _. IsValid (record { kind = kind; class = 0; owner = owner })) [
-  | inl bump ↦ subst (λ (k : Kind). IsValid (record { kind = k; class = 0; owner = owner })) (sym bump) (bumped kinds.Bump)
-  | inr young ↦ subst (λ (k : Kind). IsValid (record { kind = k; class = 0; owner = owner })) (sym young) (younger kinds.Young)
+-- mutators fill a kind with this code or one of two others
+not-filled : (fill : Kind) → is_holed (kind_code fill) ≡ false → FillsTailsOrCells fill → ⊥
+not-filled fill none (inl (inl bump)) = let wrong : true ≡ false = sym (ap (λ (f : Kind). is_holed (kind_code f)) bump) ∙ none in cc
+not-filled fill none (inl (inr young)) = let wrong : true ≡ false = sym (ap (λ (f : Kind). is_holed (kind_code f)) young) ∙ none in cc
+not-filled fill none (inr cells) = let wrong : true ≡ false = sym (ap (λ (f : Kind). is_holed (kind_code f)) cells) ∙ none in cc
+
+-- the class of any size is one of the 19
+cell-few : (size : ℕ) → class_for kinds.Cells size ≤ 18
+cell-few size = elim (cases_lt 2048 size) as (λ _. class_for kinds.Cells size ≤ 18) [
+  | inl large ↦ subst (λ (o : Option ℕ). unwrap_or o 0 ≤ 18) (sym (none-above size large)) (omega arith)
+  | inr small ↦ few-classes kinds.Cells size small
 ]
-  where
-    bumped : (k : Kind) → IsValid (record { kind = kinds.Bump; class = 0; owner = owner })
-    bumped k = grind arith
 
-    younger : (k : Kind) → IsValid (record { kind = kinds.Young; class = 0; owner = owner })
-    younger k = grind arith
+pub class-few : (fill : Kind) (size : ℕ) → class_for fill size ≤ 18
+class-few kinds.Cells size = cell-few size
+class-few kinds.Free size = omega arith
+class-few kinds.Bump size = omega arith
+class-few kinds.Young size = omega arith
+class-few kinds.Mature size = omega arith
+class-few kinds.Immix size = omega arith
+class-few kinds.LargeHead size = omega arith
+class-few kinds.LargeTail size = omega arith
+class-few kinds.Kept size = omega arith
 
--- so such a block has class 0
-pub tail-class : (kind : Kind) (class owner : ℕ) → FillsTails kind → IsValid (record { kind = kind; class = class; owner = owner }) → class ≡ 0
-tail-class kind class owner tails valid = elim tails as (λ _. class ≡ 0) [
+-- the word of a block that is taken for a size is valid
+tail-valid : (owner : ℕ) → owner ≤ 16 → IsTrue (nat_eq 0 0 && nat_le owner 32)
+tail-valid owner few = and_from (nat_eq 0 0) (nat_le owner 32) refl (le-leb owner 32 (omega arith))
+
+cell-valid : (class owner : ℕ) → class ≤ 18 → owner ≤ 16 → IsTrue (nat_le class 18 && nat_le owner 32)
+cell-valid class owner small few = and_from (nat_le class 18) (nat_le owner 32) (le-leb class 18 small) (le-leb owner 32 (omega arith))
+
+pub filled-valid : (fill : Kind) (size owner : ℕ) → FillsTailsOrCells fill → owner ≤ 16
+    → IsValid (record { kind = fill; class = class_for fill size; owner = owner })
+filled-valid kinds.Bump size owner fills few = tail-valid owner few
+filled-valid kinds.Young size owner fills few = tail-valid owner few
+filled-valid kinds.Cells size owner fills few = cell-valid (class_for kinds.Cells size) owner (cell-few size) few
+filled-valid kinds.Immix size owner fills few = absurd (no-lines fills)
+filled-valid kinds.Free size owner fills few = absurd (not-filled kinds.Free refl fills)
+filled-valid kinds.Mature size owner fills few = absurd (not-filled kinds.Mature refl fills)
+filled-valid kinds.LargeHead size owner fills few = absurd (not-filled kinds.LargeHead refl fills)
+filled-valid kinds.LargeTail size owner fills few = absurd (not-filled kinds.LargeTail refl fills)
+filled-valid kinds.Kept size owner fills few = absurd (not-filled kinds.Kept refl fills)
+
+-- the class of each size is 0 where mutators fill tails
+pub tail-for : (fill : Kind) → FillsTails fill → (size : ℕ) → class_for fill size ≡ 0
+tail-for fill (inl bump) size = ap (λ (f : Kind). class_for f size) bump
+tail-for fill (inr young) size = ap (λ (f : Kind). class_for f size) young
+
+-- a block of tails has class 0
+pub filled-class : (kind : Kind) (class owner : ℕ) → FillsTails kind → IsValid (record { kind = kind; class = class; owner = owner }) → class ≡ 0
+filled-class kind class owner tails valid = elim tails as (λ _. class ≡ 0) [
   | inl bump ↦ bumped (subst (λ (k : Kind). IsValid (record { kind = k; class = class; owner = owner })) bump valid)
   | inr young ↦ younger (subst (λ (k : Kind). IsValid (record { kind = k; class = class; owner = owner })) young valid)
 ]
@@ -80,6 +135,50 @@ tail-class kind class owner tails valid = elim tails as (λ _. class ≡ 0) [
 
     younger : IsValid (record { kind = kinds.Young; class = class; owner = owner }) → class ≡ 0
     younger is = grind arith
+
+-- the parts of the word of a block of the kind are valid
+pub valid-parts : (s : HeapState) (k : ℕ) (kind : Kind) → HasKind s k kind → IsTrue (is_block_code (block_word s k))
+    → IsValid (record { kind = kind; class = class_at s k; owner = owner_at s k })
+valid-parts s k kind is code = subst (λ (o : Option Kind). IsTrue (is_valid_for_some o (class_at s k) (owner_at s k)))
+    (ap kind_of_code (kind-code s k kind is) ∙ kind_of_code-kind_code kind) code
+
+-- the region of a clear block
+pub clear-whole : (fill : Kind) → FillsTailsOrCells fill → (s : HeapState) (k : ℕ) → IsClear s k → IsRegionIn fill s k (first_region fill (class_at s k))
+clear-whole kinds.Bump fills s k clear = clear-region kinds.Bump (inl refl) s k clear
+clear-whole kinds.Young fills s k clear = clear-region kinds.Young (inr refl) s k clear
+clear-whole kinds.Cells fills s k clear = clear-cells s k clear
+clear-whole kinds.Immix fills s k clear = absurd (no-lines fills)
+clear-whole kinds.Free fills s k clear = absurd (not-filled kinds.Free refl fills)
+clear-whole kinds.Mature fills s k clear = absurd (not-filled kinds.Mature refl fills)
+clear-whole kinds.LargeHead fills s k clear = absurd (not-filled kinds.LargeHead refl fills)
+clear-whole kinds.LargeTail fills s k clear = absurd (not-filled kinds.LargeTail refl fills)
+clear-whole kinds.Kept fills s k clear = absurd (not-filled kinds.Kept refl fills)
+
+-- has room for the size, if the block has the size's class
+pub whole-room : (fill : Kind) (size : ℕ) → size ≤ 2048 → size ≤ (first_region fill (class_for fill size)).end
+whole-room kinds.Cells size small =
+    let least = class-least size small in
+    let same : class_for kinds.Cells size ≡ least.class = ap (λ (o : Option ℕ). unwrap_or o 0) least.same in
+    subst (λ (c : ℕ). size ≤ cell_words c) (sym same) least.room
+whole-room kinds.Bump size small = omega arith
+whole-room kinds.Young size small = omega arith
+whole-room kinds.Immix size small = omega arith
+whole-room kinds.Free size small = omega arith
+whole-room kinds.Mature size small = omega arith
+whole-room kinds.LargeHead size small = omega arith
+whole-room kinds.LargeTail size small = omega arith
+whole-room kinds.Kept size small = omega arith
+
+-- a block whose class is not the size's has no hole for it
+pub tail-suits : (fill : Kind) → FillsTails fill → (s : HeapState) (k size : ℕ) → IsTrue (is_block_code (block_word s k)) → HasKind s k fill
+    → class_at s k ≡ class_for fill size
+tail-suits fill tails s k size code kind = filled-class fill (class_at s k) (owner_at s k) tails (valid-parts s k fill kind code) ∙ sym (tail-for fill tails size)
+
+pub suits-hole : (fill : Kind) → FillsTailsOrCells fill → (s : HeapState) (k at size : ℕ) → IsTrue (is_block_code (block_word s k))
+    → class_at s k ≢ class_for fill size → HasHole fill s k at size → ⊥
+suits-hole fill (inl tails) s k at size code other hole = other (tail-suits fill tails s k size code (hole-kind fill s k at size hole))
+suits-hole fill (inr cells) s k at size code other hole = class-lacks s k at size
+    (subst (λ (f : Kind). class_at s k ≢ class_for f size) cells other) (subst (λ (f : Kind). HasHole f s k at size) cells hole)
 
 module _ (p : Epoch) (i : IdealHeap) (log : List LogEntry) (w : PlainRow) (at : IsAt p i log w) where
   abbrev s : HeapState
@@ -139,10 +238,14 @@ module _ (p : Epoch) (i : IdealHeap) (log : List LogEntry) (w : PlainRow) (at : 
   pub owned-note : (k number : ℕ) (region : Region) → slice_get w.notes.items k ≡ Some (Owned number region) → IsOwnedNote w.fill (state_of w.row) k number region
   owned-note k number region is = at.notes.each k (Owned number region) is
 
+  -- a region lies in its block
+  pub note-inside : (k number : ℕ) (region : Region) → slice_get w.notes.items k ≡ Some (Owned number region) → (region.next ≤ region.end) × (region.end ≤ 4096)
+  note-inside k number region is = region-inside w.fill (state_of w.row) k region (owned-note k number region is).left
+
   pub unowned-note : (k least : ℕ) → slice_get w.notes.items k ≡ Some (Unowned least) → IsUnownedNote w.fill (state_of w.row) k least
   unowned-note k least is = at.notes.each k (Unowned least) is
 
-  -- the mutator of an Owned note took the block, for class 0
+  -- the mutator of an Owned note took the block, for its class
   pub note-listed : (k number : ℕ) (region : Region) → slice_get w.notes.items k ≡ Some (Owned number region) → IsListed (local_after_log p log number) k
   note-listed k number region is =
       let note = owned-note k number region is in
@@ -153,11 +256,13 @@ module _ (p : Epoch) (i : IdealHeap) (log : List LogEntry) (w : PlainRow) (at : 
       (subst (λ (n : ℕ). 0 < n) (sym same) note.some))
 
   pub note-taken : (k number : ℕ) (region : Region) → slice_get w.notes.items k ≡ Some (Owned number region)
-      → Contains (local_after_log p log number).owned (record { block = k; class = 0 })
+      → Contains (local_after_log p log number).owned (record { block = k; class = class_at (state_of w.row) k })
   note-taken k number region is =
       let by = note-listed k number region is in
       let owned = ((facts.moment p i log w at).epoch.knows number).owned by.block by.listed in
-      let class : by.block.class ≡ 0 = tail-class p.rules.fill by.block.class (local_after_log p log number).number (subst FillsTails at.fill at.tails) owned.valid in
+      let class : by.block.class ≡ class_at (state_of w.row) k =
+      sym (owned-class p (heap_after p log) (local_after_log p log number).number by.block owned)
+      ∙ ap (λ (t : HeapState). class_at t by.block.block) (sym at.heap) ∙ ap (class_at (state_of w.row)) by.same in
       subst (Contains (local_after_log p log number).owned)
       (ap (λ (b : ℕ). let o : OwnedBlock = record { block = b; class = by.block.class } in o) by.same
       ∙ ap (λ (c : ℕ). let o : OwnedBlock = record { block = k; class = c } in o) class) by.listed
@@ -197,66 +302,80 @@ module _ (p : Epoch) (i : IdealHeap) (log : List LogEntry) (w : PlainRow) (at : 
     pub own-local-number : own-local.number ≡ number_at_turn w
     own-local-number = (facts.moment p i log w at).epoch.numbers (number_at_turn w)
 
-    -- it owns the block that it allocates in
-    pub own-region : (b : ℕ) → block_of (seat_at_turn w) ≡ Some b → IsRegionOf w.notes.items (number_at_turn w) b
-    own-region b is = subst (λ (n : ℕ). IsRegionOf w.notes.items n b) (sym own-number)
-        (at.regions w.turn mutator.0 own-seat.0 b mutator.1 own-seat.1 (sym (ap block_of own-seat.1) ∙ is))
+    -- it owns each block that it allocates in, which has the class of its cursor
+    pub own-cursors : HasCursors w.notes.items (state_of w.row) (number_at_turn w) own-seat.0
+    own-cursors = subst (λ (n : ℕ). HasCursors w.notes.items (state_of w.row) n own-seat.0) (sym own-number) (at.cursors w.turn mutator.0 own-seat.0 mutator.1 own-seat.1)
+
+    pub own-classes : length (blocks_of (seat_at_turn w)) ≡ 19
+    own-classes = ap (λ (o : Option PlainSeat). length (blocks_of o)) own-seat.1 ∙ own-cursors.classes
+
+    pub own-region : (class b : ℕ) → block_of (seat_at_turn w) class ≡ Some b → IsRegionOf w.notes.items (number_at_turn w) b × (class_at (state_of w.row) b ≡ class)
+    own-region class b is = own-cursors.each class b (set-in own-seat.0.blocks class b (ap (λ (o : Option PlainSeat). block_of o class) (sym own-seat.1) ∙ is))
 
     -- the word of a block that it takes
-    pub own-valid : IsValid (record { kind = w.fill; class = 0; owner = number_at_turn w })
-    own-valid = tail-valid w.fill (number_at_turn w) at.tails own-range.1
+    pub own-valid : (size : ℕ) → IsValid (record { kind = w.fill; class = class_for w.fill size; owner = number_at_turn w })
+    own-valid size = filled-valid w.fill size (number_at_turn w) at.fills own-range.1
 
-    -- the note that is read of that block
-    pub own-note : (b owner : ℕ) (region : Region) → block_of (seat_at_turn w) ≡ Some b → slice_get w.notes.items b ≡ Some (Owned owner region)
+    -- the note that is read of such a block
+    pub own-note : (class b owner : ℕ) (region : Region) → block_of (seat_at_turn w) class ≡ Some b → slice_get w.notes.items b ≡ Some (Owned owner region)
         → slice_get w.notes.items b ≡ Some (Owned (number_at_turn w) region)
-    own-note b owner region is note =
-        let mine = own-region b is in
+    own-note class b owner region is note =
+        let mine = (own-region class b is).0 in
         let same : Owned owner region ≡ Owned (number_at_turn w) mine.region = one-element (slice_get w.notes.items b) (Owned owner region) (Owned (number_at_turn w) mine.region) note mine.note in
         let number : owner ≡ number_at_turn w = cc in
         subst (λ (n : ℕ). slice_get w.notes.items b ≡ Some (Owned n region)) number note
 
-    -- the seat that is read has the block that the mutator allocates in
-    pub current-block : (x : PlainSeat) (b : ℕ) → x ≡ get_or w.seats.items w.turn x → x.block ≡ Some b → block_of (seat_at_turn w) ≡ Some b
-    current-block x b is block =
-        ap block_of (read-some w.seats.items w.turn x (let t = turn.turn in let e = turn.seats in omega arith) is) ∙ block
+    -- the seat that is read
+    pub seat-read : (x : PlainSeat) → x ≡ get_or w.seats.items w.turn x → seat_at_turn w ≡ Some x
+    seat-read x is = read-some w.seats.items w.turn x (let t = turn.turn in let e = turn.seats in omega arith) is
 
-    pub current-noted : (x : PlainSeat) (b : ℕ) → x ≡ get_or w.seats.items w.turn x → x.block ≡ Some b → b < length w.notes.items
-    current-noted x b is block =
-        let mine = own-region b (current-block x b is block) in
+    -- it has the block that the mutator allocates objects of the class in
+    pub current-block : (x : PlainSeat) (class b : ℕ) → x ≡ get_or w.seats.items w.turn x → get_or x.blocks class None ≡ Some b
+        → block_of (seat_at_turn w) class ≡ Some b
+    current-block x class b is read = ap (λ (q : Option PlainSeat). block_of q class) (seat-read x is) ∙ cursor-read x.blocks class b read
+
+    pub current-noted : (x : PlainSeat) (class b : ℕ) → x ≡ get_or w.seats.items w.turn x → get_or x.blocks class None ≡ Some b → b < length w.notes.items
+    current-noted x class b is read =
+        let mine = (own-region class b (current-block x class b is read)).0 in
         get-below w.notes.items b (Owned (number_at_turn w) mine.region) mine.note
 
--- the block, its mutator and its region, as they are read
+-- the block for the size, its mutator and its region, as they are read
 pub record IsCurrent (w : PlainRow) (size b owner : ℕ) (region : Region) : Type 0 where
-  pub current : block_of (seat_at_turn w) ≡ Some b
+  pub current : block_of (seat_at_turn w) (class_for w.fill size) ≡ Some b
   pub own : owner ≡ number_at_turn w
   pub note : slice_get w.notes.items b ≡ Some (Owned (number_at_turn w) region)
   pub there : b < length w.notes.items
   pub room : region.next + size ≤ region.end
-  pub end : region.end ≡ 4096
+  pub end : region.end ≤ 4096
   pub block : b < w.row.layout.blocks
+  pub class : class_at (state_of w.row) b ≡ class_for w.fill size
+  pub kind : HasKind (state_of w.row) b w.fill
 
-pub current-read : (w : PlainRow) (size : ℕ) → HasRoom w size → (x : PlainSeat) (b : ℕ) (n : BlockNote) (owner : ℕ) (region : Region)
-    → x ≡ get_or w.seats.items w.turn x → x.block ≡ Some b → n ≡ get_or w.notes.items b n → n ≡ Owned owner region → IsCurrent w size b owner region
-current-read w size has x b n owner region seat block read is =
+pub current-read : (w : PlainRow) (size : ℕ) → HasRoom w size → (x : PlainSeat) (class b : ℕ) (n : BlockNote) (owner : ℕ) (region : Region)
+    → class ≡ class_for w.fill size → x ≡ get_or w.seats.items w.turn x → get_or x.blocks class None ≡ Some b
+    → n ≡ get_or w.notes.items b n → n ≡ Owned owner region → IsCurrent w size b owner region
+current-read w size has x class b n owner region is-class seat block read is =
     let p = has.some.epoch in
     let at = has.some.at in
-    let current : block_of (seat_at_turn w) ≡ Some b = current-block p has.some.ideal has.some.log w at has.turn x b seat block in
-    let there : b < length w.notes.items = current-noted p has.some.ideal has.some.log w at has.turn x b seat block in
+    let first : block_of (seat_at_turn w) class ≡ Some b = current-block p has.some.ideal has.some.log w at has.turn x class b seat block in
+    let current : block_of (seat_at_turn w) (class_for w.fill size) ≡ Some b = ap (block_of (seat_at_turn w)) (sym is-class) ∙ first in
+    let there : b < length w.notes.items = current-noted p has.some.ideal has.some.log w at has.turn x class b seat block in
     let note : slice_get w.notes.items b ≡ Some (Owned owner region) = read-some w.notes.items b n there read ∙ ap (λ (y : BlockNote). Some y) is in
-    let same : has.block ≡ b = one-element (block_of (seat_at_turn w)) has.block b has.current current in
+    let same : has.block ≡ b = one-element (block_of (seat_at_turn w) (class_for w.fill size)) has.block b has.current current in
     let mine : slice_get w.notes.items b ≡ Some (Owned (number_at_turn w) has.room.region) = subst (λ (k : ℕ). slice_get w.notes.items k ≡ Some (Owned (number_at_turn w) has.room.region)) same has.room.note in
     let alike : Owned owner region ≡ Owned (number_at_turn w) has.room.region = one-element (slice_get w.notes.items b) (Owned owner region) (Owned (number_at_turn w) has.room.region) note mine in
     let region-same : has.room.region ≡ region = cc in
     let own : owner ≡ number_at_turn w = cc in
-    let owned = owned-note p has.some.ideal has.some.log w at b owner region note in
     record {
       current = current;
       own = own;
       note = subst (λ (k : ℕ). slice_get w.notes.items b ≡ Some (Owned k region)) own note;
       there = there;
       room = subst (λ (r : Region). r.next + size ≤ r.end) region-same has.room.room;
-      end = owned.end;
+      end = (note-inside p has.some.ideal has.some.log w at b owner region note).1;
       block = note-block p has.some.ideal has.some.log w at b (Owned owner region) note;
+      class = (own-region p has.some.ideal has.some.log w at has.turn (class_for w.fill size) b current).1;
+      kind = (owned-note p has.some.ideal has.some.log w at b owner region note).kind;
     }
 
 -- the words of an object at the start of the region are the heap's
@@ -269,7 +388,7 @@ pub record IsPlaced (blocks size block offset : ℕ) : Type 0 where
 pub advanced-place : (w new : PlainRow) (size block offset : ℕ) → IsInEpoch w → 0 < size → Advances w new size block offset → IsPlaced w.row.layout.blocks size block offset
 advanced-place w new size block offset now some by =
     let there : block < w.row.layout.blocks = note-block now.epoch now.ideal now.log w now.at block (Owned (number_at_turn w) by.region) by.was in
-    let end : by.region.end ≡ 4096 = (owned-note now.epoch now.ideal now.log w now.at block (number_at_turn w) by.region by.was).end in
+    let end : by.region.end ≤ 4096 = (note-inside now.epoch now.ideal now.log w now.at block (number_at_turn w) by.region by.was).1 in
     let begins : by.region.next ≡ offset = by.begins in
     let room : by.region.next + size ≤ by.region.end = by.room in
     let blocks : ℕ = w.row.layout.blocks in

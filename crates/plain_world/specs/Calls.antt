@@ -15,12 +15,13 @@ use Rattle.object_model.specs.Objects.{HeapState, state_of, word_at, block_word,
 use Rattle.object_model.specs.declared.shape.TheConstants.{HEADER_WORDS, MAX_MEDIUM_WORDS}
 use Rattle.object_model.specs.Graphs.{MutatorState}
 use Rattle.object_model.specs.Ages.{is_old}
-use Rattle.sessions.specs.Fitting.{HasHole}
+use Rattle.sessions.specs.Fitting.{HasHole, HasCellFor, class_for}
 use Rattle.mutator_core.specs.Machine.{Epoch}
 use Rattle.mutator_calls.specs.Effects.{Effect, draws}
 use Rattle.mutator_calls.specs.Allocating.{Books, births_with, Draws, FindsRoom}
 use Rattle.plain_world.specs.declared.plain_row.PlainRow.{PlainRow}
 use Rattle.plain_world.specs.declared.plain_world.PlainWorld.{PlainWorld}
+use Rattle.plain_world.specs.Regions.{BeginsHole}
 use Rattle.plain_world.specs.Rows.{mutator_state, number_of, births_of, registers_of, ticket_of, block_of}
 use Rattle.plain_world.specs.Worlds.{IsAfter, IsIdle, has, births_in, stop_after}
 
@@ -151,19 +152,21 @@ pub record IsUnchanged {P : Type 0} (old new : PlainWorld P) : Type 0 where
   pub mutators : mutators_of new ≡ mutators_of old
   pub tickets : (k : ℕ) → ticket_at new k ≡ ticket_at old k
 
--- the mutator at place m allocates in block k
-abbrev pub AllocatesAt : {P : Type 0} → PlainWorld P → ℕ → ℕ → Type 0
-AllocatesAt w m k = block_of (slice_get w.row.seats.items m) ≡ Some k
+-- the mutator at place m allocates objects of this size in block k
+abbrev pub AllocatesAt : {P : Type 0} → PlainWorld P → ℕ → ℕ → ℕ → Type 0
+AllocatesAt w m size k = block_of (slice_get w.row.seats.items m) (class_for w.row.fill size) ≡ Some k
 
--- The new object in register d of the mutator at place m lies in the block that the mutator allocates in now, which it
--- owns. It begins a hole with room for it, of a block that was the mutator's or nobody's, or a block that was Free.
+-- The new object in register d of the mutator at place m lies in the block that the mutator allocates objects of this
+-- size in now, which it owns. It begins the first hole with room for it, of a block that was the mutator's or nobody's, or
+-- a block that was Free. In cells it has one of the class for the size.
 pub record IsPlacedIn {P : Type 0} (old : PlainWorld P) (m : ℕ) (new : PlainWorld P) (d size : ℕ) : Type 0 where
   pub block : ℕ
   pub offset : ℕ
   pub address : register_in new m d ≡ block_start (heap_of new).blocks block + offset
   pub owner : owner_at (heap_of new) block ≡ number_at new m
-  pub current : AllocatesAt new m block
-  pub spot : (HasHole old.row.fill (heap_of old) block offset size
+  pub current : AllocatesAt new m size block
+  pub cell : HasCellFor new.row.fill (heap_of new) block offset size
+  pub spot : (BeginsHole old.row.fill (heap_of old) block offset size
       × ((owner_at (heap_of old) block ≡ 0) ⊎ (owner_at (heap_of old) block ≡ number_at old m)))
       ⊎ (HasKind (heap_of old) block kinds.Free × (offset ≡ 0))
 
@@ -176,7 +179,8 @@ pub record Allocates {P : Type 0} (old : PlainWorld P) (m d r q : ℕ) (n : Name
   pub history : AddsEntry old m (command.New d r q) (reply.New n) new
   pub grants : Grants old granted new
   pub rest : LeavesRest old m (births_with d r q n taken granted drawn) new
-  pub finds : FindsRoom (HasNoRoom new m (size_of r q)) (IsNotFree new) (AllocatesAt old m) (AllocatesAt new m)
+  pub finds : FindsRoom (HasNoRoom new m (size_of r q)) (IsNotFree new) (AllocatesAt old m (size_of r q))
+      (AllocatesAt new m (size_of r q))
       (λ t. t ≡ budget_word old) (heap_of new).blocks (allowance_of new) (ticket_at old m) (ticket_at new m) taken granted drawn
   pub placed : IsPlacedIn old m new d (size_of r q)
 

@@ -5,14 +5,16 @@ use Rattle.heap_layout.specs.Blocks.{code_of}
 use Rattle.heap_layout.specs.declared.region.Region.{Region}
 use Rattle.ideal_heap.specs.declared.name.Name.{Name}
 use Rattle.ideal_heap.specs.Names.{name}
-use Rattle.object_model.specs.Objects.{state_of, with_words, size_of}
+use Rattle.object_model.specs.Objects.{state_of, with_words, HasKind, class_at, size_of}
+use Rattle.sessions.specs.Fitting.{class_for}
 use Rattle.object_model.specs.Changes.{WritesObject}
 use Rattle.mutator_calls.specs.declared.need.Mutator.{Mutator}
 use Rattle.plain_world.specs.declared.plain_row.PlainRow.{PlainRow}
+use Rattle.plain_world.specs.Regions.{IsRestAfter}
 use Rattle.plan_api.specs.Holes.{IsFirstHole}
 use Rattle.plain_world.specs.declared.plain_row.BlockNote.{BlockNote}
 use Rattle.plain_world.specs.declared.plain_row.BlockNote.TheVariants.{Unowned, Owned}
-use Rattle.plain_world.specs.Rows.{ChangesAt, mutator_at_turn, seat_at_turn, number_at_turn, ticket_of, block_of}
+use Rattle.plain_world.specs.Rows.{ChangesAt, mutator_at_turn, seat_at_turn, number_at_turn, ticket_of, blocks_of, block_of}
 
 -- the word at this index becomes v; all else stays
 pub record StoresWord (old new : PlainRow) (at v : ℕ) : Type 0 where
@@ -27,17 +29,19 @@ pub record KeepsPlan (old new : PlainRow) : Type 0 where
   pub allowance : new.allowance ≡ old.allowance
   pub counts : new.counts ≡ old.counts
 
--- The mutator takes the block: it becomes its owner and allocates in the region of the block. It has this ticket then.
-pub record TakesBlock (old new : PlainRow) (block : ℕ) (region : Region) (ticket : Option ℕ) : Type 0 where
+-- The mutator takes the block for objects of the class: it becomes its owner and allocates them in the region of the
+-- block. It has this ticket then.
+pub record TakesBlock (old new : PlainRow) (block class : ℕ) (region : Region) (ticket : Option ℕ) : Type 0 where
   pub plan : KeepsPlan old new
   pub mutators : new.mutators ≡ old.mutators
   pub words : state_of new.row ≡ with_words (state_of old.row) (slice_set (state_of old.row).words
       (first (state_of old.row).blocks BlockWords + block)
-      (code_of (record { kind = old.fill; class = 0; owner = number_at_turn old })))
+      (code_of (record { kind = old.fill; class = class; owner = number_at_turn old })))
   pub notes : ChangesAt old.notes.items new.notes.items block (Owned (number_at_turn old) region)
   pub owned : new.owned.items ≡ old.owned.items ++ block ∷ []
   pub room : vec_capacity new.owned ≡ vec_capacity old.owned
-  pub seats : ChangesAt old.seats.items new.seats.items old.turn (record { ticket = ticket; block = Some block })
+  pub seats : ChangesAt old.seats.items new.seats.items old.turn
+      (record { ticket = ticket; blocks = slice_set (blocks_of (seat_at_turn old)) class (Some block) })
 
 -- the note of the block becomes this one; all else stays
 pub record NotesBlock (old new : PlainRow) (block : ℕ) (note : BlockNote) : Type 0 where
@@ -48,49 +52,60 @@ pub record NotesBlock (old new : PlainRow) (block : ℕ) (note : BlockNote) : Ty
   pub notes : ChangesAt old.notes.items new.notes.items block note
   pub owned : new.owned ≡ old.owned
 
--- the mutator allocates in this block of its own; all else stays
-pub record ReturnsTo (old new : PlainRow) (block : ℕ) : Type 0 where
+-- the mutator allocates objects of the class in this block of its own; all else stays
+pub record ReturnsTo (old new : PlainRow) (block class : ℕ) : Type 0 where
   pub plan : KeepsPlan old new
   pub mutators : new.mutators ≡ old.mutators
   pub row : new.row ≡ old.row
   pub notes : new.notes ≡ old.notes
   pub owned : new.owned ≡ old.owned
   pub seats : ChangesAt old.seats.items new.seats.items old.turn
-      (record { ticket = ticket_of (seat_at_turn old); block = Some block })
+      (record {
+        ticket = ticket_of (seat_at_turn old);
+        blocks = slice_set (blocks_of (seat_at_turn old)) class (Some block);
+      })
 
 -- The block has room for the size that the mutator may fill, and becomes the one that it allocates in. The block is its
 -- own already, or nobody owned it.
 pub data FindsHole (old new : PlainRow) (block size : ℕ) : Type 0 where
   own : (region : Region) → slice_get old.notes.items block ≡ Some (Owned (number_at_turn old) region)
-      → region.next + size ≤ region.end → ReturnsTo old new block → FindsHole old new block size
+      → class_at (state_of old.row) block ≡ class_for old.fill size → region.next + size ≤ region.end
+      → ReturnsTo old new block (class_for old.fill size) → FindsHole old new block size
   taken : (least : ℕ) (region : Region) → slice_get old.notes.items block ≡ Some (Unowned least)
       → IsFirstHole old.fill (state_of old.row) block 0 size (Some region)
-      → TakesBlock old new block region (ticket_of (seat_at_turn old)) → FindsHole old new block size
+      → TakesBlock old new block (class_for old.fill size) region (ticket_of (seat_at_turn old))
+      → FindsHole old new block size
 
--- The block has no such room. At most its note changes.
+-- The block has no such room. At most its note changes, if it lacks holes for all greater sizes too.
 pub data LacksHole (old new : PlainRow) (block size : ℕ) : Type 0 where
   known : (least : ℕ) → slice_get old.notes.items block ≡ Some (Unowned least) → least ≤ size → new ≡ old
       → LacksHole old new block size
   seen : (least : ℕ) → slice_get old.notes.items block ≡ Some (Unowned least)
-      → IsFirstHole old.fill (state_of old.row) block 0 size None → NotesBlock old new block (Unowned size)
-      → LacksHole old new block size
+      → IsFirstHole old.fill (state_of old.row) block 0 size None
+      → (HasKind (state_of old.row) block old.fill → class_at (state_of old.row) block ≡ class_for old.fill size)
+      → NotesBlock old new block (Unowned size) → LacksHole old new block size
+  unsuited : (least : ℕ) → slice_get old.notes.items block ≡ Some (Unowned least)
+      → class_at (state_of old.row) block ≢ class_for old.fill size → new ≡ old → LacksHole old new block size
   foreign : (owner : ℕ) (region : Region) → slice_get old.notes.items block ≡ Some (Owned owner region)
-      → (owner ≢ number_at_turn old) ⊎ (region.end < region.next + size) → new ≡ old → LacksHole old new block size
+      → (owner ≢ number_at_turn old) ⊎ (region.end < region.next + size)
+      ⊎ (class_at (state_of old.row) block ≢ class_for old.fill size) → new ≡ old → LacksHole old new block size
 
--- The region of the mutator, in this block, begins `size` words later; it began at the offset. All else stays.
+-- The mutator's region for objects of this size, in this block, becomes what such an object at its start leaves. It began
+-- at the offset. All else stays.
 pub record Advances (old new : PlainRow) (size block offset : ℕ) : Type 0 where
   pub plan : KeepsPlan old new
   pub mutators : new.mutators ≡ old.mutators
   pub row : new.row ≡ old.row
   pub seats : new.seats ≡ old.seats
-  pub current : block_of (seat_at_turn old) ≡ Some block
+  pub current : block_of (seat_at_turn old) (class_for old.fill size) ≡ Some block
   pub region : Region
+  pub rest : Region
   pub was : slice_get old.notes.items block ≡ Some (Owned (number_at_turn old) region)
   pub begins : region.next ≡ offset
   pub room : region.next + size ≤ region.end
   pub owned : new.owned ≡ old.owned
-  pub notes : ChangesAt old.notes.items new.notes.items block
-      (Owned (number_at_turn old) (record { next = region.next + size; end = region.end }))
+  pub left : IsRestAfter old.fill (state_of old.row) block size region rest
+  pub notes : ChangesAt old.notes.items new.notes.items block (Owned (number_at_turn old) rest)
 
 -- The mutator has one object more, of this name, whose address is in register d. All else stays.
 pub record CountsObject (old new : PlainRow) (d address : ℕ) (n : Name) : Type 0 where
@@ -107,7 +122,7 @@ pub record CountsObject (old new : PlainRow) (d address : ℕ) (n : Name) : Type
   })
   pub named : n ≡ name mutator.number (mutator.births + 1)
 
--- The mutator allocates an object at the start of its region, which begins after it then.
+-- The mutator allocates an object at the start of its region for objects of this size.
 pub record Allocates (old new : PlainRow) (d : ℕ) (n : Name) (refs nums : ℕ) : Type 0 where
   pub block : ℕ
   pub offset : ℕ

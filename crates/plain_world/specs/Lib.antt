@@ -1,4 +1,5 @@
 pub mod Rows
+pub mod Regions
 pub mod Notes
 pub mod Worlds
 pub mod Steps

@@ -1,39 +1,41 @@
 -- The notes on blocks, against the heap.
-use Rattle.heap_layout.specs.declared.layout.TheConstants.{BLOCK_WORDS}
-use Rattle.std.specs.Prelude.{◌≡◌, ℕ, ◌+◌, ◌-◌, ◌<◌, ◌≤◌, ◌⊎◌, Bool, List, [], length, nat_eq, Some, slice_get, slice_set, vec_capacity}
+use Rattle.heap_layout.specs.declared.block_codes.TheConstants.{OWNER_UNIT}
+use Rattle.std.specs.Prelude.{◌≡◌, ℕ, ◌+◌, ◌-◌, ◌%◌, ◌<◌, ◌≤◌, ◌⊎◌, Bool, List, [], length, nat_eq, Some, slice_get, slice_set, vec_capacity}
 use Rattle.std.specs.List.{Contains, IsDistinct}
 use Rattle.heap_layout.specs.declared.block.Kind.{Kind}
 use Rattle.heap_layout.specs.declared.block.Kind.TheVariants as kinds
 use Rattle.heap_layout.specs.declared.region.Region.{Region}
 use Rattle.heap_layout.specs.Zones.{first, BlockWords, block_at, offset_at}
-use Rattle.heap_layout.specs.Blocks.{code_of}
-use Rattle.object_model.specs.Objects.{HeapState, with_words, has_kind, HasKind, owner_at, size_of}
+use Rattle.object_model.specs.Objects.{HeapState, with_words, block_word, has_kind, HasKind, owner_at, size_of, blocks_for}
 use Rattle.plan_api.specs.Counting.{session_counts}
-use Rattle.sessions.specs.Fitting.{IsTail, HasHole, counts_of}
+use Rattle.sessions.specs.Fitting.{HasHole, counts_of}
 use Rattle.sessions.specs.Plans.{Rules}
-use Rattle.sessions.specs.Sessions.{AddsObject, UsesBlock}
+use Rattle.sessions.specs.Sessions.{AddsObject, UsesBlock, UsesRun}
 use Rattle.plain_world.specs.declared.block_notes.BlockNotes.{BlockNotes}
 use Rattle.plain_world.specs.declared.plain_row.BlockNote.{BlockNote}
 use Rattle.plain_world.specs.declared.plain_row.BlockNote.TheVariants.{Unowned, Owned}
 use Rattle.plain_world.specs.Rows.{ChangesAt}
+use Rattle.plain_world.specs.Regions.{IsRegionIn}
 
 -- mutators fill the tails of blocks of this kind
 abbrev pub FillsTails : Kind → Type 0
 FillsTails fill = (fill ≡ kinds.Bump) ⊎ (fill ≡ kinds.Young)
+
+-- mutators fill tails of blocks, or cells
+abbrev pub FillsTailsOrCells : Kind → Type 0
+FillsTailsOrCells fill = FillsTails fill ⊎ (fill ≡ kinds.Cells)
 
 -- block k has no owner, and no hole for an object of `least` words or more
 pub record IsUnownedNote (fill : Kind) (s : HeapState) (k least : ℕ) : Type 0 where
   pub owner : owner_at s k ≡ 0
   pub none : (at size : ℕ) → least ≤ size → HasHole fill s k at size → ⊥
 
--- mutator `owner` owns block k, which has the kind that mutators fill, and the region is its tail
+-- mutator `owner` owns block k, which has the kind that mutators fill, and the region is what is left of it
 pub record IsOwnedNote (fill : Kind) (s : HeapState) (k number : ℕ) (region : Region) : Type 0 where
   pub some : 0 < number
   pub owner : owner_at s k ≡ number
   pub kind : HasKind s k fill
-  pub tail : IsTail s k region.next
-  pub inside : region.next ≤ region.end
-  pub end : region.end ≡ BLOCK_WORDS
+  pub left : IsRegionIn fill s k region
 
 -- the note is right for block k
 abbrev pub IsNote : Kind → HeapState → ℕ → BlockNote → Type 0
@@ -45,7 +47,7 @@ pub record HasNotes (fill : Kind) (s : HeapState) (notes : List BlockNote) : Typ
   pub len : length notes ≡ s.blocks
   pub each : (k : ℕ) (note : BlockNote) → slice_get notes k ≡ Some note → IsNote fill s k note
 
--- the mutator's block is one that it owns
+-- a block that the mutator allocates in is its own
 pub record IsRegionOf (notes : List BlockNote) (number block : ℕ) : Type 0 where
   pub region : Region
   pub note : slice_get notes block ≡ Some (Owned number region)
@@ -54,7 +56,7 @@ pub record IsRegionOf (notes : List BlockNote) (number block : ℕ) : Type 0 whe
 abbrev pub AreFilled : List BlockNote → Type 0
 AreFilled notes = (k owner : ℕ) (region : Region) → slice_get notes k ≡ Some (Owned owner region) → 0 < region.next
 
--- the mutator's region is in this block, and has room for the size; each other block that a mutator owns has an object
+-- a region of the mutator is in this block, and has room for the size; each other block that a mutator owns has an object
 pub record IsRoomIn (notes : List BlockNote) (number size block : ℕ) : Type 0 where
   pub region : Region
   pub note : slice_get notes block ≡ Some (Owned number region)
@@ -71,13 +73,12 @@ pub record ListsOwned (notes : List BlockNote) (owned : List ℕ) : Type 0 where
   pub listed : (k owner : ℕ) (region : Region) → slice_get notes k ≡ Some (Owned owner region) → Contains owned k
   pub right : (k : ℕ) → Contains owned k → (owner : ℕ) × (region : Region) × (slice_get notes k ≡ Some (Owned owner region))
 
--- A block that a mutator owns is given back: it keeps its kind, and its hole is what the region has left.
-pub data GivesBackBlock (fill : Kind) (old new : HeapState) (notes later : List BlockNote) (block : ℕ) : Type 0 where
-  nobody : (least : ℕ) → slice_get notes block ≡ Some (Unowned least) → new ≡ old → later ≡ notes → GivesBackBlock fill old new notes later block
+-- A block that a mutator owns is given back: it keeps its kind and class, and its hole is what the region has left.
+pub data GivesBackBlock (old new : HeapState) (notes later : List BlockNote) (block : ℕ) : Type 0 where
+  nobody : (least : ℕ) → slice_get notes block ≡ Some (Unowned least) → new ≡ old → later ≡ notes → GivesBackBlock old new notes later block
   given : (owner : ℕ) (region : Region) → slice_get notes block ≡ Some (Owned owner region)
-      → new ≡ with_words old (slice_set old.words (first old.blocks BlockWords + block)
-      (code_of (record { kind = fill; class = 0; owner = 0 })))
-      → ChangesAt notes later block (Unowned (region.end - region.next + 1)) → GivesBackBlock fill old new notes later block
+      → new ≡ with_words old (slice_set old.words (first old.blocks BlockWords + block) (block_word old block % OWNER_UNIT))
+      → ChangesAt notes later block (Unowned (region.end - region.next + 1)) → GivesBackBlock old new notes later block
 
 -- The notes are right for a heap between two epochs, whose mutators fill blocks of this kind: nobody owns a block.
 pub record AreNotes (fill : Kind) (s : HeapState) (n : BlockNotes) : Type 0 where
@@ -104,3 +105,10 @@ pub record PlacesObject (rules : Rules) (old new : HeapState) (a refs nums block
   pub uses : UsesBlock rules old new block (size_of refs nums)
   pub free : was_free ≡ has_kind old block kinds.Free
   pub spot : HasKind old block kinds.Free ⊎ HasHole rules.fill old block (offset_at old.blocks a) (size_of refs nums)
+
+-- From `old` to `new` a large object was placed at the address, in the run of blocks that begins with this one.
+pub record PlacesRun (old new : HeapState) (a refs nums block : ℕ) : Type 0 where
+  pub blocks : new.blocks ≡ old.blocks
+  pub object : AddsObject old new a refs nums
+  pub here : block_at old.blocks a ≡ block
+  pub uses : UsesRun old new block (blocks_for (size_of refs nums))

@@ -1,5 +1,5 @@
 -- The parts of a world of mutators in turns.
-use Rattle.std.specs.Prelude.{◌≡◌, ◌≢◌, ℕ, ◌<◌, Option, Some, None, List, [], length, slice_get, slice_index, slice_set}
+use Rattle.std.specs.Prelude.{◌≡◌, ◌≢◌, ℕ, ◌<◌, Option, Some, None, List, [], length, unwrap_or, slice_get, slice_index, slice_set}
 use Rattle.object_model.specs.Graphs.{MutatorState}
 use Rattle.mutator_calls.specs.declared.need.Mutator.{Mutator}
 use Rattle.plain_world.specs.declared.plain_row.PlainRow.{PlainRow}
@@ -25,9 +25,14 @@ abbrev pub ticket_of : Option PlainSeat → Option ℕ
 ticket_of None = None
 ticket_of (Some x) = x.ticket
 
-abbrev pub block_of : Option PlainSeat → Option ℕ
-block_of None = None
-block_of (Some x) = x.block
+-- by class, the block that the mutator of a seat allocates in
+abbrev pub blocks_of : Option PlainSeat → List (Option ℕ)
+blocks_of None = []
+blocks_of (Some x) = x.blocks
+
+-- the block for this class
+abbrev pub block_of : Option PlainSeat → ℕ → Option ℕ
+block_of seat class = unwrap_or (slice_get (blocks_of seat) class) None
 
 -- it is the turn of one of the mutators, and each mutator has a seat
 pub record IsTurn (w : PlainRow) : Type 0 where

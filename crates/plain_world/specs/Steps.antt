@@ -5,12 +5,13 @@ use Rattle.ideal_heap.specs.declared.name.Name.{Name}
 use Rattle.object_model.specs.Objects.{state_of, word_at, HasKind, owner_at, refs_at, nums_at, name_at, is_unlogged}
 use Rattle.object_model.specs.Ages.{is_old}
 use Rattle.object_model.specs.declared.shape.Shape.{Shape}
-use Rattle.sessions.specs.Fitting.{HasHole}
+use Rattle.sessions.specs.Fitting.{HasHole, HasCellFor, class_for}
 use Rattle.mutator_calls.specs.Allocating.{Books}
 use Rattle.heap_layout.specs.Zones.{block_start}
 use Rattle.heap_layout.specs.declared.region.Region.{Region}
 use Rattle.plain_world.specs.declared.plain_row.PlainRow.{PlainRow}
 use Rattle.plain_world.specs.declared.plain_row.BlockNote.TheVariants.{Owned}
+use Rattle.plain_world.specs.Regions.{BeginsHole}
 use Rattle.plain_world.specs.Rows.{mutator_at_turn, seat_at_turn, number_at_turn, births_of, ticket_of, block_of, address_at}
 
 -- the accounts of the mutator whose turn it is
@@ -65,35 +66,36 @@ IsAged w s = is_old (state_of w.row) (address_at w s) ≡ true
 abbrev pub IsMarked : PlainRow → ℕ → Type 0
 IsMarked w s = is_unlogged (state_of w.row) (address_at w s) ≡ true
 
--- In the world `a` a hole of block k begins at the offset and has room for the size, and the block is the mutator's or
--- has no owner; or the block is Free and the offset is 0.
+-- In the world `a` the first hole of block k with room for the size begins at the offset, and the block is the mutator's
+-- or has no owner; or the block is Free and the offset is 0.
 abbrev pub IsOffer : PlainRow → ℕ → ℕ → ℕ → Type 0
-IsOffer a k offset size = (HasHole a.fill (state_of a.row) k offset size
+IsOffer a k offset size = (BeginsHole a.fill (state_of a.row) k offset size
     × ((owner_at (state_of a.row) k ≡ 0) ⊎ (owner_at (state_of a.row) k ≡ number_at_turn a)))
     ⊎ (HasKind (state_of a.row) k kinds.Free × (offset ≡ 0))
 
--- the mutator whose turn it is allocates in this block
-abbrev pub AllocatesIn : PlainRow → ℕ → Type 0
-AllocatesIn w k = block_of (seat_at_turn w) ≡ Some k
+-- the mutator whose turn it is allocates objects of this size in block k
+abbrev pub AllocatesIn : PlainRow → ℕ → ℕ → Type 0
+AllocatesIn w size k = block_of (seat_at_turn w) (class_for w.fill size) ≡ Some k
 
--- the region of the mutator is in this block
-pub record IsRegion (w : PlainRow) (k : ℕ) (region : Region) : Type 0 where
-  pub current : AllocatesIn w k
+-- the mutator's region for objects of this size is in this block
+pub record IsRegion (w : PlainRow) (size k : ℕ) (region : Region) : Type 0 where
+  pub current : AllocatesIn w size k
   pub note : slice_get w.notes.items k ≡ Some (Owned (number_at_turn w) region)
 
--- the region of the mutator in `b` is room that `a` offers
+-- the mutator's region for objects of this size in `b` is room that `a` offers
 pub record Offers (a b : PlainRow) (size : ℕ) : Type 0 where
   pub block : ℕ
   pub region : Region
-  pub now : IsRegion b block region
+  pub now : IsRegion b size block region
   pub offer : IsOffer a block region.next size
 
--- the object in register d of `c` was placed at the start of the region in `b`, in a block that the mutator owns and
--- allocates in
+-- The object in register d of `c` was placed at the start of the region in `b`, in a block that the mutator owns and
+-- allocates objects of this size in. In cells it has one of the class for the size.
 pub record PlacesObject (b c : PlainRow) (d size : ℕ) : Type 0 where
   pub block : ℕ
   pub region : Region
-  pub now : IsRegion b block region
+  pub now : IsRegion b size block region
   pub address : address_at c d ≡ block_start (state_of c.row).blocks block + region.next
   pub owner : owner_at (state_of c.row) block ≡ number_at_turn c
-  pub current : AllocatesIn c block
+  pub current : AllocatesIn c size block
+  pub cell : HasCellFor c.fill (state_of c.row) block region.next size

@@ -5,10 +5,10 @@ use Rattle.heap_layout.specs.declared.block.Kind.TheVariants as kinds
 use Rattle.ideal_heap.specs.Commands.{is_new}
 use Rattle.ideal_heap.specs.Ideal.{IdealHeap}
 use Rattle.ideal_heap.specs.Runs.{Entry, entry}
-use Rattle.object_model.specs.Objects.{state_of, word_at, block_word, has_kind, HasKind, is_unlogged}
+use Rattle.object_model.specs.Objects.{HeapState, state_of, word_at, block_word, has_kind, HasKind, class_at, is_unlogged}
 use Rattle.object_model.specs.Graphs.{numbers_of}
 use Rattle.plan_api.specs.Counting.{session_counts}
-use Rattle.sessions.specs.Fitting.{counts_of}
+use Rattle.sessions.specs.Fitting.{class_for, counts_of}
 use Rattle.mutator_core.specs.declared.state.Local.{Local}
 use Rattle.mutator_core.specs.declared.state.LogEntry.{LogEntry}
 use Rattle.mutator_core.specs.Machine.{Epoch, nothing_unpublished}
@@ -19,8 +19,10 @@ use Rattle.mutator_calls.specs.declared.need.Mutator.{Mutator}
 use Rattle.mutator_calls.specs.Effects.{Effect, Answered}
 use Rattle.plain_world.specs.declared.plain_row.PlainRow.{PlainRow}
 use Rattle.plain_world.specs.declared.plain_row.PlainSeat.{PlainSeat}
+use Rattle.plain_world.specs.declared.plain_row.BlockNote.{BlockNote}
+use Rattle.plain_world.specs.declared.plain_row.TheConstants.{CLASSES}
 use Rattle.plain_world.specs.Rows.{IsTurn, mutator_at_turn, number_at_turn, seat_at_turn, births_of, ticket_of, block_of}
-use Rattle.plain_world.specs.Notes.{FillsTails, HasNotes, ListsOwned, IsRegionOf, AreFilled, IsRoomIn}
+use Rattle.plain_world.specs.Notes.{FillsTailsOrCells, HasNotes, ListsOwned, IsRegionOf, AreFilled, IsRoomIn}
 
 -- The mutator and its seat have the machine's state of the mutator, which has no unpublished object, and no unlog bit
 -- cleared for a store to come.
@@ -30,6 +32,12 @@ pub record HasState (m : Mutator) (x : PlainSeat) (l : Local) : Type 0 where
   pub ticket : l.ticket ≡ x.ticket
   pub none : l.unpublished ≡ nothing_unpublished
   pub stored : l.pending ≡ 0
+
+-- The mutator of the seat owns each block in which it allocates objects of a class, and the block has this class.
+pub record HasCursors (notes : List BlockNote) (s : HeapState) (number : ℕ) (x : PlainSeat) : Type 0 where
+  pub classes : length x.blocks ≡ CLASSES
+  pub each : (class block : ℕ) → slice_get x.blocks class ≡ Some (Some block)
+      → IsRegionOf notes number block × (class_at s block ≡ class)
 
 -- The list has the blocks that mutators own, with room for all blocks. The counts are those of the epoch's beginning.
 pub record HasLists (p : Epoch) (w : PlainRow) : Type 0 where
@@ -45,11 +53,11 @@ pub record IsAt (p : Epoch) (i : IdealHeap) (log : List LogEntry) (w : PlainRow)
   pub seats : length w.seats.items ≡ length w.mutators.items
   pub each : (k : ℕ) (m : Mutator) (x : PlainSeat) → slice_get w.mutators.items k ≡ Some m
       → slice_get w.seats.items k ≡ Some x → HasState m x (local_after_log p log m.number)
-  pub regions : (k : ℕ) (m : Mutator) (x : PlainSeat) (b : ℕ) → slice_get w.mutators.items k ≡ Some m
-      → slice_get w.seats.items k ≡ Some x → x.block ≡ Some b → IsRegionOf w.notes.items m.number b
+  pub cursors : (k : ℕ) (m : Mutator) (x : PlainSeat) → slice_get w.mutators.items k ≡ Some m
+      → slice_get w.seats.items k ≡ Some x → HasCursors w.notes.items (state_of w.row) m.number x
   pub notes : HasNotes w.fill (state_of w.row) w.notes.items
   pub fill : w.fill ≡ p.rules.fill
-  pub tails : FillsTails w.fill
+  pub fills : FillsTailsOrCells w.fill
   pub young : w.young ≡ p.rules.young
   pub allowed : w.allowance ≡ allowance p
   pub lists : HasLists p w
@@ -71,12 +79,12 @@ pub record IsReady (w : PlainRow) : Type 0 where
   pub turn : IsTurn w
   pub idle : IsIdle w
 
--- the region of the mutator whose turn it is has room for an object of this size
+-- the region in which the mutator whose turn it is allocates objects of this size has room for one
 pub record HasRoom (w : PlainRow) (size : ℕ) : Type 0 where
   pub turn : IsTurn w
   pub some : IsInEpoch w
   pub block : ℕ
-  pub current : block_of (seat_at_turn w) ≡ Some block
+  pub current : block_of (seat_at_turn w) (class_for w.fill size) ≡ Some block
   pub room : IsRoomIn w.notes.items (number_at_turn w) size block
 
 -- the number is in the list

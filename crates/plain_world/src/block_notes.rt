@@ -1,22 +1,22 @@
 //! What is known of the room in a heap's blocks between two epochs.
 
-ghost use Rattle.std.specs.Prelude.{◌≡◌, ◌+◌, ◌<◌, ◌≤◌, ℕ, IfOk, IfSome, IfNone};
+ghost use Rattle.std.specs.Prelude.{◌≡◌, ◌+◌, ◌<◌, ◌≤◌, ℕ, true, IfOk, IfSome, IfNone};
 ghost use Rattle.heap_layout.specs.declared.block.Kind.{Kind};
 ghost use Rattle.heap_layout.specs.declared.block.Kind.TheVariants as kinds;
-ghost use Rattle.object_model.specs.Objects.{HeapState, HasKind};
+ghost use Rattle.object_model.specs.Objects.{HeapState, HasKind, class_at};
 ghost use Rattle.object_model.specs.Heaps.{heap_state};
 ghost use Rattle.plan_api.specs.Counting.{session_counts};
-ghost use Rattle.plan_api.specs.Holes.{IsFirstHole};
-ghost use Rattle.sessions.specs.Fitting.{counts_of, HasHole, HasSomeHole};
+ghost use Rattle.plan_api.specs.Holes.{IsFirstPart, IsFirstHole};
+ghost use Rattle.sessions.specs.Fitting.{counts_of, HasHole, HasSomeHole, class_for as class_for_size};
 ghost use Rattle.sessions.specs.Plans.{Rules};
 ghost use Rattle.plain_world.specs.declared.plain_row.BlockNote.TheVariants.{Unowned};
-ghost use Rattle.plain_world.specs.Notes.{FillsTails, AreNotes, IsLowestHole, LacksHoles, PlacesObject};
+ghost use Rattle.plain_world.specs.Notes.{FillsTailsOrCells, AreNotes, IsLowestHole, LacksHoles, PlacesObject, PlacesRun};
 
 use crate::closing::copies;
 use crate::plain_row::BlockNote;
 use heap_layout::{BLOCK_WORDS, Kind, Region};
 use object_model::{Heap, MAX_MEDIUM_WORDS};
-use plan_api::{BlockCounts, block_counts, first_hole, view};
+use plan_api::{BlockCounts, block_counts, class_for, hole_in_block};
 use std::alloc::{AllocError, Global};
 
 /// What is known of the room in a heap's blocks between two epochs. From epoch to epoch it is kept
@@ -47,10 +47,18 @@ fn hole_of(heap: &Heap, fill: Kind, block: u32, size: u32) -> Option<Region>
     requires most { size ≤ MAX_MEDIUM_WORDS }
     ensures { IsFirstHole fill (heap_state heap.now) block 0 size result }
 {
-    if heap.block(block).kind != fill {
-        return None;
-    }
-    first_hole(fill, &view(heap, block), 0, size)
+    hole_in_block(heap.words(), heap.layout(), fill, block, size)
+}
+
+/// Whether what the block lacks for `size` words it lacks for more too: its cells, if it has such,
+/// are for this size.
+fn decides(heap: &Heap, fill: Kind, block: u32, size: u32) -> bool
+    requires { block < (heap_state heap.now).blocks }
+    ensures { result ≡ true → HasKind (heap_state heap.now) block fill
+        → class_at (heap_state heap.now) block ≡ class_for_size fill size }
+{
+    let word = heap.block(block);
+    word.kind != fill || word.class == class_for(fill, size)
 }
 
 impl BlockNotes {
@@ -77,16 +85,17 @@ impl BlockNotes {
     }
 
     /// The offset of the first hole with room for `size` words in the block. If the block lacks
-    /// one, that is noted.
+    /// one, that is noted, unless its cells are for other sizes.
     fn hole_in(&mut self, heap: &Heap, fill: Kind, block: u32, size: u32) -> Option<u32>
-        requires tails { FillsTails fill }
+        requires fills { FillsTailsOrCells fill }
         requires notes { AreNotes fill (heap_state heap.now) self.old }
         requires block { block < (heap_state heap.now).blocks }
         requires least { 3 ≤ size }
         requires most { size ≤ MAX_MEDIUM_WORDS }
         ensures notes { AreNotes fill (heap_state heap.now) self.new }
         ensures none { IfNone result (LacksHoles fill (heap_state heap.now) block size) }
-        ensures some { IfSome result (λ at. HasHole fill (heap_state heap.now) block at size) }
+        ensures some { IfSome result (λ at. (end : ℕ) × IsFirstPart fill (heap_state heap.now)
+            block 0 size (record { next = at; end = end })) }
     {
         let BlockNote::Unowned { least } = self.notes[block as usize] else {
             return None;
@@ -96,7 +105,9 @@ impl BlockNotes {
         }
         match hole_of(heap, fill, block, size) {
             None => {
-                self.notes[block as usize] = BlockNote::Unowned { least: size };
+                if decides(heap, fill, block, size) {
+                    self.notes[block as usize] = BlockNote::Unowned { least: size };
+                }
                 None
             }
             Some(region) => Some(region.next),
@@ -104,10 +115,10 @@ impl BlockNotes {
     }
 
     /// The first hole with room for `size` words in the lowest block that has one: its block, and
-    /// its offset in words. Blocks that lack one are noted, so that no later call looks at them for
-    /// this size or a greater one.
+    /// its offset in words. Blocks that lack one are noted, unless their cells are for other sizes,
+    /// so that no later call looks at them for this size or a greater one.
     pub fn lowest_hole(&mut self, heap: &Heap, fill: Kind, size: u32) -> Option<(u32, u32)>
-        requires tails { FillsTails fill }
+        requires fills { FillsTailsOrCells fill }
         requires notes { AreNotes fill (heap_state heap.now) self.old }
         requires least { 3 ≤ size }
         requires most { size ≤ MAX_MEDIUM_WORDS }
@@ -145,7 +156,7 @@ impl BlockNotes {
     /// Notes that an object was placed in the block, which was Free or had a hole.
     pub fn placed_in(&mut self, block: u32, was_free: bool)
         ensures { (rules : Rules) (old new : HeapState) (a refs nums : ℕ)
-            → FillsTails rules.fill → AreNotes rules.fill old self.old
+            → FillsTailsOrCells rules.fill → AreNotes rules.fill old self.old
             → PlacesObject rules old new a refs nums block was_free
             → AreNotes rules.fill new self.new }
     {
@@ -155,5 +166,16 @@ impl BlockNotes {
                 *note = nothing_known();
             }
         }
+    }
+
+    /// Notes that a large object was placed in a run of Free blocks. Takes no memory, and reads
+    /// block words alone.
+    pub fn placed_run(&mut self, heap: &Heap)
+        ensures { (fill : Kind) (old : HeapState) (a refs nums block : ℕ)
+            → FillsTailsOrCells fill → AreNotes fill old self.old
+            → PlacesRun old (heap_state heap.now) a refs nums block
+            → AreNotes fill (heap_state heap.now) self.new }
+    {
+        self.counts = block_counts(heap);
     }
 }

@@ -1,16 +1,16 @@
 //! Lists of copies, and the end of an epoch.
 
-ghost use Rattle.std.specs.Prelude.{◌≡◌, ◌<◌, ◌≤◌, ◌^◌, ℕ, IsTrue, replicate, length, sum_by, IfOk};
+ghost use Rattle.std.specs.Prelude.{◌≡◌, ◌<◌, ◌≤◌, ◌^◌, ℕ, replicate, length, sum_by, IfOk};
 ghost use Rattle.heap_layout.specs.Zones.{row_words};
-ghost use Rattle.heap_layout.specs.Blocks.{is_block_code};
-ghost use Rattle.object_model.specs.Objects.{state_of, block_word};
+ghost use Rattle.heap_layout.specs.declared.block.Kind.{Kind};
+ghost use Rattle.object_model.specs.Objects.{state_of};
 ghost use Rattle.object_model.specs.Lawful.{IsWellFormed};
 ghost use Rattle.mutator_core.specs.Closing.{GivesBack};
 ghost use Rattle.mutator_core.specs.Tickets.{tickets_in};
-ghost use Rattle.plain_world.specs.Notes.{FillsTails, HasNotes, ListsOwned, AreUnowned, GivesBackBlock};
+ghost use Rattle.plain_world.specs.Notes.{FillsTailsOrCells, HasNotes, ListsOwned, AreUnowned, GivesBackBlock};
 
 use crate::plain_row::{BlockNote, PlainSeat};
-use heap_layout::{BlockWord, Kind};
+use heap_layout::OWNER_UNIT;
 use object_model::Row;
 use std::alloc::{AllocError, Global};
 
@@ -26,42 +26,37 @@ pub(crate) fn copies<T: Copy>(alloc: Global, value: T, count: usize) -> Result<V
 }
 
 /// Gives the block back, if a mutator owns it. What its region has left is its hole then.
-fn give_back_block(row: &mut Row, notes: &mut Vec<BlockNote>, block: u32, fill: Kind)
+fn give_back_block(row: &mut Row, notes: &mut Vec<BlockNote>, block: u32)
     requires extent { length row.old.words.items ≡ row_words row.old.layout.blocks }
     requires block { block < row.old.layout.blocks }
-    requires tails { FillsTails fill }
-    requires notes { HasNotes fill (state_of row.old) notes.old.items }
-    ensures { GivesBackBlock fill (state_of row.old) (state_of row.new) notes.old.items
-        notes.new.items block }
+    requires notes { (fill : Kind) × HasNotes fill (state_of row.old) notes.old.items }
+    ensures { GivesBackBlock (state_of row.old) (state_of row.new) notes.old.items notes.new.items
+        block }
 {
     let BlockNote::Owned { region, .. } = notes[block as usize] else {
         return;
     };
-    let word = BlockWord {
-        kind: fill,
-        class: 0,
-        owner: 0,
-    };
-    row.set_block(block, &word);
+    // The word without its owner.
+    row.words[row.layout.block_at(block) as usize] %= OWNER_UNIT;
     notes[block as usize] = BlockNote::Unowned {
         least: region.end - region.next + 1,
     };
 }
 
 /// Gives back the blocks that mutators own: those of the list.
-pub(crate) fn give_back(row: &mut Row, notes: &mut Vec<BlockNote>, owned: &[u32], fill: Kind)
+pub(crate) fn give_back(row: &mut Row, notes: &mut Vec<BlockNote>, owned: &[u32])
     requires order { IsWellFormed (state_of row.old) }
-    requires codes { (k : ℕ) → k < (state_of row.old).blocks
-        → IsTrue (is_block_code (block_word (state_of row.old) k)) }
-    requires tails { FillsTails fill }
-    requires notes { HasNotes fill (state_of row.old) notes.old.items }
+    requires notes { (fill : Kind) × FillsTailsOrCells fill
+        × HasNotes fill (state_of row.old) notes.old.items }
     requires owned { ListsOwned notes.old.items owned.now }
     ensures gives { GivesBack (state_of row.old) (state_of row.new) }
-    ensures notes { HasNotes fill (state_of row.new) notes.new.items }
+    ensures notes { (fill : Kind) → FillsTailsOrCells fill
+        → HasNotes fill (state_of row.old) notes.old.items
+        → HasNotes fill (state_of row.new) notes.new.items }
     ensures unowned { AreUnowned notes.new.items }
 {
     for block in owned {
-        give_back_block(row, notes, *block, fill);
+        give_back_block(row, notes, *block);
     }
 }
 

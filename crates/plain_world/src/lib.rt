@@ -7,6 +7,7 @@ mod laws;
 mod plain_row;
 mod plain_seat;
 mod plain_world;
+mod region_laws;
 mod search;
 mod users;
 mod words;
@@ -18,8 +19,11 @@ pub use laws::{
     worlds_stay_in_order,
 };
 pub use plain_world::PlainWorld;
+pub use region_laws::{regions_are_holes, regions_of_worked_heaps, rests_are_regions};
 pub use users::{may_use, new_mutators};
 
+#[cfg(test)]
+mod cell_tests;
 #[cfg(test)]
 mod filling_tests;
 #[cfg(test)]

@@ -3,15 +3,17 @@
 ghost use Rattle.std.specs.Prelude.{◌≡◌, IfOk};
 ghost use Rattle.heap_layout.specs.declared.block.Kind.TheVariants as kinds;
 ghost use Rattle.object_model.specs.Heaps.{heap_state};
+ghost use Rattle.object_model.specs.Objects.{empty_heap};
 ghost use Rattle.plain_world.specs.Calls.{IsOpen, SamePlaces, fill_of};
-ghost use Rattle.plain_world.specs.Notes.{AreNotes};
+ghost use Rattle.plain_world.specs.Notes.{AreNotes, FillsTailsOrCells};
 
 use crate::block_notes::BlockNotes;
+use crate::cell_tests;
 use crate::test_worlds::{World, allocate, begin, new_world};
-use heap_layout::Kind;
+use heap_layout::{BlockWord, Kind, Layout};
 use mutator_calls::Allocated;
 use object_model::Heap;
-use plan_api::block_counts;
+use plan_api::{BlockCounts, block_counts};
 use std::alloc::{AllocError, Global};
 use std::process::Abort;
 use std::test::Fail;
@@ -109,19 +111,19 @@ fn kept_notes(rt: HostRuntime) -> Result<(), Fail> {
 }
 
 // The lowest hole with room for so many words.
-fn hole(rt: &impl Abort, notes: &mut BlockNotes, heap: &Heap, size: u32) -> Option<(u32, u32)>
-    requires { AreNotes kinds.Bump (heap_state heap.now) notes.old }
-    ensures { AreNotes kinds.Bump (heap_state heap.now) notes.new }
+fn hole(
+    rt: &impl Abort,
+    notes: &mut BlockNotes,
+    heap: &Heap,
+    fill: Kind,
+    size: u32,
+) -> Option<(u32, u32)>
+    requires fills { FillsTailsOrCells fill }
+    requires notes { AreNotes fill (heap_state heap.now) notes.old }
+    ensures { AreNotes fill (heap_state heap.now) notes.new }
 {
     assert!(rt; 3 <= size && size <= 2048);
-    notes.lowest_hole(heap, Kind::Bump, size)
-}
-
-// The lowest Free block.
-fn free(notes: &BlockNotes, heap: &Heap) -> Option<u32>
-    requires { AreNotes kinds.Bump (heap_state heap.now) notes.now }
-{
-    notes.lowest_free(heap)
+    notes.lowest_hole(heap, fill, size)
 }
 
 // The lowest holes for sizes, asked for twice.
@@ -129,14 +131,24 @@ fn check_holes(
     rt: &impl Abort,
     notes: &mut BlockNotes,
     heap: &Heap,
+    fill: Kind,
     table: &[(u32, Option<(u32, u32)>)],
 )
-    requires { AreNotes kinds.Bump (heap_state heap.now) notes.old }
-    ensures { AreNotes kinds.Bump (heap_state heap.now) notes.new }
+    requires fills { FillsTailsOrCells fill }
+    requires notes { AreNotes fill (heap_state heap.now) notes.old }
+    ensures { AreNotes fill (heap_state heap.now) notes.new }
 {
     for (size, want) in table {
-        assert_eq!(rt; hole(rt, notes, heap, *size), *want, "for {size} words");
-        assert_eq!(rt; hole(rt, notes, heap, *size), *want, "for {size} words");
+        assert_eq!(rt;
+            hole(rt, notes, heap, fill, *size),
+            *want,
+            "for {size} words"
+        );
+        assert_eq!(rt;
+            hole(rt, notes, heap, fill, *size),
+            *want,
+            "for {size} words"
+        );
     }
 }
 
@@ -156,7 +168,7 @@ fn lowest_places(rt: HostRuntime) -> Result<(), Fail> {
     let alloc = rt.alloc();
     let (heap, _) = four_blocks(&rt, alloc)?.close();
     let mut notes = BlockNotes::new(alloc, &heap)?;
-    assert_eq!(rt; free(&notes, &heap), Some(3));
+    assert_eq!(rt; notes.lowest_free(&heap), Some(3));
     let table = [
         (96, Some((0, 4000))),
         (97, Some((2, 100))),
@@ -164,8 +176,8 @@ fn lowest_places(rt: HostRuntime) -> Result<(), Fail> {
         (2048, Some((2, 100))),
         (4, Some((0, 4000))),
     ];
-    check_holes(&rt, &mut notes, &heap, &table);
-    assert_eq!(rt; free(&notes, &heap), Some(3));
+    check_holes(&rt, &mut notes, &heap, Kind::Bump, &table);
+    assert_eq!(rt; notes.lowest_free(&heap), Some(3));
     notes.placed_in(2, false);
     assert_eq!(rt; *notes.counts(), block_counts(&heap));
     notes.placed_in(3, true);
@@ -183,7 +195,89 @@ fn no_places(rt: HostRuntime) -> Result<(), Fail> {
     let (heap, _) = world.close();
     let mut notes = BlockNotes::new(alloc, &heap)?;
     let table = [(97, None), (45, Some((0, 4000))), (2048, None)];
-    check_holes(&rt, &mut notes, &heap, &table);
-    assert_eq!(rt; free(&notes, &heap), None);
+    check_holes(&rt, &mut notes, &heap, Kind::Bump, &table);
+    assert_eq!(rt; notes.lowest_free(&heap), None);
+    Ok(())
+}
+
+// Objects of the mutator, which have this number of words each.
+fn make(rt: &impl Abort, world: &mut cell_tests::World, count: u32, size: u32)
+    requires { IsOpen world.old }
+    ensures { IsOpen world.new }
+{
+    for _object in 0..count {
+        allocate(rt, world, 0, 0, 0, size.saturating_sub(3));
+    }
+}
+
+// Block 0 has one of two cells taken, block 1 all, block 2 three of 64, and block 3 is Free.
+#[test]
+fn lowest_cells(rt: HostRuntime) -> Result<(), Fail> {
+    let alloc = rt.alloc();
+    let mut world = cell_tests::new_world(&rt, alloc, 4)?;
+    make(&rt, &mut world, 1, 1537);
+    make(&rt, &mut world, 4, 1024);
+    make(&rt, &mut world, 3, 64);
+    let (heap, _) = world.close();
+    let mut notes = BlockNotes::new(alloc, &heap)?;
+    let table = [
+        (2048, Some((0, 2048))),
+        (1025, None),
+        (1024, None),
+        (769, None),
+        (64, Some((2, 192))),
+        (65, None),
+        (49, Some((2, 192))),
+        (48, None),
+        (1600, Some((0, 2048))),
+    ];
+    check_holes(&rt, &mut notes, &heap, Kind::Cells, &table);
+    assert_eq!(rt; notes.lowest_free(&heap), Some(3));
+    notes.placed_in(2, false);
+    assert_eq!(rt; *notes.counts(), block_counts(&heap));
+    notes.placed_in(3, true);
+    assert_eq!(rt; notes.counts().free, 0);
+    Ok(())
+}
+
+// The empty heap after an object of 5,002 words was placed in blocks 0 and 1.
+fn with_run(heap: Heap) -> Heap
+    requires { heap_state heap ≡ empty_heap 4 }
+{
+    let mut row = heap.into_row();
+    let head = BlockWord {
+        kind: Kind::LargeHead,
+        class: 2,
+        owner: 0,
+    };
+    let tail = BlockWord {
+        kind: Kind::LargeTail,
+        class: 0,
+        owner: 0,
+    };
+    row.set_block(0, &head);
+    row.set_block(1, &tail);
+    // the object's start bit, its collector word and its shape
+    row.words[38] = 1;
+    row.words[806] = 33;
+    row.words[807] = 65_536 * 5000;
+    Heap::from_row(row)
+}
+
+#[test]
+fn notes_after_a_run(rt: HostRuntime) -> Result<(), Fail> {
+    let alloc = rt.alloc();
+    let heap = Heap::new(alloc, Layout::new(4)?)?;
+    let mut notes = BlockNotes::new(alloc, &heap)?;
+    assert_eq!(rt; notes.counts().free, 4);
+    let heap = with_run(heap);
+    notes.placed_run(&heap);
+    let counts = BlockCounts {
+        blocks: 4,
+        free: 2,
+        large: 2,
+    };
+    assert_eq!(rt; *notes.counts(), counts);
+    assert_eq!(rt; block_counts(&heap), counts);
     Ok(())
 }

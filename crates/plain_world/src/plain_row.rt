@@ -19,13 +19,17 @@ pub enum BlockNote {
     Owned { owner: u32, region: Region },
 }
 
+/// The number of size classes of cells.
+pub(crate) const CLASSES: usize = 19;
+
 /// What a mutator has for allocation in an epoch.
 #[derive(Clone, Copy, Debug)]
 pub struct PlainSeat {
     /// The ticket with which the mutator has taken no block.
     pub(crate) ticket: Option<u32>,
-    /// The block that the mutator allocates in.
-    pub(crate) block: Option<u32>,
+    /// For each size class the block that the mutator allocates in. Objects have class 0 if blocks
+    /// have no cells.
+    pub(crate) blocks: [Option<u32>; CLASSES],
 }
 
 /// A heap's row with the mutators that use it in turns.

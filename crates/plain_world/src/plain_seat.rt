@@ -41,7 +41,7 @@ impl Seat for PlainRow {
 
     ghost has_room = { λ w size. HasRoom w size };
 
-    ghost allocates_in = { λ w k. AllocatesIn w k };
+    ghost allocates_in = { λ w size k. AllocatesIn w size k };
 
     ghost offers = { λ a b size. Offers a b size };
 
@@ -211,8 +211,8 @@ impl Seat for PlainRow {
         ticket
     }
 
-    fn take_free(&mut self, block: u32, _size: u32) -> bool {
-        self.take_free_block(block)
+    fn take_free(&mut self, block: u32, size: u32) -> bool {
+        self.take_free_block(block, size)
     }
 
     fn publish(&mut self, d: u32, shape: &Shape) -> Name {

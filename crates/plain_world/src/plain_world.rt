@@ -12,14 +12,14 @@ ghost use Rattle.mutator_core.specs.Machine.{Epoch};
 ghost use Rattle.mutator_core.specs.Closing.{GivesBack};
 ghost use Rattle.object_model.specs.Graphs.{numbers_of};
 ghost use Rattle.plain_world.specs.Rows.{mutator_state};
-ghost use Rattle.plain_world.specs.Notes.{FillsTails, AreNotes};
+ghost use Rattle.plain_world.specs.Notes.{FillsTailsOrCells, AreNotes};
 ghost use Rattle.plain_world.specs.Calls.{heap_of, mutators_of, is_generational, fill_of, births_at, ticket_at, budget_word, places_of, HasPlace, IsOpen, HasHistory};
 ghost use Rattle.plain_world.specs.Beginnings.{MayUse, without_stop, epoch_of};
 ghost use Rattle.plain_world.specs.Endings.{GrantsWithTickets};
 
 use crate::block_notes::BlockNotes;
 use crate::closing::{copies, give_back, unused_tickets};
-use crate::plain_row::{PlainRow, PlainSeat};
+use crate::plain_row::{CLASSES, PlainRow, PlainSeat};
 use bitflags::Flags;
 use ideal_heap::MAX_MUTATORS;
 use mutator_calls::Mutator;
@@ -48,7 +48,7 @@ impl<P: Plan> PlainWorld<P> {
         heap: Heap,
         mutators: Vec<Mutator>,
     ) -> Result<PlainWorld<P>, AllocError>
-        requires tails { FillsTails P.rules.fill }
+        requires fills { FillsTailsOrCells P.rules.fill }
         requires few { length mutators.items ≤ MAX_MUTATORS }
         requires users { MayUse (heap_state heap) (map mutator_state mutators.items) }
         requires remembers { Remembers P.rules (heap_state heap) }
@@ -78,7 +78,7 @@ impl<P: Plan> PlainWorld<P> {
         mutators: Vec<Mutator>,
         notes: BlockNotes,
     ) -> Result<PlainWorld<P>, AllocError>
-        requires tails { FillsTails P.rules.fill }
+        requires fills { FillsTailsOrCells P.rules.fill }
         requires few { length mutators.items ≤ MAX_MUTATORS }
         requires users { MayUse (heap_state heap) (map mutator_state mutators.items) }
         requires remembers { Remembers P.rules (heap_state heap) }
@@ -97,7 +97,7 @@ impl<P: Plan> PlainWorld<P> {
     {
         let seat = PlainSeat {
             ticket: None,
-            block: None,
+            blocks: [None; CLASSES],
         };
         let seats = copies(alloc, seat, mutators.len())?;
         let mut row = heap.into_row();
@@ -191,12 +191,11 @@ impl<P: Plan> PlainWorld<P> {
             mut notes,
             mut owned,
             mut counts,
-            fill,
             ..
         } = self.row;
         // The Free blocks taken are the tickets drawn but for the unused ones.
         counts.free = counts.free + unused_tickets(&seats) - row.words[1] as u32;
-        give_back(&mut row, &mut notes, &owned, fill);
+        give_back(&mut row, &mut notes, &owned);
         owned.clear();
         let notes = BlockNotes {
             counts,

@@ -1,4 +1,4 @@
-//! Calls of worlds under NoGc, for tests.
+//! Calls of worlds, for tests.
 
 ghost use Rattle.std.specs.Prelude.{◌≡◌, ◌≤◌, map, IfOk};
 ghost use Rattle.heap_layout.specs.declared.block.Kind.TheVariants as kinds;
@@ -13,6 +13,7 @@ use heap_layout::Layout;
 use ideal_heap::{Command, MAX_MUTATORS, Reply, valid};
 use mutator_calls::{Allocated, Mutator, Polled};
 use object_model::Heap;
+use plan_api::Plan;
 use plans::NoGc;
 use std::alloc::{AllocError, Global};
 use std::process::Abort;
@@ -20,7 +21,7 @@ use std::test::Fail;
 
 pub(crate) type World = PlainWorld<NoGc>;
 
-/// A world of an empty heap of `blocks` blocks, with `count` mutators.
+/// A world under NoGc of an empty heap of `blocks` blocks, with `count` mutators.
 pub(crate) fn new_world(
     rt: &impl Abort,
     alloc: Global,
@@ -37,7 +38,7 @@ pub(crate) fn new_world(
     Ok(begin(rt, alloc, heap, mutators)?)
 }
 
-/// Begins an epoch.
+/// Begins an epoch under NoGc.
 pub(crate) fn begin(
     rt: &impl Abort,
     alloc: Global,
@@ -59,7 +60,7 @@ pub(crate) fn births(rt: &impl Abort, world: &World, m: u32) -> u32 {
 }
 
 /// The address in register `s` of the mutator at place `m`.
-pub(crate) fn address(rt: &impl Abort, world: &World, m: u32, s: u32) -> u32 {
+pub(crate) fn address<P: Plan>(rt: &impl Abort, world: &PlainWorld<P>, m: u32, s: u32) -> u32 {
     let mutators = world.mutators();
     assert!(rt; (m as usize) < mutators.len() && s < 16);
     mutators[m as usize].registers[s as usize]
@@ -84,9 +85,9 @@ pub(crate) fn raise(rt: &impl Abort, world: &mut World, m: u32)
 }
 
 /// The answer to an allocation of the mutator at place `m`.
-pub(crate) fn allocate(
+pub(crate) fn allocate<P: Plan>(
     rt: &impl Abort,
-    world: &mut World,
+    world: &mut PlainWorld<P>,
     m: u32,
     d: u32,
     refs: u32,

@@ -1,12 +1,12 @@
 //! Tests of whole collections, against plain counts.
 
 use crate::graphs::{list, random_graph};
-use crate::heaps::{Built, build, with_roots};
+use crate::heaps::{Built, build, build_under, with_roots};
 use collector::{Note, collect};
 use ideal_heap::Command;
 use object_model::{Collect, Place, graph};
 use plan_api::Plan;
-use plans::{NoGc, SemiSpace};
+use plans::{MarkSweep, NoGc, SemiSpace};
 use pools::PlainPool;
 use std::alloc::{AllocError, Global};
 use std::process::Abort;
@@ -140,6 +140,20 @@ impl View {
         }
         count
     }
+
+    // How many blocks have an object that begins in them.
+    fn filled(&self) -> u32 {
+        let zone = self.blocks.wrapping_mul(5).wrapping_add(18);
+        let mut count = 0u32;
+        for block in 0..self.blocks {
+            let first = block.wrapping_mul(64).wrapping_add(zone);
+            let mut words = self.words.iter().skip(first).take(64);
+            if words.any(|bits| *bits > 0) {
+                count = count.wrapping_add(1);
+            }
+        }
+        count
+    }
 }
 
 // A full collection from the first `kept` registers.
@@ -243,12 +257,11 @@ fn count_moved(rt: &impl Abort, pass: &Pass, room: bool) -> u32 {
     moved
 }
 
-// Under SemiSpace what is reachable is kept, and all else is gone.
-fn check_copies(rt: &impl Abort, pass: &Pass, room: bool) {
+// What is reachable is kept, and all else is gone. Of what is kept, so many objects moved.
+fn check_kept(rt: &impl Abort, pass: &Pass, moved: u32) {
     check_graph(rt, pass);
     let (kept, kept_words) = pass.new.held();
     assert_eq!(rt; kept as usize, pass.old.places.len());
-    let moved = count_moved(rt, pass, room);
     let want = Note {
         collect: Collect::Full,
         kept,
@@ -264,6 +277,20 @@ fn check_copies(rt: &impl Abort, pass: &Pass, room: bool) {
         .wrapping_add(u64::from(kept))
         .wrapping_add(16);
     assert_eq!(rt; (pass.claim, pass.claimed), (items, items));
+}
+
+// Under MarkSweep objects stay where they are, and a block without objects is Free.
+fn check_sweep(rt: &impl Abort, pass: &Pass) {
+    check_kept(rt, pass, 0);
+    for (was, is) in pass.old.places.iter().zip(&pass.new.places) {
+        assert_eq!(rt; was.at, is.at);
+    }
+    let filled = pass.new.filled();
+    assert_eq!(rt; pass.new.blocks_of(5), filled);
+    assert_eq!(rt;
+        pass.new.blocks_of(0).wrapping_add(filled) as usize,
+        pass.new.blocks
+    );
 }
 
 // Under NoGC the heap is as it was, and all held objects count as kept.
@@ -293,7 +320,7 @@ struct Setting {
     room: bool,
 }
 
-// Collects a heap under both plans, once for each number of registers that are roots. Returns what
+// Collects a heap under each plan, once for each number of registers that are roots. Returns what
 // SemiSpace noted.
 fn check_plans<R: Abort + Threads + Sync>(
     rt: &R,
@@ -308,11 +335,18 @@ fn check_plans<R: Abort + Threads + Sync>(
         check_counts(rt, &pass);
         built = next;
     }
+    let mut built = build_under::<MarkSweep>(rt, alloc, setting.blocks, commands, 16)?;
+    for kept in passes {
+        let (pass, next) = collect_once::<MarkSweep, R>(rt, alloc, built, *kept)?;
+        check_sweep(rt, &pass);
+        built = next;
+    }
     let mut built = build(rt, alloc, setting.blocks, commands, 16)?;
     let mut notes = Vec::new(alloc);
     for kept in passes {
         let (pass, next) = collect_once::<SemiSpace, R>(rt, alloc, built, *kept)?;
-        check_copies(rt, &pass, setting.room);
+        let moved = count_moved(rt, &pass, setting.room);
+        check_kept(rt, &pass, moved);
         notes.push(pass.note)?;
         built = next;
     }

@@ -1,10 +1,11 @@
 //! Heaps that a mutator built, and full collections of them.
 
-ghost use Rattle.std.specs.Prelude.{◌≡◌, ◌<◌, IfOk, IsTrue, length};
+ghost use Rattle.std.specs.Prelude.{◌≡◌, ◌<◌, IfOk, IsTrue, false, length};
 ghost use Rattle.heap_layout.specs.declared.block.Kind.TheVariants as kinds;
 ghost use Rattle.object_model.specs.Heaps.{heap_state};
 ghost use Rattle.object_model.specs.Places.{AreRoots};
 ghost use Rattle.plain_world.specs.Calls.{IsOpen};
+ghost use Rattle.plain_world.specs.Notes.{FillsTailsOrCells};
 ghost use Rattle.trace_core.specs.Tracers.{MayRun};
 ghost use Rattle.trace_tests.specs.Blocks.{is_large, HasSmall};
 
@@ -13,15 +14,14 @@ use ideal_heap::{Command, Reply, valid};
 use mutator_calls::Allocated;
 use object_model::{Collect, Heap, are_roots};
 use plain_world::{PlainWorld, new_mutators};
+use plan_api::Plan;
 use plans::NoGc;
 use std::alloc::{AllocError, Global};
 use std::process::Abort;
 use std::test::Fail;
 use trace_core::TraceRun;
 
-type World = PlainWorld<NoGc>;
-
-/// A heap with objects in Bump blocks, and the mutator's registers that are roots.
+/// A heap with objects, and the mutator's registers that are roots.
 #[derive(Drop)]
 pub(crate) struct Built {
     pub(crate) heap: Heap,
@@ -29,7 +29,8 @@ pub(crate) struct Built {
     ghost roots: { AreRoots (heap_state heap) registers.items },
 }
 
-/// The heap of `blocks` blocks after these commands. The first `kept` registers are roots.
+/// The heap of `blocks` blocks after these commands, with objects in Bump blocks. The first `kept`
+/// registers are roots.
 pub(crate) fn build(
     rt: &impl Abort,
     alloc: Global,
@@ -37,7 +38,22 @@ pub(crate) fn build(
     commands: &[Command],
     kept: usize,
 ) -> Result<Built, Fail> {
-    let mut world = new_world(alloc, blocks)?;
+    build_under::<NoGc>(rt, alloc, blocks, commands, kept)
+}
+
+/// The heap of `blocks` blocks after these commands under a plan. The first `kept` registers are
+/// roots.
+pub(crate) fn build_under<P: Plan>(
+    rt: &impl Abort,
+    alloc: Global,
+    blocks: u32,
+    commands: &[Command],
+    kept: usize,
+) -> Result<Built, Fail>
+    requires fills { FillsTailsOrCells P.rules.fill }
+    requires ages { P.rules.young ≡ false }
+{
+    let mut world = new_world::<P>(alloc, blocks)?;
     for command in commands {
         call(rt, &mut world, command);
     }
@@ -57,16 +73,18 @@ pub(crate) fn with_roots(rt: &impl Abort, heap: Heap, registers: Vec<u32>) -> Bu
 }
 
 /// A world of an empty heap of `blocks` blocks, with one mutator.
-fn new_world(alloc: Global, blocks: u32) -> Result<World, Fail>
+fn new_world<P: Plan>(alloc: Global, blocks: u32) -> Result<PlainWorld<P>, Fail>
+    requires fills { FillsTailsOrCells P.rules.fill }
+    requires ages { P.rules.young ≡ false }
     ensures { IfOk result (λ w. IsOpen w) }
 {
     let heap = Heap::new(alloc, Layout::new(blocks)?)?;
     let mutators = new_mutators(alloc, 1)?;
-    Ok(World::begin(alloc, heap, mutators)?)
+    Ok(PlainWorld::<P>::begin(alloc, heap, mutators)?)
 }
 
 /// A command of the mutator, which succeeds.
-fn call(rt: &impl Abort, world: &mut World, command: &Command)
+fn call<P: Plan>(rt: &impl Abort, world: &mut PlainWorld<P>, command: &Command)
     requires { IsOpen world.old }
     ensures { IsOpen world.new }
 {
@@ -78,7 +96,7 @@ fn call(rt: &impl Abort, world: &mut World, command: &Command)
 }
 
 /// The reply to a command of the mutator, `Done` to an allocation that has room.
-fn reply_to(rt: &impl Abort, world: &mut World, command: &Command) -> Reply
+fn reply_to<P: Plan>(rt: &impl Abort, world: &mut PlainWorld<P>, command: &Command) -> Reply
     requires { IsOpen world.old }
     ensures { IsOpen world.new }
 {

@@ -18,7 +18,7 @@ returns-in-Ok-clause-made g c =
     let entry = enters (command.New c.args.d c.args.refs c.args.nums) (reply.New c.publish.result) in
     let next : ℕ → Type 0 = λ t. (mid : _) × g.S.Seat.goes c.args.seat.now nothing mid × g.S.Seat.has_budget mid t in
     let finds : ℕ → ℕ → Type 0 = λ blocks allowance. FindsRoom (g.S.Seat.lacks c.publish.new.self size)
-    (g.S.Seat.is_used c.publish.new.self) (g.S.Seat.allocates_in c.args.seat.now) (g.S.Seat.allocates_in c.publish.new.self)
+    (g.S.Seat.is_used c.publish.new.self) (g.S.Seat.allocates_in c.args.seat.now size) (g.S.Seat.allocates_in c.publish.new.self size)
     next blocks allowance (g.S.Seat.books c.args.seat.now).ticket (g.S.Seat.books c.publish.new.self).ticket taken granted drawn in
     let to : List ℕ → List ℕ → ℕ → Type 0 = λ t r n. g.S.Seat.goes c.args.seat.now
     (births_with c.args.d c.args.refs c.args.nums c.publish.result t r n) c.publish.new.self in (
@@ -29,12 +29,17 @@ returns-in-Ok-clause-made g c =
           (subst (λ n. to (taken ++ []) (granted ++ []) n) (add-zero drawn)
           (g.met.S.Seat.one_after_another _ _ _ (searches taken granted drawn) entry found.3 c.publish.ensures.goes))),
       subst (λ x. finds x.blocks x.allowance) (sym c.publish.ensures.books)
-          (finds-later (g.S.Seat.lacks c.find_room.new.seat c.size_words-size.result) (g.S.Seat.is_used c.find_room.new.seat)
-          (g.S.Seat.lacks c.publish.new.self size) (g.S.Seat.is_used c.publish.new.self) (g.S.Seat.allocates_in c.args.seat.now)
-          (g.S.Seat.allocates_in c.find_room.new.seat) (g.S.Seat.allocates_in c.publish.new.self) next
+          (finds-later (g.S.Seat.lacks c.find_room.new.seat size) (g.S.Seat.is_used c.find_room.new.seat)
+          (g.S.Seat.lacks c.publish.new.self size) (g.S.Seat.is_used c.publish.new.self) (g.S.Seat.allocates_in c.args.seat.now size)
+          (g.S.Seat.allocates_in c.find_room.new.seat size) (g.S.Seat.allocates_in c.publish.new.self size) next
           (g.S.Seat.books c.find_room.new.seat).blocks (g.S.Seat.books c.find_room.new.seat).allowance
           (g.S.Seat.books c.args.seat.now).ticket (g.S.Seat.books c.find_room.new.seat).ticket
           (g.S.Seat.books c.publish.new.self).ticket taken granted drawn
-          (λ k lacks. c.publish.ensures.stays size k (subst (λ n. g.S.Seat.lacks c.find_room.new.seat n k) c.size_words-size.ensures lacks))
-          c.publish.ensures.still c.publish.ensures.region (ap (λ b. b.ticket) c.publish.ensures.books) found.4),
+          (λ k lacks. c.publish.ensures.stays size k lacks) c.publish.ensures.still c.publish.ensures.region
+          (ap (λ b. b.ticket) c.publish.ensures.books)
+          (subst (λ n. FindsRoom (g.S.Seat.lacks c.find_room.new.seat n) (g.S.Seat.is_used c.find_room.new.seat)
+          (g.S.Seat.allocates_in c.args.seat.now n) (g.S.Seat.allocates_in c.find_room.new.seat n) next
+          (g.S.Seat.books c.find_room.new.seat).blocks (g.S.Seat.books c.find_room.new.seat).allowance
+          (g.S.Seat.books c.args.seat.now).ticket (g.S.Seat.books c.find_room.new.seat).ticket taken granted drawn)
+          c.size_words-size.ensures found.4)),
     )

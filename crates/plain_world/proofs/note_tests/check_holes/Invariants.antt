@@ -1,7 +1,6 @@
-use Rattle.heap_layout.specs.declared.block.Kind.TheVariants as kinds
 use Rattle.object_model.specs.Heaps.{heap_state}
 use Rattle.plain_world.specs.Notes.{AreNotes}
 use Rattle.plain_world.proofs.note_tests.check_holes.Given as goal
 
 abbrev pub invariant-loop-size : goal.invariant-loop-size
-invariant-loop-size g l = AreNotes kinds.Bump (heap_state l.heap) l.notes
+invariant-loop-size g l = AreNotes l.fill (heap_state l.heap) l.notes

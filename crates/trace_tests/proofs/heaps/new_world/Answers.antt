@@ -5,7 +5,7 @@ use Rattle.plain_world.specs.Beginnings.{MayUse}
 use Rattle.trace_tests.proofs.heaps.new_world.Goals as goal
 
 pub begin-requires-clause-users : goal.begin-requires-clause-users
-begin-requires-clause-users c =
+begin-requires-clause-users g c =
     let Q : HeapState → Type 0 = λ h. MayUse h (map mutator_state c.in_ok-mutators.mutators.items) in
     let layout = c.in_ok-new.field-0 in
     subst Q (sym c.in_ok-heap.ensures) (c.in_ok-mutators.ensures.users layout.blocks layout.least layout.most)

@@ -5,7 +5,7 @@ use Rattle.plain_world.specs.declared.plain_row.BlockNote.{BlockNote}
 use Rattle.plain_world.specs.declared.plain_row.BlockNote.TheVariants.{Unowned}
 use Rattle.plain_world.specs.Notes.{IsUnownedNote}
 use Rattle.plain_world.proofs.Elements.{read-some, set-changes}
-use Rattle.plain_world.proofs.Gaining.{no-hole}
+use Rattle.plain_world.proofs.Regions.{none-first}
 use Rattle.plain_world.proofs.KeptNotes.{notes-lacking, none-changed}
 use Rattle.plain_world.proofs.block_notes.BlockNotes.hole_in.Goals as goal
 
@@ -26,20 +26,28 @@ returns-then-least-size-clause-none c = λ at hole.
     let is : IsUnownedNote c.args.fill s c.args.block c.in-Unowned.least = c.requires.notes.notes.each c.args.block (Unowned c.in-Unowned.least) note in
     is.none at c.args.size (omega arith) hole
 
-pub returns-in-None-clause-notes : goal.returns-in-None-clause-notes
-returns-in-None-clause-notes c =
+pub returns-then-decides-clause-notes : goal.returns-then-decides-clause-notes
+returns-then-decides-clause-notes c =
     let s = heap_state c.args.heap.now in
     let notes = c.args.self.now.notes.items in
     let there : c.args.block < length notes = (let many = c.requires.notes.notes.len in let b = c.requires.block in omega arith) in
     let changes = set-changes notes c.args.block (Unowned c.args.size) there in
     record {
       counts = c.requires.notes.counts;
-      notes = notes-lacking c.args.fill c.requires.tails s c.args.heap.now.lawful notes _ c.args.block c.args.size c.requires.notes.notes c.requires.block (rw c.in-None.is at c.hole_of.ensures) changes;
+      notes = notes-lacking c.args.fill c.requires.fills s c.args.heap.now.lawful notes _ c.args.block c.args.size c.requires.notes.notes c.requires.block
+          (omega arith) c.requires.most (c.decides.ensures c.if-decides.true) (rw c.in-None.is at c.hole_of.ensures) changes;
       unowned = none-changed notes _ c.args.block c.args.size c.requires.notes.unowned changes;
       owned = c.requires.notes.owned;
       room = c.requires.notes.room;
     }
 
-pub returns-in-None-clause-none : goal.returns-in-None-clause-none
-returns-in-None-clause-none c = λ at hole.
-    no-hole c.args.fill c.requires.tails (heap_state c.args.heap.now) c.args.block c.args.size (rw c.in-None.is at c.hole_of.ensures) at c.args.size (omega arith) hole
+pub returns-then-decides-clause-none : goal.returns-then-decides-clause-none
+returns-then-decides-clause-none c = λ at hole.
+    none-first c.args.fill c.requires.fills (heap_state c.args.heap.now) c.args.block c.args.size (rw c.in-None.is at c.hole_of.ensures) at hole
+
+pub returns-else-decides-clause-none : goal.returns-else-decides-clause-none
+returns-else-decides-clause-none c = λ at hole.
+    none-first c.args.fill c.requires.fills (heap_state c.args.heap.now) c.args.block c.args.size (rw c.in-None.is at c.hole_of.ensures) at hole
+
+pub returns-in-Some-clause-some : goal.returns-in-Some-clause-some
+returns-in-Some-clause-some c = (c.in-Some.region.end, rw c.in-Some.is at c.hole_of.ensures)

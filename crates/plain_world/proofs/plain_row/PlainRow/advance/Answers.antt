@@ -1,25 +1,55 @@
-use Rattle.std.proofs.Common.{◌≡◌, refl, subst, ℕ, ◌+◌, ◌<◌, ◌≤◌, arith, length}
+use Rattle.std.proofs.Common.{refl, subst, ℕ, ◌<◌, arith, length}
 use Rattle.std.specs.Prelude.{slice_set}
-use Rattle.heap_layout.specs.declared.region.Region.{Region}
 use Rattle.plain_world.specs.declared.plain_row.BlockNote.TheVariants.{Owned}
-use Rattle.plain_world.specs.Rows.{ChangesAt}
+use Rattle.plain_world.specs.Rows.{ChangesAt, number_at_turn}
 use Rattle.plain_world.proofs.Elements.{set-changes}
-use Rattle.plain_world.proofs.Turns.{IsCurrent, current-read}
+use Rattle.plain_world.proofs.Turns.{IsCurrent, current-read, extent, owned-note}
 use Rattle.plain_world.proofs.plain_row.PlainRow.advance.Goals as goal
 
-pub overflow_add-region : goal.overflow_add-region
-overflow_add-region c =
-    let is : IsCurrent c.args.self.now c.args.size c.in-Some.block c.in-Owned.owner c.in-Owned.region =
-    current-read c.args.self.now c.args.size c.requires c.index.result.now c.in-Some.block c.index-2.result.now c.in-Owned.owner c.in-Owned.region c.index.ensures c.in-Some.is c.index-2.ensures c.in-Owned.is in
-    let room : c.in-Owned.region.next + c.args.size ≤ c.in-Owned.region.end = is.room in
-    let end : c.in-Owned.region.end ≡ 4096 = is.end in
-    omega arith
+pub rest_after-rest-requires-clause-extent : goal.rest_after-rest-requires-clause-extent
+rest_after-rest-requires-clause-extent c = let now = c.requires.some in extent now.epoch now.ideal now.log c.args.self.now now.at
+
+pub rest_after-rest-requires-clause-kind : goal.rest_after-rest-requires-clause-kind
+rest_after-rest-requires-clause-kind c =
+    let w = c.args.self.now in
+    let is : IsCurrent w c.args.size c.in-Some.block c.in-Owned.owner c.in-Owned.region =
+    current-read w c.args.size c.requires c.index.result.now c.class-class.result c.in-Some.block c.index-2.result.now c.in-Owned.owner c.in-Owned.region c.class-class.ensures.class c.index.ensures c.in-Some.is c.index-2.ensures c.in-Owned.is in
+    is.kind
+
+pub rest_after-rest-requires-clause-class : goal.rest_after-rest-requires-clause-class
+rest_after-rest-requires-clause-class c =
+    let w = c.args.self.now in
+    let is : IsCurrent w c.args.size c.in-Some.block c.in-Owned.owner c.in-Owned.region =
+    current-read w c.args.size c.requires c.index.result.now c.class-class.result c.in-Some.block c.index-2.result.now c.in-Owned.owner c.in-Owned.region c.class-class.ensures.class c.index.ensures c.in-Some.is c.index-2.ensures c.in-Owned.is in
+    is.class
+
+pub rest_after-rest-requires-clause-left : goal.rest_after-rest-requires-clause-left
+rest_after-rest-requires-clause-left c =
+    let w = c.args.self.now in
+    let now = c.requires.some in
+    let is : IsCurrent w c.args.size c.in-Some.block c.in-Owned.owner c.in-Owned.region =
+    current-read w c.args.size c.requires c.index.result.now c.class-class.result c.in-Some.block c.index-2.result.now c.in-Owned.owner c.in-Owned.region c.class-class.ensures.class c.index.ensures c.in-Some.is c.index-2.ensures c.in-Owned.is in
+    (owned-note now.epoch now.ideal now.log w now.at c.in-Some.block (number_at_turn w) c.in-Owned.region is.note).left
+
+pub rest_after-rest-requires-clause-room : goal.rest_after-rest-requires-clause-room
+rest_after-rest-requires-clause-room c =
+    let w = c.args.self.now in
+    let is : IsCurrent w c.args.size c.in-Some.block c.in-Owned.owner c.in-Owned.region =
+    current-read w c.args.size c.requires c.index.result.now c.class-class.result c.in-Some.block c.index-2.result.now c.in-Owned.owner c.in-Owned.region c.class-class.ensures.class c.index.ensures c.in-Some.is c.index-2.ensures c.in-Owned.is in
+    is.room
+
+pub rest_after-rest-requires-clause-end : goal.rest_after-rest-requires-clause-end
+rest_after-rest-requires-clause-end c =
+    let w = c.args.self.now in
+    let is : IsCurrent w c.args.size c.in-Some.block c.in-Owned.owner c.in-Owned.region =
+    current-read w c.args.size c.requires c.index.result.now c.class-class.result c.in-Some.block c.index-2.result.now c.in-Owned.owner c.in-Owned.region c.class-class.ensures.class c.index.ensures c.in-Some.is c.index-2.ensures c.in-Owned.is in
+    is.end
 
 pub index_mut-requires : goal.index_mut-requires
 index_mut-requires c =
     let w = c.args.self.now in
     let is : IsCurrent w c.args.size c.in-Some.block c.in-Owned.owner c.in-Owned.region =
-    current-read w c.args.size c.requires c.index.result.now c.in-Some.block c.index-2.result.now c.in-Owned.owner c.in-Owned.region c.index.ensures c.in-Some.is c.index-2.ensures c.in-Owned.is in
+    current-read w c.args.size c.requires c.index.result.now c.class-class.result c.in-Some.block c.index-2.result.now c.in-Owned.owner c.in-Owned.region c.class-class.ensures.class c.index.ensures c.in-Some.is c.index-2.ensures c.in-Owned.is in
     let there : c.in-Some.block < length w.notes.items = is.there in
     omega (arith, w.notes.ok.0)
 
@@ -27,8 +57,7 @@ pub returns : goal.returns
 returns c =
     let w = c.args.self.now in
     let is : IsCurrent w c.args.size c.in-Some.block c.in-Owned.owner c.in-Owned.region =
-    current-read w c.args.size c.requires c.index.result.now c.in-Some.block c.index-2.result.now c.in-Owned.owner c.in-Owned.region c.index.ensures c.in-Some.is c.index-2.ensures c.in-Owned.is in
-    let rest : Region = record { next = c.in-Owned.region.next + c.args.size; end = c.in-Owned.region.end } in
+    current-read w c.args.size c.requires c.index.result.now c.class-class.result c.in-Some.block c.index-2.result.now c.in-Owned.owner c.in-Owned.region c.class-class.ensures.class c.index.ensures c.in-Some.is c.index-2.ensures c.in-Owned.is in
     record {
       plan = record { turn = refl; fill = refl; young = refl; allowance = refl; counts = refl };
       mutators = refl;
@@ -37,9 +66,11 @@ returns c =
       current = is.current;
       owned = refl;
       region = c.in-Owned.region;
+      rest = c.rest_after-rest.result;
       was = is.note;
       begins = refl;
       room = is.room;
-      notes = subst (λ (n : ℕ). ChangesAt w.notes.items (slice_set w.notes.items c.in-Some.block (Owned c.in-Owned.owner rest)) c.in-Some.block (Owned n rest)) is.own
-          (set-changes w.notes.items c.in-Some.block (Owned c.in-Owned.owner rest) is.there);
+      left = c.rest_after-rest.ensures;
+      notes = subst (λ (n : ℕ). ChangesAt w.notes.items (slice_set w.notes.items c.in-Some.block (Owned c.in-Owned.owner c.rest_after-rest.result)) c.in-Some.block (Owned n c.rest_after-rest.result)) is.own
+          (set-changes w.notes.items c.in-Some.block (Owned c.in-Owned.owner c.rest_after-rest.result) is.there);
     }

@@ -1,11 +1,13 @@
-use Rattle.std.proofs.Common.{◌≡◌, ◌∙◌, ◌<◌, sym, subst, ap, refl, length, IsTrue}
+use Rattle.std.proofs.Common.{◌≡◌, ◌∙◌, ℕ, ◌<◌, sym, subst, ap, refl, length, IsTrue}
 use Rattle.std.specs.Prelude.{Some, slice_get}
 use Rattle.object_model.specs.Objects.{state_of}
+use Rattle.heap_layout.specs.Blocks.{IsValid}
 use Rattle.heap_layout.specs.declared.block.Kind.{Kind}
 use Rattle.mutator_core.specs.Epochs.{is_filled}
 use Rattle.mutator_core.proofs.Fills.{fill-not-free}
 use Rattle.plain_world.specs.declared.plain_row.BlockNote.{BlockNote}
 use Rattle.plain_world.specs.declared.plain_row.BlockNote.TheVariants.{Unowned, Owned}
+use Rattle.plain_world.specs.Rows.{number_at_turn}
 use Rattle.plain_world.proofs.Elements.{read-some}
 use Rattle.plain_world.proofs.Facts as facts
 use Rattle.plain_world.proofs.Lists.{one-element}
@@ -22,7 +24,10 @@ pub take-requires-clause-extent : goal.take-requires-clause-extent
 take-requires-clause-extent c = let now = c.requires.ready.idle.some in turns.extent now.epoch now.ideal now.log c.args.self.now now.at
 
 pub take-requires-clause-valid : goal.take-requires-clause-valid
-take-requires-clause-valid c = let now = c.requires.ready.idle.some in turns.own-valid now.epoch now.ideal now.log c.args.self.now now.at c.requires.ready.turn
+take-requires-clause-valid c =
+    let now = c.requires.ready.idle.some in
+    subst (λ (n : ℕ). IsValid (record { kind = c.args.self.now.fill; class = n; owner = number_at_turn c.args.self.now })) (sym c.class-class.ensures.class)
+    (turns.own-valid now.epoch now.ideal now.log c.args.self.now now.at c.requires.ready.turn c.args.size)
 
 pub returns-in-Owned-clause-none : goal.returns-in-Owned-clause-none
 returns-in-Owned-clause-none c = λ _.

@@ -1,7 +1,9 @@
 use Rattle.std.proofs.Common.{◌≡◌, refl, sym, ap, subst, ℕ, arith}
 use Rattle.std.specs.Prelude.{Option, Some, slice_get}
 use Rattle.plain_world.specs.declared.plain_row.BlockNote.TheVariants.{Unowned, Owned}
-use Rattle.plain_world.specs.Rows.{seat_at_turn, ticket_of}
+use Rattle.heap_layout.specs.Blocks.{IsValid}
+use Rattle.plain_world.specs.Rows.{number_at_turn, seat_at_turn, ticket_of}
+use Rattle.plain_world.specs.Changes as changes
 use Rattle.plain_world.specs.Changes.{TakesBlock}
 use Rattle.plain_world.proofs.Elements.{set-changes, read-some}
 use Rattle.plain_world.proofs.Facts as facts
@@ -9,6 +11,16 @@ use Rattle.plain_world.proofs.Lists.{one-element}
 use Rattle.plain_world.proofs.Owning.{world-room}
 use Rattle.plain_world.proofs.Turns as turns
 use Rattle.plain_world.proofs.plain_row.PlainRow.take_unowned.Goals as goal
+
+pub has_other_class-requires : goal.has_other_class-requires
+has_other_class-requires c =
+    let now = c.requires.ready.idle.some in
+    facts.readable-block now.epoch now.ideal now.log c.args.self.now now.at c.args.block c.requires.block
+
+pub returns-then-has_other_class-clause-none : goal.returns-then-has_other_class-clause-none
+returns-then-has_other_class-clause-none c = λ no.
+    let note = c.requires.note in
+    changes.unsuited note.0 note.1 (c.has_other_class.ensures.other c.if-has_other_class.true) refl
 
 pub hole-requires-clause-order : goal.hole-requires-clause-order
 hole-requires-clause-order c = let now = c.requires.ready.idle.some in facts.order now.epoch now.ideal now.log c.args.self.now now.at
@@ -22,22 +34,24 @@ pub take-requires-clause-extent : goal.take-requires-clause-extent
 take-requires-clause-extent c = let now = c.requires.ready.idle.some in turns.extent now.epoch now.ideal now.log c.args.self.now now.at
 
 pub take-requires-clause-valid : goal.take-requires-clause-valid
-take-requires-clause-valid c = let now = c.requires.ready.idle.some in turns.own-valid now.epoch now.ideal now.log c.args.self.now now.at c.requires.ready.turn
+take-requires-clause-valid c =
+    let now = c.requires.ready.idle.some in
+    subst (λ (n : ℕ). IsValid (record { kind = c.args.self.now.fill; class = n; owner = number_at_turn c.args.self.now })) (sym c.class-class.ensures.class)
+    (turns.own-valid now.epoch now.ideal now.log c.args.self.now now.at c.requires.ready.turn c.args.size)
 
 pub returns-in-None-clause-none : goal.returns-in-None-clause-none
 returns-in-None-clause-none c = λ no.
     let now = c.requires.ready.idle.some in
-    let w = c.args.self.now in (
-      rw c.in-None.is at c.hole.ensures,
-      record {
-        plan = record { turn = refl; fill = refl; young = refl; allowance = refl; counts = refl };
-        mutators = refl;
-        row = refl;
-        seats = refl;
-        owned = refl;
-        notes = set-changes w.notes.items c.args.block (Unowned c.args.size) (turns.noted now.epoch now.ideal now.log w now.at c.args.block c.requires.block);
-      },
-    )
+    let w = c.args.self.now in
+    let note = c.requires.note in
+    changes.seen note.0 note.1 (rw c.in-None.is at c.hole.ensures) (c.has_other_class.ensures.suits c.if-has_other_class.false) (record {
+      plan = record { turn = refl; fill = refl; young = refl; allowance = refl; counts = refl };
+      mutators = refl;
+      row = refl;
+      seats = refl;
+      owned = refl;
+      notes = set-changes w.notes.items c.args.block (Unowned c.args.size) (turns.noted now.epoch now.ideal now.log w now.at c.args.block c.requires.block);
+    })
 
 pub returns-in-Some-clause-found : goal.returns-in-Some-clause-found
 returns-in-Some-clause-found c = λ yes.
@@ -46,7 +60,8 @@ returns-in-Some-clause-found c = λ yes.
     let seat : seat_at_turn w ≡ Some c.index.result.now = read-some w.seats.items w.turn c.index.result.now (let e = turn.seats in let t = turn.turn in omega arith) c.index.ensures in (
       c.in-Some.region,
       rw c.in-Some.is at c.hole.ensures,
-      subst (λ (ticket : Option ℕ). TakesBlock w c.take.new.self c.args.block c.in-Some.region ticket) (sym (ap ticket_of seat)) c.take.ensures,
+      subst (λ (class : ℕ). TakesBlock w c.take.new.self c.args.block class c.in-Some.region (ticket_of (seat_at_turn w))) c.class-class.ensures.class
+          (subst (λ (ticket : Option ℕ). TakesBlock w c.take.new.self c.args.block c.class-class.result c.in-Some.region ticket) (sym (ap ticket_of seat)) c.take.ensures),
     )
 
 pub take-requires-clause-room : goal.take-requires-clause-room

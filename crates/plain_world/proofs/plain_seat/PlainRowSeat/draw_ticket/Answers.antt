@@ -5,7 +5,7 @@ use Rattle.std.proofs.lemmas.List.{get_or_read}
 use Rattle.object_model.specs.Objects.{state_of, with_words, word_at}
 use Rattle.plain_world.specs.declared.plain_row.PlainRow.{PlainRow}
 use Rattle.plain_world.specs.declared.plain_row.PlainSeat.{PlainSeat}
-use Rattle.plain_world.specs.Rows.{ChangesAt, seat_at_turn, block_of}
+use Rattle.plain_world.specs.Rows.{ChangesAt, seat_at_turn, blocks_of}
 use Rattle.plain_world.proofs.Elements.{set-changes, read-some}
 use Rattle.plain_world.proofs.Stopping.{few-words}
 use Rattle.plain_world.proofs.Drawing.{DrawsTicket, tickets-few, drawn-goes, drawn-ready, drawn-lacks, drawn-offers, drawn-books}
@@ -35,7 +35,7 @@ overflow_cast-ticket c =
     omega arith
 
 abbrev seat : goal.After-self-1 → PlainSeat
-seat c = record { ticket = Some c.index-ticket.result.now; block = c.index_mut.result.now.block }
+seat c = record { ticket = Some c.index-ticket.result.now; blocks = c.index_mut.result.now.blocks }
 
 abbrev end : goal.After-self-1 → PlainRow
 end c = record c.store.new.self { seats = with_item c.store.new.self.seats c.store.new.self.turn (seat c) }
@@ -46,19 +46,19 @@ ticket-is c = get_or_read c.args.self.now.row.words.items _ _ (few-words c.args.
 turn-inside : (c : goal.After-self-1) → c.args.self.now.turn < length c.args.self.now.seats.items
 turn-inside c = let e = c.requires.ready.turn.seats in let t = c.requires.ready.turn.turn in omega arith
 
-block-is : (c : goal.After-self-1) → c.index_mut.result.now.block ≡ block_of (seat_at_turn c.args.self.now)
-block-is c =
+blocks-are : (c : goal.After-self-1) → c.index_mut.result.now.blocks ≡ blocks_of (seat_at_turn c.args.self.now)
+blocks-are c =
     let b = c.store.new.self in
     let there : b.turn < length b.seats.items = subst (λ (w : PlainRow). w.turn < length w.seats.items) (sym c.store.ensures.rest) (turn-inside c) in
-    sym (ap block_of (read-some b.seats.items b.turn c.index_mut.result.now there c.index_mut.ensures.value))
-    ∙ ap (λ (w : PlainRow). block_of (seat_at_turn w)) c.store.ensures.rest
+    sym (ap blocks_of (read-some b.seats.items b.turn c.index_mut.result.now there c.index_mut.ensures.value))
+    ∙ ap (λ (w : PlainRow). blocks_of (seat_at_turn w)) c.store.ensures.rest
 
 draws : (c : goal.After-self-1) → DrawsTicket c.args.self.now (end c)
 draws c =
     let a = c.args.self.now in
-    let x : PlainSeat = record { ticket = Some (word_at (state_of a.row) 1); block = block_of (seat_at_turn a) } in
-    let same : seat c ≡ x = ap (λ (n : ℕ). let y : PlainSeat = record { ticket = Some n; block = c.index_mut.result.now.block } in y) (ticket-is c)
-    ∙ ap (λ (o : Option ℕ). let y : PlainSeat = record { ticket = Some (word_at (state_of a.row) 1); block = o } in y) (block-is c) in
+    let x : PlainSeat = record { ticket = Some (word_at (state_of a.row) 1); blocks = blocks_of (seat_at_turn a) } in
+    let same : seat c ≡ x = ap (λ (n : ℕ). let y : PlainSeat = record { ticket = Some n; blocks = c.index_mut.result.now.blocks } in y) (ticket-is c)
+    ∙ ap (λ (o : List (Option ℕ)). let y : PlainSeat = record { ticket = Some (word_at (state_of a.row) 1); blocks = o } in y) (blocks-are c) in
     record {
       rest = ap (λ (w : PlainRow). record w { seats = with_item c.store.new.self.seats c.store.new.self.turn (seat c) }) c.store.ensures.rest;
       words = c.store.ensures.words ∙ ap (λ (n : ℕ). with_words (state_of a.row) (slice_set (state_of a.row).words 1 (n + 1))) (ticket-is c);

@@ -4,6 +4,9 @@ use Rattle.mutator_calls.specs.Effects.{grants, nothing}
 use Rattle.plain_world.specs.Worlds.{Goes}
 use Rattle.plain_world.specs.SeatLaws.{goes-nothing}
 use Rattle.plain_world.specs.Steps.{Lacks, IsUsed, Offers}
+use Rattle.plain_world.specs.Regions.{first_region_end}
+use Rattle.plain_world.proofs.Turns as turns
+use Rattle.sessions.specs.Fitting.{class_for}
 use Rattle.plain_world.proofs.Gaining.{region-now, gains-free, goes-free, room, other-lacks, free-offers, free-used}
 use Rattle.plain_world.proofs.plain_seat.PlainRowSeat.take_free.Goals as goal
 
@@ -15,7 +18,7 @@ returns-clause-goes c =
       | inl took ↦
           (let found = c.take_free_block.ensures.found took in
           subst (λ (t : Bool). Goes a (if t then grants c.args.block else nothing) b) (sym took)
-          (goes-free a b c.requires.ready c.args.block _ true (gains-free a b c.requires.ready c.args.block c.requires.block found.0 found.1 c.requires.ticket) found.0))
+          (goes-free a b c.requires.ready c.args.block c.args.size _ true (gains-free a b c.requires.ready c.args.block c.args.size c.requires.block found.0 found.1 c.requires.ticket) found.0))
       | inr failed ↦ subst (λ (t : Bool). Goes a (if t then grants c.args.block else nothing) b) (sym failed) (goes-nothing a b (c.take_free_block.ensures.none failed).1)
     ]
 
@@ -24,8 +27,8 @@ returns-clause-found c = λ yes.
     let a = c.args.self.now in
     let b = c.take_free_block.new.self in
     let found = c.take_free_block.ensures.found yes in
-    let most : c.args._size ≤ 2048 = c.requires.most in
-    room a b c.requires.ready c.args.block _ true (gains-free a b c.requires.ready c.args.block c.requires.block found.0 found.1 c.requires.ticket) c.args._size (omega arith)
+    let fits : c.args.size ≤ first_region_end a.fill (class_for a.fill c.args.size) = turns.whole-room a.fill c.args.size c.requires.most in
+    room a b c.requires.ready c.args.block c.args.size _ true (gains-free a b c.requires.ready c.args.block c.args.size c.requires.block found.0 found.1 c.requires.ticket) (omega arith)
 
 pub returns-clause-stays : goal.returns-clause-stays
 returns-clause-stays c = λ n k other lacks.
@@ -34,14 +37,14 @@ returns-clause-stays c = λ n k other lacks.
     elim (cases_Bool c.take_free_block.result) as (λ _. Lacks b n k) [
       | inl took ↦
           (let found = c.take_free_block.ensures.found took in
-          other-lacks a b c.requires.ready c.args.block _ true (gains-free a b c.requires.ready c.args.block c.requires.block found.0 found.1 c.requires.ticket) n k other lacks)
+          other-lacks a b c.requires.ready c.args.block c.args.size _ true (gains-free a b c.requires.ready c.args.block c.args.size c.requires.block found.0 found.1 c.requires.ticket) n k other lacks)
       | inr failed ↦ subst (λ w. Lacks w n k) (sym (c.take_free_block.ensures.none failed).1) lacks
     ]
 
 pub returns-clause-offered : goal.returns-clause-offered
 returns-clause-offered c = λ yes.
     let found = c.take_free_block.ensures.found yes in
-    free-offers c.args.self.now c.take_free_block.new.self c.requires.ready c.args.block c.requires.block found.0 found.1 c.requires.ticket c.args._size
+    free-offers c.args.self.now c.take_free_block.new.self c.requires.ready c.args.block c.args.size c.requires.block found.0 found.1 c.requires.ticket
 
 pub returns-clause-offers : goal.returns-clause-offers
 returns-clause-offers c = λ other n no. subst (λ w. Offers c.take_free_block.new.self other n → Offers w other n) (c.take_free_block.ensures.none no).1 (λ offers. offers)
@@ -51,7 +54,7 @@ returns-clause-still c = λ k used.
     let a = c.args.self.now in
     let b = c.take_free_block.new.self in
     elim (cases_Bool c.take_free_block.result) as (λ _. IsUsed b k) [
-      | inl took ↦ (let found = c.take_free_block.ensures.found took in free-used a b c.requires.ready c.args.block c.requires.block found.0 found.1 c.requires.ticket k used)
+      | inl took ↦ (let found = c.take_free_block.ensures.found took in free-used a b c.requires.ready c.args.block c.args.size c.requires.block found.0 found.1 c.requires.ticket k used)
       | inr failed ↦ subst (λ w. IsUsed w k) (sym (c.take_free_block.ensures.none failed).1) used
     ]
 
@@ -60,4 +63,4 @@ returns-clause-region c = λ yes.
     let a = c.args.self.now in
     let b = c.take_free_block.new.self in
     let found = c.take_free_block.ensures.found yes in
-    (region-now a b c.requires.ready c.args.block _ true (gains-free a b c.requires.ready c.args.block c.requires.block found.0 found.1 c.requires.ticket)).current
+    (region-now a b c.requires.ready c.args.block c.args.size _ true (gains-free a b c.requires.ready c.args.block c.args.size c.requires.block found.0 found.1 c.requires.ticket)).current

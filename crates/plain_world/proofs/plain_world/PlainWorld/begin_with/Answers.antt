@@ -1,11 +1,13 @@
-use Rattle.std.proofs.Common.{◌≡◌, refl, ◌∙◌, ap, map, length, arith, replicate, bit_and, ◌==◌}
+use Rattle.std.proofs.Common.{◌≡◌, refl, ◌∙◌, ap, List, map, length, arith, replicate, bit_and, ◌==◌}
+use Rattle.std.specs.Prelude.{slice_get}
 use Rattle.object_model.specs.Heaps.{heap_state}
 use Rattle.sessions.specs.Grants.{allowance_in}
 use Rattle.plan_api.specs.Counting.{session_counts}
-use Rattle.plain_world.specs.Rows.{mutator_state}
+use Rattle.plain_world.specs.declared.plain_row.PlainSeat.{PlainSeat}
+use Rattle.plain_world.specs.Rows.{mutator_state, ticket_of}
 use Rattle.plain_world.specs.Beginnings.{without_stop}
 use Rattle.plain_world.proofs.Begun as begun
-use Rattle.plain_world.proofs.Begun.{young-flag, no_seat}
+use Rattle.plain_world.proofs.Begun.{young-flag, no_seat, no-ticket}
 use Rattle.plain_world.proofs.plain_world.PlainWorld.begin_with.Goals as goal
 
 pub returns-clause-open : goal.returns-clause-open
@@ -23,7 +25,14 @@ returns-clause-open g c = begun.idle-begun g.P.Plan.rules (heap_state c.args.hea
   allowance = c.allowance.ensures ∙ ap (λ r. allowance_in r (session_counts c.args.notes.counts)) c.reserve.ensures
       ∙ ap (allowance_in g.P.Plan.rules.reserve) c.requires.notes.counts;
 })
-    c.args.heap.lawful c.requires.users c.requires.tails c.requires.remembers c.requires.few
+    c.args.heap.lawful c.requires.users c.requires.fills c.requires.remembers c.requires.few
+
+pub returns-clause-plan : goal.returns-clause-plan
+returns-clause-plan g c = c.contains.ensures tt ∙ ap (λ f. bit_and f.0 2 == 2) c.FLAGS.ensures ∙ ap (λ n. bit_and n 2 == 2) g.met.P.Plan.flags_are_of_rules
+    ∙ young-flag g.P.Plan.rules
+
+pub returns-clause-tickets : goal.returns-clause-tickets
+returns-clause-tickets g c = λ k. ap (λ (xs : List PlainSeat). ticket_of (slice_get xs k)) c.in_ok-seats.ensures ∙ no-ticket c.len.result k
 
 pub returns-clause-begins : goal.returns-clause-begins
 returns-clause-begins g c = begun.after-begun g.P.Plan.rules (heap_state c.args.heap) (map mutator_state c.args.mutators.items) _ (record {
@@ -40,4 +49,4 @@ returns-clause-begins g c = begun.after-begun g.P.Plan.rules (heap_state c.args.
   allowance = c.allowance.ensures ∙ ap (λ r. allowance_in r (session_counts c.args.notes.counts)) c.reserve.ensures
       ∙ ap (allowance_in g.P.Plan.rules.reserve) c.requires.notes.counts;
 })
-    c.args.heap.lawful c.requires.users c.requires.tails c.requires.remembers c.requires.few
+    c.args.heap.lawful c.requires.users c.requires.fills c.requires.remembers c.requires.few

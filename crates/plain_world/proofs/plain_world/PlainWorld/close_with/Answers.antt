@@ -63,8 +63,8 @@ overflow_sub-counts g c =
 pub give_back-requires-clause-order : goal.give_back-requires-clause-order
 give_back-requires-clause-order g c = let is = c.requires.some in facts.order is.epoch is.ideal is.log c.args.self.row is.at
 
-pub give_back-requires-clause-codes : goal.give_back-requires-clause-codes
-give_back-requires-clause-codes g c = let is = c.requires.some in facts.code is.epoch is.ideal is.log c.args.self.row is.at
+pub give_back-requires-clause-notes : goal.give_back-requires-clause-notes
+give_back-requires-clause-notes g c = let w = c.args.self.row in let is = c.requires.some in (w.fill, is.at.fills, is.at.notes)
 
 pub from_row-requires : goal.from_row-requires
 from_row-requires g c = let is = c.requires.some in
@@ -125,7 +125,7 @@ returns-clause-known g c =
     let gives : GivesBack (state_of w.row) new = subst (GivesBack (state_of w.row)) (sym c.from_row.ensures) c.give_back.ensures.gives in
     record {
       counts = counts-after is.epoch is.ideal is.log w is.at new gives c.requires.filled _ (omega arith);
-      notes = subst (λ (t : HeapState). HasNotes w.fill t c.give_back.new.notes.items) (sym c.from_row.ensures) c.give_back.ensures.notes;
+      notes = subst (λ (t : HeapState). HasNotes w.fill t c.give_back.new.notes.items) (sym c.from_row.ensures) (c.give_back.ensures.notes w.fill is.at.fills is.at.notes);
       unowned = c.give_back.ensures.unowned;
       owned = c.clear.ensures.items;
       room = subst (λ (n : ℕ). n ≤ vec_capacity c.clear.new.self) (sym gives.blocks) (subst (λ (n : ℕ). w.row.layout.blocks ≤ n) (sym c.clear.ensures.capacity) is.at.lists.room);

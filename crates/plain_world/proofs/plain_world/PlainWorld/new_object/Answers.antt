@@ -1,6 +1,7 @@
 use Rattle.std.proofs.Common.{◌≡◌, subst, ap}
 use Rattle.std.specs.Prelude.{Some, slice_get}
 use Rattle.object_model.specs.Objects.{state_of, word_at, size_of}
+use Rattle.sessions.specs.Fitting.{class_for}
 use Rattle.mutator_calls.specs.Effects.{draws, nothing}
 use Rattle.mutator_calls.specs.Allocating.{births_with, Draws, FindsRoom, IsCause}
 use Rattle.mutator_calls.proofs.Finding.{draws-from}
@@ -54,11 +55,11 @@ returns-clause-made g c =
         others = others-after a b m effect goes;
         objects = objects-after a b m effect c.requires.open goes;
       };
-      finds = subst (λ t. FindsRoom (LacksAt b m size) (IsUsed b) (λ k. block_of (slice_get a.seats.items m) ≡ Some k)
-          (λ k. block_of (slice_get b.seats.items t) ≡ Some k) (λ n. n ≡ word_at (state_of a.row) 1) b.row.layout.blocks b.allowance
+      finds = subst (λ t. FindsRoom (LacksAt b m size) (IsUsed b) (λ k. block_of (slice_get a.seats.items m) (class_for a.fill size) ≡ Some k)
+          (λ k. block_of (slice_get b.seats.items t) (class_for b.fill size) ≡ Some k) (λ n. n ≡ word_at (state_of a.row) 1) b.row.layout.blocks b.allowance
           (ticket_of (slice_get a.seats.items m)) (ticket_of (slice_get b.seats.items t)) did.0 did.1 did.2) goes.turn
-          (finds-weaker (Lacks b size) (LacksAt b m size) (IsUsed b) (λ k. block_of (slice_get a.seats.items m) ≡ Some k)
-          (AllocatesIn b) (λ t. (mid : PlainRow) × Goes (record a { turn = m }) nothing mid × HasBudget mid t)
+          (finds-weaker (Lacks b size) (LacksAt b m size) (IsUsed b) (λ k. block_of (slice_get a.seats.items m) (class_for a.fill size) ≡ Some k)
+          (AllocatesIn b size) (λ t. (mid : PlainRow) × Goes (record a { turn = m }) nothing mid × HasBudget mid t)
           (λ t. t ≡ word_at (state_of a.row) 1) b.row.layout.blocks b.allowance _ _ did.0 did.1 did.2
           (lacks-at b m size goes.turn) (next-ticket (record a { turn = m })) did.4);
       placed = record {
@@ -67,6 +68,7 @@ returns-clause-made g c =
         address = placed.address;
         owner = placed.owner;
         current = placed.current;
+        cell = placed.cell;
         spot = placed.spot;
       };
     })

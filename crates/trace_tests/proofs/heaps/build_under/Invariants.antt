@@ -1,5 +1,5 @@
 use Rattle.plain_world.specs.Calls.{IsOpen}
-use Rattle.trace_tests.proofs.heaps.build.Given as goal
+use Rattle.trace_tests.proofs.heaps.build_under.Given as goal
 
 abbrev pub invariant-loop-command : goal.invariant-loop-command
 invariant-loop-command g l = IsOpen l.world
