@@ -4,30 +4,31 @@ use Rattle.heap_layout.specs.declared.block.Kind.TheVariants as kinds
 use Rattle.object_model.specs.declared.collect.Collect.{Collect}
 use Rattle.object_model.specs.declared.collect.Collect.TheVariants.{Nursery}
 use Rattle.object_model.specs.Objects.{HeapState}
-use Rattle.sessions.specs.Plans.{Rules, NoGc, MarkSweep, SemiSpace, rules_of}
+use Rattle.sessions.specs.Plans.{Rules, NoGc, MarkSweep, SemiSpace, Immix, rules_of}
 use Rattle.sessions.specs.Collecting.{first_collection}
 use Rattle.sessions.specs.WorkedCollections.{aged_heap}
 use Rattle.collector.specs.Collected.{IsOffered}
 use Rattle.collector.proofs.Offered.{full-offered, nursery-not}
+use Rattle.plain_world.proofs.Regions.{no-lines}
 use Rattle.mm_runtime.specs.Managers.{IsManaged}
 
 pub nogc : IsManaged (rules_of NoGc)
-nogc = record { fill = inl refl; first = λ s. full-offered (rules_of NoGc); full = full-offered (rules_of NoGc) }
+nogc = record { fill = inl (inl refl); first = λ s. full-offered (rules_of NoGc); full = full-offered (rules_of NoGc) }
 
 abbrev young_tail_rules : Rules
 young_tail_rules = record (rules_of NoGc) { fill = kinds.Young }
 
 pub young-tails : IsManaged (record (rules_of NoGc) { fill = kinds.Young })
-young-tails = record { fill = inr refl; first = λ s. full-offered young_tail_rules; full = full-offered young_tail_rules }
+young-tails = record { fill = inl (inr refl); first = λ s. full-offered young_tail_rules; full = full-offered young_tail_rules }
 
 pub semispace : IsManaged (rules_of SemiSpace)
-semispace = record { fill = inl refl; first = λ s. full-offered (rules_of SemiSpace); full = full-offered (rules_of SemiSpace) }
+semispace = record { fill = inl (inl refl); first = λ s. full-offered (rules_of SemiSpace); full = full-offered (rules_of SemiSpace) }
 
-pub cells : IsManaged (rules_of MarkSweep) → ⊥
-cells managed = elim managed.fill as (λ _. ⊥) [
-  | inl bump ↦ (let wrong : kinds.Cells ≡ kinds.Bump = bump in cc)
-  | inr young ↦ (let wrong : kinds.Cells ≡ kinds.Young = young in cc)
-]
+pub marksweep : IsManaged (rules_of MarkSweep)
+marksweep = record { fill = inr refl; first = λ s. full-offered (rules_of MarkSweep); full = full-offered (rules_of MarkSweep) }
+
+pub lines : IsManaged (rules_of Immix) → ⊥
+lines managed = no-lines managed.fill
 
 abbrev young_rules : Rules
 young_rules = record (rules_of SemiSpace) { young = true }

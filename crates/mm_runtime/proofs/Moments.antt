@@ -11,13 +11,13 @@ use Rattle.ideal_heap.specs.Ideal.{IdealHeap, empty, step, with_new}
 use Rattle.ideal_heap.specs.Runs.{Entry, entry, Answers, after, after_entry, IsRun}
 use Rattle.ideal_heap.proofs.RunLemmas.{after-append, extended}
 use Rattle.object_model.specs.Heaps.{heap_state}
-use Rattle.object_model.specs.Objects.{HeapState, size_of}
+use Rattle.object_model.specs.Objects.{HeapState, size_of, blocks_for}
 use Rattle.object_model.specs.Graphs.{MutatorState, Represents, numbers_of, with_birth, add_birth, with_register, set_register_of}
 use Rattle.object_model.proofs.Registers.{numbers-changed}
 use Rattle.sessions.specs.Plans.{Rules}
 use Rattle.sessions.specs.Fitting.{Fits}
 use Rattle.sessions.specs.Collecting.{Remembers}
-use Rattle.sessions.specs.Sessions.{Setting, Moment, IsSound, Places, PlacesSmall, UsesBlock, ChangesBlocks, ideal_at}
+use Rattle.sessions.specs.Sessions.{Setting, Moment, IsSound, Places, PlacesSmall, UsesBlock, UsesRun, ChangesBlocks, ideal_at}
 use Rattle.sessions.proofs.CollectedMoments.{remembers-placed}
 use Rattle.mutator_calls.specs.declared.need.Need.{Need}
 use Rattle.mutator_calls.specs.declared.need.Mutator.{Mutator}
@@ -26,7 +26,8 @@ use Rattle.plain_world.proofs.Lists.{one-element}
 use Rattle.mm_runtime.specs.declared.progress.Progress.{Progress}
 use Rattle.mm_runtime.specs.declared.manager.Manager.{Manager}
 use Rattle.mm_runtime.specs.declared.place.Spot.{Spot}
-use Rattle.mm_runtime.specs.Managers.{FillsTailsOrCells, next_of, IsInOrder, IsAtStop, HasReplies, StandsAt}
+use Rattle.plain_world.specs.Notes.{FillsTailsOrCells}
+use Rattle.mm_runtime.specs.Managers.{next_of, IsInOrder, IsAtStop, HasReplies, StandsAt}
 use Rattle.mm_runtime.specs.Stops.{IsSpot, NeedsNext, BearsAt, RepliesAt, PutsAt, bearing}
 use Rattle.mm_runtime.proofs.Users.{known-number, births-here, mutators-after}
 use Rattle.mm_runtime.proofs.Written.{address_of, IsBorn}
@@ -166,13 +167,17 @@ module _ {P : Type 0} (rules : Rules) (old new : Manager P) (m : ℕ) (need : Ne
       fits = subst (λ (x : Rules). Fits x (heap_state old.heap) (size_of need.refs need.nums)) (sym stands.rules_are) is.fits;
       place = address_of (heap_state old.heap) spot;
       object = born.object;
-      small = λ _. (
-        subst (λ (x : Rules). PlacesSmall x (heap_state old.heap) (address_of (heap_state old.heap) spot) (size_of need.refs need.nums)) (sym stands.rules_are) born.places,
+      small = λ small. (let placed = born.small small in (
+        subst (λ (x : Rules). PlacesSmall x (heap_state old.heap) (address_of (heap_state old.heap) spot) (size_of need.refs need.nums)) (sym stands.rules_are) placed.0,
         subst (λ (x : Rules). UsesBlock x (heap_state old.heap) (heap_state new.heap) (block_at (heap_state old.heap).blocks (address_of (heap_state old.heap) spot)) (size_of need.refs need.nums)) (sym stands.rules_are)
-            (subst (λ (b : ℕ). UsesBlock rules (heap_state old.heap) (heap_state new.heap) b (size_of need.refs need.nums)) (sym born.block) born.uses),
-        subst (λ (b : ℕ). ChangesBlocks (heap_state old.heap) (heap_state new.heap) b 1) (sym born.block) born.changes,
-      );
-      large = λ large. absurd (let small : size_of need.refs need.nums ≤ 2048 = is.place.small in omega arith);
+            (subst (λ (b : ℕ). UsesBlock rules (heap_state old.heap) (heap_state new.heap) b (size_of need.refs need.nums)) (sym born.block) placed.1),
+        subst (λ (b : ℕ). ChangesBlocks (heap_state old.heap) (heap_state new.heap) b 1) (sym born.block) placed.2,
+      ));
+      large = λ large. (let placed = born.large large in (
+        placed.0,
+        subst (λ (b : ℕ). UsesRun (heap_state old.heap) (heap_state new.heap) b (blocks_for (size_of need.refs need.nums))) (sym born.block) placed.1,
+        subst (λ (b : ℕ). ChangesBlocks (heap_state old.heap) (heap_state new.heap) b (blocks_for (size_of need.refs need.nums))) (sym born.block) placed.2,
+      ));
       layout = born.layout;
       counts = (refl, refl);
       done = ap (λ q. now.done ++ entry m (c.New need.register need.refs need.nums) (r.New q) ∷ []) (sym born.name);

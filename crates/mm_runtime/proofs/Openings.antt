@@ -24,8 +24,9 @@ use Rattle.sessions.specs.Plans.{Rules}
 use Rattle.sessions.specs.Fitting.{HasHole, class_for}
 use Rattle.sessions.specs.Sessions.{UsesBlock, ChangesBlocks, AddsObject, block_of_kind}
 use Rattle.sessions.proofs.Placing as placing
-use Rattle.mm_runtime.specs.Managers.{FillsTailsOrCells}
-use Rattle.mm_runtime.proofs.Rooms.{hole-kind, hole-not-free, hole-within, hole-small, hole-room, no-lines, taken-hole, valid-word}
+use Rattle.plain_world.specs.Notes.{FillsTailsOrCells}
+use Rattle.sessions.proofs.HoleRooms.{hole-kind, hole-not-free, hole-within, hole-small, hole-room, taken-hole, valid-word}
+use Rattle.mm_runtime.proofs.Rooms.{holed, no-lines}
 
 -- In the heap with the words w a hole of block k begins at this offset and has room. From s on, at most the block's word
 -- changed, if the block was Free.
@@ -54,12 +55,12 @@ pub opens-free : (fill : Kind) (s : HeapState) (k size : ℕ) → FillsTailsOrCe
 opens-free fill s k size fills lawful free small =
     let code : ℕ = code_of (block_of_kind fill (class_for fill size)) in
     let there : k < s.blocks = kind-within s k kinds.Free free in
-    let hole : HasHole fill (with_words s (set_block s k code)) k 0 size = taken-hole fill s k size fills lawful free small in
+    let hole : HasHole fill (with_words s (set_block s k code)) k 0 size = taken-hole fill s k size (holed fill fills) lawful free small in
     record {
       same = blocks.same_heap s k code there;
       front = λ i before. blocks.word-other s k code there i (λ e. omega arith);
       others = λ j here other. blocks.block-other s k code there j other;
-      lawful = taken.lawful s k (block_of_kind fill (class_for fill size)) lawful free (valid-word fill size fills small) refl
+      lawful = taken.lawful s k (block_of_kind fill (class_for fill size)) lawful free (valid-word fill size (holed fill fills) small) refl
           (hole-small fill (with_words s (set_block s k code)) k 0 size hole);
       hole = hole;
       free = λ is. blocks.block-set s k code there lawful.but_lines.order.row.extent;

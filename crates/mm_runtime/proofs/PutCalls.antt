@@ -1,6 +1,7 @@
 -- The calls of the function that puts an object at a spot.
-use Rattle.std.proofs.Common.{◌≡◌, ◌∙◌, ap, subst, ℕ, ◌+◌, ◌-◌, ◌⊎◌, inl, inr, List, length}
+use Rattle.std.proofs.Common.{◌≡◌, ◌≢◌, sym, ◌∙◌, ap, subst, ℕ, ◌+◌, ◌-◌, ◌<◌, ◌≤◌, ◌⊎◌, inl, inr, List, length}
 use Rattle.heap_layout.specs.Zones.{row_words, offset_at, block_start, IsAddress}
+use Rattle.heap_layout.specs.declared.block.Kind.{Kind}
 use Rattle.heap_layout.specs.declared.block.Kind.TheVariants as kinds
 use Rattle.ideal_heap.specs.declared.name.Name.{Name}
 use Rattle.ideal_heap.specs.Names.{IsName, name}
@@ -10,38 +11,52 @@ use Rattle.object_model.specs.Lawful.{IsLawful}
 use Rattle.object_model.specs.Changes.{WritesObject}
 use Rattle.sessions.specs.Plans.{Rules}
 use Rattle.sessions.specs.Fitting.{HasHole}
+use Rattle.sessions.specs.Sessions.{PlacesSmall}
 use Rattle.mutator_calls.specs.declared.need.Need.{Need}
 use Rattle.mutator_calls.specs.declared.need.Mutator.{Mutator}
-use Rattle.plain_world.specs.Notes.{FillsTails, PlacesObject}
-use Rattle.plain_world.specs.Notes.{AreNotes}
+use Rattle.plain_world.specs.Notes.{FillsTailsOrCells, AreNotes, PlacesObject, PlacesRun}
 use Rattle.plain_world.specs.declared.block_notes.BlockNotes.{BlockNotes}
 use Rattle.mm_runtime.specs.declared.manager.Manager.{Manager}
 use Rattle.mm_runtime.specs.declared.place.Spot.{Spot}
-use Rattle.mm_runtime.specs.Managers.{FillsTailsOrCells, IsAtStop}
-use Rattle.mm_runtime.specs.Stops.{IsPlaceIn, IsSpot, NeedsNext, TakesBlock, WritesAt, BearsAt}
+use Rattle.mm_runtime.specs.Managers.{IsAtStop}
+use Rattle.mm_runtime.specs.Stops.{IsPlaceIn, IsRunAt, IsPlace, IsSpot, NeedsNext, TakesSpot, WritesAt, BearsAt}
 use Rattle.mm_runtime.proofs.Written.{address_of, IsBorn}
+use Rattle.mm_runtime.proofs.LargePuts.{by-run}
 use Rattle.mm_runtime.proofs.Putting as putting
+use Rattle.mm_runtime.proofs.Putting.{IsBetween}
 
 module _ {P : Type 0} (rules : Rules) (manager : Manager P) (m : ℕ) (need : Need) (spot : Spot) (fills : FillsTailsOrCells rules.fill) (stop : IsAtStop rules 2 manager)
     (next : NeedsNext manager m need) (is : IsSpot rules (heap_state manager.heap) (size_of need.refs need.nums) spot) (row between : HeapState) (size r q : ℕ)
-    (same : row ≡ heap_state manager.heap) (wanted : size ≡ size_of r q) (er : r ≡ need.refs) (eq : q ≡ need.nums) (takes : TakesBlock rules.fill row spot size between) where
+    (same : row ≡ heap_state manager.heap) (wanted : size ≡ size_of r q) (er : r ≡ need.refs) (eq : q ≡ need.nums) (takes : TakesSpot rules.fill row spot size between) where
   abbrev s : HeapState
   s = heap_state manager.heap
 
-  found : IsPlaceIn rules.fill s (size_of need.refs need.nums) spot
+  found : IsPlace rules.fill s (size_of need.refs need.nums) spot
   found = is.place
 
-  took : TakesBlock rules.fill s spot (size_of need.refs need.nums) between
+  took : TakesSpot rules.fill s spot (size_of need.refs need.nums) between
   took = putting.took rules.fill s row between spot size r q need.refs need.nums same wanted er eq takes
 
+  between-there : IsBetween s between spot (size_of need.refs need.nums)
+  between-there = putting.between-is rules.fill s between spot need.refs need.nums fills manager.heap.lawful found took
+
   pub extent : length between.words ≡ row_words between.blocks
-  extent = (putting.lawful-between rules.fill fills s between spot need.refs need.nums manager.heap.lawful found took).but_lines.order.row.extent
+  extent = between-there.extent
+
+  pub inside : spot.block < between.blocks
+  inside = subst (λ (b : ℕ). spot.block < b) (sym between-there.blocks) between-there.inside
+
+  pub below : spot.offset < 4096
+  below = between-there.below
 
   pub address : (a : ℕ) → a ≡ block_start between.blocks spot.block + spot.offset → IsAddress between.blocks a
-  address = putting.address-between rules.fill fills s between spot need.refs need.nums manager.heap.lawful found took
+  address = putting.address-between rules.fill s between spot need.refs need.nums between-there took
+
+  pub room : (a : ℕ) → a ≡ block_start between.blocks spot.block + spot.offset → a + size_of r q ≤ row_words between.blocks
+  room a at = putting.room-between rules.fill s between spot need.refs need.nums between-there took a r q at er eq
 
   at-spot : (a : ℕ) → a ≡ block_start between.blocks spot.block + spot.offset → a ≡ address_of s spot
-  at-spot a at = at ∙ ap (λ b. block_start b spot.block + spot.offset) (putting.blocks-between rules.fill fills s between spot need.refs need.nums manager.heap.lawful found took)
+  at-spot a at = at ∙ ap (λ b. block_start b spot.block + spot.offset) between-there.blocks
 
   module _ (us : List Mutator) (a : ℕ) (n : Name) (at : a ≡ block_start between.blocks spot.block + spot.offset)
       (bears : (k : ℕ) → k + 1 ≡ m → BearsAt manager.mutators.items us k m need.register a n) where
@@ -57,7 +72,7 @@ module _ {P : Type 0} (rules : Rules) (manager : Manager P) (m : ℕ) (need : Ne
 
     module _ (new : HeapState) (writes : WritesObject between new a n r q) where
       pub writes-at : WritesAt rules.fill s spot n need.refs need.nums new
-      writes-at = putting.written rules.fill fills s between spot need.refs need.nums manager.heap.lawful found took new a r q n at er eq writes
+      writes-at = putting.written rules.fill s between spot need.refs need.nums between-there took new a r q n at er eq writes
 
       born : IsBorn rules s spot n need.refs need.nums new
       born = putting.born-need rules 2 manager m need stop next fills spot n new name-is found writes-at
@@ -69,21 +84,38 @@ module _ {P : Type 0} (rules : Rules) (manager : Manager P) (m : ℕ) (need : Ne
       layout = born.layout
 
       -- the block was Free, or the object lies at the start of a hole
-      pub spot-there : HasKind s spot.block kinds.Free ⊎ HasHole rules.fill s spot.block (offset_at s.blocks (address_of s spot)) (size_of need.refs need.nums)
-      spot-there = elim born.places.spot as (λ _. HasKind s spot.block kinds.Free ⊎ HasHole rules.fill s spot.block (offset_at s.blocks (address_of s spot)) (size_of need.refs need.nums)) [
+      spot-there : PlacesSmall rules s (address_of s spot) (size_of need.refs need.nums)
+          → HasKind s spot.block kinds.Free ⊎ HasHole rules.fill s spot.block (offset_at s.blocks (address_of s spot)) (size_of need.refs need.nums)
+      spot-there places = elim places.spot as (λ _. HasKind s spot.block kinds.Free ⊎ HasHole rules.fill s spot.block (offset_at s.blocks (address_of s spot)) (size_of need.refs need.nums)) [
         | inl hole ↦ inr (subst (λ (b : ℕ). HasHole rules.fill s b (offset_at s.blocks (address_of s spot)) (size_of need.refs need.nums)) born.block hole)
         | inr free ↦ inl (subst (λ (b : ℕ). HasKind s b kinds.Free) born.block free.0)
       ]
 
-      -- the notes, as they follow the placement
-      pub notes : FillsTails rules.fill → (old after : BlockNotes) → AreNotes rules.fill s old
-          → ((x : Rules) (u v : HeapState) (a refs nums : ℕ) → FillsTails x.fill → AreNotes x.fill u old → PlacesObject x u v a refs nums spot.block spot.free → AreNotes x.fill v after)
-          → AreNotes rules.fill new after
-      notes tails old after before placed = placed rules s new (address_of s spot) need.refs need.nums tails before (record {
+      small-placed : (is : IsPlaceIn rules.fill s (size_of need.refs need.nums) spot) → PlacesObject rules s new (address_of s spot) need.refs need.nums spot.block spot.free
+      small-placed is = (let placed = born.small is.small in record {
         layout = born.layout;
         object = born.object;
         here = born.block;
-        uses = born.uses;
-        free = putting.was-free rules.fill s (size_of need.refs need.nums) spot found;
-        spot = spot-there;
+        uses = placed.1;
+        free = putting.was-free rules.fill s (size_of need.refs need.nums) spot is;
+        spot = spot-there placed.0;
       })
+
+      large-placed : IsRunAt s (size_of need.refs need.nums) spot → PlacesRun s new (address_of s spot) need.refs need.nums spot.block
+      large-placed is = record {
+        blocks = born.layout.0;
+        object = born.object;
+        here = born.block;
+        uses = (born.large is.large).1;
+      }
+
+      -- the notes, as they follow the placement
+      pub notes : (old after : BlockNotes) → AreNotes rules.fill s old
+          → (spot.run ≡ 0 → (x : Rules) (u v : HeapState) (a refs nums : ℕ) → FillsTailsOrCells x.fill → AreNotes x.fill u old → PlacesObject x u v a refs nums spot.block spot.free
+          → AreNotes x.fill v after)
+          → (spot.run ≢ 0 → (x : Kind) (u : HeapState) (a refs nums : ℕ) → FillsTailsOrCells x → AreNotes x u old → PlacesRun u new a refs nums spot.block → AreNotes x new after)
+          → AreNotes rules.fill new after
+      notes old after before small large =
+          by-run rules.fill s (size_of need.refs need.nums) spot (AreNotes rules.fill new after) found
+          (λ none is. small none rules s new (address_of s spot) need.refs need.nums fills before (small-placed is))
+          (λ some is. large some rules.fill s (address_of s spot) need.refs need.nums fills before (large-placed is))

@@ -1,18 +1,19 @@
 -- An object of a need is put at a spot: the heap between, and the new heap.
-use Rattle.std.proofs.Common.{◌≡◌, ◌≢◌, sym, ◌∙◌, ap, subst, ℕ, ◌+◌, ◌-◌, ◌<◌, ◌≤◌, arith, Bool, true, false, List, length, map}
-use Rattle.std.specs.Prelude.{Some, slice_get, vec_capacity}
+use Rattle.std.proofs.Common.{◌≡◌, ◌≢◌, sym, ◌∙◌, ap, subst, ℕ, ◌+◌, ◌-◌, ◌<◌, ◌≤◌, arith, Bool, true, false, nat_eq, List, length, map}
+use Rattle.std.specs.Prelude.{Some, MatchBool, slice_get, vec_capacity}
 use Rattle.std.specs.List.{range_with_len}
 use Rattle.std.proofs.lemmas.Bool.{false_from_ne_true}
 use Rattle.std.proofs.lemmas.Option.{slice_get_within}
-use Rattle.heap_layout.specs.Zones.{block_start, IsAddress}
+use Rattle.heap_layout.specs.Zones.{row_words, block_start, IsAddress}
 use Rattle.heap_layout.specs.declared.block.Kind.{Kind}
 use Rattle.heap_layout.specs.declared.block.Kind.TheVariants as kinds
 use Rattle.ideal_heap.specs.declared.name.Name.{Name}
 use Rattle.ideal_heap.specs.Names.{IsName, name}
-use Rattle.object_model.specs.Objects.{HeapState, has_kind, IsHeld, name_at, size_of}
+use Rattle.object_model.specs.Objects.{HeapState, has_kind, IsHeld, name_at, size_of, blocks_for}
 use Rattle.object_model.specs.Heaps.{heap_state}
 use Rattle.object_model.specs.Lawful.{IsLawful}
 use Rattle.object_model.specs.Graphs.{MutatorState, Represents, numbers_of}
+use Rattle.object_model.specs.Births.{MakesRun}
 use Rattle.object_model.specs.Changes.{WritesObject}
 use Rattle.sessions.specs.Plans.{Rules}
 use Rattle.sessions.specs.Sessions.{Setting, Moment, ideal_at}
@@ -23,12 +24,14 @@ use Rattle.plain_world.proofs.Lists.{one-element}
 use Rattle.mm_runtime.specs.declared.manager.Manager.{Manager}
 use Rattle.mm_runtime.specs.declared.progress.Progress.{Progress}
 use Rattle.mm_runtime.specs.declared.place.Spot.{Spot}
-use Rattle.mm_runtime.specs.Managers.{FillsTailsOrCells, IsAtStop, StandsAt}
-use Rattle.mm_runtime.specs.Stops.{IsPlaceIn, NeedsNext, TakesBlock, WritesAt, BearsAt}
+use Rattle.plain_world.specs.Notes.{FillsTailsOrCells}
+use Rattle.mm_runtime.specs.Managers.{IsAtStop, StandsAt}
+use Rattle.mm_runtime.specs.Stops.{IsPlaceIn, IsRunAt, IsPlace, NeedsNext, TakesBlock, TakesSpot, WritesAt, BearsAt}
 use Rattle.mm_runtime.proofs.Needs.{HasNeed, has-need, next-name}
-use Rattle.mm_runtime.proofs.Rooms.{hole-not-free, hole-within}
+use Rattle.sessions.proofs.HoleRooms.{hole-not-free, hole-within}
 use Rattle.mm_runtime.proofs.Users.{fresh-name}
-use Rattle.mm_runtime.proofs.Written.{IsFreeOrHole, IsOpened, opened, IsBorn, born-at}
+use Rattle.mm_runtime.proofs.Written.{IsFreeOrHole, IsOpened, opened, IsBorn}
+use Rattle.mm_runtime.proofs.LargePuts.{born-at}
 
 -- the spot lies within its block
 spot-within : (fill : Kind) (b : Bool) (s : HeapState) (k at size : ℕ) → size ≤ 2048 → IsFreeOrHole fill b s k at size → at + size ≤ 4096
@@ -44,34 +47,89 @@ was-free fill s size spot is = spot-free fill spot.free s spot.block spot.offset
 
 -- the heap between, in the terms of the definitions
 pub took : (fill : Kind) (s row between : HeapState) (spot : Spot) (size r q refs nums : ℕ) → row ≡ s → size ≡ size_of r q → r ≡ refs → q ≡ nums
-    → TakesBlock fill row spot size between → TakesBlock fill s spot (size_of refs nums) between
+    → TakesSpot fill row spot size between → TakesSpot fill s spot (size_of refs nums) between
 took fill s row between spot size r q refs nums same is er eq takes =
     let wanted : size ≡ size_of refs nums = is ∙ ap (λ x. size_of x q) er ∙ ap (λ x. size_of refs x) eq in
-    subst (λ (x : HeapState). TakesBlock fill x spot (size_of refs nums) between) same (subst (λ (x : ℕ). TakesBlock fill row spot x between) wanted takes)
+    subst (λ (x : HeapState). TakesSpot fill x spot (size_of refs nums) between) same (subst (λ (x : ℕ). TakesSpot fill row spot x between) wanted takes)
 
-module _ (fill : Kind) (fills : FillsTailsOrCells fill) (s between : HeapState) (spot : Spot) (refs nums : ℕ) (lawful : IsLawful s) (is : IsPlaceIn fill s (size_of refs nums) spot)
-    (takes : TakesBlock fill s spot (size_of refs nums) between) where
-  open-there : IsOpened fill s between spot.block spot.offset (size_of refs nums)
-  open-there = opened fill spot.free s between spot.block spot.offset (size_of refs nums) fills lawful is.small is.spot_is takes
+-- the spot in the row that the heap gave
+pub place-of : (fill : Kind) (s row : HeapState) (spot : Spot) (size r q refs nums : ℕ) → row ≡ s → size ≡ size_of r q → r ≡ refs → q ≡ nums
+    → IsPlace fill s (size_of refs nums) spot → IsPlace fill row size spot
+place-of fill s row spot size r q refs nums same is er eq place =
+    let wanted : size ≡ size_of refs nums = is ∙ ap (λ x. size_of x q) er ∙ ap (λ x. size_of refs x) eq in
+    subst (λ (x : HeapState). IsPlace fill x size spot) (sym same) (subst (λ (x : ℕ). IsPlace fill s x spot) (sym wanted) place)
 
-  pub blocks-between : between.blocks ≡ s.blocks
-  blocks-between = ap (λ (x : HeapState). x.blocks) open-there.1
+-- The heap between has the layout of the old one, and the spot has room for the size before the row's end.
+pub record IsBetween (s between : HeapState) (spot : Spot) (size : ℕ) : Type 0 where
+  pub blocks : between.blocks ≡ s.blocks
+  pub extent : length between.words ≡ row_words between.blocks
+  pub inside : spot.block < s.blocks
+  pub below : spot.offset < 4096
+  pub room : block_start s.blocks spot.block + spot.offset + size ≤ row_words s.blocks
 
-  pub lawful-between : IsLawful between
-  lawful-between = subst IsLawful (sym open-there.1) open-there.0.lawful
+between-small : (fill : Kind) (s between : HeapState) (spot : Spot) (refs nums : ℕ) → FillsTailsOrCells fill → IsLawful s → IsPlaceIn fill s (size_of refs nums) spot
+    → TakesBlock fill s spot (size_of refs nums) between → IsBetween s between spot (size_of refs nums)
+between-small fill s between spot refs nums fills lawful is takes =
+    let open-there : IsOpened fill s between spot.block spot.offset (size_of refs nums) =
+    opened fill spot.free s between spot.block spot.offset (size_of refs nums) fills lawful is.small is.spot_is takes in
+    let right : IsLawful between = subst IsLawful (sym open-there.1) open-there.0.lawful in
+    let within : spot.offset + size_of refs nums ≤ 4096 = spot-within fill spot.free s spot.block spot.offset (size_of refs nums) is.small is.spot_is in
+    let inside : spot.block < s.blocks = is.inside in
+    record {
+      blocks = ap (λ (x : HeapState). x.blocks) open-there.1;
+      extent = right.but_lines.order.row.extent;
+      inside = is.inside;
+      below = omega arith;
+      room = omega arith;
+    }
 
+between-run : (s between : HeapState) (spot : Spot) (refs nums : ℕ) → IsLawful s → IsRunAt s (size_of refs nums) spot → MakesRun s between spot.block spot.run
+    → IsBetween s between spot (size_of refs nums)
+between-run s between spot refs nums lawful is makes =
+    let large : 2048 < size_of refs nums = is.large in
+    let count : spot.run ≡ blocks_for (size_of refs nums) = is.count in
+    let front : spot.offset ≡ 0 = is.start in
+    let inside : spot.block + spot.run ≤ s.blocks = is.run.run.inside in
+    let whole : length s.words ≡ row_words s.blocks = lawful.but_lines.order.row.extent in
+    let same : between.blocks ≡ s.blocks = makes.blocks in
+    record {
+      blocks = same;
+      extent = makes.extent ∙ whole ∙ ap row_words (sym same);
+      inside = omega arith;
+      below = omega arith;
+      room = omega arith;
+    }
+
+module _ (fill : Kind) (s between : HeapState) (spot : Spot) (refs nums : ℕ) (fills : FillsTailsOrCells fill) (lawful : IsLawful s) where
+  between-either : (b : Bool) → MatchBool b (IsPlaceIn fill s (size_of refs nums) spot) (IsRunAt s (size_of refs nums) spot)
+      → MatchBool b (TakesBlock fill s spot (size_of refs nums) between) (MakesRun s between spot.block spot.run) → IsBetween s between spot (size_of refs nums)
+  between-either true is takes = between-small fill s between spot refs nums fills lawful is takes
+  between-either false is makes = between-run s between spot refs nums lawful is makes
+
+  pub between-is : IsPlace fill s (size_of refs nums) spot → TakesSpot fill s spot (size_of refs nums) between → IsBetween s between spot (size_of refs nums)
+  between-is = between-either (nat_eq spot.run 0)
+
+module _ (fill : Kind) (s between : HeapState) (spot : Spot) (refs nums : ℕ) (between-there : IsBetween s between spot (size_of refs nums))
+    (takes : TakesSpot fill s spot (size_of refs nums) between) where
   pub address-between : (a : ℕ) → a ≡ block_start between.blocks spot.block + spot.offset → IsAddress between.blocks a
   address-between a at =
-      let within : spot.offset + size_of refs nums ≤ 4096 = spot-within fill spot.free s spot.block spot.offset (size_of refs nums) is.small is.spot_is in
-      let inside : spot.block < between.blocks = subst (λ (b : ℕ). spot.block < b) (sym blocks-between) is.inside in
+      let below : spot.offset < 4096 = between-there.below in
+      let inside : spot.block < between.blocks = subst (λ (b : ℕ). spot.block < b) (sym between-there.blocks) between-there.inside in
       subst (IsAddress between.blocks) (sym at) (record { from = omega arith; below = omega arith })
+
+  pub room-between : (a r q : ℕ) → a ≡ block_start between.blocks spot.block + spot.offset → r ≡ refs → q ≡ nums → a + size_of r q ≤ row_words between.blocks
+  room-between a r q at er eq =
+      let room : block_start between.blocks spot.block + spot.offset + size_of refs nums ≤ row_words between.blocks =
+      subst (λ (b : ℕ). block_start b spot.block + spot.offset + size_of refs nums ≤ row_words b) (sym between-there.blocks) between-there.room in
+      subst (λ (x : ℕ). a + size_of r x ≤ row_words between.blocks) (sym eq) (subst (λ (x : ℕ). a + size_of x nums ≤ row_words between.blocks) (sym er)
+      (subst (λ (x : ℕ). x + size_of refs nums ≤ row_words between.blocks) (sym at) room))
 
   pub written : (new : HeapState) (a r q : ℕ) (n : Name) → a ≡ block_start between.blocks spot.block + spot.offset → r ≡ refs → q ≡ nums → WritesObject between new a n r q
       → WritesAt fill s spot n refs nums new
   written new a r q n at er eq writes = record {
     between = between;
     block = takes;
-    object = subst (λ (b : ℕ). WritesObject between new (block_start b spot.block + spot.offset) n refs nums) blocks-between
+    object = subst (λ (b : ℕ). WritesObject between new (block_start b spot.block + spot.offset) n refs nums) between-there.blocks
         (subst (λ (x : ℕ). WritesObject between new x n refs nums) at
         (subst (λ (x : ℕ). WritesObject between new a n refs x) eq (subst (λ (x : ℕ). WritesObject between new a n x q) er writes)));
   }
@@ -88,6 +146,10 @@ module _ {P : Type 0} (rules : Rules) (manager : Manager P) (t : Setting) (now :
 module _ {P : Type 0} (rules : Rules) (more : ℕ) (manager : Manager P) (m : ℕ) (need : Need) (stop : IsAtStop rules more manager) (next : NeedsNext manager m need) where
   pub the-need : HasNeed manager.mutators.items manager.progress.items (m - 1) m need.register need.refs need.nums
   the-need = has-need rules more manager m need stop.order next
+
+  -- an object of this shape is no larger than the largest
+  pub most-words : (size r q : ℕ) → size ≡ size_of r q → r ≡ need.refs → q ≡ need.nums → size ≤ 61027
+  most-words size r q is er eq = (let few_refs : need.refs ≤ 1024 = the-need.valid.1 in let few_nums : need.nums ≤ 60000 = the-need.valid.2 in omega arith)
 
   pub most-progress : m ≤ length manager.progress.items
   most-progress = (let at : (m - 1) + 1 ≡ m = the-need.at in let below : m - 1 < length manager.progress.items = slice_get_within manager.progress.items (m - 1) the-need.progress the-need.there in omega arith)
@@ -130,7 +192,8 @@ module _ {P : Type 0} (rules : Rules) (more : ℕ) (manager : Manager P) (m : �
 
   -- the new heap
   pub born-need : FillsTailsOrCells rules.fill → (spot : Spot) (n : Name) (new : HeapState) → n ≡ name m (the-need.user.births + 1)
-      → IsPlaceIn rules.fill (heap_state manager.heap) (size_of need.refs need.nums) spot
+      → IsPlace rules.fill (heap_state manager.heap) (size_of need.refs need.nums) spot
       → WritesAt rules.fill (heap_state manager.heap) spot n need.refs need.nums new → IsBorn rules (heap_state manager.heap) spot n need.refs need.nums new
   born-need fills spot n new is found writes =
-      born-at rules fills (heap_state manager.heap) new spot n need.refs need.nums manager.heap.lawful found writes the-need.valid.1 the-need.valid.2 (is-name n is) (is-fresh n is)
+      born-at rules fills (heap_state manager.heap) writes.between new spot n need.refs need.nums manager.heap.lawful writes.object the-need.valid.1 the-need.valid.2 (is-name n is) (is-fresh n is)
+      found writes.block

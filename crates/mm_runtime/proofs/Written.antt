@@ -1,5 +1,5 @@
 -- The heap after an object was written at a spot.
-use Rattle.std.proofs.Common.{◌≡◌, ◌≢◌, refl, sym, subst, ℕ, ◌+◌, ◌<◌, ◌≤◌, ◌⊎◌, inl, inr, Bool, true, false, List}
+use Rattle.std.proofs.Common.{◌≡◌, ◌≢◌, refl, sym, subst, ℕ, ◌+◌, ◌<◌, ◌≤◌, ◌⊎◌, inl, inr, arith, Bool, true, false, List}
 use Rattle.std.specs.Prelude.{MatchBool}
 use Rattle.std.specs.List.{Contains}
 use Rattle.heap_layout.specs.Zones.{block_at, offset_at, block_start}
@@ -8,7 +8,7 @@ use Rattle.heap_layout.specs.declared.block.Kind.TheVariants as kinds
 use Rattle.ideal_heap.specs.declared.name.Name.{Name}
 use Rattle.ideal_heap.specs.Names.{IsName, name as named_by}
 use Rattle.ideal_heap.specs.Ideal.{IdealHeap, with_new}
-use Rattle.object_model.specs.Objects.{HeapState, with_words, HasKind, IsHeld, name_at, size_of}
+use Rattle.object_model.specs.Objects.{HeapState, with_words, HasKind, IsHeld, name_at, size_of, blocks_for}
 use Rattle.object_model.specs.Lawful.{IsLawful}
 use Rattle.object_model.specs.Births.{with_block}
 use Rattle.object_model.specs.Graphs.{MutatorState, Represents, numbers_of, add_birth, set_register_of}
@@ -16,10 +16,10 @@ use Rattle.object_model.specs.Changes.{WritesObject}
 use Rattle.object_model.proofs.BornHeaps.{in-layout, written-in}
 use Rattle.sessions.specs.Plans.{Rules}
 use Rattle.sessions.specs.Fitting.{HasHole, HasSomeHole, class_for}
-use Rattle.sessions.specs.Sessions.{block_of_kind, PlacesSmall, UsesBlock, ChangesBlocks, AddsObject}
+use Rattle.sessions.specs.Sessions.{block_of_kind, PlacesSmall, PlacesLarge, UsesBlock, UsesRun, ChangesBlocks, AddsObject}
 use Rattle.mm_runtime.specs.declared.place.Spot.{Spot}
-use Rattle.mm_runtime.specs.Managers.{FillsTailsOrCells}
-use Rattle.mm_runtime.specs.Stops.{IsPlaceIn, WritesAt}
+use Rattle.plain_world.specs.Notes.{FillsTailsOrCells}
+use Rattle.mm_runtime.specs.Stops.{IsPlaceIn, TakesBlock}
 use Rattle.mm_runtime.proofs.Openings as openings
 use Rattle.mm_runtime.proofs.Openings.{Opens, opens-hole, opens-free}
 
@@ -67,26 +67,26 @@ places-small rules s size spot a is block offset = record {
 pub record IsBorn (rules : Rules) (s : HeapState) (spot : Spot) (n : Name) (refs nums : ℕ) (new : HeapState) : Type 0 where
   pub block : block_at s.blocks (address_of s spot) ≡ spot.block
   pub object : AddsObject s new (address_of s spot) refs nums
-  pub places : PlacesSmall rules s (address_of s spot) (size_of refs nums)
-  pub uses : UsesBlock rules s new spot.block (size_of refs nums)
-  pub changes : ChangesBlocks s new spot.block 1
+  pub small : size_of refs nums ≤ 2048 → PlacesSmall rules s (address_of s spot) (size_of refs nums) × UsesBlock rules s new spot.block (size_of refs nums)
+      × ChangesBlocks s new spot.block 1
+  pub large : 2048 < size_of refs nums → PlacesLarge s (address_of s spot) (size_of refs nums) × UsesRun s new spot.block (blocks_for (size_of refs nums))
+      × ChangesBlocks s new spot.block (blocks_for (size_of refs nums))
   pub lawful : IsLawful new
   pub name : name_at new (address_of s spot) ≡ n
   pub layout : (new.blocks ≡ s.blocks) × (new.number ≡ s.number) × (new.base ≡ s.base)
   pub represents : (ms : List MutatorState) (h : IdealHeap) (m d : ℕ) → Represents s ms h → n ≡ named_by m (h.births m + 1) → Contains (numbers_of ms) m → d < 16
       → Represents new (set_register_of (add_birth ms m) m d (address_of s spot)) (with_new h m d refs nums)
 
-module _ (rules : Rules) (fills : FillsTailsOrCells rules.fill) (s new : HeapState) (spot : Spot) (n : Name) (refs nums : ℕ) (lawful : IsLawful s)
-    (is : IsPlaceIn rules.fill s (size_of refs nums) spot) (writes : WritesAt rules.fill s spot n refs nums new) (few_refs : refs ≤ 1024) (few_nums : nums ≤ 60000) (named : IsName n)
+-- a small or medium object
+module _ (rules : Rules) (fills : FillsTailsOrCells rules.fill) (s between new : HeapState) (spot : Spot) (n : Name) (refs nums : ℕ) (lawful : IsLawful s)
+    (is : IsPlaceIn rules.fill s (size_of refs nums) spot) (takes : TakesBlock rules.fill s spot (size_of refs nums) between)
+    (writes : WritesObject between new (address_of s spot) n refs nums) (few_refs : refs ≤ 1024) (few_nums : nums ≤ 60000) (named : IsName n)
     (fresh : (x : ℕ) → IsHeld s x → name_at s x ≢ n) where
-  abbrev between : HeapState
-  between = writes.between
-
   open-there : IsOpened rules.fill s between spot.block spot.offset (size_of refs nums)
-  open-there = opened rules.fill spot.free s between spot.block spot.offset (size_of refs nums) fills lawful is.small is.spot_is writes.block
+  open-there = opened rules.fill spot.free s between spot.block spot.offset (size_of refs nums) fills lawful is.small is.spot_is takes
 
   from : WritesObject (with_words s between.words) new (address_of s spot) n refs nums
-  from = subst (λ (x : HeapState). WritesObject x new (address_of s spot) n refs nums) open-there.1 writes.object
+  from = subst (λ (x : HeapState). WritesObject x new (address_of s spot) n refs nums) open-there.1 writes
 
   own : WritesObject (with_words s between.words) (with_words s new.words) (address_of s spot) n refs nums
   own = written-in (with_words s between.words) new (address_of s spot) refs nums n from
@@ -100,16 +100,19 @@ module _ (rules : Rules) (fills : FillsTailsOrCells rules.fill) (s new : HeapSta
   offset : offset_at s.blocks (address_of s spot) ≡ spot.offset
   offset = openings.offset-is rules fills s between.words new.words spot.block spot.offset refs nums n open-there.0 is.small few_refs few_nums named fresh own
 
-  pub born-at : IsBorn rules s spot n refs nums new
-  born-at = record {
+  pub born-small : IsBorn rules s spot n refs nums new
+  born-small = record {
     block = block;
     object = moved (λ (x : HeapState). AddsObject s x (address_of s spot) refs nums)
         (openings.object rules fills s between.words new.words spot.block spot.offset refs nums n open-there.0 is.small few_refs few_nums named fresh own);
-    places = places-small rules s (size_of refs nums) spot (address_of s spot) is block offset;
-    uses = moved (λ (x : HeapState). UsesBlock rules s x spot.block (size_of refs nums))
-        (openings.uses rules fills s between.words new.words spot.block spot.offset refs nums n open-there.0 is.small few_refs few_nums named fresh own);
-    changes = moved (λ (x : HeapState). ChangesBlocks s x spot.block 1)
-        (openings.changes rules fills s between.words new.words spot.block spot.offset refs nums n open-there.0 is.small few_refs few_nums named fresh own);
+    small = λ _. (
+      places-small rules s (size_of refs nums) spot (address_of s spot) is block offset,
+      moved (λ (x : HeapState). UsesBlock rules s x spot.block (size_of refs nums))
+          (openings.uses rules fills s between.words new.words spot.block spot.offset refs nums n open-there.0 is.small few_refs few_nums named fresh own),
+      moved (λ (x : HeapState). ChangesBlocks s x spot.block 1)
+          (openings.changes rules fills s between.words new.words spot.block spot.offset refs nums n open-there.0 is.small few_refs few_nums named fresh own),
+    );
+    large = λ large. absurd (let small : size_of refs nums ≤ 2048 = is.small in omega arith);
     lawful = moved IsLawful (openings.lawful-after rules fills s between.words new.words spot.block spot.offset refs nums n open-there.0 is.small few_refs few_nums named fresh own);
     name = moved (λ (x : HeapState). name_at x (address_of s spot) ≡ n)
         (openings.new-name rules fills s between.words new.words spot.block spot.offset refs nums n open-there.0 is.small few_refs few_nums named fresh own);

@@ -1,5 +1,5 @@
 -- A manager and the session that it runs.
-use Rattle.std.specs.Prelude.{◌≡◌, ℕ, ◌+◌, ◌-◌, ◌*◌, ◌≤◌, ◌⊎◌, vec_capacity, Option, Some, None, List, [], map, length, take, All, sum_by, slice_get}
+use Rattle.std.specs.Prelude.{◌≡◌, ℕ, ◌+◌, ◌-◌, ◌*◌, ◌≤◌, vec_capacity, Option, Some, None, List, [], map, length, take, All, sum_by, slice_get}
 use Rattle.std.specs.List.{AllByRecursion, range_with_len}
 use Rattle.ideal_heap.specs.declared.command.Command.{Command}
 use Rattle.ideal_heap.specs.declared.command.TheConstants.{MAX_MUTATORS}
@@ -9,8 +9,6 @@ use Rattle.ideal_heap.specs.Runs.{Entry, IsRun, IsMutator, commands_of, replies_
 use Rattle.object_model.specs.Heaps.{heap_state}
 use Rattle.object_model.specs.Objects.{HeapState, global_at}
 use Rattle.heap_layout.specs.declared.layout.TheConstants.{GLOBALS}
-use Rattle.heap_layout.specs.declared.block.Kind.{Kind}
-use Rattle.heap_layout.specs.declared.block.Kind.TheVariants as kinds
 use Rattle.object_model.specs.declared.collect.Collect.TheVariants.{Full}
 use Rattle.sessions.specs.Plans.{Rules}
 use Rattle.sessions.specs.Collecting.{first_collection}
@@ -18,18 +16,15 @@ use Rattle.sessions.specs.Sessions.{Setting, Moment, IsSound, InSession}
 use Rattle.collector.specs.Collected.{IsOffered}
 use Rattle.mutator_calls.specs.declared.need.Mutator.{Mutator}
 use Rattle.plain_world.specs.Rows.{mutator_state}
-use Rattle.plain_world.specs.Notes.{AreNotes, FillsTails}
+use Rattle.plain_world.specs.Notes.{AreNotes, FillsTailsOrCells}
 use Rattle.mm_runtime.specs.declared.progress.Progress.{Progress}
 use Rattle.mm_runtime.specs.declared.manager.Manager.{Manager}
 use Rattle.mm_runtime.specs.declared.progress.TheConstants.{MAX_COMMANDS}
 
--- mutators fill tails of blocks, or cells
-abbrev pub FillsTailsOrCells : Kind → Type 0
-FillsTailsOrCells fill = FillsTails fill ⊎ (fill ≡ kinds.Cells)
-
--- The plans that a manager runs: mutators fill tails of blocks, and the collections are made that `gc` and needs ask for.
+-- The plans that a manager runs: mutators fill tails of blocks, or cells, and the collections are made that `gc` and needs
+-- ask for.
 pub record IsManaged (r : Rules) : Type 0 where
-  pub fill : FillsTails r.fill
+  pub fill : FillsTailsOrCells r.fill
   pub first : (s : HeapState) → IsOffered r (first_collection r s)
   pub full : IsOffered r Full
 

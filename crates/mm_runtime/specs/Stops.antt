@@ -1,5 +1,5 @@
 -- What the steps of a stop do to a manager.
-use Rattle.std.specs.Prelude.{◌≡◌, ◌≢◌, ℕ, ◌+◌, ◌<◌, ◌≤◌, ◌⊎◌, MatchBool, Some, List, [], ◌∷◌, ◌++◌, map, length, slice_get, slice_set, vec_capacity}
+use Rattle.std.specs.Prelude.{◌≡◌, ◌≢◌, ℕ, ◌+◌, ◌<◌, ◌≤◌, ◌⊎◌, MatchBool, nat_eq, Some, List, [], ◌∷◌, ◌++◌, map, length, slice_get, slice_set, vec_capacity}
 use Rattle.std.specs.List.{AllByRecursion}
 use Rattle.heap_layout.specs.declared.block.Kind.{Kind}
 use Rattle.heap_layout.specs.declared.block.Kind.TheVariants as kinds
@@ -9,15 +9,16 @@ use Rattle.ideal_heap.specs.declared.reply.Reply.TheVariants as r
 use Rattle.ideal_heap.specs.Names.{name}
 use Rattle.heap_layout.specs.Zones.{block_start}
 use Rattle.object_model.specs.Heaps.{heap_state}
-use Rattle.object_model.specs.Objects.{HeapState, HasKind, size_of}
+use Rattle.object_model.specs.Objects.{HeapState, HasKind, size_of, blocks_for}
 use Rattle.object_model.specs.declared.shape.TheConstants.{MAX_MEDIUM_WORDS}
 use Rattle.object_model.specs.declared.collect.Collect.{Collect}
 use Rattle.object_model.specs.declared.collect.Collect.TheVariants.{Nursery, Full}
 use Rattle.object_model.specs.Graphs.{roots_of}
 use Rattle.sessions.specs.Plans.{Rules}
-use Rattle.object_model.specs.Births.{with_block}
+use Rattle.object_model.specs.Births.{with_block, MakesRun}
 use Rattle.object_model.specs.Changes.{WritesObject}
 use Rattle.sessions.specs.Fitting.{Fits, HasHole, HasSomeHole, class_for}
+use Rattle.large_space.specs.FreeRuns.{IsFirstRun}
 use Rattle.sessions.specs.Collecting.{IsCollection, first_collection}
 use Rattle.sessions.specs.Sessions.{Setting, Moment, MakesCollection, FirstTry, Places, Replies, Serves, birth_count, block_of_kind, refusal}
 use Rattle.plain_world.specs.Rows.{ChangesAt, mutator_state}
@@ -96,20 +97,36 @@ pub record IsPlaceIn (fill : Kind) (s : HeapState) (size : ℕ) (spot : Spot) : 
       → (spot.block < k) ⊎ ((spot.block ≡ k) × (spot.offset ≤ from))
   pub lowest_free : HasKind s spot.block kinds.Free → (k : ℕ) → HasKind s k kinds.Free → spot.block ≤ k
 
+-- a large object of this size is to be placed here: at the start of the lowest run of as many Free blocks as it needs
+pub record IsRunAt (s : HeapState) (size : ℕ) (spot : Spot) : Type 0 where
+  pub large : MAX_MEDIUM_WORDS < size
+  pub count : spot.run ≡ blocks_for size
+  pub start : spot.offset ≡ 0
+  pub run : IsFirstRun s spot.block spot.run
+
+-- an object of this size is to be placed here, a large one in a run of blocks
+abbrev pub IsPlace : Kind → HeapState → ℕ → Spot → Type 0
+IsPlace fill s size spot = MatchBool (nat_eq spot.run 0) (IsPlaceIn fill s size spot) (IsRunAt s size spot)
+
 -- the size fits, and this is its place
 pub record IsSpot (rules : Rules) (s : HeapState) (size : ℕ) (spot : Spot) : Type 0 where
   pub fits : Fits rules s size
-  pub place : IsPlaceIn rules.fill s size spot
+  pub place : IsPlace rules.fill s size spot
 
 -- The block of the spot gets its word if it is Free. All else is unchanged.
 abbrev pub TakesBlock : Kind → HeapState → Spot → ℕ → HeapState → Type 0
 TakesBlock fill old spot size new = MatchBool spot.free
     (new ≡ with_block old spot.block (block_of_kind fill (class_for fill size))) (new ≡ old)
 
--- the object is written at the spot, whose block gets its word first if it is Free
+-- The blocks of the spot become a run if it has one. Else its block gets its word if it is Free.
+abbrev pub TakesSpot : Kind → HeapState → Spot → ℕ → HeapState → Type 0
+TakesSpot fill old spot size new = MatchBool (nat_eq spot.run 0) (TakesBlock fill old spot size new)
+    (MakesRun old new spot.block spot.run)
+
+-- the object is written at the spot, whose blocks get their words first if they are Free
 pub record WritesAt (fill : Kind) (old : HeapState) (spot : Spot) (n : Name) (refs nums : ℕ) (new : HeapState) : Type 0 where
   pub between : HeapState
-  pub block : TakesBlock fill old spot (size_of refs nums) between
+  pub block : TakesSpot fill old spot (size_of refs nums) between
   pub object : WritesObject between new (block_start old.blocks spot.block + spot.offset) n refs nums
 
 -- one more object of the mutator, with its address in register d

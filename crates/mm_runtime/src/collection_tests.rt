@@ -7,7 +7,7 @@ ghost use Rattle.mm_runtime.specs.Managers.{IsManaged};
 use crate::tests::{create, run_traces};
 use ideal_heap::{Command, Ideal, Reply, valid};
 use plan_api::Plan;
-use plans::{NoGc, SemiSpace};
+use plans::{MarkSweep, NoGc, SemiSpace};
 use std::alloc::{AllocError, Global};
 use std::process::Abort;
 use std::test::Fail;
@@ -29,11 +29,23 @@ impl Random {
         }
     }
 
-    // A command. It may allocate a small object.
-    fn command(&mut self) -> Command {
+    // An object for register `d`: most are small, and some take up to 15 blocks.
+    fn object(&mut self, d: u32) -> Command {
+        let end = match self.below(16) {
+            0..9 => 16,
+            9..12 => 256,
+            12..15 => 4_096,
+            _ => 60_001,
+        };
+        create(d, self.below(end.min(1_025)), self.below(end))
+    }
+
+    // A command. It may allocate an object: one of any size, or a small one.
+    fn command(&mut self, any_size: bool) -> Command {
         let (d, s, g) = (self.below(16), self.below(16), self.below(16));
         let (i, n) = (self.below(4), u64::from(self.below(1_024)));
         match self.below(32) {
+            0..8 if any_size => self.object(d),
             0..8 => create(d, self.below(4), self.below(128)),
             8..12 => Command::Put { s, i, v: d },
             12..16 => Command::Get { d, s, i },
@@ -56,11 +68,16 @@ impl Random {
     }
 }
 
-fn random_commands(alloc: Global, seed: u64, count: usize) -> Result<Vec<Command>, AllocError> {
+fn random_commands(
+    alloc: Global,
+    seed: u64,
+    count: usize,
+    any_size: bool,
+) -> Result<Vec<Command>, AllocError> {
     let mut random = Random(seed);
     let mut commands = Vec::new(alloc);
     for _ in 0..count {
-        commands.push(random.command())?;
+        commands.push(random.command(any_size))?;
     }
     Ok(commands)
 }
@@ -141,7 +158,7 @@ fn tell<P: Plan, R: Abort + Threads + Sync>(
 fn small_heaps(rt: HostRuntime) -> Result<(), Fail> {
     let alloc = rt.alloc();
     for (seed, blocks) in [(1, 7), (2, 8)] {
-        let commands = random_commands(alloc, seed, 100_000)?;
+        let commands = random_commands(alloc, seed, 100_000, false)?;
         let told = tell::<SemiSpace, HostRuntime>(&rt, alloc, blocks, &commands)?;
         assert!(rt; told.collections >= 100, "{seed}: {}", told.collections);
         assert!(rt; !told.refused.is_empty());
@@ -149,25 +166,46 @@ fn small_heaps(rt: HostRuntime) -> Result<(), Fail> {
     Ok(())
 }
 
-// Where nothing is refused, replies are the same under both plans.
+// Objects of 3 to 61,027 words. Under NoGC a collection is made for each object that is refused.
+#[test]
+fn objects_of_every_size(rt: HostRuntime) -> Result<(), Fail> {
+    let alloc = rt.alloc();
+    let commands = random_commands(alloc, 3, 20_000, true)?;
+    let told = [
+        tell::<NoGc, HostRuntime>(&rt, alloc, 32, &commands)?,
+        tell::<SemiSpace, HostRuntime>(&rt, alloc, 32, &commands)?,
+        tell::<MarkSweep, HostRuntime>(&rt, alloc, 32, &commands)?,
+    ];
+    for told in &told {
+        assert!(rt; !told.refused.is_empty());
+        assert!(rt; told.collections >= 200, "{}", told.collections);
+    }
+    assert_eq!(rt; told[0].collections, told[0].refused.len() as u64);
+    Ok(())
+}
+
+// Where nothing is refused, replies are the same under all plans.
 #[test]
 fn plans_agree(rt: HostRuntime) -> Result<(), Fail> {
     let alloc = rt.alloc();
     for seed in [5, 0x9e37_79b9_7f4a_7c15] {
-        let commands = random_commands(alloc, seed, 100_000)?;
+        let commands = random_commands(alloc, seed, 100_000, false)?;
         let first = tell::<NoGc, HostRuntime>(&rt, alloc, 700, &commands)?;
         let second = tell::<SemiSpace, HostRuntime>(&rt, alloc, 12, &commands)?;
-        assert_eq!(rt; (first.refused.len(), second.refused.len()), (0, 0));
+        let third = tell::<MarkSweep, HostRuntime>(&rt, alloc, 24, &commands)?;
         assert!(rt; first.replies == second.replies);
-        assert_eq!(rt; first.collections, 0);
+        assert!(rt; first.replies == third.replies);
+        assert_eq!(rt; (first.refused.len(), first.collections), (0, 0));
         assert!(rt; second.collections >= 100, "{seed}: {}", second.collections);
+        assert!(rt; third.collections >= 20, "{seed}: {}", third.collections);
     }
     Ok(())
 }
 
 // Commands, a letter each: a digit allocates half a block into that register, `a` to `h` clear
 // registers 0 to 7, `p` and `u` pin and unpin register 0, `.` is `gc`, `+` allocates a word more
-// than half a block, and anything else the smallest object.
+// than half a block into register 0, `w` a word more than a block into register 1, `-` the smallest
+// object, and anything else the largest one, which takes 15 blocks.
 fn commands_of(alloc: Global, letters: &[u8]) -> Result<Vec<Command>, AllocError> {
     let mut commands = Vec::new(alloc);
     for letter in letters {
@@ -180,31 +218,40 @@ fn commands_of(alloc: Global, letters: &[u8]) -> Result<Vec<Command>, AllocError
             b'u' => Command::Unpin { s: 0 },
             b'.' => Command::Gc,
             b'+' => create(0, 0, 2046),
-            _ => create(0, 0, 0),
+            b'w' => create(1, 0, 4094),
+            b'-' => create(0, 0, 0),
+            _ => create(0, 1024, 60_000),
         })?;
     }
     Ok(commands)
 }
 
-// Which commands are told `full`, and how many collections are made, under NoGC and under
-// SemiSpace, worked out by hand. SemiSpace fills two of 4 blocks. A pinned object stays, and its
-// block is not filled any more. No plan has room for more than half a block.
+// Which commands are told `full`, and how many collections are made, under NoGC, SemiSpace and
+// MarkSweep, worked out by hand. SemiSpace fills two of 4 blocks. A pinned object stays, and its
+// block is not filled any more. A large object takes a run of blocks, for which SemiSpace holds
+// back as many as small objects fill. In the last row there are two Free blocks apart, then a dead
+// run between them.
 #[test]
 fn counts(rt: HostRuntime) -> Result<(), Fail> {
     let alloc = rt.alloc();
-    let table: [(&[u8], &[usize], u64, &[usize], u64); 3] = [
-        (b"01234.a45bc56", &[12], 2, &[4, 8], 5),
-        (b"0p123bcd123u3", &[], 0, &[10], 3),
-        (b"+-", &[0], 1, &[0], 1),
+    let table: [(u32, &[u8], [(&[usize], u64); 3]); 8] = [
+        (4, b"01234.a45bc56", [(&[12], 2), (&[4, 8], 5), (&[], 2)]),
+        (4, b"0p123bcd123u3", [(&[], 0), (&[10], 3), (&[], 0)]),
+        (4, b"++++-", [(&[4], 1), (&[], 1), (&[], 1)]),
+        (16, b"LL", [(&[1], 1), (&[1], 1), (&[1], 1)]),
+        (15, b"LaL", [(&[2], 1), (&[], 1), (&[], 1)]),
+        (14, b"L", [(&[0], 1), (&[0], 1), (&[0], 1)]),
+        (5, b"0123w+", [(&[], 0), (&[4], 1), (&[], 0)]),
+        (5, b"+w+.wbw", [(&[4, 6], 3), (&[4], 3), (&[4], 3)]),
     ];
-    for (letters, refused, collections, refused_by_copies, collections_by_copies) in table {
+    for (blocks, letters, [by_nogc, by_semispace, by_marksweep]) in table {
         let commands = commands_of(alloc, letters)?;
-        let told = tell::<NoGc, HostRuntime>(&rt, alloc, 4, &commands)?;
-        assert_eq!(rt; told.refused.as_slice(), refused, "{commands:?}");
-        assert_eq!(rt; told.collections, collections, "{commands:?}");
-        let told = tell::<SemiSpace, HostRuntime>(&rt, alloc, 4, &commands)?;
-        assert_eq!(rt; told.refused.as_slice(), refused_by_copies, "{commands:?}");
-        assert_eq!(rt; told.collections, collections_by_copies, "{commands:?}");
+        let told = tell::<NoGc, HostRuntime>(&rt, alloc, blocks, &commands)?;
+        assert_eq!(rt; (told.refused.as_slice(), told.collections), by_nogc);
+        let told = tell::<SemiSpace, HostRuntime>(&rt, alloc, blocks, &commands)?;
+        assert_eq!(rt; (told.refused.as_slice(), told.collections), by_semispace);
+        let told = tell::<MarkSweep, HostRuntime>(&rt, alloc, blocks, &commands)?;
+        assert_eq!(rt; (told.refused.as_slice(), told.collections), by_marksweep);
     }
     Ok(())
 }

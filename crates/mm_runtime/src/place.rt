@@ -1,24 +1,30 @@
 //! The second step of a stop: objects that no mutator could allocate.
 
-ghost use Rattle.std.specs.Prelude.{◌≡◌, ◌+◌, ◌≤◌, ◌<◌, ◌^◌, ℕ, length, slice_get, vec_capacity, IfSome, IfNone, IfOk};
+ghost use Rattle.std.specs.Prelude.{◌≡◌, ◌≢◌, ◌+◌, ◌≤◌, ◌<◌, ◌^◌, ℕ, length, slice_get, vec_capacity, IfSome, IfNone, IfOk};
 ghost use Rattle.heap_layout.specs.Zones.{row_words};
+ghost use Rattle.heap_layout.specs.declared.block.Kind.{Kind};
 ghost use Rattle.ideal_heap.specs.declared.reply.Reply.TheVariants as reply_is;
 ghost use Rattle.object_model.specs.Heaps.{heap_state};
-ghost use Rattle.object_model.specs.Objects.{size_of, state_of};
-ghost use Rattle.sessions.specs.Fitting.{Fits};
+ghost use Rattle.object_model.specs.Objects.{HeapState, size_of, state_of};
+ghost use Rattle.object_model.specs.Births.{MakesRun};
+ghost use Rattle.plan_api.specs.Counting.{session_counts};
+ghost use Rattle.sessions.specs.Fitting.{Fits, IsFreeRun, counts_of};
+ghost use Rattle.sessions.specs.Plans.{Rules};
 ghost use Rattle.sessions.specs.Sessions.{Setting, Moment, Places, Serves};
 ghost use Rattle.mutator_calls.specs.declared.need.Mutator.{Mutator};
-ghost use Rattle.plain_world.specs.Notes.{AreNotes};
+ghost use Rattle.plain_world.specs.Notes.{AreNotes, FillsTailsOrCells, PlacesObject, PlacesRun};
 ghost use Rattle.mm_runtime.specs.Managers.{IsAtStop, IsInOrder, IsManaged, StandsAt};
 ghost use Rattle.mm_runtime.specs.declared.progress.Progress.{Progress};
-ghost use Rattle.mm_runtime.specs.Stops.{IsSpot, NeedsNext, RepliesAt, RepliesTo, TakesBlock, BearsAt, PutsAt, Refuses, MakesRoom, Settles, MatchPlaced};
+ghost use Rattle.mm_runtime.specs.Stops.{IsSpot, IsPlace, NeedsNext, RepliesAt, RepliesTo, TakesBlock, TakesSpot, BearsAt, PutsAt, Refuses, MakesRoom, Settles, MatchPlaced};
 
 use crate::manager::Manager;
 use crate::progress::Progress;
 use heap_layout::BlockWord;
 use ideal_heap::{MAX_NUMS, MAX_REFS, Name, REGISTERS, Reply};
+use large_space::{blocks_for, find_run, place_large};
 use mutator_calls::{Mutator, Need};
 use object_model::{Collect, Heap, MAX_MEDIUM_WORDS, Row, Shape, size_words};
+use plain_world::BlockNotes;
 use plan_api::Plan;
 use pools::Pool;
 use std::alloc::AllocError;
@@ -34,12 +40,14 @@ pub enum Placed {
     HeapFull { size: u32 },
 }
 
-/// A place for an object: a block, the offset in it in words, and whether the block is Free.
+/// A place for an object: a block, the offset in it in words, whether the block is Free, and the
+/// number of Free blocks that a large object takes, else 0.
 #[derive(Clone, Copy, Debug)]
 pub(crate) struct Spot {
     pub(crate) block: u32,
     pub(crate) offset: u32,
     pub(crate) free: bool,
+    pub(crate) run: u32,
 }
 
 /// The shape of the object that is needed.
@@ -73,6 +81,52 @@ fn take_block<P: Plan>(row: Row, spot: &Spot, size: u32) -> Row
     };
     row.set_block(spot.block, &word);
     row
+}
+
+/// Makes `count` Free blocks, from `block` on, the run of a large object.
+fn take_run(row: Row, block: u32, count: u32) -> Row
+    requires extent { length row.words.items ≡ row_words (state_of row).blocks }
+    requires least { 1 ≤ count }
+    requires most { count ≤ 15 }
+    requires free { IsFreeRun (state_of row) block count }
+    ensures { MakesRun (state_of row) (state_of result) block count }
+{
+    let mut row = row;
+    place_large(&mut row.words, &row.layout, block, count);
+    row
+}
+
+/// Gives the blocks of a spot their words, where they are Free.
+fn take_spot<P: Plan>(row: Row, spot: &Spot, size: u32) -> Row
+    requires plan { IsManaged P.rules }
+    requires extent { length row.words.items ≡ row_words (state_of row).blocks }
+    requires least { 3 ≤ size }
+    requires most { size ≤ size_of MAX_REFS MAX_NUMS }
+    requires place { IsPlace P.rules.fill (state_of row) size spot.now }
+    ensures { TakesSpot P.rules.fill (state_of row) spot.now size (state_of result) }
+{
+    if spot.run == 0 {
+        return take_block::<P>(row, spot, size);
+    }
+    take_run(row, spot.block, spot.run)
+}
+
+/// Notes that an object was placed at the spot. The heap is the one with the object.
+fn note_placed(notes: &mut BlockNotes, heap: &Heap, spot: &Spot)
+    ensures small { spot.now.run ≡ 0 → (rules : Rules) (old new : HeapState) (a refs nums : ℕ)
+        → FillsTailsOrCells rules.fill → AreNotes rules.fill old notes.old
+        → PlacesObject rules old new a refs nums spot.now.block spot.now.free
+        → AreNotes rules.fill new notes.new }
+    ensures large { spot.now.run ≢ 0 → (fill : Kind) (old : HeapState) (a refs nums : ℕ)
+        → FillsTailsOrCells fill → AreNotes fill old notes.old
+        → PlacesRun old (heap_state heap.now) a refs nums spot.now.block
+        → AreNotes fill (heap_state heap.now) notes.new }
+{
+    if spot.run == 0 {
+        notes.placed_in(spot.block, spot.free);
+        return;
+    }
+    notes.placed_run(heap);
 }
 
 /// Counts an object of mutator `m` and stores its address into register `d`. Returns its name.
@@ -109,24 +163,27 @@ fn reply_to(progress: &mut Vec<Progress>, m: u32, reply: Reply)
 
 impl<P: Plan> Manager<P> {
     /// Where an object of `size` words is to be placed: in the first hole with room of the lowest
-    /// block that has one, else at the start of the lowest Free block, if one may be granted.
+    /// block that has one, else at the start of the lowest Free block, if one may be granted. If it
+    /// is large, in the lowest run of Free blocks.
     fn find(&mut self, size: u32) -> Option<Spot>
         requires plan { IsManaged P.rules }
         requires notes { AreNotes P.rules.fill (heap_state self.old.heap) self.old.notes }
         requires least { 3 ≤ size }
+        requires most { size ≤ size_of MAX_REFS MAX_NUMS }
         ensures notes { AreNotes P.rules.fill (heap_state self.new.heap) self.new.notes }
         ensures rest { self.new ≡ record self.old { notes = self.new.notes } }
         ensures spot { IfSome result (IsSpot P.rules (heap_state self.old.heap) size) }
         ensures none { IfNone result (Fits P.rules (heap_state self.old.heap) size → ⊥) }
     {
         if size > MAX_MEDIUM_WORDS {
-            return None;
+            return self.find_large(size);
         }
         if let Some((block, offset)) = self.notes.lowest_hole(&self.heap, P::alloc_kind(), size) {
             return Some(Spot {
                 block,
                 offset,
                 free: false,
+                run: 0,
             });
         }
         let reserve = P::reserve();
@@ -138,6 +195,30 @@ impl<P: Plan> Manager<P> {
             block,
             offset: 0,
             free: true,
+            run: 0,
+        })
+    }
+
+    /// Where a large object of `size` words is to be placed: at the start of the lowest run of Free
+    /// blocks, if it may be granted. Reads block words alone.
+    fn find_large(&self, size: u32) -> Option<Spot>
+        requires counts { session_counts self.now.notes.counts
+            ≡ counts_of (heap_state self.now.heap) }
+        requires large { MAX_MEDIUM_WORDS < size }
+        requires most { size ≤ size_of MAX_REFS MAX_NUMS }
+        ensures spot { IfSome result (IsSpot P.rules (heap_state self.now.heap) size) }
+        ensures none { IfNone result (Fits P.rules (heap_state self.now.heap) size → ⊥) }
+    {
+        let count = blocks_for(size);
+        if !self.notes.counts().is_run_grantable(P::reserve(), count) {
+            return None;
+        }
+        let block = find_run(self.heap.words(), self.heap.layout(), count)?;
+        Some(Spot {
+            block,
+            offset: 0,
+            free: true,
+            run: count,
         })
     }
 
@@ -161,13 +242,13 @@ impl<P: Plan> Manager<P> {
             plan,
         } = self;
         let shape = shape_of(need);
-        let mut row = take_block::<P>(heap.into_row(), &spot, size_words(&shape));
+        let mut row = take_spot::<P>(heap.into_row(), &spot, size_words(&shape));
         let address = row.layout.address(spot.block, spot.offset);
         let name = count_birth(&mut mutators, m, need.register, address);
         row.write_object(address, &name, &shape);
-        notes.placed_in(spot.block, spot.free);
         reply_to(&mut progress, m, Reply::New(name));
         let heap = Heap::from_row(row);
+        note_placed(&mut notes, &heap, &spot);
         let manager = Manager {
             alloc,
             heap,

@@ -6,3 +6,6 @@ tell-requires-clause-plan g c κs = managed.nogc
 
 pub tell-requires-in-loop-seed-clause-plan : goal.tell-requires-in-loop-seed-clause-plan
 tell-requires-in-loop-seed-clause-plan g c κs = managed.semispace
+
+pub tell-requires-in-loop-seed-2-clause-plan : goal.tell-requires-in-loop-seed-2-clause-plan
+tell-requires-in-loop-seed-2-clause-plan g c κs = managed.marksweep

@@ -10,8 +10,11 @@ returns-clause-semispace c = managed.semispace
 pub returns-clause-young_tails : goal.returns-clause-young_tails
 returns-clause-young_tails c = managed.young-tails
 
-pub returns-clause-cells : goal.returns-clause-cells
-returns-clause-cells c = managed.cells
+pub returns-clause-marksweep : goal.returns-clause-marksweep
+returns-clause-marksweep c = managed.marksweep
+
+pub returns-clause-lines : goal.returns-clause-lines
+returns-clause-lines c = managed.lines
 
 pub returns-clause-young : goal.returns-clause-young
 returns-clause-young c = managed.young

@@ -2,10 +2,11 @@ use Rattle.std.proofs.Common.{ℕ, sym, subst₂, inl}
 use Rattle.heap_layout.specs.Blocks.{IsValid}
 use Rattle.heap_layout.specs.declared.block.Kind.{Kind}
 use Rattle.sessions.specs.Sessions.{block_of_kind}
-use Rattle.mm_runtime.proofs.Rooms.{valid-word}
+use Rattle.sessions.proofs.HoleRooms.{valid-word}
+use Rattle.mm_runtime.proofs.Rooms.{holed}
 use Rattle.mm_runtime.proofs.place.take_block.Goals as goal
 
 pub set_block-requires-clause-valid : goal.set_block-requires-clause-valid
 set_block-requires-clause-valid g c =
     subst₂ (λ (f : Kind) (class : ℕ). IsValid (block_of_kind f class)) (sym c.alloc_kind.ensures) (sym c.class_for.ensures)
-    (valid-word g.P.Plan.rules.fill c.args.size (inl c.requires.plan.fill) c.requires.most)
+    (valid-word g.P.Plan.rules.fill c.args.size (holed g.P.Plan.rules.fill c.requires.plan.fill) c.requires.most)

@@ -21,6 +21,11 @@ size_words-size-requires-clause-nums g c =
     let same : c.shape_of.result.nums ≡ c.args.need.nums = c.shape_of.ensures.nums in
     omega arith
 
+pub find-requires-clause-most : goal.find-requires-clause-most
+find-requires-clause-most g c =
+    putting.most-words g.P.Plan.rules 0 c.args.self c.args.m c.args.need c.requires.stop c.requires.next c.size_words-size.result c.shape_of.result.refs c.shape_of.result.nums
+    c.size_words-size.ensures c.shape_of.ensures.refs c.shape_of.ensures.nums
+
 pub place-manager-requires-clause-stop : goal.place-manager-requires-clause-stop
 place-manager-requires-clause-stop g c =
     more-stop g.P.Plan.rules 1 c.find.new.self (noted.stop-more g.P.Plan.rules c.args.self c.find.new.self c.find.ensures.rest c.find.ensures.notes 0 c.requires.stop)
@@ -39,11 +44,8 @@ make_room-requires-clause-stop g c κs within = noted.stop-found g.P.Plan.rules 
 
 pub make_room-requires-clause-most : goal.make_room-requires-clause-most
 make_room-requires-clause-most g c κs within =
-    let need = putting.the-need g.P.Plan.rules 0 c.args.self c.args.m c.args.need c.requires.stop c.requires.next in
-    let refs : c.args.need.refs ≤ 1024 = need.valid.1 in
-    let nums : c.args.need.nums ≤ 60000 = need.valid.2 in
-    let is : c.size_words-size.result ≡ size_of c.args.need.refs c.args.need.nums = (c.size_words-size.ensures ∙ ap (λ r. size_of r c.shape_of.result.nums) c.shape_of.ensures.refs ∙ ap (λ q. size_of c.args.need.refs q) c.shape_of.ensures.nums) in
-    omega arith
+    putting.most-words g.P.Plan.rules 0 c.args.self c.args.m c.args.need c.requires.stop c.requires.next c.size_words-size.result c.shape_of.result.refs c.shape_of.result.nums
+    c.size_words-size.ensures c.shape_of.ensures.refs c.shape_of.ensures.nums
 
 pub settle-requires-clause-stop : goal.settle-requires-clause-stop
 settle-requires-clause-stop g c =

@@ -1,7 +1,7 @@
 use Rattle.std.proofs.Common.{◌≡◌, refl, sym, subst, arith, inl, ◌≤◌}
 use Rattle.object_model.specs.Objects.{HeapState, state_of}
+use Rattle.object_model.specs.Changes.{WritesObject}
 use Rattle.object_model.specs.Heaps.{heap_state}
-use Rattle.plain_world.specs.Notes.{AreNotes}
 use Rattle.mm_runtime.specs.Stops.{WritesAt}
 use Rattle.mm_runtime.proofs.Putting as putting
 use Rattle.mm_runtime.proofs.PutCalls as calls
@@ -13,6 +13,49 @@ size_words-requires-clause-refs g c =
     let most : c.args.need.now.refs ≤ 1024 = need.valid.1 in
     let same : c.shape_of-shape.result.refs ≡ c.args.need.now.refs = c.shape_of-shape.ensures.refs in
     omega arith
+
+pub size_words-requires-clause-nums : goal.size_words-requires-clause-nums
+size_words-requires-clause-nums g c =
+    let need = putting.the-need g.P.Plan.rules 2 c.args.self c.args.m c.args.need.now c.requires.stop c.requires.next in
+    let most : c.args.need.now.nums ≤ 60000 = need.valid.2 in
+    let same : c.shape_of-shape.result.nums ≡ c.args.need.now.nums = c.shape_of-shape.ensures.nums in
+    omega arith
+
+pub take_spot-row-requires-clause-most : goal.take_spot-row-requires-clause-most
+take_spot-row-requires-clause-most g c =
+    putting.most-words g.P.Plan.rules 2 c.args.self c.args.m c.args.need.now c.requires.stop c.requires.next c.size_words.result c.shape_of-shape.result.refs c.shape_of-shape.result.nums
+    c.size_words.ensures c.shape_of-shape.ensures.refs c.shape_of-shape.ensures.nums
+
+pub take_spot-row-requires-clause-place : goal.take_spot-row-requires-clause-place
+take_spot-row-requires-clause-place g c =
+    putting.place-of g.P.Plan.rules.fill (heap_state c.args.self.heap) (state_of c.into_row.result) c.args.spot c.size_words.result c.shape_of-shape.result.refs c.shape_of-shape.result.nums
+    c.args.need.now.refs c.args.need.now.nums c.into_row.ensures.state c.size_words.ensures c.shape_of-shape.ensures.refs c.shape_of-shape.ensures.nums c.requires.spot.place
+
+pub address-address-requires-clause-block : goal.address-address-requires-clause-block
+address-address-requires-clause-block g c =
+    calls.inside g.P.Plan.rules c.args.self c.args.m c.args.need.now c.args.spot c.requires.plan.fill c.requires.stop c.requires.next c.requires.spot
+    (state_of c.into_row.result) (state_of c.take_spot-row.result) c.size_words.result c.shape_of-shape.result.refs c.shape_of-shape.result.nums c.into_row.ensures.state c.size_words.ensures
+    c.shape_of-shape.ensures.refs c.shape_of-shape.ensures.nums c.take_spot-row.ensures
+
+pub address-address-requires-clause-word : goal.address-address-requires-clause-word
+address-address-requires-clause-word g c =
+    calls.below g.P.Plan.rules c.args.self c.args.m c.args.need.now c.args.spot c.requires.plan.fill c.requires.stop c.requires.next c.requires.spot
+    (state_of c.into_row.result) (state_of c.take_spot-row.result) c.size_words.result c.shape_of-shape.result.refs c.shape_of-shape.result.nums c.into_row.ensures.state c.size_words.ensures
+    c.shape_of-shape.ensures.refs c.shape_of-shape.ensures.nums c.take_spot-row.ensures
+
+pub write_object-requires-clause-nums : goal.write_object-requires-clause-nums
+write_object-requires-clause-nums g c =
+    let need = putting.the-need g.P.Plan.rules 2 c.args.self c.args.m c.args.need.now c.requires.stop c.requires.next in
+    let most : c.args.need.now.nums ≤ 60000 = need.valid.2 in
+    let same : c.shape_of-shape.result.nums ≡ c.args.need.now.nums = c.shape_of-shape.ensures.nums in
+    omega arith
+
+pub write_object-requires-clause-room : goal.write_object-requires-clause-room
+write_object-requires-clause-room g c =
+    calls.room g.P.Plan.rules c.args.self c.args.m c.args.need.now c.args.spot c.requires.plan.fill c.requires.stop c.requires.next c.requires.spot
+    (state_of c.into_row.result) (state_of c.take_spot-row.result) c.size_words.result c.shape_of-shape.result.refs c.shape_of-shape.result.nums c.into_row.ensures.state c.size_words.ensures
+    c.shape_of-shape.ensures.refs c.shape_of-shape.ensures.nums c.take_spot-row.ensures
+    c.address-address.result c.address-address.ensures
 
 pub count_birth-name-requires-clause-most : goal.count_birth-name-requires-clause-most
 count_birth-name-requires-clause-most g c = putting.most-users g.P.Plan.rules 2 c.args.self c.args.m c.args.need.now c.requires.stop c.requires.next
@@ -28,15 +71,15 @@ count_birth-name-requires-clause-births g c = putting.few-births g.P.Plan.rules 
 
 pub write_object-requires-clause-extent : goal.write_object-requires-clause-extent
 write_object-requires-clause-extent g c =
-    calls.extent g.P.Plan.rules c.args.self c.args.m c.args.need.now c.args.spot (inl c.requires.plan.fill) c.requires.stop c.requires.next c.requires.spot
-    (state_of c.into_row.result) (state_of c.take_block-row.result) c.size_words.result c.shape_of-shape.result.refs c.shape_of-shape.result.nums c.into_row.ensures.state c.size_words.ensures
-    c.shape_of-shape.ensures.refs c.shape_of-shape.ensures.nums c.take_block-row.ensures
+    calls.extent g.P.Plan.rules c.args.self c.args.m c.args.need.now c.args.spot c.requires.plan.fill c.requires.stop c.requires.next c.requires.spot
+    (state_of c.into_row.result) (state_of c.take_spot-row.result) c.size_words.result c.shape_of-shape.result.refs c.shape_of-shape.result.nums c.into_row.ensures.state c.size_words.ensures
+    c.shape_of-shape.ensures.refs c.shape_of-shape.ensures.nums c.take_spot-row.ensures
 
 pub write_object-requires-clause-address : goal.write_object-requires-clause-address
 write_object-requires-clause-address g c =
-    calls.address g.P.Plan.rules c.args.self c.args.m c.args.need.now c.args.spot (inl c.requires.plan.fill) c.requires.stop c.requires.next c.requires.spot
-    (state_of c.into_row.result) (state_of c.take_block-row.result) c.size_words.result c.shape_of-shape.result.refs c.shape_of-shape.result.nums c.into_row.ensures.state c.size_words.ensures
-    c.shape_of-shape.ensures.refs c.shape_of-shape.ensures.nums c.take_block-row.ensures
+    calls.address g.P.Plan.rules c.args.self c.args.m c.args.need.now c.args.spot c.requires.plan.fill c.requires.stop c.requires.next c.requires.spot
+    (state_of c.into_row.result) (state_of c.take_spot-row.result) c.size_words.result c.shape_of-shape.result.refs c.shape_of-shape.result.nums c.into_row.ensures.state c.size_words.ensures
+    c.shape_of-shape.ensures.refs c.shape_of-shape.ensures.nums c.take_spot-row.ensures
     c.address-address.result c.address-address.ensures
 
 pub write_object-requires-clause-refs : goal.write_object-requires-clause-refs
@@ -48,9 +91,9 @@ write_object-requires-clause-refs g c =
 
 pub write_object-requires-clause-name : goal.write_object-requires-clause-name
 write_object-requires-clause-name g c =
-    calls.named g.P.Plan.rules c.args.self c.args.m c.args.need.now c.args.spot (inl c.requires.plan.fill) c.requires.stop c.requires.next c.requires.spot
-    (state_of c.into_row.result) (state_of c.take_block-row.result) c.size_words.result c.shape_of-shape.result.refs c.shape_of-shape.result.nums c.into_row.ensures.state c.size_words.ensures
-    c.shape_of-shape.ensures.refs c.shape_of-shape.ensures.nums c.take_block-row.ensures
+    calls.named g.P.Plan.rules c.args.self c.args.m c.args.need.now c.args.spot c.requires.plan.fill c.requires.stop c.requires.next c.requires.spot
+    (state_of c.into_row.result) (state_of c.take_spot-row.result) c.size_words.result c.shape_of-shape.result.refs c.shape_of-shape.result.nums c.into_row.ensures.state c.size_words.ensures
+    c.shape_of-shape.ensures.refs c.shape_of-shape.ensures.nums c.take_spot-row.ensures
     c.count_birth-name.new.mutators.items c.address-address.result c.count_birth-name.result c.address-address.ensures c.count_birth-name.ensures
 
 pub reply_to-requires-clause-most : goal.reply_to-requires-clause-most
@@ -61,29 +104,30 @@ reply_to-requires-clause-room g c = putting.room-left g.P.Plan.rules 2 c.args.se
 
 pub from_row-heap-requires : goal.from_row-heap-requires
 from_row-heap-requires g c =
-    calls.lawful g.P.Plan.rules c.args.self c.args.m c.args.need.now c.args.spot (inl c.requires.plan.fill) c.requires.stop c.requires.next c.requires.spot
-    (state_of c.into_row.result) (state_of c.take_block-row.result) c.size_words.result c.shape_of-shape.result.refs c.shape_of-shape.result.nums c.into_row.ensures.state c.size_words.ensures
-    c.shape_of-shape.ensures.refs c.shape_of-shape.ensures.nums c.take_block-row.ensures
+    calls.lawful g.P.Plan.rules c.args.self c.args.m c.args.need.now c.args.spot c.requires.plan.fill c.requires.stop c.requires.next c.requires.spot
+    (state_of c.into_row.result) (state_of c.take_spot-row.result) c.size_words.result c.shape_of-shape.result.refs c.shape_of-shape.result.nums c.into_row.ensures.state c.size_words.ensures
+    c.shape_of-shape.ensures.refs c.shape_of-shape.ensures.nums c.take_spot-row.ensures
     c.count_birth-name.new.mutators.items c.address-address.result c.count_birth-name.result c.address-address.ensures c.count_birth-name.ensures (state_of c.write_object.new.self) c.write_object.ensures.written
 
 pub returns : goal.returns
 returns g c = record {
   heap = subst (λ (x : HeapState). WritesAt g.P.Plan.rules.fill (heap_state c.args.self.heap) c.args.spot c.count_birth-name.result c.args.need.now.refs c.args.need.now.nums x) (sym c.from_row-heap.ensures)
-      (calls.writes-at g.P.Plan.rules c.args.self c.args.m c.args.need.now c.args.spot (inl c.requires.plan.fill) c.requires.stop c.requires.next c.requires.spot
-      (state_of c.into_row.result) (state_of c.take_block-row.result) c.size_words.result c.shape_of-shape.result.refs c.shape_of-shape.result.nums c.into_row.ensures.state c.size_words.ensures
-      c.shape_of-shape.ensures.refs c.shape_of-shape.ensures.nums c.take_block-row.ensures
+      (calls.writes-at g.P.Plan.rules c.args.self c.args.m c.args.need.now c.args.spot c.requires.plan.fill c.requires.stop c.requires.next c.requires.spot
+      (state_of c.into_row.result) (state_of c.take_spot-row.result) c.size_words.result c.shape_of-shape.result.refs c.shape_of-shape.result.nums c.into_row.ensures.state c.size_words.ensures
+      c.shape_of-shape.ensures.refs c.shape_of-shape.ensures.nums c.take_spot-row.ensures
       c.count_birth-name.new.mutators.items c.address-address.result c.count_birth-name.result c.address-address.ensures c.count_birth-name.ensures (state_of c.write_object.new.self) c.write_object.ensures.written);
-  births = calls.bears-at g.P.Plan.rules c.args.self c.args.m c.args.need.now c.args.spot (inl c.requires.plan.fill) c.requires.stop c.requires.next c.requires.spot
-      (state_of c.into_row.result) (state_of c.take_block-row.result) c.size_words.result c.shape_of-shape.result.refs c.shape_of-shape.result.nums c.into_row.ensures.state c.size_words.ensures
-      c.shape_of-shape.ensures.refs c.shape_of-shape.ensures.nums c.take_block-row.ensures
+  births = calls.bears-at g.P.Plan.rules c.args.self c.args.m c.args.need.now c.args.spot c.requires.plan.fill c.requires.stop c.requires.next c.requires.spot
+      (state_of c.into_row.result) (state_of c.take_spot-row.result) c.size_words.result c.shape_of-shape.result.refs c.shape_of-shape.result.nums c.into_row.ensures.state c.size_words.ensures
+      c.shape_of-shape.ensures.refs c.shape_of-shape.ensures.nums c.take_spot-row.ensures
       c.count_birth-name.new.mutators.items c.address-address.result c.count_birth-name.result c.address-address.ensures c.count_birth-name.ensures;
   replies = c.reply_to.ensures;
-  notes = subst (λ (x : HeapState). AreNotes g.P.Plan.rules.fill x c.placed_in.new.self) (sym c.from_row-heap.ensures)
-      (calls.notes g.P.Plan.rules c.args.self c.args.m c.args.need.now c.args.spot (inl c.requires.plan.fill) c.requires.stop c.requires.next c.requires.spot
-      (state_of c.into_row.result) (state_of c.take_block-row.result) c.size_words.result c.shape_of-shape.result.refs c.shape_of-shape.result.nums c.into_row.ensures.state c.size_words.ensures
-      c.shape_of-shape.ensures.refs c.shape_of-shape.ensures.nums c.take_block-row.ensures
-      c.count_birth-name.new.mutators.items c.address-address.result c.count_birth-name.result c.address-address.ensures c.count_birth-name.ensures (state_of c.write_object.new.self) c.write_object.ensures.written
-      c.requires.plan.fill c.args.self.notes c.placed_in.new.self c.requires.stop.order.notes c.placed_in.ensures);
+  notes = calls.notes g.P.Plan.rules c.args.self c.args.m c.args.need.now c.args.spot c.requires.plan.fill c.requires.stop c.requires.next c.requires.spot
+      (state_of c.into_row.result) (state_of c.take_spot-row.result) c.size_words.result c.shape_of-shape.result.refs c.shape_of-shape.result.nums c.into_row.ensures.state c.size_words.ensures
+      c.shape_of-shape.ensures.refs c.shape_of-shape.ensures.nums c.take_spot-row.ensures
+      c.count_birth-name.new.mutators.items c.address-address.result c.count_birth-name.result c.address-address.ensures c.count_birth-name.ensures (heap_state c.from_row-heap.result)
+      (subst (λ (x : HeapState). WritesObject (state_of c.take_spot-row.result) x c.address-address.result c.count_birth-name.result c.shape_of-shape.result.refs c.shape_of-shape.result.nums)
+      (sym c.from_row-heap.ensures) c.write_object.ensures.written)
+      c.args.self.notes c.note_placed.new.notes c.requires.stop.order.notes c.note_placed.ensures.small c.note_placed.ensures.large;
   nursery = refl;
   full = refl;
 }

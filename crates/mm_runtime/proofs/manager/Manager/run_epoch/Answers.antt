@@ -22,8 +22,8 @@ begin_with-requires-clause-users g c =
     may-use (heap_state c.args.self.heap) (map mutator_state c.args.self.mutators.items) (ideal_at ready.now)
     (standing.stands-represents g.P.Plan.rules c.args.self ready.setting ready.now ready.closes.stands)
 
-pub begin_with-requires-clause-tails : goal.begin_with-requires-clause-tails
-begin_with-requires-clause-tails g c = c.requires.plan.fill
+pub begin_with-requires-clause-fills : goal.begin_with-requires-clause-fills
+begin_with-requires-clause-fills g c = c.requires.plan.fill
 
 pub begin_with-requires-clause-remembers : goal.begin_with-requires-clause-remembers
 begin_with-requires-clause-remembers g c =

@@ -19,6 +19,11 @@ size_words-size-requires-clause-nums g c =
     let same : c.shape_of.result.nums ≡ c.args.need.now.nums = c.shape_of.ensures.nums in
     omega arith
 
+pub find-requires-clause-most : goal.find-requires-clause-most
+find-requires-clause-most g c =
+    putting.most-words g.P.Plan.rules 2 c.args.self c.args.m c.args.need.now c.requires.stop c.requires.next c.size_words-size.result c.shape_of.result.refs c.shape_of.result.nums
+    c.size_words-size.ensures c.shape_of.ensures.refs c.shape_of.ensures.nums
+
 pub place-manager-requires-clause-stop : goal.place-manager-requires-clause-stop
 place-manager-requires-clause-stop g c = serving.stop-settled g.P.Plan.rules c.args.self c.find.new.self c.args.m c.args.need.now c.size_words-size.result c.requires.stop c.requires.next c.find.ensures.rest c.find.ensures.notes (c.size_words-size.ensures ∙ ap (λ r. size_of r c.shape_of.result.nums) c.shape_of.ensures.refs ∙ ap (λ q. size_of c.args.need.now.refs q) c.shape_of.ensures.nums)
 
