@@ -1,7 +1,7 @@
 //! Laws of the command line, and examples.
 
 ghost use Rattle.std.specs.Prelude.{◌≡◌, ℕ, List, ◌∷◌, [], codes, true, false, Some, None};
-ghost use Rattle.sessions.specs.Plans.{NoGc, SemiSpace, Immix, GenCopy, StickyImmix};
+ghost use Rattle.sessions.specs.Plans.{NoGc, MarkSweep, SemiSpace, Immix, GenCopy, StickyImmix};
 ghost use Rattle.command_line.specs.Spelling.{SpellsLine};
 ghost use Rattle.command_line.specs.Words.{Line, GivenOption, split_line, form_of, job_of, Files, Made};
 
@@ -60,6 +60,14 @@ pub fn worked_command_lines()
         ≡ None }
     ensures unsupported { job_of (codes "--heap=4" ∷ codes "--plan=immix" ∷ codes "a" ∷ [])
         ≡ None }
+    ensures marksweep { job_of (codes "--heap=4" ∷ codes "--plan=marksweep" ∷ codes "a" ∷ [])
+        ≡ Some (record {
+          plan = MarkSweep;
+          blocks = 4;
+          workers = 1;
+          map = false;
+          work = Files (codes "a" ∷ []);
+        }) }
     ensures semispace { job_of (codes "--heap=4" ∷ codes "--plan=semispace" ∷ codes "a" ∷ [])
         ≡ Some (record {
           plan = SemiSpace;

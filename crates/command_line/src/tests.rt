@@ -35,6 +35,7 @@ fn reads_command_lines(rt: HostRuntime) -> Result<(), Fail> {
         ("--workers 1 --plan nogc --heap 64 a", 64),
         ("--plan nogc --workers=1 --heap 10 a", 10),
         ("--plan semispace --heap 4 a", 4),
+        ("--heap=6 --plan marksweep a", 6),
         ("--heap=5 --workers=1 --plan=semispace a", 5),
     ];
     for (line, blocks) in supported {
@@ -53,6 +54,7 @@ fn reads_command_lines(rt: HostRuntime) -> Result<(), Fail> {
         "--plan nogc --heap 4 a b",
         "--plan nogc --heap 4 a a",
         "--plan semispace --heap 4 a b",
+        "--plan marksweep --heap 4 a b",
         "--plan nogc --heap 4 a b c d e f g h i j k l m n o p",
     ] {
         assert!(rt; is_supported(alloc, line)?, "{line}");
@@ -65,7 +67,6 @@ fn reads_command_lines(rt: HostRuntime) -> Result<(), Fail> {
 fn refuses_what_is_not_implemented(rt: HostRuntime) -> Result<(), Fail> {
     let alloc = rt.alloc();
     let unsupported = [
-        "--plan marksweep --heap 4 a",
         "--plan gencopy --heap 4 a",
         "--plan immix --heap 4 a",
         "--plan stickyimmix --heap 4 a",
@@ -73,6 +74,7 @@ fn refuses_what_is_not_implemented(rt: HostRuntime) -> Result<(), Fail> {
         "--plan nogc --heap 4 --workers 2 a",
         "--plan nogc --heap 4 --workers 16 a",
         "--plan semispace --heap 4 --workers 2 a",
+        "--plan marksweep --heap 4 --workers 2 a",
         "--plan nogc --heap 4 --map a",
         "--map --plan nogc --heap 4 a",
         "--plan semispace --heap 4 --map a",

@@ -48,21 +48,23 @@ pub(crate) fn read_form<'a>(
     Ok(order_of(&found, parts.files))
 }
 
-// Whether the order is implemented: `nogc` or `semispace`, files, one worker and no map.
+// Whether the order is implemented: `nogc`, `marksweep` or `semispace`, files, one worker and no
+// map.
 fn is_supported(order: &Order) -> bool
     ensures { result ≡ can_run (job_of_order order.now) }
 {
-    matches!(order.plan, PlanName::NoGc | PlanName::SemiSpace)
-        && order.workers == 1
-        && !order.map
-        && matches!(order.work, Target::Files(_))
+    let is_implemented = matches!(
+        order.plan,
+        PlanName::NoGc | PlanName::MarkSweep | PlanName::SemiSpace
+    );
+    is_implemented && order.workers == 1 && !order.map && matches!(order.work, Target::Files(_))
 }
 
 /// What the arguments after the program's name ask for.
 ///
 /// `None` if the arguments do not match the usage, or ask for a feature that is not implemented
-/// yet: a plan other than `nogc` and `semispace`, several workers, a map or a made trace. The order
-/// borrows the names of its files from the arguments.
+/// yet: a plan other than `nogc`, `marksweep` and `semispace`, several workers, a map or a made
+/// trace. The order borrows the names of its files from the arguments.
 ///
 /// Errors: out of memory.
 #[tactic(auto, unfolding(crate::specs::Words::job_of))]

@@ -40,6 +40,7 @@ fn supported(rt: HostRuntime) -> Result<(), Fail> {
         "--plan nogc --workers=1 --heap 10 a",
         "--plan semispace --heap 4 a",
         "--heap=5 --workers=1 --plan=semispace a",
+        "--heap=4 --plan marksweep a",
     ];
     for line in lines {
         let ran = run_words(&rt, alloc, line, trace_in(alloc, FIRST)?)?;
@@ -65,7 +66,6 @@ fn unsupported(rt: HostRuntime) -> Result<(), Fail> {
         &rt,
         rt.alloc(),
         &[
-            "--plan marksweep --heap 4 a",
             "--plan gencopy --heap 4 a",
             "--plan immix --heap 4 a",
             "--plan stickyimmix --heap 4 a",

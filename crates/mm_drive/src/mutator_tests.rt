@@ -61,7 +61,7 @@ fn several_mutators(rt: HostRuntime) -> Result<(), Fail> {
         &rt,
         alloc,
         4,
-        &["gc;new r0 0 2", "new r0 0 3000;gc;read r0 0", "gc;pin r0"],
+        &["gc;new r0 0 2", "new r0 0 60000;gc;read r0 0", "gc;pin r0"],
         &["ok;new 1.1", "full;ok;null", "ok;null"],
     )?;
     Ok(())
@@ -129,7 +129,7 @@ fn additions(rt: HostRuntime) -> Result<(), Fail> {
     repeat(&mut other, 500, ";add r1 0 1")?;
     other.push_str(";meet")?;
     let other = other.as_str();
-    for plan in ["nogc", "semispace"] {
+    for plan in ["nogc", "marksweep", "semispace"] {
         let ran = run_traces(&rt, alloc, plan, 8, &[first.as_str(), other, other, other])?;
         assert_eq!(rt; ran.status, Status::Ok, "{plan}");
         assert!(rt; are_all_below(alloc, &ran.out, 4000)?, "{plan}");
@@ -202,7 +202,10 @@ fn gates_are_passed(rt: HostRuntime) -> Result<(), Fail> {
     let gate = CountingGate::new();
     let files = files_of(
         alloc,
-        &["new r0 0 1;write r0 0 7;gc", "meet;new r0 0 3000;read r0 0"],
+        &[
+            "new r0 0 1;write r0 0 7;gc",
+            "meet;new r0 0 60000;read r0 0",
+        ],
     )?;
     let words = words_in(alloc, "--plan nogc --heap 4 f0 f1")?;
     let mut sources = MemSources::new(files, Vec::new(alloc));

@@ -5,6 +5,8 @@ use std::alloc::{AllocError, Global};
 use std::fmt::Write;
 use std::test::Fail;
 
+const PLANS: [&str; 3] = ["nogc", "marksweep", "semispace"];
+
 // A cycle is reached through either object, and is garbage before the second collection.
 const CYCLE: &str = "new r0 1 0;new r1 1 0;put r0 0 r1;put r1 0 r0;drop r1;gc;get r2 r0 0;\
     get r3 r2 0;drop r0;drop r2;drop r3;gc";
@@ -38,11 +40,22 @@ fn replies_under_each_plan(rt: HostRuntime) -> Result<(), Fail> {
                 share g7 r3;gc;load r3 g7",
             "new 1.1;ok;ok;ok;ok;ref 1.1;num 9;ok;ok;ok;nil",
         ),
-        // Too large for any block.
-        ("new r0 0 2046;new r0 0 2045", "full;new 1.1"),
+        // A large object takes a block of its own.
+        (
+            "new r0 0 2046;new r0 0 60000;new r0 0 2045",
+            "new 1.1;full;new 1.2",
+        ),
+        // A young object that an old one alone reaches, and garbage.
+        (
+            "new r0 1 0;gc;new r1 0 1;write r1 0 9;put r0 0 r1;drop r1;new r2 0 2045;\
+                new r2 0 2045;new r2 0 2045;new r2 0 2045;new r2 0 2045;new r2 0 2045;\
+                new r2 0 2045;get r3 r0 0;read r3 0",
+            "new 1.1;ok;new 1.2;ok;ok;ok;new 1.3;new 1.4;new 1.5;new 1.6;new 1.7;new 1.8;\
+                new 1.9;ref 1.2;num 9",
+        ),
     ];
     let alloc = rt.alloc();
-    for plan in ["nogc", "semispace"] {
+    for plan in PLANS {
         for (trace, replies) in table {
             check_replies(&rt, alloc, plan, 4, &[trace], &[replies])?;
         }
@@ -58,7 +71,7 @@ fn objects_are_handed_over(rt: HostRuntime) -> Result<(), Fail> {
         drop r0;drop r1;gc;meet;gc;meet;load r0 g0;read r0 0";
     let second = "meet;load r1 g0;read r1 0;write r1 0 8;gc;get r2 r1 0;read r2 0;meet;gc;\
         read r1 0";
-    for plan in ["nogc", "semispace"] {
+    for plan in PLANS {
         check_replies(
             &rt,
             alloc,
@@ -74,6 +87,40 @@ fn objects_are_handed_over(rt: HostRuntime) -> Result<(), Fail> {
     Ok(())
 }
 
+// The largest object takes 15 blocks. A second one finds no run of them, before or after the
+// collection that is made for it.
+#[test]
+fn largest_objects(rt: HostRuntime) -> Result<(), Fail> {
+    let alloc = rt.alloc();
+    let table = [
+        (
+            15,
+            "new r0 1024 60000;put r0 1023 r0;get r1 r0 1023",
+            "new 1.1;ok;ref 1.1",
+        ),
+        (14, "new r0 1024 60000;pin r0", "full;null"),
+        (16, "new r0 1024 60000;new r1 1024 60000", "new 1.1;full"),
+    ];
+    for plan in PLANS {
+        for (blocks, trace, replies) in table {
+            check_replies(&rt, alloc, plan, blocks, &[trace], &[replies])?;
+        }
+    }
+    Ok(())
+}
+
+// Six of eight blocks are Free, but no three beside one another: the third and the sixth block have
+// small objects that are held. Dropped, they leave room for a large one.
+#[test]
+fn no_long_run(rt: HostRuntime) -> Result<(), Fail> {
+    let alloc = rt.alloc();
+    let trace = "new r0 0 8189;new r1 0 2045;new r2 0 8189;new r3 0 1000;drop r0;drop r2;gc;\
+        new r0 0 8190;new r0 0 8189;drop r0;drop r1;drop r3;new r0 0 8190";
+    let replies = "new 1.1;new 1.2;new 1.3;new 1.4;ok;ok;ok;full;new 1.5;ok;ok;ok;new 1.6";
+    check_replies(&rt, alloc, "marksweep", 8, &[trace], &[replies])?;
+    Ok(())
+}
+
 // Nine objects of half a block, of which the last alone is held. Without collections the ninth
 // finds no room.
 #[test]
@@ -82,7 +129,11 @@ fn garbage_is_reclaimed(rt: HostRuntime) -> Result<(), Fail> {
     let mut trace = String::from_str(alloc, "new r0 0 2045")?;
     repeat(&mut trace, 8, ";new r0 0 2045")?;
     let names = "new 1.1;new 1.2;new 1.3;new 1.4;new 1.5;new 1.6;new 1.7;new 1.8";
-    for (plan, last) in [("nogc", "full"), ("semispace", "new 1.9")] {
+    for (plan, last) in [
+        ("nogc", "full"),
+        ("semispace", "new 1.9"),
+        ("marksweep", "new 1.9"),
+    ] {
         let mut replies = String::from_str(alloc, names)?;
         write!(replies, ";{last}")?;
         check_replies(&rt, alloc, plan, 4, &[trace.as_str()], &[replies.as_str()])?;
@@ -184,7 +235,12 @@ fn four_mutators(rt: HostRuntime) -> Result<(), Fail> {
         pair_replies(alloc, 3, 40)?,
         pair_replies(alloc, 4, 40)?,
     ];
-    for (plan, heap) in [("semispace", 8), ("semispace", 16), ("nogc", 64)] {
+    for (plan, heap) in [
+        ("semispace", 8),
+        ("semispace", 16),
+        ("nogc", 64),
+        ("marksweep", 8),
+    ] {
         check_replies(
             &rt,
             alloc,

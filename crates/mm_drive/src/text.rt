@@ -13,7 +13,7 @@ use heap_layout::{Layout, MAX_BLOCKS, MIN_BLOCKS};
 use ideal_heap::MAX_MUTATORS;
 use mm_runtime::{Manager, Turn, managed_plans};
 use plan_api::Plan;
-use plans::{NoGc, SemiSpace};
+use plans::{MarkSweep, NoGc, SemiSpace};
 use pools::PlainPool;
 use std::alloc::{AllocError, Global};
 use std::thread::Threads;
@@ -73,8 +73,9 @@ fn text_under<P: Plan, G: Gate, R: Threads + Sync>(
     requires some { 1 ≤ length traces.items }
     requires few { length traces.items ≤ MAX_MUTATORS }
     requires fit { All IsRunnable traces.items }
-    ensures { (t : Setting) → t.rules ≡ P.rules → t.blocks ≡ layout.blocks → t.workers ≡ 1
-        → t.traces ≡ traces.items → IfOk result (λ v. AreReplies t v.items) }
+    ensures { (t : Setting) → t.rules ≡ P.rules → t.blocks ≡ layout.blocks
+        → t.workers ≡ 1 → t.traces ≡ traces.items
+        → IfOk result (λ v. AreReplies t v.items) }
 {
     let manager = run_to_end::<P, G, R>(rt, alloc, layout, traces, gate)?;
     text_of_replies::<P>(alloc, &manager)
@@ -104,6 +105,7 @@ pub(crate) fn text_of_session<G: Gate, R: Threads + Sync>(
     managed_plans();
     match order.plan {
         PlanName::NoGc => text_under::<NoGc, G, R>(rt, alloc, layout, traces, gate),
+        PlanName::MarkSweep => text_under::<MarkSweep, G, R>(rt, alloc, layout, traces, gate),
         PlanName::SemiSpace => text_under::<SemiSpace, G, R>(rt, alloc, layout, traces, gate),
         _ => unreachable!(),
     }

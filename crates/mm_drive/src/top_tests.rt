@@ -46,7 +46,7 @@ fn replies(rt: HostRuntime) -> Result<(), Fail> {
         ),
         (
             "new r0 0 2046;new r0 0 60000;new r0 0 0;new r0 0 2045",
-            "full;full;new 1.1;new 1.2",
+            "new 1.1;full;new 1.2;new 1.3",
         ),
         (
             "load r1 g0;new r0 0 0;share g15 r0;drop r0;pin r0;load r2 g15;move r3 r2;pin r3;\
@@ -354,7 +354,11 @@ fn random_commands(rt: HostRuntime) -> Result<(), Fail> {
         assert!(rt; ideal.births(1) < 1_000_000);
         print_reply(&ideal.apply(1, command)?, &mut want)?;
     }
-    for line in ["--plan nogc --heap 64 a", "--plan semispace --heap 64 a"] {
+    for line in [
+        "--plan nogc --heap 64 a",
+        "--plan semispace --heap 64 a",
+        "--plan marksweep --heap 64 a",
+    ] {
         let ran = run_words(&rt, alloc, line, text.as_bytes().to_vec(alloc)?)?;
         assert_eq!(rt; ran.status, Status::Ok, "{line}");
         assert!(rt; ran.out.as_slice() == want.as_slice(), "{line}");
@@ -397,7 +401,11 @@ fn plain_records(rt: HostRuntime) -> Result<(), Fail> {
             }
         }
     }
-    for line in ["--plan nogc --heap 64 a", "--plan semispace --heap 4 a"] {
+    for line in [
+        "--plan nogc --heap 64 a",
+        "--plan semispace --heap 4 a",
+        "--plan marksweep --heap 4 a",
+    ] {
         let ran = run_words(&rt, alloc, line, text.as_bytes().to_vec(alloc)?)?;
         assert_eq!(rt; ran.status, Status::Ok, "{line}");
         assert!(rt; ran.out.as_slice() == want.as_bytes(), "{line}");

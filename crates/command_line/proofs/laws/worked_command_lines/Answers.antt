@@ -62,6 +62,10 @@ pub returns-clause-unsupported : goal.returns-clause-unsupported
 unfolding form_of job_of
 returns-clause-unsupported c = refl
 
+pub returns-clause-marksweep : goal.returns-clause-marksweep
+unfolding form_of job_of
+returns-clause-marksweep c = refl
+
 pub returns-clause-semispace : goal.returns-clause-semispace
 unfolding form_of job_of
 returns-clause-semispace c = refl
