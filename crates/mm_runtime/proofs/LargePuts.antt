@@ -17,7 +17,7 @@ use Rattle.object_model.proofs.BornHeaps as born
 use Rattle.sessions.specs.Plans.{Rules}
 use Rattle.sessions.specs.Fitting.{IsFreeRun}
 use Rattle.sessions.specs.Sessions.{PlacesLarge, AddsObject}
-use Rattle.mm_runtime.proofs.LargePlacing as placing
+use Rattle.sessions.proofs.LargePlacing as placing
 use Rattle.large_space.specs.FreeRuns.{IsFirstRun}
 use Rattle.plain_world.specs.Notes.{FillsTailsOrCells}
 use Rattle.mm_runtime.specs.declared.place.Spot.{Spot}

@@ -13,7 +13,6 @@ pub mod FirstManager
 pub mod Gathering
 pub mod GcStops
 pub mod Gcs
-pub mod LargePlacing
 pub mod LargePuts
 pub mod ListFacts
 pub mod MeetStops

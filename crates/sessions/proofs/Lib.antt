@@ -11,7 +11,7 @@ pub mod WorkedFits
 mod Nurseries
 pub mod Soundness
 pub mod CollectionLaws
-mod LargePlacing
+pub mod LargePlacing
 mod Levels
 mod Meeting
 pub mod Orders
