@@ -15,11 +15,8 @@ use object_model::MAX_MEDIUM_WORDS;
 pub fn class_for(fill: Kind, size: u32) -> u32
     ensures { result ≡ class_for_size fill size }
 {
-    if fill == Kind::Cells {
-        class_of(size).unwrap_or(0)
-    } else {
-        0
-    }
+    // No branch: a caller's compiler finds the class once, however often it is asked for.
+    class_of(size).unwrap_or(0) * u32::from(fill == Kind::Cells)
 }
 
 /// Whether the bit is set.
