@@ -6,3 +6,5 @@ pub mod Taking
 pub mod Counting
 pub mod Releasing
 pub mod Evacuation
+pub mod Cursors
+pub mod Relisting

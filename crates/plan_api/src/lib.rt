@@ -4,6 +4,8 @@
 mod block_view;
 mod cells;
 mod counts;
+mod cursor_laws;
+mod cursors;
 mod evacuation;
 mod evacuation_laws;
 mod fit;
@@ -14,10 +16,13 @@ mod laws;
 mod plan;
 mod readers;
 mod release_laws;
+mod relist_laws;
 
 pub use block_view::BlockView;
 pub use cells::class_for;
 pub use counts::{BlockCounts, Reserve};
+pub use cursor_laws::placements_are_decided;
+pub use cursors::{Cursors, place_in};
 pub use evacuation::{Fills, copied_blocks, may_leave, no_blocks};
 pub use evacuation_laws::{evacuated_blocks, kept_blocks};
 pub use fit::{fits, fits_small, has_hole, has_run};
@@ -31,7 +36,10 @@ pub use laws::{
 pub use plan::Plan;
 pub use readers::{block_word_in, hole_in_block, view, view_in};
 pub use release_laws::releases_are_sweeps;
+pub use relist_laws::relisted_blocks;
 
+#[cfg(test)]
+mod cursor_tests;
 #[cfg(test)]
 mod search_tests;
 #[cfg(test)]

@@ -9,7 +9,7 @@ ghost use Rattle.object_model.specs.declared.collect.Collect.{Collect};
 ghost use Rattle.object_model.specs.declared.collect.Collect.TheVariants.{Nursery};
 ghost use Rattle.object_model.specs.Preserving.{may_leave};
 ghost use Rattle.object_model.specs.Releasing.{IsReleasable};
-ghost use Rattle.object_model.specs.Lawful.{IsWellFormed, LineBitsAreExact};
+ghost use Rattle.object_model.specs.Lawful.{IsWellFormed, IsReadableBlock, LineBitsAreExact};
 ghost use Rattle.object_model.specs.Heaps.{heap_state};
 ghost use Rattle.sessions.specs.Plans.{Rules, Plan as PlanName, rules_of, plan_word};
 ghost use Rattle.sessions.specs.Grants.{BlockCounts as Counts, HoldsReserve, allowance_in, after_taking};
@@ -23,6 +23,7 @@ ghost use Rattle.block_sweeps.specs.Sweeping.{AreApart};
 ghost use Rattle.plan_api.specs.Holes.{IsFirstHole, IsHolePart, has_holes};
 ghost use Rattle.plan_api.specs.Evacuation.{listed};
 ghost use Rattle.plan_api.specs.Releasing.{Releases};
+ghost use Rattle.plan_api.specs.Relisting.{Relists};
 
 use crate::block_view::BlockView;
 use crate::counts::Reserve;
@@ -125,6 +126,13 @@ pub trait Plan {
         requires releasable { IsReleasable
             (state_over (W.words words.old) layout.now 0 0) block }
         ensures { Releases rules collect base (state_over (W.words words.old) layout.now 0 0)
+            (state_over (W.words words.new) layout.now 0 0) block };
+
+    /// After mutators filled a block: makes the line bits of an Immix block those of the lines that
+    /// objects touch, if the plan fills lines. In every other case changes nothing.
+    fn relist_block<W: Words>(words: &mut W, layout: &Layout, block: u32)
+        requires { IsReadableBlock (state_over (W.words words.old) layout.now 0 0) block }
+        ensures { Relists rules (state_over (W.words words.old) layout.now 0 0)
             (state_over (W.words words.new) layout.now 0 0) block };
 
     // The rules are those of the plan, and the flags are those of the rules.

@@ -98,4 +98,6 @@ impl Plan for MarkSweep {
         let word = block_word_in(words, layout, block);
         release(words, layout, block, &word, false, base);
     }
+
+    fn relist_block<W: Words>(_words: &mut W, _layout: &Layout, _block: u32) {}
 }

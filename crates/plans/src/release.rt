@@ -111,7 +111,7 @@ fn release_small<W: Words>(
 
 /// Makes the line bits of a block of the kind `kind` those of the lines that objects in it touch,
 /// if it is an Immix block.
-fn mark_lines<W: Words>(words: &mut W, layout: &Layout, block: u32, kind: Kind)
+pub(crate) fn mark_lines<W: Words>(words: &mut W, layout: &Layout, block: u32, kind: Kind)
     requires extent { length (W.words words.old) ≡ row_words layout.now.blocks }
     requires block { kind ≡ kinds.Immix
         → IsReadableBlock (state_over (W.words words.old) layout.now 0 0) block }

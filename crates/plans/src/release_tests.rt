@@ -6,7 +6,7 @@ ghost use Rattle.std.specs.Prelude.{◌≡◌, ◌+◌, ◌<◌, ◌≤◌, leng
 ghost use Rattle.heap_layout.specs.Zones.{row_words};
 ghost use Rattle.heap_layout.specs.declared.layout.TheConstants.{BLOCK_WORDS};
 
-use crate::{MarkSweep, NoGc, SemiSpace};
+use crate::{Immix, MarkSweep, NoGc, SemiSpace};
 use block_sweeps::is_releasable;
 use block_sweeps::rows::{Object, empty_row, set_block, write_object};
 use heap_layout::{Kind, Layout};
@@ -41,7 +41,7 @@ fn object(offset: u32, nums: u32, collector: u64, pinned: bool, unlogged: bool) 
 /// A row whose block 1 has this kind and class, and two line bits. Of its four objects one moved to
 /// block 2, and one is pinned but dead. Collection `number` met another pinned one, and one that is
 /// logged.
-fn small_row(
+pub(crate) fn small_row(
     alloc: Global,
     layout: &Layout,
     kind: Kind,
@@ -80,6 +80,20 @@ fn value_at(entries: &[(usize, u64)], index: usize) -> Option<u64> {
     None
 }
 
+/// Of the words before the heap these changed under the plan, and no other one.
+pub(crate) fn check_words<P: Plan>(
+    rt: &impl Abort,
+    before: &[u64],
+    words: &[u64],
+    after: &[(usize, u64)],
+) {
+    for index in 0..806 {
+        let want = value_at(after, index).or(before.get(index).copied());
+        let is = words.get(index).copied();
+        assert_eq!(rt; is, want, "word {index} under {}", P::plan_name());
+    }
+}
+
 /// Releases a block after collection 1, a full one. Of the words before the heap these change, and
 /// no other one.
 fn check_release<P: Plan>(
@@ -96,11 +110,7 @@ fn check_release<P: Plan>(
     let before = words.as_slice().to_vec(alloc)?;
     assert!(rt; is_releasable(&words, layout, block));
     P::release_block(&mut words, layout, block, Collect::Full, 1);
-    for index in 0..806 {
-        let want = value_at(after, index).or(before.get(index).copied());
-        let is = words.get(index).copied();
-        assert_eq!(rt; is, want, "word {index} under {}", P::plan_name());
-    }
+    check_words::<P>(rt, &before, &words, after);
     Ok(())
 }
 
@@ -151,6 +161,7 @@ fn some_live(rt: HostRuntime) -> Result<(), Fail> {
         let block = (kind, class);
         check_some_live::<NoGc>(&rt, rt.alloc(), &layout, block, plain, lines)?;
         check_some_live::<MarkSweep>(&rt, rt.alloc(), &layout, block, plain, lines)?;
+        check_some_live::<Immix>(&rt, rt.alloc(), &layout, block, plain, lines)?;
         check_some_live::<SemiSpace>(&rt, rt.alloc(), &layout, block, copied, lines)?;
     }
     Ok(())
@@ -198,6 +209,7 @@ fn none_lives(rt: HostRuntime) -> Result<(), Fail> {
         check_none_lives::<NoGc>(&rt, rt.alloc(), &layout, kind, class)?;
         check_none_lives::<MarkSweep>(&rt, rt.alloc(), &layout, kind, class)?;
         check_none_lives::<SemiSpace>(&rt, rt.alloc(), &layout, kind, class)?;
+        check_none_lives::<Immix>(&rt, rt.alloc(), &layout, kind, class)?;
     }
     Ok(())
 }
@@ -231,6 +243,7 @@ fn copies(rt: HostRuntime) -> Result<(), Fail> {
     check_copies::<NoGc>(&rt, rt.alloc(), &layout)?;
     check_copies::<MarkSweep>(&rt, rt.alloc(), &layout)?;
     check_copies::<SemiSpace>(&rt, rt.alloc(), &layout)?;
+    check_copies::<Immix>(&rt, rt.alloc(), &layout)?;
     Ok(())
 }
 
@@ -273,5 +286,6 @@ fn runs(rt: HostRuntime) -> Result<(), Fail> {
     check_runs::<NoGc>(&rt, rt.alloc(), &layout)?;
     check_runs::<MarkSweep>(&rt, rt.alloc(), &layout)?;
     check_runs::<SemiSpace>(&rt, rt.alloc(), &layout)?;
+    check_runs::<Immix>(&rt, rt.alloc(), &layout)?;
     Ok(())
 }

@@ -107,4 +107,6 @@ impl Plan for SemiSpace {
         let kept = is_kept(&FILLS, collect, &word);
         release(words, layout, block, &word, kept, base);
     }
+
+    fn relist_block<W: Words>(_words: &mut W, _layout: &Layout, _block: u32) {}
 }

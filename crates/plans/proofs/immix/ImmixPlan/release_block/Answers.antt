@@ -1,0 +1,10 @@
+use Rattle.std.proofs.Common.{refl}
+use Rattle.object_model.specs.Objects.{state_over}
+use Rattle.sessions.specs.Plans.{Immix as immix, rules_of}
+use Rattle.plan_api.proofs.EvacuationLaws.{no-candidate}
+use Rattle.plans.proofs.immix.ImmixPlan.release_block.Goals as goal
+
+pub returns : goal.returns
+returns g c =
+    let s = state_over (g.W.Words.words c.args.words.now) c.args.layout.now 0 0 in
+    c.release.ensures (rules_of immix) c.args._collect (no-candidate (rules_of immix) c.args._collect s c.args.block refl)
