@@ -57,7 +57,8 @@ fn add_shared_numbers(world: &mut World) -> u64
     requires open { IsOpen world.old }
     requires first { HasPlace world.old 0 }
     requires second { HasPlace world.old 1 }
-    ensures { IsOpen world.new }
+    ensures open { IsOpen world.new }
+    ensures places { SamePlaces world.old world.new }
 {
     for number in 1..4 {
         push(world, 0, number);

@@ -9,7 +9,7 @@ use Rattle.mutator_calls.specs.declared.need.NeedCause.TheVariants.{Large, Budge
 use Rattle.mutator_calls.specs.declared.need.Need.{Need}
 use Rattle.mutator_calls.specs.declared.need.Allocated.{Allocated}
 use Rattle.mutator_calls.specs.declared.need.Allocated.TheVariants.{Made, Stop}
-use Rattle.mutator_calls.specs.Effects.{Effect, nothing}
+use Rattle.mutator_calls.specs.Effects.{Effect, nothing, draws}
 
 -- A mutator's accounts in an epoch.
 pub record Books : Type 0 where
@@ -47,20 +47,37 @@ abbrev pub Draws : (ℕ → Type 0) → Option ℕ → Option ℕ → ℕ → Ty
 Draws next old new drawn = ((drawn ≡ 0) × (new ≡ old))
     ⊎ ((drawn ≡ 1) × (old ≡ None) × ((t : ℕ) × (new ≡ Some t) × next t))
 
--- Where an allocation finds room. `before` is the block that the mutator allocated in, `now` the one that it allocates
--- in. It is the same one; or, if that has no room, the first block with room that the mutator may fill, which it takes
--- unless it is its own; or, if no other block has such room, the first Free block, with a ticket below the allowance
--- that is used up then.
-pub data FindsRoom (lacks used before now next : ℕ → Type 0) (blocks allowance : ℕ) (old new : Option ℕ)
-    (taken granted : List ℕ) (drawn : ℕ) : Type 0 where
-  in_region : (k : ℕ) → before k → now k → taken ≡ [] → granted ≡ [] → drawn ≡ 0 → new ≡ old
-      → FindsRoom lacks used before now next blocks allowance old new taken granted drawn
-  in_hole : (k : ℕ) → now k → (taken ≡ []) ⊎ (taken ≡ k ∷ []) → granted ≡ [] → drawn ≡ 0 → new ≡ old
-      → ((j : ℕ) → j < k → lacks j) → ((j : ℕ) → before j → j ≢ k → lacks j)
-      → FindsRoom lacks used before now next blocks allowance old new taken granted drawn
-  in_free_block : (k t : ℕ) → now k → taken ≡ k ∷ [] → granted ≡ k ∷ [] → Draws next old (Some t) drawn → t < allowance
-      → new ≡ None → ((j : ℕ) → j < blocks → j ≢ k → lacks j) → ((j : ℕ) → j < k → used j)
-      → FindsRoom lacks used before now next blocks allowance old new taken granted drawn
+-- The mutator went on in its own blocks in vain: in a state that it reached by drawing tickets alone, with the same hole
+-- region, no block in which it tries a region for the size has room.
+abbrev pub IsSpent : {S : Type 0} → (S → Effect → S → Type 0) → (S → S → Type 0) → (S → ℕ → ℕ → Type 0) → (S → ℕ → ℕ → Type 0) → S → ℕ → Type 0
+IsSpent {S} goes keeps allocates lacks old size = (mid : S) × (drawn : ℕ) × goes old (draws drawn) mid × keeps old mid
+    × ((j : ℕ) → allocates mid size j → lacks mid size j)
+
+-- How a search comes to look for holes: at once; or, in overflow allocation, after a look for a Free block in vain. The
+-- mutator's ticket is not below the allowance then, or no block is Free.
+pub data ComesToHoles (used next : ℕ → Type 0) (overflow : Type 0) (blocks allowance : ℕ) (old new : Option ℕ) (drawn : ℕ) : Type 0 where
+  at_once : (overflow → ⊥) → drawn ≡ 0 → new ≡ old → ComesToHoles used next overflow blocks allowance old new drawn
+  in_vain : (t : ℕ) → overflow → Draws next old (Some t) drawn → new ≡ Some t → (allowance ≤ t) ⊎ ((j : ℕ) → j < blocks → used j)
+      → ComesToHoles used next overflow blocks allowance old new drawn
+
+-- Where an allocation finds room. `before` tells the blocks that the mutator allocated in, `now` those that it allocates
+-- in. It is the same one. Or, if no region that it tries for the size has room (`full`), it is one with a hole: one of its
+-- own; or, if these have none (`spent`), the first one with a hole that the mutator may fill, which it takes unless it is
+-- its own. Or, if no other block has such room, it is the first Free block, with a ticket below the allowance that is used
+-- up then. In overflow allocation the Free block comes before the holes, and the mutator keeps the hole region (`kept`)
+-- unless it finds a hole.
+pub data FindsRoom (lacks used before now next : ℕ → Type 0) (full spent overflow kept : Type 0) (blocks allowance : ℕ)
+    (old new : Option ℕ) (taken granted : List ℕ) (drawn : ℕ) : Type 0 where
+  in_region : (k : ℕ) → before k → now k → (overflow → kept) → taken ≡ [] → granted ≡ [] → drawn ≡ 0 → new ≡ old
+      → FindsRoom lacks used before now next full spent overflow kept blocks allowance old new taken granted drawn
+  in_hole : (k : ℕ) → now k → (taken ≡ []) ⊎ (taken ≡ k ∷ []) → granted ≡ [] → full
+      → ComesToHoles used next overflow blocks allowance old new drawn
+      → before k ⊎ (spent × ((j : ℕ) → j < k → lacks j))
+      → FindsRoom lacks used before now next full spent overflow kept blocks allowance old new taken granted drawn
+  in_free_block : (k t : ℕ) → now k → taken ≡ k ∷ [] → granted ≡ k ∷ [] → full → Draws next old (Some t) drawn → t < allowance
+      → new ≡ None → ((j : ℕ) → j < k → used j)
+      → (overflow × kept) ⊎ ((overflow → ⊥) × spent × ((j : ℕ) → j < blocks → j ≢ k → lacks j))
+      → FindsRoom lacks used before now next full spent overflow kept blocks allowance old new taken granted drawn
 
 -- Why an allocation of this size stops: the object is large; or no block has room that the mutator may fill, and its
 -- ticket is not below the allowance, or is below it and no block is Free.
@@ -70,6 +87,23 @@ IsCause books lacks used size (Budget t) = (size ≤ MAX_MEDIUM_WORDS) × ((k : 
     × (books.ticket ≡ Some t) × (books.allowance ≤ t)
 IsCause books lacks used size Seen = (size ≤ MAX_MEDIUM_WORDS) × ((k : ℕ) → k < books.blocks → lacks k)
     × ((k : ℕ) → k < books.blocks → used k) × ((t : ℕ) × (books.ticket ≡ Some t) × (t < books.allowance))
+
+-- Why no Free block was taken: the mutator's ticket is not below the allowance, or it is and no block is Free.
+abbrev pub IsShortage : Books → (ℕ → Type 0) → NeedCause → Type 0
+IsShortage books used Large = ⊥
+IsShortage books used (Budget t) = (books.ticket ≡ Some t) × (books.allowance ≤ t)
+IsShortage books used Seen = ((k : ℕ) → k < books.blocks → used k)
+    × ((t : ℕ) × (books.ticket ≡ Some t) × (t < books.allowance))
+
+-- The Free block k was taken with a ticket below the allowance, one drawn before or the next one; every block before it
+-- was used.
+pub record TakesFree (used now next : ℕ → Type 0) (old new : Books) (k drawn : ℕ) : Type 0 where
+  pub ticket : ℕ
+  pub draws : Draws next old.ticket (Some ticket) drawn
+  pub few : ticket < new.allowance
+  pub none : new.ticket ≡ None
+  pub here : now k
+  pub lower : (j : ℕ) → j < k → used j
 
 -- the need has the numbers of the call
 pub record IsNeedOf (d r q : ℕ) (need : Need) : Type 0 where

@@ -3,7 +3,7 @@
 ghost use Rattle.std.specs.Prelude.{◌≡◌, ◌≢◌, ◌+◌, ◌<◌, ◌≤◌, ◌^◌, ◌⊎◌, ℕ, List, [], ◌∷◌, Some, None, true, false, if◌then◌else◌, IsOk, IsErr, IfErr, ⊤};
 ghost use Rattle.object_model.specs.Objects.{size_of};
 ghost use Rattle.mutator_calls.specs.Effects.{nothing, takes, grants, draws};
-ghost use Rattle.mutator_calls.specs.Allocating.{births_with, searches, IsNextTicket, Draws, FindsRoom, IsCause, IsNeedOf, MatchAllocated};
+ghost use Rattle.mutator_calls.specs.Allocating.{births_with, searches, IsNextTicket, IsSpent, Draws, FindsRoom, TakesFree, IsShortage, IsCause, IsNeedOf, MatchAllocated};
 
 use crate::need::{Allocated, Need, NeedCause};
 use crate::seat::Seat;
@@ -28,6 +28,8 @@ fn take_some_hole<S: Seat>(seat: &mut S, size: u32) -> bool
         → S.lacks seat.new size k }
     ensures same { (c : S) (n : ℕ) → result ≡ false → S.offers seat.new c n
         → S.offers seat.old c n }
+    ensures still { (k : ℕ) → S.is_used seat.old k → S.is_used seat.new k }
+    ensures keeps { result ≡ false → S.keeps_region seat.old seat.new }
     ensures books { S.books seat.new ≡ S.books seat.old }
 {
     for block in 0..seat.blocks() {
@@ -38,33 +40,6 @@ fn take_some_hole<S: Seat>(seat: &mut S, size: u32) -> bool
     false
 }
 
-/// Makes the seat's region one with room for `size` words in a block that is in use. Returns
-/// whether there was room.
-fn find_hole<S: Seat>(seat: &mut S, size: u32) -> bool
-    requires ready { S.is_ready seat.old }
-    requires least { 3 ≤ size }
-    requires most { size ≤ MAX_MEDIUM_WORDS }
-    ensures found { result ≡ true → S.has_room seat.new size }
-    ensures offered { result ≡ true → S.offers seat.old seat.new size }
-    ensures finds { result ≡ true → (taken : List ℕ) × S.goes seat.old (takes taken) seat.new
-        × FindsRoom (S.lacks seat.new size) (S.is_used seat.new) (S.allocates_in seat.old size)
-        (S.allocates_in seat.new size) (IsNextTicket S.goes S.has_budget seat.old)
-        (S.books seat.new).blocks (S.books seat.new).allowance
-        (S.books seat.old).ticket (S.books seat.new).ticket taken [] 0 }
-    ensures ready { result ≡ false → S.is_ready seat.new }
-    ensures goes { result ≡ false → S.goes seat.old nothing seat.new }
-    ensures lacks { (k : ℕ) → result ≡ false → k < (S.books seat.new).blocks
-        → S.lacks seat.new size k }
-    ensures same { (c : S) (n : ℕ) → result ≡ false → S.offers seat.new c n
-        → S.offers seat.old c n }
-    ensures books { S.books seat.new ≡ S.books seat.old }
-{
-    if seat.fits_region(size) {
-        return true;
-    }
-    take_some_hole(seat, size)
-}
-
 /// The mutator's ticket, which is drawn if it has none.
 fn hold_ticket<S: Seat>(seat: &mut S) -> u32
     requires { S.is_ready seat.old }
@@ -72,6 +47,9 @@ fn hold_ticket<S: Seat>(seat: &mut S) -> u32
     ensures goes { (drawn : ℕ) × S.goes seat.old (draws drawn) seat.new
         × Draws (S.has_budget seat.old) (S.books seat.old).ticket (Some result) drawn }
     ensures stays { (n k : ℕ) → S.lacks seat.old n k → S.lacks seat.new n k }
+    ensures overflow { (n : ℕ) → S.is_overflow seat.old n → S.is_overflow seat.new n }
+    ensures keeps { S.keeps_region seat.old seat.new }
+    ensures regions { (n k : ℕ) → S.allocates_in seat.new n k → S.allocates_in seat.old n k }
     ensures same { (c : S) (n : ℕ) → S.offers seat.new c n → S.offers seat.old c n }
     ensures books { S.books seat.new ≡ record (S.books seat.old) { ticket = Some result } }
 {
@@ -88,18 +66,24 @@ fn take_some_free<S: Seat>(seat: &mut S, size: u32) -> bool
     requires most { size ≤ MAX_MEDIUM_WORDS }
     requires ticket { (t : ℕ) × ((S.books seat.old).ticket ≡ Some t)
         × (t < (S.books seat.old).allowance) }
-    requires lacks { (k : ℕ) → k < (S.books seat.old).blocks → S.lacks seat.old size k }
     ensures found { result ≡ true → S.has_room seat.new size }
     ensures offered { result ≡ true → S.offers seat.old seat.new size }
     ensures grants { result ≡ true → (k : ℕ) × S.goes seat.old (grants k) seat.new
-        × ((j : ℕ) → j < (S.books seat.new).blocks → j ≢ k → S.lacks seat.new size j)
+        × ((j : ℕ) → S.lacks seat.old size j → j ≢ k → S.lacks seat.new size j)
         × ((j : ℕ) → j < k → S.is_used seat.new j) × S.allocates_in seat.new size k }
+    ensures keeps { (result ≡ false) ⊎ S.is_overflow seat.old size
+        → S.keeps_region seat.old seat.new }
+    ensures overflow { S.is_overflow seat.old size → S.is_overflow seat.new size }
     ensures books { S.books seat.new ≡ record (S.books seat.old)
         { ticket = if result then None else (S.books seat.old).ticket } }
     ensures ready { result ≡ false → S.is_ready seat.new }
     ensures goes { result ≡ false → S.goes seat.old nothing seat.new }
-    ensures lacks { (k : ℕ) → result ≡ false → k < (S.books seat.new).blocks
-        → S.lacks seat.new size k }
+    ensures lacks { (j : ℕ) → result ≡ false → S.lacks seat.old size j
+        → S.lacks seat.new size j }
+    ensures regions { (n k : ℕ) → result ≡ false → S.allocates_in seat.new n k
+        → S.allocates_in seat.old n k }
+    ensures same { (c : S) (n : ℕ) → result ≡ false → S.offers seat.new c n
+        → S.offers seat.old c n }
     ensures used { (k : ℕ) → result ≡ false → k < (S.books seat.new).blocks
         → S.is_used seat.new k }
 {
@@ -111,31 +95,34 @@ fn take_some_free<S: Seat>(seat: &mut S, size: u32) -> bool
     false
 }
 
-/// Makes the seat's region one with room for `size` words: it has room, or a hole is found, or a
-/// Free block is taken with a ticket.
-fn find_room<S: Seat>(seat: &mut S, size: u32) -> Result<(), NeedCause>
+/// Takes the first Free block with the mutator's ticket, which is drawn if it has none.
+fn take_free_block<S: Seat>(seat: &mut S, size: u32) -> Result<(), NeedCause>
     requires ready { S.is_ready seat.old }
     requires least { 3 ≤ size }
     requires most { size ≤ MAX_MEDIUM_WORDS }
     ensures room { IsOk result → S.has_room seat.new size }
     ensures offered { IsOk result → S.offers seat.old seat.new size }
-    ensures finds { IsOk result → (taken : List ℕ) × (granted : List ℕ) × (drawn : ℕ)
-        × S.goes seat.old (searches taken granted drawn) seat.new
-        × FindsRoom (S.lacks seat.new size) (S.is_used seat.new) (S.allocates_in seat.old size)
-        (S.allocates_in seat.new size) (IsNextTicket S.goes S.has_budget seat.old)
-        (S.books seat.new).blocks (S.books seat.new).allowance
-        (S.books seat.old).ticket (S.books seat.new).ticket taken granted drawn }
+    ensures takes { IsOk result → (k : ℕ) × (drawn : ℕ)
+        × S.goes seat.old (searches (k ∷ []) (k ∷ []) drawn) seat.new
+        × TakesFree (S.is_used seat.new) (S.allocates_in seat.new size) (S.has_budget seat.old)
+        (S.books seat.old) (S.books seat.new) k drawn
+        × ((j : ℕ) → S.lacks seat.old size j → j ≢ k → S.lacks seat.new size j) }
+    ensures keeps { IsErr result ⊎ S.is_overflow seat.old size
+        → S.keeps_region seat.old seat.new }
+    ensures overflow { S.is_overflow seat.old size → S.is_overflow seat.new size }
     ensures births { (S.books seat.new).births ≡ (S.books seat.old).births }
+    ensures blocks { (S.books seat.new).blocks ≡ (S.books seat.old).blocks }
     ensures ready { IsErr result → S.is_ready seat.new }
     ensures goes { IsErr result → (drawn : ℕ) × S.goes seat.old (draws drawn) seat.new
-        × Draws (IsNextTicket S.goes S.has_budget seat.old)
+        × Draws (S.has_budget seat.old)
         (S.books seat.old).ticket (S.books seat.new).ticket drawn }
-    ensures cause { IfErr result (IsCause (S.books seat.new)
-        (S.lacks seat.new size) (S.is_used seat.new) size) }
+    ensures lacks { (j : ℕ) → IsErr result → S.lacks seat.old size j → S.lacks seat.new size j }
+    ensures same { (c : S) (n : ℕ) → IsErr result → S.offers seat.new c n
+        → S.offers seat.old c n }
+    ensures regions { (n k : ℕ) → IsErr result → S.allocates_in seat.new n k
+        → S.allocates_in seat.old n k }
+    ensures cause { IfErr result (IsShortage (S.books seat.new) (S.is_used seat.new)) }
 {
-    if find_hole(seat, size) {
-        return Ok(());
-    }
     let ticket = hold_ticket(seat);
     if ticket >= seat.allowance() {
         return Err(NeedCause::Budget(ticket));
@@ -146,11 +133,97 @@ fn find_room<S: Seat>(seat: &mut S, size: u32) -> Result<(), NeedCause>
     Err(NeedCause::Seen)
 }
 
+/// Makes the seat's region one with room for an object of `size` words that overflows the region: a
+/// Free block, else a hole, first one in the block of the hole region.
+fn find_overflow<S: Seat>(seat: &mut S, size: u32) -> Result<(), NeedCause>
+    requires ready { S.is_ready seat.old }
+    requires least { 3 ≤ size }
+    requires most { size ≤ MAX_MEDIUM_WORDS }
+    requires overflow { S.is_overflow seat.old size }
+    requires full { S.is_full seat.old size }
+    ensures room { IsOk result → S.has_room seat.new size }
+    ensures offered { IsOk result → S.offers seat.old seat.new size }
+    ensures finds { IsOk result → (taken : List ℕ) × (granted : List ℕ) × (drawn : ℕ)
+        × S.goes seat.old (searches taken granted drawn) seat.new
+        × FindsRoom (S.lacks seat.new size) (S.is_used seat.new) (S.allocates_in seat.old size)
+        (S.allocates_in seat.new size) (S.has_budget seat.old) (S.is_full seat.old size)
+        (IsSpent S.goes S.keeps_region S.allocates_in S.lacks seat.old size)
+        (S.is_overflow seat.old size) (S.keeps_region seat.old seat.new
+        × S.is_overflow seat.new size) (S.books seat.new).blocks (S.books seat.new).allowance
+        (S.books seat.old).ticket (S.books seat.new).ticket taken granted drawn }
+    ensures births { (S.books seat.new).births ≡ (S.books seat.old).births }
+    ensures ready { IsErr result → S.is_ready seat.new }
+    ensures goes { IsErr result → (drawn : ℕ) × S.goes seat.old (draws drawn) seat.new
+        × Draws (S.has_budget seat.old)
+        (S.books seat.old).ticket (S.books seat.new).ticket drawn }
+    ensures spent { IsErr result
+        → IsSpent S.goes S.keeps_region S.allocates_in S.lacks seat.old size }
+    ensures kept { IsErr result → S.keeps_region seat.old seat.new }
+    ensures cause { IfErr result (IsCause (S.books seat.new)
+        (S.lacks seat.new size) (S.is_used seat.new) size) }
+{
+    let Err(cause) = take_free_block(seat, size) else {
+        return Ok(());
+    };
+    if seat.take_own_hole(size) {
+        return Ok(());
+    }
+    if take_some_hole(seat, size) {
+        return Ok(());
+    }
+    Err(cause)
+}
+
+/// Makes the seat's region one with room for `size` words: it has room, or a hole is found, first
+/// one in the block of the hole region, or a Free block is taken with a ticket. In overflow
+/// allocation a Free block comes before a hole.
+fn find_room<S: Seat>(seat: &mut S, size: u32) -> Result<(), NeedCause>
+    requires ready { S.is_ready seat.old }
+    requires least { 3 ≤ size }
+    requires most { size ≤ MAX_MEDIUM_WORDS }
+    ensures room { IsOk result → S.has_room seat.new size }
+    ensures offered { IsOk result → S.offers seat.old seat.new size }
+    ensures finds { IsOk result → (taken : List ℕ) × (granted : List ℕ) × (drawn : ℕ)
+        × S.goes seat.old (searches taken granted drawn) seat.new
+        × FindsRoom (S.lacks seat.new size) (S.is_used seat.new) (S.allocates_in seat.old size)
+        (S.allocates_in seat.new size) (IsNextTicket S.goes S.has_budget seat.old)
+        (S.is_full seat.old size)
+        (IsSpent S.goes S.keeps_region S.allocates_in S.lacks seat.old size)
+        (S.is_overflow seat.old size) (S.keeps_region seat.old seat.new
+        × S.is_overflow seat.new size) (S.books seat.new).blocks (S.books seat.new).allowance
+        (S.books seat.old).ticket (S.books seat.new).ticket taken granted drawn }
+    ensures births { (S.books seat.new).births ≡ (S.books seat.old).births }
+    ensures ready { IsErr result → S.is_ready seat.new }
+    ensures goes { IsErr result → (drawn : ℕ) × S.goes seat.old (draws drawn) seat.new
+        × Draws (IsNextTicket S.goes S.has_budget seat.old)
+        (S.books seat.old).ticket (S.books seat.new).ticket drawn }
+    ensures spent { IsErr result
+        → IsSpent S.goes S.keeps_region S.allocates_in S.lacks seat.old size }
+    ensures kept { IsErr result → S.keeps_region seat.old seat.new }
+    ensures cause { IfErr result (IsCause (S.books seat.new)
+        (S.lacks seat.new size) (S.is_used seat.new) size) }
+{
+    if seat.fits_region(size) {
+        return Ok(());
+    }
+    if seat.overflows(size) {
+        return find_overflow(seat, size);
+    }
+    if seat.take_own_hole(size) {
+        return Ok(());
+    }
+    if take_some_hole(seat, size) {
+        return Ok(());
+    }
+    take_free_block(seat, size)
+}
+
 /// Allocates an object with `refs` nil references and `nums` zeros, and stores its address in
-/// register `d`: in the seat's region if it has room, else in a hole, else in a Free block.
+/// register `d`: in a region of the seat if one has room, else in a hole, else in a Free block. In
+/// overflow allocation a Free block comes before a hole.
 ///
 /// The answer is `Stop` if the object is large, or if no block has room that the mutator may fill
-/// and no Free block may be taken.
+/// and no Free block may be taken. The hole region stays then.
 pub fn new_object<S: Seat>(seat: &mut S, d: u32, refs: u32, nums: u32) -> Allocated
     requires ready { S.is_ready seat.old }
     requires register { d < REGISTERS }
@@ -164,7 +237,10 @@ pub fn new_object<S: Seat>(seat: &mut S, d: u32, refs: u32, nums: u32) -> Alloca
         × FindsRoom (S.lacks seat.new (size_of refs nums)) (S.is_used seat.new)
         (S.allocates_in seat.old (size_of refs nums))
         (S.allocates_in seat.new (size_of refs nums)) (IsNextTicket S.goes S.has_budget seat.old)
-        (S.books seat.new).blocks (S.books seat.new).allowance
+        (S.is_full seat.old (size_of refs nums))
+        (IsSpent S.goes S.keeps_region S.allocates_in S.lacks seat.old (size_of refs nums))
+        (S.is_overflow seat.old (size_of refs nums))
+        (S.keeps_region seat.old seat.new) (S.books seat.new).blocks (S.books seat.new).allowance
         (S.books seat.old).ticket (S.books seat.new).ticket
         taken granted drawn) (λ need. ⊤) }
     ensures placed { MatchAllocated result (λ name. (mid : S)
@@ -177,6 +253,11 @@ pub fn new_object<S: Seat>(seat: &mut S, d: u32, refs: u32, nums: u32) -> Alloca
         × Draws (IsNextTicket S.goes S.has_budget seat.old)
         (S.books seat.old).ticket (S.books seat.new).ticket drawn
         × (MAX_MEDIUM_WORDS < size_of refs nums → drawn ≡ 0)) }
+    ensures spent { MatchAllocated result (λ name. ⊤) (λ need.
+        size_of refs nums ≤ MAX_MEDIUM_WORDS
+        → IsSpent S.goes S.keeps_region S.allocates_in S.lacks seat.old (size_of refs nums)) }
+    ensures kept { MatchAllocated result (λ name. ⊤)
+        (λ need. S.keeps_region seat.old seat.new) }
     ensures need { MatchAllocated result (λ name. ⊤) (IsNeedOf d refs nums) }
     ensures cause { MatchAllocated result (λ name. ⊤) (λ need. IsCause (S.books seat.new)
         (S.lacks seat.new (size_of refs nums)) (S.is_used seat.new)

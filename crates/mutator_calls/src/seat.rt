@@ -64,8 +64,19 @@ pub trait Seat {
     // The seat's region for objects of the size has room for one.
     ghost has_room: { Self → ℕ → Type 0 };
 
-    // The seat's region for objects of the size is in this block: size, block.
+    // A region that the seat tries for objects of the size is in this block: size, block.
     ghost allocates_in: { Self → ℕ → ℕ → Type 0 };
+
+    // No region that the seat tries for objects of the size has room for one.
+    ghost is_full: { Self → ℕ → Type 0 };
+
+    // An object of the size would overflow the region that the seat fills: it goes to a Free block
+    // before holes are looked for.
+    ghost is_overflow: { Self → ℕ → Type 0 };
+
+    // From the one state to the other the region that the seat fills stayed as it was. Overflow
+    // allocation does not move it.
+    ghost keeps_region: { Self → Self → Type 0 };
 
     // The region of the second state is room for the size that the mutator may fill in the first:
     // a hole of a block that it owns or nobody does, or a Free block. Only blocks were taken.
@@ -294,8 +305,15 @@ pub trait Seat {
         ensures room { result ≡ true → has_room self.now size }
         ensures offered { result ≡ true → offers self.now self.now size }
         ensures region { result ≡ true → (k : ℕ) × allocates_in self.now size k }
-        ensures lacks { (k : ℕ) → result ≡ false → allocates_in self.now size k
-            → lacks self.now size k };
+        ensures full { result ≡ false → is_full self.now size };
+
+    /// Whether an object of `size` words, for which no region has room, goes to a Free block before
+    /// holes are looked for. So it does under a plan with lines if it takes more than a line and
+    /// the hole region still has some room: overflow allocation, as in Immix.
+    fn overflows(&self, size: u32) -> bool
+        requires ready { is_ready self.now }
+        ensures yes { result ≡ true → is_overflow self.now size }
+        ensures no { result ≡ false → is_overflow self.now size → ⊥ };
 
     /// Looks at a block for a hole with room for `size` words that the mutator may fill: its block
     /// word, its side words, and, if it has no cells, the shape word of its last object, unless a
@@ -315,11 +333,38 @@ pub trait Seat {
         ensures ready { result ≡ false → is_ready self.new }
         ensures goes { result ≡ false → goes self.old nothing self.new }
         ensures lacks { result ≡ false → lacks self.new size block }
+        ensures still { (k : ℕ) → is_used self.old k → is_used self.new k }
         ensures others { (n k : ℕ) → k ≢ block → lacks self.old n k → lacks self.new n k }
         ensures stays { (n k : ℕ) → result ≡ false → lacks self.old n k
             → lacks self.new n k }
         ensures same { (c : Self) (n : ℕ) → result ≡ false → offers self.new c n
             → offers self.old c n }
+        ensures keeps { result ≡ false → keeps_region self.old self.new }
+        ensures books { books self.new ≡ books self.old };
+
+    /// Goes on in the block of the hole region, under a plan with lines: the first hole of the
+    /// block with room for `size` words, from the region's end on, becomes the hole region, if
+    /// there is one. Nothing changes if a region has room.
+    fn take_own_hole(&mut self, size: u32) -> bool
+        requires ready { is_ready self.old }
+        requires least { 3 ≤ size }
+        requires most { size ≤ MAX_MEDIUM_WORDS }
+        ensures found { result ≡ true → has_room self.new size }
+        ensures offered { result ≡ true → offers self.old self.new size }
+        ensures region { result ≡ true → (k : ℕ) × allocates_in self.old size k
+            × allocates_in self.new size k }
+        ensures ready { result ≡ false → is_ready self.new }
+        ensures goes { goes self.old nothing self.new }
+        ensures lacks { result ≡ false → (k : ℕ) → allocates_in self.old size k
+            → lacks self.old size k }
+        ensures still { (k : ℕ) → is_used self.old k → is_used self.new k }
+        ensures overflow { (n : ℕ) → result ≡ false → is_overflow self.old n
+            → is_overflow self.new n }
+        ensures stays { (n k : ℕ) → result ≡ false → lacks self.old n k
+            → lacks self.new n k }
+        ensures same { (c : Self) (n : ℕ) → result ≡ false → offers self.new c n
+            → offers self.old c n }
+        ensures keeps { result ≡ false → keeps_region self.old self.new }
         ensures books { books self.new ≡ books self.old };
 
     /// Draws a ticket: the budget word rises by 1. The ticket is the number before.
@@ -329,12 +374,16 @@ pub trait Seat {
         ensures ready { is_ready self.new }
         ensures goes { goes self.old (draws 1) self.new }
         ensures next { has_budget self.old result }
+        ensures overflow { (n : ℕ) → is_overflow self.old n → is_overflow self.new n }
+        ensures keeps { keeps_region self.old self.new }
         ensures stays { (n k : ℕ) → lacks self.old n k → lacks self.new n k }
+        ensures regions { (n k : ℕ) → allocates_in self.new n k → allocates_in self.old n k }
         ensures same { (c : Self) (n : ℕ) → offers self.new c n → offers self.old c n }
         ensures books { books self.new ≡ record (books self.old) { ticket = Some result } };
 
     /// Takes a block with the ticket if it is Free: the block becomes the mutator's, of the kind
-    /// that mutators fill, and its words are the region.
+    /// that mutators fill, and its words are the region for the size. In overflow allocation they
+    /// are the overflow region, and the region that the seat fills stays.
     fn take_free(&mut self, block: u32, size: u32) -> bool
         requires ready { is_ready self.old }
         requires block { block < (books self.old).blocks }
@@ -348,17 +397,22 @@ pub trait Seat {
         ensures region { result ≡ true → allocates_in self.new size block }
         ensures ready { result ≡ false → is_ready self.new }
         ensures used { result ≡ false → is_used self.new block }
+        ensures keeps { (result ≡ false) ⊎ is_overflow self.old size
+            → keeps_region self.old self.new }
+        ensures overflow { is_overflow self.old size → is_overflow self.new size }
         ensures offers { (c : Self) (n : ℕ) → result ≡ false → offers self.new c n
             → offers self.old c n }
         ensures still { (k : ℕ) → is_used self.old k → is_used self.new k }
         ensures stays { (n k : ℕ) → k ≢ block → lacks self.old n k → lacks self.new n k }
         ensures same { result ≡ false → (n k : ℕ) → lacks self.old n k
             → lacks self.new n k }
+        ensures regions { (n k : ℕ) → result ≡ false → allocates_in self.new n k
+            → allocates_in self.old n k }
         ensures books { books self.new ≡ record (books self.old)
             { ticket = if result then None else (books self.old).ticket } };
 
-    /// Stores the words of a new object at the start of the region, in order, and then sets its
-    /// start bit. The region begins after the object. Register `d` holds the object.
+    /// Stores the words of a new object at the start of the region for its size, in order, and then
+    /// sets its start bit. The region begins after the object. Register `d` holds the object.
     fn publish(&mut self, d: u32, shape: &Shape) -> Name
         requires room { has_room self.old (size_of shape.now.refs shape.now.nums) }
         requires register { d < REGISTERS }
@@ -373,6 +427,8 @@ pub trait Seat {
         ensures stays { (n k : ℕ) → lacks self.old n k → lacks self.new n k }
         ensures still { (k : ℕ) → is_used self.old k → is_used self.new k }
         ensures placed { places self.old self.new d (size_of shape.now.refs shape.now.nums) }
+        ensures keeps { is_overflow self.old (size_of shape.now.refs shape.now.nums)
+            → keeps_region self.old self.new }
         ensures region { (k : ℕ)
             → allocates_in self.old (size_of shape.now.refs shape.now.nums) k
             → allocates_in self.new (size_of shape.now.refs shape.now.nums) k }
@@ -391,6 +447,12 @@ pub trait Seat {
         requires { is_ready self.old }
         ensures ready { is_ready self.new }
         ensures goes { goes self.old raises self.new };
+
+    // What keeps the region does so again.
+    ghost region_is_kept: { (a : Self) → keeps_region a a };
+
+    ghost region_stays_kept: { (a b c : Self) → keeps_region a b → keeps_region b c
+        → keeps_region a c };
 
     // Loads follow one another, and so do effects.
     ghost looks_at_nothing: { (a : Self) → looks a a };

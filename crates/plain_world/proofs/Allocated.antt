@@ -8,12 +8,12 @@ use Rattle.ideal_heap.specs.Names.{name}
 use Rattle.object_model.specs.declared.row.Row.{Row}
 use Rattle.object_model.specs.Objects.{state_of, size_of}
 use Rattle.object_model.specs.Changes.{WritesObject}
-use Rattle.sessions.specs.Fitting.{class_for}
 use Rattle.mutator_calls.specs.declared.need.Mutator.{Mutator}
 use Rattle.plain_world.specs.declared.plain_row.PlainRow.{PlainRow}
 use Rattle.plain_world.specs.declared.plain_row.BlockNote.{BlockNote}
 use Rattle.plain_world.specs.declared.plain_row.BlockNote.TheVariants.{Owned}
-use Rattle.plain_world.specs.Rows.{ChangesAt, mutator_at_turn, seat_at_turn, number_at_turn, block_of}
+use Rattle.plain_world.specs.Rows.{ChangesAt, mutator_at_turn, seat_at_turn, number_at_turn}
+use Rattle.plain_world.specs.TwoRegions.{IsBlockFor}
 use Rattle.plain_world.specs.Regions.{IsRestAfter}
 use Rattle.plain_world.specs.Changes.{Allocates}
 
@@ -29,7 +29,7 @@ pub record IsBorn (a b : PlainRow) (d : ℕ) (n : Name) (refs nums : ℕ) : Type
   pub counts : b.counts ≡ a.counts
   pub owned : b.owned ≡ a.owned
   pub seats : b.seats ≡ a.seats
-  pub current : block_of (seat_at_turn a) (class_for a.fill (size_of refs nums)) ≡ Some block
+  pub current : IsBlockFor a.fill a.notes.items (seat_at_turn a) (size_of refs nums) block
   pub was : slice_get a.notes.items block ≡ Some (Owned (number_at_turn a) region)
   pub room : region.next + size_of refs nums ≤ region.end
   pub rest : IsRestAfter a.fill (state_of a.row) block (size_of refs nums) region left

@@ -1,22 +1,26 @@
 -- What an allocation's effect gives for the world's call.
-use Rattle.std.proofs.Common.{◌≡◌, sym, ◌∙◌, ap, subst, ℕ, ◌+◌, ◌⊎◌, arith, List}
-use Rattle.std.specs.Prelude.{Option, Some, None, slice_get, slice_index, unwrap_or}
+use Rattle.std.proofs.Common.{◌≡◌, refl, sym, ◌∙◌, ap, subst, ℕ, ◌+◌, arith, List}
+use Rattle.std.specs.Prelude.{Option, Some, None, slice_get, slice_index}
 use Rattle.ideal_heap.specs.declared.name.Name.{Name}
 use Rattle.heap_layout.specs.Zones.{block_start}
 use Rattle.heap_layout.specs.declared.region.Region.{Region}
 use Rattle.object_model.specs.Objects.{state_of, word_at, owner_at}
-use Rattle.sessions.specs.Fitting.{HasHole, HasCellFor, class_for}
+use Rattle.sessions.specs.Fitting.{HasCellFor}
 use Rattle.mutator_calls.specs.declared.need.Need.{Need}
 use Rattle.mutator_calls.specs.declared.need.NeedCause.{NeedCause}
 use Rattle.mutator_calls.specs.declared.need.NeedCause.TheVariants.{Large, Budget, Seen}
 use Rattle.mutator_calls.specs.declared.need.Allocated.{Allocated}
 use Rattle.mutator_calls.specs.declared.need.Allocated.TheVariants.{Made, Stop}
-use Rattle.mutator_calls.proofs.Finding.{draws-from}
+use Rattle.mutator_calls.proofs.Finding.{finds-later}
 use Rattle.mutator_calls.specs.Allocating.{Books, FindsRoom, IsCause, MatchAllocated}
 use Rattle.plain_world.specs.declared.plain_row.PlainRow.{PlainRow}
 use Rattle.plain_world.specs.declared.plain_row.BlockNote.{BlockNote}
 use Rattle.plain_world.specs.declared.plain_row.BlockNote.TheVariants.{Unowned, Owned}
-use Rattle.plain_world.specs.Rows.{number_of, births_of, registers_of, ticket_of, block_of}
+use Rattle.plan_api.specs.declared.cursors.Cursors.{Cursors}
+use Rattle.plan_api.specs.Cursors.{PlacesInRegion}
+use Rattle.plain_world.specs.Rows.{number_of, births_of, registers_of, ticket_of, seat_at_turn}
+use Rattle.plain_world.specs.TwoRegions.{FillsLines, cursors_of, TriesBlock, LacksBlock, LacksRegions}
+use Rattle.plain_world.proofs.Turns.{block-one}
 use Rattle.mutator_calls.specs.Effects.{nothing}
 use Rattle.plain_world.specs.Worlds.{Goes}
 use Rattle.plain_world.specs.Steps.{Lacks, HasBudget, books_of, IsOffer, Offers, PlacesObject}
@@ -33,8 +37,10 @@ allocated-both (Stop need) is = is
 
 -- the same, by the place of the mutator
 abbrev pub LacksAt : PlainRow → ℕ → ℕ → ℕ → Type 0
-LacksAt b m size k = (at : ℕ) → (owner_at (state_of b.row) k ≡ 0) ⊎ (owner_at (state_of b.row) k ≡ number_of (slice_get b.mutators.items m))
-    → HasHole b.fill (state_of b.row) k at size → ⊥
+LacksAt b m size k = LacksBlock b.fill b.notes.items (slice_get b.seats.items m) (state_of b.row) (number_of (slice_get b.mutators.items m)) size k
+
+abbrev pub FullAt : PlainRow → ℕ → ℕ → Type 0
+FullAt b m size = LacksRegions b.fill b.notes.items (slice_get b.seats.items m) (state_of b.row) (number_of (slice_get b.mutators.items m)) size
 
 abbrev pub books_for : PlainRow → ℕ → Books
 books_for b m = record {
@@ -45,8 +51,7 @@ books_for b m = record {
 }
 
 pub lacks-at : (b : PlainRow) (m size : ℕ) → b.turn ≡ m → (k : ℕ) → Lacks b size k → LacksAt b m size k
-lacks-at b m size turn k lacks = subst (λ t. (at : ℕ) → (owner_at (state_of b.row) k ≡ 0) ⊎ (owner_at (state_of b.row) k ≡ number_of (slice_get b.mutators.items t))
-    → HasHole b.fill (state_of b.row) k at size → ⊥) turn lacks
+lacks-at b m size turn k lacks = subst (λ t. LacksAt b t size k) turn lacks
 
 pub books-at : (b : PlainRow) (m : ℕ) → b.turn ≡ m → books_of b ≡ books_for b m
 books-at b m turn =
@@ -68,15 +73,12 @@ next-ticket a t seen = let same : word_at (state_of seen.0.row) 1 ≡ word_at (s
     let is : word_at (state_of seen.0.row) 1 ≡ t = seen.2 in
     omega arith
 
-pub finds-weaker : (lacks lacks' used before now next next' : ℕ → Type 0) (blocks allowance : ℕ) (old new : Option ℕ) (taken granted : List ℕ) (drawn : ℕ)
-    → ((k : ℕ) → lacks k → lacks' k) → ((t : ℕ) → next t → next' t) → FindsRoom lacks used before now next blocks allowance old new taken granted drawn
-    → FindsRoom lacks' used before now next' blocks allowance old new taken granted drawn
-finds-weaker lacks lacks' used before now next next' blocks allowance old new taken granted drawn weaker follows (FindsRoom.in_region k b here t g d n) =
-    FindsRoom.in_region k b here t g d n
-finds-weaker lacks lacks' used before now next next' blocks allowance old new taken granted drawn weaker follows (FindsRoom.in_hole k here t g d n lower first) =
-    FindsRoom.in_hole k here t g d n (λ j below. weaker j (lower j below)) (λ j was other. weaker j (first j was other))
-finds-weaker lacks lacks' used before now next next' blocks allowance old new taken granted drawn weaker follows (FindsRoom.in_free_block k ticket here t g d few n others lower) =
-    FindsRoom.in_free_block k ticket here t g (draws-from next next' old (Some ticket) drawn follows d) few n (λ j below other. weaker j (others j below other)) lower
+pub finds-weaker : (lacks lacks' used before now now' next next' : ℕ → Type 0) (full spent overflow kept kept' : Type 0) (blocks allowance : ℕ) (old new : Option ℕ)
+    (taken granted : List ℕ) (drawn : ℕ) → ((k : ℕ) → lacks k → lacks' k) → ((k : ℕ) → now k → now' k) → ((t : ℕ) → next t → next' t) → (kept → kept')
+    → FindsRoom lacks used before now next full spent overflow kept blocks allowance old new taken granted drawn
+    → FindsRoom lacks' used before now' next' full spent overflow kept' blocks allowance old new taken granted drawn
+finds-weaker lacks lacks' used before now now' next next' full spent overflow kept kept' blocks allowance old new taken granted drawn weaker here follows keeps found =
+    finds-later lacks used lacks' used before now now' next next' full spent overflow kept kept' blocks allowance old new new taken granted drawn weaker (λ k is. is) here follows keeps refl found
 
 pub cause-weaker : (books : Books) (P Q R : ℕ → Type 0) (size : ℕ) (cause : NeedCause) → ((k : ℕ) → P k → Q k) → IsCause books P R size cause → IsCause books Q R size cause
 cause-weaker books P Q R size Large weaker is = is
@@ -97,13 +99,15 @@ pub record IsPlaced (a b : PlainRow) (m d size : ℕ) : Type 0 where
   pub offset : ℕ
   pub address : slice_index (registers_of (slice_get b.mutators.items m)) d ≡ block_start (state_of b.row).blocks block + offset
   pub owner : owner_at (state_of b.row) block ≡ number_of (slice_get b.mutators.items m)
-  pub current : block_of (slice_get b.seats.items m) (class_for b.fill size) ≡ Some block
+  pub current : TriesBlock b.fill (slice_get b.seats.items m) size block
   pub cell : HasCellFor b.fill (state_of b.row) block offset size
   pub spot : IsOffer (record a { turn = m }) block offset size
+  pub region : FillsLines b.fill → (before : Cursors) × PlacesInRegion before (cursors_of b.notes.items (slice_get b.seats.items m)) size block offset
 
 pub placed-at : (a mid b : PlainRow) (m d size : ℕ) → b.turn ≡ m → Offers (record a { turn = m }) mid size → PlacesObject mid b d size → IsPlaced a b m d size
 placed-at a mid b m d size turn offers places =
-    let block : offers.block ≡ places.block = ap (λ o. unwrap_or o 0) (sym offers.now.current ∙ places.now.current) in
+    let block : offers.block ≡ places.block
+    = block-one mid.fill mid.notes.items (seat_at_turn mid) size offers.block places.block offers.now.current places.now.current in
     let region : offers.region ≡ places.region = region-read _ _ offers.region places.region
     (sym (ap (λ k. slice_get mid.notes.items k) (sym block) ∙ offers.now.note) ∙ places.now.note) in
     record {
@@ -111,8 +115,13 @@ placed-at a mid b m d size turn offers places =
       offset = places.region.next;
       address = ap (λ t. slice_index (registers_of (slice_get b.mutators.items t)) d) (sym turn) ∙ places.address;
       owner = places.owner ∙ ap (λ t. number_of (slice_get b.mutators.items t)) turn;
-      current = ap (λ t. block_of (slice_get b.seats.items t) (class_for b.fill size)) (sym turn) ∙ places.current;
+      current = subst (λ t. TriesBlock b.fill (slice_get b.seats.items t) size places.block) turn places.current;
       cell = places.cell;
       spot = subst (λ k. IsOffer (record a { turn = m }) k places.region.next size) block
           (subst (λ r. IsOffer (record a { turn = m }) offers.block r.next size) region offers.offer);
+      region = λ lines. (
+        cursors_of mid.notes.items (seat_at_turn mid),
+        subst (λ t. PlacesInRegion (cursors_of mid.notes.items (seat_at_turn mid)) (cursors_of b.notes.items (slice_get b.seats.items t)) size places.block places.region.next) turn
+            (places.region_after lines),
+      );
     }

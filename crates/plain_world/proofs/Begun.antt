@@ -1,6 +1,6 @@
 -- The world as an epoch begins.
 use Rattle.ideal_heap.specs.declared.command.TheConstants.{MAX_MUTATORS}
-use Rattle.std.proofs.Common.{◌≡◌, refl, sym, ◌∙◌, ap, subst, ℕ, zero, suc, ◌+◌, ◌<◌, ◌≤◌, inl, inr, arith, Bool, true, false, ◌==◌, IsTrue, List, [], ◌∷◌, length, map, replicate, bit_and}
+use Rattle.std.proofs.Common.{◌≡◌, refl, sym, ◌∙◌, ap, subst, ℕ, zero, suc, ◌+◌, ◌<◌, ◌≤◌, arith, Bool, true, false, ◌==◌, IsTrue, List, [], ◌∷◌, length, map, replicate, bit_and}
 use Rattle.std.specs.Prelude.{Some, None, slice_get, if◌then◌else◌, vec_capacity}
 use Rattle.std.specs.List.{Contains}
 use Rattle.std.proofs.lemmas.List.{length-map, length-replicate}
@@ -15,6 +15,7 @@ use Rattle.sessions.specs.Fitting.{allowance_of}
 use Rattle.plan_api.specs.Counting.{session_counts}
 use Rattle.plan_api.specs.Flags.{flags_of, has_cells}
 use Rattle.mutator_core.specs.Machine.{Epoch, first_local, first_local_of}
+use Rattle.heap_layout.specs.declared.block.Kind.TheVariants as kinds
 use Rattle.mutator_core.specs.Epochs.{IsReady, is_filled}
 use Rattle.mutator_calls.specs.declared.need.Mutator.{Mutator}
 use Rattle.plain_world.specs.declared.plain_row.PlainRow.{PlainRow}
@@ -22,7 +23,7 @@ use Rattle.plain_world.specs.declared.plain_row.PlainSeat.{PlainSeat}
 use Rattle.plain_world.specs.declared.plain_row.TheConstants.{CLASSES}
 use Rattle.plain_world.specs.declared.block_notes.BlockNotes.{BlockNotes}
 use Rattle.plain_world.specs.Rows.{mutator_state, ticket_of}
-use Rattle.plain_world.specs.Notes.{FillsTailsOrCells, HasNotes, ListsOwned, AreUnowned, AreNotes}
+use Rattle.plain_world.specs.Notes.{FillsHoles, HasNotes, ListsOwned, AreUnowned, AreNotes}
 use Rattle.plain_world.specs.Beginnings.{MayUse, without_stop, epoch_of}
 use Rattle.plain_world.specs.Worlds.{HasState, HasCursors, HasLists, IsAt, IsAfter, IsIdle}
 use Rattle.plain_world.proofs.Lists.{get-map}
@@ -56,7 +57,7 @@ young-flag r = young-of r.moves r.young r.lines (has_cells r.fill)
 
 -- a seat without a ticket and blocks
 abbrev pub no_seat : PlainSeat
-no_seat = record { ticket = None; blocks = replicate CLASSES None }
+no_seat = record { ticket = None; blocks = replicate CLASSES None; over = None }
 
 -- an element of a list of copies
 pub get-copy : {A : Type 0} (n : ℕ) (x y : A) (k : ℕ) → slice_get (replicate n x) k ≡ Some y → y ≡ x
@@ -80,10 +81,16 @@ pub same-blocks : {s t : HeapState} → s ≡ t → s.blocks ≡ t.blocks
 same-blocks same = ap (λ (x : HeapState). x.blocks) same
 
 -- the plan's kind is one that mutators fill
-kind-filled : (fill : Kind) → FillsTailsOrCells fill → IsTrue (is_filled fill)
-kind-filled fill (inl (inl bump)) = subst (λ k. IsTrue (is_filled k)) (sym bump) refl
-kind-filled fill (inl (inr young)) = subst (λ k. IsTrue (is_filled k)) (sym young) refl
-kind-filled fill (inr cells) = subst (λ k. IsTrue (is_filled k)) (sym cells) refl
+kind-filled : (fill : Kind) → FillsHoles fill → IsTrue (is_filled fill)
+kind-filled kinds.Bump fills = refl
+kind-filled kinds.Young fills = refl
+kind-filled kinds.Cells fills = refl
+kind-filled kinds.Immix fills = refl
+kind-filled kinds.Free fills = fills
+kind-filled kinds.Mature fills = fills
+kind-filled kinds.LargeHead fills = fills
+kind-filled kinds.LargeTail fills = fills
+kind-filled kinds.Kept fills = fills
 
 -- the parts of a world as an epoch begins
 pub record IsBegun (r : Rules) (s : HeapState) (ms : List MutatorState) (w : PlainRow) : Type 0 where
@@ -100,7 +107,7 @@ pub record IsBegun (r : Rules) (s : HeapState) (ms : List MutatorState) (w : Pla
   pub allowance : w.allowance ≡ allowance_of r.reserve s
 
 module _ (r : Rules) (s : HeapState) (ms : List MutatorState) (w : PlainRow) (begun : IsBegun r s ms w)
-    (lawful : IsLawful s) (may : MayUse s ms) (fills : FillsTailsOrCells r.fill) (remembers : Remembers r s) (few : length w.mutators.items ≤ MAX_MUTATORS) where
+    (lawful : IsLawful s) (may : MayUse s ms) (fills : FillsHoles r.fill) (remembers : Remembers r s) (few : length w.mutators.items ≤ MAX_MUTATORS) where
   abbrev p : Epoch
   p = epoch_of r s ms
 
@@ -130,10 +137,12 @@ module _ (r : Rules) (s : HeapState) (ms : List MutatorState) (w : PlainRow) (be
   no-seat k x some = get-copy (length w.mutators.items) no_seat x k (ap (λ xs. slice_get xs k) (sym begun.seats) ∙ some)
 
   -- no mutator allocates in a block
-  no-cursors : (number : ℕ) → HasCursors w.notes.items (state_of w.row) number no_seat
+  no-cursors : (number : ℕ) → HasCursors w.fill w.notes.items (state_of w.row) number no_seat
   no-cursors number = record {
     classes = refl;
     each = λ class block is. absurd (let wrong : Some block ≡ None = get-copy CLASSES None (Some block) class is in cc);
+    over = λ lines block is. absurd (let wrong : None ≡ Some block = is in cc);
+    apart = λ lines block is. absurd (let wrong : None ≡ Some block = is in cc);
   }
 
   state-begun : (k : ℕ) (m : Mutator) (x : PlainSeat) → slice_get w.mutators.items k ≡ Some m → slice_get w.seats.items k ≡ Some x
@@ -150,10 +159,10 @@ module _ (r : Rules) (s : HeapState) (ms : List MutatorState) (w : PlainRow) (be
     numbers = sym (numbers-mapped w.mutators.items) ∙ ap numbers_of begun.mutators;
     seats = ap length begun.seats ∙ length-replicate (length w.mutators.items) no_seat;
     each = state-begun;
-    cursors = λ k m x some seat. subst (HasCursors w.notes.items (state_of w.row) m.number) (sym (no-seat k x seat)) (no-cursors m.number);
+    cursors = λ k m x some seat. subst (HasCursors w.fill w.notes.items (state_of w.row) m.number) (sym (no-seat k x seat)) (no-cursors m.number);
     notes = subst (λ f. HasNotes f (state_of w.row) w.notes.items) (sym begun.fill) (subst (λ t. HasNotes r.fill t w.notes.items) (sym begun.heap) notes-begun);
     fill = begun.fill;
-    fills = subst FillsTailsOrCells (sym begun.fill) fills;
+    fills = subst FillsHoles (sym begun.fill) fills;
     young = begun.young;
     allowed = begun.allowance ∙ sym (cleared.allowance-cleared s lawful r.reserve);
     lists = lists-begun;

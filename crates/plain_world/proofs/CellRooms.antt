@@ -19,9 +19,10 @@ use Rattle.mutator_core.specs.Machine.{Epoch, Machine, heap_in}
 use Rattle.mutator_core.specs.Guards.{IsCell, IsAvailable, BeginsRegion}
 use Rattle.mutator_core.specs.Epochs.{IsReady, IsInEpoch, IsOwned, IsMade}
 use Rattle.mutator_core.proofs.Fills.{owned-class}
-use Rattle.plain_world.specs.Notes.{FillsTails, FillsTailsOrCells, IsOwnedNote}
+use Rattle.plain_world.specs.Notes.{FillsTails, FillsHoles, IsOwnedNote}
 use Rattle.plain_world.specs.Regions.{IsRegionIn, IsCellLeft, free, full, IsRestAfter, without_first}
-use Rattle.plain_world.proofs.Regions.{region-inside}
+use Rattle.plain_world.proofs.Regions.{region-inside, fills-cases}
+use Rattle.plain_world.proofs.LineRegions.{here-lies}
 use Rattle.plain_world.proofs.Turns.{filled-class}
 use Rattle.plain_world.proofs.Rooms as rooms
 
@@ -158,7 +159,7 @@ module _ (p : Epoch) (cells : p.rules.fill ≡ kinds.Cells) (h : Machine) (now :
   }
 
 -- under tails and cells
-module _ (p : Epoch) (ready : IsReady p) (fills : FillsTailsOrCells p.rules.fill) (h : Machine) (now : IsInEpoch p (heap_in p h) h.locals)
+module _ (p : Epoch) (ready : IsReady p) (fills : FillsHoles p.rules.fill) (h : Machine) (now : IsInEpoch p (heap_in p h) h.locals)
     (m block a size : ℕ) (region : Region) (note : IsOwnedNote p.rules.fill (heap_in p h) block m region)
     (taken : Contains (h.locals m).owned (record { block = block; class = class_at (heap_in p h) block }))
     (there : block < p.before.blocks) (some : 0 < size) (room : region.next + size ≤ region.end)
@@ -178,9 +179,11 @@ module _ (p : Epoch) (ready : IsReady p) (fills : FillsTailsOrCells p.rules.fill
       )
 
   pub may-lie : IsAvailable p (h.locals m).owned (h.locals m).made a size × BeginsRegion p (h.locals m).made a size
-  may-lie = elim fills as (λ _. IsAvailable p (h.locals m).owned (h.locals m).made a size × BeginsRegion p (h.locals m).made a size) [
-    | inl tails ↦ of-tails tails
-    | inr cells ↦ (available-cell p cells h now m block a size region note taken there some room (fits cells) starts, inl cells)
+  may-lie = elim (fills-cases p.rules.fill fills) as (λ _. IsAvailable p (h.locals m).owned (h.locals m).made a size × BeginsRegion p (h.locals m).made a size) [
+    | inl (inl tails) ↦ of-tails tails
+    | inl (inr cells) ↦ (available-cell p cells h now m block a size region note taken there some room (fits cells) starts, inl cells)
+    | inr lines ↦ here-lies p ready lines h now m block a size region note.owner
+        (subst (λ (f : Kind). IsRegionIn f (heap_in p h) block region) lines note.left) taken there some room starts
   ]
 
 -- what an object leaves begins later
@@ -197,7 +200,7 @@ rest-later kinds.Young s k size r rest some room is = tail-later size r rest som
 rest-later kinds.Cells s k size r rest some room is = left-later s k size r.end rest (omega arith) is
 rest-later kinds.Free s k size r rest some room is = absurd is
 rest-later kinds.Mature s k size r rest some room is = absurd is
-rest-later kinds.Immix s k size r rest some room is = absurd is
+rest-later kinds.Immix s k size r rest some room is = tail-later size r rest some is
 rest-later kinds.LargeHead s k size r rest some room is = absurd is
 rest-later kinds.LargeTail s k size r rest some room is = absurd is
 rest-later kinds.Kept s k size r rest some room is = absurd is

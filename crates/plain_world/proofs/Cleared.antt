@@ -121,6 +121,7 @@ module _ (s : HeapState) (lawful : IsLawful s) where
     after = frames.held-after s (without_stop s).words keeps;
     before = frames.held-before s (without_stop s).words keeps;
     sizes = frames.size-after s (without_stop s).words keeps;
+    lines = keeps.lines;
   }
 
   pub allowance-cleared : (r : Reserve) → allowance_of r (without_stop s) ≡ allowance_of r s

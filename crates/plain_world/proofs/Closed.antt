@@ -1,5 +1,5 @@
 -- The end of an epoch of a world.
-use Rattle.std.proofs.Common.{◌≡◌, ◌≢◌, ◌≤◌, ◌%◌, ◌&&◌, ◌||◌, false, nat_eq, nat_lt, refl, sym, ◌∙◌, ap, subst, ℕ, suc, ◌+◌, ◌<◌, inl, inr, arith, List, [], ◌∷◌, length, map}
+use Rattle.std.proofs.Common.{◌≡◌, ◌≢◌, ◌≤◌, ◌%◌, ◌&&◌, ◌||◌, false, IsTrue, nat_eq, nat_lt, refl, sym, ◌∙◌, ap, subst, ℕ, suc, ◌+◌, ◌<◌, inl, inr, arith, List, [], ◌∷◌, length, map}
 use Rattle.std.specs.Prelude.{Some, None, Option, slice_get, sum_by, count_by}
 use Rattle.std.specs.List.{Contains, range_with_len}
 use Rattle.std.proofs.Math.Path.{fun_ext}
@@ -10,8 +10,9 @@ use Rattle.heap_layout.specs.Blocks.{kind_code}
 use Rattle.heap_layout.specs.declared.block.Kind.{Kind}
 use Rattle.heap_layout.specs.Zones.{block_at, row_words}
 use Rattle.heap_layout.specs.declared.block.Kind.TheVariants as kinds
+use Rattle.heap_layout.specs.declared.region.Region.{Region}
 use Rattle.ideal_heap.specs.Ideal.{IdealHeap}
-use Rattle.object_model.specs.Objects.{HeapState, state_of, with_words, word_at, block_word, has_kind, HasKind, owner_at, IsHeld, size_at}
+use Rattle.object_model.specs.Objects.{HeapState, state_of, with_words, word_at, block_word, has_kind, HasKind, owner_at, line_marked, IsHeld, size_at}
 use Rattle.object_model.specs.Graphs.{MutatorState, numbers_of, Represents, PointsTo, register_at, AreRegisters}
 use Rattle.object_model.proofs.Frames.{same-layout}
 use Rattle.object_model.proofs.OneKind.{one-kind}
@@ -46,9 +47,11 @@ use Rattle.plain_world.specs.declared.plain_row.PlainSeat.{PlainSeat}
 use Rattle.plain_world.specs.declared.plain_row.BlockNote.{BlockNote}
 use Rattle.plain_world.specs.declared.plain_row.BlockNote.TheVariants.{Unowned, Owned}
 use Rattle.plain_world.specs.Rows.{mutator_state, ticket_of}
-use Rattle.plain_world.specs.Notes.{FillsTailsOrCells, IsNote, IsOwnedNote, AreFilled}
+use Rattle.plain_world.specs.Notes.{FillsHoles, IsNote, IsOwnedNote, AreFilled}
+use Rattle.plain_world.specs.Regions.{IsRegionIn}
 use Rattle.plain_world.specs.Worlds.{HasState, IsAt, IsInEpoch}
-use Rattle.plain_world.proofs.Regions.{region-some}
+use Rattle.plain_world.proofs.LineRegions.{here-some}
+use Rattle.plain_world.proofs.Regions.{fills-cases, region-some}
 use Rattle.plain_world.proofs.Lists.{get-some, get-below}
 use Rattle.plain_world.proofs.Turns.{seat, note-right, owned-note, most-blocks, extent}
 use Rattle.plain_world.proofs.PlacedNotes.{filled-code}
@@ -135,6 +138,19 @@ module _ (p : Epoch) (i : IdealHeap) (log : List LogEntry) (w : PlainRow) (at : 
                 (x, subst (λ (n : ℕ). Contains (h.locals n).made x) same born.1, here))
           ]
 
+      -- no line of it was marked as the epoch began, and none is now
+      unmarked : (k line : ℕ) → HasKind p.before k kinds.Free → line < 256 → IsTrue (line_marked (heap_after p log) k line) → ⊥
+      unmarked k line free few set = (at.epoch.ready.lawful.but_lines.free k free).lines line few
+          (sym ((facts.moment p i log w at).epoch.lines k line (kind-within p.before k kinds.Free free) few) ∙ set)
+
+      object-of : (m : ℕ) (o : OwnedBlock) → HasKind p.before o.block kinds.Free → (region : Region) → o.block < (heap_after p log).blocks → IsRegionIn w.fill (heap_after p log) o.block region → 0 < region.next
+          → (a : ℕ) × IsHeld (heap_after p log) a × (block_at (heap_after p log).blocks a ≡ o.block)
+      object-of m o free region there left full = elim (fills-cases w.fill at.fills) as (λ _. (a : ℕ) × IsHeld (heap_after p log) a × (block_at (heap_after p log).blocks a ≡ o.block)) [
+        | inl plain ↦ region-some w.fill plain (heap_after p log) o.block region there left full
+        | inr lines ↦ here-some (heap_after p log) o.block region (subst (λ (f : Kind). IsRegionIn f (heap_after p log) o.block region) lines left)
+            (λ line few set. unmarked o.block line free few set) full
+      ]
+
       of-note : (m : ℕ) (o : OwnedBlock) → HasKind p.before o.block kinds.Free → owner_at (heap_after p log) o.block ≡ m → 0 < m → (note : BlockNote) → slice_get w.notes.items o.block ≡ Some note
           → (x : Extent) × Contains (h.locals m).made x × (block_at p.before.blocks x.address ≡ o.block)
       of-note m o free own some (Unowned least) is = absurd (
@@ -143,7 +159,7 @@ module _ (p : Epoch) (i : IdealHeap) (log : List LogEntry) (w : PlainRow) (at : 
       of-note m o free own some (Owned owner region) is =
           let right : IsOwnedNote w.fill (heap_after p log) o.block owner region = subst (λ (t : HeapState). IsOwnedNote w.fill t o.block owner region) at.heap (owned-note p i log w at o.block owner region is) in
           let full : 0 < region.next = filled o.block owner region is in
-          let some = region-some w.fill (heap_after p log) o.block region (kind-within (heap_after p log) o.block w.fill right.kind) right.left full in
+          let some = object-of m o free region (kind-within (heap_after p log) o.block w.fill right.kind) right.left full in
           of-tail m o free own some.0 some.1 some.2
 
   -- each mutator is between two calls
@@ -238,7 +254,7 @@ more-words w some =
     omega arith
 
 -- the large blocks stay
-large-same : (rules : Rules) → FillsTailsOrCells rules.fill → (ns : List ℕ) (old : HeapState) (i : IdealHeap) (part : List Entry) (new : HeapState) (ms : List MutatorState)
+large-same : (rules : Rules) → FillsHoles rules.fill → (ns : List ℕ) (old : HeapState) (i : IdealHeap) (part : List Entry) (new : HeapState) (ms : List MutatorState)
     → Stopped rules ns old i part new ms → large_of new ≡ large_of old
 large-same rules fills ns old i part new ms stopped =
     ap (λ n. count_by (λ k. has_kind new k kinds.LargeHead || has_kind new k kinds.LargeTail) (range_with_len 0 n)) stopped.blocks
@@ -271,7 +287,7 @@ counts-after p i log w at new gives filled free is =
     let before : w.counts.free ≡ free_of p.before = ap (λ (c : BlockCounts). c.free) at.lists.counts in
     let blocks : w.counts.blocks ≡ new.blocks = ap (λ (c : BlockCounts). c.blocks) at.lists.counts ∙ sym stopped.blocks in
     let large : w.counts.large ≡ large_of new = ap (λ (c : BlockCounts). c.large) at.lists.counts
-    ∙ sym (large-same p.rules (subst FillsTailsOrCells at.fill at.fills) (numbers_of p.mutators) p.before i (history_of p log) new (map mutator_state w.mutators.items) stopped) in
+    ∙ sym (large-same p.rules (subst FillsHoles at.fill at.fills) (numbers_of p.mutators) p.before i (history_of p log) new (map mutator_state w.mutators.items) stopped) in
     let drawn : free_of p.before + sum_by (λ x. tickets_in x.ticket) w.seats.items ≡ free_of new + word_at (state_of w.row) 1 = tickets-drawn p i log w at new gives in
     let left : free ≡ free_of new = omega arith in
     ap (λ n. counts_with n free w.counts.large) blocks ∙ ap (λ n. counts_with new.blocks n w.counts.large) left ∙ ap (counts_with new.blocks (free_of new)) large

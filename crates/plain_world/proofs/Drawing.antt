@@ -3,7 +3,7 @@ use Rattle.std.proofs.Common.{◌≡◌, refl, sym, ◌∙◌, ap, subst, ℕ, �
 use Rattle.std.specs.Prelude.{Some, None, slice_index, slice_get, slice_set, sum_by}
 use Rattle.std.proofs.lemmas.List.{length-map, get_or-set_same, get_or-set_other}
 use Rattle.ideal_heap.specs.Ideal.{IdealHeap}
-use Rattle.object_model.specs.Objects.{HeapState, state_of, with_words, word_at, block_word, owner_at, has_kind}
+use Rattle.object_model.specs.Objects.{HeapState, state_of, with_words, word_at, block_word, owner_at, has_kind, line_marked}
 use Rattle.object_model.specs.Graphs.{numbers_of}
 use Rattle.object_model.proofs.OneKind.{kind-within}
 use Rattle.heap_layout.specs.declared.block.Kind.{Kind}
@@ -19,9 +19,15 @@ use Rattle.mutator_core.proofs.Sums.{sum-more, free-most}
 use Rattle.mutator_core.proofs.Ending.{log-counted}
 use Rattle.mutator_calls.specs.Effects.{draws as draw_effect}
 use Rattle.plain_world.specs.declared.plain_row.PlainRow.{PlainRow}
-use Rattle.plain_world.specs.Rows.{ChangesAt, number_at_turn, seat_at_turn, mutator_at_turn, births_of, blocks_of, ticket_of}
+use Rattle.plain_world.specs.Rows.{ChangesAt, number_at_turn, seat_at_turn, mutator_at_turn, births_of, blocks_of, block_of, over_of, ticket_of}
+use Rattle.plain_world.specs.declared.plain_row.PlainSeat.{PlainSeat}
+use Rattle.plain_world.specs.declared.plain_row.BlockNote.TheVariants.{Owned}
+use Rattle.plain_world.specs.Notes.{IsRegionOf}
+use Rattle.plain_world.specs.TwoRegions.{FillsLines, region_of, LacksLines, OffersLines}
+use Rattle.plain_world.proofs.BlockFrames.{SameLines}
+use Rattle.plain_world.proofs.Offering.{KeepsSeat, still-lacks, seat-keeps, seat-tries, still-overflows, offered-lines}
 use Rattle.plain_world.specs.Worlds.{IsAt, IsInEpoch, IsReady, Goes}
-use Rattle.plain_world.specs.Steps.{Lacks, Offers, IsOffer, books_of}
+use Rattle.plain_world.specs.Steps.{AllocatesIn, Lacks, IsOverflow, KeepsRegion, Offers, IsOffer, books_of}
 use Rattle.mutator_calls.specs.Allocating.{Books}
 use Rattle.plain_world.proofs.Regions.{hole-kind}
 use Rattle.plain_world.proofs.Stepping as stepping
@@ -59,19 +65,31 @@ tickets-few w now =
 -- a block still has no room if it has no new hole and no new owner
 pub lacks-after : (a b : PlainRow) (n k : ℕ) → b.fill ≡ a.fill → number_at_turn b ≡ number_at_turn a
     → (k < b.row.layout.blocks → owner_at (state_of b.row) k ≡ owner_at (state_of a.row) k)
-    → ((at size : ℕ) → HasHole a.fill (state_of b.row) k at size → HasHole a.fill (state_of a.row) k at size) → Lacks a n k → Lacks b n k
-lacks-after a b n k fill number owner hole lacks at whose there =
-    let then : HasHole a.fill (state_of b.row) k at n = subst (λ (f : Kind). HasHole f (state_of b.row) k at n) fill there in
-    let same : owner_at (state_of b.row) k ≡ owner_at (state_of a.row) k = owner (kind-within (state_of b.row) k a.fill (hole-kind a.fill (state_of b.row) k at n then)) in
-    lacks at (elim whose as (λ _. _) [ inl none ↦ inl (sym same ∙ none) | inr own ↦ inr (sym same ∙ own ∙ number) ]) (hole at n then)
+    → ((at size : ℕ) → HasHole a.fill (state_of b.row) k at size → HasHole a.fill (state_of a.row) k at size)
+    → (FillsLines a.fill → LacksLines a.notes.items (seat_at_turn a) (state_of a.row) n k → LacksLines b.notes.items (seat_at_turn b) (state_of b.row) n k)
+    → Lacks a n k → Lacks b n k
+lacks-after a b n k fill number owner hole lines lacks = record {
+  unowned = λ nobody at there. lacks.unowned (sym (same at there) ∙ nobody) at (hole at n (then at there));
+  own = λ not own at there. lacks.own (λ is. not (fill ∙ is)) (sym (same at there) ∙ own ∙ number) at (hole at n (then at there));
+  lines = λ is. lines (sym fill ∙ is) (lacks.lines (sym fill ∙ is));
+}
+  where
+    then : (at : ℕ) → HasHole b.fill (state_of b.row) k at n → HasHole a.fill (state_of b.row) k at n
+    then at there = subst (λ (f : Kind). HasHole f (state_of b.row) k at n) fill there
+
+    same : (at : ℕ) → HasHole b.fill (state_of b.row) k at n → owner_at (state_of b.row) k ≡ owner_at (state_of a.row) k
+    same at there = owner (kind-within (state_of b.row) k a.fill (hole-kind a.fill (state_of b.row) k at n (then at there)))
 
 -- and what it offers it offered before
 offer-before : (a b : PlainRow) (k offset n : ℕ) → b.fill ≡ a.fill → number_at_turn b ≡ number_at_turn a
     → (k < b.row.layout.blocks → block_word (state_of b.row) k ≡ block_word (state_of a.row) k)
     → ((at size : ℕ) → HasHole a.fill (state_of b.row) k at size → HasHole a.fill (state_of a.row) k at size)
     → ((at size : ℕ) → HasHole a.fill (state_of a.row) k at size → HasHole a.fill (state_of b.row) k at size)
-    → has_kind (state_of b.row) k kinds.Free ≡ has_kind (state_of a.row) k kinds.Free → IsOffer b k offset n → IsOffer a k offset n
-offer-before a b k offset n fill number word hole back kind offer = elim offer as (λ _. IsOffer a k offset n) [
+    → has_kind (state_of b.row) k kinds.Free ≡ has_kind (state_of a.row) k kinds.Free
+    → (OffersLines b.fill b.notes.items (seat_at_turn b) (state_of b.row) (number_at_turn b) k offset n
+    → OffersLines a.fill a.notes.items (seat_at_turn a) (state_of a.row) (number_at_turn a) k offset n)
+    → IsOffer b k offset n → IsOffer a k offset n
+offer-before a b k offset n fill number word hole back kind lines offer = elim offer as (λ _. IsOffer a k offset n) [
   | inl there ↦ (
       let then : HasHole a.fill (state_of b.row) k offset n = subst (λ (f : Kind). HasHole f (state_of b.row) k offset n) fill there.0.hole in
       let same : owner_at (state_of b.row) k ≡ owner_at (state_of a.row) k =
@@ -81,19 +99,20 @@ offer-before a b k offset n fill number word hole back kind offer = elim offer a
           hole = hole offset n then;
           first = λ from was. there.0.first from (subst (λ (f : Kind). HasHole f (state_of b.row) k from n) (sym fill) (back from n was));
         },
-        elim there.1 as (λ _. (owner_at (state_of a.row) k ≡ 0) ⊎ (owner_at (state_of a.row) k ≡ number_at_turn a)) [
+        elim there.1 as (λ _. (owner_at (state_of a.row) k ≡ 0) ⊎ ((FillsLines a.fill → ⊥) × (owner_at (state_of a.row) k ≡ number_at_turn a))) [
           | inl none ↦ inl (sym same ∙ none)
-          | inr own ↦ inr (sym same ∙ own ∙ number)
+          | inr own ↦ inr ((λ is. own.0 (fill ∙ is)), sym same ∙ own.1 ∙ number)
         ],
       ))
-  | inr free ↦ inr (sym kind ∙ free.0, free.1)
+  | inr (inl free) ↦ inr (inl (sym kind ∙ free.0, free.1))
+  | inr (inr own) ↦ inr (inr (lines own))
 ]
 
 -- the budget word rises by 1, and the mutator has the ticket
 pub record DrawsTicket (a b : PlainRow) : Type 0 where
   pub rest : b ≡ record a { row = b.row; seats = b.seats }
   pub words : state_of b.row ≡ with_words (state_of a.row) (slice_set (state_of a.row).words 1 (word_at (state_of a.row) 1 + 1))
-  pub seats : ChangesAt a.seats.items b.seats.items a.turn (record { ticket = Some (word_at (state_of a.row) 1); blocks = blocks_of (seat_at_turn a) })
+  pub seats : ChangesAt a.seats.items b.seats.items a.turn (record { ticket = Some (word_at (state_of a.row) 1); blocks = blocks_of (seat_at_turn a); over = over_of (seat_at_turn a) })
 
 module _ (a b : PlainRow) (draws : DrawsTicket a b) (ready : IsReady a) (none : ticket_of (seat_at_turn a) ≡ None) where
   budget-rises : word_at (state_of b.row) 1 ≡ word_at (state_of a.row) 1 + 1
@@ -128,7 +147,7 @@ module _ (a b : PlainRow) (draws : DrawsTicket a b) (ready : IsReady a) (none : 
         owned = ap (λ w. w.owned) draws.rest;
         counts = ap (λ w. w.counts) draws.rest;
         mutator = (stepping.mutator p i log a at ready.turn).0;
-        seat = record { ticket = Some (word_at (state_of a.row) 1); blocks = blocks_of (seat_at_turn a) };
+        seat = record { ticket = Some (word_at (state_of a.row) 1); blocks = blocks_of (seat_at_turn a); over = over_of (seat_at_turn a) };
         mutators = record {
           len = ap (λ w. length w.mutators.items) draws.rest;
           here = ap (λ w. slice_get w.mutators.items a.turn) draws.rest ∙ (stepping.mutator p i log a at ready.turn).1;
@@ -137,6 +156,7 @@ module _ (a b : PlainRow) (draws : DrawsTicket a b) (ready : IsReady a) (none : 
         seats = draws.seats;
         number = sym (stepping.number-is p i log a at ready.turn);
         blocks = refl;
+        over = refl;
         state = let state = stepping.state p i log a at ready.turn in record {
           births = state.births;
           registers = state.registers;
@@ -150,6 +170,61 @@ module _ (a b : PlainRow) (draws : DrawsTicket a b) (ready : IsReady a) (none : 
 
     pub draws-keeps : notes.KeepsBlocks (heap_after p log) (next p (machine_after p log) (number_at_turn a) e.DrawTicket).words
     draws-keeps = stepping.keeps p i log a at ready.turn e.DrawTicket may refl refl
+
+  abbrev seat : PlainSeat
+  seat = record { ticket = Some (word_at (state_of a.row) 1); blocks = blocks_of (seat_at_turn a); over = over_of (seat_at_turn a) }
+
+  seat-now : seat_at_turn b ≡ Some seat
+  seat-now = ap (λ (w : PlainRow). slice_get b.seats.items w.turn) draws.rest ∙ draws.seats.here
+
+  -- the notes and the blocks of the seat stay
+  notes-same : b.notes.items ≡ a.notes.items
+  notes-same = ap (λ w. w.notes.items) draws.rest
+
+  block-same : (class : ℕ) → block_of (seat_at_turn b) class ≡ block_of (seat_at_turn a) class
+  block-same class = ap (λ o. block_of o class) seat-now
+
+  over-same : over_of (seat_at_turn b) ≡ over_of (seat_at_turn a)
+  over-same = ap over_of seat-now
+
+  region-same : (k : ℕ) → region_of b.notes.items (Some k) ≡ region_of a.notes.items (Some k)
+  region-same k = ap (λ xs. region_of xs (Some k)) notes-same
+
+  -- the mutator keeps its blocks, and these their line bits
+  kind-same : (k : ℕ) → has_kind (state_of b.row) k kinds.Immix ≡ has_kind (state_of a.row) k kinds.Immix
+  kind-same k =
+      let now = ready.idle.some in
+      ap (λ (t : HeapState). has_kind t k kinds.Immix) (words now.epoch now.ideal now.log now.at)
+      ∙ notes.kind-same (heap_after now.epoch now.log) (next now.epoch (machine_after now.epoch now.log) (number_at_turn a) e.DrawTicket).words
+      (draws-keeps now.epoch now.ideal now.log now.at) k kinds.Immix
+      ∙ ap (λ (t : HeapState). has_kind t k kinds.Immix) (sym now.at.heap)
+
+  lines-same : (k : ℕ) → IsRegionOf a.notes.items (number_at_turn a) k → SameLines (state_of a.row) (state_of b.row) k
+  lines-same k mine line few =
+      let now = ready.idle.some in
+      let there : k < now.epoch.before.blocks = subst (λ q. k < q) (sym (facts.blocks now.epoch now.ideal now.log a now.at))
+      (turns.note-block now.epoch now.ideal now.log a now.at k (Owned (number_at_turn a) mine.region) mine.note) in
+      ap (λ t. line_marked t k line) (words now.epoch now.ideal now.log now.at) ∙ (draws-keeps now.epoch now.ideal now.log now.at).lines k line there few
+      ∙ ap (λ t. line_marked t k line) (sym now.at.heap)
+
+  keeps-seat : KeepsSeat a b
+  keeps-seat = record {
+    fill = ap (λ w. w.fill) draws.rest;
+    number = ap number_at_turn draws.rest;
+    block = block-same;
+    over = over-same;
+    kind = kind-same;
+    lines = lines-same;
+  }
+
+  pub drawn-keeps : KeepsRegion a b
+  drawn-keeps = seat-keeps a b keeps-seat ready region-same
+
+  pub drawn-tries : (n k : ℕ) → AllocatesIn b n k → AllocatesIn a n k
+  drawn-tries n k = seat-tries a b keeps-seat ready n k
+
+  pub drawn-overflow : (n : ℕ) → IsOverflow a n → IsOverflow b n
+  drawn-overflow = still-overflows a b (ap (λ w. w.fill) draws.rest) drawn-keeps
 
   pub drawn-goes : Goes a (draw_effect 1) b
   drawn-goes = entering.goes-with a ready [] 1 false b (ap (λ w. w.turn) draws.rest) (ap number_at_turn draws.rest) reach
@@ -168,6 +243,7 @@ module _ (a b : PlainRow) (draws : DrawsTicket a b) (ready : IsReady a) (none : 
       (λ there. ap (λ t. owner_at t k) is ∙ ap (λ v. v / 65536) (keeps.words k (subst (λ (t : HeapState). k < t.blocks) is there)) ∙ ap (λ t. owner_at t k) (sym now.at.heap))
       (λ at size hole. subst (λ (t : HeapState). HasHole a.fill t k at size) (sym now.at.heap)
       (notes.hole-before (heap_after p now.log) ws keeps a.fill now.at.fills k at size (subst (λ (t : HeapState). HasHole a.fill t k at size) is hole)))
+      (λ lines. still-lacks a b keeps-seat ready n k (region-same k))
 
   pub drawn-offers : (c : PlainRow) (n : ℕ) → Offers b c n → Offers a c n
   drawn-offers c n offers =
@@ -187,6 +263,7 @@ module _ (a b : PlainRow) (draws : DrawsTicket a b) (ready : IsReady a) (none : 
             (λ at size hole. subst (λ (t : HeapState). HasHole a.fill t offers.block at size) (sym is)
             (notes.hole-after (heap_after p now.log) ws keeps a.fill now.at.fills offers.block at size (subst (λ (t : HeapState). HasHole a.fill t offers.block at size) now.at.heap hole)))
             ((reach p now.ideal now.log now.at).kinds offers.block)
+            (offered-lines a b keeps-seat ready region-same offers.block offers.region.next n)
             offers.offer;
       }
 

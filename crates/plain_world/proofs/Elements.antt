@@ -1,8 +1,10 @@
 -- One element of a list read, or replaced.
-use Rattle.std.proofs.Common.{◌≡◌, ◌≢◌, refl, ap, ℕ, zero, suc, ◌<◌, arith, List, [], ◌∷◌, length, length-set, get_or}
+use Rattle.std.proofs.Common.{◌≡◌, ◌≢◌, refl, sym, ◌∙◌, ap, subst, ℕ, zero, suc, ◌<◌, ◌⊎◌, inl, inr, arith, List, [], ◌∷◌, length, length-set, get_or}
 use Rattle.std.specs.Prelude.{Some, slice_get, slice_set}
+use Rattle.std.proofs.lemmas.Bool.{cases_eq}
 use Rattle.std.proofs.lemmas.Option.{slice_get_read}
 use Rattle.plain_world.specs.Rows.{ChangesAt}
+use Rattle.plain_world.proofs.Lists.{one-element}
 
 pub set-here : {A : Type 0} (xs : List A) (k : ℕ) (x : A) → k < length xs → slice_get (slice_set xs k x) k ≡ Some x
 set-here [] k x there = absurd (omega arith)
@@ -26,3 +28,11 @@ set-changes xs k x there = record {
 -- the element that an index below the length reads
 pub read-some : {A : Type 0} (xs : List A) (k : ℕ) (x : A) → k < length xs → x ≡ get_or xs k x → slice_get xs k ≡ Some x
 read-some xs k x there is = slice_get_read xs (length xs) k x refl there is
+
+-- an element of a list that changed at one place
+pub changes-cases : {A : Type 0} (xs ys : List A) (at : ℕ) (x : A) → ChangesAt xs ys at x → (k : ℕ) (y : A) → slice_get ys k ≡ Some y
+    → ((k ≡ at) × (y ≡ x)) ⊎ ((k ≢ at) × (slice_get xs k ≡ Some y))
+changes-cases xs ys at x changes k y is = elim (cases_eq k at) as (λ _. ((k ≡ at) × (y ≡ x)) ⊎ ((k ≢ at) × (slice_get xs k ≡ Some y))) [
+  | inl here ↦ inl (here, one-element (slice_get ys at) y x (subst (λ n. slice_get ys n ≡ Some y) here is) changes.here)
+  | inr other ↦ inr (other, sym (changes.others k other) ∙ is)
+]

@@ -24,7 +24,7 @@ use Rattle.mutator_core.proofs.Spots.{takes_block, clears_unlog, draws_ticket, r
 use Rattle.mutator_core.proofs.Moments.{same-words}
 use Rattle.mutator_calls.specs.Effects.{Effect, Answered}
 use Rattle.plain_world.specs.declared.plain_row.PlainRow.{PlainRow}
-use Rattle.plain_world.specs.Rows.{IsTurn, SetsRegister, number_of, births_of, registers_of, ticket_of, mutator_at_turn, seat_at_turn, number_at_turn, blocks_of, address_at}
+use Rattle.plain_world.specs.Rows.{IsTurn, SetsRegister, number_of, births_of, registers_of, ticket_of, mutator_at_turn, seat_at_turn, number_at_turn, blocks_of, over_of, address_at}
 use Rattle.plain_world.specs.Changes.{StoresWord}
 use Rattle.plain_world.specs.Worlds.{IsAt, IsReady, HasState, Continues, Goes, births_in, stop_after}
 use Rattle.plain_world.specs.SeatLaws.{continues-after, append-nil}
@@ -381,6 +381,7 @@ module _ (p : Epoch) (i : IdealHeap) (log : List LogEntry) (a : PlainRow) (at : 
     seats = record { len = ap (λ w. length w.seats.items) rest; here = ap (λ w. slice_get w.seats.items a.turn) rest ∙ (stepping.seat p i log a at turn).1; others = λ k other. ap (λ w. slice_get w.seats.items k) rest };
     number = sym (stepping.number-is p i log a at turn);
     blocks = ap blocks_of (sym (stepping.seat p i log a at turn).1);
+    over = ap over_of (sym (stepping.seat p i log a at turn).1);
     state = record {
       births = births ∙ state.births;
       registers = registers ∙ state.registers;
@@ -406,6 +407,7 @@ module _ (p : Epoch) (i : IdealHeap) (log : List LogEntry) (a : PlainRow) (at : 
     seats = record { len = ap (λ w. length w.items) sets.seats; here = ap (λ w. slice_get w.items a.turn) sets.seats ∙ (stepping.seat p i log a at turn).1; others = λ k other. ap (λ w. slice_get w.items k) sets.seats };
     number = ap number_of (sym sets.was);
     blocks = ap blocks_of (sym (stepping.seat p i log a at turn).1);
+    over = ap over_of (sym (stepping.seat p i log a at turn).1);
     state = record {
       births = births ∙ state.births ∙ ap (λ x. x.births) same;
       registers = registers ∙ ap (λ rs. slice_set rs d v) (state.registers ∙ ap (λ x. x.registers) same);

@@ -16,8 +16,8 @@ use Rattle.mutator_calls.specs.declared.need.Mutator.{Mutator}
 use Rattle.plain_world.specs.declared.plain_row.PlainRow.{PlainRow}
 use Rattle.plain_world.specs.declared.plain_row.PlainSeat.{PlainSeat}
 use Rattle.plain_world.specs.declared.plain_row.BlockNote.TheVariants.{Owned}
-use Rattle.plain_world.specs.Rows.{IsTurn, ChangesAt, number_of, number_at_turn, seat_at_turn, blocks_of}
-use Rattle.plain_world.specs.Notes.{FillsTailsOrCells, HasNotes, IsRegionOf}
+use Rattle.plain_world.specs.Rows.{IsTurn, ChangesAt, number_of, number_at_turn, seat_at_turn, blocks_of, over_of}
+use Rattle.plain_world.specs.Notes.{FillsHoles, HasNotes, IsRegionOf}
 use Rattle.plain_world.specs.Worlds.{IsAt, HasState, HasCursors, HasLists}
 use Rattle.plain_world.proofs.Lists.{get-some, get-below, one-element, get-map}
 
@@ -53,14 +53,18 @@ pub record Follows (p : Epoch) (log : List LogEntry) (a b : PlainRow) (k : Machi
   pub seats : ChangesAt a.seats.items b.seats.items a.turn seat
   pub number : mutator.number ≡ number_at_turn a
   pub blocks : seat.blocks ≡ blocks_of (seat_at_turn a)
+  pub over : seat.over ≡ over_of (seat_at_turn a)
   pub state : HasState mutator seat (k.locals (number_at_turn a))
   pub others : (n : ℕ) → n ≢ number_at_turn a → k.locals n ≡ local_after_log p log n
 
 -- the same blocks
-pub cursors-of : (w : PlainRow) (n : ℕ) (x y : PlainSeat) → y.blocks ≡ x.blocks → HasCursors w.notes.items (state_of w.row) n x → HasCursors w.notes.items (state_of w.row) n y
-cursors-of w n x y same is = record {
+pub cursors-of : (w : PlainRow) (n : ℕ) (x y : PlainSeat) → y.blocks ≡ x.blocks → y.over ≡ x.over → HasCursors w.fill w.notes.items (state_of w.row) n x
+    → HasCursors w.fill w.notes.items (state_of w.row) n y
+cursors-of w n x y same over is = record {
   classes = ap length same ∙ is.classes;
   each = λ class block some. is.each class block (ap (λ bs. slice_get bs class) (sym same) ∙ some);
+  over = λ lines block some. is.over lines block (sym over ∙ some);
+  apart = λ lines block some here. is.apart lines block (sym over ∙ some) (ap (λ bs. slice_get bs 0) (sym same) ∙ here);
 }
 
 module _ (p : Epoch) (i : IdealHeap) (log : List LogEntry) (a : PlainRow) (at : IsAt p i log a) (turn : IsTurn a)
@@ -115,7 +119,7 @@ module _ (p : Epoch) (i : IdealHeap) (log : List LogEntry) (a : PlainRow) (at : 
     | inr theirs ↦ subst (HasState q y) (sym (up.others q.number (apart k q theirs.0 theirs.1))) (at.each k q y theirs.1 theirs.2)
   ])
 
-  cursors-kept : (n : ℕ) (y : PlainSeat) → HasCursors a.notes.items (state_of a.row) n y → HasCursors b.notes.items (state_of b.row) n y
+  cursors-kept : (n : ℕ) (y : PlainSeat) → HasCursors a.fill a.notes.items (state_of a.row) n y → HasCursors b.fill b.notes.items (state_of b.row) n y
   cursors-kept n y was = record {
     classes = was.classes;
     each = λ class block is.
@@ -123,13 +127,16 @@ module _ (p : Epoch) (i : IdealHeap) (log : List LogEntry) (a : PlainRow) (at : 
         let there : block < p.before.blocks = subst (λ j. block < j) (at.notes.len ∙ ap (λ (t : HeapState). t.blocks) at.heap)
         (get-below a.notes.items block (Owned n old.0.region) old.0.note) in
         (up.regions n block old.0, up.classes block there ∙ ap (λ (t : HeapState). class_at t block) (sym at.heap) ∙ old.1);
+    over = λ lines block is. up.regions n block (was.over (sym up.fill ∙ lines) block is);
+    apart = λ lines block is. was.apart (sym up.fill ∙ lines) block is;
   }
 
-  cursors : (k : ℕ) (q : Mutator) (y : PlainSeat) → slice_get b.mutators.items k ≡ Some q → slice_get b.seats.items k ≡ Some y → HasCursors b.notes.items (state_of b.row) q.number y
+  cursors : (k : ℕ) (q : Mutator) (y : PlainSeat) → slice_get b.mutators.items k ≡ Some q → slice_get b.seats.items k ≡ Some y → HasCursors b.fill b.notes.items (state_of b.row) q.number y
   cursors k q y e f = cursors-kept q.number y
-      (elim (others k q y e f) as (λ _. HasCursors a.notes.items (state_of a.row) q.number y) [
-        | inl mine ↦ subst (λ n. HasCursors a.notes.items (state_of a.row) n y) (sym number-is ∙ sym up.number ∙ ap (λ z. z.number) (sym mine.1))
+      (elim (others k q y e f) as (λ _. HasCursors a.fill a.notes.items (state_of a.row) q.number y) [
+        | inl mine ↦ subst (λ n. HasCursors a.fill a.notes.items (state_of a.row) n y) (sym number-is ∙ sym up.number ∙ ap (λ z. z.number) (sym mine.1))
             (cursors-of a mutator.0.number seat.0 y (ap (λ z. z.blocks) mine.2 ∙ up.blocks ∙ ap blocks_of seat.1)
+            (ap (λ z. z.over) mine.2 ∙ up.over ∙ ap over_of seat.1)
             (at.cursors a.turn mutator.0 seat.0 mutator.1 seat.1))
         | inr theirs ↦ at.cursors k q y theirs.1 theirs.2
       ])
@@ -145,7 +152,7 @@ module _ (p : Epoch) (i : IdealHeap) (log : List LogEntry) (a : PlainRow) (at : 
     cursors = cursors;
     notes = up.notes;
     fill = up.fill ∙ at.fill;
-    fills = subst FillsTailsOrCells (sym up.fill) at.fills;
+    fills = subst FillsHoles (sym up.fill) at.fills;
     young = up.young ∙ at.young;
     allowed = up.allowed ∙ at.allowed;
     lists = up.lists at.lists;

@@ -1,48 +1,30 @@
 -- What is known of blocks between two epochs: at first, after a search, and after an object was placed.
-use Rattle.std.proofs.Common.{◌≡◌, ◌≢◌, refl, sym, ◌∙◌, subst, ℕ, ◌+◌, ◌/◌, ◌<◌, ◌≤◌, ◌⊎◌, inl, inr, arith, List, replicate}
+use Rattle.std.proofs.Common.{◌≡◌, ◌≢◌, sym, ◌∙◌, subst, ℕ, ◌<◌, ◌≤◌, ◌⊎◌, inl, inr, arith, List, replicate}
 use Rattle.std.specs.Prelude.{None}
 use Rattle.std.proofs.lemmas.Bool.{cases_eq, cases_lt}
 use Rattle.std.proofs.lemmas.List.{length-replicate}
 use Rattle.heap_layout.specs.declared.block.Kind.{Kind}
 use Rattle.heap_layout.specs.declared.block.Kind.TheVariants as kinds
 use Rattle.heap_layout.specs.declared.region.Region.{Region}
-use Rattle.object_model.specs.Objects.{HeapState, HasKind, class_at, cell_words, owner_at}
+use Rattle.object_model.specs.Objects.{HeapState, HasKind, class_at}
 use Rattle.object_model.specs.Lawful.{IsLawful}
 use Rattle.sessions.specs.Fitting.{HasHole, class_for, free_of}
-use Rattle.sessions.proofs.Holes.{class-room}
 use Rattle.sessions.proofs.Placing.{free-some}
-use Rattle.plan_api.specs.Holes.{HasRoomFrom, IsFirstPart, IsFirstHole}
+use Rattle.plan_api.specs.Holes.{IsFirstPart, IsFirstHole}
 use Rattle.plain_world.specs.declared.block_notes.BlockNotes.{BlockNotes}
 use Rattle.plain_world.specs.declared.plain_row.BlockNote.{BlockNote}
 use Rattle.plain_world.specs.declared.plain_row.BlockNote.TheVariants.{Unowned, Owned}
 use Rattle.plain_world.specs.Rows.{ChangesAt}
-use Rattle.plain_world.specs.Notes.{FillsTailsOrCells, IsNote, HasNotes, AreUnowned, AreNotes, LacksHoles, IsLowestHole}
+use Rattle.plain_world.specs.Notes.{FillsHoles, IsNote, HasNotes, AreUnowned, AreNotes, LacksHoles, IsLowestHole}
 use Rattle.plain_world.proofs.Begun.{get-copy}
-use Rattle.plain_world.proofs.Gaining.{no-hole}
+use Rattle.plain_world.proofs.Elements.{changes-cases}
 use Rattle.plain_world.proofs.Lists.{get-below}
-use Rattle.plain_world.proofs.Regions.{no-class, no-lines, first-hole}
-use Rattle.plain_world.proofs.Taking.{changes-cases}
+use Rattle.plain_world.proofs.NoteLemmas.{note-unknown, no-hole}
+use Rattle.plain_world.proofs.Regions.{first-hole, first-before}
 
 -- right for the kind that mutators fill
 pub notes-for : (f g : Kind) → f ≡ g → (s : HeapState) (n : BlockNotes) → AreNotes f s n → AreNotes g s n
 notes-for f g same s n = subst (λ k. AreNotes k s n) same
-
--- no hole is larger than a block
-pub small-hole : (fill : Kind) (s : HeapState) (k at size : ℕ) → 4097 ≤ size → HasHole fill s k at size → ⊥
-small-hole kinds.Bump s k at size most hole = let room : at + size ≤ 4096 = hole.2 in omega arith
-small-hole kinds.Young s k at size most hole = let room : at + size ≤ 4096 = hole.2 in omega arith
-small-hole kinds.Cells s k at size most hole = no-class size (class_at s k) (omega arith) hole.2
-small-hole kinds.Immix s k at size most hole = let inside : hole.1.line + hole.1.len ≤ 256 = hole.1.hole.inside in
-    let room : (size + 15) / 16 ≤ hole.1.len = hole.1.room in omega arith
-small-hole kinds.Free s k at size most hole = hole
-small-hole kinds.Mature s k at size most hole = hole
-small-hole kinds.LargeHead s k at size most hole = hole
-small-hole kinds.LargeTail s k at size most hole = hole
-small-hole kinds.Kept s k at size most hole = hole
-
--- the note of a block of which nothing is known
-pub note-unknown : (fill : Kind) (s : HeapState) (k : ℕ) → owner_at s k ≡ 0 → IsNote fill s k (Unowned 4097)
-note-unknown fill s k nobody = record { owner = nobody; none = λ at size most hole. small-hole fill s k at size most hole }
 
 pub notes-unknown : (fill : Kind) (s : HeapState) → IsLawful s → HasNotes fill s (replicate s.blocks (Unowned 4097))
 notes-unknown fill s lawful = record {
@@ -63,7 +45,7 @@ none-changed notes later block least none changes k owner region is =
       | inr other ↦ none k owner region other.1
     ]
 
-pub notes-lacking : (fill : Kind) → FillsTailsOrCells fill → (s : HeapState) → IsLawful s → (notes later : List BlockNote) (block size : ℕ) → HasNotes fill s notes
+pub notes-lacking : (fill : Kind) → FillsHoles fill → (s : HeapState) → IsLawful s → (notes later : List BlockNote) (block size : ℕ) → HasNotes fill s notes
     → block < s.blocks → 1 ≤ size → size ≤ 2048 → (HasKind s block fill → class_at s block ≡ class_for fill size) → IsFirstHole fill s block 0 size None
     → ChangesAt notes later block (Unowned size) → HasNotes fill s later
 notes-lacking fill fills s lawful notes later block size noted there some small suits none changes = record {
@@ -77,38 +59,15 @@ notes-lacking fill fills s lawful notes later block size noted there some small 
   ];
 }
 
--- a hole is room in its block
-hole-room : (fill : Kind) → FillsTailsOrCells fill → (s : HeapState) (k at size : ℕ) → HasHole fill s k at size → (end : ℕ) × HasRoomFrom fill s k 0 size at end
-hole-room kinds.Bump fills s k at size hole = (4096, record { part = (hole.0, record { begin = at; tail = hole.1; starts = omega arith; ends = refl }); room = hole.2 })
-hole-room kinds.Young fills s k at size hole = (4096, record { part = (hole.0, record { begin = at; tail = hole.1; starts = omega arith; ends = refl }); room = hole.2 })
-hole-room kinds.Cells fills s k at size hole = (
-  at + cell_words (class_at s k),
-  record {
-    part = (hole.0, record { class = hole.2; cell = hole.1; after = omega arith; ends = refl });
-    room = (let fits : size ≤ cell_words (class_at s k) = class-room size (class_at s k) hole.2 in omega arith);
-  },
-)
-hole-room kinds.Immix fills s k at size hole = absurd (no-lines fills)
-hole-room kinds.Free fills s k at size hole = absurd hole
-hole-room kinds.Mature fills s k at size hole = absurd hole
-hole-room kinds.LargeHead fills s k at size hole = absurd hole
-hole-room kinds.LargeTail fills s k at size hole = absurd hole
-hole-room kinds.Kept fills s k at size hole = absurd hole
-
 -- the lowest hole is the first of the lowest block that has one
-pub lowest : (fill : Kind) → FillsTailsOrCells fill → (s : HeapState) (block size : ℕ) (r : Region) → IsFirstPart fill s block 0 size r
+pub lowest : (fill : Kind) (s : HeapState) (block size : ℕ) (r : Region) → IsFirstPart fill s block 0 size r
     → ((k : ℕ) → k < block → LacksHoles fill s k size) → IsLowestHole fill s block r.next size
-lowest fill fills s block size r part none = record {
-  hole = first-hole fill fills s block size r part;
+lowest fill s block size r part none = record {
+  hole = first-hole fill s block size r part;
   lowest = λ j from other. elim (cases_lt j block) as (λ _. (block < j) ⊎ ((block ≡ j) × (r.next ≤ from))) [
     | inl below ↦ absurd (none j below from other)
     | inr past ↦ elim (cases_eq block j) as (λ _. (block < j) ⊎ ((block ≡ j) × (r.next ≤ from))) [
-      | inl here ↦ inr (
-        here,
-        (
-            let room = hole-room fill fills s block from size (subst (λ q. HasHole fill s q from size) (sym here) other) in
-            part.first from room.0 room.1),
-      )
+      | inl here ↦ inr (here, first-before fill s block size r part from (subst (λ q. HasHole fill s q from size) (sym here) other))
       | inr away ↦ inl (let far : block ≢ j = away in omega arith)
     ]
   ];

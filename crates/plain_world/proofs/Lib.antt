@@ -1,10 +1,17 @@
 pub mod Lists
 pub mod Elements
 pub mod Facts
+pub mod BlockFrames
+pub mod LineRegions
+pub mod LineLacks
 pub mod Regions
 pub mod RegionFrames
+pub mod SeatRegions
 pub mod Owning
 pub mod NoteLemmas
+pub mod GrownLines
+pub mod BlockSides
+pub mod Relisted
 pub mod Following
 pub mod Stepping
 pub mod Entering
@@ -26,6 +33,7 @@ pub mod Drawing
 pub mod Offering
 pub mod Taking
 pub mod Gaining
+pub mod Finding
 pub mod Cleared
 pub mod SomeIdeal
 pub mod Begun

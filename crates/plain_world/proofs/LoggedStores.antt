@@ -55,6 +55,7 @@ keeps-of s w x spot leaves quiet untaken = record {
   after = leaves.held;
   before = λ q holds. record { address = holds.address; start = sym (start-same q) ∙ holds.start };
   sizes = λ q holds. ap (λ v. size_of (v % 65536) (v / 65536)) (leaves.headers q 1 holds (omega arith));
+  lines = λ j line there few. leaves.lines j line there few;
 }
   where
     start-same : (q : ℕ) → is_start (with_words s w) q ≡ is_start s q
@@ -129,6 +130,7 @@ module _ (p : Epoch) (i : IdealHeap) (log : List LogEntry) (a b : PlainRow) (at 
         seats = up.seats;
         number = up.number;
         blocks = up.blocks;
+        over = up.over;
         state = subst (HasState up.mutator up.seat) (sym local-two) up.state;
         others = λ n other. cond-false (nat_eq n m) _ _ (ne_eqb n m other) ∙ cond-false (nat_eq n m) _ _ (ne_eqb n m other);
       })

@@ -6,7 +6,7 @@ use Rattle.heap_layout.specs.Zones.{block_at, offset_at, block_start}
 use Rattle.heap_layout.specs.declared.block.Kind.{Kind}
 use Rattle.heap_layout.specs.declared.region.Region.{Region}
 use Rattle.ideal_heap.specs.declared.name.Name.{Name}
-use Rattle.object_model.specs.Objects.{HeapState, with_words, block_word, HasKind, IsHeld, size_at, size_of}
+use Rattle.object_model.specs.Objects.{HeapState, with_words, block_word, line_marked, HasKind, IsHeld, size_at, size_of}
 use Rattle.object_model.specs.Births.{IsVacant}
 use Rattle.object_model.proofs.Births as births
 use Rattle.object_model.proofs.Births.{Adds}
@@ -17,13 +17,15 @@ use Rattle.plain_world.specs.declared.plain_row.BlockNote.{BlockNote}
 use Rattle.plain_world.specs.declared.plain_row.BlockNote.TheVariants.{Unowned, Owned}
 use Rattle.plain_world.specs.Rows.{ChangesAt}
 use Rattle.plain_world.specs.Regions.{IsRestAfter}
-use Rattle.plain_world.specs.Notes.{FillsTails, FillsTailsOrCells, IsNote, IsOwnedNote, HasNotes}
+use Rattle.plain_world.specs.Notes.{FillsTails, FillsHoles, IsNote, IsOwnedNote, HasNotes}
 use Rattle.plain_world.proofs.Lists.{get-below, one-element}
 use Rattle.plain_world.proofs.Regions.{hole-kind}
-use Rattle.plain_world.proofs.RegionFrames.{SameBlock, turn-round, region-as, hole-as, AddsInBlock, region-born, hole-born, place-of}
+use Rattle.plain_world.proofs.BlockFrames.{SameBlock, AddsInBlock}
+use Rattle.plain_world.proofs.RegionFrames.{turn-round, region-as, hole-as, region-born, hole-born, place-of}
 
 module _ (s : HeapState) (w : List ℕ) (a : ℕ) (n : Name) (refs nums : ℕ) (adds : Adds s w a n refs nums) (vacant : IsVacant s a n refs nums)
-    (words : (k : ℕ) → k < s.blocks → block_word (with_words s w) k ≡ block_word s k) where
+    (words : (k : ℕ) → k < s.blocks → block_word (with_words s w) k ≡ block_word s k)
+    (lines : (k line : ℕ) → k < s.blocks → line < 256 → line_marked (with_words s w) k line ≡ line_marked s k line) where
   abbrev t : HeapState
   t = with_words s w
 
@@ -67,31 +69,32 @@ module _ (s : HeapState) (w : List ℕ) (a : ℕ) (n : Name) (refs nums : ℕ) (
     kind-same = frames.HasKind-back s w words
 
     -- where there is a hole, there was one
-    pub hole-back : (fill : Kind) → FillsTailsOrCells fill → (FillsTails fill → IsTail s block next) → (k at size : ℕ) → HasHole fill t k at size → (from : ℕ) × HasHole fill s k from size
+    pub hole-back : (fill : Kind) → FillsHoles fill → (FillsTails fill → IsTail s block next) → (k at size : ℕ) → HasHole fill t k at size → (from : ℕ) × HasHole fill s k from size
     hole-back fill fills tail k at size hole =
         let there : k < s.blocks = kind-within t k fill (hole-kind fill t k at size hole) in
         elim (cases_eq k block) as (λ _. (from : ℕ) × HasHole fill s k from size) [
-          | inr other ↦ (at, hole-as fill fills t s k at size (turn-round s t k (same-block k other there)) hole)
+          | inr other ↦ (at, hole-as fill t s k at size (turn-round s t k (same-block k other there)) (λ is line few. sym (lines k line there few)) hole)
           | inl own ↦ (
               let inside : block < s.blocks = subst (λ (q : ℕ). q < s.blocks) own there in
-              let was = hole-born s t block next (size_of refs nums) (adds-in-block block next inside here offset) fill fills tail at size
+              let was = hole-born s t block next (size_of refs nums) (adds-in-block block next inside here offset) fill
+              (λ is line few. lines block line inside few) tail at size
               (subst (λ (q : ℕ). HasHole fill t q at size) own hole) in
               (was.0, subst (λ (q : ℕ). HasHole fill s q was.0 size) (sym own) was.1))
         ]
 
-    note-other : (fill : Kind) → FillsTailsOrCells fill → (k : ℕ) (note : BlockNote) → k ≢ block → k < s.blocks → IsNote fill s k note → IsNote fill t k note
+    note-other : (fill : Kind) → FillsHoles fill → (k : ℕ) (note : BlockNote) → k ≢ block → k < s.blocks → IsNote fill s k note → IsNote fill t k note
     note-other fill fills k (Unowned least) other there is = record {
       owner = ap (λ v. v / 65536) (words k there) ∙ is.owner;
-      none = λ at size most hole. is.none at size most (hole-as fill fills t s k at size (turn-round s t k (same-block k other there)) hole);
+      none = λ at size most hole. is.none at size most (hole-as fill t s k at size (turn-round s t k (same-block k other there)) (λ is line few. sym (lines k line there few)) hole);
     }
     note-other fill fills k (Owned owner region) other there is = record {
       some = is.some;
       owner = ap (λ v. v / 65536) (words k there) ∙ is.owner;
       kind = frames.HasKind-from s w words k fill is.kind;
-      left = region-as fill s t k region (same-block k other there) is.left;
+      left = region-as fill s t k region (same-block k other there) (λ is line few. lines k line there few) is.left;
     }
 
-    pub notes-new : (fill : Kind) → FillsTailsOrCells fill → (notes later : List BlockNote) (number : ℕ) (region rest : Region) → HasNotes fill s notes
+    pub notes-new : (fill : Kind) → FillsHoles fill → (notes later : List BlockNote) (number : ℕ) (region rest : Region) → HasNotes fill s notes
         → slice_get notes block ≡ Some (Owned number region) → region.next ≡ next → next + size_of refs nums ≤ region.end
         → IsRestAfter fill s block (size_of refs nums) region rest → ChangesAt notes later block (Owned number rest) → HasNotes fill t later
     notes-new fill fills notes later number region rest is was begins room left changes = record { len = changes.len ∙ is.len; each = each }
@@ -107,7 +110,8 @@ module _ (s : HeapState) (w : List ℕ) (a : ℕ) (n : Name) (refs nums : ℕ) (
           some = old.some;
           owner = ap (λ v. v / 65536) (words block there) ∙ old.owner;
           kind = frames.HasKind-from s w words block fill old.kind;
-          left = region-born s t block next (size_of refs nums) (adds-in-block block next there here offset) fill region rest begins room old.left left;
+          left = region-born s t block next (size_of refs nums) (adds-in-block block next there here offset) fill region rest begins room
+              (λ is line few. lines block line there few) old.left left;
         }
 
         each : (k : ℕ) (note : BlockNote) → slice_get later k ≡ Some note → IsNote fill t k note

@@ -1,6 +1,6 @@
 -- The call that allocates an object.
 use Rattle.std.proofs.Common.{◌≡◌, refl, sym, ◌∙◌, ap, subst, ℕ, ◌+◌, ◌*◌, ◌/◌, ◌%◌, ◌<◌, ◌≤◌, ◌^◌, inl, inr, arith, add-zero, Bool, true, false, ◌&&◌, not, ◌++◌, length, Vec, Global}
-use Rattle.std.specs.Prelude.{Some, slice_get}
+use Rattle.std.specs.Prelude.{Option, Some, slice_get}
 use Rattle.std.proofs.lemmas.Bool.{cases_eq}
 use Rattle.heap_layout.specs.Zones.{block_start}
 use Rattle.heap_layout.specs.declared.block.Kind.{Kind}
@@ -16,11 +16,15 @@ use Rattle.plain_world.specs.declared.plain_row.PlainRow.{PlainRow}
 use Rattle.plain_world.specs.declared.plain_row.BlockNote.{BlockNote}
 use Rattle.plain_world.specs.declared.plain_row.PlainSeat.{PlainSeat}
 use Rattle.plain_world.specs.declared.plain_row.BlockNote.TheVariants.{Owned}
+use Rattle.plan_api.specs.Cursors.{PlacesInRegion}
 use Rattle.plain_world.specs.Rows.{births_of, ticket_of, block_of, mutator_at_turn, seat_at_turn, number_at_turn}
-use Rattle.plain_world.specs.Regions.{IsCellLeft, free, full, IsRegionIn}
+use Rattle.plain_world.specs.TwoRegions.{FillsLines, region_of, cursors_of, TriesBlock}
+use Rattle.plain_world.proofs.SeatRegions.{lines-for, region-kept, places-hole, places-over}
+use Rattle.plain_world.proofs.Turns.{block-tries}
+use Rattle.plain_world.specs.Regions.{IsCellLeft, free, full, IsRegionIn, IsRestAfter, without_first}
 use Rattle.plain_world.specs.Notes.{AreFilled}
 use Rattle.plain_world.specs.Worlds.{IsReady, HasRoom, Continues, Goes}
-use Rattle.plain_world.specs.Steps.{Lacks, IsUsed, AllocatesIn, PlacesObject}
+use Rattle.plain_world.specs.Steps.{Lacks, IsUsed, IsOverflow, KeepsRegion, AllocatesIn, PlacesObject}
 use Rattle.plain_world.proofs.CellRooms.{rest-later}
 use Rattle.plain_world.proofs.Regions.{suits-class}
 use Rattle.plain_world.proofs.Turns as turns
@@ -54,10 +58,27 @@ module _ (a b : PlainRow) (d refs nums : ℕ) (n : Name) (born : IsBorn a b d n 
       low-word : (k : ℕ) → k < 18 → word_at (state_of b.row) k ≡ word_at (state_of a.row) k
       low-word = objects.low-word a b d refs nums n born has register few_refs few_nums small few_births has.some.epoch has.some.ideal has.some.log has.some.at
 
+  same-seat : seat_at_turn b ≡ seat_at_turn a
+  same-seat = ap (λ (v : Vec PlainSeat Global). slice_get v.items b.turn) born.seats ∙ ap (λ t. slice_get a.seats.items t) born.turn
+
   pub region : (k : ℕ) → AllocatesIn a (size_of refs nums) k → AllocatesIn b (size_of refs nums) k
-  region k is = ap (λ (f : Kind). block_of (seat_at_turn b) (class_for f (size_of refs nums))) born.fill
-      ∙ ap (λ (v : Vec PlainSeat Global). block_of (slice_get v.items b.turn) (class_for a.fill (size_of refs nums))) born.seats
-      ∙ ap (λ t. block_of (slice_get a.seats.items t) (class_for a.fill (size_of refs nums))) born.turn ∙ is
+  region k is = subst (λ (f : Kind). TriesBlock f (seat_at_turn b) (size_of refs nums) k) (sym born.fill)
+      (subst (λ (x : Option PlainSeat). TriesBlock a.fill x (size_of refs nums) k) (sym same-seat) is)
+
+  -- an object that overflows the hole region leaves it
+  pub keeps : IsOverflow a (size_of refs nums) → KeepsRegion a b
+  keeps over = record {
+    block = ap (λ (x : Option PlainSeat). block_of x 0) same-seat;
+    region = ap (λ (x : Option PlainSeat). region_of b.notes.items (block_of x 0)) same-seat
+        ∙ region-kept a.notes.items b.notes.items (seat_at_turn a) born.block (number_at_turn a) (size_of refs nums) born.region born.left born.was born.notes
+        (block_of (seat_at_turn a) 0) other;
+  }
+    where
+      other : block_of (seat_at_turn a) 0 ≡ Some born.block → ⊥
+      other hole = elim born.current as (λ _. ⊥) [
+        | inl is ↦ is.0 over.over
+        | inr is ↦ (let now = has.some in turns.own-apart now.epoch now.ideal now.log a now.at has.turn born.block over.over.lines is.1 hole)
+      ]
 
   -- in cells it has one of the class for its size
   left-cell : (r : Region) → r.next + size_of refs nums ≤ r.end → IsCellLeft (state_of a.row) born.block 0 r → IsFreeCell (state_of a.row) born.block r.next
@@ -78,11 +99,27 @@ module _ (a b : PlainRow) (d refs nums : ℕ) (n : Name) (born : IsBorn a b d n 
         kind = objects.kinds-same a b d refs nums n born has register few_refs few_nums small few_births now.epoch now.ideal now.log now.at born.block kinds.Cells
             ∙ subst (λ (f : Kind). HasKind (state_of a.row) born.block f) fill right.kind;
         class = (suits-class (state_of a.row) born.block (size_of refs nums) (omega arith) small
-            ((turns.own-region now.epoch now.ideal now.log a now.at has.turn (class_for a.fill (size_of refs nums)) born.block born.current).1
+            ((turns.own-block now.epoch now.ideal now.log a now.at has.turn (size_of refs nums) born.block born.current).1
             ∙ ap (λ (f : Kind). class_for f (size_of refs nums)) fill)).class ∙ ap (λ c. Some c) (sym class);
         index = was.index;
         start = was.start ∙ ap (λ c. was.index * cell_words c) (sym class);
       }
+
+  -- under lines it is in the one of two regions that takes it
+  after : FillsLines b.fill → PlacesInRegion (cursors_of a.notes.items (seat_at_turn a)) (cursors_of b.notes.items (seat_at_turn b)) (size_of refs nums) born.block born.region.next
+  after lines =
+      let now = has.some in
+      let fill : a.fill ≡ kinds.Immix = sym born.fill ∙ lines in
+      let left : born.left ≡ without_first (size_of refs nums) born.region
+      = subst (λ (f : Kind). IsRestAfter f (state_of a.row) born.block (size_of refs nums) born.region born.left) fill born.rest in
+      subst (λ (x : Option PlainSeat). PlacesInRegion (cursors_of a.notes.items (seat_at_turn a)) (cursors_of b.notes.items x) (size_of refs nums) born.block born.region.next)
+      (sym same-seat) (elim born.current as (λ _. PlacesInRegion (cursors_of a.notes.items (seat_at_turn a)) (cursors_of b.notes.items (seat_at_turn a)) (size_of refs nums) born.block born.region.next) [
+        | inl is ↦ (let hole : block_of (seat_at_turn a) 0 ≡ Some born.block = ap (block_of (seat_at_turn a)) (sym (lines-for a.fill (size_of refs nums) fill)) ∙ is.1 in
+            inl (places-hole a.notes.items b.notes.items (seat_at_turn a) born.block (number_at_turn a) (size_of refs nums) born.region born.left born.was born.notes hole
+            (λ over. turns.own-apart now.epoch now.ideal now.log a now.at has.turn born.block fill over hole) born.room left))
+        | inr is ↦ inr (places-over a.notes.items b.notes.items (seat_at_turn a) born.block (number_at_turn a) (size_of refs nums) born.region born.left born.was born.notes is.1
+            (λ hole. turns.own-apart now.epoch now.ideal now.log a now.at has.turn born.block fill is.1 hole) born.room left a.fill is.0)
+      ])
 
   pub places : PlacesObject a b d (size_of refs nums)
   places = record {
@@ -92,8 +129,9 @@ module _ (a b : PlainRow) (d refs nums : ℕ) (n : Name) (born : IsBorn a b d n 
     address = objects.address-now a b d refs nums n born has register few_refs few_nums small few_births has.some.epoch has.some.ideal has.some.log has.some.at
         ∙ ap (λ k. block_start k born.block + born.region.next) (sym born.object.blocks);
     owner = objects.owner-now a b d refs nums n born has register few_refs few_nums small few_births has.some.epoch has.some.ideal has.some.log has.some.at;
-    current = region born.block born.current;
+    current = region born.block (block-tries a.fill a.notes.items (seat_at_turn a) (size_of refs nums) born.block born.current);
     cell = cell;
+    region_after = after;
   }
 
   pub still : (k : ℕ) → IsUsed a k → IsUsed b k
@@ -113,7 +151,7 @@ module _ (a b : PlainRow) (d refs nums : ℕ) (n : Name) (born : IsBorn a b d n 
         let own : region ≡ born.left = cc in
         subst (λ q. 0 < q.next) (sym own) (rest-later a.fill (state_of a.row) born.block (size_of refs nums) born.region born.left (omega arith) born.room born.rest))
     | inr other ↦ elim (has.room.others k owner region (sym (born.notes.others k other) ∙ is)) as (λ _. 0 < region.next) [
-      | inl current ↦ absurd (other (current ∙ one-element (block_of (seat_at_turn a) (class_for a.fill (size_of refs nums))) has.block born.block has.current born.current))
+      | inl current ↦ absurd (other (current ∙ turns.block-one a.fill a.notes.items (seat_at_turn a) (size_of refs nums) has.block born.block has.current born.current))
       | inr more ↦ more
     ]
   ]

@@ -1,11 +1,12 @@
 -- The mutator whose turn it is allocates an object.
-use Rattle.std.proofs.Common.{◌≡◌, ◌≢◌, refl, sym, ◌∙◌, ap, subst, ℕ, ◌+◌, ◌/◌, ◌%◌, ◌<◌, ◌≤◌, ◌^◌, ◌⊎◌, inl, inr, arith, List, [], ◌∷◌, length, Vec, Global}
+use Rattle.std.proofs.Common.{◌≡◌, ◌≢◌, refl, sym, ◌∙◌, ap, subst, ℕ, ◌+◌, ◌/◌, ◌%◌, ◌<◌, ◌≤◌, ◌^◌, inl, inr, arith, List, [], ◌∷◌, length, Vec, Global}
 use Rattle.std.specs.Prelude.{Some, slice_get, slice_index, slice_set}
 use Rattle.std.specs.List.{Contains}
 use Rattle.std.proofs.lemmas.Bool.{cases_eq}
 use Rattle.std.proofs.lemmas.List.{get_or-set_same}
 use Rattle.heap_layout.specs.Zones.{heap_of, row_words, block_start, block_at, offset_at, IsAddress}
 use Rattle.heap_layout.specs.declared.block.Kind.{Kind}
+use Rattle.heap_layout.specs.declared.region.Region.{Region}
 use Rattle.ideal_heap.specs.declared.command.Command.TheVariants as c
 use Rattle.ideal_heap.specs.declared.reply.Reply.TheVariants as r
 use Rattle.ideal_heap.specs.declared.name.Name.{Name}
@@ -13,7 +14,7 @@ use Rattle.ideal_heap.specs.Names.{IsName, name}
 use Rattle.ideal_heap.specs.Ideal.{IdealHeap}
 use Rattle.ideal_heap.specs.Runs as runs
 use Rattle.ideal_heap.specs.Runs.{entry}
-use Rattle.object_model.specs.Objects.{HeapState, state_of, with_words, word_at, block_word, class_at, owner_at, has_kind, is_unlogged, IsHeld, name_at, size_of}
+use Rattle.object_model.specs.Objects.{HeapState, state_of, with_words, word_at, block_word, class_at, owner_at, has_kind, is_unlogged, line_marked, IsHeld, name_at, size_of}
 use Rattle.object_model.specs.Lawful.{IsWellFormed}
 use Rattle.object_model.specs.Graphs.{MutatorState, numbers_of}
 use Rattle.object_model.specs.Births.{IsVacant}
@@ -36,11 +37,13 @@ use Rattle.mutator_calls.specs.Effects.{enters}
 use Rattle.plain_world.specs.declared.plain_row.PlainRow.{PlainRow}
 use Rattle.plain_world.specs.declared.plain_row.PlainSeat.{PlainSeat}
 use Rattle.plain_world.specs.declared.plain_row.BlockNote.TheVariants.{Owned}
-use Rattle.plain_world.specs.Rows.{number_of, births_of, registers_of, blocks_of, mutator_at_turn, number_at_turn, address_at}
-use Rattle.plain_world.specs.Notes.{FillsTails, FillsTailsOrCells, IsOwnedNote, HasNotes, IsRegionOf}
+use Rattle.plain_world.specs.Rows.{number_of, births_of, registers_of, blocks_of, block_of, over_of, mutator_at_turn, seat_at_turn, number_at_turn, address_at}
+use Rattle.plain_world.specs.Notes.{FillsTails, FillsHoles, IsOwnedNote, HasNotes, IsRegionOf}
 use Rattle.plain_world.specs.Worlds.{HasState, IsAt, HasRoom, Continues}
 use Rattle.plain_world.specs.Steps.{Lacks}
-use Rattle.plain_world.specs.Regions.{IsRegionIn, IsRestAfter}
+use Rattle.plain_world.specs.TwoRegions.{FillsLines, region_of, region_noted}
+use Rattle.plain_world.proofs.LineLacks.{Shrinks, same-shrinks, lines-lack-still}
+use Rattle.plain_world.specs.Regions.{IsRegionIn, IsRestAfter, without_first}
 use Rattle.object_model.proofs.OneKind.{kind-within}
 use Rattle.plain_world.proofs.Regions.{suits-class, hole-kind}
 use Rattle.plain_world.proofs.RegionFrames.{region-tail}
@@ -108,8 +111,8 @@ module _ (a b : PlainRow) (d refs nums : ℕ) (n : Name) (born : IsBorn a b d n 
     known : Contains (numbers_of p.mutators) (number_at_turn a)
     known = stepping.known p i log a at has.turn
 
-    fills : FillsTailsOrCells p.rules.fill
-    fills = subst FillsTailsOrCells at.fill at.fills
+    fills : FillsHoles p.rules.fill
+    fills = subst FillsHoles at.fill at.fills
 
     starts : x ≡ block_start p.before.blocks born.block + born.region.next
     starts = ap (λ q. block_start q born.block + born.region.next) (sym (facts.blocks p i log a at))
@@ -129,7 +132,7 @@ module _ (a b : PlainRow) (d refs nums : ℕ) (n : Name) (born : IsBorn a b d n 
     some = omega arith
 
     class-now : class_at (heap_after p log) born.block ≡ class_for a.fill (size_of refs nums)
-    class-now = sym (ap (λ (t : HeapState). class_at t born.block) at.heap) ∙ (turns.own-region p i log a at has.turn (class_for a.fill (size_of refs nums)) born.block born.current).1
+    class-now = sym (ap (λ (t : HeapState). class_at t born.block) at.heap) ∙ (turns.own-block p i log a at has.turn (size_of refs nums) born.block born.current).1
 
     fits : p.rules.fill ≡ kinds.Cells → class_of (size_of refs nums) ≡ Some (class_at (heap_after p log) born.block)
     fits cells = (suits-class (heap_after p log) born.block (size_of refs nums) (omega arith) small
@@ -215,6 +218,9 @@ module _ (a b : PlainRow) (d refs nums : ℕ) (n : Name) (born : IsBorn a b d n 
     block-words : (k : ℕ) → k < p.before.blocks → block_word (with_words (heap_after p log) v) k ≡ block_word (heap_after p log) k
     block-words = births.block_words s v x n refs nums writes address
 
+    line-words : (k line : ℕ) → k < p.before.blocks → line < 256 → line_marked (with_words (heap_after p log) v) k line ≡ line_marked (heap_after p log) k line
+    line-words = births.lines-same s v x n refs nums writes address
+
     tail : FillsTails a.fill → IsTail (heap_after p log) born.block born.region.next
     tail tails = (region-tail a.fill (heap_after p log) born.block born.region (subst (λ f. IsRegionIn f (heap_after p log) born.block born.region) (sym at.fill) note.left) tails).tail
 
@@ -224,7 +230,7 @@ module _ (a b : PlainRow) (d refs nums : ℕ) (n : Name) (born : IsBorn a b d n 
     notes-are : HasNotes b.fill (state_of b.row) b.notes.items
     notes-are = subst (λ f. HasNotes f (state_of b.row) b.notes.items) (sym born.fill)
         (subst (λ t. HasNotes a.fill t b.notes.items) (sym words-are)
-        (notes.notes-new s v x n refs nums adds vacant block-words born.block born.region.next block-is offset-is a.fill at.fills a.notes.items b.notes.items m born.region born.left
+        (notes.notes-new s v x n refs nums adds vacant block-words line-words born.block born.region.next block-is offset-is a.fill at.fills a.notes.items b.notes.items m born.region born.left
         (subst (λ t. HasNotes a.fill t a.notes.items) at.heap at.notes) born.was refl born.room rest born.notes))
 
     regions : (q k : ℕ) → IsRegionOf a.notes.items q k → IsRegionOf b.notes.items q k
@@ -265,6 +271,7 @@ module _ (a b : PlainRow) (d refs nums : ℕ) (n : Name) (born : IsBorn a b d n 
       };
       number = ap number_of (sym born.is);
       blocks = ap blocks_of (sym (stepping.seat p i log a at has.turn).1);
+      over = ap over_of (sym (stepping.seat p i log a at has.turn).1);
       state = subst (HasState (record born.mutator { births = born.mutator.births + 1; registers = slice_set born.mutator.registers d x }) (stepping.seat p i log a at has.turn).0) (sym run.own) (record {
         births = ap (λ q. q + 1) (was.births ∙ ap (λ q. q.births) own-mutator);
         registers = ap (λ q. slice_set q d x) (was.registers ∙ ap (λ q. q.registers) own-mutator);
@@ -311,15 +318,46 @@ module _ (a b : PlainRow) (d refs nums : ℕ) (n : Name) (born : IsBorn a b d n 
         ∙ get_or-set_same born.mutator.registers d x 0 (let many : length (registers_of (mutator_at_turn a)) ≡ 16 = turns.own-register-count p i log a at has.turn in
         let same : length (registers_of (mutator_at_turn a)) ≡ length born.mutator.registers = ap (λ o. length (registers_of o)) born.is in omega arith)
 
-    pub lacks-still : (size k : ℕ) → Lacks a size k → Lacks b size k
-    lacks-still size k lacks from owner hole =
+    -- a hole that is there was there, in a block with the owner that it had
+    hole-then : (k from size : ℕ) → HasHole b.fill (state_of b.row) k from size
+        → ((old : ℕ) × HasHole a.fill (state_of a.row) k old size) × (owner_at (state_of b.row) k ≡ owner_at (state_of a.row) k)
+    hole-then k from size hole =
         let there-now : HasHole a.fill (with_words (heap_after p log) v) k from size = subst (λ f. HasHole f (with_words (heap_after p log) v) k from size) born.fill
         (subst (λ t. HasHole b.fill t k from size) words-are hole) in
         let within : k < p.before.blocks = kind-within (with_words s v) k a.fill (hole-kind a.fill (with_words s v) k from size there-now) in
-        let old = notes.hole-back s v x n refs nums adds vacant block-words born.block born.region.next block-is offset-is a.fill at.fills tail k from size there-now in
-        let same : owner_at (state_of b.row) k ≡ owner_at (state_of a.row) k =
-        ap (λ t. owner_at t k) words-are ∙ ap (λ q. q / 65536) (block-words k within) ∙ ap (λ t. owner_at t k) (sym at.heap) in
-        lacks old.0 (elim owner as (λ _. (owner_at (state_of a.row) k ≡ 0) ⊎ (owner_at (state_of a.row) k ≡ number_at_turn a)) [
-          | inl nobody ↦ inl (sym same ∙ nobody)
-          | inr own ↦ inr (sym same ∙ own ∙ number-same)
-        ]) (subst (λ t. HasHole a.fill t k old.0 size) (sym at.heap) old.1)
+        let old = notes.hole-back s v x n refs nums adds vacant block-words line-words born.block born.region.next block-is offset-is a.fill at.fills tail k from size there-now in (
+          (old.0, subst (λ t. HasHole a.fill t k old.0 size) (sym at.heap) old.1),
+          ap (λ t. owner_at t k) words-are ∙ ap (λ q. q / 65536) (block-words k within) ∙ ap (λ t. owner_at t k) (sym at.heap),
+        )
+
+    seat-same : seat_at_turn b ≡ seat_at_turn a
+    seat-same = ap (λ (y : Vec PlainSeat Global). slice_get y.items b.turn) born.seats ∙ ap (λ k. slice_get a.seats.items k) born.turn
+
+    -- the region of the object's block begins later
+    region-shrinks : FillsLines a.fill → (k : ℕ) → Shrinks (region_of a.notes.items (Some k)) (region_of b.notes.items (Some k))
+    region-shrinks lines k = elim (cases_eq k born.block) as (λ _. Shrinks (region_of a.notes.items (Some k)) (region_of b.notes.items (Some k))) [
+      | inl same ↦ (
+          let rest : born.left ≡ without_first (size_of refs nums) born.region
+          = subst (λ (f : Kind). IsRestAfter f (state_of a.row) born.block (size_of refs nums) born.region born.left) lines born.rest in
+          let was : region_of a.notes.items (Some born.block) ≡ born.region = ap region_noted born.was in
+          let now : region_of b.notes.items (Some born.block) ≡ without_first (size_of refs nums) born.region = ap region_noted born.notes.here ∙ rest in
+          subst (λ (q : ℕ). Shrinks (region_of a.notes.items (Some q)) (region_of b.notes.items (Some q))) (sym same)
+          (subst (λ (r : Region). Shrinks r (region_of b.notes.items (Some born.block))) (sym was)
+          (subst (λ (r : Region). Shrinks born.region r) (sym now) (record { end = refl; later = omega arith }))))
+      | inr other ↦ same-shrinks (region_of a.notes.items (Some k)) (region_of b.notes.items (Some k)) (ap region_noted (born.notes.others k other))
+    ]
+
+    pub lacks-still : (size k : ℕ) → Lacks a size k → Lacks b size k
+    lacks-still size k lacks = record {
+      unowned = λ nobody from hole. let old = hole-then k from size hole in lacks.unowned (sym old.1 ∙ nobody) old.0.0 old.0.1;
+      own = λ not own from hole. let old = hole-then k from size hole in
+          lacks.own (λ is. not (born.fill ∙ is)) (sym old.1 ∙ own ∙ number-same) old.0.0 old.0.1;
+      lines = λ is. lines-lack-still a.notes.items b.notes.items (seat_at_turn a) (seat_at_turn b) (state_of a.row) (state_of b.row) size k
+          (λ here. ap (λ o. block_of o 0) (sym seat-same) ∙ here) (λ here. ap over_of (sym seat-same) ∙ here) (region-shrinks (sym born.fill ∙ is) k)
+          (λ kind. sym (kinds-same k kinds.Immix) ∙ kind)
+          (λ here line few.
+          let mine = (turns.own-region p i log a at has.turn 0 k (ap (λ o. block_of o 0) (sym seat-same) ∙ here)).0 in
+          let within : k < p.before.blocks = subst (λ q. k < q) (sym (facts.blocks p i log a at)) (turns.note-block p i log a at k (Owned m mine.region) mine.note) in
+          ap (λ t. line_marked t k line) words-are ∙ line-words k line within few ∙ ap (λ t. line_marked t k line) (sym at.heap))
+          (lacks.lines (sym born.fill ∙ is));
+    }

@@ -1,18 +1,24 @@
 -- The room that a world offers to the mutator whose turn it is.
-use Rattle.std.proofs.Common.{◌≡◌, ◌∙◌, ap, subst, ℕ, ◌+◌, ◌≤◌, ◌⊎◌, inl, inr, arith}
-use Rattle.std.specs.Prelude.{Some, slice_get}
+use Rattle.std.proofs.Common.{◌≡◌, refl, sym, ◌∙◌, ap, subst, ℕ, zero, suc, ◌+◌, ◌<◌, ◌≤◌, ◌⊎◌, inl, inr, arith, List, [], ◌∷◌, get_or}
+use Rattle.std.specs.Prelude.{Option, Some, None, slice_get, unwrap_or}
 use Rattle.heap_layout.specs.declared.block.Kind.{Kind}
 use Rattle.heap_layout.specs.declared.block.Kind.TheVariants as kinds
 use Rattle.heap_layout.specs.declared.region.Region.{Region}
-use Rattle.object_model.specs.Objects.{HeapState, state_of, class_at, owner_at, HasKind}
+use Rattle.object_model.specs.Objects.{HeapState, state_of, class_at, owner_at, has_kind, HasKind}
 use Rattle.sessions.specs.Fitting.{class_for}
 use Rattle.plain_world.specs.declared.plain_row.PlainRow.{PlainRow}
 use Rattle.plain_world.specs.declared.plain_row.BlockNote.TheVariants.{Owned}
-use Rattle.plain_world.specs.Rows.{number_at_turn}
-use Rattle.plain_world.specs.Worlds.{IsInEpoch, HasRoom}
+use Rattle.plan_api.specs.Cursors.{RegionHasRoom}
+use Rattle.plan_api.specs.Holes.{IsFirstPart}
+use Rattle.plain_world.specs.Rows.{number_at_turn, seat_at_turn, block_of, over_of}
+use Rattle.plain_world.specs.Notes.{FillsTailsOrCells, IsRegionOf}
+use Rattle.plain_world.specs.TwoRegions.{FillsLines, region_of, region_noted, GoesOver, IsBlockFor, LacksLines, OffersLines}
+use Rattle.plain_world.specs.Worlds.{IsInEpoch, IsReady, HasRoom}
 use Rattle.plain_world.specs.Regions.{BeginsHole}
-use Rattle.plain_world.specs.Steps.{IsRegion, Offers}
-use Rattle.plain_world.proofs.Regions.{region-hole, region-before, SuitsCells, suits-class}
+use Rattle.plain_world.specs.Steps.{AllocatesIn, IsRegion, IsOffer, Offers, IsOverflow, KeepsRegion}
+use Rattle.plain_world.proofs.Regions.{region-hole, region-before, SuitsCells, suits-class, fills-cases, no-lines}
+use Rattle.plain_world.proofs.BlockFrames.{SameLines}
+use Rattle.plain_world.proofs.LineLacks.{lines-lack-still, same-shrinks, first-back}
 use Rattle.plain_world.proofs.Turns as turns
 
 -- cells of the class for the size suit it
@@ -20,9 +26,10 @@ suits-fill : (fill : Kind) (s : HeapState) (k size : ℕ) → 1 ≤ size → siz
 suits-fill fill s k size some small suits cells = suits-class s k size some small (suits ∙ ap (λ (f : Kind). class_for f size) cells)
 
 -- the region of a block of the mutator that has the class for the size has room
-pub own-offer : (a b : PlainRow) → IsInEpoch a → (block size : ℕ) (region : Region) → slice_get a.notes.items block ≡ Some (Owned (number_at_turn a) region)
+pub own-offer : (a b : PlainRow) → IsInEpoch a → FillsTailsOrCells a.fill → (block size : ℕ) (region : Region)
+    → slice_get a.notes.items block ≡ Some (Owned (number_at_turn a) region)
     → class_at (state_of a.row) block ≡ class_for a.fill size → 3 ≤ size → size ≤ 2048 → region.next + size ≤ region.end → IsRegion b size block region → Offers a b size
-own-offer a b now block size region note suits some small fits here =
+own-offer a b now fills block size region note suits some small fits here =
     let right = turns.owned-note now.epoch now.ideal now.log a now.at block (number_at_turn a) region note in
     record {
       block = block;
@@ -30,29 +37,155 @@ own-offer a b now block size region note suits some small fits here =
       now = here;
       offer = inl (
         record {
-          hole = region-hole a.fill (state_of a.row) block size region right.kind right.left (suits-fill a.fill (state_of a.row) block size (omega (arith, some)) small suits) fits;
-          first = λ from hole. region-before a.fill (state_of a.row) block region right.left from size hole;
+          hole = region-hole a.fill fills (state_of a.row) block size region right.kind right.left (suits-fill a.fill (state_of a.row) block size (omega (arith, some)) small suits) fits;
+          first = λ from hole. region-before a.fill fills (state_of a.row) block region right.left from size hole;
         },
-        inr right.owner,
+        inr ((λ lines. no-lines (subst FillsTailsOrCells lines fills)), right.owner),
       );
     }
 
+-- the rest of the region that takes the size, under lines
+pub rest-offer : (a b : PlainRow) → IsInEpoch a → FillsLines a.fill → (block size : ℕ) (region : Region)
+    → slice_get a.notes.items block ≡ Some (Owned (number_at_turn a) region) → IsBlockFor a.fill a.notes.items (seat_at_turn a) size block
+    → region.next + size ≤ region.end → IsRegion b size block region → Offers a b size
+rest-offer a b now lines block size region note current fits here =
+    let right = turns.owned-note now.epoch now.ideal now.log a now.at block (number_at_turn a) region note in
+    let same : region_of a.notes.items (Some block) ≡ region = ap region_noted note in
+    record {
+      block = block;
+      region = region;
+      now = here;
+      offer = inr (inr (record {
+        lines = lines;
+        owner = right.owner;
+        from = inl (current, ap (λ (r : Region). r.next) (sym same), subst (λ (r : Region). RegionHasRoom r size) (sym same) fits);
+      }));
+    }
+
 pub room-offers : (a : PlainRow) (size : ℕ) → 3 ≤ size → size ≤ 2048 → HasRoom a size → Offers a a size
-room-offers a size some small has = own-offer a a has.some has.block size has.room.region has.room.note
-    (turns.own-region has.some.epoch has.some.ideal has.some.log a has.some.at has.turn (class_for a.fill size) has.block has.current).1
-    some small has.room.room (record { current = has.current; note = has.room.note })
+room-offers a size some small has = elim (fills-cases a.fill has.some.at.fills) as (λ _. Offers a a size) [
+  | inl fills ↦ own-offer a a has.some fills has.block size has.room.region has.room.note
+      (turns.own-block has.some.epoch has.some.ideal has.some.log a has.some.at has.turn size has.block has.current).1
+      some small has.room.room (record { current = has.current; note = has.room.note })
+  | inr lines ↦ rest-offer a a has.some lines has.block size has.room.region has.room.note has.current has.room.room
+      (record { current = has.current; note = has.room.note })
+]
 
 -- what a heap offers to mutator m
 abbrev OfferIn : ℕ → ℕ → ℕ → Kind → HeapState → ℕ → Type 0
-OfferIn k offset size fill s m = (BeginsHole fill s k offset size × ((owner_at s k ≡ 0) ⊎ (owner_at s k ≡ m))) ⊎ (HasKind s k kinds.Free × (offset ≡ 0))
+OfferIn k offset size fill s m = (BeginsHole fill s k offset size × ((owner_at s k ≡ 0) ⊎ ((FillsLines fill → ⊥) × (owner_at s k ≡ m))))
 
--- a world with the same heap offers the same
-pub offers-back : (a b c : PlainRow) (n : ℕ) → state_of b.row ≡ state_of a.row → b.fill ≡ a.fill → number_at_turn b ≡ number_at_turn a → Offers b c n → Offers a c n
-offers-back a b c n heap fill number offers = record {
+-- a world with the same heap offers the same, if it does so of lines
+pub offers-back : (a b c : PlainRow) (n : ℕ) → state_of b.row ≡ state_of a.row → b.fill ≡ a.fill → number_at_turn b ≡ number_at_turn a
+    → ((k offset : ℕ) → OffersLines b.fill b.notes.items (seat_at_turn b) (state_of b.row) (number_at_turn b) k offset n
+    → OffersLines a.fill a.notes.items (seat_at_turn a) (state_of a.row) (number_at_turn a) k offset n)
+    → Offers b c n → Offers a c n
+offers-back a b c n heap fill number lines offers = record {
   block = offers.block;
   region = offers.region;
   now = offers.now;
-  offer = subst (λ m. OfferIn offers.block offers.region.next n a.fill (state_of a.row) m) number
-      (subst (λ (f : Kind). OfferIn offers.block offers.region.next n f (state_of a.row) (number_at_turn b)) fill
-      (subst (λ (s : HeapState). OfferIn offers.block offers.region.next n b.fill s (number_at_turn b)) heap offers.offer));
+  offer = elim offers.offer as (λ _. IsOffer a offers.block offers.region.next n) [
+    | inl hole ↦ inl (subst (λ m. OfferIn offers.block offers.region.next n a.fill (state_of a.row) m) number
+        (subst (λ (f : Kind). OfferIn offers.block offers.region.next n f (state_of a.row) (number_at_turn b)) fill
+        (subst (λ (s : HeapState). OfferIn offers.block offers.region.next n b.fill s (number_at_turn b)) heap hole)))
+    | inr (inl free) ↦ inr (inl (subst (λ (s : HeapState). HasKind s offers.block kinds.Free) heap free.0, free.1))
+    | inr (inr own) ↦ inr (inr (lines offers.block offers.region.next own))
+  ];
 }
+
+-- an option that is read of a list
+pub option-read : {A : Type 0} (xs : List (Option A)) (k : ℕ) → unwrap_or (slice_get xs k) None ≡ get_or xs k None
+option-read [] k = refl
+option-read (y ∷ ys) zero = refl
+option-read (y ∷ ys) (suc k) = option-read ys k
+
+-- while the hole region stays, what overflows it does
+pub still-over : (a b : PlainRow) → b.fill ≡ a.fill → KeepsRegion a b → (size : ℕ) → GoesOver a.fill a.notes.items (seat_at_turn a) size
+    → GoesOver b.fill b.notes.items (seat_at_turn b) size
+still-over a b fill keeps size is = record {
+  lines = fill ∙ is.lines;
+  tried = record { above = is.tried.above; full = λ room. is.tried.full (subst (λ (r : Region). RegionHasRoom r size) keeps.region room) };
+}
+
+pub still-overflows : (a b : PlainRow) → b.fill ≡ a.fill → KeepsRegion a b → (size : ℕ) → IsOverflow a size → IsOverflow b size
+still-overflows a b fill keeps size is = record {
+  over = still-over a b fill keeps size is.over;
+  some = subst (λ (r : Region). r.next < r.end) (sym keeps.region) is.some;
+}
+
+-- From a to b the mutator whose turn it is keeps its blocks, and these their line bits.
+pub record KeepsSeat (a b : PlainRow) : Type 0 where
+  pub fill : b.fill ≡ a.fill
+  pub number : number_at_turn b ≡ number_at_turn a
+  pub block : (class : ℕ) → block_of (seat_at_turn b) class ≡ block_of (seat_at_turn a) class
+  pub over : over_of (seat_at_turn b) ≡ over_of (seat_at_turn a)
+  pub kind : (k : ℕ) → has_kind (state_of b.row) k kinds.Immix ≡ has_kind (state_of a.row) k kinds.Immix
+  pub lines : (k : ℕ) → IsRegionOf a.notes.items (number_at_turn a) k → SameLines (state_of a.row) (state_of b.row) k
+
+module _ (a b : PlainRow) (keeps : KeepsSeat a b) (ready : IsReady a) where
+  kind-then : (k : ℕ) → HasKind (state_of b.row) k kinds.Immix → HasKind (state_of a.row) k kinds.Immix
+  kind-then k kind = sym (keeps.kind k) ∙ kind
+
+  own-hole : (k : ℕ) → block_of (seat_at_turn b) 0 ≡ Some k → IsRegionOf a.notes.items (number_at_turn a) k
+  own-hole k here = let now = ready.idle.some in (turns.own-region now.epoch now.ideal now.log a now.at ready.turn 0 k (sym (keeps.block 0) ∙ here)).0
+
+  -- a block whose region stays lacks room still
+  pub still-lacks : (n k : ℕ) → region_of b.notes.items (Some k) ≡ region_of a.notes.items (Some k)
+      → LacksLines a.notes.items (seat_at_turn a) (state_of a.row) n k → LacksLines b.notes.items (seat_at_turn b) (state_of b.row) n k
+  still-lacks n k same = lines-lack-still a.notes.items b.notes.items (seat_at_turn a) (seat_at_turn b) (state_of a.row) (state_of b.row) n k
+      (λ here. sym (keeps.block 0) ∙ here) (λ over. sym keeps.over ∙ over)
+      (same-shrinks (region_of a.notes.items (Some k)) (region_of b.notes.items (Some k)) same)
+      (kind-then k) (λ here. keeps.lines k (own-hole k here))
+
+  -- it tries no other blocks
+  pub seat-tries : (n k : ℕ) → AllocatesIn b n k → AllocatesIn a n k
+  seat-tries n k (inl is) = inl (sym (keeps.block (class_for a.fill n)) ∙ ap (λ (f : Kind). block_of (seat_at_turn b) (class_for f n)) (sym keeps.fill) ∙ is)
+  seat-tries n k (inr is) = inr (sym keeps.fill ∙ is.0, is.1, sym keeps.over ∙ is.2)
+
+  -- where all regions stay
+  module _ (regions : (k : ℕ) → region_of b.notes.items (Some k) ≡ region_of a.notes.items (Some k)) where
+    region-same : (o : Option ℕ) → region_of b.notes.items o ≡ region_of a.notes.items o
+    region-same None = refl
+    region-same (Some k) = regions k
+
+    pub seat-keeps : KeepsRegion a b
+    seat-keeps = record { block = keeps.block 0; region = ap (region_of b.notes.items) (keeps.block 0) ∙ region-same (block_of (seat_at_turn a) 0) }
+
+    goes-over : (size : ℕ) → GoesOver b.fill b.notes.items (seat_at_turn b) size → GoesOver a.fill a.notes.items (seat_at_turn a) size
+    goes-over size is = still-over b a (sym keeps.fill) (record { block = sym seat-keeps.block; region = sym seat-keeps.region }) size is
+
+    block-for : (size k : ℕ) → IsBlockFor b.fill b.notes.items (seat_at_turn b) size k → IsBlockFor a.fill a.notes.items (seat_at_turn a) size k
+    block-for size k (inl is) = inl (
+      (λ over. is.0 (still-over a b keeps.fill seat-keeps size over)),
+      sym (keeps.block (class_for a.fill size))
+          ∙ ap (λ (f : Kind). block_of (seat_at_turn b) (class_for f size)) (sym keeps.fill) ∙ is.1,
+    )
+    block-for size k (inr is) = inr (goes-over size is.0, sym keeps.over ∙ is.1)
+
+    -- what lines offer they offered
+    pub offered-lines : (k offset size : ℕ) → OffersLines b.fill b.notes.items (seat_at_turn b) (state_of b.row) (number_at_turn b) k offset size
+        → OffersLines a.fill a.notes.items (seat_at_turn a) (state_of a.row) (number_at_turn a) k offset size
+    offered-lines k offset size is =
+        let now = ready.idle.some in
+        let mine : IsRegionOf a.notes.items (number_at_turn a) k = elim is.from as (λ _. IsRegionOf a.notes.items (number_at_turn a) k) [
+          | inl rest ↦ (turns.own-block now.epoch now.ideal now.log a now.at ready.turn size k (block-for size k rest.0)).0
+          | inr later ↦ own-hole k later.0
+        ] in
+        record {
+          lines = sym keeps.fill ∙ is.lines;
+          owner = (turns.owned-note now.epoch now.ideal now.log a now.at k (number_at_turn a) mine.region mine.note).owner;
+          from = elim is.from as (λ _. (IsBlockFor a.fill a.notes.items (seat_at_turn a) size k × (offset ≡ (region_of a.notes.items (Some k)).next)
+              × RegionHasRoom (region_of a.notes.items (Some k)) size) ⊎ ((block_of (seat_at_turn a) 0 ≡ Some k)
+              × ((end : ℕ) × IsFirstPart kinds.Immix (state_of a.row) k (region_of a.notes.items (Some k)).end size (record { next = offset; end = end })))) [
+                | inl rest ↦ inl (block-for size k rest.0, rest.1 ∙ ap (λ (r : Region). r.next) (regions k), subst (λ (r : Region). RegionHasRoom r size) (regions k) rest.2)
+                | inr later ↦ inr (
+                  sym (keeps.block 0) ∙ later.0,
+                  (
+                    later.1.0,
+                    first-back (state_of a.row) (state_of b.row) k (region_of a.notes.items (Some k)).end size (record { next = offset; end = later.1.0 })
+                        (kind-then k) (λ kind. keeps.kind k ∙ kind) (keeps.lines k mine)
+                        (subst (λ (r : Region). IsFirstPart kinds.Immix (state_of b.row) k r.end size (record { next = offset; end = later.1.0 })) (regions k) later.1.1),
+                  ),
+                )
+              ];
+        }

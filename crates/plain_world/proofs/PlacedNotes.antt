@@ -11,7 +11,7 @@ use Rattle.heap_layout.specs.declared.block.Kind.TheVariants as kinds
 use Rattle.heap_layout.proofs.BlockLemmas.{code_parts, kind_code_most}
 use Rattle.object_model.specs.Objects.{HeapState, with_words, block_word, has_kind, HasKind, IsHeld, size_at, size_of}
 use Rattle.object_model.proofs.Frames.{same-layout}
-use Rattle.object_model.proofs.OneKind.{kind-code, kind-within, one-kind}
+use Rattle.object_model.proofs.OneKind.{kind-code, kind-from, kind-within, one-kind}
 use Rattle.sessions.specs.Plans.{Rules}
 use Rattle.sessions.specs.Fitting.{HasHole, class_for, free_of, large_of, counts_of}
 use Rattle.sessions.specs.Grants.{BlockCounts, counts_with}
@@ -22,20 +22,27 @@ use Rattle.plain_world.specs.declared.block_notes.BlockNotes.{BlockNotes}
 use Rattle.plain_world.specs.declared.plain_row.BlockNote.{BlockNote}
 use Rattle.plain_world.specs.declared.plain_row.BlockNote.TheVariants.{Unowned, Owned}
 use Rattle.plain_world.specs.Rows.{ChangesAt}
-use Rattle.plain_world.specs.Notes.{FillsTailsOrCells, IsNote, AreNotes, PlacesObject}
-use Rattle.plain_world.proofs.KeptNotes.{note-unknown, none-changed}
+use Rattle.plain_world.specs.Notes.{FillsHoles, IsNote, AreNotes, PlacesObject}
+use Rattle.plain_world.proofs.KeptNotes.{none-changed}
+use Rattle.plain_world.proofs.NoteLemmas.{note-unknown}
+use Rattle.plain_world.proofs.Elements.{changes-cases}
+use Rattle.plain_world.proofs.GrownLines.{hole-grown, hole-filled}
+use Rattle.plain_world.proofs.Regions.{fills-cases}
 use Rattle.plain_world.proofs.Lists.{get-below}
-use Rattle.plain_world.proofs.RegionFrames.{SameBlock, turn-round, hole-as, AddsInBlock, hole-born, hole-tail, place-of}
-use Rattle.plain_world.proofs.Taking.{changes-cases}
+use Rattle.plain_world.proofs.BlockFrames.{SameBlock, AddsInBlock}
+use Rattle.plain_world.proofs.RegionFrames.{turn-round, hole-tail, place-of}
 use Rattle.plain_world.proofs.Turns.{class-few}
 
 -- a kind that mutators fill, which is neither Free nor large
-pub filled-code : (fill : Kind) → FillsTailsOrCells fill → (0 < kind_code fill) × (kind_code fill ≤ 5)
-filled-code fill (inl (inl bump)) = subst (λ f. (0 < kind_code f) × (kind_code f ≤ 5)) (sym bump) (omega arith, omega arith)
-filled-code fill (inl (inr young)) = subst (λ f. (0 < kind_code f) × (kind_code f ≤ 5)) (sym young) (omega arith, omega arith)
-filled-code fill (inr cells) = subst (λ f. (0 < kind_code f) × (kind_code f ≤ 5)) (sym cells) (omega arith, omega arith)
+pub filled-code : (fill : Kind) → FillsHoles fill → (0 < kind_code fill) × (kind_code fill ≤ 5)
+filled-code fill fills = elim (fills-cases fill fills) as (λ _. (0 < kind_code fill) × (kind_code fill ≤ 5)) [
+  | inl (inl (inl bump)) ↦ subst (λ f. (0 < kind_code f) × (kind_code f ≤ 5)) (sym bump) (omega arith, omega arith)
+  | inl (inl (inr young)) ↦ subst (λ f. (0 < kind_code f) × (kind_code f ≤ 5)) (sym young) (omega arith, omega arith)
+  | inl (inr cells) ↦ subst (λ f. (0 < kind_code f) × (kind_code f ≤ 5)) (sym cells) (omega arith, omega arith)
+  | inr lines ↦ subst (λ f. (0 < kind_code f) × (kind_code f ≤ 5)) (sym lines) (omega arith, omega arith)
+]
 
-module _ (rules : Rules) (fills : FillsTailsOrCells rules.fill) (s : HeapState) (w : List ℕ) (a refs nums block : ℕ) (was_free : Bool)
+module _ (rules : Rules) (fills : FillsHoles rules.fill) (s : HeapState) (w : List ℕ) (a refs nums block : ℕ) (was_free : Bool)
     (placed : PlacesObject rules s (with_words s w) a refs nums block was_free) where
   abbrev t : HeapState
   t = with_words s w
@@ -86,7 +93,9 @@ module _ (rules : Rules) (fills : FillsTailsOrCells rules.fill) (s : HeapState) 
     note-other : k ≢ block → (least : ℕ) → IsNote rules.fill s k (Unowned least) → IsNote rules.fill t k (Unowned least)
     note-other other least is = record {
       owner = ap (λ v. v / 65536) word ∙ is.owner;
-      none = λ at size most hole. is.none at size most (hole-as rules.fill fills t s k at size (turn-round s t k (same-block k other there word)) hole);
+      none = λ at size most hole.
+          let was = hole-grown rules.fill fills s t k at size (turn-round s t k (same-block k other there word)) (λ line few. placed.lines k line there few) hole in
+          is.none was.0 size most was.1;
     }
 
     -- in its hole it takes room away
@@ -94,7 +103,8 @@ module _ (rules : Rules) (fills : FillsTailsOrCells rules.fill) (s : HeapState) 
     note-own own spot least is = record {
       owner = ap (λ v. v / 65536) word ∙ is.owner;
       none = λ at size most hole.
-          let was = hole-born s t k (offset_at s.blocks a) (size_at t a) (adds-in-block k own there word) rules.fill fills
+          let was = hole-filled rules.fill fills s t k (offset_at s.blocks a) (size_at t a) (adds-in-block k own there word)
+          (λ immix. kind-from s k kinds.Immix there (ap (λ v. v % 256) (sym word) ∙ kind-code t k kinds.Immix immix)) (λ line few. placed.lines k line there few)
           (hole-tail rules.fill s k (offset_at s.blocks a) (size_of refs nums) (subst (λ (q : ℕ). HasHole rules.fill s q (offset_at s.blocks a) (size_of refs nums)) (sym own) spot)) at size hole in
           is.none was.0 size most was.1;
     }
@@ -222,7 +232,7 @@ module _ (rules : Rules) (fills : FillsTailsOrCells rules.fill) (s : HeapState) 
         ]
 
 -- from any heap to any other
-pub after-hole : (rules : Rules) → FillsTailsOrCells rules.fill → (old new : HeapState) (a refs nums block : ℕ) (was_free : Bool) → was_free ≡ false → (n : BlockNotes) → AreNotes rules.fill old n
+pub after-hole : (rules : Rules) → FillsHoles rules.fill → (old new : HeapState) (a refs nums block : ℕ) (was_free : Bool) → was_free ≡ false → (n : BlockNotes) → AreNotes rules.fill old n
     → PlacesObject rules old new a refs nums block was_free → AreNotes rules.fill new n
 after-hole rules fills old new a refs nums block was_free used n are placed =
     let same : new ≡ with_words old new.words = same-layout old new placed.layout.0 placed.layout.1 placed.layout.2 in
@@ -230,7 +240,7 @@ after-hole rules fills old new a refs nums block was_free used n are placed =
     subst (λ t. AreNotes rules.fill t n) (sym same) (placed-hole rules fills old new.words a refs nums block was_free
     (subst (λ t. PlacesObject rules old t a refs nums block was_free) same placed) (λ is. let wrong : true ≡ false = sym is ∙ free in cc) n are)
 
-pub after-free : (rules : Rules) → FillsTailsOrCells rules.fill → (old new : HeapState) (a refs nums block : ℕ) (was_free : Bool) → was_free ≡ true → (n later : BlockNotes) → AreNotes rules.fill old n
+pub after-free : (rules : Rules) → FillsHoles rules.fill → (old new : HeapState) (a refs nums block : ℕ) (was_free : Bool) → was_free ≡ true → (n later : BlockNotes) → AreNotes rules.fill old n
     → PlacesObject rules old new a refs nums block was_free → session_counts later.counts ≡ counts_with n.counts.blocks (n.counts.free - 1) n.counts.large
     → ChangesAt n.notes.items later.notes.items block (Unowned 4097) → later.owned ≡ n.owned → AreNotes rules.fill new later
 after-free rules fills old new a refs nums block was_free used n later are placed counts changes owned =

@@ -15,16 +15,18 @@ use Rattle.plan_api.specs.Counting.{session_counts}
 use Rattle.plain_world.specs.declared.block_notes.BlockNotes.{BlockNotes}
 use Rattle.plain_world.specs.declared.plain_row.BlockNote.{BlockNote}
 use Rattle.plain_world.specs.declared.plain_row.BlockNote.TheVariants.{Unowned, Owned}
-use Rattle.plain_world.specs.Notes.{FillsTailsOrCells, IsNote, HasNotes, AreUnowned, AreNotes, PlacesRun}
+use Rattle.plain_world.specs.Notes.{FillsHoles, IsNote, HasNotes, AreUnowned, AreNotes, PlacesRun}
 use Rattle.plain_world.proofs.Lists.{get-below}
 use Rattle.plain_world.proofs.PlacedNotes.{filled-code}
 use Rattle.plain_world.proofs.Regions.{hole-kind}
-use Rattle.plain_world.proofs.RegionFrames.{SameBlock, turn-round, hole-as}
+use Rattle.plain_world.proofs.BlockFrames.{SameBlock}
+use Rattle.plain_world.proofs.GrownLines.{hole-grown}
+use Rattle.plain_world.proofs.RegionFrames.{turn-round}
 
 head-code : (n : ℕ) → code_of (block_of_kind kinds.LargeHead n) % 256 ≡ 6
 head-code n = omega arith
 
-module _ (fill : Kind) (fills : FillsTailsOrCells fill) (s t : HeapState) (lawful : IsLawful t) (a refs nums block : ℕ) (placed : PlacesRun s t a refs nums block) where
+module _ (fill : Kind) (fills : FillsHoles fill) (s t : HeapState) (lawful : IsLawful t) (a refs nums block : ℕ) (placed : PlacesRun s t a refs nums block) where
   abbrev n : ℕ
   n = blocks_for (size_of refs nums)
 
@@ -75,7 +77,9 @@ module _ (fill : Kind) (fills : FillsTailsOrCells fill) (s t : HeapState) (lawfu
   }
     where
       stays : (k < block) ⊎ (block + n ≤ k) → (at size : ℕ) → least ≤ size → HasHole fill t k at size → ⊥
-      stays away at size most hole = is.none at size most (hole-as fill fills t s k at size (turn-round s t k (same-block k there away)) hole)
+      stays away at size most hole =
+          let was = hole-grown fill fills s t k at size (turn-round s t k (same-block k there away)) (λ line few. placed.lines k line there few) hole in
+          is.none was.0 size most was.1
 
   pub after-run : (notes later : BlockNotes) → AreNotes fill s notes → session_counts later.counts ≡ counts_of t → later.notes ≡ notes.notes → later.owned ≡ notes.owned → AreNotes fill t later
   after-run notes later are counts same owned = record {

@@ -9,9 +9,10 @@ use Rattle.object_model.specs.Objects.{HeapState, block_word, HasKind, class_at,
 use Rattle.object_model.proofs.OneKind.{kind-code, kind-from}
 use Rattle.object_model.proofs.ObjectReads.{place_of_address}
 use Rattle.sessions.specs.Fitting.{IsTail, IsFreeCell, HasHole}
-use Rattle.plain_world.specs.Regions.{IsTailLeft, IsCellLeft, free, full, IsRegionIn, IsRestAfter, without_first}
-use Rattle.plain_world.specs.Notes.{FillsTails, FillsTailsOrCells}
-use Rattle.plain_world.proofs.Regions.{no-lines}
+use Rattle.plain_world.specs.Regions.{IsLinesLeft, IsTailLeft, IsCellLeft, free, full, IsRegionIn, IsRestAfter, without_first}
+use Rattle.plain_world.specs.Notes.{FillsTails}
+use Rattle.plain_world.proofs.BlockFrames.{SameBlock, AddsInBlock, SameLines}
+use Rattle.plain_world.proofs.LineRegions.{here-as, here-after, lines-hole-as}
 
 -- a cell begins in its block
 pub cell-below : (s : HeapState) (k at : ℕ) → IsFreeCell s k at → at < 4096
@@ -33,14 +34,6 @@ place-in b k at there below = (record { from = omega arith; below = omega arith 
 
 pub place-of : (b x k : ℕ) → IsAddress b x → block_at b x ≡ k → x ≡ block_start b k + offset_at b x
 place-of b x k address here = let place = place_of_address b x address in omega arith
-
--- block k of the two heaps has the same kind and class, and the same objects
-pub record SameBlock (s t : HeapState) (k : ℕ) : Type 0 where
-  pub there : k < s.blocks
-  pub blocks : t.blocks ≡ s.blocks
-  pub word : block_word t k % 65536 ≡ block_word s k % 65536
-  pub held : (x : ℕ) → IsHeld s x → block_at s.blocks x ≡ k → IsHeld t x × (size_at t x ≡ size_at s x)
-  pub back : (x : ℕ) → IsHeld t x → block_at s.blocks x ≡ k → IsHeld s x
 
 pub turn-round : (s t : HeapState) (k : ℕ) → SameBlock s t k → SameBlock t s k
 turn-round s t k same = record {
@@ -116,41 +109,29 @@ tail-left-as : (s t : HeapState) (k : ℕ) (r : Region) → SameBlock s t k → 
 tail-left-as s t k r same is = record { tail = tail-as s t k same r.next is.tail; inside = is.inside; end = is.end }
 
 -- the region stays
-pub region-as : (fill : Kind) (s t : HeapState) (k : ℕ) (r : Region) → SameBlock s t k → IsRegionIn fill s k r → IsRegionIn fill t k r
-region-as kinds.Bump s t k r same is = tail-left-as s t k r same is
-region-as kinds.Young s t k r same is = tail-left-as s t k r same is
-region-as kinds.Cells s t k r same is = left-as s t k 0 r same is
-region-as kinds.Free s t k r same is = absurd is
-region-as kinds.Mature s t k r same is = absurd is
-region-as kinds.Immix s t k r same is = absurd is
-region-as kinds.LargeHead s t k r same is = absurd is
-region-as kinds.LargeTail s t k r same is = absurd is
-region-as kinds.Kept s t k r same is = absurd is
+pub region-as : (fill : Kind) (s t : HeapState) (k : ℕ) (r : Region) → SameBlock s t k → (fill ≡ kinds.Immix → SameLines s t k) → IsRegionIn fill s k r → IsRegionIn fill t k r
+region-as kinds.Bump s t k r same lines is = tail-left-as s t k r same is
+region-as kinds.Young s t k r same lines is = tail-left-as s t k r same is
+region-as kinds.Cells s t k r same lines is = left-as s t k 0 r same is
+region-as kinds.Free s t k r same lines is = absurd is
+region-as kinds.Mature s t k r same lines is = absurd is
+region-as kinds.Immix s t k r same lines is = here-as s t k same (lines refl) r is
+region-as kinds.LargeHead s t k r same lines is = absurd is
+region-as kinds.LargeTail s t k r same lines is = absurd is
+region-as kinds.Kept s t k r same lines is = absurd is
 
 -- and each hole
-pub hole-as : (fill : Kind) → FillsTailsOrCells fill → (s t : HeapState) (k at size : ℕ) → SameBlock s t k → HasHole fill s k at size → HasHole fill t k at size
-hole-as kinds.Bump fills s t k at size same hole = (kind-as s t k same kinds.Bump hole.0, tail-as s t k same at hole.1, hole.2)
-hole-as kinds.Young fills s t k at size same hole = (kind-as s t k same kinds.Young hole.0, tail-as s t k same at hole.1, hole.2)
-hole-as kinds.Cells fills s t k at size same hole =
+pub hole-as : (fill : Kind) (s t : HeapState) (k at size : ℕ) → SameBlock s t k → (fill ≡ kinds.Immix → SameLines s t k) → HasHole fill s k at size → HasHole fill t k at size
+hole-as kinds.Bump s t k at size same lines hole = (kind-as s t k same kinds.Bump hole.0, tail-as s t k same at hole.1, hole.2)
+hole-as kinds.Young s t k at size same lines hole = (kind-as s t k same kinds.Young hole.0, tail-as s t k same at hole.1, hole.2)
+hole-as kinds.Cells s t k at size same lines hole =
     (kind-as s t k same kinds.Cells hole.0, cell-as s t k same at hole.1, hole.2 ∙ ap (λ c. Some c) (sym (class-as s t k same)))
-hole-as kinds.Immix fills s t k at size same hole = absurd (no-lines fills)
-hole-as kinds.Free fills s t k at size same hole = hole
-hole-as kinds.Mature fills s t k at size same hole = hole
-hole-as kinds.LargeHead fills s t k at size same hole = hole
-hole-as kinds.LargeTail fills s t k at size same hole = hole
-hole-as kinds.Kept fills s t k at size same hole = hole
-
--- block k of t has the objects that it has in s, and one of `size` words at the offset; its kind and class are the same
-pub record AddsInBlock (s t : HeapState) (k at size : ℕ) : Type 0 where
-  pub there : k < s.blocks
-  pub blocks : t.blocks ≡ s.blocks
-  pub word : block_word t k % 65536 ≡ block_word s k % 65536
-  pub below : at < 4096
-  pub some : 1 ≤ size
-  pub born : IsHeld t (block_start s.blocks k + at)
-  pub words : size_at t (block_start s.blocks k + at) ≡ size
-  pub held : (x : ℕ) → IsHeld s x → block_at s.blocks x ≡ k → IsHeld t x × (size_at t x ≡ size_at s x)
-  pub back : (x : ℕ) → IsHeld t x → block_at s.blocks x ≡ k → (x ≡ block_start s.blocks k + at) ⊎ IsHeld s x
+hole-as kinds.Immix s t k at size same lines hole = lines-hole-as s t k at size (kind-as s t k same kinds.Immix hole.0) (lines refl) hole
+hole-as kinds.Free s t k at size same lines hole = hole
+hole-as kinds.Mature s t k at size same lines hole = hole
+hole-as kinds.LargeHead s t k at size same lines hole = hole
+hole-as kinds.LargeTail s t k at size same lines hole = hole
+hole-as kinds.Kept s t k at size same lines hole = hole
 
 module _ (s t : HeapState) (k at size : ℕ) (adds : AddsInBlock s t k at size) where
   abbrev a : ℕ
@@ -266,32 +247,34 @@ module _ (s t : HeapState) (k at size : ℕ) (adds : AddsInBlock s t k at size) 
   })
 
   -- what the object at the start of a region leaves is the region then
-  pub region-born : (fill : Kind) (r rest : Region) → r.next ≡ at → at + size ≤ r.end → IsRegionIn fill s k r → IsRestAfter fill s k size r rest → IsRegionIn fill t k rest
-  region-born kinds.Bump r rest begins room is left = tail-rest r rest begins room is left
-  region-born kinds.Young r rest begins room is left = tail-rest r rest begins room is left
-  region-born kinds.Cells r rest begins room is left = left-born r rest begins room is left
-  region-born kinds.Free r rest begins room is left = absurd is
-  region-born kinds.Mature r rest begins room is left = absurd is
-  region-born kinds.Immix r rest begins room is left = absurd is
-  region-born kinds.LargeHead r rest begins room is left = absurd is
-  region-born kinds.LargeTail r rest begins room is left = absurd is
-  region-born kinds.Kept r rest begins room is left = absurd is
+  pub region-born : (fill : Kind) (r rest : Region) → r.next ≡ at → at + size ≤ r.end → (fill ≡ kinds.Immix → SameLines s t k) → IsRegionIn fill s k r → IsRestAfter fill s k size r rest → IsRegionIn fill t k rest
+  region-born kinds.Bump r rest begins room lines is left = tail-rest r rest begins room is left
+  region-born kinds.Young r rest begins room lines is left = tail-rest r rest begins room is left
+  region-born kinds.Cells r rest begins room lines is left = left-born r rest begins room is left
+  region-born kinds.Free r rest begins room lines is left = absurd is
+  region-born kinds.Mature r rest begins room lines is left = absurd is
+  region-born kinds.Immix r rest begins room lines is left =
+      subst (λ (q : Region). IsLinesLeft t k q) (sym left)
+      (here-after s t k at size adds (lines refl) r begins (subst (λ (n : ℕ). n + size ≤ r.end) (sym begins) room) is)
+  region-born kinds.LargeHead r rest begins room lines is left = absurd is
+  region-born kinds.LargeTail r rest begins room lines is left = absurd is
+  region-born kinds.Kept r rest begins room lines is left = absurd is
 
   -- where there is a hole, there was one, if the object lies at the start of the tail or in a cell
-  pub hole-born : (fill : Kind) → FillsTailsOrCells fill → (FillsTails fill → IsTail s k at) → (from n : ℕ) → HasHole fill t k from n → (was : ℕ) × HasHole fill s k was n
-  hole-born kinds.Bump fills tail from n hole =
+  pub hole-born : (fill : Kind) → (fill ≡ kinds.Immix → SameLines s t k) → (FillsTails fill → IsTail s k at) → (from n : ℕ) → HasHole fill t k from n → (was : ℕ) × HasHole fill s k was n
+  hole-born kinds.Bump lines tail from n hole =
       let past = tail-past from hole.1 in let room : from + n ≤ 4096 = hole.2 in
       (at, (kind-before kinds.Bump hole.0, tail (inl refl), omega arith))
-  hole-born kinds.Young fills tail from n hole =
+  hole-born kinds.Young lines tail from n hole =
       let past = tail-past from hole.1 in let room : from + n ≤ 4096 = hole.2 in
       (at, (kind-before kinds.Young hole.0, tail (inr refl), omega arith))
-  hole-born kinds.Cells fills tail from n hole = (from, (kind-before kinds.Cells hole.0, cell-before from hole.1, hole.2 ∙ ap (λ c. Some c) class-same))
-  hole-born kinds.Immix fills tail from n hole = absurd (no-lines fills)
-  hole-born kinds.Free fills tail from n hole = absurd hole
-  hole-born kinds.Mature fills tail from n hole = absurd hole
-  hole-born kinds.LargeHead fills tail from n hole = absurd hole
-  hole-born kinds.LargeTail fills tail from n hole = absurd hole
-  hole-born kinds.Kept fills tail from n hole = absurd hole
+  hole-born kinds.Cells lines tail from n hole = (from, (kind-before kinds.Cells hole.0, cell-before from hole.1, hole.2 ∙ ap (λ c. Some c) class-same))
+  hole-born kinds.Immix lines tail from n hole = (from, lines-hole-as t s k from n (kind-before kinds.Immix hole.0) (λ line few. sym (lines refl line few)) hole)
+  hole-born kinds.Free lines tail from n hole = absurd hole
+  hole-born kinds.Mature lines tail from n hole = absurd hole
+  hole-born kinds.LargeHead lines tail from n hole = absurd hole
+  hole-born kinds.LargeTail lines tail from n hole = absurd hole
+  hole-born kinds.Kept lines tail from n hole = absurd hole
 
 -- the tail that a hole or a region begins
 pub hole-tail : (fill : Kind) (s : HeapState) (k at size : ℕ) → HasHole fill s k at size → FillsTails fill → IsTail s k at

@@ -1,28 +1,42 @@
 -- Regions are holes, and what a region leaves is none.
-use Rattle.std.proofs.Common.{◌≡◌, ◌≢◌, refl, sym, ◌∙◌, ap, subst, ℕ, zero, suc, ◌+◌, ◌<◌, ◌≤◌, inl, inr, arith, Bool, true, false, ◌||◌, IsTrue, nat_le, leb-true, List, [], ◌∷◌, Some, None, slice_index}
+use Rattle.std.proofs.Common.{◌≡◌, ◌≢◌, refl, sym, ◌∙◌, ap, subst, ℕ, zero, suc, ◌+◌, ◌<◌, ◌≤◌, ◌⊎◌, inl, inr, arith, Bool, true, false, ◌||◌, IsTrue, nat_le, leb-true, List, [], ◌∷◌, Some, None, slice_index}
 use Rattle.std.specs.Prelude.{max, unwrap_or}
 use Rattle.std.specs.List.{list_all}
-use Rattle.std.proofs.lemmas.Bool.{and_parts, cases_Bool}
+use Rattle.std.proofs.lemmas.Bool.{and_parts, cases_Bool, true≢false}
 use Rattle.heap_layout.specs.Zones.{block_at, block_start}
 use Rattle.heap_layout.specs.Blocks.{kind_code}
 use Rattle.heap_layout.specs.declared.block.Kind.{Kind}
 use Rattle.heap_layout.specs.declared.block.Kind.TheVariants as kinds
 use Rattle.heap_layout.specs.declared.region.Region.{Region}
 use Rattle.object_model.specs.Objects.{HeapState, HasKind, class_at, is_start, is_pinned, is_unlogged, IsHeld, cell_words}
-use Rattle.object_model.specs.Lawful.{IsClear}
+use Rattle.object_model.specs.Lawful.{IsClear, LineBitsAreExact}
 use Rattle.sessions.specs.Fitting.{IsTail, IsFreeCell, HasHole, class_of, class_for}
 use Rattle.sessions.proofs.HoleKinds.{class-least}
 use Rattle.sessions.proofs.Holes.{class-room}
 use Rattle.sessions.proofs.Tails.{tail-unique}
+use Rattle.plan_api.proofs.PartLaws.{whole-part, part-whole}
 use Rattle.plan_api.specs.Holes.{IsTailPart, IsCellPart, HasRoomFrom, IsFirstPart, IsFirstHole}
 use Rattle.plain_world.specs.Regions.{IsTailLeft, IsCellLeft, free, full, IsRegionIn}
-use Rattle.plain_world.specs.Notes.{FillsTails, FillsTailsOrCells}
+use Rattle.plain_world.specs.Notes.{FillsTails, FillsTailsOrCells, FillsHoles}
+use Rattle.plain_world.proofs.LineRegions.{here-inside, here-first}
 
 -- mutators fill no lines
 pub no-lines : FillsTailsOrCells kinds.Immix → ⊥
 no-lines (inl (inl bump)) = let wrong : kind_code kinds.Immix ≡ kind_code kinds.Bump = ap kind_code bump in omega arith
 no-lines (inl (inr young)) = let wrong : kind_code kinds.Immix ≡ kind_code kinds.Young = ap kind_code young in omega arith
 no-lines (inr cells) = let wrong : kind_code kinds.Immix ≡ kind_code kinds.Cells = ap kind_code cells in omega arith
+
+-- mutators fill tails, cells or lines
+pub fills-cases : (fill : Kind) → FillsHoles fill → FillsTailsOrCells fill ⊎ (fill ≡ kinds.Immix)
+fills-cases kinds.Bump fills = inl (inl (inl refl))
+fills-cases kinds.Young fills = inl (inl (inr refl))
+fills-cases kinds.Cells fills = inl (inr refl)
+fills-cases kinds.Immix fills = inr refl
+fills-cases kinds.Free fills = absurd (true≢false (sym fills))
+fills-cases kinds.Mature fills = absurd (true≢false (sym fills))
+fills-cases kinds.LargeHead fills = absurd (true≢false (sym fills))
+fills-cases kinds.LargeTail fills = absurd (true≢false (sym fills))
+fills-cases kinds.Kept fills = absurd (true≢false (sym fills))
 
 -- tails are no cells
 pub no-cells : (fill : Kind) → FillsTails fill → fill ≡ kinds.Cells → ⊥
@@ -83,7 +97,7 @@ region-inside kinds.Young s k r is = tail-inside s k r is
 region-inside kinds.Cells s k r is = left-inside s k 0 r is
 region-inside kinds.Free s k r is = absurd is
 region-inside kinds.Mature s k r is = absurd is
-region-inside kinds.Immix s k r is = absurd is
+region-inside kinds.Immix s k r is = here-inside s k r is
 region-inside kinds.LargeHead s k r is = absurd is
 region-inside kinds.LargeTail s k r is = absurd is
 region-inside kinds.Kept s k r is = absurd is
@@ -96,17 +110,17 @@ left-hole s k size r kind (full none starts ends) suits room = absurd (let some 
 tail-room : (s : HeapState) (k size : ℕ) (r : Region) → IsTailLeft s k r → r.next + size ≤ r.end → r.next + size ≤ 4096
 tail-room s k size r is room = let end : r.end ≡ 4096 = is.end in omega arith
 
-pub region-hole : (fill : Kind) (s : HeapState) (k size : ℕ) (r : Region) → HasKind s k fill → IsRegionIn fill s k r → (fill ≡ kinds.Cells → SuitsCells s k size)
+pub region-hole : (fill : Kind) → FillsTailsOrCells fill → (s : HeapState) (k size : ℕ) (r : Region) → HasKind s k fill → IsRegionIn fill s k r → (fill ≡ kinds.Cells → SuitsCells s k size)
     → r.next + size ≤ r.end → HasHole fill s k r.next size
-region-hole kinds.Bump s k size r kind is suits room = (kind, is.tail, tail-room s k size r is room)
-region-hole kinds.Young s k size r kind is suits room = (kind, is.tail, tail-room s k size r is room)
-region-hole kinds.Cells s k size r kind is suits room = left-hole s k size r kind is (suits refl) room
-region-hole kinds.Free s k size r kind is suits room = absurd is
-region-hole kinds.Mature s k size r kind is suits room = absurd is
-region-hole kinds.Immix s k size r kind is suits room = absurd is
-region-hole kinds.LargeHead s k size r kind is suits room = absurd is
-region-hole kinds.LargeTail s k size r kind is suits room = absurd is
-region-hole kinds.Kept s k size r kind is suits room = absurd is
+region-hole kinds.Bump fills s k size r kind is suits room = (kind, is.tail, tail-room s k size r is room)
+region-hole kinds.Young fills s k size r kind is suits room = (kind, is.tail, tail-room s k size r is room)
+region-hole kinds.Cells fills s k size r kind is suits room = left-hole s k size r kind is (suits refl) room
+region-hole kinds.Free fills s k size r kind is suits room = absurd is
+region-hole kinds.Mature fills s k size r kind is suits room = absurd is
+region-hole kinds.Immix fills s k size r kind is suits room = absurd (no-lines fills)
+region-hole kinds.LargeHead fills s k size r kind is suits room = absurd is
+region-hole kinds.LargeTail fills s k size r kind is suits room = absurd is
+region-hole kinds.Kept fills s k size r kind is suits room = absurd is
 
 -- a block whose region has no room has no hole
 left-lacks : (s : HeapState) (k at size : ℕ) (r : Region) → IsCellLeft s k 0 r → r.end < r.next + size → HasHole kinds.Cells s k at size → ⊥
@@ -119,16 +133,16 @@ tail-lacks s k at size r is over tail room =
     let end : r.end ≡ 4096 = is.end in
     omega arith
 
-pub region-lacks : (fill : Kind) (s : HeapState) (k at size : ℕ) (r : Region) → IsRegionIn fill s k r → r.end < r.next + size → HasHole fill s k at size → ⊥
-region-lacks kinds.Bump s k at size r is over hole = tail-lacks s k at size r is over hole.1 hole.2
-region-lacks kinds.Young s k at size r is over hole = tail-lacks s k at size r is over hole.1 hole.2
-region-lacks kinds.Cells s k at size r is over hole = left-lacks s k at size r is over hole
-region-lacks kinds.Free s k at size r is over hole = absurd is
-region-lacks kinds.Mature s k at size r is over hole = absurd is
-region-lacks kinds.Immix s k at size r is over hole = absurd is
-region-lacks kinds.LargeHead s k at size r is over hole = absurd is
-region-lacks kinds.LargeTail s k at size r is over hole = absurd is
-region-lacks kinds.Kept s k at size r is over hole = absurd is
+pub region-lacks : (fill : Kind) → FillsTailsOrCells fill → (s : HeapState) (k at size : ℕ) (r : Region) → IsRegionIn fill s k r → r.end < r.next + size → HasHole fill s k at size → ⊥
+region-lacks kinds.Bump fills s k at size r is over hole = tail-lacks s k at size r is over hole.1 hole.2
+region-lacks kinds.Young fills s k at size r is over hole = tail-lacks s k at size r is over hole.1 hole.2
+region-lacks kinds.Cells fills s k at size r is over hole = left-lacks s k at size r is over hole
+region-lacks kinds.Free fills s k at size r is over hole = absurd is
+region-lacks kinds.Mature fills s k at size r is over hole = absurd is
+region-lacks kinds.Immix fills s k at size r is over hole = absurd (no-lines fills)
+region-lacks kinds.LargeHead fills s k at size r is over hole = absurd is
+region-lacks kinds.LargeTail fills s k at size r is over hole = absurd is
+region-lacks kinds.Kept fills s k at size r is over hole = absurd is
 
 -- and each hole begins where the region does, or later
 left-before : (s : HeapState) (k from : ℕ) (r : Region) → IsCellLeft s k 0 r → IsFreeCell s k from → r.next ≤ from
@@ -138,16 +152,16 @@ left-before s k from r (full none starts ends) cell = absurd (none from (omega a
 tail-before : (s : HeapState) (k from : ℕ) (r : Region) → IsTailLeft s k r → IsTail s k from → r.next ≤ from
 tail-before s k from r is tail = let same : from ≡ r.next = tail-unique s k from r.next tail is.tail in omega arith
 
-pub region-before : (fill : Kind) (s : HeapState) (k : ℕ) (r : Region) → IsRegionIn fill s k r → (from size : ℕ) → HasHole fill s k from size → r.next ≤ from
-region-before kinds.Bump s k r is from size hole = tail-before s k from r is hole.1
-region-before kinds.Young s k r is from size hole = tail-before s k from r is hole.1
-region-before kinds.Cells s k r is from size hole = left-before s k from r is hole.1
-region-before kinds.Free s k r is from size hole = absurd is
-region-before kinds.Mature s k r is from size hole = absurd is
-region-before kinds.Immix s k r is from size hole = absurd is
-region-before kinds.LargeHead s k r is from size hole = absurd is
-region-before kinds.LargeTail s k r is from size hole = absurd is
-region-before kinds.Kept s k r is from size hole = absurd is
+pub region-before : (fill : Kind) → FillsTailsOrCells fill → (s : HeapState) (k : ℕ) (r : Region) → IsRegionIn fill s k r → (from size : ℕ) → HasHole fill s k from size → r.next ≤ from
+region-before kinds.Bump fills s k r is from size hole = tail-before s k from r is hole.1
+region-before kinds.Young fills s k r is from size hole = tail-before s k from r is hole.1
+region-before kinds.Cells fills s k r is from size hole = left-before s k from r is hole.1
+region-before kinds.Free fills s k r is from size hole = absurd is
+region-before kinds.Mature fills s k r is from size hole = absurd is
+region-before kinds.Immix fills s k r is from size hole = absurd (no-lines fills)
+region-before kinds.LargeHead fills s k r is from size hole = absurd is
+region-before kinds.LargeTail fills s k r is from size hole = absurd is
+region-before kinds.Kept fills s k r is from size hole = absurd is
 
 -- nor has a block of cells of another class
 pub class-lacks : (s : HeapState) (k at size : ℕ) → class_at s k ≢ class_for kinds.Cells size → HasHole kinds.Cells s k at size → ⊥
@@ -166,16 +180,16 @@ left-first s k r q (full none starts ends) (full also other-starts other-ends) =
 tail-first : (s : HeapState) (k : ℕ) (r q : Region) → IsTailLeft s k r → IsTailLeft s k q → (r.next ≡ q.next) × (r.end ≡ q.end)
 tail-first s k r q is other = (tail-unique s k r.next q.next is.tail other.tail, is.end ∙ sym other.end)
 
-pub region-one : (fill : Kind) (s : HeapState) (k : ℕ) (r q : Region) → IsRegionIn fill s k r → IsRegionIn fill s k q → (r.next ≡ q.next) × (r.end ≡ q.end)
-region-one kinds.Bump s k r q is other = tail-first s k r q is other
-region-one kinds.Young s k r q is other = tail-first s k r q is other
-region-one kinds.Cells s k r q is other = left-first s k r q is other
-region-one kinds.Free s k r q is other = absurd is
-region-one kinds.Mature s k r q is other = absurd is
-region-one kinds.Immix s k r q is other = absurd is
-region-one kinds.LargeHead s k r q is other = absurd is
-region-one kinds.LargeTail s k r q is other = absurd is
-region-one kinds.Kept s k r q is other = absurd is
+pub region-one : (fill : Kind) → FillsTailsOrCells fill → (s : HeapState) (k : ℕ) (r q : Region) → IsRegionIn fill s k r → IsRegionIn fill s k q → (r.next ≡ q.next) × (r.end ≡ q.end)
+region-one kinds.Bump fills s k r q is other = tail-first s k r q is other
+region-one kinds.Young fills s k r q is other = tail-first s k r q is other
+region-one kinds.Cells fills s k r q is other = left-first s k r q is other
+region-one kinds.Free fills s k r q is other = absurd is
+region-one kinds.Mature fills s k r q is other = absurd is
+region-one kinds.Immix fills s k r q is other = absurd (no-lines fills)
+region-one kinds.LargeHead fills s k r q is other = absurd is
+region-one kinds.LargeTail fills s k r q is other = absurd is
+region-one kinds.Kept fills s k r q is other = absurd is
 
 -- a block whose region begins later has an object
 abbrev HasObject : HeapState → ℕ → Type 0
@@ -202,16 +216,16 @@ tail-some s k r is later = elim is.tail.least as (λ _. HasObject s k) [
   | inr last ↦ (last.0, last.1, last.2)
 ]
 
-pub region-some : (fill : Kind) (s : HeapState) (k : ℕ) (r : Region) → k < s.blocks → IsRegionIn fill s k r → 0 < r.next → (a : ℕ) × IsHeld s a × (block_at s.blocks a ≡ k)
-region-some kinds.Bump s k r there is later = tail-some s k r is later
-region-some kinds.Young s k r there is later = tail-some s k r is later
-region-some kinds.Cells s k r there is later = left-some s k r there is later
-region-some kinds.Free s k r there is later = absurd is
-region-some kinds.Mature s k r there is later = absurd is
-region-some kinds.Immix s k r there is later = absurd is
-region-some kinds.LargeHead s k r there is later = absurd is
-region-some kinds.LargeTail s k r there is later = absurd is
-region-some kinds.Kept s k r there is later = absurd is
+pub region-some : (fill : Kind) → FillsTailsOrCells fill → (s : HeapState) (k : ℕ) (r : Region) → k < s.blocks → IsRegionIn fill s k r → 0 < r.next → (a : ℕ) × IsHeld s a × (block_at s.blocks a ≡ k)
+region-some kinds.Bump fills s k r there is later = tail-some s k r is later
+region-some kinds.Young fills s k r there is later = tail-some s k r is later
+region-some kinds.Cells fills s k r there is later = left-some s k r there is later
+region-some kinds.Free fills s k r there is later = absurd is
+region-some kinds.Mature fills s k r there is later = absurd is
+region-some kinds.Immix fills s k r there is later = absurd (no-lines fills)
+region-some kinds.LargeHead fills s k r there is later = absurd is
+region-some kinds.LargeTail fills s k r there is later = absurd is
+region-some kinds.Kept fills s k r there is later = absurd is
 
 -- the first hole with room is the region
 tail-part : (s : HeapState) (k size : ℕ) (r : Region) → IsTailPart s k 0 r.next r.end → r.next + size ≤ r.end → IsTailLeft s k r
@@ -232,28 +246,24 @@ cell-part s k size r is =
       });
     }) part.ends
 
-pub hole-region : (fill : Kind) → FillsTailsOrCells fill → (s : HeapState) (k size : ℕ) (r : Region) → IsFirstPart fill s k 0 size r → IsRegionIn fill s k r
-hole-region kinds.Bump fills s k size r is = tail-part s k size r is.hole.part.1 is.hole.room
-hole-region kinds.Young fills s k size r is = tail-part s k size r is.hole.part.1 is.hole.room
-hole-region kinds.Cells fills s k size r is = cell-part s k size r is
-hole-region kinds.Immix fills s k size r is = absurd (no-lines fills)
-hole-region kinds.Free fills s k size r is = absurd is.hole.part
-hole-region kinds.Mature fills s k size r is = absurd is.hole.part
-hole-region kinds.LargeHead fills s k size r is = absurd is.hole.part
-hole-region kinds.LargeTail fills s k size r is = absurd is.hole.part
-hole-region kinds.Kept fills s k size r is = absurd is.hole.part
+pub hole-region : (fill : Kind) → FillsHoles fill → (s : HeapState) (k size : ℕ) (r : Region) → (fill ≡ kinds.Immix → LineBitsAreExact s k) → IsFirstPart fill s k 0 size r → IsRegionIn fill s k r
+hole-region kinds.Bump fills s k size r exact is = tail-part s k size r is.hole.part.1 is.hole.room
+hole-region kinds.Young fills s k size r exact is = tail-part s k size r is.hole.part.1 is.hole.room
+hole-region kinds.Cells fills s k size r exact is = cell-part s k size r is
+hole-region kinds.Immix fills s k size r exact is = here-first s k size r (exact refl) is
+hole-region kinds.Free fills s k size r exact is = absurd is.hole.part
+hole-region kinds.Mature fills s k size r exact is = absurd is.hole.part
+hole-region kinds.LargeHead fills s k size r exact is = absurd is.hole.part
+hole-region kinds.LargeTail fills s k size r exact is = absurd is.hole.part
+hole-region kinds.Kept fills s k size r exact is = absurd is.hole.part
 
 -- and the region is a hole
-pub first-hole : (fill : Kind) → FillsTailsOrCells fill → (s : HeapState) (k size : ℕ) (r : Region) → IsFirstPart fill s k 0 size r → HasHole fill s k r.next size
-first-hole kinds.Bump fills s k size r is = let left = tail-part s k size r is.hole.part.1 is.hole.room in (is.hole.part.0, left.tail, tail-room s k size r left is.hole.room)
-first-hole kinds.Young fills s k size r is = let left = tail-part s k size r is.hole.part.1 is.hole.room in (is.hole.part.0, left.tail, tail-room s k size r left is.hole.room)
-first-hole kinds.Cells fills s k size r is = (is.hole.part.0, is.hole.part.1.cell, is.hole.part.1.class)
-first-hole kinds.Immix fills s k size r is = absurd (no-lines fills)
-first-hole kinds.Free fills s k size r is = absurd is.hole.part
-first-hole kinds.Mature fills s k size r is = absurd is.hole.part
-first-hole kinds.LargeHead fills s k size r is = absurd is.hole.part
-first-hole kinds.LargeTail fills s k size r is = absurd is.hole.part
-first-hole kinds.Kept fills s k size r is = absurd is.hole.part
+pub first-hole : (fill : Kind) (s : HeapState) (k size : ℕ) (r : Region) → IsFirstPart fill s k 0 size r → HasHole fill s k r.next size
+first-hole fill s k size r is = part-whole fill s k size r.next (r.end, is.hole)
+
+-- and no hole begins before it
+pub first-before : (fill : Kind) (s : HeapState) (k size : ℕ) (r : Region) → IsFirstPart fill s k 0 size r → (from : ℕ) → HasHole fill s k from size → r.next ≤ from
+first-before fill s k size r is from hole = let whole = whole-part fill s k size from hole in is.first from whole.0 whole.1
 
 -- under cells the block has the class for the size then
 pub part-class : (fill : Kind) (s : HeapState) (k size : ℕ) (r : Region) → IsFirstPart fill s k 0 size r → fill ≡ kinds.Cells → class_of size ≡ Some (class_at s k)
@@ -261,19 +271,8 @@ part-class fill s k size r is cells =
     let part : HasRoomFrom kinds.Cells s k 0 size r.next r.end = subst (λ (f : Kind). HasRoomFrom f s k 0 size r.next r.end) cells is.hole in part.part.1.class
 
 -- no first hole: no hole
-pub none-first : (fill : Kind) → FillsTailsOrCells fill → (s : HeapState) (k size : ℕ) → IsFirstHole fill s k 0 size None → (at : ℕ) → HasHole fill s k at size → ⊥
-none-first kinds.Bump fills s k size none at hole = none at 4096 (record { part = (hole.0, record { begin = at; tail = hole.1; starts = omega arith; ends = refl }); room = hole.2 })
-none-first kinds.Young fills s k size none at hole = none at 4096 (record { part = (hole.0, record { begin = at; tail = hole.1; starts = omega arith; ends = refl }); room = hole.2 })
-none-first kinds.Cells fills s k size none at hole = none at (at + cell_words (class_at s k)) (record {
-  part = (hole.0, record { class = hole.2; cell = hole.1; after = omega arith; ends = refl });
-  room = (let fits : size ≤ cell_words (class_at s k) = class-room size (class_at s k) hole.2 in omega arith);
-})
-none-first kinds.Immix fills s k size none at hole = no-lines fills
-none-first kinds.Free fills s k size none at hole = hole
-none-first kinds.Mature fills s k size none at hole = hole
-none-first kinds.LargeHead fills s k size none at hole = hole
-none-first kinds.LargeTail fills s k size none at hole = hole
-none-first kinds.Kept fills s k size none at hole = hole
+pub none-first : (fill : Kind) (s : HeapState) (k size : ℕ) → IsFirstHole fill s k 0 size None → (at : ℕ) → HasHole fill s k at size → ⊥
+none-first fill s k size none at hole = let whole = whole-part fill s k size at hole in none at whole.0 whole.1
 
 -- the region of a clear block
 or_first : (a b c : Bool) → IsTrue a → IsTrue (a || b || c)

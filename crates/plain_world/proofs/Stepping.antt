@@ -24,7 +24,7 @@ use Rattle.mutator_core.proofs.Kept.{Leaves}
 use Rattle.mutator_calls.specs.declared.need.Mutator.{Mutator}
 use Rattle.plain_world.specs.declared.plain_row.PlainRow.{PlainRow}
 use Rattle.plain_world.specs.declared.plain_row.PlainSeat.{PlainSeat}
-use Rattle.plain_world.specs.Rows.{IsTurn, ChangesAt, number_of, number_at_turn, mutator_at_turn, seat_at_turn, blocks_of}
+use Rattle.plain_world.specs.Rows.{IsTurn, ChangesAt, number_of, number_at_turn, mutator_at_turn, seat_at_turn, blocks_of, over_of}
 use Rattle.std.proofs.lemmas.Option.{get_or_from_slice_get}
 use Rattle.std.proofs.lemmas.List.{length-map}
 use Rattle.plain_world.specs.Notes.{HasNotes, IsRegionOf}
@@ -50,6 +50,7 @@ pub record Updates (a b : PlainRow) (l' : Local) : Type 0 where
   pub seats : ChangesAt a.seats.items b.seats.items a.turn seat
   pub number : mutator.number ≡ number_at_turn a
   pub blocks : seat.blocks ≡ blocks_of (seat_at_turn a)
+  pub over : seat.over ≡ over_of (seat_at_turn a)
   pub state : HasState mutator seat l'
 
 module _ (p : Epoch) (i : IdealHeap) (log : List LogEntry) (a : PlainRow) (at : IsAt p i log a) (turn : IsTurn a) where
@@ -123,6 +124,7 @@ module _ (p : Epoch) (i : IdealHeap) (log : List LogEntry) (a : PlainRow) (at : 
         after = leaves.held;
         before = λ q holds. record { address = holds.address; start = sym (start-same q) ∙ holds.start };
         sizes = λ q holds. ap (λ v. size_of (v % 65536) (v / 65536)) (leaves.headers q 1 holds (omega arith));
+        lines = λ j line there few. leaves.lines j line there few;
       }
 
       pub at-next : (b : PlainRow) → state_of b.row ≡ with_words s (next p h m x).words → Updates a b (local_after p l x (found p h m x))
@@ -145,6 +147,7 @@ module _ (p : Epoch) (i : IdealHeap) (log : List LogEntry) (a : PlainRow) (at : 
         seats = up.seats;
         number = up.number;
         blocks = up.blocks;
+        over = up.over;
         state = subst (HasState up.mutator up.seat) (sym (cond-true (nat_eq m m) _ _ (eq-eqb m m refl))) up.state;
         others = λ n other. cond-false (nat_eq n m) _ _ (ne_eqb n m other);
       })

@@ -1,14 +1,14 @@
 -- A block is taken: a block that nobody owned becomes the mutator's.
 use Rattle.std.proofs.Common.{◌≡◌, ◌≢◌, refl, sym, ◌∙◌, ap, subst, ℕ, ◌/◌, ◌%◌, ◌<◌, ◌≤◌, ◌⊎◌, inl, inr, arith, Bool, true, false, ◌&&◌, IsTrue, nat_eq, nat_lt, eq-eqb, List, [], ◌∷◌, ◌++◌, map, length, length-set}
 use Rattle.std.specs.Prelude.{Option, Some, None, slice_get, slice_set, unwrap_or}
-use Rattle.std.proofs.lemmas.Bool.{cases_eq, cond-true}
+use Rattle.std.proofs.lemmas.Bool.{cond-true}
 use Rattle.heap_layout.specs.Blocks.{kind_code, code_of, IsValid}
 use Rattle.heap_layout.specs.declared.block.Kind.{Kind}
 use Rattle.heap_layout.specs.declared.block.Kind.TheVariants as kinds
 use Rattle.heap_layout.specs.declared.region.Region.{Region}
 use Rattle.heap_layout.proofs.BlockLemmas.{code_parts, kind_code_most, valid_most}
 use Rattle.ideal_heap.specs.Ideal.{IdealHeap}
-use Rattle.object_model.specs.Objects.{HeapState, state_of, with_words, block_word, has_kind, HasKind, class_at, owner_at}
+use Rattle.object_model.specs.Objects.{HeapState, state_of, with_words, block_word, has_kind, HasKind, class_at, owner_at, line_marked}
 use Rattle.object_model.proofs.Blocks as blocks
 use Rattle.object_model.proofs.Blocks.{SameHeap, set_block}
 use Rattle.object_model.proofs.OneKind.{kind-code, kind-from, kind-within}
@@ -27,26 +27,20 @@ use Rattle.plain_world.specs.declared.plain_row.PlainRow.{PlainRow}
 use Rattle.plain_world.specs.declared.plain_row.PlainSeat.{PlainSeat}
 use Rattle.plain_world.specs.declared.plain_row.BlockNote.{BlockNote}
 use Rattle.plain_world.specs.declared.plain_row.BlockNote.TheVariants.{Unowned, Owned}
-use Rattle.plain_world.specs.Rows.{IsTurn, ChangesAt, number_at_turn, seat_at_turn, ticket_of, blocks_of}
+use Rattle.plain_world.specs.Rows.{IsTurn, number_at_turn, seat_at_turn, ticket_of, blocks_of, over_of}
 use Rattle.plain_world.specs.Regions.{IsRegionIn}
-use Rattle.plain_world.specs.Notes.{FillsTailsOrCells, IsNote, IsOwnedNote, HasNotes, IsRegionOf}
-use Rattle.plain_world.specs.Changes.{TakesBlock}
+use Rattle.plain_world.specs.Notes.{FillsHoles, IsNote, IsOwnedNote, HasNotes, IsRegionOf}
+use Rattle.plain_world.specs.Changes.{TakesBlock, seat_with}
+use Rattle.plain_world.specs.TwoRegions.{FillsLines}
 use Rattle.plain_world.specs.Worlds.{IsAt, HasState, HasCursors, Continues}
-use Rattle.plain_world.proofs.Elements.{set-changes}
+use Rattle.plain_world.proofs.Elements.{set-changes, changes-cases}
 use Rattle.plain_world.proofs.Lists.{one-element}
 use Rattle.plain_world.proofs.Owning.{lists-taken}
 use Rattle.plain_world.proofs.Regions.{hole-kind}
-use Rattle.plain_world.proofs.RegionFrames.{SameBlock, turn-round, region-as, hole-as}
+use Rattle.plain_world.proofs.BlockFrames.{SameBlock}
+use Rattle.plain_world.proofs.RegionFrames.{turn-round, region-as, hole-as}
 use Rattle.plain_world.proofs.Stepping as stepping
 use Rattle.plain_world.proofs.Turns as turns
-
--- an element of a list that changed at one place
-pub changes-cases : {A : Type 0} (xs ys : List A) (at : ℕ) (x : A) → ChangesAt xs ys at x → (k : ℕ) (y : A) → slice_get ys k ≡ Some y
-    → ((k ≡ at) × (y ≡ x)) ⊎ ((k ≢ at) × (slice_get xs k ≡ Some y))
-changes-cases xs ys at x changes k y is = elim (cases_eq k at) as (λ _. ((k ≡ at) × (y ≡ x)) ⊎ ((k ≢ at) × (slice_get xs k ≡ Some y))) [
-  | inl here ↦ inl (here, one-element (slice_get ys at) y x (subst (λ n. slice_get ys n ≡ Some y) here is) changes.here)
-  | inr other ↦ inr (other, sym (changes.others k other) ∙ is)
-]
 
 -- the word of a block of a kind that has the class and no owner
 pub unowned-code : (s : HeapState) (k class : ℕ) (kind : Kind) → HasKind s k kind → class_at s k ≡ class → owner_at s k ≡ 0 → block_word s k ≡ code_of (block_of_kind kind class)
@@ -60,6 +54,10 @@ unowned-code s k class kind is suits owner =
 module _ (s : HeapState) (k v : ℕ) (there : k < s.blocks) where
   abbrev t : HeapState
   t = with_words s (set_block s k v)
+
+  -- the line bits stay
+  blocks-lines : (q line : ℕ) → line < 256 → line_marked s q line ≡ line_marked t q line
+  blocks-lines q line few = sym (blocks.lines-same s k v there q line)
 
   same : SameHeap s (set_block s k v)
   same = blocks.same_heap s k v there
@@ -86,11 +84,12 @@ module _ (s : HeapState) (k v : ℕ) (there : k < s.blocks) where
     other-block : j < s.blocks → SameBlock s t j
     other-block inside = same-block j inside (ap (λ x. x % 65536) (blocks.block-other s k v there j other))
 
-    pub hole-before : (fill : Kind) → FillsTailsOrCells fill → (at size : ℕ) → HasHole fill t j at size → HasHole fill s j at size
+    pub hole-before : (fill : Kind) → FillsHoles fill → (at size : ℕ) → HasHole fill t j at size → HasHole fill s j at size
     hole-before fill fills at size hole =
-        hole-as fill fills t s j at size (turn-round s t j (other-block (kind-within t j fill (hole-kind fill t j at size hole)))) hole
+        hole-as fill t s j at size (turn-round s t j (other-block (kind-within t j fill (hole-kind fill t j at size hole))))
+        (λ lines line few. blocks-lines j line few) hole
 
-    pub note-after : (fill : Kind) → FillsTailsOrCells fill → (note : BlockNote) → j < s.blocks → IsNote fill s j note → IsNote fill t j note
+    pub note-after : (fill : Kind) → FillsHoles fill → (note : BlockNote) → j < s.blocks → IsNote fill s j note → IsNote fill t j note
     note-after fill fills (Unowned least) inside is = record {
       owner = owner-same ∙ is.owner;
       none = λ at size most hole. is.none at size most (hole-before fill fills at size hole);
@@ -99,7 +98,7 @@ module _ (s : HeapState) (k v : ℕ) (there : k < s.blocks) where
       some = is.some;
       owner = owner-same ∙ is.owner;
       kind = kind-same fill ∙ is.kind;
-      left = region-as fill s t j region (other-block inside) is.left;
+      left = region-as fill s t j region (other-block inside) (λ lines line few. sym (blocks-lines j line few)) is.left;
     }
 
 -- the kind of the block, and the ticket after it is taken
@@ -118,7 +117,8 @@ class_found false class = class
 -- The mutator takes a block that nobody owns for objects of the class, a Free one with its ticket, and its region is what
 -- is left of the block.
 pub record Gains (a b : PlainRow) (block class : ℕ) (region : Region) (free : Bool) : Type 0 where
-  pub takes : TakesBlock a b block class region (ticket_left free (ticket_of (seat_at_turn a)))
+  pub over : Bool
+  pub takes : TakesBlock a b over block class region (ticket_left free (ticket_of (seat_at_turn a)))
   pub there : block < a.row.layout.blocks
   pub valid : IsValid (record { kind = a.fill; class = class; owner = number_at_turn a })
   pub word : block_word (state_of a.row) block ≡ code_of (block_of_kind (kind_found free a.fill) (class_found free class))
@@ -149,6 +149,34 @@ taken-pending p l k class false = refl
 found-same : (p : Epoch) (fill : Kind) (class : ℕ) (free : Bool) → fill ≡ p.rules.fill → code_of (block_of_kind (kind_found free fill) (class_found free class)) ≡ found_code p class free
 found-same p fill class true is = refl
 found-same p fill class false is = ap (λ (k : Kind). code_of (block_of_kind k class)) is
+
+-- the parts of a seat that has a block more
+pub seat-ticket : (over : Bool) (seat : Option PlainSeat) (class block : ℕ) (ticket : Option ℕ) → (seat_with over seat class block ticket).ticket ≡ ticket
+seat-ticket false seat class block ticket = refl
+seat-ticket true seat class block ticket = refl
+
+-- how many classes it has blocks for
+seat-classes : (over : Bool) (seat : Option PlainSeat) (class block : ℕ) (ticket : Option ℕ) → length (seat_with over seat class block ticket).blocks ≡ length (blocks_of seat)
+seat-classes false seat class block ticket = length-set (blocks_of seat) class (Some block)
+seat-classes true seat class block ticket = refl
+
+-- its block for a class is the new one, or it was its block
+pub seat-cases : (over : Bool) (seat : Option PlainSeat) (class block : ℕ) (ticket : Option ℕ) → class < length (blocks_of seat) → (c : ℕ) (o : Option ℕ)
+    → slice_get (seat_with over seat class block ticket).blocks c ≡ Some o
+    → ((over ≡ false) × (c ≡ class) × (o ≡ Some block)) ⊎ (slice_get (blocks_of seat) c ≡ Some o)
+seat-cases true seat class block ticket few c o is = inr is
+seat-cases false seat class block ticket few c o is =
+    elim (changes-cases (blocks_of seat) (slice_set (blocks_of seat) class (Some block)) class (Some block) (set-changes (blocks_of seat) class (Some block) few) c o is) as
+    (λ _. ((false ≡ false) × (c ≡ class) × (o ≡ Some block)) ⊎ (slice_get (blocks_of seat) c ≡ Some o)) [
+      | inl here ↦ inl (refl, here.0, here.1)
+      | inr other ↦ inr other.1
+    ]
+
+-- and its overflow block
+pub over-cases : (over : Bool) (seat : Option PlainSeat) (class block : ℕ) (ticket : Option ℕ) (d : ℕ) → (seat_with over seat class block ticket).over ≡ Some d
+    → ((over ≡ true) × (d ≡ block)) ⊎ (over_of seat ≡ Some d)
+over-cases false seat class block ticket d is = inr is
+over-cases true seat class block ticket d is = inl (refl, one-element (Some block) d block is refl)
 
 module _ (p : Epoch) (i : IdealHeap) (log : List LogEntry) (a b : PlainRow) (at : IsAt p i log a) (turn : IsTurn a) (block class : ℕ) (region : Region) (free : Bool)
     (gains : Gains a b block class region free) where
@@ -203,7 +231,7 @@ module _ (p : Epoch) (i : IdealHeap) (log : List LogEntry) (a b : PlainRow) (at 
       (eq-eqb (block_word (heap_after p log) block) (found_code p class free) found)
 
   abbrev seat : PlainSeat
-  seat = record { ticket = ticket_left free (ticket_of (seat_at_turn a)); blocks = slice_set (blocks_of (seat_at_turn a)) class (Some block) }
+  seat = seat_with gains.over (seat_at_turn a) class block (ticket_left free (ticket_of (seat_at_turn a)))
 
   same-mutator : (k : ℕ) (q : Mutator) → slice_get b.mutators.items k ≡ Some q → slice_get a.mutators.items k ≡ Some q
   same-mutator k q is = ap (λ y. slice_get y.items k) (sym gains.takes.mutators) ∙ is
@@ -212,7 +240,8 @@ module _ (p : Epoch) (i : IdealHeap) (log : List LogEntry) (a b : PlainRow) (at 
   own-state = subst (HasState (stepping.mutator p i log a at turn).0 seat) (sym local-is) (let state = stepping.state p i log a at turn in record {
     births = taken-births p l block class free ∙ state.births;
     registers = taken-registers p l block class free ∙ state.registers;
-    ticket = taken-ticket p l block class free ∙ ap (ticket_left free) (turns.own-ticket p i log a at turn);
+    ticket = taken-ticket p l block class free ∙ ap (ticket_left free) (turns.own-ticket p i log a at turn)
+        ∙ sym (seat-ticket gains.over (seat_at_turn a) class block (ticket_left free (ticket_of (seat_at_turn a))));
     none = taken-unpublished p l block class free ∙ state.none;
     stored = taken-pending p l block class free ∙ state.stored;
   })
@@ -258,29 +287,69 @@ module _ (p : Epoch) (i : IdealHeap) (log : List LogEntry) (a b : PlainRow) (at 
         ap (λ (z : HeapState). class_at z d) gains.takes.words ∙ class-same s block v gains.there d other ∙ suits,
       )
 
-  own-cursors : HasCursors b.notes.items (state_of b.row) m seat
+  -- the block that was not the mutator's has its class
+  new-own : (d : ℕ) → d ≡ block → IsRegionOf b.notes.items m d × (class_at (state_of b.row) d ≡ class)
+  new-own d same = (
+    record { region = region; note = ap (slice_get b.notes.items) same ∙ gains.takes.notes.here },
+    ap (λ (z : HeapState). class_at z d) gains.takes.words ∙ ap (class_at now) same ∙ ap (λ n. n / 256 % 256) word ∙ parts.1,
+  )
+
+  few : class < length (blocks_of (seat_at_turn a))
+  few =
+      let many : length (blocks_of (seat_at_turn a)) ≡ 19 = turns.own-classes p i log a at turn in
+      let least : class ≤ 18 = (valid_most a.fill class m gains.valid).0 in
+      omega arith
+
+  old-seat : (c d : ℕ) → slice_get (blocks_of (seat_at_turn a)) c ≡ Some (Some d) → IsRegionOf a.notes.items m d × (class_at (state_of a.row) d ≡ c)
+  old-seat c d is = turns.own-region p i log a at turn c d (ap (λ o. unwrap_or o None) is)
+
+  old-over : FillsLines a.fill → (d : ℕ) → over_of (seat_at_turn a) ≡ Some d → IsRegionOf a.notes.items m d
+  old-over lines d is = (turns.own-cursors p i log a at turn).over lines d (ap over_of (sym (turns.own-seat p i log a at turn).1) ∙ is)
+
+  -- a block with a region is not the one that is taken
+  not-taken : (n d : ℕ) → IsRegionOf a.notes.items n d → d ≡ block → ⊥
+  not-taken n d was same = gains.unowned n was.region (ap (slice_get a.notes.items) (sym same) ∙ was.note)
+
+  abbrev old : Option PlainSeat
+  old = seat_at_turn a
+
+  abbrev left : Option ℕ
+  left = ticket_left free (ticket_of (seat_at_turn a))
+
+  own-cursors : HasCursors b.fill b.notes.items (state_of b.row) m seat
   own-cursors = record {
-    classes = length-set (blocks_of (seat_at_turn a)) class (Some block) ∙ turns.own-classes p i log a at turn;
-    each = λ c d is.
-        let many : length (blocks_of (seat_at_turn a)) ≡ 19 = turns.own-classes p i log a at turn in
-        let few : class ≤ 18 = (valid_most a.fill class m gains.valid).0 in
-        elim (changes-cases (blocks_of (seat_at_turn a)) seat.blocks class (Some block) (set-changes (blocks_of (seat_at_turn a)) class (Some block) (omega arith)) c (Some d) is) as
-        (λ _. IsRegionOf b.notes.items m d × (class_at (state_of b.row) d ≡ c)) [
-          | inl here ↦ (let same : d ≡ block = one-element (Some block) d block (sym here.1) refl in (
-            record { region = region; note = ap (slice_get b.notes.items) same ∙ gains.takes.notes.here },
-            ap (λ (z : HeapState). class_at z d) gains.takes.words ∙ ap (class_at now) same ∙ ap (λ n. n / 256 % 256) word ∙ parts.1 ∙ sym here.0,
-          ))
-          | inr other ↦ (let was = turns.own-region p i log a at turn c d (ap (λ o. unwrap_or o None) other.1) in still-own m c d was.0 was.1)
-        ];
+    classes = seat-classes gains.over old class block left ∙ turns.own-classes p i log a at turn;
+    each = λ c d is. elim (seat-cases gains.over old class block left few c (Some d) is) as (λ _. IsRegionOf b.notes.items m d × (class_at (state_of b.row) d ≡ c)) [
+      | inl here ↦ (let mine = new-own d (one-element (Some block) d block (sym here.2) refl) in (mine.0, mine.1 ∙ sym here.1))
+      | inr was ↦ (let own = old-seat c d was in still-own m c d own.0 own.1)
+    ];
+    over = λ lines d is. elim (over-cases gains.over old class block left d is) as (λ _. IsRegionOf b.notes.items m d) [
+      | inl here ↦ (new-own d here.1).0
+      | inr was ↦ (let own = old-over (sym gains.takes.plan.fill ∙ lines) d was in (still-own m (class_at (state_of a.row) d) d own refl).0)
+    ];
+    apart = λ lines d is here. elim (over-cases gains.over old class block left d is) as (λ _. ⊥) [
+      | inl new ↦ elim (seat-cases gains.over old class block left few 0 (Some d) here) as (λ _. ⊥) [
+        | inl both ↦ (let wrong : true ≡ false = sym new.0 ∙ both.0 in cc)
+        | inr was ↦ not-taken m d (old-seat 0 d was).0 new.1
+      ]
+      | inr over ↦ (let own = old-over (sym gains.takes.plan.fill ∙ lines) d over in elim (seat-cases gains.over old class block left few 0 (Some d) here) as (λ _. ⊥) [
+        | inl new ↦ not-taken m d own (one-element (Some block) d block (sym new.2) refl)
+        | inr was ↦ (turns.own-cursors p i log a at turn).apart (sym gains.takes.plan.fill ∙ lines) d
+            (ap over_of (sym (turns.own-seat p i log a at turn).1) ∙ over)
+            (ap (λ o. slice_get (blocks_of o) 0) (sym (turns.own-seat p i log a at turn).1) ∙ was)
+      ])
+    ];
   }
 
-  cursors : (k : ℕ) (q : Mutator) (y : PlainSeat) → slice_get b.mutators.items k ≡ Some q → slice_get b.seats.items k ≡ Some y → HasCursors b.notes.items (state_of b.row) q.number y
-  cursors k q y is sits = elim (changes-cases a.seats.items b.seats.items a.turn seat gains.takes.seats k y sits) as (λ _. HasCursors b.notes.items (state_of b.row) q.number y) [
-    | inl own ↦ subst (HasCursors b.notes.items (state_of b.row) q.number) (sym own.1)
-        (subst (λ (n : ℕ). HasCursors b.notes.items (state_of b.row) n seat) (stepping.number-is p i log a at turn ∙ ap (λ (z : Mutator). z.number) (mine k q own.0 is)) own-cursors)
+  cursors : (k : ℕ) (q : Mutator) (y : PlainSeat) → slice_get b.mutators.items k ≡ Some q → slice_get b.seats.items k ≡ Some y → HasCursors b.fill b.notes.items (state_of b.row) q.number y
+  cursors k q y is sits = elim (changes-cases a.seats.items b.seats.items a.turn seat gains.takes.seats k y sits) as (λ _. HasCursors b.fill b.notes.items (state_of b.row) q.number y) [
+    | inl own ↦ subst (HasCursors b.fill b.notes.items (state_of b.row) q.number) (sym own.1)
+        (subst (λ (n : ℕ). HasCursors b.fill b.notes.items (state_of b.row) n seat) (stepping.number-is p i log a at turn ∙ ap (λ (z : Mutator). z.number) (mine k q own.0 is)) own-cursors)
     | inr other ↦ (let was = at.cursors k q y (same-mutator k q is) other.1 in record {
       classes = was.classes;
       each = λ c d there. let has = was.each c d there in still-own q.number c d has.0 has.1;
+      over = λ lines d there. let has = was.over (sym gains.takes.plan.fill ∙ lines) d there in (still-own q.number (class_at (state_of a.row) d) d has refl).0;
+      apart = λ lines d there. was.apart (sym gains.takes.plan.fill ∙ lines) d there;
     })
   ]
 
@@ -301,7 +370,7 @@ module _ (p : Epoch) (i : IdealHeap) (log : List LogEntry) (a b : PlainRow) (at 
     notes = subst (λ f. HasNotes f (state_of b.row) b.notes.items) (sym gains.takes.plan.fill)
         (subst (λ z. HasNotes a.fill z b.notes.items) (sym gains.takes.words) (record { len = gains.takes.notes.len ∙ at.notes.len; each = note }));
     fill = gains.takes.plan.fill ∙ at.fill;
-    fills = subst FillsTailsOrCells (sym gains.takes.plan.fill) at.fills;
+    fills = subst FillsHoles (sym gains.takes.plan.fill) at.fills;
     young = gains.takes.plan.young ∙ at.young;
     allowed = gains.takes.plan.allowance ∙ at.allowed;
     lists = lists-taken p a b block m region at.lists (λ was. gains.unowned was.owner was.region was.note) gains.takes.notes gains.takes.owned gains.takes.room

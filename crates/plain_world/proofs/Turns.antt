@@ -2,7 +2,7 @@
 use Rattle.std.proofs.Common.{◌≡◌, ◌≢◌, refl, sym, ◌∙◌, ap, subst, ℕ, zero, suc, ◌+◌, ◌<◌, ◌≤◌, ◌^◌, inl, inr, arith, true, false, ◌&&◌, IsTrue, nat_eq, nat_le, length, get_or, List, [], ◌∷◌, map, Vec, Global}
 use Rattle.std.specs.Prelude.{Option, Some, None, slice_get, unwrap_or}
 use Rattle.std.specs.List.{Contains}
-use Rattle.std.proofs.lemmas.Bool.{and_from, cases_lt, le-leb}
+use Rattle.std.proofs.lemmas.Bool.{and_from, cases_lt, le-leb, true≢false}
 use Rattle.std.proofs.lemmas.Option.{get_or_from_slice_get}
 use Rattle.heap_layout.specs.declared.block.Kind.{Kind}
 use Rattle.heap_layout.specs.declared.block.Kind.TheVariants as kinds
@@ -21,7 +21,7 @@ use Rattle.object_model.proofs.Among.{all-at}
 use Rattle.object_model.proofs.BirthRepresentation.{any-number}
 use Rattle.object_model.proofs.OneKind.{kind-code}
 use Rattle.sessions.specs.Fitting.{HasHole, class_for}
-use Rattle.sessions.proofs.HoleKinds.{class-least, few-classes, is_holed, none-above}
+use Rattle.sessions.proofs.HoleKinds.{class-least, few-classes, none-above}
 use Rattle.mutator_core.specs.declared.state.Local.{Local}
 use Rattle.mutator_core.specs.declared.state.LogEntry.{LogEntry}
 use Rattle.mutator_core.specs.declared.state.OwnedBlock.{OwnedBlock}
@@ -35,12 +35,14 @@ use Rattle.plain_world.specs.declared.plain_row.PlainRow.{PlainRow}
 use Rattle.plain_world.specs.declared.plain_row.PlainSeat.{PlainSeat}
 use Rattle.plain_world.specs.declared.plain_row.BlockNote.{BlockNote}
 use Rattle.plain_world.specs.declared.plain_row.BlockNote.TheVariants.{Unowned, Owned}
-use Rattle.plain_world.specs.Rows.{IsTurn, number_of, births_of, registers_of, ticket_of, blocks_of, block_of, mutator_at_turn, seat_at_turn, number_at_turn}
-use Rattle.plain_world.specs.Notes.{FillsTails, FillsTailsOrCells, IsNote, IsOwnedNote, IsUnownedNote, IsRegionOf}
-use Rattle.plain_world.specs.Worlds.{HasState, HasCursors, IsAt, IsInEpoch, HasRoom}
+use Rattle.plain_world.specs.Rows.{IsTurn, number_of, births_of, registers_of, ticket_of, blocks_of, block_of, over_of, mutator_at_turn, seat_at_turn, number_at_turn}
+use Rattle.plain_world.specs.Notes.{FillsTails, FillsHoles, IsNote, IsOwnedNote, IsUnownedNote, IsRegionOf}
+use Rattle.plain_world.specs.Worlds.{HasState, HasCursors, IsAt, IsInEpoch, HasRoom, IsReadableSeat}
 use Rattle.plain_world.specs.Changes.{Advances, CountsObject}
 use Rattle.plain_world.specs.Regions.{IsRegionIn, first_region}
-use Rattle.plain_world.proofs.Regions.{region-inside, hole-kind, class-lacks, no-lines, clear-region, clear-cells}
+use Rattle.plain_world.proofs.Regions.{region-inside, hole-kind, class-lacks, clear-region, clear-cells, fills-cases}
+use Rattle.plain_world.specs.TwoRegions.{FillsLines, IsBlockFor, TriesBlock, region_of, region_noted}
+use Rattle.plain_world.proofs.LineRegions.{here-clear}
 use Rattle.plain_world.proofs.Lists.{get-some, get-below, get-map, one-element}
 use Rattle.plain_world.proofs.Elements.{read-some}
 use Rattle.plain_world.proofs.Facts as facts
@@ -75,11 +77,9 @@ kind-read s k b kind valid code is =
     (subst (λ (n : ℕ). kind_of_code n ≡ Some b.kind) (kind-code s k kind is) (parts_of_code b (block_word s k) valid code).0)
     (kind_of_code-kind_code kind)
 
--- mutators fill a kind with this code or one of two others
-not-filled : (fill : Kind) → is_holed (kind_code fill) ≡ false → FillsTailsOrCells fill → ⊥
-not-filled fill none (inl (inl bump)) = let wrong : true ≡ false = sym (ap (λ (f : Kind). is_holed (kind_code f)) bump) ∙ none in cc
-not-filled fill none (inl (inr young)) = let wrong : true ≡ false = sym (ap (λ (f : Kind). is_holed (kind_code f)) young) ∙ none in cc
-not-filled fill none (inr cells) = let wrong : true ≡ false = sym (ap (λ (f : Kind). is_holed (kind_code f)) cells) ∙ none in cc
+-- blocks of other kinds have no holes
+not-filled : false ≡ true → ⊥
+not-filled wrong = true≢false (sym wrong)
 
 -- the class of any size is one of the 19
 cell-few : (size : ℕ) → class_for kinds.Cells size ≤ 18
@@ -106,17 +106,17 @@ tail-valid owner few = and_from (nat_eq 0 0) (nat_le owner 32) refl (le-leb owne
 cell-valid : (class owner : ℕ) → class ≤ 18 → owner ≤ 16 → IsTrue (nat_le class 18 && nat_le owner 32)
 cell-valid class owner small few = and_from (nat_le class 18) (nat_le owner 32) (le-leb class 18 small) (le-leb owner 32 (omega arith))
 
-pub filled-valid : (fill : Kind) (size owner : ℕ) → FillsTailsOrCells fill → owner ≤ 16
+pub filled-valid : (fill : Kind) (size owner : ℕ) → FillsHoles fill → owner ≤ 16
     → IsValid (record { kind = fill; class = class_for fill size; owner = owner })
 filled-valid kinds.Bump size owner fills few = tail-valid owner few
 filled-valid kinds.Young size owner fills few = tail-valid owner few
 filled-valid kinds.Cells size owner fills few = cell-valid (class_for kinds.Cells size) owner (cell-few size) few
-filled-valid kinds.Immix size owner fills few = absurd (no-lines fills)
-filled-valid kinds.Free size owner fills few = absurd (not-filled kinds.Free refl fills)
-filled-valid kinds.Mature size owner fills few = absurd (not-filled kinds.Mature refl fills)
-filled-valid kinds.LargeHead size owner fills few = absurd (not-filled kinds.LargeHead refl fills)
-filled-valid kinds.LargeTail size owner fills few = absurd (not-filled kinds.LargeTail refl fills)
-filled-valid kinds.Kept size owner fills few = absurd (not-filled kinds.Kept refl fills)
+filled-valid kinds.Immix size owner fills few = tail-valid owner few
+filled-valid kinds.Free size owner fills few = absurd (not-filled fills)
+filled-valid kinds.Mature size owner fills few = absurd (not-filled fills)
+filled-valid kinds.LargeHead size owner fills few = absurd (not-filled fills)
+filled-valid kinds.LargeTail size owner fills few = absurd (not-filled fills)
+filled-valid kinds.Kept size owner fills few = absurd (not-filled fills)
 
 -- the class of each size is 0 where mutators fill tails
 pub tail-for : (fill : Kind) → FillsTails fill → (size : ℕ) → class_for fill size ≡ 0
@@ -136,6 +136,10 @@ filled-class kind class owner tails valid = elim tails as (λ _. class ≡ 0) [
     younger : IsValid (record { kind = kinds.Young; class = class; owner = owner }) → class ≡ 0
     younger is = grind arith
 
+-- so has a block of lines
+lines-class : (class owner : ℕ) → IsValid (record { kind = kinds.Immix; class = class; owner = owner }) → class ≡ 0
+lines-class class owner valid = grind arith
+
 -- the parts of the word of a block of the kind are valid
 pub valid-parts : (s : HeapState) (k : ℕ) (kind : Kind) → HasKind s k kind → IsTrue (is_block_code (block_word s k))
     → IsValid (record { kind = kind; class = class_at s k; owner = owner_at s k })
@@ -143,16 +147,16 @@ valid-parts s k kind is code = subst (λ (o : Option Kind). IsTrue (is_valid_for
     (ap kind_of_code (kind-code s k kind is) ∙ kind_of_code-kind_code kind) code
 
 -- the region of a clear block
-pub clear-whole : (fill : Kind) → FillsTailsOrCells fill → (s : HeapState) (k : ℕ) → IsClear s k → IsRegionIn fill s k (first_region fill (class_at s k))
+pub clear-whole : (fill : Kind) → FillsHoles fill → (s : HeapState) (k : ℕ) → IsClear s k → IsRegionIn fill s k (first_region fill (class_at s k))
 clear-whole kinds.Bump fills s k clear = clear-region kinds.Bump (inl refl) s k clear
 clear-whole kinds.Young fills s k clear = clear-region kinds.Young (inr refl) s k clear
 clear-whole kinds.Cells fills s k clear = clear-cells s k clear
-clear-whole kinds.Immix fills s k clear = absurd (no-lines fills)
-clear-whole kinds.Free fills s k clear = absurd (not-filled kinds.Free refl fills)
-clear-whole kinds.Mature fills s k clear = absurd (not-filled kinds.Mature refl fills)
-clear-whole kinds.LargeHead fills s k clear = absurd (not-filled kinds.LargeHead refl fills)
-clear-whole kinds.LargeTail fills s k clear = absurd (not-filled kinds.LargeTail refl fills)
-clear-whole kinds.Kept fills s k clear = absurd (not-filled kinds.Kept refl fills)
+clear-whole kinds.Immix fills s k clear = here-clear s k clear
+clear-whole kinds.Free fills s k clear = absurd (not-filled fills)
+clear-whole kinds.Mature fills s k clear = absurd (not-filled fills)
+clear-whole kinds.LargeHead fills s k clear = absurd (not-filled fills)
+clear-whole kinds.LargeTail fills s k clear = absurd (not-filled fills)
+clear-whole kinds.Kept fills s k clear = absurd (not-filled fills)
 
 -- has room for the size, if the block has the size's class
 pub whole-room : (fill : Kind) (size : ℕ) → size ≤ 2048 → size ≤ (first_region fill (class_for fill size)).end
@@ -174,11 +178,25 @@ pub tail-suits : (fill : Kind) → FillsTails fill → (s : HeapState) (k size :
     → class_at s k ≡ class_for fill size
 tail-suits fill tails s k size code kind = filled-class fill (class_at s k) (owner_at s k) tails (valid-parts s k fill kind code) ∙ sym (tail-for fill tails size)
 
-pub suits-hole : (fill : Kind) → FillsTailsOrCells fill → (s : HeapState) (k at size : ℕ) → IsTrue (is_block_code (block_word s k))
+pub lines-suits : (s : HeapState) (k : ℕ) → IsTrue (is_block_code (block_word s k)) → HasKind s k kinds.Immix → class_at s k ≡ 0
+lines-suits s k code kind = lines-class (class_at s k) (owner_at s k) (valid-parts s k kinds.Immix kind code)
+
+pub suits-hole : (fill : Kind) → FillsHoles fill → (s : HeapState) (k at size : ℕ) → IsTrue (is_block_code (block_word s k))
     → class_at s k ≢ class_for fill size → HasHole fill s k at size → ⊥
-suits-hole fill (inl tails) s k at size code other hole = other (tail-suits fill tails s k size code (hole-kind fill s k at size hole))
-suits-hole fill (inr cells) s k at size code other hole = class-lacks s k at size
-    (subst (λ (f : Kind). class_at s k ≢ class_for f size) cells other) (subst (λ (f : Kind). HasHole f s k at size) cells hole)
+suits-hole fill fills s k at size code other hole = elim (fills-cases fill fills) as (λ _. ⊥) [
+  | inl (inl tails) ↦ other (tail-suits fill tails s k size code (hole-kind fill s k at size hole))
+  | inl (inr cells) ↦ class-lacks s k at size
+      (subst (λ (f : Kind). class_at s k ≢ class_for f size) cells other) (subst (λ (f : Kind). HasHole f s k at size) cells hole)
+  | inr lines ↦ subst (λ (f : Kind). class_at s k ≢ class_for f size) lines other
+      (lines-suits s k code (subst (HasKind s k) lines (hole-kind fill s k at size hole)))
+]
+
+-- the region that takes a size is in one block
+pub block-one : (fill : Kind) (notes : List BlockNote) (seat : Option PlainSeat) (size j k : ℕ) → IsBlockFor fill notes seat size j → IsBlockFor fill notes seat size k → j ≡ k
+block-one fill notes seat size j k (inl one) (inl two) = one-element (block_of seat (class_for fill size)) j k one.1 two.1
+block-one fill notes seat size j k (inl one) (inr two) = absurd (one.0 two.0)
+block-one fill notes seat size j k (inr one) (inl two) = absurd (two.0 one.0)
+block-one fill notes seat size j k (inr one) (inr two) = one-element (over_of seat) j k one.1 two.1
 
 module _ (p : Epoch) (i : IdealHeap) (log : List LogEntry) (w : PlainRow) (at : IsAt p i log w) where
   abbrev s : HeapState
@@ -303,8 +321,8 @@ module _ (p : Epoch) (i : IdealHeap) (log : List LogEntry) (w : PlainRow) (at : 
     own-local-number = (facts.moment p i log w at).epoch.numbers (number_at_turn w)
 
     -- it owns each block that it allocates in, which has the class of its cursor
-    pub own-cursors : HasCursors w.notes.items (state_of w.row) (number_at_turn w) own-seat.0
-    own-cursors = subst (λ (n : ℕ). HasCursors w.notes.items (state_of w.row) n own-seat.0) (sym own-number) (at.cursors w.turn mutator.0 own-seat.0 mutator.1 own-seat.1)
+    pub own-cursors : HasCursors w.fill w.notes.items (state_of w.row) (number_at_turn w) own-seat.0
+    own-cursors = subst (λ (n : ℕ). HasCursors w.fill w.notes.items (state_of w.row) n own-seat.0) (sym own-number) (at.cursors w.turn mutator.0 own-seat.0 mutator.1 own-seat.1)
 
     pub own-classes : length (blocks_of (seat_at_turn w)) ≡ 19
     own-classes = ap (λ (o : Option PlainSeat). length (blocks_of o)) own-seat.1 ∙ own-cursors.classes
@@ -312,15 +330,64 @@ module _ (p : Epoch) (i : IdealHeap) (log : List LogEntry) (w : PlainRow) (at : 
     pub own-region : (class b : ℕ) → block_of (seat_at_turn w) class ≡ Some b → IsRegionOf w.notes.items (number_at_turn w) b × (class_at (state_of w.row) b ≡ class)
     own-region class b is = own-cursors.each class b (set-in own-seat.0.blocks class b (ap (λ (o : Option PlainSeat). block_of o class) (sym own-seat.1) ∙ is))
 
+    -- under lines it owns the block of its overflow region, which is not that of the hole region
+    pub own-over : (b : ℕ) → FillsLines w.fill → over_of (seat_at_turn w) ≡ Some b → IsRegionOf w.notes.items (number_at_turn w) b
+    own-over b lines is = own-cursors.over lines b (ap over_of (sym own-seat.1) ∙ is)
+
+    pub own-apart : (b : ℕ) → FillsLines w.fill → over_of (seat_at_turn w) ≡ Some b → block_of (seat_at_turn w) 0 ≡ Some b → ⊥
+    own-apart b lines over is = own-cursors.apart lines b (ap over_of (sym own-seat.1) ∙ over)
+        (set-in own-seat.0.blocks 0 b (ap (λ (o : Option PlainSeat). block_of o 0) (sym own-seat.1) ∙ is))
+
+    -- each of its blocks has a note, and its regions are in order
+    pub own-noted : (b : ℕ) → IsRegionOf w.notes.items (number_at_turn w) b → b < length w.notes.items
+    own-noted b mine = get-below w.notes.items b (Owned (number_at_turn w) mine.region) mine.note
+
+    pub own-readable : IsReadableSeat w
+    own-readable = record {
+      turn = turn;
+      classes = own-classes;
+      blocks = λ class k is. own-noted k (own-region class k (ap (λ (o : Option (Option ℕ)). unwrap_or o None) is)).0;
+      over = λ k lines is. own-noted k (own-over k lines is);
+    }
+
+    region-order : (o : Option ℕ) → ((k : ℕ) → o ≡ Some k → IsRegionOf w.notes.items (number_at_turn w) k)
+        → (region_of w.notes.items o).next ≤ (region_of w.notes.items o).end
+    region-order None own = omega arith
+    region-order (Some k) own = let mine = own k refl in
+        subst (λ (r : Region). r.next ≤ r.end) (sym (ap region_noted mine.note)) (note-inside k (number_at_turn w) mine.region mine.note).0
+
+    pub hole-order : (region_of w.notes.items (block_of (seat_at_turn w) 0)).next ≤ (region_of w.notes.items (block_of (seat_at_turn w) 0)).end
+    hole-order = region-order (block_of (seat_at_turn w) 0) (λ k is. (own-region 0 k is).0)
+
+    pub over-order : FillsLines w.fill → (region_of w.notes.items (over_of (seat_at_turn w))).next ≤ (region_of w.notes.items (over_of (seat_at_turn w))).end
+    over-order lines = region-order (over_of (seat_at_turn w)) (λ k is. own-over k lines is)
+
+    -- it owns the block of the region that takes a size, which has the size's class
+    pub own-block : (size b : ℕ) → IsBlockFor w.fill w.notes.items (seat_at_turn w) size b
+        → IsRegionOf w.notes.items (number_at_turn w) b × (class_at (state_of w.row) b ≡ class_for w.fill size)
+    own-block size b (inl is) = own-region (class_for w.fill size) b is.1
+    own-block size b (inr is) =
+        let lines : w.fill ≡ kinds.Immix = is.0.lines in
+        let mine = own-over b lines is.1 in
+        let there = note-block b (Owned (number_at_turn w) mine.region) mine.note in
+        let kind = subst (HasKind (state_of w.row) b) lines (owned-note b (number_at_turn w) mine.region mine.note).kind in (
+          mine,
+          lines-suits (state_of w.row) b (facts.readable-block p i log w at b there).code kind
+              ∙ sym (ap (λ (f : Kind). class_for f size) lines),
+        )
+
     -- the word of a block that it takes
     pub own-valid : (size : ℕ) → IsValid (record { kind = w.fill; class = class_for w.fill size; owner = number_at_turn w })
     own-valid size = filled-valid w.fill size (number_at_turn w) at.fills own-range.1
 
+    pub block-noted : (size b : ℕ) → IsBlockFor w.fill w.notes.items (seat_at_turn w) size b → b < length w.notes.items
+    block-noted size b is = own-noted b (own-block size b is).0
+
     -- the note that is read of such a block
-    pub own-note : (class b owner : ℕ) (region : Region) → block_of (seat_at_turn w) class ≡ Some b → slice_get w.notes.items b ≡ Some (Owned owner region)
-        → slice_get w.notes.items b ≡ Some (Owned (number_at_turn w) region)
-    own-note class b owner region is note =
-        let mine = (own-region class b is).0 in
+    pub own-note : (size b owner : ℕ) (region : Region) → IsBlockFor w.fill w.notes.items (seat_at_turn w) size b
+        → slice_get w.notes.items b ≡ Some (Owned owner region) → slice_get w.notes.items b ≡ Some (Owned (number_at_turn w) region)
+    own-note size b owner region is note =
+        let mine = (own-block size b is).0 in
         let same : Owned owner region ≡ Owned (number_at_turn w) mine.region = one-element (slice_get w.notes.items b) (Owned owner region) (Owned (number_at_turn w) mine.region) note mine.note in
         let number : owner ≡ number_at_turn w = cc in
         subst (λ (n : ℕ). slice_get w.notes.items b ≡ Some (Owned n region)) number note
@@ -335,13 +402,16 @@ module _ (p : Epoch) (i : IdealHeap) (log : List LogEntry) (w : PlainRow) (at : 
     current-block x class b is read = ap (λ (q : Option PlainSeat). block_of q class) (seat-read x is) ∙ cursor-read x.blocks class b read
 
     pub current-noted : (x : PlainSeat) (class b : ℕ) → x ≡ get_or w.seats.items w.turn x → get_or x.blocks class None ≡ Some b → b < length w.notes.items
-    current-noted x class b is read =
-        let mine = (own-region class b (current-block x class b is read)).0 in
-        get-below w.notes.items b (Owned (number_at_turn w) mine.region) mine.note
+    current-noted x class b is read = own-noted b (own-region class b (current-block x class b is read)).0
+
+-- the region that takes a size is one that is tried for it
+pub block-tries : (fill : Kind) (notes : List BlockNote) (x : Option PlainSeat) (size k : ℕ) → IsBlockFor fill notes x size k → TriesBlock fill x size k
+block-tries fill notes x size k (inl is) = inl is.1
+block-tries fill notes x size k (inr is) = inr (is.0.lines, is.0.tried.above, is.1)
 
 -- the block for the size, its mutator and its region, as they are read
 pub record IsCurrent (w : PlainRow) (size b owner : ℕ) (region : Region) : Type 0 where
-  pub current : block_of (seat_at_turn w) (class_for w.fill size) ≡ Some b
+  pub current : IsBlockFor w.fill w.notes.items (seat_at_turn w) size b
   pub own : owner ≡ number_at_turn w
   pub note : slice_get w.notes.items b ≡ Some (Owned (number_at_turn w) region)
   pub there : b < length w.notes.items
@@ -351,17 +421,16 @@ pub record IsCurrent (w : PlainRow) (size b owner : ℕ) (region : Region) : Typ
   pub class : class_at (state_of w.row) b ≡ class_for w.fill size
   pub kind : HasKind (state_of w.row) b w.fill
 
-pub current-read : (w : PlainRow) (size : ℕ) → HasRoom w size → (x : PlainSeat) (class b : ℕ) (n : BlockNote) (owner : ℕ) (region : Region)
-    → class ≡ class_for w.fill size → x ≡ get_or w.seats.items w.turn x → get_or x.blocks class None ≡ Some b
+pub current-read : (w : PlainRow) (size : ℕ) → HasRoom w size → (b : ℕ) (n : BlockNote) (owner : ℕ) (region : Region)
+    → IsBlockFor w.fill w.notes.items (seat_at_turn w) size b
     → n ≡ get_or w.notes.items b n → n ≡ Owned owner region → IsCurrent w size b owner region
-current-read w size has x class b n owner region is-class seat block read is =
+current-read w size has b n owner region current read is =
     let p = has.some.epoch in
     let at = has.some.at in
-    let first : block_of (seat_at_turn w) class ≡ Some b = current-block p has.some.ideal has.some.log w at has.turn x class b seat block in
-    let current : block_of (seat_at_turn w) (class_for w.fill size) ≡ Some b = ap (block_of (seat_at_turn w)) (sym is-class) ∙ first in
-    let there : b < length w.notes.items = current-noted p has.some.ideal has.some.log w at has.turn x class b seat block in
+    let here = own-block p has.some.ideal has.some.log w at has.turn size b current in
+    let there : b < length w.notes.items = get-below w.notes.items b (Owned (number_at_turn w) here.0.region) here.0.note in
     let note : slice_get w.notes.items b ≡ Some (Owned owner region) = read-some w.notes.items b n there read ∙ ap (λ (y : BlockNote). Some y) is in
-    let same : has.block ≡ b = one-element (block_of (seat_at_turn w) (class_for w.fill size)) has.block b has.current current in
+    let same : has.block ≡ b = block-one w.fill w.notes.items (seat_at_turn w) size has.block b has.current current in
     let mine : slice_get w.notes.items b ≡ Some (Owned (number_at_turn w) has.room.region) = subst (λ (k : ℕ). slice_get w.notes.items k ≡ Some (Owned (number_at_turn w) has.room.region)) same has.room.note in
     let alike : Owned owner region ≡ Owned (number_at_turn w) has.room.region = one-element (slice_get w.notes.items b) (Owned owner region) (Owned (number_at_turn w) has.room.region) note mine in
     let region-same : has.room.region ≡ region = cc in
@@ -374,7 +443,7 @@ current-read w size has x class b n owner region is-class seat block read is =
       room = subst (λ (r : Region). r.next + size ≤ r.end) region-same has.room.room;
       end = (note-inside p has.some.ideal has.some.log w at b owner region note).1;
       block = note-block p has.some.ideal has.some.log w at b (Owned owner region) note;
-      class = (own-region p has.some.ideal has.some.log w at has.turn (class_for w.fill size) b current).1;
+      class = here.1;
       kind = (owned-note p has.some.ideal has.some.log w at b owner region note).kind;
     }
 

@@ -1,5 +1,5 @@
 -- What the calls of a world promise.
-use Rattle.std.specs.Prelude.{◌≡◌, ◌≢◌, ℕ, ◌+◌, ◌<◌, ◌⊎◌, Bool, true, false, ◌&&◌, not, Option, Some, List, [], ◌∷◌, ◌++◌, map, length, slice_get, slice_index}
+use Rattle.std.specs.Prelude.{◌≡◌, ◌≢◌, ℕ, ◌+◌, ◌<◌, ◌≤◌, Bool, true, false, ◌&&◌, not, Option, List, [], ◌∷◌, ◌++◌, map, length, slice_get, slice_index}
 use Rattle.std.specs.List.{Contains}
 use Rattle.heap_layout.specs.declared.block.Kind.{Kind}
 use Rattle.heap_layout.specs.declared.block.Kind.TheVariants as kinds
@@ -15,19 +15,19 @@ use Rattle.object_model.specs.Objects.{HeapState, state_of, word_at, block_word,
 use Rattle.object_model.specs.declared.shape.TheConstants.{HEADER_WORDS, MAX_MEDIUM_WORDS}
 use Rattle.object_model.specs.Graphs.{MutatorState}
 use Rattle.object_model.specs.Ages.{is_old}
-use Rattle.sessions.specs.Fitting.{HasHole, HasCellFor, class_for}
+use Rattle.sessions.specs.Fitting.{HasCellFor}
+use Rattle.plan_api.specs.declared.cursors.Cursors.{Cursors}
+use Rattle.plan_api.specs.Cursors.{PlacesInRegion}
 use Rattle.mutator_core.specs.Machine.{Epoch}
 use Rattle.mutator_calls.specs.Effects.{Effect, draws}
-use Rattle.mutator_calls.specs.Allocating.{Books, births_with, Draws, FindsRoom}
-use Rattle.plain_world.specs.declared.plain_row.PlainRow.{PlainRow}
+use Rattle.mutator_calls.specs.Allocating.{Books, births_with, Draws, IsSpent, FindsRoom}
 use Rattle.plain_world.specs.declared.plain_world.PlainWorld.{PlainWorld}
-use Rattle.plain_world.specs.Regions.{BeginsHole}
-use Rattle.plain_world.specs.Rows.{mutator_state, number_of, births_of, registers_of, ticket_of, block_of}
-use Rattle.plain_world.specs.Worlds.{IsAfter, IsIdle, has, births_in, stop_after}
-
--- the row and the mutators of a world
-abbrev pub row_of : {P : Type 0} → PlainWorld P → PlainRow
-row_of w = w.row
+use Rattle.plain_world.specs.declared.plain_row.PlainSeat.{PlainSeat}
+use Rattle.plain_world.specs.declared.plain_row.BlockNote.{BlockNote}
+use Rattle.plain_world.specs.Rows.{mutator_state, number_of, births_of, registers_of, ticket_of}
+use Rattle.plain_world.specs.TwoRegions.{FillsLines, cursors_of, TriesBlock, Overflows, KeepsHole, LacksBlock, LacksRegions, OffersRoom}
+use Rattle.plain_world.specs.Worlds.{IsAfter, IsIdle, Goes, has, births_in, stop_after}
+use Rattle.plain_world.specs.Steps.{AllocatesIn, Lacks, KeepsRegion}
 
 -- the heap, as the mutators use it
 abbrev pub heap_of : {P : Type 0} → PlainWorld P → HeapState
@@ -109,10 +109,33 @@ books_at w m = record {
   ticket = ticket_at w m;
 }
 
--- block k has no hole for an object of the size, if nobody owns it or the mutator at place m does
+-- the notes on blocks, and the seat of the mutator at a place
+abbrev pub notes_of : {P : Type 0} → PlainWorld P → List BlockNote
+notes_of w = w.row.notes.items
+
+abbrev pub seat_at : {P : Type 0} → PlainWorld P → ℕ → Option PlainSeat
+seat_at w m = slice_get w.row.seats.items m
+
+-- block k has no room for an object of the size that the mutator at place m may fill
 abbrev pub HasNoRoom : {P : Type 0} → PlainWorld P → ℕ → ℕ → ℕ → Type 0
-HasNoRoom w m size k = (at : ℕ) → (owner_at (heap_of w) k ≡ 0) ⊎ (owner_at (heap_of w) k ≡ number_at w m)
-    → HasHole w.row.fill (heap_of w) k at size → ⊥
+HasNoRoom w m size k = LacksBlock w.row.fill (notes_of w) (seat_at w m) (heap_of w) (number_at w m) size k
+
+-- no region that the mutator at place m tries for the size has room
+abbrev pub HasFullRegions : {P : Type 0} → PlainWorld P → ℕ → ℕ → Type 0
+HasFullRegions w m size = LacksRegions w.row.fill (notes_of w) (seat_at w m) (heap_of w) (number_at w m) size
+
+-- an object of the size overflows the hole region of the mutator at place m
+abbrev pub OverflowsAt : {P : Type 0} → PlainWorld P → ℕ → ℕ → Type 0
+OverflowsAt w m size = Overflows w.row.fill (notes_of w) (seat_at w m) size
+
+-- the mutator at place m keeps its hole region
+abbrev pub KeepsHoleAt : {P : Type 0} → PlainWorld P → ℕ → PlainWorld P → Type 0
+KeepsHoleAt old m new = KeepsHole (notes_of old) (seat_at old m) (notes_of new) (seat_at new m)
+
+-- The mutator at place m went on in its own blocks in vain: in a state that it reached by drawing tickets alone, with the
+-- same hole region, no block in which it tries a region for the size has room.
+abbrev pub HasSpentBlocks : {P : Type 0} → PlainWorld P → ℕ → ℕ → Type 0
+HasSpentBlocks w m size = IsSpent Goes KeepsRegion AllocatesIn Lacks (record w.row { turn = m }) size
 
 -- block k is not Free
 abbrev pub IsNotFree : {P : Type 0} → PlainWorld P → ℕ → Type 0
@@ -152,13 +175,15 @@ pub record IsUnchanged {P : Type 0} (old new : PlainWorld P) : Type 0 where
   pub mutators : mutators_of new ≡ mutators_of old
   pub tickets : (k : ℕ) → ticket_at new k ≡ ticket_at old k
 
--- the mutator at place m allocates objects of this size in block k
+-- the mutator at place m tries a region in block k for objects of this size
 abbrev pub AllocatesAt : {P : Type 0} → PlainWorld P → ℕ → ℕ → ℕ → Type 0
-AllocatesAt w m size k = block_of (slice_get w.row.seats.items m) (class_for w.row.fill size) ≡ Some k
+AllocatesAt w m size k = TriesBlock w.row.fill (seat_at w m) size k
 
--- The new object in register d of the mutator at place m lies in the block that the mutator allocates objects of this
+-- The new object in register d of the mutator at place m lies in a block that the mutator allocates objects of this
 -- size in now, which it owns. It begins the first hole with room for it, of a block that was the mutator's or nobody's, or
--- a block that was Free. In cells it has one of the class for the size.
+-- a block that was Free. In cells it has one of the class for the size. Under lines it may also begin the rest of the
+-- region that takes it, or a later hole of the block of the hole region; and it is in the one of the two regions that
+-- takes it, which begins after it now.
 pub record IsPlacedIn {P : Type 0} (old : PlainWorld P) (m : ℕ) (new : PlainWorld P) (d size : ℕ) : Type 0 where
   pub block : ℕ
   pub offset : ℕ
@@ -166,9 +191,9 @@ pub record IsPlacedIn {P : Type 0} (old : PlainWorld P) (m : ℕ) (new : PlainWo
   pub owner : owner_at (heap_of new) block ≡ number_at new m
   pub current : AllocatesAt new m size block
   pub cell : HasCellFor new.row.fill (heap_of new) block offset size
-  pub spot : (BeginsHole old.row.fill (heap_of old) block offset size
-      × ((owner_at (heap_of old) block ≡ 0) ⊎ (owner_at (heap_of old) block ≡ number_at old m)))
-      ⊎ (HasKind (heap_of old) block kinds.Free × (offset ≡ 0))
+  pub spot : OffersRoom old.row.fill (notes_of old) (seat_at old m) (heap_of old) (number_at old m) block offset size
+  pub region : FillsLines new.row.fill → (before : Cursors)
+      × PlacesInRegion before (cursors_of (notes_of new) (seat_at new m)) size block offset
 
 -- The mutator at place m allocates an object of this name: it takes these blocks, of which these were Free, and draws so
 -- many tickets.
@@ -181,10 +206,13 @@ pub record Allocates {P : Type 0} (old : PlainWorld P) (m d r q : ℕ) (n : Name
   pub rest : LeavesRest old m (births_with d r q n taken granted drawn) new
   pub finds : FindsRoom (HasNoRoom new m (size_of r q)) (IsNotFree new) (AllocatesAt old m (size_of r q))
       (AllocatesAt new m (size_of r q))
-      (λ t. t ≡ budget_word old) (heap_of new).blocks (allowance_of new) (ticket_at old m) (ticket_at new m) taken granted drawn
+      (λ t. t ≡ budget_word old) (HasFullRegions old m (size_of r q)) (HasSpentBlocks old m (size_of r q)) (OverflowsAt old m (size_of r q))
+      (KeepsHoleAt old m new)
+      (heap_of new).blocks (allowance_of new) (ticket_at old m) (ticket_at new m) taken granted drawn
   pub placed : IsPlacedIn old m new d (size_of r q)
 
--- The mutator at place m allocates no object of this size. It draws a ticket or none; none if the object is large.
+-- The mutator at place m allocates no object of this size, and keeps its hole region. It draws a ticket or none; none if
+-- the object is large. Else its own blocks have no room.
 pub record Refuses {P : Type 0} (old : PlainWorld P) (m size : ℕ) (new : PlainWorld P) : Type 0 where
   pub drawn : ℕ
   pub history : AddsEntries old [] new
@@ -192,3 +220,5 @@ pub record Refuses {P : Type 0} (old : PlainWorld P) (m size : ℕ) (new : Plain
   pub rest : LeavesRest old m (draws drawn) new
   pub tickets : Draws (λ t. t ≡ budget_word old) (ticket_at old m) (ticket_at new m) drawn
   pub large : MAX_MEDIUM_WORDS < size → drawn ≡ 0
+  pub spent : size ≤ MAX_MEDIUM_WORDS → HasSpentBlocks old m size
+  pub kept : KeepsHoleAt old m new

@@ -1,5 +1,5 @@
 -- What single changes of the row leave as it was.
-use Rattle.std.specs.Prelude.{◌≡◌, ◌≢◌, ℕ, ◌+◌, ◌<◌, ◌≤◌, ◌⊎◌, Some, None, Option, [], ◌∷◌, ◌++◌, slice_get, slice_set, vec_capacity}
+use Rattle.std.specs.Prelude.{◌≡◌, ◌≢◌, ℕ, ◌+◌, ◌<◌, ◌≤◌, ◌⊎◌, Bool, true, false, Some, None, Option, [], ◌∷◌, ◌++◌, slice_get, slice_set, vec_capacity}
 use Rattle.heap_layout.specs.Zones.{first, BlockWords, block_start}
 use Rattle.heap_layout.specs.Blocks.{code_of}
 use Rattle.heap_layout.specs.declared.region.Region.{Region}
@@ -14,7 +14,9 @@ use Rattle.plain_world.specs.Regions.{IsRestAfter}
 use Rattle.plan_api.specs.Holes.{IsFirstHole}
 use Rattle.plain_world.specs.declared.plain_row.BlockNote.{BlockNote}
 use Rattle.plain_world.specs.declared.plain_row.BlockNote.TheVariants.{Unowned, Owned}
-use Rattle.plain_world.specs.Rows.{ChangesAt, mutator_at_turn, seat_at_turn, number_at_turn, ticket_of, blocks_of, block_of}
+use Rattle.plain_world.specs.declared.plain_row.PlainSeat.{PlainSeat}
+use Rattle.plain_world.specs.Rows.{ChangesAt, mutator_at_turn, seat_at_turn, number_at_turn, ticket_of, blocks_of, block_of, over_of}
+use Rattle.plain_world.specs.TwoRegions.{FillsLines, IsBlockFor, TriesBlock, LacksLines}
 
 -- the word at this index becomes v; all else stays
 pub record StoresWord (old new : PlainRow) (at v : ℕ) : Type 0 where
@@ -29,9 +31,19 @@ pub record KeepsPlan (old new : PlainRow) : Type 0 where
   pub allowance : new.allowance ≡ old.allowance
   pub counts : new.counts ≡ old.counts
 
--- The mutator takes the block for objects of the class: it becomes its owner and allocates them in the region of the
--- block. It has this ticket then.
-pub record TakesBlock (old new : PlainRow) (block class : ℕ) (region : Region) (ticket : Option ℕ) : Type 0 where
+-- The seat with this ticket, whose mutator allocates objects of the class in the block; or, in overflow allocation, has its
+-- overflow region there.
+abbrev pub seat_with : Bool → Option PlainSeat → ℕ → ℕ → Option ℕ → PlainSeat
+seat_with false seat class block ticket = record {
+  ticket = ticket;
+  blocks = slice_set (blocks_of seat) class (Some block);
+  over = over_of seat;
+}
+seat_with true seat class block ticket = record { ticket = ticket; blocks = blocks_of seat; over = Some block }
+
+-- The mutator takes the block for objects of the class, or for its overflow region: it becomes its owner and allocates
+-- them in the region of the block. It has this ticket then.
+pub record TakesBlock (old new : PlainRow) (over : Bool) (block class : ℕ) (region : Region) (ticket : Option ℕ) : Type 0 where
   pub plan : KeepsPlan old new
   pub mutators : new.mutators ≡ old.mutators
   pub words : state_of new.row ≡ with_words (state_of old.row) (slice_set (state_of old.row).words
@@ -40,8 +52,7 @@ pub record TakesBlock (old new : PlainRow) (block class : ℕ) (region : Region)
   pub notes : ChangesAt old.notes.items new.notes.items block (Owned (number_at_turn old) region)
   pub owned : new.owned.items ≡ old.owned.items ++ block ∷ []
   pub room : vec_capacity new.owned ≡ vec_capacity old.owned
-  pub seats : ChangesAt old.seats.items new.seats.items old.turn
-      (record { ticket = ticket; blocks = slice_set (blocks_of (seat_at_turn old)) class (Some block) })
+  pub seats : ChangesAt old.seats.items new.seats.items old.turn (seat_with over (seat_at_turn old) class block ticket)
 
 -- the note of the block becomes this one; all else stays
 pub record NotesBlock (old new : PlainRow) (block : ℕ) (note : BlockNote) : Type 0 where
@@ -63,17 +74,26 @@ pub record ReturnsTo (old new : PlainRow) (block class : ℕ) : Type 0 where
       (record {
         ticket = ticket_of (seat_at_turn old);
         blocks = slice_set (blocks_of (seat_at_turn old)) class (Some block);
+        over = over_of (seat_at_turn old);
       })
 
 -- The block has room for the size that the mutator may fill, and becomes the one that it allocates in. The block is its
--- own already, or nobody owned it.
+-- own already, or nobody owned it. Under a plan with lines an own block has room in a region that is tried for the size, or
+-- there is a later hole in the block of the hole region, which is this region then.
 pub data FindsHole (old new : PlainRow) (block size : ℕ) : Type 0 where
   own : (region : Region) → slice_get old.notes.items block ≡ Some (Owned (number_at_turn old) region)
-      → class_at (state_of old.row) block ≡ class_for old.fill size → region.next + size ≤ region.end
+      → (FillsLines old.fill → ⊥) → class_at (state_of old.row) block ≡ class_for old.fill size → region.next + size ≤ region.end
       → ReturnsTo old new block (class_for old.fill size) → FindsHole old new block size
+  has_rest : (region : Region) → slice_get old.notes.items block ≡ Some (Owned (number_at_turn old) region) → FillsLines old.fill
+      → TriesBlock old.fill (seat_at_turn old) size block → region.next + size ≤ region.end → new ≡ old
+      → FindsHole old new block size
+  next_hole : (region hole : Region) → slice_get old.notes.items block ≡ Some (Owned (number_at_turn old) region) → FillsLines old.fill
+      → block_of (seat_at_turn old) 0 ≡ Some block → region.end < region.next + size
+      → IsFirstHole old.fill (state_of old.row) block region.end size (Some hole)
+      → NotesBlock old new block (Owned (number_at_turn old) hole) → FindsHole old new block size
   taken : (least : ℕ) (region : Region) → slice_get old.notes.items block ≡ Some (Unowned least)
       → IsFirstHole old.fill (state_of old.row) block 0 size (Some region)
-      → TakesBlock old new block (class_for old.fill size) region (ticket_of (seat_at_turn old))
+      → TakesBlock old new false block (class_for old.fill size) region (ticket_of (seat_at_turn old))
       → FindsHole old new block size
 
 -- The block has no such room. At most its note changes, if it lacks holes for all greater sizes too.
@@ -87,8 +107,10 @@ pub data LacksHole (old new : PlainRow) (block size : ℕ) : Type 0 where
   unsuited : (least : ℕ) → slice_get old.notes.items block ≡ Some (Unowned least)
       → class_at (state_of old.row) block ≢ class_for old.fill size → new ≡ old → LacksHole old new block size
   foreign : (owner : ℕ) (region : Region) → slice_get old.notes.items block ≡ Some (Owned owner region)
-      → (owner ≢ number_at_turn old) ⊎ (region.end < region.next + size)
-      ⊎ (class_at (state_of old.row) block ≢ class_for old.fill size) → new ≡ old → LacksHole old new block size
+      → (owner ≢ number_at_turn old) ⊎ ((FillsLines old.fill → ⊥) × ((region.end < region.next + size)
+      ⊎ (class_at (state_of old.row) block ≢ class_for old.fill size))) → new ≡ old → LacksHole old new block size
+  lacks_lines : (region : Region) → slice_get old.notes.items block ≡ Some (Owned (number_at_turn old) region) → FillsLines old.fill
+      → LacksLines old.notes.items (seat_at_turn old) (state_of old.row) size block → new ≡ old → LacksHole old new block size
 
 -- The mutator's region for objects of this size, in this block, becomes what such an object at its start leaves. It began
 -- at the offset. All else stays.
@@ -97,7 +119,7 @@ pub record Advances (old new : PlainRow) (size block offset : ℕ) : Type 0 wher
   pub mutators : new.mutators ≡ old.mutators
   pub row : new.row ≡ old.row
   pub seats : new.seats ≡ old.seats
-  pub current : block_of (seat_at_turn old) (class_for old.fill size) ≡ Some block
+  pub current : IsBlockFor old.fill old.notes.items (seat_at_turn old) size block
   pub region : Region
   pub rest : Region
   pub was : slice_get old.notes.items block ≡ Some (Owned (number_at_turn old) region)

@@ -1,6 +1,7 @@
 pub mod Rows
 pub mod Regions
 pub mod Notes
+pub mod TwoRegions
 pub mod Worlds
 pub mod Steps
 pub mod Changes

@@ -1,11 +1,12 @@
 -- What is left of a block for the next objects of its owner.
-use Rattle.heap_layout.specs.declared.layout.TheConstants.{BLOCK_WORDS}
+use Rattle.heap_layout.specs.declared.layout.TheConstants.{BLOCK_WORDS, LINE_WORDS}
+use Rattle.heap_layout.specs.Zones.{block_at, offset_at}
 use Rattle.heap_layout.specs.declared.block.Kind.{Kind}
 use Rattle.heap_layout.specs.declared.block.Kind.TheVariants as kinds
 use Rattle.heap_layout.specs.declared.region.Region.{Region}
-use Rattle.std.specs.Prelude.{◌≡◌, ℕ, ◌+◌, ◌≤◌}
-use Rattle.object_model.specs.Objects.{HeapState, class_at, cell_words}
-use Rattle.sessions.specs.Fitting.{IsTail, HasHole}
+use Rattle.std.specs.Prelude.{◌≡◌, ℕ, ◌+◌, ◌*◌, ◌/◌, ◌<◌, ◌≤◌, ◌⊎◌, IsTrue}
+use Rattle.object_model.specs.Objects.{HeapState, class_at, cell_words, line_marked, IsHeld, IsInExtent, size_at}
+use Rattle.sessions.specs.Fitting.{IsTail, IsLineHole, HasHole}
 use Rattle.cell_space.specs.FreeCells.{IsNextCell, HasNoCell}
 
 -- the region is the tail of block k
@@ -19,14 +20,32 @@ pub data IsCellLeft (s : HeapState) (k from : ℕ) (region : Region) : Type 0 wh
   free : IsNextCell s k from region.next → region.end ≡ region.next + cell_words (class_at s k) → IsCellLeft s k from region
   full : HasNoCell s k from → region.next ≡ BLOCK_WORDS → region.end ≡ BLOCK_WORDS → IsCellLeft s k from region
 
--- The region is what is left of block k, which has this kind: its tail, or its first free cell.
+-- an object of block k ends at this offset
+abbrev pub EndsAt : HeapState → ℕ → ℕ → Type 0
+EndsAt s k at = (a : ℕ) × IsHeld s a × (block_at s.blocks a ≡ k) × (offset_at s.blocks a + size_at s a ≡ at)
+
+-- The region is what is left of a hole of clear lines of block k: it begins with the hole, or where an object ends, and
+-- ends with the hole. No object of the block has a word in it, and none touches a clear line after it.
+pub record IsLinesLeft (s : HeapState) (k : ℕ) (region : Region) : Type 0 where
+  pub line : ℕ
+  pub len : ℕ
+  pub hole : IsLineHole s k line len
+  pub begins : (region.next ≡ LINE_WORDS * line) ⊎ ((LINE_WORDS * line ≤ region.next) × EndsAt s k region.next)
+  pub inside : region.next ≤ region.end
+  pub end : region.end ≡ LINE_WORDS * (line + len)
+  pub clear : (a i : ℕ) → IsHeld s a → block_at s.blocks a ≡ k → IsInExtent s a i → block_at s.blocks i ≡ k
+      → region.next ≤ offset_at s.blocks i → offset_at s.blocks i < region.end → ⊥
+  pub rest : (a i : ℕ) → IsHeld s a → block_at s.blocks a ≡ k → IsInExtent s a i → block_at s.blocks i ≡ k
+      → region.end ≤ offset_at s.blocks i → IsTrue (line_marked s k (offset_at s.blocks i / LINE_WORDS))
+
+-- The region is what is left of block k, which has this kind: its tail, its first free cell, or what is left of a hole.
 abbrev pub IsRegionIn : Kind → HeapState → ℕ → Region → Type 0
 IsRegionIn kinds.Bump s k region = IsTailLeft s k region
 IsRegionIn kinds.Young s k region = IsTailLeft s k region
 IsRegionIn kinds.Cells s k region = IsCellLeft s k 0 region
 IsRegionIn kinds.Free s k region = ⊥
 IsRegionIn kinds.Mature s k region = ⊥
-IsRegionIn kinds.Immix s k region = ⊥
+IsRegionIn kinds.Immix s k region = IsLinesLeft s k region
 IsRegionIn kinds.LargeHead s k region = ⊥
 IsRegionIn kinds.LargeTail s k region = ⊥
 IsRegionIn kinds.Kept s k region = ⊥
@@ -56,7 +75,7 @@ IsRestAfter kinds.Young s k size region rest = rest ≡ without_first size regio
 IsRestAfter kinds.Cells s k size region rest = IsCellLeft s k region.end rest
 IsRestAfter kinds.Free s k size region rest = ⊥
 IsRestAfter kinds.Mature s k size region rest = ⊥
-IsRestAfter kinds.Immix s k size region rest = ⊥
+IsRestAfter kinds.Immix s k size region rest = rest ≡ without_first size region
 IsRestAfter kinds.LargeHead s k size region rest = ⊥
 IsRestAfter kinds.LargeTail s k size region rest = ⊥
 IsRestAfter kinds.Kept s k size region rest = ⊥

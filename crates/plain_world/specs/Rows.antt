@@ -30,6 +30,11 @@ abbrev pub blocks_of : Option PlainSeat → List (Option ℕ)
 blocks_of None = []
 blocks_of (Some x) = x.blocks
 
+-- the block of its overflow region
+abbrev pub over_of : Option PlainSeat → Option ℕ
+over_of None = None
+over_of (Some x) = x.over
+
 -- the block for this class
 abbrev pub block_of : Option PlainSeat → ℕ → Option ℕ
 block_of seat class = unwrap_or (slice_get (blocks_of seat) class) None

@@ -5,14 +5,15 @@ use Rattle.ideal_heap.specs.declared.name.Name.{Name}
 use Rattle.object_model.specs.Objects.{state_of, word_at, HasKind, owner_at, refs_at, nums_at, name_at, is_unlogged}
 use Rattle.object_model.specs.Ages.{is_old}
 use Rattle.object_model.specs.declared.shape.Shape.{Shape}
-use Rattle.sessions.specs.Fitting.{HasHole, HasCellFor, class_for}
+use Rattle.sessions.specs.Fitting.{HasCellFor}
+use Rattle.plan_api.specs.Cursors.{PlacesInRegion}
 use Rattle.mutator_calls.specs.Allocating.{Books}
 use Rattle.heap_layout.specs.Zones.{block_start}
 use Rattle.heap_layout.specs.declared.region.Region.{Region}
 use Rattle.plain_world.specs.declared.plain_row.PlainRow.{PlainRow}
 use Rattle.plain_world.specs.declared.plain_row.BlockNote.TheVariants.{Owned}
-use Rattle.plain_world.specs.Regions.{BeginsHole}
-use Rattle.plain_world.specs.Rows.{mutator_at_turn, seat_at_turn, number_at_turn, births_of, ticket_of, block_of, address_at}
+use Rattle.plain_world.specs.Rows.{mutator_at_turn, seat_at_turn, number_at_turn, births_of, ticket_of, address_at}
+use Rattle.plain_world.specs.TwoRegions.{FillsLines, cursors_of, IsBlockFor, TriesBlock, Overflows, KeepsHole, LacksBlock, LacksRegions, OffersRoom}
 
 -- the accounts of the mutator whose turn it is
 abbrev pub books_of : PlainRow → Books
@@ -39,10 +40,21 @@ abbrev pub IsBarred : PlainRow → ℕ → Type 0
 IsBarred w s = (w.young ≡ false) ⊎ (is_old (state_of w.row) (address_at w s) ≡ false)
     ⊎ (is_unlogged (state_of w.row) (address_at w s) ≡ false)
 
--- block k has no hole for the size, if nobody owns it or the mutator does
+-- block k has no room for the size that the mutator may fill
 abbrev pub Lacks : PlainRow → ℕ → ℕ → Type 0
-Lacks w size k = (at : ℕ) → (owner_at (state_of w.row) k ≡ 0) ⊎ (owner_at (state_of w.row) k ≡ number_at_turn w)
-    → HasHole w.fill (state_of w.row) k at size → ⊥
+Lacks w size k = LacksBlock w.fill w.notes.items (seat_at_turn w) (state_of w.row) (number_at_turn w) size k
+
+-- no region that the mutator tries for the size has room
+abbrev pub IsFull : PlainRow → ℕ → Type 0
+IsFull w size = LacksRegions w.fill w.notes.items (seat_at_turn w) (state_of w.row) (number_at_turn w) size
+
+-- an object of the size overflows the hole region
+abbrev pub IsOverflow : PlainRow → ℕ → Type 0
+IsOverflow w size = Overflows w.fill w.notes.items (seat_at_turn w) size
+
+-- the mutator whose turn it is keeps its hole region
+abbrev pub KeepsRegion : PlainRow → PlainRow → Type 0
+KeepsRegion a b = KeepsHole a.notes.items (seat_at_turn a) b.notes.items (seat_at_turn b)
 
 -- block k is not Free
 abbrev pub IsUsed : PlainRow → ℕ → Type 0
@@ -66,20 +78,17 @@ IsAged w s = is_old (state_of w.row) (address_at w s) ≡ true
 abbrev pub IsMarked : PlainRow → ℕ → Type 0
 IsMarked w s = is_unlogged (state_of w.row) (address_at w s) ≡ true
 
--- In the world `a` the first hole of block k with room for the size begins at the offset, and the block is the mutator's
--- or has no owner; or the block is Free and the offset is 0.
+-- the world `a` offers the words from this offset of block k on to an object of the size
 abbrev pub IsOffer : PlainRow → ℕ → ℕ → ℕ → Type 0
-IsOffer a k offset size = (BeginsHole a.fill (state_of a.row) k offset size
-    × ((owner_at (state_of a.row) k ≡ 0) ⊎ (owner_at (state_of a.row) k ≡ number_at_turn a)))
-    ⊎ (HasKind (state_of a.row) k kinds.Free × (offset ≡ 0))
+IsOffer a k offset size = OffersRoom a.fill a.notes.items (seat_at_turn a) (state_of a.row) (number_at_turn a) k offset size
 
--- the mutator whose turn it is allocates objects of this size in block k
+-- the mutator whose turn it is tries a region in block k for objects of this size
 abbrev pub AllocatesIn : PlainRow → ℕ → ℕ → Type 0
-AllocatesIn w size k = block_of (seat_at_turn w) (class_for w.fill size) ≡ Some k
+AllocatesIn w size k = TriesBlock w.fill (seat_at_turn w) size k
 
--- the mutator's region for objects of this size is in this block
+-- the mutator's region that takes an object of this size is in this block
 pub record IsRegion (w : PlainRow) (size k : ℕ) (region : Region) : Type 0 where
-  pub current : AllocatesIn w size k
+  pub current : IsBlockFor w.fill w.notes.items (seat_at_turn w) size k
   pub note : slice_get w.notes.items k ≡ Some (Owned (number_at_turn w) region)
 
 -- the mutator's region for objects of this size in `b` is room that `a` offers
@@ -90,7 +99,8 @@ pub record Offers (a b : PlainRow) (size : ℕ) : Type 0 where
   pub offer : IsOffer a block region.next size
 
 -- The object in register d of `c` was placed at the start of the region in `b`, in a block that the mutator owns and
--- allocates objects of this size in. In cells it has one of the class for the size.
+-- allocates objects of this size in. In cells it has one of the class for the size. Under lines it is in the one of two
+-- regions that takes it, which then begins after it.
 pub record PlacesObject (b c : PlainRow) (d size : ℕ) : Type 0 where
   pub block : ℕ
   pub region : Region
@@ -99,3 +109,5 @@ pub record PlacesObject (b c : PlainRow) (d size : ℕ) : Type 0 where
   pub owner : owner_at (state_of c.row) block ≡ number_at_turn c
   pub current : AllocatesIn c size block
   pub cell : HasCellFor c.fill (state_of c.row) block region.next size
+  pub region_after : FillsLines c.fill → PlacesInRegion (cursors_of b.notes.items (seat_at_turn b))
+      (cursors_of c.notes.items (seat_at_turn c)) size block region.next

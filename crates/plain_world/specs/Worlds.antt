@@ -1,6 +1,7 @@
 -- A world of mutators in turns, after steps of the mutator machine.
 use Rattle.std.specs.Prelude.{◌≡◌, ◌≢◌, ℕ, ◌+◌, ◌<◌, ◌≤◌, Bool, true, false, ◌&&◌, not, nat_eq, if◌then◌else◌, Some, List, [], ◌++◌, map, length, sum_by, slice_get, vec_capacity}
 use Rattle.std.specs.List.{Contains, AllByRecursion, list_any}
+use Rattle.heap_layout.specs.declared.block.Kind.{Kind}
 use Rattle.heap_layout.specs.declared.block.Kind.TheVariants as kinds
 use Rattle.ideal_heap.specs.Commands.{is_new}
 use Rattle.ideal_heap.specs.Ideal.{IdealHeap}
@@ -8,7 +9,7 @@ use Rattle.ideal_heap.specs.Runs.{Entry, entry}
 use Rattle.object_model.specs.Objects.{HeapState, state_of, word_at, block_word, has_kind, HasKind, class_at, is_unlogged}
 use Rattle.object_model.specs.Graphs.{numbers_of}
 use Rattle.plan_api.specs.Counting.{session_counts}
-use Rattle.sessions.specs.Fitting.{class_for, counts_of}
+use Rattle.sessions.specs.Fitting.{counts_of}
 use Rattle.mutator_core.specs.declared.state.Local.{Local}
 use Rattle.mutator_core.specs.declared.state.LogEntry.{LogEntry}
 use Rattle.mutator_core.specs.Machine.{Epoch, nothing_unpublished}
@@ -21,8 +22,9 @@ use Rattle.plain_world.specs.declared.plain_row.PlainRow.{PlainRow}
 use Rattle.plain_world.specs.declared.plain_row.PlainSeat.{PlainSeat}
 use Rattle.plain_world.specs.declared.plain_row.BlockNote.{BlockNote}
 use Rattle.plain_world.specs.declared.plain_row.TheConstants.{CLASSES}
-use Rattle.plain_world.specs.Rows.{IsTurn, mutator_at_turn, number_at_turn, seat_at_turn, births_of, ticket_of, block_of}
-use Rattle.plain_world.specs.Notes.{FillsTailsOrCells, HasNotes, ListsOwned, IsRegionOf, AreFilled, IsRoomIn}
+use Rattle.plain_world.specs.Rows.{IsTurn, mutator_at_turn, number_at_turn, seat_at_turn, births_of, ticket_of, blocks_of, over_of}
+use Rattle.plain_world.specs.TwoRegions.{FillsLines, IsBlockFor}
+use Rattle.plain_world.specs.Notes.{FillsHoles, HasNotes, ListsOwned, IsRegionOf, AreFilled, IsRoomIn}
 
 -- The mutator and its seat have the machine's state of the mutator, which has no unpublished object, and no unlog bit
 -- cleared for a store to come.
@@ -33,11 +35,14 @@ pub record HasState (m : Mutator) (x : PlainSeat) (l : Local) : Type 0 where
   pub none : l.unpublished ≡ nothing_unpublished
   pub stored : l.pending ≡ 0
 
--- The mutator of the seat owns each block in which it allocates objects of a class, and the block has this class.
-pub record HasCursors (notes : List BlockNote) (s : HeapState) (number : ℕ) (x : PlainSeat) : Type 0 where
+-- The mutator of the seat owns each block in which it allocates objects of a class, and the block has this class. Under a
+-- plan with lines it owns the block of its overflow region, which is not that of the hole region.
+pub record HasCursors (fill : Kind) (notes : List BlockNote) (s : HeapState) (number : ℕ) (x : PlainSeat) : Type 0 where
   pub classes : length x.blocks ≡ CLASSES
   pub each : (class block : ℕ) → slice_get x.blocks class ≡ Some (Some block)
       → IsRegionOf notes number block × (class_at s block ≡ class)
+  pub over : FillsLines fill → (block : ℕ) → x.over ≡ Some block → IsRegionOf notes number block
+  pub apart : FillsLines fill → (block : ℕ) → x.over ≡ Some block → slice_get x.blocks 0 ≡ Some (Some block) → ⊥
 
 -- The list has the blocks that mutators own, with room for all blocks. The counts are those of the epoch's beginning.
 pub record HasLists (p : Epoch) (w : PlainRow) : Type 0 where
@@ -54,13 +59,20 @@ pub record IsAt (p : Epoch) (i : IdealHeap) (log : List LogEntry) (w : PlainRow)
   pub each : (k : ℕ) (m : Mutator) (x : PlainSeat) → slice_get w.mutators.items k ≡ Some m
       → slice_get w.seats.items k ≡ Some x → HasState m x (local_after_log p log m.number)
   pub cursors : (k : ℕ) (m : Mutator) (x : PlainSeat) → slice_get w.mutators.items k ≡ Some m
-      → slice_get w.seats.items k ≡ Some x → HasCursors w.notes.items (state_of w.row) m.number x
+      → slice_get w.seats.items k ≡ Some x → HasCursors w.fill w.notes.items (state_of w.row) m.number x
   pub notes : HasNotes w.fill (state_of w.row) w.notes.items
   pub fill : w.fill ≡ p.rules.fill
-  pub fills : FillsTailsOrCells w.fill
+  pub fills : FillsHoles w.fill
   pub young : w.young ≡ p.rules.young
   pub allowed : w.allowance ≡ allowance p
   pub lists : HasLists p w
+
+-- It is the turn of a mutator whose blocks have notes.
+pub record IsReadableSeat (w : PlainRow) : Type 0 where
+  pub turn : IsTurn w
+  pub classes : length (blocks_of (seat_at_turn w)) ≡ CLASSES
+  pub blocks : (class k : ℕ) → slice_get (blocks_of (seat_at_turn w)) class ≡ Some (Some k) → k < length w.notes.items
+  pub over : (k : ℕ) → FillsLines w.fill → over_of (seat_at_turn w) ≡ Some k → k < length w.notes.items
 
 -- the world is in some epoch
 pub record IsInEpoch (w : PlainRow) : Type 0 where
@@ -79,12 +91,12 @@ pub record IsReady (w : PlainRow) : Type 0 where
   pub turn : IsTurn w
   pub idle : IsIdle w
 
--- the region in which the mutator whose turn it is allocates objects of this size has room for one
+-- the region that takes objects of this size of the mutator whose turn it is has room for one
 pub record HasRoom (w : PlainRow) (size : ℕ) : Type 0 where
   pub turn : IsTurn w
   pub some : IsInEpoch w
   pub block : ℕ
-  pub current : block_of (seat_at_turn w) (class_for w.fill size) ≡ Some block
+  pub current : IsBlockFor w.fill w.notes.items (seat_at_turn w) size block
   pub room : IsRoomIn w.notes.items (number_at_turn w) size block
 
 -- the number is in the list

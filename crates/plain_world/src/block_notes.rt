@@ -10,7 +10,7 @@ ghost use Rattle.plan_api.specs.Holes.{IsFirstPart, IsFirstHole};
 ghost use Rattle.sessions.specs.Fitting.{counts_of, HasHole, HasSomeHole, class_for as class_for_size};
 ghost use Rattle.sessions.specs.Plans.{Rules};
 ghost use Rattle.plain_world.specs.declared.plain_row.BlockNote.TheVariants.{Unowned};
-ghost use Rattle.plain_world.specs.Notes.{FillsTailsOrCells, AreNotes, IsLowestHole, LacksHoles, PlacesObject, PlacesRun};
+ghost use Rattle.plain_world.specs.Notes.{FillsHoles, AreNotes, IsLowestHole, LacksHoles, PlacesObject, PlacesRun};
 
 use crate::closing::copies;
 use crate::plain_row::BlockNote;
@@ -47,7 +47,7 @@ fn hole_of(heap: &Heap, fill: Kind, block: u32, size: u32) -> Option<Region>
     requires most { size ≤ MAX_MEDIUM_WORDS }
     ensures { IsFirstHole fill (heap_state heap.now) block 0 size result }
 {
-    hole_in_block(heap.words(), heap.layout(), fill, block, size)
+    hole_in_block(heap.words(), heap.layout(), fill, block, 0, size)
 }
 
 /// Whether what the block lacks for `size` words it lacks for more too: its cells, if it has such,
@@ -87,7 +87,7 @@ impl BlockNotes {
     /// The offset of the first hole with room for `size` words in the block. If the block lacks
     /// one, that is noted, unless its cells are for other sizes.
     fn hole_in(&mut self, heap: &Heap, fill: Kind, block: u32, size: u32) -> Option<u32>
-        requires fills { FillsTailsOrCells fill }
+        requires fills { FillsHoles fill }
         requires notes { AreNotes fill (heap_state heap.now) self.old }
         requires block { block < (heap_state heap.now).blocks }
         requires least { 3 ≤ size }
@@ -118,7 +118,7 @@ impl BlockNotes {
     /// its offset in words. Blocks that lack one are noted, unless their cells are for other sizes,
     /// so that no later call looks at them for this size or a greater one.
     pub fn lowest_hole(&mut self, heap: &Heap, fill: Kind, size: u32) -> Option<(u32, u32)>
-        requires fills { FillsTailsOrCells fill }
+        requires fills { FillsHoles fill }
         requires notes { AreNotes fill (heap_state heap.now) self.old }
         requires least { 3 ≤ size }
         requires most { size ≤ MAX_MEDIUM_WORDS }
@@ -156,7 +156,7 @@ impl BlockNotes {
     /// Notes that an object was placed in the block, which was Free or had a hole.
     pub fn placed_in(&mut self, block: u32, was_free: bool)
         ensures { (rules : Rules) (old new : HeapState) (a refs nums : ℕ)
-            → FillsTailsOrCells rules.fill → AreNotes rules.fill old self.old
+            → FillsHoles rules.fill → AreNotes rules.fill old self.old
             → PlacesObject rules old new a refs nums block was_free
             → AreNotes rules.fill new self.new }
     {
@@ -172,7 +172,7 @@ impl BlockNotes {
     /// block words alone.
     pub fn placed_run(&mut self, heap: &Heap)
         ensures { (fill : Kind) (old : HeapState) (a refs nums block : ℕ)
-            → FillsTailsOrCells fill → AreNotes fill old self.old
+            → FillsHoles fill → AreNotes fill old self.old
             → PlacesRun old (heap_state heap.now) a refs nums block
             → AreNotes fill (heap_state heap.now) self.new }
     {

@@ -1,17 +1,17 @@
 //! Lists of copies, and the end of an epoch.
 
-ghost use Rattle.std.specs.Prelude.{◌≡◌, ◌<◌, ◌≤◌, ◌^◌, ℕ, replicate, length, sum_by, IfOk};
-ghost use Rattle.heap_layout.specs.Zones.{row_words};
-ghost use Rattle.heap_layout.specs.declared.block.Kind.{Kind};
-ghost use Rattle.object_model.specs.Objects.{state_of};
+ghost use Rattle.std.specs.Prelude.{◌≡◌, ◌<◌, ◌≤◌, ◌^◌, ℕ, replicate, length, sum_by, IfOk, IsTrue};
+ghost use Rattle.heap_layout.specs.Blocks.{is_block_code};
+ghost use Rattle.object_model.specs.Objects.{state_of, block_word};
 ghost use Rattle.object_model.specs.Lawful.{IsWellFormed};
 ghost use Rattle.mutator_core.specs.Closing.{GivesBack};
 ghost use Rattle.mutator_core.specs.Tickets.{tickets_in};
-ghost use Rattle.plain_world.specs.Notes.{FillsTailsOrCells, HasNotes, ListsOwned, AreUnowned, GivesBackBlock};
+ghost use Rattle.plain_world.specs.Notes.{HasNotes, ListsOwned, AreUnowned, IsLeastLeft, GivesBackBlock};
 
 use crate::plain_row::{BlockNote, PlainSeat};
-use heap_layout::OWNER_UNIT;
+use heap_layout::{BLOCK_WORDS, Kind, OWNER_UNIT, Region};
 use object_model::Row;
+use plan_api::Plan;
 use std::alloc::{AllocError, Global};
 
 /// A list of `count` copies.
@@ -25,38 +25,53 @@ pub(crate) fn copies<T: Copy>(alloc: Global, value: T, count: usize) -> Result<V
     Ok(list)
 }
 
-/// Gives the block back, if a mutator owns it. What its region has left is its hole then.
-fn give_back_block(row: &mut Row, notes: &mut Vec<BlockNote>, block: u32)
-    requires extent { length row.old.words.items ≡ row_words row.old.layout.blocks }
+/// What is noted of a block with this region as it is given back: a hole is no larger than what the
+/// region has left. Where mutators fill lines nothing is known of it, and no hole is larger than a
+/// block.
+fn least_left(fill: Kind, region: &Region) -> u32
+    requires order { region.now.next ≤ region.now.end }
+    requires inside { region.now.end ≤ BLOCK_WORDS }
+    ensures { IsLeastLeft fill region.now result }
+{
+    if fill == Kind::Immix {
+        return BLOCK_WORDS + 1;
+    }
+    region.end - region.next + 1
+}
+
+/// Gives the block back, if a mutator owns it, and relists it.
+fn give_back_block<P: Plan>(row: &mut Row, notes: &mut Vec<BlockNote>, block: u32)
+    requires order { IsWellFormed (state_of row.old) }
     requires block { block < row.old.layout.blocks }
-    requires notes { (fill : Kind) × HasNotes fill (state_of row.old) notes.old.items }
-    ensures { GivesBackBlock (state_of row.old) (state_of row.new) notes.old.items notes.new.items
-        block }
+    requires code { IsTrue (is_block_code (block_word (state_of row.old) block)) }
+    requires notes { HasNotes P.rules.fill (state_of row.old) notes.old.items }
+    ensures { GivesBackBlock P.rules (state_of row.old) (state_of row.new) notes.old.items
+        notes.new.items block }
 {
     let BlockNote::Owned { region, .. } = notes[block as usize] else {
         return;
     };
     // The word without its owner.
     row.words[row.layout.block_at(block) as usize] %= OWNER_UNIT;
+    P::relist_block(&mut row.words, &row.layout, block);
     notes[block as usize] = BlockNote::Unowned {
-        least: region.end - region.next + 1,
+        least: least_left(P::alloc_kind(), &region),
     };
 }
 
 /// Gives back the blocks that mutators own: those of the list.
-pub(crate) fn give_back(row: &mut Row, notes: &mut Vec<BlockNote>, owned: &[u32])
+pub(crate) fn give_back<P: Plan>(row: &mut Row, notes: &mut Vec<BlockNote>, owned: &[u32])
     requires order { IsWellFormed (state_of row.old) }
-    requires notes { (fill : Kind) × FillsTailsOrCells fill
-        × HasNotes fill (state_of row.old) notes.old.items }
+    requires codes { (k : ℕ) → k < row.old.layout.blocks
+        → IsTrue (is_block_code (block_word (state_of row.old) k)) }
+    requires notes { HasNotes P.rules.fill (state_of row.old) notes.old.items }
     requires owned { ListsOwned notes.old.items owned.now }
     ensures gives { GivesBack (state_of row.old) (state_of row.new) }
-    ensures notes { (fill : Kind) → FillsTailsOrCells fill
-        → HasNotes fill (state_of row.old) notes.old.items
-        → HasNotes fill (state_of row.new) notes.new.items }
+    ensures notes { HasNotes P.rules.fill (state_of row.new) notes.new.items }
     ensures unowned { AreUnowned notes.new.items }
 {
     for block in owned {
-        give_back_block(row, notes, *block);
+        give_back_block::<P>(row, notes, *block);
     }
 }
 

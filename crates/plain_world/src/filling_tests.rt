@@ -1,7 +1,8 @@
 //! Tests of allocation until a heap is full, against a plain model of its blocks.
 
-ghost use Rattle.std.specs.Prelude.{◌<◌, IfOk};
-ghost use Rattle.plain_world.specs.Calls.{IsOpen};
+ghost use Rattle.std.specs.Prelude.{◌≡◌, ◌<◌, IfOk};
+ghost use Rattle.heap_layout.specs.declared.block.Kind.TheVariants as kinds;
+ghost use Rattle.plain_world.specs.Calls.{IsOpen, SamePlaces, fill_of};
 
 use crate::test_worlds;
 use crate::test_worlds::{World, address, begin, new_world};
@@ -135,7 +136,8 @@ fn allocate(
     spans: &mut Spans,
 ) -> Result<bool, AllocError>
     requires { IsOpen world.old }
-    ensures { IsOpen world.new }
+    ensures open { IsOpen world.new }
+    ensures places { SamePlaces world.old world.new }
 {
     assert!(rt; m < 16 && 3 <= size && size <= 2049);
     let refs = (size - 3) / 2;
@@ -183,7 +185,8 @@ fn fill(
     spans: &mut Spans,
 ) -> Result<bool, AllocError>
     requires { IsOpen world.old }
-    ensures { IsOpen world.new }
+    ensures open { IsOpen world.new }
+    ensures places { SamePlaces world.old world.new }
 {
     for round in 0..most {
         let mut made = false;
@@ -230,8 +233,10 @@ fn next_epoch(
     world: World,
     model: &mut Model,
 ) -> Result<World, AllocError>
-    requires { IsOpen world }
-    ensures { IfOk result (λ w. IsOpen w) }
+    requires open { IsOpen world }
+    requires fill { fill_of world ≡ kinds.Bump }
+    ensures open { IfOk result (λ w. IsOpen w) }
+    ensures fill { IfOk result (λ w. fill_of w ≡ kinds.Bump) }
 {
     let (heap, mutators) = world.close();
     check_blocks(rt, &heap, model);

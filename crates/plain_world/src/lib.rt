@@ -19,7 +19,9 @@ pub use laws::{
     worlds_stay_in_order,
 };
 pub use plain_world::PlainWorld;
-pub use region_laws::{regions_are_holes, regions_of_worked_heaps, rests_are_regions};
+pub use region_laws::{
+    regions_are_holes, regions_of_lines, regions_of_worked_heaps, rests_are_regions,
+};
 pub use users::{may_use, new_mutators};
 
 #[cfg(test)]

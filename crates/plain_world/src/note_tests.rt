@@ -5,7 +5,7 @@ ghost use Rattle.heap_layout.specs.declared.block.Kind.TheVariants as kinds;
 ghost use Rattle.object_model.specs.Heaps.{heap_state};
 ghost use Rattle.object_model.specs.Objects.{empty_heap};
 ghost use Rattle.plain_world.specs.Calls.{IsOpen, SamePlaces, fill_of};
-ghost use Rattle.plain_world.specs.Notes.{AreNotes, FillsTailsOrCells};
+ghost use Rattle.plain_world.specs.Notes.{AreNotes, FillsHoles};
 
 use crate::block_notes::BlockNotes;
 use crate::cell_tests;
@@ -25,6 +25,7 @@ fn allocate_both(rt: &impl Abort, kept: &mut World, fresh: &mut World, m: u32, s
     ensures kept { IsOpen kept.new }
     ensures places { SamePlaces kept.old kept.new }
     ensures fresh { IsOpen fresh.new }
+    ensures fresh_places { SamePlaces fresh.old fresh.new }
 {
     let nums = size.saturating_sub(4);
     let answer = allocate(rt, kept, m, m, 1, nums);
@@ -45,6 +46,7 @@ fn fill_both(
     ensures kept { IsOpen kept.new }
     ensures places { SamePlaces kept.old kept.new }
     ensures fresh { IsOpen fresh.new }
+    ensures fresh_places { SamePlaces fresh.old fresh.new }
 {
     let mut made = 0u32;
     for turn in 0..rounds {
@@ -66,9 +68,11 @@ fn next_epoch(
     requires kept { IsOpen kept }
     requires fill { fill_of kept ≡ kinds.Bump }
     requires fresh { IsOpen fresh }
+    requires fresh_fill { fill_of fresh ≡ kinds.Bump }
     ensures kept { IfOk result (λ r. IsOpen r.0) }
     ensures fill { IfOk result (λ r. fill_of r.0 ≡ kinds.Bump) }
     ensures fresh { IfOk result (λ r. IsOpen r.1) }
+    ensures fresh_fill { IfOk result (λ r. fill_of r.1 ≡ kinds.Bump) }
 {
     let (heap, mutators, notes) = kept.close_with();
     let (other, users) = fresh.close();
@@ -118,7 +122,7 @@ fn hole(
     fill: Kind,
     size: u32,
 ) -> Option<(u32, u32)>
-    requires fills { FillsTailsOrCells fill }
+    requires fills { FillsHoles fill }
     requires notes { AreNotes fill (heap_state heap.now) notes.old }
     ensures { AreNotes fill (heap_state heap.now) notes.new }
 {
@@ -134,7 +138,7 @@ fn check_holes(
     fill: Kind,
     table: &[(u32, Option<(u32, u32)>)],
 )
-    requires fills { FillsTailsOrCells fill }
+    requires fills { FillsHoles fill }
     requires notes { AreNotes fill (heap_state heap.now) notes.old }
     ensures { AreNotes fill (heap_state heap.now) notes.new }
 {
@@ -154,7 +158,8 @@ fn check_holes(
 
 // Blocks 0 to 3: with 96 words left, full, with 3,996 words left, and Free.
 fn four_blocks(rt: &impl Abort, alloc: Global) -> Result<World, Fail>
-    ensures { IfOk result (λ w. IsOpen w) }
+    ensures open { IfOk result (λ w. IsOpen w) }
+    ensures fill { IfOk result (λ w. fill_of w ≡ kinds.Bump) }
 {
     let mut world = new_world(rt, alloc, 4, 1)?;
     for nums in [1997, 1997, 2045, 2045, 97] {
@@ -203,7 +208,8 @@ fn no_places(rt: HostRuntime) -> Result<(), Fail> {
 // Objects of the mutator, which have this number of words each.
 fn make(rt: &impl Abort, world: &mut cell_tests::World, count: u32, size: u32)
     requires { IsOpen world.old }
-    ensures { IsOpen world.new }
+    ensures open { IsOpen world.new }
+    ensures places { SamePlaces world.old world.new }
 {
     for _object in 0..count {
         allocate(rt, world, 0, 0, 0, size.saturating_sub(3));

@@ -28,8 +28,10 @@ pub struct PlainSeat {
     /// The ticket with which the mutator has taken no block.
     pub(crate) ticket: Option<u32>,
     /// For each size class the block that the mutator allocates in. Objects have class 0 if blocks
-    /// have no cells.
+    /// have no cells. If mutators fill lines, that is the block of the hole region.
     pub(crate) blocks: [Option<u32>; CLASSES],
+    /// The block of the overflow region, if mutators fill lines.
+    pub(crate) over: Option<u32>,
 }
 
 /// A heap's row with the mutators that use it in turns.

@@ -3,7 +3,7 @@
 ghost use Rattle.std.specs.Prelude.{◌≡◌, ℕ, false};
 ghost use Rattle.plain_world.specs.Rows.{address_at};
 ghost use Rattle.plain_world.specs.Worlds.{IsReady, HasRoom, Goes};
-ghost use Rattle.plain_world.specs.Steps.{AllocatesIn, HasBudget, books_of, HasShape, HasName, IsBarred, HasAges, IsAged, IsMarked, Lacks, IsUsed, Offers, PlacesObject, HasStop};
+ghost use Rattle.plain_world.specs.Steps.{AllocatesIn, HasBudget, books_of, HasShape, HasName, IsBarred, HasAges, IsAged, IsMarked, Lacks, IsFull, IsOverflow, KeepsRegion, IsUsed, Offers, PlacesObject, HasStop};
 ghost use Rattle.plain_world.specs.SeatLaws.{goes-after, goes-nothing, shape-some};
 ghost use Rattle.std.proofs.Common.{refl, sym, ◌∙◌, ap, subst};
 
@@ -43,6 +43,12 @@ impl Seat for PlainRow {
 
     ghost allocates_in = { λ w size k. AllocatesIn w size k };
 
+    ghost is_full = { λ w size. IsFull w size };
+
+    ghost is_overflow = { λ w size. IsOverflow w size };
+
+    ghost keeps_region = { λ a b. KeepsRegion a b };
+
     ghost offers = { λ a b size. Offers a b size };
 
     ghost places = { λ b c d size. PlacesObject b c d size };
@@ -50,6 +56,13 @@ impl Seat for PlainRow {
     ghost has_budget = { λ w n. HasBudget w n };
 
     ghost has_stop = { λ w n. HasStop w n };
+
+    ghost region_is_kept = { λ a. record { block = refl; region = refl } };
+
+    ghost region_stays_kept = { λ a b c x y. record {
+      block = y.block ∙ x.block;
+      region = y.region ∙ x.region;
+    } };
 
     ghost looks_at_nothing = { λ a. refl };
 
@@ -199,8 +212,16 @@ impl Seat for PlainRow {
         self.has_room(size)
     }
 
+    fn overflows(&self, size: u32) -> bool {
+        self.is_overflow(size)
+    }
+
     fn take_hole(&mut self, block: u32, size: u32) -> bool {
         self.take_hole_in(block, size)
+    }
+
+    fn take_own_hole(&mut self, size: u32) -> bool {
+        self.take_hole_in_own(size)
     }
 
     fn draw_ticket(&mut self) -> u32 {

@@ -12,7 +12,7 @@ ghost use Rattle.mutator_core.specs.Machine.{Epoch};
 ghost use Rattle.mutator_core.specs.Closing.{GivesBack};
 ghost use Rattle.object_model.specs.Graphs.{numbers_of};
 ghost use Rattle.plain_world.specs.Rows.{mutator_state};
-ghost use Rattle.plain_world.specs.Notes.{FillsTailsOrCells, AreNotes};
+ghost use Rattle.plain_world.specs.Notes.{AreNotes};
 ghost use Rattle.plain_world.specs.Calls.{heap_of, mutators_of, is_generational, fill_of, births_at, ticket_at, budget_word, places_of, HasPlace, IsOpen, HasHistory};
 ghost use Rattle.plain_world.specs.Beginnings.{MayUse, without_stop, epoch_of};
 ghost use Rattle.plain_world.specs.Endings.{GrantsWithTickets};
@@ -48,7 +48,6 @@ impl<P: Plan> PlainWorld<P> {
         heap: Heap,
         mutators: Vec<Mutator>,
     ) -> Result<PlainWorld<P>, AllocError>
-        requires fills { FillsTailsOrCells P.rules.fill }
         requires few { length mutators.items ≤ MAX_MUTATORS }
         requires users { MayUse (heap_state heap) (map mutator_state mutators.items) }
         requires remembers { Remembers P.rules (heap_state heap) }
@@ -78,7 +77,6 @@ impl<P: Plan> PlainWorld<P> {
         mutators: Vec<Mutator>,
         notes: BlockNotes,
     ) -> Result<PlainWorld<P>, AllocError>
-        requires fills { FillsTailsOrCells P.rules.fill }
         requires few { length mutators.items ≤ MAX_MUTATORS }
         requires users { MayUse (heap_state heap) (map mutator_state mutators.items) }
         requires remembers { Remembers P.rules (heap_state heap) }
@@ -98,6 +96,7 @@ impl<P: Plan> PlainWorld<P> {
         let seat = PlainSeat {
             ticket: None,
             blocks: [None; CLASSES],
+            over: None,
         };
         let seats = copies(alloc, seat, mutators.len())?;
         let mut row = heap.into_row();
@@ -142,10 +141,11 @@ impl<P: Plan> PlainWorld<P> {
         self.row.mutators[m as usize].births
     }
 
-    /// Ends the epoch: the mutators give back their blocks. Takes no memory, and reads no side
-    /// words of blocks that nobody owned.
+    /// Ends the epoch: the mutators give back their blocks, which are relisted. Takes no memory,
+    /// and reads no side words of blocks that nobody owned.
     pub fn close(self) -> (Heap, Vec<Mutator>)
-        requires { IsOpen self }
+        requires open { IsOpen self }
+        requires fill { fill_of self ≡ P.rules.fill }
         ensures stopped { (p : Epoch) (i : IdealHeap) (part : List Entry)
             → HasHistory self p i part
             → Stopped p.rules (numbers_of p.mutators) p.before i part
@@ -166,7 +166,8 @@ impl<P: Plan> PlainWorld<P> {
 
     /// Ends the epoch as `close` does, and returns what is known of the blocks for the next one.
     pub fn close_with(self) -> (Heap, Vec<Mutator>, BlockNotes)
-        requires { IsOpen self }
+        requires open { IsOpen self }
+        requires fill { fill_of self ≡ P.rules.fill }
         ensures stopped { (p : Epoch) (i : IdealHeap) (part : List Entry)
             → HasHistory self p i part
             → Stopped p.rules (numbers_of p.mutators) p.before i part
@@ -195,7 +196,7 @@ impl<P: Plan> PlainWorld<P> {
         } = self.row;
         // The Free blocks taken are the tickets drawn but for the unused ones.
         counts.free = counts.free + unused_tickets(&seats) - row.words[1] as u32;
-        give_back(&mut row, &mut notes, &owned);
+        give_back::<P>(&mut row, &mut notes, &owned);
         owned.clear();
         let notes = BlockNotes {
             counts,

@@ -1,6 +1,6 @@
 //! The search for room, and allocation in a region.
 
-ghost use Rattle.std.specs.Prelude.{◌≡◌, ◌≢◌, ◌+◌, ◌*◌, ◌<◌, ◌≤◌, ◌^◌, ◌⊎◌, ℕ, true, false, length, Option, Some, None, slice_get, vec_len, vec_capacity};
+ghost use Rattle.std.specs.Prelude.{◌≡◌, ◌≢◌, ◌↔◌, ◌+◌, ◌*◌, ◌<◌, ◌≤◌, ◌^◌, ◌⊎◌, ℕ, Bool, true, false, length, Option, Some, None, IfSome, IfNone, slice_get, vec_len, vec_capacity};
 ghost use Rattle.heap_layout.specs.Zones.{row_words, block_start};
 ghost use Rattle.heap_layout.specs.Blocks.{IsValid};
 ghost use Rattle.heap_layout.specs.declared.region.Region.{Region};
@@ -10,20 +10,23 @@ ghost use Rattle.sessions.specs.Fitting.{class_for as class_for_size};
 ghost use Rattle.object_model.specs.Lawful.{IsWellFormed, IsReadableBlock};
 ghost use Rattle.block_sweeps.specs.Sweeping.{AreApart};
 ghost use Rattle.plan_api.specs.Holes.{IsFirstHole};
+ghost use Rattle.plan_api.specs.Cursors.{RegionHasRoom, LacksRoom};
 ghost use Rattle.heap_layout.specs.declared.block.Kind.TheVariants as kinds;
-ghost use Rattle.plain_world.specs.declared.plain_row.BlockNote.TheVariants.{Unowned};
-ghost use Rattle.plain_world.specs.Notes.{FillsTailsOrCells};
+ghost use Rattle.plain_world.specs.declared.plain_row.BlockNote.TheVariants.{Unowned, Owned};
+ghost use Rattle.plain_world.specs.Notes.{FillsHoles};
 ghost use Rattle.plain_world.specs.Regions.{IsCellLeft, IsRegionIn, IsRestAfter, first_region};
-ghost use Rattle.plain_world.specs.Rows.{IsTurn, number_at_turn, mutator_at_turn, seat_at_turn, ticket_of, births_of};
+ghost use Rattle.plain_world.specs.Rows.{IsTurn, number_at_turn, mutator_at_turn, seat_at_turn, ticket_of, births_of, block_of};
 ghost use Rattle.plain_world.specs.Changes.{TakesBlock, NotesBlock, ReturnsTo, FindsHole, LacksHole, Advances, CountsObject, Allocates};
-ghost use Rattle.plain_world.specs.Worlds.{IsReady, HasRoom};
+ghost use Rattle.plain_world.specs.Worlds.{IsReady, HasRoom, IsReadableSeat};
+ghost use Rattle.plain_world.specs.Steps.{IsOverflow};
+ghost use Rattle.plain_world.specs.TwoRegions.{FillsLines, region_of, cursors_of, IsBlockFor};
 
 use crate::plain_row::{BlockNote, CLASSES, PlainRow};
 use cell_space::{cell_size, next_cell};
-use heap_layout::{BLOCK_WORDS, BlockWord, Kind, Region};
+use heap_layout::{BLOCK_WORDS, BlockWord, Kind, LINE_WORDS, Region};
 use ideal_heap::{MAX_NUMS, MAX_REFS, Name, REGISTERS};
 use object_model::{MAX_MEDIUM_WORDS, Shape, size_words};
-use plan_api::{class_for, hole_in_block};
+use plan_api::{Cursors, class_for, hole_in_block, place_in};
 
 impl PlainRow {
     /// The class of an object of `size` words: the size class of its cell, or 0 if blocks have no
@@ -35,14 +38,93 @@ impl PlainRow {
         class_for(self.fill, size)
     }
 
+    /// What is left of a block of the mutator, or no words if there is no block.
+    fn region_in(&self, block: Option<u32>) -> Region
+        requires { (k : ℕ) → block ≡ Some k → k < length self.now.notes.items }
+        ensures { result ≡ region_of self.now.notes.items block }
+    {
+        let nowhere = Region { next: 0, end: 0 };
+        let Some(block) = block else {
+            return nowhere;
+        };
+        match self.notes[block as usize] {
+            BlockNote::Unowned { .. } => nowhere,
+            BlockNote::Owned { region, .. } => region,
+        }
+    }
+
+    /// The hole region and the overflow region of the mutator. Each has no words before it has a
+    /// block.
+    fn cursors(&self) -> Cursors
+        requires seat { IsReadableSeat self.now }
+        requires fill { FillsLines self.now.fill }
+        ensures { result ≡ cursors_of self.now.notes.items (seat_at_turn self.now) }
+    {
+        let seat = &self.seats[self.turn];
+        Cursors {
+            hole: self.region_in(seat.blocks[0]),
+            hole_block: seat.blocks[0].unwrap_or(0),
+            over: self.region_in(seat.over),
+            over_block: seat.over.unwrap_or(0),
+        }
+    }
+
+    /// The block of the region that takes an object of `size` words, under a plan with lines, if a
+    /// region has room.
+    fn block_of_lines(&self, size: u32) -> Option<u32>
+        requires seat { IsReadableSeat self.now }
+        requires fill { FillsLines self.now.fill }
+        requires least { 3 ≤ size }
+        requires hole { (cursors_of self.now.notes.items (seat_at_turn self.now)).hole.next
+            ≤ (cursors_of self.now.notes.items (seat_at_turn self.now)).hole.end }
+        requires over { (cursors_of self.now.notes.items (seat_at_turn self.now)).over.next
+            ≤ (cursors_of self.now.notes.items (seat_at_turn self.now)).over.end }
+        ensures some { IfSome result (λ k.
+            IsBlockFor self.now.fill self.now.notes.items (seat_at_turn self.now) size k
+            × RegionHasRoom (region_of self.now.notes.items (Some k)) size) }
+        ensures none { IfNone result (LacksRoom
+            (cursors_of self.now.notes.items (seat_at_turn self.now)) size) }
+    {
+        let mut cursors = self.cursors();
+        let (block, _) = place_in(&mut cursors, size)?;
+        Some(block)
+    }
+
+    /// The block of the region that takes an object of `size` words. Under a plan with lines there
+    /// is none if no region has room.
+    fn block_for(&self, size: u32) -> Option<u32>
+        requires seat { IsReadableSeat self.now }
+        requires least { 3 ≤ size }
+        requires hole { FillsLines self.now.fill
+            → (cursors_of self.now.notes.items (seat_at_turn self.now)).hole.next
+            ≤ (cursors_of self.now.notes.items (seat_at_turn self.now)).hole.end }
+        requires over { FillsLines self.now.fill
+            → (cursors_of self.now.notes.items (seat_at_turn self.now)).over.next
+            ≤ (cursors_of self.now.notes.items (seat_at_turn self.now)).over.end }
+        ensures some { IfSome result (λ k.
+            IsBlockFor self.now.fill self.now.notes.items (seat_at_turn self.now) size k) }
+        ensures room { FillsLines self.now.fill → IfSome result (λ k.
+            RegionHasRoom (region_of self.now.notes.items (Some k)) size) }
+        ensures none { FillsLines self.now.fill → IfNone result (LacksRoom
+            (cursors_of self.now.notes.items (seat_at_turn self.now)) size) }
+        ensures class { (FillsLines self.now.fill → ⊥)
+            → result ≡ block_of (seat_at_turn self.now) (class_for_size self.now.fill size) }
+    {
+        if self.fill == Kind::Immix {
+            return self.block_of_lines(size);
+        }
+        let class = self.class(size);
+        self.seats[self.turn].blocks[class as usize]
+    }
+
     /// Whether the mutator's region for objects of `size` words has room for one.
     pub(crate) fn has_room(&self, size: u32) -> bool
-        requires { IsReady self.now }
+        requires ready { IsReady self.now }
+        requires least { 3 ≤ size }
         ensures room { result ≡ true → HasRoom self.now size }
         ensures none { result ≡ false → HasRoom self.now size → ⊥ }
     {
-        let class = self.class(size);
-        match self.seats[self.turn].blocks[class as usize] {
+        match self.block_for(size) {
             None => false,
             Some(block) => match self.notes[block as usize] {
                 BlockNote::Unowned { .. } => false,
@@ -51,9 +133,27 @@ impl PlainRow {
         }
     }
 
+    /// Whether an object of `size` words overflows the hole region, under a plan with lines: it
+    /// takes more than a line, and the region has some words left, but too few.
+    pub(crate) fn is_overflow(&self, size: u32) -> bool
+        requires { IsReady self.now }
+        ensures yes { result ≡ true → IsOverflow self.now size }
+        ensures no { result ≡ false → IsOverflow self.now size → ⊥ }
+    {
+        if self.fill != Kind::Immix {
+            return false;
+        }
+        if size <= LINE_WORDS {
+            return false;
+        }
+        let region = self.region_in(self.seats[self.turn].blocks[0]);
+        let left = region.end - region.next;
+        0 < left && left < size
+    }
+
     /// Makes the mutator the owner of a block, and the region the one that it allocates objects of
-    /// the class in.
-    fn take(&mut self, block: u32, class: u32, region: Region, ticket: Option<u32>)
+    /// the class in, or, if `over`, its overflow region.
+    fn take(&mut self, over: bool, block: u32, class: u32, region: Region, ticket: Option<u32>)
         requires turn { IsTurn self.old }
         requires extent { length self.old.row.words.items ≡ row_words self.old.row.layout.blocks }
         requires block { block < self.old.row.layout.blocks }
@@ -65,7 +165,7 @@ impl PlainRow {
           class = class;
           owner = number_at_turn self.old;
         }) }
-        ensures { TakesBlock self.old self.new block class region ticket }
+        ensures { TakesBlock self.old self.new over block class region ticket }
     {
         let owner = self.number();
         let word = BlockWord {
@@ -78,7 +178,11 @@ impl PlainRow {
         self.owned.push_reserved(block);
         let seat = &mut self.seats[self.turn];
         seat.ticket = ticket;
-        seat.blocks[class as usize] = Some(block);
+        if over {
+            seat.over = Some(block);
+        } else {
+            seat.blocks[class as usize] = Some(block);
+        }
     }
 
     /// Allocates in an own block: the block becomes the one that the mutator allocates objects of
@@ -103,15 +207,23 @@ impl PlainRow {
         word.kind == self.fill && word.class != self.class(size)
     }
 
-    /// The first hole of a block with room for `size` words, if mutators fill blocks of its kind.
-    fn hole(&self, block: u32, size: u32) -> Option<Region>
+    /// The first part of a hole of a block that has room for `size` words and begins at or after
+    /// the offset `from`, if mutators fill blocks of its kind.
+    fn hole(&self, block: u32, from: u32, size: u32) -> Option<Region>
         requires order { IsWellFormed (state_of self.now.row) }
         requires block { IsReadableBlock (state_of self.now.row) block }
         requires least { 3 ≤ size }
         requires most { size ≤ MAX_MEDIUM_WORDS }
-        ensures { IsFirstHole self.now.fill (state_of self.now.row) block 0 size result }
+        ensures { IsFirstHole self.now.fill (state_of self.now.row) block from size result }
     {
-        hole_in_block(&self.row.words, &self.row.layout, self.fill, block, size)
+        hole_in_block(
+            &self.row.words,
+            &self.row.layout,
+            self.fill,
+            block,
+            from,
+            size,
+        )
     }
 
     /// Takes a block that nobody owns if it has a hole with room for `size` words.
@@ -124,14 +236,14 @@ impl PlainRow {
         requires most { size ≤ MAX_MEDIUM_WORDS }
         ensures found { result ≡ true → (region : Region)
             × IsFirstHole self.old.fill (state_of self.old.row) block 0 size (Some region)
-            × TakesBlock self.old self.new block (class_for_size self.old.fill size) region
+            × TakesBlock self.old self.new false block (class_for_size self.old.fill size) region
             (ticket_of (seat_at_turn self.old)) }
         ensures none { result ≡ false → LacksHole self.old self.new block size }
     {
         if self.has_other_class(block, size) {
             return false;
         }
-        match self.hole(block, size) {
+        match self.hole(block, 0, size) {
             None => {
                 self.notes[block as usize] = BlockNote::Unowned { least: size };
                 false
@@ -139,10 +251,87 @@ impl PlainRow {
             Some(region) => {
                 let ticket = self.seats[self.turn].ticket;
                 let class = self.class(size);
-                self.take(block, class, region, ticket);
+                self.take(false, block, class, region, ticket);
                 true
             }
         }
+    }
+
+    /// Makes the first hole of the mutator's block of the hole region that has room for `size`
+    /// words, from the region's end on, the hole region, if there is one.
+    fn take_next_hole(&mut self, block: u32, region: Region, size: u32) -> bool
+        requires ready { IsReady self.old }
+        requires block { block < self.old.row.layout.blocks }
+        requires fill { FillsLines self.old.fill }
+        requires note { slice_get self.old.notes.items block
+            ≡ Some (Owned (number_at_turn self.old) region) }
+        requires current { block_of (seat_at_turn self.old) 0 ≡ Some block }
+        requires full { region.end < region.next + size }
+        requires least { 3 ≤ size }
+        requires most { size ≤ MAX_MEDIUM_WORDS }
+        ensures found { result ≡ true → (hole : Region)
+            × IsFirstHole self.old.fill (state_of self.old.row) block region.end size (Some hole)
+            × NotesBlock self.old self.new block (Owned (number_at_turn self.old) hole) }
+        ensures none { result ≡ false
+            → IsFirstHole self.old.fill (state_of self.old.row) block region.end size None
+            × (self.new ≡ self.old) }
+    {
+        let Some(hole) = self.hole(block, region.end, size) else {
+            return false;
+        };
+        let number = self.number();
+        self.notes[block as usize] = BlockNote::Owned {
+            owner: number,
+            region: hole,
+        };
+        true
+    }
+
+    /// Makes a hole of a block of the mutator its hole region, under a plan with lines, if the
+    /// block is that of the hole region and has one from the region's end on. Else answers whether
+    /// the region of the block is one that is tried for `size` words and has room.
+    fn take_in_own_lines(&mut self, block: u32, region: Region, size: u32) -> bool
+        requires ready { IsReady self.old }
+        requires block { block < self.old.row.layout.blocks }
+        requires fill { FillsLines self.old.fill }
+        requires note { slice_get self.old.notes.items block
+            ≡ Some (Owned (number_at_turn self.old) region) }
+        requires least { 3 ≤ size }
+        requires most { size ≤ MAX_MEDIUM_WORDS }
+        ensures found { result ≡ true → FindsHole self.old self.new block size }
+        ensures none { result ≡ false → LacksHole self.old self.new block size }
+    {
+        let has_room = region.end - region.next >= size;
+        if self.seats[self.turn].blocks[0] == Some(block) {
+            return has_room || self.take_next_hole(block, region, size);
+        }
+        has_room && size > LINE_WORDS && self.seats[self.turn].over == Some(block)
+    }
+
+    /// Makes room for `size` words in an own block the mutator's region, if it has some. The block
+    /// becomes the one that the mutator allocates objects of the class in.
+    fn take_in_own(&mut self, block: u32, region: Region, size: u32) -> bool
+        requires ready { IsReady self.old }
+        requires block { block < self.old.row.layout.blocks }
+        requires note { slice_get self.old.notes.items block
+            ≡ Some (Owned (number_at_turn self.old) region) }
+        requires least { 3 ≤ size }
+        requires most { size ≤ MAX_MEDIUM_WORDS }
+        ensures found { result ≡ true → FindsHole self.old self.new block size }
+        ensures none { result ≡ false → LacksHole self.old self.new block size }
+    {
+        if self.fill == Kind::Immix {
+            return self.take_in_own_lines(block, region, size);
+        }
+        if region.end - region.next < size {
+            return false;
+        }
+        if self.has_other_class(block, size) {
+            return false;
+        }
+        let class = self.class(size);
+        self.return_to(block, class);
+        true
     }
 
     /// Makes a hole of the block with room for `size` words the mutator's region, if there is one
@@ -158,17 +347,38 @@ impl PlainRow {
         match self.notes[block as usize] {
             BlockNote::Unowned { least } => size < least && self.take_unowned(block, size),
             BlockNote::Owned { owner, region } => {
-                if owner != self.number() || region.end - region.next < size {
-                    return false;
-                }
-                if self.has_other_class(block, size) {
-                    return false;
-                }
-                let class = self.class(size);
-                self.return_to(block, class);
-                true
+                owner == self.number() && self.take_in_own(block, region, size)
             }
         }
+    }
+
+    /// Makes the first hole of the mutator's block of the hole region that has room for `size`
+    /// words, from the region's end on, the hole region, under a plan with lines, if there is one.
+    /// Nothing changes if a region has room.
+    pub(crate) fn take_hole_in_own(&mut self, size: u32) -> bool
+        requires ready { IsReady self.old }
+        requires least { 3 ≤ size }
+        requires most { size ≤ MAX_MEDIUM_WORDS }
+        ensures found { result ≡ true → (HasRoom self.old size × (self.new ≡ self.old))
+            ⊎ (FillsLines self.old.fill × ((block : ℕ)
+            × (block_of (seat_at_turn self.old) 0 ≡ Some block)
+            × FindsHole self.old self.new block size)) }
+        ensures full { result ≡ false → HasRoom self.old size → ⊥ }
+        ensures none { (block : ℕ) → result ≡ false → FillsLines self.old.fill
+            → block_of (seat_at_turn self.old) 0 ≡ Some block
+            → LacksHole self.old self.new block size }
+        ensures same { result ≡ false → self.new ≡ self.old }
+    {
+        if self.has_room(size) {
+            return true;
+        }
+        if self.fill != Kind::Immix {
+            return false;
+        }
+        let Some(block) = self.seats[self.turn].blocks[0] else {
+            return false;
+        };
+        self.take_hole_in(block, size)
     }
 
     /// The region of a Free block that is taken for an object of `size` words: all of it, or its
@@ -184,13 +394,15 @@ impl PlainRow {
         Region { next: 0, end }
     }
 
-    /// Takes a block for objects of `size` words if it is Free.
+    /// Takes a block for objects of `size` words if it is Free. In overflow allocation it is the
+    /// block of the overflow region then.
     pub(crate) fn take_free_block(&mut self, block: u32, size: u32) -> bool
         requires ready { IsReady self.old }
         requires block { block < self.old.row.layout.blocks }
         ensures found { result ≡ true → HasKind (state_of self.old.row) block kinds.Free
-            × TakesBlock self.old self.new block (class_for_size self.old.fill size)
-            (first_region self.old.fill (class_for_size self.old.fill size)) None }
+            × ((over : Bool) × ((over ≡ true) ↔ IsOverflow self.old size)
+            × TakesBlock self.old self.new over block (class_for_size self.old.fill size)
+            (first_region self.old.fill (class_for_size self.old.fill size)) None) }
         ensures none { result ≡ false
             → (HasKind (state_of self.old.row) block kinds.Free → ⊥)
             × (self.new ≡ self.old) }
@@ -203,7 +415,8 @@ impl PlainRow {
         }
         let class = self.class(size);
         let region = self.first_region(size);
-        self.take(block, class, region, None);
+        let over = self.is_overflow(size);
+        self.take(over, block, class, region, None);
         true
     }
 
@@ -252,7 +465,7 @@ impl PlainRow {
     /// What an object of `size` words at the start of the region leaves of the block: the rest of
     /// the region, or the next free cell. Then it reads start words from the region's end on.
     fn rest_after(&self, block: u32, region: &Region, size: u32) -> Region
-        requires fills { FillsTailsOrCells self.now.fill }
+        requires fills { FillsHoles self.now.fill }
         requires extent { length self.now.row.words.items ≡ row_words self.now.row.layout.blocks }
         requires kind { HasKind (state_of self.now.row) block self.now.fill }
         requires class { class_at (state_of self.now.row) block
@@ -271,14 +484,14 @@ impl PlainRow {
         self.free_cell(block, self.class(size), region.end)
     }
 
-    /// The block that the mutator allocates objects of `size` words in, and the offset of the next
-    /// one. The region is what the object leaves then.
+    /// The block of the region that takes an object of `size` words, and the offset of the object.
+    /// The region is what it leaves then.
     fn advance(&mut self, size: u32) -> (u32, u32)
-        requires { HasRoom self.old size }
+        requires room { HasRoom self.old size }
+        requires least { 3 ≤ size }
         ensures { Advances self.old self.new size result.0 result.1 }
     {
-        let class = self.class(size);
-        let Some(block) = self.seats[self.turn].blocks[class as usize] else {
+        let Some(block) = self.block_for(size) else {
             unreachable!()
         };
         let BlockNote::Owned { owner, region } = self.notes[block as usize] else {

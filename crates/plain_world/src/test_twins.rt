@@ -2,7 +2,8 @@
 
 ghost use Rattle.std.specs.Prelude.{◌≡◌, IfOk};
 ghost use Rattle.ideal_heap.specs.Plain.{mutators_of};
-ghost use Rattle.plain_world.specs.Calls.{IsOpen};
+ghost use Rattle.heap_layout.specs.declared.block.Kind.TheVariants as kinds;
+ghost use Rattle.plain_world.specs.Calls.{IsOpen, fill_of};
 
 use crate::test_worlds::{World, begin, births, call, new_world};
 use ideal_heap::{Command, GLOBALS, Ideal, MAX_NUMS, MAX_REFS, Name, Reply, valid};
@@ -25,6 +26,7 @@ pub(crate) struct Twins {
     pub(crate) world: World,
     pub(crate) ideal: Ideal,
     ghost mutators: { mutators_of ideal ≡ 2 },
+    ghost fill: { fill_of world ≡ kinds.Bump },
 }
 
 impl Twins {

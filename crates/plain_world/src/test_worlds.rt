@@ -69,7 +69,8 @@ pub(crate) fn address<P: Plan>(rt: &impl Abort, world: &PlainWorld<P>, m: u32, s
 /// The answer to a poll of the mutator at place `m`.
 pub(crate) fn poll(rt: &impl Abort, world: &mut World, m: u32) -> Polled
     requires { IsOpen world.old }
-    ensures { IsOpen world.new }
+    ensures open { IsOpen world.new }
+    ensures places { SamePlaces world.old world.new }
 {
     assert!(rt; (m as usize) < world.mutators().len());
     world.poll(m)
@@ -78,7 +79,8 @@ pub(crate) fn poll(rt: &impl Abort, world: &mut World, m: u32) -> Polled
 /// The mutator at place `m` raises a stop.
 pub(crate) fn raise(rt: &impl Abort, world: &mut World, m: u32)
     requires { IsOpen world.old }
-    ensures { IsOpen world.new }
+    ensures open { IsOpen world.new }
+    ensures places { SamePlaces world.old world.new }
 {
     assert!(rt; (m as usize) < world.mutators().len());
     world.raise(m);
@@ -106,7 +108,8 @@ pub(crate) fn allocate<P: Plan>(
 /// The reply to a command of the mutator at place `m`. A `new` that stops is refused.
 pub(crate) fn call(rt: &impl Abort, world: &mut World, m: u32, command: &Command) -> Reply
     requires { IsOpen world.old }
-    ensures { IsOpen world.new }
+    ensures open { IsOpen world.new }
+    ensures places { SamePlaces world.old world.new }
 {
     assert!(rt; (m as usize) < world.mutators().len());
     assert!(rt; valid(command));

@@ -52,8 +52,10 @@ impl<P> PlainWorld<P> {
     }
 
     /// Allocates an object with `refs` nil references and `nums` zeros, and stores its address in
-    /// register `d`: in the region that the mutator fills, else in the hole of an own block or of
-    /// one without owner, else in a Free block that it may take.
+    /// register `d`: in a region that the mutator fills, else in the hole of an own block or of one
+    /// without owner, else in a Free block that it may take. In overflow allocation (Immix: an
+    /// object of more than a line for which the hole region has too few words left) a Free block
+    /// comes before a hole.
     ///
     /// The answer is `Stop` if the object is large, or if there is no such room.
     pub fn new_object(&mut self, m: u32, d: u32, refs: u32, nums: u32) -> Allocated

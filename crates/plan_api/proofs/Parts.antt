@@ -1,5 +1,5 @@
 -- The hole found in the view of a block is the first hole of the block.
-use Rattle.std.proofs.Common.{◌≡◌, refl, sym, ◌∙◌, ap, subst, ℕ, ◌+◌, ◌*◌, ◌-◌, ◌/◌, ◌%◌, ◌<◌, ◌≤◌, inl, inr, max, arith, Option, Some, None}
+use Rattle.std.proofs.Common.{◌≡◌, refl, sym, ◌∙◌, ap, subst, ℕ, ◌+◌, ◌*◌, ◌-◌, ◌/◌, ◌%◌, ◌<◌, ◌≤◌, inl, inr, max, arith, List, Option, Some, None}
 use Rattle.std.specs.Prelude.{MatchOption}
 use Rattle.std.proofs.lemmas.Bool.{cases_lt, cases_eq, false_from_ne_true, true≢false}
 use Rattle.heap_layout.specs.Zones.{block_at, offset_at, block_start}
@@ -8,13 +8,13 @@ use Rattle.heap_layout.specs.declared.block.Kind.TheVariants as kinds
 use Rattle.heap_layout.specs.declared.region.Region.{Region}
 use Rattle.heap_layout.specs.Blocks.{kind_of_code}
 use Rattle.heap_layout.proofs.BlockLemmas.{parts_of_code, kind_of_code-kind_code, kind_code_of}
-use Rattle.object_model.specs.Objects.{HeapState, HasKind, block_word, class_at, owner_at, is_start, IsHeld, size_at, cell_words, lines_for}
+use Rattle.object_model.specs.Objects.{HeapState, HasKind, block_word, class_at, owner_at, is_start, IsHeld, size_at, cell_words, lines_for, line_marked}
 use Rattle.object_model.proofs.OneKind.{kind-from, kind-code}
 use Rattle.sessions.specs.Fitting.{IsTail, IsFreeCell, class_of}
 use Rattle.sessions.proofs.Tails.{tail-unique}
 use Rattle.sessions.proofs.Holes.{class-room}
 use Rattle.plan_api.specs.declared.block_view.BlockView.{BlockView}
-use Rattle.line_marks.specs.Bits.{IsClearFrom, IsFirstRun, HasNoRun}
+use Rattle.line_marks.specs.Bits.{bit_in, IsClearFrom, IsFirstRun, HasNoRun}
 use Rattle.line_marks.proofs.HoleRuns.{run-hole, hole-clear}
 use Rattle.plan_api.specs.Cells.{IsClearCell, IsFirstCell, HasNoCell}
 use Rattle.plan_api.specs.Views.{IsLastObject, IsViewOf}
@@ -26,11 +26,58 @@ use Rattle.plan_api.proofs.Viewing.{at-offset}
 abbrev pub FindsTail : BlockView → ℕ → ℕ → Option Region → Type 0
 FindsTail v from size o = MatchOption o (4096 < max v.end from + size) (λ r. (r.next ≡ max v.end from) × (r.end ≡ 4096) × (r.next + size ≤ 4096))
 
-abbrev pub FindsLines : BlockView → ℕ → ℕ → Option Region → Type 0
-FindsLines v from size o = MatchOption o (HasNoRun v.lines (lines_for from) (lines_for size)) (λ r. (x : ℕ) × (end : ℕ) × (r.next ≡ 16 * x) × (r.end ≡ 16 * end) × IsFirstRun v.lines (lines_for from) (lines_for size) x end)
+abbrev pub FindsLines : List ℕ → ℕ → ℕ → Option Region → Type 0
+FindsLines lines from size o = MatchOption o (HasNoRun lines (lines_for from) (lines_for size)) (λ r. (x : ℕ) × (end : ℕ) × (r.next ≡ 16 * x) × (r.end ≡ 16 * end) × IsFirstRun lines (lines_for from) (lines_for size) x end)
 
 abbrev pub FindsCell : BlockView → ℕ → ℕ → Option Region → Type 0
 FindsCell v words from o = MatchOption o (HasNoCell v.starts words from) (λ r. IsFirstCell v.starts words from r.next × (r.end ≡ r.next + words))
+
+-- words in so many lines take so many
+fits-lines : (x e size : ℕ) → 16 * x + size ≤ 16 * e → x + (size + 15) / 16 ≤ e
+fits-lines x e size room = omega arith
+
+-- these words have the line bits of block k
+module _ (s : HeapState) (k : ℕ) (lines : List ℕ) (read : (line : ℕ) → line < 256 → bit_in lines line ≡ line_marked s k line) where
+  -- runs of clear lines
+  line-part : (from size x end : ℕ) → 1 ≤ size → IsFirstRun lines (lines_for from) (lines_for size) x end → IsLinePart s k from (16 * x) (16 * end)
+  line-part from size x end some run =
+      let room = run.room in
+      let hole = run-hole s k lines read (lines_for from) (lines_for size) x end (omega arith) run in
+      let ends : x + (end - x) ≡ hole.line + hole.all = hole.ends in
+      record { line = hole.line; len = hole.all; hole = hole.hole; starts = ap (λ q. 16 * q) hole.starts; ends = omega arith }
+
+  -- a part with room begins with enough clear lines
+  part-clear : (from size next end : ℕ) → 1 ≤ size → IsLinePart s k from next end → next + size ≤ end → (x : ℕ) × (next ≡ 16 * x) × (lines_for from ≤ x) × IsClearFrom lines x (lines_for size)
+  part-clear from size next end some part room =
+      let x : ℕ = max part.line (lines_for from) in
+      let starts : next ≡ 16 * x = part.starts in
+      let ends : end ≡ 16 * (part.line + part.len) = part.ends in
+      let inside : part.line + part.len ≤ 256 = part.hole.inside in
+      let least : part.line ≤ x = omega arith in
+      let fits : x + lines_for size ≤ part.line + part.len = fits-lines x (part.line + part.len) size (omega arith) in
+      let clear = hole-clear s k lines read (lines_for from) (lines_for size) x (part.line + part.len - x)
+      (record { line = part.line; all = part.len; hole = part.hole; starts = refl; ends = omega arith }) (omega arith) in
+      (x, starts, clear.0, clear.1)
+
+  -- the run that is found is the first part of a hole
+  pub first-lines : (from size : ℕ) → 1 ≤ size → HasKind s k kinds.Immix → (o : Option Region) → FindsLines lines from size o → IsFirstHole kinds.Immix s k from size o
+  first-lines from size some kind None none = λ next end hole. let clear = part-clear from size next end some hole.part.1 hole.room in none clear.0 clear.2 clear.3
+  first-lines from size some kind (Some r) found =
+      let x : ℕ = found.0 in
+      let end : ℕ = found.1 in
+      let run = found.4 in
+      let part : IsLinePart s k from r.next r.end = subst (λ (q : ℕ). IsLinePart s k from q r.end) (sym found.2) (subst (λ (q : ℕ). IsLinePart s k from (16 * x) q) (sym found.3) (line-part from size x end some run)) in
+      record {
+        hole = record {
+          part = (kind, part);
+          room = (let e = found.2 in let e' = found.3 in let room = run.room in omega arith);
+        };
+        first = λ next end' hole.
+            let clear = part-clear from size next end' some hole.part.1 hole.room in
+            let e : next ≡ 16 * clear.0 = clear.1 in
+            let e' = found.2 in
+            elim (cases_lt clear.0 x) as (λ _. r.next ≤ next) [ inl less ↦ absurd (run.first clear.0 clear.2 less clear.3) | inr past ↦ omega arith ];
+      }
 
 module _ (s : HeapState) (k : ℕ) (v : BlockView) (view : IsViewOf s k v) where
   parts : (kind_of_code (block_word s k % 256) ≡ Some v.word.kind) × (block_word s k / 256 % 256 ≡ v.word.class) × (block_word s k / 65536 ≡ v.word.owner)
@@ -77,30 +124,6 @@ module _ (s : HeapState) (k : ℕ) (v : BlockView) (view : IsViewOf s k v) where
 
     tail-next : (from next end : ℕ) → IsTailPart s k from next end → next ≡ max v.end from
     tail-next from next end part = part.starts ∙ ap (λ b. max b from) (tail-unique s k part.begin v.end part.tail tail-viewed)
-
-  -- runs of clear lines in the view
-  line-part : (from size x end : ℕ) → 1 ≤ size → IsFirstRun v.lines (lines_for from) (lines_for size) x end → IsLinePart s k from (16 * x) (16 * end)
-  line-part from size x end some run =
-      let room = run.room in
-      let hole = run-hole s k v.lines view.lines (lines_for from) (lines_for size) x end (omega arith) run in
-      let ends : x + (end - x) ≡ hole.line + hole.all = hole.ends in
-      record { line = hole.line; len = hole.all; hole = hole.hole; starts = ap (λ q. 16 * q) hole.starts; ends = omega arith }
-
-  -- a part with room begins with enough clear lines
-  part-clear : (from size next end : ℕ) → 1 ≤ size → IsLinePart s k from next end → next + size ≤ end → (x : ℕ) × (next ≡ 16 * x) × (lines_for from ≤ x) × IsClearFrom v.lines x (lines_for size)
-  part-clear from size next end some part room =
-      let x : ℕ = max part.line (lines_for from) in
-      let starts : next ≡ 16 * x = part.starts in
-      let ends : end ≡ 16 * (part.line + part.len) = part.ends in
-      let inside : part.line + part.len ≤ 256 = part.hole.inside in
-      let least : part.line ≤ x = omega arith in
-      let fits : x + lines_for size ≤ part.line + part.len = fits-lines x (part.line + part.len) size (omega arith) in
-      let clear = hole-clear s k v.lines view.lines (lines_for from) (lines_for size) x (part.line + part.len - x)
-      (record { line = part.line; all = part.len; hole = part.hole; starts = refl; ends = omega arith }) (omega arith) in
-      (x, starts, clear.0, clear.1)
-    where
-      fits-lines : (x e size : ℕ) → 16 * x + size ≤ 16 * e → x + (size + 15) / 16 ≤ e
-      fits-lines x e size room = omega arith
 
   -- free cells in the view, if cells have at least one word
   cell-small : (at words : ℕ) → 1 ≤ words → at + words ≤ 4096 → at < 4096
@@ -149,26 +172,8 @@ module _ (s : HeapState) (k : ℕ) (v : BlockView) (view : IsViewOf s k v) where
           first = λ next end hole. tail.2 next end hole.part.1;
         }
 
-    pub lines-hole : v.word.kind ≡ kinds.Immix → (o : Option Region)
-        → FindsLines v from size o
-        → IsFirstHole kinds.Immix s k from size o
-    lines-hole kind None none = λ next end hole. let clear = part-clear from size next end some hole.part.1 hole.room in none clear.0 clear.2 clear.3
-    lines-hole kind (Some r) found =
-        let x : ℕ = found.0 in
-        let end : ℕ = found.1 in
-        let run = found.4 in
-        let part : IsLinePart s k from r.next r.end = subst (λ (q : ℕ). IsLinePart s k from q r.end) (sym found.2) (subst (λ (q : ℕ). IsLinePart s k from (16 * x) q) (sym found.3) (line-part from size x end some run)) in
-        record {
-          hole = record {
-            part = (subst (HasKind s k) kind kind-viewed, part);
-            room = (let e = found.2 in let e' = found.3 in let room = run.room in omega arith);
-          };
-          first = λ next end' hole.
-              let clear = part-clear from size next end' some hole.part.1 hole.room in
-              let e : next ≡ 16 * clear.0 = clear.1 in
-              let e' = found.2 in
-              elim (cases_lt clear.0 x) as (λ _. r.next ≤ next) [ inl less ↦ absurd (run.first clear.0 clear.2 less clear.3) | inr past ↦ omega arith ];
-        }
+    pub lines-hole : v.word.kind ≡ kinds.Immix → (o : Option Region) → FindsLines v.lines from size o → IsFirstHole kinds.Immix s k from size o
+    lines-hole kind o found = first-lines s k v.lines view.lines from size some (subst (HasKind s k) kind kind-viewed) o found
 
     -- if the block's class is the class for the size
     module _ (class : class_of size ≡ Some v.word.class) where

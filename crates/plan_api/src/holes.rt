@@ -72,7 +72,7 @@ fn tail_part(end: u32, from: u32, size: u32) -> Option<Region>
 
 /// The first run of clear lines with room for `size` words, among the lines that begin at or after
 /// the offset `from`.
-fn clear_lines(lines: &[u64], from: u32, size: u32) -> Option<Region>
+pub(crate) fn clear_lines(lines: &[u64], from: u32, size: u32) -> Option<Region>
     requires words { length lines.now ≡ 4 }
     requires least { 3 ≤ size }
     requires most { size ≤ MAX_MEDIUM_WORDS }

@@ -11,7 +11,7 @@ ghost use Rattle.plan_api.specs.Views.{IsViewOf};
 ghost use Rattle.plan_api.specs.Holes.{IsFirstHole};
 
 use crate::block_view::BlockView;
-use crate::holes::first_hole;
+use crate::holes::{clear_lines, first_hole};
 use block_sweeps::object_size;
 use cell_space::{cell_size, class_of, next_cell};
 use heap_layout::{BlockWord, Kind, Layout, Region, decode};
@@ -47,14 +47,16 @@ pub fn view_in<W: Words>(words: &W, layout: &Layout, block: u32) -> BlockView
     }
 }
 
-/// The first hole of a block with room for `size` words, as `first_hole` finds it in the block's
-/// view. Reads the block word alone if kind or class do not suit; of a block of cells it reads
-/// start words up to that of the first free cell, and no object.
+/// The first part of a hole of a block that has room for `size` words and begins at or after the
+/// offset `from`, in words, as `first_hole` finds it in the block's view. Reads the block word
+/// alone if kind or class do not suit. Of a block of lines it reads the line words besides; of a
+/// block of cells start words up to that of the first free cell, and no object.
 pub fn hole_in_block<W: Words>(
     words: &W,
     layout: &Layout,
     fill: Kind,
     block: u32,
+    from: u32,
     size: u32,
 ) -> Option<Region>
     requires block { IsReadableBlock (state_over (W.words words.now) layout.now 0 0) block }
@@ -62,20 +64,23 @@ pub fn hole_in_block<W: Words>(
     requires least { 3 ≤ size }
     requires most { size ≤ MAX_MEDIUM_WORDS }
     ensures { (number base : ℕ) → IsFirstHole fill (state_over
-        (W.words words.now) layout.now number base) block 0 size result }
+        (W.words words.now) layout.now number base) block from size result }
 {
     let word = block_word_in(words, layout, block);
     if word.kind != fill {
         return None;
     }
+    if fill == Kind::Immix {
+        return clear_lines(&line_words(words, layout, block), from, size);
+    }
     if fill != Kind::Cells {
-        return first_hole(fill, &view_in(words, layout, block), 0, size);
+        return first_hole(fill, &view_in(words, layout, block), from, size);
     }
     let class = class_of(size)?;
     if class != word.class {
         return None;
     }
-    let next = next_cell(words, layout, block, class, 0)?;
+    let next = next_cell(words, layout, block, class, from)?;
     Some(Region {
         next,
         end: next + cell_size(class),

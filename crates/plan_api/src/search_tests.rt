@@ -49,11 +49,13 @@ fn write_object(words: &mut Vec<u64>, layout: &Layout, offset: u32) {
     }
 }
 
-/// The first hole of block 1 by words and by its view, or `None` if there is no such block or size.
+/// The first hole of block 1 from an offset on, by words and by its view, or `None` if there is no
+/// such block or size.
 fn holes(
     words: &Vec<u64>,
     layout: &Layout,
     fill: Kind,
+    from: u32,
     size: u32,
 ) -> Option<(Option<Region>, Option<Region>)> {
     if words.len() != layout.words() as usize || !is_releasable(words, layout, 1) {
@@ -62,8 +64,8 @@ fn holes(
     if size < 3 || size > 2048 {
         return None;
     }
-    let seen = first_hole(fill, &view_in(words, layout, 1), 0, size);
-    Some((hole_in_block(words, layout, fill, 1, size), seen))
+    let seen = first_hole(fill, &view_in(words, layout, 1), from, size);
+    Some((hole_in_block(words, layout, fill, 1, from, size), seen))
 }
 
 #[test]
@@ -166,9 +168,58 @@ fn holes_by_words(rt: HostRuntime) -> Result<(), Fail> {
         let want = want.map(|(next, end)| Region { next, end });
         let words = row_with(rt.alloc(), &layout, kind, class, offsets)?;
         assert_eq!(rt;
-            holes(&words, &layout, fill, size),
+            holes(&words, &layout, fill, 0, size),
             Some((want, want)),
             "for {size} of class {class}"
+        );
+    }
+    Ok(())
+}
+
+// holes at or after an offset: lines 0 and 64 are marked, or objects are at these offsets
+#[test]
+fn holes_from_an_offset(rt: HostRuntime) -> Result<(), Fail> {
+    let layout = Layout::new(4)?;
+    for (kind, class, offsets, from, size, want) in [
+        (Kind::Immix, 0, [0].as_slice(), 0, 3, Some((16, 1024))),
+        (Kind::Immix, 0, [0].as_slice(), 16, 1008, Some((16, 1024))),
+        (Kind::Immix, 0, [0].as_slice(), 16, 1009, Some((1040, 4096))),
+        (Kind::Immix, 0, [0].as_slice(), 17, 16, Some((32, 1024))),
+        (Kind::Immix, 0, [0].as_slice(), 1024, 3, Some((1040, 4096))),
+        (
+            Kind::Immix,
+            0,
+            [0].as_slice(),
+            2049,
+            2032,
+            Some((2064, 4096)),
+        ),
+        (Kind::Immix, 0, [0].as_slice(), 2049, 2048, None),
+        (Kind::Immix, 0, [0].as_slice(), 4080, 16, Some((4080, 4096))),
+        (Kind::Immix, 0, [0].as_slice(), 4080, 17, None),
+        (Kind::Immix, 0, [0].as_slice(), 4096, 3, None),
+        (Kind::Bump, 0, [0].as_slice(), 0, 3, Some((5, 4096))),
+        (Kind::Bump, 0, [0].as_slice(), 100, 3, Some((100, 4096))),
+        (Kind::Bump, 0, [0].as_slice(), 4094, 3, None),
+        (
+            Kind::Young,
+            0,
+            [0, 100].as_slice(),
+            4093,
+            3,
+            Some((4093, 4096)),
+        ),
+        (Kind::Cells, 1, [6].as_slice(), 0, 5, Some((0, 6))),
+        (Kind::Cells, 1, [6].as_slice(), 1, 5, Some((12, 18))),
+        (Kind::Cells, 18, [0].as_slice(), 2049, 2048, None),
+    ] {
+        let want = want.map(|(next, end)| Region { next, end });
+        let mut words = row_with(rt.alloc(), &layout, kind, class, offsets)?;
+        put(&mut words, layout.line_at(1) + 1, 1);
+        assert_eq!(rt;
+            holes(&words, &layout, kind, from, size),
+            Some((want, want)),
+            "for {size} from {from} of class {class}"
         );
     }
     Ok(())

@@ -9,6 +9,8 @@ mod evacuation_tests;
 mod graphs;
 #[cfg(test)]
 mod heaps;
+#[cfg(test)]
+mod line_tests;
 mod roots;
 #[cfg(test)]
 mod tests;

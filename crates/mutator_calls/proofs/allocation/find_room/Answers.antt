@@ -1,68 +1,143 @@
-use Rattle.std.proofs.Common.{◌≡◌, ℕ, ◌<◌, arith, ◌∙◌, refl, sym, ap, subst, [], ◌∷◌, zero-add, add-zero}
+use Rattle.std.proofs.Common.{ℕ, ◌<◌, ◌∙◌, refl, ap, subst, inl, inr, [], ◌∷◌, zero-add}
 use Rattle.std.specs.Prelude.{Some}
-use Rattle.mutator_calls.specs.Effects.{nothing, grants, draws}
-use Rattle.mutator_calls.specs.Allocating.{FindsRoom, Draws, searches}
-use Rattle.mutator_calls.proofs.Finding.{draws-from}
+use Rattle.mutator_calls.specs.Effects.{nothing, draws, takes}
+use Rattle.mutator_calls.specs.Allocating.{IsSpent, ComesToHoles, FindsRoom, Draws, searches}
+use Rattle.mutator_calls.proofs.Finding.{draws-from, finds-later}
 use Rattle.mutator_calls.proofs.allocation.find_room.Goals as goal
 
-pub returns-then-find_hole-clause-finds : goal.returns-then-find_hole-clause-finds
-returns-then-find_hole-clause-finds g c = λ _.
-    let took = c.if-find_hole.ensures.finds refl in (took.0, [], 0, took.1, took.2)
-
-pub returns-then-ticket-allowance-clause-goes : goal.returns-then-ticket-allowance-clause-goes
-returns-then-ticket-allowance-clause-goes g c = λ _.
-    let drew = c.hold_ticket-ticket.ensures.goes in
-    let next : ℕ → Type 0 = λ t. (mid : _) × g.S.Seat.goes c.args.seat.now nothing mid × g.S.Seat.has_budget mid t in
-    let held : Draws next (g.S.Seat.books c.find_hole.new.seat).ticket (Some c.hold_ticket-ticket.result) drew.0
-    = draws-from (g.S.Seat.has_budget c.find_hole.new.seat) next (g.S.Seat.books c.find_hole.new.seat).ticket
-    (Some c.hold_ticket-ticket.result) drew.0 (λ t is. (c.find_hole.new.seat, c.if-find_hole.ensures.goes refl, is)) drew.2 in (
-      drew.0,
-      subst (λ n. g.S.Seat.goes c.args.seat.now (draws n) c.hold_ticket-ticket.new.seat) (zero-add drew.0)
-          (g.met.S.Seat.one_after_another _ _ _ nothing (draws drew.0) (c.if-find_hole.ensures.goes refl) drew.1),
-      subst (λ o. Draws next o (g.S.Seat.books c.hold_ticket-ticket.new.seat).ticket drew.0) (ap (λ b. b.ticket) c.if-find_hole.ensures.books)
-          (subst (λ o. Draws next (g.S.Seat.books c.find_hole.new.seat).ticket o drew.0) (sym (ap (λ b. b.ticket) c.hold_ticket-ticket.ensures.books)) held),
+pub returns-then-fits_region-clause-finds : goal.returns-then-fits_region-clause-finds
+returns-then-fits_region-clause-finds g c = λ _.
+    let here = c.if-fits_region.ensures.region refl in (
+      [],
+      [],
+      0,
+      g.met.S.Seat.loads_do_nothing _ _ (g.met.S.Seat.looks_at_nothing c.args.seat.now),
+      FindsRoom.in_region here.0 here.1 here.1 (λ is. (g.met.S.Seat.region_is_kept c.args.seat.now, is)) refl refl refl refl,
     )
 
-pub returns-then-take_some_free-clause-finds : goal.returns-then-take_some_free-clause-finds
-returns-then-take_some_free-clause-finds g c = λ _.
-    let drew = c.hold_ticket-ticket.ensures.goes in
-    let next : ℕ → Type 0 = λ t. (mid : _) × g.S.Seat.goes c.args.seat.now nothing mid × g.S.Seat.has_budget mid t in
-    let held : Draws next (g.S.Seat.books c.find_hole.new.seat).ticket (Some c.hold_ticket-ticket.result) drew.0
-    = draws-from (g.S.Seat.has_budget c.find_hole.new.seat) next (g.S.Seat.books c.find_hole.new.seat).ticket
-    (Some c.hold_ticket-ticket.result) drew.0 (λ t is. (c.find_hole.new.seat, c.if-find_hole.ensures.goes refl, is)) drew.2 in
-    let found = c.if-take_some_free.ensures.grants refl in
-    let bound : c.allowance.result ≡ (g.S.Seat.books c.hold_ticket-ticket.new.seat).allowance = c.allowance.ensures in
-    let same : (g.S.Seat.books c.take_some_free.new.seat).allowance ≡ (g.S.Seat.books c.hold_ticket-ticket.new.seat).allowance
-    = ap (λ b. b.allowance) c.if-take_some_free.ensures.books in
-    let over : c.hold_ticket-ticket.result < c.allowance.result = c.if-ticket-allowance.false in
-    let few : c.hold_ticket-ticket.result < (g.S.Seat.books c.take_some_free.new.seat).allowance = omega arith in (
-      found.0 ∷ [],
-      found.0 ∷ [],
-      drew.0,
-      subst (λ n. g.S.Seat.goes c.args.seat.now (searches (found.0 ∷ []) (found.0 ∷ []) n) c.take_some_free.new.seat) (add-zero drew.0)
-          (g.met.S.Seat.one_after_another _ _ _ (draws drew.0) (grants found.0)
-          (subst (λ n. g.S.Seat.goes c.args.seat.now (draws n) c.hold_ticket-ticket.new.seat) (zero-add drew.0)
-          (g.met.S.Seat.one_after_another _ _ _ nothing (draws drew.0) (c.if-find_hole.ensures.goes refl) drew.1))
-          found.1),
-      FindsRoom.in_free_block found.0 c.hold_ticket-ticket.result found.4 refl refl
-          (subst (λ o. Draws next o (Some c.hold_ticket-ticket.result) drew.0) (ap (λ b. b.ticket) c.if-find_hole.ensures.books) held)
-          few (ap (λ b. b.ticket) c.if-take_some_free.ensures.books) found.2 found.3,
+pub returns-then-overflows-clause-finds : goal.returns-then-overflows-clause-finds
+returns-then-overflows-clause-finds g c = λ yes.
+    let found = c.find_overflow.ensures.finds yes in
+    let size = c.args.size in
+    let next : ℕ → Type 0 = λ t. (mid : _) × g.S.Seat.goes c.args.seat.now nothing mid × g.S.Seat.has_budget mid t in (
+      found.0,
+      found.1,
+      found.2,
+      found.3,
+      finds-later (g.S.Seat.lacks c.find_overflow.new.seat size) (g.S.Seat.is_used c.find_overflow.new.seat)
+          (g.S.Seat.lacks c.find_overflow.new.seat size) (g.S.Seat.is_used c.find_overflow.new.seat)
+          (g.S.Seat.allocates_in c.args.seat.now size) (g.S.Seat.allocates_in c.find_overflow.new.seat size)
+          (g.S.Seat.allocates_in c.find_overflow.new.seat size) (g.S.Seat.has_budget c.args.seat.now) next
+          (g.S.Seat.is_full c.args.seat.now size)
+          (IsSpent g.S.Seat.goes g.S.Seat.keeps_region g.S.Seat.allocates_in g.S.Seat.lacks c.args.seat.now size)
+          (g.S.Seat.is_overflow c.args.seat.now size)
+          (g.S.Seat.keeps_region c.args.seat.now c.find_overflow.new.seat × g.S.Seat.is_overflow c.find_overflow.new.seat size)
+          (g.S.Seat.keeps_region c.args.seat.now c.find_overflow.new.seat × g.S.Seat.is_overflow c.find_overflow.new.seat size)
+          (g.S.Seat.books c.find_overflow.new.seat).blocks (g.S.Seat.books c.find_overflow.new.seat).allowance
+          (g.S.Seat.books c.args.seat.now).ticket (g.S.Seat.books c.find_overflow.new.seat).ticket
+          (g.S.Seat.books c.find_overflow.new.seat).ticket found.0 found.1 found.2 (λ k is. is) (λ k is. is) (λ k is. is)
+          (λ t is. (c.args.seat.now, g.met.S.Seat.loads_do_nothing _ _ (g.met.S.Seat.looks_at_nothing c.args.seat.now), is))
+          (λ is. is) refl found.4,
+    )
+
+pub returns-then-take_own_hole-clause-finds : goal.returns-then-take_own_hole-clause-finds
+returns-then-take_own_hole-clause-finds g c = λ _.
+    let own = c.if-take_own_hole.ensures.region refl in (
+      [],
+      [],
+      0,
+      c.if-take_own_hole.ensures.goes,
+      FindsRoom.in_hole own.0 own.2 (inl refl) refl (c.if-fits_region.ensures.full refl)
+          (ComesToHoles.at_once (c.if-overflows.ensures.no refl) refl (ap (λ b. b.ticket) c.if-take_own_hole.ensures.books)) (inl own.1),
+    )
+
+pub returns-then-take_some_hole-clause-offered : goal.returns-then-take_some_hole-clause-offered
+returns-then-take_some_hole-clause-offered g c = λ _.
+    c.if-take_own_hole.ensures.same c.take_some_hole.new.seat c.args.size refl (c.if-take_some_hole.ensures.offered refl)
+
+pub returns-then-take_some_hole-clause-finds : goal.returns-then-take_some_hole-clause-finds
+returns-then-take_some_hole-clause-finds g c = λ _.
+    let took = c.if-take_some_hole.ensures.taken refl in (
+      took.1,
+      [],
+      0,
+      g.met.S.Seat.one_after_another _ _ _ nothing (takes took.1) c.if-take_own_hole.ensures.goes took.3,
+      FindsRoom.in_hole took.0 took.5 took.2 refl (c.if-fits_region.ensures.full refl)
+          (ComesToHoles.at_once (c.if-overflows.ensures.no refl) refl
+          (ap (λ b. b.ticket) (c.if-take_some_hole.ensures.books ∙ c.if-take_own_hole.ensures.books)))
+          (inr (
+            (
+              c.args.seat.now,
+              0,
+              g.met.S.Seat.loads_do_nothing _ _ (g.met.S.Seat.looks_at_nothing c.args.seat.now),
+              g.met.S.Seat.region_is_kept c.args.seat.now,
+              c.if-take_own_hole.ensures.lacks refl,
+            ),
+            took.4,
+          )),
+    )
+
+pub returns-clause-offered : goal.returns-clause-offered
+returns-clause-offered g c = λ yes.
+    c.if-take_own_hole.ensures.same c.take_free_block.new.seat c.args.size refl
+    (c.if-take_some_hole.ensures.same c.take_free_block.new.seat c.args.size refl (c.take_free_block.ensures.offered yes))
+
+pub returns-clause-finds : goal.returns-clause-finds
+returns-clause-finds g c = λ yes.
+    let took = c.take_free_block.ensures.takes yes in
+    let free = took.3 in
+    let went = g.met.S.Seat.one_after_another _ _ _ nothing nothing c.if-take_own_hole.ensures.goes (c.if-take_some_hole.ensures.goes refl) in
+    let same = c.if-take_some_hole.ensures.books ∙ c.if-take_own_hole.ensures.books in
+    let next : ℕ → Type 0 = λ t. (mid : _) × g.S.Seat.goes c.args.seat.now nothing mid × g.S.Seat.has_budget mid t in (
+      took.0 ∷ [],
+      took.0 ∷ [],
+      took.1,
+      subst (λ n. g.S.Seat.goes c.args.seat.now (searches (took.0 ∷ []) (took.0 ∷ []) n) c.take_free_block.new.seat) (zero-add took.1)
+          (g.met.S.Seat.one_after_another _ _ _ nothing (searches (took.0 ∷ []) (took.0 ∷ []) took.1) went took.2),
+      FindsRoom.in_free_block took.0 free.ticket free.here refl refl (c.if-fits_region.ensures.full refl)
+          (subst (λ o. Draws next o (Some free.ticket) took.1) (ap (λ b. b.ticket) same)
+          (draws-from (g.S.Seat.has_budget c.take_some_hole.new.seat) next (g.S.Seat.books c.take_some_hole.new.seat).ticket (Some free.ticket) took.1
+          (λ t is. (c.take_some_hole.new.seat, went, is)) free.draws))
+          free.few free.none free.lower
+          (inr (
+            c.if-overflows.ensures.no refl,
+            (
+              c.args.seat.now,
+              0,
+              g.met.S.Seat.loads_do_nothing _ _ (g.met.S.Seat.looks_at_nothing c.args.seat.now),
+              g.met.S.Seat.region_is_kept c.args.seat.now,
+              c.if-take_own_hole.ensures.lacks refl,
+            ),
+            λ j below other. took.4 j (c.if-take_some_hole.ensures.lacks j refl
+                (subst (λ n. j < n) (c.take_free_block.ensures.blocks) below)) other,
+          )),
     )
 
 pub returns-clause-goes : goal.returns-clause-goes
-returns-clause-goes g c = λ _.
-    let drew = c.hold_ticket-ticket.ensures.goes in
-    let next : ℕ → Type 0 = λ t. (mid : _) × g.S.Seat.goes c.args.seat.now nothing mid × g.S.Seat.has_budget mid t in
-    let held : Draws next (g.S.Seat.books c.find_hole.new.seat).ticket (Some c.hold_ticket-ticket.result) drew.0
-    = draws-from (g.S.Seat.has_budget c.find_hole.new.seat) next (g.S.Seat.books c.find_hole.new.seat).ticket
-    (Some c.hold_ticket-ticket.result) drew.0 (λ t is. (c.find_hole.new.seat, c.if-find_hole.ensures.goes refl, is)) drew.2 in (
+returns-clause-goes g c = λ no.
+    let drew = c.take_free_block.ensures.goes no in
+    let went = g.met.S.Seat.one_after_another _ _ _ nothing nothing c.if-take_own_hole.ensures.goes (c.if-take_some_hole.ensures.goes refl) in
+    let same = c.if-take_some_hole.ensures.books ∙ c.if-take_own_hole.ensures.books in
+    let next : ℕ → Type 0 = λ t. (mid : _) × g.S.Seat.goes c.args.seat.now nothing mid × g.S.Seat.has_budget mid t in (
       drew.0,
-      subst (λ n. g.S.Seat.goes c.args.seat.now (draws n) c.take_some_free.new.seat) (add-zero drew.0)
-          (g.met.S.Seat.one_after_another _ _ _ (draws drew.0) nothing
-          (subst (λ n. g.S.Seat.goes c.args.seat.now (draws n) c.hold_ticket-ticket.new.seat) (zero-add drew.0)
-          (g.met.S.Seat.one_after_another _ _ _ nothing (draws drew.0) (c.if-find_hole.ensures.goes refl) drew.1))
-          (c.if-take_some_free.ensures.goes refl)),
-      subst (λ o. Draws next o (g.S.Seat.books c.take_some_free.new.seat).ticket drew.0) (ap (λ b. b.ticket) c.if-find_hole.ensures.books)
-          (subst (λ o. Draws next (g.S.Seat.books c.find_hole.new.seat).ticket o drew.0)
-          (sym (ap (λ b. b.ticket) c.if-take_some_free.ensures.books ∙ ap (λ b. b.ticket) c.hold_ticket-ticket.ensures.books)) held),
+      subst (λ n. g.S.Seat.goes c.args.seat.now (draws n) c.take_free_block.new.seat) (zero-add drew.0)
+          (g.met.S.Seat.one_after_another _ _ _ nothing (draws drew.0) went drew.1),
+      subst (λ o. Draws next o (g.S.Seat.books c.take_free_block.new.seat).ticket drew.0) (ap (λ b. b.ticket) same)
+          (draws-from (g.S.Seat.has_budget c.take_some_hole.new.seat) next (g.S.Seat.books c.take_some_hole.new.seat).ticket
+          (g.S.Seat.books c.take_free_block.new.seat).ticket drew.0
+          (λ t is. (c.take_some_hole.new.seat, went, is)) drew.2),
     )
+
+pub returns-clause-spent : goal.returns-clause-spent
+returns-clause-spent g c = λ _. (
+  c.args.seat.now,
+  0,
+  g.met.S.Seat.loads_do_nothing _ _ (g.met.S.Seat.looks_at_nothing c.args.seat.now),
+  g.met.S.Seat.region_is_kept c.args.seat.now,
+  c.if-take_own_hole.ensures.lacks refl,
+)
+
+pub returns-clause-kept : goal.returns-clause-kept
+returns-clause-kept g c = λ no.
+    g.met.S.Seat.region_stays_kept _ _ _ (c.if-take_own_hole.ensures.keeps refl)
+    (g.met.S.Seat.region_stays_kept _ _ _ (c.if-take_some_hole.ensures.keeps refl) (c.take_free_block.ensures.keeps (inl no)))

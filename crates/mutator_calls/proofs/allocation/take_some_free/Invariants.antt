@@ -5,6 +5,9 @@ use Rattle.mutator_calls.proofs.allocation.take_some_free.Given as goal
 abbrev pub invariant-loop-block : goal.invariant-loop-block
 invariant-loop-block g l = g.S.Seat.is_ready l.seat × (l.block-end ≡ (g.S.Seat.books l.initial.seat).blocks)
     × g.S.Seat.goes l.initial.seat nothing l.seat
-    × ((k : ℕ) → k < (g.S.Seat.books l.initial.seat).blocks → g.S.Seat.lacks l.seat l.size k)
+    × ((k : ℕ) → g.S.Seat.lacks l.initial.seat l.size k → g.S.Seat.lacks l.seat l.size k)
     × ((k : ℕ) → k < l.block → g.S.Seat.is_used l.seat k) × (g.S.Seat.books l.seat ≡ g.S.Seat.books l.initial.seat)
     × ((b : _) (n : ℕ) → g.S.Seat.offers l.seat b n → g.S.Seat.offers l.initial.seat b n)
+    × g.S.Seat.keeps_region l.initial.seat l.seat
+    × (g.S.Seat.is_overflow l.initial.seat l.size → g.S.Seat.is_overflow l.seat l.size)
+    × ((n k : ℕ) → g.S.Seat.allocates_in l.seat n k → g.S.Seat.allocates_in l.initial.seat n k)

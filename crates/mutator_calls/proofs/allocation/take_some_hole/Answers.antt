@@ -18,6 +18,12 @@ returns-then-take_hole-clause-taken g c = λ _. let took = c.if-take_hole.ensure
   λ j lacks other. c.if-take_hole.ensures.others c.args.size j other (c.loop-block.invariant.6 j lacks),
 )
 
+pub returns-then-take_hole-clause-still : goal.returns-then-take_hole-clause-still
+returns-then-take_hole-clause-still g c = λ j used. c.if-take_hole.ensures.still j (c.loop-block.invariant.7 j used)
+
+pub returns-clause-still : goal.returns-clause-still
+returns-clause-still g c = λ j used. c.loop-block.invariant.7 j used
+
 pub returns-clause-same : goal.returns-clause-same
 returns-clause-same g c = λ b n _ offers. c.loop-block.invariant.5 b n offers
 
@@ -31,5 +37,7 @@ loop-block-preserved g c = (
       (c.if-take_hole.ensures.lacks refl),
   c.if-take_hole.ensures.books ∙ c.loop-block.invariant.4,
   (λ b n offers. c.loop-block.invariant.5 b n (c.if-take_hole.ensures.same b n refl offers)),
-  λ j lacks. c.if-take_hole.ensures.stays c.args.size j refl (c.loop-block.invariant.6 j lacks),
+  (λ j lacks. c.if-take_hole.ensures.stays c.args.size j refl (c.loop-block.invariant.6 j lacks)),
+  (λ j used. c.if-take_hole.ensures.still j (c.loop-block.invariant.7 j used)),
+  g.met.S.Seat.region_stays_kept _ _ _ c.loop-block.invariant.8 (c.if-take_hole.ensures.keeps refl),
 )

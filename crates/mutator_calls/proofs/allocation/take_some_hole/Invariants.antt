@@ -8,3 +8,5 @@ invariant-loop-block g l = g.S.Seat.is_ready l.seat × (l.block-end ≡ (g.S.Sea
     × ((k : ℕ) → k < l.block → g.S.Seat.lacks l.seat l.size k) × (g.S.Seat.books l.seat ≡ g.S.Seat.books l.initial.seat)
     × ((b : _) (n : ℕ) → g.S.Seat.offers l.seat b n → g.S.Seat.offers l.initial.seat b n)
     × ((j : ℕ) → g.S.Seat.lacks l.initial.seat l.size j → g.S.Seat.lacks l.seat l.size j)
+    × ((j : ℕ) → g.S.Seat.is_used l.initial.seat j → g.S.Seat.is_used l.seat j)
+    × g.S.Seat.keeps_region l.initial.seat l.seat

@@ -1,8 +1,8 @@
-use Rattle.plain_world.specs.Calls.{IsOpen}
+use Rattle.plain_world.specs.Calls.{IsOpen, SamePlaces}
 use Rattle.plain_world.proofs.filling_tests.fill.Given as goal
 
 abbrev pub invariant-loop-round : goal.invariant-loop-round
-invariant-loop-round g l = IsOpen l.world
+invariant-loop-round g l = (IsOpen l.world) × (SamePlaces l.fn.world l.world)
 
 abbrev pub invariant-loop-m : goal.invariant-loop-m
-invariant-loop-m g l = IsOpen l.world
+invariant-loop-m g l = (IsOpen l.world) × (SamePlaces l.fn.world l.world)

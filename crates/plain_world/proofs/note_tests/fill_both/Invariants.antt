@@ -2,4 +2,4 @@ use Rattle.plain_world.specs.Calls.{IsOpen, SamePlaces}
 use Rattle.plain_world.proofs.note_tests.fill_both.Given as goal
 
 abbrev pub invariant-loop-turn : goal.invariant-loop-turn
-invariant-loop-turn g l = (IsOpen l.kept) × (SamePlaces l.fn.kept l.kept) × (IsOpen l.fresh)
+invariant-loop-turn g l = (IsOpen l.kept) × (SamePlaces l.fn.kept l.kept) × (IsOpen l.fresh) × (SamePlaces l.fn.fresh l.fresh)

@@ -9,8 +9,8 @@ pub returns-clause-one : goal.returns-clause-one
 returns-clause-one c = region-one
 
 pub returns-clause-hole : goal.returns-clause-hole
-returns-clause-hole c = λ fill s k size r kind is class some small room.
-    region-hole fill s k size r kind is
+returns-clause-hole c = λ fill fills s k size r kind is class some small room.
+    region-hole fill fills s k size r kind is
     (λ cells. suits-class s k size some small (class cells ∙ ap (λ (f : Kind). class_for f size) cells)) room
 
 pub returns-clause-none : goal.returns-clause-none
@@ -23,7 +23,7 @@ pub returns-clause-some : goal.returns-clause-some
 returns-clause-some c = region-some
 
 pub returns-clause-first : goal.returns-clause-first
-returns-clause-first c = λ fill fills s k size r hole. (hole-region fill fills s k size r hole, part-class fill s k size r hole)
+returns-clause-first c = λ fill fills s k size r exact hole. (hole-region fill fills s k size r exact hole, part-class fill s k size r hole)
 
 pub returns-clause-clear : goal.returns-clause-clear
 returns-clause-clear c = clear-whole

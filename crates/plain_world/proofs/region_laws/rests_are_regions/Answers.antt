@@ -21,5 +21,5 @@ returns c = λ fill s new k refs nums n r rest there region room vacant writes l
     subst (λ (t : HeapState). IsRegionIn fill t k rest) (sym same)
     (region-born s (with_words s new.words) k r.next size
     (adds-in-block s new.words a n refs nums (births.adds s new.words a n refs nums written vacant.address) vacant
-    (births.block_words s new.words a n refs nums written vacant.address) k r.next there place.1 place.2)
-    fill r rest refl room region left)
+    (births.block_words s new.words a n refs nums written vacant.address) (births.lines-same s new.words a n refs nums written vacant.address) k r.next there place.1 place.2)
+    fill r rest refl room (λ is line few. births.lines-same s new.words a n refs nums written vacant.address k line there few) region left)

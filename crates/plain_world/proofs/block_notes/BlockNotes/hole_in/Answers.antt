@@ -43,11 +43,11 @@ returns-then-decides-clause-notes c =
 
 pub returns-then-decides-clause-none : goal.returns-then-decides-clause-none
 returns-then-decides-clause-none c = λ at hole.
-    none-first c.args.fill c.requires.fills (heap_state c.args.heap.now) c.args.block c.args.size (rw c.in-None.is at c.hole_of.ensures) at hole
+    none-first c.args.fill (heap_state c.args.heap.now) c.args.block c.args.size (rw c.in-None.is at c.hole_of.ensures) at hole
 
 pub returns-else-decides-clause-none : goal.returns-else-decides-clause-none
 returns-else-decides-clause-none c = λ at hole.
-    none-first c.args.fill c.requires.fills (heap_state c.args.heap.now) c.args.block c.args.size (rw c.in-None.is at c.hole_of.ensures) at hole
+    none-first c.args.fill (heap_state c.args.heap.now) c.args.block c.args.size (rw c.in-None.is at c.hole_of.ensures) at hole
 
 pub returns-in-Some-clause-some : goal.returns-in-Some-clause-some
 returns-in-Some-clause-some c = (c.in-Some.region.end, rw c.in-Some.is at c.hole_of.ensures)

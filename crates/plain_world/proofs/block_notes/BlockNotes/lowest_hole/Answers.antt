@@ -7,7 +7,7 @@ use Rattle.plain_world.proofs.block_notes.BlockNotes.lowest_hole.Goals as goal
 
 pub returns-in-Some-clause-some : goal.returns-in-Some-clause-some
 returns-in-Some-clause-some c =
-    lowest c.args.fill c.requires.fills (heap_state c.args.heap.now) c.loop-block.block c.args.size
+    lowest c.args.fill (heap_state c.args.heap.now) c.loop-block.block c.args.size
     (record { next = c.in-Some.offset; end = c.in-Some.ensures.some.0 }) c.in-Some.ensures.some.1 c.loop-block.invariant.1
 
 pub returns-clause-none : goal.returns-clause-none

@@ -1,4 +1,4 @@
-use Rattle.std.proofs.Common.{◌≡◌, refl, sym, ap, subst, ℕ, arith}
+use Rattle.std.proofs.Common.{◌≡◌, refl, sym, ap, subst, ℕ, arith, false}
 use Rattle.std.specs.Prelude.{Option, Some, slice_get}
 use Rattle.plain_world.specs.declared.plain_row.BlockNote.TheVariants.{Unowned, Owned}
 use Rattle.heap_layout.specs.Blocks.{IsValid}
@@ -60,8 +60,8 @@ returns-in-Some-clause-found c = λ yes.
     let seat : seat_at_turn w ≡ Some c.index.result.now = read-some w.seats.items w.turn c.index.result.now (let e = turn.seats in let t = turn.turn in omega arith) c.index.ensures in (
       c.in-Some.region,
       rw c.in-Some.is at c.hole.ensures,
-      subst (λ (class : ℕ). TakesBlock w c.take.new.self c.args.block class c.in-Some.region (ticket_of (seat_at_turn w))) c.class-class.ensures.class
-          (subst (λ (ticket : Option ℕ). TakesBlock w c.take.new.self c.args.block c.class-class.result c.in-Some.region ticket) (sym (ap ticket_of seat)) c.take.ensures),
+      subst (λ (class : ℕ). TakesBlock w c.take.new.self false c.args.block class c.in-Some.region (ticket_of (seat_at_turn w))) c.class-class.ensures.class
+          (subst (λ (ticket : Option ℕ). TakesBlock w c.take.new.self false c.args.block c.class-class.result c.in-Some.region ticket) (sym (ap ticket_of seat)) c.take.ensures),
     )
 
 pub take-requires-clause-room : goal.take-requires-clause-room

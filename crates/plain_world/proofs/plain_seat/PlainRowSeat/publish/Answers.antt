@@ -37,3 +37,9 @@ returns-clause-region c =
     let born = allocated c.args.self.now c.allocate.new.self c.args.d c.allocate.result c.args.shape.now.refs c.args.shape.now.nums c.allocate.ensures in
     calls.region c.args.self.now c.allocate.new.self c.args.d c.args.shape.now.refs c.args.shape.now.nums c.allocate.result born
     c.requires.room c.requires.register c.requires.refs c.requires.nums c.requires.small c.requires.births
+
+pub returns-clause-keeps : goal.returns-clause-keeps
+returns-clause-keeps c =
+    let born = allocated c.args.self.now c.allocate.new.self c.args.d c.allocate.result c.args.shape.now.refs c.args.shape.now.nums c.allocate.ensures in
+    calls.keeps c.args.self.now c.allocate.new.self c.args.d c.args.shape.now.refs c.args.shape.now.nums c.allocate.result born
+    c.requires.room c.requires.register c.requires.refs c.requires.nums c.requires.small c.requires.births

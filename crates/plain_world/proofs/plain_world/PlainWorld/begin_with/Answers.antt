@@ -25,7 +25,7 @@ returns-clause-open g c = begun.idle-begun g.P.Plan.rules (heap_state c.args.hea
   allowance = c.allowance.ensures ∙ ap (λ r. allowance_in r (session_counts c.args.notes.counts)) c.reserve.ensures
       ∙ ap (allowance_in g.P.Plan.rules.reserve) c.requires.notes.counts;
 })
-    c.args.heap.lawful c.requires.users c.requires.fills c.requires.remembers c.requires.few
+    c.args.heap.lawful c.requires.users g.met.P.Plan.fill_has_holes c.requires.remembers c.requires.few
 
 pub returns-clause-plan : goal.returns-clause-plan
 returns-clause-plan g c = c.contains.ensures tt ∙ ap (λ f. bit_and f.0 2 == 2) c.FLAGS.ensures ∙ ap (λ n. bit_and n 2 == 2) g.met.P.Plan.flags_are_of_rules
@@ -49,4 +49,4 @@ returns-clause-begins g c = begun.after-begun g.P.Plan.rules (heap_state c.args.
   allowance = c.allowance.ensures ∙ ap (λ r. allowance_in r (session_counts c.args.notes.counts)) c.reserve.ensures
       ∙ ap (allowance_in g.P.Plan.rules.reserve) c.requires.notes.counts;
 })
-    c.args.heap.lawful c.requires.users c.requires.fills c.requires.remembers c.requires.few
+    c.args.heap.lawful c.requires.users g.met.P.Plan.fill_has_holes c.requires.remembers c.requires.few

@@ -1,16 +1,16 @@
 use Rattle.std.proofs.Common.{◌≡◌, subst, ap}
-use Rattle.std.specs.Prelude.{Some, slice_get}
+use Rattle.std.specs.Prelude.{slice_get}
 use Rattle.object_model.specs.Objects.{state_of, word_at, size_of}
-use Rattle.sessions.specs.Fitting.{class_for}
 use Rattle.mutator_calls.specs.Effects.{draws, nothing}
-use Rattle.mutator_calls.specs.Allocating.{births_with, Draws, FindsRoom, IsCause}
+use Rattle.mutator_calls.specs.Allocating.{births_with, Draws, IsSpent, FindsRoom, IsCause}
 use Rattle.mutator_calls.proofs.Finding.{draws-from}
 use Rattle.plain_world.specs.declared.plain_row.PlainRow.{PlainRow}
 use Rattle.plain_world.specs.Worlds.{Goes}
-use Rattle.plain_world.specs.Rows.{ticket_of, block_of}
-use Rattle.plain_world.specs.Steps.{AllocatesIn, HasBudget, Lacks, IsUsed}
+use Rattle.plain_world.specs.Rows.{ticket_of}
+use Rattle.plain_world.specs.Steps.{AllocatesIn, HasBudget, Lacks, IsUsed, KeepsRegion}
+use Rattle.plain_world.specs.TwoRegions.{TriesBlock, Overflows, KeepsHole}
 use Rattle.plain_world.proofs.CallLemmas.{places-same, young-same, history-gains, births-after, ticket-after, others-after, objects-after}
-use Rattle.plain_world.proofs.AllocationCalls.{allocated-weaker, allocated-both, allocated-and, lacks-at, books-at, books_for, LacksAt, finds-weaker, next-ticket, cause-weaker, placed-at}
+use Rattle.plain_world.proofs.AllocationCalls.{allocated-weaker, allocated-both, allocated-and, lacks-at, books-at, books_for, LacksAt, FullAt, finds-weaker, next-ticket, cause-weaker, placed-at}
 use Rattle.plain_world.proofs.plain_world.PlainWorld.new_object.Goals as goal
 
 pub returns-clause-places : goal.returns-clause-places
@@ -38,6 +38,7 @@ returns-clause-made g c =
     let b = c.new_object.new.seat in
     let m = c.args.m in
     let size = size_of c.args.refs c.args.nums in
+    let spent : PlainRow → Type 0 = λ w. IsSpent Goes KeepsRegion AllocatesIn Lacks (record w { turn = m }) size in
     allocated-weaker c.new_object.result
     (λ n both. let did = both.0 in let goes = did.3 in let effect = births_with c.args.d c.args.refs c.args.nums n did.0 did.1 did.2 in
     let placed = placed-at a both.1.0.0 b m c.args.d size goes.turn both.1.0.1 both.1.0.2 in record {
@@ -55,13 +56,16 @@ returns-clause-made g c =
         others = others-after a b m effect goes;
         objects = objects-after a b m effect c.requires.open goes;
       };
-      finds = subst (λ t. FindsRoom (LacksAt b m size) (IsUsed b) (λ k. block_of (slice_get a.seats.items m) (class_for a.fill size) ≡ Some k)
-          (λ k. block_of (slice_get b.seats.items t) (class_for b.fill size) ≡ Some k) (λ n. n ≡ word_at (state_of a.row) 1) b.row.layout.blocks b.allowance
+      finds = subst (λ t. FindsRoom (LacksAt b m size) (IsUsed b) (TriesBlock a.fill (slice_get a.seats.items m) size)
+          (TriesBlock b.fill (slice_get b.seats.items t) size) (λ n. n ≡ word_at (state_of a.row) 1) (FullAt a m size) (spent a)
+          (Overflows a.fill a.notes.items (slice_get a.seats.items m) size)
+          (KeepsHole a.notes.items (slice_get a.seats.items m) b.notes.items (slice_get b.seats.items t)) b.row.layout.blocks b.allowance
           (ticket_of (slice_get a.seats.items m)) (ticket_of (slice_get b.seats.items t)) did.0 did.1 did.2) goes.turn
-          (finds-weaker (Lacks b size) (LacksAt b m size) (IsUsed b) (λ k. block_of (slice_get a.seats.items m) (class_for a.fill size) ≡ Some k)
-          (AllocatesIn b size) (λ t. (mid : PlainRow) × Goes (record a { turn = m }) nothing mid × HasBudget mid t)
-          (λ t. t ≡ word_at (state_of a.row) 1) b.row.layout.blocks b.allowance _ _ did.0 did.1 did.2
-          (lacks-at b m size goes.turn) (next-ticket (record a { turn = m })) did.4);
+          (finds-weaker (Lacks b size) (LacksAt b m size) (IsUsed b) (TriesBlock a.fill (slice_get a.seats.items m) size)
+          (AllocatesIn b size) (AllocatesIn b size) (λ t. (mid : PlainRow) × Goes (record a { turn = m }) nothing mid × HasBudget mid t)
+          (λ t. t ≡ word_at (state_of a.row) 1) (FullAt a m size) (spent a) (Overflows a.fill a.notes.items (slice_get a.seats.items m) size)
+          (KeepsRegion (record a { turn = m }) b) (KeepsRegion (record a { turn = m }) b) b.row.layout.blocks b.allowance _ _ did.0 did.1 did.2
+          (lacks-at b m size goes.turn) (λ k is. is) (next-ticket (record a { turn = m })) (λ is. is) did.4);
       placed = record {
         block = placed.block;
         offset = placed.offset;
@@ -70,9 +74,10 @@ returns-clause-made g c =
         current = placed.current;
         cell = placed.cell;
         spot = placed.spot;
+        region = placed.region;
       };
     })
-    (λ need both. let did = both.1.1 in let goes = did.1 in let effect = draws did.0 in record {
+    (λ need both. let did = both.1.1.0 in let goes = did.1 in let effect = draws did.0 in record {
       drawn = did.0;
       history = history-gains a b m effect goes;
       grants = record { kind = goes.granted; free = goes.free };
@@ -90,9 +95,13 @@ returns-clause-made g c =
           (draws-from (λ t. (mid : PlainRow) × Goes (record a { turn = m }) nothing mid × HasBudget mid t)
           (λ t. t ≡ word_at (state_of a.row) 1) _ _ did.0 (next-ticket (record a { turn = m })) did.2);
       large = did.3;
+      spent = both.1.1.1.0;
+      kept = subst (λ t. KeepsHole a.notes.items (slice_get a.seats.items m) b.notes.items (slice_get b.seats.items t)) goes.turn both.1.1.1.1;
     })
     (allocated-and _ _ _ _ c.new_object.result c.new_object.ensures.made
-    (allocated-and _ _ _ _ c.new_object.result c.new_object.ensures.placed c.new_object.ensures.stopped))
+    (allocated-and _ _ _ _ c.new_object.result c.new_object.ensures.placed
+    (allocated-and _ _ _ _ c.new_object.result c.new_object.ensures.stopped
+    (allocated-and _ _ _ _ c.new_object.result c.new_object.ensures.spent c.new_object.ensures.kept))))
 
 pub returns-clause-cause : goal.returns-clause-cause
 returns-clause-cause g c = let size = size_of c.args.refs c.args.nums in let b = c.new_object.new.seat in
