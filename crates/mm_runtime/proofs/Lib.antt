@@ -4,6 +4,7 @@ pub mod Begun
 pub mod Bounds
 pub mod Causes
 pub mod Collected
+pub mod Relisted
 pub mod Rooms
 pub mod RootLists
 pub mod Composing

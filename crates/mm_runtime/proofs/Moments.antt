@@ -21,15 +21,16 @@ use Rattle.sessions.specs.Sessions.{Setting, Moment, IsSound, Places, PlacesSmal
 use Rattle.sessions.proofs.CollectedMoments.{remembers-placed}
 use Rattle.mutator_calls.specs.declared.need.Need.{Need}
 use Rattle.mutator_calls.specs.declared.need.Mutator.{Mutator}
+use Rattle.plain_world.specs.Notes.{FillsHoles}
 use Rattle.plain_world.specs.Rows.{mutator_state}
 use Rattle.plain_world.proofs.Lists.{one-element}
 use Rattle.mm_runtime.specs.declared.progress.Progress.{Progress}
 use Rattle.mm_runtime.specs.declared.manager.Manager.{Manager}
 use Rattle.mm_runtime.specs.declared.place.Spot.{Spot}
-use Rattle.plain_world.specs.Notes.{FillsTailsOrCells}
 use Rattle.mm_runtime.specs.Managers.{next_of, IsInOrder, IsAtStop, HasReplies, StandsAt}
 use Rattle.mm_runtime.specs.Stops.{IsSpot, NeedsNext, BearsAt, RepliesAt, PutsAt, bearing}
 use Rattle.mm_runtime.proofs.Users.{known-number, births-here, mutators-after}
+use Rattle.mm_runtime.proofs.Rooms.{FillsByLines}
 use Rattle.mm_runtime.proofs.Written.{address_of, IsBorn}
 use Rattle.mm_runtime.proofs.Putting as putting
 use Rattle.mm_runtime.proofs.OneReplied as replies
@@ -44,7 +45,7 @@ new-heap : (h : IdealHeap) (m d refs nums : ℕ) (n : Name) → after_entry h (e
 unfolding step
 new-heap h m d refs nums n = refl
 
-module _ {P : Type 0} (rules : Rules) (old new : Manager P) (m : ℕ) (need : Need) (spot : Spot) (n : Name) (fills : FillsTailsOrCells rules.fill) (stop : IsAtStop rules 2 old) (next : NeedsNext old m need)
+module _ {P : Type 0} (rules : Rules) (old new : Manager P) (m : ℕ) (need : Need) (spot : Spot) (n : Name) (fills : FillsHoles rules.fill) (filled : FillsByLines rules) (stop : IsAtStop rules 2 old) (next : NeedsNext old m need)
     (is : IsSpot rules (heap_state old.heap) (size_of need.refs need.nums) spot) (puts : PutsAt rules old m need spot n new) where
   abbrev k : ℕ
   k = m - 1
@@ -65,7 +66,7 @@ module _ {P : Type 0} (rules : Rules) (old new : Manager P) (m : ℕ) (need : Ne
   name-is = bears.name ∙ ap (λ u. name m (u.births + 1)) same-user
 
   born : IsBorn rules (heap_state old.heap) spot n need.refs need.nums (heap_state new.heap)
-  born = putting.born-need rules 2 old m need stop next fills spot n (heap_state new.heap) name-is is.place puts.heap
+  born = putting.born-need rules 2 old m need stop next fills filled spot n (heap_state new.heap) name-is is.place puts.heap
 
   replied : RepliesAt old.progress.items new.progress.items k (r.New n)
   replied = puts.replies k at

@@ -7,8 +7,9 @@ use Rattle.mutator_calls.specs.declared.need.Need.{Need}
 use Rattle.plain_world.specs.Notes.{AreNotes}
 use Rattle.plain_world.specs.declared.block_notes.BlockNotes.{BlockNotes}
 use Rattle.mm_runtime.specs.declared.manager.Manager.{Manager}
+use Rattle.mm_runtime.specs.declared.place.Spot.{Spot}
 use Rattle.mm_runtime.specs.Managers.{replied, IsInOrder, IsAtStop, StandsAt}
-use Rattle.mm_runtime.specs.Stops.{NeedsNext}
+use Rattle.mm_runtime.specs.Stops.{IsSpot, NeedsNext}
 
 abbrev pub with_notes : {P : Type 0} → Manager P → BlockNotes → Manager P
 with_notes m notes = record m { notes = notes }
@@ -66,6 +67,10 @@ module _ {P : Type 0} (rules : Rules) (old new : Manager P) (rest : new ≡ reco
 
   pub stands-found : (t : Setting) (now : Moment) → StandsAt rules old t now → StandsAt rules new t now
   stands-found t now stands = subst (λ (x : Manager P). StandsAt rules x t now) (sym rest) (stands-noted rules old new.notes t now stands)
+
+  pub spot-found : (size words : ℕ) (spot : Spot) → size ≡ words → IsSpot rules (heap_state old.heap) size spot → IsSpot rules (heap_state new.heap) words spot
+  spot-found size words spot same is = subst (λ (n : ℕ). IsSpot rules (heap_state new.heap) n spot) same
+      (subst (λ (x : Manager P). IsSpot rules (heap_state x.heap) size spot) (sym rest) is)
 
   pub next-found : (m : ℕ) (need : Need) → NeedsNext old m need → NeedsNext new m need
   next-found m need next = subst (λ (x : Manager P). NeedsNext x m need) (sym rest) next

@@ -7,25 +7,26 @@ use Rattle.ideal_heap.specs.declared.name.Name.{Name}
 use Rattle.ideal_heap.specs.Names.{IsName, name}
 use Rattle.object_model.specs.Objects.{HeapState, HasKind, size_of}
 use Rattle.object_model.specs.Heaps.{heap_state}
-use Rattle.object_model.specs.Lawful.{IsLawful}
+use Rattle.object_model.specs.Lawful.{IsLawful, IsReadableBlock}
 use Rattle.object_model.specs.Changes.{WritesObject}
 use Rattle.sessions.specs.Plans.{Rules}
 use Rattle.sessions.specs.Fitting.{HasHole}
 use Rattle.sessions.specs.Sessions.{PlacesSmall}
 use Rattle.mutator_calls.specs.declared.need.Need.{Need}
 use Rattle.mutator_calls.specs.declared.need.Mutator.{Mutator}
-use Rattle.plain_world.specs.Notes.{FillsTailsOrCells, AreNotes, PlacesObject, PlacesRun}
+use Rattle.plain_world.specs.Notes.{FillsHoles, AreNotes, PlacesObject, PlacesRun}
 use Rattle.plain_world.specs.declared.block_notes.BlockNotes.{BlockNotes}
 use Rattle.mm_runtime.specs.declared.manager.Manager.{Manager}
 use Rattle.mm_runtime.specs.declared.place.Spot.{Spot}
 use Rattle.mm_runtime.specs.Managers.{IsAtStop}
-use Rattle.mm_runtime.specs.Stops.{IsPlaceIn, IsRunAt, IsPlace, IsSpot, NeedsNext, TakesSpot, WritesAt, BearsAt}
+use Rattle.mm_runtime.specs.Stops.{IsPlaceIn, IsRunAt, IsPlace, IsSpot, NeedsNext, TakesSpot, RelistsSpot, WritesAt, BearsAt}
 use Rattle.mm_runtime.proofs.Written.{address_of, IsBorn}
-use Rattle.mm_runtime.proofs.LargePuts.{by-run}
+use Rattle.mm_runtime.proofs.LargePuts.{by-run, readable-at}
 use Rattle.mm_runtime.proofs.Putting as putting
 use Rattle.mm_runtime.proofs.Putting.{IsBetween}
+use Rattle.mm_runtime.proofs.Rooms.{FillsByLines}
 
-module _ {P : Type 0} (rules : Rules) (manager : Manager P) (m : ℕ) (need : Need) (spot : Spot) (fills : FillsTailsOrCells rules.fill) (stop : IsAtStop rules 2 manager)
+module _ {P : Type 0} (rules : Rules) (manager : Manager P) (m : ℕ) (need : Need) (spot : Spot) (fills : FillsHoles rules.fill) (stop : IsAtStop rules 2 manager)
     (next : NeedsNext manager m need) (is : IsSpot rules (heap_state manager.heap) (size_of need.refs need.nums) spot) (row between : HeapState) (size r q : ℕ)
     (same : row ≡ heap_state manager.heap) (wanted : size ≡ size_of r q) (er : r ≡ need.refs) (eq : q ≡ need.nums) (takes : TakesSpot rules.fill row spot size between) where
   abbrev s : HeapState
@@ -70,52 +71,65 @@ module _ {P : Type 0} (rules : Rules) (manager : Manager P) (m : ℕ) (need : Ne
     pub bears-at : (k : ℕ) → k + 1 ≡ m → BearsAt manager.mutators.items us k m need.register (address_of s spot) n
     bears-at k is' = subst (λ (x : ℕ). BearsAt manager.mutators.items us k m need.register x n) (at-spot a at) (bears k is')
 
-    module _ (new : HeapState) (writes : WritesObject between new a n r q) where
-      pub writes-at : WritesAt rules.fill s spot n need.refs need.nums new
-      writes-at = putting.written rules.fill s between spot need.refs need.nums between-there took new a r q n at er eq writes
+    module _ (written : HeapState) (writes : WritesObject between written a n r q) where
+      object : WritesObject between written (address_of s spot) n need.refs need.nums
+      object = putting.written rules.fill s between spot need.refs need.nums between-there took written a r q n at er eq writes
 
-      born : IsBorn rules s spot n need.refs need.nums new
-      born = putting.born-need rules 2 manager m need stop next fills spot n new name-is found writes-at
+      -- its block can be read, to be relisted
+      pub readable : spot.run ≡ 0 → IsReadableBlock written spot.block
+      readable none =
+          let valid = (putting.the-need rules 2 manager m need stop next).valid in
+          readable-at rules fills s between written spot n need.refs need.nums manager.heap.lawful object valid.1 valid.2 named
+          (putting.is-fresh rules 2 manager m need stop next n name-is) none found took
 
-      pub lawful : IsLawful new
-      lawful = born.lawful
+      module _ (new : HeapState) (filled : FillsByLines rules) (relists : RelistsSpot rules written spot new) where
+        pub writes-at : WritesAt rules s spot n need.refs need.nums new
+        writes-at = record { between = between; block = took; written = written; object = object; relisted = relists }
 
-      pub layout : (new.blocks ≡ s.blocks) × (new.number ≡ s.number) × (new.base ≡ s.base)
-      layout = born.layout
+        born : IsBorn rules s spot n need.refs need.nums new
+        born = putting.born-need rules 2 manager m need stop next fills filled spot n new name-is found writes-at
 
-      -- the block was Free, or the object lies at the start of a hole
-      spot-there : PlacesSmall rules s (address_of s spot) (size_of need.refs need.nums)
-          → HasKind s spot.block kinds.Free ⊎ HasHole rules.fill s spot.block (offset_at s.blocks (address_of s spot)) (size_of need.refs need.nums)
-      spot-there places = elim places.spot as (λ _. HasKind s spot.block kinds.Free ⊎ HasHole rules.fill s spot.block (offset_at s.blocks (address_of s spot)) (size_of need.refs need.nums)) [
-        | inl hole ↦ inr (subst (λ (b : ℕ). HasHole rules.fill s b (offset_at s.blocks (address_of s spot)) (size_of need.refs need.nums)) born.block hole)
-        | inr free ↦ inl (subst (λ (b : ℕ). HasKind s b kinds.Free) born.block free.0)
-      ]
+        pub lawful : IsLawful new
+        lawful = born.lawful
 
-      small-placed : (is : IsPlaceIn rules.fill s (size_of need.refs need.nums) spot) → PlacesObject rules s new (address_of s spot) need.refs need.nums spot.block spot.free
-      small-placed is = (let placed = born.small is.small in record {
-        layout = born.layout;
-        object = born.object;
-        here = born.block;
-        uses = placed.1;
-        free = putting.was-free rules.fill s (size_of need.refs need.nums) spot is;
-        spot = spot-there placed.0;
-      })
+        pub layout : (new.blocks ≡ s.blocks) × (new.number ≡ s.number) × (new.base ≡ s.base)
+        layout = born.layout
 
-      large-placed : IsRunAt s (size_of need.refs need.nums) spot → PlacesRun s new (address_of s spot) need.refs need.nums spot.block
-      large-placed is = record {
-        blocks = born.layout.0;
-        object = born.object;
-        here = born.block;
-        uses = (born.large is.large).1;
-      }
+        -- the block was Free, or the object lies at the start of a hole
+        spot-there : PlacesSmall rules s (address_of s spot) (size_of need.refs need.nums)
+            → HasKind s spot.block kinds.Free ⊎ HasHole rules.fill s spot.block (offset_at s.blocks (address_of s spot)) (size_of need.refs need.nums)
+        spot-there places = elim places.spot as (λ _. HasKind s spot.block kinds.Free ⊎ HasHole rules.fill s spot.block (offset_at s.blocks (address_of s spot)) (size_of need.refs need.nums)) [
+          | inl hole ↦ inr (subst (λ (b : ℕ). HasHole rules.fill s b (offset_at s.blocks (address_of s spot)) (size_of need.refs need.nums)) born.block hole)
+          | inr free ↦ inl (subst (λ (b : ℕ). HasKind s b kinds.Free) born.block free.0)
+        ]
 
-      -- the notes, as they follow the placement
-      pub notes : (old after : BlockNotes) → AreNotes rules.fill s old
-          → (spot.run ≡ 0 → (x : Rules) (u v : HeapState) (a refs nums : ℕ) → FillsTailsOrCells x.fill → AreNotes x.fill u old → PlacesObject x u v a refs nums spot.block spot.free
-          → AreNotes x.fill v after)
-          → (spot.run ≢ 0 → (x : Kind) (u : HeapState) (a refs nums : ℕ) → FillsTailsOrCells x → AreNotes x u old → PlacesRun u new a refs nums spot.block → AreNotes x new after)
-          → AreNotes rules.fill new after
-      notes old after before small large =
-          by-run rules.fill s (size_of need.refs need.nums) spot (AreNotes rules.fill new after) found
-          (λ none is. small none rules s new (address_of s spot) need.refs need.nums fills before (small-placed is))
-          (λ some is. large some rules.fill s (address_of s spot) need.refs need.nums fills before (large-placed is))
+        small-placed : (is : IsPlaceIn rules.fill s (size_of need.refs need.nums) spot) → PlacesObject rules s new (address_of s spot) need.refs need.nums spot.block spot.free
+        small-placed is = (let placed = born.small is.small in record {
+          layout = born.layout;
+          object = born.object;
+          here = born.block;
+          uses = placed.1;
+          free = putting.was-free rules.fill s (size_of need.refs need.nums) spot is;
+          spot = spot-there placed.0;
+          lines = born.lines;
+        })
+
+        large-placed : IsRunAt s (size_of need.refs need.nums) spot → PlacesRun s new (address_of s spot) need.refs need.nums spot.block
+        large-placed is = record {
+          blocks = born.layout.0;
+          object = born.object;
+          here = born.block;
+          uses = (born.large is.large).1;
+          lines = born.lines;
+        }
+
+        -- the notes, as they follow the placement
+        pub notes : (old after : BlockNotes) → AreNotes rules.fill s old
+            → (spot.run ≡ 0 → (x : Rules) (u v : HeapState) (a refs nums : ℕ) → FillsHoles x.fill → AreNotes x.fill u old → PlacesObject x u v a refs nums spot.block spot.free
+            → AreNotes x.fill v after)
+            → (spot.run ≢ 0 → (x : Kind) (u : HeapState) (a refs nums : ℕ) → FillsHoles x → AreNotes x u old → PlacesRun u new a refs nums spot.block → AreNotes x new after)
+            → AreNotes rules.fill new after
+        notes old after before small large =
+            by-run rules.fill s (size_of need.refs need.nums) spot (AreNotes rules.fill new after) found
+            (λ none is. small none rules s new (address_of s spot) need.refs need.nums fills before (small-placed is))
+            (λ some is. large some rules.fill s (address_of s spot) need.refs need.nums fills before (large-placed is))

@@ -19,12 +19,12 @@ use Rattle.sessions.specs.Plans.{Rules}
 use Rattle.sessions.specs.Sessions.{Setting, Moment, ideal_at}
 use Rattle.mutator_calls.specs.declared.need.Need.{Need}
 use Rattle.mutator_calls.specs.declared.need.Mutator.{Mutator}
+use Rattle.plain_world.specs.Notes.{FillsHoles}
 use Rattle.plain_world.specs.Rows.{mutator_state}
 use Rattle.plain_world.proofs.Lists.{one-element}
 use Rattle.mm_runtime.specs.declared.manager.Manager.{Manager}
 use Rattle.mm_runtime.specs.declared.progress.Progress.{Progress}
 use Rattle.mm_runtime.specs.declared.place.Spot.{Spot}
-use Rattle.plain_world.specs.Notes.{FillsTailsOrCells}
 use Rattle.mm_runtime.specs.Managers.{IsAtStop, StandsAt}
 use Rattle.mm_runtime.specs.Stops.{IsPlaceIn, IsRunAt, IsPlace, NeedsNext, TakesBlock, TakesSpot, WritesAt, BearsAt}
 use Rattle.mm_runtime.proofs.Needs.{HasNeed, has-need, next-name}
@@ -32,6 +32,7 @@ use Rattle.sessions.proofs.HoleRooms.{hole-not-free, hole-within}
 use Rattle.mm_runtime.proofs.Users.{fresh-name}
 use Rattle.mm_runtime.proofs.Written.{IsFreeOrHole, IsOpened, opened, IsBorn}
 use Rattle.mm_runtime.proofs.LargePuts.{born-at}
+use Rattle.mm_runtime.proofs.Rooms.{FillsByLines}
 
 -- the spot lies within its block
 spot-within : (fill : Kind) (b : Bool) (s : HeapState) (k at size : ℕ) → size ≤ 2048 → IsFreeOrHole fill b s k at size → at + size ≤ 4096
@@ -67,7 +68,7 @@ pub record IsBetween (s between : HeapState) (spot : Spot) (size : ℕ) : Type 0
   pub below : spot.offset < 4096
   pub room : block_start s.blocks spot.block + spot.offset + size ≤ row_words s.blocks
 
-between-small : (fill : Kind) (s between : HeapState) (spot : Spot) (refs nums : ℕ) → FillsTailsOrCells fill → IsLawful s → IsPlaceIn fill s (size_of refs nums) spot
+between-small : (fill : Kind) (s between : HeapState) (spot : Spot) (refs nums : ℕ) → FillsHoles fill → IsLawful s → IsPlaceIn fill s (size_of refs nums) spot
     → TakesBlock fill s spot (size_of refs nums) between → IsBetween s between spot (size_of refs nums)
 between-small fill s between spot refs nums fills lawful is takes =
     let open-there : IsOpened fill s between spot.block spot.offset (size_of refs nums) =
@@ -100,7 +101,7 @@ between-run s between spot refs nums lawful is makes =
       room = omega arith;
     }
 
-module _ (fill : Kind) (s between : HeapState) (spot : Spot) (refs nums : ℕ) (fills : FillsTailsOrCells fill) (lawful : IsLawful s) where
+module _ (fill : Kind) (s between : HeapState) (spot : Spot) (refs nums : ℕ) (fills : FillsHoles fill) (lawful : IsLawful s) where
   between-either : (b : Bool) → MatchBool b (IsPlaceIn fill s (size_of refs nums) spot) (IsRunAt s (size_of refs nums) spot)
       → MatchBool b (TakesBlock fill s spot (size_of refs nums) between) (MakesRun s between spot.block spot.run) → IsBetween s between spot (size_of refs nums)
   between-either true is takes = between-small fill s between spot refs nums fills lawful is takes
@@ -124,15 +125,12 @@ module _ (fill : Kind) (s between : HeapState) (spot : Spot) (refs nums : ℕ) (
       subst (λ (x : ℕ). a + size_of r x ≤ row_words between.blocks) (sym eq) (subst (λ (x : ℕ). a + size_of x nums ≤ row_words between.blocks) (sym er)
       (subst (λ (x : ℕ). x + size_of refs nums ≤ row_words between.blocks) (sym at) room))
 
+  -- the object, in the terms of the definitions
   pub written : (new : HeapState) (a r q : ℕ) (n : Name) → a ≡ block_start between.blocks spot.block + spot.offset → r ≡ refs → q ≡ nums → WritesObject between new a n r q
-      → WritesAt fill s spot n refs nums new
-  written new a r q n at er eq writes = record {
-    between = between;
-    block = takes;
-    object = subst (λ (b : ℕ). WritesObject between new (block_start b spot.block + spot.offset) n refs nums) between-there.blocks
-        (subst (λ (x : ℕ). WritesObject between new x n refs nums) at
-        (subst (λ (x : ℕ). WritesObject between new a n refs x) eq (subst (λ (x : ℕ). WritesObject between new a n x q) er writes)));
-  }
+      → WritesObject between new (block_start s.blocks spot.block + spot.offset) n refs nums
+  written new a r q n at er eq writes = subst (λ (b : ℕ). WritesObject between new (block_start b spot.block + spot.offset) n refs nums) between-there.blocks
+      (subst (λ (x : ℕ). WritesObject between new x n refs nums) at
+      (subst (λ (x : ℕ). WritesObject between new a n refs x) eq (subst (λ (x : ℕ). WritesObject between new a n x q) er writes)))
 
 -- the heap and the mutators of a manager represent the ideal heap of its session
 module _ {P : Type 0} (rules : Rules) (manager : Manager P) (t : Setting) (now : Moment) (stands : StandsAt rules manager t now) where
@@ -191,9 +189,9 @@ module _ {P : Type 0} (rules : Rules) (more : ℕ) (manager : Manager P) (m : �
       (heap_state manager.heap) (ideal_at stop.now) (stands-represents rules manager stop.setting stop.now stop.stands) x holds (e ∙ is)
 
   -- the new heap
-  pub born-need : FillsTailsOrCells rules.fill → (spot : Spot) (n : Name) (new : HeapState) → n ≡ name m (the-need.user.births + 1)
+  pub born-need : FillsHoles rules.fill → FillsByLines rules → (spot : Spot) (n : Name) (new : HeapState) → n ≡ name m (the-need.user.births + 1)
       → IsPlace rules.fill (heap_state manager.heap) (size_of need.refs need.nums) spot
-      → WritesAt rules.fill (heap_state manager.heap) spot n need.refs need.nums new → IsBorn rules (heap_state manager.heap) spot n need.refs need.nums new
-  born-need fills spot n new is found writes =
-      born-at rules fills (heap_state manager.heap) writes.between new spot n need.refs need.nums manager.heap.lawful writes.object the-need.valid.1 the-need.valid.2 (is-name n is) (is-fresh n is)
-      found writes.block
+      → WritesAt rules (heap_state manager.heap) spot n need.refs need.nums new → IsBorn rules (heap_state manager.heap) spot n need.refs need.nums new
+  born-need fills filled spot n new is found writes =
+      born-at rules fills (heap_state manager.heap) writes.between writes.written spot n need.refs need.nums manager.heap.lawful writes.object the-need.valid.1 the-need.valid.2 (is-name n is) (is-fresh n is)
+      new filled found writes.block writes.relisted

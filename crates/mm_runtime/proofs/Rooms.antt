@@ -1,23 +1,41 @@
--- Mutators that fill tails or cells fill blocks with holes, and none with lines.
-use Rattle.std.proofs.Common.{◌≡◌, refl, sym, subst, inl, inr, arith, IsTrue, ℕ}
+-- The blocks that mutators fill have holes, and Immix blocks are filled under rules with lines.
+use Rattle.std.proofs.Common.{◌≡◌, refl, arith, false, true, IsTrue, ℕ}
 use Rattle.heap_layout.specs.Blocks.{kind_code}
 use Rattle.heap_layout.specs.declared.block.Kind.{Kind}
 use Rattle.heap_layout.specs.declared.block.Kind.TheVariants as kinds
 use Rattle.object_model.specs.Objects.{HeapState, HasKind}
 use Rattle.object_model.proofs.OneKind.{one-kind}
+use Rattle.sessions.specs.Plans.{Rules}
 use Rattle.sessions.proofs.HoleKinds.{is_holed}
-use Rattle.plain_world.specs.Notes.{FillsTailsOrCells}
+use Rattle.plain_world.specs.Notes.{FillsHoles}
 
--- what holds for the kinds of tails and for cells
-by-fill : (M : Kind → Type 0) → M kinds.Bump → M kinds.Young → M kinds.Cells → (fill : Kind) → FillsTailsOrCells fill → M fill
-by-fill M bump young cells fill fills = elim fills as (λ _. M fill) [
-  | inl tails ↦ elim tails as (λ _. M fill) [ inl e ↦ subst M (sym e) bump | inr e ↦ subst M (sym e) young ]
-  | inr e ↦ subst M (sym e) cells
-]
+pub holed : (fill : Kind) → FillsHoles fill → IsTrue (is_holed (kind_code fill))
+holed kinds.Bump fills = refl
+holed kinds.Young fills = refl
+holed kinds.Cells fills = refl
+holed kinds.Immix fills = refl
+holed kinds.Free fills = absurd (let wrong : false ≡ true = fills in cc)
+holed kinds.Mature fills = absurd (let wrong : false ≡ true = fills in cc)
+holed kinds.LargeHead fills = absurd (let wrong : false ≡ true = fills in cc)
+holed kinds.LargeTail fills = absurd (let wrong : false ≡ true = fills in cc)
+holed kinds.Kept fills = absurd (let wrong : false ≡ true = fills in cc)
 
-pub holed : (fill : Kind) → FillsTailsOrCells fill → IsTrue (is_holed (kind_code fill))
-holed fill fills = by-fill (λ (f : Kind). IsTrue (is_holed (kind_code f))) refl refl refl fill fills
+-- if mutators fill Immix blocks, they fill lines
+abbrev pub FillsByLines : Rules → Type 0
+FillsByLines r = r.fill ≡ kinds.Immix → IsTrue r.lines
 
-pub no-lines : (fill : Kind) (s : HeapState) (k : ℕ) → FillsTailsOrCells fill → HasKind s k fill → HasKind s k kinds.Immix → ⊥
-no-lines fill s k fills is immix =
-    by-fill (λ (f : Kind). kind_code f ≡ 4 → ⊥) (λ e. omega arith) (λ e. omega arith) (λ e. omega arith) fill fills (one-kind s k fill kinds.Immix is immix)
+-- only one kind has this code
+immix-code : (fill : Kind) → kind_code fill ≡ 4 → fill ≡ kinds.Immix
+immix-code kinds.Immix e = refl
+immix-code kinds.Bump e = absurd (omega arith)
+immix-code kinds.Young e = absurd (omega arith)
+immix-code kinds.Cells e = absurd (omega arith)
+immix-code kinds.Free e = absurd (omega arith)
+immix-code kinds.Mature e = absurd (omega arith)
+immix-code kinds.LargeHead e = absurd (omega arith)
+immix-code kinds.LargeTail e = absurd (omega arith)
+immix-code kinds.Kept e = absurd (omega arith)
+
+-- an Immix block of the kind that is filled is filled by lines
+pub lines-filled : (r : Rules) (s : HeapState) (k : ℕ) → FillsByLines r → HasKind s k r.fill → HasKind s k kinds.Immix → IsTrue r.lines
+lines-filled r s k filled is immix = filled (immix-code r.fill (one-kind s k r.fill kinds.Immix is immix))

@@ -16,15 +16,14 @@ use Rattle.sessions.specs.Sessions.{Setting, Moment, IsSound, InSession}
 use Rattle.collector.specs.Collected.{IsOffered}
 use Rattle.mutator_calls.specs.declared.need.Mutator.{Mutator}
 use Rattle.plain_world.specs.Rows.{mutator_state}
-use Rattle.plain_world.specs.Notes.{AreNotes, FillsTailsOrCells}
+use Rattle.plain_world.specs.Notes.{AreNotes, FillsHoles}
 use Rattle.mm_runtime.specs.declared.progress.Progress.{Progress}
 use Rattle.mm_runtime.specs.declared.manager.Manager.{Manager}
 use Rattle.mm_runtime.specs.declared.progress.TheConstants.{MAX_COMMANDS}
 
--- The plans that a manager runs: mutators fill tails of blocks, or cells, and the collections are made that `gc` and needs
--- ask for.
+-- The plans that a manager runs: mutators fill holes of blocks, and the collections are made that `gc` and needs ask for.
 pub record IsManaged (r : Rules) : Type 0 where
-  pub fill : FillsTailsOrCells r.fill
+  pub fill : FillsHoles r.fill
   pub first : (s : HeapState) → IsOffered r (first_collection r s)
   pub full : IsOffered r Full
 

@@ -19,6 +19,7 @@ use Rattle.object_model.specs.Births.{with_block, MakesRun}
 use Rattle.object_model.specs.Changes.{WritesObject}
 use Rattle.sessions.specs.Fitting.{Fits, HasHole, HasSomeHole, class_for}
 use Rattle.large_space.specs.FreeRuns.{IsFirstRun}
+use Rattle.plan_api.specs.Relisting.{Relists}
 use Rattle.sessions.specs.Collecting.{IsCollection, first_collection}
 use Rattle.sessions.specs.Sessions.{Setting, Moment, MakesCollection, FirstTry, Places, Replies, Serves, birth_count, block_of_kind, refusal}
 use Rattle.plain_world.specs.Rows.{ChangesAt, mutator_state}
@@ -123,11 +124,19 @@ abbrev pub TakesSpot : Kind → HeapState → Spot → ℕ → HeapState → Typ
 TakesSpot fill old spot size new = MatchBool (nat_eq spot.run 0) (TakesBlock fill old spot size new)
     (MakesRun old new spot.block spot.run)
 
--- the object is written at the spot, whose blocks get their words first if they are Free
-pub record WritesAt (fill : Kind) (old : HeapState) (spot : Spot) (n : Name) (refs nums : ℕ) (new : HeapState) : Type 0 where
+-- The block of the spot is relisted: where mutators fill lines, its line bits become those of the lines that its objects
+-- touch. The blocks of a run have no lines that are filled.
+abbrev pub RelistsSpot : Rules → HeapState → Spot → HeapState → Type 0
+RelistsSpot rules old spot new = MatchBool (nat_eq spot.run 0)
+    (Relists rules old new spot.block × (new.number ≡ old.number) × (new.base ≡ old.base)) (new ≡ old)
+
+-- The object is written at the spot, whose blocks get their words first if they are Free. Then its block is relisted.
+pub record WritesAt (rules : Rules) (old : HeapState) (spot : Spot) (n : Name) (refs nums : ℕ) (new : HeapState) : Type 0 where
   pub between : HeapState
-  pub block : TakesSpot fill old spot (size_of refs nums) between
-  pub object : WritesObject between new (block_start old.blocks spot.block + spot.offset) n refs nums
+  pub block : TakesSpot rules.fill old spot (size_of refs nums) between
+  pub written : HeapState
+  pub object : WritesObject between written (block_start old.blocks spot.block + spot.offset) n refs nums
+  pub relisted : RelistsSpot rules written spot new
 
 -- one more object of the mutator, with its address in register d
 abbrev pub bearing : Mutator → ℕ → ℕ → Mutator
@@ -147,7 +156,7 @@ RepliesTo old m reply new = (k : ℕ) → k + 1 ≡ m → RepliesAt old.progress
 -- An object of the need is placed at the spot. It is written and counted, and mutator m, counted from 1, gets its name.
 pub record PutsAt {P : Type 0} (rules : Rules) (old : Manager P) (m : ℕ) (need : Need) (spot : Spot) (n : Name)
     (new : Manager P) : Type 0 where
-  pub heap : WritesAt rules.fill (heap_state old.heap) spot n need.refs need.nums (heap_state new.heap)
+  pub heap : WritesAt rules (heap_state old.heap) spot n need.refs need.nums (heap_state new.heap)
   pub births : (k : ℕ) → k + 1 ≡ m → BearsAt old.mutators.items new.mutators.items k m need.register
       (block_start (heap_state old.heap).blocks spot.block + spot.offset) n
   pub replies : RepliesTo old m (r.New n) new

@@ -7,7 +7,7 @@ ghost use Rattle.mm_runtime.specs.Managers.{IsManaged};
 use crate::tests::{create, run_traces};
 use ideal_heap::{Command, Ideal, Reply, valid};
 use plan_api::Plan;
-use plans::{MarkSweep, NoGc, SemiSpace};
+use plans::{Immix, MarkSweep, NoGc, SemiSpace};
 use std::alloc::{AllocError, Global};
 use std::process::Abort;
 use std::test::Fail;
@@ -68,7 +68,7 @@ impl Random {
     }
 }
 
-fn random_commands(
+pub(crate) fn random_commands(
     alloc: Global,
     seed: u64,
     count: usize,
@@ -123,14 +123,14 @@ fn check_replies(
 // What a session of one mutator told: its replies, where `full` stands among them, and the number
 // of full collections.
 #[derive(Drop)]
-struct Told {
-    replies: Vec<Reply>,
-    refused: Vec<usize>,
-    collections: u64,
+pub(crate) struct Told {
+    pub(crate) replies: Vec<Reply>,
+    pub(crate) refused: Vec<usize>,
+    pub(crate) collections: u64,
 }
 
 // Runs the commands in a heap of `blocks` blocks.
-fn tell<P: Plan, R: Abort + Threads + Sync>(
+pub(crate) fn tell<P: Plan, R: Abort + Threads + Sync>(
     rt: &R,
     alloc: Global,
     blocks: u32,
@@ -193,11 +193,14 @@ fn plans_agree(rt: HostRuntime) -> Result<(), Fail> {
         let first = tell::<NoGc, HostRuntime>(&rt, alloc, 700, &commands)?;
         let second = tell::<SemiSpace, HostRuntime>(&rt, alloc, 12, &commands)?;
         let third = tell::<MarkSweep, HostRuntime>(&rt, alloc, 24, &commands)?;
+        let fourth = tell::<Immix, HostRuntime>(&rt, alloc, 12, &commands)?;
         assert!(rt; first.replies == second.replies);
         assert!(rt; first.replies == third.replies);
+        assert!(rt; first.replies == fourth.replies);
         assert_eq!(rt; (first.refused.len(), first.collections), (0, 0));
         assert!(rt; second.collections >= 100, "{seed}: {}", second.collections);
         assert!(rt; third.collections >= 20, "{seed}: {}", third.collections);
+        assert!(rt; fourth.collections >= 20, "{seed}: {}", fourth.collections);
     }
     Ok(())
 }

@@ -7,7 +7,11 @@ mod collect;
 mod collection_tests;
 mod epoch;
 mod gc;
+#[cfg(test)]
+mod immix_tests;
 mod laws;
+#[cfg(test)]
+mod line_tests;
 mod manager;
 mod meets;
 mod part;

@@ -7,15 +7,16 @@ ghost use Rattle.ideal_heap.specs.declared.reply.Reply.TheVariants as reply_is;
 ghost use Rattle.object_model.specs.Heaps.{heap_state};
 ghost use Rattle.object_model.specs.Objects.{HeapState, size_of, state_of};
 ghost use Rattle.object_model.specs.Births.{MakesRun};
+ghost use Rattle.object_model.specs.Lawful.{IsReadableBlock};
 ghost use Rattle.plan_api.specs.Counting.{session_counts};
 ghost use Rattle.sessions.specs.Fitting.{Fits, IsFreeRun, counts_of};
 ghost use Rattle.sessions.specs.Plans.{Rules};
 ghost use Rattle.sessions.specs.Sessions.{Setting, Moment, Places, Serves};
 ghost use Rattle.mutator_calls.specs.declared.need.Mutator.{Mutator};
-ghost use Rattle.plain_world.specs.Notes.{AreNotes, FillsTailsOrCells, PlacesObject, PlacesRun};
+ghost use Rattle.plain_world.specs.Notes.{AreNotes, FillsHoles, PlacesObject, PlacesRun};
 ghost use Rattle.mm_runtime.specs.Managers.{IsAtStop, IsInOrder, IsManaged, StandsAt};
 ghost use Rattle.mm_runtime.specs.declared.progress.Progress.{Progress};
-ghost use Rattle.mm_runtime.specs.Stops.{IsSpot, IsPlace, NeedsNext, RepliesAt, RepliesTo, TakesBlock, TakesSpot, BearsAt, PutsAt, Refuses, MakesRoom, Settles, MatchPlaced};
+ghost use Rattle.mm_runtime.specs.Stops.{IsSpot, IsPlace, NeedsNext, RepliesAt, RepliesTo, TakesBlock, TakesSpot, BearsAt, PutsAt, RelistsSpot, Refuses, MakesRoom, Settles, MatchPlaced};
 
 use crate::manager::Manager;
 use crate::progress::Progress;
@@ -111,14 +112,27 @@ fn take_spot<P: Plan>(row: Row, spot: &Spot, size: u32) -> Row
     take_run(row, spot.block, spot.run)
 }
 
+/// Relists the block of a spot, where an object was written. A run needs none: its blocks are no
+/// Immix blocks.
+fn relist_spot<P: Plan>(row: Row, spot: &Spot) -> Row
+    requires { spot.now.run ≡ 0 → IsReadableBlock (state_of row) spot.now.block }
+    ensures { RelistsSpot P.rules (state_of row) spot.now (state_of result) }
+{
+    let mut row = row;
+    if spot.run == 0 {
+        P::relist_block(&mut row.words, &row.layout, spot.block);
+    }
+    row
+}
+
 /// Notes that an object was placed at the spot. The heap is the one with the object.
 fn note_placed(notes: &mut BlockNotes, heap: &Heap, spot: &Spot)
     ensures small { spot.now.run ≡ 0 → (rules : Rules) (old new : HeapState) (a refs nums : ℕ)
-        → FillsTailsOrCells rules.fill → AreNotes rules.fill old notes.old
+        → FillsHoles rules.fill → AreNotes rules.fill old notes.old
         → PlacesObject rules old new a refs nums spot.now.block spot.now.free
         → AreNotes rules.fill new notes.new }
     ensures large { spot.now.run ≢ 0 → (fill : Kind) (old : HeapState) (a refs nums : ℕ)
-        → FillsTailsOrCells fill → AreNotes fill old notes.old
+        → FillsHoles fill → AreNotes fill old notes.old
         → PlacesRun old (heap_state heap.now) a refs nums spot.now.block
         → AreNotes fill (heap_state heap.now) notes.new }
 {
@@ -222,7 +236,8 @@ impl<P: Plan> Manager<P> {
         })
     }
 
-    /// Writes, names and counts the object of a need of mutator `m` at a spot. Replies its name.
+    /// Writes, names and counts the object of a need of mutator `m` at a spot, and relists its
+    /// block. Replies its name.
     fn put(self, m: u32, need: &Need, spot: Spot) -> (Manager<P>, Name)
         requires plan { IsManaged P.rules }
         requires stop { IsAtStop P.rules 2 self }
@@ -246,6 +261,7 @@ impl<P: Plan> Manager<P> {
         let address = row.layout.address(spot.block, spot.offset);
         let name = count_birth(&mut mutators, m, need.register, address);
         row.write_object(address, &name, &shape);
+        let row = relist_spot::<P>(row, &spot);
         reply_to(&mut progress, m, Reply::New(name));
         let heap = Heap::from_row(row);
         note_placed(&mut notes, &heap, &spot);

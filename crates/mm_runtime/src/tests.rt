@@ -61,7 +61,7 @@ pub(crate) fn run_traces<P: Plan, R: Abort + Threads + Sync>(
     }
 }
 
-fn place(mutator: u32, birth: u32, at: u32, size: u32) -> Place {
+pub(crate) fn place(mutator: u32, birth: u32, at: u32, size: u32) -> Place {
     Place {
         name: Name { mutator, birth },
         at,
@@ -70,7 +70,7 @@ fn place(mutator: u32, birth: u32, at: u32, size: u32) -> Place {
 }
 
 // The objects that are reachable from these roots.
-fn graph_from(
+pub(crate) fn graph_from(
     rt: &impl Abort,
     alloc: Global,
     heap: &Heap,

@@ -9,3 +9,6 @@ tell-requires-in-loop-seed-clause-plan g c κs = managed.semispace
 
 pub tell-requires-in-loop-seed-2-clause-plan : goal.tell-requires-in-loop-seed-2-clause-plan
 tell-requires-in-loop-seed-2-clause-plan g c κs = managed.marksweep
+
+pub tell-requires-in-loop-seed-3-clause-plan : goal.tell-requires-in-loop-seed-3-clause-plan
+tell-requires-in-loop-seed-3-clause-plan g c κs = managed.immix

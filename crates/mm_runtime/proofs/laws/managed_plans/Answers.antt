@@ -13,8 +13,11 @@ returns-clause-young_tails c = managed.young-tails
 pub returns-clause-marksweep : goal.returns-clause-marksweep
 returns-clause-marksweep c = managed.marksweep
 
-pub returns-clause-lines : goal.returns-clause-lines
-returns-clause-lines c = managed.lines
+pub returns-clause-immix : goal.returns-clause-immix
+returns-clause-immix c = managed.immix
+
+pub returns-clause-holes : goal.returns-clause-holes
+returns-clause-holes c = managed.holes
 
 pub returns-clause-young : goal.returns-clause-young
 returns-clause-young c = managed.young

@@ -1,4 +1,4 @@
-use Rattle.std.proofs.Common.{ℕ, sym, subst₂, inl}
+use Rattle.std.proofs.Common.{ℕ, sym, subst₂}
 use Rattle.heap_layout.specs.Blocks.{IsValid}
 use Rattle.heap_layout.specs.declared.block.Kind.{Kind}
 use Rattle.sessions.specs.Sessions.{block_of_kind}

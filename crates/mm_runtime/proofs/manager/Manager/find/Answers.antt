@@ -3,13 +3,13 @@ use Rattle.std.proofs.lemmas.Bool.{false≢true}
 use Rattle.object_model.specs.Heaps.{heap_state}
 use Rattle.sessions.specs.Fitting.{Fits}
 use Rattle.plan_api.specs.Counting.{session_counts, session_reserve}
-use Rattle.plain_world.specs.Notes.{FillsTailsOrCells}
+use Rattle.plain_world.specs.Notes.{FillsHoles}
 use Rattle.mm_runtime.specs.declared.place.Spot.{Spot}
 use Rattle.mm_runtime.proofs.Spots.{hole-spot, free-spot, no-grant, no-free, granted, granted-back}
 use Rattle.mm_runtime.proofs.manager.Manager.find.Goals as goal
 
 pub lowest_hole-requires-clause-fills : goal.lowest_hole-requires-clause-fills
-lowest_hole-requires-clause-fills g c = subst FillsTailsOrCells (sym c.alloc_kind.ensures) c.requires.plan.fill
+lowest_hole-requires-clause-fills g c = subst FillsHoles (sym c.alloc_kind.ensures) c.requires.plan.fill
 
 pub returns-in-Some-clause-spot : goal.returns-in-Some-clause-spot
 returns-in-Some-clause-spot g c =

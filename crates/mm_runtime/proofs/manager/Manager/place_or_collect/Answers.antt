@@ -30,6 +30,11 @@ pub place-manager-requires-clause-stop : goal.place-manager-requires-clause-stop
 place-manager-requires-clause-stop g c =
     more-stop g.P.Plan.rules 1 c.find.new.self (noted.stop-more g.P.Plan.rules c.args.self c.find.new.self c.find.ensures.rest c.find.ensures.notes 0 c.requires.stop)
 
+pub place-manager-requires-clause-spot : goal.place-manager-requires-clause-spot
+place-manager-requires-clause-spot g c =
+    noted.spot-found g.P.Plan.rules c.args.self c.find.new.self c.find.ensures.rest c.find.ensures.notes c.size_words-size.result (size_of c.args.need.refs c.args.need.nums) c.in-Some.spot
+    (c.size_words-size.ensures ∙ ap (λ r. size_of r c.shape_of.result.nums) c.shape_of.ensures.refs ∙ ap (λ q. size_of c.args.need.refs q) c.shape_of.ensures.nums) c.in-Some.ensures.spot
+
 pub place-manager-requires-clause-next : goal.place-manager-requires-clause-next
 place-manager-requires-clause-next g c = noted.next-found g.P.Plan.rules c.args.self c.find.new.self c.find.ensures.rest c.find.ensures.notes c.args.m c.args.need c.requires.next
 

@@ -1,10 +1,10 @@
-use Rattle.std.proofs.Common.{◌≡◌, refl, sym, subst, arith, inl, ◌≤◌}
+use Rattle.std.proofs.Common.{◌≡◌, refl, sym, subst, arith, ◌≤◌}
 use Rattle.object_model.specs.Objects.{HeapState, state_of}
-use Rattle.object_model.specs.Changes.{WritesObject}
 use Rattle.object_model.specs.Heaps.{heap_state}
-use Rattle.mm_runtime.specs.Stops.{WritesAt}
+use Rattle.mm_runtime.specs.Stops.{RelistsSpot, WritesAt}
 use Rattle.mm_runtime.proofs.Putting as putting
 use Rattle.mm_runtime.proofs.PutCalls as calls
+use Rattle.plain_world.proofs.Relisted.{lines-of-plan}
 use Rattle.mm_runtime.proofs.manager.Manager.put.Goals as goal
 
 pub size_words-requires-clause-refs : goal.size_words-requires-clause-refs
@@ -102,20 +102,29 @@ reply_to-requires-clause-most g c = putting.most-progress g.P.Plan.rules 2 c.arg
 pub reply_to-requires-clause-room : goal.reply_to-requires-clause-room
 reply_to-requires-clause-room g c = putting.room-left g.P.Plan.rules 2 c.args.self c.args.m c.args.need.now c.requires.stop c.requires.next
 
+pub relist_spot-row-requires : goal.relist_spot-row-requires
+relist_spot-row-requires g c =
+    calls.readable g.P.Plan.rules c.args.self c.args.m c.args.need.now c.args.spot c.requires.plan.fill c.requires.stop c.requires.next c.requires.spot
+    (state_of c.into_row.result) (state_of c.take_spot-row.result) c.size_words.result c.shape_of-shape.result.refs c.shape_of-shape.result.nums c.into_row.ensures.state c.size_words.ensures
+    c.shape_of-shape.ensures.refs c.shape_of-shape.ensures.nums c.take_spot-row.ensures
+    c.count_birth-name.new.mutators.items c.address-address.result c.count_birth-name.result c.address-address.ensures c.count_birth-name.ensures (state_of c.write_object.new.self) c.write_object.ensures.written
+
 pub from_row-heap-requires : goal.from_row-heap-requires
 from_row-heap-requires g c =
     calls.lawful g.P.Plan.rules c.args.self c.args.m c.args.need.now c.args.spot c.requires.plan.fill c.requires.stop c.requires.next c.requires.spot
     (state_of c.into_row.result) (state_of c.take_spot-row.result) c.size_words.result c.shape_of-shape.result.refs c.shape_of-shape.result.nums c.into_row.ensures.state c.size_words.ensures
     c.shape_of-shape.ensures.refs c.shape_of-shape.ensures.nums c.take_spot-row.ensures
     c.count_birth-name.new.mutators.items c.address-address.result c.count_birth-name.result c.address-address.ensures c.count_birth-name.ensures (state_of c.write_object.new.self) c.write_object.ensures.written
+    (state_of c.relist_spot-row.result) (lines-of-plan g.P.Plan.plan g.P.Plan.rules g.met.P.Plan.rules_are_of_plan) c.relist_spot-row.ensures
 
 pub returns : goal.returns
 returns g c = record {
-  heap = subst (λ (x : HeapState). WritesAt g.P.Plan.rules.fill (heap_state c.args.self.heap) c.args.spot c.count_birth-name.result c.args.need.now.refs c.args.need.now.nums x) (sym c.from_row-heap.ensures)
+  heap = subst (λ (x : HeapState). WritesAt g.P.Plan.rules (heap_state c.args.self.heap) c.args.spot c.count_birth-name.result c.args.need.now.refs c.args.need.now.nums x) (sym c.from_row-heap.ensures)
       (calls.writes-at g.P.Plan.rules c.args.self c.args.m c.args.need.now c.args.spot c.requires.plan.fill c.requires.stop c.requires.next c.requires.spot
       (state_of c.into_row.result) (state_of c.take_spot-row.result) c.size_words.result c.shape_of-shape.result.refs c.shape_of-shape.result.nums c.into_row.ensures.state c.size_words.ensures
       c.shape_of-shape.ensures.refs c.shape_of-shape.ensures.nums c.take_spot-row.ensures
-      c.count_birth-name.new.mutators.items c.address-address.result c.count_birth-name.result c.address-address.ensures c.count_birth-name.ensures (state_of c.write_object.new.self) c.write_object.ensures.written);
+      c.count_birth-name.new.mutators.items c.address-address.result c.count_birth-name.result c.address-address.ensures c.count_birth-name.ensures (state_of c.write_object.new.self) c.write_object.ensures.written
+      (state_of c.relist_spot-row.result) (lines-of-plan g.P.Plan.plan g.P.Plan.rules g.met.P.Plan.rules_are_of_plan) c.relist_spot-row.ensures);
   births = calls.bears-at g.P.Plan.rules c.args.self c.args.m c.args.need.now c.args.spot c.requires.plan.fill c.requires.stop c.requires.next c.requires.spot
       (state_of c.into_row.result) (state_of c.take_spot-row.result) c.size_words.result c.shape_of-shape.result.refs c.shape_of-shape.result.nums c.into_row.ensures.state c.size_words.ensures
       c.shape_of-shape.ensures.refs c.shape_of-shape.ensures.nums c.take_spot-row.ensures
@@ -124,9 +133,9 @@ returns g c = record {
   notes = calls.notes g.P.Plan.rules c.args.self c.args.m c.args.need.now c.args.spot c.requires.plan.fill c.requires.stop c.requires.next c.requires.spot
       (state_of c.into_row.result) (state_of c.take_spot-row.result) c.size_words.result c.shape_of-shape.result.refs c.shape_of-shape.result.nums c.into_row.ensures.state c.size_words.ensures
       c.shape_of-shape.ensures.refs c.shape_of-shape.ensures.nums c.take_spot-row.ensures
-      c.count_birth-name.new.mutators.items c.address-address.result c.count_birth-name.result c.address-address.ensures c.count_birth-name.ensures (heap_state c.from_row-heap.result)
-      (subst (λ (x : HeapState). WritesObject (state_of c.take_spot-row.result) x c.address-address.result c.count_birth-name.result c.shape_of-shape.result.refs c.shape_of-shape.result.nums)
-      (sym c.from_row-heap.ensures) c.write_object.ensures.written)
+      c.count_birth-name.new.mutators.items c.address-address.result c.count_birth-name.result c.address-address.ensures c.count_birth-name.ensures (state_of c.write_object.new.self) c.write_object.ensures.written
+      (heap_state c.from_row-heap.result) (lines-of-plan g.P.Plan.plan g.P.Plan.rules g.met.P.Plan.rules_are_of_plan)
+      (subst (λ (x : HeapState). RelistsSpot g.P.Plan.rules (state_of c.write_object.new.self) c.args.spot x) (sym c.from_row-heap.ensures) c.relist_spot-row.ensures)
       c.args.self.notes c.note_placed.new.notes c.requires.stop.order.notes c.note_placed.ensures.small c.note_placed.ensures.large;
   nursery = refl;
   full = refl;

@@ -22,9 +22,6 @@ begin_with-requires-clause-users g c =
     may-use (heap_state c.args.self.heap) (map mutator_state c.args.self.mutators.items) (ideal_at ready.now)
     (standing.stands-represents g.P.Plan.rules c.args.self ready.setting ready.now ready.closes.stands)
 
-pub begin_with-requires-clause-fills : goal.begin_with-requires-clause-fills
-begin_with-requires-clause-fills g c = c.requires.plan.fill
-
 pub begin_with-requires-clause-remembers : goal.begin_with-requires-clause-remembers
 begin_with-requires-clause-remembers g c =
     let stands = c.requires.ready.closes.stands in
@@ -41,6 +38,9 @@ pub run_parts-requires-clause-births : goal.run_parts-requires-clause-births
 run_parts-requires-clause-births g c κs within = λ k p is.
     standing.births-within c.in_ok-world.world.row.mutators.items c.args.self.mutators.items k (length p.replies.items) c.in_ok-world.ensures.mutators
     (λ u there. c.requires.ready.order.births k u p there is)
+
+pub close_with-heap-requires-clause-fill : goal.close_with-heap-requires-clause-fill
+close_with-heap-requires-clause-fill g c = c.in_ok-ends.ensures.places.fill ∙ c.in_ok-world.ensures.fill
 
 pub returns : goal.returns
 returns g c =
