@@ -182,6 +182,7 @@ abbrev pub is_implemented : Plan → Bool
 is_implemented NoGc = true
 is_implemented MarkSweep = true
 is_implemented SemiSpace = true
+is_implemented Immix = true
 is_implemented _ = false
 
 -- the work of mutators from files
@@ -189,7 +190,7 @@ abbrev pub has_files : Work → Bool
 has_files (Files files) = true
 has_files (Made n) = false
 
--- the jobs that are implemented: traces from files under NoGC, MarkSweep or SemiSpace, with one worker and no map
+-- the jobs that are implemented: traces from files under NoGC, MarkSweep, SemiSpace or Immix, with one worker and no map
 abbrev pub is_supported : Job → Bool
 is_supported job = is_implemented job.plan && nat_eq job.workers 1 && not job.map && has_files job.work
 

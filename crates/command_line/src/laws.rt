@@ -58,8 +58,8 @@ pub fn worked_command_lines()
         ∷ codes "--heap" ∷ codes "4" ∷ []) ≡ None }
     ensures empty_word { form_of (codes "--plan=immix" ∷ codes "--heap=4" ∷ [] ∷ [])
         ≡ None }
-    ensures unsupported { job_of (codes "--heap=4" ∷ codes "--plan=immix" ∷ codes "a" ∷ [])
-        ≡ None }
+    ensures unsupported { job_of (codes "--heap=4" ∷ codes "--plan=stickyimmix" ∷ codes "a"
+        ∷ []) ≡ None }
     ensures marksweep { job_of (codes "--heap=4" ∷ codes "--plan=marksweep" ∷ codes "a" ∷ [])
         ≡ Some (record {
           plan = MarkSweep;
@@ -71,6 +71,14 @@ pub fn worked_command_lines()
     ensures semispace { job_of (codes "--heap=4" ∷ codes "--plan=semispace" ∷ codes "a" ∷ [])
         ≡ Some (record {
           plan = SemiSpace;
+          blocks = 4;
+          workers = 1;
+          map = false;
+          work = Files (codes "a" ∷ []);
+        }) }
+    ensures immix { job_of (codes "--heap=4" ∷ codes "--plan=immix" ∷ codes "a" ∷ [])
+        ≡ Some (record {
+          plan = Immix;
           blocks = 4;
           workers = 1;
           map = false;

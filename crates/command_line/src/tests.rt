@@ -37,6 +37,8 @@ fn reads_command_lines(rt: HostRuntime) -> Result<(), Fail> {
         ("--plan semispace --heap 4 a", 4),
         ("--heap=6 --plan marksweep a", 6),
         ("--heap=5 --workers=1 --plan=semispace a", 5),
+        ("--plan immix --heap 4 a", 4),
+        ("--heap=7 --plan=immix a", 7),
     ];
     for (line, blocks) in supported {
         let words = words_in(alloc, line)?;
@@ -55,6 +57,7 @@ fn reads_command_lines(rt: HostRuntime) -> Result<(), Fail> {
         "--plan nogc --heap 4 a a",
         "--plan semispace --heap 4 a b",
         "--plan marksweep --heap 4 a b",
+        "--plan immix --heap 4 a b",
         "--plan nogc --heap 4 a b c d e f g h i j k l m n o p",
     ] {
         assert!(rt; is_supported(alloc, line)?, "{line}");
@@ -68,13 +71,13 @@ fn refuses_what_is_not_implemented(rt: HostRuntime) -> Result<(), Fail> {
     let alloc = rt.alloc();
     let unsupported = [
         "--plan gencopy --heap 4 a",
-        "--plan immix --heap 4 a",
         "--plan stickyimmix --heap 4 a",
-        "--heap=4 --plan=immix a",
+        "--heap=4 --plan=gencopy a",
         "--plan nogc --heap 4 --workers 2 a",
         "--plan nogc --heap 4 --workers 16 a",
         "--plan semispace --heap 4 --workers 2 a",
         "--plan marksweep --heap 4 --workers 2 a",
+        "--plan immix --heap 4 --workers 2 a",
         "--plan nogc --heap 4 --map a",
         "--map --plan nogc --heap 4 a",
         "--plan semispace --heap 4 --map a",

@@ -48,14 +48,14 @@ pub(crate) fn read_form<'a>(
     Ok(order_of(&found, parts.files))
 }
 
-// Whether the order is implemented: `nogc`, `marksweep` or `semispace`, files, one worker and no
-// map.
+// Whether the order is implemented: `nogc`, `marksweep`, `semispace` or `immix`, files, one worker
+// and no map.
 fn is_supported(order: &Order) -> bool
     ensures { result ≡ can_run (job_of_order order.now) }
 {
     let is_implemented = matches!(
         order.plan,
-        PlanName::NoGc | PlanName::MarkSweep | PlanName::SemiSpace
+        PlanName::NoGc | PlanName::MarkSweep | PlanName::SemiSpace | PlanName::Immix
     );
     is_implemented && order.workers == 1 && !order.map && matches!(order.work, Target::Files(_))
 }
@@ -63,8 +63,8 @@ fn is_supported(order: &Order) -> bool
 /// What the arguments after the program's name ask for.
 ///
 /// `None` if the arguments do not match the usage, or ask for a feature that is not implemented
-/// yet: a plan other than `nogc`, `marksweep` and `semispace`, several workers, a map or a made
-/// trace. The order borrows the names of its files from the arguments.
+/// yet: a plan other than `nogc`, `marksweep`, `semispace` and `immix`, several workers, a map or a
+/// made trace. The order borrows the names of its files from the arguments.
 ///
 /// Errors: out of memory.
 #[tactic(auto, unfolding(crate::specs::Words::job_of))]

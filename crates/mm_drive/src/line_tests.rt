@@ -41,6 +41,7 @@ fn supported(rt: HostRuntime) -> Result<(), Fail> {
         "--plan semispace --heap 4 a",
         "--heap=5 --workers=1 --plan=semispace a",
         "--heap=4 --plan marksweep a",
+        "--heap=4 --plan=immix a",
     ];
     for line in lines {
         let ran = run_words(&rt, alloc, line, trace_in(alloc, FIRST)?)?;
@@ -67,9 +68,8 @@ fn unsupported(rt: HostRuntime) -> Result<(), Fail> {
         rt.alloc(),
         &[
             "--plan gencopy --heap 4 a",
-            "--plan immix --heap 4 a",
             "--plan stickyimmix --heap 4 a",
-            "--heap=4 --plan=immix a",
+            "--heap=4 --plan=gencopy a",
             "--plan nogc --heap 4 --workers 2 a",
             "--plan nogc --heap 4 --workers 16 a",
             "--plan semispace --heap 4 --workers 2 a",

@@ -129,7 +129,7 @@ fn additions(rt: HostRuntime) -> Result<(), Fail> {
     repeat(&mut other, 500, ";add r1 0 1")?;
     other.push_str(";meet")?;
     let other = other.as_str();
-    for plan in ["nogc", "marksweep", "semispace"] {
+    for plan in ["nogc", "marksweep", "semispace", "immix"] {
         let ran = run_traces(&rt, alloc, plan, 8, &[first.as_str(), other, other, other])?;
         assert_eq!(rt; ran.status, Status::Ok, "{plan}");
         assert!(rt; are_all_below(alloc, &ran.out, 4000)?, "{plan}");

@@ -5,7 +5,7 @@ use std::alloc::{AllocError, Global};
 use std::fmt::Write;
 use std::test::Fail;
 
-const PLANS: [&str; 3] = ["nogc", "marksweep", "semispace"];
+const PLANS: [&str; 4] = ["nogc", "marksweep", "semispace", "immix"];
 
 // A cycle is reached through either object, and is garbage before the second collection.
 const CYCLE: &str = "new r0 1 0;new r1 1 0;put r0 0 r1;put r1 0 r0;drop r1;gc;get r2 r0 0;\
@@ -88,7 +88,7 @@ fn objects_are_handed_over(rt: HostRuntime) -> Result<(), Fail> {
 }
 
 // The largest object takes 15 blocks. A second one finds no run of them, before or after the
-// collection that is made for it.
+// collection that is made for it. Immix holds back a Free block to copy into.
 #[test]
 fn largest_objects(rt: HostRuntime) -> Result<(), Fail> {
     let alloc = rt.alloc();
@@ -102,8 +102,9 @@ fn largest_objects(rt: HostRuntime) -> Result<(), Fail> {
         (16, "new r0 1024 60000;new r1 1024 60000", "new 1.1;full"),
     ];
     for plan in PLANS {
+        let held_back = if plan == "immix" { 1 } else { 0 };
         for (blocks, trace, replies) in table {
-            check_replies(&rt, alloc, plan, blocks, &[trace], &[replies])?;
+            check_replies(&rt, alloc, plan, blocks + held_back, &[trace], &[replies])?;
         }
     }
     Ok(())
@@ -133,6 +134,7 @@ fn garbage_is_reclaimed(rt: HostRuntime) -> Result<(), Fail> {
         ("nogc", "full"),
         ("semispace", "new 1.9"),
         ("marksweep", "new 1.9"),
+        ("immix", "new 1.9"),
     ] {
         let mut replies = String::from_str(alloc, names)?;
         write!(replies, ";{last}")?;
@@ -240,6 +242,7 @@ fn four_mutators(rt: HostRuntime) -> Result<(), Fail> {
         ("semispace", 16),
         ("nogc", 64),
         ("marksweep", 8),
+        ("immix", 8),
     ] {
         check_replies(
             &rt,
@@ -255,5 +258,39 @@ fn four_mutators(rt: HostRuntime) -> Result<(), Fail> {
             ],
         )?;
     }
+    Ok(())
+}
+
+// Three of four blocks may be used under Immix, for six objects of half a block, of which one is
+// held.
+#[test]
+fn immix_reclaims_lines(rt: HostRuntime) -> Result<(), Fail> {
+    let alloc = rt.alloc();
+    let mut trace = String::from_str(alloc, "drop r0;new r0 0 2045")?;
+    let mut replies = String::from_str(alloc, "ok;new 1.1")?;
+    for object in 2..51 {
+        trace.push_str(";drop r0;new r0 0 2045")?;
+        write!(replies, ";ok;new 1.{object}")?;
+    }
+    check_replies(
+        &rt,
+        alloc,
+        "immix",
+        4,
+        &[trace.as_str()],
+        &[replies.as_str()],
+    )?;
+    Ok(())
+}
+
+// Fifteen mutators meet twice. The sixteenth has no command, and holds nobody up.
+#[test]
+fn immix_with_sixteen_mutators(rt: HostRuntime) -> Result<(), Fail> {
+    let alloc = rt.alloc();
+    let mut traces = ["meet;meet"; 16];
+    let mut replies = ["ok;ok"; 16];
+    traces[15] = "";
+    replies[15] = "";
+    check_replies(&rt, alloc, "immix", 16, &traces, &replies)?;
     Ok(())
 }

@@ -13,7 +13,7 @@ use heap_layout::{Layout, MAX_BLOCKS, MIN_BLOCKS};
 use ideal_heap::MAX_MUTATORS;
 use mm_runtime::{Manager, Turn, managed_plans};
 use plan_api::Plan;
-use plans::{MarkSweep, NoGc, SemiSpace};
+use plans::{Immix, MarkSweep, NoGc, SemiSpace};
 use pools::PlainPool;
 use std::alloc::{AllocError, Global};
 use std::thread::Threads;
@@ -107,6 +107,7 @@ pub(crate) fn text_of_session<G: Gate, R: Threads + Sync>(
         PlanName::NoGc => text_under::<NoGc, G, R>(rt, alloc, layout, traces, gate),
         PlanName::MarkSweep => text_under::<MarkSweep, G, R>(rt, alloc, layout, traces, gate),
         PlanName::SemiSpace => text_under::<SemiSpace, G, R>(rt, alloc, layout, traces, gate),
+        PlanName::Immix => text_under::<Immix, G, R>(rt, alloc, layout, traces, gate),
         _ => unreachable!(),
     }
 }

@@ -358,6 +358,7 @@ fn random_commands(rt: HostRuntime) -> Result<(), Fail> {
         "--plan nogc --heap 64 a",
         "--plan semispace --heap 64 a",
         "--plan marksweep --heap 64 a",
+        "--plan immix --heap 64 a",
     ] {
         let ran = run_words(&rt, alloc, line, text.as_bytes().to_vec(alloc)?)?;
         assert_eq!(rt; ran.status, Status::Ok, "{line}");
@@ -405,6 +406,7 @@ fn plain_records(rt: HostRuntime) -> Result<(), Fail> {
         "--plan nogc --heap 64 a",
         "--plan semispace --heap 4 a",
         "--plan marksweep --heap 4 a",
+        "--plan immix --heap 4 a",
     ] {
         let ran = run_words(&rt, alloc, line, text.as_bytes().to_vec(alloc)?)?;
         assert_eq!(rt; ran.status, Status::Ok, "{line}");

@@ -66,6 +66,10 @@ pub returns-clause-marksweep : goal.returns-clause-marksweep
 unfolding form_of job_of
 returns-clause-marksweep c = refl
 
+pub returns-clause-immix : goal.returns-clause-immix
+unfolding form_of job_of
+returns-clause-immix c = refl
+
 pub returns-clause-semispace : goal.returns-clause-semispace
 unfolding form_of job_of
 returns-clause-semispace c = refl
