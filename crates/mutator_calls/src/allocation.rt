@@ -133,8 +133,8 @@ fn take_free_block<S: Seat>(seat: &mut S, size: u32) -> Result<(), NeedCause>
     Err(NeedCause::Seen)
 }
 
-/// Makes the seat's region one with room for an object of `size` words that overflows the region: a
-/// Free block, else a hole, first one in the block of the hole region.
+/// Makes the seat's region one with room for an object of `size` words that overflows the region:
+/// a Free block, else a hole, first one in the block of the hole region.
 fn find_overflow<S: Seat>(seat: &mut S, size: u32) -> Result<(), NeedCause>
     requires ready { S.is_ready seat.old }
     requires least { 3 ≤ size }

@@ -52,9 +52,9 @@ pub fn regions_are_holes()
         → IsClear s k → IsRegionIn fill s k (first_region fill (class_at s k)) }
 {}
 
-/// What is left of a hole of lines for the block's owner. It lies in the block. The first hole with
-/// room from its end on is a region too, and begins a hole. A region that begins later, in a block
-/// without marked lines, has an object before it.
+/// What is left of a hole of lines for the block's owner. It lies in the block. The first hole
+/// with room from its end on is a region too, and begins a hole. A region that begins later, in a
+/// block without marked lines, has an object before it.
 pub fn regions_of_lines()
     ensures inside { (s : HeapState) (k : ℕ) (r : Region) → IsRegionIn kinds.Immix s k r
         → (r.next ≤ r.end) × (r.end ≤ BLOCK_WORDS) }
