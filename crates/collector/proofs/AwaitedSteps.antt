@@ -1,5 +1,5 @@
 -- What a trace awaits, from packet to packet.
-use Rattle.std.proofs.Common.{◌≡◌, refl, sym, ◌∙◌, ap, subst, ℕ, ◌+◌, ◌<◌, ◌≤◌, ◌⊎◌, inl, inr, arith, nat_eq, if◌then◌else◌, List, [], ◌∷◌, ◌++◌, length, slice_index}
+use Rattle.std.proofs.Common.{◌≡◌, refl, sym, ◌∙◌, ap, subst, ℕ, ◌+◌, ◌<◌, ◌≤◌, ◌⊎◌, inl, inr, arith, IsTrue, nat_eq, if◌then◌else◌, List, [], ◌∷◌, ◌++◌, length, slice_index}
 use Rattle.std.specs.Prelude.{All}
 use Rattle.std.specs.List.Sorted.{IsPermutation}
 use Rattle.std.proofs.lemmas.Bool.{cases_eq, cases_lt, cond-true, cond-false, eq-eqb, ne_eqb}
@@ -28,11 +28,12 @@ use Rattle.collector.specs.declared.item.Item.{Item}
 use Rattle.collector.specs.declared.packet_trace.PacketTrace.{PacketTrace}
 use Rattle.collector.specs.declared.worker.TraceStart.{TraceStart}
 use Rattle.collector.specs.Items.{registers, globals, objects, items_of, tokens_of, IsObject}
-use Rattle.collector.specs.Serving.{HasRights, IsTargetOf, Serves}
+use Rattle.collector.specs.Serving.{HasRights, IsTargetOf, HasItsLines, Serves}
 use Rattle.collector.specs.Tallies.{total, unclaimed, Counts, IsTally}
 use Rattle.collector.specs.Awaited.{IsAwaited}
 use Rattle.collector.specs.Working.{RunsPacket, AwaitsPackets, IsOfTrace, unclaimed_by}
 use Rattle.collector.proofs.ItemCounts.{all-left, all-right, all-both, registers-append, globals-append, objects-append, tokens-append, no-registers, no-globals, length-tokens, scans-of, copies-of, objects-pushed, tokens-there, SameItems, packets-same}
+use Rattle.collector.proofs.ItsLines.{lines-grow}
 use Rattle.collector.proofs.TallySums.{total-copied}
 use Rattle.collector.proofs.TracedObjects.{token-below}
 use Rattle.collector.proofs.NextTally.{next-tally}
@@ -93,6 +94,7 @@ module _ (s : HeapState) (run : TraceRun) (roots : List ℕ) (w : PacketTrace) (
     none = aw.none;
     sparse = aw.sparse;
     scanned = λ x some. subst (λ n. (0 < n) ⊎ (0 < hits x (refs (setup_of s run 1) x) aw.view.grey)) (sym (same.of_objects x)) (aw.scanned x some);
+    lines = λ on x some. subst (λ n. (0 < n) ⊎ HasItsLines (setup_of s run 1) aw.events x) (sym (same.of_objects x)) (aw.lines on x some);
     settled = λ g few. subst (λ n. (0 < n) ⊎ (0 < times g aw.view.set)) (sym (same.of_globals g)) (aw.settled g few);
     as_many = aw.as_many;
     waiting = λ i some. aw.waiting i (subst (λ n. 0 < n) (same.of_roots i) some);
@@ -197,6 +199,28 @@ module _ (s : HeapState) (run : TraceRun) (roots : List ℕ) (w v : PacketTrace)
         | inr none ↦ scanned-parts x (aw.scanned x (omega arith))
       ]
 
+  -- the lines of what was scanned are marked
+  abbrev Marks : ℕ → Type 0
+  Marks x = (0 < objects x (pushed ++ rest)) ⊎ HasItsLines p (aw.events ++ sv.events) x
+
+  lines-parts : IsTrue run.lines → (x : ℕ) → (0 < objects x (items ++ rest)) ⊎ HasItsLines p aw.events x → Marks x
+  lines-parts on x had = elim had as (λ _. Marks x) [
+    | inl waiting ↦ elim (cases_lt 0 (objects x rest)) as (λ _. Marks x) [
+      | inl more ↦ inl (let both = objects-append x pushed rest in omega arith)
+      | inr none ↦ inr (sv.lines (subst (λ (r : TraceRun). IsTrue r.lines) (sym aw.runs) on) x (let both = objects-append x items rest in omega arith))
+    ]
+    | inr done ↦ inr (lines-grow p aw.events sv.events sv.tracks.trace x done)
+  ]
+
+  lines-now : IsTrue run.lines → (x : ℕ) → 0 < times x sv.view.copied → Marks x
+  lines-now on x some =
+      let now : times x sv.view.copied ≡ times x (copied_in step.won) + times x aw.view.copied = sv.copied x in
+      let new : times x (copied_in step.won) ≡ objects x pushed = copies-of x step.won ∙ sym (objects-pushed step.won pushed step.tokens x) in
+      elim (cases_lt 0 (objects x pushed)) as (λ _. Marks x) [
+        | inl more ↦ inl (let both = objects-append x pushed rest in omega arith)
+        | inr none ↦ lines-parts on x (aw.lines on x (omega arith))
+      ]
+
   abbrev Settles : ℕ → Type 0
   Settles g = (0 < globals g (pushed ++ rest)) ⊎ (0 < times g sv.view.set)
 
@@ -253,6 +277,7 @@ module _ (s : HeapState) (run : TraceRun) (roots : List ℕ) (w v : PacketTrace)
     none = step.none;
     sparse = sv.sparse ∙ aw.sparse;
     scanned = scans;
+    lines = lines-now;
     settled = λ g few. settles g (aw.settled g few);
     as_many = sv.as_many ∙ aw.as_many;
     waiting = λ i some. let more : 0 < registers i rest = subst (λ n. 0 < n) (left-over i) some in

@@ -9,7 +9,7 @@ use Rattle.object_model.specs.Ages as ages
 use Rattle.object_model.specs.Ages.{Lives}
 use Rattle.object_model.specs.Graphs.{IsReachable}
 use Rattle.object_model.specs.Preserving.{PreservesObjects, SameObject, field_after}
-use Rattle.object_model.proofs.Blocks as given
+use Rattle.collector.proofs.SameObjects as given
 use Rattle.object_model.proofs.Marks as marks
 use Rattle.object_model.proofs.References.{refers, refers-some}
 use Rattle.sessions.specs.Plans.{Rules, Plan, rules_of}

@@ -1,16 +1,17 @@
 -- A trace of which nothing is left is finished, and the release of its blocks makes a collection.
-use Rattle.std.proofs.Common.{◌≡◌, refl, sym, ◌∙◌, ap, ap₂, subst, ℕ, ◌+◌, ◌*◌, ◌-◌, ◌<◌, ◌≤◌, ◌⊎◌, inl, inr, arith, Bool, true, false, List, map, length, slice_index, true≢false}
+use Rattle.std.proofs.Common.{◌≡◌, refl, sym, ◌∙◌, ap, ap₂, subst, ℕ, ◌+◌, ◌*◌, ◌-◌, ◌<◌, ◌≤◌, ◌⊎◌, inl, inr, arith, Bool, true, false, List, map, length, slice_index, true≢false, IsTrue, Some}
 use Rattle.std.specs.Prelude.{◌&&◌, not, nat_eq, nat_lt}
 use Rattle.std.proofs.lemmas.Bool.{lt-ltb, eq-eqb}
 use Rattle.std.proofs.lemmas.List.{ext_get_or, get_or-map, length-map}
-use Rattle.heap_layout.specs.Zones.{row_words}
+use Rattle.heap_layout.specs.Zones.{LineWords, row_words, bit_of}
+use Rattle.object_model.specs.Lines.{TouchesLine}
 use Rattle.object_model.proofs.Marks as marks
 use Rattle.object_model.specs.Heaps.{heap_state}
 use Rattle.object_model.specs.Objects.{HeapState, state_of, size_at, is_unlogged}
 use Rattle.object_model.specs.Ages as ages
 use Rattle.object_model.specs.declared.shape.TheConstants.{MAX_MEDIUM_WORDS}
 use Rattle.sessions.specs.Plans.{Rules, Plan, rules_of}
-use Rattle.trace_core.specs.Setups.{Setup, held, refs, is_old, is_logged}
+use Rattle.trace_core.specs.Setups.{Setup, blocks, held, size, refs, is_old, is_logged}
 use Rattle.trace_core.specs.Machine.{Event, Stage, Unclaimed, Copying, Scanning, Machine, target, address_or_nil}
 use Rattle.trace_core.specs.Traces.{IsFinished, machine_after, heap_after, stage_of}
 use Rattle.trace_core.specs.Outcomes.{image, HaveAsked, NoOthersAsked}
@@ -18,6 +19,7 @@ use Rattle.trace_core.specs.Views.{View, IsIdle, one_if, hits, times, is_copied}
 use Rattle.trace_core.specs.Tracers.{Tracks, IsTraced, IsFilled, setup_of, is_nursery}
 use Rattle.trace_core.specs.declared.run.TraceRun.{TraceRun}
 use Rattle.trace_core.specs.declared.run.Traced.{Traced}
+use Rattle.trace_core.proofs.Begun.{begun-lines}
 use Rattle.trace_core.proofs.Clauses.{held-of}
 use Rattle.trace_core.proofs.Finished.{image-some}
 use Rattle.collector.specs.Collected.{FillsBlocks, IsRunUnder}
@@ -31,7 +33,7 @@ use Rattle.object_model.specs.declared.heap.Heap.{Heap}
 use Rattle.object_model.specs.Objects.{block_count, has_kind}
 use Rattle.heap_layout.specs.declared.block.Kind.TheVariants as kinds
 use Rattle.sessions.specs.Collecting.{Collects}
-use Rattle.collector.specs.Released.{ReleasesBelow, heap_with, MoveAll}
+use Rattle.collector.specs.Released.{ReleasesBelow, heap_with, MoveAll, MarksTargets}
 use Rattle.collector.specs.Tallies.{IsNote}
 use Rattle.collector.specs.declared.outcome.Note.{Note}
 use Rattle.collector.proofs.WholeCollections.{CollectsBy, makes, numbered}
@@ -156,6 +158,18 @@ module _ (start : TraceStart) (w : PacketTrace) (full : IsFullTrace start w) whe
         let sum : total s.blocks (λ a. f a + g a) ≡ total s.blocks (λ a. one_if (nat_lt 0 (F a))) = total-same s.blocks _ _ (λ a below. split (nat_lt 0 (F a)) (nat_eq (F a) a)) in
         let parts : total s.blocks (λ a. f a + g a) ≡ total s.blocks f + total s.blocks g = total-both s.blocks f g in
         omega (arith, kept-is, moved-is, sum, parts)
+
+    -- if the run marks lines, those of each target are marked
+    pub marks-lines : IsTrue start.run.lines → MarksTargets p es
+    marks-lines on = record {
+      clear = λ k line there few. begun-lines s start.run start.heap.lawful.but_lines on no-nursery k line (subst (λ b. k < b) (numbered s start.run 1 full.may p refl).blocks there) few;
+      all = λ x t n is few touches.
+          let some : 0 < times x v.copied = omega (arith, copied-image x, ap one_if (lt-ltb 0 (F x) (image-some p es tracks.trace finished x t is))) in
+          elim (full.awaited.lines on x some) as (λ _. IsTrue (bit_of (blocks p) LineWords (heap_after p es).words n)) [
+            | inl left ↦ absurd (omega (arith, left))
+            | inr had ↦ had.marked n few (subst (λ u. TouchesLine (blocks p) u (size p x) n) (let one : Some t ≡ Some had.target = sym is ∙ had.known in let same : t ≡ had.target = cc in same) touches)
+          ];
+    }
 
     -- if as many moved as were kept, none stays in its place
     pub moves-all : w.tally.kept ≡ w.tally.moved → MoveAll p es

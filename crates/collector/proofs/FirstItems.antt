@@ -2,7 +2,7 @@
 use Rattle.std.proofs.Common.{◌≡◌, ℕ, zero, suc, ◌+◌, ◌<◌, ◌≤◌, ◌⊎◌, inl, inr, Bool, not, nat_eq, List, [], ◌∷◌, ◌++◌, map, length, slice_index, All, refl, sym, ap, ap₂, ◌∙◌, subst, arith, eq-eqb, ne_eqb, zero-add}
 use Rattle.std.specs.Prelude.{sum_by}
 use Rattle.std.specs.List.{range_with_len}
-use Rattle.std.proofs.lemmas.Bool.{cases_Bool, cases_eq, cases_lt, cond-true, cond-false}
+use Rattle.std.proofs.lemmas.Bool.{cases_eq, cases_lt}
 use Rattle.std.proofs.lemmas.List.{get_or_past}
 use Rattle.std.proofs.lemmas.List.Elements.{All-nil}
 use Rattle.std.proofs.lemmas.List.Sums.{sum_by-cons}
@@ -10,13 +10,12 @@ use Rattle.std.proofs.Math.Nat.{zero-mul}
 use Rattle.heap_layout.specs.Zones.{row_words}
 use Rattle.object_model.specs.Objects.{HeapState, IsHeld, size_at}
 use Rattle.object_model.specs.Lawful.{IsLawfulButLines}
-use Rattle.object_model.proofs.Blocks.{held-after}
 use Rattle.trace_core.specs.Views.{IsGrey, one_if, times, first_view}
-use Rattle.trace_core.specs.Tracers.{Tracks, setup_of, clears_lines, without_lines}
+use Rattle.trace_core.specs.Tracers.{Tracks, setup_of}
 use Rattle.trace_core.specs.declared.run.TraceRun.{TraceRun}
 use Rattle.trace_core.specs.declared.tokens.GlobalRoot.{GlobalRoot}
 use Rattle.trace_core.proofs.Counting.{count-cons, count-append, times-cons}
-use Rattle.trace_core.proofs.WithoutLines as cleared
+use Rattle.trace_core.proofs.Begun.{held-begun}
 use Rattle.collector.specs.declared.item.Item.{Item}
 use Rattle.collector.specs.declared.item.Item.TheVariants.{Register, Global}
 use Rattle.collector.specs.declared.packet_trace.PacketTrace.{PacketTrace}
@@ -135,13 +134,6 @@ module _ (n : ℕ) (tokens : List GlobalRoot) (every : map (λ (token : GlobalRo
     | inr past ↦ omega (arith, first-others i past)
   ]
 
--- what is held is held as the trace begins
-pub held-before-trace : (s : HeapState) (run : TraceRun) → IsLawfulButLines s → (x : ℕ) → IsHeld s x → IsHeld (setup_of s run 1).before x
-held-before-trace s run lawful x there = elim (cases_Bool (clears_lines run)) as (λ _. IsHeld (setup_of s run 1).before x) [
-  | inl is ↦ subst (λ h. IsHeld h x) (sym (cond-true (clears_lines run) (without_lines s) s is)) (held-after s _ (cleared.same s lawful) x there)
-  | inr none ↦ subst (λ h. IsHeld h x) (sym (cond-false (clears_lines run) (without_lines s) s none)) there
-]
-
 module _ (s : HeapState) (run : TraceRun) (roots : List ℕ) (lawful : IsLawfulButLines s) (held : AreRoots s roots) (tokens : List GlobalRoot)
     (every : map (λ (token : GlobalRoot). token.global) tokens ≡ range_with_len 0 16) where
   abbrev items : List Item
@@ -157,7 +149,7 @@ module _ (s : HeapState) (run : TraceRun) (roots : List ℕ) (lawful : IsLawfulB
     places = below-length (length roots) tokens every;
     refer = λ i some. elim (cases_eq (slice_index roots i) 0) as (λ _. (slice_index roots i ≡ 0) ⊎ IsHeld (setup_of s run 1).before (slice_index roots i)) [
       | inl nil ↦ inl nil
-      | inr some-root ↦ inr (held-before-trace s run lawful (slice_index roots i) (held i (below-length (length roots) tokens every i some) some-root))
+      | inr some-root ↦ inr (held-begun s run lawful (slice_index roots i) (held i (below-length (length roots) tokens every i some) some-root))
     ];
   }
 
@@ -186,6 +178,7 @@ first-awaited s run roots lawful held tokens every w tracks runs same none kept 
   none = none;
   sparse = refl;
   scanned = λ x some. absurd (omega (arith, some));
+  lines = λ on x some. absurd (omega (arith, some));
   settled = λ g small. inl (let is : globals g (starting_items (length roots) tokens) ≡ times g (range_with_len 0 16) = first-globals (length roots) tokens every g in
       let one : times g (range_with_len 0 16) ≡ 1 = range-once 0 16 g (omega arith) (omega (arith, small)) in omega (arith, is, one));
   as_many = ap length same;

@@ -1,4 +1,4 @@
--- The heap that was given to a collection, and the heap as its trace begins. They differ in line bits alone.
+-- The heap that was given to a collection, and the heap as its trace begins. They differ in line bits and unlog bits alone.
 use Rattle.std.proofs.Common.{◌≡◌, refl, sym, ◌∙◌, ap, ap₂, subst, ℕ, ◌<◌, Bool, true, false, ◌&&◌, not, IsTrue, nat_le, List}
 use Rattle.heap_layout.specs.Zones.{block_at}
 use Rattle.heap_layout.specs.declared.block.Kind.{Kind}
@@ -8,7 +8,7 @@ use Rattle.object_model.specs.Objects.{HeapState, with_words, block_word, has_ki
 use Rattle.object_model.specs.Ages.{is_old}
 use Rattle.object_model.specs.Graphs.{IsReachable, from_root, from_global, from_field}
 use Rattle.object_model.specs.Preserving.{may_leave}
-use Rattle.object_model.proofs.Blocks.{SameHeap, at, refs-same, size-same, ref-same}
+use Rattle.collector.proofs.SameObjects.{SameObjects, at, refs-same, size-same, ref-same}
 use Rattle.object_model.proofs.Frames.{has_kind-same}
 use Rattle.forward_word.specs.CollectorWords.{is_old_word}
 use Rattle.sessions.specs.Plans.{Rules, Plan, rules_of}
@@ -19,12 +19,12 @@ use Rattle.trace_core.specs.Tracers.{is_nursery}
 use Rattle.collector.proofs.Spans.{address-block}
 use Rattle.collector.proofs.EvacuatedKinds.{moves-evacuated}
 
--- these words make the same heap but for line bits
-pub record SameButLines (s : HeapState) (w : List ℕ) : Type 0 where
-  pub heap : SameHeap s w
+-- these words make the same heap but for line bits and unlog bits
+pub record SameButBits (s : HeapState) (w : List ℕ) : Type 0 where
+  pub heap : SameObjects s w
   pub blocks : (k : ℕ) → k < s.blocks → block_word (with_words s w) k ≡ block_word s k
 
-module _ {s : HeapState} {w : List ℕ} (like : SameButLines s w) where
+module _ {s : HeapState} {w : List ℕ} (like : SameButBits s w) where
   abbrev given : HeapState
   given = with_words s w
 
@@ -56,7 +56,7 @@ module _ {s : HeapState} {w : List ℕ} (like : SameButLines s w) where
 
 -- The collection of this setup is of this kind, under this plan, of the heap with these words.
 pub record IsSetupUnder (q : Plan) (c : Collect) (p : Setup) (u : List ℕ) : Type 0 where
-  pub like : SameButLines p.before u
+  pub like : SameButBits p.before u
   pub nursery : p.nursery ≡ is_nursery c
   pub young : c ≡ Nursery → IsTrue (rules_of q).young
   pub from : (k : ℕ) → k < blocks p → p.from k ≡ is_evacuated (rules_of q) c (with_words p.before u) k

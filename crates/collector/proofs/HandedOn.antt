@@ -1,21 +1,29 @@
 -- Tokens that were won are handed on as items of packets, and counted.
-use Rattle.std.proofs.Common.{◌≡◌, ℕ, ◌+◌, ◌<◌, ◌≤◌, ◌^◌, ◌-◌, inl, inr, nat_le, suc, List, [], ◌∷◌, ◌++◌, length, length-append, refl, sym, ap, ◌∙◌, subst, arith}
+use Rattle.std.proofs.Common.{◌≡◌, ℕ, ◌+◌, ◌<◌, ◌≤◌, ◌^◌, ◌-◌, inl, inr, nat_le, suc, List, [], ◌∷◌, ◌++◌, map, length, length-append, refl, sym, ap, ◌∙◌, subst, arith}
 use Rattle.std.specs.Prelude.{All, count_by, sum_by}
 use Rattle.std.specs.List.Sorted.{IsPermutation}
 use Rattle.std.proofs.lemmas.Bool.{cases_Bool, cond-true, cond-false, leb-true, leb-false, le-leb}
 use Rattle.std.proofs.lemmas.List.Concat.{flat_map-append}
-use Rattle.std.proofs.lemmas.List.{append-nil}
+use Rattle.std.proofs.lemmas.List.{append-nil, map-append}
 use Rattle.std.proofs.lemmas.List.Sums.{sum_by-append}
 use Rattle.std.proofs.lemmas.List.Elements.{All-head, All-tail}
 use Rattle.std.proofs.lemmas.List.Sorted.{length_permutation, IsPermutation-append, IsPermutation-append_comm, IsPermutation-cons, IsPermutation-to_front, IsPermutation-sym, IsPermutation-trans}
+use Rattle.trace_core.specs.Setups.{Setup}
+use Rattle.trace_core.specs.Machine.{Event}
+use Rattle.trace_core.specs.Views.{View, IsReached, grey_of}
+use Rattle.trace_core.specs.Tracers.{Tracks}
+use Rattle.trace_core.specs.declared.plain_trace.PlainTrace.{PlainTrace}
 use Rattle.trace_core.specs.declared.tokens.Grey.{Grey}
+use Rattle.trace_core.specs.declared.tokens.Reached.{Reached}
 use Rattle.trace_core.proofs.Counting.{count-append}
 use Rattle.work_packets.specs.declared.packet.Packet.{Packet}
 use Rattle.collector.specs.declared.item.Item.{Item}
 use Rattle.collector.specs.declared.item.Item.TheVariants.{Register, Global, Object}
 use Rattle.collector.specs.declared.tally.Tally.{Tally}
 use Rattle.collector.specs.Items.{items_of, tokens_of, IsObject}
+use Rattle.collector.specs.Serving.{AreShaped}
 use Rattle.collector.specs.Tallies.{Counts, capped, has_moved}
+use Rattle.collector.proofs.ItemCounts.{all-left, all-right}
 
 -- the tokens of two lists of items, one after the other
 pub tokens-append : (is js : List Item) → tokens_of (is ++ js) ≡ tokens_of is ++ tokens_of js
@@ -63,15 +71,6 @@ counts-before old mid new ps qs first after = record {
       first.words after.words (sum_by-append size qs ps);
 }
 
--- the tokens are counted, if there are any
-abbrev pub CountsIfAny : Tally → Tally → List Grey → Type 0
-CountsIfAny old new [] = new ≡ old
-CountsIfAny old new (grey ∷ pushed) = Counts old new (grey ∷ pushed)
-
-pub counts-more : (old mid new : Tally) (ps qs : List Grey) → CountsIfAny old mid ps → Counts mid new qs → Counts old new (qs ++ ps)
-counts-more old mid new [] qs same after = subst (Counts old new) (sym (append-nil qs)) (subst (λ t. Counts t new qs) same after)
-counts-more old mid new (grey ∷ ps) qs first after = counts-before old mid new (grey ∷ ps) qs first after
-
 capped-none : (most n : ℕ) → n ≤ most → n ≡ capped most (n + 0)
 capped-none most n low = let same : n ≡ n + 0 = omega arith in
     same ∙ sym (cond-true (nat_le (n + 0) most) (n + 0) most (le-leb (n + 0) most (omega (arith, low))))
@@ -106,3 +105,30 @@ one-packet-more more handed ps q before same = subst (IsPermutation (more ++ han
     (sym (ap tokens_of (items-more ps q) ∙ tokens-append (items_of ps) q.items.items))
     (IsPermutation-trans (more ++ handed) (handed ++ more) (tokens_of (items_of ps) ++ tokens_of q.items.items) (IsPermutation-append_comm more handed)
     (IsPermutation-append handed (tokens_of (items_of ps)) more (tokens_of q.items.items) before same))
+
+-- no token, and one more
+pub shaped-none : (t : PlainTrace) → AreShaped t [] []
+shaped-none t = record { shaped = λ p es v tracks all. refl; as_many = refl }
+
+pub shaped-more : (t : PlainTrace) (r : Reached) (rs : List Reached) (grey : Grey) (greys : List Grey)
+    → ((p : Setup) (es : List Event) (v : View) → Tracks p es t v → IsReached p v r → grey ≡ grey_of p r) → AreShaped t rs greys → AreShaped t (r ∷ rs) (grey ∷ greys)
+shaped-more t r rs grey greys one are = record {
+  shaped = λ p es v tracks all.
+      ap (λ g. g ∷ map (grey_of p) rs) (sym (one p es v tracks (All-head (IsReached p v) r rs all)))
+      ∙ ap (λ gs. grey ∷ gs) (are.shaped p es v tracks (All-tail (IsReached p v) r rs all));
+  as_many = ap suc are.as_many;
+}
+
+-- the tokens of two lists
+pub shaped-both : (t : PlainTrace) (more handed : List Reached) (gs hs : List Grey) → AreShaped t more gs → AreShaped t handed hs → AreShaped t (more ++ handed) (gs ++ hs)
+shaped-both t more handed gs hs first second = record {
+  shaped = λ p es v tracks all. map-append (grey_of p) more handed
+      ∙ ap (λ l. l ++ map (grey_of p) handed) (first.shaped p es v tracks (all-left (IsReached p v) more handed all))
+      ∙ ap (λ l. gs ++ l) (second.shaped p es v tracks (all-right (IsReached p v) more handed all));
+  as_many = length-append gs hs ∙ ap (λ n. n + length hs) first.as_many ∙ ap (λ n. length more + n) second.as_many ∙ sym (length-append more handed);
+}
+
+-- the last token of those that are left is a right
+pub last-reached : (p : Setup) (v : View) (left : List Reached) (r : Reached) (handed all : List Reached) → all ≡ (left ++ r ∷ []) ++ handed → All (IsReached p v) all → IsReached p v r
+last-reached p v left r handed all is rights = All-head (IsReached p v) r []
+    (all-right (IsReached p v) left (r ∷ []) (all-left (IsReached p v) (left ++ r ∷ []) handed (subst (All (IsReached p v)) is rights)))

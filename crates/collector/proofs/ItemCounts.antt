@@ -1,5 +1,5 @@
 -- Counts of items and their tokens: of lists put together, of packets in another order, and of objects alone.
-use Rattle.std.proofs.Common.{◌≡◌, refl, sym, ◌∙◌, ap, subst, ℕ, ◌+◌, ◌<◌, inl, inr, arith, Bool, true, false, ◌&&◌, nat_eq, List, [], ◌∷◌, ◌++◌, length}
+use Rattle.std.proofs.Common.{◌≡◌, refl, sym, ◌∙◌, ap, subst, ℕ, ◌+◌, ◌<◌, inl, inr, arith, Bool, true, false, ◌&&◌, nat_eq, List, [], ◌∷◌, ◌++◌, map, length}
 use Rattle.std.specs.Prelude.{All, count_by, sum_by}
 use Rattle.std.specs.List.Sorted.{IsPermutation}
 use Rattle.std.proofs.lemmas.Bool.{cases_eq, eq-eqb, ne_eqb}
@@ -32,6 +32,10 @@ module _ {A : Type 0} (P : A → Type 0) where
   pub all-both : (Q R : A → Type 0) → ((x : A) → P x → Q x → R x) → (xs : List A) → All P xs → All Q xs → All R xs
   all-both Q R both [] ps qs = All-nil R
   all-both Q R both (x ∷ xs) ps qs = All-cons R x xs (both x (All-head P x xs ps) (All-head Q x xs qs)) (all-both Q R both xs (All-tail P x xs ps) (All-tail Q x xs qs))
+
+pub all-of-map : {A B : Type 0} (P : B → Type 0) (f : A → B) (xs : List A) → All P (map f xs) → All (λ x. P (f x)) xs
+all-of-map P f [] all = All-nil (λ x. P (f x))
+all-of-map P f (x ∷ xs) all = All-cons (λ x. P (f x)) x xs (All-head P (f x) (map f xs) all) (all-of-map P f xs (All-tail P (f x) (map f xs) all))
 
 -- lists put together
 pub registers-append : (i : ℕ) (xs ys : List Item) → registers i (xs ++ ys) ≡ registers i xs + registers i ys

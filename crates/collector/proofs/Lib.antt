@@ -10,6 +10,8 @@ mod Steps
 mod InOrder
 mod Owners
 mod MovedBlocks
+mod UnlogBits
+mod MarkedBlocks
 mod Spans
 mod Fates
 mod ReleasedBlocks
@@ -43,3 +45,6 @@ pub mod LeftFalls
 pub mod NextTally
 mod TwoBuckets
 pub mod Offered
+mod SameObjects
+pub mod ItsLines
+mod MarkedLines

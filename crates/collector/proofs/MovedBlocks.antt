@@ -38,7 +38,7 @@ pub owner-told : (s : HeapState) (k : ℕ) (w : BlockWord) → IsValid w → cod
 owner-told s k w valid code = (parts_of_code w (block_word s k) valid code).2
 
 -- the code of a word without its owner
-unowned-code : (w : BlockWord) (v : ℕ) → IsValid w → code_of w ≡ v → code_of (record { kind = w.kind; class = w.class; owner = 0 }) ≡ v % 65536
+pub unowned-code : (w : BlockWord) (v : ℕ) → IsValid w → code_of w ≡ v → code_of (record { kind = w.kind; class = w.class; owner = 0 }) ≡ v % 65536
 unowned-code w v valid code =
     let class : v / 256 % 256 ≡ w.class = (parts_of_code w v valid code).1 in
     let kind : kind_code w.kind ≤ 8 = kind_code_most w.kind in

@@ -1,7 +1,7 @@
 -- The counts of a trace after tokens were handed on: none reaches the largest number.
 use Rattle.std.proofs.Common.{◌≡◌, refl, sym, ◌∙◌, ap, subst, ℕ, ◌+◌, ◌*◌, ◌-◌, ◌^◌, ◌<◌, ◌≤◌, inl, inr, arith, not, nat_eq, List, ◌++◌, length}
 use Rattle.std.specs.Prelude.{All, sum_by, count_by}
-use Rattle.std.proofs.lemmas.Bool.{cases_Bool, cases_lt, cond-true, cond-false}
+use Rattle.std.proofs.lemmas.Bool.{cases_lt}
 use Rattle.std.proofs.lemmas.List.Elements.{All-weaker}
 use Rattle.heap_layout.specs.Zones.{row_words}
 use Rattle.object_model.specs.Objects.{HeapState, IsHeld, refs_at, nums_at, size_at}
@@ -12,10 +12,12 @@ use Rattle.trace_core.specs.Machine.{Event, address_or_nil}
 use Rattle.trace_core.specs.Traces.{IsTrace, machine_after, stage_of}
 use Rattle.trace_core.specs.Outcomes.{image}
 use Rattle.trace_core.specs.Views.{View, Holds, IsGrey, one_if, times, copied_in}
-use Rattle.trace_core.specs.Tracers.{setup_of, clears_lines, without_lines}
+use Rattle.trace_core.specs.Tracers.{setup_of, without_lines}
 use Rattle.trace_core.specs.declared.run.TraceRun.{TraceRun}
 use Rattle.trace_core.specs.declared.tokens.Grey.{Grey}
+use Rattle.object_model.proofs.Frames as frames
 use Rattle.trace_core.proofs.WithoutLines as lines
+use Rattle.trace_core.proofs.Begun.{by-begun, keeps-objects}
 use Rattle.collector.specs.declared.tally.Tally.{Tally}
 use Rattle.collector.specs.Tallies.{total, has_moved, Counts, IsTally}
 use Rattle.collector.proofs.TallySums.{total-same, total-most, total-more, total-copied, sum-equal, count-next}
@@ -38,18 +40,18 @@ module _ (s : HeapState) (run : TraceRun) (lawful : IsLawfulButLines s) where
   abbrev p : Setup
   p = setup_of s run 1
 
-  by-heap : (P : HeapState → Type 0) → P (without_lines s) → P s → P p.before
-  by-heap P cleared itself = elim (cases_Bool (clears_lines run)) as (λ _. P p.before) [
-    | inl clears ↦ subst P (sym (cond-true (clears_lines run) (without_lines s) s clears)) cleared
-    | inr keeps ↦ subst P (sym (cond-false (clears_lines run) (without_lines s) s keeps)) itself
-  ]
-
   blocks-same : blocks p ≡ s.blocks
-  blocks-same = by-heap (λ h. h.blocks ≡ s.blocks) refl refl
+  blocks-same = by-begun s run (λ h. h.blocks ≡ s.blocks) refl refl refl
+
+  lawful-lines : IsLawfulButLines (without_lines s)
+  lawful-lines = lines.without_lines-lawful s lawful
 
   size-same : (a : ℕ) → IsHeld p.before a → size p a ≡ size_at s a
-  size-same = by-heap (λ h. (a : ℕ) → IsHeld h a → size_at h a ≡ size_at s a)
-      (λ a there. given.size-same s ((without_lines s).words) (lines.same s lawful) a (given.held-before s ((without_lines s).words) (lines.same s lawful) a there))
+  size-same = by-begun s run (λ h. (a : ℕ) → IsHeld h a → size_at h a ≡ size_at s a)
+      (λ a there. let before = frames.held-before (without_lines s) _ (keeps-objects (without_lines s) lawful-lines) a there in
+      frames.size-after (without_lines s) _ (keeps-objects (without_lines s) lawful-lines) a before
+      ∙ given.size-same s ((without_lines s).words) (lines.same s lawful) a (given.held-before s ((without_lines s).words) (lines.same s lawful) a before))
+      (λ a there. frames.size-after s _ (keeps-objects s lawful) a (frames.held-before s _ (keeps-objects s lawful) a there))
       (λ a there. refl)
 
   module _ (es ds : List Event) (v v' : View) (trace : IsTrace p es) (holds : Holds p (machine_after p es) v)

@@ -1,8 +1,8 @@
 -- The blocks that were released so far.
-use Rattle.std.proofs.Common.{◌≡◌, sym, subst, subst₂, ap, refl, ◌∙◌, ℕ, ◌+◌, ◌<◌, ◌^◌, List, length}
+use Rattle.std.proofs.Common.{◌≡◌, sym, subst, subst₂, ap, refl, ◌∙◌, ℕ, ◌+◌, ◌<◌, ◌^◌, false, List, length}
 use Rattle.heap_layout.specs.Zones.{row_words}
 use Rattle.heap_layout.specs.declared.layout.Layout.{Layout}
-use Rattle.object_model.specs.Objects.{HeapState, state_of, state_over, word_at}
+use Rattle.object_model.specs.Objects.{HeapState, state_of, state_over, word_at, is_unlogged}
 use Rattle.object_model.specs.Lawful.{IsLawful}
 use Rattle.object_model.specs.Releasing.{IsReleasable}
 use Rattle.object_model.specs.declared.row.Row.{Row}
@@ -14,10 +14,12 @@ use Rattle.trace_core.specs.Traces.{IsTrace, IsFinished, machine_after, heap_aft
 use Rattle.trace_core.specs.Outcomes.{base_after, image, FinishedRow}
 use Rattle.trace_core.proofs.Rows.{row}
 use Rattle.plan_api.specs.Releasing.{Releases}
-use Rattle.collector.specs.Released.{ReleasesBelow, none, one_more, MoveAll, OwnerTells}
+use Rattle.collector.specs.Released.{ReleasesBelow, none, one_more, MoveAll, OwnerTells, MarksTell, MarksTargets, LinesTell}
 use Rattle.collector.proofs.InOrder.{next, released}
 use Rattle.collector.proofs.LawfulReleases.{lawful-with}
 use Rattle.collector.proofs.Owners.{tells-next, tells-again}
+use Rattle.collector.proofs.UnlogBits.{marks-next, marks-again}
+use Rattle.collector.proofs.MarkedLines.{lines-next, lines-again}
 use Rattle.collector.proofs.Numbers.{releasable-again, releases-again}
 
 -- the blocks of the row below n are released in these words
@@ -63,6 +65,14 @@ module _ (r : Rules) (c : Collect) (base : ℕ) (old : Row) (p : Setup) (es : Li
     pub tells : MoveAll p es → n < old.layout.blocks → OwnerTells base (state_over words old.layout 0 0) n
     tells move there = subst (λ b. OwnerTells b (state_over words old.layout 0 0) n) (sym is-base)
         (tells-again (base_after p) words old.layout old.number old.base 0 0 n (tells-next p es r c now n trace finished move below (subst (λ b. n < b) blocks-same there)))
+
+    pub lines : MarksTargets p es → n < old.layout.blocks → LinesTell base (state_over words old.layout 0 0) n
+    lines marked there = subst (λ b. LinesTell b (state_over words old.layout 0 0) n) (sym is-base)
+        (lines-again (base_after p) words old.layout old.number old.base 0 0 n (lines-next p es r c now n trace finished marked below (subst (λ b. n < b) blocks-same there)))
+
+    pub marks : p.nursery ≡ false → ((a : ℕ) → is_unlogged p.before a ≡ false) → n < old.layout.blocks → MarksTell base (state_over words old.layout 0 0) n
+    marks full clear there = subst (λ b. MarksTell b (state_over words old.layout 0 0) n) (sym is-base)
+        (marks-again (base_after p) words old.layout old.number old.base 0 0 n (marks-next p es r c now n trace finished full clear below (subst (λ b. n < b) blocks-same there)))
 
   pub lawful-after : (words : List ℕ) → ReleasesBelow r c base (state_of old) (state_over words old.layout old.number old.base) old.layout.blocks → ((i : ℕ) → word_at (state_over words old.layout old.number old.base) i < 2 ^ 64)
       → (number : ℕ) → number ≡ collection p → IsLawful (state_over words old.layout number base)

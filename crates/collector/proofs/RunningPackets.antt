@@ -1,5 +1,5 @@
 -- The items of a packet are served one after another, from the last, and what was won is handed on.
-use Rattle.std.proofs.Common.{◌≡◌, ℕ, inl, inr, Result, Ok, Err, List, [], ◌∷◌, ◌++◌, refl, sym, ap, ◌∙◌, subst, arith}
+use Rattle.std.proofs.Common.{◌≡◌, ℕ, inl, inr, Result, Ok, Err, List, [], ◌∷◌, ◌++◌, map, refl, sym, ap, ◌∙◌, subst, arith}
 use Rattle.std.specs.Prelude.{All, IfOk, length}
 use Rattle.std.specs.List.Sorted.{IsPermutation}
 use Rattle.std.proofs.lemmas.List.{append_assoc, append-nil}
@@ -14,17 +14,17 @@ use Rattle.work_packets.specs.Packets.{HasItems}
 use Rattle.object_model.specs.Heaps.{heap_state}
 use Rattle.trace_core.specs.Setups.{Setup}
 use Rattle.trace_core.specs.Machine.{Event}
-use Rattle.trace_core.specs.Views.{View}
+use Rattle.trace_core.specs.Views.{View, IsGrey, IsReached, grey_of}
 use Rattle.trace_core.specs.Tracers.{Tracks, IsTracing, setup_of}
 use Rattle.trace_core.specs.declared.tokens.Grey.{Grey}
 use Rattle.collector.specs.declared.item.Item.{Item}
 use Rattle.collector.specs.declared.packet_trace.PacketTrace.{PacketTrace}
 use Rattle.collector.specs.declared.worker.TraceStart.{TraceStart}
 use Rattle.collector.specs.Items.{items_of, tokens_of, IsObject}
-use Rattle.collector.specs.Serving.{HasRights, Serves}
+use Rattle.collector.specs.Serving.{HasRights, Serves, AreShaped}
 use Rattle.collector.specs.Tallies.{Counts}
 use Rattle.collector.specs.Working.{TakesPlaces, RunsPacket, AwaitsPackets, IsOfTrace}
-use Rattle.collector.proofs.ItemCounts.{all-left, all-right, no-registers}
+use Rattle.collector.proofs.ItemCounts.{all-left, all-right, all-of-map, no-registers}
 use Rattle.collector.proofs.ServesAppend.{Halves, halves-cut, halves-ends, rights-part, rights-after, serves-both, serves-none}
 
 -- Of all items these are left. The others were served, and nothing was handed on.
@@ -33,7 +33,7 @@ pub record HasServed (old new : PacketTrace) (all left : List Item) : Type 0 whe
   pub cut : all ≡ left ++ done
   pub tally : new.tally ≡ old.tally
   pub serves : (p : Setup) (es : List Event) (v : View) → Tracks p es old.tracer v → HasRights p v old.roots.items all
-      → Serves p es v old.tracer old.roots.items done new.tracer new.roots.items new.won.items
+      → Serves p es v old.tracer old.roots.items done new.tracer new.roots.items (map (grey_of p) new.won.items)
 
 -- the trace has the right to serve these items
 abbrev pub MayServe : PacketTrace → List Item → Type 0
@@ -43,7 +43,7 @@ MayServe w items = IsTracing w.tracer (λ p es v. HasRights p v w.roots.items it
 abbrev pub ServesOne : PacketTrace → Item → PacketTrace → Type 0
 ServesOne old item new = (p : Setup) (es : List Event) (v : View) → Tracks p es old.tracer v
     → HasRights p v old.roots.items (item ∷ [])
-    → (pushed : List Grey) × (new.won.items ≡ old.won.items ++ pushed)
+    → (pushed : List Grey) × (map (grey_of p) new.won.items ≡ map (grey_of p) old.won.items ++ pushed)
     × Serves p es v old.tracer old.roots.items (item ∷ []) new.tracer new.roots.items pushed
 
 pub served-none : (w : PacketTrace) (all : List Item) → w.won.items ≡ [] → HasServed w w all all
@@ -52,7 +52,7 @@ served-none w all none = record {
   cut = sym (append-nil all);
   tally = refl;
   serves = λ p es v tracks rights.
-      subst (λ won. Serves p es v w.tracer w.roots.items [] w.tracer w.roots.items won) (sym none)
+      subst (λ won. Serves p es v w.tracer w.roots.items [] w.tracer w.roots.items (map (grey_of p) won)) (sym none)
       (serves-none w.roots.items tracks rights.idle);
 }
 
@@ -101,53 +101,73 @@ module _ {old mid : PacketTrace} {all items : List Item} (left : List Item) (ite
 
 -- The tokens that were won are handed on, in these packets.
 pub record HandsOn (old new : PacketTrace) (q : List (Packet Item)) : Type 0 where
-  pub tokens : IsPermutation old.won.items (tokens_of (items_of q))
+  pub greys : List Grey
+  pub shaped : AreShaped old.tracer old.won.items greys
+  pub tokens : IsPermutation greys (tokens_of (items_of q))
   pub objects : All IsObject (items_of q)
   pub closure : All (λ packet. packet.bucket ≡ buckets.Closure) q
-  pub counts : Counts old.tally new.tally old.won.items
+  pub counts : Counts old.tally new.tally greys
   pub tracer : new.tracer ≡ old.tracer
   pub roots : new.roots ≡ old.roots
   pub sizes : All HasItems q
   pub none : new.won.items ≡ []
 
 pub hands-on : {X E : Type 0} (r : Result X E) (old new : PacketTrace) (q : List (Packet Item))
-    → IfOk r (λ _. IsPermutation old.won.items (tokens_of (items_of q)))
+    → IfOk r (λ _. (greys : List Grey) × AreShaped old.tracer old.won.items greys × IsPermutation greys (tokens_of (items_of q)) × Counts old.tally new.tally greys)
     → IfOk r (λ _. All IsObject (items_of q))
     → IfOk r (λ _. All (λ packet. packet.bucket ≡ buckets.Closure) q)
-    → IfOk r (λ _. Counts old.tally new.tally old.won.items)
     → IfOk r (λ _. new.tracer ≡ old.tracer)
     → IfOk r (λ _. new.roots ≡ old.roots)
     → IfOk r (λ _. All HasItems q)
     → IfOk r (λ _. new.won.items ≡ [])
     → IfOk r (λ _. HandsOn old new q)
-hands-on (Ok x) old new q tokens objects closure counts tracer roots sizes none = record {
-  tokens = tokens;
+hands-on (Ok x) old new q tokens objects closure tracer roots sizes none = record {
+  greys = tokens.0;
+  shaped = tokens.1;
+  tokens = tokens.2;
   objects = objects;
   closure = closure;
-  counts = counts;
+  counts = tokens.3;
   tracer = tracer;
   roots = roots;
   sizes = sizes;
   none = none;
 }
-hands-on (Err e) old new q tokens objects closure counts tracer roots sizes none = tt
+hands-on (Err e) old new q tokens objects closure tracer roots sizes none = tt
+
+-- the tokens that were won are rights
+pub all-reached : {old mid : PacketTrace} {all left : List Item} → HasServed old mid all left → MayServe old all
+    → IsTracing mid.tracer (λ p es v. All (IsReached p v) mid.won.items)
+all-reached {old} {mid} served may =
+    let before = served.serves may.setup may.events may.view may.tracks may.right in
+    record {
+      setup = may.setup;
+      events = may.events ++ before.events;
+      view = before.view;
+      tracks = before.tracks;
+      right = all-of-map (IsGrey may.setup before.view) (grey_of may.setup) mid.won.items before.tokens;
+    }
 
 -- all items were served, and what was won is handed on
 pub runs-packet : {old mid new : PacketTrace} {left : List Item} (p : Packet Item) (q : List (Packet Item))
     → HasServed old mid p.items.items left
     → left ≡ [] → HandsOn mid new q → RunsPacket old p q new
 runs-packet {old} {mid} {new} p q served none handed = record {
-  won = mid.won.items;
+  won = handed.greys;
   pushed = handed.tokens;
   closure = handed.closure;
-  counts = subst (λ tally. Counts tally new.tally mid.won.items) served.tally handed.counts;
+  counts = subst (λ tally. Counts tally new.tally handed.greys) served.tally handed.counts;
   serves = λ setup es view tracks rights.
-      subst (λ t. Serves setup es view old.tracer old.roots.items p.items.items t new.roots.items mid.won.items)
+      (let s = served.serves setup es view tracks rights in
+      let greys = handed.shaped.shaped setup (es ++ s.events) s.view s.tracks
+      (all-of-map (IsGrey setup s.view) (grey_of setup) mid.won.items s.tokens) in
+      subst (λ won. Serves setup es view old.tracer old.roots.items p.items.items new.tracer new.roots.items won) greys
+      (subst (λ t. Serves setup es view old.tracer old.roots.items p.items.items t new.roots.items (map (grey_of setup) mid.won.items))
       (sym handed.tracer)
-      (subst (λ rs. Serves setup es view old.tracer old.roots.items p.items.items mid.tracer rs.items mid.won.items)
+      (subst (λ rs. Serves setup es view old.tracer old.roots.items p.items.items mid.tracer rs.items (map (grey_of setup) mid.won.items))
       (sym handed.roots)
-      (subst (λ l. Serves setup es view old.tracer old.roots.items l mid.tracer mid.roots.items mid.won.items)
-      (sym (served.cut ∙ ap (λ l. l ++ served.done) none)) (served.serves setup es view tracks rights)));
+      (subst (λ l. Serves setup es view old.tracer old.roots.items l mid.tracer mid.roots.items (map (grey_of setup) mid.won.items))
+      (sym (served.cut ∙ ap (λ l. l ++ served.done) none)) s))));
 }
 
 pub places-stay : {old mid : PacketTrace} {all left : List Item} (new : PacketTrace) → HasServed old mid all left

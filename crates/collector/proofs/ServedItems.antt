@@ -1,10 +1,14 @@
 -- A global is served when it is set, and an object when its fields are scanned.
-use Rattle.std.proofs.Common.{◌≡◌, ℕ, ◌+◌, ◌<◌, ◌≤◌, inl, inr, Bool, true, false, ◌&&◌, nat_eq, List, [], ◌∷◌, ◌++◌, refl, sym, ap, ◌∙◌, subst, arith}
+use Rattle.std.proofs.Common.{◌≡◌, ℕ, ◌+◌, ◌<◌, ◌≤◌, inl, inr, Bool, true, false, ◌&&◌, IsTrue, nat_eq, List, [], ◌∷◌, ◌++◌, refl, sym, ap, ◌∙◌, subst, arith}
 use Rattle.std.specs.Prelude.{if◌then◌else◌}
 use Rattle.std.proofs.lemmas.Bool.{cases_Bool, cases_eq, eqb-true, eq-eqb, ne_eqb}
 use Rattle.std.proofs.lemmas.List.Elements.{All-head, All-weaker}
-use Rattle.trace_core.specs.Setups.{Setup, refs}
+use Rattle.heap_layout.specs.Zones.{LineWords, bit_of}
+use Rattle.object_model.specs.Objects.{HeapState, state_of}
+use Rattle.object_model.specs.Lines.{TouchesLine}
+use Rattle.trace_core.specs.Setups.{Setup, blocks, refs}
 use Rattle.trace_core.specs.Machine.{Event}
+use Rattle.trace_core.specs.Traces.{heap_after}
 use Rattle.trace_core.specs.Views.{View, IsGrey, one_if, without, is_pair, hits, times, to_scan_in, set_view}
 use Rattle.trace_core.specs.Tracers.{SetsGlobal, ScansFields}
 use Rattle.trace_core.specs.declared.plain_trace.PlainTrace.{PlainTrace}
@@ -13,7 +17,7 @@ use Rattle.trace_core.specs.declared.tokens.GlobalRoot.{GlobalRoot}
 use Rattle.trace_core.proofs.Counting.{count-cons, times-cons, times-without}
 use Rattle.collector.specs.declared.item.Item.TheVariants.{Global, Object}
 use Rattle.collector.specs.Items.{is_global, is_object, globals, objects}
-use Rattle.collector.specs.Serving.{HasRights, Serves}
+use Rattle.collector.specs.Serving.{HasRights, HasItsLines, Serves}
 use Rattle.collector.proofs.ServedRoots.{none-if}
 
 eq-flip : (a b : ℕ) → nat_eq a b ≡ nat_eq b a
@@ -60,6 +64,7 @@ module _ (p : Setup) (es : List Event) (v : View) (t t' : PlainTrace) (roots : L
               let a : (if nat_eq k 0 then objects y (Global root ∷ []) else 0) ≡ 0 = none-if (nat_eq k 0) n refl in
               let b : (if nat_eq k (refs p y) then objects y (Global root ∷ []) else 0) ≡ 0 = none-if (nat_eq k (refs p y)) n refl in
               let d : hits y k sets.view.grey ≡ hits y k (to_scan_in sets.pushed) + hits y k v.grey = sets.pushes.grey y k in omega arith);
+          lines = λ on y some. absurd (omega (arith, some));
           unset = λ h. (let was : times h sets.view.unset ≡ times h v.unset = ap (times h) sets.pushes.unset in
               let d : times h sets.view.unset ≡ times h (without (nat_eq root.global) sets.view.unset) + one_if (nat_eq h root.global) =
               times-without g w.unset right h in
@@ -94,13 +99,22 @@ same-refs p x y j = elim (cases_Bool (nat_eq x y)) as (λ _. (if nat_eq j (refs 
   | inr other ↦ (let n : ℕ = one_if (nat_eq x y) in none-if (nat_eq j (refs p x)) n (ap one_if other) ∙ sym (none-if (nat_eq j (refs p y)) n (ap one_if other)))
 ]
 
+-- the one object
+only : (grey : Grey) (x : ℕ) → 0 < objects x (Object grey ∷ []) → grey.object ≡ x
+only grey x some = elim (cases_Bool (nat_eq grey.object x)) as (λ _. grey.object ≡ x) [
+  | inl is ↦ eqb-true grey.object x is
+  | inr other ↦ absurd (let one : objects x (Object grey ∷ []) ≡ one_if (nat_eq grey.object x) = object-one grey x in
+      let zero : one_if (nat_eq grey.object x) ≡ 0 = ap one_if other in omega (arith, some, one, zero))
+]
+
 module _ (p : Setup) (es : List Event) (v : View) (t t' : PlainTrace) (roots : List ℕ) (out out' : List Grey) (grey : Grey) (rights : HasRights p v roots (Object grey ∷ [])) where
   pub grey-token : IsGrey p v grey
   grey-token = All-head (IsGrey p v) grey [] rights.tokens
 
   pub serves-object : (lines : Bool) → ScansFields p es v t' lines grey grey.refs out out' → t'.run ≡ t.run
+      → (IsTrue t.run.lines → (n : ℕ) → TouchesLine (blocks p) grey.target grey.size n → IsTrue (bit_of (blocks p) LineWords t'.row.words.items n))
       → (pushed : List Grey) × (out' ≡ out ++ pushed) × Serves p es v t roots (Object grey ∷ []) t' roots pushed
-  serves-object lines scans run =
+  serves-object lines scans run marked =
       let x : ℕ = grey.object in
       let w : View = scans.view in (
         scans.pushed,
@@ -124,6 +138,7 @@ module _ (p : Setup) (es : List Event) (v : View) (t t' : PlainTrace) (roots : L
               ap (λ r. one_if (is_pair y k (grey.object, r))) grey-token.refs ∙ pair-as-if x (refs p x) y k ∙ same-refs p x y k
               ∙ ap (λ n. if nat_eq k (refs p y) then n else 0) one in
               omega arith);
+          lines = λ on y some. its-lines on y (only grey y some);
           unset = λ h. (let d : times h scans.view.unset ≡ times h v.unset = ap (times h) scans.scanned.unset in omega arith);
           set = λ h. (let d : times h scans.view.set ≡ times h v.set = ap (times h) scans.scanned.set in omega arith);
           as_many = refl;
@@ -134,3 +149,14 @@ module _ (p : Setup) (es : List Event) (v : View) (t t' : PlainTrace) (roots : L
           by_roots = λ y there. inl (subst (λ l. 0 < times y l) scans.scanned.asked there);
         },
       )
+    where
+      after : heap_after p (es ++ scans.grows.events) ≡ state_of t'.row
+      after = sym scans.grows.tracks.row
+
+      its-lines : IsTrue t.run.lines → (y : ℕ) → grey.object ≡ y → HasItsLines p (es ++ scans.grows.events) y
+      its-lines on y is = subst (HasItsLines p (es ++ scans.grows.events)) is (record {
+        target = grey.target;
+        known = scans.grows.tracks.holds.known grey.object grey.target (scans.scanned.known grey.object grey.target grey-token.target);
+        marked = λ n few touches. subst (λ (h : HeapState). IsTrue (bit_of (blocks p) LineWords h.words n)) (sym after)
+            (marked on n (subst (λ k. TouchesLine (blocks p) grey.target k n) (sym grey-token.size) touches));
+      })

@@ -93,6 +93,7 @@ module _ (p : Setup) (es : List Event) (v : View) (t : PlainTrace) (roots : List
     grey = λ y k. (let n : ℕ = objects y (Register place ∷ []) in
         let a : (if nat_eq k 0 then objects y (Register place ∷ []) else 0) ≡ 0 = none-if (nat_eq k 0) n refl in
         let b : (if nat_eq k (refs p y) then objects y (Register place ∷ []) else 0) ≡ 0 = none-if (nat_eq k (refs p y)) n refl in omega arith);
+    lines = λ on y some. absurd (omega (arith, some));
     unset = λ g. omega arith;
     set = λ g. omega arith;
     as_many = refl;
@@ -121,6 +122,7 @@ module _ (p : Setup) (es : List Event) (v : View) (t : PlainTrace) (roots : List
         let a : (if nat_eq k 0 then objects y (Register place ∷ []) else 0) ≡ 0 = none-if (nat_eq k 0) n refl in
         let b : (if nat_eq k (refs p y) then objects y (Register place ∷ []) else 0) ≡ 0 = none-if (nat_eq k (refs p y)) n refl in
         let d : hits y k w.grey ≡ hits y k (to_scan_in pushed) + hits y k v.grey = asks.grey y k in omega arith);
+    lines = λ on y some. absurd (omega (arith, some));
     unset = λ g. (let d : times g w.unset ≡ times g v.unset = ap (times g) asks.unset in omega arith);
     set = λ g. (let d : times g w.set ≡ times g v.set = ap (times g) asks.set in omega arith);
     as_many = replaces.as_many;

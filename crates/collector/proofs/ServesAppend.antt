@@ -1,7 +1,7 @@
 -- Items that were served in two parts: what is so of both parts is so of all items.
-use Rattle.std.proofs.Common.{◌≡◌, ℕ, ◌+◌, ◌<◌, ◌≤◌, ◌⊎◌, inl, inr, Bool, true, false, nat_eq, List, [], ◌∷◌, ◌++◌, slice_index, refl, sym, ap, ◌∙◌, subst, arith}
+use Rattle.std.proofs.Common.{◌≡◌, ℕ, ◌+◌, ◌<◌, ◌≤◌, ◌⊎◌, inl, inr, Bool, true, false, IsTrue, nat_eq, List, [], ◌∷◌, ◌++◌, slice_index, refl, sym, ap, ◌∙◌, subst, arith}
 use Rattle.std.specs.Prelude.{All, Contains, if◌then◌else◌}
-use Rattle.std.proofs.lemmas.Bool.{cases_eq}
+use Rattle.std.proofs.lemmas.Bool.{cases_eq, cases_lt}
 use Rattle.std.proofs.lemmas.List.{append_assoc, append-nil, map-append}
 use Rattle.std.proofs.lemmas.List.Elements.{All-nil, All-cons, All-append, All-weaker, All-contains, All-contains_itself}
 use Rattle.object_model.specs.Objects.{IsHeld}
@@ -9,12 +9,14 @@ use Rattle.trace_core.specs.Setups.{Setup, refs}
 use Rattle.trace_core.specs.Machine.{Event}
 use Rattle.trace_core.specs.Views.{View, IsGrey, is_pair, hits, times, copied_in, to_scan_in}
 use Rattle.trace_core.specs.Tracers.{Tracks}
+use Rattle.trace_core.specs.declared.run.TraceRun.{TraceRun}
 use Rattle.trace_core.specs.declared.plain_trace.PlainTrace.{PlainTrace}
 use Rattle.trace_core.specs.declared.tokens.Grey.{Grey}
 use Rattle.trace_core.proofs.Counting.{count-append, hits-here, hits-more}
 use Rattle.collector.specs.declared.item.Item.{Item}
 use Rattle.collector.specs.Items.{registers, globals, objects, tokens_of}
-use Rattle.collector.specs.Serving.{HasRights, IsTargetOf, Serves}
+use Rattle.collector.specs.Serving.{HasRights, IsTargetOf, HasItsLines, Serves}
+use Rattle.collector.proofs.ItsLines.{lines-grow}
 use Rattle.collector.proofs.ItemCounts.{all-left, all-right, registers-append, globals-append, objects-append, tokens-append, tokens-there}
 
 -- The items are those of the first part and those of the second, in any order.
@@ -190,6 +192,13 @@ module _ {p : Setup} {v : View} {roots : List ℕ} {all first second : List Item
         )
       ]
 
+      -- the object was in the first part, or in the second
+      lines-both : IsTrue t.run.lines → (x : ℕ) → 0 < objects x all → HasItsLines p ((es ++ served.events) ++ next.events) x
+      lines-both on x some = elim (cases_lt 0 (objects x first)) as (λ _. HasItsLines p ((es ++ served.events) ++ next.events) x) [
+        | inl before ↦ lines-grow p (es ++ served.events) next.events next.tracks.trace x (served.lines on x before)
+        | inr none ↦ next.lines (subst (λ (r : TraceRun). IsTrue r.lines) (sym served.run) on) x (let sum = halves.objects x in omega (arith, sum, some, none))
+      ]
+
       pub serves-both : Serves p es v t roots all t2 roots2 (won ++ won')
       serves-both = record {
         events = served.events ++ next.events;
@@ -210,6 +219,7 @@ module _ {p : Setup} {v : View} {roots : List ℕ} {all first second : List Item
         tokens = All-append (IsGrey p next.view) won won'
             (λ i d l. token-stays _ (in-scan won i d l) (served.tokens i d l)) next.tokens;
         grey = grey-both;
+        lines = λ on x some. subst (λ ds. HasItsLines p ds x) (append_assoc es served.events next.events) (lines-both on x some);
         unset = λ g. (let a = served.unset g in let b = next.unset g in let sum = halves.globals g in omega arith);
         set = λ g. (let a = served.set g in let b = next.set g in let sum = halves.globals g in omega arith);
         as_many = next.as_many ∙ served.as_many;
@@ -237,6 +247,7 @@ serves-none {p = p} {es = es} {v = v} {t = t} roots tracks idle = record {
   grey = λ x k. (let a = if-none (nat_eq k 0) (objects x []) refl in
       let b = if-none (nat_eq k (refs p x)) (objects x []) refl in
       omega arith);
+  lines = λ on x some. absurd (omega (arith, some));
   unset = λ g. omega arith;
   set = λ g. omega arith;
   as_many = refl;

@@ -1,7 +1,7 @@
 -- A finished trace and the release of all blocks make a collection.
-use Rattle.std.proofs.Common.{◌≡◌, refl, sym, ◌∙◌, ap, ap₂, subst, subst₂, ℕ, ◌+◌, ◌^◌, ◌<◌, ◌≤◌, inl, inr, arith, Bool, false, List, map, length, Option, Some, None}
+use Rattle.std.proofs.Common.{◌≡◌, refl, sym, ◌∙◌, ap, ap₂, subst, subst₂, ℕ, ◌+◌, ◌^◌, ◌<◌, ◌≤◌, arith, Bool, false, List, map, length, Option, Some, None}
 use Rattle.std.specs.Prelude.{if◌then◌else◌, slice_get, unwrap_or}
-use Rattle.std.proofs.lemmas.Bool.{cases_Bool, cond-true, cond-false}
+use Rattle.std.proofs.lemmas.Bool.{cond-true, cond-false}
 use Rattle.object_model.specs.declared.collect.Collect.{Collect}
 use Rattle.object_model.specs.declared.collect.Collect.TheVariants.{Nursery, Full}
 use Rattle.object_model.specs.Objects.{HeapState, word_at, with_words}
@@ -15,12 +15,14 @@ use Rattle.trace_core.specs.Setups.{Setup, blocks, collection}
 use Rattle.trace_core.specs.Machine.{Event}
 use Rattle.trace_core.specs.Traces.{IsTrace, IsFinished, machine_after, heap_after, stage_of}
 use Rattle.trace_core.specs.Outcomes.{base_after, image, HaveAsked, NoOthersAsked}
-use Rattle.trace_core.specs.Tracers.{is_nursery, is_set, clears_lines, without_lines, setup_of, MayRun}
+use Rattle.trace_core.specs.Tracers.{is_nursery, is_set, without_lines, without_unlogs, setup_of, MayRun}
 use Rattle.trace_core.specs.declared.run.TraceRun.{TraceRun}
 use Rattle.trace_core.proofs.WithoutLines as lines
+use Rattle.trace_core.proofs.Begun as begins
+use Rattle.trace_core.proofs.Begun.{by-begun}
 use Rattle.collector.specs.Released.{ReleasesBelow, AreReleased, heap_with}
 use Rattle.collector.specs.Collected.{IsRunUnder, FillsBlocks}
-use Rattle.collector.proofs.Given.{SameButLines, IsSetupUnder}
+use Rattle.collector.proofs.Given.{SameButBits, IsSetupUnder}
 use Rattle.collector.proofs.Fates.{IsAllReleased}
 use Rattle.collector.proofs.InOrder.{released}
 use Rattle.collector.proofs.LawfulReleases.{all-numbered, lawful}
@@ -74,11 +76,8 @@ module _ (s : HeapState) (run : TraceRun) (w : ℕ) where
   abbrev setup : HeapState → Setup
   setup h = record { before = h; nursery = is_nursery run.collect; from = λ b. is_set (slice_get run.from.items b); copy = run.copy_kind; workers = w }
 
-  by-heap : (P : Setup → Type 0) → P (setup (without_lines s)) → P (setup s) → P (setup_of s run w)
-  by-heap P cleared itself = elim (cases_Bool (clears_lines run)) as (λ _. P (setup_of s run w)) [
-    | inl clears ↦ subst (λ h. P (setup h)) (sym (cond-true (clears_lines run) (without_lines s) s clears)) cleared
-    | inr keeps ↦ subst (λ h. P (setup h)) (sym (cond-false (clears_lines run) (without_lines s) s keeps)) itself
-  ]
+  by-heap : (P : Setup → Type 0) → P (setup (without_unlogs (without_lines s))) → P (setup (without_unlogs s)) → P (setup s) → P (setup_of s run w)
+  by-heap P = by-begun s run (λ h. P (setup h))
 
   module _ (may : MayRun s run) where
     numbered-by : (h : HeapState) → with_words h s.words ≡ s → IsNumbered s run (setup h)
@@ -91,7 +90,7 @@ module _ (s : HeapState) (run : TraceRun) (w : ℕ) where
         }
 
     pub numbered : (p : Setup) → p ≡ setup_of s run w → IsNumbered s run p
-    numbered p is = subst (IsNumbered s run) (sym is) (by-heap (IsNumbered s run) (numbered-by (without_lines s) refl) (numbered-by s refl))
+    numbered p is = subst (IsNumbered s run) (sym is) (by-heap (IsNumbered s run) (numbered-by (without_unlogs (without_lines s)) refl) (numbered-by (without_unlogs s) refl) (numbered-by s refl))
 
     -- what the release of all blocks left, by the setup's numbers
     releases : (p : Setup) → IsNumbered s run p → (es : List Event) (r : Rules) (c : Collect) (new : HeapState) → IsTrace p es → IsFinished p (machine_after p es)
@@ -114,25 +113,39 @@ module _ (q : Plan) (c : Collect) (s : HeapState) (run : TraceRun) (w : ℕ) (la
       → ReleasesBelow r c run.base (heap_after p es) new s.blocks
       → CollectsBy (image (stage_of p es)) r w c s roots (heap_with new run.number run.base) (map (image (stage_of p es)) roots)
 
-  cleared : SameButLines (without_lines s) s.words
-  cleared = let same = lines.same s lawful-before.but_lines in record {
+  -- with unlog bits cleared, and with line bits cleared before
+  unlogs : SameButBits (without_unlogs s) s.words
+  unlogs = let lawful = lawful-before.but_lines in let keeps = begins.keeps-objects s lawful in record {
     heap = record {
-      words = λ i above. sym (same.words i above);
-      globals = λ g few. sym (same.globals g few);
-      starts = λ x. sym (same.starts x);
-      pins = λ x. sym (same.pins x);
-      unlogs = λ x. sym (same.unlogs x);
+      words = λ i above. sym (begins.above-unlogs s lawful i above);
+      globals = λ g few. sym (begins.globals-same s lawful g few);
+      starts = λ x. sym (keeps.starts x);
+      pins = λ x. sym (begins.pins-same s lawful x);
     };
-    blocks = λ k there. sym (lines.block-same s lawful-before.but_lines k there);
+    blocks = λ k there. sym (keeps.block_words k there);
   }
 
-  itself : SameButLines s s.words
+  both : SameButBits (without_unlogs (without_lines s)) s.words
+  both =
+      let same = lines.same s lawful-before.but_lines in
+      let lawful = lines.without_lines-lawful s lawful-before.but_lines in
+      let keeps = begins.keeps-objects (without_lines s) lawful in record {
+        heap = record {
+          words = λ i above. sym (begins.above-unlogs (without_lines s) lawful i above ∙ same.words i above);
+          globals = λ g few. sym (begins.globals-same (without_lines s) lawful g few ∙ same.globals g few);
+          starts = λ x. sym (keeps.starts x ∙ same.starts x);
+          pins = λ x. sym (begins.pins-same (without_lines s) lawful x ∙ same.pins x);
+        };
+        blocks = λ k there. sym (keeps.block_words k there ∙ lines.block-same s lawful-before.but_lines k there);
+      }
+
+  itself : SameButBits s s.words
   itself = record {
-    heap = record { words = λ i above. refl; globals = λ g few. refl; starts = λ x. refl; pins = λ x. refl; unlogs = λ x. refl };
+    heap = record { words = λ i above. refl; globals = λ g few. refl; starts = λ x. refl; pins = λ x. refl };
     blocks = λ k there. refl;
   }
 
-  module _ (h : HeapState) (like : SameButLines h s.words) (same : with_words h s.words ≡ s) where
+  module _ (h : HeapState) (like : SameButBits h s.words) (same : with_words h s.words ≡ s) where
     abbrev p : Setup
     p = setup s run w h
 
@@ -162,4 +175,4 @@ module _ (q : Plan) (c : Collect) (s : HeapState) (run : TraceRun) (w : ℕ) (la
         (collects under trace finished (all-numbered p es trace finished r c new (collection p) (base_after p) are) roots asked no-others fills, refl))))
 
   pub makes : (p : Setup) → p ≡ setup_of s run w → Makes p
-  makes p is = subst Makes (sym is) (by-heap s run w Makes (of-setup (without_lines s) cleared refl) (of-setup s itself refl))
+  makes p is = subst Makes (sym is) (by-heap s run w Makes (of-setup (without_unlogs (without_lines s)) both refl) (of-setup (without_unlogs s) unlogs refl) (of-setup s itself refl))

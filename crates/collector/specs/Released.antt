@@ -1,14 +1,18 @@
 -- The release of all blocks of a row, one after another.
-use Rattle.std.specs.Prelude.{◌≡◌, ◌≢◌, ℕ, ◌+◌, ◌<◌, ◌^◌, length, Some, List}
+use Rattle.std.specs.Prelude.{◌≡◌, ◌≢◌, ◌↔◌, ℕ, ◌+◌, ◌*◌, ◌<◌, ◌^◌, ◌&&◌, IsTrue, false, length, Some, List}
+use Rattle.heap_layout.specs.Zones.{LineWords, bit_of, block_at}
+use Rattle.heap_layout.specs.declared.layout.TheConstants.{BLOCK_LINES}
 use Rattle.heap_layout.specs.declared.block.Kind.TheVariants as kinds
 use Rattle.object_model.specs.declared.collect.Collect.{Collect}
-use Rattle.object_model.specs.Objects.{HeapState, HasKind, word_at, owner_at, IsHeld}
-use Rattle.object_model.specs.Ages.{Lives}
+use Rattle.object_model.specs.Objects.{HeapState, HasKind, word_at, owner_at, line_marked, is_unlogged, IsHeld, size_at}
+use Rattle.object_model.specs.Lines.{TouchesLine}
+use Rattle.object_model.specs.Ages.{is_survivor, Lives}
 use Rattle.block_sweeps.specs.Sweeping.{IsMetadata, InBlock, HasNoLiving}
+use Rattle.block_sweeps.specs.WordSweeps.{has_bit, start_word, unlog_word, address_of}
 use Rattle.sessions.specs.Plans.{Rules}
-use Rattle.trace_core.specs.Setups.{Setup}
+use Rattle.trace_core.specs.Setups.{Setup, blocks, size}
 use Rattle.trace_core.specs.Machine.{Event}
-use Rattle.trace_core.specs.Traces.{target_of}
+use Rattle.trace_core.specs.Traces.{heap_after, target_of}
 use Rattle.plan_api.specs.Releasing.{Releases, IsReleased}
 
 -- The blocks below n were released, in order: the row was s and is now the last state.
@@ -39,3 +43,28 @@ MoveAll p es = (x t : ℕ) → target_of p es x ≡ Some t → t ≢ x
 pub record OwnerTells (base : ℕ) (s : HeapState) (k : ℕ) : Type 0 where
   pub owned : 0 < owner_at s k → (a : ℕ) → InBlock s k a → IsHeld s a → Lives base s a
   pub unowned : owner_at s k ≡ 0 → HasNoLiving base s (InBlock s k)
+
+-- The unlog bits of block k tell what lives in it: an object that is held there lives if and only if its unlog bit is set.
+abbrev pub MarksTell : ℕ → HeapState → ℕ → Type 0
+MarksTell base s k = (a : ℕ) → InBlock s k a → IsHeld s a → Lives base s a ↔ IsTrue (is_unlogged s a)
+
+-- so does word i of unlog bits: of its bits exactly those of objects that live are set
+abbrev pub MarksTellIn : ℕ → HeapState → ℕ → Type 0
+MarksTellIn base s i = (j : ℕ) → j < 64 → has_bit (unlog_word s i) j ≡ (has_bit (start_word s i) j && is_survivor s base (address_of s i j))
+
+-- The trace began with no line bit set, and marked each line that a target touches.
+pub record MarksTargets (p : Setup) (es : List Event) : Type 0 where
+  pub clear : (k line : ℕ) → k < blocks p → line < BLOCK_LINES → line_marked p.before k line ≡ false
+  pub all : (x t n : ℕ) → target_of p es x ≡ Some t → n < BLOCK_LINES * blocks p → TouchesLine (blocks p) t (size p x) n
+      → IsTrue (bit_of (blocks p) LineWords (heap_after p es).words n)
+
+-- an object that lives begins in block k and touches this line of it
+pub record LivesOnLine (base : ℕ) (s : HeapState) (k line : ℕ) : Type 0 where
+  pub object : ℕ
+  pub lives : Lives base s object
+  pub here : block_at s.blocks object ≡ k
+  pub touches : TouchesLine s.blocks object (size_at s object) (BLOCK_LINES * k + line)
+
+-- The line bits of block k, if it is an Immix block, are those of the lines that what lives in it touches.
+abbrev pub LinesTell : ℕ → HeapState → ℕ → Type 0
+LinesTell base s k = HasKind s k kinds.Immix → (line : ℕ) → line < BLOCK_LINES → IsTrue (line_marked s k line) ↔ LivesOnLine base s k line

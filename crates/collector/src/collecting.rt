@@ -194,7 +194,8 @@ fn finish<P: Plan>(trace: PacketTrace) -> Collected
     } = trace;
     let traced = tracer.close();
     let collect = traced.run.collect;
-    let heap = release_by::<P>(traced, tally.kept == tally.moved);
+    let lines = traced.run.lines;
+    let heap = release_by::<P>(traced, tally.kept == tally.moved, lines);
     let free_blocks = block_counts(&heap).free;
     Collected {
         heap,

@@ -1,6 +1,6 @@
 //! Laws of the release of all blocks after a trace, and of the collection that both make.
 
-ghost use Rattle.std.specs.Prelude.{◌≡◌, ◌↔◌, ◌^◌, ◌<◌, ℕ, List, IsTrue, true, map};
+ghost use Rattle.std.specs.Prelude.{◌≡◌, ◌↔◌, ◌^◌, ◌<◌, ℕ, List, IsTrue, true, false, map};
 ghost use Rattle.heap_layout.specs.declared.layout.Layout.{Layout};
 ghost use Rattle.object_model.specs.declared.collect.Collect.{Collect};
 ghost use Rattle.object_model.specs.declared.collect.Collect.TheVariants.{Full, Nursery};
@@ -18,7 +18,7 @@ ghost use Rattle.trace_core.specs.Tracers.{setup_of, MayRun};
 ghost use Rattle.trace_core.specs.declared.run.TraceRun.{TraceRun};
 ghost use Rattle.plan_api.specs.Releasing.{Releases};
 ghost use Rattle.collector.specs.Collected.{IsOffered, IsRunUnder, FillsBlocks};
-ghost use Rattle.collector.specs.Released.{ReleasesBelow, AreReleased, heap_with, MoveAll, OwnerTells};
+ghost use Rattle.collector.specs.Released.{ReleasesBelow, AreReleased, heap_with, MoveAll, OwnerTells, MarksTell, MarksTargets, LinesTell};
 
 /// After a finished trace the blocks can be released in order: the next block may be released each
 /// time. What each release left stays, and no word but metadata of blocks changes.
@@ -39,6 +39,24 @@ pub fn owners_tell_what_lives()
     ensures { (p : Setup) (es : List Event) (k : ℕ) → IsTrace p es
         → IsFinished p (machine_after p es) → MoveAll p es → k < blocks p
         → OwnerTells (base_after p) (heap_after p es) k }
+{}
+
+/// After a finished trace of a full collection, which began with no unlog bit set, the unlog bits
+/// of a block tell what lives in it.
+pub fn marks_tell_what_lives()
+    ensures { (p : Setup) (es : List Event) (k : ℕ) → IsTrace p es
+        → IsFinished p (machine_after p es) → p.nursery ≡ false
+        → ((a : ℕ) → is_unlogged p.before a ≡ false)
+        → MarksTell (base_after p) (heap_after p es) k }
+{}
+
+/// After a finished trace that began with no line bit set, and marked the lines of each object
+/// that it keeps, the line bits of an Immix block are those of the lines that what lives in it
+/// touches.
+pub fn lines_tell_what_lives()
+    ensures { (p : Setup) (es : List Event) (k : ℕ) → IsTrace p es
+        → IsFinished p (machine_after p es) → MarksTargets p es → k < blocks p
+        → LinesTell (base_after p) (heap_after p es) k }
 {}
 
 /// If each block of the row after a finished trace was released, the objects held are exactly those

@@ -5,6 +5,7 @@ mod collecting;
 mod counting;
 mod item;
 mod laws;
+mod marked;
 mod moved;
 mod outcome;
 mod packet_trace;
@@ -16,8 +17,9 @@ mod worker;
 pub use collecting::collect;
 pub use item::Item;
 pub use laws::{
-    blocks_are_released_in_order, offered_collections, owners_tell_what_lives,
-    released_heaps_are_lawful, released_traces_are_collections, releases_ignore_numbers,
+    blocks_are_released_in_order, lines_tell_what_lives, marks_tell_what_lives,
+    offered_collections, owners_tell_what_lives, released_heaps_are_lawful,
+    released_traces_are_collections, releases_ignore_numbers,
 };
 pub use outcome::{Collected, Note};
 pub use releasing::release;

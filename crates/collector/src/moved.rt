@@ -101,7 +101,7 @@ fn clear_words<W: Words>(words: &mut W, from: u32)
 }
 
 /// Whether an object begins in the block.
-fn has_object<W: Words>(words: &W, layout: &Layout, block: u32) -> bool
+pub(crate) fn has_object<W: Words>(words: &W, layout: &Layout, block: u32) -> bool
     requires extent { length (W.words words.now) ≡ row_words layout.now.blocks }
     requires block { block < layout.now.blocks }
     ensures some { result ≡ true → (a : ℕ)

@@ -1,23 +1,26 @@
 //! A trace that is made item by item.
 
-ghost use Rattle.std.specs.Prelude.{◌≡◌, ◌∷◌, ◌++◌, ◌≤◌, ◌<◌, [], List, All, IfOk, length};
+ghost use Rattle.std.specs.Prelude.{◌≡◌, ◌∷◌, ◌++◌, ◌≤◌, ◌<◌, [], List, All, IfOk, length, map, vec_capacity};
 ghost use Rattle.std.specs.List.Sorted.{IsPermutation};
 ghost use Rattle.work_packets.specs.Packets.{HasItems};
 ghost use Rattle.work_packets.specs.declared.packet.Bucket.TheVariants as buckets;
+ghost use Rattle.work_packets.specs.declared.packet.TheConstants.{MAX_ITEMS};
 ghost use Rattle.trace_core.specs.Setups.{Setup};
 ghost use Rattle.trace_core.specs.Machine.{Event};
-ghost use Rattle.trace_core.specs.Views.{View};
+ghost use Rattle.trace_core.specs.Views.{View, IsReached, grey_of, one_if};
 ghost use Rattle.trace_core.specs.Tracers.{Tracks, IsTracing};
 ghost use Rattle.trace_core.specs.declared.tokens.Grey.{Grey};
+ghost use Rattle.trace_core.specs.declared.tokens.Reached.{Reached};
 ghost use Rattle.collector.specs.declared.item.Item.TheVariants as items;
 ghost use Rattle.collector.specs.Items.{items_of, tokens_of, IsObject};
-ghost use Rattle.collector.specs.Serving.{HasRights, Serves};
-ghost use Rattle.collector.specs.Tallies.{Counts};
+ghost use Rattle.collector.specs.Serving.{HasRights, Serves, AreShaped};
+ghost use Rattle.collector.specs.Tallies.{Counts, has_moved};
 
 use crate::item::Item;
 use crate::tally::Tally;
 use std::alloc::AllocError;
-use trace_core::{Claim, Grey, PlainTrace};
+use std::mem;
+use trace_core::{Claim, Grey, PlainTrace, Reached};
 use work_packets::{Bucket, MAX_ITEMS, Packet};
 
 /// A trace by one worker, its roots and its counts.
@@ -28,8 +31,9 @@ pub struct PacketTrace {
     pub(crate) roots: Vec<u32>,
     // Of the objects whose tokens were handed on.
     pub(crate) tally: Tally,
-    // The tokens that were won and are not handed on yet.
-    pub(crate) won: Vec<Grey>,
+    // The tokens that were won and are not handed on yet. Shapes are read as they are handed on,
+    // when the words of their objects have come.
+    pub(crate) won: Vec<Reached>,
     // Lists of items, to be filled again.
     pub(crate) spare: Vec<Vec<Item>>,
 }
@@ -43,7 +47,8 @@ impl PacketTrace {
             (λ p es v. HasRights p v self.old.roots.items (item ∷ [])) }
         ensures serves { IfOk result (λ _. (p : Setup) (es : List Event) (v : View)
             → Tracks p es self.old.tracer v → HasRights p v self.old.roots.items (item ∷ [])
-            → (pushed : List Grey) × (self.new.won.items ≡ self.old.won.items ++ pushed)
+            → (pushed : List Grey)
+            × (map (grey_of p) self.new.won.items ≡ map (grey_of p) self.old.won.items ++ pushed)
             × Serves p es v self.old.tracer self.old.roots.items (item ∷ [])
             self.new.tracer self.new.roots.items pushed) }
         ensures tally { IfOk result (λ _. self.new.tally ≡ self.old.tally) }
@@ -52,12 +57,12 @@ impl PacketTrace {
             Item::Register(place) => self.serve_root(place),
             Item::Global(root) => {
                 self.won.reserve(1)?;
-                self.tracer.trace_global(root, &mut self.won);
+                self.tracer.reach_global(root, &mut self.won);
                 Ok(())
             }
             Item::Object(grey) => {
                 self.won.reserve(grey.refs() as usize)?;
-                self.tracer.scan_object(grey, &mut self.won);
+                self.tracer.reach_fields(grey, &mut self.won);
                 Ok(())
             }
         }
@@ -70,7 +75,8 @@ impl PacketTrace {
         ensures serves { IfOk result (λ _. (p : Setup) (es : List Event) (v : View)
             → Tracks p es self.old.tracer v
             → HasRights p v self.old.roots.items (items.Register place ∷ [])
-            → (pushed : List Grey) × (self.new.won.items ≡ self.old.won.items ++ pushed)
+            → (pushed : List Grey)
+            × (map (grey_of p) self.new.won.items ≡ map (grey_of p) self.old.won.items ++ pushed)
             × Serves p es v self.old.tracer self.old.roots.items (items.Register place ∷ [])
             self.new.tracer self.new.roots.items pushed) }
         ensures tally { IfOk result (λ _. self.new.tally ≡ self.old.tally) }
@@ -85,7 +91,7 @@ impl PacketTrace {
             Claim::Won(won) => {
                 let grey = self.tracer.copy(won);
                 self.roots[place as usize] = grey.at();
-                self.won.push(grey)?;
+                self.won.push(grey.reached())?;
             }
         }
         Ok(())
@@ -95,9 +101,13 @@ impl PacketTrace {
     ///
     /// Fails if memory runs out.
     pub(crate) fn hand_on(&mut self, pushed: &mut Vec<Packet<Item>>) -> Result<(), AllocError>
-        requires { pushed.old.items ≡ [] }
-        ensures tokens { IfOk result (λ _. IsPermutation self.old.won.items
-            (tokens_of (items_of pushed.new.items))) }
+        requires none { pushed.old.items ≡ [] }
+        requires tracing { IsTracing self.old.tracer
+            (λ p es v. All (IsReached p v) self.old.won.items) }
+        ensures tokens { IfOk result (λ _. (greys : List Grey)
+            × AreShaped self.old.tracer self.old.won.items greys
+            × IsPermutation greys (tokens_of (items_of pushed.new.items))
+            × Counts self.old.tally self.new.tally greys) }
         ensures objects { IfOk result (λ _. All IsObject (items_of pushed.new.items)) }
         ensures bucket { IfOk result
             (λ _. All (λ q. q.bucket ≡ buckets.Closure) pushed.new.items) }
@@ -105,8 +115,6 @@ impl PacketTrace {
         ensures few { IfOk result
             (λ _. length pushed.new.items ≤ length self.old.won.items) }
         ensures none { IfOk result (λ _. self.new.won.items ≡ []) }
-        ensures tally { IfOk result
-            (λ _. Counts self.old.tally self.new.tally self.old.won.items) }
         ensures tracer { IfOk result (λ _. self.new.tracer ≡ self.old.tracer) }
         ensures roots { IfOk result (λ _. self.new.roots ≡ self.old.roots) }
     {
@@ -121,11 +129,14 @@ impl PacketTrace {
 
     /// The next packet of tokens that were won.
     fn next_packet(&mut self) -> Result<Packet<Item>, AllocError>
-        requires { 0 < length self.old.won.items }
-        ensures tokens { IfOk result (λ q. (handed : List Grey)
+        requires some { 0 < length self.old.won.items }
+        requires tracing { IsTracing self.old.tracer
+            (λ p es v. All (IsReached p v) self.old.won.items) }
+        ensures tokens { IfOk result (λ q. (handed : List Reached)
             × (self.old.won.items ≡ self.new.won.items ++ handed)
-            × IsPermutation handed (tokens_of q.items.items)
-            × Counts self.old.tally self.new.tally handed) }
+            × (greys : List Grey) × AreShaped self.old.tracer handed greys
+            × IsPermutation greys (tokens_of q.items.items)
+            × Counts self.old.tally self.new.tally greys) }
         ensures objects { IfOk result (λ q. All IsObject q.items.items) }
         ensures bucket { IfOk result (λ q. q.bucket ≡ buckets.Closure) }
         ensures sizes { IfOk result (λ q. HasItems q) }
@@ -138,16 +149,52 @@ impl PacketTrace {
             None => Vec::with_capacity(alloc, MAX_ITEMS)?,
         };
         items.clear();
-        while items.len() < MAX_ITEMS {
-            let Some(grey) = self.won.pop() else {
-                break;
-            };
-            self.tally.count(&grey);
-            items.push(Item::Object(grey))?;
-        }
+        items.reserve(MAX_ITEMS)?;
+        // In locals, which the loop keeps in registers.
+        let mut won = mem::replace(&mut self.won, Vec::new(alloc));
+        let mut tally = self.tally;
+        fill(&self.tracer, &mut items, &mut won, &mut tally);
+        self.won = won;
+        self.tally = tally;
         Ok(Packet {
             bucket: Bucket::Closure,
             items,
         })
     }
+}
+
+/// Moves tokens that were won to the items of a packet, with the shapes of their objects, and
+/// counts these.
+fn fill(tracer: &PlainTrace, items: &mut Vec<Item>, won: &mut Vec<Reached>, tally: &mut Tally)
+    requires tracing { IsTracing tracer.now (λ p es v. All (IsReached p v) won.old.items) }
+    requires none { items.old.items ≡ [] }
+    requires room { MAX_ITEMS ≤ vec_capacity items.old }
+    requires some { 0 < length won.old.items }
+    ensures tokens { (handed : List Reached) × (won.old.items ≡ won.new.items ++ handed)
+        × (greys : List Grey) × AreShaped tracer.now handed greys
+        × IsPermutation greys (tokens_of items.new.items)
+        × Counts tally.old tally.new greys }
+    ensures objects { All IsObject items.new.items }
+    ensures some { 1 ≤ length items.new.items }
+    ensures few { length items.new.items ≤ MAX_ITEMS }
+{
+    let mut moved: u32 = 0;
+    let mut words: u64 = 0;
+    while items.len() < MAX_ITEMS {
+        let Some(reached) = won.pop() else {
+            break;
+        };
+        let grey = tracer.grey(reached);
+        moved += moves(&grey);
+        words += grey.size() as u64;
+        items.push_reserved(Item::Object(grey));
+    }
+    tally.add(items.len() as u32, moved, words);
+}
+
+/// 1 if the object leaves its place, else 0.
+fn moves(grey: &Grey) -> u32
+    ensures { result ≡ one_if (has_moved grey.now) }
+{
+    grey.has_moved() as u32
 }

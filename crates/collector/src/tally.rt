@@ -1,9 +1,7 @@
 //! Counts of the objects that a collection preserves.
 
-ghost use Rattle.std.specs.Prelude.{◌≡◌, ◌^◌, ◌<◌, ◌∷◌, []};
-ghost use Rattle.collector.specs.Tallies.{Counts};
-
-use trace_core::Grey;
+ghost use Rattle.std.specs.Prelude.{◌≡◌, ◌+◌, ◌-◌, ◌^◌, ◌<◌};
+ghost use Rattle.collector.specs.Tallies.{capped};
 
 /// How many objects were copied or claimed in place, how many of them moved, and their words.
 #[derive(Clone, Copy, Debug, PartialEq, Eq)]
@@ -21,12 +19,14 @@ impl Tally {
         ensures words { self.words < 2 ^ 64 }
     {}
 
-    /// Counts the object of a token.
-    pub(crate) fn count(&mut self, grey: &Grey)
-        ensures { Counts self.old self.new (grey.now ∷ []) }
+    /// Counts objects: how many they are, how many of them moved, and their words.
+    pub(crate) fn add(&mut self, kept: u32, moved: u32, words: u64)
+        ensures kept { self.new.kept ≡ capped (2 ^ 32 - 1) (self.old.kept + kept) }
+        ensures moved { self.new.moved ≡ capped (2 ^ 32 - 1) (self.old.moved + moved) }
+        ensures words { self.new.words ≡ capped (2 ^ 64 - 1) (self.old.words + words) }
     {
-        self.kept = self.kept.saturating_add(1);
-        self.moved = self.moved.saturating_add(grey.has_moved() as u32);
-        self.words = self.words.saturating_add(grey.size() as u64);
+        self.kept = self.kept.saturating_add(kept);
+        self.moved = self.moved.saturating_add(moved);
+        self.words = self.words.saturating_add(words);
     }
 }

@@ -88,6 +88,12 @@ marks-more b from to word low high old mid new after below low-is high-is marks 
   fit = λ fits. sets.fit (marks.fit fits);
 }
 
+-- all bits are in one word
+pub marks-in-word : (b from to : ℕ) (old new : List ℕ) → from / 64 ≡ to / 64 → SetsRun old new (first b LineWords + from / 64) (from % 64) (to % 64)
+    → MarksTo b from to (from / 64 + 1) old new
+marks-in-word b from to old new same sets = marks-more b from to (from / 64) (from % 64) (to % 64) old old new (omega arith) (omega arith)
+    (omega arith) (omega arith) (marks-none b from to old) sets
+
 -- an object's last word is one of the heap
 pub last-address : (b a size : ℕ) → IsAddress b a → 1 ≤ size → a + size ≤ row_words b → IsAddress b (a + size - 1)
 last-address b a size address some last = let from = address.from in record { from = omega arith; below = omega arith }

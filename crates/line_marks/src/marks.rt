@@ -22,6 +22,11 @@ pub fn mark<W: Words>(words: &mut W, layout: &Layout, address: u32, size: u32)
     let first = line_of(layout, address);
     let last = line_of(layout, address + size - 1);
     let base = layout.line_at(0);
+    // Nearly all objects are small, so one word has all their lines.
+    if first / 64 == last / 64 {
+        set_run(words, base + first / 64, first % 64, last % 64);
+        return;
+    }
     for word in first / 64..last / 64 + 1 {
         let low = first.saturating_sub(64 * word);
         let high = (last - 64 * word).min(63);

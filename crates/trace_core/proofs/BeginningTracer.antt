@@ -1,7 +1,7 @@
 -- A tracer begins: what it is told makes a setup that is ready, which it tracks from no event on.
 use Rattle.std.proofs.Common.{◌≡◌, ℕ, ◌+◌, ◌<◌, ◌^◌, inl, inr, Bool, true, false, true≢false, ◌&&◌, ◌||◌, not, IsTrue, [], length, Option, Some, None, refl, sym, ap, ◌∙◌, subst, arith}
 use Rattle.std.specs.Prelude.{if◌then◌else◌, slice_get}
-use Rattle.std.proofs.lemmas.Bool.{cases_Bool, cond-true, cond-false, and_right}
+use Rattle.std.proofs.lemmas.Bool.{cases_Bool, cond-true, cond-false, false_from_ne_true}
 use denote.Enum.Bare.{sameb}
 use Rattle.std.proofs.lemmas.Option.{slice_get-get_or}
 use Rattle.heap_layout.specs.declared.block.Kind.{Kind}
@@ -16,19 +16,29 @@ use Rattle.object_model.specs.Ages.{RemembersYoung}
 use Rattle.trace_core.specs.Setups.{Setup, IsReady, blocks, collection, is_logged}
 use Rattle.trace_core.specs.Outcomes.{base_after}
 use Rattle.trace_core.specs.Views.{one_if, times, first_view}
-use Rattle.trace_core.specs.Tracers.{is_nursery, is_set, clears_lines, without_lines, setup_of, MayRun, IsRunOf, Tracks}
+use Rattle.trace_core.specs.Tracers.{is_nursery, is_set, without_lines, without_unlogs, setup_of, MayRun, IsRunOf, Tracks}
 use Rattle.trace_core.proofs.Objects.{None-not-Some}
 use Rattle.trace_core.proofs.Beginning.{first-young}
 use Rattle.trace_core.specs.Machine.{target}
 use Rattle.trace_core.specs.declared.run.TraceRun.{TraceRun}
 use Rattle.trace_core.specs.declared.plain_trace.PlainTrace.{PlainTrace}
+use Rattle.object_model.proofs.Frames.{has_kind-same}
 use Rattle.trace_core.proofs.WithoutLines.{without_lines-lawful, kind-same}
+use Rattle.trace_core.proofs.Begun.{by-begun, begun-lawful, begun-same, begun-unlogs, keeps-objects}
 use Rattle.trace_core.proofs.FirstView.{first-holds}
 
 -- the comparison of a kind of collection
 pub is-full : (c : Collect) (b : Bool) → b ≡ sameb the_type c Full → not (is_nursery c) ≡ b
 is-full Nursery b e = sym e
 is-full Full b e = sym e
+
+pub turned : (b : Bool) → not b ≡ false → b ≡ true
+turned true is = refl
+turned false is = sym is
+
+pub straight : (b : Bool) → not b ≡ true → b ≡ false
+straight true is = sym is
+straight false is = refl
 
 set-some : (o : Option Bool) → is_set o ≡ true → o ≡ Some true
 set-some None is = absurd (true≢false (sym is))
@@ -45,27 +55,25 @@ module _ (s : HeapState) (run : TraceRun) (lawful : IsLawfulButLines s) (may : M
   abbrev nursery : Bool
   nursery = is_nursery run.collect
 
-  -- what is so of the heap as it is, and with all line bits clear, is so as the trace begins
-  either : (P : HeapState → Type 0) → P s → P (without_lines s) → P p.before
-  either P same clear = elim (cases_Bool (clears_lines run)) as (λ _. P p.before) [
-    | inl is ↦ subst P (sym (cond-true (clears_lines run) (without_lines s) s is)) clear
-    | inr none ↦ subst P (sym (cond-false (clears_lines run) (without_lines s) s none)) same
-  ]
+  either : (P : HeapState → Type 0) → P (without_unlogs (without_lines s)) → P (without_unlogs s) → P s → P p.before
+  either = by-begun s run
 
   pub before-same : IsTrue nursery → p.before ≡ s
-  before-same young = cond-false (clears_lines run) (without_lines s) s (and_right run.lines (not nursery) (ap not young))
+  before-same young = begun-same s run young
 
   number-same : p.before.number ≡ s.number
-  number-same = either (λ h. h.number ≡ s.number) refl refl
+  number-same = either (λ h. h.number ≡ s.number) refl refl refl
 
   base-same : p.before.base ≡ s.base
-  base-same = either (λ h. h.base ≡ s.base) refl refl
+  base-same = either (λ h. h.base ≡ s.base) refl refl refl
 
   blocks-same : blocks p ≡ s.blocks
-  blocks-same = either (λ h. h.blocks ≡ s.blocks) refl refl
+  blocks-same = either (λ h. h.blocks ≡ s.blocks) refl refl refl
 
   kinds-same : (b : ℕ) (kind : Kind) → has_kind p.before b kind ≡ has_kind s b kind
-  kinds-same b kind = either (λ h. has_kind h b kind ≡ has_kind s b kind) refl (kind-same s lawful b kind)
+  kinds-same b kind = either (λ h. has_kind h b kind ≡ has_kind s b kind)
+      (has_kind-same (without_lines s) _ (keeps-objects (without_lines s) (without_lines-lawful s lawful)).block_words b kind ∙ kind-same s lawful b kind)
+      (has_kind-same s _ (keeps-objects s lawful).block_words b kind) refl
 
   abbrev large_in : HeapState → ℕ → Bool
   large_in h b = has_kind h b kinds.LargeHead || has_kind h b kinds.LargeTail
@@ -76,7 +84,7 @@ module _ (s : HeapState) (run : TraceRun) (lawful : IsLawfulButLines s) (may : M
 
   pub ready : IsReady p
   ready = record {
-    lawful = either IsLawfulButLines lawful (without_lines-lawful s lawful);
+    lawful = begun-lawful s run lawful;
     number = subst (λ (n : ℕ). n < 2 ^ 40) (may.number ∙ ap (λ n. n + 1) (sym number-same)) may.limit;
     some = omega arith;
     few = omega arith;
@@ -102,6 +110,8 @@ module _ (s : HeapState) (run : TraceRun) (lawful : IsLawfulButLines s) (may : M
         let many : length run.from.items ≡ s.blocks = may.from in let same : blocks p ≡ s.blocks = blocks-same in
         some-set (slice_get run.from.items b) _ (slice_get-get_or run.from.items b false (omega arith));
     kind = refl;
+    nursery = refl;
+    unlogs = λ full a. false_from_ne_true (is_unlogged p.before a) (begun-unlogs s run lawful full a);
   }
 
   -- the list that it was given has each logged object once

@@ -1,6 +1,8 @@
 -- A tracer sets the bit of an address.
-use Rattle.std.proofs.Common.{◌≡◌, ℕ, ◌+◌, ◌-◌, ◌/◌, ◌%◌, List, length, slice_index, slice_set, length-set, sym, ap, ◌∙◌}
-use Rattle.heap_layout.specs.Zones.{Zone, first, heap_of, row_words}
+use Rattle.std.proofs.Common.{◌≡◌, ℕ, ◌+◌, ◌-◌, ◌/◌, ◌%◌, Bool, nat_eq, List, length, slice_index, slice_set, length-set, sym, ap, ◌∙◌, subst}
+use Rattle.std.specs.Int.{bit_at}
+use Rattle.heap_layout.specs.Zones.{Zone, first, heap_of, row_words, IsAddress, address_bit}
+use Rattle.heap_layout.proofs.MarkLemmas.{address_bit-at_address}
 use Rattle.object_model.specs.Objects.{HeapState, state_of, with_words}
 use Rattle.object_model.specs.BitWords.{with_bit}
 use Rattle.trace_core.specs.Tracers.{ChangesWords}
@@ -24,3 +26,11 @@ module _ (old new : PlainTrace) (zone t : ℕ) (changes : ChangesWords old new (
 
   pub set-extent : length old.row.words.items ≡ row_words old.row.layout.blocks → length new.row.words.items ≡ row_words new.row.layout.blocks
   set-extent long = ap (λ h. length h.words) changes.row ∙ length-set old.row.words.items _ _ ∙ long ∙ ap row_words (sym set-blocks)
+
+-- what is read of the bit of an address, in the zone from this word on
+pub bit-read : (t : PlainTrace) (z : Zone) (zone x : ℕ) (found : Bool) → IsAddress t.row.layout.blocks x → zone ≡ first t.row.layout.blocks z
+    → found ≡ nat_eq (bit_at (slice_index t.row.words.items (zone + (x - heap_of t.row.layout.blocks) / 64)) ((x - heap_of t.row.layout.blocks) % 64)) 1
+    → address_bit t.row.layout.blocks z t.row.words.items x ≡ found
+bit-read t z zone x found there at is = let k : ℕ = x - heap_of t.row.layout.blocks in
+    address_bit-at_address t.row.layout.blocks z t.row.words.items x there
+    ∙ sym (subst (λ n. found ≡ nat_eq (bit_at (slice_index t.row.words.items (n + k / 64)) (k % 64)) 1) at is)

@@ -12,7 +12,7 @@ use Rattle.trace_core.specs.Setups.{Setup, blocks, size, is_old, is_idle}
 use Rattle.trace_core.specs.Machine.{Stage, Unclaimed, Copying, Scanning, target, Machine, Event, Copy, next, put, copied_word, step_of_offset, heap_in}
 use Rattle.trace_core.specs.Traces.{AreNext, after, machine_after, stage_of}
 use Rattle.trace_core.specs.Views.{View, Holds, one_if, hits, times, is_pair, is_copying, is_scanning, is_copied, without, steps_at_claim, IsWon, copied_view}
-use Rattle.trace_core.specs.Tracers.{Tracks, IsRunOf, IsRoom, AreFull, StayForWantOfRoom, IsMoving, copying as copying-events}
+use Rattle.trace_core.specs.Tracers.{Tracks, IsRunOf, IsRoom, AreFull, StayForWantOfRoom, IsMoving, IsCopiedHere, copying as copying-events}
 use Rattle.trace_core.specs.declared.plain_trace.PlainTrace.{PlainTrace}
 use Rattle.trace_core.specs.declared.tokens.Won.{Won}
 use Rattle.trace_core.proofs.Puts.{put_here, put_else}
@@ -294,4 +294,10 @@ moving-of p es v won is differ = record {
   target = is.target;
   size = is.size;
   moves = differ;
+}
+
+pub copied-here : (p : Setup) (es : List Event) (v : View) (won : Won) → IsWon p v won → won.target ≡ won.object → IsCopiedHere won.object p es v
+copied-here p es v won is same = record {
+  right = subst (λ t. 0 < hits won.object (steps_at_claim p won.object t) v.won) same is.right;
+  target = subst (λ t. 0 < hits won.object t v.known) same is.target;
 }

@@ -1,20 +1,20 @@
--- What the collector word of an object tells a tracer.
-use Rattle.std.proofs.Common.{◌≡◌, ◌≢◌, ℕ, ◌+◌, ◌<◌, ◌≤◌, inl, inr, false, true≢false, ◌&&◌, IsTrue, nat_lt, nat_le, List, get_or, sym, ap, ◌∙◌, subst, arith, Some, None}
-use Rattle.std.proofs.lemmas.Bool.{cases_Bool, cond-true, cond-false, and_parts, and_from, leb-true}
+-- What the collector word of an object tells a tracer, and what its unlog bit.
+use Rattle.std.proofs.Common.{◌≡◌, ◌≢◌, ℕ, ◌+◌, ◌<◌, ◌≤◌, inl, inr, false, true≢false, ◌&&◌, IsTrue, nat_lt, nat_le, List, get_or, refl, sym, ap, ◌∙◌, subst, arith, Some, None}
+use Rattle.std.proofs.lemmas.Bool.{cases_Bool, cases_eq, eq-eqb, cond-true, cond-false, and_parts, and_from, leb-true}
 use Rattle.std.proofs.lemmas.Grind.{get_or_default_zero}
 use Rattle.forward_word.specs.CollectorWords.{collector_word, number_in, target_in, is_old_word}
 use Rattle.heap_layout.specs.Zones.{row_words}
-use Rattle.object_model.specs.Objects.{IsHeld, word_at}
+use Rattle.object_model.specs.Objects.{IsHeld, word_at, is_unlogged}
 use Rattle.object_model.specs.Ages as ages
-use Rattle.trace_core.specs.Setups.{Setup, blocks, collection, held, is_old}
-use Rattle.trace_core.specs.Machine.{Event}
-use Rattle.trace_core.specs.Traces.{IsTrace, heap_after, target_of}
+use Rattle.trace_core.specs.Setups.{Setup, blocks, collection, held, size, is_old}
+use Rattle.trace_core.specs.Machine.{Stage, Unclaimed, Copying, Scanning, target, Event}
+use Rattle.trace_core.specs.Traces.{IsTrace, machine_after, heap_after, stage_of, target_of}
 use Rattle.trace_core.specs.Outcomes.{base_after}
-use Rattle.trace_core.specs.Views.{View}
-use Rattle.trace_core.specs.Tracers.{Tracks}
+use Rattle.trace_core.specs.Views.{View, Holds, hits, one_if, is_copying}
+use Rattle.trace_core.specs.Tracers.{Tracks, StaysHere}
 use Rattle.trace_core.specs.declared.plain_trace.PlainTrace.{PlainTrace}
 use Rattle.trace_core.proofs.Beginning.{nursery-of, age-of}
-use Rattle.trace_core.proofs.Clauses.{collector, unclaimed, targets-inside}
+use Rattle.trace_core.proofs.Clauses.{collector, unclaimed, targets-inside, extents-apart, has-room, unlogs-from, unlogs-done}
 use Rattle.trace_core.proofs.Finished.{parts-of, option-cases}
 use Rattle.trace_core.proofs.Reading.{word-within}
 use Rattle.trace_core.proofs.Tracking.{words-are}
@@ -89,3 +89,37 @@ pub collector-read : (p : Setup) (es : List Event) (t : PlainTrace) (v : View) �
     → w ≡ get_or t.row.words.items (x + 2) w → w ≡ word_at (heap_after p es) (x + 2)
 collector-read p es t v tracks x there w is = is ∙ get_or_default_zero t.row.words.items (x + 2) w (word-within p es t v tracks x there 2 (omega arith))
     ∙ ap (λ ws. get_or ws (x + 2) 0) (words-are p es t v tracks)
+
+-- An unlog bit that is set, where none was, tells that the object there was claimed and stays.
+pub marked : (p : Setup) (es : List Event) → IsTrace p es → (x : ℕ) → IsHeld p.before x → is_unlogged p.before x ≡ false
+    → IsTrue (is_unlogged (heap_after p es) x) → (is_old p x ≡ false) × (target_of p es x ≡ Some x)
+marked p es trace x there clear set = elim (unlogs-from p es trace x set) as (λ _. (is_old p x ≡ false) × (target_of p es x ≡ Some x)) [
+  | inl was ↦ absurd (true≢false (sym was ∙ clear))
+  | inr by ↦ (
+      let goes : target_of p es by.0 ≡ Some x = elim by.3 as (λ _. target_of p es by.0 ≡ Some x) [ inl scans ↦ ap target scans | inr copies ↦ ap target copies.0 ] in
+      let same : by.0 ≡ x = (extents-apart p es trace by.0 x x x goes there (record { from = omega arith; below = (let some : 3 ≤ size p by.0 = omega arith in omega arith) })
+      (record { from = omega arith; below = (let some : 3 ≤ size p x = omega arith in omega arith) })).0 in
+      (subst (λ y. is_old p y ≡ false) same by.2, subst (λ y. target_of p es y ≡ Some x) same goes))
+]
+
+-- A clear one tells that nothing claimed the object, if it may not move and nothing waits to be copied.
+pub unmarked : (p : Setup) (es : List Event) → IsTrace p es → (v : View) → Holds p (machine_after p es) v → (x : ℕ) → StaysHere p v x
+    → is_unlogged (heap_after p es) x ≡ false → target_of p es x ≡ None
+unmarked p es trace v holds x stays clear = by-stage (stage_of p es x) refl
+  where
+    young : is_old p x ≡ false
+    young = ap (λ b. b && (held p x && ages.is_old p.before x)) stays.full
+
+    at-home : (t : ℕ) → target_of p es x ≡ Some t → t ≡ x
+    at-home t is = elim (cases_eq t x) as (λ _. t ≡ x) [
+      | inl same ↦ same
+      | inr moved ↦ absurd (true≢false (sym (has-room p es trace x t is moved).moves ∙ stays.fixed))
+    ]
+
+    by-stage : (st : Stage) → stage_of p es x ≡ st → target_of p es x ≡ None
+    by-stage Unclaimed is = ap target is
+    by-stage (Copying t k) is = absurd (
+        let none : hits x k v.won ≡ 0 = ap (hits x k) stays.idle in
+        let one : hits x k v.won ≡ 1 = holds.won x k ∙ ap (λ st. one_if (is_copying k st)) is ∙ ap one_if (eq-eqb k k refl) in
+        omega arith)
+    by-stage (Scanning t k) is = absurd (true≢false (sym (subst (λ a. IsTrue (is_unlogged (heap_after p es) a)) (at-home t (ap target is)) (unlogs-done p es trace x t k young is)) ∙ clear))

@@ -55,7 +55,7 @@ first-sides p ready = record {
       | inr none ↦ subst (λ z. UnlogsAt p x z a) none now
     ]
 
-first-sound : (p : Setup) → IsReady p → Sound p (first_machine p)
+pub first-sound : (p : Setup) → IsReady p → Sound p (first_machine p)
 first-sound p ready = record { objects = first-keeps p ready; sides = first-sides p ready; reasons = first-reasons p ready }
 
 module _ (p : Setup) (ready : IsReady p) where

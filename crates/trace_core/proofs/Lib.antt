@@ -37,7 +37,10 @@ mod FirstView
 mod BeginningTracer
 pub mod Following
 mod Storing
+pub mod ReachedTokens
 mod ScanRights
 mod ScanSteps
 mod FieldScans
 mod WorkedTraces
+pub mod Begun
+pub mod LineBits

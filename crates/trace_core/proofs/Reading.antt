@@ -7,15 +7,16 @@ use Rattle.heap_layout.specs.Zones.{row_words, block_at, IsAddress}
 use Rattle.ideal_heap.specs.Names.{IsName, name_of}
 use Rattle.object_model.specs.Objects.{IsHeld, state_of, word_at, refs_at, nums_at, size_at, is_pinned}
 use Rattle.object_model.specs.Lawful.{IsReadable, HasObject}
+use Rattle.object_model.proofs.Marks as marks
 use Rattle.object_model.proofs.ObjectReads as reads
 use Rattle.trace_core.specs.Setups.{Setup, blocks, size, refs, may_move}
 use Rattle.trace_core.specs.Machine.{Event}
 use Rattle.trace_core.specs.Traces.{IsTrace, machine_after, heap_after}
-use Rattle.trace_core.specs.Views.{View}
+use Rattle.trace_core.specs.Views.{View, hits}
 use Rattle.trace_core.specs.Tracers.{Tracks}
 use Rattle.trace_core.specs.declared.plain_trace.PlainTrace.{PlainTrace}
 use Rattle.trace_core.proofs.Law.{sound}
-use Rattle.trace_core.proofs.Clauses.{waits, starts-kept, pins}
+use Rattle.trace_core.proofs.Clauses.{waits, starts-kept, pins, held-of}
 use Rattle.trace_core.proofs.Tracking.{row-extent, blocks-are}
 
 module _ (p : Setup) (es : List Event) (trace : IsTrace p es) (x : ℕ) (held : IsHeld p.before x) where
@@ -56,6 +57,10 @@ module _ (p : Setup) (es : List Event) (trace : IsTrace p es) (x : ℕ) (held : 
     inside = (let ends : x + size p x ≤ row_words (blocks p) = reads.ends_in_row p.before trace.ready.lawful.order x held in
         let same : size_at (heap_after p es) x ≡ size p x = size-same in omega arith);
   }
+
+-- an object whose target is known was held
+pub known-held : (p : Setup) (es : List Event) (t : PlainTrace) (v : View) → Tracks p es t v → (x u : ℕ) → 0 < hits x u v.known → IsHeld p.before x
+known-held p es t v tracks x u some = marks.held p.before x (held-of p es tracks.trace x u (tracks.holds.known x u some))
 
 module _ (p : Setup) (es : List Event) (t : PlainTrace) (v : View) (tracks : Tracks p es t v) (x : ℕ) (held : IsHeld p.before x) where
   pub readable : IsReadable (state_of t.row) x

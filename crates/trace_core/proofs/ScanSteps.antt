@@ -1,10 +1,10 @@
 -- A field is scanned, or a global is set: the word that is read, and the event that comes after its reference is followed.
 use Rattle.std.proofs.Common.{◌≡◌, ◌≢◌, ℕ, ◌+◌, ◌<◌, ◌≤◌, ◌^◌, inl, inr, not, false, true≢false, nat_eq, List, [], ◌∷◌, ◌++◌, length, slice_index, slice_index_or, slice_set, refl, sym, ap, ◌∙◌, subst, arith}
 use Rattle.std.proofs.lemmas.Bool.{cases_eq, cond-false}
-use Rattle.std.proofs.lemmas.List.{append_assoc, get_or_read_under}
+use Rattle.std.proofs.lemmas.List.{append_assoc, get_or_read_under, set-get_or}
 use Rattle.std.proofs.lemmas.List.Elements.{All-nil, All-cons, All-append, All-weaker}
 use Rattle.heap_layout.specs.Zones.{row_words, IsAddress}
-use Rattle.object_model.specs.Objects.{word_at, global_at, ref_at, IsHeld}
+use Rattle.object_model.specs.Objects.{word_at, global_at, ref_at, IsHeld, state_of, with_words}
 use Rattle.object_model.specs.Lawful.{IsRefField}
 use Rattle.object_model.proofs.Marks as marks
 use Rattle.trace_core.specs.Setups.{Setup, IsReady, blocks, refs}
@@ -110,6 +110,17 @@ module _ (p : Setup) (es : List Event) (v : View) (t : PlainTrace) (tracks : Tra
       pub global-asks : IsAskedBy p m n (ByGlobal g)
       global-asks = ((unset-at p m v tracks.holds g unset).0, sym global-read)
 
+-- a word that has the value is not written
+changes-nothing : (t : PlainTrace) (i value : ℕ) → slice_index t.row.words.items i ≡ value → ChangesWords t t (slice_set t.row.words.items i value)
+changes-nothing t i value is = let ws = t.row.words.items in record {
+  row = ap (with_words (state_of t.row)) (sym (ap (slice_set ws i) (sym is) ∙ set-get_or ws i 0));
+  run = refl;
+  block = refl;
+  room = refl;
+  next_block = refl;
+  globals = refl;
+}
+
 -- a scan changes no target
 scan-targets : (m : Machine) (x t k : ℕ) → m.stage x ≡ Scanning t k → (y : ℕ) → target (put m.stage x (scan_stage (m.stage x)) y) ≡ target (m.stage y)
 scan-targets m x t k is y = elim (cases_eq y x) as (λ _. target (put m.stage x (scan_stage (m.stage x)) y) ≡ target (m.stage y)) [
@@ -137,6 +148,26 @@ follows-global g (SetGlobal h) is = absurd is
 follows-global g (MarkLines y word mask) is = is
 
 module _ (p : Setup) (es : List Event) (v : View) (mid new : PlainTrace) (reference last : ℕ) (out out' : List Grey) where
+  -- a field whose reference stays has its last value
+  pub field-stays : (grey : Grey) (k : ℕ) → IsNextField p v grey k → reference ≡ ref_at p.before grey.object k
+      → Forwards p es v mid reference last (ByField grey.object k) out out' → last ≡ reference
+      → ChangesWords mid mid (slice_set mid.row.words.items (grey.target + 3 + k) last)
+  field-stays grey k next reads by stays =
+      let more : hits grey.object k by.view.grey ≡ _ = by.pushes.grey grey.object k in
+      let some : 0 < hits grey.object k v.grey = next.right in
+      let right : 0 < hits grey.object k by.view.grey = omega arith in
+      changes-nothing mid (grey.target + 3 + k) last
+      (field-word p (es ++ by.grows.events) by.view mid by.grows.tracks grey k
+      (record { right = right; target = by.pushes.known grey.object grey.target next.target; field = next.field }) ∙ sym reads ∙ sym stays)
+
+  -- a global whose reference stays has its last value
+  pub global-stays : (g i : ℕ) → 0 < times g v.unset → i ≡ 2 + g → reference ≡ global_at p.before g
+      → Forwards p es v mid reference last (ByGlobal g) out out' → last ≡ reference
+      → ChangesWords mid mid (slice_set mid.row.words.items i last)
+  global-stays g i unset here reads by stays = changes-nothing mid i last
+      (global-word p (es ++ by.grows.events) by.view mid by.grows.tracks g i (subst (λ gs. 0 < times g gs) (sym by.pushes.unset) unset) here
+      ∙ sym reads ∙ sym stays)
+
   -- the reference of a field is followed, and its last value stored
   pub scans-field : (grey : Grey) (k : ℕ) → IsNextField p v grey k → reference ≡ ref_at p.before grey.object k
       → Forwards p es v mid reference last (ByField grey.object k) out out'

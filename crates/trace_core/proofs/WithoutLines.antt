@@ -16,20 +16,16 @@ use Rattle.object_model.proofs.Frames as frames
 use Rattle.object_model.proofs.Marks.{mark-same}
 use Rattle.object_model.proofs.ObjectParts.{objects-of, places-of, together}
 use Rattle.object_model.proofs.OneKind.{kind-within, one-kind}
-use Rattle.trace_core.specs.Tracers.{without_lines}
+use Rattle.trace_core.specs.Tracers.{zeroed, without_lines}
 
 abbrev zeros : ℕ → List ℕ
 zeros n = replicate n 0
-
--- the list with n elements cleared, from index a on
-abbrev zeroed : List ℕ → ℕ → ℕ → List ℕ
-zeroed xs a n = take a xs ++ (zeros n ++ drop (a + n) xs)
 
 module _ (xs : List ℕ) (a n : ℕ) (fits : a + n ≤ length xs) where
   front : length (take a xs) ≡ a
   front = length-take-le a xs (omega arith)
 
-  zeroed-length : length (zeroed xs a n) ≡ length xs
+  pub zeroed-length : length (zeroed xs a n) ≡ length xs
   zeroed-length =
       let whole : length (zeroed xs a n) ≡ length (take a xs) + length (zeros n ++ drop (a + n) xs) = length-append (take a xs) (zeros n ++ drop (a + n) xs) in
       let rest : length (zeros n ++ drop (a + n) xs) ≡ length (zeros n) + length (drop (a + n) xs) = length-append (zeros n) (drop (a + n) xs) in
@@ -38,19 +34,19 @@ module _ (xs : List ℕ) (a n : ℕ) (fits : a + n ≤ length xs) where
       let end : length (drop (a + n) xs) ≡ length xs - (a + n) = length-drop (a + n) xs in
       omega arith
 
-  zeroed-before : (i : ℕ) → i < a → slice_index (zeroed xs a n) i ≡ slice_index xs i
+  pub zeroed-before : (i : ℕ) → i < a → slice_index (zeroed xs a n) i ≡ slice_index xs i
   zeroed-before i before =
       let left : length (take a xs) ≡ a = front in
       get_or_append_left (take a xs) (zeros n ++ drop (a + n) xs) 0 i (omega arith) ∙ get_or-take a xs i 0 before
 
-  zeroed-inside : (i : ℕ) → a ≤ i → i < a + n → slice_index (zeroed xs a n) i ≡ 0
+  pub zeroed-inside : (i : ℕ) → a ≤ i → i < a + n → slice_index (zeroed xs a n) i ≡ 0
   zeroed-inside i from below =
       let mid : length (zeros n) ≡ n = length-replicate n 0 in
       get_or-append_right (take a xs) (zeros n ++ drop (a + n) xs) a i 0 front from
       ∙ get_or_append_left (zeros n) (drop (a + n) xs) 0 (i - a) (omega arith)
       ∙ get_or-replicate n (i - a) 0 0 (omega arith)
 
-  zeroed-beyond : (i : ℕ) → a + n ≤ i → slice_index (zeroed xs a n) i ≡ slice_index xs i
+  pub zeroed-beyond : (i : ℕ) → a + n ≤ i → slice_index (zeroed xs a n) i ≡ slice_index xs i
   zeroed-beyond i beyond =
       get_or-append_right (take a xs) (zeros n ++ drop (a + n) xs) a i 0 front (omega arith)
       ∙ get_or-append_right (zeros n) (drop (a + n) xs) n (i - a) 0 (length-replicate n 0) (omega arith)

@@ -1,6 +1,6 @@
 -- A tracer and the trace that it makes.
-use Rattle.std.specs.Prelude.{◌≡◌, ◌≢◌, ℕ, ◌+◌, ◌*◌, ◌^◌, ◌<◌, ◌≤◌, ◌⊎◌, Bool, true, false, ◌&&◌, ◌||◌, not, IsTrue, nat_eq, List, [], ◌∷◌, ◌++◌, take, drop, length, slice_get, slice_index, slice_set, Option, Some, None, replicate, if◌then◌else◌, is_some, All}
-use Rattle.heap_layout.specs.Zones.{LineWords, BlockWords, first, block_start}
+use Rattle.std.specs.Prelude.{◌≡◌, ◌≢◌, ℕ, ◌+◌, ◌*◌, ◌^◌, ◌<◌, ◌≤◌, ◌⊎◌, Bool, true, false, ◌||◌, IsTrue, nat_eq, List, [], ◌∷◌, ◌++◌, take, drop, length, slice_get, slice_index, slice_set, Option, Some, None, replicate, if◌then◌else◌, is_some, All}
+use Rattle.heap_layout.specs.Zones.{LineWords, UnlogBits, BlockWords, first, block_start}
 use Rattle.heap_layout.specs.declared.layout.TheConstants.{BLOCK_WORDS}
 use Rattle.heap_layout.specs.Blocks.{code_of}
 use Rattle.heap_layout.specs.declared.block.Kind.TheVariants as kinds
@@ -8,7 +8,7 @@ use Rattle.heap_layout.specs.declared.region.Region.{Region}
 use Rattle.object_model.specs.declared.shape.TheConstants.{MAX_MEDIUM_WORDS}
 use Rattle.object_model.specs.declared.collect.Collect.{Collect}
 use Rattle.object_model.specs.declared.collect.Collect.TheVariants.{Nursery, Full}
-use Rattle.object_model.specs.Objects.{HeapState, HasKind, has_kind, state_of, with_words, IsHeld, nums_at, is_reference}
+use Rattle.object_model.specs.Objects.{HeapState, HasKind, has_kind, state_of, with_words, IsHeld, nums_at, is_reference, is_unlogged}
 use Rattle.object_model.specs.declared.shape.Shape.{Shape}
 use Rattle.object_model.specs.Ages as ages
 use Rattle.object_model.specs.Ages.{RemembersYoung}
@@ -16,7 +16,7 @@ use Rattle.trace_core.specs.Setups.{Setup, blocks, collection, size, refs, is_ol
 use Rattle.trace_core.specs.Machine.{Machine, target, Event, Cause, ByRoot, ByGlobal, ByField, Claim, Ask, Copy, Scan, SetGlobal, MarkLines, TakeBlock, IsSettled, forward}
 use Rattle.trace_core.specs.Traces.{IsTrace, machine_after, heap_after, target_of, stage_of}
 use Rattle.trace_core.specs.Outcomes.{base_after}
-use Rattle.trace_core.specs.Views.{View, Holds, one_if, times, hits, Pushes, Scanned, roots_of, asked_view, claimed_view, scanned_view, set_view, taken_view}
+use Rattle.trace_core.specs.Views.{View, Holds, one_if, times, hits, Pushes, Scanned, roots_of, asked_view, claimed_view, scanned_view, set_view, taken_view, steps_at_claim}
 use Rattle.trace_core.specs.declared.run.TraceRun.{TraceRun}
 use Rattle.trace_core.specs.declared.run.Traced.{Traced}
 use Rattle.trace_core.specs.declared.tokens.Won.{Won}
@@ -35,19 +35,26 @@ abbrev pub is_set : Option Bool → Bool
 is_set None = false
 is_set (Some b) = b
 
--- the row with all line bits clear
-abbrev pub without_lines : HeapState → HeapState
-without_lines s = with_words s (take (first s.blocks LineWords) s.words
-    ++ (replicate (4 * s.blocks) 0 ++ drop (first s.blocks LineWords + 4 * s.blocks) s.words))
+-- the list with n elements from index a on replaced by zeros
+abbrev pub zeroed : List ℕ → ℕ → ℕ → List ℕ
+zeroed xs a n = take a xs ++ (replicate n 0 ++ drop (a + n) xs)
 
--- a full collection of a plan with lines begins by clearing the line bits
-abbrev pub clears_lines : TraceRun → Bool
-clears_lines run = run.lines && not (is_nursery run.collect)
+-- the row with all line bits clear, and with all unlog bits clear
+abbrev pub without_lines : HeapState → HeapState
+without_lines s = with_words s (zeroed s.words (first s.blocks LineWords) (4 * s.blocks))
+
+abbrev pub without_unlogs : HeapState → HeapState
+without_unlogs s = with_words s (zeroed s.words (first s.blocks UnlogBits) (64 * s.blocks))
+
+-- The heap as its trace begins. A full collection begins by clearing the unlog bits, so that a set one tells that a target
+-- is there. Under a plan with lines it clears the line bits too.
+abbrev pub begun : HeapState → TraceRun → HeapState
+begun s run = if is_nursery run.collect then s else without_unlogs (if run.lines then without_lines s else s)
 
 -- the collection as its trace begins
 abbrev pub setup_of : HeapState → TraceRun → ℕ → Setup
 setup_of s run workers = record {
-  before = if clears_lines run then without_lines s else s;
+  before = begun s run;
   nursery = is_nursery run.collect;
   from = λ b. is_set (slice_get run.from.items b);
   copy = run.copy_kind;
@@ -81,6 +88,9 @@ pub record IsRunOf (p : Setup) (run : TraceRun) : Type 0 where
   pub base : run.base ≡ base_after p
   pub from : (b : ℕ) → b < blocks p → slice_get run.from.items b ≡ Some (p.from b)
   pub kind : run.copy_kind ≡ p.copy
+  -- a full collection began with no unlog bit set
+  pub nursery : p.nursery ≡ is_nursery run.collect
+  pub unlogs : p.nursery ≡ false → (a : ℕ) → is_unlogged p.before a ≡ false
 
 -- the first words of the block, up to this offset, are words of targets
 abbrev pub IsFilled : Setup → Machine → ℕ → ℕ → Type 0
@@ -227,6 +237,11 @@ pub record IsMoving (x t n : ℕ) (p : Setup) (es : List Event) (v : View) : Typ
   pub size : n ≡ size p x
   pub moves : t ≢ x
 
+-- an object was claimed in place, and is to be copied
+pub record IsCopiedHere (x : ℕ) (p : Setup) (es : List Event) (v : View) : Type 0 where
+  pub right : 0 < hits x (steps_at_claim p x x) v.won
+  pub target : 0 < hits x x v.known
+
 -- the event claims an object for this cause, copies one, or takes a block
 abbrev pub Follows : Cause → Event → Type 0
 Follows cause (Claim x t by) = by ≡ cause
@@ -264,6 +279,14 @@ IsReferred reference p es v = IsTrue (is_reference reference) → IsHeld p.befor
 -- the object is asked for by no root
 abbrev pub IsNoRoot : ℕ → Cause → Type 0
 IsNoRoot x cause = (asked : List ℕ) → roots_of x cause asked ≡ asked
+
+-- The object at x is not old and may not move, and no claimed object waits to be copied. So nothing claimed it if its
+-- unlog bit is clear.
+pub record StaysHere (p : Setup) (v : View) (x : ℕ) : Type 0 where
+  pub held : IsHeld p.before x
+  pub full : p.nursery ≡ false
+  pub fixed : may_move p x ≡ false
+  pub idle : v.won ≡ []
 
 -- A reference was followed: its last value, the events, and the token that was pushed if its object was not claimed before.
 pub record Forwards (p : Setup) (es : List Event) (v : View) (new : PlainTrace) (reference value : ℕ) (cause : Cause) (before after : List Grey) : Type 0 where

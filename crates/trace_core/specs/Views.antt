@@ -7,6 +7,7 @@ use Rattle.trace_core.specs.Machine.{Stage, Copying, Scanning, target, Machine, 
 use Rattle.trace_core.specs.declared.run.TraceRun.{TraceRun}
 use Rattle.trace_core.specs.declared.tokens.Won.{Won}
 use Rattle.trace_core.specs.declared.tokens.Grey.{Grey}
+use Rattle.trace_core.specs.declared.tokens.Reached.{Reached}
 
 pub record View : Type 0 where
   -- objects that it claimed and has to copy, with the steps of the copying that are made
@@ -85,6 +86,14 @@ pub record IsGrey (p : Setup) (v : View) (grey : Grey) : Type 0 where
   pub target : 0 < hits grey.object grey.target v.known
   pub size : grey.size ≡ size p grey.object
   pub refs : grey.refs ≡ refs p grey.object
+
+-- the token with the shape that its object had as the trace began
+abbrev pub grey_of : Setup → Reached → Grey
+grey_of p r = record { object = r.object; target = r.target; size = size p r.object; refs = refs p r.object }
+
+-- the token is the right to scan an object, whose shape is not read yet
+abbrev pub IsReached : Setup → View → Reached → Type 0
+IsReached p v r = IsGrey p v (grey_of p r)
 
 -- Nothing is left to do: nothing claimed waits to be copied, each copied or logged object is scanned, each global is set.
 pub record IsIdle (p : Setup) (v : View) : Type 0 where

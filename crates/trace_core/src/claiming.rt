@@ -1,20 +1,20 @@
 //! Claims: each object gets its target once.
 
-ghost use Rattle.std.specs.Prelude.{◌≡◌, ◌≢◌, ◌+◌, ◌<◌, ◌≤◌, ℕ, List, Option, Some, None, IfSome, IfNone, IsTrue};
+ghost use Rattle.std.specs.Prelude.{◌≡◌, ◌≢◌, ◌+◌, ◌<◌, ◌≤◌, ℕ, List, [], ◌∷◌, ◌++◌, Option, Some, None, IfSome, IfNone, IsTrue};
 ghost use Rattle.heap_layout.specs.Zones.{block_start};
 ghost use Rattle.heap_layout.specs.declared.block.Kind.TheVariants as kinds;
 ghost use Rattle.object_model.specs.declared.shape.TheConstants.{MAX_MEDIUM_WORDS};
 ghost use Rattle.object_model.specs.Objects.{IsHeld, size_of};
 ghost use Rattle.trace_core.specs.Setups.{Setup, blocks, may_move, size as size_before};
-ghost use Rattle.trace_core.specs.Machine.{Event, Cause, ByRoot};
-ghost use Rattle.trace_core.specs.Traces.{IsAskedBy, NoneIsFree, machine_after};
-ghost use Rattle.trace_core.specs.Views.{View};
+ghost use Rattle.trace_core.specs.Machine.{Event, Cause, ByRoot, Claim as ClaimEvent};
+ghost use Rattle.trace_core.specs.Traces.{IsAskedBy, NoneIsFree, machine_after, target_of};
+ghost use Rattle.trace_core.specs.Views.{View, claimed_view};
 ghost use Rattle.trace_core.specs.Tracers.{Tracks, IsTracing, WasHeld, IsWaiting, ClaimsRoot, Claims, Fronts, Wins, KeepsRun};
 
 use crate::plain_trace::PlainTrace;
 use crate::tokens::{Claim, Won};
 use forward_word::{claimed, encode, is_old};
-use heap_layout::block_of;
+use heap_layout::{Layout, block_of};
 use object_model::{MAX_MEDIUM_WORDS, Shape, size_words};
 
 impl PlainTrace {
@@ -29,12 +29,14 @@ impl PlainTrace {
             → IsHeld p.before x → ClaimsRoot p es v self.new x result }
         ensures keeps { KeepsRun self.old self.new }
     {
-        self.claim_object(x)
+        let layout = self.row.layout;
+        self.claim_object(layout, x)
     }
 
     /// Claims the object at `x`, which something asks for.
-    pub(crate) fn claim_object(&mut self, x: u32) -> Claim
-        requires { IsTracing self.old (WasHeld x) }
+    pub(crate) fn claim_object(&mut self, layout: Layout, x: u32) -> Claim
+        requires tracing { IsTracing self.old (WasHeld x) }
+        requires layout { layout.blocks ≡ self.old.row.layout.blocks }
         ensures claims { (p : Setup) (es : List Event) (v : View) (cause : Cause)
             → Tracks p es self.old v → IsHeld p.before x
             → IsAskedBy p (machine_after p es) x cause → Claims p es v self.new x cause result }
@@ -48,38 +50,40 @@ impl PlainTrace {
             return Claim::Old;
         }
         let shape = self.row.shape_at(x);
-        Claim::Won(self.win(x, &shape))
+        Claim::Won(self.win(layout, x, &shape))
     }
 
     /// Gives the object at `x` its target.
-    fn win(&mut self, x: u32, shape: &Shape) -> Won
-        requires { IsTracing self.old (λ p es v. IsWaiting p es x shape.now) }
+    fn win(&mut self, layout: Layout, x: u32, shape: &Shape) -> Won
+        requires tracing { IsTracing self.old (λ p es v. IsWaiting p es x shape.now) }
+        requires layout { layout.blocks ≡ self.old.row.layout.blocks }
         ensures wins { (p : Setup) (es : List Event) (v : View) (cause : Cause)
             → Tracks p es self.old v → IsWaiting p es x shape.now
             → IsAskedBy p (machine_after p es) x cause
             → (taken : Option ℕ) × Wins p es v self.new taken x cause result }
         ensures keeps { KeepsRun self.old self.new }
     {
-        if !self.may_move(x, size_words(shape)) {
+        if !self.may_move(layout, x, size_words(shape)) {
             return self.win_in_place(x, shape);
         }
-        match self.front(size_words(shape)) {
+        match self.front(layout, size_words(shape)) {
             Some(front) => self.win_moved(x, front, shape),
             None => self.win_in_place(x, shape),
         }
     }
 
     /// Whether the object at `x`, of this size, may move.
-    fn may_move(&self, x: u32, size: u32) -> bool
-        requires { IsTracing self.now (WasHeld x) }
+    fn may_move(&self, layout: Layout, x: u32, size: u32) -> bool
+        requires tracing { IsTracing self.now (WasHeld x) }
+        requires layout { layout.blocks ≡ self.now.row.layout.blocks }
         ensures { (p : Setup) (es : List Event) (v : View) → Tracks p es self.now v
             → IsHeld p.before x → size ≡ size_before p x → result ≡ may_move p x }
     {
-        let leaves = self.run.from[block_of(&self.row.layout, x) as usize];
+        let leaves = self.run.from[block_of(&layout, x) as usize];
         if !leaves {
             return false;
         }
-        let pinned = self.row.pinned(x);
+        let pinned = self.has_bit(layout, layout.pin_base(), x);
         if pinned {
             return false;
         }
@@ -88,7 +92,8 @@ impl PlainTrace {
 
     /// The front of room for `size` words. Takes a Free block if the room is too small. `None` if
     /// no block is Free.
-    fn front(&mut self, size: u32) -> Option<u32>
+    fn front(&mut self, layout: Layout, size: u32) -> Option<u32>
+        requires layout { layout.blocks ≡ self.old.row.layout.blocks }
         requires tracing { IsTracing self.old (λ p es v. p.copy ≢ kinds.Free) }
         requires size { size ≤ MAX_MEDIUM_WORDS }
         requires some { 0 < size }
@@ -101,7 +106,7 @@ impl PlainTrace {
         ensures keeps { KeepsRun self.old self.new }
     {
         if self.room.end - self.room.next >= size {
-            return Some(self.row.layout.address(self.block, self.room.next));
+            return Some(layout.address(self.block, self.room.next));
         }
         let block = self.take_block()?;
         Some(self.row.layout.address(block, 0))
@@ -144,12 +149,27 @@ impl PlainTrace {
             → Wins p es v self.new None x cause result }
         ensures keeps { KeepsRun self.old self.new }
     {
-        self.row.words[x as usize + 2] = encode(self.run.number, x);
+        self.claim_in_place(x);
         Won {
             object: x,
             target: x,
             size: size_words(shape),
             refs: shape.refs,
         }
+    }
+
+    /// Stores into the object at `x` that it was claimed and stays. None of its words is read.
+    pub(crate) fn claim_in_place(&mut self, x: u32)
+        requires { IsTracing self.old (WasHeld x) }
+        ensures claims { (p : Setup) (es : List Event) (v : View) (cause : Cause)
+            → Tracks p es self.old v → IsHeld p.before x → target_of p es x ≡ None
+            → (IsTrue (may_move p x) → NoneIsFree p (machine_after p es).taken
+            × (self.old.room.end < self.old.room.next + size_before p x))
+            → IsAskedBy p (machine_after p es) x cause
+            → Tracks p (es ++ ClaimEvent x x cause ∷ []) self.new (claimed_view p x x cause v) }
+        ensures layout { self.new.row.layout ≡ self.old.row.layout }
+        ensures keeps { KeepsRun self.old self.new }
+    {
+        self.row.words[x as usize + 2] = encode(self.run.number, x);
     }
 }

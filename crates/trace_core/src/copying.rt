@@ -1,22 +1,41 @@
 //! Copies, and marks of lines.
 
-ghost use Rattle.std.specs.Prelude.{◌≡◌, ◌+◌, ◌*◌, ◌-◌, ◌/◌, ◌%◌, ◌^◌, ◌<◌, ◌≤◌, ◌++◌, ℕ, List, IsTrue, length, slice_index, slice_set};
+ghost use Rattle.std.specs.Prelude.{◌≡◌, ◌+◌, ◌*◌, ◌-◌, ◌/◌, ◌%◌, ◌^◌, ◌<◌, ◌≤◌, ◌++◌, ℕ, List, IsTrue, nat_eq, length, slice_index, slice_set};
+ghost use Rattle.std.specs.Int.{bit_at};
 ghost use Rattle.heap_layout.specs.Zones.{heap_of, IsAddress, LineWords, bit_of, row_words};
 ghost use Rattle.object_model.specs.BitWords.{with_bit};
 ghost use Rattle.object_model.specs.Lines.{TouchesLine};
 ghost use Rattle.trace_core.specs.Setups.{Setup, blocks};
 ghost use Rattle.trace_core.specs.Machine.{Event};
 ghost use Rattle.trace_core.specs.Views.{View, IsWon, IsGrey, copied_view};
-ghost use Rattle.trace_core.specs.Tracers.{Tracks, IsTracing, Grows, Marks, IsMarking, IsMoving, ChangesWords, KeepsRun, copying};
+ghost use Rattle.trace_core.specs.Tracers.{Tracks, IsTracing, Grows, Marks, IsMarking, IsMoving, IsCopiedHere, ChangesWords, KeepsRun, copying};
 
 use crate::plain_trace::PlainTrace;
 use crate::tokens::{Grey, Won};
+use heap_layout::Layout;
 
 impl PlainTrace {
     /// Copies a claimed object to its target, and sets the target's unlog bit and its start bit. In
     /// place it sets the unlog bit alone.
     pub fn copy(&mut self, won: Won) -> Grey
         requires { IsTracing self.old (λ p es v. IsWon p v won) }
+        ensures object { result.object ≡ won.object }
+        ensures target { result.target ≡ won.target }
+        ensures tracks { (p : Setup) (es : List Event) (v : View) → Tracks p es self.old v
+            → IsWon p v won → Tracks p (es ++ copying p won.object won.target) self.new
+            (copied_view p won.object won.target v) }
+        ensures grey { (p : Setup) (es : List Event) (v : View) → Tracks p es self.old v
+            → IsWon p v won → IsGrey p (copied_view p won.object won.target v) result }
+        ensures keeps { KeepsRun self.old self.new }
+    {
+        let layout = self.row.layout;
+        self.copy_with(layout, won)
+    }
+
+    /// Copies a claimed object. The layout is the row's.
+    pub(crate) fn copy_with(&mut self, layout: Layout, won: Won) -> Grey
+        requires layout { layout.blocks ≡ self.old.row.layout.blocks }
+        requires tracing { IsTracing self.old (λ p es v. IsWon p v won) }
         ensures object { result.object ≡ won.object }
         ensures target { result.target ≡ won.target }
         ensures tracks { (p : Setup) (es : List Event) (v : View) → Tracks p es self.old v
@@ -33,10 +52,9 @@ impl PlainTrace {
             refs,
         } = won;
         if target == object {
-            let unlog = self.row.layout.unlog_base();
-            self.set_bit(unlog, target);
+            self.copy_in_place(layout, object);
         } else {
-            self.move_object(object, target, size);
+            self.move_object(layout, object, target, size);
         }
         Grey {
             object,
@@ -46,9 +64,22 @@ impl PlainTrace {
         }
     }
 
+    /// Sets the unlog bit of a claimed object that stays: no more is left of its copying.
+    pub(crate) fn copy_in_place(&mut self, layout: Layout, x: u32)
+        requires layout { layout.blocks ≡ self.old.row.layout.blocks }
+        requires tracing { IsTracing self.old (IsCopiedHere x) }
+        ensures copies { (p : Setup) (es : List Event) (v : View) → Tracks p es self.old v
+            → IsCopiedHere x p es v
+            → Tracks p (es ++ copying p x x) self.new (copied_view p x x v) }
+        ensures keeps { KeepsRun self.old self.new }
+    {
+        self.set_bit(layout, layout.unlog_base(), x);
+    }
+
     /// Copies the words of an object, and sets the unlog bit and the start bit of its copy.
-    fn move_object(&mut self, object: u32, target: u32, size: u32)
-        requires { IsTracing self.old (IsMoving object target size) }
+    fn move_object(&mut self, layout: Layout, object: u32, target: u32, size: u32)
+        requires tracing { IsTracing self.old (IsMoving object target size) }
+        requires layout { layout.blocks ≡ self.old.row.layout.blocks }
         ensures moves { (p : Setup) (es : List Event) (v : View) → Tracks p es self.old v
             → IsMoving object target size p es v
             → Tracks p (es ++ copying p object target) self.new (copied_view p object target v) }
@@ -58,14 +89,28 @@ impl PlainTrace {
         self.row
             .words
             .copy_within(at..at + size as usize, target as usize);
-        let unlog = self.row.layout.unlog_base();
-        self.set_bit(unlog, target);
-        let start = self.row.layout.start_base();
-        self.set_bit(start, target);
+        self.set_bit(layout, layout.unlog_base(), target);
+        self.set_bit(layout, layout.start_base(), target);
+    }
+
+    /// Whether the bit of an address is set, in a zone that has a bit for each word of the heap.
+    pub(crate) fn has_bit(&self, layout: Layout, zone: u32, address: u32) -> bool
+        requires layout { layout.blocks ≡ self.now.row.layout.blocks }
+        requires extent { length self.now.row.words.items ≡ row_words self.now.row.layout.blocks }
+        requires address { IsAddress self.now.row.layout.blocks address }
+        requires zone { zone ≤ 18 + 133 * self.now.row.layout.blocks }
+        ensures { result ≡ nat_eq (bit_at (slice_index self.now.row.words.items
+            (zone + (address - heap_of self.now.row.layout.blocks) / 64))
+            ((address - heap_of self.now.row.layout.blocks) % 64)) 1 }
+    {
+        let index = address - layout.heap_base();
+        let word = self.row.words[(zone + index / 64) as usize];
+        (word >> (index % 64)) & 1 == 1
     }
 
     /// Sets the bit of an address in a zone that has a bit for each word of the heap.
-    fn set_bit(&mut self, zone: u32, address: u32)
+    fn set_bit(&mut self, layout: Layout, zone: u32, address: u32)
+        requires layout { layout.blocks ≡ self.old.row.layout.blocks }
         requires extent { length self.old.row.words.items ≡ row_words self.old.row.layout.blocks }
         requires address { IsAddress self.old.row.layout.blocks address }
         requires zone { zone ≤ 18 + 133 * self.old.row.layout.blocks }
@@ -75,7 +120,7 @@ impl PlainTrace {
             (zone + (address - heap_of self.old.row.layout.blocks) / 64))
             ((address - heap_of self.old.row.layout.blocks) % 64))) }
     {
-        let index = address - self.row.layout.heap_base();
+        let index = address - layout.heap_base();
         let at = (zone + index / 64) as usize;
         let word = self.row.words[at];
         self.row.words[at] = word | (1 << (index % 64));

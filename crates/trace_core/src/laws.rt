@@ -1,9 +1,9 @@
 //! Laws of the trace machine. Each holds after every list of events of a trace, by any number of
 //! workers in any order.
 
-ghost use Rattle.std.specs.Prelude.{◌≡◌, ◌≢◌, ◌⊎◌, ◌↔◌, ℕ, ◌+◌, ◌*◌, ◌<◌, ◌≤◌, false, Some, None, List, IsTrue, map, if◌then◌else◌, is_some, count_by};
+ghost use Rattle.std.specs.Prelude.{◌≡◌, ◌≢◌, ◌⊎◌, ◌↔◌, ℕ, ◌+◌, ◌*◌, ◌<◌, ◌≤◌, ◌++◌, false, Some, None, List, IsTrue, map, if◌then◌else◌, is_some, count_by};
 ghost use Rattle.forward_word.specs.CollectorWords.{collector_word};
-ghost use Rattle.heap_layout.specs.Zones.{LineWords, StopWord, BudgetWord, PinBits, InZone, IsAddress, bit_of};
+ghost use Rattle.heap_layout.specs.Zones.{LineWords, UnlogBits, StopWord, BudgetWord, PinBits, InZone, IsAddress, bit_of};
 ghost use Rattle.heap_layout.specs.declared.block.Kind.TheVariants as kinds;
 ghost use Rattle.object_model.specs.Lawful.{IsLawfulButLines};
 ghost use Rattle.object_model.specs.Lines.{TouchesLine};
@@ -14,7 +14,8 @@ ghost use Rattle.object_model.specs.Graphs.{IsReachable};
 ghost use Rattle.object_model.specs.Ages.{Lives};
 ghost use Rattle.object_model.specs.Preserving.{PreservesObjects};
 ghost use Rattle.object_model.specs.Releasing.{IsReleasable};
-ghost use Rattle.trace_core.specs.Tracers.{setup_of, clears_lines};
+ghost use Rattle.trace_core.specs.Tracers.{setup_of};
+ghost use Rattle.object_model.specs.declared.collect.Collect.TheVariants.{Nursery, Full};
 ghost use Rattle.trace_core.specs.declared.run.TraceRun.{TraceRun};
 ghost use Rattle.trace_core.specs.Outcomes.{FinishedRow, base_after, image, HaveAsked, NoOthersAsked};
 ghost use Rattle.trace_core.specs.Traces.{May, HasRoom, IsTrace, IsFinished, Reaches, machine_after, heap_after, stage_of, target_of, fields_scanned, is_claim_of, is_scan_of};
@@ -221,7 +222,7 @@ pub fn bits_of_objects_are_set()
 
 /// The word of a block that a worker took has the kind to copy into and the worker as owner. Other
 /// block words, the stop word and the budget word are as they were. A line bit is set if it was
-/// set, or if a target touches the line.
+/// set, or if a target touches the line, and one that is set stays set.
 pub fn side_words_follow_events()
     ensures block { (p : Setup) (es : List Event) → IsTrace p es → (b : ℕ) → b < blocks p
         → (machine_after p es).taken b ≡ 0
@@ -242,19 +243,24 @@ pub fn side_words_follow_events()
     ensures lines { (p : Setup) (es : List Event) → IsTrace p es → (n : ℕ)
         → n < 256 * blocks p → IsTrue (bit_of (blocks p) LineWords p.before.words n)
         → IsTrue (bit_of (blocks p) LineWords (heap_after p es).words n) }
+    ensures stays { (p : Setup) (es more : List Event) → IsTrace p (es ++ more) → (n : ℕ)
+        → n < 256 * blocks p → IsTrue (bit_of (blocks p) LineWords (heap_after p es).words n)
+        → IsTrue (bit_of (blocks p) LineWords (heap_after p (es ++ more)).words n) }
 {}
 
-/// A trace begins with the words of the heap that it is given. A full collection of a plan with
-/// lines begins with all line bits clear.
+/// A trace begins with the words of the heap that it is given. A full collection begins with all
+/// unlog bits clear, and under a plan with lines with all line bits clear.
 pub fn traces_begin_with_the_heap()
     ensures words { (s : HeapState) (run : TraceRun) (w i : ℕ) → IsLawfulButLines s
-        → (InZone s.blocks LineWords i → ⊥)
+        → (InZone s.blocks LineWords i → ⊥) → (InZone s.blocks UnlogBits i → ⊥)
         → word_at (setup_of s run w).before i ≡ word_at s i }
     ensures held { (s : HeapState) (run : TraceRun) (w a : ℕ) → IsLawfulButLines s
         → IsHeld (setup_of s run w).before a ↔ IsHeld s a }
     ensures same { (s : HeapState) (run : TraceRun) (w : ℕ)
-        → clears_lines run ≡ false → (setup_of s run w).before ≡ s }
-    ensures clear { (s : HeapState) (run : TraceRun) (w k line : ℕ) → IsLawfulButLines s
-        → IsTrue (clears_lines run) → k < s.blocks → line < 256
+        → run.collect ≡ Nursery → (setup_of s run w).before ≡ s }
+    ensures lines { (s : HeapState) (run : TraceRun) (w k line : ℕ) → IsLawfulButLines s
+        → IsTrue (run.lines) → run.collect ≡ Full → k < s.blocks → line < 256
         → line_marked (setup_of s run w).before k line ≡ false }
+    ensures unlogs { (s : HeapState) (run : TraceRun) (w a : ℕ) → IsLawfulButLines s
+        → run.collect ≡ Full → is_unlogged (setup_of s run w).before a ≡ false }
 {}

@@ -8,10 +8,11 @@ mod copying;
 pub mod examples;
 pub mod laws;
 mod plain_trace;
+mod reaching;
 mod run;
 mod scanning;
 mod tokens;
 
 pub use plain_trace::PlainTrace;
 pub use run::{TraceRun, Traced};
-pub use tokens::{Claim, GlobalRoot, Grey, Won};
+pub use tokens::{Claim, GlobalRoot, Grey, Reached, Won};

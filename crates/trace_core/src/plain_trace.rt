@@ -1,6 +1,6 @@
 //! The tracer for one worker.
 
-ghost use Rattle.std.specs.Prelude.{◌≡◌, ◌≢◌, ◌+◌, ◌<◌, ◌≤◌, ◌↔◌, ℕ, IsTrue, length, true, false, List, [], ◌∷◌, ◌++◌, map, take, IfOk, IfErr, IfSome, IfNone};
+ghost use Rattle.std.specs.Prelude.{◌≡◌, ◌≢◌, ◌+◌, ◌<◌, ◌≤◌, ◌↔◌, ℕ, IsTrue, length, true, false, List, [], ◌∷◌, ◌++◌, map, take, if◌then◌else◌, IfOk, IfErr, IfSome, IfNone};
 ghost use Rattle.std.specs.List.{range_with_len};
 ghost use Rattle.heap_layout.specs.Zones.{row_words};
 ghost use Rattle.heap_layout.specs.declared.layout.TheConstants.{GLOBALS};
@@ -11,7 +11,7 @@ ghost use Rattle.trace_core.specs.Setups.{Setup};
 ghost use Rattle.trace_core.specs.Machine.{Event, TakeBlock};
 ghost use Rattle.trace_core.specs.Traces.{IsFinished, machine_after};
 ghost use Rattle.trace_core.specs.Views.{View, IsIdle, first_view, taken_view, left_view};
-ghost use Rattle.trace_core.specs.Tracers.{Tracks, IsTracing, MayRun, IsTraced, NoneFree, setup_of, without_lines, TakesBlock, FindsNone, KeepsRun};
+ghost use Rattle.trace_core.specs.Tracers.{Tracks, IsTracing, MayRun, IsTraced, NoneFree, setup_of, without_lines, without_unlogs, TakesBlock, FindsNone, KeepsRun};
 
 use crate::run::{TraceRun, Traced};
 use crate::tokens::GlobalRoot;
@@ -39,7 +39,8 @@ pub struct PlainTrace {
 }
 
 impl PlainTrace {
-    /// Begins a trace of a heap. In a full collection of a plan with lines it clears all line bits.
+    /// Begins a trace of a heap. A full collection clears all unlog bits, and under a plan with
+    /// lines all line bits.
     ///
     /// It takes no memory.
     pub fn begin(heap: Heap, run: TraceRun) -> Result<PlainTrace, AllocError>
@@ -51,8 +52,8 @@ impl PlainTrace {
         ensures never_fails { IfErr result (λ e. ⊥) }
     {
         let mut row = heap.into_row();
-        if run.lines && run.collect == Collect::Full {
-            clear_lines(&mut row);
+        if run.collect == Collect::Full {
+            clear_bits(&mut row, run.lines);
         }
         Ok(PlainTrace {
             row,
@@ -175,6 +176,20 @@ impl PlainTrace {
     {
         self.row.words[self.row.layout.block_at(block) as usize] % CLASS_UNIT == Kind::Free as u64
     }
+}
+
+/// Clears all unlog bits, and if `lines` all line bits.
+fn clear_bits(row: &mut Row, lines: bool)
+    requires { length row.old.words.items ≡ row_words row.old.layout.blocks }
+    ensures { state_of row.new ≡ without_unlogs (if lines then without_lines (state_of row.old)
+        else state_of row.old) }
+{
+    if lines {
+        clear_lines(row);
+    }
+    let from = row.layout.unlog_base() as usize;
+    let to = row.layout.heap_base() as usize;
+    row.words[from..to].fill(0);
 }
 
 /// Clears all line bits.

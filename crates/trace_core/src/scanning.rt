@@ -56,7 +56,8 @@ impl PlainTrace {
         }
     }
 
-    /// Scans one field of an object, whose earlier fields are scanned.
+    /// Scans one field of an object, whose earlier fields are scanned. A field whose reference
+    /// stays is not written, so its cache line stays clean.
     fn scan_field(&mut self, grey: &Grey, field: u32, out: &mut Vec<Grey>)
         requires tracing { IsTracing self.old (λ p es v. IsNextField p v grey.now field) }
         requires room { vec_len out.old < vec_capacity out.old }
@@ -69,7 +70,9 @@ impl PlainTrace {
         let at = grey.target as usize + HEADER_WORDS as usize + field as usize;
         let reference = self.row.words[at] as u32;
         let last = self.follow(reference, out);
-        self.store(at, last);
+        if last != reference {
+            self.store(at, last);
+        }
     }
 
     /// Sets a global: claims what it refers to, copies that and pushes its token if it won, and
@@ -88,11 +91,13 @@ impl PlainTrace {
         let at = self.row.layout.global_at(root.global) as usize;
         let reference = self.row.words[at] as u32;
         let last = self.follow(reference, out);
-        self.store(at, last);
+        if last != reference {
+            self.store(at, last);
+        }
     }
 
     /// Stores a word of the row.
-    fn store(&mut self, at: usize, value: u32)
+    pub(crate) fn store(&mut self, at: usize, value: u32)
         requires { at < length self.old.row.words.items }
         ensures { ChangesWords self.old self.new (slice_set self.old.row.words.items at value) }
     {
@@ -114,11 +119,13 @@ impl PlainTrace {
         if reference == 0 {
             return 0;
         }
-        match self.claim_object(reference) {
+        // Read once: stores to the row do not change it.
+        let layout = self.row.layout;
+        match self.claim_object(layout, reference) {
             Claim::Old => reference,
             Claim::Seen(target) => target,
             Claim::Won(won) => {
-                let grey = self.copy(won);
+                let grey = self.copy_with(layout, won);
                 let target = grey.at();
                 out.push_reserved(grey);
                 target

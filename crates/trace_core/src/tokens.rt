@@ -59,6 +59,25 @@ impl Grey {
     {
         self.target != self.object
     }
+
+    /// The right, without the shape.
+    pub fn reached(self) -> Reached
+        ensures object { result.object ≡ self.object }
+        ensures target { result.target ≡ self.target }
+    {
+        Reached {
+            object: self.object,
+            target: self.target,
+        }
+    }
+}
+
+/// The right to scan the fields of an object that was claimed and copied, and whose shape is not
+/// read yet.
+#[derive(Debug, Drop)]
+pub struct Reached {
+    pub(crate) object: u32,
+    pub(crate) target: u32,
 }
 
 /// The right to set a global to its last value.

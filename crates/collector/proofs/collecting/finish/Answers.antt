@@ -1,7 +1,8 @@
-use Rattle.std.proofs.Common.{refl, ap}
+use Rattle.std.proofs.Common.{refl, ap, ◌∙◌, subst, IsTrue}
 use Rattle.std.proofs.lemmas.Bool.{eqb-true}
 use Rattle.object_model.specs.Heaps.{heap_state}
 use Rattle.sessions.specs.Grants.{BlockCounts}
+use Rattle.trace_core.specs.declared.run.TraceRun.{TraceRun}
 use Rattle.trace_core.specs.Tracers.{setup_of, IsTraced}
 use Rattle.collector.proofs.FinishedTraces as whole
 use Rattle.collector.proofs.collecting.finish.Goals as goal
@@ -14,8 +15,16 @@ release_by-heap-requires g c =
     let v = full.awaited.view in
     let tracks = full.awaited.tracks in
     let is : IsTraced p es v c.close-traced.result = c.close-traced.ensures.traced p es v tracks in
-    let finished = c.close-traced.ensures.finished p es v tracks (whole.idle start w full) in
-    (p, es, is.trace, finished, is.row, is.run.base, is.run.number, λ all. whole.moves-all start w full finished (eqb-true w.tally.kept w.tally.moved all))
+    let finished = c.close-traced.ensures.finished p es v tracks (whole.idle start w full) in (
+      p,
+      es,
+      is.trace,
+      finished,
+      is.row,
+      is.run,
+      λ all. whole.moves-all start w full finished (eqb-true w.tally.kept w.tally.moved all),
+      λ on. whole.marks-lines start w full finished (subst (λ (r : TraceRun). IsTrue r.lines) (c.close-traced.ensures.run ∙ full.awaited.runs) on),
+    )
 
 pub returns : goal.returns
 returns g c start full reclaims told = whole.finishes g.P.Plan.plan g.P.Plan.rules g.met.P.Plan.rules_are_of_plan start c.args.trace full told c.close-traced.result

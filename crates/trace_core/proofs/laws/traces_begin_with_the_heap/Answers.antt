@@ -1,18 +1,17 @@
-use Rattle.std.proofs.Common.{◌≡◌, ℕ, ◌+◌, ◌*◌, inl, inr, Bool, false, refl, sym, ◌∙◌, subst, arith}
-use Rattle.std.specs.Prelude.{if◌then◌else◌, ◌↔◌}
-use Rattle.std.proofs.lemmas.Bool.{cases_Bool, cases_lt, cond-true, cond-false}
-use Rattle.heap_layout.specs.Zones.{LineWords, InZone, first}
-use Rattle.object_model.specs.Objects.{HeapState, word_at, IsHeld, line_marked}
+use Rattle.std.proofs.Common.{◌≡◌, ℕ, ◌+◌, ◌*◌, ◌<◌, inl, inr, refl, sym, ap, ◌∙◌, arith}
+use Rattle.std.specs.Prelude.{◌↔◌}
+use Rattle.std.proofs.lemmas.Bool.{cases_lt, false_from_ne_true}
+use Rattle.heap_layout.specs.Zones.{LineWords, UnlogBits, InZone, first, heap_of}
+use Rattle.object_model.specs.Objects.{HeapState, word_at, IsHeld, is_unlogged}
 use Rattle.object_model.specs.Lawful.{IsLawfulButLines}
-use Rattle.trace_core.specs.Tracers.{without_lines}
+use Rattle.object_model.proofs.Frames.{held-kept}
+use Rattle.trace_core.specs.Tracers.{is_nursery, without_lines, without_unlogs, begun}
 use Rattle.trace_core.proofs.WithoutLines as lines
+use Rattle.trace_core.proofs.Begun.{below-unlogs, above-unlogs, keeps-objects, by-begun, begun-same, begun-unlogs, begun-lines}
 use Rattle.trace_core.proofs.laws.traces_begin_with_the_heap.Goals as goal
 
-abbrev chosen : Bool → HeapState → HeapState
-chosen clears s = if clears then without_lines s else s
-
-words-kept : (s : HeapState) → IsLawfulButLines s → (i : ℕ) → (InZone s.blocks LineWords i → ⊥) → word_at (without_lines s) i ≡ word_at s i
-words-kept s lawful i outside = elim (cases_lt i (first s.blocks LineWords)) as (λ _. word_at (without_lines s) i ≡ word_at s i) [
+lines-kept : (s : HeapState) → IsLawfulButLines s → (i : ℕ) → (InZone s.blocks LineWords i → ⊥) → word_at (without_lines s) i ≡ word_at s i
+lines-kept s lawful i outside = elim (cases_lt i (first s.blocks LineWords)) as (λ _. word_at (without_lines s) i ≡ word_at s i) [
   | inl below ↦ lines.before s lawful i below
   | inr from ↦ elim (cases_lt i (first s.blocks LineWords + 4 * s.blocks)) as (λ _. word_at (without_lines s) i ≡ word_at s i) [
     | inl within ↦ absurd (outside (record { from = omega arith; below = within }))
@@ -20,23 +19,45 @@ words-kept s lawful i outside = elim (cases_lt i (first s.blocks LineWords)) as 
   ]
 ]
 
-by-choice : (P : HeapState → Type 0) (s : HeapState) (clears : Bool) → P (without_lines s) → P s → P (chosen clears s)
-by-choice P s clears cleared kept = elim (cases_Bool clears) as (λ _. P (chosen clears s)) [
-  | inl is ↦ subst P (sym (cond-true clears (without_lines s) s is)) cleared
-  | inr is ↦ subst P (sym (cond-false clears (without_lines s) s is)) kept
+unlogs-kept : (s : HeapState) → IsLawfulButLines s → (i : ℕ) → (InZone s.blocks UnlogBits i → ⊥) → word_at (without_unlogs s) i ≡ word_at s i
+unlogs-kept s lawful i outside = elim (cases_lt i (first s.blocks UnlogBits)) as (λ _. word_at (without_unlogs s) i ≡ word_at s i) [
+  | inl below ↦ below-unlogs s lawful i below
+  | inr from ↦ elim (cases_lt i (heap_of s.blocks)) as (λ _. word_at (without_unlogs s) i ≡ word_at s i) [
+    | inl within ↦ absurd (outside (record { from = omega arith; below = (let end : i < heap_of s.blocks = within in omega arith) }))
+    | inr above ↦ above-unlogs s lawful i (omega arith)
+  ]
 ]
 
+lawful-lines : (s : HeapState) → IsLawfulButLines s → IsLawfulButLines (without_lines s)
+lawful-lines = lines.without_lines-lawful
+
 pub returns-clause-words : goal.returns-clause-words
-returns-clause-words c s run w i lawful outside = by-choice (λ h. word_at h i ≡ word_at s i) s _ (words-kept s lawful i outside) refl
+returns-clause-words c s run w i lawful outside outside-unlogs = by-begun s run (λ h. word_at h i ≡ word_at s i)
+    (unlogs-kept (without_lines s) (lawful-lines s lawful) i outside-unlogs ∙ lines-kept s lawful i outside)
+    (unlogs-kept s lawful i outside-unlogs) refl
+
+held-both : (s : HeapState) → IsLawfulButLines s → (a : ℕ) → IsHeld (without_lines s) a ↔ IsHeld s a
+held-both s lawful a = (
+  (λ is. record { address = is.address; start = sym ((lines.same s lawful).starts a) ∙ is.start }),
+  (λ is. record { address = is.address; start = (lines.same s lawful).starts a ∙ is.start }),
+)
+
+held-unlogs : (s : HeapState) → IsLawfulButLines s → (a : ℕ) → IsHeld (without_unlogs s) a ↔ IsHeld s a
+held-unlogs s lawful a = let both = held-kept s (without_unlogs s) (keeps-objects s lawful) a in (both.1, both.0)
 
 pub returns-clause-held : goal.returns-clause-held
-returns-clause-held c s run w a lawful = by-choice (λ h. IsHeld h a ↔ IsHeld s a) s _
-    ((λ is. record { address = is.address; start = sym ((lines.same s lawful).starts a) ∙ is.start }), (λ is. record { address = is.address; start = (lines.same s lawful).starts a ∙ is.start }))
-    ((λ is. is), (λ is. is))
+returns-clause-held c s run w a lawful =
+    let one = held-unlogs (without_lines s) (lawful-lines s lawful) a in
+    let two = held-both s lawful a in
+    by-begun s run (λ h. IsHeld h a ↔ IsHeld s a)
+    ((λ is. two.0 (one.0 is)), (λ is. one.1 (two.1 is)))
+    (held-unlogs s lawful a) ((λ is. is), (λ is. is))
 
 pub returns-clause-same : goal.returns-clause-same
-returns-clause-same c s run w is = cond-false _ (without_lines s) s is
+returns-clause-same c s run w young = begun-same s run (ap is_nursery young)
 
-pub returns-clause-clear : goal.returns-clause-clear
-returns-clause-clear c s run w k line lawful clears there small =
-    subst (λ h. line_marked h k line ≡ false) (sym (cond-true _ (without_lines s) s clears)) (lines.clear s lawful k line there small)
+pub returns-clause-lines : goal.returns-clause-lines
+returns-clause-lines c s run w k line lawful has full there small = begun-lines s run lawful has (ap is_nursery full) k line there small
+
+pub returns-clause-unlogs : goal.returns-clause-unlogs
+returns-clause-unlogs c s run w a lawful full = false_from_ne_true (is_unlogged (begun s run) a) (begun-unlogs s run lawful (ap is_nursery full) a)

@@ -18,7 +18,7 @@ trace_registers-requires g c =
       tracks = c.take_globals.ensures.same p [] v c.in_ok-tracer.ensures.tracks;
       right = (
         none-grey p v c.new-stack.result.items c.new-stack.ensures.items,
-        roots-begin (heap_state heap) heap.lawful.but_lines.order.row.extent run c.args.built.registers.items c.deref.result.now
+        roots-begin (heap_state heap) heap.lawful.but_lines run c.args.built.registers.items c.deref.result.now
             c.deref.ensures.value c.args.built.roots,
       );
     }
@@ -31,7 +31,7 @@ trace_globals-requires g c =
     let v = first_view run in
     let goes = c.in_ok-registers.ensures p [] v (c.take_globals.ensures.same p [] v c.in_ok-tracer.ensures.tracks)
     (none-grey p v c.new-stack.result.items c.new-stack.ensures.items)
-    (roots-begin (heap_state heap) heap.lawful.but_lines.order.row.extent run c.args.built.registers.items c.deref.result.now
+    (roots-begin (heap_state heap) heap.lawful.but_lines run c.args.built.registers.items c.deref.result.now
     c.deref.ensures.value c.args.built.roots) in
     record {
       setup = p;

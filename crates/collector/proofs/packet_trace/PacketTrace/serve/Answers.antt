@@ -1,32 +1,39 @@
-use Rattle.std.proofs.Common.{◌≡◌, List, [], ◌∷◌, ◌++◌, sym, subst}
+use Rattle.std.proofs.Common.{◌≡◌, List, [], ◌∷◌, ◌++◌, map, sym, subst}
+use Rattle.trace_core.specs.Views.{grey_of}
 use Rattle.trace_core.specs.Tracers.{SetsGlobal, ScansFields}
 use Rattle.trace_core.specs.declared.tokens.Grey.{Grey}
 use Rattle.collector.specs.Serving.{HasRights, Serves}
 use Rattle.collector.proofs.ServedItems.{global-right, serves-global, grey-token, serves-object}
 use Rattle.collector.proofs.packet_trace.PacketTrace.serve.Goals as goal
 
-pub trace_global-requires-clause-tracing : goal.trace_global-requires-clause-tracing
-trace_global-requires-clause-tracing c = let t = c.requires in
+pub reach_global-requires-clause-tracing : goal.reach_global-requires-clause-tracing
+reach_global-requires-clause-tracing c = let t = c.requires in
     let old = c.args.self.now in
     record {
       setup = t.setup;
       events = t.events;
       view = t.view;
       tracks = t.tracks;
-      right = global-right t.setup t.events t.view old.tracer old.tracer old.roots.items [] [] c.in-Global.root
-          (subst (λ item. HasRights t.setup t.view old.roots.items (item ∷ [])) c.in-Global.is t.right);
+      right = (
+        global-right t.setup t.events t.view old.tracer old.tracer old.roots.items [] [] c.in-Global.root
+            (subst (λ item. HasRights t.setup t.view old.roots.items (item ∷ [])) c.in-Global.is t.right),
+        t.right.idle,
+      );
     }
 
-pub scan_object-requires-clause-tracing : goal.scan_object-requires-clause-tracing
-scan_object-requires-clause-tracing c = let t = c.requires in
+pub reach_fields-requires-clause-tracing : goal.reach_fields-requires-clause-tracing
+reach_fields-requires-clause-tracing c = let t = c.requires in
     let old = c.args.self.now in
     record {
       setup = t.setup;
       events = t.events;
       view = t.view;
       tracks = t.tracks;
-      right = grey-token t.setup t.events t.view old.tracer old.tracer old.roots.items [] [] c.in-Object.grey
-          (subst (λ item. HasRights t.setup t.view old.roots.items (item ∷ [])) c.in-Object.is t.right);
+      right = (
+        grey-token t.setup t.events t.view old.tracer old.tracer old.roots.items [] [] c.in-Object.grey
+            (subst (λ item. HasRights t.setup t.view old.roots.items (item ∷ [])) c.in-Object.is t.right),
+        t.right.idle,
+      );
     }
 
 pub returns-in_ok-reserve-in-Global-clause-serves : goal.returns-in_ok-reserve-in-Global-clause-serves
@@ -34,23 +41,24 @@ returns-in_ok-reserve-in-Global-clause-serves c p es v tracks rights =
     let old = c.args.self.now in
     let root = c.in-Global.root in
     let mine = subst (λ item. HasRights p v old.roots.items (item ∷ [])) c.in-Global.is rights in
-    let new = c.trace_global.new.self in
+    let new = c.reach_global.new.self in
     let right = global-right p es v old.tracer old.tracer old.roots.items [] [] root mine in
-    subst (λ item. (pushed : List Grey) × (c.trace_global.new.out.items ≡ c.args.self.now.won.items ++ pushed)
-    × Serves p es v c.args.self.now.tracer c.args.self.now.roots.items (item ∷ []) c.trace_global.new.self c.args.self.now.roots.items pushed) (sym c.in-Global.is)
-    (serves-global p es v old.tracer new old.roots.items old.won.items c.trace_global.new.out.items root mine
-    (subst (λ out. SetsGlobal p es v c.trace_global.new.self c.in-Global.root.global out c.trace_global.new.out.items) c.in_ok-reserve-in-Global.ensures.items
-    (c.trace_global.ensures.sets p es v tracks right)) c.trace_global.ensures.keeps.run)
+    subst (λ item. (pushed : List Grey) × (map (grey_of p) c.reach_global.new.out.items ≡ map (grey_of p) c.args.self.now.won.items ++ pushed)
+    × Serves p es v c.args.self.now.tracer c.args.self.now.roots.items (item ∷ []) c.reach_global.new.self c.args.self.now.roots.items pushed) (sym c.in-Global.is)
+    (serves-global p es v old.tracer new old.roots.items (map (grey_of p) old.won.items) (map (grey_of p) c.reach_global.new.out.items) root mine
+    (subst (λ out. SetsGlobal p es v c.reach_global.new.self c.in-Global.root.global (map (grey_of p) out) (map (grey_of p) c.reach_global.new.out.items)) c.in_ok-reserve-in-Global.ensures.items
+    (c.reach_global.ensures.sets p es v tracks right rights.idle)) c.reach_global.ensures.keeps.run)
 
 pub returns-in_ok-reserve-in-Object-clause-serves : goal.returns-in_ok-reserve-in-Object-clause-serves
 returns-in_ok-reserve-in-Object-clause-serves c p es v tracks rights =
     let old = c.args.self.now in
     let grey = c.in-Object.grey in
     let mine = subst (λ item. HasRights p v old.roots.items (item ∷ [])) c.in-Object.is rights in
-    let new = c.scan_object.new.self in
+    let new = c.reach_fields.new.self in
     let token = grey-token p es v old.tracer old.tracer old.roots.items [] [] grey mine in
-    subst (λ item. (pushed : List Grey) × (c.scan_object.new.out.items ≡ c.args.self.now.won.items ++ pushed)
-    × Serves p es v c.args.self.now.tracer c.args.self.now.roots.items (item ∷ []) c.scan_object.new.self c.args.self.now.roots.items pushed) (sym c.in-Object.is)
-    (serves-object p es v old.tracer new old.roots.items old.won.items c.scan_object.new.out.items grey mine old.tracer.run.lines
-    (subst (λ out. ScansFields p es v c.scan_object.new.self c.args.self.now.tracer.run.lines c.in-Object.grey c.in-Object.grey.refs out c.scan_object.new.out.items)
-    c.in_ok-reserve-in-Object.ensures.items (c.scan_object.ensures.scans p es v tracks token)) c.scan_object.ensures.keeps.run)
+    subst (λ item. (pushed : List Grey) × (map (grey_of p) c.reach_fields.new.out.items ≡ map (grey_of p) c.args.self.now.won.items ++ pushed)
+    × Serves p es v c.args.self.now.tracer c.args.self.now.roots.items (item ∷ []) c.reach_fields.new.self c.args.self.now.roots.items pushed) (sym c.in-Object.is)
+    (serves-object p es v old.tracer new old.roots.items (map (grey_of p) old.won.items) (map (grey_of p) c.reach_fields.new.out.items) grey mine old.tracer.run.lines
+    (subst (λ out. ScansFields p es v c.reach_fields.new.self c.args.self.now.tracer.run.lines c.in-Object.grey c.in-Object.grey.refs (map (grey_of p) out) (map (grey_of p) c.reach_fields.new.out.items))
+    c.in_ok-reserve-in-Object.ensures.items (c.reach_fields.ensures.scans p es v tracks token rights.idle)) c.reach_fields.ensures.keeps.run
+    (λ on. c.reach_fields.ensures.lines on p es v tracks token rights.idle))

@@ -1,9 +1,10 @@
-use Rattle.std.proofs.Common.{[], ◌∷◌, length, slice_set, refl, sym, ◌∙◌, subst, arith, append-nil}
+use Rattle.std.proofs.Common.{[], ◌∷◌, ◌++◌, map, ap, length, slice_set, refl, sym, ◌∙◌, subst, arith, append-nil}
 use Rattle.std.proofs.lemmas.List.{get_or_read_under}
 use Rattle.trace_core.specs.Machine.{ByRoot, Ask}
-use Rattle.trace_core.specs.Views.{asked_view, claimed_view}
+use Rattle.trace_core.specs.Views.{grey_of, asked_view, claimed_view}
 use Rattle.trace_core.specs.Tracers.{ClaimsRoot, taken_in}
 use Rattle.trace_core.proofs.Following.{won-token}
+use Rattle.trace_core.proofs.ReachedTokens.{grey-again, one-pushed}
 use Rattle.collector.proofs.ServedRoots.{Replaces, set-replaces, same-replaces, place-inside, root-held, serves-nil, serves-root, asks-known, serves-won}
 use Rattle.collector.proofs.packet_trace.PacketTrace.serve_root.Goals as goal
 
@@ -15,7 +16,7 @@ pub returns-then-root-eq0-clause-serves : goal.returns-then-root-eq0-clause-serv
 returns-then-root-eq0-clause-serves c p es v tracks rights =
     let inside = place-inside p es v c.args.self.now.tracer c.args.self.now.roots.items c.args.place rights in
     let is = get_or_read_under c.args.self.now.roots.items c.args.place (length c.args.self.now.roots.items) c.index-root.result.now 0 c.index-root.ensures inside refl in
-    ([], sym (append-nil c.args.self.now.won.items), serves-nil p es v c.args.self.now.tracer c.args.self.now.roots.items c.args.place rights (sym is ∙ c.if-root-eq0.true) tracks)
+    ([], sym (append-nil (map (grey_of p) c.args.self.now.won.items)), serves-nil p es v c.args.self.now.tracer c.args.self.now.roots.items c.args.place rights (sym is ∙ c.if-root-eq0.true) tracks)
 
 pub claim-requires : goal.claim-requires
 claim-requires c = let t = c.requires in
@@ -66,7 +67,7 @@ returns-in-Old-clause-serves c p es v tracks rights =
     let held = root-held p es v c.args.self.now.tracer roots c.args.place rights x is c.if-root-eq0.false in
     let claims = subst (ClaimsRoot p es v new x) c.in-Old.is (c.claim.ensures.claims p es v tracks held) in (
       [],
-      sym (append-nil old.won.items),
+      sym (append-nil (map (grey_of p) old.won.items)),
       serves-root p es v old.tracer roots c.args.place rights (Ask x ∷ []) (asked_view x x v) x x [] new roots is c.if-root-eq0.false
           claims.1 c.claim.ensures.keeps.run (asks-known p v x x) (same-replaces roots c.args.place x is),
     )
@@ -83,7 +84,7 @@ returns-in-Seen-clause-serves c p es v tracks rights =
     let held = root-held p es v c.args.self.now.tracer roots c.args.place rights x is c.if-root-eq0.false in
     let claims = subst (ClaimsRoot p es v new x) c.in-Seen.is (c.claim.ensures.claims p es v tracks held) in (
       [],
-      sym (append-nil old.won.items),
+      sym (append-nil (map (grey_of p) old.won.items)),
       serves-root p es v old.tracer roots c.args.place rights (Ask x ∷ []) (asked_view x u v) x u [] new
           (slice_set roots c.args.place u) is c.if-root-eq0.false
           claims.2 c.claim.ensures.keeps.run (asks-known p v x u) (set-replaces roots c.args.place u inside),
@@ -102,12 +103,14 @@ returns-in_ok-push-in-Won-clause-serves c p es v tracks rights =
     let held = root-held p es v c.args.self.now.tracer roots c.args.place rights x is c.if-root-eq0.false in
     let wins = subst (ClaimsRoot p es v mid x) c.in-Won.is (c.claim.ensures.claims p es v tracks held) in
     let token = won-token p es v mid x ByRoot won wins.0 wins.1 in
+    let is-grey = c.copy-grey.ensures.grey p _ _ wins.1.tracks token in
     let at = c.at.ensures ∙ c.copy-grey.ensures.target in (
       grey ∷ [],
-      c.in_ok-push-in-Won.ensures.items,
+      one-pushed p old.won.items c.push.new.self.items c.reached.result c.in_ok-push-in-Won.ensures.items
+          ∙ ap (λ g. map (grey_of p) c.args.self.now.won.items ++ g ∷ []) (grey-again p _ grey c.reached.result is-grey c.reached.ensures.object c.reached.ensures.target),
       serves-won p es v old.tracer roots c.args.place rights c.copy-grey.new.self x won wins.0 grey
           (slice_set roots c.args.place c.at.result) is c.if-root-eq0.false wins.1.object
-          (c.copy-grey.ensures.tracks p _ _ wins.1.tracks token) (c.copy-grey.ensures.grey p _ _ wins.1.tracks token)
+          (c.copy-grey.ensures.tracks p _ _ wins.1.tracks token) is-grey
           c.copy-grey.ensures.object (c.copy-grey.ensures.keeps.run ∙ c.claim.ensures.keeps.run)
           (subst (λ u. Replaces roots c.args.place u (slice_set roots c.args.place c.at.result)) at (set-replaces roots c.args.place c.at.result inside)),
     )

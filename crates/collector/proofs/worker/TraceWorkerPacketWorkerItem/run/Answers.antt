@@ -4,7 +4,7 @@ use Rattle.std.specs.Prelude.{IfOk}
 use Rattle.std.proofs.lemmas.List.{nil_from_length}
 use Rattle.std.proofs.lemmas.Result.{IfOk-weaker}
 use Rattle.collector.specs.Working.{RunsPacket}
-use Rattle.collector.proofs.RunningPackets.{HandsOn, hands-on, served-none, served-more, may-serve, may-run, none-won, places-stay, runs-packet, all-take, all-later}
+use Rattle.collector.proofs.RunningPackets.{HandsOn, hands-on, served-none, served-more, all-reached, may-serve, may-run, none-won, places-stay, runs-packet, all-take, all-later}
 use Rattle.collector.proofs.AwaitedSteps.{left-falls, stays-awaited}
 use Rattle.collector.proofs.worker.TraceWorkerPacketWorkerItem.run.Given.{Over}
 use Rattle.collector.proofs.worker.TraceWorkerPacketWorkerItem.run.Goals as goal
@@ -20,11 +20,14 @@ pub loop-item-preserved : goal.loop-item-preserved
 loop-item-preserved g c = served-more c.pop.new.self.items c.in-Some.item c.loop-item.invariant c.in-Some.ensures.items
     c.in_ok-serve.ensures.serves c.in_ok-serve.ensures.tally
 
+pub hand_on-requires-clause-tracing : goal.hand_on-requires-clause-tracing
+hand_on-requires-clause-tracing g c = all-reached c.loop-item.invariant (may-run c.requires.awaited)
+
 handed : (g : Over) (c : goal.After-hand_on g) → IfOk c.hand_on.result
     (λ _. HandsOn c.loop-item.self.trace c.hand_on.new.self c.hand_on.new.pushed.items)
 handed g c = hands-on c.hand_on.result c.loop-item.self.trace c.hand_on.new.self c.hand_on.new.pushed.items
     c.hand_on.ensures.tokens c.hand_on.ensures.objects c.hand_on.ensures.bucket
-    c.hand_on.ensures.tally c.hand_on.ensures.tracer c.hand_on.ensures.roots
+    c.hand_on.ensures.tracer c.hand_on.ensures.roots
     c.hand_on.ensures.sizes c.hand_on.ensures.none
 
 ran : (g : Over) (c : goal.After-hand_on g)

@@ -7,7 +7,7 @@ use Rattle.trace_core.proofs.plain_trace.PlainTrace.claim_object.Goals as goal
 
 pub index-word-requires : goal.index-word-requires
 index-word-requires c =
-    let r = c.requires in
+    let r = c.requires.tracing in
     let within : c.args.x + 2 < length c.args.self.now.row.words.items = word-within r.setup r.events c.args.self.now r.view r.tracks c.args.x r.right 2 (omega arith) in
     let many : vec_len c.args.self.now.row.words ≡ length c.args.self.now.row.words.items = c.args.self.now.row.words.ok.0 in omega arith
 
@@ -28,10 +28,10 @@ returns-then-is_old-clause-claims c = λ p es v cause tracks there asked.
     )
 
 pub shape_at-shape-requires : goal.shape_at-shape-requires
-shape_at-shape-requires c = let r = c.requires in readable r.setup r.events c.args.self.now r.view r.tracks c.args.x r.right
+shape_at-shape-requires c = let r = c.requires.tracing in readable r.setup r.events c.args.self.now r.view r.tracks c.args.x r.right
 
-pub win-requires : goal.win-requires
-win-requires c = let r = c.requires in
+pub win-requires-clause-tracing : goal.win-requires-clause-tracing
+win-requires-clause-tracing c = let r = c.requires.tracing in
     let read = collector-read r.setup r.events c.args.self.now r.view r.tracks c.args.x r.right c.index-word.result.now c.index-word.ensures in
     let other : number_in c.index-word.result.now ≢ c.args.self.now.run.number = c.in_default.ensures.none in
     record {

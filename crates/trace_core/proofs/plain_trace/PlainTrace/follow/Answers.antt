@@ -1,10 +1,11 @@
-use Rattle.std.proofs.Common.{subst, ◌∙◌}
+use Rattle.std.proofs.Common.{sym, subst, ◌∙◌}
 use Rattle.trace_core.specs.Machine.{ByRoot}
 use Rattle.trace_core.specs.Traces.{stage_of}
 use Rattle.trace_core.specs.Views.{claimed_view}
 use Rattle.trace_core.specs.Tracers.{Claims, taken_in}
 use Rattle.trace_core.proofs.Clauses.{old-target}
 use Rattle.trace_core.proofs.Following.{reference-of, settled-at, forward-at, settled-nil, forward-nil, at-once, won-token, by-claim}
+use Rattle.trace_core.proofs.Tracking.{blocks-are}
 use Rattle.trace_core.proofs.plain_trace.PlainTrace.follow.Goals as goal
 
 pub returns-then-reference-eq0-clause-follows : goal.returns-then-reference-eq0-clause-follows
@@ -12,8 +13,8 @@ returns-then-reference-eq0-clause-follows c p es v cause tracks refers unasked a
     at-once p es v c.args.self.now x 0 cause c.args.out.now.items tracks
     (settled-nil (stage_of p es) x c.if-reference-eq0.true) (forward-nil (stage_of p es) x c.if-reference-eq0.true)
 
-pub claim_object-requires : goal.claim_object-requires
-claim_object-requires c = let t = c.requires.tracing in record {
+pub claim_object-requires-clause-tracing : goal.claim_object-requires-clause-tracing
+claim_object-requires-clause-tracing c = let t = c.requires.tracing in record {
   setup = t.setup;
   events = t.events;
   view = t.view;
@@ -21,8 +22,8 @@ claim_object-requires c = let t = c.requires.tracing in record {
   right = t.right (reference-of c.args.reference c.if-reference-eq0.false);
 }
 
-pub copy-grey-requires : goal.copy-grey-requires
-copy-grey-requires c =
+pub copy_with-grey-requires-clause-tracing : goal.copy_with-grey-requires-clause-tracing
+copy_with-grey-requires-clause-tracing c =
     let t = c.requires.tracing in
     let won = c.in-Won.won in
     let wins = subst (Claims t.setup t.events t.view c.claim_object.new.self c.args.reference ByRoot) c.in-Won.is
@@ -34,6 +35,14 @@ copy-grey-requires c =
       tracks = wins.1.tracks;
       right = won-token t.setup t.events t.view c.claim_object.new.self c.args.reference ByRoot won wins.0 wins.1;
     }
+
+pub copy_with-grey-requires-clause-layout : goal.copy_with-grey-requires-clause-layout
+copy_with-grey-requires-clause-layout c =
+    let t = c.requires.tracing in
+    let wins = subst (Claims t.setup t.events t.view c.claim_object.new.self c.args.reference ByRoot) c.in-Won.is
+    (c.claim_object.ensures.claims t.setup t.events t.view ByRoot t.tracks (t.right (reference-of c.args.reference c.if-reference-eq0.false)) tt) in
+    blocks-are t.setup t.events c.args.self.now t.view t.tracks
+    ∙ sym (blocks-are t.setup _ c.claim_object.new.self _ wins.1.tracks)
 
 pub returns-in-Old-clause-follows : goal.returns-in-Old-clause-follows
 returns-in-Old-clause-follows c p es v cause tracks refers unasked asked =
@@ -61,7 +70,7 @@ returns-in-Won-clause-follows c p es v cause tracks refers unasked asked =
     let mid = c.claim_object.new.self in
     let wins = subst (Claims p es v mid x cause) c.in-Won.is (c.claim_object.ensures.claims p es v cause tracks (refers (reference-of x some)) asked) in
     let token = won-token p es v mid x cause won wins.0 wins.1 in
-    by-claim p es v mid x cause won wins.0 c.copy-grey.new.self c.copy-grey.result c.at-target.result
+    by-claim p es v mid x cause won wins.0 c.copy_with-grey.new.self c.copy_with-grey.result c.at-target.result
     c.args.out.now.items c.push_reserved.new.self.items some unasked wins.1.object
-    (c.copy-grey.ensures.tracks p _ _ wins.1.tracks token) (c.copy-grey.ensures.grey p _ _ wins.1.tracks token)
-    c.copy-grey.ensures.object (c.at-target.ensures ∙ c.copy-grey.ensures.target) c.push_reserved.ensures.items
+    (c.copy_with-grey.ensures.tracks p _ _ wins.1.tracks token) (c.copy_with-grey.ensures.grey p _ _ wins.1.tracks token)
+    c.copy_with-grey.ensures.object (c.at-target.ensures ∙ c.copy_with-grey.ensures.target) c.push_reserved.ensures.items

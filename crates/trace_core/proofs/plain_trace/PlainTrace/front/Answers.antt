@@ -1,4 +1,4 @@
-use Rattle.std.proofs.Common.{◌≡◌, ◌+◌, ◌-◌, ◌<◌, ◌≤◌, Some, sym, ap, ◌∙◌, arith}
+use Rattle.std.proofs.Common.{◌≡◌, ◌+◌, ◌-◌, ◌<◌, ◌≤◌, Some, sym, ap, ◌∙◌, subst, arith}
 use Rattle.heap_layout.specs.Zones.{block_start}
 use Rattle.trace_core.specs.Setups.{blocks}
 use Rattle.trace_core.specs.Tracers.{TakesBlock, FindsNone}
@@ -12,7 +12,8 @@ address-requires-clause-block c =
     let least : c.args.size ≤ c.args.self.now.room.end - c.args.self.now.room.next = c.if-self-size.true in
     let some : 0 < c.args.size = c.requires.some in
     let tracing = c.requires.tracing in
-    room-block tracing.setup tracing.events c.args.self.now tracing.view tracing.tracks (omega arith)
+    subst (λ b. c.args.self.now.block < b) (sym c.requires.layout)
+    (room-block tracing.setup tracing.events c.args.self.now tracing.view tracing.tracks (omega arith))
 
 pub returns-in_err-block-clause-none : goal.returns-in_err-block-clause-none
 returns-in_err-block-clause-none c = none-from c.from_residual.result (λ p es v tracks.

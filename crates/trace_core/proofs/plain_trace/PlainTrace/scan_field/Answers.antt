@@ -1,6 +1,6 @@
 use Rattle.std.proofs.Common.{◌+◌, ◌<◌, ◌^◌, refl, arith}
 use Rattle.trace_core.specs.Machine.{ByField}
-use Rattle.trace_core.proofs.ScanSteps.{low-reference, inside-again, field-inside, field-read, field-refers, field-asks, scans-field}
+use Rattle.trace_core.proofs.ScanSteps.{low-reference, inside-again, field-inside, field-read, field-refers, field-asks, field-stays, scans-field}
 use Rattle.trace_core.proofs.plain_trace.PlainTrace.scan_field.Goals as goal
 
 pub index-requires : goal.index-requires
@@ -32,8 +32,8 @@ store-requires c = let t = c.requires.tracing in
     inside-again t.setup t.events t.view c.args.self.now t.tracks _ by.view c.follow-last.new.self by.grows.tracks (grey.target + 3 + k)
     (field-inside t.setup t.events t.view c.args.self.now t.tracks grey k t.right)
 
-pub returns-clause-scans : goal.returns-clause-scans
-returns-clause-scans c p es v tracks next =
+pub returns-then-last-reference-clause-scans : goal.returns-then-last-reference-clause-scans
+returns-then-last-reference-clause-scans c p es v tracks next =
     let n = c.index.result.now in
     let k = c.args.field in
     let grey = c.args.grey.now in
@@ -42,3 +42,16 @@ returns-clause-scans c p es v tracks next =
     (field-asks p es v c.args.self.now tracks grey k next n c.index.ensures) in
     scans-field p es v c.follow-last.new.self c.store.new.self n c.follow-last.result c.args.out.now.items c.follow-last.new.out.items grey k next
     (field-read p es v c.args.self.now tracks grey k next n c.index.ensures) by c.store.ensures
+
+pub returns-else-last-reference-clause-scans : goal.returns-else-last-reference-clause-scans
+returns-else-last-reference-clause-scans c p es v tracks next =
+    let n = c.index.result.now in
+    let k = c.args.field in
+    let grey = c.args.grey.now in
+    let mid = c.follow-last.new.self in
+    let by = c.follow-last.ensures.follows p es v (ByField grey.object k) tracks
+    (field-refers p es v c.args.self.now tracks grey k next n c.index.ensures) (λ asked. refl)
+    (field-asks p es v c.args.self.now tracks grey k next n c.index.ensures) in
+    let reads = field-read p es v c.args.self.now tracks grey k next n c.index.ensures in
+    scans-field p es v mid mid n c.follow-last.result c.args.out.now.items c.follow-last.new.out.items grey k next reads by
+    (field-stays p es v mid mid n c.follow-last.result c.args.out.now.items c.follow-last.new.out.items grey k next reads by c.if-last-reference.false)

@@ -1,7 +1,7 @@
 use Rattle.std.proofs.Common.{◌<◌, ◌^◌, refl, arith}
 use Rattle.trace_core.specs.Machine.{ByGlobal}
 use Rattle.trace_core.proofs.ScanRights.{unset-at}
-use Rattle.trace_core.proofs.ScanSteps.{low-reference, inside-again, global-inside, global-read, global-refers, global-asks, sets-global}
+use Rattle.trace_core.proofs.ScanSteps.{low-reference, inside-again, global-inside, global-read, global-refers, global-asks, global-stays, sets-global}
 use Rattle.trace_core.proofs.plain_trace.PlainTrace.trace_global.Goals as goal
 
 pub global_at-at-requires : goal.global_at-at-requires
@@ -40,8 +40,8 @@ store-requires c = let t = c.requires.tracing in
     inside-again t.setup t.events t.view c.args.self.now t.tracks _ by.view c.follow-last.new.self by.grows.tracks i
     (global-inside t.setup t.events t.view c.args.self.now t.tracks g i t.right here)
 
-pub returns-clause-sets : goal.returns-clause-sets
-returns-clause-sets c p es v tracks unset =
+pub returns-then-last-reference-clause-sets : goal.returns-then-last-reference-clause-sets
+returns-then-last-reference-clause-sets c p es v tracks unset =
     let n = c.index.result.now in
     let g = c.args.root.global in
     let i = c.global_at-at.result in
@@ -51,3 +51,17 @@ returns-clause-sets c p es v tracks unset =
     (global-asks p es v c.args.self.now tracks g i unset here n c.index.ensures) in
     sets-global p es v c.follow-last.new.self c.store.new.self n c.follow-last.result c.args.out.now.items c.follow-last.new.out.items g i unset here
     (global-read p es v c.args.self.now tracks g i unset here n c.index.ensures) by c.store.ensures
+
+pub returns-else-last-reference-clause-sets : goal.returns-else-last-reference-clause-sets
+returns-else-last-reference-clause-sets c p es v tracks unset =
+    let n = c.index.result.now in
+    let g = c.args.root.global in
+    let i = c.global_at-at.result in
+    let here = c.global_at-at.ensures in
+    let mid = c.follow-last.new.self in
+    let by = c.follow-last.ensures.follows p es v (ByGlobal g) tracks
+    (global-refers p es v c.args.self.now tracks g i unset here n c.index.ensures) (λ asked. refl)
+    (global-asks p es v c.args.self.now tracks g i unset here n c.index.ensures) in
+    let reads = global-read p es v c.args.self.now tracks g i unset here n c.index.ensures in
+    sets-global p es v mid mid n c.follow-last.result c.args.out.now.items c.follow-last.new.out.items g i unset here reads by
+    (global-stays p es v mid mid n c.follow-last.result c.args.out.now.items c.follow-last.new.out.items g i unset here reads by c.if-last-reference.false)

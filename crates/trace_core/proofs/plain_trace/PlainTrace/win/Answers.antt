@@ -13,17 +13,17 @@ returns-then-not-may_move-clause-wins c = λ p es v cause tracks waiting asked. 
 )
 
 pub front-requires-clause-tracing : goal.front-requires-clause-tracing
-front-requires-clause-tracing c = let r = c.requires in
+front-requires-clause-tracing c = let r = c.requires.tracing in
     let moves : IsTrue (may_move r.setup c.args.x) = sym (c.may_move.ensures r.setup r.events r.view r.tracks r.right.held (c.size_words.ensures ∙ waiting-size r.setup r.events c.args.x c.args.shape.now r.right)) ∙ c.if-not-may_move.false in
     record { setup = r.setup; events = r.events; view = r.view; tracks = r.tracks; right = copies-somewhere r.setup r.tracks.trace.ready c.args.x moves }
 
 pub front-requires-clause-size : goal.front-requires-clause-size
-front-requires-clause-size c = let r = c.requires in
+front-requires-clause-size c = let r = c.requires.tracing in
     let moves : IsTrue (may_move r.setup c.args.x) = sym (c.may_move.ensures r.setup r.events r.view r.tracks r.right.held (c.size_words.ensures ∙ waiting-size r.setup r.events c.args.x c.args.shape.now r.right)) ∙ c.if-not-may_move.false in
     subst (λ n. n ≤ 2048) (sym (c.size_words-2.ensures ∙ waiting-size r.setup r.events c.args.x c.args.shape.now r.right)) (moves-small r.setup r.tracks.trace.ready c.args.x moves)
 
 pub win_moved-requires-clause-tracing : goal.win_moved-requires-clause-tracing
-win_moved-requires-clause-tracing c = let r = c.requires in
+win_moved-requires-clause-tracing c = let r = c.requires.tracing in
     let moves : IsTrue (may_move r.setup c.args.x) = sym (c.may_move.ensures r.setup r.events r.view r.tracks r.right.held (c.size_words.ensures ∙ waiting-size r.setup r.events c.args.x c.args.shape.now r.right)) ∙ c.if-not-may_move.false in
     let fronts : Fronts r.setup r.events r.view c.front.new.self c.size_words-2.result c.in-Some.front = c.in-Some.ensures.some r.setup r.events r.view r.tracks in
     record {
@@ -34,8 +34,13 @@ win_moved-requires-clause-tracing c = let r = c.requires in
       right = (waiting-takes r.setup r.events r.tracks.trace fronts.taken c.args.x c.args.shape.now r.right, moves, fronts.front);
     }
 
+pub win_moved-requires-clause-room : goal.win_moved-requires-clause-room
+win_moved-requires-clause-room c = let r = c.requires.tracing in
+    let fronts : Fronts r.setup r.events r.view c.front.new.self c.size_words-2.result c.in-Some.front = c.in-Some.ensures.some r.setup r.events r.view r.tracks in
+    subst (λ n. c.front.new.self.room.next + n ≤ c.front.new.self.room.end) c.size_words-2.ensures fronts.room
+
 pub win_in_place-requires-in-None : goal.win_in_place-requires-in-None
-win_in_place-requires-in-None c = let r = c.requires in
+win_in_place-requires-in-None c = let r = c.requires.tracing in
     record { setup = r.setup; events = r.events; view = r.view; tracks = (c.in-None.ensures.none r.setup r.events r.view r.tracks).0; right = r.right }
 
 pub returns-in-Some-clause-wins : goal.returns-in-Some-clause-wins

@@ -1,15 +1,10 @@
-use Rattle.std.proofs.Common.{◌≡◌, ◌+◌, ◌<◌, refl, ap, ◌∙◌, arith, length, slice_set, vec_len}
-use Rattle.object_model.specs.Objects.{with_words, state_of}
+use Rattle.std.proofs.Common.{refl, ◌∙◌}
 use Rattle.trace_core.proofs.Objects.{None-not-Some}
-use Rattle.trace_core.proofs.Reading.{word-within}
-use Rattle.trace_core.proofs.ClaimedObjects.{may-stay, tracks-in-place, waiting-size}
+use Rattle.trace_core.proofs.ClaimedObjects.{waiting-size}
 use Rattle.trace_core.proofs.plain_trace.PlainTrace.win_in_place.Goals as goal
 
-pub index_mut-requires : goal.index_mut-requires
-index_mut-requires c =
-    let r = c.requires in
-    let within : c.args.x + 2 < length c.args.self.now.row.words.items = word-within r.setup r.events c.args.self.now r.view r.tracks c.args.x r.right.held 2 (omega arith) in
-    let many : vec_len c.args.self.now.row.words ≡ length c.args.self.now.row.words.items = c.args.self.now.row.words.ok.0 in omega arith
+pub claim_in_place-requires : goal.claim_in_place-requires
+claim_in_place-requires c = let r = c.requires in record { setup = r.setup; events = r.events; view = r.view; tracks = r.tracks; right = r.right.held }
 
 pub returns-clause-wins : goal.returns-clause-wins
 returns-clause-wins c = λ p es v cause tracks waiting reason asked. record {
@@ -18,6 +13,5 @@ returns-clause-wins c = λ p es v cause tracks waiting reason asked. record {
   size = c.size_words.ensures ∙ waiting-size p es c.args.x c.args.shape.now waiting;
   refs = waiting.refs;
   needed = λ b is. absurd (None-not-Some b is);
-  tracks = tracks-in-place p es c.args.self.now _ v tracks c.args.x c.args.x cause (may-stay p es c.args.x cause waiting.held waiting.unclaimed asked (λ moves. (reason moves).0))
-      (ap (λ n. with_words (state_of c.args.self.now.row) (slice_set c.args.self.now.row.words.items (c.args.x + 2) n)) c.encode.ensures) refl refl refl refl refl (λ moves. (reason moves).1);
+  tracks = c.claim_in_place.ensures.claims p es v cause tracks waiting.held waiting.unclaimed reason asked;
 }

@@ -1,0 +1,222 @@
+-- The release of a block of cells or lines whose bits tell what lives in it.
+use Rattle.std.proofs.Common.{◌≡◌, refl, sym, ◌∙◌, ap, ℕ, ◌+◌, ◌*◌, ◌-◌, ◌<◌, ◌≤◌, ◌/◌, ◌%◌, ◌⊎◌, inl, inr, arith, Bool, true, false, true≢false, ◌&&◌, IsTrue, nat_eq, nat_le, bit_and, List, length, slice_index, if◌then◌else◌, subst}
+use Rattle.std.specs.Int.Bits.{and_self}
+use Rattle.std.proofs.Math.Logic.{∥∥₁_elim}
+use Rattle.std.proofs.lemmas.Bool.{cases_Bool, and_parts, and_from, and_right}
+use Rattle.forward_word.specs.CollectorWords.{number_in, target_in}
+use Rattle.heap_layout.specs.Zones.{StartBits, PinBits, UnlogBits, BlockWords, first, row_words, IsAddress}
+use Rattle.heap_layout.specs.Blocks.{kind_code, code_of, IsValid}
+use Rattle.heap_layout.specs.declared.block.Kind.{Kind}
+use Rattle.heap_layout.specs.declared.block.Kind.TheVariants as kinds
+use Rattle.heap_layout.specs.declared.block.BlockWord.{BlockWord}
+use Rattle.heap_layout.specs.declared.layout.Layout.{Layout}
+use Rattle.heap_layout.proofs.BlockLemmas.{kind_code_most}
+use Rattle.object_model.proofs.OneKind.{kind-from}
+use Rattle.object_model.specs.declared.collect.Collect.{Collect}
+use Rattle.object_model.specs.Objects.{HeapState, state_over, with_words, block_word, HasKind, line_marked, is_start, is_unlogged, IsHeld, size_at}
+use Rattle.object_model.specs.Lines.{TouchesLine}
+use Rattle.object_model.specs.Ages.{is_survivor}
+use Rattle.object_model.specs.Releasing.{IsReleasable}
+use Rattle.block_sweeps.specs.Stores.{Stores}
+use Rattle.block_sweeps.specs.Sweeping.{InBlock, IsAmong, ChangesOnly, KeepsLiving, HasNoLiving, Sweeps, IsTouchedHere, MarksTouched, Frees}
+use Rattle.block_sweeps.specs.WordSweeps.{has_bit, start_word, unlog_word, address_of, MaySweep, SweepsWords}
+use Rattle.block_sweeps.proofs.SweptBlocks.{bit-there, may-sweep, may-next, swept-next, start-same, unlog-same, heap-same, keeps-living}
+use Rattle.block_sweeps.proofs.SweptWords.{all-live, some-die}
+use Rattle.block_sweeps.proofs.BlockSweeps.{swept-free, swept-kept, none-counts, none-lives, word-only}
+use Rattle.sessions.specs.Plans.{Rules}
+use Rattle.plan_api.specs.Releasing.{Releases, word_after, is_kept_after}
+use Rattle.plan_api.proofs.EvacuationLaws.{not-kept, other-kind}
+use Rattle.plan_api.proofs.ReleasedBlocks as blocks
+use Rattle.collector.specs.Released.{MarksTell, MarksTellIn, LivesOnLine, LinesTell}
+use Rattle.collector.proofs.Metadata.{heap-word}
+use Rattle.collector.proofs.MovedBlocks.{kind-told, unowned-code}
+
+both-ways : (x y : Bool) → (IsTrue x → IsTrue y) → (IsTrue y → IsTrue x) → x ≡ y
+both-ways true true to from = refl
+both-ways true false to from = sym (to refl)
+both-ways false true to from = from refl
+both-ways false false to from = refl
+
+-- the words of a block whose unlog bits tell what lives in it
+module _ (base k i : ℕ) (s : HeapState) (long : length s.words ≡ row_words s.blocks) (there : k < s.blocks) (may : IsReleasable s k) (tells : MarksTell base s k)
+    (from : 64 * k ≤ i) (below : i < 64 * k + 64) where
+  word-tells : MarksTellIn base s i
+  word-tells j small =
+      let a : ℕ = address_of s i j in
+      let at : IsAddress s.blocks a = record { from = omega arith; below = omega arith } in
+      let here : InBlock s k a = record { address = at; block = omega arith } in
+      let start : is_start s a ≡ has_bit (start_word s i) j = bit-there s.blocks StartBits s.words i j (omega arith) small in
+      let unlog : is_unlogged s a ≡ has_bit (unlog_word s i) j = bit-there s.blocks UnlogBits s.words i j (omega arith) small in
+      let held : IsTrue (has_bit (start_word s i) j) → IsHeld s a = λ set. record { address = at; start = start ∙ set } in
+      both-ways (has_bit (unlog_word s i) j) (has_bit (start_word s i) j && is_survivor s base a)
+      (λ set. let begins = (may-sweep s k i long there may from below).unlogs j small set in
+      and_from (has_bit (start_word s i) j) (is_survivor s base a) begins ((tells a here (held begins)).1 (unlog ∙ set)).survives)
+      (λ both. let parts = and_parts (has_bit (start_word s i) j) (is_survivor s base a) both in
+      sym unlog ∙ (tells a here (held parts.0)).0 (record { held = held parts.0; survives = parts.1 }))
+
+-- the words before were swept
+module _ (base from index : ℕ) (s : HeapState) (ws : List ℕ) (rising : from ≤ index) (inside : index < 64 * s.blocks)
+    (swept : SweepsWords base from (index - from) s (with_words s ws)) where
+  apart : IsAmong from (index - from) index → ⊥
+  apart among = let below = among.below in omega arith
+
+  word-later : MarksTellIn base s index → MarksTellIn base (with_words s ws) index
+  word-later tells j small =
+      let a : ℕ = address_of s index j in
+      ap (λ v. has_bit v j) (unlog-same s ws from (index - from) swept.rest (omega arith) index inside apart)
+      ∙ tells j small
+      ∙ ap (λ v. has_bit v j && is_survivor s base a) (sym (start-same s ws from (index - from) swept.rest (omega arith) index inside apart))
+      ∙ ap (λ w. has_bit (start_word (with_words s ws) index) j && (nat_le base (number_in w) && nat_eq (target_in w) a))
+      (sym (heap-same s ws from (index - from) swept.rest (omega arith) (a + 2) (omega arith)))
+
+-- one word of start bits became that of unlog bits
+module _ (base i : ℕ) (s : HeapState) (may : MaySweep s i) (tells : MarksTellIn base s i) where
+  pub word-stays : unlog_word s i ≡ start_word s i → SweepsWords base i 1 s s
+  word-stays same = all-live base i s may (λ j small. ap (λ v. has_bit v j) (sym same) ∙ tells j small)
+
+  module _ (ws ws' : List ℕ) (start : Stores s.words ws (first s.blocks StartBits + i) (unlog_word s i))
+      (pin : Stores ws ws' (first s.blocks PinBits + i) (bit_and (slice_index ws (first s.blocks PinBits + i)) (unlog_word s i))) where
+    unlog-is : slice_index ws' (first s.blocks UnlogBits + i) ≡ unlog_word s i
+    unlog-is =
+        let some = may.inside in
+        pin.others (first s.blocks UnlogBits + i) (λ e. omega arith) ∙ start.others (first s.blocks UnlogBits + i) (λ e. omega arith)
+
+    unlog-stays : Stores ws' ws' (first s.blocks UnlogBits + i) (bit_and (slice_index ws' (first s.blocks UnlogBits + i)) (unlog_word s i))
+    unlog-stays = record {
+      extent = refl;
+      own = unlog-is ∙ sym (and_self (unlog_word s i)) ∙ sym (ap (λ v. bit_and v (unlog_word s i)) unlog-is);
+      others = λ n other. refl;
+      fit = λ fits. fits;
+    }
+
+    pub word-falls : SweepsWords base i 1 s (with_words s ws')
+    word-falls = some-die base i (unlog_word s i) s may ws ws' ws' tells start pin unlog-stays
+
+-- one word more of block k
+module _ (base k index : ℕ) (s : HeapState) (ws ws' : List ℕ) (long : length s.words ≡ row_words s.blocks) (there : k < s.blocks) (may : IsReleasable s k)
+    (tells : MarksTell base s k) (from : 64 * k ≤ index) (below : index < 64 * k + 64) (swept : SweepsWords base (64 * k) (index - 64 * k) s (with_words s ws)) where
+  pub may-mark : MaySweep (with_words s ws) index
+  may-mark = may-next base (64 * k) index s ws from (omega arith) swept (may-sweep s k index long there may from below)
+
+  pub marked-next : (MarksTellIn base (with_words s ws) index → SweepsWords base index 1 (with_words s ws) (with_words s ws')) → SweepsWords base (64 * k) (index + 1 - 64 * k) s (with_words s ws')
+  marked-next more = swept-next base (64 * k) index s ws ws' from (omega arith) swept
+      (more (word-later base (64 * k) index s ws from (omega arith) swept (word-tells base k index s long there may tells from below)))
+
+-- nothing was swept yet
+pub marked-first : (base from : ℕ) (s : HeapState) → SweepsWords base from 0 s s
+marked-first base from s = record {
+  starts = λ i j among. absurd (let after = among.after in let below = among.below in omega arith);
+  pins = λ i j among. absurd (let after = among.after in let below = among.below in omega arith);
+  unlogs = λ i j among. absurd (let after = among.after in let below = among.below in omega arith);
+  rest = record { blocks = refl; extent = refl; others = λ i outside. refl; fit = λ fits. fits };
+}
+
+-- a block of cells has no lines
+pub no-lines : (base : ℕ) (s : HeapState) (k : ℕ) (w : BlockWord) → IsValid w → code_of w ≡ block_word s k → w.kind ≡ kinds.Cells → LinesTell base s k
+no-lines base s k w valid code cells immix = absurd (let wrong : kinds.Cells ≡ kinds.Immix = sym cells ∙ kind-told s k kinds.Immix w valid code immix in cc)
+
+-- Block k has cells or lines, and of its start bits those with an unlog bit were left.
+module _ (r : Rules) (c : Collect) (l : Layout) (base k : ℕ) (old mid new : List ℕ) (w : BlockWord) where
+  abbrev s : HeapState
+  s = state_over old l 0 0
+
+  abbrev m : HeapState
+  m = state_over mid l 0 0
+
+  module _ (there : k < l.blocks) (valid : IsValid w) (code : code_of w ≡ block_word s k) (kind : (w.kind ≡ kinds.Cells) ⊎ (w.kind ≡ kinds.Immix)) (tells : MarksTell base s k) (lines : LinesTell base s k)
+      (swept : SweepsWords base (64 * k) 64 s m) where
+    objects : KeepsLiving base (InBlock s k) s m
+    objects = keeps-living base k s mid there swept
+
+    one-of-two : (kind' : Kind) → (w.kind ≡ kinds.Cells) ⊎ (w.kind ≡ kinds.Immix) → w.kind ≡ kind' → nat_eq (kind_code kinds.Cells) (kind_code kind') ≡ false → nat_eq (kind_code kinds.Immix) (kind_code kind') ≡ false → ⊥
+    one-of-two kind' (inl cells) same differ differ' = true≢false (ap (λ d. nat_eq (kind_code kinds.Cells) (kind_code d)) (sym cells ∙ same) ∙ differ)
+    one-of-two kind' (inr immix) same differ differ' = true≢false (ap (λ d. nat_eq (kind_code kinds.Immix) (kind_code d)) (sym immix ∙ same) ∙ differ')
+
+    other : (kind' : Kind) → nat_eq (kind_code kinds.Cells) (kind_code kind') ≡ false → nat_eq (kind_code kinds.Immix) (kind_code kind') ≡ false → HasKind s k kind' → ⊥
+    other kind' differ differ' is = one-of-two kind' kind (kind-told s k kind' w valid code is) differ differ'
+
+    pub freed : ((a : ℕ) → InBlock m k a → IsHeld m a → ⊥) → Frees m (state_over new l 0 0) k → Releases r c base s (state_over new l 0 0) k
+    freed none frees =
+        let dead : HasNoLiving base s (InBlock s k) = λ a here living. none a (record { address = here.address; block = here.block }) ((objects.held a here).1 living) in
+        blocks.empty l r c base 0 k old new (other kinds.LargeHead refl refl) (other kinds.LargeTail refl refl) dead
+        (swept-free base k s mid new there objects swept.rest frees.rest 0 (none-counts base k s mid new there objects swept.rest frees.rest dead) frees.freed)
+
+    has-kind : (kind' : Kind) → w.kind ≡ kind' → HasKind s k kind'
+    has-kind kind' is =
+        let same : kind_code w.kind ≡ kind_code kind' = ap kind_code is in
+        let most : kind_code w.kind ≤ 8 = kind_code_most w.kind in
+        let word : code_of w ≡ block_word s k = code in
+        kind-from s k kind' there (let e : block_word s k % 256 ≡ kind_code kind' = omega arith in e)
+
+    stays : is_kept_after r c s k ≡ false
+    stays = not-kept r c s k (λ kept from. elim kind as (λ _. ⊥) [
+      | inl cells ↦ other-kind s k kinds.Cells refl refl refl refl (has-kind kinds.Cells cells) kept
+      | inr immix ↦ other-kind s k kinds.Immix refl refl refl refl (has-kind kinds.Immix immix) kept
+    ])
+
+    after-is : code_of (record { kind = w.kind; class = w.class; owner = 0 }) ≡ word_after r c s k
+    after-is = unowned-code w (block_word s k) valid code ∙ sym (ap (λ kept. if kept then kind_code kinds.Kept else block_word s k % 65536) stays)
+
+    module _ (a : ℕ) (here : InBlock m k a) (held : IsHeld m a) (word : Stores mid new (first l.blocks BlockWords + k) (code_of (record { kind = w.kind; class = w.class; owner = 0 }))) where
+      word-is : Stores mid new (first l.blocks BlockWords + k) (word_after r c s k)
+      word-is = subst (Stores mid new (first l.blocks BlockWords + k)) after-is word
+
+      there-before : InBlock s k a
+      there-before = record { address = here.address; block = here.block }
+
+      sweep : Sweeps base (word_after r c s k) s (state_over new l 0 0) k
+      sweep =
+          let only = word-only s k (word_after r c s k) mid new word-is in
+          swept-kept base k s mid new there objects swept.rest only (word_after r c s k)
+          (λ none. none-lives base k s mid new there objects swept.rest only none a there-before ((objects.held a there-before).0 held)) word-is
+
+      nothing : {P : ℕ → Type 0} → ChangesOnly P (state_over new l 0 0) (state_over new l 0 0)
+      nothing = record { blocks = refl; extent = refl; others = λ i outside. refl; fit = λ fits. fits }
+
+      unlogged : (x : ℕ) → InBlock (state_over new l 0 0) k x → is_unlogged (state_over new l 0 0) x ≡ is_start (state_over new l 0 0) x
+      unlogged x at =
+          let before : InBlock s k x = record { address = at.address; block = at.block } in
+          sweep.objects.unlogs x before ∙ elim (cases_Bool (is_start (state_over new l 0 0) x)) as (λ _. (is_unlogged s x && is_start (state_over new l 0 0) x) ≡ is_start (state_over new l 0 0) x) [
+            | inl set ↦
+                let living = (sweep.objects.held x before).0 (record { address = at.address; start = set }) in
+                and_from (is_unlogged s x) (is_start (state_over new l 0 0) x) ((tells x before living.held).0 living) set ∙ sym set
+            | inr clear ↦ and_right (is_unlogged s x) (is_start (state_over new l 0 0) x) clear ∙ sym clear
+          ]
+
+      -- line bits are as they were: those of the lines that what lives here touches
+      size-kept : (x : ℕ) → IsAddress l.blocks x → size_at (state_over new l 0 0) x ≡ size_at s x
+      size-kept x at = ap (λ v. 3 + v % 65536 + v / 65536) (sweep.rest.others (x + 1) (λ meta. let from = at.from in heap-word l.blocks k (x + 1) there (omega arith) meta))
+
+      was-on-line : (line : ℕ) → IsTouchedHere (state_over new l 0 0) k line → LivesOnLine base s k line
+      was-on-line line is = record {
+        object = is.touched.object;
+        lives = (sweep.objects.held is.touched.object (record { address = is.touched.held.address; block = is.here })).0 is.touched.held;
+        here = is.here;
+        touches = subst (λ n. TouchesLine l.blocks is.touched.object n (256 * k + line)) (size-kept is.touched.object is.touched.held.address) is.touched.touches;
+      }
+
+      touched : HasKind s k kinds.Immix → MarksTouched (state_over new l 0 0) (state_over new l 0 0) k
+      touched immix = record {
+        lines = λ line few.
+            let same : line_marked (state_over new l 0 0) k line ≡ line_marked s k line = sweep.lines a line there-before ((objects.held a there-before).0 held) few in (
+              (λ set. let is = (lines immix line few).0 (sym same ∙ set) in
+                  let object : ℕ = is.object in
+                  let at : IsHeld (state_over new l 0 0) is.object = (sweep.objects.held is.object (record { address = is.lives.held.address; block = is.here })).1 is.lives in
+                  ∣ record {
+                    touched = record {
+                      object = object;
+                      held = at;
+                      touches = subst (λ n. TouchesLine l.blocks is.object n (256 * k + line)) (sym (size-kept is.object is.lives.held.address)) is.touches;
+                    };
+                    here = is.here;
+                  } ∣₁),
+              (λ some. elim (cases_Bool (line_marked (state_over new l 0 0) k line)) as (λ _. IsTrue (line_marked (state_over new l 0 0) k line)) [
+                | inl set ↦ set
+                | inr clear ↦ absurd (∥∥₁_elim some (λ x. absurd x) (λ is. true≢false (sym (same ∙ (lines immix line few).1 (was-on-line line is)) ∙ clear)))
+              ]),
+            );
+        rest = nothing;
+      }
+
+      pub kept : Releases r c base s (state_over new l 0 0) k
+      kept = blocks.small l r c base k old new new new there (other kinds.LargeHead refl refl) sweep touched (λ not. refl) (record { unlogs = unlogged; rest = nothing }) (other kinds.LargeTail refl refl)
