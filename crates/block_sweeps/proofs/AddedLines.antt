@@ -1,5 +1,5 @@
 -- Bits are set in a list of words, one word after another.
-use Rattle.std.proofs.Common.{◌≡◌, ◌≢◌, ℕ, ◌+◌, ◌*◌, ◌-◌, ◌/◌, ◌%◌, ◌<◌, ◌≤◌, ◌⊎◌, inl, inr, sym, ap, ◌∙◌, arith, IsTrue, nat_eq, min, List, length, slice_index, slice_set, bit_or, get_or-set_other, get_or-set_same, length-set}
+use Rattle.std.proofs.Common.{◌≡◌, ◌≢◌, refl, ℕ, ◌+◌, ◌*◌, ◌-◌, ◌/◌, ◌%◌, ◌<◌, ◌≤◌, ◌⊎◌, inl, inr, sym, ap, ◌∙◌, arith, IsTrue, nat_eq, min, List, length, slice_index, slice_set, bit_or, get_or-set_other, get_or-set_same, length-set}
 use Rattle.std.specs.Int.{bit_at}
 use Rattle.std.proofs.lemmas.Bool.{cases_eq, cases_lt, eq-eqb, eqb-true}
 use Rattle.std.proofs.lemmas.Nat.Bits.{bit_at_or, bit_at-lt}
@@ -99,3 +99,22 @@ adds-more old lines from to word low high mask there after below low-is high-is 
     (λ n is. record { among = is.among; before = (let less : n < 64 * word = is.before in omega arith) })
     (λ n is. let run = only (n % 64) is.bit in let start : low ≤ n % 64 = run.after in let end : n % 64 ≤ high = run.most in let here : n / 64 ≡ word = is.here in
     record { among = record { after = (omega arith); most = (omega arith) }; before = (omega arith) })
+
+-- no bit of the run lies before its first word
+adds-none : (lines : List ℕ) (from to : ℕ) → AddsLines (IsBefore from to (from / 64)) lines lines
+adds-none lines from to = record {
+  extent = refl;
+  added = λ n is. let after : from ≤ n = is.among.after in let before : n < 64 * (from / 64) = is.before in absurd (omega arith);
+  kept = λ n is. is;
+  only = λ n is. inl is;
+}
+
+-- a run that lies in one word
+pub adds-in-word : (lines : List ℕ) (from to mask : ℕ) → from / 64 < length lines → from / 64 ≡ to / 64
+    → ((k : ℕ) → IsFromTo (from % 64) (to % 64) k → bit_at mask k ≡ 1) → ((k : ℕ) → bit_at mask k ≡ 1 → IsFromTo (from % 64) (to % 64) k)
+    → AddsLines (IsFromTo from to) lines (slice_set lines (from / 64) (bit_or (slice_index lines (from / 64)) mask))
+adds-in-word lines from to mask there same set only =
+    adds-same (IsBefore from to (from / 64 + 1)) (IsFromTo from to) lines (slice_set lines (from / 64) (bit_or (slice_index lines (from / 64)) mask))
+    (adds-more lines lines from to (from / 64) (from % 64) (to % 64) mask there (omega arith) (omega arith) (omega arith) (omega arith) set only (adds-none lines from to))
+    (λ n is. record { among = is; before = (let most : n ≤ to = is.most in omega arith) })
+    (λ n is. is.among)

@@ -97,6 +97,11 @@ fn set_run(lines: &mut [u64; 4], from: u32, to: u32)
     requires to { to < BLOCK_LINES }
     ensures { AddsLines (IsFromTo from to) lines.old lines.new }
 {
+    // Nearly all objects are small, so one word has all their lines.
+    if from / 64 == to / 64 {
+        lines[(from / 64) as usize] |= run_mask(from % 64, to % 64);
+        return;
+    }
     for word in from / 64..to / 64 + 1 {
         let low = from.saturating_sub(64 * word);
         let high = (to - 64 * word).min(63);

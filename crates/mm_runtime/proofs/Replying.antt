@@ -1,6 +1,7 @@
 -- The replies of a part go to those of its trace.
 use Rattle.std.proofs.Common.{◌≡◌, refl, sym, ◌∙◌, ap, subst, ℕ, ◌+◌, ◌<◌, List, [], ◌∷◌, ◌++◌, map, take, length, length-append, append_assoc, append-nil, add-one, arith}
-use Rattle.std.specs.Prelude.{slice_get, Some, All, vec_capacity}
+use Rattle.std.specs.Prelude.{slice_get, Option, Some, None, All, MatchOption, Vec, vec_len, vec_capacity}
+use Rattle.std.specs.declared.alloc.Global.{Global}
 use Rattle.std.proofs.Math.Seq.{take-suc}
 use Rattle.std.proofs.lemmas.List.{map-append}
 use Rattle.std.proofs.lemmas.Option.{slice_get_within, get_or_from_slice_get}
@@ -9,10 +10,11 @@ use Rattle.ideal_heap.specs.declared.reply.Reply.{Reply}
 use Rattle.ideal_heap.specs.Commands.{IsValid}
 use Rattle.mutator_calls.specs.Effects.{Answered}
 use Rattle.plain_world.specs.declared.plain_world.PlainWorld.{PlainWorld}
-use Rattle.plain_world.specs.Calls.{IsOpen}
+use Rattle.plain_world.specs.Calls.{IsOpen, stop_word}
 use Rattle.mm_runtime.specs.declared.progress.Progress.{Progress}
+use Rattle.mm_runtime.specs.declared.progress.End.{End}
 use Rattle.mm_runtime.specs.Managers.{next_of, IsProgress}
-use Rattle.mm_runtime.specs.Parts.{Answers, RunsTrace}
+use Rattle.mm_runtime.specs.Parts.{Answers, EndsFor, EndsPart, GetsReply, RunsTrace}
 use Rattle.mm_runtime.proofs.Composing.{answers-none, answers-append}
 
 -- one more element is taken
@@ -20,6 +22,13 @@ take-more : {A : Type 0} (xs : List A) (k : ℕ) (x : A) → slice_get xs k ≡ 
 take-more xs k x is =
     ap (λ n. take n xs) (add-one k) ∙ take-suc xs k x (slice_get_within xs k x is)
     ∙ ap (λ y. take k xs ++ y ∷ []) (get_or_from_slice_get xs k x x is)
+
+-- the next command is read at the number of replies
+pub next-read : (p : Progress) (k : ℕ) (x : Option Command) → k ≡ vec_len p.replies → slice_get p.trace k ≡ x → next_of p ≡ x
+next-read p k x count is =
+    let same = p.replies.ok.0 in
+    let at : length p.replies.items ≡ k = omega arith in
+    ap (slice_get p.trace) at ∙ is
 
 -- the next command is one of the trace
 pub next-within : (p : Progress) (command : Command) → next_of p ≡ Some command → length p.replies.items < length p.trace
@@ -74,7 +83,7 @@ runs-more old mid new m before between after command reply runs answers is trace
     }
 
 -- and no reply more
-pub runs-stopped : {P : Type 0} (old mid new : PlainWorld P) (m : ℕ) (before between : Progress) → RunsTrace old m before mid between → Answers mid m [] new
+runs-stopped : {P : Type 0} (old mid new : PlainWorld P) (m : ℕ) (before between : Progress) → RunsTrace old m before mid between → Answers mid m [] new
     → RunsTrace old m before new between
 runs-stopped old mid new m before between runs answers = record {
   answered = runs.answered;
@@ -83,3 +92,40 @@ runs-stopped old mid new m before between runs answers = record {
   replies = runs.replies;
   commands = runs.commands;
 }
+
+pub runs-ended : {P : Type 0} (old mid new : PlainWorld P) (m : ℕ) (command : Command) (before between after : Progress) (end : End)
+    → RunsTrace old m before mid between → after.trace ≡ between.trace
+    → EndsPart mid m command between.replies new after.replies end → RunsTrace old m before new after
+runs-ended old mid new m command before between after end runs trace ends =
+    let stopped = runs-stopped old mid new m before between runs ends.answers in
+    let same : after.replies.items ≡ between.replies.items = ap (λ (v : Vec Reply Global). v.items) ends.replies in record {
+      answered = stopped.answered;
+      answers = stopped.answers;
+      trace = trace ∙ stopped.trace;
+      replies = same ∙ stopped.replies;
+      commands = ap (λ (l : List Reply). take (length l) after.trace) same ∙ ap (take (length between.replies.items)) trace ∙ stopped.commands;
+    }
+
+-- a step that a call without entries comes before
+module _ {P : Type 0} (old mid new : PlainWorld P) (m : ℕ) (command : Command) (before after : Vec Reply Global)
+    (first : Answers old m [] mid) (calm : stop_word mid ≡ stop_word old) where
+  pub gets-after : GetsReply mid m command before new after → GetsReply old m command before new after
+  gets-after gets = record {
+    reply = gets.reply;
+    answers = answers-append old mid new m [] (record { command = command; reply = gets.reply } ∷ []) first gets.answers;
+    items = gets.items;
+    capacity = gets.capacity;
+    stop = gets.stop ∙ calm;
+  }
+
+  pub ends-after : (end : End) → EndsPart mid m command before new after end → EndsPart old m command before new after end
+  ends-after end ends = record {
+    answers = answers-append old mid new m [] [] first ends.answers;
+    replies = ends.replies;
+    cause = subst (λ (n : ℕ). EndsFor n new m (Some command) end) calm ends.cause;
+  }
+
+  pub step-after : (result : Option End) → MatchOption result (GetsReply mid m command before new after) (EndsPart mid m command before new after)
+      → MatchOption result (GetsReply old m command before new after) (EndsPart old m command before new after)
+  step-after None gets = gets-after gets
+  step-after (Some end) ends = ends-after end ends

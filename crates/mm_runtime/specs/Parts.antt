@@ -1,10 +1,12 @@
 -- A mutator's part of an epoch, on the world that it runs in.
 use Rattle.std.specs.List.{AllByRecursion}
-use Rattle.std.specs.Prelude.{◌≡◌, ◌≢◌, ℕ, zero, suc, ◌+◌, ◌<◌, ◌≤◌, ◌⊎◌, Bool, true, false, ◌||◌, not, Option, Some, None, List, ◌++◌, map, length, take, slice_get}
+use Rattle.std.specs.Prelude.{◌≡◌, ◌≢◌, ℕ, zero, suc, ◌+◌, ◌<◌, ◌≤◌, ◌⊎◌, Bool, true, false, ◌||◌, not, Option, Some, None, List, [], ◌∷◌, ◌++◌, map, length, take, slice_get, Vec, vec_capacity}
+use Rattle.std.specs.declared.alloc.Global.{Global}
 use Rattle.heap_layout.specs.declared.block.Kind.TheVariants as kinds
 use Rattle.ideal_heap.specs.declared.command.Command.{Command}
 use Rattle.ideal_heap.specs.declared.command.Command.TheVariants as c
 use Rattle.ideal_heap.specs.Commands.{is_new, is_gc, is_meet}
+use Rattle.ideal_heap.specs.declared.reply.Reply.{Reply}
 use Rattle.ideal_heap.specs.Runs.{Entry, entry, commands_of, replies_of}
 use Rattle.object_model.specs.Objects.{has_kind, size_of}
 use Rattle.object_model.specs.declared.shape.TheConstants.{MAX_MEDIUM_WORDS}
@@ -49,6 +51,22 @@ EndsFor before w m next end.Trace = (next ≡ None) × (stop_word w ≡ before)
 EndsFor before w m next (end.Need need) = (next ≡ Some (c.New need.register need.refs need.nums))
     × (stop_word w ≡ number_at w m) × (size_of need.refs need.nums ≤ MAX_MEDIUM_WORDS → IsExhausted w m)
 EndsFor before w m next (end.Raised by) = (next ≢ None) × (0 < by) × (before ≡ by) × (stop_word w ≡ by)
+
+-- the mutator at place m got one reply to this command, which goes to the end of its replies
+pub record GetsReply {P : Type 0} (old : PlainWorld P) (m : ℕ) (command : Command) (before : Vec Reply Global)
+    (new : PlainWorld P) (after : Vec Reply Global) : Type 0 where
+  pub reply : Reply
+  pub answers : Answers old m (record { command = command; reply = reply } ∷ []) new
+  pub items : after.items ≡ before.items ++ reply ∷ []
+  pub capacity : vec_capacity after ≡ vec_capacity before
+  pub stop : stop_word new ≡ stop_word old
+
+-- the part of the mutator at place m ends at this command, and it gets no reply
+pub record EndsPart {P : Type 0} (old : PlainWorld P) (m : ℕ) (command : Command) (before : Vec Reply Global)
+    (new : PlainWorld P) (after : Vec Reply Global) (end : End) : Type 0 where
+  pub answers : Answers old m [] new
+  pub replies : after ≡ before
+  pub cause : EndsFor (stop_word old) new m (Some command) end
 
 -- The part of the mutator at place m from one world to the other: its replies go to those of its trace.
 pub record RunsTrace {P : Type 0} (old : PlainWorld P) (m : ℕ) (before : Progress) (new : PlainWorld P)

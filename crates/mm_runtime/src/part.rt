@@ -1,11 +1,11 @@
 //! A mutator's part of an epoch.
 
-ghost use Rattle.std.specs.Prelude.{◌≡◌, ◌+◌, ◌<◌, ◌≤◌, ◌^◌, ◌∷◌, [], length, Some, IfOk, IfErr};
+ghost use Rattle.std.specs.Prelude.{◌≡◌, ◌+◌, ◌<◌, ◌≤◌, ◌^◌, length, vec_capacity, MatchOption};
 ghost use Rattle.ideal_heap.specs.Commands.{IsValid};
 ghost use Rattle.ideal_heap.specs.declared.command.Command.TheVariants as command_is;
 ghost use Rattle.plain_world.specs.Calls.{HasPlace, IsOpen, births_at, places_of, stop_word};
 ghost use Rattle.mm_runtime.specs.Managers.{next_of, IsProgress};
-ghost use Rattle.mm_runtime.specs.Parts.{Answers, EndsFor, RunsTrace};
+ghost use Rattle.mm_runtime.specs.Parts.{EndsFor, EndsPart, GetsReply, RunsTrace};
 
 use crate::perform::perform;
 use crate::progress::{End, Progress};
@@ -15,15 +15,17 @@ use plain_world::PlainWorld;
 use stored_commands::StoredCommand;
 use work_packets::{Gate, Point};
 
-/// Allocates the object of a `new`: the reply, or the end of the part if the stop is to serve it.
+/// Allocates the object of a `new`: the reply goes to the replies, or the part ends if the stop is
+/// to serve it. A reply answered within another enum would be copied, and wait for its own stores.
 fn allocate<P, G: Gate>(
     world: &mut PlainWorld<P>,
     m: u32,
     d: u32,
     refs: u32,
     nums: u32,
+    replies: &mut Vec<Reply>,
     gate: &G,
-) -> Result<Reply, End>
+) -> Option<End>
     requires open { IsOpen world.old }
     requires place { HasPlace world.old m }
     requires few { places_of world.old ≤ MAX_MUTATORS }
@@ -32,57 +34,59 @@ fn allocate<P, G: Gate>(
     requires nums { nums ≤ MAX_NUMS }
     requires births { births_at world.old m + 1 < 2 ^ 32 }
     requires calm { stop_word world.old ≡ 0 }
-    ensures reply { IfOk result (λ r. Answers world.old m
-        (record { command = command_is.New d refs nums; reply = r } ∷ []) world.new) }
-    ensures calm { IfOk result (λ r. stop_word world.new ≡ 0) }
-    ensures stopped { IfErr result (λ end. Answers world.old m [] world.new) }
-    ensures end { IfErr result
-        (EndsFor 0 world.new m (Some (command_is.New d refs nums))) }
+    requires room { length replies.old.items < vec_capacity replies.old }
+    ensures { MatchOption result
+        (GetsReply world.old m (command_is.New d refs nums) replies.old world.new replies.new)
+        (EndsPart world.old m (command_is.New d refs nums) replies.old world.new replies.new) }
 {
     gate.pass(m + 1, Point::Alloc);
     match world.new_object(m, d, refs, nums) {
         Allocated::Made(name) => {
             gate.pass(m + 1, Point::Publish);
-            Ok(Reply::New(name))
+            replies.push_reserved(Reply::New(name));
+            None
         }
         Allocated::Stop(need) => {
             world.raise(m);
-            Err(End::Need(need))
+            Some(End::Need(need))
         }
     }
 }
 
-/// One step of the part: the reply to the next command, or the end of the part.
+/// One step of the part: the reply to the next command goes to the replies, or the part ends.
 fn step<P, G: Gate>(
     world: &mut PlainWorld<P>,
     m: u32,
     stored: StoredCommand<'_>,
+    replies: &mut Vec<Reply>,
     gate: &G,
-) -> Result<Reply, End>
+) -> Option<End>
     requires open { IsOpen world.old }
     requires place { HasPlace world.old m }
     requires few { places_of world.old ≤ MAX_MUTATORS }
     requires valid { IsValid stored }
     requires births { births_at world.old m + 1 < 2 ^ 32 }
-    ensures reply { IfOk result (λ r. Answers world.old m
-        (record { command = stored.entry; reply = r } ∷ []) world.new) }
-    ensures stop { IfOk result (λ r. stop_word world.new ≡ stop_word world.old) }
-    ensures stopped { IfErr result (λ end. Answers world.old m [] world.new) }
-    ensures end { IfErr result (EndsFor (stop_word world.old) world.new m (Some stored.entry)) }
+    requires room { length replies.old.items < vec_capacity replies.old }
+    ensures { MatchOption result
+        (GetsReply world.old m stored.entry replies.old world.new replies.new)
+        (EndsPart world.old m stored.entry replies.old world.new replies.new) }
 {
     gate.pass(m + 1, Point::Poll);
     if let Polled::Raised(by) = world.poll(m) {
-        return Err(End::Raised(by));
+        return Some(End::Raised(by));
     }
     let command = stored.command();
     match command {
         Command::Gc => {
             world.raise(m);
-            Err(End::Gc)
+            Some(End::Gc)
         }
-        Command::Meet => Err(End::Meet),
-        Command::New { d, refs, nums } => allocate(world, m, d, refs, nums, gate),
-        _ => Ok(perform(world, m, command)),
+        Command::Meet => Some(End::Meet),
+        Command::New { d, refs, nums } => allocate(world, m, d, refs, nums, replies, gate),
+        _ => {
+            replies.push_reserved(perform(world, m, command));
+            None
+        }
     }
 }
 
@@ -103,10 +107,9 @@ pub(crate) fn run_part<P, G: Gate>(
     ensures births { births_at world.new m ≤ length progress.new.replies.items }
     ensures end { EndsFor (stop_word world.old) world.new m (next_of progress.new) result }
 {
-    while let Some(stored) = progress.next_stored() {
-        match step(world, m, stored, gate) {
-            Ok(reply) => progress.replies.push_reserved(reply),
-            Err(end) => return end,
+    while let Some(stored) = progress.trace.get(progress.replies.len()) {
+        if let Some(end) = step(world, m, stored, &mut progress.replies, gate) {
+            return end;
         }
     }
     End::Trace

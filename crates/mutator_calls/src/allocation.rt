@@ -174,13 +174,15 @@ fn find_overflow<S: Seat>(seat: &mut S, size: u32) -> Result<(), NeedCause>
     Err(cause)
 }
 
-/// Makes the seat's region one with room for `size` words: it has room, or a hole is found, first
-/// one in the block of the hole region, or a Free block is taken with a ticket. In overflow
-/// allocation a Free block comes before a hole.
+/// Makes the seat's region one with room for `size` words, for which no region has room: a hole is
+/// found, first one in the block of the hole region, or a Free block is taken with a ticket. In
+/// overflow allocation a Free block comes before a hole.
+#[inline(never)]
 fn find_room<S: Seat>(seat: &mut S, size: u32) -> Result<(), NeedCause>
     requires ready { S.is_ready seat.old }
     requires least { 3 ≤ size }
     requires most { size ≤ MAX_MEDIUM_WORDS }
+    requires full { S.is_full seat.old size }
     ensures room { IsOk result → S.has_room seat.new size }
     ensures offered { IsOk result → S.offers seat.old seat.new size }
     ensures finds { IsOk result → (taken : List ℕ) × (granted : List ℕ) × (drawn : ℕ)
@@ -203,9 +205,6 @@ fn find_room<S: Seat>(seat: &mut S, size: u32) -> Result<(), NeedCause>
     ensures cause { IfErr result (IsCause (S.books seat.new)
         (S.lacks seat.new size) (S.is_used seat.new) size) }
 {
-    if seat.fits_region(size) {
-        return Ok(());
-    }
     if seat.overflows(size) {
         return find_overflow(seat, size);
     }
@@ -218,12 +217,64 @@ fn find_room<S: Seat>(seat: &mut S, size: u32) -> Result<(), NeedCause>
     take_free_block(seat, size)
 }
 
+/// Allocates an object for which no region has room, after a search for room. It is inlined, as its
+/// caller is, so that the answer stays in registers.
+#[inline(always)]
+fn allocate_elsewhere<S: Seat>(seat: &mut S, d: u32, refs: u32, nums: u32) -> Allocated
+    requires ready { S.is_ready seat.old }
+    requires register { d < REGISTERS }
+    requires refs { refs ≤ MAX_REFS }
+    requires nums { nums ≤ MAX_NUMS }
+    requires small { size_of refs nums ≤ MAX_MEDIUM_WORDS }
+    requires full { S.is_full seat.old (size_of refs nums) }
+    requires births { (S.books seat.old).births + 1 < 2 ^ 32 }
+    ensures ready { S.is_ready seat.new }
+    ensures made { MatchAllocated result
+        (λ name. (taken : List ℕ) × (granted : List ℕ) × (drawn : ℕ)
+        × S.goes seat.old (births_with d refs nums name taken granted drawn) seat.new
+        × FindsRoom (S.lacks seat.new (size_of refs nums)) (S.is_used seat.new)
+        (S.allocates_in seat.old (size_of refs nums))
+        (S.allocates_in seat.new (size_of refs nums)) (IsNextTicket S.goes S.has_budget seat.old)
+        (S.is_full seat.old (size_of refs nums))
+        (IsSpent S.goes S.keeps_region S.allocates_in S.lacks seat.old (size_of refs nums))
+        (S.is_overflow seat.old (size_of refs nums))
+        (S.keeps_region seat.old seat.new) (S.books seat.new).blocks (S.books seat.new).allowance
+        (S.books seat.old).ticket (S.books seat.new).ticket
+        taken granted drawn) (λ need. ⊤) }
+    ensures placed { MatchAllocated result (λ name. (mid : S)
+        × S.offers seat.old mid (size_of refs nums)
+        × S.places mid seat.new d (size_of refs nums)) (λ need. ⊤) }
+    ensures small { MatchAllocated result (λ name. size_of refs nums ≤ MAX_MEDIUM_WORDS)
+        (λ need. ⊤) }
+    ensures stopped { MatchAllocated result (λ name. ⊤)
+        (λ need. (drawn : ℕ) × S.goes seat.old (draws drawn) seat.new
+        × Draws (IsNextTicket S.goes S.has_budget seat.old)
+        (S.books seat.old).ticket (S.books seat.new).ticket drawn
+        × (MAX_MEDIUM_WORDS < size_of refs nums → drawn ≡ 0)) }
+    ensures spent { MatchAllocated result (λ name. ⊤) (λ need.
+        size_of refs nums ≤ MAX_MEDIUM_WORDS
+        → IsSpent S.goes S.keeps_region S.allocates_in S.lacks seat.old (size_of refs nums)) }
+    ensures kept { MatchAllocated result (λ name. ⊤)
+        (λ need. S.keeps_region seat.old seat.new) }
+    ensures need { MatchAllocated result (λ name. ⊤) (IsNeedOf d refs nums) }
+    ensures cause { MatchAllocated result (λ name. ⊤) (λ need. IsCause (S.books seat.new)
+        (S.lacks seat.new (size_of refs nums)) (S.is_used seat.new)
+        (size_of refs nums) need.cause) }
+{
+    let shape = Shape { refs, nums };
+    match find_room(seat, size_words(&shape)) {
+        Ok(()) => Allocated::Made(seat.publish(d, &shape)),
+        Err(cause) => stop(d, &shape, cause),
+    }
+}
+
 /// Allocates an object with `refs` nil references and `nums` zeros, and stores its address in
 /// register `d`: in a region of the seat if one has room, else in a hole, else in a Free block. In
 /// overflow allocation a Free block comes before a hole.
 ///
 /// The answer is `Stop` if the object is large, or if no block has room that the mutator may fill
 /// and no Free block may be taken. The hole region stays then.
+#[inline(always)]
 pub fn new_object<S: Seat>(seat: &mut S, d: u32, refs: u32, nums: u32) -> Allocated
     requires ready { S.is_ready seat.old }
     requires register { d < REGISTERS }
@@ -268,10 +319,10 @@ pub fn new_object<S: Seat>(seat: &mut S, d: u32, refs: u32, nums: u32) -> Alloca
     if size > MAX_MEDIUM_WORDS {
         return stop(d, &shape, NeedCause::Large);
     }
-    match find_room(seat, size) {
-        Ok(()) => Allocated::Made(seat.publish(d, &shape)),
-        Err(cause) => stop(d, &shape, cause),
+    if seat.fits_region(size) {
+        return Allocated::Made(seat.publish(d, &shape));
     }
+    allocate_elsewhere(seat, d, refs, nums)
 }
 
 /// The answer to an allocation that is left to the stop.

@@ -208,6 +208,7 @@ impl Seat for PlainRow {
         self.seats[self.turn].ticket
     }
 
+    #[inline(always)]
     fn fits_region(&self, size: u32) -> bool {
         self.has_room(size)
     }
@@ -236,6 +237,7 @@ impl Seat for PlainRow {
         self.take_free_block(block, size)
     }
 
+    #[inline(always)]
     fn publish(&mut self, d: u32, shape: &Shape) -> Name {
         self.allocate(d, shape)
     }

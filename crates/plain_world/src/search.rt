@@ -1,6 +1,6 @@
 //! The search for room, and allocation in a region.
 
-ghost use Rattle.std.specs.Prelude.{◌≡◌, ◌≢◌, ◌↔◌, ◌+◌, ◌*◌, ◌<◌, ◌≤◌, ◌^◌, ◌⊎◌, ℕ, Bool, true, false, length, Option, Some, None, IfSome, IfNone, slice_get, vec_len, vec_capacity};
+ghost use Rattle.std.specs.Prelude.{◌≡◌, ◌≢◌, ◌↔◌, ◌+◌, ◌*◌, ◌<◌, ◌≤◌, ◌^◌, ◌⊎◌, ℕ, Bool, true, false, IsTrue, length, Option, Some, None, IfSome, IfNone, slice_get, vec_len, vec_capacity};
 ghost use Rattle.heap_layout.specs.Zones.{row_words, block_start};
 ghost use Rattle.heap_layout.specs.Blocks.{IsValid};
 ghost use Rattle.heap_layout.specs.declared.region.Region.{Region};
@@ -23,7 +23,7 @@ ghost use Rattle.plain_world.specs.TwoRegions.{FillsLines, region_of, cursors_of
 
 use crate::plain_row::{BlockNote, CLASSES, PlainRow};
 use cell_space::{cell_size, next_cell};
-use heap_layout::{BLOCK_WORDS, BlockWord, Kind, LINE_WORDS, Region};
+use heap_layout::{BLOCK_WORDS, BlockWord, CLASS_UNIT, Kind, LINE_WORDS, Region};
 use ideal_heap::{MAX_NUMS, MAX_REFS, Name, REGISTERS};
 use object_model::{MAX_MEDIUM_WORDS, Shape, size_words};
 use plan_api::{Cursors, class_for, hole_in_block, place_in};
@@ -39,6 +39,7 @@ impl PlainRow {
     }
 
     /// What is left of a block of the mutator, or no words if there is no block.
+    #[inline(always)]
     fn region_in(&self, block: Option<u32>) -> Region
         requires { (k : ℕ) → block ≡ Some k → k < length self.now.notes.items }
         ensures { result ≡ region_of self.now.notes.items block }
@@ -70,8 +71,8 @@ impl PlainRow {
     }
 
     /// The block of the region that takes an object of `size` words, under a plan with lines, if a
-    /// region has room.
-    fn block_of_lines(&self, size: u32) -> Option<u32>
+    /// region has room: both regions are read.
+    fn block_of_regions(&self, size: u32) -> Option<u32>
         requires seat { IsReadableSeat self.now }
         requires fill { FillsLines self.now.fill }
         requires least { 3 ≤ size }
@@ -90,8 +91,34 @@ impl PlainRow {
         Some(block)
     }
 
+    /// The block of the region that takes an object of `size` words, under a plan with lines, if a
+    /// region has room. The hole region is read first, since it nearly always has.
+    #[inline(always)]
+    fn block_of_lines(&self, size: u32) -> Option<u32>
+        requires seat { IsReadableSeat self.now }
+        requires fill { FillsLines self.now.fill }
+        requires least { 3 ≤ size }
+        requires hole { (cursors_of self.now.notes.items (seat_at_turn self.now)).hole.next
+            ≤ (cursors_of self.now.notes.items (seat_at_turn self.now)).hole.end }
+        requires over { (cursors_of self.now.notes.items (seat_at_turn self.now)).over.next
+            ≤ (cursors_of self.now.notes.items (seat_at_turn self.now)).over.end }
+        ensures some { IfSome result (λ k.
+            IsBlockFor self.now.fill self.now.notes.items (seat_at_turn self.now) size k
+            × RegionHasRoom (region_of self.now.notes.items (Some k)) size) }
+        ensures none { IfNone result (LacksRoom
+            (cursors_of self.now.notes.items (seat_at_turn self.now)) size) }
+    {
+        let block = self.seats[self.turn].blocks[0];
+        let hole = self.region_in(block);
+        if hole.end - hole.next >= size {
+            return block;
+        }
+        self.block_of_regions(size)
+    }
+
     /// The block of the region that takes an object of `size` words. Under a plan with lines there
     /// is none if no region has room.
+    #[inline(always)]
     fn block_for(&self, size: u32) -> Option<u32>
         requires seat { IsReadableSeat self.now }
         requires least { 3 ≤ size }
@@ -118,6 +145,7 @@ impl PlainRow {
     }
 
     /// Whether the mutator's region for objects of `size` words has room for one.
+    #[inline(always)]
     pub(crate) fn has_room(&self, size: u32) -> bool
         requires ready { IsReady self.now }
         requires least { 3 ≤ size }
@@ -394,6 +422,15 @@ impl PlainRow {
         Region { next: 0, end }
     }
 
+    /// Whether a block is Free: the code of its kind alone tells.
+    fn is_free(&self, block: u32) -> bool
+        requires extent { length self.now.row.words.items ≡ row_words self.now.row.layout.blocks }
+        requires block { block < self.now.row.layout.blocks }
+        ensures { IsTrue result ↔ HasKind (state_of self.now.row) block kinds.Free }
+    {
+        self.row.words[self.row.layout.block_at(block) as usize] % CLASS_UNIT == Kind::Free as u64
+    }
+
     /// Takes a block for objects of `size` words if it is Free. In overflow allocation it is the
     /// block of the overflow region then.
     pub(crate) fn take_free_block(&mut self, block: u32, size: u32) -> bool
@@ -410,7 +447,7 @@ impl PlainRow {
         if let BlockNote::Owned { .. } = self.notes[block as usize] {
             return false;
         }
-        if self.row.block(block).kind != Kind::Free {
+        if !self.is_free(block) {
             return false;
         }
         let class = self.class(size);
@@ -486,6 +523,7 @@ impl PlainRow {
 
     /// The block of the region that takes an object of `size` words, and the offset of the object.
     /// The region is what it leaves then.
+    #[inline(always)]
     fn advance(&mut self, size: u32) -> (u32, u32)
         requires room { HasRoom self.old size }
         requires least { 3 ≤ size }
@@ -523,6 +561,7 @@ impl PlainRow {
 
     /// Allocates an object at the start of the mutator's region and stores its address into
     /// register `d`. Returns its name.
+    #[inline(always)]
     pub(crate) fn allocate(&mut self, d: u32, shape: &Shape) -> Name
         requires room { HasRoom self.old (size_of shape.now.refs shape.now.nums) }
         requires register { d < REGISTERS }

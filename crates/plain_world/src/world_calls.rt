@@ -58,6 +58,7 @@ impl<P> PlainWorld<P> {
     /// comes before a hole.
     ///
     /// The answer is `Stop` if the object is large, or if there is no such room.
+    #[inline(always)]
     pub fn new_object(&mut self, m: u32, d: u32, refs: u32, nums: u32) -> Allocated
         requires open { IsOpen self.old }
         requires place { HasPlace self.old m }

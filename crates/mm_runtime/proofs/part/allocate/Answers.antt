@@ -8,31 +8,34 @@ use Rattle.mm_runtime.proofs.Answering.{answers-effect}
 use Rattle.mm_runtime.proofs.Composing.{answers-append, exhausted, raised-word, refused-word}
 use Rattle.mm_runtime.proofs.part.allocate.Goals as goal
 
-pub returns-in-Made-clause-reply : goal.returns-in-Made-clause-reply
-returns-in-Made-clause-reply g c =
-    let call = c.in-Made.ensures in
-    answers-effect c.args.world.now c.new_object.new.self c.args.m (births_with c.args.d c.args.refs c.args.nums c.in-Made.name call.made.taken call.made.granted call.made.drawn) call.made.granted
-    c.requires.open call.open call.places call.made.history call.made.grants call.made.rest
+pub returns-in-Made : goal.returns-in-Made
+returns-in-Made g c =
+    let call = c.in-Made.ensures in record {
+      reply = _;
+      answers = answers-effect c.args.world.now c.new_object.new.self c.args.m (births_with c.args.d c.args.refs c.args.nums c.in-Made.name call.made.taken call.made.granted call.made.drawn) call.made.granted
+          c.requires.open call.open call.places call.made.history call.made.grants call.made.rest;
+      items = c.push_reserved.ensures.items;
+      capacity = c.push_reserved.ensures.capacity;
+      stop = call.made.rest.stop;
+    }
 
-pub returns-in-Stop-clause-stopped : goal.returns-in-Stop-clause-stopped
-returns-in-Stop-clause-stopped g c =
-    let call = c.in-Stop.ensures in
-    let raise = c.raise.ensures in
-    answers-append c.args.world.now c.new_object.new.self c.raise.new.self c.args.m [] []
-    (answers-effect c.args.world.now c.new_object.new.self c.args.m (draws call.made.drawn) [] c.requires.open call.open call.places call.made.history call.made.grants call.made.rest)
-    (answers-effect c.new_object.new.self c.raise.new.self c.args.m raises [] call.open raise.open raise.places raise.history raise.granted raise.rest)
-
-pub returns-in-Stop-clause-end : goal.returns-in-Stop-clause-end
-returns-in-Stop-clause-end g c =
+pub returns-in-Stop : goal.returns-in-Stop
+returns-in-Stop g c =
     let call = c.in-Stop.ensures in
     let raise = c.raise.ensures in
     let need = c.in-Stop.need in
     let register : need.register ≡ c.args.d = call.need.register in
     let refs : need.refs ≡ c.args.refs = call.need.refs in
-    let nums : need.nums ≡ c.args.nums = call.need.nums in (
-      cc,
-      raised-word c.new_object.new.self c.raise.new.self c.args.m raise.places raise.rest (refused-word c.args.world.now c.new_object.new.self c.args.m call.made.drawn call.made.rest c.requires.calm),
-      λ small. exhausted c.new_object.new.self c.raise.new.self c.args.m (size_of c.args.refs c.args.nums) need.cause
-          (answers-effect c.new_object.new.self c.raise.new.self c.args.m raises [] call.open raise.open raise.places raise.history raise.granted raise.rest)
-          (raise.rest.ticket refl refl) call.cause (let few : size_of need.refs need.nums ≤ MAX_MEDIUM_WORDS = small in omega arith),
-    )
+    let nums : need.nums ≡ c.args.nums = call.need.nums in record {
+      answers = answers-append c.args.world.now c.new_object.new.self c.raise.new.self c.args.m [] []
+          (answers-effect c.args.world.now c.new_object.new.self c.args.m (draws call.made.drawn) [] c.requires.open call.open call.places call.made.history call.made.grants call.made.rest)
+          (answers-effect c.new_object.new.self c.raise.new.self c.args.m raises [] call.open raise.open raise.places raise.history raise.granted raise.rest);
+      replies = refl;
+      cause = (
+        cc,
+        raised-word c.new_object.new.self c.raise.new.self c.args.m raise.places raise.rest (refused-word c.args.world.now c.new_object.new.self c.args.m call.made.drawn call.made.rest c.requires.calm),
+        λ small. exhausted c.new_object.new.self c.raise.new.self c.args.m (size_of c.args.refs c.args.nums) need.cause
+            (answers-effect c.new_object.new.self c.raise.new.self c.args.m raises [] call.open raise.open raise.places raise.history raise.granted raise.rest)
+            (raise.rest.ticket refl refl) call.cause (let few : size_of need.refs need.nums ≤ MAX_MEDIUM_WORDS = small in omega arith),
+      );
+    }

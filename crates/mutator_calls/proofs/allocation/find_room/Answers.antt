@@ -5,16 +5,6 @@ use Rattle.mutator_calls.specs.Allocating.{IsSpent, ComesToHoles, FindsRoom, Dra
 use Rattle.mutator_calls.proofs.Finding.{draws-from, finds-later}
 use Rattle.mutator_calls.proofs.allocation.find_room.Goals as goal
 
-pub returns-then-fits_region-clause-finds : goal.returns-then-fits_region-clause-finds
-returns-then-fits_region-clause-finds g c = λ _.
-    let here = c.if-fits_region.ensures.region refl in (
-      [],
-      [],
-      0,
-      g.met.S.Seat.loads_do_nothing _ _ (g.met.S.Seat.looks_at_nothing c.args.seat.now),
-      FindsRoom.in_region here.0 here.1 here.1 (λ is. (g.met.S.Seat.region_is_kept c.args.seat.now, is)) refl refl refl refl,
-    )
-
 pub returns-then-overflows-clause-finds : goal.returns-then-overflows-clause-finds
 returns-then-overflows-clause-finds g c = λ yes.
     let found = c.find_overflow.ensures.finds yes in
@@ -47,7 +37,7 @@ returns-then-take_own_hole-clause-finds g c = λ _.
       [],
       0,
       c.if-take_own_hole.ensures.goes,
-      FindsRoom.in_hole own.0 own.2 (inl refl) refl (c.if-fits_region.ensures.full refl)
+      FindsRoom.in_hole own.0 own.2 (inl refl) refl c.requires.full
           (ComesToHoles.at_once (c.if-overflows.ensures.no refl) refl (ap (λ b. b.ticket) c.if-take_own_hole.ensures.books)) (inl own.1),
     )
 
@@ -62,7 +52,7 @@ returns-then-take_some_hole-clause-finds g c = λ _.
       [],
       0,
       g.met.S.Seat.one_after_another _ _ _ nothing (takes took.1) c.if-take_own_hole.ensures.goes took.3,
-      FindsRoom.in_hole took.0 took.5 took.2 refl (c.if-fits_region.ensures.full refl)
+      FindsRoom.in_hole took.0 took.5 took.2 refl c.requires.full
           (ComesToHoles.at_once (c.if-overflows.ensures.no refl) refl
           (ap (λ b. b.ticket) (c.if-take_some_hole.ensures.books ∙ c.if-take_own_hole.ensures.books)))
           (inr (
@@ -94,7 +84,7 @@ returns-clause-finds g c = λ yes.
       took.1,
       subst (λ n. g.S.Seat.goes c.args.seat.now (searches (took.0 ∷ []) (took.0 ∷ []) n) c.take_free_block.new.seat) (zero-add took.1)
           (g.met.S.Seat.one_after_another _ _ _ nothing (searches (took.0 ∷ []) (took.0 ∷ []) took.1) went took.2),
-      FindsRoom.in_free_block took.0 free.ticket free.here refl refl (c.if-fits_region.ensures.full refl)
+      FindsRoom.in_free_block took.0 free.ticket free.here refl refl c.requires.full
           (subst (λ o. Draws next o (Some free.ticket) took.1) (ap (λ b. b.ticket) same)
           (draws-from (g.S.Seat.has_budget c.take_some_hole.new.seat) next (g.S.Seat.books c.take_some_hole.new.seat).ticket (Some free.ticket) took.1
           (λ t is. (c.take_some_hole.new.seat, went, is)) free.draws))

@@ -1,53 +1,14 @@
-use Rattle.std.proofs.Common.{ℕ, refl, sym, ap, subst, List, [], ◌++◌, add-zero}
-use Rattle.ideal_heap.specs.declared.command.Command.TheVariants as command
-use Rattle.ideal_heap.specs.declared.reply.Reply.TheVariants as reply
-use Rattle.object_model.specs.Objects.{size_of}
-use Rattle.mutator_calls.specs.Effects.{enters, nothing}
-use Rattle.mutator_calls.specs.Allocating.{births_with, searches, IsSpent, FindsRoom}
-use Rattle.std.proofs.lemmas.List.{append-nil}
-use Rattle.mutator_calls.proofs.Finding.{finds-later}
+use Rattle.std.proofs.Common.{ℕ, refl, ap, subst, []}
+use Rattle.mutator_calls.specs.Allocating.{FindsRoom}
 use Rattle.mutator_calls.proofs.allocation.new_object.Goals as goal
 
-pub returns-in-Ok-clause-made : goal.returns-in-Ok-clause-made
-returns-in-Ok-clause-made g c =
-    let size = size_of c.args.refs c.args.nums in
-    let found = c.in-Ok.ensures.finds refl in
-    let taken = found.0 in
-    let granted = found.1 in
-    let drawn = found.2 in
-    let entry = enters (command.New c.args.d c.args.refs c.args.nums) (reply.New c.publish.result) in
-    let next : ℕ → Type 0 = λ t. (mid : _) × g.S.Seat.goes c.args.seat.now nothing mid × g.S.Seat.has_budget mid t in
-    let spent : ℕ → Type 0 = λ n. IsSpent g.S.Seat.goes g.S.Seat.keeps_region g.S.Seat.allocates_in g.S.Seat.lacks c.args.seat.now n in
-    let finds : ℕ → ℕ → Type 0 = λ blocks allowance. FindsRoom (g.S.Seat.lacks c.publish.new.self size)
-    (g.S.Seat.is_used c.publish.new.self) (g.S.Seat.allocates_in c.args.seat.now size) (g.S.Seat.allocates_in c.publish.new.self size)
-    next (g.S.Seat.is_full c.args.seat.now size) (spent size) (g.S.Seat.is_overflow c.args.seat.now size) (g.S.Seat.keeps_region c.args.seat.now c.publish.new.self) blocks allowance
-    (g.S.Seat.books c.args.seat.now).ticket (g.S.Seat.books c.publish.new.self).ticket taken granted drawn in
-    let to : List ℕ → List ℕ → ℕ → Type 0 = λ t r n. g.S.Seat.goes c.args.seat.now
-    (births_with c.args.d c.args.refs c.args.nums c.publish.result t r n) c.publish.new.self in (
-      taken,
-      granted,
-      drawn,
-      subst (λ t. to t granted drawn) (append-nil taken) (subst (λ r. to (taken ++ []) r drawn) (append-nil granted)
-          (subst (λ n. to (taken ++ []) (granted ++ []) n) (add-zero drawn)
-          (g.met.S.Seat.one_after_another _ _ _ (searches taken granted drawn) entry found.3 c.publish.ensures.goes))),
-      subst (λ x. finds x.blocks x.allowance) (sym c.publish.ensures.books)
-          (finds-later (g.S.Seat.lacks c.find_room.new.seat size) (g.S.Seat.is_used c.find_room.new.seat)
-          (g.S.Seat.lacks c.publish.new.self size) (g.S.Seat.is_used c.publish.new.self) (g.S.Seat.allocates_in c.args.seat.now size)
-          (g.S.Seat.allocates_in c.find_room.new.seat size) (g.S.Seat.allocates_in c.publish.new.self size) next next
-          (g.S.Seat.is_full c.args.seat.now size) (spent size) (g.S.Seat.is_overflow c.args.seat.now size)
-          (g.S.Seat.keeps_region c.args.seat.now c.find_room.new.seat × g.S.Seat.is_overflow c.find_room.new.seat size)
-          (g.S.Seat.keeps_region c.args.seat.now c.publish.new.self)
-          (g.S.Seat.books c.find_room.new.seat).blocks (g.S.Seat.books c.find_room.new.seat).allowance
-          (g.S.Seat.books c.args.seat.now).ticket (g.S.Seat.books c.find_room.new.seat).ticket
-          (g.S.Seat.books c.publish.new.self).ticket taken granted drawn
-          (λ k lacks. c.publish.ensures.stays size k lacks) c.publish.ensures.still c.publish.ensures.region (λ t is. is)
-          (λ both. g.met.S.Seat.region_stays_kept _ _ _ both.0 (c.publish.ensures.keeps both.1))
-          (ap (λ b. b.ticket) c.publish.ensures.books)
-          (subst (λ n. FindsRoom (g.S.Seat.lacks c.find_room.new.seat n) (g.S.Seat.is_used c.find_room.new.seat)
-          (g.S.Seat.allocates_in c.args.seat.now n) (g.S.Seat.allocates_in c.find_room.new.seat n) next
-          (g.S.Seat.is_full c.args.seat.now n) (spent n) (g.S.Seat.is_overflow c.args.seat.now n)
-          (g.S.Seat.keeps_region c.args.seat.now c.find_room.new.seat × g.S.Seat.is_overflow c.find_room.new.seat n)
-          (g.S.Seat.books c.find_room.new.seat).blocks (g.S.Seat.books c.find_room.new.seat).allowance
-          (g.S.Seat.books c.args.seat.now).ticket (g.S.Seat.books c.find_room.new.seat).ticket taken granted drawn)
-          c.size_words-size.ensures found.4)),
+pub returns-then-fits_region-clause-made : goal.returns-then-fits_region-clause-made
+returns-then-fits_region-clause-made g c =
+    let here = subst (λ n. (k : ℕ) × g.S.Seat.allocates_in c.args.seat.now n k) c.size_words-size.ensures (c.if-fits_region.ensures.region refl) in (
+      [],
+      [],
+      0,
+      c.publish.ensures.goes,
+      FindsRoom.in_region here.0 here.1 (c.publish.ensures.region here.0 here.1) c.publish.ensures.keeps refl refl refl
+          (ap (λ b. b.ticket) c.publish.ensures.books),
     )

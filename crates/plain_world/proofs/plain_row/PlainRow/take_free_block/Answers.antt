@@ -9,16 +9,13 @@ use Rattle.plain_world.specs.declared.plain_row.BlockNote.{BlockNote}
 use Rattle.plain_world.specs.declared.plain_row.BlockNote.TheVariants.{Unowned, Owned}
 use Rattle.plain_world.specs.Rows.{number_at_turn}
 use Rattle.plain_world.proofs.Elements.{read-some}
-use Rattle.plain_world.proofs.Facts as facts
 use Rattle.plain_world.proofs.Lists.{one-element}
 use Rattle.plain_world.proofs.Owning.{world-room}
 use Rattle.plain_world.proofs.Turns as turns
 use Rattle.plain_world.proofs.plain_row.PlainRow.take_free_block.Goals as goal
 
-pub block-requires : goal.block-requires
-block-requires c =
-    let now = c.requires.ready.idle.some in
-    facts.readable-block now.epoch now.ideal now.log c.args.self.now now.at c.args.block c.requires.block
+pub is_free-requires-clause-extent : goal.is_free-requires-clause-extent
+is_free-requires-clause-extent c = let now = c.requires.ready.idle.some in turns.extent now.epoch now.ideal now.log c.args.self.now now.at
 
 pub take-requires-clause-extent : goal.take-requires-clause-extent
 take-requires-clause-extent c = let now = c.requires.ready.idle.some in turns.extent now.epoch now.ideal now.log c.args.self.now now.at
