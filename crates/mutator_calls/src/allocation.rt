@@ -319,8 +319,8 @@ pub fn new_object<S: Seat>(seat: &mut S, d: u32, refs: u32, nums: u32) -> Alloca
     if size > MAX_MEDIUM_WORDS {
         return stop(d, &shape, NeedCause::Large);
     }
-    if seat.fits_region(size) {
-        return Allocated::Made(seat.publish(d, &shape));
+    if let Some(name) = seat.allocate_here(d, &shape) {
+        return Allocated::Made(name);
     }
     allocate_elsewhere(seat, d, refs, nums)
 }

@@ -1,6 +1,6 @@
 //! The trait of a mutator's steps.
 
-ghost use Rattle.std.specs.Prelude.{◌≡◌, ◌≢◌, ◌↔◌, ◌+◌, ◌<◌, ◌≤◌, ◌^◌, ℕ, ◌⊎◌, List, Option, Some, None, true, false, IsTrue, [], ◌∷◌, if◌then◌else◌};
+ghost use Rattle.std.specs.Prelude.{◌≡◌, ◌≢◌, ◌↔◌, ◌+◌, ◌<◌, ◌≤◌, ◌^◌, ℕ, ◌⊎◌, List, Option, Some, None, IfSome, IfNone, true, false, IsTrue, [], ◌∷◌, if◌then◌else◌};
 ghost use Rattle.ideal_heap.specs.declared.command.Command.{Command};
 ghost use Rattle.ideal_heap.specs.declared.command.Command.TheVariants as command;
 ghost use Rattle.ideal_heap.specs.declared.reply.Reply.{Reply};
@@ -19,9 +19,9 @@ use object_model::{MAX_MEDIUM_WORDS, Shape};
 /// A mutator's seat at a heap: its registers, its room for new objects, and its steps.
 ///
 /// Each method makes at most one entry in the history of all mutators, and is one atomic step, but
-/// for three: `log_and_store_field` clears a bit and stores a word, `take_hole` reads the words of
-/// a block, and `publish` stores the words of an object. A register holds an address, or 0 for nil.
-/// Sizes are in words.
+/// for four: `log_and_store_field` clears a bit and stores a word, `take_hole` reads the words of
+/// a block, and `allocate_here` and `publish` store the words of an object. A register holds an
+/// address, or 0 for nil. Sizes are in words.
 pub trait Seat {
     // No allocation is under way.
     ghost is_ready: { Self → Type 0 };
@@ -297,15 +297,37 @@ pub trait Seat {
         requires { is_ready self.now }
         ensures { result ≡ (books self.now).ticket };
 
-    /// Whether the seat's region has room for `size` words.
-    fn fits_region(&self, size: u32) -> bool
-        requires ready { is_ready self.now }
-        requires least { 3 ≤ size }
-        requires most { size ≤ MAX_MEDIUM_WORDS }
-        ensures room { result ≡ true → has_room self.now size }
-        ensures offered { result ≡ true → offers self.now self.now size }
-        ensures region { result ≡ true → (k : ℕ) × allocates_in self.now size k }
-        ensures full { result ≡ false → is_full self.now size };
+    /// Allocates an object in the region for its size, as `publish` does, if the region has room.
+    /// Else nothing changes.
+    fn allocate_here(&mut self, d: u32, shape: &Shape) -> Option<Name>
+        requires ready { is_ready self.old }
+        requires register { d < REGISTERS }
+        requires refs { shape.now.refs ≤ MAX_REFS }
+        requires nums { shape.now.nums ≤ MAX_NUMS }
+        requires small { size_of shape.now.refs shape.now.nums ≤ MAX_MEDIUM_WORDS }
+        requires births { (books self.old).births + 1 < 2 ^ 32 }
+        ensures ready { is_ready self.new }
+        ensures room { IfSome result (λ name.
+            has_room self.old (size_of shape.now.refs shape.now.nums)) }
+        ensures offered { IfSome result (λ name.
+            offers self.old self.old (size_of shape.now.refs shape.now.nums)) }
+        ensures goes { IfSome result (λ name. goes self.old
+            (enters (command.New d shape.now.refs shape.now.nums) (reply.New name))
+            self.new) }
+        ensures stays { (n k : ℕ) → lacks self.old n k → lacks self.new n k }
+        ensures still { (k : ℕ) → is_used self.old k → is_used self.new k }
+        ensures placed { IfSome result (λ name.
+            places self.old self.new d (size_of shape.now.refs shape.now.nums)) }
+        ensures keeps { is_overflow self.old (size_of shape.now.refs shape.now.nums)
+            → keeps_region self.old self.new }
+        ensures region { IfSome result (λ name. (k : ℕ)
+            × allocates_in self.old (size_of shape.now.refs shape.now.nums) k
+            × allocates_in self.new (size_of shape.now.refs shape.now.nums) k) }
+        ensures books { IfSome result (λ name. books self.new
+            ≡ record (books self.old) { births = (books self.old).births + 1 }) }
+        ensures full { IfNone result
+            (is_full self.old (size_of shape.now.refs shape.now.nums)) }
+        ensures same { IfNone result (self.new ≡ self.old) };
 
     /// Whether an object of `size` words, for which no region has room, goes to a Free block before
     /// holes are looked for. So it does under a plan with lines if it takes more than a line and

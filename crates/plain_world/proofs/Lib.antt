@@ -47,3 +47,4 @@ pub mod Closed
 pub mod StopWords
 pub mod UserLists
 pub mod NewUsers
+pub mod RoomRead

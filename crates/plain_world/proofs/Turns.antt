@@ -421,15 +421,13 @@ pub record IsCurrent (w : PlainRow) (size b owner : ℕ) (region : Region) : Typ
   pub class : class_at (state_of w.row) b ≡ class_for w.fill size
   pub kind : HasKind (state_of w.row) b w.fill
 
-pub current-read : (w : PlainRow) (size : ℕ) → HasRoom w size → (b : ℕ) (n : BlockNote) (owner : ℕ) (region : Region)
-    → IsBlockFor w.fill w.notes.items (seat_at_turn w) size b
-    → n ≡ get_or w.notes.items b n → n ≡ Owned owner region → IsCurrent w size b owner region
-current-read w size has b n owner region current read is =
+pub current-note : (w : PlainRow) (size : ℕ) → HasRoom w size → (b owner : ℕ) (region : Region) → IsBlockFor w.fill w.notes.items (seat_at_turn w) size b
+    → slice_get w.notes.items b ≡ Some (Owned owner region) → IsCurrent w size b owner region
+current-note w size has b owner region current note =
     let p = has.some.epoch in
     let at = has.some.at in
     let here = own-block p has.some.ideal has.some.log w at has.turn size b current in
     let there : b < length w.notes.items = get-below w.notes.items b (Owned (number_at_turn w) here.0.region) here.0.note in
-    let note : slice_get w.notes.items b ≡ Some (Owned owner region) = read-some w.notes.items b n there read ∙ ap (λ (y : BlockNote). Some y) is in
     let same : has.block ≡ b = block-one w.fill w.notes.items (seat_at_turn w) size has.block b has.current current in
     let mine : slice_get w.notes.items b ≡ Some (Owned (number_at_turn w) has.room.region) = subst (λ (k : ℕ). slice_get w.notes.items k ≡ Some (Owned (number_at_turn w) has.room.region)) same has.room.note in
     let alike : Owned owner region ≡ Owned (number_at_turn w) has.room.region = one-element (slice_get w.notes.items b) (Owned owner region) (Owned (number_at_turn w) has.room.region) note mine in
@@ -446,6 +444,13 @@ current-read w size has b n owner region current read is =
       class = here.1;
       kind = (owned-note p has.some.ideal has.some.log w at b owner region note).kind;
     }
+
+pub current-read : (w : PlainRow) (size : ℕ) → HasRoom w size → (b : ℕ) (n : BlockNote) (owner : ℕ) (region : Region)
+    → IsBlockFor w.fill w.notes.items (seat_at_turn w) size b
+    → n ≡ get_or w.notes.items b n → n ≡ Owned owner region → IsCurrent w size b owner region
+current-read w size has b n owner region current read is =
+    let there = block-noted has.some.epoch has.some.ideal has.some.log w has.some.at has.turn size b current in
+    current-note w size has b owner region current (read-some w.notes.items b n there read ∙ ap (λ (y : BlockNote). Some y) is)
 
 -- the words of an object at the start of the region are the heap's
 pub record IsPlaced (blocks size block offset : ℕ) : Type 0 where

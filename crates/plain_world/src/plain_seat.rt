@@ -209,8 +209,11 @@ impl Seat for PlainRow {
     }
 
     #[inline(always)]
-    fn fits_region(&self, size: u32) -> bool {
-        self.has_room(size)
+    fn allocate_here(&mut self, d: u32, shape: &Shape) -> Option<Name> {
+        match self.allocate_if_room(d, shape) {
+            Some(name) => Some(name),
+            None => None,
+        }
     }
 
     fn overflows(&self, size: u32) -> bool {

@@ -521,26 +521,20 @@ impl PlainRow {
         self.free_cell(block, self.class(size), region.end)
     }
 
-    /// The block of the region that takes an object of `size` words, and the offset of the object.
-    /// The region is what it leaves then.
+    /// Makes the region of the block what an object of `size` words at its start leaves.
     #[inline(always)]
-    fn advance(&mut self, size: u32) -> (u32, u32)
+    fn advance(&mut self, block: u32, owner: u32, region: &Region, size: u32)
         requires room { HasRoom self.old size }
-        requires least { 3 ≤ size }
-        ensures { Advances self.old self.new size result.0 result.1 }
+        requires current { IsBlockFor self.old.fill self.old.notes.items (seat_at_turn self.old)
+            size block }
+        requires note { slice_get self.old.notes.items block ≡ Some (Owned owner region.now) }
+        ensures { Advances self.old self.new size block region.now.next }
     {
-        let Some(block) = self.block_for(size) else {
-            unreachable!()
-        };
-        let BlockNote::Owned { owner, region } = self.notes[block as usize] else {
-            unreachable!()
-        };
-        let rest = self.rest_after(block, &region, size);
+        let rest = self.rest_after(block, region, size);
         self.notes[block as usize] = BlockNote::Owned {
             owner,
             region: rest,
         };
-        (block, region.next)
     }
 
     /// Counts an object of the mutator and stores its address into register `d`. Returns its name.
@@ -559,9 +553,37 @@ impl PlainRow {
         }
     }
 
+    /// Allocates an object at the start of the mutator's region for its size, which is the region
+    /// of the block, and stores its address into register `d`. Returns its name.
+    #[inline(always)]
+    fn allocate_in(
+        &mut self,
+        block: u32,
+        owner: u32,
+        region: &Region,
+        d: u32,
+        shape: &Shape,
+    ) -> Name
+        requires room { HasRoom self.old (size_of shape.now.refs shape.now.nums) }
+        requires current { IsBlockFor self.old.fill self.old.notes.items (seat_at_turn self.old)
+            (size_of shape.now.refs shape.now.nums) block }
+        requires note { slice_get self.old.notes.items block ≡ Some (Owned owner region.now) }
+        requires register { d < REGISTERS }
+        requires refs { shape.now.refs ≤ MAX_REFS }
+        requires nums { shape.now.nums ≤ MAX_NUMS }
+        requires small { size_of shape.now.refs shape.now.nums ≤ MAX_MEDIUM_WORDS }
+        requires births { births_of (mutator_at_turn self.old) + 1 < 2 ^ 32 }
+        ensures { Allocates self.old self.new d result shape.now.refs shape.now.nums }
+    {
+        self.advance(block, owner, region, size_words(shape));
+        let address = self.row.layout.address(block, region.next);
+        let name = self.count(d, address);
+        self.row.write_object(address, &name, shape);
+        name
+    }
+
     /// Allocates an object at the start of the mutator's region and stores its address into
     /// register `d`. Returns its name.
-    #[inline(always)]
     pub(crate) fn allocate(&mut self, d: u32, shape: &Shape) -> Name
         requires room { HasRoom self.old (size_of shape.now.refs shape.now.nums) }
         requires register { d < REGISTERS }
@@ -571,10 +593,44 @@ impl PlainRow {
         requires births { births_of (mutator_at_turn self.old) + 1 < 2 ^ 32 }
         ensures { Allocates self.old self.new d result shape.now.refs shape.now.nums }
     {
-        let (block, offset) = self.advance(size_words(shape));
-        let address = self.row.layout.address(block, offset);
-        let name = self.count(d, address);
-        self.row.write_object(address, &name, shape);
-        name
+        let Some(block) = self.block_for(size_words(shape)) else {
+            unreachable!()
+        };
+        let BlockNote::Owned { owner, region } = self.notes[block as usize] else {
+            unreachable!()
+        };
+        self.allocate_in(block, owner, &region, d, shape)
+    }
+
+    /// Allocates an object at the start of the mutator's region for its size, if it has room, and
+    /// stores its address into register `d`. The region is looked up once.
+    #[inline(always)]
+    pub(crate) fn allocate_if_room(&mut self, d: u32, shape: &Shape) -> Option<Name>
+        requires ready { IsReady self.old }
+        requires register { d < REGISTERS }
+        requires refs { shape.now.refs ≤ MAX_REFS }
+        requires nums { shape.now.nums ≤ MAX_NUMS }
+        requires small { size_of shape.now.refs shape.now.nums ≤ MAX_MEDIUM_WORDS }
+        requires births { births_of (mutator_at_turn self.old) + 1 < 2 ^ 32 }
+        ensures room { IfSome result (λ name.
+            HasRoom self.old (size_of shape.now.refs shape.now.nums)) }
+        ensures made { IfSome result (λ name.
+            Allocates self.old self.new d name shape.now.refs shape.now.nums) }
+        ensures none { IfNone result
+            (HasRoom self.old (size_of shape.now.refs shape.now.nums) → ⊥) }
+        ensures same { IfNone result (self.new ≡ self.old) }
+    {
+        let size = size_words(shape);
+        let Some(block) = self.block_for(size) else {
+            return None;
+        };
+        let BlockNote::Owned { owner, region } = self.notes[block as usize] else {
+            return None;
+        };
+        let left = region.end - region.next;
+        if left < size {
+            return None;
+        }
+        Some(self.allocate_in(block, owner, &region, d, shape))
     }
 }

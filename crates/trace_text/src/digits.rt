@@ -99,7 +99,7 @@ fn put_medium(number: u64, to: &mut Vec<u8>)
 }
 
 // Appends the numeral of any number, with an array as a buffer.
-#[inline(never)]
+#[inline(always)]
 fn put_long(number: u64, to: &mut Vec<u8>)
     requires room { vec_len to.old + MAX_DIGITS ≤ vec_capacity to.old }
     ensures items { to.new.items ≡ to.old.items ++ decimal number }

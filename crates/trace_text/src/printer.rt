@@ -8,6 +8,7 @@ use crate::digits::{put, put_decimal};
 use crate::limits::MAX_COMMANDS;
 use ideal_heap::{Name, Reply};
 use std::alloc::AllocError;
+use std::mem;
 
 /// No reply's line has more bytes, with its newline.
 pub const REPLY_BYTES: usize = 46;
@@ -96,8 +97,12 @@ pub fn print_replies(mutator: u32, replies: &[Reply], to: &mut Vec<u8>) -> Resul
 {
     print_mutator(mutator, to)?;
     to.reserve(REPLY_BYTES * replies.len())?;
+    // In a local, which the loop keeps in registers.
+    let alloc = *to.allocator();
+    let mut text = mem::replace(to, Vec::new(alloc));
     for reply in replies {
-        put_reply(reply, to);
+        put_reply(reply, &mut text);
     }
+    *to = text;
     Ok(())
 }

@@ -1,14 +1,27 @@
-use Rattle.std.proofs.Common.{ℕ, refl, ap, subst, []}
-use Rattle.mutator_calls.specs.Allocating.{FindsRoom}
+use Rattle.std.proofs.Common.{ℕ, List, refl, ap, subst, []}
+use Rattle.std.specs.Prelude.{⊤}
+use Rattle.object_model.specs.Objects.{size_of}
+use Rattle.mutator_calls.specs.Allocating.{births_with, IsNextTicket, IsSpent, FindsRoom, MatchAllocated}
 use Rattle.mutator_calls.proofs.allocation.new_object.Goals as goal
 
-pub returns-then-fits_region-clause-made : goal.returns-then-fits_region-clause-made
-returns-then-fits_region-clause-made g c =
-    let here = subst (λ n. (k : ℕ) × g.S.Seat.allocates_in c.args.seat.now n k) c.size_words-size.ensures (c.if-fits_region.ensures.region refl) in (
+pub returns-in-Some-clause-made : goal.returns-in-Some-clause-made
+returns-in-Some-clause-made g c =
+    let here = c.in-Some.ensures.region in (
       [],
       [],
       0,
-      c.publish.ensures.goes,
-      FindsRoom.in_region here.0 here.1 (c.publish.ensures.region here.0 here.1) c.publish.ensures.keeps refl refl refl
-          (ap (λ b. b.ticket) c.publish.ensures.books),
+      c.in-Some.ensures.goes,
+      FindsRoom.in_region here.0 here.1 here.2 c.in-Some.ensures.keeps refl refl refl (ap (λ b. b.ticket) c.in-Some.ensures.books),
     )
+
+pub returns-clause-made : goal.returns-clause-made
+returns-clause-made g c =
+    let size = size_of c.args.refs c.args.nums in
+    let after = c.allocate_elsewhere.new.seat in
+    subst (λ s. MatchAllocated c.allocate_elsewhere.result
+    (λ name. (taken : List ℕ) × (granted : List ℕ) × (drawn : ℕ) × g.S.Seat.goes s (births_with c.args.d c.args.refs c.args.nums name taken granted drawn) after
+    × FindsRoom (g.S.Seat.lacks after size) (g.S.Seat.is_used after) (g.S.Seat.allocates_in s size) (g.S.Seat.allocates_in after size)
+    (IsNextTicket g.S.Seat.goes g.S.Seat.has_budget s) (g.S.Seat.is_full s size) (IsSpent g.S.Seat.goes g.S.Seat.keeps_region g.S.Seat.allocates_in g.S.Seat.lacks s size)
+    (g.S.Seat.is_overflow s size) (g.S.Seat.keeps_region s after) (g.S.Seat.books after).blocks (g.S.Seat.books after).allowance
+    (g.S.Seat.books s).ticket (g.S.Seat.books after).ticket taken granted drawn) (λ need. ⊤))
+    c.in_default.ensures.same c.allocate_elsewhere.ensures.made

@@ -4,5 +4,5 @@ use Rattle.trace_text.proofs.printer.print_replies.Given as goal
 
 abbrev pub invariant-loop-reply : goal.invariant-loop-reply
 invariant-loop-reply l =
-    (l.to.items ≡ l.fn.to.items ++ mutator_text l.fn.mutator (take l.reply-index l.fn.replies))
-    × (vec_len l.to + 46 * (length l.fn.replies - l.reply-index) ≤ vec_capacity l.to)
+    (l.text.items ≡ l.fn.to.items ++ mutator_text l.fn.mutator (take l.reply-index l.fn.replies))
+    × (vec_len l.text + 46 * (length l.fn.replies - l.reply-index) ≤ vec_capacity l.text)

@@ -1,73 +1,50 @@
-use Rattle.std.proofs.Common.{◌≡◌, refl, sym, ◌∙◌, ap, subst, ℕ, ◌+◌, ◌<◌, ◌≤◌, arith, length}
-use Rattle.heap_layout.specs.Zones.{block_start, row_words, IsAddress}
-use Rattle.object_model.specs.declared.row.Row.{Row}
-use Rattle.object_model.specs.Objects.{state_of, size_of}
-use Rattle.object_model.specs.Changes.{WritesObject}
-use Rattle.plain_world.specs.Changes.{Advances, CountsObject}
-use Rattle.plain_world.proofs.Turns.{extent, IsPlaced, advanced-place, counted-name}
+use Rattle.std.proofs.Common.{◌≡◌, ◌∙◌, ap, ◌<◌, arith, length}
+use Rattle.std.specs.Prelude.{Some, slice_get}
+use Rattle.plain_world.specs.declared.plain_row.BlockNote.{BlockNote}
+use Rattle.plain_world.specs.declared.plain_row.BlockNote.TheVariants.{Unowned, Owned}
+use Rattle.plain_world.specs.Rows.{number_at_turn}
+use Rattle.plain_world.proofs.Elements.{read-some}
+use Rattle.plain_world.proofs.Lists.{one-element}
+use Rattle.plain_world.proofs.Turns.{own-readable, hole-order, over-order, block-noted, own-block}
 use Rattle.plain_world.proofs.plain_row.PlainRow.allocate.Goals as goal
 
-pub address-address-requires-clause-word : goal.address-address-requires-clause-word
-address-address-requires-clause-word c =
-    let some : 0 < c.size_words.result = omega (arith, c.size_words.ensures) in
-    let is : IsPlaced c.args.self.now.row.layout.blocks c.size_words.result c.advance-block.result.0 c.advance-block.result.1 =
-    advanced-place c.args.self.now c.advance-block.new.self c.size_words.result c.advance-block.result.0 c.advance-block.result.1 c.requires.room.some some c.advance-block.ensures in
-    let within : c.advance-block.result.1 + c.size_words.result ≤ 4096 = is.within in
-    omega arith
+pub block_for-requires-clause-seat : goal.block_for-requires-clause-seat
+block_for-requires-clause-seat c =
+    let now = c.requires.room.some in own-readable now.epoch now.ideal now.log c.args.self.now now.at c.requires.room.turn
 
-pub write_object-requires-clause-extent : goal.write_object-requires-clause-extent
-write_object-requires-clause-extent c =
-    let now = c.requires.room.some in
-    let same : c.count-name.new.self.row ≡ c.args.self.now.row = c.count-name.ensures.row ∙ c.advance-block.ensures.row in
-    subst (λ (r : Row). length r.words.items ≡ row_words r.layout.blocks) (sym same) (extent now.epoch now.ideal now.log c.args.self.now now.at)
+pub block_for-requires-clause-hole : goal.block_for-requires-clause-hole
+block_for-requires-clause-hole c = λ lines.
+    let now = c.requires.room.some in hole-order now.epoch now.ideal now.log c.args.self.now now.at c.requires.room.turn
 
-pub write_object-requires-clause-address : goal.write_object-requires-clause-address
-write_object-requires-clause-address c =
-    let some : 0 < c.size_words.result = omega (arith, c.size_words.ensures) in
-    let is : IsPlaced c.args.self.now.row.layout.blocks c.size_words.result c.advance-block.result.0 c.advance-block.result.1 =
-    advanced-place c.args.self.now c.advance-block.new.self c.size_words.result c.advance-block.result.0 c.advance-block.result.1 c.requires.room.some some c.advance-block.ensures in
-    let same : c.count-name.new.self.row ≡ c.args.self.now.row = c.count-name.ensures.row ∙ c.advance-block.ensures.row in
-    let advanced : c.advance-block.new.self.row ≡ c.args.self.now.row = c.advance-block.ensures.row in
-    let address : c.address-address.result ≡ block_start c.args.self.now.row.layout.blocks c.advance-block.result.0 + c.advance-block.result.1 =
-    c.address-address.ensures ∙ ap (λ (r : Row). block_start r.layout.blocks c.advance-block.result.0 + c.advance-block.result.1) advanced in
-    subst (λ (r : Row). IsAddress r.layout.blocks c.address-address.result) (sym same) (subst (IsAddress c.args.self.now.row.layout.blocks) (sym address) is.address)
+pub block_for-requires-clause-over : goal.block_for-requires-clause-over
+block_for-requires-clause-over c =
+    let now = c.requires.room.some in over-order now.epoch now.ideal now.log c.args.self.now now.at c.requires.room.turn
 
-pub write_object-requires-clause-room : goal.write_object-requires-clause-room
-write_object-requires-clause-room c =
-    let some : 0 < c.size_words.result = omega (arith, c.size_words.ensures) in
-    let size : c.size_words.result ≡ size_of c.args.shape.now.refs c.args.shape.now.nums = c.size_words.ensures in
-    let is : IsPlaced c.args.self.now.row.layout.blocks c.size_words.result c.advance-block.result.0 c.advance-block.result.1 =
-    advanced-place c.args.self.now c.advance-block.new.self c.size_words.result c.advance-block.result.0 c.advance-block.result.1 c.requires.room.some some c.advance-block.ensures in
-    let same : c.count-name.new.self.row ≡ c.args.self.now.row = c.count-name.ensures.row ∙ c.advance-block.ensures.row in
-    let advanced : c.advance-block.new.self.row ≡ c.args.self.now.row = c.advance-block.ensures.row in
-    let address : c.address-address.result ≡ block_start c.args.self.now.row.layout.blocks c.advance-block.result.0 + c.advance-block.result.1 =
-    c.address-address.ensures ∙ ap (λ (r : Row). block_start r.layout.blocks c.advance-block.result.0 + c.advance-block.result.1) advanced in
-    subst (λ (r : Row). c.address-address.result + size_of c.args.shape.now.refs c.args.shape.now.nums ≤ row_words r.layout.blocks) (sym same)
-    (subst (λ (n : ℕ). c.address-address.result + n ≤ row_words c.args.self.now.row.layout.blocks) size
-    (subst (λ (a : ℕ). a + c.size_words.result ≤ row_words c.args.self.now.row.layout.blocks) (sym address) is.inside))
-
-pub write_object-requires-clause-name : goal.write_object-requires-clause-name
-write_object-requires-clause-name c =
-    counted-name c.args.self.now c.advance-block.new.self c.count-name.new.self c.args.d c.address-address.result c.count-name.result c.requires.room.some c.requires.room.turn c.requires.births
-    c.advance-block.ensures.mutators c.advance-block.ensures.plan.turn c.count-name.ensures
-
-pub returns : goal.returns
-returns c =
+pub index-requires : goal.index-requires
+index-requires c =
     let w = c.args.self.now in
-    let block : ℕ = c.advance-block.result.0 in
-    let offset : ℕ = c.advance-block.result.1 in
-    let refs : ℕ = c.args.shape.now.refs in
-    let nums : ℕ = c.args.shape.now.nums in
-    let advanced : c.advance-block.new.self.row ≡ w.row = c.advance-block.ensures.row in
-    let address : c.address-address.result ≡ block_start w.row.layout.blocks block + offset =
-    c.address-address.ensures ∙ ap (λ (r : Row). block_start r.layout.blocks block + offset) advanced in
-    record {
-      block = block;
-      offset = offset;
-      advanced = c.advance-block.new.self;
-      counted = c.count-name.new.self;
-      region = subst (λ (n : ℕ). Advances w c.advance-block.new.self n block offset) c.size_words.ensures c.advance-block.ensures;
-      count = subst (λ (a : ℕ). CountsObject c.advance-block.new.self c.count-name.new.self c.args.d a c.count-name.result) address c.count-name.ensures;
-      rest = refl;
-      object = subst (λ (a : ℕ). WritesObject (state_of c.count-name.new.self.row) (state_of c.write_object.new.self) a c.count-name.result refs nums) address c.write_object.ensures.written;
-    }
+    let now = c.requires.room.some in
+    let there : c.in-Some.block < length w.notes.items
+    = block-noted now.epoch now.ideal now.log w now.at c.requires.room.turn c.size_words.result c.in-Some.block c.in-Some.ensures.some in
+    omega (arith, w.notes.ok.0)
+
+pub unreachable-requires-in_default-index : goal.unreachable-requires-in_default-index
+unreachable-requires-in_default-index c =
+    let w = c.args.self.now in
+    let now = c.requires.room.some in
+    let mine = (own-block now.epoch now.ideal now.log w now.at c.requires.room.turn c.size_words.result c.in-Some.block c.in-Some.ensures.some).0 in
+    let there : c.in-Some.block < length w.notes.items
+    = block-noted now.epoch now.ideal now.log w now.at c.requires.room.turn c.size_words.result c.in-Some.block c.in-Some.ensures.some in
+    let note : slice_get w.notes.items c.in-Some.block ≡ Some (Unowned c.in_default-index.field-0)
+    = read-some w.notes.items c.in-Some.block c.index.result.now there c.index.ensures ∙ ap (λ (n : BlockNote). Some n) c.in_default-index.is in
+    let wrong : Unowned c.in_default-index.field-0 ≡ Owned (number_at_turn w) mine.region
+    = one-element (slice_get w.notes.items c.in-Some.block) (Unowned c.in_default-index.field-0) (Owned (number_at_turn w) mine.region) note mine.note in
+    cc
+
+pub allocate_in-requires-clause-note : goal.allocate_in-requires-clause-note
+allocate_in-requires-clause-note c =
+    let w = c.args.self.now in
+    let now = c.requires.room.some in
+    let there : c.in-Some.block < length w.notes.items
+    = block-noted now.epoch now.ideal now.log w now.at c.requires.room.turn c.size_words.result c.in-Some.block c.in-Some.ensures.some in
+    read-some w.notes.items c.in-Some.block c.index.result.now there c.index.ensures ∙ ap (λ (n : BlockNote). Some n) c.in-Owned.is
