@@ -11,6 +11,8 @@ pub mod RunMasks
 pub mod AddedLines
 pub mod TouchedLines
 pub mod TouchedWords
+pub mod LineStarts
+pub mod SweptApart
 pub mod WorkedRows
 pub mod ReleaseTests
 pub mod TestedBlocks

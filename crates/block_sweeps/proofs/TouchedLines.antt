@@ -1,8 +1,8 @@
 -- The lines that objects of a block touch.
-use Rattle.std.proofs.Common.{◌≡◌, ℕ, ◌+◌, ◌*◌, ◌-◌, ◌/◌, ◌%◌, ◌<◌, ◌≤◌, ◌⊎◌, ◌↔◌, inl, inr, true≢false, refl, sym, ap, ◌∙◌, subst, arith, IsTrue, nat_eq, List, slice_index, replicate}
+use Rattle.std.proofs.Common.{◌≡◌, ℕ, ◌+◌, ◌*◌, ◌-◌, ◌/◌, ◌%◌, ◌<◌, ◌≤◌, ◌↔◌, inl, inr, true≢false, refl, sym, ap, ◌∙◌, subst, arith, IsTrue, nat_eq, List, slice_index, replicate}
 use Rattle.std.specs.Int.{bit_at}
 use Rattle.std.proofs.Math.Logic.{∥∥₁_elim}
-use Rattle.std.proofs.lemmas.Bool.{cases_Bool, cases_lt, false≢true}
+use Rattle.std.proofs.lemmas.Bool.{cases_Bool, false≢true}
 use Rattle.std.proofs.lemmas.List.{get_or-replicate}
 use Rattle.std.proofs.lemmas.Nat.Bits.{bit_at-zero}
 use Rattle.heap_layout.specs.Zones.{heap_of, block_at, block_start, offset_at, first, LineWords}
@@ -12,8 +12,8 @@ use Rattle.object_model.specs.Objects.{HeapState, state_over, word_at, size_at, 
 use Rattle.object_model.proofs.ObjectReads.{place_of_address}
 use Rattle.block_sweeps.specs.Stores.{Fills}
 use Rattle.block_sweeps.specs.Sweeping.{MarksTouched, IsTouchedHere}
-use Rattle.block_sweeps.specs.Touches.{AddsLines, IsFromTo, TouchesAt, IsTouchedFrom, has_line}
-use Rattle.block_sweeps.proofs.AddedLines.{adds-same, adds-both}
+use Rattle.block_sweeps.specs.Touches.{AddsLines, IsFromTo, MarksFrom, TouchesAt, IsTouchedFrom, has_line}
+use Rattle.block_sweeps.proofs.AddedLines.{adds-same}
 
 -- the lines from that of an object's first word to that of its last
 pub adds-object : (s : HeapState) (k offset at word size : ℕ) (old new : List ℕ) → at ≡ block_start s.blocks k + offset → word ≡ word_at s (at + 1) → size ≡ 3 + word % 65536 + word / 65536
@@ -27,18 +27,6 @@ adds-object s k offset at word size old new place read is adds =
     let below : block_start s.blocks k + offset < heap_of s.blocks + 16 * (256 * k + n + 1) = has.below in
     record { after = (omega arith); most = (omega arith) })
     (λ n run. let after : offset / 16 ≤ n = run.after in let most : n ≤ (offset + size - 1) / 16 = run.most in record { from = (omega arith); below = (omega arith) })
-
--- the objects that begin at the addresses of one word of start bits more
-pub touched-more : (s : HeapState) (k index : ℕ) (old lines new : List ℕ) → AddsLines (IsTouchedFrom s k 0 (64 * index)) old lines
-    → AddsLines (IsTouchedFrom s k (64 * index) (64 * index + 64)) lines new → AddsLines (IsTouchedFrom s k 0 (64 * (index + 1))) old new
-touched-more s k index old lines new one two = adds-both (IsTouchedFrom s k 0 (64 * index)) (IsTouchedFrom s k (64 * index) (64 * index + 64)) (IsTouchedFrom s k 0 (64 * (index + 1))) old lines new one two
-    (λ n is. let less : is.offset < 64 * (index + 1) = is.below in
-    elim (cases_lt is.offset (64 * index)) as (λ _. IsTouchedFrom s k 0 (64 * index) n ⊎ IsTouchedFrom s k (64 * index) (64 * index + 64) n) [
-      | inl earlier ↦ inl (record { offset = is.offset; after = is.after; below = earlier; start = is.start; touches = is.touches })
-      | inr here ↦ inr (record { offset = is.offset; after = here; below = omega arith; start = is.start; touches = is.touches })
-    ])
-    (λ n is. record { offset = is.offset; after = is.after; below = (let less : is.offset < 64 * index = is.below in omega arith); start = is.start; touches = is.touches })
-    (λ n is. record { offset = is.offset; after = omega arith; below = (let less : is.offset < 64 * index + 64 = is.below in omega arith); start = is.start; touches = is.touches })
 
 module _ (s : HeapState) (k line : ℕ) (there : k < s.blocks) where
   pub here-from : IsTouchedFrom s k 0 4096 line → IsTouchedHere s k line
@@ -69,14 +57,14 @@ module _ (s : HeapState) (k line : ℕ) (there : k < s.blocks) where
 no-line : (line : ℕ) → line < 256 → IsTrue (has_line (replicate 4 0) line) → ⊥
 no-line line small is = false≢true (sym (ap (λ v. nat_eq (bit_at v (line % 64)) 1) (get_or-replicate 4 (line / 64) 0 0 (omega arith)) ∙ ap (λ v. nat_eq v 1) (bit_at-zero (line % 64))) ∙ is)
 
-pub touched-all : (s : HeapState) (k index : ℕ) (lines : List ℕ) → k < s.blocks → 64 * index ≡ 4096 → AddsLines (IsTouchedFrom s k 0 (64 * index)) (replicate 4 0) lines
+pub touched-all : (s : HeapState) (k index : ℕ) (lines : List ℕ) → k < s.blocks → 64 * index ≡ 4096 → MarksFrom s k 0 (64 * index) (replicate 4 0) lines
     → (line : ℕ) → line < 256 → IsTrue (has_line lines line) ↔ IsTouchedHere s k line
-touched-all s k index lines there all adds line small = (
-  λ is. elim (adds.only line is) as (λ _. IsTouchedHere s k line) [
+touched-all s k index lines there all marks line small = (
+  λ is. elim (marks.only line is) as (λ _. IsTouchedHere s k line) [
     | inl before ↦ absurd (no-line line small before)
-    | inr touched ↦ here-from s k line there (subst (λ to. IsTouchedFrom s k 0 to line) all touched)
+    | inr touched ↦ here-from s k line there touched
   ],
-  λ is. adds.added line (subst (λ to. IsTouchedFrom s k 0 to line) (sym all) (from-here s k line there is)),
+  λ is. marks.added line (subst (λ to. IsTouchedFrom s k 0 to line) (sym all) (from-here s k line there is)),
 )
 
 -- the words with these bits are stored

@@ -1,17 +1,16 @@
 -- The worked rows may be swept, or read.
-use Rattle.std.proofs.Common.{◌≡◌, ℕ, ◌+◌, ◌^◌, ◌<◌, ◌≤◌, inl, inr, refl, sym, ap, ◌∙◌, subst, arith, Bool, true, true≢false, ◌||◌, not, IsTrue, nat_eq, nat_le, nat_lt, List, [], ◌∷◌}
-use Rattle.std.specs.List.{list_all}
+use Rattle.std.proofs.Common.{◌≡◌, ℕ, ◌+◌, ◌^◌, ◌<◌, ◌≤◌, inl, inr, refl, sym, ap, ◌∙◌, subst, arith, true≢false, ◌||◌, not, IsTrue, nat_eq, List, [], ◌∷◌}
 use Rattle.std.proofs.lemmas.Bool.{eqb-true, leb-true, ltb-true, or_cases}
-use Rattle.heap_layout.specs.Zones.{offset_at, IsAddress, PinBits, UnlogBits}
+use Rattle.heap_layout.specs.Zones.{IsAddress, PinBits, UnlogBits}
 use Rattle.heap_layout.specs.declared.block.Kind.TheVariants as kinds
 use Rattle.heap_layout.specs.declared.layout.Layout.{Layout}
 use Rattle.heap_layout.proofs.MarkLemmas.{is-address_from_mark}
-use Rattle.object_model.specs.Objects.{HeapState, state_over, HasKind, IsHeld, name_at, refs_at, nums_at, size_at, is_start, is_pinned, is_unlogged}
-use Rattle.object_model.specs.Lawful.{HasObject, Lies, IsReadableBlock, has_small}
+use Rattle.object_model.specs.Objects.{HeapState, state_over, HasKind, IsHeld, refs_at, nums_at, size_at, is_start, is_pinned, is_unlogged}
+use Rattle.object_model.specs.Lawful.{HasObject, Lies}
 use Rattle.object_model.specs.Releasing.{IsReleasable}
 use Rattle.object_model.proofs.LawfulTests.{held-test, held-at, in-range}
 use Rattle.object_model.proofs.Marks as marks
-use Rattle.block_sweeps.specs.WorkedRows.{run_words, lines_words}
+use Rattle.block_sweeps.specs.WorkedRows.{run_words}
 
 abbrev over : List ℕ → ℕ → HeapState
 over words blocks = record { words = words; blocks = blocks; number = 0; base = 0 }
@@ -77,47 +76,3 @@ run = record {
 
 pub run-releasable : (words : List ℕ) (l : Layout) → words ≡ run_words → l.blocks ≡ 4 → IsReleasable (state_over words l 0 0) 1
 run-releasable words l same blocks = of-worked (λ s. IsReleasable s 1) run_words words l same blocks run
-
--- the row with objects in an Immix block
-abbrev lines_row : HeapState
-lines_row = over lines_words 4
-
-abbrev objects : List ℕ
-objects = 806 ∷ 816 ∷ 846 ∷ 1826 ∷ 4886 ∷ []
-
-each : (test : ℕ → Bool) → list_all test objects ≡ true → (a : ℕ) → IsHeld lines_row a → test a ≡ true
-each test all a held = held-test lines_row objects refl test all a held
-
-small : (a : ℕ) → IsHeld lines_row a → size_at lines_row a ≤ 2048
-small a held = leb-true _ 2048 (each (λ x. nat_le (size_at lines_row x) 2048) refl a held)
-
-readable : IsReadableBlock lines_row 0
-readable = record {
-  extent = refl;
-  block = omega arith;
-  code = refl;
-  objects = λ a held here. (
-    record {
-      name = record {
-        least = leb-true 1 _ (each (λ x. nat_le 1 (name_at lines_row x).mutator) refl a held);
-        most = leb-true _ 16 (each (λ x. nat_le (name_at lines_row x).mutator 16) refl a held);
-        born = leb-true 1 _ (each (λ x. nat_le 1 (name_at lines_row x).birth) refl a held);
-        fits = ltb-true _ (2 ^ 32) (each (λ x. nat_lt (name_at lines_row x).birth (2 ^ 32)) refl a held);
-      };
-      refs = leb-true _ 1024 (each (λ x. nat_le (refs_at lines_row x) 1024) refl a held);
-      nums = leb-true _ 60000 (each (λ x. nat_le (nums_at lines_row x) 60000) refl a held);
-    },
-    record {
-      small = λ few. record {
-        address = held.address;
-        within = leb-true _ 4096 (each (λ x. nat_le (offset_at 4 x + size_at lines_row x) 4096) refl a held);
-        kind = subst (λ k. IsTrue (has_small lines_row k)) (sym here) refl;
-        cell = λ cells. absurd (true≢false (sym (subst (λ k. HasKind lines_row k kinds.Cells) here cells)));
-      };
-      large = λ large. absurd (let few : size_at lines_row a ≤ 2048 = small a held in omega arith);
-    },
-  );
-}
-
-pub lines-readable : (words : List ℕ) (l : Layout) → words ≡ lines_words → l.blocks ≡ 4 → IsReadableBlock (state_over words l 0 0) 0
-lines-readable words l same blocks = of-worked (λ s. IsReadableBlock s 0) lines_words words l same blocks readable

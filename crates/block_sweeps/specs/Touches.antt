@@ -2,7 +2,7 @@
 use Rattle.std.specs.Prelude.{◌≡◌, ℕ, ◌+◌, ◌*◌, ◌/◌, ◌%◌, ◌<◌, ◌≤◌, ◌⊎◌, Bool, IsTrue, List, length, slice_index, nat_eq}
 use Rattle.std.specs.Int.{bit_at}
 use Rattle.heap_layout.specs.Zones.{block_start}
-use Rattle.heap_layout.specs.declared.layout.TheConstants.{BLOCK_LINES}
+use Rattle.heap_layout.specs.declared.layout.TheConstants.{BLOCK_LINES, BLOCK_WORDS, LINE_WORDS}
 use Rattle.object_model.specs.Lines.{TouchesLine}
 use Rattle.object_model.specs.Objects.{HeapState, is_start, size_at}
 
@@ -34,3 +34,25 @@ pub record IsTouchedFrom (s : HeapState) (k from to line : ℕ) : Type 0 where
   pub below : offset < to
   pub start : IsTrue (is_start s (block_start s.blocks k + offset))
   pub touches : TouchesAt s k offset line
+
+-- an object begins in this line of block k
+pub record BeginsIn (s : HeapState) (k line : ℕ) : Type 0 where
+  pub offset : ℕ
+  pub from : LINE_WORDS * line ≤ offset
+  pub below : offset < LINE_WORDS * (line + 1)
+  pub start : IsTrue (is_start s (block_start s.blocks k + offset))
+
+-- these are the start bits of this line of block k, in their place in the word of four lines
+pub record AreStartsOf (s : HeapState) (k line bits : ℕ) : Type 0 where
+  pub set : (i : ℕ) → bit_at bits i ≡ 1 → IsFromTo (16 * (line % 4)) (16 * (line % 4) + 15) i
+      × IsTrue (is_start s (block_start s.blocks k + (64 * (line / 4) + i)))
+  pub all : (i : ℕ) → IsFromTo (16 * (line % 4)) (16 * (line % 4) + 15) i
+      → IsTrue (is_start s (block_start s.blocks k + (64 * (line / 4) + i))) → bit_at bits i ≡ 1
+
+-- the lines were added that objects touch which begin at an offset from `from` on, before `to`, and maybe some that other
+-- objects of the block touch
+pub record MarksFrom (s : HeapState) (k from to : ℕ) (old new : List ℕ) : Type 0 where
+  pub extent : length new ≡ length old
+  pub kept : (n : ℕ) → IsTrue (has_line old n) → IsTrue (has_line new n)
+  pub added : (n : ℕ) → IsTouchedFrom s k from to n → IsTrue (has_line new n)
+  pub only : (n : ℕ) → IsTrue (has_line new n) → IsTrue (has_line old n) ⊎ IsTouchedFrom s k 0 BLOCK_WORDS n

@@ -118,10 +118,11 @@ fn lines_row(alloc: Global) -> Result<Vec<u64>, AllocError>
         alloc,
         &[
             (18, 4),
-            (22, 1 << 20),
+            (22, 1 << 30),
             (24, 1),
             (26, 1),
             (38, 1 + (1 << 10) + (1 << 40)),
+            (43, 1 + (1 << 16) + (1 << 32) + (1 << 50)),
             (53, 1 << 60),
             (101, 1 << 48),
             (806, 33),
@@ -129,6 +130,12 @@ fn lines_row(alloc: Global) -> Result<Vec<u64>, AllocError>
             (817, 65_536 * 7),
             (846, 97),
             (847, 65_536 * 97),
+            (1126, 193),
+            (1142, 225),
+            (1158, 257),
+            (1159, 65_536 * 7),
+            (1176, 289),
+            (1177, 65_536 * 27),
             (1826, 129),
             (1827, 65_536 * 5),
             (4886, 161),
@@ -142,8 +149,9 @@ fn touched_lines(rt: HostRuntime) -> Result<(), Fail> {
     let layout = Layout::new(4)?;
     let mut words = lines_row(rt.alloc())?;
     mark_touched_lines(&mut words, &layout, 0);
-    // lines 0, 0 and 1, 2 to 8, 63 and 64, and 255
-    let touched = [(22, (1 << 63) + 0x1ff), (23, 1), (24, 0), (25, 1 << 63)];
+    // lines 0, 0 and 1, 2 to 8, 20, 21, 22, 23 and 24, 63 and 64, and 255
+    let first = (1 << 63) + (0x1f << 20) + 0x1ff;
+    let touched = [(22, first), (23, 1), (24, 0), (25, 1 << 63)];
     check_words(&rt, &words, &touched);
     // the next block keeps its bits
     check_words(&rt, &words, &[(26, 1)]);

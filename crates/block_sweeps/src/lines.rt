@@ -1,14 +1,14 @@
 //! Line bits of a block, by the objects in it.
 
-ghost use Rattle.std.specs.Prelude.{◌≡◌, ◌↔◌, ◌+◌, ◌-◌, ◌*◌, ◌<◌, ◌≤◌, ℕ, IsTrue, length, slice_index};
+ghost use Rattle.std.specs.Prelude.{◌≡◌, true, ◌↔◌, ◌+◌, ◌-◌, ◌*◌, ◌<◌, ◌≤◌, ℕ, IsTrue, length, slice_index};
 ghost use Rattle.std.specs.Int.{bit_at};
 ghost use Rattle.heap_layout.specs.Zones.{row_words, first, block_start, LineWords};
 ghost use Rattle.heap_layout.specs.declared.block.Kind.TheVariants as kinds;
 ghost use Rattle.object_model.specs.Objects.{state_over, HasKind, is_start};
 ghost use Rattle.object_model.specs.Lawful.{IsReadableBlock};
 ghost use Rattle.block_sweeps.specs.Stores.{Fills};
-ghost use Rattle.block_sweeps.specs.Touches.{AddsLines, IsFromTo, TouchesAt, IsTouchedFrom, has_line};
-ghost use Rattle.block_sweeps.specs.Sweeping.{MarksTouched, IsTouchedHere};
+ghost use Rattle.block_sweeps.specs.Touches.{AddsLines, AreStartsOf, BeginsIn, IsFromTo, MarksFrom, TouchesAt, has_line};
+ghost use Rattle.block_sweeps.specs.Sweeping.{AreApart, MarksTouched, IsTouchedHere};
 
 use crate::clearing::store;
 use crate::objects::object_size;
@@ -16,9 +16,11 @@ use heap_layout::{BLOCK_LINES, BLOCK_WORDS, LINE_WORDS, Layout};
 use side_meta::Words;
 
 /// Makes the line bits of an Immix block those of the lines that objects in it touch. Reads the
-/// shape word of each object, and writes only words that change.
+/// start bits, and shape words only where objects do not begin in each line. Writes only words that
+/// change.
 pub fn mark_touched_lines<W: Words>(words: &mut W, layout: &Layout, block: u32)
     requires block { IsReadableBlock (state_over (W.words words.old) layout.now 0 0) block }
+    requires apart { AreApart (state_over (W.words words.old) layout.now 0 0) block }
     requires kind { HasKind (state_over (W.words words.old) layout.now 0 0) block kinds.Immix }
     ensures { MarksTouched (state_over (W.words words.old) layout.now 0 0)
         (state_over (W.words words.new) layout.now 0 0) block }
@@ -46,6 +48,7 @@ fn store_lines<W: Words>(words: &mut W, layout: &Layout, block: u32, lines: &[u6
 /// The line bits of the lines that objects in the block touch.
 fn touched_lines<W: Words>(words: &W, layout: &Layout, block: u32) -> [u64; 4]
     requires block { IsReadableBlock (state_over (W.words words.now) layout.now 0 0) block }
+    requires apart { AreApart (state_over (W.words words.now) layout.now 0 0) block }
     requires kind { HasKind (state_over (W.words words.now) layout.now 0 0) block kinds.Immix }
     ensures len { length result ≡ 4 }
     ensures lines { (line : ℕ) → line < BLOCK_LINES → IsTrue (has_line result line)
@@ -58,21 +61,75 @@ fn touched_lines<W: Words>(words: &W, layout: &Layout, block: u32) -> [u64; 4]
     lines
 }
 
-/// Adds the lines that objects touch which begin at the addresses of one word of start bits.
+/// The start bits of the addresses of a line of the block, where they are in their word.
+fn line_starts<W: Words>(words: &W, layout: &Layout, block: u32, line: u32) -> u64
+    requires extent { length (W.words words.now) ≡ row_words layout.now.blocks }
+    requires block { block < layout.now.blocks }
+    requires line { line < BLOCK_LINES }
+    ensures { AreStartsOf (state_over (W.words words.now) layout.now 0 0) block line result }
+{
+    let low = 16 * (line % 4);
+    words.get(layout.start_base() + 64 * block + line / 4) & run_mask(low, low + 15)
+}
+
+/// Whether an object begins in each of the four lines of a word of start bits, and in the line
+/// after them.
+fn is_dense<W: Words>(words: &W, layout: &Layout, block: u32, index: u32) -> bool
+    requires extent { length (W.words words.now) ≡ row_words layout.now.blocks }
+    requires block { block < layout.now.blocks }
+    requires index { index < 63 }
+    ensures { result ≡ true → (line : ℕ) → 4 * index ≤ line → line < 4 * index + 5
+        → BeginsIn (state_over (W.words words.now) layout.now 0 0) block line }
+{
+    for line in 4 * index..4 * index + 5 {
+        if line_starts(words, layout, block, line) == 0 {
+            return false;
+        }
+    }
+    true
+}
+
+/// Adds the lines that objects touch which begin at the addresses of one word of start bits. Where
+/// objects begin in all lines none is read: each ends before one that begins in the next line.
 fn add_lines<W: Words>(words: &W, layout: &Layout, block: u32, index: u32, lines: &mut [u64; 4])
     requires block { IsReadableBlock (state_over (W.words words.now) layout.now 0 0) block }
+    requires apart { AreApart (state_over (W.words words.now) layout.now 0 0) block }
     requires kind { HasKind (state_over (W.words words.now) layout.now 0 0) block kinds.Immix }
     requires index { index < 64 }
     requires len { length lines.old ≡ 4 }
-    ensures { AddsLines (IsTouchedFrom (state_over (W.words words.now) layout.now 0 0) block
-        (64 * index) (64 * index + 64)) lines.old lines.new }
+    ensures { MarksFrom (state_over (W.words words.now) layout.now 0 0) block
+        (64 * index) (64 * index + 64) lines.old lines.new }
 {
-    let mut rest = words.get(layout.start_base() + 64 * block + index);
-    while rest != 0 {
-        let bit = rest.trailing_zeros();
-        rest &= !(1 << bit);
-        add_object(words, layout, block, 64 * index + bit, lines);
+    if index < 63 && is_dense(words, layout, block, index) {
+        set_run(lines, 4 * index, 4 * index + 4);
+        return;
     }
+    for line in 4 * index..4 * index + 4 {
+        add_line(words, layout, block, line, lines);
+    }
+}
+
+/// Adds the lines that objects touch which begin in a line. Only the last of them is read, and only
+/// if none begins in the next line.
+fn add_line<W: Words>(words: &W, layout: &Layout, block: u32, line: u32, lines: &mut [u64; 4])
+    requires block { IsReadableBlock (state_over (W.words words.now) layout.now 0 0) block }
+    requires apart { AreApart (state_over (W.words words.now) layout.now 0 0) block }
+    requires kind { HasKind (state_over (W.words words.now) layout.now 0 0) block kinds.Immix }
+    requires line { line < BLOCK_LINES }
+    requires len { length lines.old ≡ 4 }
+    ensures { MarksFrom (state_over (W.words words.now) layout.now 0 0) block
+        (LINE_WORDS * line) (LINE_WORDS * line + LINE_WORDS) lines.old lines.new }
+{
+    let starts = line_starts(words, layout, block, line);
+    if starts == 0 {
+        return;
+    }
+    if line < BLOCK_LINES - 1 && line_starts(words, layout, block, line + 1) != 0 {
+        set_run(lines, line, line + 1);
+        return;
+    }
+    let last = 63 - starts.leading_zeros();
+    add_object(words, layout, block, 64 * (line / 4) + last, lines);
 }
 
 /// Adds the lines that the object at this offset touches.

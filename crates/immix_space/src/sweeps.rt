@@ -6,7 +6,7 @@ ghost use Rattle.heap_layout.specs.declared.block.Kind.TheVariants as kinds;
 ghost use Rattle.object_model.specs.Objects.{state_over, HasKind};
 ghost use Rattle.object_model.specs.Lawful.{IsReadableBlock, LineBitsAreExact};
 ghost use Rattle.object_model.specs.Releasing.{IsReleasable};
-ghost use Rattle.block_sweeps.specs.Sweeping.{MarksTouched, object_count};
+ghost use Rattle.block_sweeps.specs.Sweeping.{AreApart, MarksTouched, object_count};
 ghost use Rattle.immix_space.specs.LineSweeps.{SweepsLines, IsTouchedFromWithin};
 
 use block_sweeps::mark_touched_lines;
@@ -45,6 +45,7 @@ pub fn sweep_block<W: Words>(words: &mut W, layout: &Layout, block: u32, base: u
 /// exact if no object reaches in from another block.
 pub fn relist<W: Words>(words: &mut W, layout: &Layout, block: u32)
     requires block { IsReadableBlock (state_over (W.words words.old) layout.now 0 0) block }
+    requires apart { AreApart (state_over (W.words words.old) layout.now 0 0) block }
     requires kind { HasKind (state_over (W.words words.old) layout.now 0 0) block kinds.Immix }
     ensures marked { MarksTouched (state_over (W.words words.old) layout.now 0 0)
         (state_over (W.words words.new) layout.now 0 0) block }

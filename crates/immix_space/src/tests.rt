@@ -148,7 +148,25 @@ fn sweeps(rt: HostRuntime) -> Result<(), Fail> {
 #[test]
 fn relists(rt: HostRuntime) -> Result<(), Fail> {
     let layout = Layout::new(4)?;
-    let objects = [claimed(0, 2, 1), claimed(30, 2045, 0), claimed(4080, 13, 2)];
+    // An object begins in each line of the words from offsets 2112, 2240 and 2304 on. The last of
+    // the first reaches two lines further, that of the second ends with its word.
+    let objects = [
+        claimed(0, 2, 1),
+        claimed(30, 2045, 0),
+        claimed(2112, 13, 1),
+        claimed(2128, 13, 0),
+        claimed(2144, 1, 1),
+        claimed(2165, 40, 2),
+        claimed(2240, 13, 1),
+        claimed(2256, 13, 1),
+        claimed(2272, 13, 1),
+        claimed(2288, 13, 1),
+        claimed(2304, 20, 1),
+        claimed(2335, 0, 1),
+        claimed(2338, 5, 1),
+        claimed(2367, 1700, 1),
+        claimed(4080, 13, 2),
+    ];
     let mut words = row_with(rt.alloc(), &layout, &objects)?;
     assert!(rt; relisted(&mut words, &layout));
     check_lines(&rt, &words, &objects, 0);

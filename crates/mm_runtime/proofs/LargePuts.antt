@@ -18,6 +18,7 @@ use Rattle.object_model.specs.Changes.{WritesObject}
 use Rattle.object_model.proofs.Births as births
 use Rattle.object_model.proofs.BornHeaps as born
 use Rattle.object_model.proofs.LargeBirths as large
+use Rattle.block_sweeps.specs.Sweeping.{AreApart}
 use Rattle.sessions.specs.Plans.{Rules}
 use Rattle.sessions.specs.Fitting.{IsFreeRun}
 use Rattle.sessions.specs.Sessions.{PlacesLarge, AddsObject}
@@ -138,9 +139,9 @@ module _ (rules : Rules) (fills : FillsHoles rules.fill) (s between written : He
 
   -- a block without a run can be read, to be relisted
   readable-either : (b : Bool) → IsTrue b → MatchBool b (IsPlaceIn rules.fill s (size_of refs nums) spot) (IsRunAt s (size_of refs nums) spot)
-      → MatchBool b (TakesBlock rules.fill s spot (size_of refs nums) between) (MakesRun s between spot.block spot.run) → IsReadableBlock written spot.block
+      → MatchBool b (TakesBlock rules.fill s spot (size_of refs nums) between) (MakesRun s between spot.block spot.run) → IsReadableBlock written spot.block × AreApart written spot.block
   readable-either true none is takes = readable-small rules fills s between written spot n refs nums lawful is takes writes few_refs few_nums named fresh
   readable-either false none is makes = absurd (let wrong : false ≡ true = none in cc)
 
-  pub readable-at : spot.run ≡ 0 → IsPlace rules.fill s (size_of refs nums) spot → TakesSpot rules.fill s spot (size_of refs nums) between → IsReadableBlock written spot.block
+  pub readable-at : spot.run ≡ 0 → IsPlace rules.fill s (size_of refs nums) spot → TakesSpot rules.fill s spot (size_of refs nums) between → IsReadableBlock written spot.block × AreApart written spot.block
   readable-at none = readable-either (nat_eq spot.run 0) (eq-eqb spot.run 0 none)

@@ -9,6 +9,7 @@ use Rattle.object_model.specs.Objects.{HeapState, HasKind, size_of}
 use Rattle.object_model.specs.Heaps.{heap_state}
 use Rattle.object_model.specs.Lawful.{IsLawful, IsReadableBlock}
 use Rattle.object_model.specs.Changes.{WritesObject}
+use Rattle.block_sweeps.specs.Sweeping.{AreApart}
 use Rattle.sessions.specs.Plans.{Rules}
 use Rattle.sessions.specs.Fitting.{HasHole}
 use Rattle.sessions.specs.Sessions.{PlacesSmall}
@@ -76,7 +77,7 @@ module _ {P : Type 0} (rules : Rules) (manager : Manager P) (m : ℕ) (need : Ne
       object = putting.written rules.fill s between spot need.refs need.nums between-there took written a r q n at er eq writes
 
       -- its block can be read, to be relisted
-      pub readable : spot.run ≡ 0 → IsReadableBlock written spot.block
+      pub readable : spot.run ≡ 0 → IsReadableBlock written spot.block × AreApart written spot.block
       readable none =
           let valid = (putting.the-need rules 2 manager m need stop next).valid in
           readable-at rules fills s between written spot n need.refs need.nums manager.heap.lawful object valid.1 valid.2 named

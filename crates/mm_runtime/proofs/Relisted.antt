@@ -16,18 +16,23 @@ use Rattle.object_model.proofs.Marks.{mark-same}
 use Rattle.object_model.proofs.Representation as standing
 use Rattle.sessions.specs.Plans.{Rules}
 use Rattle.sessions.specs.Sessions.{AddsObject, UsesBlock, ChangesBlocks}
+use Rattle.block_sweeps.specs.Sweeping.{AreApart}
 use Rattle.plan_api.specs.Relisting.{RelistsIf, Relists}
+use Rattle.plan_api.proofs.Viewing.{orderly-apart}
 use Rattle.plain_world.proofs.BlockSides.{ChangesSides, order-kept, exact-kept}
 use Rattle.plain_world.proofs.Relisted.{IsRelisted}
 
--- a block can be read if the heap is lawful but for its line bits
-pub readable : (s : HeapState) (k : ℕ) → IsLawfulButLines s → k < s.blocks → IsReadableBlock s k
-readable s k lawful there = record {
-  extent = lawful.order.row.extent;
-  block = there;
-  code = (lawful.blocks k there).code;
-  objects = λ a holds here. ((lawful.order.objects.headers a holds).object, lawful.order.objects.lies a holds);
-}
+-- a block can be read, and its objects share no word, if the heap is lawful but for its line bits
+pub readable : (s : HeapState) (k : ℕ) → IsLawfulButLines s → k < s.blocks → IsReadableBlock s k × AreApart s k
+readable s k lawful there = (
+  record {
+    extent = lawful.order.row.extent;
+    block = there;
+    code = (lawful.blocks k there).code;
+    objects = λ a holds here. ((lawful.order.objects.headers a holds).object, lawful.order.objects.lies a holds);
+  },
+  orderly-apart s k lawful.order,
+)
 
 pub relists-blocks : (r : Rules) (s t : HeapState) (k : ℕ) → Relists r s t k → t.blocks ≡ s.blocks
 relists-blocks r s t k relists = same-blocks (r.lines && has_kind s k kinds.Immix) relists

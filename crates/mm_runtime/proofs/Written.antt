@@ -15,6 +15,7 @@ use Rattle.object_model.specs.Graphs.{MutatorState, Represents, numbers_of, add_
 use Rattle.object_model.specs.Changes.{WritesObject}
 use Rattle.object_model.proofs.BornHeaps.{in-layout, written-in}
 use Rattle.object_model.proofs.Frames.{same-layout}
+use Rattle.block_sweeps.specs.Sweeping.{AreApart}
 use Rattle.sessions.specs.Plans.{Rules}
 use Rattle.sessions.specs.Fitting.{HasHole, HasSomeHole, class_for}
 use Rattle.sessions.specs.Sessions.{block_of_kind, PlacesSmall, PlacesLarge, UsesBlock, UsesRun, ChangesBlocks, AddsObject}
@@ -104,8 +105,8 @@ module _ (rules : Rules) (fills : FillsHoles rules.fill) (s between written : He
   offset = openings.offset-is rules s between.words written.words spot.block spot.offset refs nums n open-there.0 is.small few_refs few_nums named fresh own
 
   -- the block can be read, to be relisted
-  pub readable-small : IsReadableBlock written spot.block
-  readable-small = in-layout (λ (x : HeapState). IsReadableBlock x spot.block) s written from.blocks from.number from.base
+  pub readable-small : IsReadableBlock written spot.block × AreApart written spot.block
+  readable-small = in-layout (λ (x : HeapState). IsReadableBlock x spot.block × AreApart x spot.block) s written from.blocks from.number from.base
       (readable (with_words s written.words) spot.block (openings.but_lines rules s between.words written.words spot.block spot.offset refs nums n open-there.0 is.small few_refs few_nums named fresh own) is.inside)
 
   module _ (new : HeapState) (filled : FillsByLines rules) (relists : Relists rules written new spot.block × (new.number ≡ written.number) × (new.base ≡ written.base)) where

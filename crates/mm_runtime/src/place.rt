@@ -8,6 +8,7 @@ ghost use Rattle.object_model.specs.Heaps.{heap_state};
 ghost use Rattle.object_model.specs.Objects.{HeapState, size_of, state_of};
 ghost use Rattle.object_model.specs.Births.{MakesRun};
 ghost use Rattle.object_model.specs.Lawful.{IsReadableBlock};
+ghost use Rattle.block_sweeps.specs.Sweeping.{AreApart};
 ghost use Rattle.plan_api.specs.Counting.{session_counts};
 ghost use Rattle.sessions.specs.Fitting.{Fits, IsFreeRun, counts_of};
 ghost use Rattle.sessions.specs.Plans.{Rules};
@@ -115,7 +116,8 @@ fn take_spot<P: Plan>(row: Row, spot: &Spot, size: u32) -> Row
 /// Relists the block of a spot, where an object was written. A run needs none: its blocks are no
 /// Immix blocks.
 fn relist_spot<P: Plan>(row: Row, spot: &Spot) -> Row
-    requires { spot.now.run ≡ 0 → IsReadableBlock (state_of row) spot.now.block }
+    requires block { spot.now.run ≡ 0 → IsReadableBlock (state_of row) spot.now.block }
+    requires apart { spot.now.run ≡ 0 → AreApart (state_of row) spot.now.block }
     ensures { RelistsSpot P.rules (state_of row) spot.now (state_of result) }
 {
     let mut row = row;

@@ -15,8 +15,9 @@ use Rattle.object_model.proofs.Blocks as blocks
 use Rattle.object_model.proofs.OwnedBlocks as owners
 use Rattle.object_model.proofs.OneKind.{kind-within, kind-code}
 use Rattle.sessions.specs.Plans.{Rules}
-use Rattle.block_sweeps.specs.Sweeping.{IsLineWord}
+use Rattle.block_sweeps.specs.Sweeping.{AreApart, IsLineWord}
 use Rattle.plan_api.specs.Relisting.{Relists}
+use Rattle.plan_api.proofs.Viewing.{orderly-apart}
 use Rattle.mutator_core.specs.Closing.{GivesBack}
 use Rattle.plain_world.specs.declared.plain_row.BlockNote.{BlockNote}
 use Rattle.plain_world.specs.declared.plain_row.BlockNote.TheVariants.{Unowned, Owned}
@@ -151,6 +152,10 @@ module _ (s : HeapState) (order : IsWellFormed s) (block : ℕ) (there : block <
     code = subst (λ (x : ℕ). IsTrue (is_block_code x)) (sym (blocks.block-set s block bare there order.row.extent)) (low-code (block_word s block) code);
     objects = λ a holds here. ((order-without.objects.headers a holds).object, order-without.objects.lies a holds);
   }
+
+  -- and its objects share no word
+  pub apart-without : AreApart (without_owner s block) block
+  apart-without = orderly-apart (without_owner s block) block order-without
 
 -- and is relisted
 module _ (rules : Rules) (fills : FillsHoles rules.fill) (lines : rules.fill ≡ kinds.Immix → IsTrue rules.lines) (s new : HeapState) (order : IsWellFormed s) (block : ℕ) (there : block < s.blocks)

@@ -131,7 +131,8 @@ pub trait Plan {
     /// After mutators filled a block: makes the line bits of an Immix block those of the lines that
     /// objects touch, if the plan fills lines. In every other case changes nothing.
     fn relist_block<W: Words>(words: &mut W, layout: &Layout, block: u32)
-        requires { IsReadableBlock (state_over (W.words words.old) layout.now 0 0) block }
+        requires block { IsReadableBlock (state_over (W.words words.old) layout.now 0 0) block }
+        requires apart { AreApart (state_over (W.words words.old) layout.now 0 0) block }
         ensures { Relists rules (state_over (W.words words.old) layout.now 0 0)
             (state_over (W.words words.new) layout.now 0 0) block };
 

@@ -11,7 +11,7 @@ ghost use Rattle.object_model.specs.Releasing.{IsReleasable};
 ghost use Rattle.sessions.specs.Plans.{Rules, Copies};
 ghost use Rattle.plan_api.specs.Evacuation.{HasFills};
 ghost use Rattle.plan_api.specs.Releasing.{Releases, is_kept_after};
-ghost use Rattle.block_sweeps.specs.Sweeping.{Sweeps, MarksTouched, object_count};
+ghost use Rattle.block_sweeps.specs.Sweeping.{AreApart, Sweeps, MarksTouched, object_count};
 
 use block_sweeps::{sweep_block, sweep_run, unlog_block};
 use copy_space::release_block;
@@ -115,6 +115,7 @@ pub(crate) fn mark_lines<W: Words>(words: &mut W, layout: &Layout, block: u32, k
     requires extent { length (W.words words.old) ≡ row_words layout.now.blocks }
     requires block { kind ≡ kinds.Immix
         → IsReadableBlock (state_over (W.words words.old) layout.now 0 0) block }
+    requires apart { AreApart (state_over (W.words words.old) layout.now 0 0) block }
     requires kind { kind ≡ kinds.Immix
         → HasKind (state_over (W.words words.old) layout.now 0 0) block kinds.Immix }
     ensures immix { kind ≡ kinds.Immix

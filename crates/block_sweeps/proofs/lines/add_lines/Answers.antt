@@ -1,27 +1,28 @@
-use Rattle.std.proofs.Common.{arith, w64}
-use Rattle.std.specs.Int.{trailing_zeros}
-use Rattle.std.proofs.lemmas.Nat.Bits.{bit_at-trailing_zeros}
-use Rattle.object_model.specs.Objects.{state_over}
-use Rattle.block_sweeps.proofs.TouchedWords.{without-less, start-set, added-more, added-all}
+use Rattle.std.proofs.Common.{arith, subst, ◌+◌, ◌*◌}
+use Rattle.object_model.specs.Objects.{HeapState, state_over}
+use Rattle.block_sweeps.specs.Touches.{MarksFrom}
+use Rattle.block_sweeps.proofs.LineStarts.{marks-word, marks-on, marks-nothing}
 use Rattle.block_sweeps.proofs.lines.add_lines.Goals as goal
 
-pub add_object-requires-clause-start : goal.add_object-requires-clause-start
-add_object-requires-clause-start g c =
-    let lowest = bit_at-trailing_zeros w64 c.loop-rest.rest (omega arith) (omega arith) in
-    start-set (state_over (g.W.Words.words c.args.words.now) c.args.layout.now 0 0) c.args.block c.args.index c.requires.block.block c.requires.index
-    (trailing_zeros w64 c.loop-rest.rest) lowest.0 (c.loop-rest.invariant.left (trailing_zeros w64 c.loop-rest.rest) lowest.0 lowest.1)
+pub returns-then-is_dense : goal.returns-then-is_dense
+returns-then-is_dense g c =
+    marks-word (state_over (g.W.Words.words c.args.words.now) c.args.layout.now 0 0) c.args.block c.requires.block.block c.requires.apart c.args.index
+    c.args.lines.now c.set_run.new.lines c.if-index-lt63.true (c.is_dense.ensures c.if-is_dense.true) c.set_run.ensures
 
-pub loop-rest-smaller : goal.loop-rest-smaller
-loop-rest-smaller g c =
-    let lowest = bit_at-trailing_zeros w64 c.loop-rest.rest (omega arith) (omega arith) in
-    without-less c.loop-rest.rest (trailing_zeros w64 c.loop-rest.rest) lowest.0 lowest.1
+pub loop-line-init : goal.loop-line-init
+loop-line-init g c =
+    let s : HeapState = state_over (g.W.Words.words c.args.words.now) c.args.layout.now 0 0 in
+    subst (λ to. MarksFrom s c.args.block (64 * c.args.index) to c.args.lines.now c.args.lines.now) (omega arith)
+    (marks-nothing s c.args.block (64 * c.args.index) c.args.lines.now)
 
-pub loop-rest-preserved : goal.loop-rest-preserved
-loop-rest-preserved g c =
-    let lowest = bit_at-trailing_zeros w64 c.loop-rest.rest (omega arith) (omega arith) in
-    added-more (state_over (g.W.Words.words c.args.words.now) c.args.layout.now 0 0) c.args.block c.args.index c.requires.block.block c.requires.index
-    c.args.lines.now c.loop-rest.lines c.add_object.new.lines c.loop-rest.rest (trailing_zeros w64 c.loop-rest.rest) lowest.0 lowest.1 c.loop-rest.invariant c.add_object.ensures
+pub loop-line-preserved : goal.loop-line-preserved
+loop-line-preserved g c =
+    let s : HeapState = state_over (g.W.Words.words c.args.words.now) c.args.layout.now 0 0 in
+    subst (λ to. MarksFrom s c.args.block (64 * c.args.index) to c.args.lines.now c.add_line.new.lines) (omega arith)
+    (marks-on s c.args.block (64 * c.args.index) (16 * c.loop-line.line) (16 * c.loop-line.line + 16) c.args.lines.now c.loop-line.lines c.add_line.new.lines
+    c.loop-line.invariant c.add_line.ensures)
 
 pub returns : goal.returns
-returns g c = added-all (state_over (g.W.Words.words c.args.words.now) c.args.layout.now 0 0) c.args.block c.args.index
-    c.args.lines.now c.loop-rest.lines c.loop-rest.rest c.loop-rest-test.false c.loop-rest.invariant
+returns g c =
+    let s : HeapState = state_over (g.W.Words.words c.args.words.now) c.args.layout.now 0 0 in
+    subst (λ to. MarksFrom s c.args.block (64 * c.args.index) to c.args.lines.now c.loop-line.lines) (omega arith) c.loop-line.invariant

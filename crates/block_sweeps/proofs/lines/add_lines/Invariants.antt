@@ -1,9 +1,7 @@
+use Rattle.std.proofs.Common.{◌*◌}
 use Rattle.object_model.specs.Objects.{state_over}
-use Rattle.block_sweeps.proofs.TouchedWords.{AddedBut}
+use Rattle.block_sweeps.specs.Touches.{MarksFrom}
 use Rattle.block_sweeps.proofs.lines.add_lines.Given as goal
 
-abbrev pub invariant-loop-rest : goal.invariant-loop-rest
-invariant-loop-rest g l = AddedBut (state_over (g.W.Words.words l.words) l.layout 0 0) l.block l.index l.initial.lines l.lines l.rest
-
-abbrev pub decreases-loop-rest : goal.decreases-loop-rest
-decreases-loop-rest g l = l.rest
+abbrev pub invariant-loop-line : goal.invariant-loop-line
+invariant-loop-line g l = MarksFrom (state_over (g.W.Words.words l.words) l.layout 0 0) l.block (64 * l.index) (16 * l.line) l.initial.lines l.lines

@@ -1,6 +1,7 @@
 use Rattle.std.proofs.Common.{◌∙◌, sym, refl, ℕ, List}
 use Rattle.immix_space.proofs.SweptObjects.{none-living, some-living, readable, immix-now}
 use Rattle.immix_space.proofs.SweptLines.{swept-empty, swept-some, count-kept}
+use Rattle.block_sweeps.proofs.SweptApart.{swept-apart}
 use Rattle.immix_space.proofs.ExactLines.{swept-exact}
 use Rattle.immix_space.proofs.sweeps.sweep_block.Goals as goal
 
@@ -23,6 +24,11 @@ relist-requires-clause-block g c =
     let mid : List ℕ = g.W.Words.words c.sweep_block-count.new.words in
     let found = some-living l k old mid c.args.base 4 c.requires.block c.sweep_block-count.ensures.swept (λ none. c.if-count-eq0.false (c.sweep_block-count.ensures.count ∙ none)) in
     readable l k old mid c.args.base 4 c.requires.block c.sweep_block-count.ensures.swept c.requires.releasable c.requires.extent c.requires.kind refl found.0 found.1 found.2
+
+pub relist-requires-clause-apart : goal.relist-requires-clause-apart
+relist-requires-clause-apart g c =
+    swept-apart c.args.layout.now c.args.block (g.W.Words.words c.args.words.now) (g.W.Words.words c.sweep_block-count.new.words) c.args.base 4
+    c.requires.block c.sweep_block-count.ensures.swept c.requires.releasable
 
 pub relist-requires-clause-kind : goal.relist-requires-clause-kind
 relist-requires-clause-kind g c =

@@ -4,11 +4,15 @@ use Rattle.std.proofs.lemmas.Bool.{eq-eqb}
 use Rattle.object_model.specs.Objects.{HeapState, state_of, state_over}
 use Rattle.plan_api.specs.Relisting.{Relists}
 use Rattle.plan_api.proofs.Viewing.{block-anyway}
+use Rattle.plan_api.proofs.CellParts.{apart-anyway}
 use Rattle.plain_world.proofs.Relisted.{relists-anyway}
 use Rattle.mm_runtime.proofs.place.relist_spot.Goals as goal
 
-pub relist_block-requires : goal.relist_block-requires
-relist_block-requires g c = block-anyway c.args.row.words.items c.args.row.layout c.args.row.number c.args.row.base 0 0 c.args.spot.now.block (c.requires c.if-spot-eq0.true)
+pub relist_block-requires-clause-block : goal.relist_block-requires-clause-block
+relist_block-requires-clause-block g c = block-anyway c.args.row.words.items c.args.row.layout c.args.row.number c.args.row.base 0 0 c.args.spot.now.block (c.requires.block c.if-spot-eq0.true)
+
+pub relist_block-requires-clause-apart : goal.relist_block-requires-clause-apart
+relist_block-requires-clause-apart g c = apart-anyway c.args.row.words.items c.args.row.layout c.args.row.number c.args.row.base 0 0 c.args.spot.now.block (c.requires.apart c.if-spot-eq0.true)
 
 pub returns-then-spot-eq0 : goal.returns-then-spot-eq0
 returns-then-spot-eq0 g c =

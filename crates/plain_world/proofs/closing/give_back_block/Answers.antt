@@ -7,11 +7,13 @@ use Rattle.object_model.specs.Objects.{HeapState, state_of, state_over, block_wo
 use Rattle.object_model.specs.Lawful.{IsReadableBlock}
 use Rattle.std.proofs.lemmas.List.{get_or_default}
 use Rattle.plan_api.specs.Relisting.{Relists}
+use Rattle.block_sweeps.specs.Sweeping.{AreApart}
 use Rattle.plan_api.proofs.Viewing.{block-anyway}
+use Rattle.plan_api.proofs.CellParts.{apart-anyway}
 use Rattle.plain_world.specs.Notes.{nobody, given, IsOwnedNote, IsLeastLeft, without_owner}
 use Rattle.plain_world.proofs.Regions.{region-inside}
 use Rattle.plain_world.proofs.Elements.{read-some, set-changes}
-use Rattle.plain_world.proofs.GivingBack.{readable-without}
+use Rattle.plain_world.proofs.GivingBack.{readable-without, apart-without}
 use Rattle.plain_world.proofs.Relisted.{relists-anyway}
 use Rattle.plain_world.proofs.closing.give_back_block.Goals as goal
 
@@ -21,8 +23,8 @@ returns-in_default g c =
     let there : c.args.block < length notes = (let many = c.requires.notes.len in let b = c.requires.block in omega arith) in
     nobody c.in_default.field-0 (read-some notes c.args.block c.index.result.now there c.index.ensures ∙ ap (λ (n : BlockNote). Some n) c.in_default.is) refl refl
 
-pub relist_block-requires : goal.relist_block-requires
-relist_block-requires g c =
+pub relist_block-requires-clause-block : goal.relist_block-requires-clause-block
+relist_block-requires-clause-block g c =
     let row = c.args.row.now in
     let s : HeapState = state_of row in
     let k : ℕ = c.args.block in
@@ -35,6 +37,21 @@ relist_block-requires g c =
     = ap (λ (n : ℕ). slice_set row.words.items n (c.index_mut.result.now % 65536)) at ∙ ap (λ (v : ℕ). slice_set row.words.items (18 + k) (v % 65536)) word in
     subst (λ (w : List ℕ). IsReadableBlock (state_over w row.layout 0 0) k) (sym same)
     (block-anyway (without_owner s k).words row.layout s.number s.base 0 0 k (readable-without s c.requires.order k c.requires.block c.requires.code))
+
+pub relist_block-requires-clause-apart : goal.relist_block-requires-clause-apart
+relist_block-requires-clause-apart g c =
+    let row = c.args.row.now in
+    let s : HeapState = state_of row in
+    let k : ℕ = c.args.block in
+    let i : ℕ = c.block_at.result in
+    let at : i ≡ 18 + k = c.block_at.ensures in
+    let inside : i < length row.words.items = omega (arith, c.requires.order.row.extent, c.requires.block) in
+    let word : c.index_mut.result.now ≡ block_word s k
+    = c.index_mut.ensures.value ∙ get_or_default row.words.items i c.index_mut.result.now 0 inside ∙ ap (λ (n : ℕ). get_or row.words.items n 0) at in
+    let same : slice_set row.words.items i (c.index_mut.result.now % 65536) ≡ (without_owner s k).words
+    = ap (λ (n : ℕ). slice_set row.words.items n (c.index_mut.result.now % 65536)) at ∙ ap (λ (v : ℕ). slice_set row.words.items (18 + k) (v % 65536)) word in
+    subst (λ (w : List ℕ). AreApart (state_over w row.layout 0 0) k) (sym same)
+    (apart-anyway (without_owner s k).words row.layout s.number s.base 0 0 k (apart-without s c.requires.order k c.requires.block))
 
 pub least_left-requires-clause-order : goal.least_left-requires-clause-order
 least_left-requires-clause-order g c =

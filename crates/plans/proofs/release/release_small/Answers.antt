@@ -6,6 +6,7 @@ use Rattle.object_model.specs.Objects.{state_over, block_word, HasKind}
 use Rattle.object_model.proofs.OneKind.{kind-from}
 use Rattle.block_sweeps.specs.Sweeping.{Sweeps}
 use Rattle.plan_api.proofs.Tallies.{kind-of-word}
+use Rattle.block_sweeps.proofs.SweptApart.{swept-apart}
 use Rattle.plan_api.proofs.ReleasedBlocks as blocks
 use Rattle.plan_api.specs.Releasing.{word_after}
 use Rattle.plans.proofs.ReleasedSmall as small
@@ -39,6 +40,11 @@ mark_lines-requires-clause-block g c = λ immix.
     let plain : c.args.kept ≡ false = elim (cases_Bool c.args.kept) as (λ _. c.args.kept ≡ false) [ inl kept ↦ absurd (c.requires.small kept immix) | inr plain ↦ plain ] in
     small.readable l k old mid c.args.base _ c.requires.block c.sweep.ensures.swept c.requires.releasable c.requires.extent is
     (ap (λ kept. if kept then 8 else block_word s k % 65536) plain) found.0 found.1 found.2
+
+pub mark_lines-requires-clause-apart : goal.mark_lines-requires-clause-apart
+mark_lines-requires-clause-apart g c =
+    swept-apart c.args.layout.now c.args.block (g.W.Words.words c.args.words.now) (g.W.Words.words c.sweep.new.words) c.args.base _
+    c.requires.block c.sweep.ensures.swept c.requires.releasable
 
 pub mark_lines-requires-clause-kind : goal.mark_lines-requires-clause-kind
 mark_lines-requires-clause-kind g c = λ immix.

@@ -102,12 +102,19 @@ reply_to-requires-clause-most g c = putting.most-progress g.P.Plan.rules 2 c.arg
 pub reply_to-requires-clause-room : goal.reply_to-requires-clause-room
 reply_to-requires-clause-room g c = putting.room-left g.P.Plan.rules 2 c.args.self c.args.m c.args.need.now c.requires.stop c.requires.next
 
-pub relist_spot-row-requires : goal.relist_spot-row-requires
-relist_spot-row-requires g c =
-    calls.readable g.P.Plan.rules c.args.self c.args.m c.args.need.now c.args.spot c.requires.plan.fill c.requires.stop c.requires.next c.requires.spot
+pub relist_spot-row-requires-clause-block : goal.relist_spot-row-requires-clause-block
+relist_spot-row-requires-clause-block g c = λ none.
+    (calls.readable g.P.Plan.rules c.args.self c.args.m c.args.need.now c.args.spot c.requires.plan.fill c.requires.stop c.requires.next c.requires.spot
     (state_of c.into_row.result) (state_of c.take_spot-row.result) c.size_words.result c.shape_of-shape.result.refs c.shape_of-shape.result.nums c.into_row.ensures.state c.size_words.ensures
     c.shape_of-shape.ensures.refs c.shape_of-shape.ensures.nums c.take_spot-row.ensures
-    c.count_birth-name.new.mutators.items c.address-address.result c.count_birth-name.result c.address-address.ensures c.count_birth-name.ensures (state_of c.write_object.new.self) c.write_object.ensures.written
+    c.count_birth-name.new.mutators.items c.address-address.result c.count_birth-name.result c.address-address.ensures c.count_birth-name.ensures (state_of c.write_object.new.self) c.write_object.ensures.written none).0
+
+pub relist_spot-row-requires-clause-apart : goal.relist_spot-row-requires-clause-apart
+relist_spot-row-requires-clause-apart g c = λ none.
+    (calls.readable g.P.Plan.rules c.args.self c.args.m c.args.need.now c.args.spot c.requires.plan.fill c.requires.stop c.requires.next c.requires.spot
+    (state_of c.into_row.result) (state_of c.take_spot-row.result) c.size_words.result c.shape_of-shape.result.refs c.shape_of-shape.result.nums c.into_row.ensures.state c.size_words.ensures
+    c.shape_of-shape.ensures.refs c.shape_of-shape.ensures.nums c.take_spot-row.ensures
+    c.count_birth-name.new.mutators.items c.address-address.result c.count_birth-name.result c.address-address.ensures c.count_birth-name.ensures (state_of c.write_object.new.self) c.write_object.ensures.written none).1
 
 pub from_row-heap-requires : goal.from_row-heap-requires
 from_row-heap-requires g c =

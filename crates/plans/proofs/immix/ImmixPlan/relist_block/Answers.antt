@@ -19,7 +19,7 @@ immix-told s k w there valid code is = kind-from s k kinds.Immix there (kind-of-
 pub mark_lines-requires-clause-kind : goal.mark_lines-requires-clause-kind
 mark_lines-requires-clause-kind g c =
     let word = c.block_word_in-kind in
-    immix-told (state_over (g.W.Words.words c.args.words.now) c.args.layout.now 0 0) c.args.block word.result c.requires.block word.ensures.valid word.ensures.code
+    immix-told (state_over (g.W.Words.words c.args.words.now) c.args.layout.now 0 0) c.args.block word.result c.requires.block.block word.ensures.valid word.ensures.code
 
 pub returns : goal.returns
 returns g c =
@@ -35,7 +35,7 @@ returns g c =
           let marked = c.mark_lines.ensures.immix (kind-told s k kinds.Immix word.result word.ensures.valid word.ensures.code is) in
           subst (λ immix. RelistsIf immix s t k) (sym is) (record {
             marked = marked;
-            exact = λ lie. lines-exact l k old new c.requires.block marked (touched-from-within s k lie is);
+            exact = λ lie. lines-exact l k old new c.requires.block.block marked (touched-from-within s k lie is);
           })
-      | inr other ↦ subst (λ immix. RelistsIf immix s t k) (sym other) (refl, c.mark_lines.ensures.others (λ immix. true≢false (sym (immix-told s k word.result c.requires.block word.ensures.valid word.ensures.code immix) ∙ other)))
+      | inr other ↦ subst (λ immix. RelistsIf immix s t k) (sym other) (refl, c.mark_lines.ensures.others (λ immix. true≢false (sym (immix-told s k word.result c.requires.block.block word.ensures.valid word.ensures.code immix) ∙ other)))
     ]

@@ -1,0 +1,186 @@
+-- The objects that begin in a line, and the lines that they touch.
+use Rattle.std.proofs.Common.{◌≡◌, ℕ, suc, ◌+◌, ◌*◌, ◌-◌, ◌/◌, ◌%◌, ◌^◌, ◌<◌, ◌≤◌, ◌⊎◌, inl, inr, refl, sym, ap, ◌∙◌, subst, arith, w64, IsTrue, bit_and, min, List}
+use Rattle.std.specs.Int.{bit_at, trailing_zeros, leading_zeros}
+use Rattle.std.proofs.lemmas.Bool.{cases_eq, cases_lt}
+use Rattle.std.proofs.lemmas.Nat.{leading_top}
+use Rattle.std.proofs.lemmas.Nat.Bits.{bit_at-trailing_zeros, bit_at_and, bit_at-lt, bit_at-zero, bit_at_above, bit_at_cat_high}
+use Rattle.heap_layout.specs.Zones.{heap_of, block_start}
+use Rattle.object_model.specs.Objects.{HeapState, is_start, size_at, IsHeld}
+use Rattle.block_sweeps.specs.Sweeping.{AreApart}
+use Rattle.block_sweeps.specs.Touches.{AddsLines, AreStartsOf, BeginsIn, IsFromTo, MarksFrom, TouchesAt, IsTouchedFrom, has_line}
+use Rattle.block_sweeps.proofs.TouchedWords.{start_word, start-set, start-bit}
+
+-- the bits of a line in its word
+pub starts-of : (s : HeapState) (k line mask : ℕ) → k < s.blocks → line < 256
+    → ((i : ℕ) → IsFromTo (16 * (line % 4)) (16 * (line % 4) + 15) i → bit_at mask i ≡ 1) → ((i : ℕ) → bit_at mask i ≡ 1 → IsFromTo (16 * (line % 4)) (16 * (line % 4) + 15) i)
+    → AreStartsOf s k line (bit_and (start_word s k (line / 4)) mask)
+starts-of s k line mask there few inside only = record {
+  set = λ i is.
+      let word : ℕ = start_word s k (line / 4) in
+      let both : min (bit_at word i) (bit_at mask i) ≡ 1 = sym (bit_at_and word mask i) ∙ is in
+      let masked : bit_at mask i ≡ 1 = omega (arith, both, bit_at-lt word i, bit_at-lt mask i) in
+      let among = only i masked in
+      (among, start-set s k (line / 4) there (omega arith) i (omega (arith, among.most)) (omega (arith, both, bit_at-lt word i, bit_at-lt mask i)));
+  all = λ i among start.
+      let word : ℕ = start_word s k (line / 4) in
+      let one : bit_at word i ≡ 1 = start-bit s k (line / 4) there (omega arith) i (omega (arith, among.most)) start in
+      bit_at_and word mask i ∙ (let both : min (bit_at word i) (bit_at mask i) ≡ 1 = omega (arith, one, inside i among) in both);
+}
+
+-- the highest bit of a word
+pub highest : (n : ℕ) → 0 < n → n < 2 ^ 64
+    → (leading_zeros w64 n < 64) × (bit_at n (63 - leading_zeros w64 n) ≡ 1) × ((i : ℕ) → bit_at n i ≡ 1 → i ≤ 63 - leading_zeros w64 n)
+highest n some small =
+    let top = leading_top 64 n some small in
+    let at : 63 - leading_zeros w64 n ≡ top.0 = omega (arith, top.1) in
+    let cut : n ≡ 1 * 2 ^ top.0 + (n - 2 ^ top.0) = omega (arith, top.2) in
+    let less : n - 2 ^ top.0 < 2 ^ top.0 = omega (arith, top.2, top.3) in
+    let set : bit_at n top.0 ≡ 1 = ap (λ v. bit_at v top.0) cut ∙ bit_at_cat_high 1 top.0 (n - 2 ^ top.0) top.0 less (omega arith) ∙ ap (bit_at 1) (let none : top.0 - top.0 ≡ 0 = omega arith in none) in (
+      omega (arith, top.1),
+      ap (bit_at n) at ∙ set,
+      λ i is. elim (cases_lt top.0 i) as (λ _. i ≤ 63 - leading_zeros w64 n) [
+        | inl above ↦ absurd (let clear : bit_at n i ≡ 0 = bit_at_above n (suc top.0) i top.3 (omega arith) in omega arith)
+        | inr within ↦ omega (arith, at)
+      ],
+    )
+
+module _ (s : HeapState) (k : ℕ) where
+  -- the bits of a line in which an object begins are not 0, and no other ones
+  pub begins : (line bits : ℕ) → bits < 2 ^ 64 → (bits ≡ 0 → ⊥) → AreStartsOf s k line bits → BeginsIn s k line
+  begins line bits small some are =
+      let lowest = bit_at-trailing_zeros w64 bits (omega (arith, some)) small in
+      let i : ℕ = trailing_zeros w64 bits in
+      let is = are.set i lowest.1 in
+      record { offset = 64 * (line / 4) + i; from = omega (arith, is.0.after); below = omega (arith, is.0.most); start = is.1 }
+
+  pub begins-none : (line bits : ℕ) → bits ≡ 0 → AreStartsOf s k line bits → BeginsIn s k line → ⊥
+  begins-none line bits none are is =
+      let from : 16 * line ≤ is.offset = is.from in
+      let below : is.offset < 16 * (line + 1) = is.below in
+      let i : ℕ = is.offset - 64 * (line / 4) in
+      let at : is.offset ≡ 64 * (line / 4) + i = omega arith in
+      let one : bit_at bits i ≡ 1 = are.all i (record { after = omega arith; most = omega arith }) (subst (λ o. IsTrue (is_start s (block_start s.blocks k + o))) at is.start) in
+      let zero : bit_at bits i ≡ 0 = ap (λ v. bit_at v i) none ∙ bit_at-zero i in
+      omega (arith, one, zero)
+
+  -- a line is touched by what begins in it
+  own-line : (line : ℕ) → line < 256 → BeginsIn s k line → IsTouchedFrom s k 0 4096 line
+  own-line line few is =
+      let from : 16 * line ≤ is.offset = is.from in
+      let below : is.offset < 16 * (line + 1) = is.below in
+      record { offset = is.offset; after = omega arith; below = omega arith; start = is.start; touches = record { from = omega arith; below = omega arith } }
+
+  module _ (there : k < s.blocks) (apart : AreApart s k) where
+    held : (offset : ℕ) → offset < 4096 → IsTrue (is_start s (block_start s.blocks k + offset)) → IsHeld s (block_start s.blocks k + offset)
+    held offset small start = record { address = record { from = omega arith; below = omega arith }; start = start }
+
+    -- an object ends before a later one
+    ends : (offset later : ℕ) → offset < later → later < 4096 → IsTrue (is_start s (block_start s.blocks k + offset)) → IsTrue (is_start s (block_start s.blocks k + later))
+        → offset + size_at s (block_start s.blocks k + offset) ≤ later
+    ends offset later before small start start' = elim (cases_lt later (offset + size_at s (block_start s.blocks k + offset)))
+        as (λ _. offset + size_at s (block_start s.blocks k + offset) ≤ later) [
+          | inl over ↦ absurd (
+              (let same : block_start s.blocks k + offset ≡ block_start s.blocks k + later
+              = apart (block_start s.blocks k + offset) (block_start s.blocks k + later) (block_start s.blocks k + later)
+              (held offset (omega arith) start) (held later small start') (omega arith) (omega arith)
+              (record { from = omega arith; below = omega arith }) (record { from = omega arith; below = omega arith }) in
+              omega arith))
+          | inr less ↦ less
+        ]
+
+    -- what begins in a line touches no line after the next one, if something begins there
+    two-lines : (line n offset : ℕ) → line < 255 → BeginsIn s k (line + 1) → 16 * line ≤ offset → offset < 16 * line + 16
+        → IsTrue (is_start s (block_start s.blocks k + offset)) → TouchesAt s k offset n → IsFromTo line (line + 1) n
+    two-lines line n offset few next least most start touches =
+        let from' : 16 * (line + 1) ≤ next.offset = next.from in
+        let below' : next.offset < 16 * (line + 1 + 1) = next.below in
+        let end : offset + size_at s (block_start s.blocks k + offset) ≤ next.offset = ends offset next.offset (omega arith) (omega arith) start next.start in
+        let from : heap_of s.blocks + 16 * (256 * k + n) < block_start s.blocks k + offset + size_at s (block_start s.blocks k + offset) = touches.from in
+        let below : block_start s.blocks k + offset < heap_of s.blocks + 16 * (256 * k + n + 1) = touches.below in
+        record { after = (omega arith); most = (omega arith) }
+
+    -- nothing begins in the line
+    pub marks-none : (line : ℕ) (lines : List ℕ) → (BeginsIn s k line → ⊥) → MarksFrom s k (16 * line) (16 * line + 16) lines lines
+    marks-none line lines none = record {
+      extent = refl;
+      kept = λ n is. is;
+      added = λ n is. absurd (none (let below : is.offset < 16 * line + 16 = is.below in record { offset = is.offset; from = is.after; below = omega arith; start = is.start }));
+      only = λ n is. inl is;
+    }
+
+    -- something begins in the line and in the next one
+    pub marks-two : (line : ℕ) (old new : List ℕ) → line < 255 → BeginsIn s k line → BeginsIn s k (line + 1) → AddsLines (IsFromTo line (line + 1)) old new
+        → MarksFrom s k (16 * line) (16 * line + 16) old new
+    marks-two line old new few here next adds = record {
+      extent = adds.extent;
+      kept = adds.kept;
+      added = λ n is. adds.added n (two-lines line n is.offset few next is.after is.below is.start is.touches);
+      only = λ n is. elim (adds.only n is) as (λ _. IsTrue (has_line old n) ⊎ IsTouchedFrom s k 0 4096 n) [
+        | inl was ↦ inl was
+        | inr one ↦ inr (elim (cases_eq n line) as (λ _. IsTouchedFrom s k 0 4096 n) [
+          | inl same ↦ own-line n (omega arith) (subst (BeginsIn s k) (sym same) here)
+          | inr other ↦ (let after : line ≤ n = one.after in let most : n ≤ line + 1 = one.most in own-line n (omega arith) (subst (BeginsIn s k) (omega arith) next))
+        ])
+      ];
+    }
+
+    -- the last object of a line
+    pub marks-last : (line last : ℕ) (old new : List ℕ) → line < 256 → 16 * line ≤ last → last < 16 * line + 16 → IsTrue (is_start s (block_start s.blocks k + last))
+        → ((offset : ℕ) → 16 * line ≤ offset → offset < 16 * line + 16 → IsTrue (is_start s (block_start s.blocks k + offset)) → offset ≤ last)
+        → AddsLines (TouchesAt s k last) old new → MarksFrom s k (16 * line) (16 * line + 16) old new
+    marks-last line last old new few least most start top adds = record {
+      extent = adds.extent;
+      kept = adds.kept;
+      added = λ n is. adds.added n (elim (cases_eq is.offset last) as (λ _. TouchesAt s k last n) [
+        | inl same ↦ subst (λ o. TouchesAt s k o n) same is.touches
+        | inr other ↦
+            (let after : 16 * line ≤ is.offset = is.after in
+            let below : is.offset < 16 * line + 16 = is.below in
+            let before : is.offset < last = omega (arith, other, top is.offset is.after is.below is.start) in
+            let end : is.offset + size_at s (block_start s.blocks k + is.offset) ≤ last = ends is.offset last before (omega arith) is.start start in
+            let from' : heap_of s.blocks + 16 * (256 * k + n) < block_start s.blocks k + is.offset + size_at s (block_start s.blocks k + is.offset) = is.touches.from in
+            let below' : block_start s.blocks k + is.offset < heap_of s.blocks + 16 * (256 * k + n + 1) = is.touches.below in
+            record { from = omega arith; below = omega arith })
+      ]);
+      only = λ n is. elim (adds.only n is) as (λ _. IsTrue (has_line old n) ⊎ IsTouchedFrom s k 0 4096 n) [
+        | inl was ↦ inl was
+        | inr touches ↦ inr (record { offset = last; after = omega arith; below = omega arith; start = start; touches = touches })
+      ];
+    }
+
+    -- something begins in each line of a word, and in the line after it
+    pub marks-word : (index : ℕ) (old new : List ℕ) → index < 63 → ((line : ℕ) → 4 * index ≤ line → line < 4 * index + 5 → BeginsIn s k line)
+        → AddsLines (IsFromTo (4 * index) (4 * index + 4)) old new → MarksFrom s k (64 * index) (64 * index + 64) old new
+    marks-word index old new few each adds = record {
+      extent = adds.extent;
+      kept = adds.kept;
+      added = λ n is.
+          let after : 64 * index ≤ is.offset = is.after in
+          let below : is.offset < 64 * index + 64 = is.below in
+          let two = two-lines (is.offset / 16) n is.offset (omega arith) (each (is.offset / 16 + 1) (omega arith) (omega arith)) (omega arith) (omega arith) is.start is.touches in
+          adds.added n (record { after = omega (arith, two.after); most = omega (arith, two.most) });
+      only = λ n is. elim (adds.only n is) as (λ _. IsTrue (has_line old n) ⊎ IsTouchedFrom s k 0 4096 n) [
+        | inl was ↦ inl was
+        | inr one ↦ inr (let after : 4 * index ≤ n = one.after in let most : n ≤ 4 * index + 4 = one.most in own-line n (omega arith) (each n after (omega arith)))
+      ];
+    }
+
+  -- lines are marked from one offset on, and then from another
+  pub marks-on : (from mid to : ℕ) (old between new : List ℕ) → MarksFrom s k from mid old between → MarksFrom s k mid to between new → MarksFrom s k from to old new
+  marks-on from mid to old between new one two = record {
+    extent = two.extent ∙ one.extent;
+    kept = λ n is. two.kept n (one.kept n is);
+    added = λ n is. elim (cases_lt is.offset mid) as (λ _. IsTrue (has_line new n)) [
+      | inl before ↦ two.kept n (one.added n (record { offset = is.offset; after = is.after; below = before; start = is.start; touches = is.touches }))
+      | inr past ↦ two.added n (record { offset = is.offset; after = past; below = is.below; start = is.start; touches = is.touches })
+    ];
+    only = λ n is. elim (two.only n is) as (λ _. IsTrue (has_line old n) ⊎ IsTouchedFrom s k 0 4096 n) [ inl was ↦ one.only n was | inr touched ↦ inr touched ];
+  }
+
+  pub marks-nothing : (from : ℕ) (lines : List ℕ) → MarksFrom s k from from lines lines
+  marks-nothing from lines = record {
+    extent = refl;
+    kept = λ n is. is;
+    added = λ n is. absurd (let after : from ≤ is.offset = is.after in let below : is.offset < from = is.below in omega arith);
+    only = λ n is. inl is;
+  }
