@@ -16,8 +16,8 @@ use heap_layout::{BLOCK_LINES, BLOCK_WORDS, LINE_WORDS, Layout};
 use side_meta::Words;
 
 /// Makes the line bits of an Immix block those of the lines that objects in it touch. Reads the
-/// start bits, and shape words only where objects do not begin in each line. Writes only words that
-/// change.
+/// start bits, and the shape word of an object only if it is the last that begins in its line and
+/// none begins in the next line. Writes only words that change.
 pub fn mark_touched_lines<W: Words>(words: &mut W, layout: &Layout, block: u32)
     requires block { IsReadableBlock (state_over (W.words words.old) layout.now 0 0) block }
     requires apart { AreApart (state_over (W.words words.old) layout.now 0 0) block }
@@ -68,8 +68,8 @@ fn line_starts<W: Words>(words: &W, layout: &Layout, block: u32, line: u32) -> u
     requires line { line < BLOCK_LINES }
     ensures { AreStartsOf (state_over (W.words words.now) layout.now 0 0) block line result }
 {
-    let low = 16 * (line % 4);
-    words.get(layout.start_base() + 64 * block + line / 4) & run_mask(low, low + 15)
+    let low = LINE_WORDS * (line % 4);
+    words.get(layout.start_base() + 64 * block + line / 4) & run_mask(low, low + (LINE_WORDS - 1))
 }
 
 /// Whether an object begins in each of the four lines of a word of start bits, and in the line

@@ -501,6 +501,7 @@ impl PlainRow {
 
     /// What an object of `size` words at the start of the region leaves of the block: the rest of
     /// the region, or the next free cell. Then it reads start words from the region's end on.
+    #[inline(always)]
     fn rest_after(&self, block: u32, region: &Region, size: u32) -> Region
         requires fills { FillsHoles self.now.fill }
         requires extent { length self.now.row.words.items ≡ row_words self.now.row.layout.blocks }
