@@ -1,6 +1,6 @@
 -- What one more reply changes: the number of replies, and the entries that have them.
 use Rattle.std.proofs.Common.{◌≡◌, ◌≢◌, refl, sym, ◌∙◌, ap, subst, ℕ, zero, suc, ◌+◌, ◌<◌, ◌≤◌, inl, inr, arith, List, [], ◌∷◌, ◌++◌, length, map, take, get_or, append-nil, Some, None}
-use Rattle.std.specs.Prelude.{All, slice_get, sum_by, option_map, vec_capacity}
+use Rattle.std.specs.Prelude.{All, slice_get, sum_by, option_map}
 use Rattle.std.specs.List.{AllByRecursion}
 use Rattle.std.proofs.lemmas.Bool.{cases_eq, ne_eqb}
 use Rattle.std.proofs.lemmas.Option.{slice_get-map, slice_get_within, get_or_from_slice_get}
@@ -80,8 +80,8 @@ module _ (old new : List Progress) (k : ℕ) (reply : Reply) (at : RepliesAt old
           let trace : length at.after.trace ≡ length at.before.trace = ap length at.trace in
           let more : length at.after.replies.items ≡ length at.before.replies.items + 1 = count-more in
           let few : length at.before.trace ≤ 1000000 = was.few in
-          let room : length at.before.trace ≤ vec_capacity at.before.replies = was.room in
-          let same : vec_capacity at.after.replies ≡ vec_capacity at.before.replies = at.capacity in
+          let room : length at.before.trace ≤ at.before.replies.capacity = was.room in
+          let same : at.after.replies.capacity ≡ at.before.replies.capacity = at.capacity in
           record {
             valid = subst (All IsValid) (sym at.trace) was.valid;
             few = omega arith;

@@ -1,13 +1,13 @@
 -- One more reply to a mutator.
 use Rattle.std.proofs.Common.{◌≡◌, sym, subst, ℕ, ◌+◌, ◌-◌, ◌≤◌, arith, List, [], ◌∷◌, ◌++◌, length, length-set, get_or}
-use Rattle.std.specs.Prelude.{slice_set, vec_capacity}
+use Rattle.std.specs.Prelude.{slice_set}
 use Rattle.ideal_heap.specs.declared.reply.Reply.{Reply}
 use Rattle.plain_world.proofs.Elements.{set-here, set-other, read-some}
 use Rattle.mm_runtime.specs.declared.progress.Progress.{Progress}
 use Rattle.mm_runtime.specs.Stops.{RepliesAt}
 
 pub replies-here : (ps : List Progress) (k m : ℕ) (p after : Progress) (reply : Reply) → k + 1 ≡ m → m ≤ length ps → p ≡ get_or ps (m - 1) p → after.trace ≡ p.trace
-    → after.replies.items ≡ p.replies.items ++ reply ∷ [] → vec_capacity after.replies ≡ vec_capacity p.replies → RepliesAt ps (slice_set ps (m - 1) after) k reply
+    → after.replies.items ≡ p.replies.items ++ reply ∷ [] → after.replies.capacity ≡ p.replies.capacity → RepliesAt ps (slice_set ps (m - 1) after) k reply
 replies-here ps k m p after reply is most read trace replies capacity =
     let at : m - 1 ≡ k = omega arith in
     let here : p ≡ get_or ps k p = subst (λ (j : ℕ). p ≡ get_or ps j p) at read in

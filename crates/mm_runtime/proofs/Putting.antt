@@ -1,6 +1,6 @@
 -- An object of a need is put at a spot: the heap between, and the new heap.
 use Rattle.std.proofs.Common.{◌≡◌, ◌≢◌, sym, ◌∙◌, ap, subst, ℕ, ◌+◌, ◌-◌, ◌<◌, ◌≤◌, arith, Bool, true, false, nat_eq, List, length, map}
-use Rattle.std.specs.Prelude.{Some, MatchBool, slice_get, vec_capacity}
+use Rattle.std.specs.Prelude.{Some, MatchBool, slice_get}
 use Rattle.std.specs.List.{range_with_len}
 use Rattle.std.proofs.lemmas.Bool.{false_from_ne_true}
 use Rattle.std.proofs.lemmas.Option.{slice_get_within}
@@ -163,14 +163,14 @@ module _ {P : Type 0} (rules : Rules) (more : ℕ) (manager : Manager P) (m : �
       subst (λ (x : Mutator). x.births + 1 < 4294967296) (sym same)
       (next-name manager.mutators.items manager.progress.items (m - 1) m need.register need.refs need.nums the-need).fits
 
-  pub room-left : (k : ℕ) (p : Progress) → k + 1 ≡ m → slice_get manager.progress.items k ≡ Some p → length p.replies.items < vec_capacity p.replies
+  pub room-left : (k : ℕ) (p : Progress) → k + 1 ≡ m → slice_get manager.progress.items k ≡ Some p → length p.replies.items < p.replies.capacity
   room-left k p at there =
       let at' : (m - 1) + 1 ≡ m = the-need.at in
       let place : k ≡ m - 1 = omega arith in
       let same : p ≡ the-need.progress = one-element (slice_get manager.progress.items (m - 1)) p the-need.progress (ap (slice_get manager.progress.items) (sym place) ∙ there) the-need.there in
       let within : length the-need.progress.replies.items < length the-need.progress.trace = the-need.within in
-      let room : length the-need.progress.trace ≤ vec_capacity the-need.progress.replies = the-need.is.room in
-      subst (λ (x : Progress). length x.replies.items < vec_capacity x.replies) (sym same) (omega arith)
+      let room : length the-need.progress.trace ≤ the-need.progress.replies.capacity = the-need.is.room in
+      subst (λ (x : Progress). length x.replies.items < x.replies.capacity) (sym same) (omega arith)
 
   -- the name that its birth has
   pub birth-name : (new : List Mutator) (k d a : ℕ) (n : Name) → k + 1 ≡ m → BearsAt manager.mutators.items new k m d a n → n ≡ name m (the-need.user.births + 1)

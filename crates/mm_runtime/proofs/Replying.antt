@@ -1,7 +1,6 @@
 -- The replies of a part go to those of its trace.
 use Rattle.std.proofs.Common.{◌≡◌, refl, sym, ◌∙◌, ap, subst, ℕ, ◌+◌, ◌<◌, List, [], ◌∷◌, ◌++◌, map, take, length, length-append, append_assoc, append-nil, add-one, arith}
-use Rattle.std.specs.Prelude.{slice_get, Option, Some, None, All, MatchOption, Vec, vec_len, vec_capacity}
-use Rattle.std.specs.declared.alloc.Global.{Global}
+use Rattle.std.specs.Prelude.{slice_get, Option, Some, None, All, MatchOption}
 use Rattle.std.proofs.Math.Seq.{take-suc}
 use Rattle.std.proofs.lemmas.List.{map-append}
 use Rattle.std.proofs.lemmas.Option.{slice_get_within, get_or_from_slice_get}
@@ -11,6 +10,7 @@ use Rattle.ideal_heap.specs.Commands.{IsValid}
 use Rattle.mutator_calls.specs.Effects.{Answered}
 use Rattle.plain_world.specs.declared.plain_world.PlainWorld.{PlainWorld}
 use Rattle.plain_world.specs.Calls.{IsOpen, stop_word}
+use Rattle.stored_replies.specs.Replies.{Replies}
 use Rattle.mm_runtime.specs.declared.progress.Progress.{Progress}
 use Rattle.mm_runtime.specs.declared.progress.End.{End}
 use Rattle.mm_runtime.specs.Managers.{next_of, IsProgress}
@@ -24,11 +24,9 @@ take-more xs k x is =
     ∙ ap (λ y. take k xs ++ y ∷ []) (get_or_from_slice_get xs k x x is)
 
 -- the next command is read at the number of replies
-pub next-read : (p : Progress) (k : ℕ) (x : Option Command) → k ≡ vec_len p.replies → slice_get p.trace k ≡ x → next_of p ≡ x
+pub next-read : (p : Progress) (k : ℕ) (x : Option Command) → k ≡ length p.replies.items → slice_get p.trace k ≡ x → next_of p ≡ x
 next-read p k x count is =
-    let same = p.replies.ok.0 in
-    let at : length p.replies.items ≡ k = omega arith in
-    ap (slice_get p.trace) at ∙ is
+    ap (slice_get p.trace) (sym count) ∙ is
 
 -- the next command is one of the trace
 pub next-within : (p : Progress) (command : Command) → next_of p ≡ Some command → length p.replies.items < length p.trace
@@ -41,7 +39,7 @@ next-valid p command order is =
 
 -- one more reply is in order
 pub order-more : (old new : Progress) (command : Command) (reply : Reply) → IsProgress old → next_of old ≡ Some command → new.trace ≡ old.trace
-    → new.replies.items ≡ old.replies.items ++ reply ∷ [] → vec_capacity new.replies ≡ vec_capacity old.replies → IsProgress new
+    → new.replies.items ≡ old.replies.items ++ reply ∷ [] → new.replies.capacity ≡ old.replies.capacity → IsProgress new
 order-more old new command reply order is trace replies capacity =
     let more = next-within old command is in
     let count : length new.replies.items ≡ length old.replies.items + 1 = ap length replies ∙ length-append old.replies.items (reply ∷ []) in
@@ -98,7 +96,7 @@ pub runs-ended : {P : Type 0} (old mid new : PlainWorld P) (m : ℕ) (command : 
     → EndsPart mid m command between.replies new after.replies end → RunsTrace old m before new after
 runs-ended old mid new m command before between after end runs trace ends =
     let stopped = runs-stopped old mid new m before between runs ends.answers in
-    let same : after.replies.items ≡ between.replies.items = ap (λ (v : Vec Reply Global). v.items) ends.replies in record {
+    let same : after.replies.items ≡ between.replies.items = ap (λ (v : Replies). v.items) ends.replies in record {
       answered = stopped.answered;
       answers = stopped.answers;
       trace = trace ∙ stopped.trace;
@@ -107,7 +105,7 @@ runs-ended old mid new m command before between after end runs trace ends =
     }
 
 -- a step that a call without entries comes before
-module _ {P : Type 0} (old mid new : PlainWorld P) (m : ℕ) (command : Command) (before after : Vec Reply Global)
+module _ {P : Type 0} (old mid new : PlainWorld P) (m : ℕ) (command : Command) (before after : Replies)
     (first : Answers old m [] mid) (calm : stop_word mid ≡ stop_word old) where
   pub gets-after : GetsReply mid m command before new after → GetsReply old m command before new after
   gets-after gets = record {

@@ -1,6 +1,6 @@
 -- A need is served: at once, or after the collections that make room, or it is refused after them.
 use Rattle.std.proofs.Common.{◌≡◌, refl, sym, ◌∙◌, ap, subst, ℕ, ◌+◌, ◌<◌, ◌≤◌, inl, inr, length, Some, Vec}
-use Rattle.std.specs.Prelude.{slice_get, vec_capacity}
+use Rattle.std.specs.Prelude.{slice_get}
 use Rattle.std.specs.declared.alloc.Global.{Global}
 use Rattle.ideal_heap.specs.declared.reply.Reply.{Reply}
 use Rattle.ideal_heap.specs.declared.reply.Reply.TheVariants as r
@@ -143,7 +143,7 @@ module _ {P : Type 0} (rules : Rules) (old found : Manager P) (m : ℕ) (need : 
   pub most-settled : m ≤ length found.progress.items
   most-settled = putting.most-progress rules 2 found m need stop-settled next-settled
 
-  pub room-settled : (k : ℕ) (p : Progress) → k + 1 ≡ m → slice_get found.progress.items k ≡ Some p → length p.replies.items < vec_capacity p.replies
+  pub room-settled : (k : ℕ) (p : Progress) → k + 1 ≡ m → slice_get found.progress.items k ≡ Some p → length p.replies.items < p.replies.capacity
   room-settled = putting.room-left rules 2 found m need stop-settled next-settled
 
   -- it does not fit

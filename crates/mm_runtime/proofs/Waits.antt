@@ -1,5 +1,5 @@
 -- Mutators that wait at `meet`, or whose traces have ended.
-use Rattle.std.proofs.Common.{◌≡◌, ◌≢◌, refl, sym, ◌∙◌, ap, subst, ℕ, ◌+◌, ◌<◌, ◌≤◌, inl, inr, arith, true, false, List, length, get_or, vec_len}
+use Rattle.std.proofs.Common.{◌≡◌, ◌≢◌, refl, sym, ◌∙◌, ap, subst, ℕ, ◌+◌, ◌<◌, ◌≤◌, inl, inr, arith, true, false, List, length, get_or}
 use Rattle.std.specs.Prelude.{slice_get, Some, None, Option}
 use Rattle.std.proofs.lemmas.Option.{slice_get_past}
 use Rattle.ideal_heap.specs.declared.command.Command.{Command}
@@ -12,17 +12,15 @@ use Rattle.mm_runtime.specs.Managers.{next_of}
 use Rattle.mm_runtime.proofs.OkSteps.{at-most}
 
 -- a trace with a command left
-pub goes-on : (p : Progress) → vec_len p.replies < length p.trace → next_of p ≢ None
+pub goes-on : (p : Progress) → length p.replies.items < length p.trace → next_of p ≢ None
 goes-on p less none =
-    let replies : vec_len p.replies ≡ length p.replies.items = p.replies.ok.0 in
     let next = get-some p.trace (length p.replies.items) (omega arith) in
     let wrong : None ≡ Some next.0 = sym none ∙ next.1 in cc
 
 -- and with none left
-pub has-ended : (p : Progress) → length p.trace ≤ vec_len p.replies → next_of p ≡ None
+pub has-ended : (p : Progress) → length p.trace ≤ length p.replies.items → next_of p ≡ None
 has-ended p most =
-    let replies : vec_len p.replies ≡ length p.replies.items = p.replies.ok.0 in
-    slice_get_past p.trace (length p.replies.items) (omega arith)
+    slice_get_past p.trace (length p.replies.items) most
 
 -- the element that a loop reads
 pub item : {A : Type 0} (xs ys : List A) (i : ℕ) (x : A) → ys ≡ xs → i < length ys → x ≡ get_or ys i x → slice_get xs i ≡ Some x

@@ -1,5 +1,5 @@
 -- A manager and the session that it runs.
-use Rattle.std.specs.Prelude.{◌≡◌, ℕ, ◌+◌, ◌-◌, ◌*◌, ◌≤◌, vec_capacity, Option, Some, None, List, [], map, length, take, All, sum_by, slice_get}
+use Rattle.std.specs.Prelude.{◌≡◌, ℕ, ◌+◌, ◌-◌, ◌*◌, ◌≤◌, Option, Some, None, List, [], map, length, take, All, sum_by, slice_get}
 use Rattle.std.specs.List.{AllByRecursion, range_with_len}
 use Rattle.ideal_heap.specs.declared.command.Command.{Command}
 use Rattle.ideal_heap.specs.declared.command.TheConstants.{MAX_MUTATORS}
@@ -48,7 +48,7 @@ pub record IsProgress (p : Progress) : Type 0 where
   pub valid : All IsValid p.trace
   pub few : length p.trace ≤ MAX_COMMANDS
   pub within : length p.replies.items ≤ length p.trace
-  pub room : length p.trace ≤ vec_capacity p.replies
+  pub room : length p.trace ≤ p.replies.capacity
 
 -- a trace that can be run
 pub record IsRunnable (trace : List Command) : Type 0 where
@@ -59,7 +59,7 @@ pub record IsRunnable (trace : List Command) : Type 0 where
 pub record IsFresh (trace : List Command) (p : Progress) : Type 0 where
   pub trace_is : p.trace ≡ trace
   pub replies : p.replies.items ≡ []
-  pub room : length trace ≤ vec_capacity p.replies
+  pub room : length trace ≤ p.replies.capacity
 
 -- there is a mutator with this number
 pub record HasMutator {P : Type 0} (manager : Manager P) (m : ℕ) : Type 0 where

@@ -1,7 +1,6 @@
 -- A mutator's part of an epoch, on the world that it runs in.
 use Rattle.std.specs.List.{AllByRecursion}
-use Rattle.std.specs.Prelude.{◌≡◌, ◌≢◌, ℕ, zero, suc, ◌+◌, ◌<◌, ◌≤◌, ◌⊎◌, Bool, true, false, ◌||◌, not, Option, Some, None, List, [], ◌∷◌, ◌++◌, map, length, take, slice_get, Vec, vec_capacity}
-use Rattle.std.specs.declared.alloc.Global.{Global}
+use Rattle.std.specs.Prelude.{◌≡◌, ◌≢◌, ℕ, zero, suc, ◌+◌, ◌<◌, ◌≤◌, ◌⊎◌, Bool, true, false, ◌||◌, not, Option, Some, None, List, [], ◌∷◌, ◌++◌, map, length, take, slice_get}
 use Rattle.heap_layout.specs.declared.block.Kind.TheVariants as kinds
 use Rattle.ideal_heap.specs.declared.command.Command.{Command}
 use Rattle.ideal_heap.specs.declared.command.Command.TheVariants as c
@@ -16,6 +15,7 @@ use Rattle.mutator_calls.specs.Effects.{Answered}
 use Rattle.plain_world.specs.declared.plain_world.PlainWorld.{PlainWorld}
 use Rattle.plain_world.specs.Worlds.{births_in}
 use Rattle.plain_world.specs.Calls.{heap_of, number_at, births_at, ticket_at, stop_word, allowance_of, IsOpen, SamePlaces, AddsEntries, IsNotFree}
+use Rattle.stored_replies.specs.Replies.{Replies}
 use Rattle.mm_runtime.specs.declared.progress.Progress.{Progress}
 use Rattle.mm_runtime.specs.declared.progress.End.{End}
 use Rattle.mm_runtime.specs.declared.progress.End.TheVariants as end
@@ -53,17 +53,17 @@ EndsFor before w m next (end.Need need) = (next ≡ Some (c.New need.register ne
 EndsFor before w m next (end.Raised by) = (next ≢ None) × (0 < by) × (before ≡ by) × (stop_word w ≡ by)
 
 -- the mutator at place m got one reply to this command, which goes to the end of its replies
-pub record GetsReply {P : Type 0} (old : PlainWorld P) (m : ℕ) (command : Command) (before : Vec Reply Global)
-    (new : PlainWorld P) (after : Vec Reply Global) : Type 0 where
+pub record GetsReply {P : Type 0} (old : PlainWorld P) (m : ℕ) (command : Command) (before : Replies)
+    (new : PlainWorld P) (after : Replies) : Type 0 where
   pub reply : Reply
   pub answers : Answers old m (record { command = command; reply = reply } ∷ []) new
   pub items : after.items ≡ before.items ++ reply ∷ []
-  pub capacity : vec_capacity after ≡ vec_capacity before
+  pub capacity : after.capacity ≡ before.capacity
   pub stop : stop_word new ≡ stop_word old
 
 -- the part of the mutator at place m ends at this command, and it gets no reply
-pub record EndsPart {P : Type 0} (old : PlainWorld P) (m : ℕ) (command : Command) (before : Vec Reply Global)
-    (new : PlainWorld P) (after : Vec Reply Global) (end : End) : Type 0 where
+pub record EndsPart {P : Type 0} (old : PlainWorld P) (m : ℕ) (command : Command) (before : Replies)
+    (new : PlainWorld P) (after : Replies) (end : End) : Type 0 where
   pub answers : Answers old m [] new
   pub replies : after ≡ before
   pub cause : EndsFor (stop_word old) new m (Some command) end

@@ -1,5 +1,5 @@
 -- What the steps of a stop do to a manager.
-use Rattle.std.specs.Prelude.{◌≡◌, ◌≢◌, ℕ, ◌+◌, ◌<◌, ◌≤◌, ◌⊎◌, MatchBool, nat_eq, Some, List, [], ◌∷◌, ◌++◌, map, length, slice_get, slice_set, vec_capacity}
+use Rattle.std.specs.Prelude.{◌≡◌, ◌≢◌, ℕ, ◌+◌, ◌<◌, ◌≤◌, ◌⊎◌, MatchBool, nat_eq, Some, List, [], ◌∷◌, ◌++◌, map, length, slice_get, slice_set}
 use Rattle.std.specs.List.{AllByRecursion}
 use Rattle.heap_layout.specs.declared.block.Kind.{Kind}
 use Rattle.heap_layout.specs.declared.block.Kind.TheVariants as kinds
@@ -78,7 +78,7 @@ pub record RepliesAt (old new : List Progress) (k : ℕ) (reply : Reply) : Type 
   pub is : slice_get new k ≡ Some after
   pub trace : after.trace ≡ before.trace
   pub replies : after.replies.items ≡ with_reply before reply
-  pub capacity : vec_capacity after.replies ≡ vec_capacity before.replies
+  pub capacity : after.replies.capacity ≡ before.replies.capacity
   pub others : (j : ℕ) → j ≢ k → slice_get new j ≡ slice_get old j
 
 -- mutator m, counted from 1, has this `new` next

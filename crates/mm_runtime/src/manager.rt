@@ -19,6 +19,7 @@ use std::alloc::{AllocError, Global};
 use std::marker::PhantomData;
 use std::thread::Threads;
 use stored_commands::{StoredTrace, stored_traces};
+use stored_replies::StoredReplies;
 use work_packets::Gate;
 
 /// Whether a command is left without a reply.
@@ -49,7 +50,7 @@ pub struct Manager<P> {
 fn new_progress(alloc: Global, trace: StoredTrace) -> Result<Progress, AllocError>
     ensures { IfOk result (λ p. IsFresh trace p) }
 {
-    let replies = Vec::with_capacity(alloc, trace.len())?;
+    let replies = StoredReplies::with_capacity(alloc, trace.len())?;
     Ok(Progress { trace, replies })
 }
 

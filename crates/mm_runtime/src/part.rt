@@ -1,6 +1,6 @@
 //! A mutator's part of an epoch.
 
-ghost use Rattle.std.specs.Prelude.{◌≡◌, ◌+◌, ◌<◌, ◌≤◌, ◌^◌, length, vec_capacity, MatchOption};
+ghost use Rattle.std.specs.Prelude.{◌≡◌, ◌+◌, ◌<◌, ◌≤◌, ◌^◌, length, MatchOption};
 ghost use Rattle.ideal_heap.specs.Commands.{IsValid};
 ghost use Rattle.ideal_heap.specs.declared.command.Command.TheVariants as command_is;
 ghost use Rattle.plain_world.specs.Calls.{HasPlace, IsOpen, births_at, places_of, stop_word};
@@ -13,6 +13,7 @@ use ideal_heap::{Command, MAX_MUTATORS, MAX_NUMS, MAX_REFS, REGISTERS, Reply};
 use mutator_calls::{Allocated, Polled};
 use plain_world::PlainWorld;
 use stored_commands::StoredCommand;
+use stored_replies::StoredReplies;
 use work_packets::{Gate, Point};
 
 /// Allocates the object of a `new`: the reply goes to the replies, or the part ends if the stop is
@@ -23,7 +24,7 @@ fn allocate<P, G: Gate>(
     d: u32,
     refs: u32,
     nums: u32,
-    replies: &mut Vec<Reply>,
+    replies: &mut StoredReplies,
     gate: &G,
 ) -> Option<End>
     requires open { IsOpen world.old }
@@ -34,7 +35,7 @@ fn allocate<P, G: Gate>(
     requires nums { nums ≤ MAX_NUMS }
     requires births { births_at world.old m + 1 < 2 ^ 32 }
     requires calm { stop_word world.old ≡ 0 }
-    requires room { length replies.old.items < vec_capacity replies.old }
+    requires room { length replies.old.items < replies.old.capacity }
     ensures { MatchOption result
         (GetsReply world.old m (command_is.New d refs nums) replies.old world.new replies.new)
         (EndsPart world.old m (command_is.New d refs nums) replies.old world.new replies.new) }
@@ -58,7 +59,7 @@ fn step<P, G: Gate>(
     world: &mut PlainWorld<P>,
     m: u32,
     stored: StoredCommand<'_>,
-    replies: &mut Vec<Reply>,
+    replies: &mut StoredReplies,
     gate: &G,
 ) -> Option<End>
     requires open { IsOpen world.old }
@@ -66,7 +67,7 @@ fn step<P, G: Gate>(
     requires few { places_of world.old ≤ MAX_MUTATORS }
     requires valid { IsValid stored }
     requires births { births_at world.old m + 1 < 2 ^ 32 }
-    requires room { length replies.old.items < vec_capacity replies.old }
+    requires room { length replies.old.items < replies.old.capacity }
     ensures { MatchOption result
         (GetsReply world.old m stored.entry replies.old world.new replies.new)
         (EndsPart world.old m stored.entry replies.old world.new replies.new) }

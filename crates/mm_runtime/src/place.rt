@@ -1,6 +1,6 @@
 //! The second step of a stop: objects that no mutator could allocate.
 
-ghost use Rattle.std.specs.Prelude.{◌≡◌, ◌≢◌, ◌+◌, ◌≤◌, ◌<◌, ◌^◌, ℕ, length, slice_get, vec_capacity, IfSome, IfNone, IfOk};
+ghost use Rattle.std.specs.Prelude.{◌≡◌, ◌≢◌, ◌+◌, ◌≤◌, ◌<◌, ◌^◌, ℕ, length, slice_get, IfSome, IfNone, IfOk};
 ghost use Rattle.heap_layout.specs.Zones.{row_words};
 ghost use Rattle.heap_layout.specs.declared.block.Kind.{Kind};
 ghost use Rattle.ideal_heap.specs.declared.reply.Reply.TheVariants as reply_is;
@@ -170,7 +170,7 @@ fn reply_to(progress: &mut Vec<Progress>, m: u32, reply: Reply)
     requires most { m ≤ length progress.old.items }
     requires room { (k : ℕ) (p : Progress) → k + 1 ≡ m
         → slice_get progress.old.items k ≡ Some p
-        → length p.replies.items < vec_capacity p.replies }
+        → length p.replies.items < p.replies.capacity }
     ensures { (k : ℕ) → k + 1 ≡ m
         → RepliesAt progress.old.items progress.new.items k reply }
 {
@@ -303,7 +303,7 @@ impl<P: Plan> Manager<P> {
         requires most { m ≤ length self.progress.items }
         requires room { (k : ℕ) (p : Progress) → k + 1 ≡ m
             → slice_get self.progress.items k ≡ Some p
-            → length p.replies.items < vec_capacity p.replies }
+            → length p.replies.items < p.replies.capacity }
         ensures { Refuses self m result }
     {
         let mut manager = self;

@@ -8,6 +8,7 @@ ghost use Rattle.mm_runtime.specs.Replying.{GetsOk};
 use ideal_heap::{Command, Reply};
 use mutator_calls::Need;
 use stored_commands::{StoredCommand, StoredTrace};
+use stored_replies::StoredReplies;
 
 /// The greatest number of commands of a trace.
 pub const MAX_COMMANDS: usize = 1_000_000;
@@ -17,7 +18,7 @@ pub const MAX_COMMANDS: usize = 1_000_000;
 pub(crate) struct Progress {
     pub(crate) trace: StoredTrace,
     // There is room for the reply to each command.
-    pub(crate) replies: Vec<Reply>,
+    pub(crate) replies: StoredReplies,
 }
 
 /// Why a mutator's part of an epoch ended.

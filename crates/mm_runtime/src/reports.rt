@@ -12,11 +12,11 @@ ghost use Rattle.mm_runtime.specs.Managers.{globals_of, Closes, HasMutator, IsIn
 use crate::manager::Manager;
 use crate::progress::MAX_COMMANDS;
 use heap_layout::GLOBALS;
-use ideal_heap::Reply;
 use mutator_calls::Mutator;
 use object_model::Heap;
 use plan_api::Plan;
 use std::alloc::{AllocError, Global};
+use stored_replies::StoredReplies;
 
 /// The registers of some mutators, one mutator after another.
 pub(crate) fn all_registers(alloc: Global, mutators: &[Mutator]) -> Result<Vec<u32>, AllocError>
@@ -60,12 +60,12 @@ impl<P: Plan> Manager<P> {
     }
 
     /// The replies of mutator `m`, from 1 on, in the order of its trace.
-    pub fn replies(&self, m: u32) -> &[Reply]
+    pub fn replies(&self, m: u32) -> &StoredReplies
         requires order { IsInOrder P.rules 0 self.now }
         requires mutator { HasMutator self.now m }
-        ensures few { length result.now ≤ MAX_COMMANDS }
+        ensures few { length result.now.items ≤ MAX_COMMANDS }
         ensures session { (t : Setting) (now : Moment) → Closes P.rules self.now t now
-            → result.now ≡ replies_of m now.done }
+            → result.now.items ≡ replies_of m now.done }
     {
         &self.progress[m as usize - 1].replies
     }

@@ -188,8 +188,9 @@ fn full_heap(rt: HostRuntime) -> Result<(), Fail> {
     }))?;
     wanted.push(Reply::Done)?;
     wanted.push(Reply::Num(0))?;
-    assert_eq!(rt; manager.replies(1), wanted.as_slice());
-    assert_eq!(rt; manager.replies(2), [Reply::Full, Reply::Full].as_slice());
+    assert_eq!(rt; manager.replies(1).to_vec(alloc)?, wanted);
+    let refused = manager.replies(2).to_vec(alloc)?;
+    assert_eq!(rt; refused.as_slice(), [Reply::Full, Reply::Full].as_slice());
     assert_eq!(rt; manager.collections(), (0, 4));
     Ok(())
 }

@@ -9,6 +9,7 @@ use crate::limits::MAX_COMMANDS;
 use ideal_heap::{Name, Reply};
 use std::alloc::AllocError;
 use std::mem;
+use stored_replies::StoredReplies;
 
 /// No reply's line has more bytes, with its newline.
 pub const REPLY_BYTES: usize = 46;
@@ -91,17 +92,22 @@ pub fn print_mutator(mutator: u32, to: &mut Vec<u8>) -> Result<(), AllocError>
 /// Appends the line of a mutator, and those of its replies.
 ///
 /// Errors: out of memory.
-pub fn print_replies(mutator: u32, replies: &[Reply], to: &mut Vec<u8>) -> Result<(), AllocError>
-    requires { length replies.now ≤ MAX_COMMANDS }
-    ensures { OnOk result (to.new.items ≡ to.old.items ++ mutator_text mutator replies.now) }
+pub fn print_replies(
+    mutator: u32,
+    replies: &StoredReplies,
+    to: &mut Vec<u8>,
+) -> Result<(), AllocError>
+    requires { length replies.now.items ≤ MAX_COMMANDS }
+    ensures { OnOk result (to.new.items ≡ to.old.items
+        ++ mutator_text mutator replies.now.items) }
 {
     print_mutator(mutator, to)?;
     to.reserve(REPLY_BYTES * replies.len())?;
     // In a local, which the loop keeps in registers.
     let alloc = *to.allocator();
     let mut text = mem::replace(to, Vec::new(alloc));
-    for reply in replies {
-        put_reply(reply, &mut text);
+    for reply in replies.iter() {
+        put_reply(&reply, &mut text);
     }
     *to = text;
     Ok(())

@@ -1,9 +1,11 @@
 -- Each step gives one reply, or ends the part.
-use Rattle.std.proofs.Common.{◌≡◌, refl, sym, ◌∙◌, subst, ℕ, ◌+◌, ◌<◌, ◌≤◌, length, Some, arith, ap, length-append, ◌∷◌, []}
-use Rattle.plain_world.specs.Calls.{births_at}
+use Rattle.std.proofs.Common.{◌≡◌, refl, sym, ◌∙◌, subst, ℕ, ◌+◌, ◌<◌, ◌≤◌, length, Option, Some, arith, ap, length-append, ◌∷◌, []}
+use Rattle.plain_world.specs.Calls.{births_at, stop_word}
+use Rattle.ideal_heap.specs.declared.command.Command.{Command}
 use Rattle.ideal_heap.specs.declared.command.TheConstants.{MAX_MUTATORS}
 use Rattle.mm_runtime.specs.declared.progress.Progress.{Progress}
 use Rattle.mm_runtime.specs.Managers.{next_of}
+use Rattle.mm_runtime.specs.Parts.{EndsFor}
 use Rattle.mm_runtime.proofs.Composing.{births-most}
 use Rattle.mm_runtime.proofs.Replying as replying
 use Rattle.mm_runtime.proofs.part.run_part.Goals as goal
@@ -66,3 +68,13 @@ pub returns-in-Some-step-clause-runs : goal.returns-in-Some-step-clause-runs
 returns-in-Some-step-clause-runs g c =
     replying.runs-ended c.args.world.now c.loop-stored.world c.step.new.world c.args.m c.in-Some.stored c.args.progress.now c.loop-stored.progress
     (record { trace = c.loop-stored.progress.trace; replies = c.step.new.replies }) c.in-Some-step.end c.loop-stored.invariant.runs refl c.in-Some-step.ensures
+
+pub returns-in-Some-step-clause-end : goal.returns-in-Some-step-clause-end
+returns-in-Some-step-clause-end g c =
+    let old : Progress = c.loop-stored.progress in
+    let ended = c.in-Some-step.ensures in
+    let is : next_of old ≡ Some c.in-Some.stored = replying.next-read old c.len.result _ c.len.ensures c.in-Some.ensures in
+    let next : next_of (record { trace = old.trace; replies = c.step.new.replies }) ≡ Some c.in-Some.stored =
+    ap (λ r. next_of (record { trace = old.trace; replies = r })) ended.replies ∙ is in
+    subst (λ (x : Option Command). EndsFor (stop_word c.args.world.now) c.step.new.world c.args.m x c.in-Some-step.end) (sym next)
+    (subst (λ (n : ℕ). EndsFor n c.step.new.world c.args.m (Some c.in-Some.stored) c.in-Some-step.end) c.loop-stored.invariant.stop ended.cause)

@@ -10,12 +10,12 @@ returns-clause-few g c =
     let p = c.requires.order.each (c.args.m - 1) c.index.result.now (item _ _ (c.args.m - 1) c.index.result.now refl (omega arith) c.index.ensures) in
     let within = p.within in
     let few = p.few in
-    rw c.deref.ensures.value (omega (arith, within, few))
+    omega (arith, within, few)
 
 pub returns-clause-session : goal.returns-clause-session
 returns-clause-session g c t now closes =
     let least : 1 ≤ c.args.m = c.requires.mutator.least in
     let most : c.args.m ≤ length c.args.self.now.progress.items = c.requires.mutator.most in
     let same : (c.args.m - 1) + 1 ≡ c.args.m = omega arith in
-    c.deref.ensures.value ∙ sym (closes.stands.replies.replies (c.args.m - 1) c.index.result.now (item _ _ (c.args.m - 1) c.index.result.now refl (omega arith) c.index.ensures))
+    sym (closes.stands.replies.replies (c.args.m - 1) c.index.result.now (item _ _ (c.args.m - 1) c.index.result.now refl (omega arith) c.index.ensures))
     ∙ ap (λ n. replies_of n now.done) same

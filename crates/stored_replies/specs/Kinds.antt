@@ -1,0 +1,55 @@
+-- Replies as their kinds, with the names and the numbers beside.
+use Rattle.std.specs.Prelude.{◌≡◌, ℕ, List, [], ◌∷◌, drop, get_or, length, sum_by}
+use Rattle.ideal_heap.specs.Names.{name}
+use Rattle.ideal_heap.specs.declared.name.Name.{Name}
+use Rattle.ideal_heap.specs.declared.reply.Reply.{Reply}
+use Rattle.ideal_heap.specs.declared.reply.Reply.TheVariants as r
+use Rattle.stored_replies.specs.declared.reply_kind.ReplyKind.{ReplyKind}
+use Rattle.stored_replies.specs.declared.reply_kind.ReplyKind.TheVariants as k
+
+abbrev pub kind_of : Reply → ReplyKind
+kind_of (r.New n) = k.New
+kind_of r.Full = k.Full
+kind_of (r.Ref n) = k.Ref
+kind_of r.Nil = k.Nil
+kind_of (r.Num x) = k.Num
+kind_of r.Done = k.Done
+kind_of r.Yes = k.Yes
+kind_of r.No = k.No
+kind_of r.Null = k.Null
+kind_of r.Range = k.Range
+
+-- the reply of a kind, with the first of these names or numbers if it has one
+abbrev pub first_reply : ReplyKind → List Name → List ℕ → Reply
+first_reply k.New names numbers = r.New (get_or names 0 (name 0 0))
+first_reply k.Full names numbers = r.Full
+first_reply k.Ref names numbers = r.Ref (get_or names 0 (name 0 0))
+first_reply k.Nil names numbers = r.Nil
+first_reply k.Num names numbers = r.Num (get_or numbers 0 0)
+first_reply k.Done names numbers = r.Done
+first_reply k.Yes names numbers = r.Yes
+first_reply k.No names numbers = r.No
+first_reply k.Null names numbers = r.Null
+first_reply k.Range names numbers = r.Range
+
+-- how many names a reply of a kind has
+abbrev pub names_in : ReplyKind → ℕ
+names_in k.New = 1
+names_in k.Ref = 1
+names_in _ = 0
+
+-- how many numbers
+abbrev pub numbers_in : ReplyKind → ℕ
+numbers_in k.Num = 1
+numbers_in _ = 0
+
+-- the replies of some kinds, with these names and numbers in turn
+abbrev pub unpacked : List ReplyKind → List Name → List ℕ → List Reply
+unpacked [] names numbers = []
+unpacked (kind ∷ kinds) names numbers = first_reply kind names numbers
+    ∷ unpacked kinds (drop (names_in kind) names) (drop (numbers_in kind) numbers)
+
+-- the names and numbers are as many as replies of these kinds have
+pub record HasParts (kinds : List ReplyKind) (names : List Name) (numbers : List ℕ) : Type 0 where
+  pub name_count : sum_by names_in kinds ≡ length names
+  pub number_count : sum_by numbers_in kinds ≡ length numbers

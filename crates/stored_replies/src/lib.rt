@@ -1,0 +1,12 @@
+//! Replies as they are kept: a byte for each, and 8 more for a name or a number, where a `Reply`
+//! takes 16.
+#![tactic(auto)]
+
+mod iter;
+mod reply_kind;
+mod stored_replies;
+#[cfg(test)]
+mod tests;
+
+pub use iter::Iter;
+pub use stored_replies::StoredReplies;

@@ -1,0 +1,97 @@
+//! The type of replies that are kept.
+
+ghost use Rattle.std.specs.Prelude.{◌≡◌, ◌++◌, ◌∷◌, ◌<◌, [], length, IfOk};
+
+use crate::iter::Iter;
+use crate::reply_kind::ReplyKind;
+use ideal_heap::{Name, Reply};
+use std::alloc::{AllocError, Global};
+use std::marker::Model;
+
+/// A list of replies with a capacity. A reply takes a byte, and 8 more if it has a name or a number.
+/// Clauses see the list, as `items`, and the capacity, in replies.
+#[derive(Debug, Drop)]
+pub struct StoredReplies {
+    kinds: Vec<ReplyKind>,
+    // The names in the replies, and the numbers, each in the order of the replies.
+    names: Vec<Name>,
+    numbers: Vec<u64>,
+}
+
+impl Model for StoredReplies {
+    ghost use Rattle.std.specs.Prelude.{◌≡◌, vec_capacity};
+    ghost use Rattle.stored_replies.specs.Kinds.{unpacked, HasParts};
+    ghost use Rattle.stored_replies.specs.Replies.{Replies};
+
+    ghost Value = { Replies };
+
+    ghost view = { λ s. record {
+      items = unpacked s.kinds.items s.names.items s.numbers.items;
+      capacity = vec_capacity s.kinds;
+    } };
+
+    ghost invariant = { λ s. HasParts s.kinds.items s.names.items s.numbers.items
+        × (vec_capacity s.names ≡ vec_capacity s.kinds)
+        × (vec_capacity s.numbers ≡ vec_capacity s.kinds) };
+}
+
+impl StoredReplies {
+    /// No reply, with room for so many. Memory is taken for as many names and numbers too, since any
+    /// reply may have one. It is written only as they come.
+    ///
+    /// Fails if memory runs out.
+    pub fn with_capacity(alloc: Global, capacity: usize) -> Result<StoredReplies, AllocError>
+        ensures items { IfOk result (λ r. r.items ≡ []) }
+        ensures capacity { IfOk result (λ r. r.capacity ≡ capacity) }
+    {
+        Ok(StoredReplies {
+            kinds: Vec::with_capacity(alloc, capacity)?,
+            names: Vec::with_capacity(alloc, capacity)?,
+            numbers: Vec::with_capacity(alloc, capacity)?,
+        })
+    }
+
+    /// The number of replies.
+    #[inline(always)]
+    pub fn len(&self) -> usize
+        ensures { result ≡ length self.now.items }
+    {
+        self.kinds.len()
+    }
+
+    /// Adds a reply, for which there is room.
+    #[inline(always)]
+    pub fn push_reserved(&mut self, reply: Reply)
+        requires { length self.old.items < self.old.capacity }
+        ensures items { self.new.items ≡ self.old.items ++ reply ∷ [] }
+        ensures capacity { self.new.capacity ≡ self.old.capacity }
+    {
+        self.kinds.push_reserved(ReplyKind::of(&reply));
+        match reply {
+            Reply::New(name) | Reply::Ref(name) => self.names.push_reserved(name),
+            Reply::Num(number) => self.numbers.push_reserved(number),
+            _ => {}
+        }
+    }
+
+    /// The replies in order.
+    #[inline(always)]
+    pub fn iter(&self) -> Iter<'_>
+        ensures { result ≡ self.now.items }
+    {
+        Iter::new(&self.kinds, &self.names, &self.numbers)
+    }
+
+    /// The replies, each in full.
+    ///
+    /// Fails if memory runs out.
+    pub fn to_vec(&self, alloc: Global) -> Result<Vec<Reply>, AllocError>
+        ensures { IfOk result (λ v. v.items ≡ self.now.items) }
+    {
+        let mut replies = Vec::with_capacity(alloc, self.len())?;
+        for reply in self.iter() {
+            replies.push(reply)?;
+        }
+        Ok(replies)
+    }
+}
