@@ -1,5 +1,5 @@
 -- The objects that begin in a line, and the lines that they touch.
-use Rattle.std.proofs.Common.{◌≡◌, ℕ, suc, ◌+◌, ◌*◌, ◌-◌, ◌/◌, ◌%◌, ◌^◌, ◌<◌, ◌≤◌, ◌⊎◌, inl, inr, refl, sym, ap, ◌∙◌, subst, arith, w64, IsTrue, bit_and, min, List}
+use Rattle.std.proofs.Common.{◌≡◌, ℕ, suc, ◌+◌, ◌*◌, ◌-◌, ◌/◌, ◌^◌, ◌<◌, ◌≤◌, ◌⊎◌, inl, inr, refl, sym, ap, ◌∙◌, subst, arith, w64, IsTrue, bit_and, min, List}
 use Rattle.std.specs.Int.{bit_at, trailing_zeros, leading_zeros}
 use Rattle.std.proofs.lemmas.Bool.{cases_eq, cases_lt}
 use Rattle.std.proofs.lemmas.Nat.{leading_top}
@@ -7,23 +7,22 @@ use Rattle.std.proofs.lemmas.Nat.Bits.{bit_at-trailing_zeros, bit_at_and, bit_at
 use Rattle.heap_layout.specs.Zones.{heap_of, block_start}
 use Rattle.object_model.specs.Objects.{HeapState, is_start, size_at, IsHeld}
 use Rattle.block_sweeps.specs.Sweeping.{AreApart}
-use Rattle.block_sweeps.specs.Touches.{AddsLines, AreStartsOf, BeginsIn, IsFromTo, MarksFrom, TouchesAt, IsTouchedFrom, has_line}
+use Rattle.block_sweeps.specs.Touches.{AddsLines, AreBitsOf, AreStarts, BeginsIn, IsFromTo, MarksFrom, TouchesAt, IsTouchedFrom, has_line}
 use Rattle.block_sweeps.proofs.TouchedWords.{start_word, start-set, start-bit}
 
--- the bits of a line in its word
-pub starts-of : (s : HeapState) (k line mask : ℕ) → k < s.blocks → line < 256
-    → ((i : ℕ) → IsFromTo (16 * (line % 4)) (16 * (line % 4) + 15) i → bit_at mask i ≡ 1) → ((i : ℕ) → bit_at mask i ≡ 1 → IsFromTo (16 * (line % 4)) (16 * (line % 4) + 15) i)
-    → AreStartsOf s k line (bit_and (start_word s k (line / 4)) mask)
-starts-of s k line mask there few inside only = record {
+-- a word of start bits
+pub starts-are : (s : HeapState) (k index : ℕ) → k < s.blocks → index < 64 → AreStarts s k index (start_word s k index)
+starts-are s k index there few = record { set = start-set s k index there few; all = start-bit s k index there few }
+
+-- the bits of a line in a word
+pub bits-of : (line word mask : ℕ) → ((i : ℕ) → IsFromTo (16 * line) (16 * line + 15) i → bit_at mask i ≡ 1)
+    → ((i : ℕ) → bit_at mask i ≡ 1 → IsFromTo (16 * line) (16 * line + 15) i) → AreBitsOf line word (bit_and word mask)
+bits-of line word mask inside only = record {
   set = λ i is.
-      let word : ℕ = start_word s k (line / 4) in
       let both : min (bit_at word i) (bit_at mask i) ≡ 1 = sym (bit_at_and word mask i) ∙ is in
       let masked : bit_at mask i ≡ 1 = omega (arith, both, bit_at-lt word i, bit_at-lt mask i) in
-      let among = only i masked in
-      (among, start-set s k (line / 4) there (omega arith) i (omega (arith, among.most)) (omega (arith, both, bit_at-lt word i, bit_at-lt mask i)));
-  all = λ i among start.
-      let word : ℕ = start_word s k (line / 4) in
-      let one : bit_at word i ≡ 1 = start-bit s k (line / 4) there (omega arith) i (omega (arith, among.most)) start in
+      (only i masked, omega (arith, both, bit_at-lt word i, bit_at-lt mask i));
+  all = λ i among one.
       bit_at_and word mask i ∙ (let both : min (bit_at word i) (bit_at mask i) ≡ 1 = omega (arith, one, inside i among) in both);
 }
 
@@ -46,22 +45,42 @@ highest n some small =
 
 module _ (s : HeapState) (k : ℕ) where
   -- the bits of a line in which an object begins are not 0, and no other ones
-  pub begins : (line bits : ℕ) → bits < 2 ^ 64 → (bits ≡ 0 → ⊥) → AreStartsOf s k line bits → BeginsIn s k line
-  begins line bits small some are =
+  pub begins : (index line word bits : ℕ) → line < 4 → bits < 2 ^ 64 → (bits ≡ 0 → ⊥) → AreStarts s k index word → AreBitsOf line word bits
+      → BeginsIn s k (4 * index + line)
+  begins index line word bits few small some starts are =
       let lowest = bit_at-trailing_zeros w64 bits (omega (arith, some)) small in
       let i : ℕ = trailing_zeros w64 bits in
       let is = are.set i lowest.1 in
-      record { offset = 64 * (line / 4) + i; from = omega (arith, is.0.after); below = omega (arith, is.0.most); start = is.1 }
+      let after : 16 * line ≤ i = is.0.after in
+      let most : i ≤ 16 * line + 15 = is.0.most in
+      record { offset = 64 * index + i; from = omega arith; below = omega arith; start = starts.set i (omega arith) is.1 }
 
-  pub begins-none : (line bits : ℕ) → bits ≡ 0 → AreStartsOf s k line bits → BeginsIn s k line → ⊥
-  begins-none line bits none are is =
-      let from : 16 * line ≤ is.offset = is.from in
-      let below : is.offset < 16 * (line + 1) = is.below in
-      let i : ℕ = is.offset - 64 * (line / 4) in
-      let at : is.offset ≡ 64 * (line / 4) + i = omega arith in
-      let one : bit_at bits i ≡ 1 = are.all i (record { after = omega arith; most = omega arith }) (subst (λ o. IsTrue (is_start s (block_start s.blocks k + o))) at is.start) in
+  pub begins-none : (index line word bits : ℕ) → line < 4 → bits ≡ 0 → AreStarts s k index word → AreBitsOf line word bits → BeginsIn s k (4 * index + line) → ⊥
+  begins-none index line word bits few none starts are is =
+      let from : 16 * (4 * index + line) ≤ is.offset = is.from in
+      let below : is.offset < 16 * (4 * index + line + 1) = is.below in
+      let i : ℕ = is.offset - 64 * index in
+      let at : is.offset ≡ 64 * index + i = omega arith in
+      let set : bit_at word i ≡ 1 = starts.all i (omega arith) (subst (λ o. IsTrue (is_start s (block_start s.blocks k + o))) at is.start) in
+      let one : bit_at bits i ≡ 1 = are.all i (record { after = omega arith; most = omega arith }) set in
       let zero : bit_at bits i ≡ 0 = ap (λ v. bit_at v i) none ∙ bit_at-zero i in
       omega (arith, one, zero)
+
+  -- no object begins at the addresses of a word without bits
+  pub marks-empty : (index word : ℕ) (lines : List ℕ) → word ≡ 0 → AreStarts s k index word → MarksFrom s k (64 * index) (64 * index + 64) lines lines
+  marks-empty index word lines none starts = record {
+    extent = refl;
+    kept = λ n is. is;
+    added = λ n is.
+        let after : 64 * index ≤ is.offset = is.after in
+        let below : is.offset < 64 * index + 64 = is.below in
+        let i : ℕ = is.offset - 64 * index in
+        let at : is.offset ≡ 64 * index + i = omega arith in
+        let one : bit_at word i ≡ 1 = starts.all i (omega arith) (subst (λ o. IsTrue (is_start s (block_start s.blocks k + o))) at is.start) in
+        let zero : bit_at word i ≡ 0 = ap (λ v. bit_at v i) none ∙ bit_at-zero i in
+        absurd (omega (arith, one, zero));
+    only = λ n is. inl is;
+  }
 
   -- a line is touched by what begins in it
   own-line : (line : ℕ) → line < 256 → BeginsIn s k line → IsTouchedFrom s k 0 4096 line
@@ -149,21 +168,25 @@ module _ (s : HeapState) (k : ℕ) where
     }
 
     -- something begins in each line of a word, and in the line after it
-    pub marks-word : (index : ℕ) (old new : List ℕ) → index < 63 → ((line : ℕ) → 4 * index ≤ line → line < 4 * index + 5 → BeginsIn s k line)
+    pub marks-word : (index : ℕ) (old new : List ℕ) → index < 63 → ((line : ℕ) → line < 4 → BeginsIn s k (4 * index + line)) → BeginsIn s k (4 * index + 3 + 1)
         → AddsLines (IsFromTo (4 * index) (4 * index + 4)) old new → MarksFrom s k (64 * index) (64 * index + 64) old new
-    marks-word index old new few each adds = record {
-      extent = adds.extent;
-      kept = adds.kept;
-      added = λ n is.
-          let after : 64 * index ≤ is.offset = is.after in
-          let below : is.offset < 64 * index + 64 = is.below in
-          let two = two-lines (is.offset / 16) n is.offset (omega arith) (each (is.offset / 16 + 1) (omega arith) (omega arith)) (omega arith) (omega arith) is.start is.touches in
-          adds.added n (record { after = omega (arith, two.after); most = omega (arith, two.most) });
-      only = λ n is. elim (adds.only n is) as (λ _. IsTrue (has_line old n) ⊎ IsTouchedFrom s k 0 4096 n) [
-        | inl was ↦ inl was
-        | inr one ↦ inr (let after : 4 * index ≤ n = one.after in let most : n ≤ 4 * index + 4 = one.most in own-line n (omega arith) (each n after (omega arith)))
-      ];
-    }
+    marks-word index old new few four next adds =
+        let each : (line : ℕ) → 4 * index ≤ line → line < 4 * index + 5 → BeginsIn s k line = λ line after below. elim (cases_lt line (4 * index + 4)) as (λ _. BeginsIn s k line) [
+          | inl inside ↦ subst (BeginsIn s k) (let at : 4 * index + (line - 4 * index) ≡ line = omega arith in at) (four (line - 4 * index) (omega arith))
+          | inr last ↦ subst (BeginsIn s k) (let at : 4 * index + 3 + 1 ≡ line = omega arith in at) next
+        ] in record {
+          extent = adds.extent;
+          kept = adds.kept;
+          added = λ n is.
+              let after : 64 * index ≤ is.offset = is.after in
+              let below : is.offset < 64 * index + 64 = is.below in
+              let two = two-lines (is.offset / 16) n is.offset (omega arith) (each (is.offset / 16 + 1) (omega arith) (omega arith)) (omega arith) (omega arith) is.start is.touches in
+              adds.added n (record { after = omega (arith, two.after); most = omega (arith, two.most) });
+          only = λ n is. elim (adds.only n is) as (λ _. IsTrue (has_line old n) ⊎ IsTouchedFrom s k 0 4096 n) [
+            | inl was ↦ inl was
+            | inr one ↦ inr (let after : 4 * index ≤ n = one.after in let most : n ≤ 4 * index + 4 = one.most in own-line n (omega arith) (each n after (omega arith)))
+          ];
+        }
 
   -- lines are marked from one offset on, and then from another
   pub marks-on : (from mid to : ℕ) (old between new : List ℕ) → MarksFrom s k from mid old between → MarksFrom s k mid to between new → MarksFrom s k from to old new

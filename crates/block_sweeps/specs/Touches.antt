@@ -42,12 +42,15 @@ pub record BeginsIn (s : HeapState) (k line : ℕ) : Type 0 where
   pub below : offset < LINE_WORDS * (line + 1)
   pub start : IsTrue (is_start s (block_start s.blocks k + offset))
 
--- these are the start bits of this line of block k, in their place in the word of four lines
-pub record AreStartsOf (s : HeapState) (k line bits : ℕ) : Type 0 where
-  pub set : (i : ℕ) → bit_at bits i ≡ 1 → IsFromTo (16 * (line % 4)) (16 * (line % 4) + 15) i
-      × IsTrue (is_start s (block_start s.blocks k + (64 * (line / 4) + i)))
-  pub all : (i : ℕ) → IsFromTo (16 * (line % 4)) (16 * (line % 4) + 15) i
-      → IsTrue (is_start s (block_start s.blocks k + (64 * (line / 4) + i))) → bit_at bits i ≡ 1
+-- these are the start bits of the 64 addresses of block k from offset 64 * index on
+pub record AreStarts (s : HeapState) (k index bits : ℕ) : Type 0 where
+  pub set : (i : ℕ) → i < 64 → bit_at bits i ≡ 1 → IsTrue (is_start s (block_start s.blocks k + (64 * index + i)))
+  pub all : (i : ℕ) → i < 64 → IsTrue (is_start s (block_start s.blocks k + (64 * index + i))) → bit_at bits i ≡ 1
+
+-- these are the bits of one of the four lines of a word, in their places
+pub record AreBitsOf (line word bits : ℕ) : Type 0 where
+  pub set : (i : ℕ) → bit_at bits i ≡ 1 → IsFromTo (16 * line) (16 * line + 15) i × (bit_at word i ≡ 1)
+  pub all : (i : ℕ) → IsFromTo (16 * line) (16 * line + 15) i → bit_at word i ≡ 1 → bit_at bits i ≡ 1
 
 -- the lines were added that objects touch which begin at an offset from `from` on, before `to`, and maybe some that other
 -- objects of the block touch

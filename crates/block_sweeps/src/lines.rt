@@ -1,13 +1,13 @@
 //! Line bits of a block, by the objects in it.
 
-ghost use Rattle.std.specs.Prelude.{◌≡◌, true, ◌↔◌, ◌+◌, ◌-◌, ◌*◌, ◌<◌, ◌≤◌, ℕ, IsTrue, length, slice_index};
+ghost use Rattle.std.specs.Prelude.{◌≡◌, true, false, ◌↔◌, ◌+◌, ◌-◌, ◌*◌, ◌<◌, ◌≤◌, ℕ, IsTrue, length, slice_index};
 ghost use Rattle.std.specs.Int.{bit_at};
 ghost use Rattle.heap_layout.specs.Zones.{row_words, first, block_start, LineWords};
 ghost use Rattle.heap_layout.specs.declared.block.Kind.TheVariants as kinds;
-ghost use Rattle.object_model.specs.Objects.{state_over, HasKind, is_start};
+ghost use Rattle.object_model.specs.Objects.{HeapState, state_over, HasKind, is_start};
 ghost use Rattle.object_model.specs.Lawful.{IsReadableBlock};
 ghost use Rattle.block_sweeps.specs.Stores.{Fills};
-ghost use Rattle.block_sweeps.specs.Touches.{AddsLines, AreStartsOf, BeginsIn, IsFromTo, MarksFrom, TouchesAt, has_line};
+ghost use Rattle.block_sweeps.specs.Touches.{AddsLines, AreBitsOf, AreStarts, BeginsIn, IsFromTo, MarksFrom, TouchesAt, has_line};
 ghost use Rattle.block_sweeps.specs.Sweeping.{AreApart, MarksTouched, IsTouchedHere};
 
 use crate::clearing::store;
@@ -61,32 +61,66 @@ fn touched_lines<W: Words>(words: &W, layout: &Layout, block: u32) -> [u64; 4]
     lines
 }
 
-/// The start bits of the addresses of a line of the block, where they are in their word.
-fn line_starts<W: Words>(words: &W, layout: &Layout, block: u32, line: u32) -> u64
+/// The start bits of 64 addresses of the block, from offset `64 * index` on.
+fn start_word<W: Words>(words: &W, layout: &Layout, block: u32, index: u32) -> u64
     requires extent { length (W.words words.now) ≡ row_words layout.now.blocks }
     requires block { block < layout.now.blocks }
-    requires line { line < BLOCK_LINES }
-    ensures { AreStartsOf (state_over (W.words words.now) layout.now 0 0) block line result }
+    requires index { index < 64 }
+    ensures { AreStarts (state_over (W.words words.now) layout.now 0 0) block index result }
 {
-    let low = LINE_WORDS * (line % 4);
-    words.get(layout.start_base() + 64 * block + line / 4) & run_mask(low, low + (LINE_WORDS - 1))
+    words.get(layout.start_base() + 64 * block + index)
 }
 
-/// Whether an object begins in each of the four lines of a word of start bits, and in the line
-/// after them.
-fn is_dense<W: Words>(words: &W, layout: &Layout, block: u32, index: u32) -> bool
-    requires extent { length (W.words words.now) ≡ row_words layout.now.blocks }
-    requires block { block < layout.now.blocks }
-    requires index { index < 63 }
-    ensures { result ≡ true → (line : ℕ) → 4 * index ≤ line → line < 4 * index + 5
-        → BeginsIn (state_over (W.words words.now) layout.now 0 0) block line }
+/// The bits of one of the four lines of a word, where they are.
+#[inline(always)]
+fn line_bits(word: u64, line: u32) -> u64
+    requires { line < 4 }
+    ensures { AreBitsOf line word result }
 {
-    for line in 4 * index..4 * index + 5 {
-        if line_starts(words, layout, block, line) == 0 {
+    word & run_mask(LINE_WORDS * line, LINE_WORDS * line + (LINE_WORDS - 1))
+}
+
+/// Whether an object begins in each of the four lines whose start bits these are.
+#[inline(always)]
+fn is_dense(starts: u64) -> bool
+    ensures dense { result ≡ true → (s : HeapState) (k index line : ℕ) → AreStarts s k index starts
+        → line < 4 → BeginsIn s k (4 * index + line) }
+    ensures sparse { result ≡ false → (s : HeapState) (k index : ℕ) → AreStarts s k index starts
+        → (line : ℕ) × (line < 4) × (BeginsIn s k (4 * index + line) → ⊥) }
+{
+    for line in 0..4 {
+        if line_bits(starts, line) == 0 {
             return false;
         }
     }
     true
+}
+
+/// Whether an object begins in the line after one of the four whose start bits these are.
+#[inline(always)]
+fn next_begins<W: Words>(
+    words: &W,
+    layout: &Layout,
+    block: u32,
+    index: u32,
+    line: u32,
+    starts: u64,
+) -> bool
+    requires extent { length (W.words words.now) ≡ row_words layout.now.blocks }
+    requires block { block < layout.now.blocks }
+    requires index { index < 64 }
+    requires line { line < 4 }
+    requires starts { AreStarts (state_over (W.words words.now) layout.now 0 0) block index starts }
+    ensures inside { result ≡ true → 4 * index + line < BLOCK_LINES - 1 }
+    ensures begins { result ≡ true → BeginsIn (state_over (W.words words.now) layout.now 0 0) block
+        (4 * index + line + 1) }
+    ensures none { result ≡ false → 4 * index + line < BLOCK_LINES - 1
+        → BeginsIn (state_over (W.words words.now) layout.now 0 0) block (4 * index + line + 1) → ⊥ }
+{
+    if line < 3 {
+        return line_bits(starts, line + 1) != 0;
+    }
+    index < 63 && line_bits(start_word(words, layout, block, index + 1), 0) != 0
 }
 
 /// Adds the lines that objects touch which begin at the addresses of one word of start bits. Where
@@ -100,36 +134,52 @@ fn add_lines<W: Words>(words: &W, layout: &Layout, block: u32, index: u32, lines
     ensures { MarksFrom (state_over (W.words words.now) layout.now 0 0) block
         (64 * index) (64 * index + 64) lines.old lines.new }
 {
-    if index < 63 && is_dense(words, layout, block, index) {
-        set_run(lines, 4 * index, 4 * index + 4);
-        return;
-    }
-    for line in 4 * index..4 * index + 4 {
-        add_line(words, layout, block, line, lines);
-    }
-}
-
-/// Adds the lines that objects touch which begin in a line. Only the last of them is read, and only
-/// if none begins in the next line.
-fn add_line<W: Words>(words: &W, layout: &Layout, block: u32, line: u32, lines: &mut [u64; 4])
-    requires block { IsReadableBlock (state_over (W.words words.now) layout.now 0 0) block }
-    requires apart { AreApart (state_over (W.words words.now) layout.now 0 0) block }
-    requires kind { HasKind (state_over (W.words words.now) layout.now 0 0) block kinds.Immix }
-    requires line { line < BLOCK_LINES }
-    requires len { length lines.old ≡ 4 }
-    ensures { MarksFrom (state_over (W.words words.now) layout.now 0 0) block
-        (LINE_WORDS * line) (LINE_WORDS * line + LINE_WORDS) lines.old lines.new }
-{
-    let starts = line_starts(words, layout, block, line);
+    let starts = start_word(words, layout, block, index);
     if starts == 0 {
         return;
     }
-    if line < BLOCK_LINES - 1 && line_starts(words, layout, block, line + 1) != 0 {
-        set_run(lines, line, line + 1);
+    if is_dense(starts) && next_begins(words, layout, block, index, 3, starts) {
+        set_run(lines, 4 * index, 4 * index + 4);
         return;
     }
-    let last = 63 - starts.leading_zeros();
-    add_object(words, layout, block, 64 * (line / 4) + last, lines);
+    for line in 0..4 {
+        add_line(words, layout, block, index, line, starts, lines);
+    }
+}
+
+/// Adds the lines that objects touch which begin in one of the four lines whose start bits these
+/// are. Only the last of them is read, and only if none begins in the next line.
+#[inline(always)]
+fn add_line<W: Words>(
+    words: &W,
+    layout: &Layout,
+    block: u32,
+    index: u32,
+    line: u32,
+    starts: u64,
+    lines: &mut [u64; 4],
+)
+    requires block { IsReadableBlock (state_over (W.words words.now) layout.now 0 0) block }
+    requires apart { AreApart (state_over (W.words words.now) layout.now 0 0) block }
+    requires kind { HasKind (state_over (W.words words.now) layout.now 0 0) block kinds.Immix }
+    requires index { index < 64 }
+    requires line { line < 4 }
+    requires starts { AreStarts (state_over (W.words words.now) layout.now 0 0) block index starts }
+    requires len { length lines.old ≡ 4 }
+    ensures { MarksFrom (state_over (W.words words.now) layout.now 0 0) block
+        (LINE_WORDS * (4 * index + line)) (LINE_WORDS * (4 * index + line) + LINE_WORDS)
+        lines.old lines.new }
+{
+    let bits = line_bits(starts, line);
+    if bits == 0 {
+        return;
+    }
+    if next_begins(words, layout, block, index, line, starts) {
+        set_run(lines, 4 * index + line, 4 * index + line + 1);
+        return;
+    }
+    let last = 63 - bits.leading_zeros();
+    add_object(words, layout, block, 64 * index + last, lines);
 }
 
 /// Adds the lines that the object at this offset touches.
