@@ -109,8 +109,8 @@ fn dead_run(rt: HostRuntime) -> Result<(), Fail> {
     Ok(())
 }
 
-/// A row with five objects in block 0, an Immix block, and wrong line bits. The objects have 3
-/// words at 0, 10 at 10, 100 at 40, 8 at 1020 and 16 at 4080.
+/// A row with nine objects in block 0, an Immix block, and wrong line bits. Five have 3 words at 0,
+/// 10 at 10, 100 at 40, 8 at 1020 and 16 at 4080, and one begins in each of lines 20 to 23.
 fn lines_row(alloc: Global) -> Result<Vec<u64>, AllocError>
     ensures { IfOk result (λ v. v.items ≡ lines_words) }
 {

@@ -96,7 +96,7 @@ fn is_dense(starts: u64) -> bool
     true
 }
 
-/// Whether an object begins in the line after one of the four whose start bits these are.
+/// Whether an object begins in the next line of the block, if it has one.
 #[inline(always)]
 fn next_begins<W: Words>(
     words: &W,
@@ -123,8 +123,8 @@ fn next_begins<W: Words>(
     index < 63 && line_bits(start_word(words, layout, block, index + 1), 0) != 0
 }
 
-/// Adds the lines that objects touch which begin at the addresses of one word of start bits. Where
-/// objects begin in all lines none is read: each ends before one that begins in the next line.
+/// Adds the lines that objects touch which begin at the addresses of one word of start bits. If
+/// objects begin in its four lines and in the next, none is read: each ends before a later one.
 fn add_lines<W: Words>(words: &W, layout: &Layout, block: u32, index: u32, lines: &mut [u64; 4])
     requires block { IsReadableBlock (state_over (W.words words.now) layout.now 0 0) block }
     requires apart { AreApart (state_over (W.words words.now) layout.now 0 0) block }

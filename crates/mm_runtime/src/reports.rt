@@ -1,12 +1,13 @@
 //! What a manager tells of its session.
 
-ghost use Rattle.std.specs.Prelude.{◌≡◌, ◌<◌, ◌≤◌, ◌++◌, ℕ, length, map, IfOk};
+ghost use Rattle.std.specs.Prelude.{◌≡◌, ◌-◌, ◌<◌, ◌≤◌, ◌++◌, ℕ, Some, length, map, slice_get, IfOk};
 ghost use Rattle.ideal_heap.specs.Runs.{replies_of};
 ghost use Rattle.object_model.specs.Heaps.{heap_state};
 ghost use Rattle.object_model.specs.Graphs.{roots_of};
 ghost use Rattle.object_model.specs.Objects.{global_at as global_word_at};
 ghost use Rattle.plain_world.specs.Rows.{mutator_state};
 ghost use Rattle.sessions.specs.Sessions.{Setting, Moment};
+ghost use Rattle.mm_runtime.specs.declared.progress.Progress.{Progress as State};
 ghost use Rattle.mm_runtime.specs.Managers.{globals_of, Closes, HasMutator, IsInOrder};
 
 use crate::manager::Manager;
@@ -64,6 +65,8 @@ impl<P: Plan> Manager<P> {
         requires order { IsInOrder P.rules 0 self.now }
         requires mutator { HasMutator self.now m }
         ensures few { length result.now.items ≤ MAX_COMMANDS }
+        ensures same { (p : State) → slice_get self.now.progress.items (m - 1) ≡ Some p
+            → result.now ≡ p.replies }
         ensures session { (t : Setting) (now : Moment) → Closes P.rules self.now t now
             → result.now.items ≡ replies_of m now.done }
     {

@@ -8,8 +8,8 @@ use ideal_heap::{Name, Reply};
 use std::alloc::{AllocError, Global};
 use std::marker::Model;
 
-/// A list of replies with a capacity. A reply takes a byte, and 8 more if it has a name or a number.
-/// Clauses see the list, as `items`, and the capacity, in replies.
+/// A list of replies with a capacity. For a reply a byte is written, and 8 more for its name or
+/// number. Clauses see the list, as `items`, and the capacity, in replies.
 #[derive(Debug, Drop)]
 pub struct StoredReplies {
     kinds: Vec<ReplyKind>,

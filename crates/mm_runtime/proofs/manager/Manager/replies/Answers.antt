@@ -1,5 +1,8 @@
+use Rattle.std.specs.Prelude.{slice_get}
 use Rattle.std.proofs.Common.{◌≡◌, refl, sym, ◌∙◌, ap, ◌+◌, ◌-◌, ◌≤◌, arith, length}
 use Rattle.ideal_heap.specs.Runs.{replies_of}
+use Rattle.mm_runtime.specs.declared.progress.Progress.{Progress}
+use Rattle.plain_world.proofs.Lists.{one-element}
 use Rattle.mm_runtime.proofs.Waits.{item}
 use Rattle.mm_runtime.proofs.manager.Manager.replies.Goals as goal
 
@@ -19,3 +22,10 @@ returns-clause-session g c t now closes =
     let same : (c.args.m - 1) + 1 ≡ c.args.m = omega arith in
     sym (closes.stands.replies.replies (c.args.m - 1) c.index.result.now (item _ _ (c.args.m - 1) c.index.result.now refl (omega arith) c.index.ensures))
     ∙ ap (λ n. replies_of n now.done) same
+
+pub returns-clause-same : goal.returns-clause-same
+returns-clause-same g c p here =
+    let least : 1 ≤ c.args.m = c.requires.mutator.least in
+    let most : c.args.m ≤ length c.args.self.now.progress.items = c.requires.mutator.most in
+    ap (λ (q : Progress). q.replies) (one-element (slice_get c.args.self.now.progress.items (c.args.m - 1)) c.index.result.now p
+    (item _ _ (c.args.m - 1) c.index.result.now refl (omega arith) c.index.ensures) here)
