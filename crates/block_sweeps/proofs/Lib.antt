@@ -11,6 +11,7 @@ pub mod RunMasks
 pub mod AddedLines
 pub mod TouchedLines
 pub mod TouchedWords
+pub mod LineEnds
 pub mod LineStarts
 pub mod SweptApart
 pub mod WorkedRows

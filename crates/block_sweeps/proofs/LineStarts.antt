@@ -1,5 +1,5 @@
 -- The objects that begin in a line, and the lines that they touch.
-use Rattle.std.proofs.Common.{◌≡◌, ℕ, suc, ◌+◌, ◌*◌, ◌-◌, ◌/◌, ◌^◌, ◌<◌, ◌≤◌, ◌⊎◌, inl, inr, refl, sym, ap, ◌∙◌, subst, arith, w64, IsTrue, bit_and, min, List}
+use Rattle.std.proofs.Common.{◌≡◌, ℕ, suc, ◌+◌, ◌*◌, ◌-◌, ◌^◌, ◌<◌, ◌≤◌, ◌⊎◌, inl, inr, sym, ap, ◌∙◌, subst, arith, w64, IsTrue, bit_and, min, List}
 use Rattle.std.specs.Int.{bit_at, trailing_zeros, leading_zeros}
 use Rattle.std.proofs.lemmas.Bool.{cases_eq, cases_lt}
 use Rattle.std.proofs.lemmas.Nat.{leading_top}
@@ -66,24 +66,8 @@ module _ (s : HeapState) (k : ℕ) where
       let zero : bit_at bits i ≡ 0 = ap (λ v. bit_at v i) none ∙ bit_at-zero i in
       omega (arith, one, zero)
 
-  -- no object begins at the addresses of a word without bits
-  pub marks-empty : (index word : ℕ) (lines : List ℕ) → word ≡ 0 → AreStarts s k index word → MarksFrom s k (64 * index) (64 * index + 64) lines lines
-  marks-empty index word lines none starts = record {
-    extent = refl;
-    kept = λ n is. is;
-    added = λ n is.
-        let after : 64 * index ≤ is.offset = is.after in
-        let below : is.offset < 64 * index + 64 = is.below in
-        let i : ℕ = is.offset - 64 * index in
-        let at : is.offset ≡ 64 * index + i = omega arith in
-        let one : bit_at word i ≡ 1 = starts.all i (omega arith) (subst (λ o. IsTrue (is_start s (block_start s.blocks k + o))) at is.start) in
-        let zero : bit_at word i ≡ 0 = ap (λ v. bit_at v i) none ∙ bit_at-zero i in
-        absurd (omega (arith, one, zero));
-    only = λ n is. inl is;
-  }
-
   -- a line is touched by what begins in it
-  own-line : (line : ℕ) → line < 256 → BeginsIn s k line → IsTouchedFrom s k 0 4096 line
+  pub own-line : (line : ℕ) → line < 256 → BeginsIn s k line → IsTouchedFrom s k 0 4096 line
   own-line line few is =
       let from : 16 * line ≤ is.offset = is.from in
       let below : is.offset < 16 * (line + 1) = is.below in
@@ -108,7 +92,7 @@ module _ (s : HeapState) (k : ℕ) where
         ]
 
     -- what begins in a line touches no line after the next one, if something begins there
-    two-lines : (line n offset : ℕ) → line < 255 → BeginsIn s k (line + 1) → 16 * line ≤ offset → offset < 16 * line + 16
+    pub two-lines : (line n offset : ℕ) → line < 255 → BeginsIn s k (line + 1) → 16 * line ≤ offset → offset < 16 * line + 16
         → IsTrue (is_start s (block_start s.blocks k + offset)) → TouchesAt s k offset n → IsFromTo line (line + 1) n
     two-lines line n offset few next least most start touches =
         let from' : 16 * (line + 1) ≤ next.offset = next.from in
@@ -117,31 +101,6 @@ module _ (s : HeapState) (k : ℕ) where
         let from : heap_of s.blocks + 16 * (256 * k + n) < block_start s.blocks k + offset + size_at s (block_start s.blocks k + offset) = touches.from in
         let below : block_start s.blocks k + offset < heap_of s.blocks + 16 * (256 * k + n + 1) = touches.below in
         record { after = (omega arith); most = (omega arith) }
-
-    -- nothing begins in the line
-    pub marks-none : (line : ℕ) (lines : List ℕ) → (BeginsIn s k line → ⊥) → MarksFrom s k (16 * line) (16 * line + 16) lines lines
-    marks-none line lines none = record {
-      extent = refl;
-      kept = λ n is. is;
-      added = λ n is. absurd (none (let below : is.offset < 16 * line + 16 = is.below in record { offset = is.offset; from = is.after; below = omega arith; start = is.start }));
-      only = λ n is. inl is;
-    }
-
-    -- something begins in the line and in the next one
-    pub marks-two : (line : ℕ) (old new : List ℕ) → line < 255 → BeginsIn s k line → BeginsIn s k (line + 1) → AddsLines (IsFromTo line (line + 1)) old new
-        → MarksFrom s k (16 * line) (16 * line + 16) old new
-    marks-two line old new few here next adds = record {
-      extent = adds.extent;
-      kept = adds.kept;
-      added = λ n is. adds.added n (two-lines line n is.offset few next is.after is.below is.start is.touches);
-      only = λ n is. elim (adds.only n is) as (λ _. IsTrue (has_line old n) ⊎ IsTouchedFrom s k 0 4096 n) [
-        | inl was ↦ inl was
-        | inr one ↦ inr (elim (cases_eq n line) as (λ _. IsTouchedFrom s k 0 4096 n) [
-          | inl same ↦ own-line n (omega arith) (subst (BeginsIn s k) (sym same) here)
-          | inr other ↦ (let after : line ≤ n = one.after in let most : n ≤ line + 1 = one.most in own-line n (omega arith) (subst (BeginsIn s k) (omega arith) next))
-        ])
-      ];
-    }
 
     -- the last object of a line
     pub marks-last : (line last : ℕ) (old new : List ℕ) → line < 256 → 16 * line ≤ last → last < 16 * line + 16 → IsTrue (is_start s (block_start s.blocks k + last))
@@ -166,44 +125,3 @@ module _ (s : HeapState) (k : ℕ) where
         | inr touches ↦ inr (record { offset = last; after = omega arith; below = omega arith; start = start; touches = touches })
       ];
     }
-
-    -- something begins in each line of a word, and in the line after it
-    pub marks-word : (index : ℕ) (old new : List ℕ) → index < 63 → ((line : ℕ) → line < 4 → BeginsIn s k (4 * index + line)) → BeginsIn s k (4 * index + 3 + 1)
-        → AddsLines (IsFromTo (4 * index) (4 * index + 4)) old new → MarksFrom s k (64 * index) (64 * index + 64) old new
-    marks-word index old new few four next adds =
-        let each : (line : ℕ) → 4 * index ≤ line → line < 4 * index + 5 → BeginsIn s k line = λ line after below. elim (cases_lt line (4 * index + 4)) as (λ _. BeginsIn s k line) [
-          | inl inside ↦ subst (BeginsIn s k) (let at : 4 * index + (line - 4 * index) ≡ line = omega arith in at) (four (line - 4 * index) (omega arith))
-          | inr last ↦ subst (BeginsIn s k) (let at : 4 * index + 3 + 1 ≡ line = omega arith in at) next
-        ] in record {
-          extent = adds.extent;
-          kept = adds.kept;
-          added = λ n is.
-              let after : 64 * index ≤ is.offset = is.after in
-              let below : is.offset < 64 * index + 64 = is.below in
-              let two = two-lines (is.offset / 16) n is.offset (omega arith) (each (is.offset / 16 + 1) (omega arith) (omega arith)) (omega arith) (omega arith) is.start is.touches in
-              adds.added n (record { after = omega (arith, two.after); most = omega (arith, two.most) });
-          only = λ n is. elim (adds.only n is) as (λ _. IsTrue (has_line old n) ⊎ IsTouchedFrom s k 0 4096 n) [
-            | inl was ↦ inl was
-            | inr one ↦ inr (let after : 4 * index ≤ n = one.after in let most : n ≤ 4 * index + 4 = one.most in own-line n (omega arith) (each n after (omega arith)))
-          ];
-        }
-
-  -- lines are marked from one offset on, and then from another
-  pub marks-on : (from mid to : ℕ) (old between new : List ℕ) → MarksFrom s k from mid old between → MarksFrom s k mid to between new → MarksFrom s k from to old new
-  marks-on from mid to old between new one two = record {
-    extent = two.extent ∙ one.extent;
-    kept = λ n is. two.kept n (one.kept n is);
-    added = λ n is. elim (cases_lt is.offset mid) as (λ _. IsTrue (has_line new n)) [
-      | inl before ↦ two.kept n (one.added n (record { offset = is.offset; after = is.after; below = before; start = is.start; touches = is.touches }))
-      | inr past ↦ two.added n (record { offset = is.offset; after = past; below = is.below; start = is.start; touches = is.touches })
-    ];
-    only = λ n is. elim (two.only n is) as (λ _. IsTrue (has_line old n) ⊎ IsTouchedFrom s k 0 4096 n) [ inl was ↦ one.only n was | inr touched ↦ inr touched ];
-  }
-
-  pub marks-nothing : (from : ℕ) (lines : List ℕ) → MarksFrom s k from from lines lines
-  marks-nothing from lines = record {
-    extent = refl;
-    kept = λ n is. is;
-    added = λ n is. absurd (let after : from ≤ is.offset = is.after in let below : is.offset < from = is.below in omega arith);
-    only = λ n is. inl is;
-  }

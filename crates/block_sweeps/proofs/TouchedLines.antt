@@ -12,7 +12,7 @@ use Rattle.object_model.specs.Objects.{HeapState, state_over, word_at, size_at, 
 use Rattle.object_model.proofs.ObjectReads.{place_of_address}
 use Rattle.block_sweeps.specs.Stores.{Fills}
 use Rattle.block_sweeps.specs.Sweeping.{MarksTouched, IsTouchedHere}
-use Rattle.block_sweeps.specs.Touches.{AddsLines, IsFromTo, MarksFrom, TouchesAt, IsTouchedFrom, has_line}
+use Rattle.block_sweeps.specs.Touches.{AddsLines, IsFromTo, TouchesAt, IsTouchedFrom, has_line}
 use Rattle.block_sweeps.proofs.AddedLines.{adds-same}
 
 -- the lines from that of an object's first word to that of its last
@@ -54,18 +54,8 @@ module _ (s : HeapState) (k line : ℕ) (there : k < s.blocks) where
         touches = subst (λ a. TouchesLine s.blocks a (size_at s a) (256 * k + line)) at is.touched.touches;
       }
 
-no-line : (line : ℕ) → line < 256 → IsTrue (has_line (replicate 4 0) line) → ⊥
+pub no-line : (line : ℕ) → line < 256 → IsTrue (has_line (replicate 4 0) line) → ⊥
 no-line line small is = false≢true (sym (ap (λ v. nat_eq (bit_at v (line % 64)) 1) (get_or-replicate 4 (line / 64) 0 0 (omega arith)) ∙ ap (λ v. nat_eq v 1) (bit_at-zero (line % 64))) ∙ is)
-
-pub touched-all : (s : HeapState) (k index : ℕ) (lines : List ℕ) → k < s.blocks → 64 * index ≡ 4096 → MarksFrom s k 0 (64 * index) (replicate 4 0) lines
-    → (line : ℕ) → line < 256 → IsTrue (has_line lines line) ↔ IsTouchedHere s k line
-touched-all s k index lines there all marks line small = (
-  λ is. elim (marks.only line is) as (λ _. IsTouchedHere s k line) [
-    | inl before ↦ absurd (no-line line small before)
-    | inr touched ↦ here-from s k line there touched
-  ],
-  λ is. marks.added line (subst (λ to. IsTouchedFrom s k 0 to line) (sym all) (from-here s k line there is)),
-)
 
 -- the words with these bits are stored
 module _ (old new lines : List ℕ) (l : Layout) (k : ℕ) (exact : (line : ℕ) → line < 256 → IsTrue (has_line lines line) ↔ IsTouchedHere (state_over old l 0 0) k line)

@@ -35,7 +35,7 @@ pub record IsTouchedFrom (s : HeapState) (k from to line : ℕ) : Type 0 where
   pub start : IsTrue (is_start s (block_start s.blocks k + offset))
   pub touches : TouchesAt s k offset line
 
--- an object begins in this line of block k
+-- an object begins in this line of block k, a number below 256
 pub record BeginsIn (s : HeapState) (k line : ℕ) : Type 0 where
   pub offset : ℕ
   pub from : LINE_WORDS * line ≤ offset
@@ -47,7 +47,7 @@ pub record AreStarts (s : HeapState) (k index bits : ℕ) : Type 0 where
   pub set : (i : ℕ) → i < 64 → bit_at bits i ≡ 1 → IsTrue (is_start s (block_start s.blocks k + (64 * index + i)))
   pub all : (i : ℕ) → i < 64 → IsTrue (is_start s (block_start s.blocks k + (64 * index + i))) → bit_at bits i ≡ 1
 
--- these are the bits of one of the four lines of a word, in their places
+-- these are the bits of line 0, 1, 2 or 3 of a word, in their places
 pub record AreBitsOf (line word bits : ℕ) : Type 0 where
   pub set : (i : ℕ) → bit_at bits i ≡ 1 → IsFromTo (16 * line) (16 * line + 15) i × (bit_at word i ≡ 1)
   pub all : (i : ℕ) → IsFromTo (16 * line) (16 * line + 15) i → bit_at word i ≡ 1 → bit_at bits i ≡ 1
@@ -58,4 +58,28 @@ pub record MarksFrom (s : HeapState) (k from to : ℕ) (old new : List ℕ) : Ty
   pub extent : length new ≡ length old
   pub kept : (n : ℕ) → IsTrue (has_line old n) → IsTrue (has_line new n)
   pub added : (n : ℕ) → IsTouchedFrom s k from to n → IsTrue (has_line new n)
+  pub only : (n : ℕ) → IsTrue (has_line new n) → IsTrue (has_line old n) ⊎ IsTouchedFrom s k 0 BLOCK_WORDS n
+
+-- an object begins in this line of block k, which is one from `from` on, before `to`
+pub record BeginsFrom (s : HeapState) (k from to line : ℕ) : Type 0 where
+  pub after : from ≤ line
+  pub below : line < to
+  pub begins : BeginsIn s k line
+
+-- these are the bits of the 64 lines of block k from 64 * word on in which objects begin
+pub record AreBegun (s : HeapState) (k word bits : ℕ) : Type 0 where
+  pub set : (i : ℕ) → i < 64 → bit_at bits i ≡ 1 → BeginsIn s k (64 * word + i)
+  pub all : (i : ℕ) → i < 64 → BeginsIn s k (64 * word + i) → bit_at bits i ≡ 1
+
+-- the lines that objects touch which begin in this line of block k are among these
+abbrev pub HasLinesOf : HeapState → ℕ → ℕ → List ℕ → Type 0
+HasLinesOf s k line lines = (n : ℕ) → IsTouchedFrom s k (16 * line) (16 * line + 16) n → IsTrue (has_line lines n)
+
+-- Of the objects that begin in a line from `from` on, before `to`, the lines were added, unless others begin in the next
+-- line; and maybe some lines that other objects of the block touch.
+pub record AddsEnds (s : HeapState) (k from to : ℕ) (old new : List ℕ) : Type 0 where
+  pub extent : length new ≡ length old
+  pub kept : (n : ℕ) → IsTrue (has_line old n) → IsTrue (has_line new n)
+  pub ends : (line : ℕ) → from ≤ line → line < to → BeginsIn s k line
+      → BeginsFrom s k 0 BLOCK_LINES (line + 1) ⊎ HasLinesOf s k line new
   pub only : (n : ℕ) → IsTrue (has_line new n) → IsTrue (has_line old n) ⊎ IsTouchedFrom s k 0 BLOCK_WORDS n

@@ -7,7 +7,7 @@ ghost use Rattle.heap_layout.specs.declared.block.Kind.TheVariants as kinds;
 ghost use Rattle.object_model.specs.Objects.{HeapState, state_over, HasKind, is_start};
 ghost use Rattle.object_model.specs.Lawful.{IsReadableBlock};
 ghost use Rattle.block_sweeps.specs.Stores.{Fills};
-ghost use Rattle.block_sweeps.specs.Touches.{AddsLines, AreBitsOf, AreStarts, BeginsIn, IsFromTo, MarksFrom, TouchesAt, has_line};
+ghost use Rattle.block_sweeps.specs.Touches.{AddsEnds, AddsLines, AreBegun, AreBitsOf, AreStarts, BeginsFrom, BeginsIn, IsFromTo, MarksFrom, TouchesAt, has_line};
 ghost use Rattle.block_sweeps.specs.Sweeping.{AreApart, MarksTouched, IsTouchedHere};
 
 use crate::clearing::store;
@@ -17,7 +17,7 @@ use side_meta::Words;
 
 /// Makes the line bits of an Immix block those of the lines that objects in it touch. Reads the
 /// start bits, and the shape word of an object only if it is the last that begins in its line and
-/// none begins in the next line. Writes only words that change.
+/// none begins in the next one of the same 64 lines. Writes only words that change.
 pub fn mark_touched_lines<W: Words>(words: &mut W, layout: &Layout, block: u32)
     requires block { IsReadableBlock (state_over (W.words words.old) layout.now 0 0) block }
     requires apart { AreApart (state_over (W.words words.old) layout.now 0 0) block }
@@ -45,7 +45,8 @@ fn store_lines<W: Words>(words: &mut W, layout: &Layout, block: u32, lines: &[u6
     }
 }
 
-/// The line bits of the lines that objects in the block touch.
+/// The line bits of the lines that objects in the block touch: the lines in which objects begin, and
+/// those that the last object of a line reaches. Each other object ends before one in its line.
 fn touched_lines<W: Words>(words: &W, layout: &Layout, block: u32) -> [u64; 4]
     requires block { IsReadableBlock (state_over (W.words words.now) layout.now 0 0) block }
     requires apart { AreApart (state_over (W.words words.now) layout.now 0 0) block }
@@ -54,11 +55,106 @@ fn touched_lines<W: Words>(words: &W, layout: &Layout, block: u32) -> [u64; 4]
     ensures lines { (line : ℕ) → line < BLOCK_LINES → IsTrue (has_line result line)
         ↔ IsTouchedHere (state_over (W.words words.now) layout.now 0 0) block line }
 {
-    let mut lines = [0; 4];
-    for index in 0..64 {
-        add_lines(words, layout, block, index, &mut lines);
+    let begun = begun_lines(words, layout, block);
+    let mut lines = begun;
+    for word in 0..4 {
+        add_ends(words, layout, block, word, begun[word as usize], &mut lines);
     }
     lines
+}
+
+/// The line bits of the lines in which objects begin.
+fn begun_lines<W: Words>(words: &W, layout: &Layout, block: u32) -> [u64; 4]
+    requires extent { length (W.words words.now) ≡ row_words layout.now.blocks }
+    requires block { block < layout.now.blocks }
+    ensures len { length result ≡ 4 }
+    ensures lines { (word : ℕ) → word < 4
+        → AreBegun (state_over (W.words words.now) layout.now 0 0) block word (slice_index result word) }
+{
+    let mut lines = [0; 4];
+    for index in 0..64 {
+        add_begun(start_word(words, layout, block, index), index, &mut lines);
+    }
+    lines
+}
+
+/// Adds those of four lines in which objects begin. Word `index` of start bits is theirs.
+#[inline(always)]
+fn add_begun(starts: u64, index: u32, lines: &mut [u64; 4])
+    requires index { index < 64 }
+    requires len { length lines.old ≡ 4 }
+    ensures { (s : HeapState) (k : ℕ) → AreStarts s k index starts
+        → AddsLines (BeginsFrom s k (4 * index) (4 * index + 4)) lines.old lines.new }
+{
+    if starts == 0 {
+        return;
+    }
+    if is_dense(starts) {
+        set_run(lines, 4 * index, 4 * index + 3);
+        return;
+    }
+    for line in 0..4 {
+        add_if_begun(line_bits(starts, line), 4 * index + line, lines);
+    }
+}
+
+/// Adds a line, unless its start bits are all clear.
+#[inline(always)]
+fn add_if_begun(bits: u64, line: u32, lines: &mut [u64; 4])
+    requires line { line < BLOCK_LINES }
+    requires len { length lines.old ≡ 4 }
+    ensures none { bits ≡ 0 → lines.new ≡ lines.old }
+    ensures some { (bits ≡ 0 → ⊥) → AddsLines (IsFromTo line line) lines.old lines.new }
+    ensures len { length lines.new ≡ 4 }
+{
+    if bits == 0 {
+        return;
+    }
+    set_run(lines, line, line);
+}
+
+/// For each of 64 lines in which objects begin, as the bits of `begun` tell, adds the lines that the
+/// last of them touches. If one begins in the next line too, it ends there or before, and is not read.
+fn add_ends<W: Words>(
+    words: &W,
+    layout: &Layout,
+    block: u32,
+    word: u32,
+    begun: u64,
+    lines: &mut [u64; 4],
+)
+    requires block { IsReadableBlock (state_over (W.words words.now) layout.now 0 0) block }
+    requires apart { AreApart (state_over (W.words words.now) layout.now 0 0) block }
+    requires kind { HasKind (state_over (W.words words.now) layout.now 0 0) block kinds.Immix }
+    requires word { word < 4 }
+    requires begun { AreBegun (state_over (W.words words.now) layout.now 0 0) block word begun }
+    requires len { length lines.old ≡ 4 }
+    ensures { AddsEnds (state_over (W.words words.now) layout.now 0 0) block
+        (64 * word) (64 * word + 64) lines.old lines.new }
+{
+    let mut rest = begun & !(begun >> 1);
+    while rest != 0 {
+        let bit = rest.trailing_zeros();
+        rest &= !(1u64 << bit);
+        add_last(words, layout, block, 64 * word + bit, lines);
+    }
+}
+
+/// Adds the lines that objects touch which begin in a line. Only the last of them is read.
+#[inline(always)]
+fn add_last<W: Words>(words: &W, layout: &Layout, block: u32, line: u32, lines: &mut [u64; 4])
+    requires block { IsReadableBlock (state_over (W.words words.now) layout.now 0 0) block }
+    requires apart { AreApart (state_over (W.words words.now) layout.now 0 0) block }
+    requires kind { HasKind (state_over (W.words words.now) layout.now 0 0) block kinds.Immix }
+    requires line { line < BLOCK_LINES }
+    requires begins { BeginsIn (state_over (W.words words.now) layout.now 0 0) block line }
+    requires len { length lines.old ≡ 4 }
+    ensures { MarksFrom (state_over (W.words words.now) layout.now 0 0) block
+        (LINE_WORDS * line) (LINE_WORDS * line + LINE_WORDS) lines.old lines.new }
+{
+    let bits = line_bits(start_word(words, layout, block, line / 4), line % 4);
+    let last = 63 - bits.leading_zeros();
+    add_object(words, layout, block, 64 * (line / 4) + last, lines);
 }
 
 /// The start bits of 64 addresses of the block, from offset `64 * index` on.
@@ -94,92 +190,6 @@ fn is_dense(starts: u64) -> bool
         }
     }
     true
-}
-
-/// Whether an object begins in the next line of the block, if it has one.
-#[inline(always)]
-fn next_begins<W: Words>(
-    words: &W,
-    layout: &Layout,
-    block: u32,
-    index: u32,
-    line: u32,
-    starts: u64,
-) -> bool
-    requires extent { length (W.words words.now) ≡ row_words layout.now.blocks }
-    requires block { block < layout.now.blocks }
-    requires index { index < 64 }
-    requires line { line < 4 }
-    requires starts { AreStarts (state_over (W.words words.now) layout.now 0 0) block index starts }
-    ensures inside { result ≡ true → 4 * index + line < BLOCK_LINES - 1 }
-    ensures begins { result ≡ true → BeginsIn (state_over (W.words words.now) layout.now 0 0) block
-        (4 * index + line + 1) }
-    ensures none { result ≡ false → 4 * index + line < BLOCK_LINES - 1
-        → BeginsIn (state_over (W.words words.now) layout.now 0 0) block (4 * index + line + 1) → ⊥ }
-{
-    if line < 3 {
-        return line_bits(starts, line + 1) != 0;
-    }
-    index < 63 && line_bits(start_word(words, layout, block, index + 1), 0) != 0
-}
-
-/// Adds the lines that objects touch which begin at the addresses of one word of start bits. If
-/// objects begin in its four lines and in the next, none is read: each ends before a later one.
-fn add_lines<W: Words>(words: &W, layout: &Layout, block: u32, index: u32, lines: &mut [u64; 4])
-    requires block { IsReadableBlock (state_over (W.words words.now) layout.now 0 0) block }
-    requires apart { AreApart (state_over (W.words words.now) layout.now 0 0) block }
-    requires kind { HasKind (state_over (W.words words.now) layout.now 0 0) block kinds.Immix }
-    requires index { index < 64 }
-    requires len { length lines.old ≡ 4 }
-    ensures { MarksFrom (state_over (W.words words.now) layout.now 0 0) block
-        (64 * index) (64 * index + 64) lines.old lines.new }
-{
-    let starts = start_word(words, layout, block, index);
-    if starts == 0 {
-        return;
-    }
-    if is_dense(starts) && next_begins(words, layout, block, index, 3, starts) {
-        set_run(lines, 4 * index, 4 * index + 4);
-        return;
-    }
-    for line in 0..4 {
-        add_line(words, layout, block, index, line, starts, lines);
-    }
-}
-
-/// Adds the lines that objects touch which begin in one of the four lines whose start bits these
-/// are. Only the last of them is read, and only if none begins in the next line.
-#[inline(always)]
-fn add_line<W: Words>(
-    words: &W,
-    layout: &Layout,
-    block: u32,
-    index: u32,
-    line: u32,
-    starts: u64,
-    lines: &mut [u64; 4],
-)
-    requires block { IsReadableBlock (state_over (W.words words.now) layout.now 0 0) block }
-    requires apart { AreApart (state_over (W.words words.now) layout.now 0 0) block }
-    requires kind { HasKind (state_over (W.words words.now) layout.now 0 0) block kinds.Immix }
-    requires index { index < 64 }
-    requires line { line < 4 }
-    requires starts { AreStarts (state_over (W.words words.now) layout.now 0 0) block index starts }
-    requires len { length lines.old ≡ 4 }
-    ensures { MarksFrom (state_over (W.words words.now) layout.now 0 0) block
-        (LINE_WORDS * (4 * index + line)) (LINE_WORDS * (4 * index + line) + LINE_WORDS)
-        lines.old lines.new }
-{
-    let bits = line_bits(starts, line);
-    if bits == 0 {
-        return;
-    }
-    if next_begins(words, layout, block, index, line, starts) {
-        set_run(lines, 4 * index + line, 4 * index + line + 1);
-        return;
-    }
-    let last = 63 - bits.leading_zeros();
-    add_object(words, layout, block, 64 * index + last, lines);
 }
 
 /// Adds the lines that the object at this offset touches.

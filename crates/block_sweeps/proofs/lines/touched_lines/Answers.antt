@@ -1,20 +1,18 @@
-use Rattle.std.proofs.Common.{arith, ◌+◌, ◌*◌, subst, replicate}
+use Rattle.std.proofs.Common.{arith, subst, ◌+◌, ◌*◌}
 use Rattle.object_model.specs.Objects.{HeapState, state_over}
-use Rattle.block_sweeps.specs.Touches.{MarksFrom}
-use Rattle.block_sweeps.proofs.TouchedLines.{touched-all}
-use Rattle.block_sweeps.proofs.LineStarts.{marks-on, marks-nothing}
+use Rattle.block_sweeps.specs.Touches.{AddsEnds}
+use Rattle.block_sweeps.proofs.LineEnds.{ends-on, ends-all}
 use Rattle.block_sweeps.proofs.lines.touched_lines.Goals as goal
 
-pub loop-index-init : goal.loop-index-init
-loop-index-init g c = marks-nothing (state_over (g.W.Words.words c.args.words.now) c.args.layout.now 0 0) c.args.block 0 (replicate 4 0)
-
-pub loop-index-preserved : goal.loop-index-preserved
-loop-index-preserved g c =
+pub loop-word-preserved : goal.loop-word-preserved
+loop-word-preserved g c =
     let s : HeapState = state_over (g.W.Words.words c.args.words.now) c.args.layout.now 0 0 in
-    subst (λ to. MarksFrom s c.args.block 0 to (replicate 4 0) c.add_lines.new.lines) (omega arith)
-    (marks-on s c.args.block 0 (64 * c.loop-index.index) (64 * c.loop-index.index + 64) (replicate 4 0) c.loop-index.lines c.add_lines.new.lines
-    c.loop-index.invariant c.add_lines.ensures)
+    subst (λ to. AddsEnds s c.args.block 0 to c.begun_lines-begun.result c.add_ends.new.lines) (omega arith)
+    (ends-on s c.args.block 0 (64 * c.loop-word.word) (64 * c.loop-word.word + 64) c.begun_lines-begun.result c.loop-word.lines c.add_ends.new.lines
+    c.loop-word.invariant c.add_ends.ensures)
 
 pub returns-clause-lines : goal.returns-clause-lines
-returns-clause-lines g c = touched-all (state_over (g.W.Words.words c.args.words.now) c.args.layout.now 0 0) c.args.block c.loop-index.index
-    c.loop-index.lines c.requires.block.block (omega arith) c.loop-index.invariant
+returns-clause-lines g c =
+    let s : HeapState = state_over (g.W.Words.words c.args.words.now) c.args.layout.now 0 0 in
+    ends-all s c.args.block c.begun_lines-begun.result c.loop-word.lines c.requires.block.block c.requires.apart c.begun_lines-begun.ensures.lines
+    (subst (λ to. AddsEnds s c.args.block 0 to c.begun_lines-begun.result c.loop-word.lines) (omega arith) c.loop-word.invariant)
