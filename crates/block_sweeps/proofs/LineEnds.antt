@@ -195,14 +195,6 @@ module _ (s : HeapState) (k : ℕ) where
     only = left.only;
   }
 
-  pub ends-nothing : (from : ℕ) (lines : List ℕ) → AddsEnds s k from from lines lines
-  ends-nothing from lines = record {
-    extent = refl;
-    kept = λ n is. is;
-    ends = λ line after below is. absurd (omega (arith, after, below));
-    only = λ n is. inl is;
-  }
-
   -- the ends of lines from one number on, and from another
   pub ends-on : (from mid to : ℕ) (old between new : List ℕ) → AddsEnds s k from mid old between → AddsEnds s k mid to between new → AddsEnds s k from to old new
   ends-on from mid to old between new one two = record {

@@ -45,8 +45,8 @@ fn store_lines<W: Words>(words: &mut W, layout: &Layout, block: u32, lines: &[u6
     }
 }
 
-/// The line bits of the lines that objects in the block touch: the lines in which objects begin, and
-/// those that the last object of a line reaches. Each other object ends before one in its line.
+/// The line bits of the lines that objects in the block touch: those in which objects begin, and
+/// those that the last object of a line reaches. Any other object ends before one in its line.
 fn touched_lines<W: Words>(words: &W, layout: &Layout, block: u32) -> [u64; 4]
     requires block { IsReadableBlock (state_over (W.words words.now) layout.now 0 0) block }
     requires apart { AreApart (state_over (W.words words.now) layout.now 0 0) block }
@@ -69,7 +69,8 @@ fn begun_lines<W: Words>(words: &W, layout: &Layout, block: u32) -> [u64; 4]
     requires block { block < layout.now.blocks }
     ensures len { length result ≡ 4 }
     ensures lines { (word : ℕ) → word < 4
-        → AreBegun (state_over (W.words words.now) layout.now 0 0) block word (slice_index result word) }
+        → AreBegun (state_over (W.words words.now) layout.now 0 0) block word
+        (slice_index result word) }
 {
     let mut lines = [0; 4];
     for index in 0..64 {
@@ -113,8 +114,8 @@ fn add_if_begun(bits: u64, line: u32, lines: &mut [u64; 4])
     set_run(lines, line, line);
 }
 
-/// For each of 64 lines in which objects begin, as the bits of `begun` tell, adds the lines that the
-/// last of them touches. If one begins in the next line too, it ends there or before, and is not read.
+/// For each of 64 lines in which objects begin, as the bits of `begun` tell, adds the lines that
+/// the last of them touches. It is not read if one begins in the next line, since it ends there.
 fn add_ends<W: Words>(
     words: &W,
     layout: &Layout,
@@ -179,9 +180,10 @@ fn line_bits(word: u64, line: u32) -> u64
 /// Whether an object begins in each of the four lines whose start bits these are.
 #[inline(always)]
 fn is_dense(starts: u64) -> bool
-    ensures dense { result ≡ true → (s : HeapState) (k index line : ℕ) → AreStarts s k index starts
-        → line < 4 → BeginsIn s k (4 * index + line) }
-    ensures sparse { result ≡ false → (s : HeapState) (k index : ℕ) → AreStarts s k index starts
+    ensures dense { result ≡ true → (s : HeapState) (k index line : ℕ)
+        → AreStarts s k index starts → line < 4 → BeginsIn s k (4 * index + line) }
+    ensures sparse { result ≡ false → (s : HeapState) (k index : ℕ)
+        → AreStarts s k index starts
         → (line : ℕ) × (line < 4) × (BeginsIn s k (4 * index + line) → ⊥) }
 {
     for line in 0..4 {

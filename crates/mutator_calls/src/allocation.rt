@@ -116,7 +116,8 @@ fn take_free_block<S: Seat>(seat: &mut S, size: u32) -> Result<(), NeedCause>
     ensures goes { IsErr result → (drawn : ℕ) × S.goes seat.old (draws drawn) seat.new
         × Draws (S.has_budget seat.old)
         (S.books seat.old).ticket (S.books seat.new).ticket drawn }
-    ensures lacks { (j : ℕ) → IsErr result → S.lacks seat.old size j → S.lacks seat.new size j }
+    ensures lacks { (j : ℕ) → IsErr result → S.lacks seat.old size j
+        → S.lacks seat.new size j }
     ensures same { (c : S) (n : ℕ) → IsErr result → S.offers seat.new c n
         → S.offers seat.old c n }
     ensures regions { (n k : ℕ) → IsErr result → S.allocates_in seat.new n k

@@ -63,7 +63,8 @@ pub fn regions_of_lines()
         → IsRegionIn kinds.Immix s k q × HasHole kinds.Immix s k q.next size
         × (r.end ≤ q.next) }
     ensures some { (s : HeapState) (k : ℕ) (r : Region) → IsRegionIn kinds.Immix s k r
-        → ((line : ℕ) → line < BLOCK_LINES → IsTrue (line_marked s k line) → ⊥) → 0 < r.next
+        → ((line : ℕ) → line < BLOCK_LINES → IsTrue (line_marked s k line) → ⊥)
+        → 0 < r.next
         → (a : ℕ) × IsHeld s a × (block_at s.blocks a ≡ k) }
 {}
 

@@ -1,8 +1,8 @@
 -- One more reply beside those that are stored.
-use Rattle.std.proofs.Common.{◌≡◌, refl, sym, ◌∙◌, ap, subst, ℕ, suc, ◌+◌, ◌≤◌, ◌⊎◌, inl, inr, arith, List, [], ◌∷◌, ◌++◌, length, length-append, length-drop, drop, append-nil}
+use Rattle.std.proofs.Common.{◌≡◌, refl, sym, ◌∙◌, ap, subst, ℕ, suc, ◌+◌, ◌≤◌, ◌⊎◌, inl, inr, arith, List, [], ◌∷◌, ◌++◌, length, length-drop, drop, append-nil}
 use Rattle.std.specs.Prelude.{sum_by}
 use Rattle.std.proofs.lemmas.List.{get_or_append_left, drop-append-le}
-use Rattle.std.proofs.lemmas.List.Sums.{sum_by-cons, sum_by-append}
+use Rattle.std.proofs.lemmas.List.Sums.{sum_by-cons}
 use Rattle.ideal_heap.specs.Names.{name}
 use Rattle.ideal_heap.specs.declared.name.Name.{Name}
 use Rattle.ideal_heap.specs.declared.reply.Reply.{Reply}
@@ -54,14 +54,6 @@ unpacked-more (first ∷ kinds) names more numbers others kind has =
     let rest = rest-has first kinds names numbers has in
     rw (first-same first names more numbers others rest.0 rest.1, drop-append-le (names_in first) names more rest.0, drop-append-le (numbers_in first) numbers others rest.1)
     (ap (λ l. first_reply first names numbers ∷ l) (unpacked-more kinds (drop (names_in first) names) more (drop (numbers_in first) numbers) others kind rest.2))
-
--- the counts of parts with one more reply
-pub has-more : (kinds : List ReplyKind) (names more : List Name) (numbers others : List ℕ) (kind : ReplyKind) → HasParts kinds names numbers
-    → names_in kind ≡ length more → numbers_in kind ≡ length others → HasParts (kinds ++ kind ∷ []) (names ++ more) (numbers ++ others)
-has-more kinds names more numbers others kind has n m = record {
-  name_count = sum_by-append names_in kinds (kind ∷ []) ∙ grind (arith, has.name_count, n, length-append names more);
-  number_count = sum_by-append numbers_in kinds (kind ∷ []) ∙ grind (arith, has.number_count, m, length-append numbers others);
-}
 
 -- one more reply with a name, with a number, or with neither
 pub name-pushed : (kinds : List ReplyKind) (names : List Name) (numbers : List ℕ) (reply : Reply) (n : Name)

@@ -19,7 +19,7 @@ kind_of r.No = k.No
 kind_of r.Null = k.Null
 kind_of r.Range = k.Range
 
--- the reply of a kind, with the first of these names or numbers if it has one
+-- the reply of a kind; if such a reply has a name or a number, it is the first of these
 abbrev pub first_reply : ReplyKind → List Name → List ℕ → Reply
 first_reply k.New names numbers = r.New (get_or names 0 (name 0 0))
 first_reply k.Full names numbers = r.Full
@@ -38,7 +38,7 @@ names_in k.New = 1
 names_in k.Ref = 1
 names_in _ = 0
 
--- how many numbers
+-- how many numbers a reply of a kind has
 abbrev pub numbers_in : ReplyKind → ℕ
 numbers_in k.Num = 1
 numbers_in _ = 0

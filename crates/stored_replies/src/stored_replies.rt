@@ -36,8 +36,8 @@ impl Model for StoredReplies {
 }
 
 impl StoredReplies {
-    /// No reply, with room for so many. Memory is taken for as many names and numbers too, since any
-    /// reply may have one. It is written only as they come.
+    /// No reply, with room for so many. Memory is taken for as many names and numbers too, since
+    /// any reply may have one. It is written only as they come.
     ///
     /// Fails if memory runs out.
     pub fn with_capacity(alloc: Global, capacity: usize) -> Result<StoredReplies, AllocError>
