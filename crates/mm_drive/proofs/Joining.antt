@@ -1,5 +1,5 @@
 -- Files that are read one after another: what is known after one more, and that reading ends at a single file.
-use Rattle.std.proofs.Common.{◌≡◌, refl, sym, ◌∙◌, ap, subst, ℕ, zero, suc, ◌<◌, ◌≤◌, inl, inr, arith, List, [], ◌∷◌, ◌++◌, append_assoc, length, take}
+use Rattle.std.proofs.Common.{◌≡◌, refl, sym, ◌∙◌, ap, subst, ℕ, zero, suc, ◌<◌, ◌≤◌, inl, inr, arith, List, [], ◌∷◌, ◌++◌, append_assoc, length, take, map, append-nil}
 use Rattle.std.specs.Prelude.{Option, None, Some, IfSome, Result, Ok, Err, IsErr, slice_get, unwrap_or, IfOk}
 use Rattle.std.proofs.lemmas.Bool.{true≢false, cases_order}
 use Rattle.std.proofs.lemmas.Option.{none-some, slice_get_within, get_or_from_slice_get}
@@ -55,6 +55,18 @@ asks-more names k name count before now next is asked one = record {
   names = map-append (λ a. a.0) asked.since ((name, count) ∷ []) ∙ ap (λ x. x ++ name ∷ []) asked.names ∙ sym (one-more names k name is);
 }
 
+-- the names that were asked for
+pub names-asked : (n : ℕ) (files : List (List ℕ)) (before after : Asked) → AsksFirst n files before after → map (λ x. x.0) after ≡ map (λ x. x.0) before ++ take n files
+names-asked n files before after a =
+    ap (map (λ x. x.0)) a.all ∙ map-append (λ x. x.0) before a.since ∙ ap (λ x. map (λ y. y.0) before ++ x) a.names
+
+-- no name of a job was asked for
+pub asks-none : (files : List (List ℕ)) (before : Asked) → AsksPrefix files before before
+asks-none files before = (0, record { since = []; all = sym (append-nil before); names = refl })
+
+pub risen-since : (first count last : ℕ) → first ≤ count → HasRisen count last → HasRisen first last
+risen-since first count last since risen = elim risen as (λ _. HasRisen first last) [ inl h ↦ inl (omega (arith, since, h)) | inr h ↦ inr h ]
+
 pub asks-prefix : {X : Type 0} (r : Result X FileFault) (names : List (List ℕ)) (k : ℕ) (name : List ℕ) (before : Asked) (now next : SourceState) → slice_get names k ≡ Some name → AsksFirst k names before now.asked → AsksName r name now next
     → AsksPrefix names before next.asked
 asks-prefix (Ok x) names k name before now next is asked one = (suc k, asks-more names k name now.faults before now.asked next.asked is asked one)
@@ -66,13 +78,6 @@ asks-prefix (Err file.OutOfMemory) names k name before now next is asked one =
       | inl more ↦ (suc k, asks-more names k name now.faults before now.asked next.asked is asked more)
       | inr none ↦ (k, subst (λ (x : Asked). AsksFirst k names before x) (sym none) asked)
     ]
-
-pub asks-all : {X : Type 0} (r : Result X FileFault) (name : List ℕ) (now next : SourceState) → next.asked ≡ now.asked ++ (name, now.faults) ∷ [] → AsksName r name now next
-asks-all (Ok x) name now next one = one
-asks-all (Err file.Unread) name now next one = one
-asks-all (Err file.TooLong) name now next one = one
-asks-all (Err (file.Bad f)) name now next one = one
-asks-all (Err file.OutOfMemory) name now next one = inl one
 
 -- the fault of one file, after files that have traces
 module _ (names : List (List ℕ)) (k : ℕ) (name : List ℕ) (ts : List (List Command)) (first now next : SourceState) (is : slice_get names k ≡ Some name)

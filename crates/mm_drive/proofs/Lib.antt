@@ -5,3 +5,4 @@ mod OneTrace
 pub mod Jobs
 pub mod Outcomes
 pub mod Joining
+pub mod Ends

@@ -1,18 +1,16 @@
 -- From reading, running and writing to a whole run.
-use Rattle.std.proofs.Common.{◌≡◌, refl, sym, ◌∙◌, ap, subst, ℕ, suc, ◌<◌, arith, true, List, [], ◌∷◌, length}
-use Rattle.std.specs.Prelude.{Option, Some, IfSome, Result, Ok, Err, IfOk, option_map, slice_get, String, string_bytes, unwrap_or}
+use Rattle.std.proofs.Common.{◌≡◌, refl, sym, ◌∙◌, ap, subst, ℕ, ◌<◌, arith, true, List, [], ◌∷◌, length}
+use Rattle.std.specs.Prelude.{Option, Some, IfSome, Result, Ok, Err, IfOk, option_map, slice_get, String, string_bytes}
 use Rattle.std.specs.declared.alloc.Global.{Global}
 use Rattle.std.proofs.lemmas.Bool.{true≢false}
 use Rattle.std.proofs.lemmas.List.{length-map}
 use Rattle.std.proofs.lemmas.Option.{slice_get_within}
 use Rattle.ideal_heap.specs.declared.command.Command.{Command}
-use Rattle.mm_drive.specs.declared.fault_lines.Flaw.{Flaw}
 use Rattle.command_line.specs.Words.{Job, Work, Files, Made, has_files, is_supported}
 use Rattle.command_line.specs.Orders.{job_of_order, texts}
 use Rattle.command_line.specs.declared.order.Order.{Order}
-use Rattle.outside.specs.Outside.{SourceState, SinkState, HasRisen, AppendsText, AppendsPrefix}
-use Rattle.mm_drive.specs.Printed.{Content, files_in, job_files, IsPrinted, AreTraces, AreTracesOf, Prints, PrintsPrefix, AsksFirst, EndsAt, IsAny, IsLong, HasFault, Unread, IsTooLong, IsBad, unread_line, long_line, fault_line}
-use Rattle.mm_drive.specs.Reading.{IsUnread}
+use Rattle.outside.specs.Outside.{SinkState, HasRisen, AppendsText, AppendsPrefix}
+use Rattle.mm_drive.specs.Printed.{Content, files_in, job_files, IsPrinted, AreTraces, AreTracesOf, Prints, PrintsPrefix}
 use Rattle.mm_drive.proofs.Jobs.{supported-work}
 
 -- what holds of the job holds of the job that the arguments name, if they name one
@@ -26,29 +24,6 @@ named-job r o j is named = sym (ap (option_map job_of_order) is) ∙ named
 -- a file that is named is one of the arguments
 pub within-files : (files : List (String Global)) (k : ℕ) (file : List ℕ) → slice_get (texts files) k ≡ Some file → k < length files
 within-files files k file is = let low = slice_get_within (texts files) k file is in subst (λ (n : ℕ). k < n) (length-map files string_bytes) low
-
-module _ (names : List (List ℕ)) (k : ℕ) (name : List ℕ) (same : slice_get names k ≡ Some name) (before after : SourceState) where
-  here : (file : List ℕ) → slice_get names k ≡ Some file → name ≡ file
-  here file is = ap (λ o. unwrap_or o name) (sym same ∙ is)
-
-  pub unread-here : (Writes : List ℕ → Type 0) → (at : EndsAt before.content names k IsAny) × IsUnread names k at.file before after → Writes (unread_line name) → Unread names before after Writes
-  unread-here Writes ends line = record {
-    place = k;
-    at = ends.0;
-    earlier = ends.1.earlier;
-    prefix = ends.1.prefix;
-    count = ends.1.count;
-    last = ends.1.last;
-    since = ends.1.since;
-    risen = ends.1.risen;
-    line = subst (λ (x : List ℕ). Writes (unread_line x)) (here ends.0.file ends.0.is) line;
-  }
-
-  pub long-here : (Writes : List ℕ → Type 0) → EndsAt before.content names k IsLong × AsksFirst (suc k) names before.asked after.asked → Writes (long_line name) → IsTooLong names before after Writes
-  long-here Writes ends line = record { place = k; at = ends.0; asked = ends.1; line = subst (λ (x : List ℕ). Writes (long_line x)) (here ends.0.file ends.0.is) line }
-
-  pub bad-here : (f : Flaw) (Writes : List ℕ → Type 0) → EndsAt before.content names k (HasFault f) × AsksFirst (suc k) names before.asked after.asked → Writes (fault_line name f) → IsBad names before after Writes
-  bad-here f Writes bad line = record { flaw = f; place = k; at = bad.0; asked = bad.1; line = subst (λ (x : List ℕ). Writes (fault_line x f)) (here bad.0.file bad.0.is) line }
 
 -- the traces of the files are those of a job that is implemented
 pub of-files : (content : Content) (work : Work) (ts : List (List Command)) → has_files work ≡ true → AreTraces content (files_in work) ts → AreTracesOf content work ts

@@ -1,13 +1,13 @@
 -- How the process ends, by the arguments that the system gives.
-use Rattle.std.specs.Prelude.{◌≡◌, ◌≢◌, ◌⊎◌, ℕ, List, Option, None, IfSome}
+use Rattle.std.specs.Prelude.{◌≡◌, ◌≢◌, ◌⊎◌, ℕ, List, length, Option, None, Some, IfSome}
 use Rattle.std.specs.declared.io.ErrorKind.{ErrorKind}
 use Rattle.std.specs.declared.io.ErrorKind.TheVariants as kinds
 use Rattle.command_line.specs.Words.{Job}
-use Rattle.outside.specs.Outside.{SinkState}
+use Rattle.outside.specs.Outside.{Asked, SourceState, SinkState}
 use Rattle.mm_drive.specs.declared.status.Status.{Status}
 use Rattle.mm_drive.specs.declared.status.Status.TheVariants as status
 use Rattle.mm_drive.specs.Statuses.{number_of}
-use Rattle.mm_drive.specs.Printed.{Prints, PrintsPrefix, usage_line, memory_line}
+use Rattle.mm_drive.specs.Printed.{job_files, Prints, PrintsPrefix, AsksFirst, AsksPrefix, Unread, IsTooLong, IsBad, IsUsage, WritesFaultLine, usage_line, write_line, memory_line}
 
 -- the status if the system gives no arguments: out of memory if it reports that, else usage: an argument is not UTF-8
 abbrev pub refusal : ErrorKind → Status
@@ -23,13 +23,33 @@ pub record IsStatusOf (job : Option Job) (s : Status) : Type 0 where
   pub none : s ≡ status.Usage → job ≡ None
   pub usage : job ≡ None → (s ≡ status.Usage) ⊎ (s ≡ status.OutOfMemory)
 
--- A run over files whose contents are not known: what it wrote to both sinks.
-pub record Ran (job : Option Job) (s : Status) (out out' err err' : SinkState) : Type 0 where
+-- a prefix of the job's files was opened, in their order, and no other name; none where there is no job
+abbrev pub OpensOnly : Option Job → Asked → Asked → Type 0
+OpensOnly None before after = after ≡ before
+OpensOnly (Some job) before after = AsksPrefix (job_files job) before after
+
+-- each of the job's files was opened, once, in their order
+abbrev pub OpensAll : Job → Asked → Asked → Type 0
+OpensAll job before after = AsksFirst (length (job_files job)) (job_files job) before after
+
+-- A run of the arguments: which names it opened, and what it wrote to both sinks.
+pub record Ran (job : Option Job) (s : Status) (files files' : SourceState) (out out' err err' : SinkState) : Type 0 where
   pub status_of : IsStatusOf job s
-  pub printed : s ≡ status.Ok → IfSome job (λ j. Prints (λ _. None) j out out')
-  pub prefix : s ≡ status.WriteFault → IfSome job (λ j. PrintsPrefix (λ _. None) j out out')
+  pub opened : OpensOnly job files.asked files'.asked
+  pub all : s ≡ status.Ok → IfSome job (λ j. OpensAll j files.asked files'.asked)
+  pub printed : s ≡ status.Ok → IfSome job (λ j. Prints files.content j out out')
+  pub prefix : s ≡ status.WriteFault → IfSome job (λ j. PrintsPrefix files.content j out out')
   pub unwritten : s ≢ status.Ok → s ≢ status.WriteFault → out' ≡ out
   pub silent : s ≡ status.Ok → err' ≡ err
+
+-- Each status but Ok has its cause, and its line on standard error.
+pub record IsReported (job : Option Job) (s : Status) (files files' : SourceState) (err err' : SinkState) : Type 0 where
+  pub usage : s ≡ status.Usage → IsUsage job files files' (WritesFaultLine err err')
+  pub unread : s ≡ status.ReadFault → IfSome job (λ j. Unread (job_files j) files files' (WritesFaultLine err err'))
+  pub too_long : s ≡ status.TooLong → IfSome job (λ j. IsTooLong (job_files j) files files' (WritesFaultLine err err'))
+  pub bad : s ≡ status.BadTrace → IfSome job (λ j. IsBad (job_files j) files files' (WritesFaultLine err err'))
+  pub unwritten : s ≡ status.WriteFault → WritesFaultLine err err' write_line
+  pub starved : s ≡ status.OutOfMemory → WritesFaultLine err err' memory_line
 
 -- the number of such a status
 abbrev pub IsExit : Option Job → ℕ → Type 0

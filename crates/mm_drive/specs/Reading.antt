@@ -1,11 +1,30 @@
--- How far the reading of files has come.
-use Rattle.std.specs.Prelude.{◌≡◌, ◌⊎◌, ℕ, ◌≤◌, Result, Ok, Err, List, [], ◌∷◌, ◌++◌, suc}
+-- How far the reading of files has come, and why it ended.
+use Rattle.std.specs.Prelude.{◌≡◌, ◌⊎◌, ℕ, ◌<◌, ◌≤◌, Result, Ok, Err, List, [], ◌∷◌, ◌++◌, suc, slice_get, unwrap_or}
 use Rattle.outside.specs.Outside.{Asked, SourceState, HasRisen}
+use Rattle.outside.specs.declared.reader.ReadFault.{ReadFault}
+use Rattle.outside.specs.declared.reader.ReadFault.TheVariants as read
+use Rattle.trace_text.specs.declared.fault.TraceFault.{TraceFault}
+use Rattle.trace_text.specs.declared.fault.TraceFault.TheVariants as text
+use Rattle.mm_drive.specs.declared.fault_lines.Flaw.TheVariants as flaws
+use Rattle.mm_drive.specs.declared.status.Status.{Status}
+use Rattle.mm_drive.specs.declared.status.Status.TheVariants as status
 use Rattle.mm_drive.specs.declared.traces.FileFault.{FileFault}
 use Rattle.mm_drive.specs.declared.traces.FileFault.TheVariants as file
 use Rattle.mm_drive.specs.declared.traces.FilesFault.{FilesFault}
 use Rattle.mm_drive.specs.declared.traces.FilesFault.TheVariants as files
-use Rattle.mm_drive.specs.Printed.{AsksFirst, EndsAt, IsAny, IsLong, HasFault}
+use Rattle.mm_drive.specs.Printed.{AsksFirst, EndsAt, IsAny, IsLong, HasFault, unread_line, long_line, fault_line, memory_line}
+
+-- why a file that was not read has no trace
+abbrev pub reading_fault : ReadFault → FileFault
+reading_fault read.Failed = file.Unread
+reading_fault read.TooLong = file.TooLong
+reading_fault read.OutOfMemory = file.OutOfMemory
+
+-- why a file whose text was read has no trace
+abbrev pub text_fault : TraceFault → FileFault
+text_fault (text.Line n w) = file.Bad (flaws.Line n w)
+text_fault text.TooMany = file.Bad flaws.TooMany
+text_fault text.OutOfMemory = file.OutOfMemory
 
 -- the fault of the file with this index
 abbrev pub fault_at : ℕ → FileFault → FilesFault
@@ -42,3 +61,28 @@ Halts names before after (files.TooLong k) = EndsAt before.content names k IsLon
 Halts names before after (files.Bad k f) = EndsAt before.content names k (HasFault f)
     × AsksFirst (suc k) names before.asked after.asked
 Halts names before after files.OutOfMemory = Unit {0}
+
+-- the status of a run that a fault ends
+abbrev pub status_of : FilesFault → Status
+status_of (files.Unread k) = status.ReadFault
+status_of (files.TooLong k) = status.TooLong
+status_of (files.Bad k f) = status.BadTrace
+status_of files.OutOfMemory = status.OutOfMemory
+
+-- the name of the file with this index
+abbrev pub name_in : List (List ℕ) → ℕ → List ℕ
+name_in names k = unwrap_or (slice_get names k) []
+
+-- the line on standard error for a fault of these files
+abbrev pub line_of : List (List ℕ) → FilesFault → List ℕ
+line_of names (files.Unread k) = unread_line (name_in names k)
+line_of names (files.TooLong k) = long_line (name_in names k)
+line_of names (files.Bad k f) = fault_line (name_in names k) f
+line_of names files.OutOfMemory = memory_line
+
+-- the file at fault is one of n
+abbrev pub IsOneOf : ℕ → FilesFault → Type 0
+IsOneOf n (files.Unread k) = k < n
+IsOneOf n (files.TooLong k) = k < n
+IsOneOf n (files.Bad k f) = k < n
+IsOneOf n files.OutOfMemory = Unit {0}

@@ -1,11 +1,11 @@
 //! Laws on made traces and on the printed text.
 
 ghost use Rattle.std.specs.Prelude.{◌≡◌, ℕ, ◌++◌, ◌∷◌, [], List, codes, map, take, drop, replicate};
-ghost use Rattle.std.specs.List.{range_with_len, AllByRecursion};
+ghost use Rattle.std.specs.List.{range_with_len};
 ghost use Rattle.ideal_heap.specs.declared.command.Command.TheVariants as command;
 ghost use Rattle.ideal_heap.specs.declared.reply.Reply.TheVariants as reply;
 ghost use Rattle.ideal_heap.specs.Names.{name, IsBefore};
-ghost use Rattle.ideal_heap.specs.Runs.{entry, is_full, alone};
+ghost use Rattle.ideal_heap.specs.Runs.{entry, alone};
 ghost use Rattle.object_model.specs.Objects.{empty_heap};
 ghost use Rattle.object_model.specs.Graphs.{MutatorState};
 ghost use Rattle.sessions.specs.Plans.{NoGc};
@@ -14,9 +14,8 @@ ghost use Rattle.mm_drive.specs.Texts.{map_line, report_part, summary_part, repl
 ghost use Rattle.mm_drive.specs.Printed.{AreReplies};
 ghost use Rattle.ideal_heap.specs.declared.command.Command.{Command};
 ghost use Rattle.ideal_heap.specs.Ideal.{empty};
-ghost use Rattle.trace_text.specs.Text.{mutator_text};
+ghost use Rattle.trace_text.specs.Text.{mutator_text, HasFullLine};
 ghost use Rattle.sessions.specs.Sessions.{Setting};
-ghost use Rattle.std.specs.Prelude.{false};
 ghost use Rattle.object_model.specs.Objects.{HeapState};
 
 /// Worked made traces: how one begins, commands of each row, and later resets and collections.
@@ -68,16 +67,17 @@ pub fn summary_of_each()
         ++ codes "range 2\nlive objects 0 words 0\n" }
 {}
 
-/// The nine lines of a report on a session of two commands whose last heap has no blocks, and the
+/// The nine lines of a report on a session of three commands whose last heap has no blocks, and the
 /// map line of an object at the first word of a heap.
 pub fn report_and_map()
     ensures report { (ms : List MutatorState) → report_part NoGc 3 (record {
       heap = empty_heap 0;
       mutators = ms;
-      done = entry 1 command.Gc reply.Done ∷ entry 1 (command.New 0 1 2) reply.Full ∷ [];
+      done = entry 1 command.Gc reply.Done ∷ entry 2 command.Meet reply.Done
+          ∷ entry 1 (command.New 0 1 2) reply.Full ∷ [];
       nursery = 4;
       full = 2;
-    }) [] ≡ codes "plan nogc\nblocks 0\nmutators 3\ncommands 2\nfull 1\n"
+    }) [] ≡ codes "plan nogc\nblocks 0\nmutators 3\ncommands 3\nfull 1\n"
         ++ codes "collections nursery 4 full 2\nlive objects 0 words 0\nheld objects 0 words 0\n"
         ++ codes "kinds free 0 bump 0 young 0 mature 0 immix 0 cells 0 large 0 kept 0\n" }
     ensures map { map_line (record (empty_heap 0) {
@@ -86,10 +86,11 @@ pub fn report_and_map()
         ≡ codes "map 1.3 block 0 word 0 size 6\n" }
 {}
 
-/// The replies to a single trace depend on that trace alone, if no `new` was refused.
+/// The replies to a single trace depend on that trace alone, if the line `full` does not stand in
+/// their text. With more mutators they depend on the order of commands too.
 pub fn printed_of_one()
     ensures { (t : Setting) (trace : List Command) (text : List ℕ) → t.traces ≡ trace ∷ []
-        → (p : AreReplies t text) → AllByRecursion (λ e. is_full e.reply ≡ false) p.last.done
+        → AreReplies t text → (HasFullLine text → ⊥)
         → text ≡ mutator_text 1 (alone empty 1 trace) }
 {}
 

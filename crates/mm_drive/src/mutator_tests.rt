@@ -5,6 +5,7 @@ use crate::test_runs::{check_replies, files_of, repeat, run_traces, text_in, wor
 use crate::top::run;
 use outside::{MemSink, MemSources};
 use std::alloc::{AllocError, Global};
+use std::fmt::Write;
 use std::process::Abort;
 use std::sync::atomic::{AtomicU64, Ordering};
 use std::test::Fail;
@@ -155,12 +156,15 @@ fn sixteen_mutators(rt: HostRuntime) -> Result<(), Fail> {
     Ok(())
 }
 
-// A gate that counts, for mutators 1 and 2, how often each passes.
+// A gate that counts how often mutators 1 and 2, and worker 1, pass each point.
 #[derive(Drop)]
 struct CountingGate {
     polls: [AtomicU64; 2],
     allocations: [AtomicU64; 2],
     publications: [AtomicU64; 2],
+    packets: AtomicU64,
+    items: AtomicU64,
+    items_done: AtomicU64,
 }
 
 impl CountingGate {
@@ -169,7 +173,17 @@ impl CountingGate {
             polls: [AtomicU64::new(0), AtomicU64::new(0)],
             allocations: [AtomicU64::new(0), AtomicU64::new(0)],
             publications: [AtomicU64::new(0), AtomicU64::new(0)],
+            packets: AtomicU64::new(0),
+            items: AtomicU64::new(0),
+            items_done: AtomicU64::new(0),
         }
+    }
+}
+
+// Counts a point that worker 1 passes.
+fn count_worker(count: &AtomicU64, who: u32) {
+    if who == 17 {
+        count.fetch_add(1, Ordering::SeqCst);
     }
 }
 
@@ -179,7 +193,10 @@ impl Gate for CountingGate {
             Point::Poll => &self.polls,
             Point::Alloc => &self.allocations,
             Point::Publish => &self.publications,
-            Point::Packet | Point::Claim | Point::Claimed | Point::Steal => return,
+            Point::Packet => return count_worker(&self.packets, who),
+            Point::Claim => return count_worker(&self.items, who),
+            Point::Claimed => return count_worker(&self.items_done, who),
+            Point::Steal => return,
         };
         if who == 1 || who == 2 {
             counts[who as usize - 1].fetch_add(1, Ordering::SeqCst);
@@ -194,29 +211,77 @@ fn counts_of(counts: &[AtomicU64; 2]) -> (u64, u64) {
     )
 }
 
+// Packets, items begun and items done of worker 1.
+fn work_of(gate: &CountingGate) -> (u64, u64, u64) {
+    (
+        gate.packets.load(Ordering::SeqCst),
+        gate.items.load(Ordering::SeqCst),
+        gate.items_done.load(Ordering::SeqCst),
+    )
+}
+
+// Runs traces through a gate, with these replies.
+fn run_gated<R: Threads + Sync + Abort>(
+    rt: &R,
+    alloc: Global,
+    plan: &str,
+    traces: &[&str],
+    replies: &[&str],
+) -> Result<CountingGate, AllocError> {
+    let gate = CountingGate::new();
+    let mut line = String::new(alloc);
+    write!(line, "--plan {plan} --heap 4")?;
+    for m in 0..traces.len() {
+        write!(line, " f{m}")?;
+    }
+    let words = words_in(alloc, &line)?;
+    let mut sources = MemSources::new(files_of(alloc, traces)?, Vec::new(alloc));
+    let mut out = MemSink::new(alloc, 1000, 1000, Vec::new(alloc))?;
+    let mut err = MemSink::new(alloc, 1000, 1000, Vec::new(alloc))?;
+    let status = run(rt, alloc, &words, &mut sources, &mut out, &mut err, &gate);
+    assert_eq!(rt; status, Status::Ok, "{plan}");
+    let text = text_in(alloc, replies)?;
+    assert_eq!(rt; out.bytes(), text.as_slice(), "{plan}");
+    Ok(gate)
+}
+
 // Mutator 1 raises a stop at `gc`. Mutator 2 sees that before its `meet`, which is met at this
 // stop. Its `new` is large, so that no object is published.
 #[test]
 fn gates_are_passed(rt: HostRuntime) -> Result<(), Fail> {
-    let alloc = rt.alloc();
-    let gate = CountingGate::new();
-    let files = files_of(
-        alloc,
+    let gate = run_gated(
+        &rt,
+        rt.alloc(),
+        "nogc",
         &[
             "new r0 0 1;write r0 0 7;gc",
             "meet;new r0 0 60000;read r0 0",
         ],
+        &["new 1.1;ok;ok", "ok;full;null"],
     )?;
-    let words = words_in(alloc, "--plan nogc --heap 4 f0 f1")?;
-    let mut sources = MemSources::new(files, Vec::new(alloc));
-    let mut out = MemSink::new(alloc, 1000, 1000, Vec::new(alloc))?;
-    let mut err = MemSink::new(alloc, 1000, 1000, Vec::new(alloc))?;
-    let status = run(&rt, alloc, &words, &mut sources, &mut out, &mut err, &gate);
-    assert_eq!(rt; status, Status::Ok);
-    let text = text_in(alloc, &["new 1.1;ok;ok", "ok;full;null"])?;
-    assert_eq!(rt; out.bytes(), text.as_slice());
     assert_eq!(rt; counts_of(&gate.polls), (3, 3));
     assert_eq!(rt; counts_of(&gate.allocations), (1, 1));
     assert_eq!(rt; counts_of(&gate.publications), (1, 0));
+    assert_eq!(rt; work_of(&gate), (0, 0, 0));
+    Ok(())
+}
+
+// The worker of a collection passes the gate that `run` has, before and after each item: a root,
+// and both objects.
+#[test]
+fn gates_are_passed_in_collections(rt: HostRuntime) -> Result<(), Fail> {
+    for plan in ["marksweep", "semispace", "immix"] {
+        let gate = run_gated(
+            &rt,
+            rt.alloc(),
+            plan,
+            &["new r0 1 0;new r1 0 1;put r0 0 r1;drop r1;gc"],
+            &["new 1.1;new 1.2;ok;ok;ok"],
+        )?;
+        let (packets, items, items_done) = work_of(&gate);
+        assert!(rt; packets > 0, "{plan}");
+        assert!(rt; items > 2, "{plan}");
+        assert_eq!(rt; items_done, items, "{plan}");
+    }
     Ok(())
 }

@@ -7,12 +7,12 @@ ghost use Rattle.command_line.specs.Orders.{texts};
 ghost use Rattle.command_line.specs.Words.{job_of};
 ghost use Rattle.mm_drive.specs.Statuses.{number_of};
 ghost use Rattle.mm_drive.specs.Printed.{WritesFaultLine};
-ghost use Rattle.mm_drive.specs.Exits.{Ran, IsExit, refusal, refusal_line};
+ghost use Rattle.mm_drive.specs.Exits.{Ran, IsReported, IsExit, refusal, refusal_line};
 
 use crate::fault_lines::{write_memory_fault, write_usage_fault};
 use crate::status::Status;
 use crate::top::run;
-use outside::{ErrSink, FileSources, OutSink, Sink};
+use outside::{ErrSink, FileSources, OutSink, Sink, Sources};
 use std::alloc::{AllocError, Global};
 use std::env::Args;
 use std::io;
@@ -51,11 +51,12 @@ fn refuse<E: Sink>(err: &mut E, kind: ErrorKind) -> Status
     }
 }
 
-// Runs the program over real files.
-fn run_args<R: Threads + Sync + Files, O: Sink, E: Sink>(
+// Runs the program over these sources.
+fn run_args<R: Threads + Sync, S: Sources, O: Sink, E: Sink>(
     rt: &R,
     alloc: Global,
     args: io::Result<Args>,
+    sources: &mut S,
     out: &mut O,
     err: &mut E,
 ) -> Status
@@ -63,8 +64,13 @@ fn run_args<R: Threads + Sync + Files, O: Sink, E: Sink>(
     ensures reported { IfErr args (λ e. WritesFaultLine (E.state err.old) (E.state err.new)
         (refusal_line (error_kind e))) }
     ensures unwritten { IfErr args (λ e. O.state out.new ≡ O.state out.old) }
+    ensures unread { IfErr args (λ e. S.state sources.new ≡ S.state sources.old) }
     ensures ran { IfOk args (λ it. Ran (job_of (texts (drop 1 (into_iter_items it)))) result
-        (O.state out.old) (O.state out.new) (E.state err.old) (E.state err.new)) }
+        (S.state sources.old) (S.state sources.new) (O.state out.old) (O.state out.new)
+        (E.state err.old) (E.state err.new)) }
+    ensures causes { IfOk args (λ it.
+        IsReported (job_of (texts (drop 1 (into_iter_items it)))) result
+        (S.state sources.old) (S.state sources.new) (E.state err.old) (E.state err.new)) }
 {
     let args = match args {
         Ok(args) => args,
@@ -74,8 +80,7 @@ fn run_args<R: Threads + Sync + Files, O: Sink, E: Sink>(
         write_memory_fault(err);
         return Status::OutOfMemory;
     };
-    let mut sources = FileSources::new(rt, alloc);
-    run(rt, alloc, &words, &mut sources, out, err, &OpenGate)
+    run(rt, alloc, &words, sources, out, err, &OpenGate)
 }
 
 /// The exit number of the process. `args` has the program's name first.
@@ -91,7 +96,8 @@ pub fn program<R: Threads + Sync + Files>(
     // Otherwise the number of the status of a run of the arguments after the program's name.
     ensures ran { IfOk args (λ it. IsExit (job_of (texts (drop 1 (into_iter_items it)))) result) }
 {
+    let mut sources = FileSources::new(rt, alloc);
     let mut out = OutSink::new(out);
     let mut err = ErrSink::new(err);
-    run_args(rt, alloc, args, &mut out, &mut err).number()
+    run_args(rt, alloc, args, &mut sources, &mut out, &mut err).number()
 }

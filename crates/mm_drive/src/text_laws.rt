@@ -1,7 +1,7 @@
 //! Laws on what a session prints at its end, and worked texts.
 
-ghost use Rattle.std.specs.Prelude.{◌≡◌, ◌≢◌, ◌⊎◌, ℕ, suc, ◌++◌, ◌∷◌, [], List, length, map, take, replicate, slice_get, codes, true, false, Option, Some, None, IfSome, Ok, Err};
-ghost use Rattle.std.specs.List.{range_with_len, AllByRecursion};
+ghost use Rattle.std.specs.Prelude.{◌≡◌, ◌≢◌, ◌≤◌, ◌⊎◌, ℕ, suc, ◌++◌, ◌∷◌, [], List, length, map, take, replicate, slice_get, codes, true, false, Option, Some, None, IfSome, Ok, Err};
+ghost use Rattle.std.specs.List.{range_with_len};
 ghost use Rattle.heap_layout.specs.declared.block.Kind.TheVariants as kinds;
 ghost use Rattle.heap_layout.specs.Blocks.{code_of};
 ghost use Rattle.ideal_heap.specs.declared.command.Command.{Command};
@@ -9,7 +9,7 @@ ghost use Rattle.ideal_heap.specs.declared.command.Command.TheVariants as comman
 ghost use Rattle.ideal_heap.specs.declared.reply.Reply.TheVariants as reply;
 ghost use Rattle.ideal_heap.specs.Ideal.{empty};
 ghost use Rattle.ideal_heap.specs.Names.{name};
-ghost use Rattle.ideal_heap.specs.Runs.{is_full, alone, replies_of};
+ghost use Rattle.ideal_heap.specs.Runs.{alone, replies_of};
 ghost use Rattle.object_model.specs.Objects.{empty_heap};
 ghost use Rattle.object_model.specs.Graphs.{IsReachable, roots_of};
 ghost use Rattle.object_model.specs.WorkedHeaps.{unowned, plain_object, build_heap};
@@ -17,13 +17,14 @@ ghost use Rattle.sessions.specs.Plans.{Plan, NoGc, GenCopy, StickyImmix, rules_o
 ghost use Rattle.sessions.specs.Sessions.{Moment};
 ghost use Rattle.trace_text.specs.declared.fault.TraceFault.{TraceFault};
 ghost use Rattle.trace_text.specs.Grammar.{trace};
-ghost use Rattle.trace_text.specs.Text.{mutator_text};
+ghost use Rattle.trace_text.specs.Text.{mutator_text, HasFullLine};
 ghost use Rattle.command_line.specs.Words.{Job, Work, Files, Made};
 ghost use Rattle.outside.specs.Outside.{Asked, SourceState, SinkState, HasRisen, AppendsPrefix};
+ghost use Rattle.mm_drive.specs.declared.status.Status.{Status};
 ghost use Rattle.mm_drive.specs.declared.status.Status.TheVariants as status;
 ghost use Rattle.mm_drive.specs.Exits.{IsExit, Ran};
 ghost use Rattle.mm_drive.specs.Made.{in_row};
-ghost use Rattle.mm_drive.specs.Printed.{Content, AreTraces, Prints, PrintsPrefix, AsksFirst, AsksPrefix, Unread, IsTooLong, IsBad, IsUsage, IsLong, IsNoTrace, HasFault, HasTraces, EndsAtKnown, WritesFaultLine, setting_of, IsWholeText, fault_line, usage_line};
+ghost use Rattle.mm_drive.specs.Printed.{Content, AreTraces, Prints, PrintsPrefix, AsksFirst, AsksPrefix, Unread, IsTooLong, IsBad, IsUsage, IsLong, IsNoTrace, HasFault, HasTraces, EndsAtKnown, WritesFaultLine, job_files, setting_of, IsWholeText, fault_line, usage_line};
 ghost use Rattle.mm_drive.specs.Texts.{AreLive, IsSessionText, IsSummary, kinds_line, held_line, replies_part, report_part, summary_part};
 ghost use Rattle.mm_drive.specs.WorkedEnds.{worked_end};
 
@@ -107,20 +108,18 @@ pub fn traces_of_contents()
         → AreTraces content (file ∷ []) traces → traces ≡ cs ∷ [] }
 {}
 
-/// What is printed for one file whose content is known is a function of that content, if no `new`
-/// was refused; and if writing fails, a proper front of that.
+/// What is printed for one file whose content is known is a function of that content, if the line
+/// `full` does not stand in it. If writing fails, it is a proper front of that.
 pub fn printed_of_one_file()
     ensures whole { (content : Content) (job : Job) (before after : SinkState)
-        (file bytes old : List ℕ) (cs : List Command) → job.work ≡ Files (file ∷ [])
+        (file bytes old text : List ℕ) (cs : List Command) → job.work ≡ Files (file ∷ [])
         → content file ≡ Some bytes → trace bytes ≡ Ok cs → before.written ≡ Some old
-        → (p : Prints content job before after)
-        → AllByRecursion (λ e. is_full e.reply ≡ false) p.printed.last.done
-        → after.written ≡ Some (old ++ mutator_text 1 (alone empty 1 cs)) }
+        → Prints content job before after → after.written ≡ Some (old ++ text)
+        → (HasFullLine text → ⊥) → text ≡ mutator_text 1 (alone empty 1 cs) }
     ensures front { (content : Content) (job : Job) (before after : SinkState)
         (file bytes old : List ℕ) (cs : List Command) → job.work ≡ Files (file ∷ [])
         → content file ≡ Some bytes → trace bytes ≡ Ok cs → before.written ≡ Some old
-        → (p : PrintsPrefix content job before after)
-        → AllByRecursion (λ e. is_full e.reply ≡ false) p.printed.last.done
+        → (p : PrintsPrefix content job before after) → (HasFullLine p.text → ⊥)
         → HasRisen before.faults after.faults
         × AppendsPrefix (Some old) after.written (mutator_text 1 (alone empty 1 cs)) }
 {}
@@ -158,7 +157,8 @@ pub fn files_are_asked_in_order()
         → (job ≡ None) × (after ≡ before) × (line ≡ usage_line) }
 {}
 
-/// A fault line is on standard error whole, unless writing it failed: then a front of it is.
+/// A fault line is on standard error whole, unless writing it failed: then a front of it is. No
+/// fault of a write is forgotten.
 pub fn fault_lines_are_written()
     ensures whole { (before after : SinkState) (old line : List ℕ)
         → WritesFaultLine before after line → before.written ≡ Some old
@@ -166,22 +166,38 @@ pub fn fault_lines_are_written()
     ensures front { (before after : SinkState) (old line : List ℕ)
         → WritesFaultLine before after line → before.written ≡ Some old
         → (n : ℕ) × (after.written ≡ Some (old ++ take n line)) }
+    ensures later { (before after : SinkState) (line : List ℕ)
+        → WritesFaultLine before after line → before.faults ≤ after.faults }
 {}
 
 /// The process ends with 2 exactly where the arguments name no job, unless memory runs out. Only
-/// with 0 and 6 has it written to the output, and with 0 nothing to standard error.
+/// with 0 and 6 has it written to the output, and with 0 nothing to standard error. It opens the
+/// job's files alone, with 0 each of them.
 pub fn exits_have_causes()
     ensures no_job { (n : ℕ) → IsExit None n → (n ≡ 2) ⊎ (n ≡ 7) }
     ensures job { (job : Job) (n : ℕ) → IsExit (Some job) n → n ≢ 2 }
-    ensures unwritten { (job : Option Job) (out after err err_after : SinkState)
-        → Ran job status.BadTrace out after err err_after → after ≡ out }
-    ensures silent { (job : Option Job) (out after err err_after : SinkState)
-        → Ran job status.Ok out after err err_after → err_after ≡ err }
-    ensures printed { (job : Job) (out after err err_after : SinkState)
-        → Ran (Some job) status.Ok out after err err_after → Prints (λ _. None) job out after }
-    ensures front { (job : Job) (out after err err_after : SinkState)
-        → Ran (Some job) status.WriteFault out after err err_after
-        → PrintsPrefix (λ _. None) job out after }
+    ensures unwritten { (job : Option Job) (files read : SourceState)
+        (out after err err_after : SinkState)
+        → Ran job status.BadTrace files read out after err err_after → after ≡ out }
+    ensures silent { (job : Option Job) (files read : SourceState)
+        (out after err err_after : SinkState)
+        → Ran job status.Ok files read out after err err_after → err_after ≡ err }
+    ensures printed { (job : Job) (files read : SourceState) (out after err err_after : SinkState)
+        → Ran (Some job) status.Ok files read out after err err_after
+        → Prints files.content job out after }
+    ensures front { (job : Job) (files read : SourceState) (out after err err_after : SinkState)
+        → Ran (Some job) status.WriteFault files read out after err err_after
+        → PrintsPrefix files.content job out after }
+    ensures unread { (s : Status) (files read : SourceState) (out after err err_after : SinkState)
+        → Ran None s files read out after err err_after → read.asked ≡ files.asked }
+    ensures opened { (job : Job) (s : Status) (files read : SourceState)
+        (out after err err_after : SinkState)
+        → Ran (Some job) s files read out after err err_after
+        → (n : ℕ) × (map (λ a. a.0) read.asked
+        ≡ map (λ a. a.0) files.asked ++ take n (job_files job)) }
+    ensures all { (job : Job) (files read : SourceState) (out after err err_after : SinkState)
+        → Ran (Some job) status.Ok files read out after err err_after
+        → map (λ a. a.0) read.asked ≡ map (λ a. a.0) files.asked ++ job_files job }
 {}
 
 /// The whole texts of a job of two empty traces, and of one of a made trace without commands: with
@@ -208,12 +224,12 @@ pub fn texts_of_no_commands()
         ++ codes "range 0\nlive objects 0 words 0\n") }
 {}
 
-/// The text of one file is the replies of its trace alone, if no `new` was refused, and more. Where
-/// nothing is reachable, no object is counted or in the map.
+/// The text of one file is the replies of its trace alone and more, if the line `full` does not
+/// stand in it. Where nothing is reachable, no object is counted or in the map.
 pub fn texts_tell_of_sessions()
     ensures one { (job : Job) (file text : List ℕ) (cs : List Command)
-        → job.work ≡ Files (file ∷ []) → (w : IsWholeText job (cs ∷ []) text)
-        → AllByRecursion (λ e. is_full e.reply ≡ false) w.last.done
+        → job.work ≡ Files (file ∷ []) → IsWholeText job (cs ∷ []) text
+        → (HasFullLine text → ⊥)
         → (rest : List ℕ) × (text ≡ mutator_text 1 (alone empty 1 cs) ++ rest) }
     ensures dead { (plan : Plan) (n : ℕ) (last : Moment) (text : List ℕ)
         → ((a : ℕ) → IsReachable last.heap (roots_of last.mutators) a → ⊥)

@@ -5,6 +5,7 @@ ghost use Rattle.command_line.specs.Orders.{texts, job_of_order};
 ghost use Rattle.command_line.specs.Words.{job_of};
 ghost use Rattle.outside.specs.Outside.{HasRisen};
 ghost use Rattle.mm_drive.specs.Printed.{job_files, HasTraces, Prints, PrintsPrefix, AsksFirst, AsksPrefix, EndsAtKnown, IsLong, IsNoTrace, WritesFaultLine, IsUsage, Unread, IsTooLong, IsBad, write_line, memory_line};
+ghost use Rattle.mm_drive.specs.Reading.{IsOneOf, line_of};
 
 use crate::fault_lines::{
     write_length_fault, write_memory_fault, write_output_fault, write_read_fault,
@@ -35,6 +36,20 @@ fn name_at(files: &[String], place: usize) -> &str
     ensures { slice_get (texts files.now) place ≡ Some result.now }
 {
     &files[place]
+}
+
+// Reports why the files have no traces.
+fn write_files_fault<E: Sink>(err: &mut E, files: &[String], fault: FilesFault)
+    requires { IsOneOf (length files.now) fault }
+    ensures { WritesFaultLine (E.state err.old) (E.state err.new)
+        (line_of (texts files.now) fault) }
+{
+    match fault {
+        FilesFault::Unread(place) => write_read_fault(err, name_at(files, place)),
+        FilesFault::TooLong(place) => write_length_fault(err, name_at(files, place)),
+        FilesFault::Bad(place, flaw) => write_trace_fault(err, name_at(files, place), flaw),
+        FilesFault::OutOfMemory => write_memory_fault(err),
+    }
 }
 
 /// Runs the program. `words` are the arguments after the program's name.
@@ -136,21 +151,9 @@ pub fn run<R: Threads + Sync, S: Sources, O: Sink, E: Sink, G: Gate>(
     let files = files_named(&order);
     let traces = match traces_of_files(alloc, sources, files) {
         Ok(traces) => traces,
-        Err(FilesFault::Unread(place)) => {
-            write_read_fault(err, name_at(files, place));
-            return Status::ReadFault;
-        }
-        Err(FilesFault::TooLong(place)) => {
-            write_length_fault(err, name_at(files, place));
-            return Status::TooLong;
-        }
-        Err(FilesFault::Bad(place, flaw)) => {
-            write_trace_fault(err, name_at(files, place), flaw);
-            return Status::BadTrace;
-        }
-        Err(FilesFault::OutOfMemory) => {
-            write_memory_fault(err);
-            return Status::OutOfMemory;
+        Err(fault) => {
+            write_files_fault(err, files, fault);
+            return fault.status();
         }
     };
     let Ok(text) = text_of_session(rt, alloc, &order, traces, gate) else {

@@ -1,16 +1,16 @@
 //! The traces in named files.
 
-ghost use Rattle.std.specs.Prelude.{◌≡◌, ◌≤◌, ℕ, List, length, Ok, Err, All, OnOk, IfOk, IfErr, IfSome, IsErrOf};
-ghost use Rattle.trace_text.specs.Grammar.{trace};
+ghost use Rattle.std.specs.Prelude.{◌≡◌, ◌≤◌, length, All, OnOk, IfOk, IfErr, IfSome, IsErrOf};
 ghost use Rattle.trace_text.specs.Readers.{HasRead};
 ghost use Rattle.command_line.specs.Orders.{texts};
 ghost use Rattle.outside.specs.Outside.{HasRisen};
 ghost use Rattle.mm_drive.specs.declared.fault_lines.Flaw.{Flaw as AnyFlaw};
-ghost use Rattle.mm_drive.specs.Printed.{AreTraces, IsTraceIn, IsLong, HasFault, AsksFirst, AsksPrefix, fault_of};
+ghost use Rattle.mm_drive.specs.Printed.{AreTraces, IsTraceIn, IsLong, HasFault, AsksFirst, AsksPrefix};
 ghost use Rattle.mm_runtime.specs.Managers.{IsRunnable};
-ghost use Rattle.mm_drive.specs.Reading.{AsksName, Halts, fault_at};
+ghost use Rattle.mm_drive.specs.Reading.{AsksName, Halts, fault_at, status_of};
 
 use crate::fault_lines::Flaw;
+use crate::status::Status;
 use outside::{Consumer, ReadFault, Sources, read_file};
 use std::alloc::{AllocError, Global};
 use stored_commands::StoredTrace;
@@ -48,6 +48,34 @@ impl From<AllocError> for FilesFault {
     }
 }
 
+impl From<ReadFault> for FileFault {
+    ghost use Rattle.mm_drive.specs.Reading.{reading_fault};
+
+    ghost from_gives = { λ fault r. r ≡ reading_fault fault };
+
+    fn from(fault: ReadFault) -> FileFault {
+        match fault {
+            ReadFault::Failed => FileFault::Unread,
+            ReadFault::TooLong => FileFault::TooLong,
+            ReadFault::OutOfMemory => FileFault::OutOfMemory,
+        }
+    }
+}
+
+impl From<TraceFault> for FileFault {
+    ghost use Rattle.mm_drive.specs.Reading.{text_fault};
+
+    ghost from_gives = { λ fault r. r ≡ text_fault fault };
+
+    fn from(fault: TraceFault) -> FileFault {
+        match fault {
+            TraceFault::Line(line, why) => FileFault::Bad(Flaw::Line(line, why)),
+            TraceFault::TooMany => FileFault::Bad(Flaw::TooMany),
+            TraceFault::OutOfMemory => FileFault::OutOfMemory,
+        }
+    }
+}
+
 impl FileFault {
     // The fault of the file with this index.
     fn at(self, place: usize) -> FilesFault
@@ -58,6 +86,20 @@ impl FileFault {
             FileFault::TooLong => FilesFault::TooLong(place),
             FileFault::Bad(flaw) => FilesFault::Bad(place, flaw),
             FileFault::OutOfMemory => FilesFault::OutOfMemory,
+        }
+    }
+}
+
+impl FilesFault {
+    /// The status of a run that the fault ends.
+    pub(crate) fn status(self) -> Status
+        ensures { result ≡ status_of self }
+    {
+        match self {
+            FilesFault::Unread(_) => Status::ReadFault,
+            FilesFault::TooLong(_) => Status::TooLong,
+            FilesFault::Bad(..) => Status::BadTrace,
+            FilesFault::OutOfMemory => Status::OutOfMemory,
         }
     }
 }
@@ -73,25 +115,6 @@ impl Consumer for FileReader {
 
     fn take(&mut self, piece: &[u8]) -> Result<(), AllocError> {
         self.reader.read(piece)
-    }
-}
-
-// The trace of the text that was read.
-fn trace_read(reader: TraceReader) -> Result<StoredTrace, FileFault>
-    ensures ok { (bytes : List ℕ) → HasRead reader bytes
-        → IfOk result (λ v. trace bytes ≡ Ok v) }
-    ensures fit { (bytes : List ℕ) → HasRead reader bytes
-        → IfOk result IsRunnable }
-    ensures bad { (bytes : List ℕ) → HasRead reader bytes → (f : AnyFlaw)
-        → IsErrOf result (FileFault.Bad f) → trace bytes ≡ Err (fault_of f) }
-    ensures read { (IsErrOf result FileFault.Unread → ⊥)
-        × (IsErrOf result FileFault.TooLong → ⊥) }
-{
-    match reader.finish() {
-        Ok(commands) => Ok(commands),
-        Err(TraceFault::OutOfMemory) => Err(FileFault::OutOfMemory),
-        Err(TraceFault::Line(line, why)) => Err(FileFault::Bad(Flaw::Line(line, why))),
-        Err(TraceFault::TooMany) => Err(FileFault::Bad(Flaw::TooMany)),
     }
 }
 
@@ -116,12 +139,8 @@ fn trace_of_file<S: Sources>(
     let mut file = FileReader {
         reader: TraceReader::new(alloc),
     };
-    match read_file(alloc, sources, name, &mut file) {
-        Ok(()) => trace_read(file.reader),
-        Err(ReadFault::Failed) => Err(FileFault::Unread),
-        Err(ReadFault::TooLong) => Err(FileFault::TooLong),
-        Err(ReadFault::OutOfMemory) => Err(FileFault::OutOfMemory),
-    }
+    read_file(alloc, sources, name, &mut file)?;
+    Ok(file.reader.finish()?)
 }
 
 /// The traces in the files with these names, in their order. Reading ends at the first file that

@@ -1,7 +1,8 @@
 //! The trait of what takes the bytes of a file.
 
-ghost use Rattle.std.specs.Prelude.{◌≡◌, ◌++◌, ℕ, List, OnOk};
+ghost use Rattle.std.specs.Prelude.{◌≡◌, ◌≤◌, ◌++◌, ℕ, List, length, OnOk};
 
+use crate::traits::PIECE_BYTES;
 use std::alloc::AllocError;
 
 /// Takes the bytes of a file, piece by piece.
@@ -9,10 +10,11 @@ pub trait Consumer {
     // The consumer has taken these bytes.
     ghost has_taken: { Self → List ℕ → Type 0 };
 
-    /// Takes the next piece.
+    /// Takes the next piece, of at most `PIECE_BYTES` bytes.
     ///
     /// Fails if memory runs out. The consumer is of no use then.
     fn take(&mut self, piece: &[u8]) -> Result<(), AllocError>
+        requires { length piece.now ≤ PIECE_BYTES }
         ensures { OnOk result ((bytes : List ℕ) → has_taken self.old bytes
             → has_taken self.new (bytes ++ piece.now)) };
 }

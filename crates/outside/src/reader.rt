@@ -55,7 +55,8 @@ fn take_piece<S: Sources, C: Consumer>(
     buf: &mut [u8],
     consumer: &mut C,
 ) -> Result<usize, ReadFault>
-    requires { 0 < length buf.old }
+    requires some { 0 < length buf.old }
+    requires short { length buf.old ≤ PIECE_BYTES }
     ensures most { IfOk result (λ n. n ≤ length buf.old) }
     ensures moved { IfOk result (λ n. IfSome (S.state sources.old).left
         (λ left. Moved n left (S.state sources.new).left × (n ≡ 0 → left ≡ []))) }
@@ -79,7 +80,8 @@ fn read_rest<S: Sources, C: Consumer>(
     buf: &mut [u8],
     consumer: &mut C,
 ) -> Result<(), ReadFault>
-    requires { 0 < length buf.old }
+    requires some { 0 < length buf.old }
+    requires short { length buf.old ≤ PIECE_BYTES }
     ensures taken { OnOk result (TakesAll (C.has_taken consumer.old) (C.has_taken consumer.new)
         (S.state sources.old).left) }
     ensures too_long { IsErrOf result ReadFault.TooLong

@@ -4,6 +4,7 @@ mod FirstLines
 mod NumeralLemmas
 mod PartLemmas
 mod ReaderLemmas
+pub mod ReplyTexts
 mod Spelled
 mod TokenLemmas
 mod ValidLemmas

@@ -1,5 +1,5 @@
 -- Readers: the result is that of all the lines.
-use Rattle.std.proofs.Common.{◌≡◌, refl, sym, ◌∙◌, ap, ℕ, ◌+◌, ◌-◌, ◌<◌, arith, false, nat_lt, List, [], ◌∷◌, ◌++◌, take, drop, length, append_assoc, None, Result, Ok, Err, inl, inr, subst}
+use Rattle.std.proofs.Common.{◌≡◌, refl, sym, ◌∙◌, ap, ℕ, ◌+◌, ◌-◌, ◌<◌, arith, false, nat_lt, List, [], ◌∷◌, ◌++◌, take, drop, length, append_assoc, None, Result, Ok, Err, inl, inr}
 use Rattle.std.specs.Prelude.{OnOk, if◌then◌else◌}
 use Rattle.std.specs.Result.{is_ok}
 use Rattle.std.proofs.lemmas.List.{take_rest, take-append-drop}
@@ -7,6 +7,7 @@ use Rattle.std.proofs.lemmas.Bool.{lt-ltb}
 use Rattle.std.proofs.lemmas.List.{append-nil}
 use Rattle.ideal_heap.specs.declared.command.Command.{Command}
 use Rattle.trace_text.specs.declared.fault.TraceFault.{TraceFault}
+use Rattle.trace_text.specs.declared.fault.TraceFault.TheVariants.{Line, TooMany, OutOfMemory}
 use Rattle.trace_text.specs.declared.line_reader.LineReader.{LineReader}
 use Rattle.trace_text.specs.declared.trace_reader.TraceReader.{TraceReader}
 use Rattle.trace_text.specs.declared.limits.TheConstants.{MAX_COMMANDS}
@@ -71,13 +72,20 @@ pub trace_is : (bytes : List ℕ) → trace bytes ≡ with_header (lines_of byte
 unfolding trace
 trace_is bytes = refl
 
+-- an answer that is what is read
+pub given : (result read : Result (List Command) TraceFault) → result ≡ read → Gives (λ v. v) result read
+given (Ok cs) read is = sym is
+given (Err (Line n w)) read is = sym is
+given (Err TooMany) read is = sym is
+given (Err OutOfMemory) read is = tt
+
 -- the result at the end of the text
 pub ends : (r : TraceReader) (text : List ℕ) (result : Result (List Command) TraceFault) (done : LineReader) → HasRead r text
-    → GoesOn r.lines done (lines_of r.begun.items) [] → Gives (λ v. v) result (end_of_lines done []) → Gives (λ v. v) result (trace text)
-ends r text result done had read gives =
+    → GoesOn r.lines done (lines_of r.begun.items) [] → result ≡ end_of_lines done [] → Gives (λ v. v) result (trace text)
+ends r text result done had read is =
     let whole : end_of_lines done [] ≡ trace text =
     read [] ∙ ap (end_of_lines r.lines) (append-nil (lines_of r.begun.items)) ∙ ap (λ l. end_of_lines r.lines (lines_of l)) (sym (append-nil r.begun.items)) ∙ sym (had []) ∙ ap trace (append-nil text) in
-    subst (λ e. Gives (λ v. v) result e) whole gives
+    given result (trace text) (is ∙ whole)
 
 -- a list that is x after Ok
 pub on_ok : {X E A : Type 0} {Q : Type 0} (r : Result X E) (x a b : List A) → x ≡ (if is_ok r then a else b) → (x ≡ a → Q) → OnOk r Q

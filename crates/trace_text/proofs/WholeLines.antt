@@ -24,12 +24,16 @@ abbrev pub AllLack : List (List ℕ) → Type 0
 AllLack [] = Unit {0}
 AllLack (line ∷ lines) = Lacks 10 line × AllLack lines
 
+pub lines_before : (lines : List (List ℕ)) (more : List ℕ) → AllLack lines → lines_of (joined lines ++ more) ≡ lines ++ lines_of more
+lines_before [] more lack = refl
+lines_before (line ∷ lines) more lack =
+    let rest = joined lines ++ more in
+    let regrouped : joined (line ∷ lines) ++ more ≡ line ++ 10 ∷ rest = append_assoc (ended line) (joined lines) more ∙ append_assoc line (10 ∷ []) rest in
+    line_before (joined (line ∷ lines) ++ more) line rest (ap (parts_at 10) regrouped ∙ cut_at 10 line rest lack.0)
+    ∙ ap (λ ls. line ∷ ls) (lines_before lines more lack.1)
+
 pub lines_again : (lines : List (List ℕ)) → AllLack lines → lines_of (joined lines) ≡ lines
-lines_again [] lack = refl
-lines_again (line ∷ lines) lack =
-    let regrouped : joined (line ∷ lines) ≡ line ++ 10 ∷ joined lines = append_assoc line (10 ∷ []) (joined lines) in
-    line_before (joined (line ∷ lines)) line (joined lines) (ap (parts_at 10) regrouped ∙ cut_at 10 line (joined lines) lack.0)
-    ∙ ap (λ ls. line ∷ ls) (lines_again lines lack.1)
+lines_again lines lack = ap lines_of (sym (append-nil (joined lines))) ∙ lines_before lines [] lack ∙ append-nil lines
 
 -- the converse: a text that ends with a newline is its joined lines
 onto_first_more : (b : ℕ) (parts more : List (List ℕ)) → 0 < length parts → onto_first b (parts ++ more) ≡ onto_first b parts ++ more

@@ -1,13 +1,13 @@
 -- The text of traces and replies.
-use Rattle.std.specs.Prelude.{ℕ, List, [], ◌∷◌, ◌++◌, codes}
-use Rattle.std.specs.List.{flat_map}
+use Rattle.std.specs.Prelude.{◌≡◌, ℕ, ◌<◌, ◌^◌, List, [], ◌∷◌, ◌++◌, codes}
+use Rattle.std.specs.List.{Any, flat_map}
 use Rattle.std.specs.Fmt.{decimal}
 use Rattle.ideal_heap.specs.declared.name.Name.{Name}
 use Rattle.ideal_heap.specs.declared.command.Command.{Command}
 use Rattle.ideal_heap.specs.declared.reply.Reply.{Reply}
 use Rattle.ideal_heap.specs.declared.reply.Reply.TheVariants as r
 use Rattle.trace_text.specs.Words.{Sort, word_of, letter_of, sorts_of, op_in, arguments_in}
-use Rattle.trace_text.specs.Grammar.{header}
+use Rattle.trace_text.specs.Grammar.{header, lines_of}
 
 -- each argument after a space
 abbrev pub arguments_text : List Sort → List ℕ → List ℕ
@@ -55,3 +55,18 @@ replies_text rs = flat_map (λ x. ended (reply_text x)) rs
 -- the line of a mutator, and then its replies
 abbrev pub mutator_text : ℕ → List Reply → List ℕ
 mutator_text m rs = ended (codes "mutator " ++ decimal m) ++ replies_text rs
+
+-- each number in the reply has 64 bits, as it has in the code: a printed number has at most 64 digits
+abbrev pub IsPrintable : Reply → Type 0
+IsPrintable (r.New n) = (n.mutator < 2 ^ 64) × (n.birth < 2 ^ 64)
+IsPrintable (r.Ref n) = (n.mutator < 2 ^ 64) × (n.birth < 2 ^ 64)
+IsPrintable (r.Num n) = n < 2 ^ 64
+IsPrintable _ = Unit {0}
+
+-- one of the lines of the text is this one
+abbrev pub HasLine : List ℕ → List ℕ → Type 0
+HasLine text line = Any (λ l. l ≡ line) (lines_of text)
+
+-- the line of a `new` that was refused stands in the text
+abbrev pub HasFullLine : List ℕ → Type 0
+HasFullLine text = HasLine text (codes "full")

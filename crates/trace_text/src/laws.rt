@@ -1,8 +1,10 @@
 //! Laws of the format, and examples.
 
-ghost use Rattle.std.specs.Prelude.{◌≡◌, ◌≤◌, ℕ, List, ◌++◌, ◌∷◌, [], length, codes, All};
+ghost use Rattle.std.specs.Prelude.{◌≡◌, ◌≤◌, ◌↔◌, ◌⊎◌, ℕ, List, ◌++◌, ◌∷◌, [], length, codes, All};
+ghost use Rattle.std.specs.List.{Any};
 ghost use Rattle.ideal_heap.specs.declared.command.Command.{Command};
 ghost use Rattle.ideal_heap.specs.declared.command.Command.TheVariants as command;
+ghost use Rattle.ideal_heap.specs.declared.reply.Reply.{Reply};
 ghost use Rattle.ideal_heap.specs.declared.reply.Reply.TheVariants as reply;
 ghost use Rattle.ideal_heap.specs.Commands.{IsValid};
 ghost use Rattle.ideal_heap.specs.Names.{name};
@@ -10,7 +12,7 @@ ghost use Rattle.trace_text.specs.declared.fault.Why.TheVariants as why;
 ghost use Rattle.trace_text.specs.declared.fault.TraceFault.TheVariants as fault;
 ghost use Rattle.trace_text.specs.Words.{all_ops};
 ghost use Rattle.trace_text.specs.Grammar.{line, lines_from, trace};
-ghost use Rattle.trace_text.specs.Text.{trace_text, replies_text};
+ghost use Rattle.trace_text.specs.Text.{trace_text, replies_text, mutator_text, IsPrintable, HasFullLine};
 
 use crate::limits::MAX_COMMANDS;
 
@@ -27,6 +29,18 @@ pub fn traces_have_one_text()
         → trace (trace_text cs) ≡ Ok cs }
     ensures alone { (text : List ℕ) (cs : List Command)
         → trace (text ++ 10 ∷ []) ≡ Ok cs → text ++ 10 ∷ [] ≡ trace_text cs }
+{}
+
+/// The text of a mutator determines its replies, whose numbers have 64 bits. The line `full` stands
+/// in it if and only if a reply is `full`. If more text follows, the line may stand there too.
+pub fn texts_have_one_list()
+    ensures one { (m : ℕ) (xs ys : List Reply) → All IsPrintable xs → All IsPrintable ys
+        → mutator_text m xs ≡ mutator_text m ys → xs ≡ ys }
+    ensures full { (m : ℕ) (xs : List Reply)
+        → HasFullLine (mutator_text m xs) ↔ Any (λ x. x ≡ reply.Full) xs }
+    ensures longer { (m : ℕ) (xs : List Reply) (more : List ℕ)
+        → HasFullLine (mutator_text m xs ++ more)
+        ↔ Any (λ x. x ≡ reply.Full) xs ⊎ HasFullLine more }
 {}
 
 /// Examples: how texts are read.
@@ -70,10 +84,12 @@ pub fn worked_limits()
         ≡ Err (fault.Line 1000001 why.Count) }
 {}
 
-/// Examples: how replies are printed.
+/// Examples: how replies are printed, and a text with the line `full` and one without it.
 pub fn worked_replies()
-    ensures { replies_text (reply.New (name 3 4294967295) ∷ reply.Full ∷ reply.Ref (name 16 1)
-        ∷ reply.Nil ∷ reply.Num 0 ∷ reply.Done ∷ reply.Yes ∷ reply.No ∷ reply.Null
-        ∷ reply.Range ∷ [])
+    ensures each { replies_text (reply.New (name 3 4294967295) ∷ reply.Full
+        ∷ reply.Ref (name 16 1) ∷ reply.Nil ∷ reply.Num 0 ∷ reply.Done ∷ reply.Yes
+        ∷ reply.No ∷ reply.Null ∷ reply.Range ∷ [])
         ≡ codes "new 3.4294967295\nfull\nref 16.1\nnil\nnum 0\nok\nyes\nno\nnull\nrange\n" }
+    ensures full { HasFullLine (codes "mutator 1\nok\nfull\n") }
+    ensures counted { HasFullLine (codes "mutator 1\nok\nfull 3\n") → ⊥ }
 {}

@@ -26,8 +26,8 @@ mod traces;
 
 pub use fault::{TraceFault, Why};
 pub use laws::{
-    traces_are_valid, traces_have_one_text, worked_limits, worked_lines, worked_replies,
-    worked_traces,
+    texts_have_one_list, traces_are_valid, traces_have_one_text, worked_limits, worked_lines,
+    worked_replies, worked_traces,
 };
 pub use limits::MAX_COMMANDS;
 pub use numerals::read_numeral;

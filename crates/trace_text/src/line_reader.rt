@@ -1,7 +1,7 @@
 //! The reader of lines: the commands of the lines that it has read, or the first fault.
 
 ghost use Rattle.std.specs.Prelude.{◌≡◌, ◌<◌, ◌≤◌, List, ℕ, [], None, length, IfOk, OnOk, MatchOption};
-ghost use Rattle.trace_text.specs.Grammar.{Gives, lines_of, with_header};
+ghost use Rattle.trace_text.specs.Grammar.{lines_of, with_header};
 ghost use Rattle.trace_text.specs.Readers.{end_of_lines, GoesOn};
 
 use crate::fault::{TraceFault, Why};
@@ -132,7 +132,7 @@ impl LineReader {
 
     /// The commands of all lines, or the first fault.
     pub(crate) fn finish(self) -> Result<StoredTrace, TraceFault>
-        ensures { Gives (λ v. v) result (end_of_lines self []) }
+        ensures { result ≡ end_of_lines self [] }
     {
         match self.fault {
             Some(fault) => Err(fault),

@@ -19,3 +19,6 @@ returns-clause-front c before after old line writes written = elim writes.report
       let got = subst (λ (o : Option (List ℕ)). AppendsPrefix o after.written line) written h.1 in
       (got.0, got.2))
 ]
+
+pub returns-clause-later : goal.returns-clause-later
+returns-clause-later c before after line writes = writes.later

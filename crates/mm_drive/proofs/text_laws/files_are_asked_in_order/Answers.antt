@@ -1,23 +1,12 @@
-use Rattle.std.proofs.Common.{◌≡◌, sym, ◌∙◌, ap, ℕ, ◌≤◌, inl, inr, arith, List, ◌++◌, take}
-use Rattle.std.specs.Prelude.{map}
-use Rattle.std.proofs.lemmas.List.{map-append}
-use Rattle.outside.specs.Outside.{Asked, HasRisen}
-use Rattle.mm_drive.specs.Printed.{AsksFirst}
-use Rattle.mm_drive.proofs.Joining.{asks-more}
+use Rattle.std.proofs.Common.{sym}
+use Rattle.mm_drive.proofs.Joining.{asks-more, names-asked, risen-since}
 use Rattle.mm_drive.proofs.text_laws.files_are_asked_in_order.Goals as goal
 
-named : (n : ℕ) (files : List (List ℕ)) (before after : Asked) → AsksFirst n files before after → map (λ x. x.0) after ≡ map (λ x. x.0) before ++ take n files
-named n files before after a =
-    ap (map (λ x. x.0)) a.all ∙ map-append (λ x. x.0) before a.since ∙ ap (λ x. map (λ y. y.0) before ++ x) a.names
-
 pub returns-clause-first : goal.returns-clause-first
-returns-clause-first c n files before after a = named n files before after a
+returns-clause-first c n files before after a = names-asked n files before after a
 
 pub returns-clause-prefix : goal.returns-clause-prefix
-returns-clause-prefix c files before after a = (a.0, named a.0 files before after a.1)
-
-risen-since : (first count last : ℕ) → first ≤ count → HasRisen count last → HasRisen first last
-risen-since first count last since risen = elim risen as (λ _. HasRisen first last) [ inl h ↦ inl (omega (arith, since, h)) | inr h ↦ inr h ]
+returns-clause-prefix c files before after a = (a.0, names-asked a.0 files before after a.1)
 
 pub returns-clause-unread : goal.returns-clause-unread
 returns-clause-unread c files before after line u = (

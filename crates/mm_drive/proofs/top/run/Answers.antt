@@ -1,66 +1,86 @@
-use Rattle.std.proofs.Common.{sym, subst, ◌≤◌, rules}
+use Rattle.std.proofs.Common.{◌≡◌, sym, ◌∙◌, subst, ◌≤◌, rules, ℕ, List}
+use Rattle.std.specs.Prelude.{◌⊎◌}
 use Rattle.command_line.specs.Orders.{texts, job_of_order}
+use Rattle.mm_drive.specs.declared.status.Status.TheVariants as status
+use Rattle.mm_drive.specs.Printed.{job_files, WritesFaultLine}
+use Rattle.mm_drive.proofs.Ends.{one-of, not-ok, not-usage, not-unwritten, unread-end, long-end, bad-end, memory-end, long-status, bad-status, good-status}
 use Rattle.mm_drive.proofs.Jobs.{job-supported, job-blocks, job-files, supported-work}
-use Rattle.mm_drive.proofs.Joining.{long-off, bad-off, fault-off, long-bad, fault-long, traces-clash, reported-clash, ends-clash}
-use Rattle.mm_drive.proofs.Outcomes.{of-job, named-job, within-files, unread-here, long-here, bad-here, to-files, traces-count, prints, prints-prefix}
+use Rattle.mm_drive.proofs.Joining.{long-off, bad-off, traces-clash}
+use Rattle.mm_drive.proofs.Outcomes.{of-job, named-job, traces-count, prints, prints-prefix}
 use Rattle.mm_drive.proofs.top.run.Goals as goal
 
-pub name_at-requires : goal.name_at-requires
-name_at-requires g c =
-    let ends = rw c.in-Err-Unread.field-0-is at c.in-Err-Unread.ensures.fault in rw c.in-Err-Unread.field-0-is (within-files _ c.in-Err-Unread.place ends.0.file ends.0.is)
+pub write_files_fault-requires : goal.write_files_fault-requires
+write_files_fault-requires g c = one-of _ _ _ c.in-Err-traces_of_files.fault c.in-Err-traces_of_files.ensures.fault
 
-pub name_at-requires-in-Err-TooLong : goal.name_at-requires-in-Err-TooLong
-name_at-requires-in-Err-TooLong g c =
-    let ends = rw c.in-Err-TooLong.field-0-is at c.in-Err-TooLong.ensures.fault in rw c.in-Err-TooLong.field-0-is (within-files _ c.in-Err-TooLong.place ends.0.file ends.0.is)
+pub returns-in-Err-traces_of_files-clause-ok : goal.returns-in-Err-traces_of_files-clause-ok
+returns-in-Err-traces_of_files-clause-ok g c is = absurd (not-ok c.in-Err-traces_of_files.fault (sym c.status.ensures ∙ is))
 
-pub name_at-requires-in-Err-Bad : goal.name_at-requires-in-Err-Bad
-name_at-requires-in-Err-Bad g c =
-    let ends = rw c.in-Err-Bad.field-0-is at c.in-Err-Bad.ensures.fault in rw c.in-Err-Bad.field-0-is (within-files _ c.in-Err-Bad.place ends.0.file ends.0.is)
+pub returns-in-Err-traces_of_files-clause-usage : goal.returns-in-Err-traces_of_files-clause-usage
+returns-in-Err-traces_of_files-clause-usage g c is = absurd (not-usage c.in-Err-traces_of_files.fault (sym c.status.ensures ∙ is))
 
-pub returns-in-Err-Unread-clause-read_fault : goal.returns-in-Err-Unread-clause-read_fault
-returns-in-Err-Unread-clause-read_fault g c is =
-    let ends = rw (c.in-Err-Unread.field-0-is, c.files_named-files.ensures) at c.in-Err-Unread.ensures.fault in
-    let same = rw (c.in-Err-Unread.field-0-is, c.files_named-files.ensures) at c.name_at.ensures in
-    of-job _ (job_of_order c.in-Ok-Some.order) _ (named-job _ c.in-Ok-Some.order _ c.in-Ok-Some.field-0-is c.in-Ok-Some.ensures) (unread-here _ _ _ same _ _ _ ends c.write_read_fault.ensures)
+pub returns-in-Err-traces_of_files-clause-write_fault : goal.returns-in-Err-traces_of_files-clause-write_fault
+returns-in-Err-traces_of_files-clause-write_fault g c is = absurd (not-unwritten c.in-Err-traces_of_files.fault (sym c.status.ensures ∙ is))
 
-pub returns-in-Err-TooLong-clause-too_long : goal.returns-in-Err-TooLong-clause-too_long
-returns-in-Err-TooLong-clause-too_long g c is =
-    let ends = rw (c.in-Err-TooLong.field-0-is, c.files_named-files.ensures) at c.in-Err-TooLong.ensures.fault in
-    let same = rw (c.in-Err-TooLong.field-0-is, c.files_named-files.ensures) at c.name_at-in-Err-TooLong.ensures in
-    of-job _ (job_of_order c.in-Ok-Some.order) _ (named-job _ c.in-Ok-Some.order _ c.in-Ok-Some.field-0-is c.in-Ok-Some.ensures) (long-here _ _ _ same _ _ _ ends c.write_length_fault.ensures)
+pub returns-in-Err-traces_of_files-clause-write_reported : goal.returns-in-Err-traces_of_files-clause-write_reported
+returns-in-Err-traces_of_files-clause-write_reported g c is = absurd (not-unwritten c.in-Err-traces_of_files.fault (sym c.status.ensures ∙ is))
 
-pub returns-in-Err-TooLong-clause-no_trace : goal.returns-in-Err-TooLong-clause-no_trace
-returns-in-Err-TooLong-clause-no_trace g c =
-    let ends = rw (c.in-Err-TooLong.field-0-is, c.files_named-files.ensures) at c.in-Err-TooLong.ensures.fault in
-    of-job _ (job_of_order c.in-Ok-Some.order) _ (named-job _ c.in-Ok-Some.order _ c.in-Ok-Some.field-0-is c.in-Ok-Some.ensures) (λ at. absurd (ends-clash _ _ c.in-Err-TooLong.place _ _ long-off bad-off long-bad ends.0 at))
+pub returns-in-Err-traces_of_files-clause-silent : goal.returns-in-Err-traces_of_files-clause-silent
+returns-in-Err-traces_of_files-clause-silent g c is = absurd (not-ok c.in-Err-traces_of_files.fault (sym c.status.ensures ∙ is))
 
-pub returns-in-Err-TooLong-clause-complete : goal.returns-in-Err-TooLong-clause-complete
-returns-in-Err-TooLong-clause-complete g c =
-    let ends = rw (c.in-Err-TooLong.field-0-is, c.files_named-files.ensures) at c.in-Err-TooLong.ensures.fault in
+pub returns-in-Err-traces_of_files-clause-read : goal.returns-in-Err-traces_of_files-clause-read
+returns-in-Err-traces_of_files-clause-read g c is = absurd (not-ok c.in-Err-traces_of_files.fault (sym c.status.ensures ∙ is))
+
+pub returns-in-Err-traces_of_files-clause-read_fault : goal.returns-in-Err-traces_of_files-clause-read_fault
+returns-in-Err-traces_of_files-clause-read_fault g c is =
     let job = job_of_order c.in-Ok-Some.order in
-    let is = named-job _ c.in-Ok-Some.order _ c.in-Ok-Some.field-0-is c.in-Ok-Some.ensures in
-    let one = supported-work job (job-supported (texts c.args.words.now) job is).0 in
-    of-job _ job _ is (λ good s o. absurd (reported-clash _ _ good.traces c.in-Err-TooLong.place _ long-off ends.0 good.reported (to-files _ job.work good.traces one good.read)))
+    let named = named-job _ c.in-Ok-Some.order _ c.in-Ok-Some.field-0-is c.in-Ok-Some.ensures in
+    let ends = rw c.files_named-files.ensures at c.in-Err-traces_of_files.ensures.fault in
+    let line = rw c.files_named-files.ensures at c.write_files_fault.ensures in
+    of-job _ job _ named (unread-end _ _ _ _ c.in-Err-traces_of_files.fault ends line (sym c.status.ensures ∙ is))
 
-pub returns-in-Err-Bad-clause-bad_trace : goal.returns-in-Err-Bad-clause-bad_trace
-returns-in-Err-Bad-clause-bad_trace g c is =
-    let ends = rw (c.in-Err-Bad.field-0-is, c.files_named-files.ensures) at c.in-Err-Bad.ensures.fault in
-    let same = rw (c.in-Err-Bad.field-0-is, c.files_named-files.ensures) at c.name_at-in-Err-Bad.ensures in
-    of-job _ (job_of_order c.in-Ok-Some.order) _ (named-job _ c.in-Ok-Some.order _ c.in-Ok-Some.field-0-is c.in-Ok-Some.ensures) (bad-here _ _ _ same _ _ c.in-Err-Bad.flaw _ ends (rw c.in-Err-Bad.field-0-is at c.write_trace_fault.ensures))
-
-pub returns-in-Err-Bad-clause-long : goal.returns-in-Err-Bad-clause-long
-returns-in-Err-Bad-clause-long g c =
-    let ends = rw (c.in-Err-Bad.field-0-is, c.files_named-files.ensures) at c.in-Err-Bad.ensures.fault in
-    of-job _ (job_of_order c.in-Ok-Some.order) _ (named-job _ c.in-Ok-Some.order _ c.in-Ok-Some.field-0-is c.in-Ok-Some.ensures)
-    (λ at. absurd (ends-clash _ _ c.in-Err-Bad.place _ _ (fault-off c.in-Err-Bad.flaw) long-off (fault-long c.in-Err-Bad.flaw) ends.0 at))
-
-pub returns-in-Err-Bad-clause-complete : goal.returns-in-Err-Bad-clause-complete
-returns-in-Err-Bad-clause-complete g c =
-    let ends = rw (c.in-Err-Bad.field-0-is, c.files_named-files.ensures) at c.in-Err-Bad.ensures.fault in
+pub returns-in-Err-traces_of_files-clause-too_long : goal.returns-in-Err-traces_of_files-clause-too_long
+returns-in-Err-traces_of_files-clause-too_long g c is =
     let job = job_of_order c.in-Ok-Some.order in
-    let is = named-job _ c.in-Ok-Some.order _ c.in-Ok-Some.field-0-is c.in-Ok-Some.ensures in
-    let one = supported-work job (job-supported (texts c.args.words.now) job is).0 in
-    of-job _ job _ is (λ good s o. absurd (reported-clash _ _ good.traces c.in-Err-Bad.place _ (fault-off c.in-Err-Bad.flaw) ends.0 good.reported (to-files _ job.work good.traces one good.read)))
+    let named = named-job _ c.in-Ok-Some.order _ c.in-Ok-Some.field-0-is c.in-Ok-Some.ensures in
+    let ends = rw c.files_named-files.ensures at c.in-Err-traces_of_files.ensures.fault in
+    let line = rw c.files_named-files.ensures at c.write_files_fault.ensures in
+    of-job _ job _ named (long-end _ _ _ _ c.in-Err-traces_of_files.fault ends line (sym c.status.ensures ∙ is))
+
+pub returns-in-Err-traces_of_files-clause-bad_trace : goal.returns-in-Err-traces_of_files-clause-bad_trace
+returns-in-Err-traces_of_files-clause-bad_trace g c is =
+    let job = job_of_order c.in-Ok-Some.order in
+    let named = named-job _ c.in-Ok-Some.order _ c.in-Ok-Some.field-0-is c.in-Ok-Some.ensures in
+    let ends = rw c.files_named-files.ensures at c.in-Err-traces_of_files.ensures.fault in
+    let line = rw c.files_named-files.ensures at c.write_files_fault.ensures in
+    of-job _ job _ named (bad-end _ _ _ _ c.in-Err-traces_of_files.fault ends line (sym c.status.ensures ∙ is))
+
+pub returns-in-Err-traces_of_files-clause-memory_reported : goal.returns-in-Err-traces_of_files-clause-memory_reported
+returns-in-Err-traces_of_files-clause-memory_reported g c is =
+    let line = rw c.files_named-files.ensures at c.write_files_fault.ensures in
+    let e = g.E.Sink in
+    memory-end (job_files (job_of_order c.in-Ok-Some.order)) (λ (l : List ℕ). WritesFaultLine (e.state c.args.err.now) (e.state c.write_files_fault.new.err) l) c.in-Err-traces_of_files.fault line (sym c.status.ensures ∙ is)
+
+pub returns-in-Err-traces_of_files-clause-long : goal.returns-in-Err-traces_of_files-clause-long
+returns-in-Err-traces_of_files-clause-long g c =
+    let job = job_of_order c.in-Ok-Some.order in
+    let named = named-job _ c.in-Ok-Some.order _ c.in-Ok-Some.field-0-is c.in-Ok-Some.ensures in
+    let ends = rw c.files_named-files.ensures at c.in-Err-traces_of_files.ensures.fault in
+    of-job _ job _ named (λ at. subst (λ s. (s ≡ status.TooLong) ⊎ ((s ≡ status.ReadFault) ⊎ (s ≡ status.OutOfMemory))) (sym c.status.ensures) (long-status _ _ _ c.in-Err-traces_of_files.fault ends at))
+
+pub returns-in-Err-traces_of_files-clause-no_trace : goal.returns-in-Err-traces_of_files-clause-no_trace
+returns-in-Err-traces_of_files-clause-no_trace g c =
+    let job = job_of_order c.in-Ok-Some.order in
+    let named = named-job _ c.in-Ok-Some.order _ c.in-Ok-Some.field-0-is c.in-Ok-Some.ensures in
+    let ends = rw c.files_named-files.ensures at c.in-Err-traces_of_files.ensures.fault in
+    of-job _ job _ named (λ at. subst (λ s. (s ≡ status.BadTrace) ⊎ ((s ≡ status.ReadFault) ⊎ (s ≡ status.OutOfMemory))) (sym c.status.ensures) (bad-status _ _ _ c.in-Err-traces_of_files.fault ends at))
+
+pub returns-in-Err-traces_of_files-clause-complete : goal.returns-in-Err-traces_of_files-clause-complete
+returns-in-Err-traces_of_files-clause-complete g c =
+    let job = job_of_order c.in-Ok-Some.order in
+    let named = named-job _ c.in-Ok-Some.order _ c.in-Ok-Some.field-0-is c.in-Ok-Some.ensures in
+    let ends = rw c.files_named-files.ensures at c.in-Err-traces_of_files.ensures.fault in
+    let one = supported-work job (job-supported (texts c.args.words.now) job named).0 in
+    of-job _ job _ named (λ good calm _. subst (λ s. (s ≡ status.Ok) ⊎ (s ≡ status.OutOfMemory)) (sym c.status.ensures) (good-status job _ _ one c.in-Err-traces_of_files.fault ends good calm))
 
 pub text_of_session-requires-clause-supported : goal.text_of_session-requires-clause-supported
 text_of_session-requires-clause-supported g c κs within =

@@ -1,16 +1,23 @@
-use Rattle.std.proofs.Common.{[]}
-use Rattle.mm_drive.proofs.Joining.{asks-all, trace-in, fault-in}
+use Rattle.std.proofs.Common.{◌≡◌, sym, subst, Ok, Err, List, []}
+use Rattle.ideal_heap.specs.declared.command.Command.{Command}
+use Rattle.trace_text.specs.declared.fault.TraceFault.{TraceFault}
+use Rattle.trace_text.specs.Grammar.{Gives, trace}
+use Rattle.mm_drive.specs.declared.traces.FileFault.TheVariants as file
+use Rattle.mm_drive.specs.Reading.{text_fault}
+use Rattle.mm_drive.proofs.Joining.{trace-in, fault-in}
+use Rattle.mm_drive.proofs.Ends.{bad-from, bad-text}
 use Rattle.mm_drive.proofs.traces.trace_of_file.Goals as goal
 
-pub returns-in-Ok-clause-asked : goal.returns-in-Ok-clause-asked
-returns-in-Ok-clause-asked g c = asks-all c.trace_read.result _ _ _ c.in-Ok.ensures.asked
+pub returns-clause-ok : goal.returns-clause-ok
+returns-clause-ok g c =
+    let all = c.in_ok-read_file.ensures.taken [] c.new.ensures in
+    trace-in (Ok c.in_ok-finish.field-0) _ all.0 all.1 all.3 (c.in_ok-finish.ensures.text all.0 all.2)
 
-pub returns-in-Ok-clause-ok : goal.returns-in-Ok-clause-ok
-returns-in-Ok-clause-ok g c =
-    let all = c.in-Ok.ensures.taken [] c.new.ensures in
-    trace-in c.trace_read.result _ all.0 all.1 all.3 (c.trace_read.ensures.ok all.0 all.2)
-
-pub returns-in-Ok-clause-bad : goal.returns-in-Ok-clause-bad
-returns-in-Ok-clause-bad g c f is =
-    let all = c.in-Ok.ensures.taken [] c.new.ensures in
-    fault-in f _ all.0 all.1 all.3 (c.trace_read.ensures.bad all.0 all.2 f is)
+pub returns-in_err-finish-clause-bad : goal.returns-in_err-finish-clause-bad
+returns-in_err-finish-clause-bad g c f is =
+    let all = c.in_ok-read_file.ensures.taken [] c.new.ensures in
+    let fault : TraceFault = c.in_err-finish.field-0.0 in
+    let made = rw is at c.from_residual-in_err-finish.ensures in
+    let same : file.Bad f ≡ text_fault fault = made.1 in
+    let read = c.in_err-finish.ensures.text all.0 all.2 in
+    fault-in f _ all.0 all.1 all.3 (bad-text f (trace all.0) (subst (λ (x : TraceFault). Gives (λ (v : List Command). v) (Err x) (trace all.0)) (bad-from fault f (sym same)) read))
