@@ -1,6 +1,6 @@
 -- The objects of a heap after a finished trace and the release of all blocks: which are preserved, and how old they are.
-use Rattle.std.proofs.Common.{◌≡◌, ◌≢◌, refl, sym, ◌∙◌, ap, subst, ℕ, ◌+◌, ◌/◌, ◌<◌, inl, inr, arith, true≢false, ◌&&◌, not, IsTrue, nat_eq, nat_lt, nat_le, List, map, slice_index}
-use Rattle.std.proofs.lemmas.Bool.{cases_Bool, cases_eq, and_parts, and_from, cond-true, cond-false, lt-ltb, not_from_true}
+use Rattle.std.proofs.Common.{◌≡◌, ◌≢◌, refl, sym, ◌∙◌, ap, subst, ℕ, ◌+◌, ◌/◌, ◌<◌, ◌≤◌, inl, inr, arith, false, true≢false, ◌&&◌, not, IsTrue, nat_eq, nat_lt, nat_le, List, map, slice_index}
+use Rattle.std.proofs.lemmas.Bool.{cases_Bool, cases_eq, and_parts, and_from, cond-true, cond-false, lt-ltb, leb-true, not_from_true}
 use Rattle.forward_word.specs.CollectorWords.{number_in}
 use Rattle.object_model.specs.declared.collect.Collect.{Collect}
 use Rattle.object_model.specs.declared.collect.Collect.TheVariants.{Nursery, Full}
@@ -20,6 +20,7 @@ use Rattle.trace_core.specs.Machine.{Event}
 use Rattle.trace_core.specs.Traces.{IsTrace, IsFinished, Reaches, FromRoot, FromGlobal, FromOld, ByReference, machine_after, heap_after, stage_of}
 use Rattle.trace_core.specs.Outcomes.{base_after, image, HaveAsked, NoOthersAsked}
 use Rattle.trace_core.specs.Tracers.{is_nursery}
+use Rattle.trace_core.proofs.Rows.{row}
 use Rattle.trace_core.proofs.Finished.{preserved, kept-exactly, kept-reachable}
 use Rattle.collector.proofs.Given.{IsSetupUnder, old-given, reachable-before, reachable-given, moves-given}
 use Rattle.collector.proofs.Fates as fates
@@ -164,8 +165,22 @@ module _ {q : Plan} {c : Collect} {p : Setup} {u : List ℕ} (under : IsSetupUnd
       and_from r.young (ages.is_old new a) young (and_from (nat_lt 0 (base_after p)) (nat_le (base_after p) (number_at new a)) (lt-ltb 0 (base_after p) base-some)
       (ap (λ w. nat_le (base_after p) (number_in w)) (fates.word-same all a 2 there) ∙ least.0))
 
-  pub unlogged : (a : ℕ) → IsTrue (is_logged_under r new a) → ⊥
-  unlogged a set =
+  pub none-logged : (a : ℕ) → IsTrue (is_logged_under r new a) → ⊥
+  none-logged a set =
       let parts = and_parts (is_start new a && ages.is_old new a) (not (is_unlogged new a)) (and_parts r.young (ages.is_logged new a) set).1 in
       let there : IsHeld new a = marks.held new a (and_parts (is_start new a) (ages.is_old new a) parts.0).0 in
       true≢false (sym parts.1 ∙ not_from_true (is_unlogged new a) (fates.unlogged all a there))
+
+  pub unlogged : (a : ℕ) → IsHeld new a → IsTrue (is_unlogged new a)
+  unlogged = fates.unlogged all
+
+  -- what lives after a full collection has its number
+  pub has-number : p.nursery ≡ false → (a : ℕ) → IsHeld new a → number_at new a ≡ collection p
+  has-number full a there =
+      let lives = fates.held-lives all a there in
+      let least = and_parts (nat_le (base_after p) (number_at (heap_after p es) a)) (nat_eq (target_at (heap_after p es) a) a) lives.survives in
+      let from : base_after p ≤ number_at (heap_after p es) a = leb-true (base_after p) (number_at (heap_after p es) a) least.0 in
+      let most : number_at (heap_after p es) a ≤ collection p = (row p es trace finished).number a lives in
+      let base : base_after p ≡ collection p = cond-false p.nursery p.before.base (collection p) full in
+      let same : number_at (heap_after p es) a ≡ collection p = omega arith in
+      ap number_in (fates.word-same all a 2 there) ∙ same

@@ -7,7 +7,7 @@ use Rattle.heap_layout.specs.declared.block.Kind.TheVariants as kinds
 use Rattle.heap_layout.specs.Blocks.{kind_code}
 use Rattle.heap_layout.proofs.MarkLemmas.{is-address_from_mark}
 use Rattle.object_model.specs.declared.collect.Collect.{Collect}
-use Rattle.object_model.specs.Objects.{HeapState, word_at, block_word, HasKind, class_at, is_start, is_pinned, is_unlogged, IsHeld, IsInExtent, size_at}
+use Rattle.object_model.specs.Objects.{HeapState, word_at, block_word, HasKind, line_marked, class_at, is_start, is_pinned, is_unlogged, IsHeld, IsInExtent, size_at}
 use Rattle.object_model.specs.Ages.{Lives}
 use Rattle.object_model.specs.Releasing.{InSpan}
 use Rattle.object_model.proofs.OneKind.{kind-code, kind-within, kind-from, one-kind}
@@ -101,6 +101,19 @@ module _ {r : Rules} {c : Collect} {base : ℕ} {s : HeapState} {w : List ℕ} {
         marks.held new a (and_parts (is_pinned s a) (is_start new a) (sym (d.2.pins a d.1) ∙ pin)).1)
     | inr unlog ↦ (let d = released-at a (is-address_from_mark s.blocks UnlogBits w a unlog) in marks.held new a (sym (d.2.unlogs a d.1) ∙ unlog))
   ]
+
+  -- a block that is no Immix block, and in which an object that lives begins, keeps its line bits
+  pub lines-same : (a line : ℕ) → Lives base s a → (HasKind s (block_at s.blocks a) kinds.Immix → ⊥) → line < 256
+      → line_marked new (block_at s.blocks a) line ≡ line_marked s (block_at s.blocks a) line
+  lines-same a line lives other few =
+      let there = lives.held.address in
+      let first = first-of all.before (block_at s.blocks a) (address-block s.blocks a there) in
+      let is : IsReleased r c base s new first.first = all.after.each first.first first.there first.there first.plain in
+      is.lines a (block_at s.blocks a) line (record { address = there; block = first.of }) lives
+      (λ immix. elim first.of as (λ _. ⊥) [
+        | inl e ↦ other (subst (λ k. HasKind s k kinds.Immix) (sym e) immix)
+        | inr later ↦ (let wrong = one-kind s first.first kinds.Immix kinds.LargeHead immix later.0 in omega arith)
+      ]) first.of few
 
   -- what became of block j
   abbrev pub Fate : ℕ → Type 0

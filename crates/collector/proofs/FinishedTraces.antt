@@ -16,13 +16,13 @@ use Rattle.trace_core.specs.Machine.{Event, Stage, Unclaimed, Copying, Scanning,
 use Rattle.trace_core.specs.Traces.{IsFinished, machine_after, heap_after, stage_of}
 use Rattle.trace_core.specs.Outcomes.{image, HaveAsked, NoOthersAsked}
 use Rattle.trace_core.specs.Views.{View, IsIdle, one_if, hits, times, is_copied}
-use Rattle.trace_core.specs.Tracers.{Tracks, IsTraced, IsFilled, setup_of, is_nursery}
+use Rattle.trace_core.specs.Tracers.{Tracks, IsTraced, IsFilled, setup_of, is_nursery, AreLeft}
 use Rattle.trace_core.specs.declared.run.TraceRun.{TraceRun}
 use Rattle.trace_core.specs.declared.run.Traced.{Traced}
 use Rattle.trace_core.proofs.Begun.{begun-lines}
 use Rattle.trace_core.proofs.Clauses.{held-of}
 use Rattle.trace_core.proofs.Finished.{image-some}
-use Rattle.collector.specs.Collected.{FillsBlocks, IsRunUnder}
+use Rattle.collector.specs.Collected.{FillsBlocks, IsRunUnder, FillsInTurn}
 use Rattle.collector.specs.Serving.{IsTargetOf}
 use Rattle.collector.specs.Working.{IsFullTrace}
 use Rattle.collector.specs.Tallies.{total}
@@ -36,7 +36,7 @@ use Rattle.sessions.specs.Collecting.{Collects}
 use Rattle.collector.specs.Released.{ReleasesBelow, heap_with, MoveAll, MarksTargets}
 use Rattle.collector.specs.Tallies.{IsNote}
 use Rattle.collector.specs.declared.outcome.Note.{Note}
-use Rattle.collector.proofs.WholeCollections.{CollectsBy, makes, numbered}
+use Rattle.collector.proofs.WholeCollections.{CollectsBy, makes, numbered, turns}
 use Rattle.collector.proofs.TallySums.{total-same, total-both, total-part}
 
 and-none : (t u : Bool) → t ≡ false → (t && u) ≡ false
@@ -218,7 +218,7 @@ module _ (q : Plan) (r : Rules) (of : r ≡ rules_of q) (start : TraceStart) (w 
 
   pub finishes : (note : Note) → note.collect ≡ traced.run.collect → note.kept ≡ w.tally.kept → note.moved ≡ w.tally.moved → note.in_place ≡ w.tally.kept - w.tally.moved
       → note.kept_words ≡ w.tally.words → note.free_blocks ≡ block_count (heap_state heap) (λ k. has_kind (heap_state heap) k kinds.Free)
-      → (made : Collects r 1 start.run.collect h start.roots.items (heap_state heap) w.roots.items) × IsNote start.run.collect h made.target (heap_state heap) note
+      → (made : Collects r 1 start.run.collect h start.roots.items (heap_state heap) w.roots.items) × IsNote start.run.collect h made.target (heap_state heap) note × FillsInTurn h made.target
   finishes note collect kept moved in-place words free = (
     made.0,
     subst (λ f. IsNote start.run.collect h f (heap_state heap) note) (sym made.1) (record {
@@ -229,4 +229,6 @@ module _ (q : Plan) (r : Rules) (of : r ≡ rules_of q) (start : TraceStart) (w 
       words = words ∙ words-is start w full finished;
       free = free;
     }),
+    subst (FillsInTurn h) (sym made.1) (turns q start.run.collect h start.run 1 start.heap.lawful full.may (subst (λ r. IsRunUnder r start.run.collect h start.run) of told) (p start w full) refl
+        (es start w full) (v start w full) (tracks start w full).trace finished is.holds (subst (λ l. AreLeft (p start w full) (m start w full) l (v start w full).blocks) full.awaited.sparse is.left) is.lowest),
   )

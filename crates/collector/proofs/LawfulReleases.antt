@@ -1,8 +1,8 @@
 -- The heap after a finished trace whose blocks were all released.
-use Rattle.std.proofs.Common.{slice_index, sym, ◌∙◌, subst, ℕ, ◌^◌, ◌<◌, ◌↔◌, arith, IsTrue, List, []}
+use Rattle.std.proofs.Common.{slice_index, sym, ◌∙◌, subst, ℕ, ◌^◌, ◌<◌, ◌↔◌, arith, IsTrue, List, [], ◌≡◌, ◌≢◌, ap, ◌/◌, ◌%◌, inl, inr}
 use Rattle.std.proofs.Math.Logic.{∥∥₁_map}
 use Rattle.object_model.specs.declared.collect.Collect.{Collect}
-use Rattle.object_model.specs.Objects.{HeapState, word_at, is_unlogged, IsHeld}
+use Rattle.object_model.specs.Objects.{HeapState, word_at, is_unlogged, IsHeld, HasKind, line_marked, refs_at, nums_at}
 use Rattle.object_model.specs.Lawful.{IsLawful}
 use Rattle.object_model.specs.Ages.{Lives}
 use Rattle.object_model.proofs.ObjectParts.{together}
@@ -20,6 +20,9 @@ use Rattle.collector.proofs.Fates as fates
 use Rattle.collector.proofs.Fates.{IsAllReleased}
 use Rattle.collector.proofs.ReleasedBlocks as released_blocks
 use Rattle.collector.proofs.ReleasedObjects as released_objects
+use Rattle.std.proofs.lemmas.Bool.{cases_eq}
+use Rattle.heap_layout.specs.Zones.{block_at}
+use Rattle.heap_layout.specs.declared.block.Kind.TheVariants as kinds
 
 -- The numbers of a heap are no part of what a release leaves.
 pub touched-again : (b k line : ℕ) (w : List ℕ) (number age number' age' : ℕ) → IsTouchedHere (record { words = w; blocks = b; number = number; base = age }) k line
@@ -82,6 +85,32 @@ module _ (p : Setup) (es : List Event) (trace : IsTrace p es) (finished : IsFini
   pub unlogged : (new : HeapState) → AreReleased r c (base_after p) (heap_after p es) new (blocks p) → (a : ℕ) → IsHeld new a → IsTrue (is_unlogged new a)
   unlogged new all a =
       subst (λ q. IsHeld (with new.words q new.number new.base) a → IsTrue (is_unlogged (with new.words q new.number new.base) a)) (sym all.blocks) (fates.unlogged (all-released new all) a)
+
+  -- the stop word and the budget word are as they were
+  pub stops : (new : HeapState) → AreReleased r c (base_after p) (heap_after p es) new (blocks p) → (i : ℕ) → i < 2 → word_at new i ≡ word_at p.before i
+  stops new all i few = fates.low-word (all-released new all) i (omega arith) ∙ was i few
+    where
+      was : (i : ℕ) → i < 2 → word_at (heap_after p es) i ≡ word_at p.before i
+      was i few = elim (cases_eq i 0) as (λ _. word_at (heap_after p es) i ≡ word_at p.before i) [
+        | inl e ↦ subst (λ n. word_at (heap_after p es) n ≡ word_at p.before n) (sym e) (row p es trace finished).stop
+        | inr ne ↦ subst (λ n. word_at (heap_after p es) n ≡ word_at p.before n) (let other : i ≢ 0 = ne in let one : 1 ≡ i = omega arith in one) (row p es trace finished).budget
+      ]
+
+  -- an object that was held, and still is, has its shape
+  pub shapes : (new : HeapState) → AreReleased r c (base_after p) (heap_after p es) new (blocks p) → (x : ℕ) → IsHeld p.before x → IsHeld new x
+      → (refs_at new x ≡ refs_at p.before x) × (nums_at new x ≡ nums_at p.before x)
+  shapes new all x before there =
+      let is = all-released new all in
+      let held-now : IsHeld (with new.words (blocks p) new.number new.base) x = subst (λ q. IsHeld (with new.words q new.number new.base) x) all.blocks there in
+      let shape = (row p es trace finished).shapes x before in
+      (ap (λ v. v % 65536) (fates.word-same is x 1 held-now) ∙ shape.0, ap (λ v. v / 65536) (fates.word-same is x 1 held-now) ∙ shape.1)
+
+  pub lines : (new : HeapState) → AreReleased r c (base_after p) (heap_after p es) new (blocks p) → (a line : ℕ) → Lives (base_after p) (heap_after p es) a
+      → (HasKind (heap_after p es) (block_at (blocks p) a) kinds.Immix → ⊥) → line < 256
+      → line_marked new (block_at (blocks p) a) line ≡ line_marked (heap_after p es) (block_at (blocks p) a) line
+  lines new all a line lives other few =
+      subst (λ q. line_marked (with new.words q new.number new.base) (block_at (blocks p) a) line ≡ line_marked (heap_after p es) (block_at (blocks p) a) line) (sym all.blocks)
+      (fates.lines-same (all-released new all) a line lives other few)
 
   -- the heap with its new numbers
   lawful-words : (w : List ℕ) → IsAllReleased r c (base_after p) (heap_after p es) w (collection p) (base_after p) → ((i : ℕ) → slice_index w i < 2 ^ 64)

@@ -22,6 +22,7 @@ mod Given
 mod CollectedObjects
 mod CollectedBlocks
 mod StillFree
+mod Turns
 mod WholeCollections
 pub mod FinishedTraces
 mod Prepared

@@ -1,10 +1,11 @@
 -- A finished trace and the release of all blocks make a collection.
-use Rattle.std.proofs.Common.{◌≡◌, refl, sym, ◌∙◌, ap, ap₂, subst, subst₂, ℕ, ◌+◌, ◌^◌, ◌<◌, ◌≤◌, arith, Bool, false, List, map, length, Option, Some, None}
+use Rattle.std.proofs.Common.{◌≡◌, refl, sym, ◌∙◌, ap, ap₂, subst, subst₂, ℕ, ◌+◌, ◌^◌, ◌<◌, ◌≤◌, arith, Bool, false, List, [], map, length, Option, Some, None}
 use Rattle.std.specs.Prelude.{if◌then◌else◌, slice_get, unwrap_or}
 use Rattle.std.proofs.lemmas.Bool.{cond-true, cond-false}
+use Rattle.heap_layout.specs.declared.block.Kind.TheVariants as kinds
 use Rattle.object_model.specs.declared.collect.Collect.{Collect}
 use Rattle.object_model.specs.declared.collect.Collect.TheVariants.{Nursery, Full}
-use Rattle.object_model.specs.Objects.{HeapState, word_at, with_words}
+use Rattle.object_model.specs.Objects.{HeapState, HasKind, word_at, with_words}
 use Rattle.object_model.specs.Lawful.{IsLawful}
 use Rattle.sessions.specs.Plans.{Rules, Plan, rules_of}
 use Rattle.sessions.specs.Collecting as collecting
@@ -15,20 +16,22 @@ use Rattle.trace_core.specs.Setups.{Setup, blocks, collection}
 use Rattle.trace_core.specs.Machine.{Event}
 use Rattle.trace_core.specs.Traces.{IsTrace, IsFinished, machine_after, heap_after, stage_of}
 use Rattle.trace_core.specs.Outcomes.{base_after, image, HaveAsked, NoOthersAsked}
-use Rattle.trace_core.specs.Tracers.{is_nursery, is_set, without_lines, without_unlogs, setup_of, MayRun}
+use Rattle.trace_core.specs.Tracers.{AreLeft, is_nursery, is_set, without_lines, without_unlogs, setup_of, MayRun}
+use Rattle.trace_core.specs.Views.{View, Holds}
 use Rattle.trace_core.specs.declared.run.TraceRun.{TraceRun}
 use Rattle.trace_core.proofs.WithoutLines as lines
 use Rattle.trace_core.proofs.Begun as begins
 use Rattle.trace_core.proofs.Begun.{by-begun}
 use Rattle.collector.specs.Released.{ReleasesBelow, AreReleased, heap_with}
-use Rattle.collector.specs.Collected.{IsRunUnder, FillsBlocks}
+use Rattle.collector.specs.Collected.{IsRunUnder, FillsBlocks, FillsInTurn}
 use Rattle.collector.proofs.Given.{SameButBits, IsSetupUnder}
 use Rattle.collector.proofs.Fates.{IsAllReleased}
 use Rattle.collector.proofs.InOrder.{released}
 use Rattle.collector.proofs.LawfulReleases.{all-numbered, lawful}
-use Rattle.collector.proofs.CollectedObjects.{kept, precise, aged, unlogged}
+use Rattle.collector.proofs.CollectedObjects.{kept, precise, aged, none-logged, unlogged, has-number}
 use Rattle.collector.proofs.CollectedBlocks.{block-after}
 use Rattle.collector.proofs.StillFree.{in-place}
+use Rattle.collector.proofs.Turns.{fills-in-turn}
 
 -- a collection by this map
 abbrev pub CollectsBy : (ℕ → ℕ) → Rules → ℕ → Collect → HeapState → List ℕ → HeapState → List ℕ → Type 0
@@ -51,7 +54,9 @@ module _ {q : Plan} {c : Collect} {p : Setup} {u : List ℕ} (under : IsSetupUnd
     precise = precise under trace finished all roots asked no-others;
     ages = aged under trace finished all;
     block = block-after under trace finished all;
-    logged = unlogged under trace finished all;
+    logged = none-logged under trace finished all;
+    unlogged = unlogged under trace finished all;
+    numbers = λ full. has-number under trace finished all (under.nursery ∙ ap is_nursery full);
     number = refl;
     base = base-by c under.nursery;
     layout = refl;
@@ -176,3 +181,15 @@ module _ (q : Plan) (c : Collect) (s : HeapState) (run : TraceRun) (w : ℕ) (la
 
   pub makes : (p : Setup) → p ≡ setup_of s run w → Makes p
   makes p is = subst Makes (sym is) (by-heap s run w Makes (of-setup (without_unlogs (without_lines s)) both refl) (of-setup (without_unlogs s) unlogs refl) (of-setup s itself refl))
+
+  -- how one worker filled blocks
+  abbrev Turns : Setup → Type 0
+  Turns p = (es : List Event) (v : View) → IsTrace p es → IsFinished p (machine_after p es) → Holds p (machine_after p es) v → AreLeft p (machine_after p es) [] v.blocks
+      → ((b d : ℕ) → 0 < (machine_after p es).taken b → d < b → HasKind p.before d kinds.Free → 0 < (machine_after p es).taken d) → FillsInTurn s (image (stage_of p es))
+
+  turns-by : (h : HeapState) → SameButBits h s.words → with_words h s.words ≡ s → Turns (setup s run w h)
+  turns-by h like same es v trace finished holds left lowest = subst (λ old. FillsInTurn old (image (stage_of (setup s run w h) es))) same
+      (fills-in-turn (setup s run w h) s.words like es trace finished v holds left lowest)
+
+  pub turns : (p : Setup) → p ≡ setup_of s run w → Turns p
+  turns p is = subst Turns (sym is) (by-heap s run w Turns (turns-by (without_unlogs (without_lines s)) both refl) (turns-by (without_unlogs s) unlogs refl) (turns-by s itself refl))

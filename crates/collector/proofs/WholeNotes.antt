@@ -12,6 +12,7 @@ use Rattle.object_model.specs.Objects.{HeapState}
 use Rattle.sessions.specs.Plans.{Rules, Plan, rules_of, NoGc, MarkSweep, SemiSpace, GenCopy, Immix, StickyImmix}
 use Rattle.sessions.specs.Collecting.{Collects, CollectsIf}
 use Rattle.plan_api.specs.Flags.{flags_of}
+use Rattle.collector.specs.Collected.{FillsInTurn, FillsIf}
 use Rattle.collector.specs.Tallies.{IsNote, NotesIf}
 use Rattle.collector.specs.declared.outcome.Note.{Note}
 
@@ -30,9 +31,9 @@ module _ (q : Plan) (r : Rules) (of : r ≡ rules_of q) (flags : ℕ) (are : fla
 
 module _ (r : Rules) (w : ℕ) (c : Collect) (s : HeapState) (roots : List ℕ) (new : HeapState) (roots' : List ℕ) (note : Note) where
   abbrev Answers : Bool → Type 0
-  Answers b = (made : CollectsIf b r w c s roots new roots') × NotesIf b r w c s roots new roots' made note
+  Answers b = (made : CollectsIf b r w c s roots new roots') × NotesIf b r w c s roots new roots' made note × FillsIf b r w c s roots new roots' made
 
-  pub collects-all : (b : Bool) → b ≡ true → (made : Collects r w c s roots new roots') × IsNote c s made.target new note → Answers b
+  pub collects-all : (b : Bool) → b ≡ true → (made : Collects r w c s roots new roots') × IsNote c s made.target new note × FillsInTurn s made.target → Answers b
   collects-all true is made = made
   collects-all false is made = absurd (true≢false (sym is))
 

@@ -6,7 +6,7 @@ ghost use Rattle.object_model.specs.Objects.{IsHeld};
 ghost use Rattle.object_model.specs.Heaps.{heap_state};
 ghost use Rattle.sessions.specs.Collecting.{IsCollection, Collects, OnlyCounts};
 ghost use Rattle.trace_core.specs.Tracers.{MayRun, is_nursery};
-ghost use Rattle.collector.specs.Collected.{IsOffered, IsRunUnder};
+ghost use Rattle.collector.specs.Collected.{IsOffered, IsRunUnder, FillsInTurn, FillsIf};
 ghost use Rattle.collector.specs.Items.{items_of};
 ghost use Rattle.collector.specs.RootPackets.{AreRootPackets};
 ghost use Rattle.collector.specs.Awaited.{IsAwaited};
@@ -36,8 +36,9 @@ use work_packets::{Bucket, Gate, Packet};
 /// worker serves the roots, `roots` and the heap's globals, and scans what it claims, and the
 /// blocks are released. Under NoGC the collection number rises, and nothing else changes.
 ///
-/// `roots` are the mutators' registers. There is one worker. Only collections that are offered are
-/// made: full ones.
+/// `roots` are the mutators' registers. There is one worker, which takes a block to copy into only
+/// for an object that does not fit the last one, and then the lowest Free one. Only full
+/// collections are offered, and others are not made.
 ///
 /// Fails if memory runs out. The heap is lost then.
 pub fn collect<P: Plan, Q: Pool, G: Gate, R: Threads + Sync>(
@@ -58,7 +59,9 @@ pub fn collect<P: Plan, Q: Pool, G: Gate, R: Threads + Sync>(
     ensures { IfOk result (λ c. (made : IsCollection P.rules workers collect (heap_state heap)
         roots.items (heap_state c.heap) c.roots.items)
         × NotesIf P.rules.collects P.rules workers collect (heap_state heap) roots.items
-        (heap_state c.heap) c.roots.items made c.note) }
+        (heap_state c.heap) c.roots.items made c.note
+        × FillsIf P.rules.collects P.rules workers collect (heap_state heap) roots.items
+        (heap_state c.heap) c.roots.items made) }
 {
     if P::FLAGS == PlanFlags(0) {
         return Ok(count_only(heap, roots, collect));
@@ -184,7 +187,7 @@ fn finish<P: Plan>(trace: PacketTrace) -> Collected
         → (made : Collects P.rules 1 start.run.collect (heap_state start.heap)
         start.roots.items (heap_state result.heap) result.roots.items)
         × IsNote start.run.collect (heap_state start.heap) made.target
-        (heap_state result.heap) result.note }
+        (heap_state result.heap) result.note × FillsInTurn (heap_state start.heap) made.target }
 {
     let PacketTrace {
         tracer,

@@ -1,10 +1,13 @@
 //! Laws of the release of all blocks after a trace, and of the collection that both make.
 
 ghost use Rattle.std.specs.Prelude.{◌≡◌, ◌↔◌, ◌^◌, ◌<◌, ℕ, List, IsTrue, true, false, map};
+ghost use Rattle.heap_layout.specs.Zones.{block_at};
+ghost use Rattle.heap_layout.specs.declared.layout.TheConstants.{BLOCK_LINES};
+ghost use Rattle.heap_layout.specs.declared.block.Kind.TheVariants as kinds;
 ghost use Rattle.heap_layout.specs.declared.layout.Layout.{Layout};
 ghost use Rattle.object_model.specs.declared.collect.Collect.{Collect};
 ghost use Rattle.object_model.specs.declared.collect.Collect.TheVariants.{Full, Nursery};
-ghost use Rattle.object_model.specs.Objects.{HeapState, state_over, word_at, IsHeld, is_unlogged};
+ghost use Rattle.object_model.specs.Objects.{HeapState, HasKind, state_over, word_at, line_marked, refs_at, nums_at, IsHeld, is_unlogged};
 ghost use Rattle.object_model.specs.Lawful.{IsLawful};
 ghost use Rattle.object_model.specs.Ages.{Lives};
 ghost use Rattle.object_model.specs.Releasing.{IsReleasable};
@@ -60,7 +63,9 @@ pub fn lines_tell_what_lives()
 {}
 
 /// If each block of the row after a finished trace was released, the objects held are exactly those
-/// that survive, each with its unlog bit, and the heap is lawful.
+/// that survive, each with its unlog bit, and the heap is lawful. The stop word and the budget word
+/// are as they were before the trace, an object that was held and still is has its shape, and a
+/// block that is no Immix block, where an object that lives begins, keeps its line bits.
 pub fn released_heaps_are_lawful()
     ensures held { (p : Setup) (es : List Event) (r : Rules) (c : Collect) (new : HeapState)
         (a : ℕ) → IsTrace p es → IsFinished p (machine_after p es)
@@ -70,6 +75,22 @@ pub fn released_heaps_are_lawful()
         (a : ℕ) → IsTrace p es → IsFinished p (machine_after p es)
         → ReleasesBelow r c (base_after p) (heap_after p es) new (blocks p)
         → IsHeld new a → IsTrue (is_unlogged new a) }
+    ensures words { (p : Setup) (es : List Event) (r : Rules) (c : Collect) (new : HeapState)
+        (i : ℕ) → IsTrace p es → IsFinished p (machine_after p es)
+        → ReleasesBelow r c (base_after p) (heap_after p es) new (blocks p)
+        → i < 2 → word_at new i ≡ word_at p.before i }
+    ensures shapes { (p : Setup) (es : List Event) (r : Rules) (c : Collect) (new : HeapState)
+        (x : ℕ) → IsTrace p es → IsFinished p (machine_after p es)
+        → ReleasesBelow r c (base_after p) (heap_after p es) new (blocks p)
+        → IsHeld p.before x → IsHeld new x
+        → (refs_at new x ≡ refs_at p.before x) × (nums_at new x ≡ nums_at p.before x) }
+    ensures lines { (p : Setup) (es : List Event) (r : Rules) (c : Collect) (new : HeapState)
+        (a line : ℕ) → IsTrace p es → IsFinished p (machine_after p es)
+        → ReleasesBelow r c (base_after p) (heap_after p es) new (blocks p)
+        → Lives (base_after p) (heap_after p es) a
+        → (HasKind (heap_after p es) (block_at (blocks p) a) kinds.Immix → ⊥)
+        → line < BLOCK_LINES → line_marked new (block_at (blocks p) a) line
+        ≡ line_marked (heap_after p es) (block_at (blocks p) a) line }
     ensures lawful { (p : Setup) (es : List Event) (r : Rules) (c : Collect) (new : HeapState)
         → IsTrace p es → IsFinished p (machine_after p es)
         → ((i : ℕ) → word_at (heap_after p es) i < 2 ^ 64)

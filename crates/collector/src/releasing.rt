@@ -23,9 +23,9 @@ use trace_core::{TraceRun, Traced};
 /// Releases each block of the row after a finished trace by the rules of the plan, which makes it a
 /// lawful heap.
 ///
-/// It reads the header and the collector word of an object that lives, and the collector word of
-/// one that doesn't, but of an object in a block of cells nothing after a full collection. It does
-/// not rely on marks of lines, which a finished trace may lack.
+/// It reads the collector word of each object, and the header of one only where it marks lines, but
+/// of an object in a block of cells nothing after a full collection. It does not rely on marks of
+/// lines, which a finished trace may lack.
 pub fn release<P: Plan>(traced: Traced) -> Heap
     requires { (p : Setup) × (es : List Event) × IsTrace p es × IsFinished p (machine_after p es)
         × (state_of traced.row ≡ heap_after p es) × IsRunOf p traced.run }

@@ -97,6 +97,13 @@ pub fn steps_set_no_unlog_bit()
         → is_unlogged new a ≡ false }
 {}
 
+/// If the line bits of a block are exact before a step that allocates nothing, they are exact after
+/// it.
+pub fn steps_keep_line_bits()
+    ensures { (old new : HeapState) (k : ℕ) → ObjectsStay old new → LineBitsAreExact old k
+        → LineBitsAreExact new k }
+{}
+
 /// What it means to preserve objects. If none moves, all that a well-formed heap holds is
 /// preserved. An object that may not move stays, and so does the word of a field that refers to no
 /// object. Only small and medium objects that are not pinned may leave evacuated blocks.

@@ -24,8 +24,8 @@ pub use heap_laws::{
 pub use laws::{
     ages, block_words_read, cells_take_objects, collector_words_read, empty_heap_laws,
     fields_refer, headers_are_read, lawful_blocks, lawful_parts, lawful_words, lines_have_words,
-    objects_are_preserved, places_are_addresses, readable_objects, sizes, steps_set_no_unlog_bit,
-    touched_lines_have_words,
+    objects_are_preserved, places_are_addresses, readable_objects, sizes, steps_keep_line_bits,
+    steps_set_no_unlog_bit, touched_lines_have_words,
 };
 pub use object_graph::{are_roots, graph};
 pub use place::Place;

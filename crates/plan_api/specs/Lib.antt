@@ -7,4 +7,5 @@ pub mod Counting
 pub mod Releasing
 pub mod Evacuation
 pub mod Cursors
+pub mod WorkedCursors
 pub mod Relisting

@@ -1,13 +1,14 @@
 //! Laws of holes, views, reserves and taken blocks.
 
 ghost use Rattle.std.specs.Prelude.{◌≡◌, ◌≢◌, ◌↔◌, ◌+◌, ◌<◌, ◌≤◌, ℕ, List, [], ◌∷◌, filter, IsTrue, None};
-ghost use Rattle.heap_layout.specs.Zones.{block_at, offset_at};
+ghost use Rattle.heap_layout.specs.Zones.{block_at, offset_at, block_start};
 ghost use Rattle.heap_layout.specs.Blocks.{all_kinds};
 ghost use Rattle.heap_layout.specs.declared.block.Kind.{Kind};
 ghost use Rattle.heap_layout.specs.declared.block.Kind.TheVariants as kinds;
 ghost use Rattle.heap_layout.specs.declared.layout.Layout.{Layout};
 ghost use Rattle.object_model.specs.Objects.{HeapState, state_over, HasKind, class_at, owner_at, IsHeld, IsInExtent};
-ghost use Rattle.object_model.specs.Lawful.{IsWellFormed, IsReadableBlock, LineBitsAreExact};
+ghost use Rattle.object_model.specs.Lawful.{IsWellFormed, IsReadableBlock, IsTouched, LineBitsAreExact};
+ghost use Rattle.line_marks.specs.Bits.{bit_in};
 ghost use Rattle.sessions.specs.Plans as plans;
 ghost use Rattle.sessions.specs.Plans.{rules_of, Nothing, Copies, Headroom};
 ghost use Rattle.sessions.specs.Grants.{BlockCounts, HoldsReserve, allowance_in, after_taking};
@@ -21,6 +22,7 @@ ghost use Rattle.heap_layout.specs.declared.region.Region.{Region};
 ghost use Rattle.plan_api.specs.Holes.{IsHolePart, HasRoomFrom, IsFirstPart, IsFirstHole, has_holes};
 
 use crate::plan::Plan;
+use heap_layout::{BLOCK_LINES, BLOCK_WORDS};
 
 /// A hole is its own part from offset 0 on. An object at the start of a part with room lies in the
 /// hole, at or after `from`. So does any range of words within a part, unless the block has cells.
@@ -41,23 +43,33 @@ pub fn hole_parts()
 {}
 
 /// All first parts of a block begin at one offset. If the result is `None`, there is no first part.
+/// No hole with room begins before the first part from the block's start on.
 pub fn first_parts()
     ensures next { (fill : Kind) (s : HeapState) (k from size : ℕ) (x y : Region)
         → IsFirstPart fill s k from size x → IsFirstPart fill s k from size y
         → x.next ≡ y.next }
     ensures none { (fill : Kind) (s : HeapState) (k from size : ℕ) (x : Region)
         → IsFirstHole fill s k from size None → IsFirstPart fill s k from size x → ⊥ }
+    ensures before { (fill : Kind) (s : HeapState) (k size at : ℕ) (x : Region)
+        → IsFirstPart fill s k 0 size x → HasHole fill s k at size → x.next ≤ at }
 {}
 
-/// A view shows a block's kind, class and owner, and the offset of its tail if the objects of the
-/// block do not overlap. In a well-formed heap they do not. Whether a block can be read does not
-/// depend on the heap's collection numbers.
+/// A view shows a block's kind, class and owner, where objects begin, and the offset of its tail if
+/// the objects of the block do not overlap. In a well-formed heap they do not. Of an Immix block
+/// whose line bits are exact it shows the lines that objects touch. Whether a block can be read
+/// does not depend on the heap's collection numbers.
 pub fn views_show_blocks()
     ensures kind { (s : HeapState) (k : ℕ) (v : BlockView) → IsViewOf s k v
         → HasKind s k v.word.kind × (class_at s k ≡ v.word.class)
         × (owner_at s k ≡ v.word.owner) }
     ensures tail { (s : HeapState) (k : ℕ) (v : BlockView) → IsViewOf s k v → AreApart s k
         → IsTail s k v.end }
+    ensures starts { (s : HeapState) (k w : ℕ) (v : BlockView) → IsViewOf s k v
+        → w < BLOCK_WORDS
+        → IsTrue (bit_in v.starts w) ↔ IsHeld s (block_start s.blocks k + w) }
+    ensures lines { (s : HeapState) (k line : ℕ) (v : BlockView) → IsViewOf s k v
+        → HasKind s k kinds.Immix → LineBitsAreExact s k → line < BLOCK_LINES
+        → IsTrue (bit_in v.lines line) ↔ ∥ IsTouched s k line ∥₁ }
     ensures apart { (s : HeapState) (k : ℕ) → IsWellFormed s → AreApart s k }
     ensures readable { (words : List ℕ) (l : Layout) (number base k : ℕ)
         → IsReadableBlock (state_over words l number base) k

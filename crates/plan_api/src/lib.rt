@@ -17,6 +17,7 @@ mod plan;
 mod readers;
 mod release_laws;
 mod relist_laws;
+mod worked_laws;
 
 pub use block_view::BlockView;
 pub use cells::class_for;
@@ -37,6 +38,9 @@ pub use plan::Plan;
 pub use readers::{block_word_in, hole_in_block, view, view_in};
 pub use release_laws::releases_are_sweeps;
 pub use relist_laws::relisted_blocks;
+pub use worked_laws::{
+    counts_are_read, first_parts_of_a_worked_heap, placements_of_worked_cursors,
+};
 
 #[cfg(test)]
 mod cursor_tests;

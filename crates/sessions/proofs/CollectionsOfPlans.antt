@@ -1,5 +1,5 @@
 -- Worked collections of the six plans.
-use Rattle.std.proofs.Common.{refl, ℕ, false, List, [], ◌∷◌, ◌++◌, lit<}
+use Rattle.std.proofs.Common.{refl, ℕ, List, [], ◌∷◌, ◌++◌, lit<}
 use Rattle.heap_layout.specs.declared.block.Kind.TheVariants as kinds
 use Rattle.object_model.specs.declared.collect.Collect.TheVariants.{Nursery, Full}
 use Rattle.object_model.specs.Graphs as graphs
@@ -7,7 +7,7 @@ use Rattle.object_model.specs.Graphs.{IsReachable}
 use Rattle.sessions.specs.Plans.{MarkSweep, SemiSpace, GenCopy, Immix, StickyImmix, rules_of}
 use Rattle.sessions.specs.Collecting as collecting
 use Rattle.sessions.specs.Collecting.{Collects, IsNurseryReachable}
-use Rattle.sessions.specs.WorkedCollections.{heap_before, heap_after, unlogged_after, roots_before, roots_moved, in_place, moved_out, remembered_ones, four_kinds, cells_left}
+use Rattle.sessions.specs.WorkedCollections.{heap_before, heap_after, roots_before, roots_moved, in_place, moved_out, remembered_ones, four_kinds, cells_left}
 use Rattle.sessions.proofs.WorkedCollecting.{held-from, collected-full, collected-nursery}
 
 -- where the preserved objects go
@@ -83,12 +83,4 @@ old-in-place = collected-nursery (rules_of GenCopy) 0 Nursery (heap_before kinds
     (let first : IsNurseryReachable (rules_of GenCopy) (heap_before kinds.Young kinds.Young 0) roots_before 806 = collecting.is_root 1 refl (lit< tt) in
     let old_one : IsNurseryReachable (rules_of GenCopy) (heap_before kinds.Young kinds.Young 0) roots_before 4902 = collecting.was_old (held-from (heap_before kinds.Young kinds.Young 0) 4902 refl) refl in
     (first, (collecting.is_field 806 0 first (lit< tt) refl refl, (collecting.is_global 0 (lit< tt) refl (lit< tt), (collecting.is_field 4902 0 old_one (lit< tt) refl refl, (old_one, tt))))))
-    refl refl refl
-
--- without young objects none is logged
-pub not-logged : Collects (rules_of SemiSpace) 1 Full (heap_before kinds.Bump kinds.Bump 0) roots_before (unlogged_after false (four_kinds kinds.Kept kinds.Free kinds.Bump kinds.Free) moved_out 9004 4) roots_moved
-not-logged = collected-full (rules_of SemiSpace) 1 Full (heap_before kinds.Bump kinds.Bump 0) (unlogged_after false (four_kinds kinds.Kept kinds.Free kinds.Bump kinds.Free) moved_out 9004 4) roots_before roots_moved moved
-    refl refl refl refl refl refl refl refl refl refl refl refl
-    (let first : IsReachable (heap_before kinds.Bump kinds.Bump 0) roots_before 806 = graphs.from_root 1 refl (lit< tt) in
-    (first, (graphs.from_field 806 0 first (lit< tt) refl refl, (graphs.from_global 0 (lit< tt) refl (lit< tt), tt))))
     refl refl refl

@@ -81,6 +81,8 @@ module _ (b n : ℕ) where
       others = λ full. absurd (full (emptied k));
     };
     logged = none-logged r;
+    unlogged = λ a holds. absurd (none-held a holds);
+    numbers = λ full a holds. absurd (none-held a holds);
     number = refl;
     base = refl;
     layout = refl;

@@ -1,7 +1,7 @@
 -- Objects that a stop places: where, and what the heap is after it.
 use Rattle.std.proofs.Common.{◌≡◌, ◌≢◌, ◌↔◌, refl, sym, ◌∙◌, ap, subst, ℕ, ◌+◌, ◌*◌, ◌/◌, ◌%◌, ◌^◌, ◌<◌, ◌≤◌, ◌⊎◌, inl, inr, arith, false, [], ◌∷◌, ◌++◌}
 use Rattle.std.proofs.lemmas.Bool.{cases_eq, cases_lt, false_from_ne_true}
-use Rattle.heap_layout.specs.Zones.{heap_of, block_at, offset_at, IsAddress}
+use Rattle.heap_layout.specs.Zones.{heap_of, block_at, offset_at, block_start, IsAddress}
 use Rattle.heap_layout.specs.Blocks.{kind_code}
 use Rattle.heap_layout.specs.declared.block.Kind.{Kind}
 use Rattle.heap_layout.specs.declared.block.Kind.TheVariants as kinds
@@ -15,7 +15,7 @@ use Rattle.object_model.specs.Objects.{HeapState, word_at, global_at, block_word
 use Rattle.object_model.proofs.ObjectReads.{place_of_address}
 use Rattle.object_model.proofs.OneKind.{kind-code, kind-from, kind-within, one-kind}
 use Rattle.sessions.specs.Plans.{Rules, MarkSweep, GenCopy, rules_of}
-use Rattle.sessions.specs.Fitting.{class_for}
+use Rattle.sessions.specs.Fitting.{class_for, HasHole, HasSomeHole}
 use Rattle.sessions.specs.Sessions.{Setting, Moment, PlacesSmall, PlacesLarge, UsesBlock, UsesRun, AddsObject, ChangesBlocks, Places}
 use Rattle.sessions.proofs.BirthPlaces.{hole-kind, hole-not_free}
 use Rattle.sessions.proofs.EpochParts.{no-code}
@@ -56,6 +56,30 @@ module _ (s : HeapState) (a x size : ℕ) (at_a : IsAddress s.blocks a) (at_x : 
       let below : block_at s.blocks a ≤ block_at s.blocks x = one.lowest (block_at s.blocks x) other.run in
       let below' : block_at s.blocks x ≤ block_at s.blocks a = other.lowest (block_at s.blocks a) one.run in
       same-place (omega arith) (one.start ∙ sym other.start)
+
+-- no hole with room begins before a small object
+module _ (s : HeapState) (a k size : ℕ) (at_a : IsAddress s.blocks a) (rules : Rules) (places : PlacesSmall rules s a size) where
+  whole-place : a ≡ heap_of s.blocks + 4096 * block_at s.blocks a + offset_at s.blocks a
+  whole-place = (place_of_address s.blocks a at_a).2
+
+  pub before-hole : (at : ℕ) → HasHole rules.fill s k at size → a ≤ block_start s.blocks k + at
+  before-hole at hole = elim (places.lowest k at hole) as (λ _. a ≤ block_start s.blocks k + at) [
+    | inl before ↦ omega (arith, whole-place, before)
+    | inr same ↦
+        let block : block_at s.blocks a ≡ k = same.0 in
+        let offset : offset_at s.blocks a ≤ at = same.1 in
+        omega (arith, whole-place)
+  ]
+
+  -- and if there is none, no Free block
+  pub before-free : (HasSomeHole rules.fill s size → ⊥) → HasKind s k kinds.Free → a ≤ block_start s.blocks k
+  before-free none free = elim places.spot as (λ _. a ≤ block_start s.blocks k) [
+    | inl hole ↦ absurd (none (record { block = block_at s.blocks a; offset = offset_at s.blocks a; hole = hole }))
+    | inr there ↦
+        let start : offset_at s.blocks a ≡ 0 = there.1 in
+        let low : block_at s.blocks a ≤ k = places.lowest_free there.0 k free in
+        omega (arith, whole-place)
+  ]
 
 -- the new object, and the others
 

@@ -8,7 +8,7 @@ use Rattle.heap_layout.proofs.MarkLemmas.{is-address_from_mark}
 use Rattle.ideal_heap.specs.Names.{name_of}
 use Rattle.object_model.specs.declared.collect.Collect.{Collect}
 use Rattle.object_model.specs.declared.collect.Collect.TheVariants.{Nursery, Full}
-use Rattle.object_model.specs.Objects.{HeapState, word_at, global_at, is_start, is_pinned, is_unlogged, IsHeld, refs_at, nums_at, size_at, ref_at, num_at, is_reference, IsInExtent, block_word, has_kind}
+use Rattle.object_model.specs.Objects.{HeapState, word_at, global_at, is_start, is_pinned, is_unlogged, IsHeld, number_at, refs_at, nums_at, size_at, ref_at, num_at, is_reference, IsInExtent, block_word, has_kind}
 use Rattle.object_model.specs.Graphs as graphs
 use Rattle.object_model.specs.Graphs.{IsReachable}
 use Rattle.object_model.specs.Ages.{is_old, is_logged}
@@ -193,8 +193,13 @@ module _ (r : Rules) (workers : ℕ) (c : Collect) (old new : HeapState) (roots 
   abbrev pub global_follows : ℕ → Bool
   global_follows g = nat_eq (global_at new g) (target (global_at old g)) && has_target (global_at old g)
 
+  abbrev pub has_number : Collect → ℕ → Bool
+  has_number Full x = nat_eq (number_at new x) new.number
+  has_number Nursery x = true
+
   abbrev pub is_in_order : ℕ → Bool
-  is_in_order x = nat_eq (target (source x)) x && (if_so r.young (is_old_under r new x) && not (is_logged_under r new x))
+  is_in_order x = nat_eq (target (source x)) x && (if_so r.young (is_old_under r new x) && (not (is_logged_under r new x)
+      && (is_unlogged new x && has_number c x)))
 
   abbrev pub is_empty_in : ℕ → Bool
   is_empty_in k = list_all (λ p. not (touches new k (target p.0))) ps
@@ -252,10 +257,16 @@ module _ (r : Rules) (workers : ℕ) (c : Collect) (old new : HeapState) (roots 
     reached-young olds a (collecting.is_field x i before within e some) = aimed a (subst (λ (v : ℕ). has_target v ≡ true) e (follows x i (reached-young olds x before) within).1) some
 
     in-order : (x : ℕ) → IsHeld new x → (nat_eq (target (source x)) x ≡ true) × (if_so r.young (is_old_under r new x) ≡ true) × (not (is_logged_under r new x) ≡ true)
+        × (is_unlogged new x ≡ true) × (has_number c x ≡ true)
     in-order x held =
-        let first = and_parts (nat_eq (target (source x)) x) (if_so r.young (is_old_under r new x) && not (is_logged_under r new x)) (object-passes new is_in_order order x held) in
-        let rest = and_parts (if_so r.young (is_old_under r new x)) (not (is_logged_under r new x)) first.1 in
-        (first.0, rest.0, rest.1)
+        let first = and_parts (nat_eq (target (source x)) x) _ (object-passes new is_in_order order x held) in
+        let aged = and_parts (if_so r.young (is_old_under r new x)) _ first.1 in
+        let bits = and_parts (not (is_logged_under r new x)) _ aged.1 in
+        let last = and_parts (is_unlogged new x) (has_number c x) bits.1 in
+        (first.0, aged.0, bits.0, last.0, last.1)
+
+    numbered : c ≡ Full → (x : ℕ) → IsHeld new x → number_at new x ≡ new.number
+    numbered full x held = eqb-true (number_at new x) new.number (subst (λ (d : Collect). has_number d x ≡ true) full (in-order x held).4)
 
     onto : (x : ℕ) → IsHeld new x → (a : ℕ) × (0 < target a) × (target a ≡ x)
     onto x held =
@@ -361,6 +372,8 @@ module _ (r : Rules) (workers : ℕ) (c : Collect) (old new : HeapState) (roots 
           let started = (and_parts (is_start new x && is_old new x) (not (is_unlogged new x)) first.1).0 in
           let held : IsHeld new x = held-from new x (and_parts (is_start new x) (is_old new x) started).0 in
           true≢false (sym (in-order x held).2 ∙ ap not is);
+      unlogged = λ x held. (in-order x held).3;
+      numbers = numbered;
       number = number;
       base = base;
       layout = layout;

@@ -171,6 +171,21 @@ pub logged-left : Collects (rules_of GenCopy) 1 Full young roots_before logged-l
 logged-left k =
     k.logged 8998 refl
 
+abbrev bits-clear-heap : HeapState
+bits-clear-heap = unlogged_after false (four_kinds kinds.Kept kinds.Free kinds.Bump kinds.Free) moved_out 9004 4
+
+pub bits-clear : Collects (rules_of SemiSpace) 1 Full bump roots_before bits-clear-heap roots_moved → ⊥
+bits-clear k =
+    false≢true (k.unlogged 8998 (held-from bits-clear-heap 8998 refl))
+
+abbrev number-left-heap : HeapState
+number-left-heap = heap_after (four_kinds kinds.Kept kinds.Free kinds.Bump kinds.Free) (first_one 2 (812 ∷ 9004 ∷ []) 3 ∷ pinned_one ∷ second_one 2 6 8998 ∷ []) 9004 4
+
+pub number-left : Collects (rules_of SemiSpace) 1 Full bump roots_before number-left-heap roots_moved → ⊥
+number-left k =
+    let same : 3 ≡ 4 = k.numbers refl 8998 (held-from number-left-heap 8998 refl) in
+    omega (arith, same)
+
 -- nursery collections
 
 abbrev old-lost-heap : HeapState

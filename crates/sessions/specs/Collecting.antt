@@ -5,7 +5,7 @@ use Rattle.heap_layout.specs.Zones.{block_at, block_start}
 use Rattle.heap_layout.specs.declared.block.Kind.TheVariants as kinds
 use Rattle.object_model.specs.declared.collect.Collect.{Collect}
 use Rattle.object_model.specs.declared.collect.Collect.TheVariants.{Nursery, Full}
-use Rattle.object_model.specs.Objects.{HeapState, has_kind, HasKind, line_marked, is_start, IsHeld, is_reference, IsInExtent, refs_at, ref_at, global_at, block_word, block_count}
+use Rattle.object_model.specs.Objects.{HeapState, has_kind, HasKind, line_marked, is_start, is_unlogged, IsHeld, is_reference, IsInExtent, number_at, refs_at, ref_at, global_at, block_word, block_count}
 use Rattle.object_model.specs.Graphs.{IsReachable}
 use Rattle.object_model.specs.Ages.{is_old, is_logged, RemembersYoung}
 use Rattle.object_model.specs.Preserving.{may_leave, PreservesObjects}
@@ -138,6 +138,10 @@ pub record Collects (r : Rules) (workers : ℕ) (c : Collect) (old : HeapState) 
   pub ages : (a : ℕ) → IsHeld new a → IsTrue r.young → IsTrue (is_old_under r new a)
   pub block : (k : ℕ) → k < old.blocks → BlockAfter r c old new k
   pub logged : (a : ℕ) → IsTrue (is_logged_under r new a) → ⊥
+  -- Each object's unlog bit is set, under any plan. A full collection claims each object that it keeps, and so leaves its
+  -- number in it. A nursery collection leaves an old object the number that it had.
+  pub unlogged : (a : ℕ) → IsHeld new a → IsTrue (is_unlogged new a)
+  pub numbers : c ≡ Full → (a : ℕ) → IsHeld new a → number_at new a ≡ new.number
   pub number : new.number ≡ old.number + 1
   pub base : new.base ≡ base_after c new.number old.base
   pub layout : new.blocks ≡ old.blocks

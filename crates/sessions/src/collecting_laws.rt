@@ -221,7 +221,8 @@ pub fn wrong_blocks()
     ensures not_crossed { IsEmptied (run_heap 4096) 1 }
 {}
 
-/// Under a plan with young objects a collection leaves no object young and none logged.
+/// Under a plan with young objects a collection leaves no object young and none logged. Under every
+/// plan that reclaims it leaves no unlog bit of an object clear, and a full one no older number.
 pub fn wrong_ages()
     ensures young { IsCollection (rules_of GenCopy) 1 Full
         (heap_before kinds.Young kinds.Mature 0) roots_before
@@ -235,7 +236,12 @@ pub fn wrong_ages()
     ensures unlogged { IsCollection (rules_of SemiSpace) 1 Full
         (heap_before kinds.Bump kinds.Bump 0) roots_before
         (unlogged_after false (four_kinds kinds.Kept kinds.Free kinds.Bump kinds.Free) moved_out
-        9004 4) roots_moved }
+        9004 4) roots_moved → ⊥ }
+    ensures number { IsCollection (rules_of SemiSpace) 1 Full
+        (heap_before kinds.Bump kinds.Bump 0) roots_before
+        (heap_after (four_kinds kinds.Kept kinds.Free kinds.Bump kinds.Free)
+        (first_one 2 (812 ∷ 9004 ∷ []) 3 ∷ pinned_one ∷ second_one 2 6 8998 ∷ []) 9004 4)
+        roots_moved → ⊥ }
 {}
 
 /// A nursery collection loses no old object and none that an old one refers to, and keeps no young

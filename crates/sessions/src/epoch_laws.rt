@@ -15,7 +15,7 @@ ghost use Rattle.ideal_heap.specs.Runs.{Entry, entry, is_full, IsMutator, after}
 ghost use Rattle.object_model.specs.Objects.{HeapState, empty_heap, HasKind, block_word, class_at, line_marked, is_start, is_unlogged, IsHeld, name_at, refs_at, nums_at, size_at, number_at, size_of, cell_words};
 ghost use Rattle.object_model.specs.Ages.{is_old};
 ghost use Rattle.object_model.specs.Graphs.{MutatorState};
-ghost use Rattle.sessions.specs.Plans.{Rules, MarkSweep, SemiSpace, GenCopy, Immix, rules_of, Copies, Headroom};
+ghost use Rattle.sessions.specs.Plans.{Rules, MarkSweep, SemiSpace, GenCopy, Immix, StickyImmix, rules_of, Copies, Headroom};
 ghost use Rattle.sessions.specs.Fitting.{IsTail, HasHole, free_of, used_of, headroom_of, allowance_of};
 ghost use Rattle.sessions.specs.Collecting.{is_logged_under};
 ghost use Rattle.sessions.specs.Sessions.{Setting, Moment, Cause, AtGc, AtMeet, AtEnd, AtNeed, Raised, is_at_gc, is_at_need, next_in, Needs, EndsBy, IsOfPart, IsPacked, IsBirth, StoresInto, Stopped, ExhaustsAllowance, RunsPart, IsSound};
@@ -258,5 +258,7 @@ pub fn births_use_free_blocks()
     ensures gencopy { IsBirth (rules_of GenCopy) (empty_heap 4) part_of_birth
         (heap_after_birth kinds.Young 0) 806 }
     ensures immix { IsBirth (rules_of Immix) (empty_heap 4) part_of_birth
+        (heap_after_birth kinds.Immix 0) 806 }
+    ensures stickyimmix { IsBirth (rules_of StickyImmix) (empty_heap 4) part_of_birth
         (heap_after_birth kinds.Immix 0) 806 }
 {}

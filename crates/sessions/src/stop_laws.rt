@@ -3,7 +3,7 @@
 
 ghost use Rattle.std.specs.Prelude.{◌≡◌, ◌≢◌, ◌↔◌, ◌⊎◌, ℕ, ◌+◌, ◌*◌, ◌<◌, ◌≤◌, ◌^◌, true, false, List, [], ◌∷◌, ◌++◌, map, filter, length, take, None, Some};
 ghost use Rattle.std.specs.List.{AllByRecursion};
-ghost use Rattle.heap_layout.specs.Zones.{block_at, offset_at, IsAddress};
+ghost use Rattle.heap_layout.specs.Zones.{block_at, offset_at, block_start, IsAddress};
 ghost use Rattle.heap_layout.specs.declared.block.Kind.{Kind};
 ghost use Rattle.heap_layout.specs.declared.block.Kind.TheVariants as kinds;
 ghost use Rattle.ideal_heap.specs.declared.name.Name.{Name};
@@ -18,7 +18,7 @@ ghost use Rattle.object_model.specs.Objects.{HeapState, empty_heap, HasKind, wor
 ghost use Rattle.object_model.specs.Ages.{is_old};
 ghost use Rattle.object_model.specs.Graphs.{new_mutator, numbers_of, roots_of, IsReachable};
 ghost use Rattle.sessions.specs.Plans.{Plan, Rules, MarkSweep, GenCopy, rules_of};
-ghost use Rattle.sessions.specs.Fitting.{Fits};
+ghost use Rattle.sessions.specs.Fitting.{Fits, HasHole, HasSomeHole};
 ghost use Rattle.sessions.specs.Collecting.{Collects, first_collection};
 ghost use Rattle.sessions.specs.Sessions.{Setting, Moment, Cause, mutators_of, first_moment, next_in, ideal_at, is_at_gc, is_at_need, is_at_meet, is_waiting, all_done, refusal, IsOfPart, IsSound, MakesCollection, Replies, CollectsFor, PlacesSmall, PlacesLarge, UsesBlock, UsesRun, AddsObject, ChangesBlocks, Places, Serves, ServesAll, Meets, IsEpoch, InSession, IsWhole};
 ghost use Rattle.sessions.specs.WorkedSessions.{worked_setting, worked_moment};
@@ -58,7 +58,8 @@ pub fn stops_make_collections()
         ≡ entry 1 c.Gc r.Done ∷ entry 3 c.Gc r.Done ∷ [] }
 {}
 
-/// The heap and the size determine where a stop places an object.
+/// The heap and the size determine where a stop places an object. No hole with room begins before a
+/// small or medium object. If there is no such hole, no Free block begins before it.
 pub fn places_are_determined()
     ensures small { (s : HeapState) (a x size : ℕ) → IsAddress s.blocks a
         → IsAddress s.blocks x
@@ -67,6 +68,12 @@ pub fn places_are_determined()
     ensures large { (s : HeapState) (a x size : ℕ) → IsAddress s.blocks a
         → IsAddress s.blocks x
         → PlacesLarge s a size → PlacesLarge s x size → a ≡ x }
+    ensures hole { (s : HeapState) (a k at size : ℕ) → IsAddress s.blocks a → (rules : Rules)
+        → PlacesSmall rules s a size → HasHole rules.fill s k at size
+        → a ≤ block_start s.blocks k + at }
+    ensures free { (s : HeapState) (a k size : ℕ) → IsAddress s.blocks a → (rules : Rules)
+        → PlacesSmall rules s a size → (HasSomeHole rules.fill s size → ⊥)
+        → HasKind s k kinds.Free → a ≤ block_start s.blocks k }
 {}
 
 /// An object that is placed was not held before, and is the only one more. It has its shape, nil

@@ -12,6 +12,14 @@ pub next-append : (p : Setup) (m : Machine) (es ds : List Event) → AreNext p m
 next-append p m [] ds are more = more
 next-append p m (e ∷ es) ds are more = (are.0, next-append p (next p m e) es ds are.1 more)
 
+-- the last event came when it could
+next-last : (p : Setup) (m : Machine) (es : List Event) (e : Event) → AreNext p m (es ++ e ∷ []) → May p (after p m es) e
+next-last p m [] e are = are.0
+next-last p m (d ∷ es) e are = next-last p (next p m d) es e are.1
+
+pub trace-last : (p : Setup) (es : List Event) (e : Event) → IsTrace p (es ++ e ∷ []) → May p (machine_after p es) e
+trace-last p es e trace = next-last p (first_machine p) es e trace.events
+
 module _ (p : Setup) (es : List Event) (trace : IsTrace p es) where
   -- the machine after more events, which may come
   pub machine-more : (ds : List Event) → machine_after p (es ++ ds) ≡ after p (machine_after p es) ds

@@ -1,18 +1,18 @@
 -- A root asks a tracer for an object that has its target.
-use Rattle.std.proofs.Common.{◌≡◌, ℕ, ◌+◌, ◌<◌, inl, inr, IsTrue, nat_eq, List, [], ◌∷◌, ◌++◌, sym, ap, ◌∙◌, subst, arith, Some}
-use Rattle.std.specs.Prelude.{drop}
+use Rattle.std.proofs.Common.{◌≡◌, ℕ, ◌+◌, ◌<◌, inl, inr, IsTrue, nat_eq, List, [], ◌∷◌, ◌++◌, refl, sym, ap, ◌∙◌, subst, arith, Some}
 use Rattle.std.proofs.lemmas.Bool.{cases_eq, eq-eqb, ne_eqb}
 use Rattle.std.proofs.lemmas.List.{set-get_or}
 use Rattle.trace_core.specs.Setups.{Setup, is_old}
 use Rattle.trace_core.specs.Machine.{Machine, Event, ByRoot, Ask, target, next, put, heap_in}
 use Rattle.trace_core.specs.Traces.{machine_after, target_of}
 use Rattle.trace_core.specs.Views.{View, Holds, one_if, times, asked_view}
-use Rattle.trace_core.specs.Tracers.{Tracks, IsRoom, AreFull, StayForWantOfRoom, Claims, ClaimsRoot}
+use Rattle.trace_core.specs.Tracers.{Tracks, IsRoom, StayForWantOfRoom, Claims, ClaimsRoot}
 use Rattle.trace_core.specs.declared.plain_trace.PlainTrace.{PlainTrace}
 use Rattle.trace_core.specs.declared.tokens.Claim as answers
 use Rattle.trace_core.specs.declared.tokens.Claim.TheVariants as answer
 use Rattle.trace_core.proofs.Puts.{put_here, put_else}
 use Rattle.trace_core.proofs.Appending.{machine-next, trace-next}
+use Rattle.trace_core.proofs.Leaving.{left-stays}
 use Rattle.trace_core.proofs.Counting.{hits-from, pair-parts, times-cons}
 use Rattle.trace_core.proofs.Idle.{one-if-true}
 
@@ -62,14 +62,15 @@ module _ (p : Setup) (es : List Event) (t : PlainTrace) (v : View) (tracks : Tra
         row = tracks.row ∙ ap (λ ws. record p.before { words = ws }) (sym same-words) ∙ ap (heap_in p) (sym same);
         holds = subst (λ n. Holds p n (asked_view x u v)) (sym same) holds-now;
         room = subst (λ n. IsRoom p n v.blocks t.block t.room) (sym same) tracks.room;
-        full = subst (λ n. AreFull p n (asked_view x u v) (drop 1 v.blocks)) (sym same) tracks.full;
+        left = left-stays p was (machine_after p (es ++ Ask x ∷ [])) (ap (λ (n : Machine). n.owner) same) v.sparse v.sparse refl v.blocks tracks.left;
         stayed = subst (λ n. StayForWantOfRoom p n t.room) (sym same) tracks.stayed;
         passed = λ c l free. subst (λ n. 0 < n.taken c) (sym same) (tracks.passed c l free);
+        ahead = λ c some. tracks.ahead c (subst (λ n. 0 < n.taken c) same some);
       }
 
 -- the answer to a claim, for a root
-pub claims-root : (p : Setup) (es : List Event) (v : View) (new : PlainTrace) (x : ℕ) (result : answers.Claim) (target-of-old : IsTrue (is_old p x) → target_of p es x ≡ Some x)
-    → Claims p es v new x ByRoot result → ClaimsRoot p es v new x result
-claims-root p es v new x answer.Old old is = (is.0, tracks-asked p es new v is.1 x x (old is.0))
-claims-root p es v new x (answer.Seen t) old is = (is.0, is.1, tracks-asked p es new v is.2 x t is.1)
-claims-root p es v new x (answer.Won won) old is = is
+pub claims-root : (p : Setup) (es : List Event) (v : View) (old new : PlainTrace) (x : ℕ) (result : answers.Claim) (target-of-old : IsTrue (is_old p x) → target_of p es x ≡ Some x)
+    → Claims p es v old new x ByRoot result → ClaimsRoot p es v old new x result
+claims-root p es v old new x answer.Old stays is = (is.0, tracks-asked p es new v is.1 x x (stays is.0))
+claims-root p es v old new x (answer.Seen t) stays is = (is.0, is.1, tracks-asked p es new v is.2 x t is.1)
+claims-root p es v old new x (answer.Won won) stays is = is

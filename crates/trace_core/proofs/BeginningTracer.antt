@@ -134,7 +134,8 @@ module _ (s : HeapState) (run : TraceRun) (lawful : IsLawfulButLines s) (may : M
     row = row;
     holds = first-holds p ready run logged;
     room = empty;
-    full = λ b some. absurd (omega arith);
+    left = tt;
     stayed = λ x is young moves. absurd (None-not-Some x (ap target (sym (first-young p ready x young)) ∙ is));
     passed = λ b below. absurd (let none : t.next_block ≡ 0 = next in omega arith);
+    ahead = λ b some. absurd (omega (arith, some));
   }

@@ -1,6 +1,6 @@
 -- A tracer claims an object.
-use Rattle.std.proofs.Common.{◌≡◌, ◌≢◌, ℕ, ◌+◌, ◌-◌, ◌^◌, ◌<◌, ◌≤◌, ◌⊎◌, inl, inr, Bool, ◌&&◌, not, IsTrue, nat_eq, List, [], ◌∷◌, ◌++◌, slice_set, refl, sym, ap, ◌∙◌, subst, arith, Option, Some, None}
-use Rattle.std.specs.Prelude.{drop, is_some}
+use Rattle.std.proofs.Common.{◌≡◌, ◌≢◌, ℕ, ◌+◌, ◌-◌, ◌^◌, ◌<◌, ◌≤◌, inl, inr, Bool, ◌&&◌, not, IsTrue, nat_eq, List, [], ◌∷◌, ◌++◌, slice_set, refl, sym, ap, ◌∙◌, subst, arith, Option, Some, None}
+use Rattle.std.specs.Prelude.{is_some}
 use Rattle.std.proofs.lemmas.Bool.{cases_eq, cases_lt, cond-true, cond-false, eq-eqb, ne_eqb}
 use Rattle.forward_word.specs.CollectorWords.{collector_word}
 use Rattle.heap_layout.specs.Zones.{block_start, block_at}
@@ -11,7 +11,7 @@ use Rattle.trace_core.specs.Setups.{Setup, blocks, size, refs, is_old, is_idle, 
 use Rattle.trace_core.specs.Machine.{Stage, Unclaimed, Copying, Scanning, target, Machine, Event, Cause, ByRoot, ByGlobal, ByField, Claim, next, put, put_all, asked_after, heap_in}
 use Rattle.trace_core.specs.Traces.{May, NoneIsFree, IsAskedBy, machine_after, stage_of, target_of}
 use Rattle.trace_core.specs.Views.{View, Holds, one_if, hits, times, is_copying, is_scanning, is_copied, steps_at_claim, roots_of, claimed_view}
-use Rattle.trace_core.specs.Tracers.{Tracks, IsRunOf, IsRoom, IsFilled, AreFull, StayForWantOfRoom, IsWaiting}
+use Rattle.trace_core.specs.Tracers.{Tracks, IsRunOf, IsRoom, AreLeft, StayForWantOfRoom, IsWaiting}
 use Rattle.trace_core.specs.declared.plain_trace.PlainTrace.{PlainTrace}
 use Rattle.trace_core.proofs.Puts.{put_here, put_else, all_here, all_else}
 use Rattle.trace_core.proofs.Objects.{Some-injective, None-not-Some}
@@ -19,6 +19,7 @@ use Rattle.trace_core.proofs.Appending.{machine-next, trace-next}
 use Rattle.trace_core.proofs.Counting.{hits-cons, hits-from, pair-parts, times-cons}
 use Rattle.trace_core.proofs.Idle.{one-if-true}
 use Rattle.trace_core.proofs.Law.{sound}
+use Rattle.trace_core.proofs.Leaving.{left-more}
 use Rattle.trace_core.proofs.Tracking.{words-are, blocks-are}
 use Rattle.trace_core.proofs.TakenRoom.{last, room-there, room-end, room-taken, room-block}
 
@@ -93,19 +94,22 @@ module _ (p : Setup) (m : Machine) (v : View) (holds : Holds p m v) (x u : ℕ) 
     blocks = holds.blocks;
   }
 
-  -- what was a word of a target still is
-  pub owner-more : (a : ℕ) → IsTrue (is_some (m.owner a)) → IsTrue (is_some (claimed.owner a))
-  owner-more a some = elim (cases_eq u x) as (λ _. IsTrue (is_some (claimed.owner a))) [
-    | inl e ↦ subst (λ (f : ℕ → Option ℕ). IsTrue (is_some (f a))) (sym (cond-true (nat_eq u x) m.owner _ (eq-eqb u x e))) some
-    | inr ne ↦ subst (λ (f : ℕ → Option ℕ). IsTrue (is_some (f a))) (sym (cond-false (nat_eq u x) m.owner _ (ne_eqb u x ne)))
-        (elim (cases_lt a u) as (λ _. IsTrue (is_some (put_all m.owner u (size p x) (Some x) a))) [
-          | inl low ↦ subst (λ o. IsTrue (is_some o)) (sym (all_else m.owner u (Some x) (size p x) a (inl low))) some
-          | inr from ↦ elim (cases_lt a (u + size p x)) as (λ _. IsTrue (is_some (put_all m.owner u (size p x) (Some x) a))) [
-            | inl below ↦ subst (λ o. IsTrue (is_some o)) (sym (all_here m.owner u (Some x) (size p x) a (omega arith) below)) refl
-            | inr beyond ↦ subst (λ o. IsTrue (is_some o)) (sym (all_else m.owner u (Some x) (size p x) a (inr (omega arith)))) some
-          ]
-        ])
-  ]
+-- a word of a target stays that object's
+pub claim-keeps : (p : Setup) (m : Machine) (x u : ℕ) (cause : Cause) → May p m (Claim x u cause) → (a y : ℕ) → m.owner a ≡ Some y → (next p m (Claim x u cause)).owner a ≡ Some y
+claim-keeps p m x u cause may a y own = elim (cases_eq u x) as (λ _. (next p m (Claim x u cause)).owner a ≡ Some y) [
+  | inl e ↦ ap (λ (f : ℕ → Option ℕ). f a) (cond-true (nat_eq u x) m.owner _ (eq-eqb u x e)) ∙ own
+  | inr ne ↦ ap (λ (f : ℕ → Option ℕ). f a) (cond-false (nat_eq u x) m.owner _ (ne_eqb u x ne))
+      ∙ (elim (cases_lt a u) as (λ _. put_all m.owner u (size p x) (Some x) a ≡ Some y) [
+        | inl low ↦ all_else m.owner u (Some x) (size p x) a (inl low) ∙ own
+        | inr from ↦ elim (cases_lt a (u + size p x)) as (λ _. put_all m.owner u (size p x) (Some x) a ≡ Some y) [
+          | inl below ↦ absurd (elim may.3 as (λ _. ⊥) [
+            | inl stays ↦ ne stays.same
+            | inr moves ↦ None-not-Some y (sym (moves.unowned a (record { from = from; below = below })) ∙ own)
+          ])
+          | inr beyond ↦ all_else m.owner u (Some x) (size p x) a (inr beyond) ∙ own
+        ]
+      ])
+]
 
 module _ (p : Setup) (es : List Event) (old new : PlainTrace) (v : View) (tracks : Tracks p es old v) (x u : ℕ) (cause : Cause)
     (may : May p (machine_after p es) (Claim x u cause))
@@ -122,11 +126,8 @@ module _ (p : Setup) (es : List Event) (old new : PlainTrace) (v : View) (tracks
       ∙ ap (λ ws. with_words p.before (slice_set ws (x + 2) (collector_word old.run.number u))) (words-are p es old v tracks)
       ∙ ap (λ n. with_words p.before (slice_set was.words (x + 2) (collector_word n u))) tracks.run.number
 
-  full-now : AreFull p now (claimed_view p x u cause v) (drop 1 v.blocks)
-  full-now b some = elim (tracks.full b some) as (λ _. (0 < times b v.sparse) ⊎ ((n : ℕ) × (2048 < n) × IsFilled p now b n)) [
-    | inl sparse ↦ inl sparse
-    | inr filled ↦ inr (filled.0, filled.1, λ o l. owner-more p was v tracks.holds x u cause may.1 (block_start (blocks p) b + o) (filled.2 o l))
-  ]
+  left-now : AreLeft p now v.sparse v.blocks
+  left-now = left-more p was now (claim-keeps p was x u cause may) v.sparse v.sparse (λ b few. few) v.blocks tracks.left
 
   pub tracks-claimed : IsRoom p now v.blocks new.block new.room → StayForWantOfRoom p now new.room → Tracks p (es ++ Claim x u cause ∷ []) new (claimed_view p x u cause v)
   tracks-claimed room stayed =
@@ -137,9 +138,10 @@ module _ (p : Setup) (es : List Event) (old new : PlainTrace) (v : View) (tracks
         row = row-now ∙ ap (heap_in p) (sym same);
         holds = subst (λ n. Holds p n (claimed_view p x u cause v)) (sym same) (holds-claimed p was v tracks.holds x u cause may.1);
         room = subst (λ n. IsRoom p n v.blocks new.block new.room) (sym same) room;
-        full = subst (λ n. AreFull p n (claimed_view p x u cause v) (drop 1 v.blocks)) (sym same) full-now;
+        left = subst (λ n. AreLeft p n v.sparse v.blocks) (sym same) left-now;
         stayed = subst (λ n. StayForWantOfRoom p n new.room) (sym same) stayed;
         passed = λ c l free. subst (λ n. 0 < n.taken c) (sym same) (tracks.passed c (subst (λ n. c < n) next_block l) free);
+        ahead = λ c some. subst (λ n. c < n) (sym next_block) (tracks.ahead c (subst (λ n. 0 < n.taken c) same some));
       }
 
   -- in place no word gets an owner

@@ -29,17 +29,21 @@ module _ (p : Setup) (es : List Event) (trace : IsTrace p es) where
   s : Sound p (machine_after p es)
   s = sound p es trace
 
-  abbrev Placed : ℕ → ℕ → Type 0
+  abbrev pub Placed : ℕ → ℕ → Type 0
   Placed x t = IsPlaced p (slice_index m.words) m.stage m.owner m.taken x t
 
   pub held-of : (x t : ℕ) → target_of p es x ≡ Some t → IsTrue (held p x)
   held-of x t is = places.held-of p trace.ready m.words m.stage m.owner m.taken s.objects x t is
 
-  placed : (x t : ℕ) → target_of p es x ≡ Some t → Placed x t
+  pub placed : (x t : ℕ) → target_of p es x ≡ Some t → Placed x t
   placed x t is = places.placed p trace.ready m.words m.stage m.owner m.taken s.objects x t is
 
   target-apart : (x t o : ℕ) → target_of p es x ≡ Some t → o < size p x → (y j : ℕ) → IsTrue (held p y) → y ≢ x → j < size p y → y + j ≢ t + o
   target-apart x t o is l = places.target-apart p trace.ready m.words m.stage m.owner m.taken s.objects x t o (held-of x t is) (placed x t is) l
+
+  -- a word that has an owner is one of its target, where it moved
+  pub owned-word : (a x : ℕ) → m.owner a ≡ Some x → (t : ℕ) × (target_of p es x ≡ Some t) × (t ≢ x) × IsInExtentOf t (size p x) a
+  owned-word a x own = let d = s.objects.owned a x own in (d.at, d.same, d.moved, record { from = d.from; below = d.below })
 
   -- two targets have no word in common
   pub targets-apart : (x y t u i : ℕ) → x ≢ y → target_of p es x ≡ Some t → target_of p es y ≡ Some u → IsInExtentOf t (size p x) i → IsInExtentOf u (size p y) i → ⊥

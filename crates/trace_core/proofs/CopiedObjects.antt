@@ -1,6 +1,6 @@
 -- A tracer copies an object that it claimed.
 use Rattle.std.proofs.Common.{◌≡◌, ◌≢◌, ℕ, ◌+◌, ◌-◌, ◌<◌, ◌≤◌, inl, inr, true, false, ◌&&◌, not, nat_eq, List, [], ◌∷◌, ◌++◌, length, slice_index, slice_set, replicate, refl, sym, ap, ◌∙◌, subst, arith, Some}
-use Rattle.std.specs.Prelude.{drop, nat_lt}
+use Rattle.std.specs.Prelude.{nat_lt}
 use Rattle.std.specs.List.{CopiedTo, SameBelow, SameFrom}
 use Rattle.std.proofs.lemmas.Bool.{cases_eq, cases_lt, cond-true, cond-false, eq-eqb, ne_eqb, eqb-true}
 use Rattle.std.proofs.lemmas.Grind.{same_number_lists}
@@ -12,7 +12,7 @@ use Rattle.trace_core.specs.Setups.{Setup, blocks, size, is_old, is_idle}
 use Rattle.trace_core.specs.Machine.{Stage, Unclaimed, Copying, Scanning, target, Machine, Event, Copy, next, put, copied_word, step_of_offset, heap_in}
 use Rattle.trace_core.specs.Traces.{AreNext, after, machine_after, stage_of}
 use Rattle.trace_core.specs.Views.{View, Holds, one_if, hits, times, is_pair, is_copying, is_scanning, is_copied, without, steps_at_claim, IsWon, copied_view}
-use Rattle.trace_core.specs.Tracers.{Tracks, IsRunOf, IsRoom, AreFull, StayForWantOfRoom, IsMoving, IsCopiedHere, copying as copying-events}
+use Rattle.trace_core.specs.Tracers.{Tracks, IsRunOf, IsRoom, AreLeft, StayForWantOfRoom, IsMoving, IsCopiedHere, copying as copying-events}
 use Rattle.trace_core.specs.declared.plain_trace.PlainTrace.{PlainTrace}
 use Rattle.trace_core.specs.declared.tokens.Won.{Won}
 use Rattle.trace_core.proofs.Puts.{put_here, put_else}
@@ -25,7 +25,8 @@ use Rattle.trace_core.proofs.Clauses.{copying, targets-inside, held-of}
 use Rattle.trace_core.proofs.Appending.{machine-more, trace-more, after-append, next-append}
 use Rattle.trace_core.proofs.Counting.{hits-cons, hits-without, times-cons}
 use Rattle.trace_core.proofs.Idle.{one-if-from, one-if-true}
-use Rattle.trace_core.proofs.Storing.{room-stays, full-stays}
+use Rattle.trace_core.proofs.Storing.{room-stays}
+use Rattle.trace_core.proofs.Leaving.{left-stays}
 use Rattle.trace_core.proofs.CopyEvents.{Reaches, Copies, copies, unlogged-moved, unlogged-in-place, started, reaches-on}
 
 -- the stage of an object with this right
@@ -132,10 +133,11 @@ module _ (p : Setup) (es : List Event) (old new : PlainTrace) (v : View) (tracks
         holds = subst (λ n. Holds p n (copied_view p x t v)) (sym same) (holds-copied p was (after p was ds) v tracks.holds x t young stage reaches);
         room = subst (λ n. IsRoom p n v.blocks new.block new.room) (sym same) (subst (λ r. IsRoom p (after p was ds) v.blocks new.block r) (sym room)
             (subst (λ b. IsRoom p (after p was ds) v.blocks b old.room) (sym block) (room-stays p was (after p was ds) owner v.blocks old.block old.room tracks.room)));
-        full = subst (λ n. AreFull p n (copied_view p x t v) (drop 1 v.blocks)) (sym same) (full-stays p was (after p was ds) owner v (copied_view p x t v) (drop 1 v.blocks) refl tracks.full);
+        left = subst (λ n. AreLeft p n v.sparse v.blocks) (sym same) (left-stays p was (after p was ds) owner v.sparse v.sparse refl v.blocks tracks.left);
         stayed = subst (λ n. StayForWantOfRoom p n new.room) (sym same) (subst (StayForWantOfRoom p (after p was ds)) (sym room)
             (λ y is aged moves. tracks.stayed y (same-target y ∙ is) aged moves));
         passed = λ c l free. subst (λ n. 0 < n.taken c) (sym same) (subst (λ (f : ℕ → ℕ). 0 < f c) (sym reaches.taken) (tracks.passed c (subst (λ n. c < n) next_block l) free));
+        ahead = λ c some. subst (λ n. c < n) (sym next_block) (tracks.ahead c (subst (λ (f : ℕ → ℕ). 0 < f c) reaches.taken (subst (λ n. 0 < n.taken c) same some)));
       }
 
   -- the object and its target lie in the row

@@ -84,7 +84,7 @@ module _ (p : Setup) (es : List Event) (v : View) (mid : PlainTrace) (x : ℕ) (
   claiming taken = takes taken ++ Claim x won.target cause ∷ []
 
   -- the token of the claim
-  pub won-token : (taken : Option ℕ) → Wins p es v mid taken x cause won → IsWon p (claimed_view p x won.target cause (taken_in taken v)) won
+  pub won-token : {old : PlainTrace} (taken : Option ℕ) → Wins p es v old mid taken x cause won → IsWon p (claimed_view p x won.target cause (taken_in taken v)) won
   won-token taken wins = let w : View = taken_in taken v in record {
     right = subst (λ y. 0 < hits y (steps_at_claim p y won.target) (claimed_view p x won.target cause w).won) (sym wins.object)
         (hits-here x (steps_at_claim p x won.target) w.won);

@@ -21,6 +21,7 @@ pub mod Counting
 mod Idle
 mod LastBlocks
 mod Tracking
+mod Leaving
 mod TakenRoom
 mod Reading
 mod ClaimedObjects

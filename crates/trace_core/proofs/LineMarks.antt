@@ -1,6 +1,6 @@
 -- An object's lines are marked, by an event for each line word with a line that it touches.
 use Rattle.std.proofs.Common.{◌≡◌, ℕ, zero, suc, ◌+◌, ◌*◌, ◌-◌, ◌/◌, ◌^◌, ◌<◌, ◌≤◌, inl, inr, IsTrue, refl, sym, ap, ◌∙◌, subst, arith, Some}
-use Rattle.std.proofs.Common.{List, [], ◌∷◌, ◌++◌, drop, length, slice_index, slice_set, bit_or, append_assoc, append-nil, get_or-set_other, get_or-set_same}
+use Rattle.std.proofs.Common.{List, [], ◌∷◌, ◌++◌, length, slice_index, slice_set, bit_or, append_assoc, append-nil, get_or-set_other, get_or-set_same}
 use Rattle.std.specs.Prelude.{All}
 use Rattle.std.proofs.Math.ListN.{length-set}
 use Rattle.std.proofs.lemmas.Bool.{cases_eq, cases_lt}
@@ -21,7 +21,8 @@ use Rattle.trace_core.proofs.Law.{sound}
 use Rattle.trace_core.proofs.Clauses.{targets-inside}
 use Rattle.trace_core.proofs.Tracking.{words-are, blocks-are}
 use Rattle.trace_core.proofs.Appending.{machine-next, trace-next}
-use Rattle.trace_core.proofs.Storing.{room-stays, full-stays}
+use Rattle.trace_core.proofs.Storing.{room-stays}
+use Rattle.trace_core.proofs.Leaving.{left-stays}
 use Rattle.trace_core.proofs.MarkedWords.{Marked, gained, gained-touches, with-gained, other-word}
 
 -- the machine with other words
@@ -201,10 +202,11 @@ module _ (p : Setup) (es : List Event) (t : PlainTrace) (v : View) (tracks : Tra
             room = subst (λ b. IsRoom p (machine_after p ds) v.blocks b t'.room) (sym changes.block)
                 (subst (λ r. IsRoom p (machine_after p ds) v.blocks t.block r) (sym changes.room)
                 (room-stays p m (machine_after p ds) owners v.blocks t.block t.room tracks.room));
-            full = full-stays p m (machine_after p ds) owners v v (drop 1 v.blocks) refl tracks.full;
+            left = left-stays p m (machine_after p ds) owners v.sparse v.sparse refl v.blocks tracks.left;
             stayed = subst (StayForWantOfRoom p (machine_after p ds)) (sym changes.room)
                 (λ x is young moves. tracks.stayed x (sym (ap (λ (k : Machine). target (k.stage x)) machine-is) ∙ is) young moves);
             passed = λ b before free. subst (λ take. 0 < take b) (sym takes) (tracks.passed b (subst (λ n. b < n) changes.next_block before) free);
+            ahead = λ b some. subst (λ n. b < n) (sym changes.next_block) (tracks.ahead b (subst (λ take. 0 < take b) takes some));
           }
 
       grows-by-marks : Grows p es t' v (Marks grey.object)

@@ -1,19 +1,19 @@
 -- A tracer makes the next event by storing one word. Where the event gives no word to an object and takes no block, the
 -- tracer tracks the trace with this event.
-use Rattle.std.proofs.Common.{◌≡◌, ℕ, ◌+◌, ◌<◌, ◌≤◌, ◌⊎◌, inl, inr, IsTrue, List, [], ◌∷◌, ◌++◌, drop, slice_index, slice_set, sym, ap, ◌∙◌, subst, None}
+use Rattle.std.proofs.Common.{◌≡◌, ℕ, ◌+◌, ◌<◌, ◌≤◌, IsTrue, List, [], ◌∷◌, ◌++◌, slice_index, slice_set, sym, ap, ◌∙◌, subst, None}
 use Rattle.std.specs.Prelude.{is_some}
 use Rattle.heap_layout.specs.Zones.{block_start}
 use Rattle.heap_layout.specs.declared.layout.TheConstants.{BLOCK_WORDS}
 use Rattle.heap_layout.specs.declared.region.Region.{Region}
 use Rattle.object_model.specs.Objects.{with_words}
-use Rattle.object_model.specs.declared.shape.TheConstants.{MAX_MEDIUM_WORDS}
 use Rattle.trace_core.specs.Setups.{Setup, blocks}
 use Rattle.trace_core.specs.Machine.{Machine, target, Event, place, stored, stage_after, owner_after, taken_after, next, heap_in}
 use Rattle.trace_core.specs.Traces.{May, machine_after}
-use Rattle.trace_core.specs.Views.{View, Holds, times}
-use Rattle.trace_core.specs.Tracers.{Tracks, IsRunOf, IsFilled, IsRoom, AreFull, StayForWantOfRoom, ChangesWords}
+use Rattle.trace_core.specs.Views.{View, Holds}
+use Rattle.trace_core.specs.Tracers.{Tracks, IsRunOf, IsFilled, IsRoom, AreLeft, StayForWantOfRoom, ChangesWords}
 use Rattle.trace_core.specs.declared.plain_trace.PlainTrace.{PlainTrace}
 use Rattle.trace_core.proofs.Appending.{machine-next, trace-next}
+use Rattle.trace_core.proofs.Leaving.{left-stays}
 
 module _ (p : Setup) (m m' : Machine) (owner : m'.owner ≡ m.owner) where
   filled-stays : (b offset : ℕ) → IsFilled p m b offset → IsFilled p m' b offset
@@ -28,12 +28,6 @@ module _ (p : Setup) (m m' : Machine) (owner : m'.owner ≡ m.owner) where
     filled-stays b room.next is.3,
     subst (λ own. (o : ℕ) → room.next ≤ o → o < BLOCK_WORDS → own (block_start (blocks p) b + o) ≡ None) (sym owner) is.4,
   )
-
-  pub full-stays : (v v' : View) (earlier : List ℕ) → v'.sparse ≡ v.sparse → AreFull p m v earlier → AreFull p m' v' earlier
-  full-stays v v' earlier sparse are b some = elim (are b some) as (λ _. (0 < times b v'.sparse) ⊎ ((n : ℕ) × (MAX_MEDIUM_WORDS < n) × IsFilled p m' b n)) [
-    | inl few ↦ inl (subst (λ bs. 0 < times b bs) (sym sparse) few)
-    | inr full ↦ inr (full.0, full.1, filled-stays b full.0 full.2)
-  ]
 
 module _ (p : Setup) (es : List Event) (v v' : View) (old new : PlainTrace) (e : Event) (at value : ℕ) where
   abbrev m : Machine
@@ -64,9 +58,10 @@ module _ (p : Setup) (es : List Event) (v v' : View) (old new : PlainTrace) (e :
             (subst (λ b. IsRoom p (machine_after p (es ++ e ∷ [])) v.blocks b new.room) (sym changes.block)
             (subst (λ r. IsRoom p (machine_after p (es ++ e ∷ [])) v.blocks old.block r) (sym changes.room)
             (room-stays p m (machine_after p ds) owners v.blocks old.block old.room tracks.room)));
-        full = subst (λ bs. AreFull p (machine_after p (es ++ e ∷ [])) v' (drop 1 bs)) (sym same)
-            (full-stays p m (machine_after p ds) owners v v' (drop 1 v.blocks) sparse tracks.full);
+        left = subst (λ bs. AreLeft p (machine_after p (es ++ e ∷ [])) v'.sparse bs) (sym same)
+            (left-stays p m (machine_after p ds) owners v.sparse v'.sparse sparse v.blocks tracks.left);
         stayed = subst (StayForWantOfRoom p (machine_after p (es ++ e ∷ []))) (sym changes.room)
             (λ x is young moves. tracks.stayed x (sym (targets x) ∙ ap (λ (n : Machine). target (n.stage x)) (sym now) ∙ is) young moves);
         passed = λ b before free. subst (λ take. 0 < take b) (sym takes) (tracks.passed b (subst (λ n. b < n) changes.next_block before) free);
+        ahead = λ b some. subst (λ n. b < n) (sym changes.next_block) (tracks.ahead b (subst (λ take. 0 < take b) takes some));
       }

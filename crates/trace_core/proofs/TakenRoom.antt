@@ -1,6 +1,6 @@
 -- A tracer takes a block to copy into.
-use Rattle.std.proofs.Common.{◌≡◌, ◌≢◌, ℕ, ◌+◌, ◌%◌, ◌<◌, ◌≤◌, ◌⊎◌, inl, inr, ◌&&◌, IsTrue, nat_eq, nat_lt, List, [], ◌∷◌, ◌++◌, slice_set, refl, sym, ap, ◌∙◌, subst, arith, Option, Some, None}
-use Rattle.std.specs.Prelude.{take, drop}
+use Rattle.std.proofs.Common.{◌≡◌, ◌≢◌, ℕ, ◌+◌, ◌%◌, ◌<◌, ◌≤◌, inl, inr, ◌&&◌, IsTrue, nat_eq, nat_lt, List, [], ◌∷◌, ◌++◌, slice_set, refl, sym, ap, ◌∙◌, subst, arith, Option, Some, None}
+use Rattle.std.specs.Prelude.{take}
 use Rattle.std.proofs.lemmas.Bool.{cases_eq, cases_lt, and_parts, eqb-true, eq-eqb, ne_eqb, ltb-true}
 use Rattle.heap_layout.specs.Zones.{BlockWords, first, block_start, block_at}
 use Rattle.heap_layout.specs.declared.block.Kind.{Kind}
@@ -11,14 +11,15 @@ use Rattle.object_model.specs.Objects.{HasKind, block_word, state_of, with_words
 use Rattle.trace_core.specs.Setups.{Setup, blocks}
 use Rattle.trace_core.specs.Machine.{Machine, target, Event, TakeBlock, next, taken_word, heap_in}
 use Rattle.trace_core.specs.Traces.{May, IsTrace, NoneIsFree, machine_after, heap_after}
-use Rattle.trace_core.specs.Views.{View, Holds, one_if, times, taken_view, left_view}
-use Rattle.trace_core.specs.Tracers.{Tracks, IsTracing, TakesBlock, FindsNone, IsRunOf, StayForWantOfRoom, IsRoom, IsFilled, AreFull}
+use Rattle.trace_core.specs.Views.{View, Holds, one_if, times, left_view}
+use Rattle.trace_core.specs.Tracers.{Tracks, IsTracing, TakesBlock, FindsNone, IsRunOf, StayForWantOfRoom, IsRoom, AreLeft}
 use Rattle.trace_core.specs.declared.plain_trace.PlainTrace.{PlainTrace}
 use Rattle.trace_core.proofs.Puts.{put_here, put_else}
 use Rattle.trace_core.proofs.Law.{sound}
+use Rattle.trace_core.proofs.Leaving.{left-more}
 use Rattle.trace_core.proofs.Clauses.{untaken-word, taken-block-word, has-room}
 use Rattle.trace_core.proofs.Appending.{machine-next, trace-next}
-use Rattle.trace_core.proofs.Counting.{times-cons, count-append}
+use Rattle.trace_core.proofs.Counting.{times-cons}
 use Rattle.trace_core.proofs.Idle.{one-if-from, one-if-true}
 use Rattle.trace_core.proofs.Tracking.{words-are, blocks-are}
 
@@ -114,8 +115,8 @@ module _ (p : Setup) (es : List Event) (old new : PlainTrace) (b : ℕ) (v : Vie
         let after : one_if (nat_lt 0 (now.taken c)) ≡ one_if (nat_lt 0 (was.taken c)) = ap (λ n. one_if (nat_lt 0 n)) (taken-now c ne) in omega arith)
   ]
 
-  holds-now : (v' : View) → v' ≡ record v { blocks = b ∷ v.blocks; sparse = v'.sparse } → Holds p now v'
-  holds-now v' is = subst (Holds p now) (sym is) (record {
+  holds-now : Holds p now (left_view b v)
+  holds-now = record {
     won = tracks.holds.won;
     grey = tracks.holds.grey;
     copied = tracks.holds.copied;
@@ -124,7 +125,7 @@ module _ (p : Setup) (es : List Event) (old new : PlainTrace) (b : ℕ) (v : Vie
     asked = tracks.holds.asked;
     known = tracks.holds.known;
     blocks = counts;
-  })
+  }
 
   passed-now : (c : ℕ) → c < new.next_block → HasKind p.before c kinds.Free → 0 < now.taken c
   passed-now c l free = elim (cases_eq c b) as (λ _. 0 < now.taken c) [
@@ -149,60 +150,50 @@ module _ (p : Setup) (es : List Event) (old new : PlainTrace) (b : ℕ) (v : Vie
     (λ o from l. unowned-block p es tracks.trace b o free-here.1 l),
   )
 
-  -- Each block that was taken before is full, or sparse now.
-  full-now : (v' : View) → ((c : ℕ) → 0 < times c v.sparse → 0 < times c v'.sparse)
-      → ((c : ℕ) (rest : List ℕ) → v.blocks ≡ c ∷ rest → (0 < times c v'.sparse) ⊎ (2048 < old.room.next))
-      → AreFull p now v' v.blocks
-  full-now v' more head = by-blocks v.blocks refl
+  -- The last block may have any room. It is sparse now.
+  left-now : AreLeft p now (take 1 v.blocks ++ v.sparse) (b ∷ v.blocks)
+  left-now = by-blocks v.blocks refl
     where
-      by-blocks : (bs : List ℕ) → v.blocks ≡ bs → AreFull p now v' bs
-      by-blocks [] is c some = absurd (omega (arith, some))
-      by-blocks (d ∷ rest) is c some = elim (cases_eq c d) as (λ _. (0 < times c v'.sparse) ⊎ ((n : ℕ) × (2048 < n) × IsFilled p now c n)) [
-        | inl e ↦ subst (λ z. (0 < times z v'.sparse) ⊎ ((n : ℕ) × (2048 < n) × IsFilled p now z n)) (sym e)
-            (elim (head d rest is) as (λ _. (0 < times d v'.sparse) ⊎ ((n : ℕ) × (2048 < n) × IsFilled p now d n)) [
-              | inl sparse ↦ inl sparse
-              | inr most ↦ inr (old.room.next, most, (subst (λ bs. IsRoom p was bs old.block old.room) is tracks.room).3)
-            ])
-        | inr ne ↦ (let count : times c (d ∷ rest) ≡ one_if (nat_eq c d) + times c rest = times-cons d rest c in
-            let here : one_if (nat_eq c d) ≡ 0 = ap one_if (ne_eqb c d ne) in
-            elim (tracks.full c (subst (λ bs. 0 < times c (drop 1 bs)) (sym is) (omega arith))) as (λ _. (0 < times c v'.sparse) ⊎ ((n : ℕ) × (2048 < n) × IsFilled p now c n)) [
-              | inl sparse ↦ inl (more c sparse)
-              | inr filled ↦ inr filled
-            ])
+      by-blocks : (bs : List ℕ) → v.blocks ≡ bs → AreLeft p now (take 1 bs ++ v.sparse) (b ∷ bs)
+      by-blocks [] is = tt
+      by-blocks (d ∷ rest) is =
+          let listed : times d v.blocks ≡ one_if (nat_eq d d) + times d rest = ap (times d) is ∙ times-cons d rest d in
+          let one : one_if (nat_eq d d) ≡ 1 = one-if-true (nat_eq d d) (eq-eqb d d refl) in
+          let count : times d v.blocks ≡ one_if (nat_lt 0 (was.taken d)) = tracks.holds.blocks d in
+          let behind : d < old.next_block = tracks.ahead d (ltb-true 0 (was.taken d) (one-if-from (nat_lt 0 (was.taken d)) (omega arith))) in
+          let from : old.next_block ≤ b = takes.from in
+          let sparse : times d (d ∷ v.sparse) ≡ one_if (nat_eq d d) + times d v.sparse = times-cons d v.sparse d in (
+            omega arith,
+            inl (omega arith),
+            left-more p was now (λ a y own. own) v.sparse (d ∷ v.sparse) (λ c few. let more : times c (d ∷ v.sparse) ≡ one_if (nat_eq c d) + times c v.sparse = times-cons d v.sparse c in omega arith)
+                (d ∷ rest) (subst (AreLeft p was v.sparse) is tracks.left),
+          )
+
+  ahead-now : (c : ℕ) → 0 < now.taken c → c < new.next_block
+  ahead-now c some =
+      let limit : new.next_block ≡ b + 1 = takes.next_block in
+      let from : old.next_block ≤ b = takes.from in
+      elim (cases_eq c b) as (λ _. c < new.next_block) [
+        | inl e ↦ (let same : c ≡ b = e in omega arith)
+        | inr ne ↦ (let behind : c < old.next_block = tracks.ahead c (subst (λ n. 0 < n) (taken-now c ne) some) in omega arith)
       ]
 
-  tracks-now : (v' : View) → v' ≡ record v { blocks = b ∷ v.blocks; sparse = v'.sparse } → ((c : ℕ) → 0 < times c v.sparse → 0 < times c v'.sparse)
-      → ((c : ℕ) (rest : List ℕ) → v.blocks ≡ c ∷ rest → (0 < times c v'.sparse) ⊎ (2048 < old.room.next))
-      → Tracks p (es ++ TakeBlock b 1 ∷ []) new v'
-  tracks-now v' is more head =
+  pub tracks-left : Tracks p (es ++ TakeBlock b 1 ∷ []) new (left_view b v)
+  tracks-left =
       let same : machine_after p (es ++ TakeBlock b 1 ∷ []) ≡ now = machine-next p es tracks.trace (TakeBlock b 1) in
-      let list : v'.blocks ≡ b ∷ v.blocks = ap (λ z. z.blocks) is in
       record {
         trace = trace-next p es tracks.trace (TakeBlock b 1) may-take;
         run = subst (λ r. IsRunOf p r) (sym takes.run) tracks.run;
         row = row-now ∙ ap (heap_in p) (sym same);
-        holds = subst (λ n. Holds p n v') (sym same) (holds-now v' is);
-        room = subst (λ n. IsRoom p n v'.blocks new.block new.room) (sym same) (subst (λ bs. IsRoom p now bs new.block new.room) (sym list) room-now);
-        full = subst (λ n. AreFull p n v' (drop 1 v'.blocks)) (sym same) (subst (λ bs. AreFull p now v' (drop 1 bs)) (sym list) (full-now v' more head));
+        holds = subst (λ n. Holds p n (left_view b v)) (sym same) holds-now;
+        room = subst (λ n. IsRoom p n (b ∷ v.blocks) new.block new.room) (sym same) room-now;
+        left = subst (λ n. AreLeft p n (take 1 v.blocks ++ v.sparse) (b ∷ v.blocks)) (sym same) left-now;
         stayed = λ x is young moves. absurd (let taken : 0 < was.taken b =
             (sound p es tracks.trace).reasons.stays x (ap (λ (n : Machine). target (n.stage x)) (sym same) ∙ is) young moves b free-here.0 in
             let none : was.taken b ≡ 0 = free-here.1 in omega arith);
         passed = λ c l free. subst (λ n. 0 < n.taken c) (sym same) (passed-now c l free);
+        ahead = λ c some. ahead-now c (subst (λ n. 0 < n.taken c) same some);
       }
-
-  -- the last block has too little room for an object
-  pub tracks-taken : old.room.end < old.room.next + 2048 → Tracks p (es ++ TakeBlock b 1 ∷ []) new (taken_view b v)
-  tracks-taken short = tracks-now (taken_view b v) refl (λ c some. some) (λ c rest is. inr (
-      let room = subst (λ bs. IsRoom p was bs old.block old.room) is tracks.room in
-      let end : old.room.end ≡ 4096 = room.1 in omega arith))
-
-  -- it may have any room
-  pub tracks-left : Tracks p (es ++ TakeBlock b 1 ∷ []) new (left_view b v)
-  tracks-left = tracks-now (left_view b v) refl
-      (λ c some. let all : times c (take 1 v.blocks ++ v.sparse) ≡ times c (take 1 v.blocks) + times c v.sparse = count-append (nat_eq c) (take 1 v.blocks) v.sparse in omega arith)
-      (λ c rest is. inl (subst (λ bs. 0 < times c (take 1 bs ++ v.sparse)) (sym is)
-      (let count : times c (c ∷ v.sparse) ≡ one_if (nat_eq c c) + times c v.sparse = times-cons c v.sparse c in
-      let one : one_if (nat_eq c c) ≡ 1 = one-if-true (nat_eq c c) (eq-eqb c c refl) in omega arith)))
 
 -- no Free block is found
 module _ (p : Setup) (es : List Event) (old new : PlainTrace) (v : View) (tracks : Tracks p es old v) (finds : FindsNone old new) where
@@ -222,9 +213,14 @@ module _ (p : Setup) (es : List Event) (old new : PlainTrace) (v : View) (tracks
     row = ap state_of finds.row ∙ tracks.row;
     holds = tracks.holds;
     room = subst (λ r. IsRoom p (machine_after p es) v.blocks new.block r) (sym finds.room) (subst (λ n. IsRoom p (machine_after p es) v.blocks n old.room) (sym finds.block) tracks.room);
-    full = tracks.full;
+    left = tracks.left;
     stayed = subst (StayForWantOfRoom p (machine_after p es)) (sym finds.room) tracks.stayed;
     passed = λ c l free. none-free c free;
+    ahead = λ c some.
+        let free = (sound p es tracks.trace).objects.free c some in
+        let there : c < blocks p = ltb-true c (blocks p) (and_parts (nat_lt c (blocks p)) (nat_eq (block_word p.before c % 256) 0) free).0 in
+        let same : old.row.layout.blocks ≡ blocks p = blocks-are p es old v tracks in
+        let limit : new.next_block ≡ old.row.layout.blocks = finds.next_block in omega arith;
   }
 
 -- no block before the next one to try is Free
@@ -233,6 +229,15 @@ passed-free t Right is c low free =
     let was = free-was is.setup is.events is.tracks.trace c (subst (λ s. HasKind s c kinds.Free) is.tracks.row free) in
     let none : (machine_after is.setup is.events).taken c ≡ 0 = was.1 in
     let some : 0 < (machine_after is.setup is.events).taken c = is.tracks.passed c low was.0 in omega arith
+
+-- each lower block that is Free was passed over, so there is none
+pub lowest-taken : (p : Setup) (es : List Event) (old new : PlainTrace) (b : ℕ) (v : View) → Tracks p es old v → TakesBlock old new b → (c : ℕ) → c < b → HasKind (heap_after p es) c kinds.Free → ⊥
+lowest-taken p es old new b v tracks takes c low free = elim (cases_lt c old.next_block) as (λ _. ⊥) [
+  | inl before ↦ (let was = free-was p es tracks.trace c free in
+      let none : (machine_after p es).taken c ≡ 0 = was.1 in
+      let some : 0 < (machine_after p es).taken c = tracks.passed c before was.0 in omega arith)
+  | inr from ↦ takes.lower c from low (subst (λ s. HasKind s c kinds.Free) (sym tracks.row) free)
+]
 
 -- room with free words is in a block that the tracer took
 module _ (p : Setup) (es : List Event) (t : PlainTrace) (v : View) (tracks : Tracks p es t v) (some : t.room.next < t.room.end) where

@@ -16,7 +16,7 @@ use Rattle.trace_core.specs.Setups.{Setup, blocks, collection, size, refs, is_ol
 use Rattle.trace_core.specs.Machine.{Machine, target, Event, Cause, ByRoot, ByGlobal, ByField, Claim, Ask, Copy, Scan, SetGlobal, MarkLines, TakeBlock, IsSettled, forward}
 use Rattle.trace_core.specs.Traces.{IsTrace, machine_after, heap_after, target_of, stage_of}
 use Rattle.trace_core.specs.Outcomes.{base_after}
-use Rattle.trace_core.specs.Views.{View, Holds, one_if, times, hits, Pushes, Scanned, roots_of, asked_view, claimed_view, scanned_view, set_view, taken_view, steps_at_claim}
+use Rattle.trace_core.specs.Views.{View, Holds, one_if, times, hits, Pushes, Scanned, roots_of, asked_view, claimed_view, scanned_view, set_view, taken_view, left_view, steps_at_claim}
 use Rattle.trace_core.specs.declared.run.TraceRun.{TraceRun}
 use Rattle.trace_core.specs.declared.run.Traced.{Traced}
 use Rattle.trace_core.specs.declared.tokens.Won.{Won}
@@ -102,9 +102,21 @@ IsRoom p m [] block room = room.next ≡ room.end
 IsRoom p m (b ∷ earlier) block room = (block ≡ b) × (room.end ≡ BLOCK_WORDS) × (room.next ≤ BLOCK_WORDS) × IsFilled p m b room.next
     × ((o : ℕ) → room.next ≤ o → o < BLOCK_WORDS → m.owner (block_start (blocks p) b + o) ≡ None)
 
--- Each of these blocks is sparse, or has more than 2,048 words of targets.
-abbrev pub AreFull : Setup → Machine → View → List ℕ → Type 0
-AreFull p m v earlier = (b : ℕ) → 0 < times b earlier → (0 < times b v.sparse) ⊎ ((n : ℕ) × (MAX_MEDIUM_WORDS < n) × IsFilled p m b n)
+-- Block b was left for an object that did not fit behind the targets in it, and that came first in block `next`.
+pub record IsLeftFor (p : Setup) (m : Machine) (b next : ℕ) : Type 0 where
+  pub words : ℕ
+  pub filled : IsFilled p m b words
+  pub object : ℕ
+  pub first : m.owner (block_start (blocks p) next) ≡ Some object
+  pub no_room : BLOCK_WORDS < words + size p object
+
+-- These blocks, the last one first, were taken in rising order. Each but the last is one of the sparse ones, or was left
+-- for the first object of the next one.
+abbrev pub AreLeft : Setup → Machine → List ℕ → List ℕ → Type 0
+AreLeft p m sparse [] = Unit {0}
+AreLeft p m sparse (b ∷ []) = Unit {0}
+AreLeft p m sparse (next ∷ b ∷ earlier) = (b < next) × ((0 < times b sparse) ⊎ IsLeftFor p m b next)
+    × AreLeft p m sparse (b ∷ earlier)
 
 -- An object that may move and is in place had no room.
 abbrev pub StayForWantOfRoom : Setup → Machine → Region → Type 0
@@ -117,10 +129,11 @@ pub record Tracks (p : Setup) (es : List Event) (t : PlainTrace) (v : View) : Ty
   pub row : state_of t.row ≡ heap_after p es
   pub holds : Holds p (machine_after p es) v
   pub room : IsRoom p (machine_after p es) v.blocks t.block t.room
-  pub full : AreFull p (machine_after p es) v (drop 1 v.blocks)
+  pub left : AreLeft p (machine_after p es) v.sparse v.blocks
   pub stayed : StayForWantOfRoom p (machine_after p es) t.room
-  -- no block before the next one to try is Free
+  -- of the blocks before the next one to try none is Free, and no later one was taken
   pub passed : (b : ℕ) → b < t.next_block → HasKind p.before b kinds.Free → 0 < (machine_after p es).taken b
+  pub ahead : (b : ℕ) → 0 < (machine_after p es).taken b → b < t.next_block
 
 -- The tracer traces some collection, and a view of it has the right to a call.
 pub record IsTracing (t : PlainTrace) (Right : Setup → List Event → View → Type 0) : Type 0 where
@@ -179,6 +192,11 @@ abbrev pub taken_in : Option ℕ → View → View
 taken_in None v = v
 taken_in (Some b) v = taken_view b v
 
+-- the same while nothing is copied into the block yet
+abbrev pub left_in : Option ℕ → View → View
+left_in None v = v
+left_in (Some b) v = left_view b v
+
 -- The object at x has this shape, and nothing claimed it.
 pub record IsWaiting (p : Setup) (es : List Event) (x : ℕ) (shape : Shape) : Type 0 where
   pub held : IsHeld p.before x
@@ -186,39 +204,52 @@ pub record IsWaiting (p : Setup) (es : List Event) (x : ℕ) (shape : Shape) : T
   pub refs : shape.refs ≡ refs p x
   pub nums : shape.nums ≡ nums_at p.before x
 
+-- A block is taken only if an object of this size does not fit the worker's room. It is the lowest Free one that is left.
+pub record IsNeeded (p : Setup) (es : List Event) (old : PlainTrace) (taken : Option ℕ) (size : ℕ) : Type 0 where
+  pub tight : (b : ℕ) → taken ≡ Some b → old.room.end < old.room.next + size
+  pub lowest : (b c : ℕ) → taken ≡ Some b → c < b → HasKind (heap_after p es) c kinds.Free → ⊥
+
+-- t is where the worker puts the next copy: the front of its room or, if a block is taken, the start of that block.
+pub record IsFront (p : Setup) (old : PlainTrace) (taken : Option ℕ) (t : ℕ) : Type 0 where
+  pub room : taken ≡ None → t ≡ block_start (blocks p) old.block + old.room.next
+  pub block : (b : ℕ) → taken ≡ Some b → t ≡ block_start (blocks p) b
+
 -- The front of room for an object of this size. A block was taken first if the room was too small.
-pub record Fronts (p : Setup) (es : List Event) (v : View) (new : PlainTrace) (size t : ℕ) : Type 0 where
+pub record Fronts (p : Setup) (es : List Event) (v : View) (old new : PlainTrace) (size t : ℕ) : Type 0 where
   pub taken : Option ℕ
-  pub tracks : Tracks p (es ++ takes taken) new (taken_in taken v)
+  pub tracks : Tracks p (es ++ takes taken) new (left_in taken v)
   pub room : new.room.next + size ≤ new.room.end
   pub front : t ≡ block_start (blocks p) new.block + new.room.next
-  -- a block that was taken has nothing before
-  pub fresh : (b : ℕ) → taken ≡ Some b → t ≡ block_start (blocks p) b
+  pub place : IsFront p old taken t
+  pub needed : IsNeeded p es old taken size
 
 -- no block of the heap is Free
 abbrev pub NoneFree : HeapState → Type 0
 NoneFree s = (b : ℕ) → HasKind s b kinds.Free → ⊥
 
--- An object is claimed: the events, the view and the token. A block is taken first if the object needs it.
-pub record Wins (p : Setup) (es : List Event) (v : View) (new : PlainTrace) (taken : Option ℕ) (x : ℕ) (cause : Cause) (won : Won) : Type 0 where
+-- An object is claimed: the events, the view and the token. It stays where it is, or goes to the front of the worker's
+-- room. A block is taken first only if it does not fit there.
+pub record Wins (p : Setup) (es : List Event) (v : View) (old new : PlainTrace) (taken : Option ℕ) (x : ℕ) (cause : Cause)
+    (won : Won) : Type 0 where
   pub unclaimed : target_of p es x ≡ None
+  pub place : ((won.target ≡ x) × (taken ≡ None)) ⊎ IsFront p old taken won.target
+  pub needed : IsNeeded p es old taken (size p x)
   pub object : won.object ≡ x
   pub size : won.size ≡ size p x
   pub refs : won.refs ≡ refs p x
-  pub needed : (b : ℕ) → taken ≡ Some b → won.target ≡ block_start (blocks p) b
   pub tracks : Tracks p (es ++ (takes taken ++ Claim x won.target cause ∷ [])) new (claimed_view p x won.target cause (taken_in taken v))
 
 -- the answer to a claim of the object at x, which something asks for
-abbrev pub Claims : Setup → List Event → View → PlainTrace → ℕ → Cause → answers.Claim → Type 0
-Claims p es v new x cause answer.Old = IsTrue (is_old p x) × Tracks p es new v
-Claims p es v new x cause (answer.Seen t) = (is_old p x ≡ false) × (target_of p es x ≡ Some t) × Tracks p es new v
-Claims p es v new x cause (answer.Won won) = (taken : Option ℕ) × Wins p es v new taken x cause won
+abbrev pub Claims : Setup → List Event → View → PlainTrace → PlainTrace → ℕ → Cause → answers.Claim → Type 0
+Claims p es v old new x cause answer.Old = IsTrue (is_old p x) × Tracks p es new v
+Claims p es v old new x cause (answer.Seen t) = (is_old p x ≡ false) × (target_of p es x ≡ Some t) × Tracks p es new v
+Claims p es v old new x cause (answer.Won won) = (taken : Option ℕ) × Wins p es v old new taken x cause won
 
 -- the answer to a claim of the object at x by a root, which is set with it
-abbrev pub ClaimsRoot : Setup → List Event → View → PlainTrace → ℕ → answers.Claim → Type 0
-ClaimsRoot p es v new x answer.Old = IsTrue (is_old p x) × Tracks p (es ++ Ask x ∷ []) new (asked_view x x v)
-ClaimsRoot p es v new x (answer.Seen t) = (is_old p x ≡ false) × (target_of p es x ≡ Some t) × Tracks p (es ++ Ask x ∷ []) new (asked_view x t v)
-ClaimsRoot p es v new x (answer.Won won) = (taken : Option ℕ) × Wins p es v new taken x ByRoot won
+abbrev pub ClaimsRoot : Setup → List Event → View → PlainTrace → PlainTrace → ℕ → answers.Claim → Type 0
+ClaimsRoot p es v old new x answer.Old = IsTrue (is_old p x) × Tracks p (es ++ Ask x ∷ []) new (asked_view x x v)
+ClaimsRoot p es v old new x (answer.Seen t) = (is_old p x ≡ false) × (target_of p es x ≡ Some t) × Tracks p (es ++ Ask x ∷ []) new (asked_view x t v)
+ClaimsRoot p es v old new x (answer.Won won) = (taken : Option ℕ) × Wins p es v old new taken x ByRoot won
 
 -- the steps of the copying of an object that is claimed
 abbrev pub copying : Setup → ℕ → ℕ → List Event
@@ -338,7 +369,7 @@ pub record SetsGlobal (p : Setup) (es : List Event) (v : View) (new : PlainTrace
   pub pushes : Pushes p v view pushed
 
 -- The row after a trace that made these events. Each block that was taken to copy into is the last one of a worker, is
--- sparse, or has more than 2,048 words of targets.
+-- sparse, or has more than 2,048 words of targets. Each was the lowest Free one that was left.
 pub record IsTraced (p : Setup) (es : List Event) (v : View) (traced : Traced) : Type 0 where
   pub trace : IsTrace p es
   pub run : IsRunOf p traced.run
@@ -348,3 +379,6 @@ pub record IsTraced (p : Setup) (es : List Event) (v : View) (traced : Traced) :
   pub few : length last ≤ p.workers
   pub full : (b : ℕ) → 0 < (machine_after p es).taken b → (0 < times b last) ⊎ ((0 < times b v.sparse)
       ⊎ ((n : ℕ) × (MAX_MEDIUM_WORDS < n) × IsFilled p (machine_after p es) b n))
+  pub left : AreLeft p (machine_after p es) v.sparse v.blocks
+  pub lowest : (b c : ℕ) → 0 < (machine_after p es).taken b → c < b → HasKind p.before c kinds.Free
+      → 0 < (machine_after p es).taken c

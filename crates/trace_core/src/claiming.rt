@@ -22,11 +22,13 @@ impl PlainTrace {
     /// answered, or once its `Won` is copied. The caller keeps the target.
     ///
     /// The target is `x` itself if the object may not move, or does not fit the worker's room and
-    /// no block is Free. Else it is the front of the room (Immix's opportunistic evacuation).
+    /// no block is Free. Else it is the front of the room (Immix's opportunistic evacuation). A
+    /// block is taken only for an object that does not fit the room: the lowest Free one.
     pub fn claim(&mut self, x: u32) -> Claim
         requires { IsTracing self.old (WasHeld x) }
         ensures claims { (p : Setup) (es : List Event) (v : View) → Tracks p es self.old v
-            → IsHeld p.before x → ClaimsRoot p es v self.new x result }
+            → IsHeld p.before x → ClaimsRoot p es v self.old self.new x
+            result }
         ensures keeps { KeepsRun self.old self.new }
     {
         let layout = self.row.layout;
@@ -39,7 +41,8 @@ impl PlainTrace {
         requires layout { layout.blocks ≡ self.old.row.layout.blocks }
         ensures claims { (p : Setup) (es : List Event) (v : View) (cause : Cause)
             → Tracks p es self.old v → IsHeld p.before x
-            → IsAskedBy p (machine_after p es) x cause → Claims p es v self.new x cause result }
+            → IsAskedBy p (machine_after p es) x cause → Claims p es v self.old self.new x cause
+            result }
         ensures keeps { KeepsRun self.old self.new }
     {
         let word = self.row.words[x as usize + 2];
@@ -60,7 +63,7 @@ impl PlainTrace {
         ensures wins { (p : Setup) (es : List Event) (v : View) (cause : Cause)
             → Tracks p es self.old v → IsWaiting p es x shape.now
             → IsAskedBy p (machine_after p es) x cause
-            → (taken : Option ℕ) × Wins p es v self.new taken x cause result }
+            → (taken : Option ℕ) × Wins p es v self.old self.new taken x cause result }
         ensures keeps { KeepsRun self.old self.new }
     {
         if !self.may_move(layout, x, size_words(shape)) {
@@ -98,7 +101,7 @@ impl PlainTrace {
         requires size { size ≤ MAX_MEDIUM_WORDS }
         requires some { 0 < size }
         ensures some { IfSome result (λ front. (p : Setup) (es : List Event) (v : View)
-            → Tracks p es self.old v → Fronts p es v self.new size front) }
+            → Tracks p es self.old v → Fronts p es v self.old self.new size front) }
         ensures none { IfNone result ((p : Setup) (es : List Event) (v : View)
             → Tracks p es self.old v
             → Tracks p es self.new v × NoneIsFree p (machine_after p es).taken
@@ -124,7 +127,7 @@ impl PlainTrace {
             → Tracks p es self.old v → IsWaiting p es x shape.now → IsTrue (may_move p x)
             → front ≡ block_start (blocks p) self.old.block + self.old.room.next
             → IsAskedBy p (machine_after p es) x cause
-            → Wins p es v self.new None x cause result }
+            → Wins p es v self.old self.new None x cause result }
         ensures keeps { KeepsRun self.old self.new }
     {
         let size = size_words(shape);
@@ -141,12 +144,13 @@ impl PlainTrace {
     /// Claims the object at `x`, which stays in place.
     fn win_in_place(&mut self, x: u32, shape: &Shape) -> Won
         requires { IsTracing self.old (λ p es v. IsWaiting p es x shape.now) }
+        ensures target { result.target ≡ x }
         ensures wins { (p : Setup) (es : List Event) (v : View) (cause : Cause)
             → Tracks p es self.old v → IsWaiting p es x shape.now
             → (IsTrue (may_move p x) → NoneIsFree p (machine_after p es).taken
             × (self.old.room.end < self.old.room.next + size_before p x))
             → IsAskedBy p (machine_after p es) x cause
-            → Wins p es v self.new None x cause result }
+            → Wins p es v self.old self.new None x cause result }
         ensures keeps { KeepsRun self.old self.new }
     {
         self.claim_in_place(x);

@@ -14,7 +14,8 @@ ghost use Rattle.object_model.specs.Graphs.{IsReachable};
 ghost use Rattle.object_model.specs.Ages.{Lives};
 ghost use Rattle.object_model.specs.Preserving.{PreservesObjects};
 ghost use Rattle.object_model.specs.Releasing.{IsReleasable};
-ghost use Rattle.trace_core.specs.Tracers.{setup_of};
+ghost use Rattle.trace_core.specs.Views.{View, Holds};
+ghost use Rattle.trace_core.specs.Tracers.{StaysHere, setup_of};
 ghost use Rattle.object_model.specs.declared.collect.Collect.TheVariants.{Nursery, Full};
 ghost use Rattle.trace_core.specs.declared.run.TraceRun.{TraceRun};
 ghost use Rattle.trace_core.specs.Outcomes.{FinishedRow, base_after, image, HaveAsked, NoOthersAsked};
@@ -218,6 +219,15 @@ pub fn bits_of_objects_are_set()
         → IsTrue (is_unlogged (heap_after p es) t) }
     ensures pins { (p : Setup) (es : List Event) → IsTrace p es → (a : ℕ)
         → is_pinned (heap_after p es) a ≡ is_pinned p.before a }
+{}
+
+/// In a full collection that began with no unlog bit set, an object that may not move is claimed if
+/// and only if its unlog bit is set, where nothing that is claimed waits to be copied.
+pub fn unlog_bits_tell_what_is_claimed()
+    ensures { (p : Setup) (es : List Event) (v : View) → IsTrace p es
+        → Holds p (machine_after p es) v → ((a : ℕ) → is_unlogged p.before a ≡ false)
+        → (x : ℕ) → StaysHere p v x
+        → IsTrue (is_unlogged (heap_after p es) x) ↔ (target_of p es x ≡ Some x) }
 {}
 
 /// The word of a block that a worker took has the kind to copy into and the worker as owner. Other

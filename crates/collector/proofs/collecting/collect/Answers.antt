@@ -3,7 +3,7 @@ use Rattle.object_model.specs.Heaps.{heap_state}
 use Rattle.sessions.specs.Collecting.{Collects}
 use Rattle.trace_core.specs.Tracers.{is_nursery}
 use Rattle.plan_api.specs.declared.flags.PlanFlags.{PlanFlags}
-use Rattle.collector.specs.Collected.{IsRunUnder}
+use Rattle.collector.specs.Collected.{IsRunUnder, FillsInTurn}
 use Rattle.collector.specs.Working.{IsFullTrace}
 use Rattle.collector.specs.Tallies.{IsNote}
 use Rattle.collector.specs.declared.worker.TraceStart.{TraceStart}
@@ -48,6 +48,6 @@ returns g c =
     (ap (λ (f : PlanFlags). f.0) c.FLAGS.ensures ∙ g.met.P.Plan.flags_are_of_rules) (λ none. true≢false (sym (c.if-eq.ensures ∙ ap (λ n. nat_eq n 0) none))) in
     collects-all g.P.Plan.rules c.args.workers c.args.collect (heap_state c.args.heap) c.args.roots.items (heap_state c.finish.result.heap) c.finish.result.roots.items c.finish.result.note
     g.P.Plan.rules.collects all
-    (subst₂ (λ w k. (made : Collects g.P.Plan.rules w k (heap_state c.args.heap) c.args.roots.items (heap_state c.finish.result.heap) c.finish.result.roots.items) × IsNote k (heap_state c.args.heap) made.target (heap_state c.finish.result.heap) c.finish.result.note)
+    (subst₂ (λ w k. (made : Collects g.P.Plan.rules w k (heap_state c.args.heap) c.args.roots.items (heap_state c.finish.result.heap) c.finish.result.roots.items) × IsNote k (heap_state c.args.heap) made.target (heap_state c.finish.result.heap) c.finish.result.note × FillsInTurn (heap_state c.args.heap) made.target)
     (sym c.requires.one) c.in_ok-run.ensures.under.collect
     (c.finish.ensures start full all (subst (λ k. IsRunUnder g.P.Plan.rules k (heap_state c.args.heap) c.in_ok-run.run') (sym c.in_ok-run.ensures.under.collect) c.in_ok-run.ensures.under)))

@@ -45,3 +45,13 @@ returns-clause-immix c' = record {
   unclaimed = refl;
   unmarked = λ marked. (let wrong : false ≡ true = marked in cc);
 }
+
+pub returns-clause-stickyimmix : goal.returns-clause-stickyimmix
+returns-clause-stickyimmix c' = record {
+  entry = (0, entry 1 (c.New 0 1 1) (r.New (name 1 1)), lit< tt, refl, record { register = 0; command = refl; reply = refl });
+  place = inl refl;
+  packed = inr (inr (inl (refl, refl)));
+  cell = λ is. (let wrong : kinds.Immix ≡ kinds.Cells = is in cc);
+  unclaimed = refl;
+  unmarked = λ marked. (let wrong : false ≡ true = marked in cc);
+}

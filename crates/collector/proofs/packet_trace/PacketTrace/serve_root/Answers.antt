@@ -47,7 +47,7 @@ copy-grey-requires c = let t = c.requires in
     let inside = place-inside t.setup t.events t.view c.args.self.now.tracer roots c.args.place t.right in
     let is = get_or_read_under roots c.args.place (length roots) x 0 c.index-root.ensures inside refl in
     let held = root-held t.setup t.events t.view c.args.self.now.tracer roots c.args.place t.right x is c.if-root-eq0.false in
-    let wins = subst (ClaimsRoot t.setup t.events t.view c.claim.new.self x) c.in-Won.is (c.claim.ensures.claims t.setup t.events t.view t.tracks held) in
+    let wins = subst (ClaimsRoot t.setup t.events t.view c.args.self.now.tracer c.claim.new.self x) c.in-Won.is (c.claim.ensures.claims t.setup t.events t.view t.tracks held) in
     record {
       setup = t.setup;
       events = _;
@@ -65,7 +65,7 @@ returns-in-Old-clause-serves c p es v tracks rights =
     let inside = place-inside p es v c.args.self.now.tracer roots c.args.place rights in
     let is = get_or_read_under roots c.args.place (length roots) x 0 c.index-root.ensures inside refl in
     let held = root-held p es v c.args.self.now.tracer roots c.args.place rights x is c.if-root-eq0.false in
-    let claims = subst (ClaimsRoot p es v new x) c.in-Old.is (c.claim.ensures.claims p es v tracks held) in (
+    let claims = subst (ClaimsRoot p es v c.args.self.now.tracer new x) c.in-Old.is (c.claim.ensures.claims p es v tracks held) in (
       [],
       sym (append-nil (map (grey_of p) old.won.items)),
       serves-root p es v old.tracer roots c.args.place rights (Ask x ∷ []) (asked_view x x v) x x [] new roots is c.if-root-eq0.false
@@ -82,7 +82,7 @@ returns-in-Seen-clause-serves c p es v tracks rights =
     let inside = place-inside p es v c.args.self.now.tracer roots c.args.place rights in
     let is = get_or_read_under roots c.args.place (length roots) x 0 c.index-root.ensures inside refl in
     let held = root-held p es v c.args.self.now.tracer roots c.args.place rights x is c.if-root-eq0.false in
-    let claims = subst (ClaimsRoot p es v new x) c.in-Seen.is (c.claim.ensures.claims p es v tracks held) in (
+    let claims = subst (ClaimsRoot p es v c.args.self.now.tracer new x) c.in-Seen.is (c.claim.ensures.claims p es v tracks held) in (
       [],
       sym (append-nil (map (grey_of p) old.won.items)),
       serves-root p es v old.tracer roots c.args.place rights (Ask x ∷ []) (asked_view x u v) x u [] new
@@ -101,7 +101,7 @@ returns-in_ok-push-in-Won-clause-serves c p es v tracks rights =
     let inside = place-inside p es v c.args.self.now.tracer roots c.args.place rights in
     let is = get_or_read_under roots c.args.place (length roots) x 0 c.index-root.ensures inside refl in
     let held = root-held p es v c.args.self.now.tracer roots c.args.place rights x is c.if-root-eq0.false in
-    let wins = subst (ClaimsRoot p es v mid x) c.in-Won.is (c.claim.ensures.claims p es v tracks held) in
+    let wins = subst (ClaimsRoot p es v c.args.self.now.tracer mid x) c.in-Won.is (c.claim.ensures.claims p es v tracks held) in
     let token = won-token p es v mid x ByRoot won wins.0 wins.1 in
     let is-grey = c.copy-grey.ensures.grey p _ _ wins.1.tracks token in
     let at = c.at.ensures ∙ c.copy-grey.ensures.target in (

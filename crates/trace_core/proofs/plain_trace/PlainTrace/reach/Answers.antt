@@ -50,7 +50,7 @@ pub copy_with-grey-requires-clause-tracing : goal.copy_with-grey-requires-clause
 copy_with-grey-requires-clause-tracing c =
     let t = c.requires.tracing in
     let won = c.in-Won.won in
-    let wins = subst (Claims t.setup t.events t.view c.claim_object.new.self c.args.reference ByRoot) c.in-Won.is
+    let wins = subst (Claims t.setup t.events t.view c.args.self.now c.claim_object.new.self c.args.reference ByRoot) c.in-Won.is
     (c.claim_object.ensures.claims t.setup t.events t.view ByRoot t.tracks (t.right.0 (reference-of c.args.reference c.if-reference-eq0.false)) tt) in
     record {
       setup = t.setup;
@@ -63,7 +63,7 @@ copy_with-grey-requires-clause-tracing c =
 pub copy_with-grey-requires-clause-layout : goal.copy_with-grey-requires-clause-layout
 copy_with-grey-requires-clause-layout c =
     let t = c.requires.tracing in
-    let wins = subst (Claims t.setup t.events t.view c.claim_object.new.self c.args.reference ByRoot) c.in-Won.is
+    let wins = subst (Claims t.setup t.events t.view c.args.self.now c.claim_object.new.self c.args.reference ByRoot) c.in-Won.is
     (c.claim_object.ensures.claims t.setup t.events t.view ByRoot t.tracks (t.right.0 (reference-of c.args.reference c.if-reference-eq0.false)) tt) in
     blocks-are t.setup t.events c.args.self.now t.view t.tracks
     ∙ sym (blocks-are t.setup _ c.claim_object.new.self _ wins.1.tracks)
@@ -73,7 +73,7 @@ returns-in-Old-clause-reaches c p es v cause tracks refers idle unasked asked =
     let x = c.args.reference in
     let some = c.if-reference-eq0.false in
     let new = c.claim_object.new.self in
-    let old = subst (Claims p es v new x cause) c.in-Old.is (c.claim_object.ensures.claims p es v cause tracks (refers (reference-of x some)) asked) in
+    let old = subst (Claims p es v c.args.self.now new x cause) c.in-Old.is (c.claim_object.ensures.claims p es v cause tracks (refers (reference-of x some)) asked) in
     let at = old-target p es tracks.trace x old.0 in
     at-once p es v new x x cause (map (grey_of p) c.args.out.now.items) old.1 (settled-at (stage_of p es) x x at) (forward-at (stage_of p es) x x some at)
 
@@ -83,7 +83,7 @@ returns-in-Seen-clause-reaches c p es v cause tracks refers idle unasked asked =
     let t = c.in-Seen.target in
     let some = c.if-reference-eq0.false in
     let new = c.claim_object.new.self in
-    let seen = subst (Claims p es v new x cause) c.in-Seen.is (c.claim_object.ensures.claims p es v cause tracks (refers (reference-of x some)) asked) in
+    let seen = subst (Claims p es v c.args.self.now new x cause) c.in-Seen.is (c.claim_object.ensures.claims p es v cause tracks (refers (reference-of x some)) asked) in
     at-once p es v new x t cause (map (grey_of p) c.args.out.now.items) seen.2 (settled-at (stage_of p es) x t seen.1) (forward-at (stage_of p es) x t some seen.1)
 
 pub returns-in-Won-clause-reaches : goal.returns-in-Won-clause-reaches
@@ -95,7 +95,7 @@ returns-in-Won-clause-reaches c p es v cause tracks refers idle unasked asked =
     let grey = c.copy_with-grey.result in
     let out = c.args.out.now.items in
     let pushed = c.push_reserved.new.self.items in
-    let wins = subst (Claims p es v mid x cause) c.in-Won.is (c.claim_object.ensures.claims p es v cause tracks (refers (reference-of x some)) asked) in
+    let wins = subst (Claims p es v c.args.self.now mid x cause) c.in-Won.is (c.claim_object.ensures.claims p es v cause tracks (refers (reference-of x some)) asked) in
     let token = won-token p es v mid x cause won wins.0 wins.1 in
     let is = c.copy_with-grey.ensures.grey p _ _ wins.1.tracks token in
     by-claim p es v mid x cause won wins.0 c.copy_with-grey.new.self grey c.at-target.result

@@ -1,6 +1,7 @@
-use Rattle.std.proofs.Common.{refl, ◌∙◌}
-use Rattle.trace_core.proofs.Objects.{None-not-Some}
+use Rattle.std.proofs.Common.{inl, refl, ◌∙◌}
+use Rattle.trace_core.specs.Setups.{size}
 use Rattle.trace_core.proofs.ClaimedObjects.{waiting-size}
+use Rattle.trace_core.proofs.Winning.{none-needed}
 use Rattle.trace_core.proofs.plain_trace.PlainTrace.win_in_place.Goals as goal
 
 pub claim_in_place-requires : goal.claim_in_place-requires
@@ -12,6 +13,7 @@ returns-clause-wins c = λ p es v cause tracks waiting reason asked. record {
   object = refl;
   size = c.size_words.ensures ∙ waiting-size p es c.args.x c.args.shape.now waiting;
   refs = waiting.refs;
-  needed = λ b is. absurd (None-not-Some b is);
+  place = inl (refl, refl);
+  needed = none-needed p es c.args.self.now (size p c.args.x);
   tracks = c.claim_in_place.ensures.claims p es v cause tracks waiting.held waiting.unclaimed reason asked;
 }

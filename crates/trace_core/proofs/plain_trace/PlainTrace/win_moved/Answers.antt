@@ -1,10 +1,11 @@
-use Rattle.std.proofs.Common.{◌≡◌, ◌+◌, ◌<◌, ◌≤◌, refl, ap, ◌∙◌, arith, length, slice_set, vec_len}
+use Rattle.std.proofs.Common.{◌≡◌, ◌+◌, ◌<◌, ◌≤◌, inr, refl, ap, ◌∙◌, arith, length, slice_set, vec_len}
 use Rattle.object_model.specs.Objects.{with_words, state_of}
 use Rattle.trace_core.specs.Setups.{size}
 use Rattle.trace_core.specs.Machine.{ByRoot}
 use Rattle.trace_core.proofs.Objects.{None-not-Some}
 use Rattle.trace_core.proofs.Reading.{word-within}
 use Rattle.trace_core.proofs.ClaimedObjects.{front-below, tracks-to-front, waiting-size}
+use Rattle.trace_core.proofs.Winning.{none-needed}
 use Rattle.trace_core.proofs.plain_trace.PlainTrace.win_moved.Goals as goal
 
 pub encode-requires-clause-target : goal.encode-requires-clause-target
@@ -30,7 +31,8 @@ returns-clause-wins c = λ p es v cause tracks waiting moves front asked.
       object = refl;
       size = size-is;
       refs = waiting.refs;
-      needed = λ b is. absurd (None-not-Some b is);
+      place = inr (record { room = λ none. front; block = λ b is. absurd (None-not-Some b is) });
+      needed = none-needed p es c.args.self.now (size p c.args.x);
       tracks = tracks-to-front p es c.args.self.now v tracks c.args.x c.args.front cause waiting.held front (omega arith) (omega arith) _ waiting.unclaimed asked moves
           (ap (λ n. with_words (state_of c.args.self.now.row) (slice_set c.args.self.now.row.words.items (c.args.x + 2) n)) c.encode.ensures)
           refl refl refl (ap (λ n. c.args.self.now.room.next + n) size-is) refl;
