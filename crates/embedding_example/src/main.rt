@@ -3,6 +3,7 @@
 #![tactic(auto)]
 
 ghost use Rattle.std.specs.Prelude.{◌≡◌, ◌+◌, ◌<◌, ◌≤◌};
+ghost use Rattle.sessions.specs.Plans.{NoGc as no_gc, rules_of};
 ghost use Rattle.plain_world.specs.Calls.{HasPlace, IsOpen, SamePlaces};
 
 use anyhow::Error;
@@ -20,9 +21,9 @@ type World = PlainWorld<NoGc>;
 /// Puts a number at the front of the list in register 0 of the mutator. An element is an object
 /// with one reference, to the next element, and one number. Returns whether there was room.
 fn push(world: &mut World, m: u32, number: u64) -> bool
-    requires open { IsOpen world.old }
+    requires open { IsOpen (rules_of no_gc) world.old }
     requires place { HasPlace world.old m }
-    ensures open { IsOpen world.new }
+    ensures open { IsOpen (rules_of no_gc) world.new }
     ensures places { SamePlaces world.old world.new }
 {
     if world.births(m) == u32::MAX {
@@ -39,9 +40,9 @@ fn push(world: &mut World, m: u32, number: u64) -> bool
 
 /// Takes the first number off the list in register 0 of the mutator.
 fn pop(world: &mut World, m: u32) -> Option<u64>
-    requires open { IsOpen world.old }
+    requires open { IsOpen (rules_of no_gc) world.old }
     requires place { HasPlace world.old m }
-    ensures open { IsOpen world.new }
+    ensures open { IsOpen (rules_of no_gc) world.new }
     ensures places { SamePlaces world.old world.new }
 {
     let Reply::Num(number) = world.read(m, 0, 0) else {
@@ -54,10 +55,10 @@ fn pop(world: &mut World, m: u32) -> Option<u64>
 /// Mutator 1 pushes the numbers 1 to 3 and shares its list in global 0. Mutator 2 loads the list
 /// and adds its numbers. Returns the sum.
 fn add_shared_numbers(world: &mut World) -> u64
-    requires open { IsOpen world.old }
+    requires open { IsOpen (rules_of no_gc) world.old }
     requires first { HasPlace world.old 0 }
     requires second { HasPlace world.old 1 }
-    ensures open { IsOpen world.new }
+    ensures open { IsOpen (rules_of no_gc) world.new }
     ensures places { SamePlaces world.old world.new }
 {
     for number in 1..4 {

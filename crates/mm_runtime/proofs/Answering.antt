@@ -8,24 +8,25 @@ use Rattle.ideal_heap.specs.Runs.{entry}
 use Rattle.object_model.specs.Objects.{HeapState, has_kind}
 use Rattle.mutator_core.specs.Logs.{history_of}
 use Rattle.mutator_calls.specs.Effects.{Effect, enters}
+use Rattle.sessions.specs.Plans.{Rules}
 use Rattle.plain_world.specs.declared.plain_world.PlainWorld.{PlainWorld}
-use Rattle.plain_world.specs.Rows.{births_of}
+use Rattle.plain_world.specs.Rows.{births_of, ticket_of}
 use Rattle.plain_world.specs.Worlds.{has}
 use Rattle.plain_world.specs.Calls.{heap_of, number_at, allowance_of, IsOpen, SamePlaces, AddsEntries, AddsEntry, Grants, LeavesRest}
 use Rattle.mm_runtime.specs.Parts.{Answers}
 
 -- the heap has as many blocks as the epoch's first one, and the allowance is the epoch's
-pub blocks-same : {P : Type 0} (old new : PlainWorld P) (es : List _) → IsOpen old → AddsEntries old es new
+pub blocks-same : {P : Type 0} {rules : Rules} (old new : PlainWorld P) (es : List _) → IsOpen rules old → AddsEntries old es new
     → (heap_of new).blocks ≡ (heap_of old).blocks
 blocks-same old new es is adds =
-    let now = is.some in
+    let now = is.idle.some in
     let later = adds now.epoch now.ideal (history_of now.epoch now.log) (record { log = now.log; at = now.at; history = refl }) in
     ap (λ (s : HeapState). s.blocks) later.at.heap ∙ sym (ap (λ (s : HeapState). s.blocks) now.at.heap)
 
-pub allowance-same : {P : Type 0} (old new : PlainWorld P) (es : List _) → IsOpen old → AddsEntries old es new
+pub allowance-same : {P : Type 0} {rules : Rules} (old new : PlainWorld P) (es : List _) → IsOpen rules old → AddsEntries old es new
     → allowance_of new ≡ allowance_of old
 allowance-same old new es is adds =
-    let now = is.some in
+    let now = is.idle.some in
     let later = adds now.epoch now.ideal (history_of now.epoch now.log) (record { log = now.log; at = now.at; history = refl }) in
     later.at.allowed ∙ sym now.at.allowed
 
@@ -34,24 +35,24 @@ and-first true b e = refl
 and-first false b e = e
 
 -- steps of this effect
-pub answers-effect : {P : Type 0} (old new : PlainWorld P) (m : ℕ) (e : Effect) (granted : List ℕ) → IsOpen old → IsOpen new → SamePlaces old new
+pub answers-effect : {P : Type 0} {rules : Rules} (old new : PlainWorld P) (m : ℕ) (e : Effect) (granted : List ℕ) → IsOpen rules old → IsOpen rules new → SamePlaces old new
     → AddsEntries old (map (λ x. entry (number_at old m) x.command x.reply) e.entries) new → Grants old granted new → LeavesRest old m e new
-    → Answers old m e.entries new
+    → Answers rules old m e.entries new
 answers-effect old new m e granted is_old is_new places history grants rest = record {
   is_open = is_new;
   places = places;
   history = history;
   births = rest.births;
-  others = λ k other. let same = rest.others k other in (same.1, ap births_of same.0);
+  others = λ k other. let same = rest.others k other in (ap ticket_of same.1, ap births_of same.0);
   blocks = blocks-same old new _ is_old history;
   free = λ k free. and-first (has_kind (heap_of old) k kinds.Free) (not (has granted k)) (sym (grants.kind k) ∙ free);
   allowance = allowance-same old new _ is_old history;
 }
 
 -- one call that allocates nothing
-pub answers-enter : {P : Type 0} (old new : PlainWorld P) (m : ℕ) (command given : Command) (reply : Reply) → command ≡ given → IsOpen old → IsOpen new
+pub answers-enter : {P : Type 0} {rules : Rules} (old new : PlainWorld P) (m : ℕ) (command given : Command) (reply : Reply) → command ≡ given → IsOpen rules old → IsOpen rules new
     → SamePlaces old new → AddsEntry old m given reply new → Grants old [] new → LeavesRest old m (enters given reply) new
-    → Answers old m (record { command = command; reply = reply } ∷ []) new
-answers-enter old new m command given reply same is_old is_new places history grants rest =
-    subst (λ (x : Command). Answers old m (record { command = x; reply = reply } ∷ []) new) (sym same)
+    → Answers rules old m (record { command = command; reply = reply } ∷ []) new
+answers-enter {P} {rules} old new m command given reply same is_old is_new places history grants rest =
+    subst (λ (x : Command). Answers rules old m (record { command = x; reply = reply } ∷ []) new) (sym same)
     (answers-effect old new m (enters given reply) [] is_old is_new places history grants rest)

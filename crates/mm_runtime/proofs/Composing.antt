@@ -1,5 +1,5 @@
 -- The answers of a part: of no call, and of one call after others.
-use Rattle.std.proofs.Common.{◌≡◌, refl, sym, ◌∙◌, ap, subst, ℕ, zero, suc, ◌+◌, ◌<◌, ◌≤◌, true, false, List, [], ◌∷◌, ◌++◌, map, append_assoc, append-nil, inl, inr, arith}
+use Rattle.std.proofs.Common.{◌≡◌, refl, sym, ◌∙◌, ap, subst, ℕ, zero, suc, ◌+◌, ◌<◌, ◌≤◌, true, false, List, [], ◌∷◌, ◌++◌, map, append_assoc, append-nil, arith}
 use Rattle.std.specs.Prelude.{slice_get, slice_index, Some, None, Option, if◌then◌else◌}
 use Rattle.std.proofs.lemmas.List.{map-append}
 use Rattle.std.proofs.lemmas.List.Sums.{sum_by-append, sum_by-cons}
@@ -13,13 +13,14 @@ use Rattle.object_model.specs.Graphs.{MutatorState}
 use Rattle.object_model.specs.declared.shape.TheConstants.{MAX_MEDIUM_WORDS}
 use Rattle.mutator_calls.specs.declared.need.Mutator.{Mutator}
 use Rattle.mutator_calls.specs.declared.need.NeedCause.{NeedCause}
-use Rattle.mutator_calls.specs.declared.need.NeedCause.TheVariants.{Large, Budget, Seen}
+use Rattle.mutator_calls.specs.declared.need.NeedCause.TheVariants.{Large, Budget}
 use Rattle.mutator_calls.specs.Effects.{Answered, draws, raises}
 use Rattle.mutator_calls.specs.Allocating.{IsCause}
+use Rattle.sessions.specs.Plans.{Rules}
 use Rattle.plain_world.specs.declared.plain_world.PlainWorld.{PlainWorld}
 use Rattle.plain_world.specs.Rows.{mutator_state, births_of, number_of}
 use Rattle.plain_world.specs.Worlds.{births_in, stop_after}
-use Rattle.plain_world.specs.Calls.{number_at, births_at, ticket_at, books_at, HasHistory, HasNoRoom, IsNotFree, IsOpen, SamePlaces, AddsEntries, IsUnchanged, LeavesRest, stop_word}
+use Rattle.plain_world.specs.Calls.{number_at, births_at, ticket_at, books_at, HasHistory, HasNoRoom, IsOpen, SamePlaces, AddsEntries, IsUnchanged, LeavesRest, stop_word}
 use Rattle.mm_runtime.specs.Parts.{Answers, IsExhausted}
 use Rattle.mm_runtime.proofs.Answering.{blocks-same, allowance-same}
 
@@ -46,8 +47,8 @@ pub births-same : (old new : List Mutator) → map mutator_state new ≡ map mut
 births-same old new same k = births-mapped new k ∙ ap (λ (ms : List MutatorState). births-state (slice_get ms k)) same ∙ sym (births-mapped old k)
 
 -- a call that changes nothing
-pub answers-unchanged : {P : Type 0} (old new : PlainWorld P) (m : ℕ) → IsOpen old → IsOpen new → SamePlaces old new → AddsEntries old [] new
-    → IsUnchanged old new → Answers old m [] new
+pub answers-unchanged : {P : Type 0} {rules : Rules} (old new : PlainWorld P) (m : ℕ) → IsOpen rules old → IsOpen rules new → SamePlaces old new → AddsEntries old [] new
+    → IsUnchanged old new → Answers rules old m [] new
 answers-unchanged old new m is_old is_new places history same = record {
   is_open = is_new;
   places = places;
@@ -60,10 +61,10 @@ answers-unchanged old new m is_old is_new places history same = record {
 }
 
 -- no call
-pub answers-none : {P : Type 0} (w : PlainWorld P) (m : ℕ) → IsOpen w → Answers w m [] w
+pub answers-none : {P : Type 0} {rules : Rules} (w : PlainWorld P) (m : ℕ) → IsOpen rules w → Answers rules w m [] w
 answers-none w m is = record {
   is_open = is;
-  places = record { count = refl; numbers = refl; fill = refl };
+  places = record { count = refl; numbers = refl };
   history = λ p i part has. subst (λ (es : List Entry). HasHistory w p i es) (sym (append-nil part)) has;
   births = omega arith;
   others = λ k other. (refl, refl);
@@ -76,11 +77,11 @@ answers-none w m is = record {
 abbrev entries-of : ℕ → List Answered → List Entry
 entries-of n es = map (λ e. entry n e.command e.reply) es
 
-pub answers-append : {P : Type 0} (old mid new : PlainWorld P) (m : ℕ) (es fs : List Answered) → Answers old m es mid → Answers mid m fs new
-    → Answers old m (es ++ fs) new
+pub answers-append : {P : Type 0} {rules : Rules} (old mid new : PlainWorld P) (m : ℕ) (es fs : List Answered) → Answers rules old m es mid → Answers rules mid m fs new
+    → Answers rules old m (es ++ fs) new
 answers-append old mid new m es fs a b = record {
   is_open = b.is_open;
-  places = record { count = b.places.count ∙ a.places.count; numbers = b.places.numbers ∙ a.places.numbers; fill = b.places.fill ∙ a.places.fill };
+  places = record { count = b.places.count ∙ a.places.count; numbers = b.places.numbers ∙ a.places.numbers };
   history = λ p i part has. subst (λ (l : List Entry). HasHistory new p i l)
       (append_assoc part (entries-of (number_at old m) es) (entries-of (number_at mid m) fs)
       ∙ ap (λ l. part ++ l) (ap (λ n. entries-of (number_at old m) es ++ entries-of n fs) (number-same old mid a.places m)
@@ -93,14 +94,12 @@ answers-append old mid new m es fs a b = record {
   allowance = b.allowance ∙ a.allowance;
 }
 
--- the ticket of a refused mutator is not below the allowance, or no block is Free
-pub exhausted : {P : Type 0} (mid new : PlainWorld P) (m size : ℕ) (cause : NeedCause) → Answers mid m [] new → ticket_at new m ≡ ticket_at mid m
-    → IsCause (books_at mid m) (HasNoRoom mid m size) (IsNotFree mid) size cause → size ≤ MAX_MEDIUM_WORDS → IsExhausted new m
+-- the ticket of a refused mutator is not below the allowance
+pub exhausted : {P : Type 0} {rules : Rules} (mid new : PlainWorld P) (m size : ℕ) (cause : NeedCause) → Answers rules mid m [] new → ticket_at new m ≡ ticket_at mid m
+    → IsCause (books_at mid m) (HasNoRoom mid m size) size cause → size ≤ MAX_MEDIUM_WORDS → IsExhausted new m
 exhausted mid new m size Large answers ticket large small = absurd (let more : MAX_MEDIUM_WORDS < size = large in omega arith)
 exhausted mid new m size (Budget t) answers ticket is small =
-    inl (t, ticket ∙ is.2, subst (λ (n : ℕ). n ≤ t) (sym answers.allowance) is.3)
-exhausted mid new m size Seen answers ticket is small =
-    inr (λ k below free. is.2 k (subst (λ (n : ℕ). k < n) answers.blocks below) (answers.free k free))
+    (t, ticket ∙ is.2, subst (λ (n : ℕ). n ≤ t) (sym answers.allowance) is.3)
 
 -- the stop that a mutator raises
 pub raised-word : {P : Type 0} (old new : PlainWorld P) (m : ℕ) → SamePlaces old new → LeavesRest old m raises new → stop_word old ≡ 0
@@ -116,7 +115,7 @@ one-birth command reply =
     let most : (if is_new command then 1 else 0) + 0 ≤ 1 = elim (is_new command) as (λ b. (if b then 1 else 0) + 0 ≤ 1) [ true ↦ omega arith | false ↦ omega arith ] in
     omega arith
 
-pub births-most : {P : Type 0} (old new : PlainWorld P) (m : ℕ) (command : Command) (reply : Reply) → Answers old m (record { command = command; reply = reply } ∷ []) new
+pub births-most : {P : Type 0} {rules : Rules} (old new : PlainWorld P) (m : ℕ) (command : Command) (reply : Reply) → Answers rules old m (record { command = command; reply = reply } ∷ []) new
     → births_at new m ≤ births_at old m + 1
 births-most old new m command reply answers = omega (arith, answers.births, one-birth command reply)
 

@@ -1,5 +1,5 @@
 -- What an epoch does to a manager.
-use Rattle.std.proofs.Common.{◌≡◌, refl, sym, ◌∙◌, ap, subst, ℕ, ◌+◌, ◌≤◌, inl, inr, arith, List, ◌++◌, map, length}
+use Rattle.std.proofs.Common.{◌≡◌, refl, sym, ◌∙◌, ap, subst, ℕ, ◌+◌, ◌≤◌, inr, arith, List, ◌++◌, map, length}
 use Rattle.std.specs.Prelude.{slice_get}
 use Rattle.std.specs.List.{AllByRecursion}
 use Rattle.std.proofs.lemmas.List.{length-map}
@@ -95,10 +95,8 @@ module _ {P : Type 0} (rules : Rules) (old new : Manager P) (ends : List End) (r
       let free : free_of p.before ≡ free_of now.heap = free-cleared before lawful ∙ ap free_of stands.heap in
       let places = r.count in
       let all = count in
-      elim (exhausts r.last p (ideal_at now) part stop.heap k history r.gives (r.tickets p (ideal_at now) part history) r.drawn is) as (λ _. ExhaustsAllowance t now.heap stop.heap) [
-        | inl none ↦ inl none
-        | inr few ↦ inr (omega arith)
-      ]
+      let few = exhausts r.last p (ideal_at now) part stop.heap k history (r.tickets p (ideal_at now) part history) r.drawn is in
+      inr (omega arith)
 
   pub runs-part : RunsPart t now (causes ends) stop
   runs-part = record {

@@ -1,42 +1,28 @@
 -- A small need ends a part only if the allowance is exhausted, and then it is at the end of the epoch too.
-use Rattle.std.proofs.Common.{◌≡◌, refl, sym, ◌∙◌, ap, ℕ, ◌+◌, ◌<◌, ◌≤◌, ◌⊎◌, inl, inr, arith, true, false, List, [], ◌∷◌, length}
+use Rattle.std.proofs.Common.{◌≡◌, refl, ◌∙◌, ap, ℕ, ◌+◌, ◌<◌, ◌≤◌, arith, true, false, List, length}
 use Rattle.std.specs.Prelude.{Option, Some, None, slice_get, sum_by, count_by, nat_lt, if◌then◌else◌}
 use Rattle.std.specs.List.{range_with_len}
 use Rattle.std.proofs.Math.Path.{fun_ext}
-use Rattle.std.proofs.lemmas.Bool.{false_from_ne_true}
 use Rattle.std.proofs.lemmas.Bool.Decides.{nat_tests}
-use Rattle.std.proofs.lemmas.List.Sums.{sum_by-cons}
 use Rattle.heap_layout.specs.declared.block.Kind.TheVariants as kinds
 use Rattle.ideal_heap.specs.Ideal.{IdealHeap}
 use Rattle.ideal_heap.specs.Runs.{Entry}
-use Rattle.object_model.specs.Objects.{HeapState, HasKind, has_kind}
+use Rattle.object_model.specs.Objects.{HeapState}
 use Rattle.object_model.specs.Lawful.{IsLawful}
 use Rattle.object_model.proofs.Frames as frames
-use Rattle.object_model.proofs.OneKind.{kind-within}
 use Rattle.sessions.specs.Fitting.{free_of}
 use Rattle.mutator_core.specs.Machine.{Epoch}
 use Rattle.mutator_core.specs.Guards.{allowance}
 use Rattle.mutator_core.specs.Tickets.{tickets_below, smaller}
-use Rattle.mutator_core.specs.Closing.{GivesBack}
 use Rattle.plain_world.specs.declared.plain_world.PlainWorld.{PlainWorld}
 use Rattle.plain_world.specs.declared.plain_row.PlainSeat.{PlainSeat}
 use Rattle.plain_world.specs.Rows.{ticket_of}
-use Rattle.plain_world.specs.Calls.{heap_of, ticket_at, places_of, budget_word, HasHistory}
+use Rattle.plain_world.specs.Calls.{ticket_at, places_of, budget_word, HasHistory}
 use Rattle.plain_world.specs.Beginnings.{without_stop}
 use Rattle.plain_world.specs.Endings.{GrantsWithTickets}
 use Rattle.plain_world.proofs.Cleared as cleared
-use Rattle.plain_world.proofs.Closed as closed
 use Rattle.mm_runtime.specs.Parts.{IsExhausted}
 use Rattle.mm_runtime.proofs.ListFacts.{sum-less}
-
-count-none : (xs : List ℕ) → count_by (λ k. false) xs ≡ 0
-count-none [] = refl
-count-none (x ∷ xs) = omega (arith, sum_by-cons (λ (k : ℕ). if false then 1 else 0) x xs, count-none xs)
-
-none-free : (s : HeapState) → ((k : ℕ) → k < s.blocks → HasKind s k kinds.Free → ⊥) → free_of s ≡ 0
-none-free s none =
-    ap (λ f. count_by f (range_with_len 0 s.blocks)) (fun_ext (λ k. false_from_ne_true (has_kind s k kinds.Free) (λ is. none k (kind-within s k kinds.Free is) is)))
-    ∙ count-none (range_with_len 0 s.blocks)
 
 seat-of : (o : Option PlainSeat) (t : ℕ) → ticket_of o ≡ Some t → (x : PlainSeat) × (o ≡ Some x) × (x.ticket ≡ Some t)
 seat-of None t is = absurd (let wrong : None ≡ Some t = is in cc)
@@ -52,12 +38,10 @@ past-none a t past = grind (arith, nat_tests)
 past-smaller : (a b : ℕ) → a ≤ b → smaller b a ≡ a
 past-smaller a b past = grind (arith, nat_tests)
 
-pub exhausts : {P : Type 0} (w : PlainWorld P) (p : Epoch) (i : IdealHeap) (part : List Entry) (new : HeapState) (k : ℕ) → HasHistory w p i part → GivesBack (heap_of w) new
+pub exhausts : {P : Type 0} (w : PlainWorld P) (p : Epoch) (i : IdealHeap) (part : List Entry) (new : HeapState) (k : ℕ) → HasHistory w p i part
     → GrantsWithTickets p w new → ((j t : ℕ) → ticket_at w j ≡ Some t → t < budget_word w) → IsExhausted w k
-    → (free_of new ≡ 0) ⊎ (allowance p + 1 + free_of new ≤ free_of p.before + places_of w)
-exhausts w p i part new k is gives grants drawn (inr used) =
-    inl (closed.free-same p i is.log w.row is.at new gives ∙ ap free_of (sym is.at.heap) ∙ none-free (heap_of w) used)
-exhausts w p i part new k is gives grants drawn (inl (t, ticket, past)) =
+    → allowance p + 1 + free_of new ≤ free_of p.before + places_of w
+exhausts w p i part new k is grants drawn (t, ticket, past) =
     let seat = seat-of (slice_get w.row.seats.items k) t ticket in
     let beyond : allowance p ≤ t = (let allowed = is.at.allowed in omega arith) in
     let none : tickets_below (allowance p) seat.0.ticket ≡ 0 = ap (tickets_below (allowance p)) seat.2 ∙ past-none (allowance p) t beyond in
@@ -66,7 +50,7 @@ exhausts w p i part new k is gives grants drawn (inl (t, ticket, past)) =
     let most : smaller (budget_word w) (allowance p) ≡ allowance p = past-smaller (allowance p) (budget_word w) (let less : t < budget_word w = drawn k t ticket in omega arith) in
     let all = grants.allowed in
     let seats = is.at.seats in
-    inr (omega arith)
+    omega arith
 
 -- stop word and budget word say nothing of the Free blocks
 pub free-cleared : (s : HeapState) → IsLawful s → free_of (without_stop s) ≡ free_of s

@@ -7,6 +7,7 @@ use Rattle.ideal_heap.specs.Runs.{Entry, of_mutator, commands_of, replies_of}
 use Rattle.ideal_heap.proofs.OrderLemmas.{of_mutator-append}
 use Rattle.mutator_core.proofs.Lists.{all-append}
 use Rattle.mutator_calls.specs.Effects.{Answered}
+use Rattle.sessions.specs.Plans.{Rules}
 use Rattle.plain_world.specs.declared.plain_world.PlainWorld.{PlainWorld}
 use Rattle.plain_world.specs.Calls.{number_at, births_at, stop_word, HasHistory, IsOpen}
 use Rattle.plain_world.proofs.Lists.{one-element, get-below}
@@ -27,12 +28,12 @@ grows-none n p = record {
   commands = sym (append-nil (take (length p.replies.items) p.trace));
 }
 
-pub parts-none : {P : Type 0} (w : PlainWorld P) (ps : List Progress) → IsOpen w → stop_word w ≡ 0
+pub parts-none : {P : Type 0} {rules : Rules} (w : PlainWorld P) (ps : List Progress) → IsOpen rules w → stop_word w ≡ 0
     → ((k : ℕ) (p : Progress) → slice_get ps k ≡ Some p → IsProgress p)
-    → ((k : ℕ) (p : Progress) → slice_get ps k ≡ Some p → births_at w k ≤ length p.replies.items) → RunsParts w ps 0 [] w ps
+    → ((k : ℕ) (p : Progress) → slice_get ps k ≡ Some p → births_at w k ≤ length p.replies.items) → RunsParts rules w ps 0 [] w ps
 parts-none w ps is calm each births = record {
   is_open = is;
-  places = record { count = refl; numbers = refl; fill = refl };
+  places = record { count = refl; numbers = refl };
   part = [];
   history = (answers-none w 0 is).history;
   mutators = tt;
@@ -46,9 +47,9 @@ parts-none w ps is calm each births = record {
 }
 
 -- the same ends
-pub parts-ends : {P : Type 0} (old new : PlainWorld P) (ps qs : List Progress) (n : ℕ) (ends same : List End) → same ≡ ends → RunsParts old ps n ends new qs
-    → RunsParts old ps n same new qs
-parts-ends old new ps qs n ends same is runs = subst (λ (l : List End). RunsParts old ps n l new qs) (sym is) runs
+pub parts-ends : {P : Type 0} {rules : Rules} (old new : PlainWorld P) (ps qs : List Progress) (n : ℕ) (ends same : List End) → same ≡ ends → RunsParts rules old ps n ends new qs
+    → RunsParts rules old ps n same new qs
+parts-ends {P} {rules} old new ps qs n ends same is runs = subst (λ (l : List End). RunsParts rules old ps n l new qs) (sym is) runs
 
 -- entries of the mutator, and of another
 grows-own : (n : ℕ) (part : List Entry) (es : List Answered) (p between q : Progress) → Grows n part p between → q.trace ≡ between.trace
@@ -80,9 +81,9 @@ grows-other k n part es p q other grows =
     }
 
 -- one more part
-module _ {P : Type 0} (old mid new : PlainWorld P) (ps qs : List Progress) (m : ℕ) (ends : List End) (between after : Progress) (e : End)
-    (runs : RunsParts old ps m ends mid qs) (there : slice_get qs m ≡ Some between) (number : number_at old m ≡ m + 1)
-    (trace : RunsTrace mid m between new after) (order : IsProgress after) (births : births_at new m ≤ length after.replies.items)
+module _ {P : Type 0} {rules : Rules} (old mid new : PlainWorld P) (ps qs : List Progress) (m : ℕ) (ends : List End) (between after : Progress) (e : End)
+    (runs : RunsParts rules old ps m ends mid qs) (there : slice_get qs m ≡ Some between) (number : number_at old m ≡ m + 1)
+    (trace : RunsTrace rules mid m between new after) (order : IsProgress after) (births : births_at new m ≤ length after.replies.items)
     (ends_for : EndsFor (stop_word mid) new m (next_of after) e) where
   abbrev es : List Answered
   es = trace.answered
@@ -117,13 +118,12 @@ module _ {P : Type 0} (old mid new : PlainWorld P) (ps qs : List Progress) (m : 
     | inr before ↦ before
   ]
 
-  pub parts-more : RunsParts old ps (m + 1) (ends ++ e ∷ []) new (slice_set qs m after)
+  pub parts-more : RunsParts rules old ps (m + 1) (ends ++ e ∷ []) new (slice_set qs m after)
   parts-more = record {
     is_open = trace.answers.is_open;
     places = record {
       count = trace.answers.places.count ∙ runs.places.count;
       numbers = trace.answers.places.numbers ∙ runs.places.numbers;
-      fill = trace.answers.places.fill ∙ runs.places.fill;
     };
     part = runs.part ++ entries;
     history = λ p i part has. subst (λ (l : List Entry). HasHistory new p i l)

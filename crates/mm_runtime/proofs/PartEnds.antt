@@ -3,6 +3,7 @@ use Rattle.std.proofs.Common.{◌≡◌, ◌≢◌, refl, sym, ◌∙◌, ap, su
 use Rattle.std.specs.Prelude.{Option}
 use Rattle.ideal_heap.specs.declared.command.Command.{Command}
 use Rattle.mutator_calls.specs.Effects.{Answered}
+use Rattle.sessions.specs.Plans.{Rules}
 use Rattle.plain_world.specs.declared.plain_world.PlainWorld.{PlainWorld}
 use Rattle.plain_world.specs.Calls.{stop_word, number_at}
 use Rattle.mm_runtime.specs.declared.progress.End.{End}
@@ -10,12 +11,10 @@ use Rattle.mm_runtime.specs.declared.progress.End.TheVariants as end
 use Rattle.mm_runtime.specs.Parts.{Answers, IsExhausted, EndsFor, EndedFor, HasRaised, raises_stop}
 use Rattle.mm_runtime.proofs.ListFacts.{push-old, push-new}
 
--- the other mutators' calls give no ticket and free no block
-pub exhausted-after : {P : Type 0} (old new : PlainWorld P) (m k : ℕ) (es : List Answered) → Answers old m es new → k ≢ m → IsExhausted old k → IsExhausted new k
-exhausted-after old new m k es answers other (inl (t, ticket, past)) =
-    inl (t, (answers.others k other).0 ∙ ticket, subst (λ (n : ℕ). n ≤ t) (sym answers.allowance) past)
-exhausted-after old new m k es answers other (inr used) =
-    inr (λ j below free. used j (subst (λ (n : ℕ). j < n) answers.blocks below) (answers.free j free))
+-- the other mutators' calls give no ticket
+pub exhausted-after : {P : Type 0} {rules : Rules} (old new : PlainWorld P) (m k : ℕ) (es : List Answered) → Answers rules old m es new → k ≢ m → IsExhausted old k → IsExhausted new k
+exhausted-after old new m k es answers other (t, ticket, past) =
+    (t, (answers.others k other).0 ∙ ticket, subst (λ (n : ℕ). n ≤ t) (sym answers.allowance) past)
 
 pub raised-before : (ends : List End) (e : End) (number : ℕ) → HasRaised ends number → HasRaised (ends ++ e ∷ []) number
 raised-before ends e number raised = record {
@@ -35,8 +34,8 @@ raised-last ends e number m many raises is = record {
   number_is = is ∙ ap (λ n. n + 1) (sym many);
 }
 
-pub ended-before : {P : Type 0} (old new : PlainWorld P) (m k : ℕ) (es : List Answered) (ends : List End) (last : End) (next : Option Command) (e : End)
-    → Answers old m es new → k ≢ m → EndedFor old ends k next e → EndedFor new (ends ++ last ∷ []) k next e
+pub ended-before : {P : Type 0} {rules : Rules} (old new : PlainWorld P) (m k : ℕ) (es : List Answered) (ends : List End) (last : End) (next : Option Command) (e : End)
+    → Answers rules old m es new → k ≢ m → EndedFor old ends k next e → EndedFor new (ends ++ last ∷ []) k next e
 ended-before old new m k es ends last next end.Gc answers other is = is
 ended-before old new m k es ends last next end.Meet answers other is = is
 ended-before old new m k es ends last next end.Trace answers other is = is

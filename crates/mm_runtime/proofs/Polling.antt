@@ -3,6 +3,7 @@ use Rattle.std.proofs.Common.{◌≡◌, sym, ◌∙◌, subst, ℕ, ◌<◌, �
 use Rattle.std.specs.List.{Contains, AllByRecursion}
 use Rattle.object_model.specs.Graphs.{MutatorState, IsMutatorState, numbers_of}
 use Rattle.mutator_core.proofs.Lists.{contains-cases, contains-none}
+use Rattle.sessions.specs.Plans.{Rules}
 use Rattle.plain_world.specs.declared.plain_world.PlainWorld.{PlainWorld}
 use Rattle.plain_world.specs.Calls.{mutators_of, stop_word, IsOpen, IsUnchanged}
 use Rattle.plain_world.proofs.CallLemmas.{numbers-mapped}
@@ -17,9 +18,9 @@ number-least (m ∷ ms) all n known = elim (contains-cases m.number (numbers_of 
 ]
 
 -- no mutator has the number 0
-pub number-some : {P : Type 0} (w : PlainWorld P) → IsOpen w → (n : ℕ) → Contains (numbers_of (mutators_of w)) n → 0 < n
+pub number-some : {P : Type 0} {rules : Rules} (w : PlainWorld P) → IsOpen rules w → (n : ℕ) → Contains (numbers_of (mutators_of w)) n → 0 < n
 number-some w is n known =
-    let now = is.some in
+    let now = is.idle.some in
     number-least now.epoch.mutators now.at.epoch.represents.mutators.each n
     (subst (λ ns. Contains ns n) (numbers-mapped w.row.mutators.items ∙ now.at.numbers) known)
 

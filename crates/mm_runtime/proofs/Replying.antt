@@ -8,6 +8,7 @@ use Rattle.ideal_heap.specs.declared.command.Command.{Command}
 use Rattle.ideal_heap.specs.declared.reply.Reply.{Reply}
 use Rattle.ideal_heap.specs.Commands.{IsValid}
 use Rattle.mutator_calls.specs.Effects.{Answered}
+use Rattle.sessions.specs.Plans.{Rules}
 use Rattle.plain_world.specs.declared.plain_world.PlainWorld.{PlainWorld}
 use Rattle.plain_world.specs.Calls.{IsOpen, stop_word}
 use Rattle.stored_replies.specs.Replies.{Replies}
@@ -51,7 +52,7 @@ order-more old new command reply order is trace replies capacity =
     }
 
 -- nothing ran yet
-pub runs-none : {P : Type 0} (w : PlainWorld P) (m : ℕ) (p : Progress) → IsOpen w → RunsTrace w m p w p
+pub runs-none : {P : Type 0} {rules : Rules} (w : PlainWorld P) (m : ℕ) (p : Progress) → IsOpen rules w → RunsTrace rules w m p w p
 runs-none w m p is = record {
   answered = [];
   answers = answers-none w m is;
@@ -61,9 +62,9 @@ runs-none w m p is = record {
 }
 
 -- one more reply
-pub runs-more : {P : Type 0} (old mid new : PlainWorld P) (m : ℕ) (before between after : Progress) (command : Command) (reply : Reply)
-    → RunsTrace old m before mid between → Answers mid m (record { command = command; reply = reply } ∷ []) new → next_of between ≡ Some command
-    → after.trace ≡ between.trace → after.replies.items ≡ between.replies.items ++ reply ∷ [] → RunsTrace old m before new after
+pub runs-more : {P : Type 0} {rules : Rules} (old mid new : PlainWorld P) (m : ℕ) (before between after : Progress) (command : Command) (reply : Reply)
+    → RunsTrace rules old m before mid between → Answers rules mid m (record { command = command; reply = reply } ∷ []) new → next_of between ≡ Some command
+    → after.trace ≡ between.trace → after.replies.items ≡ between.replies.items ++ reply ∷ [] → RunsTrace rules old m before new after
 runs-more old mid new m before between after command reply runs answers is trace replies =
     let one : List Answered = record { command = command; reply = reply } ∷ [] in
     let count : length after.replies.items ≡ length between.replies.items + 1 = ap length replies ∙ length-append between.replies.items (reply ∷ []) in record {
@@ -81,19 +82,19 @@ runs-more old mid new m before between after command reply runs answers is trace
     }
 
 -- and no reply more
-runs-stopped : {P : Type 0} (old mid new : PlainWorld P) (m : ℕ) (before between : Progress) → RunsTrace old m before mid between → Answers mid m [] new
-    → RunsTrace old m before new between
-runs-stopped old mid new m before between runs answers = record {
+runs-stopped : {P : Type 0} {rules : Rules} (old mid new : PlainWorld P) (m : ℕ) (before between : Progress) → RunsTrace rules old m before mid between → Answers rules mid m [] new
+    → RunsTrace rules old m before new between
+runs-stopped {P} {rules} old mid new m before between runs answers = record {
   answered = runs.answered;
-  answers = subst (λ (es : List Answered). Answers old m es new) (append-nil runs.answered) (answers-append old mid new m runs.answered [] runs.answers answers);
+  answers = subst (λ (es : List Answered). Answers rules old m es new) (append-nil runs.answered) (answers-append old mid new m runs.answered [] runs.answers answers);
   trace = runs.trace;
   replies = runs.replies;
   commands = runs.commands;
 }
 
-pub runs-ended : {P : Type 0} (old mid new : PlainWorld P) (m : ℕ) (command : Command) (before between after : Progress) (end : End)
-    → RunsTrace old m before mid between → after.trace ≡ between.trace
-    → EndsPart mid m command between.replies new after.replies end → RunsTrace old m before new after
+pub runs-ended : {P : Type 0} {rules : Rules} (old mid new : PlainWorld P) (m : ℕ) (command : Command) (before between after : Progress) (end : End)
+    → RunsTrace rules old m before mid between → after.trace ≡ between.trace
+    → EndsPart rules mid m command between.replies new after.replies end → RunsTrace rules old m before new after
 runs-ended old mid new m command before between after end runs trace ends =
     let stopped = runs-stopped old mid new m before between runs ends.answers in
     let same : after.replies.items ≡ between.replies.items = ap (λ (v : Replies). v.items) ends.replies in record {
@@ -105,9 +106,9 @@ runs-ended old mid new m command before between after end runs trace ends =
     }
 
 -- a step that a call without entries comes before
-module _ {P : Type 0} (old mid new : PlainWorld P) (m : ℕ) (command : Command) (before after : Replies)
-    (first : Answers old m [] mid) (calm : stop_word mid ≡ stop_word old) where
-  pub gets-after : GetsReply mid m command before new after → GetsReply old m command before new after
+module _ {P : Type 0} {rules : Rules} (old mid new : PlainWorld P) (m : ℕ) (command : Command) (before after : Replies)
+    (first : Answers rules old m [] mid) (calm : stop_word mid ≡ stop_word old) where
+  pub gets-after : GetsReply rules mid m command before new after → GetsReply rules old m command before new after
   gets-after gets = record {
     reply = gets.reply;
     answers = answers-append old mid new m [] (record { command = command; reply = gets.reply } ∷ []) first gets.answers;
@@ -116,14 +117,14 @@ module _ {P : Type 0} (old mid new : PlainWorld P) (m : ℕ) (command : Command)
     stop = gets.stop ∙ calm;
   }
 
-  pub ends-after : (end : End) → EndsPart mid m command before new after end → EndsPart old m command before new after end
+  pub ends-after : (end : End) → EndsPart rules mid m command before new after end → EndsPart rules old m command before new after end
   ends-after end ends = record {
     answers = answers-append old mid new m [] [] first ends.answers;
     replies = ends.replies;
     cause = subst (λ (n : ℕ). EndsFor n new m (Some command) end) calm ends.cause;
   }
 
-  pub step-after : (result : Option End) → MatchOption result (GetsReply mid m command before new after) (EndsPart mid m command before new after)
-      → MatchOption result (GetsReply old m command before new after) (EndsPart old m command before new after)
+  pub step-after : (result : Option End) → MatchOption result (GetsReply rules mid m command before new after) (EndsPart rules mid m command before new after)
+      → MatchOption result (GetsReply rules old m command before new after) (EndsPart rules old m command before new after)
   step-after None gets = gets-after gets
   step-after (Some end) ends = ends-after end ends

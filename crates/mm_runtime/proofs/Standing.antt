@@ -39,7 +39,7 @@ pub record RunsEpoch {P : Type 0} (rules : Rules) (old new : Manager P) (ends : 
   pub count : places_of last ≡ length old.progress.items
   pub begins : (i : IdealHeap) → Represents (heap_state old.heap) (map mutator_state old.mutators.items) i
       → HasHistory first (epoch_of rules (heap_state old.heap) (map mutator_state old.mutators.items)) i []
-  pub runs : RunsParts first old.progress.items (length old.progress.items) ends last new.progress.items
+  pub runs : RunsParts rules first old.progress.items (length old.progress.items) ends last new.progress.items
   pub stopped : (p : Epoch) (i : IdealHeap) (part : List Entry) → HasHistory last p i part
       → Stopped p.rules (numbers_of p.mutators) p.before i part (heap_state new.heap) (map mutator_state new.mutators.items)
   pub mutators : map mutator_state new.mutators.items ≡ mutators_of last

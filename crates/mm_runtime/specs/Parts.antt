@@ -9,12 +9,13 @@ use Rattle.ideal_heap.specs.declared.reply.Reply.{Reply}
 use Rattle.ideal_heap.specs.Runs.{Entry, entry, commands_of, replies_of}
 use Rattle.object_model.specs.Objects.{has_kind, size_of}
 use Rattle.object_model.specs.declared.shape.TheConstants.{MAX_MEDIUM_WORDS}
+use Rattle.sessions.specs.Plans.{Rules}
 use Rattle.sessions.specs.Sessions.{Cause, AtGc, AtMeet, AtEnd, AtNeed, Raised}
 use Rattle.mutator_calls.specs.declared.need.Need.{Need}
 use Rattle.mutator_calls.specs.Effects.{Answered}
 use Rattle.plain_world.specs.declared.plain_world.PlainWorld.{PlainWorld}
 use Rattle.plain_world.specs.Worlds.{births_in}
-use Rattle.plain_world.specs.Calls.{heap_of, number_at, births_at, ticket_at, stop_word, allowance_of, IsOpen, SamePlaces, AddsEntries, IsNotFree}
+use Rattle.plain_world.specs.Calls.{heap_of, number_at, births_at, ticket_at, stop_word, allowance_of, IsOpen, SamePlaces, AddsEntries}
 use Rattle.stored_replies.specs.Replies.{Replies}
 use Rattle.mm_runtime.specs.declared.progress.Progress.{Progress}
 use Rattle.mm_runtime.specs.declared.progress.End.{End}
@@ -27,8 +28,8 @@ is_quiet command = not (is_new command || is_gc command || is_meet command)
 
 -- The mutator at place m got these replies to its commands. Nothing else is in the history, the tickets and births of the
 -- other mutators are unchanged, and no block became Free.
-pub record Answers {P : Type 0} (old : PlainWorld P) (m : ℕ) (es : List Answered) (new : PlainWorld P) : Type 0 where
-  pub is_open : IsOpen new
+pub record Answers {P : Type 0} (rules : Rules) (old : PlainWorld P) (m : ℕ) (es : List Answered) (new : PlainWorld P) : Type 0 where
+  pub is_open : IsOpen rules new
   pub places : SamePlaces old new
   pub history : AddsEntries old (map (λ e. entry (number_at old m) e.command e.reply) es) new
   pub births : births_at new m ≡ births_at old m + births_in es
@@ -37,10 +38,9 @@ pub record Answers {P : Type 0} (old : PlainWorld P) (m : ℕ) (es : List Answer
   pub free : (k : ℕ) → has_kind (heap_of new) k kinds.Free ≡ true → has_kind (heap_of old) k kinds.Free ≡ true
   pub allowance : allowance_of new ≡ allowance_of old
 
--- the mutator at place m has a ticket that is not below the allowance, or no block is Free
+-- the mutator at place m has a ticket that is not below the allowance
 abbrev pub IsExhausted : {P : Type 0} → PlainWorld P → ℕ → Type 0
-IsExhausted w m = ((t : ℕ) × (ticket_at w m ≡ Some t) × (allowance_of w ≤ t))
-    ⊎ ((k : ℕ) → k < (heap_of w).blocks → IsNotFree w k)
+IsExhausted w m = (t : ℕ) × (ticket_at w m ≡ Some t) × (allowance_of w ≤ t)
 
 -- Why a part ends whose mutator, at place m, has this next command. The stop word was `before` and is that of the world
 -- now.
@@ -53,26 +53,26 @@ EndsFor before w m next (end.Need need) = (next ≡ Some (c.New need.register ne
 EndsFor before w m next (end.Raised by) = (next ≢ None) × (0 < by) × (before ≡ by) × (stop_word w ≡ by)
 
 -- the mutator at place m got one reply to this command, which goes to the end of its replies
-pub record GetsReply {P : Type 0} (old : PlainWorld P) (m : ℕ) (command : Command) (before : Replies)
+pub record GetsReply {P : Type 0} (rules : Rules) (old : PlainWorld P) (m : ℕ) (command : Command) (before : Replies)
     (new : PlainWorld P) (after : Replies) : Type 0 where
   pub reply : Reply
-  pub answers : Answers old m (record { command = command; reply = reply } ∷ []) new
+  pub answers : Answers rules old m (record { command = command; reply = reply } ∷ []) new
   pub items : after.items ≡ before.items ++ reply ∷ []
   pub capacity : after.capacity ≡ before.capacity
   pub stop : stop_word new ≡ stop_word old
 
 -- the part of the mutator at place m ends at this command, and it gets no reply
-pub record EndsPart {P : Type 0} (old : PlainWorld P) (m : ℕ) (command : Command) (before : Replies)
+pub record EndsPart {P : Type 0} (rules : Rules) (old : PlainWorld P) (m : ℕ) (command : Command) (before : Replies)
     (new : PlainWorld P) (after : Replies) (end : End) : Type 0 where
-  pub answers : Answers old m [] new
+  pub answers : Answers rules old m [] new
   pub replies : after ≡ before
   pub cause : EndsFor (stop_word old) new m (Some command) end
 
 -- The part of the mutator at place m from one world to the other: its replies go to those of its trace.
-pub record RunsTrace {P : Type 0} (old : PlainWorld P) (m : ℕ) (before : Progress) (new : PlainWorld P)
+pub record RunsTrace {P : Type 0} (rules : Rules) (old : PlainWorld P) (m : ℕ) (before : Progress) (new : PlainWorld P)
     (after : Progress) : Type 0 where
   pub answered : List Answered
-  pub answers : Answers old m answered new
+  pub answers : Answers rules old m answered new
   pub trace : after.trace ≡ before.trace
   pub replies : after.replies.items ≡ before.replies.items ++ map (λ e. e.reply) answered
   pub commands : take (length after.replies.items) after.trace
@@ -112,9 +112,9 @@ EndedFor w ends m next (end.Need need) = (next ≡ Some (c.New need.register nee
 EndedFor w ends m next (end.Raised by) = (next ≢ None) × HasRaised ends by
 
 -- The parts of the first n mutators, whose numbers are their places counted from 1.
-pub record RunsParts {P : Type 0} (old : PlainWorld P) (before : List Progress) (n : ℕ) (ends : List End) (new : PlainWorld P)
+pub record RunsParts {P : Type 0} (rules : Rules) (old : PlainWorld P) (before : List Progress) (n : ℕ) (ends : List End) (new : PlainWorld P)
     (after : List Progress) : Type 0 where
-  pub is_open : IsOpen new
+  pub is_open : IsOpen rules new
   pub places : SamePlaces old new
   pub part : List Entry
   pub history : AddsEntries old part new

@@ -16,13 +16,13 @@ use std::alloc::{AllocError, Global};
 use work_packets::Gate;
 
 /// Runs each mutator's part, one after another. Tells how each ended.
-fn run_parts<P, G: Gate>(
+fn run_parts<P: Plan, G: Gate>(
     alloc: Global,
     world: &mut PlainWorld<P>,
     progress: &mut Vec<Progress>,
     gate: &G,
 ) -> Result<Vec<End>, AllocError>
-    requires open { IsOpen world.old }
+    requires open { IsOpen P.rules world.old }
     requires few { places_of world.old ≤ MAX_MUTATORS }
     requires places { places_of world.old ≡ length progress.old.items }
     requires numbers { (k : ℕ) → k < places_of world.old → number_at world.old k ≡ k + 1 }
@@ -31,7 +31,7 @@ fn run_parts<P, G: Gate>(
         → IsProgress p }
     requires births { (k : ℕ) (p : Progress) → slice_get progress.old.items k ≡ Some p
         → births_at world.old k ≤ length p.replies.items }
-    ensures { IfOk result (λ ends. RunsParts world.old progress.old.items
+    ensures { IfOk result (λ ends. RunsParts P.rules world.old progress.old.items
         (length progress.old.items) ends.items world.new progress.new.items) }
 {
     let mut ends = Vec::with_capacity(alloc, progress.len())?;

@@ -12,13 +12,14 @@ use crate::progress::{End, Progress};
 use ideal_heap::{Command, MAX_MUTATORS, MAX_NUMS, MAX_REFS, REGISTERS, Reply};
 use mutator_calls::{Allocated, Polled};
 use plain_world::PlainWorld;
+use plan_api::Plan;
 use stored_commands::StoredCommand;
 use stored_replies::StoredReplies;
 use work_packets::{Gate, Point};
 
 /// Allocates the object of a `new`: the reply goes to the replies, or the part ends if the stop is
 /// to serve it. A reply answered within another enum would be copied, and wait for its own stores.
-fn allocate<P, G: Gate>(
+fn allocate<P: Plan, G: Gate>(
     world: &mut PlainWorld<P>,
     m: u32,
     d: u32,
@@ -27,7 +28,7 @@ fn allocate<P, G: Gate>(
     replies: &mut StoredReplies,
     gate: &G,
 ) -> Option<End>
-    requires open { IsOpen world.old }
+    requires open { IsOpen P.rules world.old }
     requires place { HasPlace world.old m }
     requires few { places_of world.old ≤ MAX_MUTATORS }
     requires register { d < REGISTERS }
@@ -37,8 +38,10 @@ fn allocate<P, G: Gate>(
     requires calm { stop_word world.old ≡ 0 }
     requires room { length replies.old.items < replies.old.capacity }
     ensures { MatchOption result
-        (GetsReply world.old m (command_is.New d refs nums) replies.old world.new replies.new)
-        (EndsPart world.old m (command_is.New d refs nums) replies.old world.new replies.new) }
+        (GetsReply P.rules world.old m (command_is.New d refs nums) replies.old
+        world.new replies.new)
+        (EndsPart P.rules world.old m (command_is.New d refs nums) replies.old
+        world.new replies.new) }
 {
     gate.pass(m + 1, Point::Alloc);
     match world.new_object(m, d, refs, nums) {
@@ -55,22 +58,22 @@ fn allocate<P, G: Gate>(
 }
 
 /// One step of the part: the reply to the next command goes to the replies, or the part ends.
-fn step<P, G: Gate>(
+fn step<P: Plan, G: Gate>(
     world: &mut PlainWorld<P>,
     m: u32,
     stored: StoredCommand<'_>,
     replies: &mut StoredReplies,
     gate: &G,
 ) -> Option<End>
-    requires open { IsOpen world.old }
+    requires open { IsOpen P.rules world.old }
     requires place { HasPlace world.old m }
     requires few { places_of world.old ≤ MAX_MUTATORS }
     requires valid { IsValid stored }
     requires births { births_at world.old m + 1 < 2 ^ 32 }
     requires room { length replies.old.items < replies.old.capacity }
     ensures { MatchOption result
-        (GetsReply world.old m stored.entry replies.old world.new replies.new)
-        (EndsPart world.old m stored.entry replies.old world.new replies.new) }
+        (GetsReply P.rules world.old m stored.entry replies.old world.new replies.new)
+        (EndsPart P.rules world.old m stored.entry replies.old world.new replies.new) }
 {
     gate.pass(m + 1, Point::Poll);
     if let Polled::Raised(by) = world.poll(m) {
@@ -92,18 +95,18 @@ fn step<P, G: Gate>(
 }
 
 /// Runs the mutator at place `m` from its next command on, until its part of the epoch ends.
-pub(crate) fn run_part<P, G: Gate>(
+pub(crate) fn run_part<P: Plan, G: Gate>(
     world: &mut PlainWorld<P>,
     m: u32,
     progress: &mut Progress,
     gate: &G,
 ) -> End
-    requires open { IsOpen world.old }
+    requires open { IsOpen P.rules world.old }
     requires place { HasPlace world.old m }
     requires few { places_of world.old ≤ MAX_MUTATORS }
     requires progress { IsProgress progress.old }
     requires births { births_at world.old m ≤ length progress.old.replies.items }
-    ensures runs { RunsTrace world.old m progress.old world.new progress.new }
+    ensures runs { RunsTrace P.rules world.old m progress.old world.new progress.new }
     ensures progress { IsProgress progress.new }
     ensures births { births_at world.new m ≤ length progress.new.replies.items }
     ensures end { EndsFor (stop_word world.old) world.new m (next_of progress.new) result }

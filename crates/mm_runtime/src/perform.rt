@@ -7,14 +7,15 @@ ghost use Rattle.mm_runtime.specs.Parts.{is_quiet, Answers};
 
 use ideal_heap::{Command, Reply};
 use plain_world::PlainWorld;
+use plan_api::Plan;
 
 /// Carries out a command that allocates nothing and that no stop serves.
-pub(crate) fn perform<P>(world: &mut PlainWorld<P>, m: u32, command: Command) -> Reply
-    requires open { IsOpen world.old }
+pub(crate) fn perform<P: Plan>(world: &mut PlainWorld<P>, m: u32, command: Command) -> Reply
+    requires open { IsOpen P.rules world.old }
     requires place { HasPlace world.old m }
     requires valid { IsValid command }
     requires quiet { is_quiet command ≡ true }
-    ensures answers { Answers world.old m
+    ensures answers { Answers P.rules world.old m
         (record { command = command; reply = result } ∷ []) world.new }
     ensures stop { stop_word world.new ≡ stop_word world.old }
 {

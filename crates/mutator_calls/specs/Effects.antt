@@ -1,5 +1,5 @@
 -- What the steps of a call do: the entries that they make in the history, the objects that they log, the blocks that
--- they take, the tickets that they draw, and the stop that they raise.
+-- they take, the tickets that they draw, the stop that they raise, and whether they change the mutator's regions.
 use Rattle.std.specs.Prelude.{◌≡◌, ℕ, ◌+◌, Bool, true, false, ◌||◌, List, [], ◌∷◌, ◌++◌, MatchBool, nat_eq}
 use Rattle.ideal_heap.specs.declared.command.Command.{Command}
 use Rattle.ideal_heap.specs.declared.reply.Reply.{Reply}
@@ -23,10 +23,12 @@ pub record Effect : Type 0 where
   pub drawn : ℕ
   -- whether the mutator tried to raise a stop
   pub raised : Bool
+  -- whether a region of the mutator may have changed: it lies in another block, or begins elsewhere
+  pub moved : Bool
 
--- no entry, no object logged, no block taken, no ticket drawn, no stop raised
+-- no entry, no object logged, no block taken, no ticket drawn, no stop raised, no region changed
 abbrev pub nothing : Effect
-nothing = record { entries = []; logged = []; taken = []; granted = []; drawn = 0; raised = false }
+nothing = record { entries = []; logged = []; taken = []; granted = []; drawn = 0; raised = false; moved = false }
 
 -- one entry
 abbrev pub enters : Command → Reply → Effect
@@ -36,9 +38,9 @@ enters command reply = record nothing { entries = (record { command = command; r
 abbrev pub logs : List ℕ → Command → Reply → Effect
 logs addresses command reply = record (enters command reply) { logged = addresses }
 
--- these blocks without an owner are taken
+-- a region changes, for which these blocks without an owner are taken
 abbrev pub takes : List ℕ → Effect
-takes blocks = record nothing { taken = blocks }
+takes blocks = record nothing { taken = blocks; moved = true }
 
 -- the Free block is taken
 abbrev pub grants : ℕ → Effect
@@ -61,6 +63,7 @@ and_then e f = record {
   granted = e.granted ++ f.granted;
   drawn = e.drawn + f.drawn;
   raised = e.raised || f.raised;
+  moved = e.moved || f.moved;
 }
 
 -- The reply is that to a load that found v: nil, or the name of the object at v.

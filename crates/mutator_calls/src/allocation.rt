@@ -3,7 +3,7 @@
 ghost use Rattle.std.specs.Prelude.{◌≡◌, ◌≢◌, ◌+◌, ◌<◌, ◌≤◌, ◌^◌, ◌⊎◌, ℕ, List, [], ◌∷◌, Some, None, true, false, if◌then◌else◌, IsOk, IsErr, IfErr, ⊤};
 ghost use Rattle.object_model.specs.Objects.{size_of};
 ghost use Rattle.mutator_calls.specs.Effects.{nothing, takes, grants, draws};
-ghost use Rattle.mutator_calls.specs.Allocating.{births_with, searches, IsNextTicket, IsSpent, Draws, FindsRoom, TakesFree, IsShortage, IsCause, IsNeedOf, MatchAllocated};
+ghost use Rattle.mutator_calls.specs.Allocating.{births_with, searches, IsNextTicket, IsSpent, Draws, FindsRoom, TakesFree, IsShort, IsCause, IsNeedOf, MatchAllocated};
 
 use crate::need::{Allocated, Need, NeedCause};
 use crate::seat::Seat;
@@ -16,6 +16,7 @@ fn take_some_hole<S: Seat>(seat: &mut S, size: u32) -> bool
     requires ready { S.is_ready seat.old }
     requires least { 3 ≤ size }
     requires most { size ≤ MAX_MEDIUM_WORDS }
+    requires full { S.is_full seat.old size }
     ensures found { result ≡ true → S.has_room seat.new size }
     ensures offered { result ≡ true → S.offers seat.old seat.new size }
     ensures taken { result ≡ true → (k : ℕ) × (taken : List ℕ)
@@ -29,7 +30,6 @@ fn take_some_hole<S: Seat>(seat: &mut S, size: u32) -> bool
     ensures same { (c : S) (n : ℕ) → result ≡ false → S.offers seat.new c n
         → S.offers seat.old c n }
     ensures still { (k : ℕ) → S.is_used seat.old k → S.is_used seat.new k }
-    ensures keeps { result ≡ false → S.keeps_region seat.old seat.new }
     ensures books { S.books seat.new ≡ S.books seat.old }
 {
     for block in 0..seat.blocks() {
@@ -46,10 +46,10 @@ fn hold_ticket<S: Seat>(seat: &mut S) -> u32
     ensures ready { S.is_ready seat.new }
     ensures goes { (drawn : ℕ) × S.goes seat.old (draws drawn) seat.new
         × Draws (S.has_budget seat.old) (S.books seat.old).ticket (Some result) drawn }
+    ensures full { (n : ℕ) → S.is_full seat.old n → S.is_full seat.new n }
     ensures stays { (n k : ℕ) → S.lacks seat.old n k → S.lacks seat.new n k }
-    ensures overflow { (n : ℕ) → S.is_overflow seat.old n → S.is_overflow seat.new n }
-    ensures keeps { S.keeps_region seat.old seat.new }
-    ensures regions { (n k : ℕ) → S.allocates_in seat.new n k → S.allocates_in seat.old n k }
+    ensures lacked { (n k : ℕ) → S.allocates_in seat.old n k → S.lacks seat.new n k
+        → S.lacks seat.old n k }
     ensures same { (c : S) (n : ℕ) → S.offers seat.new c n → S.offers seat.old c n }
     ensures books { S.books seat.new ≡ record (S.books seat.old) { ticket = Some result } }
 {
@@ -59,44 +59,34 @@ fn hold_ticket<S: Seat>(seat: &mut S) -> u32
     }
 }
 
-/// Takes the first Free block with the mutator's ticket. Returns whether there was one.
-fn take_some_free<S: Seat>(seat: &mut S, size: u32) -> bool
+/// Takes the first Free block with the mutator's ticket. There is one, since the ticket is below
+/// the allowance.
+fn take_some_free<S: Seat>(seat: &mut S, size: u32)
     requires ready { S.is_ready seat.old }
     requires least { 3 ≤ size }
     requires most { size ≤ MAX_MEDIUM_WORDS }
     requires ticket { (t : ℕ) × ((S.books seat.old).ticket ≡ Some t)
         × (t < (S.books seat.old).allowance) }
-    ensures found { result ≡ true → S.has_room seat.new size }
-    ensures offered { result ≡ true → S.offers seat.old seat.new size }
-    ensures grants { result ≡ true → (k : ℕ) × S.goes seat.old (grants k) seat.new
+    ensures found { S.has_room seat.new size }
+    ensures offered { S.offers seat.old seat.new size }
+    ensures grants { (k : ℕ) × S.goes seat.old (grants k) seat.new
         × ((j : ℕ) → S.lacks seat.old size j → j ≢ k → S.lacks seat.new size j)
         × ((j : ℕ) → j < k → S.is_used seat.new j) × S.allocates_in seat.new size k }
-    ensures keeps { (result ≡ false) ⊎ S.is_overflow seat.old size
-        → S.keeps_region seat.old seat.new }
+    ensures keeps { S.is_overflow seat.old size → S.keeps_hole seat.old seat.new }
     ensures overflow { S.is_overflow seat.old size → S.is_overflow seat.new size }
-    ensures books { S.books seat.new ≡ record (S.books seat.old)
-        { ticket = if result then None else (S.books seat.old).ticket } }
-    ensures ready { result ≡ false → S.is_ready seat.new }
-    ensures goes { result ≡ false → S.goes seat.old nothing seat.new }
-    ensures lacks { (j : ℕ) → result ≡ false → S.lacks seat.old size j
-        → S.lacks seat.new size j }
-    ensures regions { (n k : ℕ) → result ≡ false → S.allocates_in seat.new n k
-        → S.allocates_in seat.old n k }
-    ensures same { (c : S) (n : ℕ) → result ≡ false → S.offers seat.new c n
-        → S.offers seat.old c n }
-    ensures used { (k : ℕ) → result ≡ false → k < (S.books seat.new).blocks
-        → S.is_used seat.new k }
+    ensures books { S.books seat.new ≡ record (S.books seat.old) { ticket = None } }
 {
     for block in 0..seat.blocks() {
         if seat.take_free(block, size) {
-            return true;
+            return;
         }
     }
-    false
+    unreachable!()
 }
 
-/// Takes the first Free block with the mutator's ticket, which is drawn if it has none.
-fn take_free_block<S: Seat>(seat: &mut S, size: u32) -> Result<(), NeedCause>
+/// Takes the first Free block with the mutator's ticket, which is drawn if it has none. The error
+/// is a ticket that is not below the allowance.
+fn take_free_block<S: Seat>(seat: &mut S, size: u32) -> Result<(), u32>
     requires ready { S.is_ready seat.old }
     requires least { 3 ≤ size }
     requires most { size ≤ MAX_MEDIUM_WORDS }
@@ -107,8 +97,7 @@ fn take_free_block<S: Seat>(seat: &mut S, size: u32) -> Result<(), NeedCause>
         × TakesFree (S.is_used seat.new) (S.allocates_in seat.new size) (S.has_budget seat.old)
         (S.books seat.old) (S.books seat.new) k drawn
         × ((j : ℕ) → S.lacks seat.old size j → j ≢ k → S.lacks seat.new size j) }
-    ensures keeps { IsErr result ⊎ S.is_overflow seat.old size
-        → S.keeps_region seat.old seat.new }
+    ensures keeps { S.is_overflow seat.old size → S.keeps_hole seat.old seat.new }
     ensures overflow { S.is_overflow seat.old size → S.is_overflow seat.new size }
     ensures births { (S.books seat.new).births ≡ (S.books seat.old).births }
     ensures blocks { (S.books seat.new).blocks ≡ (S.books seat.old).blocks }
@@ -116,27 +105,26 @@ fn take_free_block<S: Seat>(seat: &mut S, size: u32) -> Result<(), NeedCause>
     ensures goes { IsErr result → (drawn : ℕ) × S.goes seat.old (draws drawn) seat.new
         × Draws (S.has_budget seat.old)
         (S.books seat.old).ticket (S.books seat.new).ticket drawn }
+    ensures full { IsErr result → S.is_full seat.old size → S.is_full seat.new size }
     ensures lacks { (j : ℕ) → IsErr result → S.lacks seat.old size j
         → S.lacks seat.new size j }
+    ensures lacked { (j : ℕ) → IsErr result → S.allocates_in seat.old size j
+        → S.lacks seat.new size j → S.lacks seat.old size j }
     ensures same { (c : S) (n : ℕ) → IsErr result → S.offers seat.new c n
         → S.offers seat.old c n }
-    ensures regions { (n k : ℕ) → IsErr result → S.allocates_in seat.new n k
-        → S.allocates_in seat.old n k }
-    ensures cause { IfErr result (IsShortage (S.books seat.new) (S.is_used seat.new)) }
+    ensures short { IfErr result (IsShort (S.books seat.new)) }
 {
     let ticket = hold_ticket(seat);
     if ticket >= seat.allowance() {
-        return Err(NeedCause::Budget(ticket));
+        return Err(ticket);
     }
-    if take_some_free(seat, size) {
-        return Ok(());
-    }
-    Err(NeedCause::Seen)
+    take_some_free(seat, size);
+    Ok(())
 }
 
 /// Makes the seat's region one with room for an object of `size` words that overflows the region:
 /// a Free block, else a hole, first one in the block of the hole region.
-fn find_overflow<S: Seat>(seat: &mut S, size: u32) -> Result<(), NeedCause>
+fn find_overflow<S: Seat>(seat: &mut S, size: u32) -> Result<(), u32>
     requires ready { S.is_ready seat.old }
     requires least { 3 ≤ size }
     requires most { size ≤ MAX_MEDIUM_WORDS }
@@ -148,8 +136,8 @@ fn find_overflow<S: Seat>(seat: &mut S, size: u32) -> Result<(), NeedCause>
         × S.goes seat.old (searches taken granted drawn) seat.new
         × FindsRoom (S.lacks seat.new size) (S.is_used seat.new) (S.allocates_in seat.old size)
         (S.allocates_in seat.new size) (S.has_budget seat.old) (S.is_full seat.old size)
-        (IsSpent S.goes S.keeps_region S.allocates_in S.lacks seat.old size)
-        (S.is_overflow seat.old size) (S.keeps_region seat.old seat.new
+        (IsSpent S.allocates_in S.lacks seat.old size)
+        (S.is_overflow seat.old size) (S.keeps_hole seat.old seat.new
         × S.is_overflow seat.new size) (S.books seat.new).blocks (S.books seat.new).allowance
         (S.books seat.old).ticket (S.books seat.new).ticket taken granted drawn }
     ensures births { (S.books seat.new).births ≡ (S.books seat.old).births }
@@ -158,12 +146,11 @@ fn find_overflow<S: Seat>(seat: &mut S, size: u32) -> Result<(), NeedCause>
         × Draws (S.has_budget seat.old)
         (S.books seat.old).ticket (S.books seat.new).ticket drawn }
     ensures spent { IsErr result
-        → IsSpent S.goes S.keeps_region S.allocates_in S.lacks seat.old size }
-    ensures kept { IsErr result → S.keeps_region seat.old seat.new }
-    ensures cause { IfErr result (IsCause (S.books seat.new)
-        (S.lacks seat.new size) (S.is_used seat.new) size) }
+        → IsSpent S.allocates_in S.lacks seat.old size }
+    ensures cause { IfErr result (λ t. IsCause (S.books seat.new) (S.lacks seat.new size)
+        size (NeedCause.Budget t)) }
 {
-    let Err(cause) = take_free_block(seat, size) else {
+    let Err(ticket) = take_free_block(seat, size) else {
         return Ok(());
     };
     if seat.take_own_hole(size) {
@@ -172,14 +159,14 @@ fn find_overflow<S: Seat>(seat: &mut S, size: u32) -> Result<(), NeedCause>
     if take_some_hole(seat, size) {
         return Ok(());
     }
-    Err(cause)
+    Err(ticket)
 }
 
 /// Makes the seat's region one with room for `size` words, for which no region has room: a hole is
 /// found, first one in the block of the hole region, or a Free block is taken with a ticket. In
 /// overflow allocation a Free block comes before a hole.
 #[inline(never)]
-fn find_room<S: Seat>(seat: &mut S, size: u32) -> Result<(), NeedCause>
+fn find_room<S: Seat>(seat: &mut S, size: u32) -> Result<(), u32>
     requires ready { S.is_ready seat.old }
     requires least { 3 ≤ size }
     requires most { size ≤ MAX_MEDIUM_WORDS }
@@ -191,8 +178,8 @@ fn find_room<S: Seat>(seat: &mut S, size: u32) -> Result<(), NeedCause>
         × FindsRoom (S.lacks seat.new size) (S.is_used seat.new) (S.allocates_in seat.old size)
         (S.allocates_in seat.new size) (IsNextTicket S.goes S.has_budget seat.old)
         (S.is_full seat.old size)
-        (IsSpent S.goes S.keeps_region S.allocates_in S.lacks seat.old size)
-        (S.is_overflow seat.old size) (S.keeps_region seat.old seat.new
+        (IsSpent S.allocates_in S.lacks seat.old size)
+        (S.is_overflow seat.old size) (S.keeps_hole seat.old seat.new
         × S.is_overflow seat.new size) (S.books seat.new).blocks (S.books seat.new).allowance
         (S.books seat.old).ticket (S.books seat.new).ticket taken granted drawn }
     ensures births { (S.books seat.new).births ≡ (S.books seat.old).births }
@@ -201,10 +188,9 @@ fn find_room<S: Seat>(seat: &mut S, size: u32) -> Result<(), NeedCause>
         × Draws (IsNextTicket S.goes S.has_budget seat.old)
         (S.books seat.old).ticket (S.books seat.new).ticket drawn }
     ensures spent { IsErr result
-        → IsSpent S.goes S.keeps_region S.allocates_in S.lacks seat.old size }
-    ensures kept { IsErr result → S.keeps_region seat.old seat.new }
-    ensures cause { IfErr result (IsCause (S.books seat.new)
-        (S.lacks seat.new size) (S.is_used seat.new) size) }
+        → IsSpent S.allocates_in S.lacks seat.old size }
+    ensures cause { IfErr result (λ t. IsCause (S.books seat.new) (S.lacks seat.new size)
+        size (NeedCause.Budget t)) }
 {
     if seat.overflows(size) {
         return find_overflow(seat, size);
@@ -237,9 +223,9 @@ fn allocate_elsewhere<S: Seat>(seat: &mut S, d: u32, refs: u32, nums: u32) -> Al
         (S.allocates_in seat.old (size_of refs nums))
         (S.allocates_in seat.new (size_of refs nums)) (IsNextTicket S.goes S.has_budget seat.old)
         (S.is_full seat.old (size_of refs nums))
-        (IsSpent S.goes S.keeps_region S.allocates_in S.lacks seat.old (size_of refs nums))
+        (IsSpent S.allocates_in S.lacks seat.old (size_of refs nums))
         (S.is_overflow seat.old (size_of refs nums))
-        (S.keeps_region seat.old seat.new) (S.books seat.new).blocks (S.books seat.new).allowance
+        (S.keeps_hole seat.old seat.new) (S.books seat.new).blocks (S.books seat.new).allowance
         (S.books seat.old).ticket (S.books seat.new).ticket
         taken granted drawn) (λ need. ⊤) }
     ensures placed { MatchAllocated result (λ name. (mid : S)
@@ -254,18 +240,15 @@ fn allocate_elsewhere<S: Seat>(seat: &mut S, d: u32, refs: u32, nums: u32) -> Al
         × (MAX_MEDIUM_WORDS < size_of refs nums → drawn ≡ 0)) }
     ensures spent { MatchAllocated result (λ name. ⊤) (λ need.
         size_of refs nums ≤ MAX_MEDIUM_WORDS
-        → IsSpent S.goes S.keeps_region S.allocates_in S.lacks seat.old (size_of refs nums)) }
-    ensures kept { MatchAllocated result (λ name. ⊤)
-        (λ need. S.keeps_region seat.old seat.new) }
+        → IsSpent S.allocates_in S.lacks seat.old (size_of refs nums)) }
     ensures need { MatchAllocated result (λ name. ⊤) (IsNeedOf d refs nums) }
     ensures cause { MatchAllocated result (λ name. ⊤) (λ need. IsCause (S.books seat.new)
-        (S.lacks seat.new (size_of refs nums)) (S.is_used seat.new)
-        (size_of refs nums) need.cause) }
+        (S.lacks seat.new (size_of refs nums)) (size_of refs nums) need.cause) }
 {
     let shape = Shape { refs, nums };
     match find_room(seat, size_words(&shape)) {
         Ok(()) => Allocated::Made(seat.publish(d, &shape)),
-        Err(cause) => stop(d, &shape, cause),
+        Err(ticket) => stop(d, &shape, NeedCause::Budget(ticket)),
     }
 }
 
@@ -274,7 +257,7 @@ fn allocate_elsewhere<S: Seat>(seat: &mut S, d: u32, refs: u32, nums: u32) -> Al
 /// overflow allocation a Free block comes before a hole.
 ///
 /// The answer is `Stop` if the object is large, or if no block has room that the mutator may fill
-/// and no Free block may be taken. The hole region stays then.
+/// and no Free block may be taken. No region changes then.
 #[inline(always)]
 pub fn new_object<S: Seat>(seat: &mut S, d: u32, refs: u32, nums: u32) -> Allocated
     requires ready { S.is_ready seat.old }
@@ -290,9 +273,9 @@ pub fn new_object<S: Seat>(seat: &mut S, d: u32, refs: u32, nums: u32) -> Alloca
         (S.allocates_in seat.old (size_of refs nums))
         (S.allocates_in seat.new (size_of refs nums)) (IsNextTicket S.goes S.has_budget seat.old)
         (S.is_full seat.old (size_of refs nums))
-        (IsSpent S.goes S.keeps_region S.allocates_in S.lacks seat.old (size_of refs nums))
+        (IsSpent S.allocates_in S.lacks seat.old (size_of refs nums))
         (S.is_overflow seat.old (size_of refs nums))
-        (S.keeps_region seat.old seat.new) (S.books seat.new).blocks (S.books seat.new).allowance
+        (S.keeps_hole seat.old seat.new) (S.books seat.new).blocks (S.books seat.new).allowance
         (S.books seat.old).ticket (S.books seat.new).ticket
         taken granted drawn) (λ need. ⊤) }
     ensures placed { MatchAllocated result (λ name. (mid : S)
@@ -305,15 +288,14 @@ pub fn new_object<S: Seat>(seat: &mut S, d: u32, refs: u32, nums: u32) -> Alloca
         × Draws (IsNextTicket S.goes S.has_budget seat.old)
         (S.books seat.old).ticket (S.books seat.new).ticket drawn
         × (MAX_MEDIUM_WORDS < size_of refs nums → drawn ≡ 0)) }
+    ensures full { MatchAllocated result (λ name. ⊤) (λ need.
+        size_of refs nums ≤ MAX_MEDIUM_WORDS → S.is_full seat.old (size_of refs nums)) }
     ensures spent { MatchAllocated result (λ name. ⊤) (λ need.
         size_of refs nums ≤ MAX_MEDIUM_WORDS
-        → IsSpent S.goes S.keeps_region S.allocates_in S.lacks seat.old (size_of refs nums)) }
-    ensures kept { MatchAllocated result (λ name. ⊤)
-        (λ need. S.keeps_region seat.old seat.new) }
+        → IsSpent S.allocates_in S.lacks seat.old (size_of refs nums)) }
     ensures need { MatchAllocated result (λ name. ⊤) (IsNeedOf d refs nums) }
     ensures cause { MatchAllocated result (λ name. ⊤) (λ need. IsCause (S.books seat.new)
-        (S.lacks seat.new (size_of refs nums)) (S.is_used seat.new)
-        (size_of refs nums) need.cause) }
+        (S.lacks seat.new (size_of refs nums)) (size_of refs nums) need.cause) }
 {
     let shape = Shape { refs, nums };
     let size = size_words(&shape);

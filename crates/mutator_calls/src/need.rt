@@ -21,8 +21,6 @@ pub enum NeedCause {
     /// No block has room that the mutator may fill, and the ticket that it drew is not below the
     /// allowance of the epoch.
     Budget(u32),
-    /// No block has room that the mutator may fill, and no block is Free.
-    Seen,
 }
 
 /// An allocation that is left to the stop.

@@ -11,7 +11,7 @@ ghost use Rattle.object_model.specs.Objects.{size_of};
 ghost use Rattle.mutator_core.specs.Machine.{source};
 ghost use Rattle.mutator_calls.specs.Effects.{Effect, nothing, enters, logs, takes, grants, draws, raises, and_then, IsFound};
 ghost use Rattle.mutator_calls.specs.Accesses.{IsAccess, LacksIndex};
-ghost use Rattle.mutator_calls.specs.Allocating.{Books, births_with};
+ghost use Rattle.mutator_calls.specs.Allocating.{Books, births};
 
 use ideal_heap::{Command, GLOBALS, MAX_NUMS, MAX_REFS, Name, REGISTERS};
 use object_model::{MAX_MEDIUM_WORDS, Shape};
@@ -19,9 +19,12 @@ use object_model::{MAX_MEDIUM_WORDS, Shape};
 /// A mutator's seat at a heap: its registers, its room for new objects, and its steps.
 ///
 /// Each method makes at most one entry in the history of all mutators, and is one atomic step, but
-/// for four: `log_and_store_field` clears a bit and stores a word, `take_hole` reads the words of
-/// a block, and `allocate_here` and `publish` store the words of an object. A register holds an
-/// address, or 0 for nil. Sizes are in words.
+/// for five: `log_and_store_field` clears a bit and stores a word, `take_hole` and `take_own_hole`
+/// read words of a block, and `allocate_here` and `publish` store the words of an object. A
+/// register holds an address, or 0 for nil. Sizes are in words.
+///
+/// A mutator allocates in its regions: one for each size class, or under a plan with lines the hole
+/// region and the overflow region.
 pub trait Seat {
     // No allocation is under way.
     ghost is_ready: { Self → Type 0 };
@@ -74,16 +77,18 @@ pub trait Seat {
     // before holes are looked for.
     ghost is_overflow: { Self → ℕ → Type 0 };
 
-    // From the one state to the other the region that the seat fills stayed as it was. Overflow
-    // allocation does not move it.
-    ghost keeps_region: { Self → Self → Type 0 };
+    // From the one state to the other all regions of the seat stayed as they were, in the same
+    // blocks; or the hole region did, which overflow allocation does not move.
+    ghost keeps_regions: { Self → Self → Type 0 };
+
+    ghost keeps_hole: { Self → Self → Type 0 };
 
     // The region of the second state is room for the size that the mutator may fill in the first:
-    // a hole of a block that it owns or nobody does, or a Free block. Only blocks were taken.
+    // a hole of a block that it owns or nobody does, or a Free block. Its other regions stayed.
     ghost offers: { Self → Self → ℕ → Type 0 };
 
     // From the one state to the other an object of the size was placed at the start of the region.
-    // The register holds it.
+    // The register holds it, and the other regions stayed.
     ghost places: { Self → Self → ℕ → ℕ → Type 0 };
 
     // The budget word is this number: so many tickets were drawn in the epoch.
@@ -311,15 +316,16 @@ pub trait Seat {
             has_room self.old (size_of shape.now.refs shape.now.nums)) }
         ensures offered { IfSome result (λ name.
             offers self.old self.old (size_of shape.now.refs shape.now.nums)) }
+        ensures some { IfSome result (λ name.
+            is_full self.old (size_of shape.now.refs shape.now.nums) → ⊥) }
         ensures goes { IfSome result (λ name. goes self.old
-            (enters (command.New d shape.now.refs shape.now.nums) (reply.New name))
-            self.new) }
+            (births d shape.now.refs shape.now.nums name) self.new) }
         ensures stays { (n k : ℕ) → lacks self.old n k → lacks self.new n k }
         ensures still { (k : ℕ) → is_used self.old k → is_used self.new k }
         ensures placed { IfSome result (λ name.
             places self.old self.new d (size_of shape.now.refs shape.now.nums)) }
         ensures keeps { is_overflow self.old (size_of shape.now.refs shape.now.nums)
-            → keeps_region self.old self.new }
+            → keeps_hole self.old self.new }
         ensures region { IfSome result (λ name. (k : ℕ)
             × allocates_in self.old (size_of shape.now.refs shape.now.nums) k
             × allocates_in self.new (size_of shape.now.refs shape.now.nums) k) }
@@ -346,6 +352,7 @@ pub trait Seat {
         requires block { block < (books self.old).blocks }
         requires least { 3 ≤ size }
         requires most { size ≤ MAX_MEDIUM_WORDS }
+        requires full { is_full self.old size }
         ensures found { result ≡ true → has_room self.new size }
         ensures offered { result ≡ true → offers self.old self.new size }
         ensures region { result ≡ true → allocates_in self.new size block }
@@ -354,6 +361,7 @@ pub trait Seat {
             × goes self.old (takes taken) self.new }
         ensures ready { result ≡ false → is_ready self.new }
         ensures goes { result ≡ false → goes self.old nothing self.new }
+        ensures full { result ≡ false → is_full self.new size }
         ensures lacks { result ≡ false → lacks self.new size block }
         ensures still { (k : ℕ) → is_used self.old k → is_used self.new k }
         ensures others { (n k : ℕ) → k ≢ block → lacks self.old n k → lacks self.new n k }
@@ -361,32 +369,30 @@ pub trait Seat {
             → lacks self.new n k }
         ensures same { (c : Self) (n : ℕ) → result ≡ false → offers self.new c n
             → offers self.old c n }
-        ensures keeps { result ≡ false → keeps_region self.old self.new }
         ensures books { books self.new ≡ books self.old };
 
     /// Goes on in the block of the hole region, under a plan with lines: the first hole of the
     /// block with room for `size` words, from the region's end on, becomes the hole region, if
-    /// there is one. Nothing changes if a region has room.
+    /// there is one.
     fn take_own_hole(&mut self, size: u32) -> bool
         requires ready { is_ready self.old }
         requires least { 3 ≤ size }
         requires most { size ≤ MAX_MEDIUM_WORDS }
+        requires full { is_full self.old size }
         ensures found { result ≡ true → has_room self.new size }
         ensures offered { result ≡ true → offers self.old self.new size }
         ensures region { result ≡ true → (k : ℕ) × allocates_in self.old size k
             × allocates_in self.new size k }
         ensures ready { result ≡ false → is_ready self.new }
-        ensures goes { goes self.old nothing self.new }
+        ensures goes { goes self.old (if result then takes [] else nothing) self.new }
+        ensures full { result ≡ false → is_full self.new size }
         ensures lacks { result ≡ false → (k : ℕ) → allocates_in self.old size k
             → lacks self.old size k }
         ensures still { (k : ℕ) → is_used self.old k → is_used self.new k }
-        ensures overflow { (n : ℕ) → result ≡ false → is_overflow self.old n
-            → is_overflow self.new n }
         ensures stays { (n k : ℕ) → result ≡ false → lacks self.old n k
             → lacks self.new n k }
         ensures same { (c : Self) (n : ℕ) → result ≡ false → offers self.new c n
             → offers self.old c n }
-        ensures keeps { result ≡ false → keeps_region self.old self.new }
         ensures books { books self.new ≡ books self.old };
 
     /// Draws a ticket: the budget word rises by 1. The ticket is the number before.
@@ -396,10 +402,10 @@ pub trait Seat {
         ensures ready { is_ready self.new }
         ensures goes { goes self.old (draws 1) self.new }
         ensures next { has_budget self.old result }
-        ensures overflow { (n : ℕ) → is_overflow self.old n → is_overflow self.new n }
-        ensures keeps { keeps_region self.old self.new }
+        ensures full { (n : ℕ) → is_full self.old n → is_full self.new n }
         ensures stays { (n k : ℕ) → lacks self.old n k → lacks self.new n k }
-        ensures regions { (n k : ℕ) → allocates_in self.new n k → allocates_in self.old n k }
+        ensures lacked { (n k : ℕ) → allocates_in self.old n k → lacks self.new n k
+            → lacks self.old n k }
         ensures same { (c : Self) (n : ℕ) → offers self.new c n → offers self.old c n }
         ensures books { books self.new ≡ record (books self.old) { ticket = Some result } };
 
@@ -419,8 +425,7 @@ pub trait Seat {
         ensures region { result ≡ true → allocates_in self.new size block }
         ensures ready { result ≡ false → is_ready self.new }
         ensures used { result ≡ false → is_used self.new block }
-        ensures keeps { (result ≡ false) ⊎ is_overflow self.old size
-            → keeps_region self.old self.new }
+        ensures keeps { is_overflow self.old size → keeps_hole self.old self.new }
         ensures overflow { is_overflow self.old size → is_overflow self.new size }
         ensures offers { (c : Self) (n : ℕ) → result ≡ false → offers self.new c n
             → offers self.old c n }
@@ -428,8 +433,6 @@ pub trait Seat {
         ensures stays { (n k : ℕ) → k ≢ block → lacks self.old n k → lacks self.new n k }
         ensures same { result ≡ false → (n k : ℕ) → lacks self.old n k
             → lacks self.new n k }
-        ensures regions { (n k : ℕ) → result ≡ false → allocates_in self.new n k
-            → allocates_in self.old n k }
         ensures books { books self.new ≡ record (books self.old)
             { ticket = if result then None else (books self.old).ticket } };
 
@@ -444,13 +447,12 @@ pub trait Seat {
         requires births { (books self.old).births + 1 < 2 ^ 32 }
         ensures ready { is_ready self.new }
         ensures goes { goes self.old
-            (enters (command.New d shape.now.refs shape.now.nums) (reply.New result))
-            self.new }
+            (births d shape.now.refs shape.now.nums result) self.new }
         ensures stays { (n k : ℕ) → lacks self.old n k → lacks self.new n k }
         ensures still { (k : ℕ) → is_used self.old k → is_used self.new k }
         ensures placed { places self.old self.new d (size_of shape.now.refs shape.now.nums) }
         ensures keeps { is_overflow self.old (size_of shape.now.refs shape.now.nums)
-            → keeps_region self.old self.new }
+            → keeps_hole self.old self.new }
         ensures region { (k : ℕ)
             → allocates_in self.old (size_of shape.now.refs shape.now.nums) k
             → allocates_in self.new (size_of shape.now.refs shape.now.nums) k }
@@ -470,11 +472,26 @@ pub trait Seat {
         ensures ready { is_ready self.new }
         ensures goes { goes self.old raises self.new };
 
-    // What keeps the region does so again.
-    ghost region_is_kept: { (a : Self) → keeps_region a a };
+    // Steps that change no region leave them as they are: the blocks in which the seat tries them
+    // and the hole region, too.
+    ghost regions_stay: { (a b : Self) (e : Effect) → goes a e b → e.moved ≡ false
+        → keeps_regions a b };
 
-    ghost region_stays_kept: { (a b c : Self) → keeps_region a b → keeps_region b c
-        → keeps_region a c };
+    ghost tried_blocks_stay: { (a b : Self) (n k : ℕ) → keeps_regions a b
+        → allocates_in a n k ↔ allocates_in b n k };
+
+    ghost overflows_stay: { (a b : Self) (n : ℕ) → keeps_regions a b → is_overflow a n
+        → is_overflow b n };
+
+    ghost hole_stays: { (a b : Self) → keeps_regions a b → keeps_hole a b };
+
+    ghost hole_stays_kept: { (a b c : Self) → keeps_hole a b → keeps_hole b c
+        → keeps_hole a c };
+
+    // While a mutator has an unused ticket below the allowance, some block is Free.
+    ghost free_block_is_left: { (a : Self) (t : ℕ) → is_ready a → (books a).ticket ≡ Some t
+        → t < (books a).allowance
+        → ((k : ℕ) → k < (books a).blocks → is_used a k) → ⊥ };
 
     // Loads follow one another, and so do effects.
     ghost looks_at_nothing: { (a : Self) → looks a a };

@@ -20,3 +20,4 @@ pub mod EmptyHeaps
 pub mod Ending
 pub mod SeenWords
 pub mod LoadedWords
+pub mod Left

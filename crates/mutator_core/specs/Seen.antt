@@ -16,6 +16,13 @@ pub record IsSeen (s : HeapState) (x : Loaded) : Type 0 where
   pub used : x.word % CLASS_UNIT ≢ 0 → HasKind s x.at kinds.Free → ⊥
   pub owned : 0 < x.word / OWNER_UNIT → 0 < owner_at s x.at
 
+-- the mutator loaded the word of block k, and it was not that of a Free block
+pub record HasSeenUsed (l : Local) (k : ℕ) : Type 0 where
+  pub loaded : Loaded
+  pub among : Contains l.blocks loaded
+  pub here : loaded.at ≡ k
+  pub used : loaded.word % CLASS_UNIT ≢ 0
+
 -- The stop word is 0, or the number of a mutator that raised a stop. Once a mutator loads it as not 0, it is unchanged.
 pub record AreSeen (p : Epoch) (s : HeapState) (locals : ℕ → Local) : Type 0 where
   pub stop : (word_at s 0 ≡ 0) ⊎ (Contains (numbers_of p.mutators) (word_at s 0)

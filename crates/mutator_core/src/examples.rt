@@ -20,8 +20,8 @@ use heap_layout::{MAX_BLOCKS, MIN_BLOCKS};
 use ideal_heap::MAX_MUTATORS;
 
 /// An allocation: a ticket, a Free block, the words of the object, its start bit. The last step
-/// makes the entry. A mutator may not draw a second ticket before it uses the first, and may not
-/// take a Free block without a ticket.
+/// makes the entry. A mutator may not draw a second ticket before it uses the first, may not take a
+/// Free block without a ticket, and may not begin an object while another one is unpublished.
 pub fn births_by_steps()
     ensures before { history (small_epoch NoGc) (first_machine (small_epoch NoGc))
         (log_of (small_epoch NoGc) (first_machine (small_epoch NoGc)) (birth_events 1)) ≡ [] }
@@ -38,6 +38,10 @@ pub fn births_by_steps()
     ensures early { IsLog (small_epoch NoGc) (first_machine (small_epoch NoGc))
         (log_of (small_epoch NoGc) (first_machine (small_epoch NoGc))
         ((1, event.TakeBlock 0 0 true) ∷ [])) → ⊥ }
+    ensures again { IsLog (small_epoch NoGc) (first_machine (small_epoch NoGc))
+        (log_of (small_epoch NoGc) (first_machine (small_epoch NoGc))
+        ((1, event.DrawTicket) ∷ (1, event.TakeBlock 0 0 true)
+        ∷ (1, event.Initialize 215 1 1 0) ∷ (1, event.Initialize 215 1 1 0) ∷ [])) → ⊥ }
 {}
 
 /// Two allocations in turns, in an epoch that begins with an empty heap. Mutator 2 finds the first
@@ -127,7 +131,7 @@ pub fn commands_one_after_another()
 {}
 
 /// A store into an old object, after the barrier cleared the object's unlog bit. Without the
-/// barrier the mutator may not make the store.
+/// barrier the mutator may not make the store. A register that is nil has no unlog bit to load.
 pub fn barriers_before_stores()
     ensures steps { IsLog old_object_epoch (first_machine old_object_epoch)
         (log_of old_object_epoch (first_machine old_object_epoch)
@@ -140,6 +144,9 @@ pub fn barriers_before_stores()
         (log_of old_object_epoch (first_machine old_object_epoch)
         ((1, event.LoadShape 0) ∷ (1, event.LoadCollector 0)
         ∷ (1, event.Perform (command.Put 0 0 0)) ∷ [])) → ⊥ }
+    ensures nil { IsLog old_object_epoch (first_machine old_object_epoch)
+        (log_of old_object_epoch (first_machine old_object_epoch)
+        ((1, event.LoadUnlog 1) ∷ [])) → ⊥ }
 {}
 
 /// Under each plan an epoch may begin with an empty heap and up to `MAX_MUTATORS` mutators that

@@ -1,17 +1,18 @@
 //! Laws of the mutator machine. Each holds after every log of an epoch, in any order of steps.
 
-ghost use Rattle.std.specs.Prelude.{◌≡◌, ◌≢◌, ◌⊎◌, ℕ, ◌<◌, ◌+◌, ◌^◌, Some, None, List, [], ◌∷◌, ◌++◌, IsTrue, slice_set};
+ghost use Rattle.std.specs.Prelude.{◌≡◌, ◌≢◌, ◌⊎◌, ℕ, ◌<◌, ◌≤◌, ◌+◌, ◌%◌, ◌^◌, Some, None, List, [], ◌∷◌, ◌++◌, IsTrue, true, false, if◌then◌else◌, slice_set};
 ghost use Rattle.std.specs.List.{Contains, AllByRecursion};
-ghost use Rattle.heap_layout.specs.Zones.{StartBits, block_at, IsAddress};
+ghost use Rattle.heap_layout.specs.Zones.{StartBits, Globals, first, block_at, IsAddress};
+ghost use Rattle.heap_layout.specs.declared.block.Kind.TheVariants as kinds;
 ghost use Rattle.ideal_heap.specs.declared.command.Command.{Command};
 ghost use Rattle.ideal_heap.specs.declared.command.Command.TheVariants as commands;
 ghost use Rattle.ideal_heap.specs.declared.reply.Reply.TheVariants as replies;
 ghost use Rattle.ideal_heap.specs.Ideal.{IdealHeap};
 ghost use Rattle.ideal_heap.specs.Runs.{entry, IsRun, after};
-ghost use Rattle.object_model.specs.Objects.{HeapState, with_words, size_of, IsHeld, IsInExtent, is_unlogged, name_at, refs_at, nums_at, word_at, owner_at};
+ghost use Rattle.object_model.specs.Objects.{HeapState, HasKind, with_words, size_of, IsHeld, IsInExtent, is_pinned, is_unlogged, name_at, refs_at, nums_at, ref_at, num_at, global_at, word_at, owner_at};
 ghost use Rattle.object_model.specs.Lawful.{IsWellFormed, FreeBlockIsClear, LineBitsAreExact};
 ghost use Rattle.object_model.specs.Graphs.{MutatorState, Represents, register_at, with_register};
-ghost use Rattle.object_model.specs.Changes.{ObjectsStay, ClearsUnlog};
+ghost use Rattle.object_model.specs.Changes.{ObjectsStay, SetsPin, ClearsUnlog};
 ghost use Rattle.object_model.specs.Steps.{TakesStep};
 ghost use Rattle.sessions.specs.Collecting.{Remembers};
 ghost use Rattle.sessions.specs.Fitting.{free_of};
@@ -24,13 +25,14 @@ ghost use Rattle.mutator_core.specs.declared.state.Extent.{Extent};
 ghost use Rattle.mutator_core.specs.declared.state.Loaded.{Loaded};
 ghost use Rattle.mutator_core.specs.Machine.{Epoch};
 ghost use Rattle.object_model.specs.BitWords.{bit_word};
-ghost use Rattle.mutator_core.specs.Guards.{allowance, IsPlace, BeginsRegion};
+ghost use Rattle.mutator_core.specs.Guards.{allowance, HasTicket, IsPlace, BeginsRegion};
 ghost use Rattle.mutator_core.specs.Histories.{history, entry_of, entries_of, reply_in};
-ghost use Rattle.mutator_core.specs.Seen.{IsSeen, IsLoaded};
-ghost use Rattle.mutator_core.specs.Tickets.{taken_by, drawn_by, allowed_to, smaller};
+ghost use Rattle.mutator_core.specs.Seen.{IsSeen, HasSeenUsed, IsLoaded};
+ghost use Rattle.mutator_core.specs.Tickets.{tickets_below, taken_by, drawn_by, allowed_to, smaller};
 ghost use Rattle.mutator_core.specs.Closing.{GivesBack};
 ghost use Rattle.mutator_core.specs.Logs.{IsEpochLog, machine_after, heap_after, mutators_after, local_after_log, history_of, IsUnpublishedWord, HasAvailable, IsUntaken, IsTaken, IsOwnedBy, IsListed, sum_after, HasRaised, AreBetweenCalls, IsStoppedAfter};
 
+use heap_layout::GLOBALS;
 use ideal_heap::REGISTERS;
 use object_model::HEADER_WORDS;
 
@@ -48,12 +50,50 @@ pub fn entries_are_made_at_one_step()
         → entries_of s x ≡ [] }
 {}
 
-/// A command that allocates nothing takes a step of its mutator, in any heap. Clearing an unlog bit
-/// leaves the objects where they are.
-pub fn commands_take_steps()
+/// A command on registers and globals takes a step of its mutator, in any heap.
+pub fn registers_take_steps()
     ensures move_register { (s : HeapState) (m : MutatorState) (d e : ℕ) → d < REGISTERS
         → e < REGISTERS → TakesStep s m (commands.Move d e) replies.Done s
         (with_register m d (register_at m e)) }
+    ensures drop_register { (s : HeapState) (m : MutatorState) (e : ℕ) → e < REGISTERS
+        → TakesStep s m (commands.DropReg e) replies.Done s (with_register m e 0) }
+    ensures load_nil { (s : HeapState) (m : MutatorState) (d g : ℕ) → d < REGISTERS
+        → g < GLOBALS → global_at s g ≡ 0
+        → TakesStep s m (commands.Load d g) replies.Nil s (with_register m d 0) }
+    ensures load { (s : HeapState) (m : MutatorState) (d g : ℕ) → d < REGISTERS
+        → g < GLOBALS → global_at s g ≢ 0
+        → TakesStep s m (commands.Load d g) (replies.Ref (name_at s (global_at s g))) s
+        (with_register m d (global_at s g)) }
+    ensures share { (s : HeapState) (m : MutatorState) (g e : ℕ) → g < GLOBALS → e < REGISTERS
+        → TakesStep s m (commands.Share g e) replies.Done
+        (with_words s (slice_set s.words (first s.blocks Globals + g) (register_at m e))) m }
+{}
+
+/// A command that reads an object of a register takes a step of its mutator, in any heap, and so
+/// does a `swap` that finds another number.
+pub fn reads_take_steps()
+    ensures get_nil { (s : HeapState) (m : MutatorState) (d e i : ℕ) → d < REGISTERS
+        → e < REGISTERS → register_at m e ≢ 0 → i < refs_at s (register_at m e)
+        → ref_at s (register_at m e) i ≡ 0
+        → TakesStep s m (commands.Get d e i) replies.Nil s (with_register m d 0) }
+    ensures get { (s : HeapState) (m : MutatorState) (d e i : ℕ) → d < REGISTERS
+        → e < REGISTERS → register_at m e ≢ 0 → i < refs_at s (register_at m e)
+        → ref_at s (register_at m e) i ≢ 0
+        → TakesStep s m (commands.Get d e i)
+        (replies.Ref (name_at s (ref_at s (register_at m e) i))) s
+        (with_register m d (ref_at s (register_at m e) i)) }
+    ensures read { (s : HeapState) (m : MutatorState) (e j : ℕ) → e < REGISTERS
+        → register_at m e ≢ 0 → j < nums_at s (register_at m e)
+        → TakesStep s m (commands.Read e j) (replies.Num (num_at s (register_at m e) j)) s m }
+    ensures swap_no { (s : HeapState) (m : MutatorState) (e j was next : ℕ) → e < REGISTERS
+        → register_at m e ≢ 0 → j < nums_at s (register_at m e)
+        → num_at s (register_at m e) j ≢ was
+        → TakesStep s m (commands.Swap e j was next) replies.No s m }
+{}
+
+/// A command that changes an object takes a step of its mutator, in any well-formed heap; a pin may
+/// change in any heap. Clearing an unlog bit leaves the objects where they are.
+pub fn commands_take_steps()
     ensures write { (s : HeapState) (m : MutatorState) (e j v : ℕ) → IsWellFormed s
         → IsHeld s (register_at m e) → e < REGISTERS → register_at m e ≢ 0
         → j < nums_at s (register_at m e) → v < 2 ^ 64
@@ -64,6 +104,27 @@ pub fn commands_take_steps()
         → i < refs_at s (register_at m e)
         → TakesStep s m (commands.Put e i q) replies.Done (with_words s (slice_set s.words
         (register_at m e + HEADER_WORDS + i) (register_at m q))) m }
+    ensures add { (s : HeapState) (m : MutatorState) (e j n : ℕ) → IsWellFormed s
+        → IsHeld s (register_at m e) → e < REGISTERS → register_at m e ≢ 0
+        → j < nums_at s (register_at m e)
+        → TakesStep s m (commands.Add e j n) (replies.Num (num_at s (register_at m e) j))
+        (with_words s (slice_set s.words (register_at m e + HEADER_WORDS
+        + refs_at s (register_at m e) + j) ((num_at s (register_at m e) j + n) % 2 ^ 64))) m }
+    ensures swap { (s : HeapState) (m : MutatorState) (e j was next : ℕ) → IsWellFormed s
+        → IsHeld s (register_at m e) → e < REGISTERS → register_at m e ≢ 0
+        → j < nums_at s (register_at m e) → num_at s (register_at m e) j ≡ was
+        → next < 2 ^ 64
+        → TakesStep s m (commands.Swap e j was next) replies.Yes (with_words s
+        (slice_set s.words (register_at m e + HEADER_WORDS + refs_at s (register_at m e) + j)
+        next)) m }
+    ensures pin { (s new : HeapState) (m : MutatorState) (e : ℕ) → e < REGISTERS
+        → register_at m e ≢ 0 → SetsPin s new (register_at m e) true
+        → TakesStep s m (commands.Pin e)
+        (if is_pinned s (register_at m e) then replies.No else replies.Yes) new m }
+    ensures unpin { (s new : HeapState) (m : MutatorState) (e : ℕ) → e < REGISTERS
+        → register_at m e ≢ 0 → SetsPin s new (register_at m e) false
+        → TakesStep s m (commands.Unpin e)
+        (if is_pinned s (register_at m e) then replies.Yes else replies.No) new m }
     ensures log { (s : HeapState) (words : List ℕ) (a : ℕ)
         → ClearsUnlog s (with_words s words) a → ObjectsStay s (with_words s words) }
 {}
@@ -243,6 +304,22 @@ pub fn tickets_are_counted()
     ensures distinct { (p : Epoch) (i : IdealHeap) (log : List LogEntry) → IsEpochLog p i log
         → (m n t : ℕ) → (local_after_log p log m).ticket ≡ Some t
         → (local_after_log p log n).ticket ≡ Some t → m ≡ n }
+{}
+
+/// There are at least as many Free blocks as unused tickets below the allowance. So while a mutator
+/// has such a ticket, some block is Free, and no mutator has seen that each block is not Free: a
+/// search for a Free block with such a ticket is not in vain.
+pub fn tickets_leave_free_blocks()
+    ensures enough { (p : Epoch) (i : IdealHeap) (log : List LogEntry) → IsEpochLog p i log
+        → sum_after (λ l. tickets_below (allowance p) l.ticket) p log
+        ≤ free_of (heap_after p log) }
+    ensures left { (p : Epoch) (i : IdealHeap) (log : List LogEntry) → IsEpochLog p i log
+        → (m : ℕ) → HasTicket p (local_after_log p log m)
+        → (k : ℕ) × HasKind (heap_after p log) k kinds.Free }
+    ensures seen { (p : Epoch) (i : IdealHeap) (log : List LogEntry) → IsEpochLog p i log
+        → (m n : ℕ) → HasTicket p (local_after_log p log m)
+        → ((k : ℕ) → k < p.before.blocks → HasSeenUsed (local_after_log p log n) k)
+        → ⊥ }
 {}
 
 /// If each mutator of the epoch is between two calls and the mutators give back their blocks, the

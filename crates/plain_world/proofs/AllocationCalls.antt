@@ -3,23 +3,25 @@ use Rattle.std.proofs.Common.{◌≡◌, refl, sym, ◌∙◌, ap, subst, ℕ, �
 use Rattle.std.specs.Prelude.{Option, Some, None, slice_get, slice_index}
 use Rattle.ideal_heap.specs.declared.name.Name.{Name}
 use Rattle.heap_layout.specs.Zones.{block_start}
+use Rattle.heap_layout.specs.declared.block.Kind.{Kind}
 use Rattle.heap_layout.specs.declared.region.Region.{Region}
 use Rattle.object_model.specs.Objects.{state_of, word_at, owner_at}
-use Rattle.sessions.specs.Fitting.{HasCellFor}
+use Rattle.sessions.specs.Fitting.{HasCellFor, class_for}
 use Rattle.mutator_calls.specs.declared.need.Need.{Need}
 use Rattle.mutator_calls.specs.declared.need.NeedCause.{NeedCause}
-use Rattle.mutator_calls.specs.declared.need.NeedCause.TheVariants.{Large, Budget, Seen}
+use Rattle.mutator_calls.specs.declared.need.NeedCause.TheVariants.{Large, Budget}
 use Rattle.mutator_calls.specs.declared.need.Allocated.{Allocated}
 use Rattle.mutator_calls.specs.declared.need.Allocated.TheVariants.{Made, Stop}
 use Rattle.mutator_calls.proofs.Finding.{finds-later}
 use Rattle.mutator_calls.specs.Allocating.{Books, FindsRoom, IsCause, MatchAllocated}
 use Rattle.plain_world.specs.declared.plain_row.PlainRow.{PlainRow}
+use Rattle.plain_world.specs.declared.plain_row.PlainSeat.{PlainSeat}
 use Rattle.plain_world.specs.declared.plain_row.BlockNote.{BlockNote}
 use Rattle.plain_world.specs.declared.plain_row.BlockNote.TheVariants.{Unowned, Owned}
 use Rattle.plan_api.specs.declared.cursors.Cursors.{Cursors}
-use Rattle.plan_api.specs.Cursors.{PlacesInRegion}
+use Rattle.plan_api.specs.Cursors.{TriesOverflow, PlacesInRegion}
 use Rattle.plain_world.specs.Rows.{number_of, births_of, registers_of, ticket_of, seat_at_turn}
-use Rattle.plain_world.specs.TwoRegions.{FillsLines, cursors_of, TriesBlock, LacksBlock, LacksRegions}
+use Rattle.plain_world.specs.TwoRegions.{FillsLines, cursors_of, GoesOver, KeepsOthers, TriesBlock, LacksBlock, LacksRegions}
 use Rattle.plain_world.proofs.Turns.{block-one}
 use Rattle.mutator_calls.specs.Effects.{nothing}
 use Rattle.plain_world.specs.Worlds.{Goes}
@@ -80,10 +82,9 @@ pub finds-weaker : (lacks lacks' used before now now' next next' : ℕ → Type 
 finds-weaker lacks lacks' used before now now' next next' full spent overflow kept kept' blocks allowance old new taken granted drawn weaker here follows keeps found =
     finds-later lacks used lacks' used before now now' next next' full spent overflow kept kept' blocks allowance old new new taken granted drawn weaker (λ k is. is) here follows keeps refl found
 
-pub cause-weaker : (books : Books) (P Q R : ℕ → Type 0) (size : ℕ) (cause : NeedCause) → ((k : ℕ) → P k → Q k) → IsCause books P R size cause → IsCause books Q R size cause
-cause-weaker books P Q R size Large weaker is = is
-cause-weaker books P Q R size (Budget t) weaker is = (is.0, (λ k below. weaker k (is.1 k below)), is.2, is.3)
-cause-weaker books P Q R size Seen weaker is = (is.0, (λ k below. weaker k (is.1 k below)), is.2, is.3)
+pub cause-weaker : (books : Books) (P Q : ℕ → Type 0) (size : ℕ) (cause : NeedCause) → ((k : ℕ) → P k → Q k) → IsCause books P size cause → IsCause books Q size cause
+cause-weaker books P Q size Large weaker is = is
+cause-weaker books P Q size (Budget t) weaker is = (is.0, (λ k below. weaker k (is.1 k below)), is.2, is.3)
 
 region-read : (old new : ℕ) (r q : Region) → Some (Owned old r) ≡ Some (Owned new q) → r ≡ q
 region-read old new r q is = ap of is
@@ -92,6 +93,28 @@ region-read old new r q is = ap of is
     of None = r
     of (Some (Unowned least)) = r
     of (Some (Owned owner region)) = region
+
+-- from two steps of an allocation, in `mid` by the regions as the object was placed, the other regions stay
+rest-kept : (fill then : Kind) (size : ℕ) (before : Cursors) (n0 : List BlockNote) (s0 : Option PlainSeat) (n1 : List BlockNote) (s1 : Option PlainSeat)
+    (n2 : List BlockNote) (s2 : Option PlainSeat) → then ≡ fill → before ≡ cursors_of n1 s1
+    → KeepsOthers then size (GoesOver then n1 s1 size) n0 s0 n1 s1 → KeepsOthers then size (GoesOver then n1 s1 size) n1 s1 n2 s2
+    → KeepsOthers fill size (FillsLines fill × TriesOverflow before size) n0 s0 n2 s2
+rest-kept fill then size before n0 s0 n1 s1 n2 s2 same are first next = record {
+  classes = λ class free.
+      let yet : class ≡ class_for then size → GoesOver then n1 s1 size = λ is. into (free (is ∙ ap (λ f. class_for f size) same)) in
+      let x = first.classes class yet in let y = next.classes class yet in
+      record { block = y.block ∙ x.block; region = y.region ∙ x.region };
+  over_stays = λ none.
+      let still : GoesOver then n1 s1 size → ⊥ = λ is. none (outof is) in
+      let x = first.over_stays still in let y = next.over_stays still in
+      record { block = y.block ∙ x.block; region = y.region ∙ x.region };
+}
+  where
+    into : FillsLines fill × TriesOverflow before size → GoesOver then n1 s1 size
+    into is = record { lines = same ∙ is.0; tried = subst (λ c. TriesOverflow c size) are is.1 }
+
+    outof : GoesOver then n1 s1 size → FillsLines fill × TriesOverflow before size
+    outof is = (sym same ∙ is.lines, subst (λ c. TriesOverflow c size) (sym are) is.tried)
 
 -- where the new object lies
 pub record IsPlaced (a b : PlainRow) (m d size : ℕ) : Type 0 where
@@ -102,10 +125,12 @@ pub record IsPlaced (a b : PlainRow) (m d size : ℕ) : Type 0 where
   pub current : TriesBlock b.fill (slice_get b.seats.items m) size block
   pub cell : HasCellFor b.fill (state_of b.row) block offset size
   pub spot : IsOffer (record a { turn = m }) block offset size
-  pub region : FillsLines b.fill → (before : Cursors) × PlacesInRegion before (cursors_of b.notes.items (slice_get b.seats.items m)) size block offset
+  pub before : Cursors
+  pub region : FillsLines b.fill → PlacesInRegion before (cursors_of b.notes.items (slice_get b.seats.items m)) size block offset
+  pub others : KeepsOthers a.fill size (FillsLines a.fill × TriesOverflow before size) a.notes.items (slice_get a.seats.items m) b.notes.items (slice_get b.seats.items m)
 
-pub placed-at : (a mid b : PlainRow) (m d size : ℕ) → b.turn ≡ m → Offers (record a { turn = m }) mid size → PlacesObject mid b d size → IsPlaced a b m d size
-placed-at a mid b m d size turn offers places =
+pub placed-at : (a mid b : PlainRow) (m d size : ℕ) → b.turn ≡ m → b.fill ≡ a.fill → Offers (record a { turn = m }) mid size → PlacesObject mid b d size → IsPlaced a b m d size
+placed-at a mid b m d size turn fill offers places =
     let block : offers.block ≡ places.block
     = block-one mid.fill mid.notes.items (seat_at_turn mid) size offers.block places.block offers.now.current places.now.current in
     let region : offers.region ≡ places.region = region-read _ _ offers.region places.region
@@ -119,9 +144,11 @@ placed-at a mid b m d size turn offers places =
       cell = places.cell;
       spot = subst (λ k. IsOffer (record a { turn = m }) k places.region.next size) block
           (subst (λ r. IsOffer (record a { turn = m }) offers.block r.next size) region offers.offer);
-      region = λ lines. (
-        cursors_of mid.notes.items (seat_at_turn mid),
-        subst (λ t. PlacesInRegion (cursors_of mid.notes.items (seat_at_turn mid)) (cursors_of b.notes.items (slice_get b.seats.items t)) size places.block places.region.next) turn
-            (places.region_after lines),
-      );
+      before = cursors_of mid.notes.items (seat_at_turn mid);
+      region = λ lines. subst (λ t. PlacesInRegion (cursors_of mid.notes.items (seat_at_turn mid)) (cursors_of b.notes.items (slice_get b.seats.items t)) size places.block places.region.next)
+          turn (places.region_after lines);
+      others = rest-kept a.fill mid.fill size (cursors_of mid.notes.items (seat_at_turn mid)) a.notes.items (slice_get a.seats.items m) mid.notes.items (seat_at_turn mid)
+          b.notes.items (slice_get b.seats.items m) (sym places.fill ∙ fill) refl offers.others
+          (subst (λ t. KeepsOthers mid.fill size (GoesOver mid.fill mid.notes.items (seat_at_turn mid) size) mid.notes.items (seat_at_turn mid) b.notes.items (slice_get b.seats.items t))
+          turn places.others);
     }

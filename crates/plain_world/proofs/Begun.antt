@@ -141,6 +141,7 @@ module _ (r : Rules) (s : HeapState) (ms : List MutatorState) (w : PlainRow) (be
   no-cursors number = record {
     classes = refl;
     each = λ class block is. absurd (let wrong : Some block ≡ None = get-copy CLASSES None (Some block) class is in cc);
+    lined = λ block is. absurd (let wrong : None ≡ Some block = is in cc);
     over = λ lines block is. absurd (let wrong : None ≡ Some block = is in cc);
     apart = λ lines block is. absurd (let wrong : None ≡ Some block = is in cc);
   }

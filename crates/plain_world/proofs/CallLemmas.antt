@@ -1,5 +1,5 @@
 -- From the effect of a mutator's steps to what a call of the world promises.
-use Rattle.std.proofs.Common.{◌≡◌, ◌≢◌, refl, sym, ◌∙◌, ap, subst, ℕ, ◌+◌, ◌<◌, ◌⊎◌, inl, inr, List, [], ◌∷◌, ◌++◌, map, length, true, false}
+use Rattle.std.proofs.Common.{◌≡◌, ◌≢◌, refl, sym, ◌∙◌, ap, subst, ℕ, ◌+◌, ◌<◌, ◌⊎◌, inl, inr, arith, List, [], ◌∷◌, ◌++◌, map, length, true, false}
 use Rattle.std.specs.List.{Contains}
 use Rattle.std.proofs.lemmas.List.{length-map}
 use Rattle.object_model.specs.Objects.{HeapState, state_of, word_at, IsHeld, is_unlogged}
@@ -7,7 +7,7 @@ use Rattle.object_model.specs.Graphs.{numbers_of}
 use Rattle.object_model.specs.Ages.{is_old}
 use Rattle.mutator_core.proofs.Ending.{log-seen}
 use Rattle.mutator_core.proofs.Regions.{stays-later}
-use Rattle.std.specs.Prelude.{slice_get}
+use Rattle.std.specs.Prelude.{Option, Some, None, slice_get}
 use Rattle.ideal_heap.specs.Ideal.{IdealHeap}
 use Rattle.ideal_heap.specs.Runs.{Entry, entry}
 use Rattle.mutator_core.specs.declared.state.LogEntry.{LogEntry}
@@ -17,7 +17,13 @@ use Rattle.mutator_core.specs.Logs.{machine_after, heap_after}
 use Rattle.mutator_calls.specs.declared.need.Mutator.{Mutator}
 use Rattle.mutator_calls.specs.Effects.{Effect}
 use Rattle.plain_world.specs.declared.plain_row.PlainRow.{PlainRow}
-use Rattle.plain_world.specs.Rows.{address_at, number_of, births_of, ticket_of, mutator_state}
+use Rattle.plain_world.specs.declared.plain_row.PlainSeat.{PlainSeat}
+use Rattle.plain_world.specs.declared.plain_row.BlockNote.{BlockNote}
+use Rattle.plain_world.specs.Rows.{address_at, number_of, births_of, ticket_of, block_of, mutator_state}
+use Rattle.plain_world.specs.Notes.{IsRegionOf}
+use Rattle.plain_world.specs.TwoRegions.{KeepsRegions, region_of, region_noted}
+use Rattle.plain_world.proofs.Lists.{get-some, get-below}
+use Rattle.plain_world.proofs.Turns as turns
 use Rattle.plain_world.specs.Steps.{IsBarred}
 use Rattle.plain_world.specs.Worlds.{IsAt, IsIdle, IsAfter, Goes, births_in}
 use Rattle.plain_world.specs.SeatLaws.{history-append}
@@ -39,16 +45,14 @@ at-turn p i log a m at = record {
   lists = record { owned = at.lists.owned; room = at.lists.room; counts = at.lists.counts };
 }
 
--- the mutators keep their places, and the kind of blocks to fill
+-- the mutators keep their places
 pub places-same : (a b : PlainRow) (m : ℕ) (e : Effect) → IsIdle a → Goes (record a { turn = m }) e b
     → (length b.mutators.items ≡ length a.mutators.items) × (map (λ x. x.number) b.mutators.items ≡ map (λ x. x.number) a.mutators.items)
-    × (b.fill ≡ a.fill)
 places-same a b m e idle goes =
     let now = goes.steps idle.some.epoch idle.some.ideal idle.some.log (at-turn idle.some.epoch idle.some.ideal idle.some.log a m idle.some.at) in
     let same = now.at.numbers ∙ sym idle.some.at.numbers in (
       sym (length-map b.mutators.items (λ x. x.number)) ∙ ap length same ∙ length-map a.mutators.items (λ x. x.number),
       same,
-      now.at.fill ∙ sym idle.some.at.fill,
     )
 
 -- and the plan its rules
@@ -117,6 +121,52 @@ pub ticket-after : (a b : PlainRow) (m : ℕ) (e : Effect) → Goes (record a { 
     → ticket_of (slice_get b.seats.items m) ≡ ticket_of (slice_get a.seats.items m)
 ticket-after a b m e goes none kept = ap (λ t. ticket_of (slice_get b.seats.items t)) (sym goes.turn) ∙ goes.ticket none kept
 
-pub others-after : (a b : PlainRow) (m : ℕ) (e : Effect) → Goes (record a { turn = m }) e b → (k : ℕ) → k ≢ m
-    → (slice_get b.mutators.items k ≡ slice_get a.mutators.items k) × (ticket_of (slice_get b.seats.items k) ≡ ticket_of (slice_get a.seats.items k))
-others-after a b m e goes k other = let same = goes.others k other in (same.0, ap ticket_of same.1)
+pub regions-after : (a b : PlainRow) (m : ℕ) (e : Effect) → Goes (record a { turn = m }) e b → e.moved ≡ false
+    → KeepsRegions a.notes.items (slice_get a.seats.items m) b.notes.items (slice_get b.seats.items m)
+regions-after a b m e goes still = subst (λ t. KeepsRegions a.notes.items (slice_get a.seats.items m) b.notes.items (slice_get b.seats.items t)) goes.turn (goes.regions still)
+
+pub regions-same : (notes : List BlockNote) (seat : Option PlainSeat) → KeepsRegions notes seat notes seat
+regions-same notes seat = record { classes = λ class. record { block = refl; region = refl }; over = record { block = refl; region = refl } }
+
+-- a region stays if the note of its block does
+region-stays : (notes later : List BlockNote) (o : Option ℕ) → ((d : ℕ) → o ≡ Some d → slice_get later d ≡ slice_get notes d) → region_of later o ≡ region_of notes o
+region-stays notes later None same = refl
+region-stays notes later (Some d) same = ap region_noted (same d refl)
+
+-- of another mutator all stays: number, births and registers, its seat, and its regions
+module _ (a b : PlainRow) (m : ℕ) (e : Effect) (idle : IsIdle a) (place : m < length a.mutators.items) (goes : Goes (record a { turn = m }) e b) (k : ℕ) (other : k ≢ m) where
+  -- a block that it owns keeps its note
+  block-stays : (x : PlainSeat) → slice_get a.seats.items k ≡ Some x → (d : ℕ) → ((q : Mutator) → slice_get a.mutators.items k ≡ Some q → IsRegionOf a.notes.items q.number d)
+      → slice_get b.notes.items d ≡ slice_get a.notes.items d
+  block-stays x sits d owns =
+      let now = idle.some in
+      let below : k < length a.seats.items = get-below a.seats.items k x sits in
+      let count : length a.seats.items ≡ length a.mutators.items = now.at.seats in
+      let theirs = get-some a.mutators.items k (omega arith) in
+      let mine = get-some a.mutators.items m place in
+      let has = owns theirs.0 theirs.1 in
+      goes.foreign d theirs.0.number has.region
+      (λ same. other (turns.differ now.epoch now.ideal now.log a now.at k m theirs.0 mine.0 theirs.1 mine.1 (same ∙ ap number_of mine.1))) has.note ∙ sym has.note
+
+  seat-keeps : (o : Option PlainSeat) → slice_get a.seats.items k ≡ o → KeepsRegions a.notes.items o b.notes.items o
+  seat-keeps None sits = record { classes = λ class. record { block = refl; region = refl }; over = record { block = refl; region = refl } }
+  seat-keeps (Some x) sits = let now = idle.some in record {
+    classes = λ class. record {
+      block = refl;
+      region = region-stays a.notes.items b.notes.items (block_of (Some x) class) (λ d there. block-stays x sits d
+          (λ q is. ((now.at.cursors k q x is sits).each class d (turns.set-in x.blocks class d there)).0));
+    };
+    over = record {
+      block = refl;
+      region = region-stays a.notes.items b.notes.items x.over (λ d there. block-stays x sits d
+          (λ q is. let has = now.at.cursors k q x is sits in has.over (has.lined d there) d there));
+    };
+  }
+
+  pub others-after : (slice_get b.mutators.items k ≡ slice_get a.mutators.items k) × (slice_get b.seats.items k ≡ slice_get a.seats.items k)
+      × KeepsRegions a.notes.items (slice_get a.seats.items k) b.notes.items (slice_get b.seats.items k)
+  others-after = let same = goes.others k other in (
+    same.0,
+    same.1,
+    subst (λ o. KeepsRegions a.notes.items (slice_get a.seats.items k) b.notes.items o) (sym same.1) (seat-keeps (slice_get a.seats.items k) refl),
+  )

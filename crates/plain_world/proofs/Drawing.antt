@@ -8,7 +8,7 @@ use Rattle.object_model.specs.Graphs.{numbers_of}
 use Rattle.object_model.proofs.OneKind.{kind-within}
 use Rattle.heap_layout.specs.declared.block.Kind.{Kind}
 use Rattle.heap_layout.specs.declared.block.Kind.TheVariants as kinds
-use Rattle.sessions.specs.Fitting.{HasHole, free_of}
+use Rattle.sessions.specs.Fitting.{HasHole, class_for, free_of}
 use Rattle.mutator_core.specs.declared.state.LogEntry.{LogEntry}
 use Rattle.mutator_core.specs.declared.state.Local.{Local}
 use Rattle.mutator_core.specs.declared.state.Event.TheVariants as e
@@ -23,11 +23,14 @@ use Rattle.plain_world.specs.Rows.{ChangesAt, number_at_turn, seat_at_turn, muta
 use Rattle.plain_world.specs.declared.plain_row.PlainSeat.{PlainSeat}
 use Rattle.plain_world.specs.declared.plain_row.BlockNote.TheVariants.{Owned}
 use Rattle.plain_world.specs.Notes.{IsRegionOf}
-use Rattle.plain_world.specs.TwoRegions.{FillsLines, region_of, LacksLines, OffersLines}
+use Rattle.plain_world.specs.TwoRegions.{FillsLines, GoesOver, region_of, LacksLines, OffersLines, KeepsRegions}
 use Rattle.plain_world.proofs.BlockFrames.{SameLines}
-use Rattle.plain_world.proofs.Offering.{KeepsSeat, still-lacks, seat-keeps, seat-tries, still-overflows, offered-lines}
+use Rattle.plain_world.proofs.LineLacks.{lines-lack-still, same-shrinks}
+use Rattle.plain_world.proofs.Offering.{KeepsSeat, still-lacks, offered-lines}
 use Rattle.plain_world.specs.Worlds.{IsAt, IsInEpoch, IsReady, Goes}
-use Rattle.plain_world.specs.Steps.{AllocatesIn, Lacks, IsOverflow, KeepsRegion, Offers, IsOffer, books_of}
+use Rattle.plain_world.specs.Steps.{Lacks, IsFull, Offers, IsOffer, books_of}
+use Rattle.plain_world.specs.SeatLaws.{same-keeps, others-after, cursors-same}
+use Rattle.plan_api.specs.Cursors.{LacksRoom}
 use Rattle.mutator_calls.specs.Allocating.{Books}
 use Rattle.plain_world.proofs.Regions.{hole-kind}
 use Rattle.plain_world.proofs.Stepping as stepping
@@ -217,14 +220,8 @@ module _ (a b : PlainRow) (draws : DrawsTicket a b) (ready : IsReady a) (none : 
     lines = lines-same;
   }
 
-  pub drawn-keeps : KeepsRegion a b
-  drawn-keeps = seat-keeps a b keeps-seat ready region-same
-
-  pub drawn-tries : (n k : ℕ) → AllocatesIn b n k → AllocatesIn a n k
-  drawn-tries n k = seat-tries a b keeps-seat ready n k
-
-  pub drawn-overflow : (n : ℕ) → IsOverflow a n → IsOverflow b n
-  drawn-overflow = still-overflows a b (ap (λ w. w.fill) draws.rest) drawn-keeps
+  regions-same : KeepsRegions a.notes.items (seat_at_turn a) b.notes.items (seat_at_turn b)
+  regions-same = same-keeps a.notes.items b.notes.items (seat_at_turn a) (seat_at_turn b) notes-same block-same over-same
 
   pub drawn-goes : Goes a (draw_effect 1) b
   drawn-goes = entering.goes-with a ready [] 1 false b (ap (λ w. w.turn) draws.rest) (ap number_at_turn draws.rest) reach
@@ -232,6 +229,7 @@ module _ (a b : PlainRow) (draws : DrawsTicket a b) (ready : IsReady a) (none : 
   pub drawn-ready : IsReady b
   drawn-ready = entering.still-ready-with a ready [] 1 false b (ap (λ w. w.turn) draws.rest) (ap (λ w. w.notes) draws.rest) reach
 
+  -- what lacks room lacks it still
   pub drawn-lacks : (n k : ℕ) → Lacks a n k → Lacks b n k
   drawn-lacks n k =
       let now = ready.idle.some in
@@ -244,6 +242,35 @@ module _ (a b : PlainRow) (draws : DrawsTicket a b) (ready : IsReady a) (none : 
       (λ at size hole. subst (λ (t : HeapState). HasHole a.fill t k at size) (sym now.at.heap)
       (notes.hole-before (heap_after p now.log) ws keeps a.fill now.at.fills k at size (subst (λ (t : HeapState). HasHole a.fill t k at size) is hole)))
       (λ lines. still-lacks a b keeps-seat ready n k (region-same k))
+
+  -- and did before
+  pub drawn-lacked : (n k : ℕ) → Lacks b n k → Lacks a n k
+  drawn-lacked n k =
+      let now = ready.idle.some in
+      let p = now.epoch in
+      let ws : List ℕ = (next p (machine_after p now.log) (number_at_turn a) e.DrawTicket).words in
+      let keeps = draws-keeps p now.ideal now.log now.at in
+      let is = words p now.ideal now.log now.at in
+      lacks-after b a n k (sym (ap (λ w. w.fill) draws.rest)) (sym (ap number_at_turn draws.rest))
+      (λ there. ap (λ t. owner_at t k) now.at.heap ∙ ap (λ v. v / 65536) (sym (keeps.words k (subst (λ (t : HeapState). k < t.blocks) now.at.heap there))) ∙ ap (λ t. owner_at t k) (sym is))
+      (λ at size hole. subst (λ (t : HeapState). HasHole b.fill t k at size) (sym is)
+      (subst (λ (f : Kind). HasHole f (with_words (heap_after p now.log) ws) k at size) (sym (ap (λ w. w.fill) draws.rest))
+      (notes.hole-after (heap_after p now.log) ws keeps a.fill now.at.fills k at size (subst (λ (t : HeapState). HasHole a.fill t k at size) now.at.heap
+      (subst (λ (f : Kind). HasHole f (state_of a.row) k at size) (ap (λ w. w.fill) draws.rest) hole)))))
+      (λ lines. lines-lack-still b.notes.items a.notes.items (seat_at_turn b) (seat_at_turn a) (state_of b.row) (state_of a.row) n k
+      (λ here. block-same 0 ∙ here) (λ over. over-same ∙ over)
+      (same-shrinks (region_of b.notes.items (Some k)) (region_of a.notes.items (Some k)) (sym (region-same k)))
+      (λ kind. kind-same k ∙ kind)
+      (λ here line few. sym (lines-same k (turns.own-region now.epoch now.ideal now.log a now.at ready.turn 0 k here).0 line few)))
+
+  -- no region that was full has room
+  pub drawn-full : (n : ℕ) → IsFull a n → IsFull b n
+  drawn-full n full = record {
+    own = λ not k is. drawn-lacks n k (full.own (λ lines. not (ap (λ w. w.fill) draws.rest ∙ lines)) k
+        (sym (block-same (class_for a.fill n)) ∙ ap (λ (f : Kind). block_of (seat_at_turn b) (class_for f n)) (sym (ap (λ w. w.fill) draws.rest)) ∙ is));
+    lines = λ is. subst (λ c. LacksRoom c n) (sym (cursors-same a.notes.items b.notes.items (seat_at_turn a) (seat_at_turn b) regions-same))
+        (full.lines (sym (ap (λ w. w.fill) draws.rest) ∙ is));
+  }
 
   pub drawn-offers : (c : PlainRow) (n : ℕ) → Offers b c n → Offers a c n
   drawn-offers c n offers =
@@ -265,6 +292,8 @@ module _ (a b : PlainRow) (draws : DrawsTicket a b) (ready : IsReady a) (none : 
             ((reach p now.ideal now.log now.at).kinds offers.block)
             (offered-lines a b keeps-seat ready region-same offers.block offers.region.next n)
             offers.offer;
+        others = others-after c.fill n (GoesOver c.fill c.notes.items (seat_at_turn c) n) a.notes.items b.notes.items c.notes.items
+            (seat_at_turn a) (seat_at_turn b) (seat_at_turn c) regions-same offers.others;
       }
 
   pub drawn-books : books_of b ≡ record (books_of a) { ticket = Some (word_at (state_of a.row) 1) }

@@ -1,6 +1,6 @@
 -- Steps of the mutator whose turn it is, as effects.
 use Rattle.std.proofs.Common.{◌≡◌, ◌≢◌, refl, sym, ◌∙◌, ap, subst, ℕ, ◌+◌, ◌<◌, inl, inr, arith, Bool, true, false, ◌&&◌, not, List, [], ◌∷◌, ◌++◌, map, length, add-zero}
-use Rattle.std.specs.Prelude.{slice_get, slice_index, slice_set, if◌then◌else◌}
+use Rattle.std.specs.Prelude.{None, unwrap_or, slice_get, slice_index, slice_set, if◌then◌else◌}
 use Rattle.heap_layout.specs.declared.block.Kind.TheVariants as kinds
 use Rattle.ideal_heap.specs.Ideal.{IdealHeap}
 use Rattle.ideal_heap.specs.Runs.{entry}
@@ -24,10 +24,10 @@ use Rattle.mutator_core.proofs.Spots.{takes_block, clears_unlog, draws_ticket, r
 use Rattle.mutator_core.proofs.Moments.{same-words}
 use Rattle.mutator_calls.specs.Effects.{Effect, Answered}
 use Rattle.plain_world.specs.declared.plain_row.PlainRow.{PlainRow}
-use Rattle.plain_world.specs.Rows.{IsTurn, SetsRegister, number_of, births_of, registers_of, ticket_of, mutator_at_turn, seat_at_turn, number_at_turn, blocks_of, over_of, address_at}
+use Rattle.plain_world.specs.Rows.{IsTurn, SetsRegister, number_of, births_of, registers_of, ticket_of, mutator_at_turn, seat_at_turn, number_at_turn, blocks_of, block_of, over_of, address_at}
 use Rattle.plain_world.specs.Changes.{StoresWord}
 use Rattle.plain_world.specs.Worlds.{IsAt, IsReady, HasState, Continues, Goes, births_in, stop_after}
-use Rattle.plain_world.specs.SeatLaws.{continues-after, append-nil}
+use Rattle.plain_world.specs.SeatLaws.{continues-after, append-nil, same-keeps, foreign-same}
 use Rattle.plain_world.proofs.Stepping as stepping
 use Rattle.plain_world.proofs.Stepping.{Updates}
 use Rattle.plain_world.specs.Notes.{AreFilled}
@@ -37,12 +37,13 @@ use Rattle.std.proofs.lemmas.Bool.{cases_lt}
 
 -- the effect of these entries, with so many tickets drawn, and a stop raised or not
 abbrev pub with : List Answered → ℕ → Bool → Effect
-with es drawn raised = record { entries = es; logged = []; taken = []; granted = []; drawn = drawn; raised = raised }
+with es drawn raised = record { entries = es; logged = []; taken = []; granted = []; drawn = drawn; raised = raised; moved = false }
 
 abbrev pub only : List Answered → Effect
 only es = with es 0 false
 
--- steps that make these entries, draw these tickets, and raise a stop or not; they log no object and take no block
+-- steps that make these entries, draw these tickets, and raise a stop or not; they log no object, take no block and change no
+-- region
 pub record SteppedWith (p : Epoch) (i : IdealHeap) (log : List LogEntry) (m : ℕ) (es : List Answered) (drawn : ℕ) (raised : Bool) (a b : PlainRow) : Type 0 where
   pub continues : Continues p i log m (with es drawn raised) b
   pub unlogs : (x : ℕ) → is_unlogged (state_of b.row) x ≡ is_unlogged (state_of a.row) x
@@ -53,6 +54,10 @@ pub record SteppedWith (p : Epoch) (i : IdealHeap) (log : List LogEntry) (m : �
   pub stop : word_at (state_of b.row) 0 ≡ stop_after raised m (word_at (state_of a.row) 0)
   pub births : births_of (slice_get b.mutators.items a.turn) ≡ births_of (mutator_at_turn a) + births_in es
   pub ticket : drawn ≡ 0 → ticket_of (slice_get b.seats.items a.turn) ≡ ticket_of (seat_at_turn a)
+  pub fill : b.fill ≡ a.fill
+  pub notes : b.notes ≡ a.notes
+  pub cursors : (class : ℕ) → block_of (slice_get b.seats.items a.turn) class ≡ block_of (seat_at_turn a) class
+  pub over : over_of (slice_get b.seats.items a.turn) ≡ over_of (seat_at_turn a)
   pub others : (k : ℕ) → k ≢ a.turn → (slice_get b.mutators.items k ≡ slice_get a.mutators.items k) × (slice_get b.seats.items k ≡ slice_get a.seats.items k)
 
 -- these entries alone
@@ -72,24 +77,30 @@ loaded-first p i log m es a c one two = record {
   stop = two.stop;
   births = two.births;
   ticket = two.ticket;
+  fill = two.fill;
+  notes = two.notes;
+  cursors = two.cursors;
+  over = two.over;
   others = two.others;
 }
 
--- a world that goes on without a step: its row, its mutators and their tickets stay
-pub unmoved : (p : Epoch) (i : IdealHeap) (log : List LogEntry) (m : ℕ) (a b : PlainRow) → IsAt p i log b → b.row ≡ a.row → b.mutators ≡ a.mutators
-    → ticket_of (slice_get b.seats.items a.turn) ≡ ticket_of (seat_at_turn a) → ((k : ℕ) → k ≢ a.turn → slice_get b.seats.items k ≡ slice_get a.seats.items k)
-    → Stepped p i log m [] a b
-unmoved p i log m a b at row mutators ticket seats = record {
-  continues = record { more = []; own = tt; at = subst (λ l. IsAt p i l b) (sym (append-nil log)) at; entries = refl };
-  unlogs = λ x. ap (λ t. is_unlogged (state_of t) x) row;
-  kinds = λ k. ap (λ t. has_kind (state_of t) k kinds.Free) row;
-  size = ap (λ t. t.layout.blocks) row;
-  blocks = λ k below. ap (λ t. block_word (state_of t) k) row;
-  budget = ap (λ t. word_at (state_of t) 1) row ∙ sym (add-zero (word_at (state_of a.row) 1));
-  stop = ap (λ t. word_at (state_of t) 0) row;
-  births = ap (λ t. births_of (slice_get t.items a.turn)) mutators ∙ sym (add-zero (births_of (mutator_at_turn a)));
-  ticket = λ none. ticket;
-  others = λ k other. (ap (λ t. slice_get t.items k) mutators, seats k other);
+-- a world that goes on without a step
+pub unmoved : (p : Epoch) (i : IdealHeap) (log : List LogEntry) (m : ℕ) (a : PlainRow) → IsAt p i log a → Stepped p i log m [] a a
+unmoved p i log m a at = record {
+  continues = record { more = []; own = tt; at = subst (λ l. IsAt p i l a) (sym (append-nil log)) at; entries = refl };
+  unlogs = λ x. refl;
+  kinds = λ k. refl;
+  size = refl;
+  blocks = λ k below. refl;
+  budget = sym (add-zero (word_at (state_of a.row) 1));
+  stop = refl;
+  births = sym (add-zero (births_of (mutator_at_turn a)));
+  ticket = λ none. refl;
+  fill = refl;
+  notes = refl;
+  cursors = λ class. refl;
+  over = refl;
+  others = λ k other. (refl, refl);
 }
 
 -- what one event does to the world: it may come, and leaves these words, states and entries
@@ -256,6 +267,10 @@ stepped-with p i log a b at turn x es drawn raised still does budget stop ticket
       ∙ (stepping.state p i log a at turn).births ∙ ap births_of (sym (stepping.mutator p i log a at turn).1)
       ∙ sym (add-zero (births_of (mutator_at_turn a))) ∙ ap (λ n. births_of (mutator_at_turn a) + n) (sym old);
   ticket = ticket;
+  fill = does.updates.fill;
+  notes = does.updates.notes;
+  cursors = λ class. ap (λ o. block_of o class) does.updates.seats.here ∙ ap (λ bs. unwrap_or (slice_get bs class) None) does.updates.blocks;
+  over = ap over_of does.updates.seats.here ∙ does.updates.over;
   others = λ k other. (does.updates.mutators.others k other, does.updates.seats.others k other);
 }
   where
@@ -306,7 +321,12 @@ module _ (a : PlainRow) (ready : IsReady a) where
         stop = some.stop;
         births = ap (λ n. births_of (slice_get b.mutators.items n)) turn ∙ some.births;
         ticket = λ none kept. ap (λ n. ticket_of (slice_get b.seats.items n)) turn ∙ some.ticket none;
+        fill = some.fill;
+        regions = λ still. same-keeps a.notes.items b.notes.items (seat_at_turn a) (seat_at_turn b) (ap (λ xs. xs.items) some.notes)
+            (λ class. ap (λ n. block_of (slice_get b.seats.items n) class) turn ∙ some.cursors class)
+            (ap (λ n. over_of (slice_get b.seats.items n)) turn ∙ some.over);
         others = some.others;
+        foreign = foreign-same a b some.notes;
       }
 
   pub goes : (es : List Answered) (b : PlainRow) → b.turn ≡ a.turn → number_at_turn b ≡ number_at_turn a → Reaches es b → Goes a (only es) b

@@ -1,17 +1,16 @@
 -- What a mutator has and does that looks for a hole in a block.
-use Rattle.std.proofs.Common.{◌≡◌, ◌≢◌, refl, sym, ◌∙◌, ap, subst, ℕ, ◌+◌, ◌<◌, ◌≤◌, ◌⊎◌, inl, inr, arith, List, [], ◌∷◌, map, length, length-set}
-use Rattle.std.specs.Prelude.{Option, Some, None, slice_get, slice_set, unwrap_or}
-use Rattle.std.proofs.lemmas.Bool.{cases_eq, cases_lt}
+use Rattle.std.proofs.Common.{◌≡◌, ◌≢◌, refl, sym, ◌∙◌, ap, subst, ℕ, ◌+◌, ◌<◌, ◌≤◌, ◌⊎◌, inl, inr, arith, true, false, List, [], ◌∷◌, map, length, length-set}
+use Rattle.std.specs.Prelude.{Some, None, slice_get, slice_set, unwrap_or}
+use Rattle.std.proofs.lemmas.Bool.{cases_eq}
 use Rattle.heap_layout.specs.declared.block.Kind.{Kind}
 use Rattle.heap_layout.specs.declared.block.Kind.TheVariants as kinds
 use Rattle.heap_layout.specs.declared.region.Region.{Region}
 use Rattle.ideal_heap.specs.Ideal.{IdealHeap}
 use Rattle.object_model.specs.Objects.{HeapState, state_of, has_kind, HasKind, class_at, owner_at, line_marked}
-use Rattle.object_model.proofs.OneKind.{kind-within}
 use Rattle.sessions.specs.Fitting.{HasHole, class_for}
-use Rattle.plan_api.specs.Holes.{HasRoomFrom, IsFirstHole, IsFirstPart}
+use Rattle.plan_api.specs.Holes.{IsFirstHole, IsFirstPart}
 use Rattle.plain_world.specs.Regions.{IsRegionIn}
-use Rattle.plain_world.proofs.Regions.{hole-kind, first-hole, first-before, region-lacks, fills-cases, no-lines}
+use Rattle.plain_world.proofs.Regions.{first-hole, first-before, fills-cases, no-lines}
 use Rattle.plain_world.proofs.LineRegions.{here-next}
 use Rattle.mutator_core.specs.declared.state.LogEntry.{LogEntry}
 use Rattle.mutator_core.specs.Machine.{Epoch}
@@ -25,24 +24,26 @@ use Rattle.plain_world.specs.declared.plain_row.BlockNote.{BlockNote}
 use Rattle.plain_world.specs.declared.plain_row.BlockNote.TheVariants.{Unowned, Owned}
 use Rattle.plain_world.specs.Rows.{number_of, number_at_turn, seat_at_turn, ticket_of, blocks_of, block_of, over_of}
 use Rattle.plain_world.specs.Notes.{FillsTailsOrCells, FillsHoles, IsNote, IsUnownedNote, IsOwnedNote, HasNotes, IsRegionOf}
-use Rattle.plain_world.specs.TwoRegions.{FillsLines, region_of, region_noted, cursors_of, IsBlockFor, TriesBlock, LacksLines}
-use Rattle.plan_api.specs.Cursors.{RegionHasRoom, TriesOverflow, LacksRoom}
+use Rattle.plain_world.specs.TwoRegions.{FillsLines, region_of, region_noted, cursors_of, GoesOver, KeepsRegions, LacksLines}
+use Rattle.plan_api.specs.declared.cursors.Cursors.{Cursors}
+use Rattle.plan_api.specs.Cursors.{RegionHasRoom, LacksRoom}
 use Rattle.plain_world.specs.Changes.{ReturnsTo, NotesBlock, KeepsPlan, FindsHole, LacksHole}
-use Rattle.plain_world.specs.Changes.FindsHole.{own, has_rest, next_hole, taken}
+use Rattle.plain_world.specs.Changes.FindsHole.{own, next_hole, taken}
 use Rattle.plain_world.specs.Changes.LacksHole.{known, seen, unsuited, foreign, lacks_lines}
 use Rattle.plain_world.specs.Worlds.{IsAt, IsReady, HasRoom, HasState, HasCursors, Goes, has}
-use Rattle.plain_world.specs.Steps.{AllocatesIn, Lacks, IsRegion, KeepsRegion, Offers, books_of}
-use Rattle.plain_world.specs.SeatLaws.{goes-nothing}
-use Rattle.plain_world.proofs.Elements.{set-changes, changes-cases}
+use Rattle.plain_world.specs.Steps.{AllocatesIn, Lacks, IsFull, IsRegion, KeepsRest, Offers, books_of}
+use Rattle.plain_world.specs.SeatLaws.{goes-nothing, cursors-same, foreign-same, foreign-but}
+use Rattle.plain_world.proofs.Elements.{set-changes, set-other, changes-cases}
+use Rattle.plain_world.proofs.SeatRegions.{lines-for, class-else, over-else}
 use Rattle.plain_world.proofs.NoteLemmas.{no-hole}
 use Rattle.plain_world.proofs.Lists.{one-element}
+use Rattle.plain_world.proofs.Lacking.{no-block, unowned-lacks, unsuited-lacks, foreign-lacks, own-lines-lack, over-lacks}
 use Rattle.plain_world.proofs.Owning.{lists-kept, lists-moved, listed-noted, listed-moved}
 use Rattle.plain_world.proofs.Stepping as stepping
-use Rattle.plain_world.proofs.Facts as facts
 use Rattle.plain_world.proofs.Turns as turns
 use Rattle.plain_world.proofs.Drawing.{lacks-after}
-use Rattle.plain_world.proofs.Offering.{own-offer, room-offers, offers-back, KeepsSeat, still-lacks, seat-keeps, offered-lines}
-use Rattle.plain_world.proofs.Gaining.{number-kept, turn-kept, still-goes, seat-has, books-kept, taken-goes, taken-region, taken-room, taken-others}
+use Rattle.plain_world.proofs.Offering.{own-offer, offers-back, KeepsSeat, still-lacks, seat-regions, offered-lines}
+use Rattle.plain_world.proofs.Gaining.{number-kept, turn-kept, still-goes, seat-has, books-kept, taken-goes, taken-region, taken-rest, taken-room, taken-others}
 
 -- the world after a mutator returned to a block of its own
 module _ (a b : PlainRow) (block size : ℕ) (region : Region) (note : slice_get a.notes.items block ≡ Some (Owned (number_at_turn a) region))
@@ -95,6 +96,7 @@ module _ (a b : PlainRow) (block size : ℕ) (region : Region) (note : slice_get
                 (record { region = region; note = ap (slice_get a.notes.items) same ∙ note }, ap (class_at (state_of a.row)) same ∙ suits ∙ sym here.0))
             | inr other ↦ turns.own-region p i log a at ready.turn c d (ap (λ o. unwrap_or o None) other.1)
           ]);
+      lined = λ d there. absurd (not_lines (turns.own-lined p i log a at ready.turn d there));
       over = λ lines. absurd (not_lines (sym returns.plan.fill ∙ lines));
       apart = λ lines. absurd (not_lines (sym returns.plan.fill ∙ lines));
     }
@@ -106,6 +108,7 @@ module _ (a b : PlainRow) (block size : ℕ) (region : Region) (note : slice_get
       | inr other ↦ (let had = at.cursors k q y (was k q is) other.1 in record {
         classes = had.classes;
         each = λ c d there. still-own q.number c d (had.each c d there);
+        lined = λ d there. returns.plan.fill ∙ had.lined d there;
         over = λ lines. absurd (not_lines (sym returns.plan.fill ∙ lines));
         apart = λ lines. absurd (not_lines (sym returns.plan.fill ∙ lines));
       })
@@ -131,8 +134,22 @@ module _ (a b : PlainRow) (block size : ℕ) (region : Region) (note : slice_get
   seat-same : seat_at_turn b ≡ Some seat
   seat-same = ap (λ n. slice_get b.seats.items n) returns.plan.turn ∙ returns.seats.here
 
-  pub returned-goes : Goes a nothing b
+  pub returned-goes : Goes a (effects.takes []) b
   returned-goes = still-goes a b returns.plan returns.mutators returns.row (ap ticket_of seat-same) returns.seats.others at-returned
+      true (λ still. absurd (let wrong : true ≡ false = still in cc)) (foreign-same a b returns.notes)
+
+  -- its regions for other classes stay
+  pub returned-rest : KeepsRest b size a b
+  returned-rest = record {
+    classes = λ c other.
+        let same : block_of (seat_at_turn b) c ≡ block_of (seat_at_turn a) c
+        = ap (λ o. block_of o c) seat-same ∙ ap (λ o. unwrap_or o None) (set-other (blocks_of (seat_at_turn a)) (class_for a.fill size) (Some block) c
+        (λ alike. not_lines (sym returns.plan.fill ∙ (other (alike ∙ ap (λ (f : Kind). class_for f size) (sym returns.plan.fill))).lines))) in
+        record { block = same; region = ap (region_of b.notes.items) same ∙ ap (λ v. region_of v.items (block_of (seat_at_turn a) c)) returns.notes };
+    over_stays = λ _.
+        let same : over_of (seat_at_turn b) ≡ over_of (seat_at_turn a) = ap over_of seat-same in
+        record { block = same; region = ap (region_of b.notes.items) same ∙ ap (λ v. region_of v.items (over_of (seat_at_turn a))) returns.notes };
+  }
 
   current-again : block_of (seat_at_turn b) (class_for a.fill size) ≡ Some block
   current-again = let now = ready.idle.some in ap (λ o. block_of o (class_for a.fill size)) seat-same
@@ -161,31 +178,35 @@ module _ (a b : PlainRow) (block size : ℕ) (region : Region) (note : slice_get
     };
   }
 
--- a block that nobody owns is none of the mutator's
-no-block : (a : PlainRow) (block least number : ℕ) → slice_get a.notes.items block ≡ Some (Unowned least) → IsRegionOf a.notes.items number block → ⊥
-no-block a block least number note mine = let wrong : Unowned least ≡ Owned number mine.region =
-    one-element (slice_get a.notes.items block) (Unowned least) (Owned number mine.region) note mine.note in cc
+-- the seat stays
+seat-kept : (a b : PlainRow) → KeepsPlan a b → b.seats ≡ a.seats → seat_at_turn b ≡ seat_at_turn a
+seat-kept a b plan same = ap (λ y. slice_get y.items b.turn) same ∙ ap (λ n. slice_get a.seats.items n) plan.turn
 
-unowned-lines-lack : (a : PlainRow) (block least size : ℕ) → IsReady a → slice_get a.notes.items block ≡ Some (Unowned least) → FillsLines a.fill
-    → LacksLines a.notes.items (seat_at_turn a) (state_of a.row) size block
-unowned-lines-lack a block least size ready note lines =
-    let now = ready.idle.some in
-    let hole : block_of (seat_at_turn a) 0 ≡ Some block → ⊥ = λ is. no-block a block least (number_at_turn a) note
-    (turns.own-region now.epoch now.ideal now.log a now.at ready.turn 0 block is).0 in
-    record {
-      region = λ is. absurd (hole is);
-      later = λ is. absurd (hole is);
-      over = λ is. absurd (no-block a block least (number_at_turn a) note (let now = ready.idle.some in turns.own-over now.epoch now.ideal now.log a now.at ready.turn block lines is));
-    }
-
--- it lacks room if it has no hole
-unowned-lacks : (a : PlainRow) (block least size : ℕ) → IsReady a → slice_get a.notes.items block ≡ Some (Unowned least)
-    → ((at : ℕ) → HasHole a.fill (state_of a.row) block at size → ⊥) → Lacks a size block
-unowned-lacks a block least size ready note none = record {
-  unowned = λ nobody at hole. none at hole;
-  own = λ not own at hole. none at hole;
-  lines = unowned-lines-lack a block least size ready note;
+-- so do its blocks, where the note of one block changes
+noted-seat : (a b : PlainRow) (block : ℕ) (note : BlockNote) → NotesBlock a b block note → KeepsSeat a b
+noted-seat a b block note marks = let seat = seat-kept a b marks.plan marks.seats in record {
+  fill = marks.plan.fill;
+  number = number-kept a b marks.plan marks.mutators;
+  block = λ class. ap (λ o. block_of o class) seat;
+  over = ap over_of seat;
+  kind = λ k. ap (λ r. has_kind (state_of r) k kinds.Immix) marks.row;
+  lines = λ k mine line few. ap (λ r. line_marked (state_of r) k line) marks.row;
 }
+
+-- a block that nobody owns has no region, whatever is noted of its holes
+unowned-regions : (a b : PlainRow) (block least size : ℕ) → slice_get a.notes.items block ≡ Some (Unowned least) → NotesBlock a b block (Unowned size)
+    → (k : ℕ) → region_of b.notes.items (Some k) ≡ region_of a.notes.items (Some k)
+unowned-regions a b block least size note marks k = elim (cases_eq k block) as (λ _. region_of b.notes.items (Some k) ≡ region_of a.notes.items (Some k)) [
+  | inl here ↦ ap (λ q. region_of b.notes.items (Some q)) here ∙ ap region_noted marks.notes.here ∙ sym (ap region_noted note)
+      ∙ ap (λ q. region_of a.notes.items (Some q)) (sym here)
+  | inr other ↦ ap region_noted (marks.notes.others k other)
+]
+
+-- the mutator's regions stay then
+noted-regions : (a b : PlainRow) (block least size : ℕ) → slice_get a.notes.items block ≡ Some (Unowned least) → NotesBlock a b block (Unowned size) → IsReady a
+    → KeepsRegions a.notes.items (seat_at_turn a) b.notes.items (seat_at_turn b)
+noted-regions a b block least size note marks ready =
+    seat-regions a b (noted-seat a b block (Unowned size) marks) ready (unowned-regions a b block least size note marks)
 
 -- the world after a block was found to have no room
 module _ (a b : PlainRow) (block least size : ℕ) (note : slice_get a.notes.items block ≡ Some (Unowned least)) (none : IsFirstHole a.fill (state_of a.row) block 0 size None)
@@ -221,6 +242,7 @@ module _ (a b : PlainRow) (block least size : ℕ) (note : slice_get a.notes.ite
           },
           ap (λ (t : HeapState). class_at t d) same-row ∙ has.1,
         );
+        lined = λ d there. marks.plan.fill ∙ had.lined d there;
         over = λ lines d there. let has = had.over (sym marks.plan.fill ∙ lines) d there in record {
           region = has.region;
           note = marks.notes.others d (λ same. let wrong : Unowned least ≡ Owned q.number has.region =
@@ -240,7 +262,9 @@ module _ (a b : PlainRow) (block least size : ℕ) (note : slice_get a.notes.ite
 
   pub noted-goes : Goes a nothing b
   noted-goes = still-goes a b marks.plan marks.mutators marks.row (ap (λ y. ticket_of (slice_get y.items b.turn)) marks.seats ∙ ap (λ n. ticket_of (slice_get a.seats.items n)) marks.plan.turn)
-      (λ k other. ap (λ y. slice_get y.items k) marks.seats) at-noted
+      (λ k other. ap (λ y. slice_get y.items k) marks.seats) at-noted false (λ _. noted-regions a b block least size note marks ready)
+      (foreign-but a b block (Unowned size) marks.notes (λ owner r other is.
+      let wrong : Unowned least ≡ Owned owner r = one-element (slice_get a.notes.items block) (Unowned least) (Owned owner r) note is in cc))
 
   pub noted-ready : IsReady b
   noted-ready = let now = ready.idle.some in record {
@@ -267,30 +291,6 @@ lacks-kept : (a b : PlainRow) → IsReady a → b.row ≡ a.row → b.fill ≡ a
     → Lacks a n k → Lacks b n k
 lacks-kept a b ready row fill number n k lines = lacks-after a b n k fill number (λ there. ap (λ r. owner_at (state_of r) k) row)
     (λ at size. subst (λ r. HasHole a.fill (state_of r) k at size → HasHole a.fill (state_of a.row) k at size) (sym row) (λ hole. hole)) lines
-
--- the seat stays
-seat-kept : (a b : PlainRow) → KeepsPlan a b → b.seats ≡ a.seats → seat_at_turn b ≡ seat_at_turn a
-seat-kept a b plan same = ap (λ y. slice_get y.items b.turn) same ∙ ap (λ n. slice_get a.seats.items n) plan.turn
-
--- so do its blocks, where the note of one block changes
-noted-seat : (a b : PlainRow) (block : ℕ) (note : BlockNote) → NotesBlock a b block note → KeepsSeat a b
-noted-seat a b block note marks = let seat = seat-kept a b marks.plan marks.seats in record {
-  fill = marks.plan.fill;
-  number = number-kept a b marks.plan marks.mutators;
-  block = λ class. ap (λ o. block_of o class) seat;
-  over = ap over_of seat;
-  kind = λ k. ap (λ r. has_kind (state_of r) k kinds.Immix) marks.row;
-  lines = λ k mine line few. ap (λ r. line_marked (state_of r) k line) marks.row;
-}
-
--- a block that nobody owns has no region, whatever is noted of its holes
-unowned-regions : (a b : PlainRow) (block least size : ℕ) → slice_get a.notes.items block ≡ Some (Unowned least) → NotesBlock a b block (Unowned size)
-    → (k : ℕ) → region_of b.notes.items (Some k) ≡ region_of a.notes.items (Some k)
-unowned-regions a b block least size note marks k = elim (cases_eq k block) as (λ _. region_of b.notes.items (Some k) ≡ region_of a.notes.items (Some k)) [
-  | inl here ↦ ap (λ q. region_of b.notes.items (Some q)) here ∙ ap region_noted marks.notes.here ∙ sym (ap region_noted note)
-      ∙ ap (λ q. region_of a.notes.items (Some q)) (sym here)
-  | inr other ↦ ap region_noted (marks.notes.others k other)
-]
 
 -- the hole region is the next hole of its block
 module _ (a b : PlainRow) (block size : ℕ) (region hole : Region) (note : slice_get a.notes.items block ≡ Some (Owned (number_at_turn a) region)) (lines : FillsLines a.fill)
@@ -341,6 +341,7 @@ module _ (a b : PlainRow) (block size : ℕ) (region hole : Region) (note : slic
       cursors = λ k q y is sits. let had = at.cursors k q y (ap (λ z. slice_get z.items k) (sym marks.mutators) ∙ is) (ap (λ z. slice_get z.items k) (sym marks.seats) ∙ sits) in record {
         classes = had.classes;
         each = λ c d there. let has = had.each c d there in (still-mine q.number d has.0, ap (λ (t : HeapState). class_at t d) same-state ∙ has.1);
+        lined = λ d there. marks.plan.fill ∙ had.lined d there;
         over = λ filled d there. still-mine q.number d (had.over (sym marks.plan.fill ∙ filled) d there);
         apart = λ filled. had.apart (sym marks.plan.fill ∙ filled);
       };
@@ -358,8 +359,11 @@ module _ (a b : PlainRow) (block size : ℕ) (region hole : Region) (note : slic
   same-seat : seat_at_turn b ≡ seat_at_turn a
   same-seat = seat-kept a b marks.plan marks.seats
 
-  pub moved-goes : Goes a nothing b
+  pub moved-goes : Goes a (effects.takes []) b
   moved-goes = still-goes a b marks.plan marks.mutators marks.row (ap ticket_of same-seat) (λ k other. ap (λ y. slice_get y.items k) marks.seats) at-moved
+      true (λ still. absurd (let wrong : true ≡ false = still in cc)) (foreign-but a b block (Owned (number_at_turn a) hole) marks.notes (λ owner r other is.
+      let alike : Owned owner r ≡ Owned (number_at_turn a) region = one-element (slice_get a.notes.items block) (Owned owner r) (Owned (number_at_turn a) region) is note in
+      other (let same : owner ≡ number_at_turn a = cc in same)))
 
   block-again : block_of (seat_at_turn b) 0 ≡ Some block
   block-again = ap (λ o. block_of o 0) same-seat ∙ current
@@ -367,10 +371,23 @@ module _ (a b : PlainRow) (block size : ℕ) (region hole : Region) (note : slic
   hole-now : (cursors_of b.notes.items (seat_at_turn b)).hole ≡ hole
   hole-now = ap (region_of b.notes.items) block-again ∙ ap region_noted marks.notes.here
 
+  not-over : GoesOver b.fill b.notes.items (seat_at_turn b) size → ⊥
+  not-over over = over.tried.full (subst (λ (r : Region). RegionHasRoom r size) (sym hole-now) next.hole.room)
+
+  -- the overflow region stays, and what regions there are for other classes
+  moved-rest : KeepsRest b size a b
+  moved-rest = let now = ready.idle.some in record {
+    classes = λ c other. class-else a.notes.items b.notes.items block (Owned (number_at_turn a) hole) marks.notes (seat_at_turn a) (seat_at_turn b) c (ap (λ o. block_of o c) same-seat)
+        (λ here. not-over (other (sym (turns.own-region now.epoch now.ideal now.log a now.at ready.turn c block here).1
+        ∙ (turns.own-region now.epoch now.ideal now.log a now.at ready.turn 0 block current).1 ∙ sym (lines-for b.fill size (marks.plan.fill ∙ lines)))));
+    over_stays = λ _. over-else a.notes.items b.notes.items block (Owned (number_at_turn a) hole) marks.notes (seat_at_turn a) (seat_at_turn b) (ap over_of same-seat)
+        (λ over. turns.own-apart now.epoch now.ideal now.log a now.at ready.turn block lines over current);
+  }
+
   pub moved-region : IsRegion b size block hole
   moved-region = record {
     current = inl (
-      (λ over. over.tried.full (subst (λ (r : Region). RegionHasRoom r size) (sym hole-now) next.hole.room)),
+      not-over,
       ap (λ (f : Kind). block_of (seat_at_turn b) (class_for f size)) (marks.plan.fill ∙ lines) ∙ block-again,
     );
     note = marks.notes.here ∙ ap (λ n. Some (Owned n hole)) (sym (number-kept a b marks.plan marks.mutators));
@@ -393,8 +410,8 @@ module _ (a b : PlainRow) (block size : ℕ) (region hole : Region) (note : slic
     };
   }
 
-  pub moved-offers : Offers a b size
-  moved-offers = let now = ready.idle.some in record {
+  pub moved-offers : IsFull a size → Offers a b size
+  moved-offers full = let now = ready.idle.some in record {
     block = block;
     region = hole;
     now = moved-region;
@@ -403,6 +420,7 @@ module _ (a b : PlainRow) (block size : ℕ) (region hole : Region) (note : slic
       owner = (turns.owned-note now.epoch now.ideal now.log a now.at block (number_at_turn a) region note).owner;
       from = inr (
         current,
+        full.lines lines,
         (
           hole.end,
           subst (λ (from : ℕ). IsFirstPart kinds.Immix (state_of a.row) block from size hole) (ap (λ (r : Region). r.end) (sym (ap region_noted note)))
@@ -410,84 +428,30 @@ module _ (a b : PlainRow) (block size : ℕ) (region hole : Region) (note : slic
         ),
       );
     }));
+    others = moved-rest;
   }
 
   pub moved-others : (n k : ℕ) → k ≢ block → Lacks a n k → Lacks b n k
   moved-others n k other = lacks-kept a b ready marks.row marks.plan.fill (number-kept a b marks.plan marks.mutators) n k
       (λ filled. still-lacks a b (noted-seat a b block (Owned (number_at_turn a) hole) marks) ready n k (ap region_noted (marks.notes.others k other)))
 
--- A region that is tried and has room: some region that is tried has. The hole region comes first.
-module _ (a : PlainRow) (size : ℕ) (some : 1 ≤ size) (ready : IsReady a) (lines : FillsLines a.fill) where
-  room-here : (block : ℕ) (region : Region) → IsBlockFor a.fill a.notes.items (seat_at_turn a) size block
-      → slice_get a.notes.items block ≡ Some (Owned (number_at_turn a) region) → RegionHasRoom region size → HasRoom a size
-  room-here block region current note fits = record {
-    turn = ready.turn;
-    some = ready.idle.some;
-    block = block;
-    current = current;
-    room = record { region = region; note = note; room = fits; others = λ k owner r is. inr (ready.idle.filled k owner r is) };
-  }
-
-  -- the hole region has room
-  in-hole : (o : Option ℕ) → block_of (seat_at_turn a) 0 ≡ o → RegionHasRoom (region_of a.notes.items o) size → HasRoom a size
-  in-hole None is fits = absurd (omega (arith, fits, some))
-  in-hole (Some k) is fits =
-      let now = ready.idle.some in
-      let mine = (turns.own-region now.epoch now.ideal now.log a now.at ready.turn 0 k is).0 in
-      room-here k mine.region
-      (inl (
-        (λ over. over.tried.full (subst (λ (o : Option ℕ). RegionHasRoom (region_of a.notes.items o) size) (sym is) fits)),
-        ap (λ (f : Kind). block_of (seat_at_turn a) (class_for f size)) lines ∙ is,
-      )) mine.note (subst (λ (r : Region). RegionHasRoom r size) (ap region_noted mine.note) fits)
-
-  -- the overflow region is tried and has room
-  in-over : (o : Option ℕ) → over_of (seat_at_turn a) ≡ o → TriesOverflow (cursors_of a.notes.items (seat_at_turn a)) size
-      → RegionHasRoom (region_of a.notes.items o) size → HasRoom a size
-  in-over None is tried fits = absurd (omega (arith, fits, some))
-  in-over (Some k) is tried fits =
-      let now = ready.idle.some in
-      let mine = turns.own-over now.epoch now.ideal now.log a now.at ready.turn k lines is in
-      room-here k mine.region (inr (record { lines = lines; tried = tried }, is)) mine.note (subst (λ (r : Region). RegionHasRoom r size) (ap region_noted mine.note) fits)
-
-  pub rest-room : (block : ℕ) (region : Region) → TriesBlock a.fill (seat_at_turn a) size block
-      → slice_get a.notes.items block ≡ Some (Owned (number_at_turn a) region) → RegionHasRoom region size → HasRoom a size
-  rest-room block region (inl tries) note fits =
-      let is : block_of (seat_at_turn a) 0 ≡ Some block = ap (λ (f : Kind). block_of (seat_at_turn a) (class_for f size)) (sym lines) ∙ tries in
-      in-hole (Some block) is (subst (λ (r : Region). RegionHasRoom r size) (sym (ap region_noted note)) fits)
-  rest-room block region (inr tries) note fits =
-      let hole : Region = (cursors_of a.notes.items (seat_at_turn a)).hole in
-      elim (cases_lt hole.end (hole.next + size)) as (λ _. HasRoom a size) [
-        | inl full ↦ in-over (Some block) tries.2 (record { above = tries.1; full = λ room. omega (arith, full, room) })
-            (subst (λ (r : Region). RegionHasRoom r size) (sym (ap region_noted note)) fits)
-        | inr room ↦ in-hole (block_of (seat_at_turn a) 0) refl (omega (arith, room))
-      ]
-
-  -- without room neither region has some
-  pub lacks-regions : (HasRoom a size → ⊥) → LacksRoom (cursors_of a.notes.items (seat_at_turn a)) size
-  lacks-regions none = record {
-    hole = λ room. none (in-hole (block_of (seat_at_turn a) 0) refl room);
-    over = λ tried room. none (in-over (over_of (seat_at_turn a)) refl tried room);
-  }
-
 -- a mutator that enters a block
 pub enters-goes : (a b : PlainRow) (block size : ℕ) → 1 ≤ size → IsReady a → FindsHole a b block size
     → (blocks : List ℕ) × ((blocks ≡ []) ⊎ (blocks ≡ block ∷ [])) × Goes a (effects.takes blocks) b
 enters-goes a b block size some ready (own region note no_lines suits fits returns) = ([], inl refl, returned-goes a b block size region note suits fits no_lines returns ready)
-enters-goes a b block size some ready (has_rest region note lines tries fits same) = ([], inl refl, goes-nothing a b same)
 enters-goes a b block size some ready (next_hole region hole note lines current full found marks) = ([], inl refl, moved-goes a b block size region hole note lines current some found marks ready)
 enters-goes a b block size some ready (taken least region note hole takes) =
     (block ∷ [], inr refl, taken-goes a b ready block least size region note hole takes)
 
-pub enters-offers : (a b : PlainRow) (block size : ℕ) → 3 ≤ size → size ≤ 2048 → IsReady a → FindsHole a b block size → Offers a b size
-enters-offers a b block size some small ready (own region note no_lines suits fits returns) = elim (fills-cases a.fill ready.idle.some.at.fills) as (λ _. Offers a b size) [
-  | inl fills ↦ own-offer a b ready.idle.some fills block size region note suits some small fits (returned-region a b block size region note suits fits no_lines returns ready)
+pub enters-offers : (a b : PlainRow) (block size : ℕ) → 3 ≤ size → size ≤ 2048 → IsReady a → IsFull a size → FindsHole a b block size → Offers a b size
+enters-offers a b block size some small ready none (own region note no_lines suits fits returns) = elim (fills-cases a.fill ready.idle.some.at.fills) as (λ _. Offers a b size) [
+  | inl fills ↦ own-offer a b ready.idle.some fills block size region note suits some small fits
+      (returned-region a b block size region note suits fits no_lines returns ready) (returned-rest a b block size region note suits fits no_lines returns ready)
   | inr lines ↦ absurd (no_lines lines)
 ]
-enters-offers a b block size some small ready (has_rest region note lines tries fits same) =
-    subst (λ (w : PlainRow). Offers a w size) (sym same) (room-offers a size some small (rest-room a size (omega (arith, some)) ready lines block region tries note fits))
-enters-offers a b block size some small ready (next_hole region hole note lines current full found marks) =
-    moved-offers a b block size region hole note lines current (omega (arith, some)) found marks ready
-enters-offers a b block size some small ready (taken least region note hole takes) =
+enters-offers a b block size some small ready none (next_hole region hole note lines current full found marks) =
+    moved-offers a b block size region hole note lines current (omega (arith, some)) found marks ready none
+enters-offers a b block size some small ready none (taken least region note hole takes) =
     let now = ready.idle.some in
     record {
       block = block;
@@ -500,12 +464,11 @@ enters-offers a b block size some small ready (taken least region note hole take
         },
         inl (turns.unowned-note now.epoch now.ideal now.log a now.at block least note).owner,
       );
+      others = taken-rest a b ready block least size region note hole takes;
     }
 
 pub enters-room : (a b : PlainRow) (block size : ℕ) → 1 ≤ size → IsReady a → FindsHole a b block size → HasRoom b size
 enters-room a b block size some ready (own region note no_lines suits fits returns) = returned-room a b block size region note suits fits no_lines returns ready
-enters-room a b block size some ready (has_rest region note lines tries fits same) =
-    subst (λ (w : PlainRow). HasRoom w size) (sym same) (rest-room a size some ready lines block region tries note fits)
 enters-room a b block size some ready (next_hole region hole note lines current full found marks) = moved-room a b block size region hole note lines current some found marks ready
 enters-room a b block size some ready (taken least region note hole takes) =
     taken-room a b ready block least size region note hole takes
@@ -513,7 +476,6 @@ enters-room a b block size some ready (taken least region note hole takes) =
 pub enters-current : (a b : PlainRow) (block size : ℕ) → 1 ≤ size → IsReady a → FindsHole a b block size → AllocatesIn b size block
 enters-current a b block size some ready (own region note no_lines suits fits returns) =
     turns.block-tries b.fill b.notes.items (seat_at_turn b) size block (returned-region a b block size region note suits fits no_lines returns ready).current
-enters-current a b block size some ready (has_rest region note lines tries fits same) = subst (λ (w : PlainRow). AllocatesIn w size block) (sym same) tries
 enters-current a b block size some ready (next_hole region hole note lines current full found marks) =
     turns.block-tries b.fill b.notes.items (seat_at_turn b) size block (moved-region a b block size region hole note lines current some found marks ready).current
 enters-current a b block size some ready (taken least region note hole takes) =
@@ -526,7 +488,6 @@ enters-books a b block size some ready finds =
   where
     allowance : FindsHole a b block size → b.allowance ≡ a.allowance
     allowance (own region note none suits fits returns) = returns.plan.allowance
-    allowance (has_rest region note lines tries fits same) = ap (λ w. w.allowance) same
     allowance (next_hole region hole note lines current full found marks) = marks.plan.allowance
     allowance (taken least region note hole takes) = takes.plan.allowance
 
@@ -561,6 +522,7 @@ pub leaves-offers : (a b : PlainRow) (block size : ℕ) → IsReady a → LacksH
 leaves-offers a b block size ready (known least note most same) c n = subst (λ w. Offers b c n → Offers w c n) same (λ offers. offers)
 leaves-offers a b block size ready (seen least note none suits marks) c n = offers-back a b c n (ap (λ r. state_of r) marks.row) marks.plan.fill (number-kept a b marks.plan marks.mutators)
     (λ k offset. offered-lines a b (noted-seat a b block (Unowned size) marks) ready (unowned-regions a b block least size note marks) k offset n)
+    (noted-regions a b block least size note marks ready)
 leaves-offers a b block size ready (foreign owner region note away same) c n = subst (λ w. Offers b c n → Offers w c n) same (λ offers. offers)
 leaves-offers a b block size ready (unsuited least note other same) c n = subst (λ w. Offers b c n → Offers w c n) same (λ offers. offers)
 leaves-offers a b block size ready (lacks_lines region note is lack same) c n = subst (λ w. Offers b c n → Offers w c n) same (λ offers. offers)
@@ -568,7 +530,6 @@ leaves-offers a b block size ready (lacks_lines region note is lack same) c n = 
 pub enters-others : (a b : PlainRow) (block size : ℕ) → 1 ≤ size → IsReady a → FindsHole a b block size → (n k : ℕ) → k ≢ block → Lacks a n k → Lacks b n k
 enters-others a b block size some ready (own region note no_lines suits fits returns) n k other =
     lacks-kept a b ready returns.row returns.plan.fill (number-kept a b returns.plan returns.mutators) n k (λ lines. absurd (no_lines lines))
-enters-others a b block size some ready (has_rest region note lines tries fits same) n k other = subst (λ w. Lacks a n k → Lacks w n k) (sym same) (λ lacks. lacks)
 enters-others a b block size some ready (next_hole region hole note lines current full found marks) n k other = moved-others a b block size region hole note lines current some found marks ready n k other
 enters-others a b block size some ready (taken least region note hole takes) n k other = taken-others a b ready block least size region note hole takes n k other
 
@@ -580,63 +541,6 @@ leaves-others a b block size ready (foreign owner region note away same) n k = s
 leaves-others a b block size ready (unsuited least note other same) n k = subst (λ w. Lacks a n k → Lacks w n k) (sym same) (λ lacks. lacks)
 leaves-others a b block size ready (lacks_lines region note is lack same) n k = subst (λ w. Lacks a n k → Lacks w n k) (sym same) (λ lacks. lacks)
 
--- a block with cells for objects of other sizes
-unsuited-none : (a : PlainRow) (block size : ℕ) → IsReady a → class_at (state_of a.row) block ≢ class_for a.fill size → (at : ℕ) → HasHole a.fill (state_of a.row) block at size → ⊥
-unsuited-none a block size ready other at hole =
-    let now = ready.idle.some in
-    let there : block < a.row.layout.blocks = kind-within (state_of a.row) block a.fill (hole-kind a.fill (state_of a.row) block at size hole) in
-    turns.suits-hole a.fill now.at.fills (state_of a.row) block at size (facts.code now.epoch now.ideal now.log a now.at block there) other hole
-
-pub unsuited-lacks : (a : PlainRow) (block least size : ℕ) → IsReady a → slice_get a.notes.items block ≡ Some (Unowned least)
-    → class_at (state_of a.row) block ≢ class_for a.fill size → Lacks a size block
-unsuited-lacks a block least size ready note other = unowned-lacks a block least size ready note (unsuited-none a block size ready other)
-
--- a block that another mutator owns, or whose region has no room, or of another class
-pub foreign-lacks : (a : PlainRow) (block size owner : ℕ) (region : Region) → IsReady a → slice_get a.notes.items block ≡ Some (Owned owner region)
-    → (owner ≢ number_at_turn a) ⊎ ((FillsLines a.fill → ⊥) × ((region.end < region.next + size) ⊎ (class_at (state_of a.row) block ≢ class_for a.fill size)))
-    → Lacks a size block
-foreign-lacks a block size owner region ready note away = record {
-  unowned = λ nobody at hole. let some : 0 < owner = right.some in let is : owner_at (state_of a.row) block ≡ owner = right.owner in omega arith;
-  own = λ not mine at hole. elim away as (λ _. ⊥) [
-    | inl other ↦ other (sym right.owner ∙ mine)
-    | inr (_, inl over) ↦ elim (fills-cases a.fill ready.idle.some.at.fills) as (λ _. ⊥) [
-      | inl fills ↦ region-lacks a.fill fills (state_of a.row) block at size region right.left over hole
-      | inr lines ↦ not lines
-    ]
-    | inr (_, inr class) ↦ unsuited-none a block size ready class at hole
-  ];
-  lines = λ lines. elim away as (λ _. LacksLines a.notes.items (seat_at_turn a) (state_of a.row) size block) [
-    | inl other ↦ record {
-      region = λ is. absurd (other (own-of (hole is)));
-      later = λ is. absurd (other (own-of (hole is)));
-      over = λ is. absurd (other (own-of (let now = ready.idle.some in turns.own-over now.epoch now.ideal now.log a now.at ready.turn block lines is)));
-    }
-    | inr rest ↦ absurd (rest.0 lines)
-  ];
-}
-  where
-    right : IsOwnedNote a.fill (state_of a.row) block owner region
-    right = let now = ready.idle.some in turns.owned-note now.epoch now.ideal now.log a now.at block owner region note
-
-    own-of : IsRegionOf a.notes.items (number_at_turn a) block → owner ≡ number_at_turn a
-    own-of mine = let same : Owned owner region ≡ Owned (number_at_turn a) mine.region =
-        one-element (slice_get a.notes.items block) (Owned owner region) (Owned (number_at_turn a) mine.region) note mine.note in cc
-
-    hole : block_of (seat_at_turn a) 0 ≡ Some block → IsRegionOf a.notes.items (number_at_turn a) block
-    hole is = let now = ready.idle.some in (turns.own-region now.epoch now.ideal now.log a now.at ready.turn 0 block is).0
-
--- a block of the mutator under lines
-own-lines-lack : (a : PlainRow) (block size : ℕ) (region : Region) → IsReady a → slice_get a.notes.items block ≡ Some (Owned (number_at_turn a) region) → FillsLines a.fill
-    → LacksLines a.notes.items (seat_at_turn a) (state_of a.row) size block → Lacks a size block
-own-lines-lack a block size region ready note lines lack = record {
-  unowned = λ nobody at hole.
-      let now = ready.idle.some in
-      let right = turns.owned-note now.epoch now.ideal now.log a now.at block (number_at_turn a) region note in
-      let some : 0 < number_at_turn a = right.some in let is : owner_at (state_of a.row) block ≡ number_at_turn a = right.owner in omega arith;
-  own = λ no_lines. absurd (no_lines lines);
-  lines = λ _. lack;
-}
-
 pub leaves-lacks : (a b : PlainRow) (block size : ℕ) → 3 ≤ size → size ≤ 2048 → IsReady a → LacksHole a b block size → Lacks b size block
 leaves-lacks a b block size some small ready (known least note most same) = subst (λ w. Lacks w size block) (sym same)
     (unowned-lacks a block least size ready note (λ at hole. let now = ready.idle.some in (turns.unowned-note now.epoch now.ideal now.log a now.at block least note).none at size most hole))
@@ -645,37 +549,24 @@ leaves-lacks a b block size some small ready (foreign owner region note away sam
 leaves-lacks a b block size some small ready (unsuited least note other same) = subst (λ w. Lacks w size block) (sym same) (unsuited-lacks a block least size ready note other)
 leaves-lacks a b block size some small ready (lacks_lines region note is lack same) = subst (λ w. Lacks w size block) (sym same) (own-lines-lack a block size region ready note is lack)
 
--- the block of the hole region, whose region is full and has no next hole
-pub lacks-next : (a : PlainRow) (block size : ℕ) (region : Region) → slice_get a.notes.items block ≡ Some (Owned (number_at_turn a) region) → FillsLines a.fill
-    → region.end < region.next + size → IsFirstHole a.fill (state_of a.row) block region.end size None → LacksLines a.notes.items (seat_at_turn a) (state_of a.row) size block
-lacks-next a block size region note lines full none = record {
-  region = λ is room. full-region room;
-  later = λ is next end has. subst (λ (f : Kind). IsFirstHole f (state_of a.row) block region.end size None) lines none next end
-      (subst (λ (r : Region). HasRoomFrom kinds.Immix (state_of a.row) block r.end size next end) (ap region_noted note) has);
-  over = λ is above room. full-region room;
-}
-  where
-    full-region : RegionHasRoom (region_of a.notes.items (Some block)) size → ⊥
-    full-region room = let fits : RegionHasRoom region size = subst (λ (r : Region). RegionHasRoom r size) (ap region_noted note) room in omega (arith, fits, full)
-
--- a block that is not the hole region's, and whose region takes no such object
-pub lacks-over : (a : PlainRow) (block size : ℕ) (region : Region) → slice_get a.notes.items block ≡ Some (Owned (number_at_turn a) region)
-    → (block_of (seat_at_turn a) 0 ≡ Some block → ⊥) → (over_of (seat_at_turn a) ≡ Some block → 16 < size → RegionHasRoom region size → ⊥)
-    → LacksLines a.notes.items (seat_at_turn a) (state_of a.row) size block
-lacks-over a block size region note other none = record {
-  region = λ is. absurd (other is);
-  later = λ is. absurd (other is);
-  over = λ is above room. none is above (subst (λ (r : Region). RegionHasRoom r size) (ap region_noted note) room);
+-- a mutator that leaves a block has no room still
+noted-full : (a b : PlainRow) (block least size : ℕ) → slice_get a.notes.items block ≡ Some (Unowned least) → NotesBlock a b block (Unowned size) → IsReady a
+    → (n : ℕ) → IsFull a n → IsFull b n
+noted-full a b block least size note marks ready n full = record {
+  own = λ not k here. lacks-kept a b ready marks.row marks.plan.fill (number-kept a b marks.plan marks.mutators) n k (λ lines. absurd (not (marks.plan.fill ∙ lines)))
+      (full.own (λ lines. not (marks.plan.fill ∙ lines)) k (ap (λ (f : Kind). block_of (seat_at_turn a) (class_for f n)) (sym marks.plan.fill)
+      ∙ sym (ap (λ o. block_of o (class_for b.fill n)) (seat-kept a b marks.plan marks.seats)) ∙ here));
+  lines = λ lines. subst (λ (c : Cursors). LacksRoom c n)
+      (sym (cursors-same a.notes.items b.notes.items (seat_at_turn a) (seat_at_turn b) (noted-regions a b block least size note marks ready)))
+      (full.lines (sym marks.plan.fill ∙ lines));
 }
 
--- a mutator that leaves a block keeps its hole region
-pub leaves-keeps : (a b : PlainRow) (block size : ℕ) → IsReady a → LacksHole a b block size → KeepsRegion a b
-leaves-keeps a b block size ready (known least note most same) = subst (λ w. KeepsRegion a w) (sym same) (record { block = refl; region = refl })
-leaves-keeps a b block size ready (seen least note none suits marks) =
-    seat-keeps a b (noted-seat a b block (Unowned size) marks) ready (unowned-regions a b block least size note marks)
-leaves-keeps a b block size ready (foreign owner region note away same) = subst (λ w. KeepsRegion a w) (sym same) (record { block = refl; region = refl })
-leaves-keeps a b block size ready (unsuited least note other same) = subst (λ w. KeepsRegion a w) (sym same) (record { block = refl; region = refl })
-leaves-keeps a b block size ready (lacks_lines region note is lack same) = subst (λ w. KeepsRegion a w) (sym same) (record { block = refl; region = refl })
+pub leaves-full : (a b : PlainRow) (block size : ℕ) → IsReady a → LacksHole a b block size → IsFull a size → IsFull b size
+leaves-full a b block size ready (known least note most same) full = subst (λ w. IsFull w size) (sym same) full
+leaves-full a b block size ready (seen least note none suits marks) full = noted-full a b block least size note marks ready size full
+leaves-full a b block size ready (foreign owner region note away same) full = subst (λ w. IsFull w size) (sym same) full
+leaves-full a b block size ready (unsuited least note other same) full = subst (λ w. IsFull w size) (sym same) full
+leaves-full a b block size ready (lacks_lines region note is lack same) full = subst (λ w. IsFull w size) (sym same) full
 
 -- the mutator's own block of the hole region
 module _ (a b : PlainRow) (block size : ℕ) (ready : IsReady a) (lines : FillsLines a.fill) (current : block_of (seat_at_turn a) 0 ≡ Some block) where
@@ -686,9 +577,8 @@ module _ (a b : PlainRow) (block size : ℕ) (ready : IsReady a) (lines : FillsL
   own-tries = inl (ap (λ (f : Kind). block_of (seat_at_turn a) (class_for f size)) lines ∙ current)
 
   -- it goes on there
-  pub own-goes : 1 ≤ size → FindsHole a b block size → Goes a nothing b
+  pub own-goes : 1 ≤ size → FindsHole a b block size → Goes a (effects.takes []) b
   own-goes some (own region note no_lines suits fits returns) = absurd (no_lines lines)
-  own-goes some (has_rest region note is tries fits same) = goes-nothing a b same
   own-goes some (next_hole region hole note is here full found marks) = moved-goes a b block size region hole note is here some found marks ready
   own-goes some (taken least region note hole takes) = absurd (no-block a block least (number_at_turn a) note mine)
 
@@ -700,56 +590,18 @@ module _ (a b : PlainRow) (block size : ℕ) (ready : IsReady a) (lines : FillsL
   own-left (unsuited least note other same) = same
   own-left (lacks_lines region note is lack same) = same
 
--- a block of the mutator that has no lines lacks room if the region for the size has none
-pub own-lacks : (a : PlainRow) (size k : ℕ) → IsReady a → (FillsLines a.fill → ⊥) → (HasRoom a size → ⊥) → block_of (seat_at_turn a) (class_for a.fill size) ≡ Some k → Lacks a size k
-own-lacks a size k ready no_lines none here =
-    let now = ready.idle.some in
-    let mine = (turns.own-region now.epoch now.ideal now.log a now.at ready.turn (class_for a.fill size) k here).0 in
-    elim (cases_lt mine.region.end (mine.region.next + size)) as (λ _. Lacks a size k) [
-      | inl full ↦ foreign-lacks a k size _ mine.region ready mine.note (inr (no_lines, inl full))
-      | inr room ↦ absurd (none (record {
-        turn = ready.turn;
-        some = now;
-        block = k;
-        current = inl ((λ over. no_lines over.lines), here);
-        room = record {
-          region = mine.region;
-          note = mine.note;
-          room = omega arith;
-          others = λ j owner r is. inr (ready.idle.filled j owner r is);
-        };
-      }))
-    ]
-
--- the block of the overflow region lacks room if no region that is tried has some
-over-lacks : (a : PlainRow) (size k : ℕ) → 1 ≤ size → IsReady a → FillsLines a.fill → (HasRoom a size → ⊥) → 16 < size → over_of (seat_at_turn a) ≡ Some k → Lacks a size k
-over-lacks a size k some ready lines none above is =
-    let now = ready.idle.some in
-    let mine = turns.own-over now.epoch now.ideal now.log a now.at ready.turn k lines is in
-    let right = turns.owned-note now.epoch now.ideal now.log a now.at k (number_at_turn a) mine.region mine.note in
-    record {
-      unowned = λ nobody at hole. let positive : 0 < number_at_turn a = right.some in let owner : owner_at (state_of a.row) k ≡ number_at_turn a = right.owner in omega arith;
-      own = λ no_lines _ at hole. no_lines lines;
-      lines = λ _. record {
-        region = λ hole. absurd (turns.own-apart now.epoch now.ideal now.log a now.at ready.turn k lines is hole);
-        later = λ hole. absurd (turns.own-apart now.epoch now.ideal now.log a now.at ready.turn k lines is hole);
-        over = λ _ _ room. none (rest-room a size some ready lines k mine.region (inr (lines, above, is)) mine.note
-            (subst (λ (r : Region). RegionHasRoom r size) (ap region_noted mine.note) room));
-      };
-    }
-
 -- no block that is tried for the size has room, if neither a region nor the block of the hole region has
-pub spent-blocks : (a b : PlainRow) (size : ℕ) → 3 ≤ size → size ≤ 2048 → IsReady a → (HasRoom a size → ⊥)
+pub spent-blocks : (a b : PlainRow) (size : ℕ) → 3 ≤ size → size ≤ 2048 → IsReady a → IsFull a size
     → ((block : ℕ) → FillsLines a.fill → block_of (seat_at_turn a) 0 ≡ Some block → LacksHole a b block size) → b ≡ a
     → (k : ℕ) → AllocatesIn a size k → Lacks a size k
-spent-blocks a b size some small ready none lacks same k tries = elim (fills-cases a.fill ready.idle.some.at.fills) as (λ _. Lacks a size k) [
+spent-blocks a b size some small ready full lacks same k tries = elim (fills-cases a.fill ready.idle.some.at.fills) as (λ _. Lacks a size k) [
   | inl fills ↦ elim tries as (λ _. Lacks a size k) [
-    | inl here ↦ own-lacks a size k ready (λ lines. no-lines (subst FillsTailsOrCells lines fills)) none here
+    | inl here ↦ full.own (λ lines. no-lines (subst FillsTailsOrCells lines fills)) k here
     | inr over ↦ absurd (no-lines (subst FillsTailsOrCells over.0 fills))
   ]
   | inr lines ↦ elim tries as (λ _. Lacks a size k) [
     | inl here ↦ subst (λ w. Lacks w size k) same (leaves-lacks a b k size some small ready
         (lacks k lines (ap (λ (f : Kind). block_of (seat_at_turn a) (class_for f size)) (sym lines) ∙ here)))
-    | inr over ↦ over-lacks a size k (omega (arith, some)) ready lines none over.1 over.2
+    | inr over ↦ over-lacks a size k ready lines full over.1 over.2
   ]
 ]

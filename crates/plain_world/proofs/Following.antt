@@ -63,6 +63,7 @@ pub cursors-of : (w : PlainRow) (n : ℕ) (x y : PlainSeat) → y.blocks ≡ x.b
 cursors-of w n x y same over is = record {
   classes = ap length same ∙ is.classes;
   each = λ class block some. is.each class block (ap (λ bs. slice_get bs class) (sym same) ∙ some);
+  lined = λ block some. is.lined block (sym over ∙ some);
   over = λ lines block some. is.over lines block (sym over ∙ some);
   apart = λ lines block some here. is.apart lines block (sym over ∙ some) (ap (λ bs. slice_get bs 0) (sym same) ∙ here);
 }
@@ -127,6 +128,7 @@ module _ (p : Epoch) (i : IdealHeap) (log : List LogEntry) (a : PlainRow) (at : 
         let there : block < p.before.blocks = subst (λ j. block < j) (at.notes.len ∙ ap (λ (t : HeapState). t.blocks) at.heap)
         (get-below a.notes.items block (Owned n old.0.region) old.0.note) in
         (up.regions n block old.0, up.classes block there ∙ ap (λ (t : HeapState). class_at t block) (sym at.heap) ∙ old.1);
+    lined = λ block is. up.fill ∙ was.lined block is;
     over = λ lines block is. up.regions n block (was.over (sym up.fill ∙ lines) block is);
     apart = λ lines block is. was.apart (sym up.fill ∙ lines) block is;
   }

@@ -37,13 +37,13 @@ use Rattle.plain_world.specs.declared.plain_row.PlainSeat.{PlainSeat}
 use Rattle.plain_world.specs.declared.plain_row.BlockNote.TheVariants.{Unowned, Owned}
 use Rattle.plain_world.specs.Rows.{IsTurn, number_of, births_of, number_at_turn, mutator_at_turn, seat_at_turn, ticket_of, blocks_of, block_of, over_of}
 use Rattle.plain_world.specs.Notes.{FillsHoles, IsRegionOf}
-use Rattle.plain_world.specs.TwoRegions.{region_of, region_noted, cursors_of, IsBlockFor}
+use Rattle.plain_world.specs.TwoRegions.{FillsLines, region_of, region_noted, cursors_of, GoesOver, IsBlockFor, KeepsClass, KeepsRegions}
 use Rattle.plan_api.specs.Cursors.{RegionHasRoom}
 use Rattle.plain_world.specs.Changes.{TakesBlock, KeepsPlan, seat_with}
 use Rattle.plain_world.specs.Worlds.{IsAt, IsInEpoch, IsReady, HasRoom, Goes, has, births_in}
-use Rattle.plain_world.specs.Steps.{AllocatesIn, Lacks, IsUsed, IsOverflow, KeepsRegion, IsRegion, Offers, books_of}
-use Rattle.plain_world.specs.SeatLaws.{append-nil}
-use Rattle.plain_world.proofs.Elements.{set-here, changes-cases}
+use Rattle.plain_world.specs.Steps.{AllocatesIn, Lacks, IsUsed, IsOverflow, KeepsRegion, KeepsRest, IsRegion, Offers, books_of}
+use Rattle.plain_world.specs.SeatLaws.{append-nil, KeepsForeign, foreign-but}
+use Rattle.plain_world.proofs.Elements.{set-here, set-other, changes-cases}
 use Rattle.plain_world.proofs.Lists.{one-element}
 use Rattle.plain_world.proofs.Stepping as stepping
 use Rattle.plain_world.proofs.Facts as facts
@@ -85,11 +85,12 @@ turn-kept a b turn plan same seats = record {
   seats = seats ∙ turn.seats ∙ ap (λ y. length y.items) (sym same);
 }
 
--- steps that change neither a word of the row nor a mutator
+-- steps that change neither a word of the row nor a mutator; maybe a region of the mutator whose turn it is
 pub still-goes : (a b : PlainRow) → KeepsPlan a b → b.mutators ≡ a.mutators → b.row ≡ a.row → ticket_of (seat_at_turn b) ≡ ticket_of (seat_at_turn a)
     → ((k : ℕ) → k ≢ a.turn → slice_get b.seats.items k ≡ slice_get a.seats.items k)
-    → ((p : Epoch) (i : IdealHeap) (log : List LogEntry) → IsAt p i log a → IsAt p i log b) → Goes a nothing b
-still-goes a b plan mutators row ticket seats reach = record {
+    → ((p : Epoch) (i : IdealHeap) (log : List LogEntry) → IsAt p i log a → IsAt p i log b) → (moved : Bool)
+    → (moved ≡ false → KeepsRegions a.notes.items (seat_at_turn a) b.notes.items (seat_at_turn b)) → KeepsForeign a b → Goes a (record nothing { moved = moved }) b
+still-goes a b plan mutators row ticket seats reach moved regions foreign = record {
   turn = plan.turn;
   number = number-kept a b plan mutators;
   steps = λ p i log at. record { more = []; own = tt; at = subst (λ l. IsAt p i l b) (sym (append-nil log)) (reach p i log at); entries = refl };
@@ -97,12 +98,15 @@ still-goes a b plan mutators row ticket seats reach = record {
   granted = λ k. ap (λ r. has_kind (state_of r) k kinds.Free) row ∙ and-true (has_kind (state_of a.row) k kinds.Free);
   free = λ k there. absurd (contains-none k there);
   size = ap (λ r. r.layout.blocks) row;
+  fill = plan.fill;
   blocks = λ k below none. ap (λ r. block_word (state_of r) k) row;
   budget = ap (λ r. word_at (state_of r) 1) row ∙ sym (add-zero (word_at (state_of a.row) 1));
   stop = ap (λ r. word_at (state_of r) 0) row;
   births = births-kept a b plan mutators ∙ sym (add-zero (births_of (mutator_at_turn a)));
   ticket = λ none kept. ticket;
+  regions = regions;
   others = λ k other. (ap (λ y. slice_get y.items k) mutators, seats k other);
+  foreign = foreign;
 }
 
 -- the word of a block that the mutator takes, and the heap with it
@@ -177,22 +181,24 @@ module _ (a b : PlainRow) (ready : IsReady a) (block size : ℕ) (region : Regio
       let same : block_of (seat_at_turn b) 0 ≡ block_of old 0 = ap (λ o. block_of o 0) seat-now ∙ ap (λ o. block_of (Some (seat_with o old class block left)) 0) is in
       record { block = same; region = ap (region_of b.notes.items) same ∙ kept-region (block_of old 0) hole-other }
 
+  -- else the region for the class is in the block, and takes the size if it has room
+  here-now : gains.over ≡ false → block_of (seat_at_turn b) class ≡ Some block
+  here-now is =
+      let now = ready.idle.some in
+      ap (λ o. block_of o class) seat-now ∙ ap (λ o. block_of (Some (seat_with o old class block left)) class) is
+      ∙ seat-has (blocks_of old) class block (turns.class-few a.fill size) (turns.own-classes now.epoch now.ideal now.log a now.at ready.turn)
+
+  not-over : gains.over ≡ false → region.next + size ≤ region.end → GoesOver b.fill b.notes.items (seat_at_turn b) size → ⊥
+  not-over is fits over =
+      let first : class ≡ 0 = ap (λ (f : Kind). class_for f size) (sym gains.takes.plan.fill ∙ over.lines) in
+      let hole : (cursors_of b.notes.items (seat_at_turn b)).hole ≡ region
+      = ap (region_of b.notes.items) (ap (block_of (seat_at_turn b)) (sym first) ∙ here-now is) ∙ region-here in
+      over.tried.full (subst (λ (r : Region). RegionHasRoom r size) (sym hole) fits)
+
   -- the region that takes the size is in the block, which has room
   block-now : (over : Bool) → gains.over ≡ over → (IsTrue over → IsOverflow a size) → region.next + size ≤ region.end
       → IsBlockFor b.fill b.notes.items (seat_at_turn b) size block
-  block-now false is overflow fits =
-      let now = ready.idle.some in
-      let here : block_of (seat_at_turn b) class ≡ Some block = ap (λ o. block_of o class) seat-now
-      ∙ ap (λ o. block_of (Some (seat_with o old class block left)) class) is
-      ∙ seat-has (blocks_of old) class block (turns.class-few a.fill size) (turns.own-classes now.epoch now.ideal now.log a now.at ready.turn) in
-      inl (
-        (λ over.
-            let first : class ≡ 0 = ap (λ (f : Kind). class_for f size) (sym gains.takes.plan.fill ∙ over.lines) in
-            let hole : (cursors_of b.notes.items (seat_at_turn b)).hole ≡ region
-            = ap (region_of b.notes.items) (ap (block_of (seat_at_turn b)) (sym first) ∙ here) ∙ region-here in
-            over.tried.full (subst (λ (r : Region). RegionHasRoom r size) (sym hole) fits)),
-        ap (λ (f : Kind). block_of (seat_at_turn b) (class_for f size)) gains.takes.plan.fill ∙ here,
-      )
+  block-now false is overflow fits = inl (not-over is fits, ap (λ (f : Kind). block_of (seat_at_turn b) (class_for f size)) gains.takes.plan.fill ∙ here-now is)
   block-now true is overflow fits = inr (
     still-over a b gains.takes.plan.fill (hole-kept is) size (overflow refl).over,
     ap over_of seat-now ∙ ap (λ o. over_of (Some (seat_with o old class block left))) is,
@@ -219,6 +225,31 @@ module _ (a b : PlainRow) (ready : IsReady a) (block size : ℕ) (region : Regio
         | inr other ↦ inr (ready.idle.filled k owner r other.1)
       ];
     };
+  }
+
+  own-class : (c k : ℕ) → block_of old c ≡ Some k → k ≢ block
+  own-class c k is = let now = ready.idle.some in own-other k (turns.own-region now.epoch now.ideal now.log a now.at ready.turn c k is).0
+
+  own-over : (k : ℕ) → over_of old ≡ Some k → k ≢ block
+  own-over k is = let now = ready.idle.some in
+      own-other k (turns.own-over now.epoch now.ideal now.log a now.at ready.turn k (turns.own-lined now.epoch now.ideal now.log a now.at ready.turn k is) is)
+
+  class-kept : (c : ℕ) → block_of (seat_at_turn b) c ≡ block_of old c → KeepsClass c a.notes.items old b.notes.items (seat_at_turn b)
+  class-kept c same = record { block = same; region = ap (region_of b.notes.items) same ∙ kept-region (block_of old c) (own-class c) }
+
+  -- all regions but the one that takes the size stay
+  rest-kept : (over : Bool) → gains.over ≡ over → (IsTrue over → IsOverflow a size) → region.next + size ≤ region.end → KeepsRest b size a b
+  rest-kept false is overflow fits = record {
+    classes = λ c other. class-kept c (ap (λ o. block_of o c) seat-now ∙ ap (λ o. block_of (Some (seat_with o old class block left)) c) is
+        ∙ ap (λ o. unwrap_or o None) (set-other (blocks_of old) class (Some block) c
+        (λ same. not-over is fits (other (same ∙ ap (λ (f : Kind). class_for f size) (sym gains.takes.plan.fill))))));
+    over_stays = λ none. let same : over_of (seat_at_turn b) ≡ over_of old
+        = ap over_of seat-now ∙ ap (λ o. over_of (Some (seat_with o old class block left))) is in
+        record { block = same; region = ap (region_of b.notes.items) same ∙ kept-region (over_of old) own-over };
+  }
+  rest-kept true is overflow fits = record {
+    classes = λ c other. class-kept c (ap (λ o. block_of o c) seat-now ∙ ap (λ o. block_of (Some (seat_with o old class block left)) c) is);
+    over_stays = λ none. absurd (none (still-over a b gains.takes.plan.fill (hole-kept is) size (overflow refl).over));
   }
 
   -- of other blocks the mutator has at most those that it had
@@ -285,6 +316,9 @@ module _ (a b : PlainRow) (ready : IsReady a) (block size : ℕ) (region : Regio
   others : (k : ℕ) → k ≢ a.turn → (slice_get b.mutators.items k ≡ slice_get a.mutators.items k) × (slice_get b.seats.items k ≡ slice_get a.seats.items k)
   others k other = (ap (λ y. slice_get y.items k) gains.takes.mutators, gains.takes.seats.others k other)
 
+  foreign : KeepsForeign a b
+  foreign = foreign-but a b block (Owned (number_at_turn a) region) gains.takes.notes (λ owner r other is. gains.unowned owner r is)
+
   -- a block that was Free
   goes-free : HasKind s block kinds.Free → Goes a (grants block) b
   goes-free is = record {
@@ -306,7 +340,10 @@ module _ (a b : PlainRow) (ready : IsReady a) (block size : ℕ) (region : Regio
     stop = low-word 0 (omega arith);
     births = births;
     ticket = λ none kept. absurd (let wrong : 1 ≡ 0 = ap length kept in omega arith);
+    fill = gains.takes.plan.fill;
+    regions = λ still. absurd (let wrong : true ≡ false = still in cc);
     others = others;
+    foreign = foreign;
   }
 
   -- a block of the kind that mutators fill
@@ -328,7 +365,10 @@ module _ (a b : PlainRow) (ready : IsReady a) (block size : ℕ) (region : Regio
     stop = low-word 0 (omega arith);
     births = births;
     ticket = λ none kept. ap ticket_of seat-now ∙ taking.seat-ticket gains.over old class block left ∙ ap (λ f. ticket_left f (ticket_of (seat_at_turn a))) used;
+    fill = gains.takes.plan.fill;
+    regions = λ still. absurd (let wrong : true ≡ false = still in cc);
     others = others;
+    foreign = foreign;
   }
 
 -- what was not Free is not
@@ -385,6 +425,7 @@ module _ (a b : PlainRow) (ready : IsReady a) (block size : ℕ) (there : block 
     abbrev gains : Gains a b block (class-in a size) (first_region a.fill (class-in a size)) true
     gains = record {
       over = over;
+      lined = λ is. (overflow.0 is).over.lines;
       takes = takes;
       there = there;
       valid = let now = ready.idle.some in turns.own-valid now.epoch now.ideal now.log a now.at ready.turn size;
@@ -415,6 +456,7 @@ module _ (a b : PlainRow) (ready : IsReady a) (block size : ℕ) (there : block 
       region = first_region a.fill (class-in a size);
       now = free-region small;
       offer = inr (inl (is, refl));
+      others = rest-kept a b ready block size (first_region a.fill (class-in a size)) true gains over refl overflow.0 (fits small);
     }
 
     pub free-current : size ≤ 2048 → AllocatesIn b size block
@@ -476,7 +518,10 @@ module _ (a b : PlainRow) (ready : IsReady a) (block least size : ℕ) (region :
       (unowned-lines now.epoch now.at.epoch.ready (machine_after now.epoch now.log) (facts.moment now.epoch now.ideal now.log a now.at).epoch block
       (subst (λ (t : HeapState). owner_at t block ≡ 0) now.at.heap nobody))
 
-  -- it needs no ticket, and had no owner
+  -- it is no overflow region, needs no ticket, and had no owner
+  no-lines : IsTrue false → FillsLines a.fill
+  no-lines wrong = absurd (let is : false ≡ true = wrong in cc)
+
   no-ticket : IsTrue false → (t : ℕ) × (ticket_of (seat_at_turn a) ≡ Some t) × (t < a.allowance)
   no-ticket wrong = absurd (let is : false ≡ true = wrong in cc)
 
@@ -488,6 +533,7 @@ module _ (a b : PlainRow) (ready : IsReady a) (block least size : ℕ) (region :
     abbrev gained : Gains a b block (class-in a size) region false
     gained = record {
       over = false;
+      lined = no-lines;
       takes = takes;
       there = there;
       valid = let now = ready.idle.some in turns.own-valid now.epoch now.ideal now.log a now.at ready.turn size;
@@ -509,6 +555,9 @@ module _ (a b : PlainRow) (ready : IsReady a) (block least size : ℕ) (region :
 
     pub taken-region : IsRegion b size block region
     taken-region = region-now a b ready block size region false gained no-overflow hole.hole.room
+
+    pub taken-rest : KeepsRest b size a b
+    taken-rest = rest-kept a b ready block size region false gained false refl no-overflow hole.hole.room
 
     pub taken-room : HasRoom b size
     taken-room = room a b ready block size region false gained no-overflow hole.hole.room

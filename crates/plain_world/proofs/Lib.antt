@@ -33,6 +33,7 @@ pub mod Drawing
 pub mod Offering
 pub mod Taking
 pub mod Gaining
+pub mod Lacking
 pub mod Finding
 pub mod Cleared
 pub mod SomeIdeal

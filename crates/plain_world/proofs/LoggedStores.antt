@@ -32,11 +32,11 @@ use Rattle.mutator_core.proofs.Spots as spots
 use Rattle.mutator_core.proofs.Spots.{Spot, takes_block}
 use Rattle.mutator_calls.specs.Effects.{Effect, nothing, logs}
 use Rattle.plain_world.specs.declared.plain_row.PlainRow.{PlainRow}
-use Rattle.plain_world.specs.Rows.{IsTurn, births_of, ticket_of, mutator_at_turn, seat_at_turn, number_at_turn, address_at}
+use Rattle.plain_world.specs.Rows.{IsTurn, births_of, ticket_of, mutator_at_turn, seat_at_turn, number_at_turn, block_of, over_of, address_at}
 use Rattle.plain_world.specs.Notes.{AreFilled, HasNotes, IsRegionOf}
 use Rattle.plain_world.specs.Changes.{StoresWord}
 use Rattle.plain_world.specs.Worlds.{IsAt, IsReady, HasState, Continues, Goes, has}
-use Rattle.plain_world.specs.SeatLaws.{continues-after}
+use Rattle.plain_world.specs.SeatLaws.{continues-after, same-keeps, foreign-same}
 use Rattle.plain_world.specs.Steps.{HasShape}
 use Rattle.plain_world.proofs.NoteLemmas as notes
 use Rattle.plain_world.proofs.NoteLemmas.{KeepsBlocks}
@@ -298,7 +298,11 @@ module _ (a cleared b : PlainRow) (ready : IsReady a) (s k v : ℕ) (shape : Sha
     stop = elsewhere 0 (omega arith);
     births = ap (λ w. births_of (mutator_at_turn w)) rest ∙ sym (add-zero (births_of (mutator_at_turn a)));
     ticket = λ none kept. ap (λ w. ticket_of (seat_at_turn w)) rest;
+    fill = ap (λ w. w.fill) rest;
+    regions = λ still. same-keeps a.notes.items b.notes.items (seat_at_turn a) (seat_at_turn b) (ap (λ w. w.notes.items) rest)
+        (λ class. ap (λ w. block_of (seat_at_turn w) class) rest) (ap (λ w. over_of (seat_at_turn w)) rest);
     others = λ q other. (ap (λ w. slice_get w.mutators.items q) rest, ap (λ w. slice_get w.seats.items q) rest);
+    foreign = foreign-same a b (ap (λ w. w.notes) rest);
   }
 
   pub ready-logged : IsReady b

@@ -12,19 +12,21 @@ use Rattle.ideal_heap.specs.declared.name.Name.{Name}
 use Rattle.object_model.specs.Objects.{state_of, word_at, block_word, has_kind, HasKind, class_at, cell_words, is_unlogged, size_of}
 use Rattle.sessions.specs.Fitting.{IsFreeCell, HasCellFor, class_for}
 use Rattle.mutator_calls.specs.Effects.{enters}
+use Rattle.mutator_calls.specs.Allocating.{births}
 use Rattle.plain_world.specs.declared.plain_row.PlainRow.{PlainRow}
 use Rattle.plain_world.specs.declared.plain_row.BlockNote.{BlockNote}
 use Rattle.plain_world.specs.declared.plain_row.PlainSeat.{PlainSeat}
 use Rattle.plain_world.specs.declared.plain_row.BlockNote.TheVariants.{Owned}
 use Rattle.plan_api.specs.Cursors.{PlacesInRegion}
-use Rattle.plain_world.specs.Rows.{births_of, ticket_of, block_of, mutator_at_turn, seat_at_turn, number_at_turn}
-use Rattle.plain_world.specs.TwoRegions.{FillsLines, region_of, cursors_of, TriesBlock}
-use Rattle.plain_world.proofs.SeatRegions.{lines-for, region-kept, places-hole, places-over}
+use Rattle.plain_world.specs.Rows.{births_of, ticket_of, block_of, over_of, mutator_at_turn, seat_at_turn, number_at_turn}
+use Rattle.plain_world.specs.TwoRegions.{FillsLines, GoesOver, cursors_of, TriesBlock}
+use Rattle.plain_world.proofs.SeatRegions.{lines-for, class-else, over-else, places-hole, places-over}
 use Rattle.plain_world.proofs.Turns.{block-tries}
 use Rattle.plain_world.specs.Regions.{IsCellLeft, free, full, IsRegionIn, IsRestAfter, without_first}
 use Rattle.plain_world.specs.Notes.{AreFilled}
 use Rattle.plain_world.specs.Worlds.{IsReady, HasRoom, Continues, Goes}
-use Rattle.plain_world.specs.Steps.{Lacks, IsUsed, IsOverflow, KeepsRegion, AllocatesIn, PlacesObject}
+use Rattle.plain_world.specs.Steps.{Lacks, IsUsed, IsOverflow, KeepsRegion, KeepsRest, AllocatesIn, PlacesObject}
+use Rattle.plain_world.specs.SeatLaws.{foreign-but}
 use Rattle.plain_world.proofs.CellRooms.{rest-later}
 use Rattle.plain_world.proofs.Regions.{suits-class}
 use Rattle.plain_world.proofs.Turns as turns
@@ -38,21 +40,28 @@ module _ (a b : PlainRow) (d refs nums : ℕ) (n : Name) (born : IsBorn a b d n 
   and-true true = refl
   and-true false = refl
 
-  pub goes : Goes a (enters (c.New d refs nums) (r.New n)) b
+  pub goes : Goes a (births d refs nums n) b
   goes = record {
     turn = born.turn;
     number = objects.number-same a b d refs nums n born has register few_refs few_nums small few_births;
-    steps = objects.reaches a b d refs nums n born has register few_refs few_nums small few_births;
+    steps = λ p i log at. let steps = objects.reaches a b d refs nums n born has register few_refs few_nums small few_births p i log at in
+        record { more = steps.more; own = steps.own; at = steps.at; entries = steps.entries };
     logged = λ q. objects.unlogs a b d refs nums n born has register few_refs few_nums small few_births has.some.epoch has.some.ideal has.some.log has.some.at q ∙ and-true (is_unlogged (state_of a.row) q);
     granted = λ k. objects.kinds-same a b d refs nums n born has register few_refs few_nums small few_births has.some.epoch has.some.ideal has.some.log has.some.at k kinds.Free ∙ and-true (has_kind (state_of a.row) k kinds.Free);
     free = λ k among. absurd (let below : among.0 < 0 = among.1 in omega arith);
     size = born.object.blocks;
+    fill = born.fill;
     blocks = λ k below none. objects.block-word-same a b d refs nums n born has register few_refs few_nums small few_births has.some.epoch has.some.ideal has.some.log has.some.at k below;
     budget = low-word 1 (omega arith) ∙ sym (add-zero (word_at (state_of a.row) 1));
     stop = low-word 0 (omega arith);
     births = ap births_of (objects.mutator-now a b d refs nums n born has register few_refs few_nums small few_births) ∙ ap (λ o. births_of o + 1) (sym born.is);
     ticket = λ none kept. ap (λ y. ticket_of (slice_get y.items b.turn)) born.seats ∙ ap (λ k. ticket_of (slice_get a.seats.items k)) born.turn;
+    regions = λ still. absurd (let wrong : true ≡ false = still in cc);
     others = λ k other. (born.mutators.others k other, ap (λ y. slice_get y.items k) born.seats);
+    foreign = foreign-but a b born.block (Owned (number_at_turn a) born.left) born.notes (λ owner region other is.
+        let alike : Owned owner region ≡ Owned (number_at_turn a) born.region
+        = one-element (slice_get a.notes.items born.block) (Owned owner region) (Owned (number_at_turn a) born.region) is born.was in
+        other (let same : owner ≡ number_at_turn a = cc in same));
   }
     where
       low-word : (k : ℕ) → k < 18 → word_at (state_of b.row) k ≡ word_at (state_of a.row) k
@@ -65,20 +74,41 @@ module _ (a b : PlainRow) (d refs nums : ℕ) (n : Name) (born : IsBorn a b d n 
   region k is = subst (λ (f : Kind). TriesBlock f (seat_at_turn b) (size_of refs nums) k) (sym born.fill)
       (subst (λ (x : Option PlainSeat). TriesBlock a.fill x (size_of refs nums) k) (sym same-seat) is)
 
+  -- the region for a class that does not take the object is in another block, and so is the overflow region
+  other-class : (class : ℕ) → (class ≡ class_for a.fill (size_of refs nums) → GoesOver a.fill a.notes.items (seat_at_turn a) (size_of refs nums))
+      → block_of (seat_at_turn a) class ≡ Some born.block → ⊥
+  other-class class other here =
+      let now = has.some in
+      let alike : class ≡ class_for a.fill (size_of refs nums)
+      = sym (turns.own-region now.epoch now.ideal now.log a now.at has.turn class born.block here).1
+      ∙ (turns.own-block now.epoch now.ideal now.log a now.at has.turn (size_of refs nums) born.block born.current).1 in
+      elim born.current as (λ _. ⊥) [
+        | inl is ↦ is.0 (other alike)
+        | inr is ↦ turns.own-apart now.epoch now.ideal now.log a now.at has.turn born.block is.0.lines is.1
+            (ap (block_of (seat_at_turn a)) (sym (alike ∙ lines-for a.fill (size_of refs nums) is.0.lines)) ∙ here)
+      ]
+
+  other-over : (GoesOver a.fill a.notes.items (seat_at_turn a) (size_of refs nums) → ⊥) → over_of (seat_at_turn a) ≡ Some born.block → ⊥
+  other-over other over =
+      let now = has.some in
+      let lines = turns.own-lined now.epoch now.ideal now.log a now.at has.turn born.block over in
+      elim born.current as (λ _. ⊥) [
+        | inl is ↦ turns.own-apart now.epoch now.ideal now.log a now.at has.turn born.block lines over
+            (ap (block_of (seat_at_turn a)) (sym (lines-for a.fill (size_of refs nums) lines)) ∙ is.1)
+        | inr is ↦ other is.0
+      ]
+
+  rest : KeepsRest a (size_of refs nums) a b
+  rest = record {
+    classes = λ class other. class-else a.notes.items b.notes.items born.block (Owned (number_at_turn a) born.left) born.notes (seat_at_turn a) (seat_at_turn b) class
+        (ap (λ (x : Option PlainSeat). block_of x class) same-seat) (other-class class other);
+    over_stays = λ other. over-else a.notes.items b.notes.items born.block (Owned (number_at_turn a) born.left) born.notes (seat_at_turn a) (seat_at_turn b)
+        (ap over_of same-seat) (other-over other);
+  }
+
   -- an object that overflows the hole region leaves it
   pub keeps : IsOverflow a (size_of refs nums) → KeepsRegion a b
-  keeps over = record {
-    block = ap (λ (x : Option PlainSeat). block_of x 0) same-seat;
-    region = ap (λ (x : Option PlainSeat). region_of b.notes.items (block_of x 0)) same-seat
-        ∙ region-kept a.notes.items b.notes.items (seat_at_turn a) born.block (number_at_turn a) (size_of refs nums) born.region born.left born.was born.notes
-        (block_of (seat_at_turn a) 0) other;
-  }
-    where
-      other : block_of (seat_at_turn a) 0 ≡ Some born.block → ⊥
-      other hole = elim born.current as (λ _. ⊥) [
-        | inl is ↦ is.0 over.over
-        | inr is ↦ (let now = has.some in turns.own-apart now.epoch now.ideal now.log a now.at has.turn born.block over.over.lines is.1 hole)
-      ]
+  keeps over = rest.classes 0 (λ _. over.over)
 
   -- in cells it has one of the class for its size
   left-cell : (r : Region) → r.next + size_of refs nums ≤ r.end → IsCellLeft (state_of a.row) born.block 0 r → IsFreeCell (state_of a.row) born.block r.next
@@ -123,6 +153,7 @@ module _ (a b : PlainRow) (d refs nums : ℕ) (n : Name) (born : IsBorn a b d n 
 
   pub places : PlacesObject a b d (size_of refs nums)
   places = record {
+    fill = born.fill;
     block = born.block;
     region = born.region;
     now = record { current = born.current; note = born.was };
@@ -132,6 +163,7 @@ module _ (a b : PlainRow) (d refs nums : ℕ) (n : Name) (born : IsBorn a b d n 
     current = region born.block (block-tries a.fill a.notes.items (seat_at_turn a) (size_of refs nums) born.block born.current);
     cell = cell;
     region_after = after;
+    others = rest;
   }
 
   pub still : (k : ℕ) → IsUsed a k → IsUsed b k

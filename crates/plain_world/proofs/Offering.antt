@@ -8,14 +8,16 @@ use Rattle.object_model.specs.Objects.{HeapState, state_of, class_at, owner_at, 
 use Rattle.sessions.specs.Fitting.{class_for}
 use Rattle.plain_world.specs.declared.plain_row.PlainRow.{PlainRow}
 use Rattle.plain_world.specs.declared.plain_row.BlockNote.TheVariants.{Owned}
-use Rattle.plan_api.specs.Cursors.{RegionHasRoom}
+use Rattle.plan_api.specs.declared.cursors.Cursors.{Cursors}
+use Rattle.plan_api.specs.Cursors.{RegionHasRoom, LacksRoom}
 use Rattle.plan_api.specs.Holes.{IsFirstPart}
 use Rattle.plain_world.specs.Rows.{number_at_turn, seat_at_turn, block_of, over_of}
 use Rattle.plain_world.specs.Notes.{FillsTailsOrCells, IsRegionOf}
-use Rattle.plain_world.specs.TwoRegions.{FillsLines, region_of, region_noted, GoesOver, IsBlockFor, LacksLines, OffersLines}
+use Rattle.plain_world.specs.TwoRegions.{FillsLines, region_of, region_noted, cursors_of, GoesOver, IsBlockFor, KeepsRegions, LacksLines, OffersLines}
 use Rattle.plain_world.specs.Worlds.{IsInEpoch, IsReady, HasRoom}
 use Rattle.plain_world.specs.Regions.{BeginsHole}
-use Rattle.plain_world.specs.Steps.{AllocatesIn, IsRegion, IsOffer, Offers, IsOverflow, KeepsRegion}
+use Rattle.plain_world.specs.Steps.{IsRegion, IsOffer, Offers, IsFull, IsOverflow, KeepsRegion, KeepsRest}
+use Rattle.plain_world.specs.SeatLaws.{cursors-same, others-after}
 use Rattle.plain_world.proofs.Regions.{region-hole, region-before, SuitsCells, suits-class, fills-cases, no-lines}
 use Rattle.plain_world.proofs.BlockFrames.{SameLines}
 use Rattle.plain_world.proofs.LineLacks.{lines-lack-still, same-shrinks, first-back}
@@ -25,32 +27,44 @@ use Rattle.plain_world.proofs.Turns as turns
 suits-fill : (fill : Kind) (s : HeapState) (k size : ℕ) → 1 ≤ size → size ≤ 2048 → class_at s k ≡ class_for fill size → fill ≡ kinds.Cells → SuitsCells s k size
 suits-fill fill s k size some small suits cells = suits-class s k size some small (suits ∙ ap (λ (f : Kind). class_for f size) cells)
 
--- the region of a block of the mutator that has the class for the size has room
+-- the region of a block of the mutator that has the class for the size is a hole with room
+own-begins : (a : PlainRow) → IsInEpoch a → FillsTailsOrCells a.fill → (block size : ℕ) (region : Region)
+    → slice_get a.notes.items block ≡ Some (Owned (number_at_turn a) region)
+    → class_at (state_of a.row) block ≡ class_for a.fill size → 3 ≤ size → size ≤ 2048 → region.next + size ≤ region.end
+    → BeginsHole a.fill (state_of a.row) block region.next size × (owner_at (state_of a.row) block ≡ number_at_turn a)
+own-begins a now fills block size region note suits some small fits =
+    let right = turns.owned-note now.epoch now.ideal now.log a now.at block (number_at_turn a) region note in (
+      record {
+        hole = region-hole a.fill fills (state_of a.row) block size region right.kind right.left (suits-fill a.fill (state_of a.row) block size (omega (arith, some)) small suits) fits;
+        first = λ from hole. region-before a.fill fills (state_of a.row) block region right.left from size hole;
+      },
+      right.owner,
+    )
+
 pub own-offer : (a b : PlainRow) → IsInEpoch a → FillsTailsOrCells a.fill → (block size : ℕ) (region : Region)
     → slice_get a.notes.items block ≡ Some (Owned (number_at_turn a) region)
-    → class_at (state_of a.row) block ≡ class_for a.fill size → 3 ≤ size → size ≤ 2048 → region.next + size ≤ region.end → IsRegion b size block region → Offers a b size
-own-offer a b now fills block size region note suits some small fits here =
-    let right = turns.owned-note now.epoch now.ideal now.log a now.at block (number_at_turn a) region note in
+    → class_at (state_of a.row) block ≡ class_for a.fill size → 3 ≤ size → size ≤ 2048 → region.next + size ≤ region.end → IsRegion b size block region
+    → KeepsRest b size a b → Offers a b size
+own-offer a b now fills block size region note suits some small fits here rest =
+    let begins = own-begins a now fills block size region note suits some small fits in
     record {
       block = block;
       region = region;
       now = here;
-      offer = inl (
-        record {
-          hole = region-hole a.fill fills (state_of a.row) block size region right.kind right.left (suits-fill a.fill (state_of a.row) block size (omega (arith, some)) small suits) fits;
-          first = λ from hole. region-before a.fill fills (state_of a.row) block region right.left from size hole;
-        },
-        inr ((λ lines. no-lines (subst FillsTailsOrCells lines fills)), right.owner),
-      );
+      offer = inl (begins.0, inr ((λ lines. no-lines (subst FillsTailsOrCells lines fills)), begins.1));
+      others = rest;
     }
 
+-- a mutator that does nothing keeps its regions
+rest-same : (a : PlainRow) (size : ℕ) → KeepsRest a size a a
+rest-same a size = record { classes = λ class _. record { block = refl; region = refl }; over_stays = λ _. record { block = refl; region = refl } }
+
 -- the rest of the region that takes the size, under lines
-pub rest-offer : (a b : PlainRow) → IsInEpoch a → FillsLines a.fill → (block size : ℕ) (region : Region)
-    → slice_get a.notes.items block ≡ Some (Owned (number_at_turn a) region) → IsBlockFor a.fill a.notes.items (seat_at_turn a) size block
-    → region.next + size ≤ region.end → IsRegion b size block region → Offers a b size
-rest-offer a b now lines block size region note current fits here =
-    let right = turns.owned-note now.epoch now.ideal now.log a now.at block (number_at_turn a) region note in
-    let same : region_of a.notes.items (Some block) ≡ region = ap region_noted note in
+rest-offer : (a : PlainRow) → IsInEpoch a → FillsLines a.fill → (block size : ℕ) (region : Region) → IsRegion a size block region
+    → region.next + size ≤ region.end → Offers a a size
+rest-offer a now lines block size region here fits =
+    let right = turns.owned-note now.epoch now.ideal now.log a now.at block (number_at_turn a) region here.note in
+    let same : region_of a.notes.items (Some block) ≡ region = ap region_noted here.note in
     record {
       block = block;
       region = region;
@@ -58,18 +72,39 @@ rest-offer a b now lines block size region note current fits here =
       offer = inr (inr (record {
         lines = lines;
         owner = right.owner;
-        from = inl (current, ap (λ (r : Region). r.next) (sym same), subst (λ (r : Region). RegionHasRoom r size) (sym same) fits);
+        from = inl (here.current, ap (λ (r : Region). r.next) (sym same), subst (λ (r : Region). RegionHasRoom r size) (sym same) fits);
       }));
+      others = rest-same a size;
     }
 
 pub room-offers : (a : PlainRow) (size : ℕ) → 3 ≤ size → size ≤ 2048 → HasRoom a size → Offers a a size
 room-offers a size some small has = elim (fills-cases a.fill has.some.at.fills) as (λ _. Offers a a size) [
   | inl fills ↦ own-offer a a has.some fills has.block size has.room.region has.room.note
       (turns.own-block has.some.epoch has.some.ideal has.some.log a has.some.at has.turn size has.block has.current).1
-      some small has.room.room (record { current = has.current; note = has.room.note })
-  | inr lines ↦ rest-offer a a has.some lines has.block size has.room.region has.room.note has.current has.room.room
-      (record { current = has.current; note = has.room.note })
+      some small has.room.room (record { current = has.current; note = has.room.note }) (rest-same a size)
+  | inr lines ↦ rest-offer a has.some lines has.block size has.room.region (record { current = has.current; note = has.room.note }) has.room.room
 ]
+
+-- where a region that is tried has room, not all lack it
+pub room-not-full : (a : PlainRow) (size : ℕ) → 3 ≤ size → size ≤ 2048 → HasRoom a size → IsFull a size → ⊥
+room-not-full a size some small has full = elim (fills-cases a.fill has.some.at.fills) as (λ _. ⊥) [
+  | inl fills ↦ (
+      let not : FillsLines a.fill → ⊥ = λ lines. no-lines (subst FillsTailsOrCells lines fills) in
+      let class = (turns.own-block has.some.epoch has.some.ideal has.some.log a has.some.at has.turn size has.block has.current).1 in
+      let begins = own-begins a has.some fills has.block size has.room.region has.room.note class some small has.room.room in
+      elim has.current as (λ _. ⊥) [
+        | inl is ↦ (full.own not has.block is.1).own not begins.1 has.room.region.next begins.0.hole
+        | inr is ↦ not is.0.lines
+      ])
+  | inr lines ↦ elim has.current as (λ _. ⊥) [
+    | inl is ↦ (full.lines lines).hole
+        (room-in (block_of (seat_at_turn a) 0) (ap (λ (f : Kind). block_of (seat_at_turn a) (class_for f size)) (sym lines) ∙ is.1))
+    | inr is ↦ (full.lines lines).over is.0.tried (room-in (over_of (seat_at_turn a)) is.1)
+  ]
+]
+  where
+    room-in : (o : Option ℕ) → o ≡ Some has.block → RegionHasRoom (region_of a.notes.items o) size
+    room-in o is = subst (λ (r : Region). RegionHasRoom r size) (sym (ap (region_of a.notes.items) is ∙ ap region_noted has.room.note)) has.room.room
 
 -- what a heap offers to mutator m
 abbrev OfferIn : ℕ → ℕ → ℕ → Kind → HeapState → ℕ → Type 0
@@ -79,8 +114,8 @@ OfferIn k offset size fill s m = (BeginsHole fill s k offset size × ((owner_at 
 pub offers-back : (a b c : PlainRow) (n : ℕ) → state_of b.row ≡ state_of a.row → b.fill ≡ a.fill → number_at_turn b ≡ number_at_turn a
     → ((k offset : ℕ) → OffersLines b.fill b.notes.items (seat_at_turn b) (state_of b.row) (number_at_turn b) k offset n
     → OffersLines a.fill a.notes.items (seat_at_turn a) (state_of a.row) (number_at_turn a) k offset n)
-    → Offers b c n → Offers a c n
-offers-back a b c n heap fill number lines offers = record {
+    → KeepsRegions a.notes.items (seat_at_turn a) b.notes.items (seat_at_turn b) → Offers b c n → Offers a c n
+offers-back a b c n heap fill number lines keeps offers = record {
   block = offers.block;
   region = offers.region;
   now = offers.now;
@@ -91,6 +126,8 @@ offers-back a b c n heap fill number lines offers = record {
     | inr (inl free) ↦ inr (inl (subst (λ (s : HeapState). HasKind s offers.block kinds.Free) heap free.0, free.1))
     | inr (inr own) ↦ inr (inr (lines offers.block offers.region.next own))
   ];
+  others = others-after c.fill n (GoesOver c.fill c.notes.items (seat_at_turn c) n) a.notes.items b.notes.items c.notes.items
+      (seat_at_turn a) (seat_at_turn b) (seat_at_turn c) keeps offers.others;
 }
 
 -- an option that is read of a list
@@ -137,19 +174,23 @@ module _ (a b : PlainRow) (keeps : KeepsSeat a b) (ready : IsReady a) where
       (same-shrinks (region_of a.notes.items (Some k)) (region_of b.notes.items (Some k)) same)
       (kind-then k) (λ here. keeps.lines k (own-hole k here))
 
-  -- it tries no other blocks
-  pub seat-tries : (n k : ℕ) → AllocatesIn b n k → AllocatesIn a n k
-  seat-tries n k (inl is) = inl (sym (keeps.block (class_for a.fill n)) ∙ ap (λ (f : Kind). block_of (seat_at_turn b) (class_for f n)) (sym keeps.fill) ∙ is)
-  seat-tries n k (inr is) = inr (sym keeps.fill ∙ is.0, is.1, sym keeps.over ∙ is.2)
-
   -- where all regions stay
   module _ (regions : (k : ℕ) → region_of b.notes.items (Some k) ≡ region_of a.notes.items (Some k)) where
     region-same : (o : Option ℕ) → region_of b.notes.items o ≡ region_of a.notes.items o
     region-same None = refl
     region-same (Some k) = regions k
 
-    pub seat-keeps : KeepsRegion a b
-    seat-keeps = record { block = keeps.block 0; region = ap (region_of b.notes.items) (keeps.block 0) ∙ region-same (block_of (seat_at_turn a) 0) }
+    pub seat-regions : KeepsRegions a.notes.items (seat_at_turn a) b.notes.items (seat_at_turn b)
+    seat-regions = record {
+      classes = λ class. record {
+        block = keeps.block class;
+        region = ap (region_of b.notes.items) (keeps.block class) ∙ region-same (block_of (seat_at_turn a) class);
+      };
+      over = record { block = keeps.over; region = ap (region_of b.notes.items) keeps.over ∙ region-same (over_of (seat_at_turn a)) };
+    }
+
+    seat-keeps : KeepsRegion a b
+    seat-keeps = seat-regions.classes 0
 
     goes-over : (size : ℕ) → GoesOver b.fill b.notes.items (seat_at_turn b) size → GoesOver a.fill a.notes.items (seat_at_turn a) size
     goes-over size is = still-over b a (sym keeps.fill) (record { block = sym seat-keeps.block; region = sym seat-keeps.region }) size is
@@ -176,15 +217,16 @@ module _ (a b : PlainRow) (keeps : KeepsSeat a b) (ready : IsReady a) where
           owner = (turns.owned-note now.epoch now.ideal now.log a now.at k (number_at_turn a) mine.region mine.note).owner;
           from = elim is.from as (λ _. (IsBlockFor a.fill a.notes.items (seat_at_turn a) size k × (offset ≡ (region_of a.notes.items (Some k)).next)
               × RegionHasRoom (region_of a.notes.items (Some k)) size) ⊎ ((block_of (seat_at_turn a) 0 ≡ Some k)
-              × ((end : ℕ) × IsFirstPart kinds.Immix (state_of a.row) k (region_of a.notes.items (Some k)).end size (record { next = offset; end = end })))) [
+              × LacksRoom (cursors_of a.notes.items (seat_at_turn a)) size × ((end : ℕ) × IsFirstPart kinds.Immix (state_of a.row) k (region_of a.notes.items (Some k)).end size (record { next = offset; end = end })))) [
                 | inl rest ↦ inl (block-for size k rest.0, rest.1 ∙ ap (λ (r : Region). r.next) (regions k), subst (λ (r : Region). RegionHasRoom r size) (regions k) rest.2)
                 | inr later ↦ inr (
                   sym (keeps.block 0) ∙ later.0,
+                  subst (λ (c : Cursors). LacksRoom c size) (cursors-same a.notes.items b.notes.items (seat_at_turn a) (seat_at_turn b) seat-regions) later.1,
                   (
-                    later.1.0,
-                    first-back (state_of a.row) (state_of b.row) k (region_of a.notes.items (Some k)).end size (record { next = offset; end = later.1.0 })
+                    later.2.0,
+                    first-back (state_of a.row) (state_of b.row) k (region_of a.notes.items (Some k)).end size (record { next = offset; end = later.2.0 })
                         (kind-then k) (λ kind. keeps.kind k ∙ kind) (keeps.lines k mine)
-                        (subst (λ (r : Region). IsFirstPart kinds.Immix (state_of b.row) k r.end size (record { next = offset; end = later.1.0 })) (regions k) later.1.1),
+                        (subst (λ (r : Region). IsFirstPart kinds.Immix (state_of b.row) k r.end size (record { next = offset; end = later.2.0 })) (regions k) later.2.1),
                   ),
                 )
               ];

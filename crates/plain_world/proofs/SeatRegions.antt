@@ -10,11 +10,24 @@ use Rattle.plain_world.specs.declared.plain_row.PlainSeat.{PlainSeat}
 use Rattle.plain_world.specs.declared.plain_row.BlockNote.{BlockNote}
 use Rattle.plain_world.specs.declared.plain_row.BlockNote.TheVariants.{Owned}
 use Rattle.plain_world.specs.Rows.{ChangesAt, block_of, over_of}
-use Rattle.plain_world.specs.TwoRegions.{FillsLines, GoesOver, region_of, region_noted, cursors_of}
+use Rattle.plain_world.specs.TwoRegions.{FillsLines, GoesOver, KeepsClass, KeepsOver, region_of, region_noted, cursors_of}
 
 -- the class of any size is 0 under lines
 pub lines-for : (fill : Kind) (size : ℕ) → FillsLines fill → class_for fill size ≡ 0
 lines-for fill size lines = ap (λ (f : Kind). class_for f size) lines
+
+-- The note of one block changes: a region of another block stays, that for a class, and the overflow region.
+module _ (notes later : List BlockNote) (block : ℕ) (note : BlockNote) (changes : ChangesAt notes later block note) where
+  pub region-else : (o : Option ℕ) → (o ≡ Some block → ⊥) → region_of later o ≡ region_of notes o
+  region-else None other = refl
+  region-else (Some k) other = ap region_noted (changes.others k (λ same. other (ap (λ (j : ℕ). Some j) same)))
+
+  module _ (seat now : Option PlainSeat) where
+    pub class-else : (class : ℕ) → block_of now class ≡ block_of seat class → (block_of seat class ≡ Some block → ⊥) → KeepsClass class notes seat later now
+    class-else class same other = record { block = same; region = ap (region_of later) same ∙ region-else (block_of seat class) other }
+
+    pub over-else : over_of now ≡ over_of seat → (over_of seat ≡ Some block → ⊥) → KeepsOver notes seat later now
+    over-else same other = record { block = same; region = ap (region_of later) same ∙ region-else (over_of seat) other }
 
 -- The note of one own block changes, which has one of the two regions.
 module _ (notes later : List BlockNote) (seat : Option PlainSeat) (block number size : ℕ) (region rest : Region)
@@ -26,9 +39,8 @@ module _ (notes later : List BlockNote) (seat : Option PlainSeat) (block number 
   region-now = ap region_noted changes.here
 
   -- the other one stays
-  pub region-kept : (o : Option ℕ) → (o ≡ Some block → ⊥) → region_of later o ≡ region_of notes o
-  region-kept None other = refl
-  region-kept (Some k) other = ap region_noted (changes.others k (λ same. other (ap (λ (j : ℕ). Some j) same)))
+  region-kept : (o : Option ℕ) → (o ≡ Some block → ⊥) → region_of later o ≡ region_of notes o
+  region-kept = region-else notes later block (Owned number rest) changes
 
   abbrev cursors : Region → Region → Cursors
   cursors hole over = record {

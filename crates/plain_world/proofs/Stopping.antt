@@ -61,7 +61,7 @@ module _ (a b : PlainRow) (n : ℕ) (stores : StoresWord a b 0 n) (ready : IsRea
 -- a stop that was raised already
 pub raised-before : (a : PlainRow) → IsReady a → word_at (state_of a.row) 0 ≢ 0 → Goes a raises a
 raised-before a ready some = entering.goes-with a ready [] 0 true a refl refl (λ p i log at.
-    let idle = entering.unmoved p i log (number_at_turn a) a a at refl refl refl (λ k other. refl) in record {
+    let idle = entering.unmoved p i log (number_at_turn a) a at in record {
       continues = record { more = idle.continues.more; own = idle.continues.own; at = idle.continues.at; entries = idle.continues.entries };
       unlogs = idle.unlogs;
       kinds = idle.kinds;
@@ -71,5 +71,9 @@ raised-before a ready some = entering.goes-with a ready [] 0 true a refl refl (�
       stop = sym (cond-false (nat_eq (word_at (state_of a.row) 0) 0) (number_at_turn a) (word_at (state_of a.row) 0) (ne_eqb (word_at (state_of a.row) 0) 0 some));
       births = idle.births;
       ticket = idle.ticket;
+      fill = idle.fill;
+      notes = idle.notes;
+      cursors = idle.cursors;
+      over = idle.over;
       others = idle.others;
     })

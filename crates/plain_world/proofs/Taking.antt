@@ -118,6 +118,7 @@ class_found false class = class
 -- is left of the block.
 pub record Gains (a b : PlainRow) (block class : ℕ) (region : Region) (free : Bool) : Type 0 where
   pub over : Bool
+  pub lined : over ≡ true → FillsLines a.fill
   pub takes : TakesBlock a b over block class region (ticket_left free (ticket_of (seat_at_turn a)))
   pub there : block < a.row.layout.blocks
   pub valid : IsValid (record { kind = a.fill; class = class; owner = number_at_turn a })
@@ -323,6 +324,10 @@ module _ (p : Epoch) (i : IdealHeap) (log : List LogEntry) (a b : PlainRow) (at 
       | inl here ↦ (let mine = new-own d (one-element (Some block) d block (sym here.2) refl) in (mine.0, mine.1 ∙ sym here.1))
       | inr was ↦ (let own = old-seat c d was in still-own m c d own.0 own.1)
     ];
+    lined = λ d is. gains.takes.plan.fill ∙ elim (over-cases gains.over old class block left d is) as (λ _. FillsLines a.fill) [
+      | inl here ↦ gains.lined here.0
+      | inr was ↦ turns.own-lined p i log a at turn d was
+    ];
     over = λ lines d is. elim (over-cases gains.over old class block left d is) as (λ _. IsRegionOf b.notes.items m d) [
       | inl here ↦ (new-own d here.1).0
       | inr was ↦ (let own = old-over (sym gains.takes.plan.fill ∙ lines) d was in (still-own m (class_at (state_of a.row) d) d own refl).0)
@@ -348,6 +353,7 @@ module _ (p : Epoch) (i : IdealHeap) (log : List LogEntry) (a b : PlainRow) (at 
     | inr other ↦ (let was = at.cursors k q y (same-mutator k q is) other.1 in record {
       classes = was.classes;
       each = λ c d there. let has = was.each c d there in still-own q.number c d has.0 has.1;
+      lined = λ d there. gains.takes.plan.fill ∙ was.lined d there;
       over = λ lines d there. let has = was.over (sym gains.takes.plan.fill ∙ lines) d there in (still-own q.number (class_at (state_of a.row) d) d has refl).0;
       apart = λ lines d there. was.apart (sym gains.takes.plan.fill ∙ lines) d there;
     })

@@ -330,7 +330,10 @@ module _ (p : Epoch) (i : IdealHeap) (log : List LogEntry) (w : PlainRow) (at : 
     pub own-region : (class b : ℕ) → block_of (seat_at_turn w) class ≡ Some b → IsRegionOf w.notes.items (number_at_turn w) b × (class_at (state_of w.row) b ≡ class)
     own-region class b is = own-cursors.each class b (set-in own-seat.0.blocks class b (ap (λ (o : Option PlainSeat). block_of o class) (sym own-seat.1) ∙ is))
 
-    -- under lines it owns the block of its overflow region, which is not that of the hole region
+    -- only under lines has it an overflow region, whose block it owns, and which is not that of the hole region
+    pub own-lined : (b : ℕ) → over_of (seat_at_turn w) ≡ Some b → FillsLines w.fill
+    own-lined b is = own-cursors.lined b (ap over_of (sym own-seat.1) ∙ is)
+
     pub own-over : (b : ℕ) → FillsLines w.fill → over_of (seat_at_turn w) ≡ Some b → IsRegionOf w.notes.items (number_at_turn w) b
     own-over b lines is = own-cursors.over lines b (ap over_of (sym own-seat.1) ∙ is)
 

@@ -16,18 +16,18 @@ use Rattle.object_model.specs.declared.shape.TheConstants.{HEADER_WORDS, MAX_MED
 use Rattle.object_model.specs.Graphs.{MutatorState}
 use Rattle.object_model.specs.Ages.{is_old}
 use Rattle.sessions.specs.Fitting.{HasCellFor}
+use Rattle.sessions.specs.Plans.{Rules}
 use Rattle.plan_api.specs.declared.cursors.Cursors.{Cursors}
-use Rattle.plan_api.specs.Cursors.{PlacesInRegion}
+use Rattle.plan_api.specs.Cursors.{TriesOverflow, PlacesInRegion}
 use Rattle.mutator_core.specs.Machine.{Epoch}
 use Rattle.mutator_calls.specs.Effects.{Effect, draws}
-use Rattle.mutator_calls.specs.Allocating.{Books, births_with, Draws, IsSpent, FindsRoom}
+use Rattle.mutator_calls.specs.Allocating.{Books, births_with, Draws, FindsRoom}
 use Rattle.plain_world.specs.declared.plain_world.PlainWorld.{PlainWorld}
 use Rattle.plain_world.specs.declared.plain_row.PlainSeat.{PlainSeat}
 use Rattle.plain_world.specs.declared.plain_row.BlockNote.{BlockNote}
 use Rattle.plain_world.specs.Rows.{mutator_state, number_of, births_of, registers_of, ticket_of}
-use Rattle.plain_world.specs.TwoRegions.{FillsLines, cursors_of, TriesBlock, Overflows, KeepsHole, LacksBlock, LacksRegions, OffersRoom}
-use Rattle.plain_world.specs.Worlds.{IsAfter, IsIdle, Goes, has, births_in, stop_after}
-use Rattle.plain_world.specs.Steps.{AllocatesIn, Lacks, KeepsRegion}
+use Rattle.plain_world.specs.TwoRegions.{FillsLines, cursors_of, TriesBlock, Overflows, KeepsHole, KeepsRegions, KeepsOthers, LacksBlock, LacksRegions, OffersRoom}
+use Rattle.plain_world.specs.Worlds.{IsAfter, IsIdle, has, births_in, stop_after}
 
 -- the heap, as the mutators use it
 abbrev pub heap_of : {P : Type 0} → PlainWorld P → HeapState
@@ -58,9 +58,10 @@ places_of w = length w.row.mutators.items
 abbrev pub HasPlace : {P : Type 0} → PlainWorld P → ℕ → Type 0
 HasPlace w m = m < places_of w
 
--- the world is between two calls
-abbrev pub IsOpen : {P : Type 0} → PlainWorld P → Type 0
-IsOpen w = IsIdle w.row
+-- The world is between two calls, and mutators fill blocks of the kind of these rules.
+pub record IsOpen {P : Type 0} (rules : Rules) (w : PlainWorld P) : Type 0 where
+  pub idle : IsIdle w.row
+  pub fill : w.row.fill ≡ rules.fill
 
 -- the world is in the epoch p, which began with the ideal heap i, and the history since then is the part
 abbrev pub HasHistory : {P : Type 0} → PlainWorld P → Epoch → IdealHeap → List Entry → Type 0
@@ -75,11 +76,10 @@ AddsEntries old es new = (p : Epoch) (i : IdealHeap) (part : List Entry) → Has
 abbrev pub AddsEntry : {P : Type 0} → PlainWorld P → ℕ → Command → Reply → PlainWorld P → Type 0
 AddsEntry old m command reply new = AddsEntries old (entry (number_at old m) command reply ∷ []) new
 
--- the same mutators, at the same places, and the same kind of blocks to fill
+-- the same mutators, at the same places
 pub record SamePlaces {P : Type 0} (old new : PlainWorld P) : Type 0 where
   pub count : places_of new ≡ places_of old
   pub numbers : map (λ m. m.number) new.row.mutators.items ≡ map (λ m. m.number) old.row.mutators.items
-  pub fill : new.row.fill ≡ old.row.fill
 
 -- the plan is generational
 abbrev pub is_generational : {P : Type 0} → PlainWorld P → Bool
@@ -132,10 +132,9 @@ OverflowsAt w m size = Overflows w.row.fill (notes_of w) (seat_at w m) size
 abbrev pub KeepsHoleAt : {P : Type 0} → PlainWorld P → ℕ → PlainWorld P → Type 0
 KeepsHoleAt old m new = KeepsHole (notes_of old) (seat_at old m) (notes_of new) (seat_at new m)
 
--- The mutator at place m went on in its own blocks in vain: in a state that it reached by drawing tickets alone, with the
--- same hole region, no block in which it tries a region for the size has room.
-abbrev pub HasSpentBlocks : {P : Type 0} → PlainWorld P → ℕ → ℕ → Type 0
-HasSpentBlocks w m size = IsSpent Goes KeepsRegion AllocatesIn Lacks (record w.row { turn = m }) size
+-- from the one world to the other the mutator at place m keeps its regions
+abbrev pub KeepsRegionsAt : {P : Type 0} → PlainWorld P → ℕ → PlainWorld P → Type 0
+KeepsRegionsAt old m new = KeepsRegions (notes_of old) (seat_at old m) (notes_of new) (seat_at new m)
 
 -- block k is not Free
 abbrev pub IsNotFree : {P : Type 0} → PlainWorld P → ℕ → Type 0
@@ -155,8 +154,8 @@ stop_word w = word_at (heap_of w) 0
 abbrev pub budget_word : {P : Type 0} → PlainWorld P → ℕ
 budget_word w = word_at (heap_of w) 1
 
--- Steps of this effect, of the mutator at place m, change stop word, budget word, block words, births and tickets so, and
--- nothing of the other mutators. Each object stays where it is, with its three header words.
+-- Steps of this effect, of the mutator at place m, change stop word, budget word, block words, births, tickets and regions
+-- so, and nothing of the other mutators. Each object stays where it is, with its three header words.
 pub record LeavesRest {P : Type 0} (old : PlainWorld P) (m : ℕ) (e : Effect) (new : PlainWorld P) : Type 0 where
   pub stop : stop_word new ≡ stop_after e.raised (number_at old m) (stop_word old)
   pub budget : budget_word new ≡ budget_word old + e.drawn
@@ -164,26 +163,32 @@ pub record LeavesRest {P : Type 0} (old : PlainWorld P) (m : ℕ) (e : Effect) (
       → block_word (heap_of new) k ≡ block_word (heap_of old) k
   pub births : births_at new m ≡ births_at old m + births_in e.entries
   pub ticket : e.drawn ≡ 0 → e.granted ≡ [] → ticket_at new m ≡ ticket_at old m
+  pub regions : e.moved ≡ false → KeepsRegionsAt old m new
   pub others : (k : ℕ) → k ≢ m → (slice_get new.row.mutators.items k ≡ slice_get old.row.mutators.items k)
-      × (ticket_at new k ≡ ticket_at old k)
+      × (seat_at new k ≡ seat_at old k) × KeepsRegionsAt old k new
   pub objects : (x : ℕ) → IsHeld (heap_of old) x → IsHeld (heap_of new) x
       × ((j : ℕ) → j < HEADER_WORDS → word_at (heap_of new) (x + j) ≡ word_at (heap_of old) (x + j))
 
--- the heap, the mutators and their tickets are unchanged
+-- the heap, the mutators, their tickets and their regions are unchanged
 pub record IsUnchanged {P : Type 0} (old new : PlainWorld P) : Type 0 where
   pub heap : heap_of new ≡ heap_of old
   pub mutators : mutators_of new ≡ mutators_of old
   pub tickets : (k : ℕ) → ticket_at new k ≡ ticket_at old k
+  pub regions : (k : ℕ) → KeepsRegionsAt old k new
 
 -- the mutator at place m tries a region in block k for objects of this size
 abbrev pub AllocatesAt : {P : Type 0} → PlainWorld P → ℕ → ℕ → ℕ → Type 0
 AllocatesAt w m size k = TriesBlock w.row.fill (seat_at w m) size k
 
+-- no block in which the mutator at place m tries a region for the size has room for it
+abbrev pub HasSpentBlocks : {P : Type 0} → PlainWorld P → ℕ → ℕ → Type 0
+HasSpentBlocks w m size = (k : ℕ) → AllocatesAt w m size k → HasNoRoom w m size k
+
 -- The new object in register d of the mutator at place m lies in a block that the mutator allocates objects of this
 -- size in now, which it owns. It begins the first hole with room for it, of a block that was the mutator's or nobody's, or
 -- a block that was Free. In cells it has one of the class for the size. Under lines it may also begin the rest of the
 -- region that takes it, or a later hole of the block of the hole region; and it is in the one of the two regions that
--- takes it, which begins after it now.
+-- takes it, which begins after it now: `before` are the two as the object was placed. The mutator's other regions stay.
 pub record IsPlacedIn {P : Type 0} (old : PlainWorld P) (m : ℕ) (new : PlainWorld P) (d size : ℕ) : Type 0 where
   pub block : ℕ
   pub offset : ℕ
@@ -192,8 +197,10 @@ pub record IsPlacedIn {P : Type 0} (old : PlainWorld P) (m : ℕ) (new : PlainWo
   pub current : AllocatesAt new m size block
   pub cell : HasCellFor new.row.fill (heap_of new) block offset size
   pub spot : OffersRoom old.row.fill (notes_of old) (seat_at old m) (heap_of old) (number_at old m) block offset size
-  pub region : FillsLines new.row.fill → (before : Cursors)
-      × PlacesInRegion before (cursors_of (notes_of new) (seat_at new m)) size block offset
+  pub before : Cursors
+  pub region : FillsLines new.row.fill → PlacesInRegion before (cursors_of (notes_of new) (seat_at new m)) size block offset
+  pub others : KeepsOthers old.row.fill size (FillsLines old.row.fill × TriesOverflow before size)
+      (notes_of old) (seat_at old m) (notes_of new) (seat_at new m)
 
 -- The mutator at place m allocates an object of this name: it takes these blocks, of which these were Free, and draws so
 -- many tickets.
@@ -211,8 +218,8 @@ pub record Allocates {P : Type 0} (old : PlainWorld P) (m d r q : ℕ) (n : Name
       (heap_of new).blocks (allowance_of new) (ticket_at old m) (ticket_at new m) taken granted drawn
   pub placed : IsPlacedIn old m new d (size_of r q)
 
--- The mutator at place m allocates no object of this size, and keeps its hole region. It draws a ticket or none; none if
--- the object is large. Else its own blocks have no room.
+-- The mutator at place m allocates no object of this size, and keeps its regions. It draws a ticket or none; none if the
+-- object is large. Else no region that it tries has room, nor has a block with such a region.
 pub record Refuses {P : Type 0} (old : PlainWorld P) (m size : ℕ) (new : PlainWorld P) : Type 0 where
   pub drawn : ℕ
   pub history : AddsEntries old [] new
@@ -220,5 +227,5 @@ pub record Refuses {P : Type 0} (old : PlainWorld P) (m size : ℕ) (new : Plain
   pub rest : LeavesRest old m (draws drawn) new
   pub tickets : Draws (λ t. t ≡ budget_word old) (ticket_at old m) (ticket_at new m) drawn
   pub large : MAX_MEDIUM_WORDS < size → drawn ≡ 0
+  pub full : size ≤ MAX_MEDIUM_WORDS → HasFullRegions old m size
   pub spent : size ≤ MAX_MEDIUM_WORDS → HasSpentBlocks old m size
-  pub kept : KeepsHoleAt old m new

@@ -16,7 +16,7 @@ use Rattle.plain_world.specs.declared.plain_row.BlockNote.{BlockNote}
 use Rattle.plain_world.specs.declared.plain_row.BlockNote.TheVariants.{Unowned, Owned}
 use Rattle.plain_world.specs.declared.plain_row.PlainSeat.{PlainSeat}
 use Rattle.plain_world.specs.Rows.{ChangesAt, mutator_at_turn, seat_at_turn, number_at_turn, ticket_of, blocks_of, block_of, over_of}
-use Rattle.plain_world.specs.TwoRegions.{FillsLines, IsBlockFor, TriesBlock, LacksLines}
+use Rattle.plain_world.specs.TwoRegions.{FillsLines, IsBlockFor, LacksLines}
 
 -- the word at this index becomes v; all else stays
 pub record StoresWord (old new : PlainRow) (at v : ℕ) : Type 0 where
@@ -78,15 +78,12 @@ pub record ReturnsTo (old new : PlainRow) (block class : ℕ) : Type 0 where
       })
 
 -- The block has room for the size that the mutator may fill, and becomes the one that it allocates in. The block is its
--- own already, or nobody owned it. Under a plan with lines an own block has room in a region that is tried for the size, or
--- there is a later hole in the block of the hole region, which is this region then.
+-- own already, or nobody owned it. Under a plan with lines an own block is that of the hole region: a later hole of it
+-- becomes this region.
 pub data FindsHole (old new : PlainRow) (block size : ℕ) : Type 0 where
   own : (region : Region) → slice_get old.notes.items block ≡ Some (Owned (number_at_turn old) region)
       → (FillsLines old.fill → ⊥) → class_at (state_of old.row) block ≡ class_for old.fill size → region.next + size ≤ region.end
       → ReturnsTo old new block (class_for old.fill size) → FindsHole old new block size
-  has_rest : (region : Region) → slice_get old.notes.items block ≡ Some (Owned (number_at_turn old) region) → FillsLines old.fill
-      → TriesBlock old.fill (seat_at_turn old) size block → region.next + size ≤ region.end → new ≡ old
-      → FindsHole old new block size
   next_hole : (region hole : Region) → slice_get old.notes.items block ≡ Some (Owned (number_at_turn old) region) → FillsLines old.fill
       → block_of (seat_at_turn old) 0 ≡ Some block → region.end < region.next + size
       → IsFirstHole old.fill (state_of old.row) block region.end size (Some hole)

@@ -1,10 +1,10 @@
 -- Effects, one after another.
-use Rattle.std.proofs.Common.{◌≡◌, ◌≢◌, refl, sym, ◌∙◌, ap, subst, ℕ, ◌+◌, inl, inr, arith, Bool, true, false, ◌&&◌, ◌||◌, not, ◌<◌, suc, length, add-zero, add_assoc, List, [], ◌∷◌, ◌++◌, map, nat_eq}
+use Rattle.std.proofs.Common.{◌≡◌, ◌≢◌, refl, sym, ◌∙◌, ap, subst, ℕ, ◌+◌, inl, inr, arith, Bool, true, false, ◌&&◌, ◌||◌, not, ◌<◌, zero, suc, length, add-zero, add_assoc, List, [], ◌∷◌, ◌++◌, map, nat_eq}
 use Rattle.std.proofs.lemmas.List.{append_assoc, map-append}
 use Rattle.std.proofs.lemmas.List.Folds.{list_any-append}
 use Rattle.std.proofs.lemmas.List.Sums.{sum_by-append}
 use Rattle.std.proofs.lemmas.List.Elements.{Contains-append_cases}
-use Rattle.std.specs.Prelude.{if◌then◌else◌}
+use Rattle.std.specs.Prelude.{◌↔◌, if◌then◌else◌, Option, Some, slice_get, unwrap_or}
 use Rattle.std.specs.List.{AllByRecursion}
 use Rattle.std.proofs.lemmas.Bool.{and_parts, cases_Bool, cond-true, cond-false}
 use Rattle.ideal_heap.specs.Commands.{is_new}
@@ -12,18 +12,31 @@ use Rattle.mutator_core.proofs.Lists.{all-append}
 use Rattle.heap_layout.specs.declared.block.Kind.TheVariants as kinds
 use Rattle.ideal_heap.specs.Ideal.{IdealHeap}
 use Rattle.ideal_heap.specs.Runs.{entry}
-use Rattle.object_model.specs.Objects.{state_of, word_at, has_kind, HasKind, is_unlogged}
+use Rattle.object_model.specs.Objects.{HeapState, state_of, word_at, has_kind, HasKind, is_unlogged}
+use Rattle.object_model.proofs.OneKind.{kind-within}
+use Rattle.mutator_core.proofs.Left.{free-left}
+use Rattle.mutator_calls.specs.declared.need.Mutator.{Mutator}
 use Rattle.object_model.specs.declared.shape.Shape.{Shape}
 use Rattle.mutator_core.specs.declared.state.LogEntry.{LogEntry}
 use Rattle.mutator_core.specs.Machine.{Epoch, Machine, next, heap_in, first_machine}
 use Rattle.mutator_core.specs.Histories.{after, history, entries_of}
-use Rattle.mutator_core.specs.Logs.{machine_after}
+use Rattle.mutator_core.specs.Logs.{machine_after, heap_after, local_after_log}
 use Rattle.mutator_core.proofs.Regions.{after-append}
+use Rattle.std.proofs.lemmas.Bool.{cases_eq}
 use Rattle.mutator_calls.specs.Effects.{Effect, nothing, and_then}
 use Rattle.plain_world.specs.declared.plain_row.PlainRow.{PlainRow}
-use Rattle.plain_world.specs.Rows.{address_at, number_at_turn, mutator_at_turn, births_of}
-use Rattle.plain_world.specs.Worlds.{IsAt, Goes, Continues, has, births_in, stop_after}
-use Rattle.plain_world.specs.Steps.{HasShape}
+use Rattle.plain_world.specs.declared.plain_row.PlainSeat.{PlainSeat}
+use Rattle.plain_world.specs.declared.plain_row.BlockNote.{BlockNote}
+use Rattle.plain_world.specs.declared.plain_row.BlockNote.TheVariants.{Owned}
+use Rattle.heap_layout.specs.declared.block.Kind.{Kind}
+use Rattle.heap_layout.specs.declared.region.Region.{Region}
+use Rattle.plan_api.specs.declared.cursors.Cursors.{Cursors}
+use Rattle.plan_api.specs.Cursors.{RegionHasRoom}
+use Rattle.sessions.specs.Fitting.{class_for}
+use Rattle.plain_world.specs.Rows.{ChangesAt, address_at, number_at_turn, mutator_at_turn, seat_at_turn, number_of, births_of, ticket_of, block_of, over_of}
+use Rattle.plain_world.specs.TwoRegions.{region_of, cursors_of, GoesOver, TriesBlock, KeepsClass, KeepsRegions, KeepsOthers}
+use Rattle.plain_world.specs.Worlds.{IsAt, IsInEpoch, IsReady, Goes, Continues, has, births_in, stop_after}
+use Rattle.plain_world.specs.Steps.{HasShape, AllocatesIn, IsOverflow, IsUsed, KeepsAll}
 
 pub shape-some : (a : PlainRow) (s : ℕ) (shape : Shape) → HasShape a s shape → address_at a s ≢ 0
 shape-some a s shape is = is.some
@@ -50,6 +63,91 @@ pub append-nil : {X : Type 0} (xs : List X) → xs ++ [] ≡ xs
 append-nil [] = refl
 append-nil (x ∷ xs) = ap (λ ys. x ∷ ys) (append-nil xs)
 
+-- the regions of a seat stay where the notes and its blocks do
+pub same-keeps : (notes later : List BlockNote) (seat now : Option PlainSeat) → later ≡ notes
+    → ((class : ℕ) → block_of now class ≡ block_of seat class) → over_of now ≡ over_of seat → KeepsRegions notes seat later now
+same-keeps notes later seat now same blocks over = record {
+  classes = λ class. record { block = blocks class; region = ap (region_of later) (blocks class) ∙ ap (λ xs. region_of xs (block_of seat class)) same };
+  over = record { block = over; region = ap (region_of later) over ∙ ap (λ xs. region_of xs (over_of seat)) same };
+}
+
+-- regions that stay twice
+pub keeps-more : (notes mid later : List BlockNote) (seat on now : Option PlainSeat) → KeepsRegions notes seat mid on → KeepsRegions mid on later now
+    → KeepsRegions notes seat later now
+keeps-more notes mid later seat on now one two = record {
+  classes = λ class. record {
+    block = (two.classes class).block ∙ (one.classes class).block;
+    region = (two.classes class).region ∙ (one.classes class).region;
+  };
+  over = record { block = two.over.block ∙ one.over.block; region = two.over.region ∙ one.over.region };
+}
+
+-- and then all but one
+pub others-after : (fill : Kind) (size : ℕ) (over : Type 0) (notes mid later : List BlockNote) (seat on now : Option PlainSeat)
+    → KeepsRegions notes seat mid on → KeepsOthers fill size over mid on later now → KeepsOthers fill size over notes seat later now
+others-after fill size over notes mid later seat on now one two = record {
+  classes = λ class other. record {
+    block = (two.classes class other).block ∙ (one.classes class).block;
+    region = (two.classes class other).region ∙ (one.classes class).region;
+  };
+  over_stays = λ other. record {
+    block = (two.over_stays other).block ∙ one.over.block;
+    region = (two.over_stays other).region ∙ one.over.region;
+  };
+}
+
+-- the two regions under lines
+pub cursors-same : (notes later : List BlockNote) (seat now : Option PlainSeat) → KeepsRegions notes seat later now → cursors_of later now ≡ cursors_of notes seat
+cursors-same notes later seat now keeps =
+    ap (λ (o : Option ℕ). let c : Cursors = record { hole = region_of later (block_of now 0); hole_block = unwrap_or o 0; over = region_of later (over_of now); over_block = unwrap_or (over_of now) 0 } in c)
+    (keeps.classes 0).block
+    ∙ ap (λ (o : Option ℕ). let c : Cursors = record { hole = region_of later (block_of now 0); hole_block = unwrap_or (block_of seat 0) 0; over = region_of later (over_of now); over_block = unwrap_or o 0 } in c)
+    keeps.over.block
+    ∙ ap (λ (r : Region). let c : Cursors = record { hole = r; hole_block = unwrap_or (block_of seat 0) 0; over = region_of later (over_of now); over_block = unwrap_or (over_of seat) 0 } in c)
+    (keeps.classes 0).region
+    ∙ ap (λ (r : Region). let c : Cursors = record { hole = region_of notes (block_of seat 0); hole_block = unwrap_or (block_of seat 0) 0; over = r; over_block = unwrap_or (over_of seat) 0 } in c)
+    keeps.over.region
+
+-- what a seat tries, and what overflows, stays with the regions
+tries-still : (f g : Kind) (x y : Option PlainSeat) (n k : ℕ) → g ≡ f → ((class : ℕ) → block_of y class ≡ block_of x class) → over_of y ≡ over_of x
+    → TriesBlock f x n k → TriesBlock g y n k
+tries-still f g x y n k fill blocks over (inl is) = inl (blocks (class_for g n) ∙ ap (λ h. block_of x (class_for h n)) fill ∙ is)
+tries-still f g x y n k fill blocks over (inr is) = inr (fill ∙ is.0, is.1, over ∙ is.2)
+
+pub tried-stays : (a b : PlainRow) (n k : ℕ) → KeepsAll a b → AllocatesIn a n k ↔ AllocatesIn b n k
+tried-stays a b n k keeps = (
+  tries-still a.fill b.fill (seat_at_turn a) (seat_at_turn b) n k keeps.0 (λ class. (keeps.1.classes class).block) keeps.1.over.block,
+  tries-still b.fill a.fill (seat_at_turn b) (seat_at_turn a) n k (sym keeps.0) (λ class. sym (keeps.1.classes class).block) (sym keeps.1.over.block),
+)
+
+pub overflow-stays : (a b : PlainRow) (n : ℕ) → KeepsAll a b → IsOverflow a n → IsOverflow b n
+overflow-stays a b n keeps is = record {
+  over = record {
+    lines = keeps.0 ∙ is.over.lines;
+    tried = record {
+      above = is.over.tried.above;
+      full = λ room. is.over.tried.full (subst (λ r. RegionHasRoom r n) (keeps.1.classes 0).region room);
+    };
+  };
+  some = subst (λ r. r.next < r.end) (sym (keeps.1.classes 0).region) is.some;
+}
+
+-- from a to b a block of another mutator keeps its region
+abbrev pub KeepsForeign : PlainRow → PlainRow → Type 0
+KeepsForeign a b = (k owner : ℕ) (region : Region) → owner ≢ number_at_turn a
+    → slice_get a.notes.items k ≡ Some (Owned owner region) → slice_get b.notes.items k ≡ Some (Owned owner region)
+
+pub foreign-same : (a b : PlainRow) → b.notes ≡ a.notes → KeepsForeign a b
+foreign-same a b same k owner region other is = ap (λ xs. slice_get xs.items k) same ∙ is
+
+-- so it does if the note of one block changes, which is no other mutator's
+pub foreign-but : (a b : PlainRow) (block : ℕ) (note : BlockNote) → ChangesAt a.notes.items b.notes.items block note
+    → ((owner : ℕ) (region : Region) → owner ≢ number_at_turn a → slice_get a.notes.items block ≡ Some (Owned owner region) → ⊥) → KeepsForeign a b
+foreign-but a b block note changes never k owner region other is = elim (cases_eq k block) as (λ _. slice_get b.notes.items k ≡ Some (Owned owner region)) [
+  | inl here ↦ absurd (never owner region other (ap (slice_get a.notes.items) (sym here) ∙ is))
+  | inr away ↦ changes.others k away ∙ is
+]
+
 goes-nowhere : (a : PlainRow) → Goes a nothing a
 goes-nowhere a = record {
   turn = refl;
@@ -64,12 +162,15 @@ goes-nowhere a = record {
   granted = λ k. and-true (has_kind (state_of a.row) k kinds.Free);
   free = λ k there. absurd (let below : there.0 < 0 = there.1 in omega arith);
   size = refl;
+  fill = refl;
   blocks = λ k below none. refl;
   budget = sym (add-zero (word_at (state_of a.row) 1));
   stop = refl;
   births = sym (add-zero (births_of (mutator_at_turn a)));
   ticket = λ none kept. refl;
+  regions = λ still. same-keeps a.notes.items a.notes.items (seat_at_turn a) (seat_at_turn a) refl (λ class. refl) refl;
   others = λ k other. (refl, refl);
+  foreign = λ k owner region other is. is;
 }
 
 -- a seat that did nothing
@@ -104,12 +205,12 @@ stop-twice true true number word = elim (cases_Bool (nat_eq word 0)) as (λ _. s
 stop-twice true false number word = refl
 stop-twice false q number word = refl
 
+or-none : (p q : Bool) → (p || q) ≡ false → (p ≡ false) × (q ≡ false)
+or-none true q is = absurd (let wrong : true ≡ false = is in cc)
+or-none false q is = (refl, is)
+
 has-none : (xs ys : List ℕ) (k : ℕ) → has (xs ++ ys) k ≡ false → (has xs k ≡ false) × (has ys k ≡ false)
 has-none xs ys k is = or-none (has xs k) (has ys k) (sym (list_any-append (nat_eq k) xs ys) ∙ is)
-  where
-    or-none : (p q : Bool) → (p || q) ≡ false → (p ≡ false) × (q ≡ false)
-    or-none true q is = absurd (let wrong : true ≡ false = is in cc)
-    or-none false q is = (refl, is)
 
 none-left : (xs ys : List ℕ) → xs ++ ys ≡ [] → (xs ≡ []) × (ys ≡ [])
 none-left [] ys is = (refl, is)
@@ -129,6 +230,7 @@ goes-after a b c e f one two = record {
     | inr later ↦ (and_parts (has_kind (state_of a.row) k kinds.Free) (not (has e.granted k)) (sym (one.granted k) ∙ two.free k later)).0
   ];
   size = two.size ∙ one.size;
+  fill = two.fill ∙ one.fill;
   blocks = λ k below none. let both = has-none e.taken f.taken k none in
       two.blocks k (subst (λ n. k < n) (sym one.size) below) both.1 ∙ one.blocks k below both.0;
   budget = two.budget ∙ ap (λ n. n + f.drawn) one.budget ∙ add_assoc (word_at (state_of a.row) 1) e.drawn f.drawn;
@@ -139,6 +241,38 @@ goes-after a b c e f one two = record {
       ∙ ap (λ n. births_of (mutator_at_turn a) + n) (sym (sum_by-append (λ x. if is_new x.command then 1 else 0) e.entries f.entries));
   ticket = λ none kept. let both = none-left e.granted f.granted kept in
       let sum : e.drawn + f.drawn ≡ 0 = none in two.ticket (omega arith) both.1 ∙ one.ticket (omega arith) both.0;
+  regions = λ still. let both = or-none e.moved f.moved still in
+      keeps-more a.notes.items b.notes.items c.notes.items (seat_at_turn a) (seat_at_turn b) (seat_at_turn c) (one.regions both.0) (two.regions both.1);
   others = λ k other. let before = one.others k other in let after = two.others k (λ same. other (same ∙ one.turn)) in
       (after.0 ∙ before.0, after.1 ∙ before.1);
+  foreign = λ k owner region other is. two.foreign k owner region (λ same. other (same ∙ one.number)) (one.foreign k owner region other is);
 }
+
+element : {A : Type 0} (xs : List A) (k : ℕ) → k < length xs → (x : A) × (slice_get xs k ≡ Some x)
+element [] k below = absurd (omega arith)
+element (x ∷ xs) zero below = (x, refl)
+element (x ∷ xs) (suc k) below = element xs k (let b : suc k < suc (length xs) = below in omega arith)
+
+-- while the mutator has an unused ticket below the allowance, some block is Free
+pub free-block-is-left : (a : PlainRow) (t : ℕ) → IsReady a → ticket_of (seat_at_turn a) ≡ Some t → t < a.allowance
+    → ((k : ℕ) → k < a.row.layout.blocks → IsUsed a k) → ⊥
+free-block-is-left a t ready ticket few used = used free.0 (kind-within (state_of a.row) free.0 kinds.Free kind) kind
+  where
+    now : IsInEpoch a
+    now = ready.idle.some
+
+    mutator : (x : Mutator) × (mutator_at_turn a ≡ Some x)
+    mutator = element a.mutators.items a.turn ready.turn.turn
+
+    seat : (x : PlainSeat) × (seat_at_turn a ≡ Some x)
+    seat = element a.seats.items a.turn (subst (λ n. a.turn < n) (sym ready.turn.seats) ready.turn.turn)
+
+    own : (local_after_log now.epoch now.log (number_at_turn a)).ticket ≡ Some t
+    own = ap (λ n. (local_after_log now.epoch now.log n).ticket) (ap number_of mutator.1)
+        ∙ (now.at.each a.turn mutator.0 seat.0 mutator.1 seat.1).ticket ∙ sym (ap ticket_of seat.1) ∙ ticket
+
+    free : (k : ℕ) × HasKind (heap_after now.epoch now.log) k kinds.Free
+    free = free-left now.epoch now.ideal now.log now.at.epoch (number_at_turn a) (t, own, subst (λ n. t < n) now.at.allowed few)
+
+    kind : HasKind (state_of a.row) free.0 kinds.Free
+    kind = subst (λ (s : HeapState). HasKind s free.0 kinds.Free) (sym now.at.heap) free.1

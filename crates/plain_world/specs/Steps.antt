@@ -13,7 +13,7 @@ use Rattle.heap_layout.specs.declared.region.Region.{Region}
 use Rattle.plain_world.specs.declared.plain_row.PlainRow.{PlainRow}
 use Rattle.plain_world.specs.declared.plain_row.BlockNote.TheVariants.{Owned}
 use Rattle.plain_world.specs.Rows.{mutator_at_turn, seat_at_turn, number_at_turn, births_of, ticket_of, address_at}
-use Rattle.plain_world.specs.TwoRegions.{FillsLines, cursors_of, IsBlockFor, TriesBlock, Overflows, KeepsHole, LacksBlock, LacksRegions, OffersRoom}
+use Rattle.plain_world.specs.TwoRegions.{FillsLines, cursors_of, GoesOver, IsBlockFor, TriesBlock, Overflows, KeepsHole, KeepsRegions, KeepsOthers, LacksBlock, LacksRegions, OffersRoom}
 
 -- the accounts of the mutator whose turn it is
 abbrev pub books_of : PlainRow → Books
@@ -52,9 +52,18 @@ IsFull w size = LacksRegions w.fill w.notes.items (seat_at_turn w) (state_of w.r
 abbrev pub IsOverflow : PlainRow → ℕ → Type 0
 IsOverflow w size = Overflows w.fill w.notes.items (seat_at_turn w) size
 
--- the mutator whose turn it is keeps its hole region
+-- The mutator whose turn it is keeps its regions, and the plan its kind of blocks.
+abbrev pub KeepsAll : PlainRow → PlainRow → Type 0
+KeepsAll a b = (b.fill ≡ a.fill) × KeepsRegions a.notes.items (seat_at_turn a) b.notes.items (seat_at_turn b)
+
+-- it keeps its hole region
 abbrev pub KeepsRegion : PlainRow → PlainRow → Type 0
 KeepsRegion a b = KeepsHole a.notes.items (seat_at_turn a) b.notes.items (seat_at_turn b)
+
+-- The mutator whose turn it is keeps from `a` to `b` all regions but the one that takes an object of this size in `in_w`.
+abbrev pub KeepsRest : PlainRow → ℕ → PlainRow → PlainRow → Type 0
+KeepsRest in_w size a b = KeepsOthers in_w.fill size (GoesOver in_w.fill in_w.notes.items (seat_at_turn in_w) size)
+    a.notes.items (seat_at_turn a) b.notes.items (seat_at_turn b)
 
 -- block k is not Free
 abbrev pub IsUsed : PlainRow → ℕ → Type 0
@@ -91,17 +100,19 @@ pub record IsRegion (w : PlainRow) (size k : ℕ) (region : Region) : Type 0 whe
   pub current : IsBlockFor w.fill w.notes.items (seat_at_turn w) size k
   pub note : slice_get w.notes.items k ≡ Some (Owned (number_at_turn w) region)
 
--- the mutator's region for objects of this size in `b` is room that `a` offers
+-- The mutator's region for objects of this size in `b` is room that `a` offers. Its other regions are those of `a`.
 pub record Offers (a b : PlainRow) (size : ℕ) : Type 0 where
   pub block : ℕ
   pub region : Region
   pub now : IsRegion b size block region
   pub offer : IsOffer a block region.next size
+  pub others : KeepsRest b size a b
 
 -- The object in register d of `c` was placed at the start of the region in `b`, in a block that the mutator owns and
 -- allocates objects of this size in. In cells it has one of the class for the size. Under lines it is in the one of two
--- regions that takes it, which then begins after it.
+-- regions that takes it, which then begins after it. The mutator's other regions stay.
 pub record PlacesObject (b c : PlainRow) (d size : ℕ) : Type 0 where
+  pub fill : c.fill ≡ b.fill
   pub block : ℕ
   pub region : Region
   pub now : IsRegion b size block region
@@ -111,3 +122,4 @@ pub record PlacesObject (b c : PlainRow) (d size : ℕ) : Type 0 where
   pub cell : HasCellFor c.fill (state_of c.row) block region.next size
   pub region_after : FillsLines c.fill → PlacesInRegion (cursors_of b.notes.items (seat_at_turn b))
       (cursors_of c.notes.items (seat_at_turn c)) size block region.next
+  pub others : KeepsRest b size b c

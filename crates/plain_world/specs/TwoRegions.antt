@@ -66,10 +66,31 @@ pub record Overflows (fill : Kind) (notes : List BlockNote) (seat : Option Plain
   pub over : GoesOver fill notes seat size
   pub some : (cursors_of notes seat).hole.next < (cursors_of notes seat).hole.end
 
+-- From the one seat and notes to the others the region for objects of the class is the same, in the same block.
+pub record KeepsClass (class : ℕ) (notes : List BlockNote) (seat : Option PlainSeat) (later : List BlockNote) (now : Option PlainSeat) : Type 0 where
+  pub block : block_of now class ≡ block_of seat class
+  pub region : region_of later (block_of now class) ≡ region_of notes (block_of seat class)
+
+-- From the one seat and notes to the others the overflow region is the same, in the same block.
+pub record KeepsOver (notes : List BlockNote) (seat : Option PlainSeat) (later : List BlockNote) (now : Option PlainSeat) : Type 0 where
+  pub block : over_of now ≡ over_of seat
+  pub region : region_of later (over_of now) ≡ region_of notes (over_of seat)
+
 -- From the one seat and notes to the others the hole region is the same, in the same block.
-pub record KeepsHole (notes : List BlockNote) (seat : Option PlainSeat) (later : List BlockNote) (now : Option PlainSeat) : Type 0 where
-  pub block : block_of now 0 ≡ block_of seat 0
-  pub region : (cursors_of later now).hole ≡ (cursors_of notes seat).hole
+abbrev pub KeepsHole : List BlockNote → Option PlainSeat → List BlockNote → Option PlainSeat → Type 0
+KeepsHole = KeepsClass 0
+
+-- From the one seat and notes to the others all regions are the same, in the same blocks.
+pub record KeepsRegions (notes : List BlockNote) (seat : Option PlainSeat) (later : List BlockNote) (now : Option PlainSeat) : Type 0 where
+  pub classes : (class : ℕ) → KeepsClass class notes seat later now
+  pub over : KeepsOver notes seat later now
+
+-- From the one seat and notes to the others all regions are the same but for the one that takes an object of this size: the
+-- overflow region if the object goes there (`over`), else the region for the size's class.
+pub record KeepsOthers (fill : Kind) (size : ℕ) (over : Type 0) (notes : List BlockNote) (seat : Option PlainSeat)
+    (later : List BlockNote) (now : Option PlainSeat) : Type 0 where
+  pub classes : (class : ℕ) → (class ≡ class_for fill size → over) → KeepsClass class notes seat later now
+  pub over_stays : (over → ⊥) → KeepsOver notes seat later now
 
 -- A block that the mutator owns under a plan with lines has no room for this size, as far as it counts. Of the block of the
 -- hole region neither the region has room nor a hole that begins at the region's end or later. The overflow region has
@@ -95,12 +116,13 @@ pub record LacksRegions (fill : Kind) (notes : List BlockNote) (seat : Option Pl
   pub lines : FillsLines fill → LacksRoom (cursors_of notes seat) size
 
 -- Under a plan with lines the words from this offset of block k on are the mutator's: the region that takes an object of
--- this size begins there, or, in the block of the hole region, the first hole with room from the region's end on.
+-- this size begins there; or, if no region that is tried has room, in the block of the hole region the first hole with room
+-- from the region's end on.
 pub record OffersLines (fill : Kind) (notes : List BlockNote) (seat : Option PlainSeat) (s : HeapState) (number k offset size : ℕ) : Type 0 where
   pub lines : FillsLines fill
   pub owner : owner_at s k ≡ number
   pub from : (IsBlockFor fill notes seat size k × (offset ≡ (region_of notes (Some k)).next) × RegionHasRoom (region_of notes (Some k)) size)
-      ⊎ ((block_of seat 0 ≡ Some k)
+      ⊎ ((block_of seat 0 ≡ Some k) × LacksRoom (cursors_of notes seat) size
       × ((end : ℕ) × IsFirstPart kinds.Immix s k (region_of notes (Some k)).end size (record { next = offset; end = end })))
 
 -- The first hole of block k with room for the size begins at the offset, and the block has no owner or, under a plan

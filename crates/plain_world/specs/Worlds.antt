@@ -21,9 +21,11 @@ use Rattle.mutator_calls.specs.Effects.{Effect, Answered}
 use Rattle.plain_world.specs.declared.plain_row.PlainRow.{PlainRow}
 use Rattle.plain_world.specs.declared.plain_row.PlainSeat.{PlainSeat}
 use Rattle.plain_world.specs.declared.plain_row.BlockNote.{BlockNote}
+use Rattle.plain_world.specs.declared.plain_row.BlockNote.TheVariants.{Owned}
+use Rattle.heap_layout.specs.declared.region.Region.{Region}
 use Rattle.plain_world.specs.declared.plain_row.TheConstants.{CLASSES}
 use Rattle.plain_world.specs.Rows.{IsTurn, mutator_at_turn, number_at_turn, seat_at_turn, births_of, ticket_of, blocks_of, over_of}
-use Rattle.plain_world.specs.TwoRegions.{FillsLines, IsBlockFor}
+use Rattle.plain_world.specs.TwoRegions.{FillsLines, IsBlockFor, KeepsRegions}
 use Rattle.plain_world.specs.Notes.{FillsHoles, HasNotes, ListsOwned, IsRegionOf, AreFilled, IsRoomIn}
 
 -- The mutator and its seat have the machine's state of the mutator, which has no unpublished object, and no unlog bit
@@ -35,12 +37,13 @@ pub record HasState (m : Mutator) (x : PlainSeat) (l : Local) : Type 0 where
   pub none : l.unpublished ≡ nothing_unpublished
   pub stored : l.pending ≡ 0
 
--- The mutator of the seat owns each block in which it allocates objects of a class, and the block has this class. Under a
--- plan with lines it owns the block of its overflow region, which is not that of the hole region.
+-- The mutator of the seat owns each block in which it allocates objects of a class, and the block has this class. Only under
+-- a plan with lines has it an overflow region (`lined`), whose block it owns, and which is not that of the hole region.
 pub record HasCursors (fill : Kind) (notes : List BlockNote) (s : HeapState) (number : ℕ) (x : PlainSeat) : Type 0 where
   pub classes : length x.blocks ≡ CLASSES
   pub each : (class block : ℕ) → slice_get x.blocks class ≡ Some (Some block)
       → IsRegionOf notes number block × (class_at s block ≡ class)
+  pub lined : (block : ℕ) → x.over ≡ Some block → FillsLines fill
   pub over : FillsLines fill → (block : ℕ) → x.over ≡ Some block → IsRegionOf notes number block
   pub apart : FillsLines fill → (block : ℕ) → x.over ≡ Some block → slice_get x.blocks 0 ≡ Some (Some block) → ⊥
 
@@ -130,14 +133,19 @@ pub record Goes (a : PlainRow) (e : Effect) (b : PlainRow) : Type 0 where
       ≡ (has_kind (state_of a.row) k kinds.Free && not (has e.granted k))
   pub free : (k : ℕ) → Contains e.granted k → HasKind (state_of a.row) k kinds.Free
   pub size : b.row.layout.blocks ≡ a.row.layout.blocks
+  pub fill : b.fill ≡ a.fill
   pub blocks : (k : ℕ) → k < a.row.layout.blocks → has e.taken k ≡ false
       → block_word (state_of b.row) k ≡ block_word (state_of a.row) k
   pub budget : word_at (state_of b.row) 1 ≡ word_at (state_of a.row) 1 + e.drawn
   pub stop : word_at (state_of b.row) 0 ≡ stop_after e.raised (number_at_turn a) (word_at (state_of a.row) 0)
   pub births : births_of (mutator_at_turn b) ≡ births_of (mutator_at_turn a) + births_in e.entries
   pub ticket : e.drawn ≡ 0 → e.granted ≡ [] → ticket_of (seat_at_turn b) ≡ ticket_of (seat_at_turn a)
+  pub regions : e.moved ≡ false → KeepsRegions a.notes.items (seat_at_turn a) b.notes.items (seat_at_turn b)
   pub others : (k : ℕ) → k ≢ a.turn → (slice_get b.mutators.items k ≡ slice_get a.mutators.items k)
       × (slice_get b.seats.items k ≡ slice_get a.seats.items k)
+  -- a block of another mutator keeps its region
+  pub foreign : (k owner : ℕ) (region : Region) → owner ≢ number_at_turn a
+      → slice_get a.notes.items k ≡ Some (Owned owner region) → slice_get b.notes.items k ≡ Some (Owned owner region)
 
 -- the world is in the epoch p, and its history since then is the part
 pub record IsAfter (p : Epoch) (i : IdealHeap) (part : List Entry) (w : PlainRow) : Type 0 where

@@ -2,8 +2,8 @@
 //! epoch to epoch what is known of the blocks is kept.
 
 ghost use Rattle.std.specs.Prelude.{◌≡◌, ◌<◌, IfOk};
-ghost use Rattle.heap_layout.specs.declared.block.Kind.TheVariants as kinds;
-ghost use Rattle.plain_world.specs.Calls.{IsOpen, SamePlaces, fill_of};
+ghost use Rattle.sessions.specs.Plans.{MarkSweep as mark_sweep, rules_of};
+ghost use Rattle.plain_world.specs.Calls.{IsOpen, SamePlaces};
 
 use crate::plain_world::PlainWorld;
 use crate::test_worlds;
@@ -121,8 +121,9 @@ impl Model {
         if ticket as usize >= self.allowance {
             return Err(NeedCause::Budget(ticket));
         }
+        // There is one, since the ticket is below the allowance.
         let Some(block) = self.rooms.iter().position(|r| r.next == 0) else {
-            return Err(NeedCause::Seen);
+            return Err(NeedCause::Budget(ticket));
         };
         filler.ticket = None;
         Ok(block)
@@ -138,8 +139,9 @@ impl Model {
         let block = self.search(m, class, cell)?;
         let filler = &mut self.fillers[m as usize];
         filler.births = filler.births.wrapping_add(1);
+        // The block is one of the list.
         let Some(room) = self.rooms.get_mut(block) else {
-            return Err(NeedCause::Seen);
+            return Err(NeedCause::Large);
         };
         let offset = room.next;
         room.owner = m + 1;
@@ -151,8 +153,8 @@ impl Model {
 
 // An allocation of mutator m, as in the model. Returns whether an object was made.
 fn allocate(rt: &impl Abort, world: &mut World, model: &mut Model, m: u32, size: u32) -> bool
-    requires { IsOpen world.old }
-    ensures open { IsOpen world.new }
+    requires { IsOpen (rules_of mark_sweep) world.old }
+    ensures open { IsOpen (rules_of mark_sweep) world.new }
     ensures places { SamePlaces world.old world.new }
 {
     assert!(rt; m < FILLERS && 3 <= size && size <= 2049);
@@ -192,8 +194,8 @@ fn allocate(rt: &impl Abort, world: &mut World, model: &mut Model, m: u32, size:
 // The mutators allocate objects of these sizes in turns, at most so many each, until all stop in
 // a row. Returns whether they did.
 fn fill(rt: &impl Abort, world: &mut World, model: &mut Model, most: u32, sizes: [u32; 4]) -> bool
-    requires { IsOpen world.old }
-    ensures open { IsOpen world.new }
+    requires { IsOpen (rules_of mark_sweep) world.old }
+    ensures open { IsOpen (rules_of mark_sweep) world.new }
     ensures places { SamePlaces world.old world.new }
 {
     for round in 0..most {
@@ -233,10 +235,8 @@ fn next_epoch(
     world: World,
     model: &mut Model,
 ) -> Result<World, AllocError>
-    requires open { IsOpen world }
-    requires fill { fill_of world ≡ kinds.Cells }
-    ensures open { IfOk result (λ w. IsOpen w) }
-    ensures fill { IfOk result (λ w. fill_of w ≡ kinds.Cells) }
+    requires open { IsOpen (rules_of mark_sweep) world }
+    ensures open { IfOk result (λ w. IsOpen (rules_of mark_sweep) w) }
 {
     let (heap, mutators, notes) = world.close_with();
     check_blocks(rt, &heap, model);
@@ -248,8 +248,7 @@ fn next_epoch(
 
 // A world of an empty heap.
 pub(crate) fn new_world(rt: &impl Abort, alloc: Global, blocks: u32) -> Result<World, Fail>
-    ensures open { IfOk result (λ w. IsOpen w) }
-    ensures fill { IfOk result (λ w. fill_of w ≡ kinds.Cells) }
+    ensures open { IfOk result (λ w. IsOpen (rules_of mark_sweep) w) }
 {
     let heap = Heap::new(alloc, Layout::new(blocks)?)?;
     let mutators = new_mutators(alloc, FILLERS)?;

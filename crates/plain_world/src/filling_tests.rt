@@ -1,8 +1,8 @@
 //! Tests of allocation until a heap is full, against a plain model of its blocks.
 
 ghost use Rattle.std.specs.Prelude.{◌≡◌, ◌<◌, IfOk};
-ghost use Rattle.heap_layout.specs.declared.block.Kind.TheVariants as kinds;
-ghost use Rattle.plain_world.specs.Calls.{IsOpen, SamePlaces, fill_of};
+ghost use Rattle.sessions.specs.Plans.{NoGc as no_gc, rules_of};
+ghost use Rattle.plain_world.specs.Calls.{IsOpen, SamePlaces};
 
 use crate::test_worlds;
 use crate::test_worlds::{World, address, begin, new_world};
@@ -98,8 +98,9 @@ impl Model {
         if ticket as usize >= self.allowance {
             return Err(NeedCause::Budget(ticket));
         }
+        // There is one, since the ticket is below the allowance.
         let Some(block) = self.rooms.iter().position(|r| r.next == 0) else {
-            return Err(NeedCause::Seen);
+            return Err(NeedCause::Budget(ticket));
         };
         filler.ticket = None;
         Ok(block)
@@ -113,8 +114,9 @@ impl Model {
         let filler = &mut self.fillers[m as usize];
         filler.block = Some(block);
         filler.births = filler.births.wrapping_add(1);
+        // The block is one of the list.
         let Some(room) = self.rooms.get_mut(block) else {
-            return Err(NeedCause::Seen);
+            return Err(NeedCause::Large);
         };
         let offset = room.next;
         room.owner = m + 1;
@@ -135,8 +137,8 @@ fn allocate(
     size: u32,
     spans: &mut Spans,
 ) -> Result<bool, AllocError>
-    requires { IsOpen world.old }
-    ensures open { IsOpen world.new }
+    requires { IsOpen (rules_of no_gc) world.old }
+    ensures open { IsOpen (rules_of no_gc) world.new }
     ensures places { SamePlaces world.old world.new }
 {
     assert!(rt; m < 16 && 3 <= size && size <= 2049);
@@ -184,8 +186,8 @@ fn fill(
     sizes: [u32; 4],
     spans: &mut Spans,
 ) -> Result<bool, AllocError>
-    requires { IsOpen world.old }
-    ensures open { IsOpen world.new }
+    requires { IsOpen (rules_of no_gc) world.old }
+    ensures open { IsOpen (rules_of no_gc) world.new }
     ensures places { SamePlaces world.old world.new }
 {
     for round in 0..most {
@@ -233,10 +235,8 @@ fn next_epoch(
     world: World,
     model: &mut Model,
 ) -> Result<World, AllocError>
-    requires open { IsOpen world }
-    requires fill { fill_of world ≡ kinds.Bump }
-    ensures open { IfOk result (λ w. IsOpen w) }
-    ensures fill { IfOk result (λ w. fill_of w ≡ kinds.Bump) }
+    requires open { IsOpen (rules_of no_gc) world }
+    ensures open { IfOk result (λ w. IsOpen (rules_of no_gc) w) }
 {
     let (heap, mutators) = world.close();
     check_blocks(rt, &heap, model);

@@ -31,6 +31,8 @@ mod filling_tests;
 #[cfg(test)]
 mod note_tests;
 #[cfg(test)]
+mod relisting_tests;
+#[cfg(test)]
 mod test_twins;
 #[cfg(test)]
 mod test_worlds;

@@ -1,10 +1,10 @@
 //! Tests of notes that are kept from epoch to epoch.
 
 ghost use Rattle.std.specs.Prelude.{◌≡◌, IfOk};
-ghost use Rattle.heap_layout.specs.declared.block.Kind.TheVariants as kinds;
 ghost use Rattle.object_model.specs.Heaps.{heap_state};
 ghost use Rattle.object_model.specs.Objects.{empty_heap};
-ghost use Rattle.plain_world.specs.Calls.{IsOpen, SamePlaces, fill_of};
+ghost use Rattle.sessions.specs.Plans.{NoGc as no_gc, MarkSweep as mark_sweep, rules_of};
+ghost use Rattle.plain_world.specs.Calls.{IsOpen, SamePlaces};
 ghost use Rattle.plain_world.specs.Notes.{AreNotes, FillsHoles};
 
 use crate::block_notes::BlockNotes;
@@ -20,11 +20,11 @@ use std::test::Fail;
 
 // The answer to an allocation in both worlds, which is the same. Returns whether there was room.
 fn allocate_both(rt: &impl Abort, kept: &mut World, fresh: &mut World, m: u32, size: u32) -> bool
-    requires kept { IsOpen kept.old }
-    requires fresh { IsOpen fresh.old }
-    ensures kept { IsOpen kept.new }
+    requires kept { IsOpen (rules_of no_gc) kept.old }
+    requires fresh { IsOpen (rules_of no_gc) fresh.old }
+    ensures kept { IsOpen (rules_of no_gc) kept.new }
     ensures places { SamePlaces kept.old kept.new }
-    ensures fresh { IsOpen fresh.new }
+    ensures fresh { IsOpen (rules_of no_gc) fresh.new }
     ensures fresh_places { SamePlaces fresh.old fresh.new }
 {
     let nums = size.saturating_sub(4);
@@ -41,11 +41,11 @@ fn fill_both(
     rounds: u32,
     sizes: [u32; 3],
 ) -> u32
-    requires kept { IsOpen kept.old }
-    requires fresh { IsOpen fresh.old }
-    ensures kept { IsOpen kept.new }
+    requires kept { IsOpen (rules_of no_gc) kept.old }
+    requires fresh { IsOpen (rules_of no_gc) fresh.old }
+    ensures kept { IsOpen (rules_of no_gc) kept.new }
     ensures places { SamePlaces kept.old kept.new }
-    ensures fresh { IsOpen fresh.new }
+    ensures fresh { IsOpen (rules_of no_gc) fresh.new }
     ensures fresh_places { SamePlaces fresh.old fresh.new }
 {
     let mut made = 0u32;
@@ -65,14 +65,10 @@ fn next_epoch(
     kept: World,
     fresh: World,
 ) -> Result<(World, World), AllocError>
-    requires kept { IsOpen kept }
-    requires fill { fill_of kept ≡ kinds.Bump }
-    requires fresh { IsOpen fresh }
-    requires fresh_fill { fill_of fresh ≡ kinds.Bump }
-    ensures kept { IfOk result (λ r. IsOpen r.0) }
-    ensures fill { IfOk result (λ r. fill_of r.0 ≡ kinds.Bump) }
-    ensures fresh { IfOk result (λ r. IsOpen r.1) }
-    ensures fresh_fill { IfOk result (λ r. fill_of r.1 ≡ kinds.Bump) }
+    requires kept { IsOpen (rules_of no_gc) kept }
+    requires fresh { IsOpen (rules_of no_gc) fresh }
+    ensures kept { IfOk result (λ r. IsOpen (rules_of no_gc) r.0) }
+    ensures fresh { IfOk result (λ r. IsOpen (rules_of no_gc) r.1) }
 {
     let (heap, mutators, notes) = kept.close_with();
     let (other, users) = fresh.close();
@@ -158,8 +154,7 @@ fn check_holes(
 
 // Blocks 0 to 3: with 96 words left, full, with 3,996 words left, and Free.
 fn four_blocks(rt: &impl Abort, alloc: Global) -> Result<World, Fail>
-    ensures open { IfOk result (λ w. IsOpen w) }
-    ensures fill { IfOk result (λ w. fill_of w ≡ kinds.Bump) }
+    ensures open { IfOk result (λ w. IsOpen (rules_of no_gc) w) }
 {
     let mut world = new_world(rt, alloc, 4, 1)?;
     for nums in [1997, 1997, 2045, 2045, 97] {
@@ -207,8 +202,8 @@ fn no_places(rt: HostRuntime) -> Result<(), Fail> {
 
 // Objects of the mutator, which have this number of words each.
 fn make(rt: &impl Abort, world: &mut cell_tests::World, count: u32, size: u32)
-    requires { IsOpen world.old }
-    ensures open { IsOpen world.new }
+    requires { IsOpen (rules_of mark_sweep) world.old }
+    ensures open { IsOpen (rules_of mark_sweep) world.new }
     ensures places { SamePlaces world.old world.new }
 {
     for _object in 0..count {

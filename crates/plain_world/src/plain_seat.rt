@@ -3,8 +3,8 @@
 ghost use Rattle.std.specs.Prelude.{◌≡◌, ℕ, false};
 ghost use Rattle.plain_world.specs.Rows.{address_at};
 ghost use Rattle.plain_world.specs.Worlds.{IsReady, HasRoom, Goes};
-ghost use Rattle.plain_world.specs.Steps.{AllocatesIn, HasBudget, books_of, HasShape, HasName, IsBarred, HasAges, IsAged, IsMarked, Lacks, IsFull, IsOverflow, KeepsRegion, IsUsed, Offers, PlacesObject, HasStop};
-ghost use Rattle.plain_world.specs.SeatLaws.{goes-after, goes-nothing, shape-some};
+ghost use Rattle.plain_world.specs.Steps.{AllocatesIn, HasBudget, books_of, HasShape, HasName, IsBarred, HasAges, IsAged, IsMarked, Lacks, IsFull, IsOverflow, KeepsAll, KeepsRegion, IsUsed, Offers, PlacesObject, HasStop};
+ghost use Rattle.plain_world.specs.SeatLaws.{goes-after, goes-nothing, shape-some, tried-stays, overflow-stays, free-block-is-left};
 ghost use Rattle.std.proofs.Common.{refl, sym, ◌∙◌, ap, subst};
 
 use crate::plain_row::PlainRow;
@@ -47,7 +47,9 @@ impl Seat for PlainRow {
 
     ghost is_overflow = { λ w size. IsOverflow w size };
 
-    ghost keeps_region = { λ a b. KeepsRegion a b };
+    ghost keeps_regions = { λ a b. KeepsAll a b };
+
+    ghost keeps_hole = { λ a b. KeepsRegion a b };
 
     ghost offers = { λ a b size. Offers a b size };
 
@@ -57,12 +59,20 @@ impl Seat for PlainRow {
 
     ghost has_stop = { λ w n. HasStop w n };
 
-    ghost region_is_kept = { λ a. record { block = refl; region = refl } };
+    ghost regions_stay = { λ a b e goes still. (goes.fill, goes.regions still) };
 
-    ghost region_stays_kept = { λ a b c x y. record {
+    ghost tried_blocks_stay = { tried-stays };
+
+    ghost overflows_stay = { overflow-stays };
+
+    ghost hole_stays = { λ a b kept. kept.1.classes 0 };
+
+    ghost hole_stays_kept = { λ a b c x y. record {
       block = y.block ∙ x.block;
       region = y.region ∙ x.region;
     } };
+
+    ghost free_block_is_left = { free-block-is-left };
 
     ghost looks_at_nothing = { λ a. refl };
 
@@ -232,7 +242,8 @@ impl Seat for PlainRow {
         let ticket = self.row.words[1];
         self.store(1, ticket + 1);
         let ticket = ticket as u32;
-        self.seats[self.turn].ticket = Some(ticket);
+        let seat = &mut self.seats[self.turn];
+        seat.ticket = Some(ticket);
         ticket
     }
 

@@ -51,7 +51,7 @@ impl<P: Plan> PlainWorld<P> {
         requires few { length mutators.items ≤ MAX_MUTATORS }
         requires users { MayUse (heap_state heap) (map mutator_state mutators.items) }
         requires remembers { Remembers P.rules (heap_state heap) }
-        ensures open { IfOk result (λ w. IsOpen w) }
+        ensures open { IfOk result (λ w. IsOpen P.rules w) }
         ensures mutators { IfOk result (λ w. mutators_of w ≡ map mutator_state mutators.items) }
         ensures places { IfOk result (λ w. places_of w ≡ length mutators.items) }
         ensures plan { IfOk result (λ w. is_generational w ≡ P.rules.young) }
@@ -81,7 +81,7 @@ impl<P: Plan> PlainWorld<P> {
         requires users { MayUse (heap_state heap) (map mutator_state mutators.items) }
         requires remembers { Remembers P.rules (heap_state heap) }
         requires notes { AreNotes P.rules.fill (heap_state heap) notes }
-        ensures open { IfOk result (λ w. IsOpen w) }
+        ensures open { IfOk result (λ w. IsOpen P.rules w) }
         ensures mutators { IfOk result (λ w. mutators_of w ≡ map mutator_state mutators.items) }
         ensures places { IfOk result (λ w. places_of w ≡ length mutators.items) }
         ensures plan { IfOk result (λ w. is_generational w ≡ P.rules.young) }
@@ -144,8 +144,7 @@ impl<P: Plan> PlainWorld<P> {
     /// Ends the epoch: the mutators give back their blocks, which are relisted. Takes no memory,
     /// and reads no side words of blocks that nobody owned.
     pub fn close(self) -> (Heap, Vec<Mutator>)
-        requires open { IsOpen self }
-        requires fill { fill_of self ≡ P.rules.fill }
+        requires open { IsOpen P.rules self }
         ensures stopped { (p : Epoch) (i : IdealHeap) (part : List Entry)
             → HasHistory self p i part
             → Stopped p.rules (numbers_of p.mutators) p.before i part
@@ -166,8 +165,7 @@ impl<P: Plan> PlainWorld<P> {
 
     /// Ends the epoch as `close` does, and returns what is known of the blocks for the next one.
     pub fn close_with(self) -> (Heap, Vec<Mutator>, BlockNotes)
-        requires open { IsOpen self }
-        requires fill { fill_of self ≡ P.rules.fill }
+        requires open { IsOpen P.rules self }
         ensures stopped { (p : Epoch) (i : IdealHeap) (part : List Entry)
             → HasHistory self p i part
             → Stopped p.rules (numbers_of p.mutators) p.before i part

@@ -18,7 +18,7 @@ ghost use Rattle.plain_world.specs.Regions.{IsCellLeft, IsRegionIn, IsRestAfter,
 ghost use Rattle.plain_world.specs.Rows.{IsTurn, number_at_turn, mutator_at_turn, seat_at_turn, ticket_of, births_of, block_of};
 ghost use Rattle.plain_world.specs.Changes.{TakesBlock, NotesBlock, ReturnsTo, FindsHole, LacksHole, Advances, CountsObject, Allocates};
 ghost use Rattle.plain_world.specs.Worlds.{IsReady, HasRoom, IsReadableSeat};
-ghost use Rattle.plain_world.specs.Steps.{IsOverflow};
+ghost use Rattle.plain_world.specs.Steps.{IsFull, IsOverflow};
 ghost use Rattle.plain_world.specs.TwoRegions.{FillsLines, region_of, cursors_of, IsBlockFor};
 
 use crate::plain_row::{BlockNote, CLASSES, PlainRow};
@@ -142,23 +142,6 @@ impl PlainRow {
         }
         let class = self.class(size);
         self.seats[self.turn].blocks[class as usize]
-    }
-
-    /// Whether the mutator's region for objects of `size` words has room for one.
-    #[inline(always)]
-    pub(crate) fn has_room(&self, size: u32) -> bool
-        requires ready { IsReady self.now }
-        requires least { 3 ≤ size }
-        ensures room { result ≡ true → HasRoom self.now size }
-        ensures none { result ≡ false → HasRoom self.now size → ⊥ }
-    {
-        match self.block_for(size) {
-            None => false,
-            Some(block) => match self.notes[block as usize] {
-                BlockNote::Unowned { .. } => false,
-                BlockNote::Owned { region, .. } => region.end - region.next >= size,
-            },
-        }
     }
 
     /// Whether an object of `size` words overflows the hole region, under a plan with lines: it
@@ -316,8 +299,7 @@ impl PlainRow {
     }
 
     /// Makes a hole of a block of the mutator its hole region, under a plan with lines, if the
-    /// block is that of the hole region and has one from the region's end on. Else answers whether
-    /// the region of the block is one that is tried for `size` words and has room.
+    /// block is that of the hole region and has one from the region's end on.
     fn take_in_own_lines(&mut self, block: u32, region: Region, size: u32) -> bool
         requires ready { IsReady self.old }
         requires block { block < self.old.row.layout.blocks }
@@ -326,14 +308,11 @@ impl PlainRow {
             ≡ Some (Owned (number_at_turn self.old) region) }
         requires least { 3 ≤ size }
         requires most { size ≤ MAX_MEDIUM_WORDS }
+        requires full { IsFull self.old size }
         ensures found { result ≡ true → FindsHole self.old self.new block size }
         ensures none { result ≡ false → LacksHole self.old self.new block size }
     {
-        let has_room = region.end - region.next >= size;
-        if self.seats[self.turn].blocks[0] == Some(block) {
-            return has_room || self.take_next_hole(block, region, size);
-        }
-        has_room && size > LINE_WORDS && self.seats[self.turn].over == Some(block)
+        self.seats[self.turn].blocks[0] == Some(block) && self.take_next_hole(block, region, size)
     }
 
     /// Makes room for `size` words in an own block the mutator's region, if it has some. The block
@@ -345,6 +324,7 @@ impl PlainRow {
             ≡ Some (Owned (number_at_turn self.old) region) }
         requires least { 3 ≤ size }
         requires most { size ≤ MAX_MEDIUM_WORDS }
+        requires full { IsFull self.old size }
         ensures found { result ≡ true → FindsHole self.old self.new block size }
         ensures none { result ≡ false → LacksHole self.old self.new block size }
     {
@@ -369,6 +349,7 @@ impl PlainRow {
         requires block { block < self.old.row.layout.blocks }
         requires least { 3 ≤ size }
         requires most { size ≤ MAX_MEDIUM_WORDS }
+        requires full { IsFull self.old size }
         ensures found { result ≡ true → FindsHole self.old self.new block size }
         ensures none { result ≡ false → LacksHole self.old self.new block size }
     {
@@ -382,24 +363,19 @@ impl PlainRow {
 
     /// Makes the first hole of the mutator's block of the hole region that has room for `size`
     /// words, from the region's end on, the hole region, under a plan with lines, if there is one.
-    /// Nothing changes if a region has room.
     pub(crate) fn take_hole_in_own(&mut self, size: u32) -> bool
         requires ready { IsReady self.old }
         requires least { 3 ≤ size }
         requires most { size ≤ MAX_MEDIUM_WORDS }
-        ensures found { result ≡ true → (HasRoom self.old size × (self.new ≡ self.old))
-            ⊎ (FillsLines self.old.fill × ((block : ℕ)
+        requires full { IsFull self.old size }
+        ensures found { result ≡ true → FillsLines self.old.fill × ((block : ℕ)
             × (block_of (seat_at_turn self.old) 0 ≡ Some block)
-            × FindsHole self.old self.new block size)) }
-        ensures full { result ≡ false → HasRoom self.old size → ⊥ }
+            × FindsHole self.old self.new block size) }
         ensures none { (block : ℕ) → result ≡ false → FillsLines self.old.fill
             → block_of (seat_at_turn self.old) 0 ≡ Some block
             → LacksHole self.old self.new block size }
         ensures same { result ≡ false → self.new ≡ self.old }
     {
-        if self.has_room(size) {
-            return true;
-        }
         if self.fill != Kind::Immix {
             return false;
         }

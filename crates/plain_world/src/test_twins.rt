@@ -2,8 +2,8 @@
 
 ghost use Rattle.std.specs.Prelude.{◌≡◌, IfOk};
 ghost use Rattle.ideal_heap.specs.Plain.{mutators_of};
-ghost use Rattle.heap_layout.specs.declared.block.Kind.TheVariants as kinds;
-ghost use Rattle.plain_world.specs.Calls.{IsOpen, fill_of};
+ghost use Rattle.sessions.specs.Plans.{NoGc as no_gc, rules_of};
+ghost use Rattle.plain_world.specs.Calls.{IsOpen};
 
 use crate::test_worlds::{World, begin, births, call, new_world};
 use ideal_heap::{Command, GLOBALS, Ideal, MAX_NUMS, MAX_REFS, Name, Reply, valid};
@@ -26,13 +26,12 @@ pub(crate) struct Twins {
     pub(crate) world: World,
     pub(crate) ideal: Ideal,
     ghost mutators: { mutators_of ideal ≡ 2 },
-    ghost fill: { fill_of world ≡ kinds.Bump },
 }
 
 impl Twins {
     /// Two mutators of an empty heap.
     pub(crate) fn new(rt: &impl Abort, alloc: Global, blocks: u32) -> Result<Twins, Fail>
-        ensures { IfOk result (λ t. IsOpen t.world) }
+        ensures { IfOk result (λ t. IsOpen (rules_of no_gc) t.world) }
     {
         Ok(Twins {
             world: new_world(rt, alloc, blocks, 2)?,
@@ -47,8 +46,8 @@ impl Twins {
         m: u32,
         command: &Command,
     ) -> Result<Reply, AllocError>
-        requires { IsOpen self.old.world }
-        ensures { IsOpen self.new.world }
+        requires { IsOpen (rules_of no_gc) self.old.world }
+        ensures { IsOpen (rules_of no_gc) self.new.world }
     {
         assert!(rt; m < 2);
         assert!(rt; valid(command));
@@ -62,8 +61,8 @@ impl Twins {
 
     // Puts a new cell with a nil reference before the list of work.
     fn add_cell(&mut self, rt: &impl Abort, m: u32) -> Result<(), AllocError>
-        requires { IsOpen self.old.world }
-        ensures { IsOpen self.new.world }
+        requires { IsOpen (rules_of no_gc) self.old.world }
+        ensures { IsOpen (rules_of no_gc) self.new.world }
     {
         let cell = Command::New {
             d: CELL,
@@ -83,8 +82,8 @@ impl Twins {
 
     // Stores what register `v` holds into the first cell of the list of work.
     fn fill_cell(&mut self, rt: &impl Abort, m: u32, v: u32) -> Result<(), AllocError>
-        requires { IsOpen self.old.world }
-        ensures { IsOpen self.new.world }
+        requires { IsOpen (rules_of no_gc) self.old.world }
+        ensures { IsOpen (rules_of no_gc) self.new.world }
     {
         let fill = Command::Put { s: LIST, i: 1, v };
         self.call(rt, m, &fill)?;
@@ -93,8 +92,8 @@ impl Twins {
 
     // The list of work of the mutator: what its registers and the globals hold.
     fn list_roots(&mut self, rt: &impl Abort, m: u32) -> Result<(), AllocError>
-        requires { IsOpen self.old.world }
-        ensures { IsOpen self.new.world }
+        requires { IsOpen (rules_of no_gc) self.old.world }
+        ensures { IsOpen (rules_of no_gc) self.new.world }
     {
         for s in 0..LIST {
             self.add_cell(rt, m)?;
@@ -110,8 +109,8 @@ impl Twins {
 
     // Adds what the fields of the object at hand hold to the list of work. Returns their number.
     fn list_fields(&mut self, rt: &impl Abort, m: u32) -> Result<u32, AllocError>
-        requires { IsOpen self.old.world }
-        ensures { IsOpen self.new.world }
+        requires { IsOpen (rules_of no_gc) self.old.world }
+        ensures { IsOpen (rules_of no_gc) self.new.world }
     {
         for i in 0..MAX_REFS {
             let field = Command::Get {
@@ -131,8 +130,8 @@ impl Twins {
 
     // The number of numbers of the object at hand.
     fn count_numbers(&mut self, rt: &impl Abort, m: u32) -> Result<u32, AllocError>
-        requires { IsOpen self.old.world }
-        ensures { IsOpen self.new.world }
+        requires { IsOpen (rules_of no_gc) self.old.world }
+        ensures { IsOpen (rules_of no_gc) self.new.world }
     {
         for j in 0..MAX_NUMS {
             if self.call(rt, m, &Command::Read { s: HAND, j })? == Reply::Range {
@@ -150,8 +149,8 @@ impl Twins {
         name: Name,
         found: &mut Vec<(Name, u32)>,
     ) -> Result<(), AllocError>
-        requires { IsOpen self.old.world }
-        ensures { IsOpen self.new.world }
+        requires { IsOpen (rules_of no_gc) self.old.world }
+        ensures { IsOpen (rules_of no_gc) self.new.world }
     {
         if found.iter().any(|x| x.0 == name) {
             return Ok(());
@@ -170,8 +169,8 @@ impl Twins {
         m: u32,
         found: &mut Vec<(Name, u32)>,
     ) -> Result<bool, AllocError>
-        requires { IsOpen self.old.world }
-        ensures { IsOpen self.new.world }
+        requires { IsOpen (rules_of no_gc) self.old.world }
+        ensures { IsOpen (rules_of no_gc) self.new.world }
     {
         let first = Command::Get {
             d: HAND,
@@ -198,8 +197,8 @@ impl Twins {
         m: u32,
         found: &mut Vec<(Name, u32)>,
     ) -> Result<(), AllocError>
-        requires { IsOpen self.old.world }
-        ensures { IsOpen self.new.world }
+        requires { IsOpen (rules_of no_gc) self.old.world }
+        ensures { IsOpen (rules_of no_gc) self.new.world }
     {
         self.list_roots(rt, m)?;
         let mut going = true;
@@ -218,8 +217,8 @@ impl Twins {
     // The names and sizes of the reachable objects in rising order of names, by a walk with
     // commands of both mutators.
     fn walk(&mut self, rt: &impl Abort, alloc: Global) -> Result<Vec<(Name, u32)>, AllocError>
-        requires { IsOpen self.old.world }
-        ensures { IsOpen self.new.world }
+        requires { IsOpen (rules_of no_gc) self.old.world }
+        ensures { IsOpen (rules_of no_gc) self.new.world }
     {
         let mut found = Vec::new(alloc);
         self.walk_from(rt, 0, &mut found)?;
@@ -231,8 +230,8 @@ impl Twins {
     /// A new epoch with the same heap and mutators. Between the two, the graph of the heap is that
     /// of the walk.
     pub(crate) fn next_epoch(mut self, rt: &impl Abort, alloc: Global) -> Result<Twins, AllocError>
-        requires { IsOpen self.world }
-        ensures { IfOk result (λ t. IsOpen t.world) }
+        requires { IsOpen (rules_of no_gc) self.world }
+        ensures { IfOk result (λ t. IsOpen (rules_of no_gc) t.world) }
     {
         let found = self.walk(rt, alloc)?;
         let Twins { world, ideal } = self;

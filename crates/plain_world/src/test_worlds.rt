@@ -1,11 +1,11 @@
 //! Calls of worlds, for tests.
 
 ghost use Rattle.std.specs.Prelude.{◌≡◌, ◌≤◌, map, IfOk};
-ghost use Rattle.heap_layout.specs.declared.block.Kind.TheVariants as kinds;
 ghost use Rattle.object_model.specs.Heaps.{heap_state};
 ghost use Rattle.plain_world.specs.Rows.{mutator_state};
 ghost use Rattle.plain_world.specs.Beginnings.{MayUse};
-ghost use Rattle.plain_world.specs.Calls.{IsOpen, SamePlaces, fill_of};
+ghost use Rattle.sessions.specs.Plans.{NoGc as no_gc, rules_of};
+ghost use Rattle.plain_world.specs.Calls.{IsOpen, SamePlaces};
 
 use crate::plain_world::PlainWorld;
 use crate::users::new_mutators;
@@ -30,8 +30,7 @@ pub(crate) fn new_world(
 ) -> Result<World, Fail>
     requires least { 1 ≤ count }
     requires most { count ≤ MAX_MUTATORS }
-    ensures open { IfOk result (λ w. IsOpen w) }
-    ensures fill { IfOk result (λ w. fill_of w ≡ kinds.Bump) }
+    ensures open { IfOk result (λ w. IsOpen (rules_of no_gc) w) }
 {
     let heap = Heap::new(alloc, Layout::new(blocks)?)?;
     let mutators = new_mutators(alloc, count)?;
@@ -46,8 +45,7 @@ pub(crate) fn begin(
     mutators: Vec<Mutator>,
 ) -> Result<World, AllocError>
     requires { MayUse (heap_state heap) (map mutator_state mutators.items) }
-    ensures open { IfOk result (λ w. IsOpen w) }
-    ensures fill { IfOk result (λ w. fill_of w ≡ kinds.Bump) }
+    ensures open { IfOk result (λ w. IsOpen (rules_of no_gc) w) }
 {
     assert!(rt; mutators.len() <= MAX_MUTATORS as usize);
     PlainWorld::begin(alloc, heap, mutators)
@@ -68,8 +66,8 @@ pub(crate) fn address<P: Plan>(rt: &impl Abort, world: &PlainWorld<P>, m: u32, s
 
 /// The answer to a poll of the mutator at place `m`.
 pub(crate) fn poll(rt: &impl Abort, world: &mut World, m: u32) -> Polled
-    requires { IsOpen world.old }
-    ensures open { IsOpen world.new }
+    requires { IsOpen (rules_of no_gc) world.old }
+    ensures open { IsOpen (rules_of no_gc) world.new }
     ensures places { SamePlaces world.old world.new }
 {
     assert!(rt; (m as usize) < world.mutators().len());
@@ -78,8 +76,8 @@ pub(crate) fn poll(rt: &impl Abort, world: &mut World, m: u32) -> Polled
 
 /// The mutator at place `m` raises a stop.
 pub(crate) fn raise(rt: &impl Abort, world: &mut World, m: u32)
-    requires { IsOpen world.old }
-    ensures open { IsOpen world.new }
+    requires { IsOpen (rules_of no_gc) world.old }
+    ensures open { IsOpen (rules_of no_gc) world.new }
     ensures places { SamePlaces world.old world.new }
 {
     assert!(rt; (m as usize) < world.mutators().len());
@@ -95,8 +93,8 @@ pub(crate) fn allocate<P: Plan>(
     refs: u32,
     nums: u32,
 ) -> Allocated
-    requires { IsOpen world.old }
-    ensures open { IsOpen world.new }
+    requires { IsOpen P.rules world.old }
+    ensures open { IsOpen P.rules world.new }
     ensures places { SamePlaces world.old world.new }
 {
     assert!(rt; (m as usize) < world.mutators().len());
@@ -107,8 +105,8 @@ pub(crate) fn allocate<P: Plan>(
 
 /// The reply to a command of the mutator at place `m`. A `new` that stops is refused.
 pub(crate) fn call(rt: &impl Abort, world: &mut World, m: u32, command: &Command) -> Reply
-    requires { IsOpen world.old }
-    ensures open { IsOpen world.new }
+    requires { IsOpen (rules_of no_gc) world.old }
+    ensures open { IsOpen (rules_of no_gc) world.new }
     ensures places { SamePlaces world.old world.new }
 {
     assert!(rt; (m as usize) < world.mutators().len());

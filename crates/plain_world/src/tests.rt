@@ -1,5 +1,6 @@
 //! Tests of the calls of a world.
 
+ghost use Rattle.sessions.specs.Plans.{NoGc as no_gc, rules_of};
 ghost use Rattle.plain_world.specs.Calls.{IsOpen};
 
 use crate::test_twins::Twins;
@@ -48,8 +49,8 @@ fn check_replies(
     twins: &mut Twins,
     table: &[(u32, Command, Reply)],
 ) -> Result<(), AllocError>
-    requires { IsOpen twins.old.world }
-    ensures { IsOpen twins.new.world }
+    requires { IsOpen (rules_of no_gc) twins.old.world }
+    ensures { IsOpen (rules_of no_gc) twins.new.world }
 {
     for (m, command, want) in table {
         let reply = twins.call(rt, *m, command)?;
@@ -221,8 +222,8 @@ fn command_of(state: u64) -> Command {
 
 // Random commands of the two mutators, from a state of the random sequence on. Returns its state.
 fn call_at_random(rt: &impl Abort, twins: &mut Twins, state: u64) -> Result<u64, AllocError>
-    requires { IsOpen twins.old.world }
-    ensures { IsOpen twins.new.world }
+    requires { IsOpen (rules_of no_gc) twins.old.world }
+    ensures { IsOpen (rules_of no_gc) twins.new.world }
 {
     let mut x = state;
     for _ in 0..2000 {

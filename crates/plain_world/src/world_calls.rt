@@ -9,20 +9,21 @@ ghost use Rattle.object_model.specs.Objects.{size_of};
 ghost use Rattle.mutator_calls.specs.Effects.{enters, raises};
 ghost use Rattle.mutator_calls.specs.Stopping.{stop_of};
 ghost use Rattle.mutator_calls.specs.Allocating.{IsCause, IsNeedOf, MatchAllocated};
-ghost use Rattle.plain_world.specs.Calls.{mutators_of, is_generational, births_at, register_in, books_at, HasPlace, IsOpen, AddsEntries, AddsEntry, SamePlaces, Logs, Grants, LeavesRest, IsUnchanged, IsOldUnlogged, Allocates, Refuses, HasNoRoom, IsNotFree, stop_word};
+ghost use Rattle.plain_world.specs.Calls.{mutators_of, is_generational, births_at, register_in, books_at, HasPlace, IsOpen, AddsEntries, AddsEntry, SamePlaces, Logs, Grants, LeavesRest, IsUnchanged, IsOldUnlogged, Allocates, Refuses, HasNoRoom, stop_word};
 
 use crate::plain_world::PlainWorld;
 use ideal_heap::{GLOBALS, MAX_NUMS, MAX_REFS, REGISTERS, Reply};
 use mutator_calls as calls;
 use mutator_calls::{Allocated, Polled};
 use object_model::MAX_MEDIUM_WORDS;
+use plan_api::Plan;
 
-impl<P> PlainWorld<P> {
+impl<P: Plan> PlainWorld<P> {
     /// Whether a stop is raised, and by which mutator.
     pub fn poll(&mut self, m: u32) -> Polled
-        requires open { IsOpen self.old }
+        requires open { IsOpen P.rules self.old }
         requires place { HasPlace self.old m }
-        ensures open { IsOpen self.new }
+        ensures open { IsOpen P.rules self.new }
         ensures places { SamePlaces self.old self.new }
         ensures plan { is_generational self.new ≡ is_generational self.old }
         ensures history { AddsEntries self.old [] self.new }
@@ -37,9 +38,9 @@ impl<P> PlainWorld<P> {
 
     /// Raises a stop, unless one is raised.
     pub fn raise(&mut self, m: u32)
-        requires open { IsOpen self.old }
+        requires open { IsOpen P.rules self.old }
         requires place { HasPlace self.old m }
-        ensures open { IsOpen self.new }
+        ensures open { IsOpen P.rules self.new }
         ensures places { SamePlaces self.old self.new }
         ensures plan { is_generational self.new ≡ is_generational self.old }
         ensures history { AddsEntries self.old [] self.new }
@@ -60,13 +61,13 @@ impl<P> PlainWorld<P> {
     /// The answer is `Stop` if the object is large, or if there is no such room.
     #[inline(always)]
     pub fn new_object(&mut self, m: u32, d: u32, refs: u32, nums: u32) -> Allocated
-        requires open { IsOpen self.old }
+        requires open { IsOpen P.rules self.old }
         requires place { HasPlace self.old m }
         requires register { d < REGISTERS }
         requires refs { refs ≤ MAX_REFS }
         requires nums { nums ≤ MAX_NUMS }
         requires births { births_at self.old m + 1 < 2 ^ 32 }
-        ensures open { IsOpen self.new }
+        ensures open { IsOpen P.rules self.new }
         ensures places { SamePlaces self.old self.new }
         ensures plan { is_generational self.new ≡ is_generational self.old }
         ensures made { MatchAllocated result
@@ -77,8 +78,7 @@ impl<P> PlainWorld<P> {
             (λ n. size_of refs nums ≤ MAX_MEDIUM_WORDS) (λ need. ⊤) }
         ensures need { MatchAllocated result (λ n. ⊤) (IsNeedOf d refs nums) }
         ensures cause { MatchAllocated result (λ n. ⊤) (λ need. IsCause (books_at self.new m)
-            (HasNoRoom self.new m (size_of refs nums)) (IsNotFree self.new)
-            (size_of refs nums) need.cause) }
+            (HasNoRoom self.new m (size_of refs nums)) (size_of refs nums) need.cause) }
     {
         self.row.turn = m as usize;
         calls::new_object(&mut self.row, d, refs, nums)
@@ -86,11 +86,11 @@ impl<P> PlainWorld<P> {
 
     /// Loads reference field `i` of the object in register `s` into register `d`.
     pub fn get(&mut self, m: u32, d: u32, s: u32, i: u32) -> Reply
-        requires open { IsOpen self.old }
+        requires open { IsOpen P.rules self.old }
         requires place { HasPlace self.old m }
         requires target { d < REGISTERS }
         requires source { s < REGISTERS }
-        ensures open { IsOpen self.new }
+        ensures open { IsOpen P.rules self.new }
         ensures places { SamePlaces self.old self.new }
         ensures plan { is_generational self.new ≡ is_generational self.old }
         ensures history { AddsEntry self.old m (command.Get d s i) result self.new }
@@ -105,11 +105,11 @@ impl<P> PlainWorld<P> {
     /// Stores register `v` into reference field `i` of the object in register `s`. Under a
     /// generational plan an old object is logged first: MMTk's object-remembering barrier.
     pub fn put(&mut self, m: u32, s: u32, i: u32, v: u32) -> Reply
-        requires open { IsOpen self.old }
+        requires open { IsOpen P.rules self.old }
         requires place { HasPlace self.old m }
         requires target { s < REGISTERS }
         requires source { v < REGISTERS }
-        ensures open { IsOpen self.new }
+        ensures open { IsOpen P.rules self.new }
         ensures places { SamePlaces self.old self.new }
         ensures plan { is_generational self.new ≡ is_generational self.old }
         ensures history { AddsEntry self.old m (command.Put s i v) result self.new }
@@ -127,10 +127,10 @@ impl<P> PlainWorld<P> {
 
     /// Loads number `j` of the object in register `s`.
     pub fn read(&mut self, m: u32, s: u32, j: u32) -> Reply
-        requires open { IsOpen self.old }
+        requires open { IsOpen P.rules self.old }
         requires place { HasPlace self.old m }
         requires register { s < REGISTERS }
-        ensures open { IsOpen self.new }
+        ensures open { IsOpen P.rules self.new }
         ensures places { SamePlaces self.old self.new }
         ensures plan { is_generational self.new ≡ is_generational self.old }
         ensures history { AddsEntry self.old m (command.Read s j) result self.new }
@@ -144,10 +144,10 @@ impl<P> PlainWorld<P> {
 
     /// Stores number `j` of the object in register `s`.
     pub fn write(&mut self, m: u32, s: u32, j: u32, n: u64) -> Reply
-        requires open { IsOpen self.old }
+        requires open { IsOpen P.rules self.old }
         requires place { HasPlace self.old m }
         requires register { s < REGISTERS }
-        ensures open { IsOpen self.new }
+        ensures open { IsOpen P.rules self.new }
         ensures places { SamePlaces self.old self.new }
         ensures plan { is_generational self.new ≡ is_generational self.old }
         ensures history { AddsEntry self.old m (command.Write s j n) result self.new }
@@ -161,10 +161,10 @@ impl<P> PlainWorld<P> {
 
     /// Adds to number `j` of the object in register `s`, modulo 2^64. Replies the number before.
     pub fn add(&mut self, m: u32, s: u32, j: u32, n: u64) -> Reply
-        requires open { IsOpen self.old }
+        requires open { IsOpen P.rules self.old }
         requires place { HasPlace self.old m }
         requires register { s < REGISTERS }
-        ensures open { IsOpen self.new }
+        ensures open { IsOpen P.rules self.new }
         ensures places { SamePlaces self.old self.new }
         ensures plan { is_generational self.new ≡ is_generational self.old }
         ensures history { AddsEntry self.old m (command.Add s j n) result self.new }
@@ -178,10 +178,10 @@ impl<P> PlainWorld<P> {
 
     /// Sets number `j` of the object in register `s` to `next` if it is `was`.
     pub fn swap(&mut self, m: u32, s: u32, j: u32, was: u64, next: u64) -> Reply
-        requires open { IsOpen self.old }
+        requires open { IsOpen P.rules self.old }
         requires place { HasPlace self.old m }
         requires register { s < REGISTERS }
-        ensures open { IsOpen self.new }
+        ensures open { IsOpen P.rules self.new }
         ensures places { SamePlaces self.old self.new }
         ensures plan { is_generational self.new ≡ is_generational self.old }
         ensures history { AddsEntry self.old m (command.Swap s j was next) result self.new }
@@ -195,11 +195,11 @@ impl<P> PlainWorld<P> {
 
     /// Copies register `s` to register `d`.
     pub fn move_register(&mut self, m: u32, d: u32, s: u32) -> Reply
-        requires open { IsOpen self.old }
+        requires open { IsOpen P.rules self.old }
         requires place { HasPlace self.old m }
         requires target { d < REGISTERS }
         requires source { s < REGISTERS }
-        ensures open { IsOpen self.new }
+        ensures open { IsOpen P.rules self.new }
         ensures places { SamePlaces self.old self.new }
         ensures plan { is_generational self.new ≡ is_generational self.old }
         ensures history { AddsEntry self.old m (command.Move d s) result self.new }
@@ -213,10 +213,10 @@ impl<P> PlainWorld<P> {
 
     /// Clears register `s`.
     pub fn drop_register(&mut self, m: u32, s: u32) -> Reply
-        requires open { IsOpen self.old }
+        requires open { IsOpen P.rules self.old }
         requires place { HasPlace self.old m }
         requires register { s < REGISTERS }
-        ensures open { IsOpen self.new }
+        ensures open { IsOpen P.rules self.new }
         ensures places { SamePlaces self.old self.new }
         ensures plan { is_generational self.new ≡ is_generational self.old }
         ensures history { AddsEntry self.old m (command.DropReg s) result self.new }
@@ -230,11 +230,11 @@ impl<P> PlainWorld<P> {
 
     /// Loads global `g` into register `d`.
     pub fn load(&mut self, m: u32, d: u32, g: u32) -> Reply
-        requires open { IsOpen self.old }
+        requires open { IsOpen P.rules self.old }
         requires place { HasPlace self.old m }
         requires register { d < REGISTERS }
         requires global { g < GLOBALS }
-        ensures open { IsOpen self.new }
+        ensures open { IsOpen P.rules self.new }
         ensures places { SamePlaces self.old self.new }
         ensures plan { is_generational self.new ≡ is_generational self.old }
         ensures history { AddsEntry self.old m (command.Load d g) result self.new }
@@ -248,11 +248,11 @@ impl<P> PlainWorld<P> {
 
     /// Stores register `s` into global `g`.
     pub fn share(&mut self, m: u32, g: u32, s: u32) -> Reply
-        requires open { IsOpen self.old }
+        requires open { IsOpen P.rules self.old }
         requires place { HasPlace self.old m }
         requires register { s < REGISTERS }
         requires global { g < GLOBALS }
-        ensures open { IsOpen self.new }
+        ensures open { IsOpen P.rules self.new }
         ensures places { SamePlaces self.old self.new }
         ensures plan { is_generational self.new ≡ is_generational self.old }
         ensures history { AddsEntry self.old m (command.Share g s) result self.new }
@@ -266,10 +266,10 @@ impl<P> PlainWorld<P> {
 
     /// Pins the object in register `s`: no collection moves it.
     pub fn pin(&mut self, m: u32, s: u32) -> Reply
-        requires open { IsOpen self.old }
+        requires open { IsOpen P.rules self.old }
         requires place { HasPlace self.old m }
         requires register { s < REGISTERS }
-        ensures open { IsOpen self.new }
+        ensures open { IsOpen P.rules self.new }
         ensures places { SamePlaces self.old self.new }
         ensures plan { is_generational self.new ≡ is_generational self.old }
         ensures history { AddsEntry self.old m (command.Pin s) result self.new }
@@ -283,10 +283,10 @@ impl<P> PlainWorld<P> {
 
     /// Unpins the object in register `s`.
     pub fn unpin(&mut self, m: u32, s: u32) -> Reply
-        requires open { IsOpen self.old }
+        requires open { IsOpen P.rules self.old }
         requires place { HasPlace self.old m }
         requires register { s < REGISTERS }
-        ensures open { IsOpen self.new }
+        ensures open { IsOpen P.rules self.new }
         ensures places { SamePlaces self.old self.new }
         ensures plan { is_generational self.new ≡ is_generational self.old }
         ensures history { AddsEntry self.old m (command.Unpin s) result self.new }

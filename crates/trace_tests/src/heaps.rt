@@ -4,7 +4,7 @@ ghost use Rattle.std.specs.Prelude.{◌≡◌, ◌<◌, IfOk, IsTrue, false, len
 ghost use Rattle.heap_layout.specs.declared.block.Kind.TheVariants as kinds;
 ghost use Rattle.object_model.specs.Heaps.{heap_state};
 ghost use Rattle.object_model.specs.Places.{AreRoots};
-ghost use Rattle.plain_world.specs.Calls.{IsOpen, SamePlaces, fill_of};
+ghost use Rattle.plain_world.specs.Calls.{IsOpen, SamePlaces};
 ghost use Rattle.trace_core.specs.Tracers.{MayRun};
 ghost use Rattle.trace_tests.specs.Blocks.{is_large, HasSmall};
 
@@ -73,8 +73,7 @@ pub(crate) fn with_roots(rt: &impl Abort, heap: Heap, registers: Vec<u32>) -> Bu
 /// A world of an empty heap of `blocks` blocks, with one mutator.
 fn new_world<P: Plan>(alloc: Global, blocks: u32) -> Result<PlainWorld<P>, Fail>
     requires ages { P.rules.young ≡ false }
-    ensures open { IfOk result (λ w. IsOpen w) }
-    ensures fill { IfOk result (λ w. fill_of w ≡ P.rules.fill) }
+    ensures open { IfOk result (λ w. IsOpen P.rules w) }
 {
     let heap = Heap::new(alloc, Layout::new(blocks)?)?;
     let mutators = new_mutators(alloc, 1)?;
@@ -83,8 +82,8 @@ fn new_world<P: Plan>(alloc: Global, blocks: u32) -> Result<PlainWorld<P>, Fail>
 
 /// A command of the mutator, which succeeds.
 fn call<P: Plan>(rt: &impl Abort, world: &mut PlainWorld<P>, command: &Command)
-    requires { IsOpen world.old }
-    ensures open { IsOpen world.new }
+    requires { IsOpen P.rules world.old }
+    ensures open { IsOpen P.rules world.new }
     ensures places { SamePlaces world.old world.new }
 {
     let reply = reply_to(rt, world, command);
@@ -96,8 +95,8 @@ fn call<P: Plan>(rt: &impl Abort, world: &mut PlainWorld<P>, command: &Command)
 
 /// The reply to a command of the mutator, `Done` to an allocation that has room.
 fn reply_to<P: Plan>(rt: &impl Abort, world: &mut PlainWorld<P>, command: &Command) -> Reply
-    requires { IsOpen world.old }
-    ensures open { IsOpen world.new }
+    requires { IsOpen P.rules world.old }
+    ensures open { IsOpen P.rules world.new }
     ensures places { SamePlaces world.old world.new }
 {
     assert!(rt; valid(command));

@@ -2,8 +2,8 @@
 //! known of the blocks is kept, or a collection drops objects, so that blocks are recycled.
 
 ghost use Rattle.std.specs.Prelude.{◌≡◌, ◌<◌, IfOk};
-ghost use Rattle.heap_layout.specs.declared.block.Kind.TheVariants as kinds;
-ghost use Rattle.plain_world.specs.Calls.{IsOpen, SamePlaces, fill_of};
+ghost use Rattle.sessions.specs.Plans.{Immix as immix, rules_of};
+ghost use Rattle.plain_world.specs.Calls.{IsOpen, SamePlaces};
 
 use crate::heaps::{Built, with_roots};
 use collector::collect;
@@ -281,8 +281,9 @@ impl Model {
         if ticket as usize >= self.allowance {
             return Err(NeedCause::Budget(ticket));
         }
+        // There is one, since the ticket is below the allowance.
         let Some(block) = self.rooms.iter().position(|r| !r.used) else {
-            return Err(NeedCause::Seen);
+            return Err(NeedCause::Budget(ticket));
         };
         let hole = self.fillers[m].hole;
         let part = Part {
@@ -346,8 +347,9 @@ impl Model {
         let (hole, _) = self.regions(m, size);
         let filler = &mut self.fillers[m];
         filler.births = filler.births.wrapping_add(1);
+        // One of them has room.
         let Some(part) = (if hole { filler.hole } else { filler.over }) else {
-            return Err(NeedCause::Seen);
+            return Err(NeedCause::Large);
         };
         let rest = Some(Part {
             block: part.block,
@@ -371,10 +373,8 @@ fn allocate(
     m: u32,
     size: u32,
 ) -> Result<Option<(usize, u32)>, AllocError>
-    requires open { IsOpen world.old }
-    requires fill { fill_of world.old ≡ kinds.Immix }
-    ensures open { IsOpen world.new }
-    ensures fill { fill_of world.new ≡ kinds.Immix }
+    requires open { IsOpen (rules_of immix) world.old }
+    ensures open { IsOpen (rules_of immix) world.new }
     ensures places { SamePlaces world.old world.new }
 {
     assert!(rt; (m as usize) < FILLERS && 3 <= size && size <= 2049);
@@ -445,10 +445,8 @@ fn fill(
     most: u32,
     state: &mut u32,
 ) -> Result<bool, AllocError>
-    requires open { IsOpen world.old }
-    requires fill { fill_of world.old ≡ kinds.Immix }
-    ensures open { IsOpen world.new }
-    ensures fill { fill_of world.new ≡ kinds.Immix }
+    requires open { IsOpen (rules_of immix) world.old }
+    ensures open { IsOpen (rules_of immix) world.new }
     ensures places { SamePlaces world.old world.new }
 {
     let mut stopped = 0u32;
@@ -508,10 +506,8 @@ fn next_epoch(
     world: World,
     model: &mut Model,
 ) -> Result<World, AllocError>
-    requires open { IsOpen world }
-    requires fill { fill_of world ≡ kinds.Immix }
-    ensures open { IfOk result (λ w. IsOpen w) }
-    ensures fill { IfOk result (λ w. fill_of w ≡ kinds.Immix) }
+    requires open { IsOpen (rules_of immix) world }
+    ensures open { IfOk result (λ w. IsOpen (rules_of immix) w) }
 {
     let (heap, mutators, notes) = world.close_with();
     model.close();
@@ -606,10 +602,8 @@ fn recycled_epoch<R: Abort + Threads + Sync>(
     model: &mut Model,
     kept: Kept,
 ) -> Result<World, Fail>
-    requires open { IsOpen world }
-    requires fill { fill_of world ≡ kinds.Immix }
-    ensures open { IfOk result (λ w. IsOpen w) }
-    ensures fill { IfOk result (λ w. fill_of w ≡ kinds.Immix) }
+    requires open { IsOpen (rules_of immix) world }
+    ensures open { IfOk result (λ w. IsOpen (rules_of immix) w) }
 {
     let (heap, mut mutators) = world.close();
     model.close();
@@ -624,8 +618,7 @@ fn recycled_epoch<R: Abort + Threads + Sync>(
 
 // A world of an empty heap.
 fn new_world(rt: &impl Abort, alloc: Global, blocks: u32, count: u32) -> Result<World, Fail>
-    ensures open { IfOk result (λ w. IsOpen w) }
-    ensures fill { IfOk result (λ w. fill_of w ≡ kinds.Immix) }
+    ensures open { IfOk result (λ w. IsOpen (rules_of immix) w) }
 {
     assert!(rt; 1 <= count && count <= 16);
     let heap = Heap::new(alloc, Layout::new(blocks)?)?;
@@ -644,10 +637,8 @@ fn follow<R: Abort + Threads + Sync>(
     model: &mut Model,
     epoch: usize,
 ) -> Result<World, Fail>
-    requires open { IsOpen world }
-    requires fill { fill_of world ≡ kinds.Immix }
-    ensures open { IfOk result (λ w. IsOpen w) }
-    ensures fill { IfOk result (λ w. fill_of w ≡ kinds.Immix) }
+    requires open { IsOpen (rules_of immix) world }
+    ensures open { IfOk result (λ w. IsOpen (rules_of immix) w) }
 {
     match epoch % 4 {
         0 | 3 => Ok(next_epoch(rt, alloc, world, model)?),
@@ -698,10 +689,8 @@ fn check_places(
     model: &mut Model,
     table: &[(u32, u32, Option<(usize, u32)>)],
 ) -> Result<(), AllocError>
-    requires open { IsOpen world.old }
-    requires fill { fill_of world.old ≡ kinds.Immix }
-    ensures open { IsOpen world.new }
-    ensures fill { fill_of world.new ≡ kinds.Immix }
+    requires open { IsOpen (rules_of immix) world.old }
+    ensures open { IsOpen (rules_of immix) world.new }
     ensures places { SamePlaces world.old world.new }
 {
     for (m, size, want) in table {
@@ -713,8 +702,7 @@ fn check_places(
 
 // Of 8 blocks 7 may be taken. An object above a line that the hole lacks room for goes to an
 // overflow block, and the hole is filled on; an object of a line leaves it. A hole without words is
-// left by all. A ticket that is not below the allowance, or a heap without Free blocks, lets an
-// overflowing object look for holes.
+// left by all. A ticket that is not below the allowance lets an overflowing object look for holes.
 #[test]
 fn overflow(rt: HostRuntime) -> Result<(), Fail> {
     let alloc = rt.alloc();

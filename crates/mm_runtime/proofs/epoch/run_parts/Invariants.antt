@@ -6,6 +6,6 @@ use Rattle.mm_runtime.proofs.epoch.run_parts.Given as goal
 
 abbrev pub invariant-loop-m : goal.invariant-loop-m
 invariant-loop-m g l = record {
-  runs : RunsParts l.fn.world l.fn.progress.items l.m l.ends.items l.world l.progress.items;
+  runs : RunsParts g.P.Plan.rules l.fn.world l.fn.progress.items l.m l.ends.items l.world l.progress.items;
   room : length l.fn.progress.items ≤ vec_capacity l.ends;
 }

@@ -60,8 +60,8 @@ returns-in-New g c =
     step-after c.args.world.now c.poll.new.self c.allocate.new.world c.args.m c.args.stored c.args.replies.now c.allocate.new.replies
     (answers-unchanged c.args.world.now c.poll.new.self c.args.m c.requires.open poll.open poll.places poll.history poll.same)
     (word-same c.args.world.now c.poll.new.self poll.same) c.allocate.result
-    (subst (λ (x : Command). MatchOption c.allocate.result (GetsReply c.poll.new.self c.args.m x c.args.replies.now c.allocate.new.world c.allocate.new.replies)
-    (EndsPart c.poll.new.self c.args.m x c.args.replies.now c.allocate.new.world c.allocate.new.replies)) (sym c.in-New.is ∙ c.command-command.ensures) c.allocate.ensures)
+    (subst (λ (x : Command). MatchOption c.allocate.result (GetsReply g.P.Plan.rules c.poll.new.self c.args.m x c.args.replies.now c.allocate.new.world c.allocate.new.replies)
+    (EndsPart g.P.Plan.rules c.poll.new.self c.args.m x c.args.replies.now c.allocate.new.world c.allocate.new.replies)) (sym c.in-New.is ∙ c.command-command.ensures) c.allocate.ensures)
 
 pub returns-in_default-command : goal.returns-in_default-command
 returns-in_default-command g c =
@@ -70,7 +70,7 @@ returns-in_default-command g c =
     (answers-unchanged c.args.world.now c.poll.new.self c.args.m c.requires.open poll.open poll.places poll.history poll.same)
     (word-same c.args.world.now c.poll.new.self poll.same) (record {
       reply = c.perform.result;
-      answers = subst (λ (x : Command). Answers c.poll.new.self c.args.m (record { command = x; reply = c.perform.result } ∷ []) c.perform.new.world) c.command-command.ensures c.perform.ensures.answers;
+      answers = subst (λ (x : Command). Answers g.P.Plan.rules c.poll.new.self c.args.m (record { command = x; reply = c.perform.result } ∷ []) c.perform.new.world) c.command-command.ensures c.perform.ensures.answers;
       items = c.push_reserved.ensures.items;
       capacity = c.push_reserved.ensures.capacity;
       stop = c.perform.ensures.stop;

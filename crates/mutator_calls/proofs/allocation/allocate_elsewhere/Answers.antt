@@ -1,9 +1,7 @@
 use Rattle.std.proofs.Common.{ℕ, refl, sym, ap, subst, List, [], ◌++◌, add-zero}
-use Rattle.ideal_heap.specs.declared.command.Command.TheVariants as command
-use Rattle.ideal_heap.specs.declared.reply.Reply.TheVariants as reply
 use Rattle.object_model.specs.Objects.{size_of}
-use Rattle.mutator_calls.specs.Effects.{enters, nothing}
-use Rattle.mutator_calls.specs.Allocating.{births_with, searches, IsSpent, FindsRoom}
+use Rattle.mutator_calls.specs.Effects.{nothing}
+use Rattle.mutator_calls.specs.Allocating.{births, births_with, searches, IsSpent, FindsRoom}
 use Rattle.std.proofs.lemmas.List.{append-nil}
 use Rattle.mutator_calls.proofs.Finding.{finds-later}
 use Rattle.mutator_calls.proofs.allocation.allocate_elsewhere.Goals as goal
@@ -15,12 +13,12 @@ returns-in-Ok-clause-made g c =
     let taken = found.0 in
     let granted = found.1 in
     let drawn = found.2 in
-    let entry = enters (command.New c.args.d c.args.refs c.args.nums) (reply.New c.publish.result) in
+    let entry = births c.args.d c.args.refs c.args.nums c.publish.result in
     let next : ℕ → Type 0 = λ t. (mid : _) × g.S.Seat.goes c.args.seat.now nothing mid × g.S.Seat.has_budget mid t in
-    let spent : ℕ → Type 0 = λ n. IsSpent g.S.Seat.goes g.S.Seat.keeps_region g.S.Seat.allocates_in g.S.Seat.lacks c.args.seat.now n in
+    let spent : ℕ → Type 0 = λ n. IsSpent g.S.Seat.allocates_in g.S.Seat.lacks c.args.seat.now n in
     let finds : ℕ → ℕ → Type 0 = λ blocks allowance. FindsRoom (g.S.Seat.lacks c.publish.new.self size)
     (g.S.Seat.is_used c.publish.new.self) (g.S.Seat.allocates_in c.args.seat.now size) (g.S.Seat.allocates_in c.publish.new.self size)
-    next (g.S.Seat.is_full c.args.seat.now size) (spent size) (g.S.Seat.is_overflow c.args.seat.now size) (g.S.Seat.keeps_region c.args.seat.now c.publish.new.self) blocks allowance
+    next (g.S.Seat.is_full c.args.seat.now size) (spent size) (g.S.Seat.is_overflow c.args.seat.now size) (g.S.Seat.keeps_hole c.args.seat.now c.publish.new.self) blocks allowance
     (g.S.Seat.books c.args.seat.now).ticket (g.S.Seat.books c.publish.new.self).ticket taken granted drawn in
     let to : List ℕ → List ℕ → ℕ → Type 0 = λ t r n. g.S.Seat.goes c.args.seat.now
     (births_with c.args.d c.args.refs c.args.nums c.publish.result t r n) c.publish.new.self in (
@@ -35,18 +33,18 @@ returns-in-Ok-clause-made g c =
           (g.S.Seat.lacks c.publish.new.self size) (g.S.Seat.is_used c.publish.new.self) (g.S.Seat.allocates_in c.args.seat.now size)
           (g.S.Seat.allocates_in c.find_room.new.seat size) (g.S.Seat.allocates_in c.publish.new.self size) next next
           (g.S.Seat.is_full c.args.seat.now size) (spent size) (g.S.Seat.is_overflow c.args.seat.now size)
-          (g.S.Seat.keeps_region c.args.seat.now c.find_room.new.seat × g.S.Seat.is_overflow c.find_room.new.seat size)
-          (g.S.Seat.keeps_region c.args.seat.now c.publish.new.self)
+          (g.S.Seat.keeps_hole c.args.seat.now c.find_room.new.seat × g.S.Seat.is_overflow c.find_room.new.seat size)
+          (g.S.Seat.keeps_hole c.args.seat.now c.publish.new.self)
           (g.S.Seat.books c.find_room.new.seat).blocks (g.S.Seat.books c.find_room.new.seat).allowance
           (g.S.Seat.books c.args.seat.now).ticket (g.S.Seat.books c.find_room.new.seat).ticket
           (g.S.Seat.books c.publish.new.self).ticket taken granted drawn
           (λ k lacks. c.publish.ensures.stays size k lacks) c.publish.ensures.still c.publish.ensures.region (λ t is. is)
-          (λ both. g.met.S.Seat.region_stays_kept _ _ _ both.0 (c.publish.ensures.keeps both.1))
+          (λ both. g.met.S.Seat.hole_stays_kept _ _ _ both.0 (c.publish.ensures.keeps both.1))
           (ap (λ b. b.ticket) c.publish.ensures.books)
           (subst (λ n. FindsRoom (g.S.Seat.lacks c.find_room.new.seat n) (g.S.Seat.is_used c.find_room.new.seat)
           (g.S.Seat.allocates_in c.args.seat.now n) (g.S.Seat.allocates_in c.find_room.new.seat n) next
           (g.S.Seat.is_full c.args.seat.now n) (spent n) (g.S.Seat.is_overflow c.args.seat.now n)
-          (g.S.Seat.keeps_region c.args.seat.now c.find_room.new.seat × g.S.Seat.is_overflow c.find_room.new.seat n)
+          (g.S.Seat.keeps_hole c.args.seat.now c.find_room.new.seat × g.S.Seat.is_overflow c.find_room.new.seat n)
           (g.S.Seat.books c.find_room.new.seat).blocks (g.S.Seat.books c.find_room.new.seat).allowance
           (g.S.Seat.books c.args.seat.now).ticket (g.S.Seat.books c.find_room.new.seat).ticket taken granted drawn)
           c.size_words.ensures found.4)),

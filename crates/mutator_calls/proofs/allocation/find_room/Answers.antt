@@ -19,10 +19,10 @@ returns-then-overflows-clause-finds g c = λ yes.
           (g.S.Seat.allocates_in c.args.seat.now size) (g.S.Seat.allocates_in c.find_overflow.new.seat size)
           (g.S.Seat.allocates_in c.find_overflow.new.seat size) (g.S.Seat.has_budget c.args.seat.now) next
           (g.S.Seat.is_full c.args.seat.now size)
-          (IsSpent g.S.Seat.goes g.S.Seat.keeps_region g.S.Seat.allocates_in g.S.Seat.lacks c.args.seat.now size)
+          (IsSpent g.S.Seat.allocates_in g.S.Seat.lacks c.args.seat.now size)
           (g.S.Seat.is_overflow c.args.seat.now size)
-          (g.S.Seat.keeps_region c.args.seat.now c.find_overflow.new.seat × g.S.Seat.is_overflow c.find_overflow.new.seat size)
-          (g.S.Seat.keeps_region c.args.seat.now c.find_overflow.new.seat × g.S.Seat.is_overflow c.find_overflow.new.seat size)
+          (g.S.Seat.keeps_hole c.args.seat.now c.find_overflow.new.seat × g.S.Seat.is_overflow c.find_overflow.new.seat size)
+          (g.S.Seat.keeps_hole c.args.seat.now c.find_overflow.new.seat × g.S.Seat.is_overflow c.find_overflow.new.seat size)
           (g.S.Seat.books c.find_overflow.new.seat).blocks (g.S.Seat.books c.find_overflow.new.seat).allowance
           (g.S.Seat.books c.args.seat.now).ticket (g.S.Seat.books c.find_overflow.new.seat).ticket
           (g.S.Seat.books c.find_overflow.new.seat).ticket found.0 found.1 found.2 (λ k is. is) (λ k is. is) (λ k is. is)
@@ -55,16 +55,7 @@ returns-then-take_some_hole-clause-finds g c = λ _.
       FindsRoom.in_hole took.0 took.5 took.2 refl c.requires.full
           (ComesToHoles.at_once (c.if-overflows.ensures.no refl) refl
           (ap (λ b. b.ticket) (c.if-take_some_hole.ensures.books ∙ c.if-take_own_hole.ensures.books)))
-          (inr (
-            (
-              c.args.seat.now,
-              0,
-              g.met.S.Seat.loads_do_nothing _ _ (g.met.S.Seat.looks_at_nothing c.args.seat.now),
-              g.met.S.Seat.region_is_kept c.args.seat.now,
-              c.if-take_own_hole.ensures.lacks refl,
-            ),
-            took.4,
-          )),
+          (inr (c.if-take_own_hole.ensures.lacks refl, took.4)),
     )
 
 pub returns-clause-offered : goal.returns-clause-offered
@@ -91,13 +82,7 @@ returns-clause-finds g c = λ yes.
           free.few free.none free.lower
           (inr (
             c.if-overflows.ensures.no refl,
-            (
-              c.args.seat.now,
-              0,
-              g.met.S.Seat.loads_do_nothing _ _ (g.met.S.Seat.looks_at_nothing c.args.seat.now),
-              g.met.S.Seat.region_is_kept c.args.seat.now,
-              c.if-take_own_hole.ensures.lacks refl,
-            ),
+            c.if-take_own_hole.ensures.lacks refl,
             λ j below other. took.4 j (c.if-take_some_hole.ensures.lacks j refl
                 (subst (λ n. j < n) (c.take_free_block.ensures.blocks) below)) other,
           )),
@@ -119,15 +104,4 @@ returns-clause-goes g c = λ no.
     )
 
 pub returns-clause-spent : goal.returns-clause-spent
-returns-clause-spent g c = λ _. (
-  c.args.seat.now,
-  0,
-  g.met.S.Seat.loads_do_nothing _ _ (g.met.S.Seat.looks_at_nothing c.args.seat.now),
-  g.met.S.Seat.region_is_kept c.args.seat.now,
-  c.if-take_own_hole.ensures.lacks refl,
-)
-
-pub returns-clause-kept : goal.returns-clause-kept
-returns-clause-kept g c = λ no.
-    g.met.S.Seat.region_stays_kept _ _ _ (c.if-take_own_hole.ensures.keeps refl)
-    (g.met.S.Seat.region_stays_kept _ _ _ (c.if-take_some_hole.ensures.keeps refl) (c.take_free_block.ensures.keeps (inl no)))
+returns-clause-spent g c = λ _. c.if-take_own_hole.ensures.lacks refl

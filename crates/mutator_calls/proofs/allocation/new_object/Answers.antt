@@ -11,7 +11,7 @@ returns-in-Some-clause-made g c =
       [],
       0,
       c.in-Some.ensures.goes,
-      FindsRoom.in_region here.0 here.1 here.2 c.in-Some.ensures.keeps refl refl refl (ap (λ b. b.ticket) c.in-Some.ensures.books),
+      FindsRoom.in_region here.0 here.1 here.2 c.in-Some.ensures.some c.in-Some.ensures.keeps refl refl refl (ap (λ b. b.ticket) c.in-Some.ensures.books),
     )
 
 pub returns-clause-made : goal.returns-clause-made
@@ -21,7 +21,7 @@ returns-clause-made g c =
     subst (λ s. MatchAllocated c.allocate_elsewhere.result
     (λ name. (taken : List ℕ) × (granted : List ℕ) × (drawn : ℕ) × g.S.Seat.goes s (births_with c.args.d c.args.refs c.args.nums name taken granted drawn) after
     × FindsRoom (g.S.Seat.lacks after size) (g.S.Seat.is_used after) (g.S.Seat.allocates_in s size) (g.S.Seat.allocates_in after size)
-    (IsNextTicket g.S.Seat.goes g.S.Seat.has_budget s) (g.S.Seat.is_full s size) (IsSpent g.S.Seat.goes g.S.Seat.keeps_region g.S.Seat.allocates_in g.S.Seat.lacks s size)
-    (g.S.Seat.is_overflow s size) (g.S.Seat.keeps_region s after) (g.S.Seat.books after).blocks (g.S.Seat.books after).allowance
+    (IsNextTicket g.S.Seat.goes g.S.Seat.has_budget s) (g.S.Seat.is_full s size) (IsSpent g.S.Seat.allocates_in g.S.Seat.lacks s size)
+    (g.S.Seat.is_overflow s size) (g.S.Seat.keeps_hole s after) (g.S.Seat.books after).blocks (g.S.Seat.books after).allowance
     (g.S.Seat.books s).ticket (g.S.Seat.books after).ticket taken granted drawn) (λ need. ⊤))
     c.in_default.ensures.same c.allocate_elsewhere.ensures.made

@@ -1,15 +1,15 @@
-use Rattle.std.proofs.Common.{◌≡◌, ◌<◌, arith, ◌∙◌, refl, sym, ap, subst, [], ◌∷◌, add-zero}
-use Rattle.mutator_calls.specs.Effects.{nothing, grants, draws}
-use Rattle.mutator_calls.specs.Allocating.{Draws, searches}
+use Rattle.std.proofs.Common.{◌≡◌, ◌<◌, arith, refl, ap, subst, [], ◌∷◌, add-zero}
+use Rattle.mutator_calls.specs.Effects.{grants, draws}
+use Rattle.mutator_calls.specs.Allocating.{searches}
 use Rattle.mutator_calls.proofs.allocation.take_free_block.Goals as goal
 
-pub returns-then-take_some_free-clause-takes : goal.returns-then-take_some_free-clause-takes
-returns-then-take_some_free-clause-takes g c = λ _.
+pub returns-clause-takes : goal.returns-clause-takes
+returns-clause-takes g c = λ _.
     let drew = c.hold_ticket-ticket.ensures.goes in
-    let found = c.if-take_some_free.ensures.grants refl in
+    let found = c.take_some_free.ensures.grants in
     let bound : c.allowance.result ≡ (g.S.Seat.books c.hold_ticket-ticket.new.seat).allowance = c.allowance.ensures in
     let same : (g.S.Seat.books c.take_some_free.new.seat).allowance ≡ (g.S.Seat.books c.hold_ticket-ticket.new.seat).allowance
-    = ap (λ b. b.allowance) c.if-take_some_free.ensures.books in
+    = ap (λ b. b.allowance) c.take_some_free.ensures.books in
     let over : c.hold_ticket-ticket.result < c.allowance.result = c.if-ticket-allowance.false in
     let few : c.hold_ticket-ticket.result < (g.S.Seat.books c.take_some_free.new.seat).allowance = omega arith in (
       found.0,
@@ -20,19 +20,32 @@ returns-then-take_some_free-clause-takes g c = λ _.
         ticket = c.hold_ticket-ticket.result;
         draws = drew.2;
         few = few;
-        none = ap (λ b. b.ticket) c.if-take_some_free.ensures.books;
+        none = ap (λ b. b.ticket) c.take_some_free.ensures.books;
         here = found.4;
         lower = found.3;
       },
       λ j lacks other. found.2 j (c.hold_ticket-ticket.ensures.stays c.args.size j lacks) other,
     )
 
-pub returns-clause-goes : goal.returns-clause-goes
-returns-clause-goes g c = λ _.
-    let drew = c.hold_ticket-ticket.ensures.goes in (
-      drew.0,
-      subst (λ n. g.S.Seat.goes c.args.seat.now (draws n) c.take_some_free.new.seat) (add-zero drew.0)
-          (g.met.S.Seat.one_after_another _ _ _ (draws drew.0) nothing drew.1 (c.if-take_some_free.ensures.goes refl)),
-      subst (λ o. Draws (g.S.Seat.has_budget c.args.seat.now) (g.S.Seat.books c.args.seat.now).ticket o drew.0)
-          (sym (ap (λ b. b.ticket) c.if-take_some_free.ensures.books ∙ ap (λ b. b.ticket) c.hold_ticket-ticket.ensures.books)) drew.2,
-    )
+pub returns-clause-keeps : goal.returns-clause-keeps
+returns-clause-keeps g c = λ is.
+    let drew = c.hold_ticket-ticket.ensures.goes in
+    let stayed = g.met.S.Seat.regions_stay _ _ (draws drew.0) drew.1 refl in
+    g.met.S.Seat.hole_stays_kept _ _ _ (g.met.S.Seat.hole_stays _ _ stayed)
+    (c.take_some_free.ensures.keeps (g.met.S.Seat.overflows_stay _ _ c.args.size stayed is))
+
+pub returns-clause-overflow : goal.returns-clause-overflow
+returns-clause-overflow g c = λ is.
+    let drew = c.hold_ticket-ticket.ensures.goes in
+    let stayed = g.met.S.Seat.regions_stay _ _ (draws drew.0) drew.1 refl in
+    c.take_some_free.ensures.overflow (g.met.S.Seat.overflows_stay _ _ c.args.size stayed is)
+
+pub returns-then-ticket-allowance-clause-keeps : goal.returns-then-ticket-allowance-clause-keeps
+returns-then-ticket-allowance-clause-keeps g c = λ is.
+    let drew = c.hold_ticket-ticket.ensures.goes in
+    g.met.S.Seat.hole_stays _ _ (g.met.S.Seat.regions_stay _ _ (draws drew.0) drew.1 refl)
+
+pub returns-then-ticket-allowance-clause-overflow : goal.returns-then-ticket-allowance-clause-overflow
+returns-then-ticket-allowance-clause-overflow g c = λ is.
+    let drew = c.hold_ticket-ticket.ensures.goes in
+    g.met.S.Seat.overflows_stay _ _ c.args.size (g.met.S.Seat.regions_stay _ _ (draws drew.0) drew.1 refl) is

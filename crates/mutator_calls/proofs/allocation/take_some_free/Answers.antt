@@ -1,13 +1,13 @@
-use Rattle.std.proofs.Common.{◌∙◌, refl, inl, below_more}
+use Rattle.std.proofs.Common.{◌∙◌, refl, below_more}
 use Rattle.mutator_calls.specs.Effects.{nothing, grants}
 use Rattle.mutator_calls.proofs.allocation.take_some_free.Goals as goal
 
 pub returns-then-take_free-clause-offered : goal.returns-then-take_free-clause-offered
-returns-then-take_free-clause-offered g c = λ _.
+returns-then-take_free-clause-offered g c =
     c.loop-block.invariant.6 c.take_free.new.self c.args.size (c.if-take_free.ensures.offered refl)
 
 pub returns-then-take_free-clause-grants : goal.returns-then-take_free-clause-grants
-returns-then-take_free-clause-grants g c = λ _. (
+returns-then-take_free-clause-grants g c = (
   c.loop-block.block,
   g.met.S.Seat.one_after_another _ _ _ nothing (grants c.loop-block.block) c.loop-block.invariant.2
       c.if-take_free.ensures.goes,
@@ -16,8 +16,16 @@ returns-then-take_free-clause-grants g c = λ _. (
   c.if-take_free.ensures.region refl,
 )
 
-pub returns-clause-regions : goal.returns-clause-regions
-returns-clause-regions g c = λ n k _ is. c.loop-block.invariant.9 n k is
+pub returns-then-take_free-clause-keeps : goal.returns-then-take_free-clause-keeps
+returns-then-take_free-clause-keeps g c = λ is.
+    let stayed = g.met.S.Seat.regions_stay _ _ nothing c.loop-block.invariant.2 refl in
+    g.met.S.Seat.hole_stays_kept _ _ _ (g.met.S.Seat.hole_stays _ _ stayed)
+    (c.if-take_free.ensures.keeps (g.met.S.Seat.overflows_stay _ _ c.args.size stayed is))
+
+pub returns-then-take_free-clause-overflow : goal.returns-then-take_free-clause-overflow
+returns-then-take_free-clause-overflow g c = λ is.
+    let stayed = g.met.S.Seat.regions_stay _ _ nothing c.loop-block.invariant.2 refl in
+    c.if-take_free.ensures.overflow (g.met.S.Seat.overflows_stay _ _ c.args.size stayed is)
 
 pub loop-block-preserved : goal.loop-block-preserved
 loop-block-preserved g c = (
@@ -30,7 +38,4 @@ loop-block-preserved g c = (
       (c.if-take_free.ensures.used refl),
   c.if-take_free.ensures.books ∙ c.loop-block.invariant.5,
   (λ b n offers. c.loop-block.invariant.6 b n (c.if-take_free.ensures.offers b n refl offers)),
-  g.met.S.Seat.region_stays_kept _ _ _ c.loop-block.invariant.7 (c.if-take_free.ensures.keeps (inl refl)),
-  (λ is. c.if-take_free.ensures.overflow (c.loop-block.invariant.8 is)),
-  λ n k is. c.loop-block.invariant.9 n k (c.if-take_free.ensures.regions n k refl is),
 )

@@ -8,6 +8,3 @@ invariant-loop-block g l = g.S.Seat.is_ready l.seat × (l.block-end ≡ (g.S.Sea
     × ((k : ℕ) → g.S.Seat.lacks l.initial.seat l.size k → g.S.Seat.lacks l.seat l.size k)
     × ((k : ℕ) → k < l.block → g.S.Seat.is_used l.seat k) × (g.S.Seat.books l.seat ≡ g.S.Seat.books l.initial.seat)
     × ((b : _) (n : ℕ) → g.S.Seat.offers l.seat b n → g.S.Seat.offers l.initial.seat b n)
-    × g.S.Seat.keeps_region l.initial.seat l.seat
-    × (g.S.Seat.is_overflow l.initial.seat l.size → g.S.Seat.is_overflow l.seat l.size)
-    × ((n k : ℕ) → g.S.Seat.allocates_in l.seat n k → g.S.Seat.allocates_in l.initial.seat n k)

@@ -39,5 +39,5 @@ loop-block-preserved g c = (
   (λ b n offers. c.loop-block.invariant.5 b n (c.if-take_hole.ensures.same b n refl offers)),
   (λ j lacks. c.if-take_hole.ensures.stays c.args.size j refl (c.loop-block.invariant.6 j lacks)),
   (λ j used. c.if-take_hole.ensures.still j (c.loop-block.invariant.7 j used)),
-  g.met.S.Seat.region_stays_kept _ _ _ c.loop-block.invariant.8 (c.if-take_hole.ensures.keeps refl),
+  c.if-take_hole.ensures.full refl,
 )

@@ -9,4 +9,4 @@ invariant-loop-block g l = g.S.Seat.is_ready l.seat × (l.block-end ≡ (g.S.Sea
     × ((b : _) (n : ℕ) → g.S.Seat.offers l.seat b n → g.S.Seat.offers l.initial.seat b n)
     × ((j : ℕ) → g.S.Seat.lacks l.initial.seat l.size j → g.S.Seat.lacks l.seat l.size j)
     × ((j : ℕ) → g.S.Seat.is_used l.initial.seat j → g.S.Seat.is_used l.seat j)
-    × g.S.Seat.keeps_region l.initial.seat l.seat
+    × g.S.Seat.is_full l.seat l.size

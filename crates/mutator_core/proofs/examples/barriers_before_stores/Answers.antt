@@ -1,4 +1,4 @@
-use Rattle.std.proofs.Common.{refl, ℕ, ◌≡◌, inl, inr, arith}
+use Rattle.std.proofs.Common.{refl, ℕ, ◌≡◌, ◌<◌, inl, inr, arith}
 use Rattle.std.proofs.lemmas.Bool.{true≢false}
 use Rattle.mutator_core.proofs.examples.barriers_before_stores.Goals as goal
 
@@ -33,3 +33,6 @@ returns-clause-before c is = elim is.3.3.1.2 as (λ _. ⊥) [
     | inr logged ↦ (let wrong : ◌≡◌ {A = ℕ} 0 215 = logged in omega arith)
   ]
 ]
+
+pub returns-clause-nil : goal.returns-clause-nil
+returns-clause-nil c is = (let wrong : 0 < 0 = is.1.1 in omega arith)

@@ -1,4 +1,4 @@
-use Rattle.std.proofs.Common.{refl, sym, ap, ◌≡◌, inl, inr, arith}
+use Rattle.std.proofs.Common.{refl, sym, ap, ℕ, ◌≡◌, ◌<◌, inl, inr, arith}
 use Rattle.std.proofs.lemmas.Option.{none-some}
 use Rattle.heap_layout.specs.Blocks.{kind_code}
 use Rattle.mutator_core.proofs.Lists.{contains-none}
@@ -72,3 +72,9 @@ returns-clause-twice c is = none-some 0 (sym is.3.1)
 
 pub returns-clause-early : goal.returns-clause-early
 returns-clause-early c is = none-some ((is.1.2 refl).0) ((is.1.2 refl).1)
+
+pub returns-clause-again : goal.returns-clause-again
+returns-clause-again c is = elim is.3.3.3.1.1 as (λ _. ⊥) [
+  | inl begins ↦ (let wrong : ◌≡◌ {A = ℕ} 215 0 = ap (λ u. u.address) begins.1.none in omega arith)
+  | inr goes_on ↦ (let wrong : 0 < 0 = goes_on.0 in omega arith)
+]

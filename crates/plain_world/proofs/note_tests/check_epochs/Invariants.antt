@@ -1,7 +1,6 @@
-use Rattle.std.proofs.Common.{◌≡◌}
-use Rattle.heap_layout.specs.declared.block.Kind.TheVariants as kinds
-use Rattle.plain_world.specs.Calls.{IsOpen, fill_of}
+use Rattle.sessions.specs.Plans.{NoGc as no_gc, rules_of}
+use Rattle.plain_world.specs.Calls.{IsOpen}
 use Rattle.plain_world.proofs.note_tests.check_epochs.Given as goal
 
 abbrev pub invariant-loop-rounds : goal.invariant-loop-rounds
-invariant-loop-rounds g l = (IsOpen l.kept) × (fill_of l.kept ≡ kinds.Bump) × (IsOpen l.fresh) × (fill_of l.fresh ≡ kinds.Bump)
+invariant-loop-rounds g l = (IsOpen (rules_of no_gc) l.kept) × (IsOpen (rules_of no_gc) l.fresh)

@@ -1,7 +1,6 @@
-use Rattle.std.proofs.Common.{◌≡◌}
-use Rattle.heap_layout.specs.declared.block.Kind.TheVariants as kinds
-use Rattle.plain_world.specs.Calls.{IsOpen, fill_of}
+use Rattle.sessions.specs.Plans.{Immix as immix, rules_of}
+use Rattle.plain_world.specs.Calls.{IsOpen}
 use Rattle.trace_tests.proofs.line_tests.check_epochs.Given as goal
 
 abbrev pub invariant-loop-epoch : goal.invariant-loop-epoch
-invariant-loop-epoch g l = (IsOpen l.world) × (fill_of l.world ≡ kinds.Immix)
+invariant-loop-epoch g l = (IsOpen (rules_of immix) l.world)

@@ -1,7 +1,6 @@
-use Rattle.std.proofs.Common.{◌≡◌}
-use Rattle.heap_layout.specs.declared.block.Kind.TheVariants as kinds
-use Rattle.plain_world.specs.Calls.{IsOpen, SamePlaces, fill_of}
+use Rattle.sessions.specs.Plans.{Immix as immix, rules_of}
+use Rattle.plain_world.specs.Calls.{IsOpen, SamePlaces}
 use Rattle.trace_tests.proofs.line_tests.check_places.Given as goal
 
 abbrev pub invariant-loop-m : goal.invariant-loop-m
-invariant-loop-m g l = (IsOpen l.world) × (fill_of l.world ≡ kinds.Immix) × (SamePlaces l.fn.world l.world)
+invariant-loop-m g l = (IsOpen (rules_of immix) l.world) × (SamePlaces l.fn.world l.world)

@@ -13,7 +13,7 @@ copy-grey-requires c =
     let x = c.args.register in
     let won = c.in-Won.won in
     let new = c.claim.new.self in
-    let wins = subst (ClaimsRoot t.setup t.events t.view new x) c.in-Won.is
+    let wins = subst (ClaimsRoot t.setup t.events t.view c.args.tracer.now new x) c.in-Won.is
     (c.claim.ensures.claims t.setup t.events t.view t.tracks (t.right.1 c.if-register-eq0.false)) in
     record {
       setup = t.setup;
@@ -26,7 +26,7 @@ copy-grey-requires c =
 pub returns-in-Old : goal.returns-in-Old
 returns-in-Old c p es v tracks are root =
     let x = c.args.register in
-    let old = subst (ClaimsRoot p es v c.claim.new.self x) c.in-Old.is (c.claim.ensures.claims p es v tracks (root c.if-register-eq0.false)) in
+    let old = subst (ClaimsRoot p es v c.args.tracer.now c.claim.new.self x) c.in-Old.is (c.claim.ensures.claims p es v tracks (root c.if-register-eq0.false)) in
     let w = asked_view x x v in
     record {
       events = _;
@@ -40,7 +40,7 @@ pub returns-in-Seen : goal.returns-in-Seen
 returns-in-Seen c p es v tracks are root =
     let x = c.args.register in
     let t = c.in-Seen.target in
-    let seen = subst (ClaimsRoot p es v c.claim.new.self x) c.in-Seen.is (c.claim.ensures.claims p es v tracks (root c.if-register-eq0.false)) in
+    let seen = subst (ClaimsRoot p es v c.args.tracer.now c.claim.new.self x) c.in-Seen.is (c.claim.ensures.claims p es v tracks (root c.if-register-eq0.false)) in
     let w = asked_view x t v in
     record {
       events = _;
@@ -55,7 +55,7 @@ returns-in_ok-push-in-Won c p es v tracks are root =
     let x = c.args.register in
     let won = c.in-Won.won in
     let mid = c.claim.new.self in
-    let wins = subst (ClaimsRoot p es v mid x) c.in-Won.is (c.claim.ensures.claims p es v tracks (root c.if-register-eq0.false)) in
+    let wins = subst (ClaimsRoot p es v c.args.tracer.now mid x) c.in-Won.is (c.claim.ensures.claims p es v tracks (root c.if-register-eq0.false)) in
     let token = won-token p es v mid x ByRoot won wins.0 wins.1 in
     won-goes p v x won wins.0 _ c.copy-grey.new.self c.copy-grey.result c.args.stack.now.items c.push.new.self.items are c.copy-grey.ensures.object
     (c.copy-grey.ensures.grey p _ _ wins.1.tracks token) (c.copy-grey.ensures.tracks p _ _ wins.1.tracks token) c.in_ok-push-in-Won.ensures.items

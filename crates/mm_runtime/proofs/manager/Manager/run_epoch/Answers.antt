@@ -39,9 +39,6 @@ run_parts-requires-clause-births g c κs within = λ k p is.
     standing.births-within c.in_ok-world.world.row.mutators.items c.args.self.mutators.items k (length p.replies.items) c.in_ok-world.ensures.mutators
     (λ u there. c.requires.ready.order.births k u p there is)
 
-pub close_with-heap-requires-clause-fill : goal.close_with-heap-requires-clause-fill
-close_with-heap-requires-clause-fill g c = c.in_ok-ends.ensures.places.fill ∙ c.in_ok-world.ensures.fill
-
 pub returns : goal.returns
 returns g c =
     let rules : Rules = g.P.Plan.rules in

@@ -1,4 +1,4 @@
-use Rattle.std.proofs.Common.{◌≡◌, sym, subst, ℕ, inr, get_or, rules}
+use Rattle.std.proofs.Common.{◌≡◌, sym, subst, ℕ, get_or, rules}
 use Rattle.std.specs.Prelude.{Some, None}
 use denote.Enum.Bare.{differs_false}
 use Rattle.heap_layout.specs.contracts.block.Kind.{the_type}
@@ -26,7 +26,7 @@ take_hole_in-requires-clause-block c =
     turns.note-block now.epoch now.ideal now.log w now.at c.in-Some.block _ mine.note
 
 pub returns-clause-found : goal.returns-clause-found
-returns-clause-found c = λ took. inr (
+returns-clause-found c = λ took. (
   differs_false the_type (search rules) c.args.self.now.fill kinds.Immix (sym c.if-ne.ensures),
   (c.in-Some.block, current c.args.self.now c.requires.ready c.index.result.now c.index.ensures c.in-Some.block c.in-Some.is, c.take_hole_in.ensures.found took),
 )

@@ -3,8 +3,8 @@ use Rattle.object_model.specs.Objects.{size_of}
 use Rattle.plain_world.specs.Worlds.{IsReady}
 use Rattle.plain_world.specs.Steps.{Lacks, KeepsRegion}
 use Rattle.plain_world.proofs.Allocated.{allocated}
-use Rattle.plain_world.proofs.Offering.{room-offers}
-use Rattle.plain_world.proofs.Finding.{own-lacks, lacks-regions}
+use Rattle.plain_world.proofs.Offering.{room-offers, room-not-full}
+use Rattle.plain_world.proofs.Lacking.{own-lacks, lacks-regions}
 use Rattle.plain_world.proofs.NewObjectCalls as calls
 use Rattle.plain_world.proofs.Turns as turns
 use Rattle.plain_world.proofs.plain_seat.PlainRowSeat.allocate_here.Goals as goal
@@ -49,6 +49,10 @@ pub returns-in-Some-clause-offered : goal.returns-in-Some-clause-offered
 returns-in-Some-clause-offered c =
     let size = size_of c.args.shape.now.refs c.args.shape.now.nums in
     room-offers c.args.self.now size (omega arith) c.requires.small c.in-Some.ensures.room
+
+pub returns-in-Some-clause-some : goal.returns-in-Some-clause-some
+returns-in-Some-clause-some c = λ full.
+    room-not-full c.args.self.now (size_of c.args.shape.now.refs c.args.shape.now.nums) (omega arith) c.requires.small c.in-Some.ensures.room full
 
 pub returns-in-Some-clause-region : goal.returns-in-Some-clause-region
 returns-in-Some-clause-region c =

@@ -8,7 +8,7 @@ use Rattle.plain_world.specs.declared.plain_row.PlainSeat.{PlainSeat}
 use Rattle.plain_world.specs.Rows.{ChangesAt, seat_at_turn, blocks_of, over_of}
 use Rattle.plain_world.proofs.Elements.{set-changes, read-some}
 use Rattle.plain_world.proofs.Stopping.{few-words}
-use Rattle.plain_world.proofs.Drawing.{DrawsTicket, tickets-few, drawn-goes, drawn-ready, drawn-lacks, drawn-offers, drawn-books, drawn-overflow, drawn-keeps, drawn-tries}
+use Rattle.plain_world.proofs.Drawing.{DrawsTicket, tickets-few, drawn-goes, drawn-ready, drawn-lacks, drawn-lacked, drawn-full, drawn-offers, drawn-books}
 use Rattle.plain_world.specs.Steps.{books_of}
 use Rattle.plain_world.proofs.plain_seat.PlainRowSeat.draw_ticket.Goals as goal
 
@@ -35,7 +35,7 @@ overflow_cast-ticket c =
     omega arith
 
 abbrev seat : goal.After-self-1 → PlainSeat
-seat c = record { ticket = Some c.index-ticket.result.now; blocks = c.index_mut.result.now.blocks; over = c.index_mut.result.now.over }
+seat c = record { ticket = Some c.index-ticket.result.now; blocks = c.index_mut-seat.result.now.blocks; over = c.index_mut-seat.result.now.over }
 
 abbrev end : goal.After-self-1 → PlainRow
 end c = record c.store.new.self { seats = with_item c.store.new.self.seats c.store.new.self.turn (seat c) }
@@ -46,26 +46,26 @@ ticket-is c = get_or_read c.args.self.now.row.words.items _ _ (few-words c.args.
 turn-inside : (c : goal.After-self-1) → c.args.self.now.turn < length c.args.self.now.seats.items
 turn-inside c = let e = c.requires.ready.turn.seats in let t = c.requires.ready.turn.turn in omega arith
 
-blocks-are : (c : goal.After-self-1) → c.index_mut.result.now.blocks ≡ blocks_of (seat_at_turn c.args.self.now)
+blocks-are : (c : goal.After-self-1) → c.index_mut-seat.result.now.blocks ≡ blocks_of (seat_at_turn c.args.self.now)
 blocks-are c =
     let b = c.store.new.self in
     let there : b.turn < length b.seats.items = subst (λ (w : PlainRow). w.turn < length w.seats.items) (sym c.store.ensures.rest) (turn-inside c) in
-    sym (ap blocks_of (read-some b.seats.items b.turn c.index_mut.result.now there c.index_mut.ensures.value))
+    sym (ap blocks_of (read-some b.seats.items b.turn c.index_mut-seat.result.now there c.index_mut-seat.ensures.value))
     ∙ ap (λ (w : PlainRow). blocks_of (seat_at_turn w)) c.store.ensures.rest
 
-over-is : (c : goal.After-self-1) → c.index_mut.result.now.over ≡ over_of (seat_at_turn c.args.self.now)
+over-is : (c : goal.After-self-1) → c.index_mut-seat.result.now.over ≡ over_of (seat_at_turn c.args.self.now)
 over-is c =
     let b = c.store.new.self in
     let there : b.turn < length b.seats.items = subst (λ (w : PlainRow). w.turn < length w.seats.items) (sym c.store.ensures.rest) (turn-inside c) in
-    sym (ap over_of (read-some b.seats.items b.turn c.index_mut.result.now there c.index_mut.ensures.value))
+    sym (ap over_of (read-some b.seats.items b.turn c.index_mut-seat.result.now there c.index_mut-seat.ensures.value))
     ∙ ap (λ (w : PlainRow). over_of (seat_at_turn w)) c.store.ensures.rest
 
 draws : (c : goal.After-self-1) → DrawsTicket c.args.self.now (end c)
 draws c =
     let a = c.args.self.now in
     let x : PlainSeat = record { ticket = Some (word_at (state_of a.row) 1); blocks = blocks_of (seat_at_turn a); over = over_of (seat_at_turn a) } in
-    let same : seat c ≡ x = ap (λ (n : ℕ). let y : PlainSeat = record { ticket = Some n; blocks = c.index_mut.result.now.blocks; over = c.index_mut.result.now.over } in y) (ticket-is c)
-    ∙ ap (λ (o : List (Option ℕ)). let y : PlainSeat = record { ticket = Some (word_at (state_of a.row) 1); blocks = o; over = c.index_mut.result.now.over } in y) (blocks-are c)
+    let same : seat c ≡ x = ap (λ (n : ℕ). let y : PlainSeat = record { ticket = Some n; blocks = c.index_mut-seat.result.now.blocks; over = c.index_mut-seat.result.now.over } in y) (ticket-is c)
+    ∙ ap (λ (o : List (Option ℕ)). let y : PlainSeat = record { ticket = Some (word_at (state_of a.row) 1); blocks = o; over = c.index_mut-seat.result.now.over } in y) (blocks-are c)
     ∙ ap (λ (o : Option ℕ). let y : PlainSeat = record { ticket = Some (word_at (state_of a.row) 1); blocks = blocks_of (seat_at_turn a); over = o } in y) (over-is c) in
     record {
       rest = ap (λ (w : PlainRow). record w { seats = with_item c.store.new.self.seats c.store.new.self.turn (seat c) }) c.store.ensures.rest;
@@ -84,11 +84,11 @@ returns-clause-goes c = drawn-goes c.args.self.now (end c) (draws c) c.requires.
 pub returns-clause-stays : goal.returns-clause-stays
 returns-clause-stays c = drawn-lacks c.args.self.now (end c) (draws c) c.requires.ready c.requires.none
 
-pub returns-clause-overflow : goal.returns-clause-overflow
-returns-clause-overflow c = drawn-overflow c.args.self.now (end c) (draws c) c.requires.ready c.requires.none
+pub returns-clause-full : goal.returns-clause-full
+returns-clause-full c = drawn-full c.args.self.now (end c) (draws c) c.requires.ready c.requires.none
 
-pub returns-clause-keeps : goal.returns-clause-keeps
-returns-clause-keeps c = drawn-keeps c.args.self.now (end c) (draws c) c.requires.ready c.requires.none
+pub returns-clause-lacked : goal.returns-clause-lacked
+returns-clause-lacked c = λ n k tried. drawn-lacked c.args.self.now (end c) (draws c) c.requires.ready c.requires.none n k
 
 pub returns-clause-same : goal.returns-clause-same
 returns-clause-same c = drawn-offers c.args.self.now (end c) (draws c) c.requires.ready c.requires.none
@@ -100,6 +100,3 @@ returns-clause-books c =
 
 pub returns-clause-next : goal.returns-clause-next
 returns-clause-next c = sym (ticket-is c)
-
-pub returns-clause-regions : goal.returns-clause-regions
-returns-clause-regions c = λ n k tries. drawn-tries c.args.self.now (end c) (draws c) c.requires.ready c.requires.none n k tries

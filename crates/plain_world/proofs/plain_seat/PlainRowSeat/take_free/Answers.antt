@@ -3,7 +3,7 @@ use Rattle.std.proofs.lemmas.Bool.{cases_Bool}
 use Rattle.mutator_calls.specs.Effects.{grants, nothing}
 use Rattle.plain_world.specs.Worlds.{Goes}
 use Rattle.plain_world.specs.SeatLaws.{goes-nothing}
-use Rattle.plain_world.specs.Steps.{AllocatesIn, IsOverflow, KeepsRegion, Lacks, IsUsed, Offers}
+use Rattle.plain_world.specs.Steps.{IsOverflow, KeepsRegion, Lacks, IsUsed, Offers}
 use Rattle.plain_world.proofs.Gaining.{free-goes, free-room, free-offers, free-current, free-lacks, free-keeps, free-overflows, used-still}
 use Rattle.plain_world.proofs.plain_seat.PlainRowSeat.take_free.Goals as goal
 
@@ -61,17 +61,13 @@ returns-clause-region c = λ took.
     free-current c.args.self.now c.take_free_block.new.self c.requires.ready c.args.block c.args.size c.requires.block found.0 found.1.0 found.1.1 found.1.2 c.requires.ticket c.requires.most
 
 pub returns-clause-keeps : goal.returns-clause-keeps
-returns-clause-keeps c = λ either.
+returns-clause-keeps c = λ flows.
     let a = c.args.self.now in
     let b = c.take_free_block.new.self in
     elim (cases_Bool c.take_free_block.result) as (λ _. KeepsRegion a b) [
       | inl took ↦
           (let found = c.take_free_block.ensures.found took in
-          free-keeps a b c.requires.ready c.args.block c.args.size c.requires.block found.0 found.1.0 found.1.1 found.1.2 c.requires.ticket
-          (elim either as (λ _. IsOverflow a c.args.size) [
-            | inl failed ↦ absurd (let wrong = sym took in cc)
-            | inr flows ↦ flows
-          ]))
+          free-keeps a b c.requires.ready c.args.block c.args.size c.requires.block found.0 found.1.0 found.1.1 found.1.2 c.requires.ticket flows)
       | inr failed ↦ subst (λ w. KeepsRegion a w) (sym (c.take_free_block.ensures.none failed).1) (record { block = refl; region = refl })
     ]
 
@@ -85,6 +81,3 @@ returns-clause-overflow c = λ flows.
           free-overflows a b c.requires.ready c.args.block c.args.size c.requires.block found.0 found.1.0 found.1.1 found.1.2 c.requires.ticket flows)
       | inr failed ↦ subst (λ w. IsOverflow w c.args.size) (sym (c.take_free_block.ensures.none failed).1) flows
     ]
-
-pub returns-clause-regions : goal.returns-clause-regions
-returns-clause-regions c = λ n k failed tries. subst (λ w. AllocatesIn w n k) (c.take_free_block.ensures.none failed).1 tries

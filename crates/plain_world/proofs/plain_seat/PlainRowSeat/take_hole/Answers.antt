@@ -3,7 +3,7 @@ use Rattle.std.proofs.lemmas.Bool.{cases_Bool}
 use Rattle.mutator_calls.specs.Effects.{nothing, takes}
 use Rattle.plain_world.specs.Steps.{IsUsed, Lacks, books_of}
 use Rattle.plain_world.proofs.Gaining.{used-still}
-use Rattle.plain_world.proofs.Finding.{enters-current, enters-goes, enters-room, enters-offers, enters-others, enters-books, leaves-books, leaves-goes, leaves-ready, leaves-lacks, leaves-offers, leaves-others, leaves-keeps}
+use Rattle.plain_world.proofs.Finding.{enters-current, enters-goes, enters-room, enters-offers, enters-others, enters-books, leaves-books, leaves-goes, leaves-ready, leaves-lacks, leaves-offers, leaves-others, leaves-full}
 use Rattle.plain_world.proofs.plain_seat.PlainRowSeat.take_hole.Goals as goal
 
 some : (size : ℕ) → 3 ≤ size → 1 ≤ size
@@ -13,7 +13,7 @@ pub returns-clause-found : goal.returns-clause-found
 returns-clause-found c = λ took. enters-room c.args.self.now c.take_hole_in.new.self c.args.block c.args.size (some c.args.size c.requires.least) c.requires.ready (c.take_hole_in.ensures.found took)
 
 pub returns-clause-offered : goal.returns-clause-offered
-returns-clause-offered c = λ took. enters-offers c.args.self.now c.take_hole_in.new.self c.args.block c.args.size c.requires.least c.requires.most c.requires.ready (c.take_hole_in.ensures.found took)
+returns-clause-offered c = λ took. enters-offers c.args.self.now c.take_hole_in.new.self c.args.block c.args.size c.requires.least c.requires.most c.requires.ready c.requires.full (c.take_hole_in.ensures.found took)
 
 pub returns-clause-taken : goal.returns-clause-taken
 returns-clause-taken c = λ took. enters-goes c.args.self.now c.take_hole_in.new.self c.args.block c.args.size (some c.args.size c.requires.least) c.requires.ready (c.take_hole_in.ensures.found took)
@@ -65,5 +65,5 @@ returns-clause-books c =
       | inr failed ↦ leaves-books a b c.args.block c.args.size c.requires.least c.requires.most c.requires.ready (c.take_hole_in.ensures.none failed)
     ]
 
-pub returns-clause-keeps : goal.returns-clause-keeps
-returns-clause-keeps c = λ failed. leaves-keeps c.args.self.now c.take_hole_in.new.self c.args.block c.args.size c.requires.ready (c.take_hole_in.ensures.none failed)
+pub returns-clause-full : goal.returns-clause-full
+returns-clause-full c = λ failed. leaves-full c.args.self.now c.take_hole_in.new.self c.args.block c.args.size c.requires.ready (c.take_hole_in.ensures.none failed) c.requires.full

@@ -11,21 +11,24 @@ use Rattle.plain_world.proofs.Begun.{young-flag, no_seat, no-ticket}
 use Rattle.plain_world.proofs.plain_world.PlainWorld.begin_with.Goals as goal
 
 pub returns-clause-open : goal.returns-clause-open
-returns-clause-open g c = begun.idle-begun g.P.Plan.rules (heap_state c.args.heap) (map mutator_state c.args.mutators.items) _ (record {
-  heap = ap without_stop c.into_row-row.ensures.state;
-  mutators = refl;
-  seats = c.in_ok-seats.ensures ∙ ap (λ n. replicate n no_seat) (let many : c.len.result ≡ length c.args.mutators.items = omega arith in many);
-  known = c.args.notes;
-  are = c.requires.notes;
-  notes = refl;
-  owned = refl;
-  counts = refl;
+returns-clause-open g c = record {
+  idle = begun.idle-begun g.P.Plan.rules (heap_state c.args.heap) (map mutator_state c.args.mutators.items) _ (record {
+    heap = ap without_stop c.into_row-row.ensures.state;
+    mutators = refl;
+    seats = c.in_ok-seats.ensures ∙ ap (λ n. replicate n no_seat) (let many : c.len.result ≡ length c.args.mutators.items = omega arith in many);
+    known = c.args.notes;
+    are = c.requires.notes;
+    notes = refl;
+    owned = refl;
+    counts = refl;
+    fill = c.alloc_kind.ensures;
+    young = c.contains.ensures tt ∙ ap (λ f. bit_and f.0 2 == 2) c.FLAGS.ensures ∙ ap (λ n. bit_and n 2 == 2) g.met.P.Plan.flags_are_of_rules ∙ young-flag g.P.Plan.rules;
+    allowance = c.allowance.ensures ∙ ap (λ r. allowance_in r (session_counts c.args.notes.counts)) c.reserve.ensures
+        ∙ ap (allowance_in g.P.Plan.rules.reserve) c.requires.notes.counts;
+  })
+      c.args.heap.lawful c.requires.users g.met.P.Plan.fill_has_holes c.requires.remembers c.requires.few;
   fill = c.alloc_kind.ensures;
-  young = c.contains.ensures tt ∙ ap (λ f. bit_and f.0 2 == 2) c.FLAGS.ensures ∙ ap (λ n. bit_and n 2 == 2) g.met.P.Plan.flags_are_of_rules ∙ young-flag g.P.Plan.rules;
-  allowance = c.allowance.ensures ∙ ap (λ r. allowance_in r (session_counts c.args.notes.counts)) c.reserve.ensures
-      ∙ ap (allowance_in g.P.Plan.rules.reserve) c.requires.notes.counts;
-})
-    c.args.heap.lawful c.requires.users g.met.P.Plan.fill_has_holes c.requires.remembers c.requires.few
+}
 
 pub returns-clause-plan : goal.returns-clause-plan
 returns-clause-plan g c = c.contains.ensures tt ∙ ap (λ f. bit_and f.0 2 == 2) c.FLAGS.ensures ∙ ap (λ n. bit_and n 2 == 2) g.met.P.Plan.flags_are_of_rules

@@ -21,7 +21,7 @@ use Rattle.plain_world.proofs.plain_world.PlainWorld.close_with.Goals as goal
 
 pub overflow_add-counts : goal.overflow_add-counts
 overflow_add-counts g c =
-    let is = c.requires.open.some in
+    let is = c.requires.open.idle.some in
     let w = c.args.self.row in
     let few : AreFew w = are-few is.epoch is.ideal is.log w is.at in
     let unused : c.unused_tickets.result ≡ sum_by (λ x. tickets_in x.ticket) w.seats.items = c.unused_tickets.ensures ∙ ap (sum_by (λ x. tickets_in x.ticket)) c.deref.ensures.value in
@@ -32,12 +32,12 @@ overflow_add-counts g c =
 pub index-requires : goal.index-requires
 index-requires g c =
     let w = c.args.self.row in
-    let words : 1 < length (state_of w.row).words = more-words w c.requires.open.some in
+    let words : 1 < length (state_of w.row).words = more-words w c.requires.open.idle.some in
     omega (arith, w.row.words.ok.0)
 
 pub overflow_cast-counts : goal.overflow_cast-counts
 overflow_cast-counts g c =
-    let is = c.requires.open.some in
+    let is = c.requires.open.idle.some in
     let w = c.args.self.row in
     let few : AreFew w = are-few is.epoch is.ideal is.log w is.at in
     let unused : c.unused_tickets.result ≡ sum_by (λ x. tickets_in x.ticket) w.seats.items = c.unused_tickets.ensures ∙ ap (sum_by (λ x. tickets_in x.ticket)) c.deref.ensures.value in
@@ -50,7 +50,7 @@ overflow_cast-counts g c =
 
 pub overflow_sub-counts : goal.overflow_sub-counts
 overflow_sub-counts g c =
-    let is = c.requires.open.some in
+    let is = c.requires.open.idle.some in
     let w = c.args.self.row in
     let few : AreFew w = are-few is.epoch is.ideal is.log w is.at in
     let unused : c.unused_tickets.result ≡ sum_by (λ x. tickets_in x.ticket) w.seats.items = c.unused_tickets.ensures ∙ ap (sum_by (λ x. tickets_in x.ticket)) c.deref.ensures.value in
@@ -62,18 +62,18 @@ overflow_sub-counts g c =
     omega arith
 
 pub give_back-requires-clause-order : goal.give_back-requires-clause-order
-give_back-requires-clause-order g c = let is = c.requires.open.some in facts.order is.epoch is.ideal is.log c.args.self.row is.at
+give_back-requires-clause-order g c = let is = c.requires.open.idle.some in facts.order is.epoch is.ideal is.log c.args.self.row is.at
 
 pub give_back-requires-clause-notes : goal.give_back-requires-clause-notes
 give_back-requires-clause-notes g c = let w = c.args.self.row in
-    subst (λ (f : Kind). HasNotes f (state_of w.row) w.notes.items) c.requires.fill c.requires.open.some.at.notes
+    subst (λ (f : Kind). HasNotes f (state_of w.row) w.notes.items) c.requires.open.fill c.requires.open.idle.some.at.notes
 
 pub give_back-requires-clause-codes : goal.give_back-requires-clause-codes
-give_back-requires-clause-codes g c = let is = c.requires.open.some in facts.code is.epoch is.ideal is.log c.args.self.row is.at
+give_back-requires-clause-codes g c = let is = c.requires.open.idle.some in facts.code is.epoch is.ideal is.log c.args.self.row is.at
 
 pub from_row-requires : goal.from_row-requires
-from_row-requires g c = let is = c.requires.open.some in
-    (ended is.epoch is.ideal is.log c.args.self.row is.at (state_of c.give_back.new.row) c.give_back.ensures.gives c.requires.open.filled).lawful
+from_row-requires g c = let is = c.requires.open.idle.some in
+    (ended is.epoch is.ideal is.log c.args.self.row is.at (state_of c.give_back.new.row) c.give_back.ensures.gives c.requires.open.idle.filled).lawful
 
 pub returns-clause-stopped : goal.returns-clause-stopped
 returns-clause-stopped g c = λ p i part is.
@@ -81,7 +81,7 @@ returns-clause-stopped g c = λ p i part is.
     let ms = map mutator_state w.mutators.items in
     subst (λ (es : List Entry). Stopped p.rules (numbers_of p.mutators) p.before i es (heap_state c.from_row.result) ms) is.history
     (subst (λ (t : HeapState). Stopped p.rules (numbers_of p.mutators) p.before i (history_of p is.log) t ms) (sym c.from_row.ensures)
-    (ended p i is.log w is.at (state_of c.give_back.new.row) c.give_back.ensures.gives c.requires.open.filled))
+    (ended p i is.log w is.at (state_of c.give_back.new.row) c.give_back.ensures.gives c.requires.open.idle.filled))
 
 pub returns-clause-tickets : goal.returns-clause-tickets
 returns-clause-tickets g c = λ p i part is.
@@ -94,30 +94,30 @@ returns-clause-tickets g c = λ p i part is.
 
 pub returns-clause-users : goal.returns-clause-users
 returns-clause-users g c =
-    let is = c.requires.open.some in
+    let is = c.requires.open.idle.some in
     let w = c.args.self.row in
     let ms = map mutator_state w.mutators.items in
     subst (λ (t : HeapState). MayUse t ms) (sym c.from_row.ensures)
     (may-use (state_of c.give_back.new.row) ms (after is.ideal (history_of is.epoch is.log))
-    (ended is.epoch is.ideal is.log w is.at (state_of c.give_back.new.row) c.give_back.ensures.gives c.requires.open.filled).represents)
+    (ended is.epoch is.ideal is.log w is.at (state_of c.give_back.new.row) c.give_back.ensures.gives c.requires.open.idle.filled).represents)
 
 pub returns-clause-remembers : goal.returns-clause-remembers
 returns-clause-remembers g c = λ rules same.
-    let is = c.requires.open.some in
+    let is = c.requires.open.idle.some in
     let w = c.args.self.row in
     subst (λ (b : Bool). IsTrue b → RemembersYoung (heap_state c.from_row.result)) (sym (same ∙ is.at.young))
     (subst (λ (t : HeapState). IsTrue is.epoch.rules.young → RemembersYoung t) (sym c.from_row.ensures)
-    (ended is.epoch is.ideal is.log w is.at (state_of c.give_back.new.row) c.give_back.ensures.gives c.requires.open.filled).remembers)
+    (ended is.epoch is.ideal is.log w is.at (state_of c.give_back.new.row) c.give_back.ensures.gives c.requires.open.idle.filled).remembers)
 
 pub returns-clause-gives : goal.returns-clause-gives
 returns-clause-gives g c = subst (GivesBack (state_of c.args.self.row.row)) (sym c.from_row.ensures) c.give_back.ensures.gives
 
 pub returns-clause-drawn : goal.returns-clause-drawn
-returns-clause-drawn g c = ticket-drawn c.args.self.row c.requires.open.some
+returns-clause-drawn g c = ticket-drawn c.args.self.row c.requires.open.idle.some
 
 pub returns-clause-known : goal.returns-clause-known
 returns-clause-known g c =
-    let is = c.requires.open.some in
+    let is = c.requires.open.idle.some in
     let w = c.args.self.row in
     let few : AreFew w = are-few is.epoch is.ideal is.log w is.at in
     let unused : c.unused_tickets.result ≡ sum_by (λ x. tickets_in x.ticket) w.seats.items = c.unused_tickets.ensures ∙ ap (sum_by (λ x. tickets_in x.ticket)) c.deref.ensures.value in
@@ -129,8 +129,8 @@ returns-clause-known g c =
     let new : HeapState = heap_state c.from_row.result in
     let gives : GivesBack (state_of w.row) new = subst (GivesBack (state_of w.row)) (sym c.from_row.ensures) c.give_back.ensures.gives in
     record {
-      counts = counts-after is.epoch is.ideal is.log w is.at new gives c.requires.open.filled _ (omega arith);
-      notes = subst (λ (t : HeapState). HasNotes w.fill t c.give_back.new.notes.items) (sym c.from_row.ensures) (subst (λ (f : Kind). HasNotes f (state_of c.give_back.new.row) c.give_back.new.notes.items) (sym c.requires.fill) c.give_back.ensures.notes);
+      counts = counts-after is.epoch is.ideal is.log w is.at new gives c.requires.open.idle.filled _ (omega arith);
+      notes = subst (λ (t : HeapState). HasNotes w.fill t c.give_back.new.notes.items) (sym c.from_row.ensures) (subst (λ (f : Kind). HasNotes f (state_of c.give_back.new.row) c.give_back.new.notes.items) (sym c.requires.open.fill) c.give_back.ensures.notes);
       unowned = c.give_back.ensures.unowned;
       owned = c.clear.ensures.items;
       room = subst (λ (n : ℕ). n ≤ vec_capacity c.clear.new.self) (sym gives.blocks) (subst (λ (n : ℕ). w.row.layout.blocks ≤ n) (sym c.clear.ensures.capacity) is.at.lists.room);

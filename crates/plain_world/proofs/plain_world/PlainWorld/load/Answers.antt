@@ -1,16 +1,20 @@
+use Rattle.std.proofs.Common.{◌∙◌}
 use Rattle.ideal_heap.specs.declared.command.Command.TheVariants as command
 use Rattle.mutator_calls.specs.Effects.{enters}
-use Rattle.plain_world.proofs.CallLemmas.{places-same, young-same, history-gains, births-after, ticket-after, others-after, objects-after}
+use Rattle.plain_world.proofs.CallLemmas.{places-same, young-same, history-gains, births-after, ticket-after, regions-after, others-after, objects-after}
 use Rattle.plain_world.proofs.plain_world.PlainWorld.load.Goals as goal
+
+pub returns-clause-open : goal.returns-clause-open
+returns-clause-open g c = record { idle = c.load.ensures.ready.idle; fill = c.load.ensures.goes.fill ∙ c.requires.open.fill }
 
 pub returns-clause-places : goal.returns-clause-places
 returns-clause-places g c =
-    let same = places-same c.args.self.now.row c.load.new.seat c.args.m (enters (command.Load c.args.d c.args.g) c.load.result) c.requires.open c.load.ensures.goes in
-    record { count = same.0; numbers = same.1; fill = same.2 }
+    let same = places-same c.args.self.now.row c.load.new.seat c.args.m (enters (command.Load c.args.d c.args.g) c.load.result) c.requires.open.idle c.load.ensures.goes in
+    record { count = same.0; numbers = same.1 }
 
 pub returns-clause-plan : goal.returns-clause-plan
 returns-clause-plan g c =
-    young-same c.args.self.now.row c.load.new.seat c.args.m (enters (command.Load c.args.d c.args.g) c.load.result) c.requires.open c.load.ensures.goes
+    young-same c.args.self.now.row c.load.new.seat c.args.m (enters (command.Load c.args.d c.args.g) c.load.result) c.requires.open.idle c.load.ensures.goes
 
 pub returns-clause-history : goal.returns-clause-history
 returns-clause-history g c =
@@ -27,6 +31,7 @@ returns-clause-rest g c =
       blocks = did.blocks;
       births = births-after old new c.args.m effect did;
       ticket = ticket-after old new c.args.m effect did;
-      others = others-after old new c.args.m effect did;
-      objects = objects-after old new c.args.m effect c.requires.open did;
+      regions = regions-after old new c.args.m effect did;
+      others = others-after old new c.args.m effect c.requires.open.idle c.requires.place did;
+      objects = objects-after old new c.args.m effect c.requires.open.idle did;
     }

@@ -1,30 +1,38 @@
-use Rattle.std.proofs.Common.{◌≡◌, subst, ap}
+use Rattle.std.proofs.Common.{◌∙◌, ◌≡◌, ℕ, subst, ap}
 use Rattle.std.specs.Prelude.{slice_get}
 use Rattle.object_model.specs.Objects.{state_of, word_at, size_of}
 use Rattle.mutator_calls.specs.Effects.{draws, nothing}
-use Rattle.mutator_calls.specs.Allocating.{births_with, Draws, IsSpent, FindsRoom, IsCause}
+use Rattle.mutator_calls.specs.Allocating.{births_with, Draws, FindsRoom, IsCause}
 use Rattle.mutator_calls.proofs.Finding.{draws-from}
 use Rattle.plain_world.specs.declared.plain_row.PlainRow.{PlainRow}
 use Rattle.plain_world.specs.Worlds.{Goes}
 use Rattle.plain_world.specs.Rows.{ticket_of}
 use Rattle.plain_world.specs.Steps.{AllocatesIn, HasBudget, Lacks, IsUsed, KeepsRegion}
 use Rattle.plain_world.specs.TwoRegions.{TriesBlock, Overflows, KeepsHole}
-use Rattle.plain_world.proofs.CallLemmas.{places-same, young-same, history-gains, births-after, ticket-after, others-after, objects-after}
+use Rattle.plain_world.proofs.CallLemmas.{places-same, young-same, history-gains, births-after, ticket-after, regions-after, others-after, objects-after}
 use Rattle.plain_world.proofs.AllocationCalls.{allocated-weaker, allocated-both, allocated-and, lacks-at, books-at, books_for, LacksAt, FullAt, finds-weaker, next-ticket, cause-weaker, placed-at}
 use Rattle.plain_world.proofs.plain_world.PlainWorld.new_object.Goals as goal
 
+pub returns-clause-open : goal.returns-clause-open
+returns-clause-open g c = record {
+  idle = c.new_object.ensures.ready.idle;
+  fill = allocated-both c.new_object.result (allocated-weaker c.new_object.result
+      (λ n did. did.0.3.fill) (λ need did. did.1.1.fill)
+      (allocated-and _ _ _ _ c.new_object.result c.new_object.ensures.made c.new_object.ensures.stopped)) ∙ c.requires.open.fill;
+}
+
 pub returns-clause-places : goal.returns-clause-places
 returns-clause-places g c = allocated-both c.new_object.result (allocated-weaker c.new_object.result
-    (λ n did. let same = places-same c.args.self.now.row c.new_object.new.seat c.args.m (births_with c.args.d c.args.refs c.args.nums n did.0.0 did.0.1 did.0.2) c.requires.open did.0.3 in
-    record { count = same.0; numbers = same.1; fill = same.2 })
-    (λ need did. let same = places-same c.args.self.now.row c.new_object.new.seat c.args.m (draws did.1.0) c.requires.open did.1.1 in
-    record { count = same.0; numbers = same.1; fill = same.2 })
+    (λ n did. let same = places-same c.args.self.now.row c.new_object.new.seat c.args.m (births_with c.args.d c.args.refs c.args.nums n did.0.0 did.0.1 did.0.2) c.requires.open.idle did.0.3 in
+    record { count = same.0; numbers = same.1 })
+    (λ need did. let same = places-same c.args.self.now.row c.new_object.new.seat c.args.m (draws did.1.0) c.requires.open.idle did.1.1 in
+    record { count = same.0; numbers = same.1 })
     (allocated-and _ _ _ _ c.new_object.result c.new_object.ensures.made c.new_object.ensures.stopped))
 
 pub returns-clause-plan : goal.returns-clause-plan
 returns-clause-plan g c = allocated-both c.new_object.result (allocated-weaker c.new_object.result
-    (λ n did. young-same c.args.self.now.row c.new_object.new.seat c.args.m (births_with c.args.d c.args.refs c.args.nums n did.0.0 did.0.1 did.0.2) c.requires.open did.0.3)
-    (λ need did. young-same c.args.self.now.row c.new_object.new.seat c.args.m (draws did.1.0) c.requires.open did.1.1)
+    (λ n did. young-same c.args.self.now.row c.new_object.new.seat c.args.m (births_with c.args.d c.args.refs c.args.nums n did.0.0 did.0.1 did.0.2) c.requires.open.idle did.0.3)
+    (λ need did. young-same c.args.self.now.row c.new_object.new.seat c.args.m (draws did.1.0) c.requires.open.idle did.1.1)
     (allocated-and _ _ _ _ c.new_object.result c.new_object.ensures.made c.new_object.ensures.stopped))
 
 pub returns-clause-logged : goal.returns-clause-logged
@@ -38,10 +46,10 @@ returns-clause-made g c =
     let b = c.new_object.new.seat in
     let m = c.args.m in
     let size = size_of c.args.refs c.args.nums in
-    let spent : PlainRow → Type 0 = λ w. IsSpent Goes KeepsRegion AllocatesIn Lacks (record w { turn = m }) size in
+    let spent : PlainRow → Type 0 = λ w. (k : ℕ) → TriesBlock w.fill (slice_get w.seats.items m) size k → LacksAt w m size k in
     allocated-weaker c.new_object.result
     (λ n both. let did = both.0 in let goes = did.3 in let effect = births_with c.args.d c.args.refs c.args.nums n did.0 did.1 did.2 in
-    let placed = placed-at a both.1.0.0 b m c.args.d size goes.turn both.1.0.1 both.1.0.2 in record {
+    let placed = placed-at a both.1.0.0 b m c.args.d size goes.turn goes.fill both.1.0.1 both.1.0.2 in record {
       taken = did.0;
       granted = did.1;
       drawn = did.2;
@@ -53,8 +61,9 @@ returns-clause-made g c =
         blocks = goes.blocks;
         births = births-after a b m effect goes;
         ticket = ticket-after a b m effect goes;
-        others = others-after a b m effect goes;
-        objects = objects-after a b m effect c.requires.open goes;
+        regions = regions-after a b m effect goes;
+        others = others-after a b m effect c.requires.open.idle c.requires.place goes;
+        objects = objects-after a b m effect c.requires.open.idle goes;
       };
       finds = subst (λ t. FindsRoom (LacksAt b m size) (IsUsed b) (TriesBlock a.fill (slice_get a.seats.items m) size)
           (TriesBlock b.fill (slice_get b.seats.items t) size) (λ n. n ≡ word_at (state_of a.row) 1) (FullAt a m size) (spent a)
@@ -74,7 +83,9 @@ returns-clause-made g c =
         current = placed.current;
         cell = placed.cell;
         spot = placed.spot;
+        before = placed.before;
         region = placed.region;
+        others = placed.others;
       };
     })
     (λ need both. let did = both.1.1.0 in let goes = did.1 in let effect = draws did.0 in record {
@@ -87,25 +98,26 @@ returns-clause-made g c =
         blocks = goes.blocks;
         births = births-after a b m effect goes;
         ticket = ticket-after a b m effect goes;
-        others = others-after a b m effect goes;
-        objects = objects-after a b m effect c.requires.open goes;
+        regions = regions-after a b m effect goes;
+        others = others-after a b m effect c.requires.open.idle c.requires.place goes;
+        objects = objects-after a b m effect c.requires.open.idle goes;
       };
       tickets = subst (λ o. Draws (λ t. t ≡ word_at (state_of a.row) 1) (ticket_of (slice_get a.seats.items m)) o did.0)
           (ap (λ t. ticket_of (slice_get b.seats.items t)) goes.turn)
           (draws-from (λ t. (mid : PlainRow) × Goes (record a { turn = m }) nothing mid × HasBudget mid t)
           (λ t. t ≡ word_at (state_of a.row) 1) _ _ did.0 (next-ticket (record a { turn = m })) did.2);
       large = did.3;
-      spent = both.1.1.1.0;
-      kept = subst (λ t. KeepsHole a.notes.items (slice_get a.seats.items m) b.notes.items (slice_get b.seats.items t)) goes.turn both.1.1.1.1;
+      full = both.1.1.1.0;
+      spent = both.1.1.1.1;
     })
     (allocated-and _ _ _ _ c.new_object.result c.new_object.ensures.made
     (allocated-and _ _ _ _ c.new_object.result c.new_object.ensures.placed
     (allocated-and _ _ _ _ c.new_object.result c.new_object.ensures.stopped
-    (allocated-and _ _ _ _ c.new_object.result c.new_object.ensures.spent c.new_object.ensures.kept))))
+    (allocated-and _ _ _ _ c.new_object.result c.new_object.ensures.full c.new_object.ensures.spent))))
 
 pub returns-clause-cause : goal.returns-clause-cause
 returns-clause-cause g c = let size = size_of c.args.refs c.args.nums in let b = c.new_object.new.seat in
     allocated-weaker c.new_object.result (λ n did. tt)
-    (λ need did. let turn = did.1.1.turn in cause-weaker (books_for b c.args.m) (Lacks b size) (LacksAt b c.args.m size) (IsUsed b) size need.cause (lacks-at b c.args.m size turn)
-    (subst (λ books. IsCause books (Lacks b size) (IsUsed b) size need.cause) (books-at b c.args.m turn) did.0))
+    (λ need did. let turn = did.1.1.turn in cause-weaker (books_for b c.args.m) (Lacks b size) (LacksAt b c.args.m size) size need.cause (lacks-at b c.args.m size turn)
+    (subst (λ books. IsCause books (Lacks b size) size need.cause) (books-at b c.args.m turn) did.0))
     (allocated-and _ _ _ _ c.new_object.result c.new_object.ensures.cause c.new_object.ensures.stopped)

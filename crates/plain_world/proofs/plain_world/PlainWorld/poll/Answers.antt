@@ -1,18 +1,23 @@
-use Rattle.std.proofs.Common.{◌∙◌, ap, map}
+use Rattle.std.proofs.Common.{sym, ◌∙◌, ap, subst, map}
 use Rattle.std.specs.Prelude.{slice_get}
 use Rattle.object_model.specs.Objects.{state_of}
 use Rattle.mutator_calls.specs.Effects.{nothing}
 use Rattle.mutator_calls.specs.Stopping.{stop_of}
+use Rattle.plain_world.specs.declared.plain_row.PlainRow.{PlainRow}
 use Rattle.plain_world.specs.Rows.{mutator_state, ticket_of}
+use Rattle.plain_world.specs.TwoRegions.{KeepsRegions}
 use Rattle.plain_world.specs.SeatLaws.{goes-nothing}
-use Rattle.plain_world.proofs.CallLemmas.{places-same, history-gains, stop-known}
+use Rattle.plain_world.proofs.CallLemmas.{places-same, history-gains, stop-known, regions-same}
 use Rattle.plain_world.proofs.plain_world.PlainWorld.poll.Goals as goal
+
+pub returns-clause-open : goal.returns-clause-open
+returns-clause-open g c = record { idle = c.poll.ensures.ready.idle; fill = ap (λ (w : PlainRow). w.fill) c.poll.ensures.looks ∙ c.requires.open.fill }
 
 pub returns-clause-places : goal.returns-clause-places
 returns-clause-places g c =
     let did = goes-nothing (record c.args.self.now.row { turn = c.args.m }) c.poll.new.seat c.poll.ensures.looks in
-    let same = places-same c.args.self.now.row c.poll.new.seat c.args.m nothing c.requires.open did in
-    record { count = same.0; numbers = same.1; fill = same.2 }
+    let same = places-same c.args.self.now.row c.poll.new.seat c.args.m nothing c.requires.open.idle did in
+    record { count = same.0; numbers = same.1 }
 
 pub returns-clause-plan : goal.returns-clause-plan
 returns-clause-plan g c = ap (λ w. w.young) c.poll.ensures.looks
@@ -26,7 +31,10 @@ returns-clause-same g c = record {
   heap = ap (λ w. state_of w.row) c.poll.ensures.looks;
   mutators = ap (λ w. map mutator_state w.mutators.items) c.poll.ensures.looks;
   tickets = λ k. ap (λ w. ticket_of (slice_get w.seats.items k)) c.poll.ensures.looks;
+  regions = λ k. let a = c.args.self.now.row in
+      subst (λ (w : PlainRow). KeepsRegions a.notes.items (slice_get a.seats.items k) w.notes.items (slice_get w.seats.items k)) (sym c.poll.ensures.looks)
+      (regions-same a.notes.items (slice_get a.seats.items k));
 }
 
 pub returns-clause-mutator : goal.returns-clause-mutator
-returns-clause-mutator g c = λ n is. stop-known c.args.self.now.row n c.requires.open (c.poll.ensures.stop ∙ ap stop_of is) (c.poll.ensures.raised n is)
+returns-clause-mutator g c = λ n is. stop-known c.args.self.now.row n c.requires.open.idle (c.poll.ensures.stop ∙ ap stop_of is) (c.poll.ensures.raised n is)

@@ -1,21 +1,24 @@
-use Rattle.std.proofs.Common.{◌≡◌, ◌⊎◌, inl, inr, subst, [], ◌∷◌}
+use Rattle.std.proofs.Common.{◌∙◌, ◌≡◌, ◌⊎◌, inl, inr, subst, [], ◌∷◌}
 use Rattle.ideal_heap.specs.declared.command.Command.TheVariants as command
 use Rattle.ideal_heap.specs.declared.reply.Reply.TheVariants as reply
 use Rattle.mutator_calls.specs.Effects.{logs}
 use Rattle.plain_world.specs.declared.plain_row.PlainRow.{PlainRow}
 use Rattle.plain_world.specs.Calls.{register_in, IsOldUnlogged}
 use Rattle.plain_world.specs.Steps.{IsBarred}
-use Rattle.plain_world.proofs.CallLemmas.{places-same, young-same, history-gains, births-after, ticket-after, others-after, objects-after, unbarred}
+use Rattle.plain_world.proofs.CallLemmas.{places-same, young-same, history-gains, births-after, ticket-after, regions-after, others-after, objects-after, unbarred}
 use Rattle.plain_world.proofs.plain_world.PlainWorld.put.Goals as goal
+
+pub returns-clause-open : goal.returns-clause-open
+returns-clause-open g c = record { idle = c.put.ensures.ready.idle; fill = c.put.ensures.goes.1.fill ∙ c.requires.open.fill }
 
 pub returns-clause-places : goal.returns-clause-places
 returns-clause-places g c = let did = c.put.ensures.goes in
-    let same = places-same c.args.self.now.row c.put.new.seat c.args.m (logs did.0 (command.Put c.args.s c.args.i c.args.v) c.put.result) c.requires.open did.1 in
-    record { count = same.0; numbers = same.1; fill = same.2 }
+    let same = places-same c.args.self.now.row c.put.new.seat c.args.m (logs did.0 (command.Put c.args.s c.args.i c.args.v) c.put.result) c.requires.open.idle did.1 in
+    record { count = same.0; numbers = same.1 }
 
 pub returns-clause-plan : goal.returns-clause-plan
 returns-clause-plan g c = let did = c.put.ensures.goes in
-    young-same c.args.self.now.row c.put.new.seat c.args.m (logs did.0 (command.Put c.args.s c.args.i c.args.v) c.put.result) c.requires.open did.1
+    young-same c.args.self.now.row c.put.new.seat c.args.m (logs did.0 (command.Put c.args.s c.args.i c.args.v) c.put.result) c.requires.open.idle did.1
 
 pub returns-clause-history : goal.returns-clause-history
 returns-clause-history g c = let did = c.put.ensures.goes in
@@ -32,8 +35,9 @@ returns-clause-rest g c =
       blocks = did.blocks;
       births = births-after old new c.args.m effect did;
       ticket = ticket-after old new c.args.m effect did;
-      others = others-after old new c.args.m effect did;
-      objects = objects-after old new c.args.m effect c.requires.open did;
+      regions = regions-after old new c.args.m effect did;
+      others = others-after old new c.args.m effect c.requires.open.idle c.requires.place did;
+      objects = objects-after old new c.args.m effect c.requires.open.idle did;
     }
 
 pub returns-clause-logged : goal.returns-clause-logged
