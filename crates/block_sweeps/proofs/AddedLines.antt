@@ -1,9 +1,10 @@
 -- Bits are set in a list of words, one word after another.
 use Rattle.std.proofs.Common.{◌≡◌, ◌≢◌, refl, ℕ, ◌+◌, ◌*◌, ◌-◌, ◌/◌, ◌%◌, ◌<◌, ◌≤◌, ◌⊎◌, inl, inr, sym, ap, ◌∙◌, arith, IsTrue, nat_eq, min, List, length, slice_index, slice_set, bit_or, get_or-set_other, get_or-set_same, length-set}
+use Rattle.line_bits.specs.LineMarks.{IsFromTo}
 use Rattle.std.specs.Int.{bit_at}
 use Rattle.std.proofs.lemmas.Bool.{cases_eq, cases_lt, eq-eqb, eqb-true}
 use Rattle.std.proofs.lemmas.Nat.Bits.{bit_at_or, bit_at-lt}
-use Rattle.block_sweeps.specs.Touches.{AddsLines, IsFromTo, has_line}
+use Rattle.block_sweeps.specs.Touches.{AddsLines, has_line}
 
 pub adds-both : (A B C : ℕ → Type 0) (old mid new : List ℕ) → AddsLines A old mid → AddsLines B mid new
     → ((n : ℕ) → C n → A n ⊎ B n) → ((n : ℕ) → A n → C n) → ((n : ℕ) → B n → C n) → AddsLines C old new

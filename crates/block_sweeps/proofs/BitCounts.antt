@@ -1,5 +1,6 @@
 -- Counts over ranges of numbers, and of the bits of a word.
 use Rattle.std.proofs.Common.{◌≡◌, refl, sym, ap, ◌∙◌, ℕ, zero, suc, ◌+◌, ◌/◌, ◌%◌, ◌^◌, ◌<◌, arith, Bool, true, false, cond, nat_eq, List, ◌∷◌}
+use Rattle.side_meta.specs.BitWords.{has_bit}
 use Rattle.std.specs.Prelude.{count_by, count_ones}
 use Rattle.std.specs.List.{range_with_len}
 use Rattle.std.specs.Int.{bit_at}
@@ -8,7 +9,6 @@ use Rattle.std.proofs.Math.Nat.{pow-suc}
 use Rattle.std.proofs.lemmas.List.Sums.{sum_by-cons}
 use Rattle.std.proofs.lemmas.Nat.{ones_le_self}
 use Rattle.std.proofs.lemmas.Nat.Bits.{bit_at-lt, bit_at_lowest, bit_at-suc}
-use Rattle.block_sweeps.specs.WordSweeps.{has_bit}
 
 abbrev pub one_if : Bool → ℕ
 one_if b = cond b 1 0

@@ -7,14 +7,9 @@ pub mod SweptWords
 pub mod BitCounts
 pub mod SweptBlocks
 pub mod BlockSweeps
-pub mod RunMasks
 pub mod AddedLines
 pub mod TouchedLines
 pub mod TouchedWords
 pub mod LineEnds
 pub mod LineStarts
 pub mod SweptApart
-pub mod WorkedRows
-pub mod ReleaseTests
-pub mod TestedBlocks
-pub mod ReleasableBlocks

@@ -1,12 +1,13 @@
 -- The lines in which objects begin, and those that their last objects touch.
 use Rattle.std.proofs.Common.{◌≡◌, ℕ, ◌+◌, ◌*◌, ◌-◌, ◌/◌, ◌%◌, ◌^◌, ◌<◌, ◌≤◌, ◌⊎◌, ◌↔◌, inl, inr, refl, sym, ap, ◌∙◌, subst, arith, w64, IsTrue, bit_and, min, List, length, replicate, slice_index}
+use Rattle.line_bits.specs.LineMarks.{IsFromTo}
 use Rattle.std.specs.Int.{bit_at, bit_not}
 use Rattle.std.proofs.lemmas.Bool.{cases_eq, cases_lt, eq-eqb, eqb-true}
 use Rattle.std.proofs.lemmas.Nat.Bits.{bit_at_and, bit_at_not, bit_at-lt, bit_at-zero, bit_at-suc, bit_at_above, bit_at_clear_same, bit_at_clear_other}
 use Rattle.heap_layout.specs.Zones.{block_start}
 use Rattle.object_model.specs.Objects.{HeapState, is_start}
 use Rattle.block_sweeps.specs.Sweeping.{AreApart, IsTouchedHere}
-use Rattle.block_sweeps.specs.Touches.{AddsEnds, AddsLines, AreBegun, AreStarts, BeginsFrom, BeginsIn, HasLinesOf, IsFromTo, MarksFrom, IsTouchedFrom, has_line}
+use Rattle.block_sweeps.specs.Touches.{AddsEnds, AddsLines, AreBegun, AreStarts, BeginsFrom, BeginsIn, HasLinesOf, MarksFrom, IsTouchedFrom, has_line}
 use Rattle.block_sweeps.proofs.AddedLines.{adds-both, adds-same}
 use Rattle.block_sweeps.proofs.LineStarts.{own-line, two-lines}
 use Rattle.block_sweeps.proofs.TouchedLines.{here-from, from-here, no-line}

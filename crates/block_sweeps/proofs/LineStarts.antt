@@ -1,5 +1,6 @@
 -- The objects that begin in a line, and the lines that they touch.
 use Rattle.std.proofs.Common.{◌≡◌, ℕ, suc, ◌+◌, ◌*◌, ◌-◌, ◌^◌, ◌<◌, ◌≤◌, ◌⊎◌, inl, inr, sym, ap, ◌∙◌, subst, arith, w64, IsTrue, bit_and, min, List}
+use Rattle.line_bits.specs.LineMarks.{IsFromTo}
 use Rattle.std.specs.Int.{bit_at, trailing_zeros, leading_zeros}
 use Rattle.std.proofs.lemmas.Bool.{cases_eq, cases_lt}
 use Rattle.std.proofs.lemmas.Nat.{leading_top}
@@ -7,7 +8,7 @@ use Rattle.std.proofs.lemmas.Nat.Bits.{bit_at-trailing_zeros, bit_at_and, bit_at
 use Rattle.heap_layout.specs.Zones.{heap_of, block_start}
 use Rattle.object_model.specs.Objects.{HeapState, is_start, size_at, IsHeld}
 use Rattle.block_sweeps.specs.Sweeping.{AreApart}
-use Rattle.block_sweeps.specs.Touches.{AddsLines, AreBitsOf, AreStarts, BeginsIn, IsFromTo, MarksFrom, TouchesAt, IsTouchedFrom, has_line}
+use Rattle.block_sweeps.specs.Touches.{AddsLines, AreBitsOf, AreStarts, BeginsIn, MarksFrom, TouchesAt, IsTouchedFrom, has_line}
 use Rattle.block_sweeps.proofs.TouchedWords.{start_word, start-set, start-bit}
 
 -- a word of start bits

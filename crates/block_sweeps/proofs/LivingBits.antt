@@ -1,8 +1,8 @@
 -- Start bits of a word, without those of dead objects.
 use Rattle.std.proofs.Common.{◌≡◌, ◌≢◌, ℕ, ◌<◌, inl, inr, sym, ap, ◌∙◌, w64, arith, Bool, true, false, ◌&&◌, ◌||◌, IsTrue, nat_eq}
+use Rattle.side_meta.specs.BitWords.{has_bit}
 use Rattle.std.proofs.lemmas.Bool.{cases_eq}
 use Rattle.std.proofs.lemmas.Nat.Bits.{bit_at_clear_same, bit_at_clear_other}
-use Rattle.block_sweeps.specs.WordSweeps.{has_bit}
 use Rattle.block_sweeps.proofs.TouchedWords.{without}
 
 has-same : (n b : ℕ) → b < 64 → has_bit (without n b) b ≡ false

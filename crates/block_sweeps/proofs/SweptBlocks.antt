@@ -1,5 +1,6 @@
 -- The words of start bits of a block were swept, one after another.
 use Rattle.std.proofs.Common.{◌≡◌, ℕ, ◌+◌, ◌*◌, ◌-◌, ◌/◌, ◌%◌, ◌^◌, ◌<◌, ◌≤◌, ◌⊎◌, inl, inr, refl, sym, ap, ◌∙◌, subst, arith, Bool, true, ◌&&◌, ◌||◌, IsTrue, nat_eq, nat_le, List, length, slice_index}
+use Rattle.side_meta.specs.BitWords.{has_bit}
 use Rattle.std.specs.Prelude.{count_by, count_ones}
 use Rattle.std.specs.List.{range_with_len}
 use Rattle.std.specs.Int.{bit_at}
@@ -14,7 +15,7 @@ use Rattle.object_model.specs.Ages.{is_survivor}
 use Rattle.object_model.specs.Releasing.{IsReleasable, InSpan}
 use Rattle.object_model.proofs.ObjectReads.{lies_in_row}
 use Rattle.block_sweeps.specs.Sweeping.{InBlock, IsAmong, ChangesOnly, KeepsLiving}
-use Rattle.block_sweeps.specs.WordSweeps.{has_bit, start_word, pin_word, unlog_word, address_of, IsMarkAmong, MaySweep, SweepsWords}
+use Rattle.block_sweeps.specs.WordSweeps.{start_word, pin_word, unlog_word, address_of, IsMarkAmong, MaySweep, SweepsWords}
 use Rattle.block_sweeps.proofs.BitCounts.{count-same, count-parts, ones-count}
 
 -- the bit of an address, by its word

@@ -1,5 +1,6 @@
 -- One word of start bits was swept, with its pin and unlog bits.
 use Rattle.std.proofs.Common.{◌≡◌, ℕ, ◌+◌, ◌*◌, ◌<◌, inl, inr, refl, sym, ap, ◌∙◌, subst, min, bit_and, arith, Bool, true, ◌&&◌, IsTrue, nat_eq, List, slice_index}
+use Rattle.side_meta.specs.BitWords.{has_bit}
 use Rattle.std.specs.Int.{bit_at}
 use Rattle.std.proofs.lemmas.Bool.{cases_Bool}
 use Rattle.std.proofs.lemmas.Nat.Bits.{bit_at-lt, bit_at_and}
@@ -8,7 +9,7 @@ use Rattle.object_model.specs.Objects.{HeapState, with_words}
 use Rattle.object_model.specs.Ages.{is_survivor}
 use Rattle.block_sweeps.specs.Stores.{Stores}
 use Rattle.block_sweeps.specs.Sweeping.{IsAmong, ChangesOnly}
-use Rattle.block_sweeps.specs.WordSweeps.{has_bit, survives, start_word, pin_word, unlog_word, address_of, IsMarkAmong, MaySweep, SweepsWords}
+use Rattle.block_sweeps.specs.WordSweeps.{survives, start_word, pin_word, unlog_word, address_of, IsMarkAmong, MaySweep, SweepsWords}
 
 -- a bit of two words
 pub has-and : (a b j : ℕ) → has_bit (bit_and a b) j ≡ (has_bit a j && has_bit b j)

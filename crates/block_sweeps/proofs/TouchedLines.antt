@@ -1,5 +1,6 @@
 -- The lines that objects of a block touch.
 use Rattle.std.proofs.Common.{◌≡◌, ℕ, ◌+◌, ◌*◌, ◌-◌, ◌/◌, ◌%◌, ◌<◌, ◌≤◌, ◌↔◌, inl, inr, true≢false, refl, sym, ap, ◌∙◌, subst, arith, IsTrue, nat_eq, List, slice_index, replicate}
+use Rattle.line_bits.specs.LineMarks.{IsFromTo}
 use Rattle.std.specs.Int.{bit_at}
 use Rattle.std.proofs.Math.Logic.{∥∥₁_elim}
 use Rattle.std.proofs.lemmas.Bool.{cases_Bool, false≢true}
@@ -12,7 +13,7 @@ use Rattle.object_model.specs.Objects.{HeapState, state_over, word_at, size_at, 
 use Rattle.object_model.proofs.ObjectReads.{place_of_address}
 use Rattle.block_sweeps.specs.Stores.{Fills}
 use Rattle.block_sweeps.specs.Sweeping.{MarksTouched, IsTouchedHere}
-use Rattle.block_sweeps.specs.Touches.{AddsLines, IsFromTo, TouchesAt, IsTouchedFrom, has_line}
+use Rattle.block_sweeps.specs.Touches.{AddsLines, TouchesAt, IsTouchedFrom, has_line}
 use Rattle.block_sweeps.proofs.AddedLines.{adds-same}
 
 -- the lines from that of an object's first word to that of its last

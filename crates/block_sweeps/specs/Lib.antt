@@ -1,7 +1,5 @@
-pub mod BlockTests
 pub mod RunSweeps
 pub mod Stores
 pub mod Sweeping
 pub mod Touches
 pub mod WordSweeps
-pub mod WorkedRows

@@ -3,6 +3,7 @@ use Rattle.std.specs.Prelude.{◌≡◌, ℕ, ◌+◌, ◌*◌, ◌/◌, ◌%◌
 use Rattle.std.specs.Int.{bit_at}
 use Rattle.heap_layout.specs.Zones.{block_start}
 use Rattle.heap_layout.specs.declared.layout.TheConstants.{BLOCK_LINES, BLOCK_WORDS, LINE_WORDS}
+use Rattle.line_bits.specs.LineMarks.{IsFromTo}
 use Rattle.object_model.specs.Lines.{TouchesLine}
 use Rattle.object_model.specs.Objects.{HeapState, is_start, size_at}
 
@@ -16,11 +17,6 @@ pub record AddsLines (Added : ℕ → Type 0) (old new : List ℕ) : Type 0 wher
   pub added : (n : ℕ) → Added n → IsTrue (has_line new n)
   pub kept : (n : ℕ) → IsTrue (has_line old n) → IsTrue (has_line new n)
   pub only : (n : ℕ) → IsTrue (has_line new n) → IsTrue (has_line old n) ⊎ Added n
-
--- n is one of the numbers `from` to `to`
-pub record IsFromTo (from to n : ℕ) : Type 0 where
-  pub after : from ≤ n
-  pub most : n ≤ to
 
 -- an object at this offset of block k touches this line of the block
 abbrev pub TouchesAt : HeapState → ℕ → ℕ → ℕ → Type 0

@@ -1,14 +1,10 @@
 -- Sweeps of words of start bits: what becomes of each bit of a word.
-use Rattle.std.specs.Prelude.{◌≡◌, ℕ, ◌+◌, ◌*◌, ◌<◌, ◌⊎◌, ◌&&◌, Bool, IsTrue, List, length, nat_eq}
-use Rattle.std.specs.Int.{bit_at}
+use Rattle.std.specs.Prelude.{◌≡◌, ℕ, ◌+◌, ◌*◌, ◌<◌, ◌⊎◌, ◌&&◌, Bool, IsTrue, List, length}
+use Rattle.side_meta.specs.BitWords.{has_bit}
 use Rattle.heap_layout.specs.Zones.{row_words, heap_of, first, StartBits, PinBits, UnlogBits}
 use Rattle.object_model.specs.Objects.{HeapState, word_at}
 use Rattle.object_model.specs.Ages.{is_survivor}
 use Rattle.block_sweeps.specs.Sweeping.{IsAmong, ChangesOnly}
-
--- bit j of a word is set
-abbrev pub has_bit : ℕ → ℕ → Bool
-has_bit word j = nat_eq (bit_at word j) 1
 
 -- the object at a survived collection `base` or a later one, by the words alone
 abbrev pub survives : List ℕ → ℕ → ℕ → Bool

@@ -1,18 +1,20 @@
 //! Line bits of a block, by the objects in it.
 
 ghost use Rattle.std.specs.Prelude.{◌≡◌, true, false, ◌↔◌, ◌+◌, ◌-◌, ◌*◌, ◌<◌, ◌≤◌, ℕ, IsTrue, length, slice_index};
+ghost use Rattle.line_bits.specs.LineMarks.{IsFromTo};
 ghost use Rattle.std.specs.Int.{bit_at};
 ghost use Rattle.heap_layout.specs.Zones.{row_words, first, block_start, LineWords};
 ghost use Rattle.heap_layout.specs.declared.block.Kind.TheVariants as kinds;
 ghost use Rattle.object_model.specs.Objects.{HeapState, state_over, HasKind, is_start};
 ghost use Rattle.object_model.specs.Lawful.{IsReadableBlock};
 ghost use Rattle.block_sweeps.specs.Stores.{Fills};
-ghost use Rattle.block_sweeps.specs.Touches.{AddsEnds, AddsLines, AreBegun, AreBitsOf, AreStarts, BeginsFrom, BeginsIn, IsFromTo, MarksFrom, TouchesAt, has_line};
+ghost use Rattle.block_sweeps.specs.Touches.{AddsEnds, AddsLines, AreBegun, AreBitsOf, AreStarts, BeginsFrom, BeginsIn, MarksFrom, TouchesAt, has_line};
 ghost use Rattle.block_sweeps.specs.Sweeping.{AreApart, MarksTouched, IsTouchedHere};
 
 use crate::clearing::store;
 use crate::objects::object_size;
 use heap_layout::{BLOCK_LINES, BLOCK_WORDS, LINE_WORDS, Layout};
+use line_bits::run_mask;
 use side_meta::Words;
 
 /// Makes the line bits of an Immix block those of the lines that objects in it touch. Reads the
@@ -226,14 +228,4 @@ fn set_run(lines: &mut [u64; 4], from: u32, to: u32)
         let high = (to - 64 * word).min(63);
         lines[word as usize] |= run_mask(low, high);
     }
-}
-
-/// The word in which exactly bits `low` to `high` are set.
-pub fn run_mask(low: u32, high: u32) -> u64
-    requires order { low ≤ high }
-    requires high { high < 64 }
-    ensures inside { (k : ℕ) → IsFromTo low high k → bit_at result k ≡ 1 }
-    ensures only { (k : ℕ) → bit_at result k ≡ 1 → IsFromTo low high k }
-{
-    u64::MAX << low & u64::MAX >> (63 - high)
 }

@@ -1,13 +1,14 @@
 //! The sweep of a block's objects, a word of start bits at a time.
 
 ghost use Rattle.std.specs.Prelude.{◌≡◌, ◌+◌, ◌<◌, ◌^◌, ◌&&◌, ℕ, IsTrue, length, slice_index, bit_and, count_ones};
+ghost use Rattle.side_meta.specs.BitWords.{has_bit};
 ghost use Rattle.heap_layout.specs.Zones.{row_words};
 ghost use Rattle.heap_layout.specs.Blocks.{code_of, IsValid};
 ghost use Rattle.object_model.specs.Objects.{state_over};
 ghost use Rattle.object_model.specs.Releasing.{IsReleasable};
 ghost use Rattle.block_sweeps.specs.Stores.{Stores};
 ghost use Rattle.block_sweeps.specs.Sweeping.{Sweeps, KeepsLiving, ChangesOnly, IsObjectBitWord, InBlock, object_count};
-ghost use Rattle.block_sweeps.specs.WordSweeps.{has_bit, survives, start_word, MaySweep, SweepsWords};
+ghost use Rattle.block_sweeps.specs.WordSweeps.{survives, start_word, MaySweep, SweepsWords};
 
 use crate::clearing::{free_block, store};
 use crate::objects::lives;

@@ -5,11 +5,11 @@ use Rattle.std.proofs.lemmas.Nat.{div-add-mod'}
 use Rattle.heap_layout.specs.Zones.{block_at, offset_at, block_start}
 use Rattle.heap_layout.specs.declared.block.Kind.TheVariants as kinds
 use Rattle.object_model.specs.Objects.{HeapState, HasKind, class_at, IsHeld, is_start, size_at, IsInExtent, IsInExtentOf, cell_words}
-use Rattle.object_model.specs.Lawful.{Lies, LiesInCell}
+use Rattle.object_model.specs.Lawful.{Lies, LiesInCell, AllLie, MeetsNoObject}
 use Rattle.object_model.proofs.OneKind.{one-kind}
 use Rattle.object_model.proofs.ObjectReads.{place_of_address}
 use Rattle.sessions.specs.Fitting.{IsFreeCell}
-use Rattle.cell_space.specs.FreeCells.{IsNextCell, HasNoCell, AllLie, MeetsNoObject}
+use Rattle.cell_space.specs.FreeCells.{IsNextCell, HasNoCell}
 
 module _ (s : HeapState) (k at : ℕ) (kind : HasKind s k kinds.Cells) (cell : IsFreeCell s k at) (x i : ℕ) (held : IsHeld s x)
     (lies : Lies s x (size_at s x)) (in-object : IsInExtent s x i) (in-cell : IsInExtentOf (block_start s.blocks k + at) (cell_words (class_at s k)) i) where

@@ -1,7 +1,6 @@
 -- Free cells of a block, at or after an offset.
 use Rattle.std.specs.Prelude.{ℕ, ◌≤◌}
-use Rattle.object_model.specs.Objects.{HeapState, IsHeld, size_at, IsInExtent, IsInExtentOf}
-use Rattle.object_model.specs.Lawful.{Lies}
+use Rattle.object_model.specs.Objects.{HeapState}
 use Rattle.sessions.specs.Fitting.{IsFreeCell}
 
 -- the first free cell of block k that begins at or after the offset `from` begins at offset `at`
@@ -13,11 +12,3 @@ pub record IsNextCell (s : HeapState) (k from at : ℕ) : Type 0 where
 -- no free cell of block k begins at or after the offset `from`
 abbrev pub HasNoCell : HeapState → ℕ → ℕ → Type 0
 HasNoCell s k from = (x : ℕ) → from ≤ x → IsFreeCell s k x → ⊥
-
--- each held object lies where one of its size may lie
-abbrev pub AllLie : HeapState → Type 0
-AllLie s = (a : ℕ) → IsHeld s a → Lies s a (size_at s a)
-
--- no held object has one of the `size` words from a on
-abbrev pub MeetsNoObject : HeapState → ℕ → ℕ → Type 0
-MeetsNoObject s a size = (x i : ℕ) → IsHeld s x → IsInExtent s x i → IsInExtentOf a size i → ⊥

@@ -8,6 +8,3 @@ mod sweeps;
 pub use classes::{cell_size, class_of};
 pub use search::next_cell;
 pub use sweeps::sweep_block;
-
-#[cfg(test)]
-mod tests;

@@ -1,10 +1,11 @@
 //! The search for a free cell, a word of start bits at a time.
 
 ghost use Rattle.std.specs.Prelude.{◌≡◌, ◌+◌, ◌*◌, ◌<◌, ◌≤◌, ◌^◌, length, IfSome, MatchOption};
+ghost use Rattle.object_model.specs.Lawful.{AllLie, MeetsNoObject};
 ghost use Rattle.heap_layout.specs.Zones.{row_words, block_start};
 ghost use Rattle.heap_layout.specs.declared.block.Kind.TheVariants as kinds;
 ghost use Rattle.object_model.specs.Objects.{state_over, HasKind, class_at, cell_words};
-ghost use Rattle.cell_space.specs.FreeCells.{IsNextCell, HasNoCell, AllLie, MeetsNoObject};
+ghost use Rattle.cell_space.specs.FreeCells.{IsNextCell, HasNoCell};
 ghost use Rattle.cell_space.specs.WordCells.{IsFirstBeside, HasNoneBeside, IsFirstClear, HasNoneClear};
 
 use crate::classes::{cell_size, cell_starts};

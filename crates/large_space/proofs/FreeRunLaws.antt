@@ -4,11 +4,10 @@ use Rattle.std.proofs.lemmas.Bool.{cases_lt, true≢false}
 use Rattle.heap_layout.specs.Zones.{block_at, offset_at, block_start}
 use Rattle.heap_layout.specs.declared.block.Kind.TheVariants as kinds
 use Rattle.object_model.specs.Objects.{HeapState, HasKind, IsHeld, size_at, IsInExtent, IsInExtentOf}
-use Rattle.object_model.specs.Lawful.{Lies}
+use Rattle.object_model.specs.Lawful.{Lies, AllLie, MeetsNoObject}
 use Rattle.object_model.proofs.OneKind.{one-kind, has_small-free}
 use Rattle.object_model.proofs.ObjectReads.{place_of_address}
 use Rattle.sessions.specs.Fitting.{IsFreeRun}
-use Rattle.cell_space.specs.FreeCells.{AllLie, MeetsNoObject}
 
 module _ (s : HeapState) (k n : ℕ) (run : IsFreeRun s k n) (x i : ℕ) (held : IsHeld s x) (lies : Lies s x (size_at s x))
     (in-object : IsInExtent s x i) (in-run : IsInExtentOf (block_start s.blocks k) (4096 * n) i) where

@@ -8,6 +8,3 @@ mod sweeps;
 pub use placing::place_large;
 pub use search::{blocks_for, find_run};
 pub use sweeps::sweep_large;
-
-#[cfg(test)]
-mod tests;

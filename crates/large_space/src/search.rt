@@ -3,8 +3,7 @@
 ghost use Rattle.std.specs.Prelude.{◌≡◌, ◌+◌, ◌*◌, ◌<◌, ◌≤◌, ℕ, IfSome, MatchOption, length};
 ghost use Rattle.heap_layout.specs.Zones.{row_words, block_start};
 ghost use Rattle.object_model.specs.Objects.{state_over, blocks_for as blocks_for_size};
-ghost use Rattle.object_model.specs.Lawful.{FreeBlockIsClear, IsClear};
-ghost use Rattle.cell_space.specs.FreeCells.{AllLie, MeetsNoObject};
+ghost use Rattle.object_model.specs.Lawful.{FreeBlockIsClear, IsClear, AllLie, MeetsNoObject};
 ghost use Rattle.large_space.specs.FreeRuns.{IsFirstRun, HasNoRun};
 
 use heap_layout::{BLOCK_WORDS, CLASS_UNIT, Kind, Layout};

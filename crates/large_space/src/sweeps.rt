@@ -14,6 +14,8 @@ use side_meta::Words;
 
 /// Sweeps the run that begins in a block: if its object does not live, it is held no more, and each
 /// block of the run becomes Free. Answers whether they did.
+///
+/// A plan's release of a large run calls it.
 pub fn sweep_large<W: Words>(words: &mut W, layout: &Layout, block: u32, base: u64) -> bool
     requires extent { length (W.words words.old) ≡ row_words layout.now.blocks }
     requires releasable { IsReleasable (state_over (W.words words.old) layout.now 0 0) block }

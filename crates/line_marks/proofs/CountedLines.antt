@@ -1,5 +1,6 @@
 -- How many lines of a block are marked, and how many holes it has, a word at a time.
 use Rattle.std.proofs.Common.{◌≡◌, sym, ◌∙◌, ap, ℕ, zero, suc, ◌+◌, ◌*◌, ◌-◌, ◌/◌, ◌%◌, ◌^◌, ◌<◌, ◌≤◌, arith, Bool, false, not, nat_eq, inl, inr, length}
+use Rattle.side_meta.specs.BitWords.{has_bit}
 use Rattle.std.proofs.lemmas.List.Sums.{count_by-le-length}
 use Rattle.std.proofs.lemmas.List.FromFn.{length-range_with_len}
 use Rattle.std.proofs.lemmas.Bool.{cases_eq, eq-eqb, ne_eqb}
@@ -9,7 +10,6 @@ use Rattle.std.specs.Int.{bit_at}
 use Rattle.heap_layout.specs.Zones.{first, LineWords}
 use Rattle.object_model.specs.Objects.{HeapState, word_at, line_marked}
 use Rattle.sessions.specs.Collecting.{is_hole_start}
-use Rattle.block_sweeps.specs.WordSweeps.{has_bit}
 use Rattle.block_sweeps.proofs.BitCounts.{count-same, count-parts, ones-count}
 
 -- word i of the line bits of the heap

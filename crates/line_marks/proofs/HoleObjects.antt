@@ -4,8 +4,7 @@ use Rattle.heap_layout.specs.Zones.{block_start}
 use Rattle.heap_layout.specs.declared.block.Kind.TheVariants as kinds
 use Rattle.object_model.specs.Lines.{TouchesLine}
 use Rattle.object_model.specs.Objects.{HeapState, HasKind, IsInExtent, size_at}
-use Rattle.object_model.specs.Lawful.{LineBitsAreExact}
-use Rattle.cell_space.specs.FreeCells.{MeetsNoObject}
+use Rattle.object_model.specs.Lawful.{LineBitsAreExact, MeetsNoObject}
 use Rattle.line_marks.specs.declared.holes.Hole.{Hole}
 use Rattle.line_marks.specs.LineHoles.{IsNextHole}
 

@@ -1,9 +1,9 @@
 -- The clear bits of a word that come after a set bit.
 use Rattle.std.proofs.Common.{◌≡◌, sym, ◌∙◌, ap, ℕ, zero, suc, ◌+◌, ◌*◌, ◌-◌, ◌/◌, ◌%◌, ◌^◌, ◌<◌, min, max, w64, bit_and, bit_or, arith, refl, not, nat_eq}
+use Rattle.side_meta.specs.BitWords.{has_bit}
 use Rattle.std.specs.Prelude.{◌&&◌}
 use Rattle.std.specs.Int.{bit_at}
 use Rattle.std.proofs.lemmas.Nat.Bits.{bit_at-lt, bit_at-suc, bit_at_lowest, bit_at_and, bit_at_or, bit_at_not, bit_at_above, bit_at_cat_low}
-use Rattle.block_sweeps.specs.WordSweeps.{has_bit}
 
 -- a bit that is the first one clear and the second one set
 both : (a b : ℕ) → a < 2 → b < 2 → nat_eq (min (1 - a) b) 1 ≡ (not (nat_eq a 1) && nat_eq b 1)

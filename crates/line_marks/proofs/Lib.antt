@@ -3,7 +3,4 @@ pub mod RunSearch
 pub mod HoleRuns
 pub mod CountedLines
 pub mod HoleStarts
-pub mod MarkedLines
-pub mod SetBits
 pub mod HoleObjects
-mod BornLines

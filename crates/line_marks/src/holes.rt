@@ -1,14 +1,13 @@
 //! Holes of a block, and how many holes and marked lines it has.
 
 ghost use Rattle.std.specs.Prelude.{◌≡◌, ◌+◌, ◌*◌, ◌-◌, ◌<◌, ◌≤◌, ◌&&◌, ℕ, not, nat_eq, length, slice_index, MatchOption, IfSome};
+ghost use Rattle.side_meta.specs.BitWords.{has_bit};
 ghost use Rattle.heap_layout.specs.Zones.{first, row_words, LineWords};
 ghost use Rattle.heap_layout.specs.declared.block.Kind.TheVariants as kinds;
 ghost use Rattle.heap_layout.specs.declared.layout.TheConstants.{LINE_WORDS};
 ghost use Rattle.object_model.specs.Objects.{state_over, HasKind};
-ghost use Rattle.object_model.specs.Lawful.{LineBitsAreExact};
-ghost use Rattle.cell_space.specs.FreeCells.{MeetsNoObject};
+ghost use Rattle.object_model.specs.Lawful.{LineBitsAreExact, MeetsNoObject};
 ghost use Rattle.sessions.specs.Collecting.{holes_in, marked_in};
-ghost use Rattle.block_sweeps.specs.WordSweeps.{has_bit};
 ghost use Rattle.line_marks.specs.LineHoles.{IsNextHole, HasNoHole};
 
 use crate::runs::first_run;
@@ -53,6 +52,9 @@ pub fn line_words<W: Words>(words: &W, layout: &Layout, block: u32) -> [u64; 4]
 /// The first hole of the block with at least `lines` lines, among its lines from `from` on. Of a
 /// hole that begins before `from` the part from `from` on counts. No held object has a word in it
 /// if the line bits are those of the lines that held objects touch.
+///
+/// For callers that have words and no view, as tests: plans look for holes in views (`hole_in` of
+/// `plan_api`).
 pub fn next_hole<W: Words>(
     words: &W,
     layout: &Layout,
@@ -114,6 +116,9 @@ fn hole_starts(word: u64, before: u64) -> u64
 }
 
 /// How many holes the block has.
+///
+/// For callers that want one count alone, as tests: the choice of candidates for evacuation takes
+/// both at once, by `line_counts`.
 pub fn count_holes<W: Words>(words: &W, layout: &Layout, block: u32) -> u32
     requires extent { length (W.words words.now) ≡ row_words layout.now.blocks }
     requires block { block < layout.now.blocks }
@@ -122,7 +127,7 @@ pub fn count_holes<W: Words>(words: &W, layout: &Layout, block: u32) -> u32
     line_counts(words, layout, block).holes
 }
 
-/// How many lines of the block are marked.
+/// How many lines of the block are marked. For callers of one count alone, as `count_holes`.
 pub fn marked_lines<W: Words>(words: &W, layout: &Layout, block: u32) -> u32
     requires extent { length (W.words words.now) ≡ row_words layout.now.blocks }
     requires block { block < layout.now.blocks }

@@ -1,17 +1,12 @@
-//! Line bits: marks of lines, and holes, which are runs of clear lines.
+//! Holes, which are runs of clear lines, and how many there are. Marks of lines are those of
+//! `line_bits`.
 #![tactic(auto)]
 
 mod bits;
 mod holes;
-mod laws;
-mod marks;
 mod runs;
 
-pub use bits::{first_bit, last_bit};
+pub use bits::last_bit;
 pub use holes::{Hole, LineCounts, count_holes, line_counts, line_words, marked_lines, next_hole};
-pub use laws::births_mark_lines;
-pub use marks::mark;
+pub use line_bits::mark;
 pub use runs::{Run, first_run};
-
-#[cfg(test)]
-mod tests;

@@ -27,13 +27,15 @@ use Rattle.mutator_core.specs.declared.state.Local.{Local}
 use Rattle.mutator_core.specs.declared.state.Event.TheVariants as e
 use Rattle.mutator_core.specs.declared.state.Answer.TheVariants.{Reference}
 use Rattle.mutator_core.specs.Machine.{Epoch, Machine, heap_in, address_in, with_address, mutator_of, mutators_in, next, source, refs_in, nums_in, number_word}
-use Rattle.object_model.specs.BitWords.{bit_word, bit_place, with_bit, without_bit}
+use Rattle.side_meta.specs.BitWords.{with_bit, without_bit}
+use Rattle.object_model.specs.BitWords.{bit_word, bit_place}
 use Rattle.mutator_core.specs.Guards.{IsBarred, HasShape, HasField, HasNumber, LacksField, LacksNumber, IsMiss}
 use Rattle.mutator_core.specs.Histories.{reply_in}
 use Rattle.mutator_core.specs.Epochs.{IsReady, KnowsItsState}
 use Rattle.mutator_core.proofs.Kept as kept
 use Rattle.mutator_core.proofs.Kept.{Untouched, KeepsFields, Grows, grown}
 use Rattle.object_model.proofs.BitWords as bits
+use Rattle.side_meta.proofs.BitWords as single
 use Rattle.mutator_core.proofs.Moments.{Holds, Replies, machine_with, same-words, finish, one-of}
 
 module _ (p : Epoch) (ready : IsReady p) (h : Machine) (i : IdealHeap) (set : ℕ → Type 0) (now : Holds p h i set) (m : ℕ) (known : Contains (numbers_of p.mutators) m) where
@@ -249,8 +251,8 @@ module _ (p : Epoch) (ready : IsReady p) (h : Machine) (i : IdealHeap) (set : �
       stores (bit_word p.before.blocks PinBits a) (with_bit n k) l (c.Pin q) (if nat_eq (bit_at n k) 1 then r.No else r.Yes)
       (subst (λ (b : Bool). IsStep s (mutator_of l) (c.Pin q) (if b then r.No else r.Yes) (with_words s (slice_set h.words (bit_word p.before.blocks PinBits a) (with_bit n k))) (mutator_of l)) (pin-bit q held)
       (pins.pin-object s (with_words s (slice_set h.words (bit_word p.before.blocks PinBits a) (with_bit n k))) (mutator_of l) q small (λ e. omega arith)
-      (bits.sets-pin s order a (with_bit n k) true held.address (bits.with-fits n k (order.row.words (bit_word p.before.blocks PinBits a)) (omega arith)) (ap (λ x. nat_eq x 1) (bits.with-same n k))
-      (λ x less other. bits.with-other n k x other))))
+      (bits.sets-pin s order a (with_bit n k) true held.address (single.with-fits n k (order.row.words (bit_word p.before.blocks PinBits a)) (omega arith)) (ap (λ x. nat_eq x 1) (single.with-same n k))
+      (λ x less other. single.with-other n k x other))))
       refl (λ x. x) (grown (h.locals m)) (pin-fields q (with_bit n k) held) (pin-untouched q (with_bit n k) held)
 
   pub unpin : (q : ℕ) → q < 16 → 0 < address_in (h.locals m) q
@@ -265,8 +267,8 @@ module _ (p : Epoch) (ready : IsReady p) (h : Machine) (i : IdealHeap) (set : �
       stores (bit_word p.before.blocks PinBits a) (without_bit n k) l (c.Unpin q) (if nat_eq (bit_at n k) 1 then r.Yes else r.No)
       (subst (λ (b : Bool). IsStep s (mutator_of l) (c.Unpin q) (if b then r.Yes else r.No) (with_words s (slice_set h.words (bit_word p.before.blocks PinBits a) (without_bit n k))) (mutator_of l)) (pin-bit q held)
       (pins.unpin-object s (with_words s (slice_set h.words (bit_word p.before.blocks PinBits a) (without_bit n k))) (mutator_of l) q small (λ e. omega arith)
-      (bits.sets-pin s order a (without_bit n k) false held.address (bits.without-fits n k (order.row.words (bit_word p.before.blocks PinBits a))) (ap (λ x. nat_eq x 1) (bits.without-same n k low))
-      (λ x less other. bits.without-other n k x low less other))))
+      (bits.sets-pin s order a (without_bit n k) false held.address (single.without-fits n k (order.row.words (bit_word p.before.blocks PinBits a))) (ap (λ x. nat_eq x 1) (single.without-same n k low))
+      (λ x less other. single.without-other n k x low less other))))
       refl (λ x. x) (grown (h.locals m)) (pin-fields q (without_bit n k) held) (pin-untouched q (without_bit n k) held)
 
   -- `null` or `range`, by the register

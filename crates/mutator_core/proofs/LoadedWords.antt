@@ -18,7 +18,8 @@ use Rattle.mutator_core.specs.declared.state.Event.{Event}
 use Rattle.mutator_core.specs.declared.state.Event.TheVariants as e
 use Rattle.mutator_core.specs.declared.state.LogEntry.{LogEntry}
 use Rattle.mutator_core.specs.Machine.{Epoch, Machine, heap_in, address_in, next, found, found_code, local_after, taken, first_local_of}
-use Rattle.object_model.specs.BitWords.{bit_word, bit_place, with_bit}
+use Rattle.side_meta.specs.BitWords.{with_bit}
+use Rattle.object_model.specs.BitWords.{bit_word, bit_place}
 use Rattle.mutator_core.specs.Guards.{MayStep, MayPerform}
 use Rattle.mutator_core.specs.Histories.{after, IsLog}
 use Rattle.mutator_core.specs.Epochs.{IsReady}
@@ -26,7 +27,7 @@ use Rattle.mutator_core.specs.Seen.{IsLoaded, AreLoaded}
 use Rattle.mutator_core.proofs.Lists.{contains-cases, contains-none, with_local, local-cases}
 use Rattle.mutator_core.proofs.Spots.{spot}
 use Rattle.mutator_core.proofs.Kept.{Leaves}
-use Rattle.object_model.proofs.BitWords as bits
+use Rattle.side_meta.proofs.BitWords as single
 use Rattle.mutator_core.proofs.Quiet.{in-register}
 use Rattle.mutator_core.proofs.Published as published
 use Rattle.mutator_core.proofs.Beginnings.{first-states}
@@ -133,8 +134,8 @@ module _ (p : Epoch) (ready : IsReady p) (h : Machine) (i : IdealHeap) (set : �
             ap (slice_index (next p h m (e.Perform (c.New d refs nums))).words) same ∙ get_or-set_same h.words at (with_bit n place) 0 (omega arith) in
             let was : bit_at n b ≡ 1 = subst (λ (q : ℕ). bit_at (word_at s q) b ≡ 1) same bit in
             ap (λ v. bit_at v b) word ∙ elim (cases_eq b place) as (λ _. bit_at (with_bit n place) b ≡ 1) [
-              | inl own ↦ subst (λ (q : ℕ). bit_at (with_bit n place) q ≡ 1) (sym own) (bits.with-same n place)
-              | inr differ ↦ bits.with-other n place b differ ∙ was
+              | inl own ↦ subst (λ (q : ℕ). bit_at (with_bit n place) q ≡ 1) (sym own) (single.with-same n place)
+              | inr differ ↦ single.with-other n place b differ ∙ was
             ])
       ]
 

@@ -32,7 +32,8 @@ use Rattle.mutator_core.specs.declared.state.OwnedBlock.{OwnedBlock}
 use Rattle.mutator_core.specs.declared.state.Unpublished.{Unpublished}
 use Rattle.mutator_core.specs.declared.state.Event.TheVariants as e
 use Rattle.mutator_core.specs.Machine.{Epoch, Machine, heap_in, mutators_in, mutator_of, next, next_name, birth_word, published}
-use Rattle.object_model.specs.BitWords.{bit_word, bit_place, with_bit}
+use Rattle.side_meta.specs.BitWords.{with_bit}
+use Rattle.object_model.specs.BitWords.{bit_word, bit_place}
 use Rattle.mutator_core.specs.Guards.{IsPlace, IsCell, IsWriting, BeginsRegion}
 use Rattle.mutator_core.specs.Epochs.{IsReady, IsInEpoch, IsOwned, IsMade, IsUnpublished, KnowsItsState}
 use Rattle.mutator_core.proofs.Lists.{contains-cases, contains-here, contains-there, with_local, local-cases, mutators-with_birth}
@@ -40,6 +41,7 @@ use Rattle.mutator_core.proofs.Places.{place-clear}
 use Rattle.mutator_core.proofs.Fills.{fill-small, fill-not-free, fills-cells, owned-kind, owned-class}
 use Rattle.mutator_core.proofs.Kept.{Leaves, knows-left, size-left, remembers-left}
 use Rattle.object_model.proofs.BitWords as bits
+use Rattle.side_meta.proofs.BitWords as single
 use Rattle.mutator_core.proofs.Moments.{Holds, one-of}
 
 birth-blank : (n : Name) (refs nums offset : ℕ) → 2 ≤ offset → birth_word n refs nums offset ≡ 0
@@ -158,10 +160,10 @@ module _ (p : Epoch) (ready : IsReady p) (h : Machine) (i : IdealHeap) (set : �
   after = with_words s w
 
   fits : with_bit word k < 2 ^ 64
-  fits = bits.with-fits word k (order.row.words (bit_word p.before.blocks StartBits a)) (omega arith)
+  fits = single.with-fits word k (order.row.words (bit_word p.before.blocks StartBits a)) (omega arith)
 
   rest : (j : ℕ) → j < 64 → j ≢ bit_place s.blocks a → bit_at (with_bit word k) j ≡ bit_at (word_at s (bit_word s.blocks StartBits a)) j
-  rest j less other = bits.with-other word k j other
+  rest j less other = single.with-other word k j other
 
   other : (j : ℕ) → j ≢ bit_word s.blocks StartBits a → word_at after j ≡ word_at s j
   other = bits.word-other s order StartBits a (with_bit word k) place.address (omega arith) fits rest
@@ -185,7 +187,7 @@ module _ (p : Epoch) (ready : IsReady p) (h : Machine) (i : IdealHeap) (set : �
     name = ap (word_at after) (sym (add-zero a)) ∙ own-word 0 (omega arith);
     shape = own-word 1 (omega arith);
     blank = λ j least less. own-word j less ∙ birth-blank n refs nums j least;
-    start = bits.bit-own s order StartBits a (with_bit word k) place.address (omega arith) fits rest ∙ ap (λ x. nat_eq x 1) (bits.with-same word k);
+    start = bits.bit-own s order StartBits a (with_bit word k) place.address (omega arith) fits rest ∙ ap (λ x. nat_eq x 1) (single.with-same word k);
     starts = λ j inside differ. bits.bit-other s order StartBits a (with_bit word k) place.address (omega arith) fits rest j differ;
     others = λ j outside differ. other j differ;
   }

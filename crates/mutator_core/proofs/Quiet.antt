@@ -22,7 +22,8 @@ use Rattle.object_model.proofs.QuietStores.{quiet-models}
 use Rattle.mutator_core.specs.declared.state.Local.{Local}
 use Rattle.mutator_core.specs.declared.state.Event.TheVariants as e
 use Rattle.mutator_core.specs.Machine.{Epoch, Machine, heap_in, mutators_in, mutator_of, address_in, next}
-use Rattle.object_model.specs.BitWords.{bit_word, bit_place, without_bit}
+use Rattle.side_meta.specs.BitWords.{without_bit}
+use Rattle.object_model.specs.BitWords.{bit_word, bit_place}
 use Rattle.mutator_core.specs.Guards.{HasObjectIn}
 use Rattle.mutator_core.specs.Epochs.{IsReady, IsInEpoch, KnowsItsState}
 use Rattle.mutator_core.proofs.Lists.{mutators-same}

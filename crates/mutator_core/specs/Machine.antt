@@ -12,7 +12,8 @@ use Rattle.ideal_heap.specs.declared.reply.Reply.TheVariants as r
 use Rattle.ideal_heap.specs.declared.name.Name.{Name}
 use Rattle.ideal_heap.specs.Names.{name, name_code}
 use Rattle.object_model.specs.Objects.{HeapState, with_words, size_of, shape_code}
-use Rattle.object_model.specs.BitWords.{bit_word, bit_place, with_bit, without_bit}
+use Rattle.side_meta.specs.BitWords.{with_bit, without_bit}
+use Rattle.object_model.specs.BitWords.{bit_word, bit_place}
 use Rattle.object_model.specs.Graphs.{MutatorState, numbers_of}
 use Rattle.sessions.specs.Plans.{Rules}
 use Rattle.sessions.specs.Sessions.{block_of_kind}

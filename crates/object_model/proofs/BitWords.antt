@@ -1,35 +1,17 @@
 -- One bit of a word before the heap is set or cleared.
 use Rattle.std.proofs.Common.{◌≡◌, ◌≢◌, refl, sym, ◌∙◌, ap, subst, ℕ, ◌+◌, ◌*◌, ◌-◌, ◌/◌, ◌%◌, ◌^◌, ◌<◌, ◌≤◌, inl, inr, arith, Bool, List, length, slice_index, slice_set, nat_eq}
-use Rattle.std.specs.Int.{bit_at, w64}
+use Rattle.std.specs.Int.{bit_at}
 use Rattle.std.proofs.lemmas.Bool.{cases_eq}
 use Rattle.std.proofs.lemmas.List.{get_or-set_same, get_or-set_other, length-set}
-use Rattle.std.proofs.lemmas.Nat.{or_lt, and_le_l, pow_below}
-use Rattle.std.proofs.lemmas.Nat.Bits.{bit_at_or, bit_at_and, bit_at_not, bit_at-pow_same, bit_at-pow_other, bit_at-lt}
 use Rattle.heap_layout.specs.Zones.{Zone, PinBits, UnlogBits, row_words, heap_of, first, bit_of, address_bit, IsAddress}
 use Rattle.heap_layout.proofs.MarkLemmas.{address_bit-at_address}
 use Rattle.object_model.specs.Objects.{HeapState, with_words, word_at}
 use Rattle.object_model.specs.Lawful.{IsWellFormed}
 use Rattle.object_model.specs.Changes.{SetsPin, ClearsUnlog}
 use Rattle.object_model.proofs.Marks.{mark-same}
-use Rattle.object_model.specs.BitWords.{bit_word, bit_place, with_bit, without_bit}
-
-pub with-same : (n k : ℕ) → bit_at (with_bit n k) k ≡ 1
-with-same n k = omega (arith, bit_at_or n (2 ^ k) k, bit_at-pow_same k, bit_at-lt n k)
-
-pub with-other : (n k i : ℕ) → i ≢ k → bit_at (with_bit n k) i ≡ bit_at n i
-with-other n k i other = omega (arith, bit_at_or n (2 ^ k) i, bit_at-pow_other k i other)
-
-pub with-fits : (n k : ℕ) → n < 2 ^ 64 → k < 64 → with_bit n k < 2 ^ 64
-with-fits n k fits low = or_lt 64 n (2 ^ k) fits (pow_below k 64 low)
-
-pub without-same : (n k : ℕ) → k < 64 → bit_at (without_bit n k) k ≡ 0
-without-same n k low = omega (arith, bit_at_and n (2 ^ 64 - 1 - 2 ^ k) k, bit_at_not w64 (2 ^ k) k (pow_below k 64 low) low, bit_at-pow_same k)
-
-pub without-other : (n k i : ℕ) → k < 64 → i < 64 → i ≢ k → bit_at (without_bit n k) i ≡ bit_at n i
-without-other n k i low small other = omega (arith, bit_at_and n (2 ^ 64 - 1 - 2 ^ k) i, bit_at_not w64 (2 ^ k) i (pow_below k 64 low) small, bit_at-pow_other k i other, bit_at-lt n i)
-
-pub without-fits : (n k : ℕ) → n < 2 ^ 64 → without_bit n k < 2 ^ 64
-without-fits n k fits = let less = and_le_l n (2 ^ 64 - 1 - 2 ^ k) in omega arith
+use Rattle.side_meta.proofs.BitWords.{without-same, without-other, without-fits}
+use Rattle.side_meta.specs.BitWords.{with_bit, without_bit}
+use Rattle.object_model.specs.BitWords.{bit_word, bit_place}
 
 -- the row with another word v where the bit of address a lies, which has the other bits of that word
 module _ (b : ℕ) (w : List ℕ) (long : length w ≡ row_words b) (z : Zone) (a v : ℕ) (there : IsAddress b a)

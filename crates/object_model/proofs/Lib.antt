@@ -45,8 +45,5 @@ pub mod TakenBlocks
 pub mod WorkedHeaps
 pub mod LawfulTests
 pub mod BuiltWords
-pub mod KindsRepresent
-pub mod WalkLemmas
-pub mod GraphLemmas
 pub mod OwnedBlocks
 pub mod BitWords

@@ -1,11 +1,11 @@
 -- The heap invariant: when a heap is lawful. Each part is a relation of its own.
-use Rattle.std.specs.Prelude.{◌≡◌, ◌≢◌, ℕ, ◌+◌, ◌*◌, ◌%◌, ◌^◌, ◌<◌, ◌≤◌, Bool, ◌&&◌, ◌||◌, IsTrue, length, nat_lt}
+use Rattle.std.specs.Prelude.{◌≡◌, ◌≢◌, ℕ, ◌+◌, ◌*◌, ◌%◌, ◌^◌, ◌<◌, ◌≤◌, Bool, ◌&&◌, ◌||◌, IsTrue, List, length, nat_lt, slice_index, EachIndex}
 use Rattle.std.specs.List.{range_with_len, list_any}
 use Rattle.heap_layout.specs.Zones.{row_words, block_at, offset_at, block_start, IsAddress}
 use Rattle.heap_layout.specs.declared.block.Kind.TheVariants as kinds
 use Rattle.heap_layout.specs.Blocks.{is_block_code}
 use Rattle.ideal_heap.specs.Names.{IsName}
-use Rattle.object_model.specs.Objects.{HeapState, word_at, global_at, block_word, has_kind, HasKind, class_at, owner_at, line_marked, is_start, is_pinned, is_unlogged, IsHeld, name_at, refs_at, nums_at, size_at, number_at, target_at, ref_at, is_reference, IsInExtent, cell_words, blocks_for}
+use Rattle.object_model.specs.Objects.{HeapState, word_at, global_at, block_word, has_kind, HasKind, class_at, owner_at, line_marked, is_start, is_pinned, is_unlogged, IsHeld, name_at, refs_at, nums_at, size_at, number_at, target_at, ref_at, is_reference, IsInExtent, IsInExtentOf, cell_words, blocks_for}
 use Rattle.heap_layout.specs.declared.layout.TheConstants.{BLOCK_LINES, BLOCK_WORDS, MAX_BLOCKS}
 use Rattle.ideal_heap.specs.declared.command.TheConstants.{MAX_REFS, MAX_NUMS}
 use Rattle.object_model.specs.Lines.{TouchesLine}
@@ -91,6 +91,10 @@ IsRefField s v = IsTrue (is_reference v) → IsHeld s v
 abbrev pub IsRoot : HeapState → ℕ → Type 0
 IsRoot s v = v ≢ 0 → IsHeld s v
 
+-- each of these values is nil or the address of a held object
+abbrev pub AreRoots : HeapState → List ℕ → Type 0
+AreRoots s roots = EachIndex roots (λ i. IsRoot s (slice_index roots i))
+
 -- block k is in a run that begins before it
 abbrev pub is_in_run : HeapState → ℕ → Bool
 is_in_run s k = list_any (λ h. has_kind s h kinds.LargeHead && nat_lt k (h + class_at s h)) (range_with_len 0 k)
@@ -152,3 +156,11 @@ pub record IsLawfulButLines (s : HeapState) : Type 0 where
 pub record IsLawful (s : HeapState) : Type 0 where
   pub but_lines : IsLawfulButLines s
   pub lines : (k : ℕ) → LineBitsAreExact s k
+
+-- each held object lies where one of its size may lie
+abbrev pub AllLie : HeapState → Type 0
+AllLie s = (a : ℕ) → IsHeld s a → Lies s a (size_at s a)
+
+-- no held object has one of the `size` words from a on
+abbrev pub MeetsNoObject : HeapState → ℕ → ℕ → Type 0
+MeetsNoObject s a size = (x i : ℕ) → IsHeld s x → IsInExtent s x i → IsInExtentOf a size i → ⊥

@@ -11,8 +11,4 @@ pub mod Heaps
 pub mod Steps
 pub mod Births
 pub mod WorkedHeaps
-pub mod WorkedKinds
-pub mod AddressSets
-pub mod Places
-pub mod Walks
 pub mod BitWords

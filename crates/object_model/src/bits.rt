@@ -8,7 +8,7 @@ use heap_layout::Layout;
 use side_meta::{Spec, Words, test};
 
 /// Metadata with one bit for each address of the heap, which begins at word `zone` of the row.
-pub(crate) fn bit_spec(layout: &Layout, zone: u32) -> Spec
+pub fn bit_spec(layout: &Layout, zone: u32) -> Spec
     ensures zone { result.zone ≡ zone }
     ensures heap { result.heap ≡ heap_of layout.now.blocks }
     ensures region { result.log_region ≡ 0 }

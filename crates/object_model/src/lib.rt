@@ -1,20 +1,18 @@
-//! The object model: heaps, their objects, and the graph of reachable objects, in a row of words.
+//! The object model: heaps and their objects, in a row of words.
 #![tactic(auto)]
 
-mod address_set;
 mod bits;
 mod collect;
 mod heap;
 mod heap_laws;
 mod laws;
-mod object_graph;
 mod object_words;
-mod place;
+mod roots;
 mod row;
 mod shape;
-mod walk;
-mod worked_laws;
+mod step_laws;
 
+pub use bits::bit_spec;
 pub use collect::Collect;
 pub use heap::Heap;
 pub use heap_laws::{
@@ -27,17 +25,11 @@ pub use laws::{
     objects_are_preserved, places_are_addresses, readable_objects, sizes, steps_keep_line_bits,
     steps_set_no_unlog_bit, touched_lines_have_words,
 };
-pub use object_graph::{are_roots, graph};
-pub use place::Place;
+pub use roots::are_roots;
 pub use row::Row;
 pub use shape::{
     HEADER_WORDS, MAX_MEDIUM_WORDS, NUMS_UNIT, Shape, decode_shape, encode_shape, size_words,
 };
-pub use worked_laws::{
-    built_heaps_read_back, changes_of_nothing, cleared_bits_log, heap_of_five_kinds,
-    heaps_agree_on_sets, kinds_heap_represents, preserved_heaps_represent, steps_follow_steps,
-    unlawful_blocks, unlawful_objects, worked_ages, wrong_graphs,
+pub use step_laws::{
+    cleared_bits_log, heaps_represent_on_sets, preserved_heaps_represent, steps_follow_steps,
 };
-
-#[cfg(test)]
-mod tests;

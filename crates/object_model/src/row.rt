@@ -81,28 +81,6 @@ impl Row {
         self.words[address as usize + HEADER_WORDS as usize + self.refs(address) + index as usize]
     }
 
-    /// Sets reference `index` of the object at `address` to an address, or to 0 for nil.
-    pub fn set_ref(&mut self, address: u32, index: u32, value: u32)
-        requires readable { IsReadable (state_of self.old) address }
-        requires field { index < refs_at (state_of self.old) address }
-        ensures { state_of self.new ≡ with_words (state_of self.old)
-            (slice_set self.old.words.items (address + HEADER_WORDS + index) value) }
-    {
-        self.words[address as usize + HEADER_WORDS as usize + index as usize] = value as u64;
-    }
-
-    /// Sets number `index` of the object at `address`.
-    pub fn set_num(&mut self, address: u32, index: u32, number: u64)
-        requires readable { IsReadable (state_of self.old) address }
-        requires field { index < nums_at (state_of self.old) address }
-        ensures { state_of self.new ≡ with_words (state_of self.old)
-            (slice_set self.old.words.items
-            (address + HEADER_WORDS + refs_at (state_of self.old) address + index) number) }
-    {
-        let at = address as usize + HEADER_WORDS as usize + self.refs(address) + index as usize;
-        self.words[at] = number;
-    }
-
     /// A global: an address, or 0 for nil.
     pub fn global(&self, global: u32) -> u32
         requires order { IsWellFormed (state_of self.now) }

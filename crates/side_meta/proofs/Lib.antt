@@ -1,3 +1,4 @@
 mod Sides
 mod PutBits
 mod Changes
+pub mod BitWords

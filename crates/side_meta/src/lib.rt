@@ -5,12 +5,14 @@ mod bits;
 mod fields;
 mod places;
 mod row;
+mod single_bits;
 mod spec;
 
 pub use bits::{clear, set, test};
 pub use fields::{field, set_field};
 pub use places::place;
 pub use row::Words;
+pub use single_bits::{clear_bit, set_bit, test_bit};
 pub use spec::Spec;
 
 #[cfg(test)]

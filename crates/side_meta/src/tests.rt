@@ -1,6 +1,6 @@
 //! Tests against values computed by hand.
 
-use crate::{Spec, clear, field, place, set, set_field, test};
+use crate::{Spec, clear, clear_bit, field, place, set, set_bit, set_field, test, test_bit};
 use std::test::Fail;
 
 #[test]
@@ -53,6 +53,7 @@ fn fields(rt: HostRuntime) -> Result<(), Fail> {
     Ok(())
 }
 
+// By a kind of side metadata and by word and place.
 #[test]
 fn bits(rt: HostRuntime) -> Result<(), Fail> {
     let mut row: Vec<u64> = vec![in rt.alloc(); 0; 3]?;
@@ -63,13 +64,19 @@ fn bits(rt: HostRuntime) -> Result<(), Fail> {
         log_bits: 0,
     };
     set(&mut row, &spec, 163);
-    set(&mut row, &spec, 164);
+    set_bit(&mut row, 2, 0);
     assert_eq!(rt; row.as_slice(), [0, 0x8000_0000_0000_0000, 1].as_slice());
     assert_eq!(rt;
         (test(&row, &spec, 162), test(&row, &spec, 163)),
         (false, true)
     );
+    assert_eq!(rt;
+        (test_bit(&row, 1, 62), test_bit(&row, 1, 63)),
+        (false, true)
+    );
     clear(&mut row, &spec, 163);
     assert_eq!(rt; row.as_slice(), [0, 0, 1].as_slice());
+    clear_bit(&mut row, 2, 0);
+    assert_eq!(rt; row.as_slice(), [0, 0, 0].as_slice());
     Ok(())
 }

@@ -1,7 +1,8 @@
 use Rattle.std.proofs.Common.{◌≡◌, ◌+◌, ◌<◌, ◌^◌, ℕ, IsTrue, Bool, arith, w64, sym, ◌∙◌, length, eq-eqb}
+use Rattle.side_meta.specs.BitWords.{has_bit}
 use Rattle.std.specs.Int.{bit_at, trailing_zeros}
 use Rattle.std.proofs.lemmas.Nat.Bits.{bit_at-trailing_zeros}
-use Rattle.block_sweeps.specs.WordSweeps.{has_bit, survives}
+use Rattle.block_sweeps.specs.WordSweeps.{survives}
 use Rattle.block_sweeps.proofs.LivingBits.{rest-within, with-living, without-dead}
 use Rattle.block_sweeps.proofs.TouchedWords.{without-less}
 use Rattle.block_sweeps.proofs.sweep.living_bits.Goals as goal

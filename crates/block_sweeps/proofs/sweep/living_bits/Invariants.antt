@@ -1,5 +1,6 @@
 use Rattle.std.proofs.Common.{◌≡◌, ℕ, ◌+◌, ◌<◌, ◌&&◌, ◌||◌, IsTrue}
-use Rattle.block_sweeps.specs.WordSweeps.{has_bit, survives}
+use Rattle.side_meta.specs.BitWords.{has_bit}
+use Rattle.block_sweeps.specs.WordSweeps.{survives}
 use Rattle.block_sweeps.proofs.sweep.living_bits.Given as goal
 
 abbrev pub invariant-loop-rest : goal.invariant-loop-rest

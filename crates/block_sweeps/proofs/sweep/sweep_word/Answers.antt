@@ -1,10 +1,11 @@
 use Rattle.std.proofs.Common.{◌^◌, ◌≡◌, ◌+◌, ◌<◌, ℕ, sym, subst, ◌∙◌, ap, List, bit_and, slice_index, ◌&&◌}
+use Rattle.side_meta.specs.BitWords.{has_bit}
 use Rattle.std.specs.Prelude.{count_ones}
 use Rattle.heap_layout.specs.Zones.{first, StartBits, PinBits, UnlogBits}
 use Rattle.object_model.specs.Objects.{HeapState, state_over, with_words}
 use Rattle.object_model.specs.Ages.{is_survivor}
 use Rattle.block_sweeps.specs.Stores.{Stores}
-use Rattle.block_sweeps.specs.WordSweeps.{has_bit, SweepsWords, start_word, address_of}
+use Rattle.block_sweeps.specs.WordSweeps.{SweepsWords, start_word, address_of}
 use Rattle.block_sweeps.proofs.SweptWords.{all-live, some-die, start-after, read-bits}
 use Rattle.block_sweeps.proofs.sweep.sweep_word.Goals as goal
 use Rattle.block_sweeps.proofs.sweep.sweep_word.Goals.{then-living-starts, else-living-starts}

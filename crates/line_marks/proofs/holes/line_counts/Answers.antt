@@ -1,10 +1,10 @@
 use Rattle.std.proofs.Common.{◌≡◌, ℕ, ◌+◌, ◌*◌, ◌-◌, ◌≤◌, ap, sym, ◌∙◌, subst, arith, Bool, not, nat_eq}
+use Rattle.side_meta.specs.BitWords.{has_bit}
 use Rattle.std.specs.Prelude.{◌&&◌, count_ones}
 use Rattle.std.specs.Int.{bit_at}
 use Rattle.std.proofs.lemmas.Nat.{ones-le}
 use Rattle.object_model.specs.Objects.{HeapState, state_over, line_marked}
 use Rattle.sessions.specs.Collecting.{is_hole_start}
-use Rattle.block_sweeps.specs.WordSweeps.{has_bit}
 use Rattle.line_marks.proofs.HoleStarts.{top-bit}
 use Rattle.line_marks.proofs.CountedLines.{line_word, few, marked-bit, starts-bits, count-more, count-all, word-read}
 use Rattle.line_marks.proofs.holes.line_counts.Goals as goal

@@ -1,5 +1,5 @@
 use Rattle.std.proofs.Common.{sym, subst}
-use Rattle.object_model.specs.Objects.{HeapState, with_words}
+use Rattle.object_model.specs.Objects.{HeapState}
 use Rattle.object_model.specs.Changes.{ObjectsStay}
 use Rattle.object_model.specs.Lawful.{LineBitsAreExact}
 use Rattle.object_model.proofs.Frames.{lines-after, same-layout}

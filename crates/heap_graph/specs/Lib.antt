@@ -1,0 +1,3 @@
+pub mod AddressSets
+pub mod Places
+pub mod Walks

@@ -1,0 +1,10 @@
+//! The list of the objects of a heap that are reachable from roots and globals.
+#![tactic(auto)]
+
+mod address_set;
+mod object_graph;
+mod place;
+mod walk;
+
+pub use object_graph::graph;
+pub use place::Place;

@@ -1,0 +1,4 @@
+mod RunMasks
+mod SetBits
+mod MarkedLines
+mod BornLines

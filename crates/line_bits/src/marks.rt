@@ -1,0 +1,49 @@
+//! Marks of the lines that an object touches.
+
+ghost use Rattle.std.specs.Prelude.{◌≡◌, ◌+◌, ◌<◌, ◌≤◌, length};
+ghost use Rattle.heap_layout.specs.Zones.{row_words, IsAddress};
+ghost use Rattle.object_model.specs.Objects.{state_over};
+ghost use Rattle.line_bits.specs.LineMarks.{MarksLines, SetsRun};
+
+use crate::masks::run_mask;
+use heap_layout::{Layout, line_of};
+use side_meta::Words;
+
+/// Marks the lines that an object of `size` words at the address touches, in one block or several.
+/// Writes only words that change.
+pub fn mark<W: Words>(words: &mut W, layout: &Layout, address: u32, size: u32)
+    requires extent { length (W.words words.old) ≡ row_words layout.now.blocks }
+    requires address { IsAddress layout.now.blocks address }
+    requires some { 1 ≤ size }
+    requires last { address + size ≤ row_words layout.now.blocks }
+    ensures { MarksLines (state_over (W.words words.old) layout.now 0 0)
+        (state_over (W.words words.new) layout.now 0 0) address size }
+{
+    let first = line_of(layout, address);
+    let last = line_of(layout, address + size - 1);
+    let base = layout.line_at(0);
+    // Nearly all objects are small, so one word has all their lines.
+    if first / 64 == last / 64 {
+        set_run(words, base + first / 64, first % 64, last % 64);
+        return;
+    }
+    for word in first / 64..last / 64 + 1 {
+        let low = first.saturating_sub(64 * word);
+        let high = (last - 64 * word).min(63);
+        set_run(words, base + word, low, high);
+    }
+}
+
+/// Sets bits `low` to `high` of a word of the row. Writes it only if it changes.
+fn set_run<W: Words>(words: &mut W, index: u32, low: u32, high: u32)
+    requires index { index < length (W.words words.old) }
+    requires order { low ≤ high }
+    requires high { high < 64 }
+    ensures { SetsRun (W.words words.old) (W.words words.new) index low high }
+{
+    let before = words.get(index);
+    let marked = before | run_mask(low, high);
+    if marked != before {
+        words.set(index, marked);
+    }
+}

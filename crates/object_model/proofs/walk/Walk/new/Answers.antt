@@ -1,7 +1,0 @@
-use Rattle.std.proofs.Common.{◌∙◌}
-use Rattle.object_model.specs.Heaps.{heap_state}
-use Rattle.object_model.proofs.WalkLemmas.{walk-empty}
-use Rattle.object_model.proofs.walk.Walk.new.Goals as goal
-
-pub returns-clause-walk : goal.returns-clause-walk
-returns-clause-walk c = walk-empty (heap_state c.args.heap.now) _ c.new-2.ensures.items (c.in_ok-visited.ensures.blocks ∙ c.layout.ensures) c.in_ok-visited.ensures.empty

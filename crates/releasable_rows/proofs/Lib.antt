@@ -1,0 +1,3 @@
+pub mod TestedBlocks
+pub mod ReleasableBlocks
+pub mod ReleaseTests

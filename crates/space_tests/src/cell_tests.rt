@@ -1,0 +1,259 @@
+//! Tests of classes, of the search for a cell and of sweeps, on rows of 4 blocks. Block 1 has
+//! cells.
+
+ghost use Rattle.std.specs.Prelude.{◌≡◌, ◌%◌, ◌/◌, ◌<◌, IsTrue, length};
+ghost use Rattle.heap_layout.specs.Zones.{row_words};
+ghost use Rattle.heap_layout.specs.declared.block.Kind.TheVariants as kinds;
+ghost use Rattle.object_model.specs.Objects.{state_over, HasKind, class_at};
+
+use cell_space::{cell_size, class_of, next_cell, sweep_block};
+use heap_layout::{BLOCK_WORDS, CLASS_UNIT, Kind, Layout};
+use releasable_rows::is_releasable;
+use std::alloc::{AllocError, Global};
+use std::test::Fail;
+
+/// Whether all sizes from `least` to `most` are of the class, and its cells have `most` words.
+fn are_of_class(least: u32, most: u32, class: u32) -> bool {
+    let cells = class_of(most).map(|class| cell_size(class));
+    cells == Some(most) && (least..=most).all(|size| class_of(size) == Some(class))
+}
+
+// the cells of each class, and the least size that does not fit a cell of the class below
+#[test]
+fn classes_of_sizes(rt: HostRuntime) -> Result<(), Fail> {
+    for (class, least, most) in [
+        (0, 0, 4),
+        (1, 5, 6),
+        (2, 7, 8),
+        (3, 9, 12),
+        (4, 13, 16),
+        (5, 17, 24),
+        (6, 25, 32),
+        (7, 33, 48),
+        (8, 49, 64),
+        (9, 65, 96),
+        (10, 97, 128),
+        (11, 129, 192),
+        (12, 193, 256),
+        (13, 257, 384),
+        (14, 385, 512),
+        (15, 513, 768),
+        (16, 769, 1024),
+        (17, 1025, 1536),
+        (18, 1537, 2048),
+    ] {
+        assert_eq!(rt; are_of_class(least, most, class), true, "{class}");
+    }
+    assert_eq!(rt; [2049, u32::MAX].map(|size| class_of(size)), [None, None]);
+    Ok(())
+}
+
+/// A row of zeros, but for the word of block 1: it has cells of this class.
+fn row_of_cells(alloc: Global, layout: &Layout, class: u32) -> Result<Vec<u64>, AllocError> {
+    let count = layout.words() as usize;
+    let mut words = Vec::with_capacity(alloc, count)?;
+    words.resize(count, 0)?;
+    put(
+        &mut words,
+        19,
+        Kind::Cells as u64 + CLASS_UNIT * class as u64,
+    );
+    Ok(words)
+}
+
+/// Sets a word of the row, if there is such a word.
+fn put(words: &mut Vec<u64>, index: u32, value: u64) {
+    if let Some(word) = words.get_mut(index as usize) {
+        *word = value;
+    }
+}
+
+/// Turns a bit of block 1 round, among those that begin at word `zone` of the row.
+fn turn(words: &mut Vec<u64>, zone: u32, offset: u32) {
+    if let Some(word) = words.get_mut(zone as usize + 64 + offset as usize / 64) {
+        *word ^= 1 << (offset % 64);
+    }
+}
+
+/// Whether block 1 has cells of this class.
+fn has_cells(words: &Vec<u64>, layout: &Layout, class: u32) -> bool
+    requires extent { length words.now.items ≡ row_words layout.now.blocks }
+    ensures kind { IsTrue result → HasKind (state_over words.now.items layout.now 0 0) 1
+        kinds.Cells }
+    ensures class { IsTrue result → class_at (state_over words.now.items layout.now 0 0) 1
+        ≡ class }
+{
+    let word = words[layout.block_at(1) as usize];
+    if word % CLASS_UNIT != Kind::Cells as u64 {
+        return false;
+    }
+    word / CLASS_UNIT % 256 == class as u64
+}
+
+/// The next cell of block 1, or an offset outside if this is no row with such a block.
+fn next_from(words: &Vec<u64>, layout: &Layout, class: u32, from: u32) -> Option<u32> {
+    if words.len() != layout.words() as usize || class > 18 {
+        return Some(BLOCK_WORDS);
+    }
+    if !has_cells(words, layout, class) {
+        return Some(BLOCK_WORDS);
+    }
+    next_cell(words, layout, 1, class, from)
+}
+
+/// Takes all cells of block 1.
+fn take_all(words: &mut Vec<u64>, layout: &Layout, size: u32) {
+    for offset in (0..=BLOCK_WORDS - size.clamp(4, 2048)).step_by(size.clamp(4, 2048) as usize) {
+        turn(words, layout.start_base(), offset);
+    }
+}
+
+/// What is found in a block that is full but for the cell at this offset: from the start, from the
+/// cell, and after its first word.
+fn found(
+    alloc: Global,
+    layout: &Layout,
+    class: u32,
+    size: u32,
+    offset: u32,
+) -> Result<[Option<u32>; 3], AllocError> {
+    let mut words = row_of_cells(alloc, layout, class)?;
+    take_all(&mut words, layout, size);
+    turn(&mut words, layout.start_base(), offset);
+    Ok([0, offset, offset.saturating_add(1)].map(|from| next_from(&words, layout, class, from)))
+}
+
+// of sizes that divide a block, and of sizes that don't: the first, a middle and the last cell
+#[test]
+fn one_free_cell(rt: HostRuntime) -> Result<(), Fail> {
+    let layout = Layout::new(4)?;
+    for (class, size, offset) in [
+        (0, 4, 0),
+        (0, 4, 2056),
+        (0, 4, 4092),
+        (1, 6, 0),
+        (1, 6, 66),
+        (1, 6, 4086),
+        (2, 8, 4088),
+        (3, 12, 60),
+        (3, 12, 72),
+        (3, 12, 4080),
+        (4, 16, 4080),
+        (5, 24, 72),
+        (5, 24, 4056),
+        (6, 32, 4064),
+        (7, 48, 48),
+        (7, 48, 96),
+        (7, 48, 4032),
+        (8, 64, 64),
+        (8, 64, 4032),
+        (9, 96, 96),
+        (9, 96, 3936),
+        (10, 128, 3968),
+        (11, 192, 3840),
+        (12, 256, 3840),
+        (13, 384, 3456),
+        (14, 512, 3584),
+        (15, 768, 3072),
+        (16, 1024, 3072),
+        (17, 1536, 1536),
+        (18, 2048, 0),
+        (18, 2048, 2048),
+    ] {
+        let found = found(rt.alloc(), &layout, class, size, offset)?;
+        let want = [Some(offset), Some(offset), None];
+        assert_eq!(rt; found, want, "{offset} of {class}");
+    }
+    Ok(())
+}
+
+// a search from the end of a block, and from beyond it, in a block that is empty
+#[test]
+fn empty_blocks(rt: HostRuntime) -> Result<(), Fail> {
+    let layout = Layout::new(4)?;
+    for (class, from, want) in [
+        (0, 0, Some(0)),
+        (0, 1, Some(4)),
+        (0, 4092, Some(4092)),
+        (0, 4093, None),
+        (1, 4081, Some(4086)),
+        (1, 4087, None),
+        (18, 1, Some(2048)),
+        (18, 2049, None),
+        (17, 1537, None),
+        (3, u32::MAX, None),
+    ] {
+        let words = row_of_cells(rt.alloc(), &layout, class)?;
+        assert_eq!(rt;
+            next_from(&words, &layout, class, from),
+            want,
+            "{class} from {from}"
+        );
+    }
+    Ok(())
+}
+
+/// Writes an object of 5 words at an offset of block 1, which collection `number` claimed. Its
+/// start, pin and unlog bits are set.
+fn write_object(words: &mut Vec<u64>, layout: &Layout, offset: u32, number: u32) {
+    let address = layout.heap_base() + BLOCK_WORDS + offset.min(BLOCK_WORDS - 8);
+    put(words, address, 33 + 32 * offset as u64);
+    put(words, address + 1, 65_536 * 2);
+    put(words, address + 2, ((number as u64) << 24) + address as u64);
+    for zone in [layout.start_base(), layout.pin_base(), layout.unlog_base()] {
+        turn(words, zone, offset);
+    }
+}
+
+/// The sweep of block 1, if it may be swept.
+fn sweep(words: &mut Vec<u64>, layout: &Layout, base: u64) -> Option<u32> {
+    if words.len() != layout.words() as usize || !is_releasable(words, layout, 1) {
+        return None;
+    }
+    Some(sweep_block(words, layout, 1, base))
+}
+
+/// The first of 64 words from `from` on that is not as in the list, or not 0 where it is not in it.
+fn first_wrong(words: &[u64], from: usize, wanted: &[(usize, u64)]) -> Option<usize> {
+    for index in 0..64 {
+        let mut want = 0;
+        for (at, value) in wanted {
+            if *at == index {
+                want = *value;
+            }
+        }
+        if words.get(from.saturating_add(index)) != Some(&want) {
+            return Some(index);
+        }
+    }
+    None
+}
+
+// Of objects in cells of this class, at these offsets, those that collection 2 claimed live. A
+// block in which nothing lives becomes Free.
+#[test]
+fn swept_blocks(rt: HostRuntime) -> Result<(), Fail> {
+    let layout = Layout::new(4)?;
+    for (class, objects, count, word, bits) in [
+        (
+            1,
+            [(0, 1), (6, 2), (60, 2), (66, 1), (4080, 2)].as_slice(),
+            3,
+            261,
+            [(0, (1 << 60) + (1 << 6)), (63, 1 << 48)].as_slice(),
+        ),
+        (2, [(8, 1), (4088, 0)].as_slice(), 0, 0, [].as_slice()),
+    ] {
+        let mut words = row_of_cells(rt.alloc(), &layout, class)?;
+        for (offset, number) in objects {
+            write_object(&mut words, &layout, *offset, *number);
+        }
+        let swept = sweep(&mut words, &layout, 2);
+        let blocks = words.get(18..22) == Some([0, word, 0, 0].as_slice());
+        assert_eq!(rt; (swept, blocks), (Some(count), true), "of class {class}");
+        // start, pin and unlog bits of block 1
+        let wrong = [102, 358, 614].map(|from| first_wrong(&words, from, bits));
+        assert_eq!(rt; wrong, [None, None, None], "of class {class}");
+    }
+    Ok(())
+}
