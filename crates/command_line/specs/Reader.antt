@@ -23,7 +23,11 @@ files_rule = record (new_rule (codes "files")) {
 abbrev pub bare : App
 bare = on_top (λ s. record s { no_binary_name = true; disable_help_flag = true }) (new_app (codes "mm_drive"))
 
+-- the command with the options that have a value
+abbrev pub with_option_rules : App → App
+with_option_rules app = with_rule (with_rule (with_rule (with_rule app (option_rule (codes "plan")))
+    (option_rule (codes "heap"))) (option_rule (codes "workers"))) (option_rule (codes "make"))
+
 -- the command with all arguments
 abbrev pub reader : App
-reader = with_rule (with_rule (with_rule (with_rule (with_rule (with_rule bare (option_rule (codes "plan")))
-    (option_rule (codes "heap"))) (option_rule (codes "workers"))) (option_rule (codes "make"))) map_rule) files_rule
+reader = with_rule (with_rule (with_option_rules bare) map_rule) files_rule

@@ -4,7 +4,7 @@ ghost use Rattle.std.specs.Prelude.{◌≡◌, IfOk, Some, true, false, alloc_er
 ghost use Rattle.clap.specs.Words.{app_of, kind_of, rule_of};
 ghost use Rattle.command_line.specs.Words.{Line, line_of, values_in};
 ghost use Rattle.command_line.specs.Orders.{texts, values_seen};
-ghost use Rattle.command_line.specs.Reader.{bare as bare_app, files_rule, map_rule, option_rule, reader};
+ghost use Rattle.command_line.specs.Reader.{bare as bare_app, files_rule, map_rule, option_rule, reader, with_option_rules};
 
 use clap::error::ErrorKind;
 use clap::{Arg, ArgAction, Command, Error};
@@ -57,15 +57,22 @@ fn bare<'a>(alloc: Global) -> Command<'a>
         .disable_help_flag(true)
 }
 
+// Adds the options with values.
+fn with_options<'a>(alloc: Global, command: Command<'a>) -> Result<Command<'a>, AllocError>
+    ensures { IfOk result (λ c. app_of c ≡ with_option_rules (app_of command.entry)) }
+{
+    command
+        .arg(option(alloc, "plan"))?
+        .arg(option(alloc, "heap"))?
+        .arg(option(alloc, "workers"))?
+        .arg(option(alloc, "make"))
+}
+
 // The command with the options, and the files as its positional argument.
 fn command<'a>(alloc: Global) -> Result<Command<'a>, AllocError>
     ensures { IfOk result (λ c. app_of c ≡ reader) }
 {
-    bare(alloc)
-        .arg(option(alloc, "plan"))?
-        .arg(option(alloc, "heap"))?
-        .arg(option(alloc, "workers"))?
-        .arg(option(alloc, "make"))?
+    with_options(alloc, bare(alloc))?
         .arg(map_flag(alloc))?
         .arg(files(alloc))
 }

@@ -10,11 +10,9 @@ mod clap_values;
 mod laws;
 mod order;
 mod splitter;
-#[cfg(test)]
-mod tests;
 mod values;
 mod words;
 
 pub use laws::{spelled_command_lines, worked_command_lines};
 pub use order::{MAX_FILES, MAX_WORKERS, Order, PlanName, Target};
-pub use words::read_words;
+pub use words::{read_form, read_words};

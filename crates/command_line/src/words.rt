@@ -28,14 +28,11 @@ fn order_of<'a>(found: &Found<'a>, files: &'a [String]) -> Option<Order<'a>>
     })
 }
 
-// The order that the words ask for, implemented or not. `None` if they do not match the usage.
-//
-// Errors: out of memory.
+/// The order that the words ask for, implemented or not. `None` if they do not match the usage.
+///
+/// Errors: out of memory.
 #[tactic(auto, unfolding(crate::specs::Words::form_of))]
-pub(crate) fn read_form<'a>(
-    alloc: Global,
-    words: &'a [String],
-) -> Result<Option<Order<'a>>, AllocError>
+pub fn read_form<'a>(alloc: Global, words: &'a [String]) -> Result<Option<Order<'a>>, AllocError>
     ensures { IfOk result (λ r. option_map job_of_order r ≡ form_of (texts words.now)) }
 {
     let Some(parts) = split_words(alloc, words)? else {

@@ -6,6 +6,3 @@ pub mod laws;
 mod words;
 
 pub use words::{NUMBER_BITS, TARGET_BITS, claimed, encode, is_old, number_of, target_of};
-
-#[cfg(test)]
-mod tests;

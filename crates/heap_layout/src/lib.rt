@@ -17,6 +17,3 @@ pub use layout::{
 };
 pub use region::{Region, bump};
 pub use zones::{bits_of_zones, blocks_partition, zones_partition};
-
-#[cfg(test)]
-mod tests;

@@ -9,8 +9,8 @@ use crate::traits::{Failed, OpenFault};
 use std::io;
 use std::io::{ErrorKind, Read, Write};
 
-// Why a file could not be opened.
-pub(crate) fn open_fault(error: &io::Error) -> OpenFault
+/// Why a file could not be opened.
+pub fn open_fault(error: &io::Error) -> OpenFault
     ensures { result ≡ fault_of (error_kind error.now) }
 {
     match error.kind() {
@@ -60,7 +60,7 @@ fn write_answer_of(piece: &[u8], answer: io::Result<usize>) -> Option<Result<usi
 }
 
 /// Reads once, and returns the number of bytes. Fails after 2^64 - 1 interrupted calls.
-pub(crate) fn read_once<R: Read>(from: &mut R, buf: &mut [u8]) -> Result<usize, Failed>
+pub fn read_once<R: Read>(from: &mut R, buf: &mut [u8]) -> Result<usize, Failed>
     ensures most { IfOk result (λ n. n ≤ length buf.old) }
     ensures moved { IfOk result (λ n. IfSome (R.remaining from.old)
         (λ bytes. Moves n bytes buf.new (R.remaining from.new))) }

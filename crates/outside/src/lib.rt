@@ -12,11 +12,10 @@ mod memory_sources;
 mod names;
 mod reader;
 mod stream_sinks;
-#[cfg(test)]
-mod tests;
 mod traits;
 mod writer;
 
+pub use answers::{open_fault, read_once};
 pub use consumer::Consumer;
 pub use file_sources::FileSources;
 pub use laws::{faults_and_prefixes, files_are_taken_in_order, memory_is_known, texts_in_turn};

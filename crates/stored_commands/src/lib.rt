@@ -6,8 +6,6 @@ mod lists;
 mod packed_command;
 mod stored_command;
 mod stored_trace;
-#[cfg(test)]
-mod tests;
 
 pub use lists::{commands_of, stored_traces};
 pub use packed_command::PackedCommand;

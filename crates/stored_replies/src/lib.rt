@@ -5,8 +5,6 @@
 mod iter;
 mod reply_kind;
 mod stored_replies;
-#[cfg(test)]
-mod tests;
 
 pub use iter::Iter;
 pub use stored_replies::StoredReplies;

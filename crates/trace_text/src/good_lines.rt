@@ -158,9 +158,9 @@ fn unpin(text: &[u8]) -> Option<(PackedCommand, usize)>
     Some((command, line_end(text, at)?))
 }
 
-// The command of the first line, and the offset of the next one. `None` if the line is bad, the
-// command is not short or the text has fewer than `LINE_BYTES` bytes.
-pub(crate) fn first_command(text: &[u8]) -> Option<(PackedCommand, usize)>
+/// The fast reader: the command of the first line, and the offset of the next one. `None` if the
+/// line is bad or the text has fewer than 64 bytes, as no line that is good has more.
+pub fn first_command(text: &[u8]) -> Option<(PackedCommand, usize)>
     ensures { IfSome result (λ x. IsFirstLine x.0 text.now x.1) }
 {
     if text.len() < LINE_BYTES {

@@ -1,8 +1,6 @@
 //! Text formats: reads and prints traces in the format `mmtrace 1`, and prints replies.
 #![tactic(auto)]
 
-#[cfg(test)]
-mod agreement_tests;
 mod argument;
 mod arity;
 mod commands;
@@ -18,18 +16,18 @@ mod op;
 mod printer;
 mod reader;
 mod splitter;
-#[cfg(test)]
-mod tests;
 mod tokens;
 mod trace_reader;
 mod traces;
 
 pub use fault::{TraceFault, Why};
+pub use good_lines::first_command;
 pub use laws::{
     texts_have_one_list, traces_are_valid, traces_have_one_text, worked_limits, worked_lines,
     worked_replies, worked_traces,
 };
 pub use limits::MAX_COMMANDS;
+pub use lines::command_of;
 pub use numerals::read_numeral;
 pub use printer::{REPLY_BYTES, print_mutator, print_replies, print_reply, put_reply};
 pub use reader::read_trace;

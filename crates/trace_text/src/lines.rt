@@ -1,6 +1,7 @@
 //! The lines of a trace, read as commands.
 
 ghost use Rattle.std.specs.Prelude.{◌≡◌, ◌<◌, [], length, IfSome, MatchOption};
+ghost use Rattle.trace_text.specs.Ops.{field_ops, root_ops};
 ghost use Rattle.trace_text.specs.Words.{all_ops};
 ghost use Rattle.trace_text.specs.Parts.{IsReadAs};
 ghost use Rattle.trace_text.specs.Grammar.{line, lines_of, op_of as read_op};
@@ -11,9 +12,9 @@ use crate::op::Op;
 use crate::splitter::{next_line, next_part};
 use ideal_heap::Command;
 
-// The operation that the word names.
-fn op_of(word: &[u8]) -> Option<Op>
-    ensures { result ≡ read_op all_ops word.now }
+// The operation that the word names, if it works on an object's fields or makes one.
+fn field_op_of(word: &[u8]) -> Option<Op>
+    ensures { result ≡ read_op field_ops word.now }
 {
     if word == b"new".as_slice() {
         Some(Op::New)
@@ -29,7 +30,16 @@ fn op_of(word: &[u8]) -> Option<Op>
         Some(Op::Add)
     } else if word == b"swap".as_slice() {
         Some(Op::Swap)
-    } else if word == b"move".as_slice() {
+    } else {
+        None
+    }
+}
+
+// The operation that the word names, if it works on roots or pins, or stops.
+fn root_op_of(word: &[u8]) -> Option<Op>
+    ensures { result ≡ read_op root_ops word.now }
+{
+    if word == b"move".as_slice() {
         Some(Op::Move)
     } else if word == b"drop".as_slice() {
         Some(Op::DropReg)
@@ -50,9 +60,16 @@ fn op_of(word: &[u8]) -> Option<Op>
     }
 }
 
-// The plain reader: the command of a line, or its first fault.
+// The operation that the word names.
+fn op_of(word: &[u8]) -> Option<Op>
+    ensures { result ≡ read_op all_ops word.now }
+{
+    field_op_of(word).or(root_op_of(word))
+}
+
+/// The plain reader: the command of a line without its newline, or its first fault from the left.
 #[tactic(auto, unfolding(crate::specs::Grammar::line))]
-pub(crate) fn command_of(bytes: &[u8]) -> Result<Command, Why>
+pub fn command_of(bytes: &[u8]) -> Result<Command, Why>
     ensures { result ≡ line all_ops bytes.now }
 {
     let (word, words) = next_part(bytes, b' ');

@@ -1,8 +1,9 @@
-//! Commands that are stored and read again.
+//! Commands and replies that are stored and read again.
 
-use crate::{commands_of, stored_traces};
-use ideal_heap::Command;
+use ideal_heap::{Command, Name, Reply};
 use std::test::Fail;
+use stored_commands::{commands_of, stored_traces};
+use stored_replies::StoredReplies;
 
 // Commands at the limits of a trace.
 const SHORT: [Command; 7] = [
@@ -65,7 +66,7 @@ const LONG: [Command; 6] = [
 ];
 
 #[test]
-fn stored_and_read_again(rt: HostRuntime) -> Result<(), Fail> {
+fn commands_are_stored_and_read_again(rt: HostRuntime) -> Result<(), Fail> {
     let alloc = rt.alloc();
     let mut mixed = Vec::new(alloc);
     for (short, long) in SHORT.iter().zip(&LONG) {
@@ -80,8 +81,48 @@ fn stored_and_read_again(rt: HostRuntime) -> Result<(), Fail> {
     let stored = stored_traces(alloc, &traces)?;
     for (trace, stored) in traces.iter().zip(&stored) {
         assert_eq!(rt; commands_of(alloc, stored)?.as_slice(), trace.as_slice());
-        assert_eq!(rt; stored.len(), trace.len());
-        assert!(rt; stored.get(trace.len()).is_none());
+        assert!(rt; stored.len() == trace.len() && stored.get(trace.len()).is_none());
     }
+    Ok(())
+}
+
+// Replies of every kind.
+const EACH: [Reply; 12] = [
+    Reply::Num(u64::MAX),
+    Reply::New(Name {
+        mutator: 16,
+        birth: u32::MAX,
+    }),
+    Reply::Full,
+    Reply::Ref(Name {
+        mutator: u32::MAX,
+        birth: 1,
+    }),
+    Reply::Nil,
+    Reply::Num(0),
+    Reply::Done,
+    Reply::Yes,
+    Reply::New(Name {
+        mutator: 1,
+        birth: 2,
+    }),
+    Reply::No,
+    Reply::Null,
+    Reply::Range,
+];
+
+#[test]
+fn replies_are_stored_and_read_again(rt: HostRuntime) -> Result<(), Fail> {
+    let mut stored = StoredReplies::with_capacity(rt.alloc(), EACH.len())?;
+    for (k, reply) in EACH.iter().enumerate() {
+        assert_eq!(rt; stored.len(), k);
+        stored.push_reserved(*reply);
+    }
+    assert_eq!(rt; stored.to_vec(rt.alloc())?.as_slice(), EACH.as_slice());
+    let mut iter = stored.iter();
+    for reply in &EACH {
+        assert_eq!(rt; iter.next(), Some(*reply));
+    }
+    assert_eq!(rt; iter.next(), None);
     Ok(())
 }
