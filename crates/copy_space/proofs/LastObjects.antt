@@ -13,7 +13,8 @@ use Rattle.object_model.specs.Lawful.{HasObject, Lies, IsReadableBlock}
 use Rattle.object_model.proofs.ObjectReads.{place_of_address}
 use Rattle.sessions.specs.Fitting.{IsTail}
 use Rattle.block_sweeps.specs.Sweeping.{AreApart}
-use Rattle.block_sweeps.specs.WordSweeps.{has_bit, start_word}
+use Rattle.side_meta.specs.BitWords.{has_bit}
+use Rattle.block_sweeps.specs.WordSweeps.{start_word}
 use Rattle.block_sweeps.proofs.SweptBlocks.{bit-there}
 use Rattle.copy_space.specs.LastOffsets.{IsLast}
 

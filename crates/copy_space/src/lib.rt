@@ -6,6 +6,3 @@ mod tails;
 
 pub use release::release_block;
 pub use tails::tail;
-
-#[cfg(test)]
-mod tests;

@@ -14,6 +14,9 @@ use heap_layout::{BLOCK_WORDS, Layout, Region};
 use side_meta::Words;
 
 /// The tail of a block: the words after its last object, or all words if no object begins in it.
+///
+/// For callers that have words and no view, as tests: a search for room reads the end of the last
+/// object from the block's view, and the rest of a block that a mutator fills is kept as a region.
 pub fn tail<W: Words>(words: &W, layout: &Layout, block: u32) -> Region
     requires block { IsReadableBlock (state_over (W.words words.now) layout.now 0 0) block }
     requires apart { AreApart (state_over (W.words words.now) layout.now 0 0) block }

@@ -6,9 +6,8 @@ use Rattle.heap_layout.specs.Blocks.{kind_code}
 use Rattle.heap_layout.specs.declared.block.Kind.TheVariants as kinds
 use Rattle.object_model.specs.Objects.{HeapState, HasKind, size_at, blocks_for}
 use Rattle.object_model.specs.Lines.{TouchesLine}
-use Rattle.object_model.specs.Lawful.{IsRunOfBlocks}
+use Rattle.object_model.specs.Lawful.{IsRunOfBlocks, AllLie}
 use Rattle.object_model.proofs.OneKind.{one-kind}
-use Rattle.cell_space.specs.FreeCells.{AllLie}
 use Rattle.immix_space.specs.LineSweeps.{IsTouchedFromWithin}
 
 -- an object within one block

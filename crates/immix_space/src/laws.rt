@@ -3,7 +3,7 @@
 ghost use Rattle.std.specs.Prelude.{ℕ};
 ghost use Rattle.heap_layout.specs.declared.block.Kind.TheVariants as kinds;
 ghost use Rattle.object_model.specs.Objects.{HeapState, HasKind};
-ghost use Rattle.cell_space.specs.FreeCells.{AllLie};
+ghost use Rattle.object_model.specs.Lawful.{AllLie};
 ghost use Rattle.immix_space.specs.LineSweeps.{IsTouchedFromWithin};
 
 /// Where all held objects lie as they may, none reaches into an Immix block from another.

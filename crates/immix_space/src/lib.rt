@@ -8,10 +8,5 @@ mod sweeps;
 
 pub use evacuation::candidates;
 pub use laws::immix_blocks_are_touched_from_within;
-pub use reserve::headroom;
+pub use reserve::{headroom, headroom_for};
 pub use sweeps::{relist, sweep_block};
-
-#[cfg(test)]
-mod candidate_tests;
-#[cfg(test)]
-mod tests;

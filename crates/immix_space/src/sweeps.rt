@@ -16,6 +16,10 @@ use side_meta::Words;
 /// Sweeps an Immix block: objects in it that do not live are held no more, and its line bits become
 /// those of the lines that the others touch, so they are exact if no object reaches in from another
 /// block. The block becomes Free if none is left. Answers how many are left.
+///
+/// For callers that sweep one Immix block by itself, as tests do: a plan's release also sets unlog
+/// bits and treats blocks of all kinds, so it takes the parts, `block_sweeps::sweep_block` and
+/// `relist`.
 pub fn sweep_block<W: Words>(words: &mut W, layout: &Layout, block: u32, base: u64) -> u32
     requires extent { length (W.words words.old) ≡ row_words layout.now.blocks }
     requires block { block < layout.now.blocks }

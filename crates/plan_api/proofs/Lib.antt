@@ -1,5 +1,6 @@
 pub mod CellSearch
 pub mod HoleTests
+pub mod PlanFlagLaws
 pub mod PartLaws
 pub mod Parts
 pub mod ReserveLaws

@@ -2,9 +2,8 @@
 use Rattle.std.specs.Prelude.{◌≡◌, ℕ, Bool, true, false, ◌&&◌}
 use Rattle.heap_layout.specs.declared.block.Kind.TheVariants as kinds
 use Rattle.object_model.specs.Objects.{HeapState, has_kind}
-use Rattle.object_model.specs.Lawful.{LineBitsAreExact}
+use Rattle.object_model.specs.Lawful.{LineBitsAreExact, AllLie}
 use Rattle.block_sweeps.specs.Sweeping.{MarksTouched}
-use Rattle.cell_space.specs.FreeCells.{AllLie}
 use Rattle.sessions.specs.Plans.{Rules}
 
 -- The line bits of block k became those of the lines that objects in it touch, and nothing else changed. Where all objects

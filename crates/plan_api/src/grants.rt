@@ -9,6 +9,7 @@ ghost use Rattle.plan_api.specs.Counting.{session_counts, session_reserve};
 
 use crate::counts::{BlockCounts, Reserve};
 use heap_layout::Kind;
+use immix_space::headroom_for;
 use object_model::Heap;
 
 impl BlockCounts {
@@ -30,7 +31,7 @@ impl BlockCounts {
     pub fn headroom(&self) -> u32
         ensures { result ≡ headroom_in (session_counts self.now) }
     {
-        self.blocks.div_ceil(32)
+        headroom_for(self.blocks)
     }
 
     /// The number of Free blocks that are held back.

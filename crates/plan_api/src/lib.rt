@@ -41,10 +41,3 @@ pub use relist_laws::relisted_blocks;
 pub use worked_laws::{
     counts_are_read, first_parts_of_a_worked_heap, placements_of_worked_cursors,
 };
-
-#[cfg(test)]
-mod cursor_tests;
-#[cfg(test)]
-mod search_tests;
-#[cfg(test)]
-mod tests;

@@ -7,7 +7,7 @@ ghost use Rattle.heap_layout.specs.declared.block.Kind.TheVariants as kinds;
 ghost use Rattle.object_model.specs.Objects.{HeapState, state_over, size_of, has_kind, IsHeld, IsInExtent};
 ghost use Rattle.object_model.specs.declared.collect.Collect.{Collect};
 ghost use Rattle.object_model.specs.declared.collect.Collect.TheVariants.{Nursery};
-ghost use Rattle.object_model.specs.Preserving.{may_leave};
+ghost use Rattle.object_model.specs.Preserving.{may_leave as may_leave_from};
 ghost use Rattle.object_model.specs.Releasing.{IsReleasable};
 ghost use Rattle.object_model.specs.Lawful.{IsWellFormed, IsReadableBlock, LineBitsAreExact};
 ghost use Rattle.object_model.specs.Heaps.{heap_state};
@@ -26,8 +26,14 @@ ghost use Rattle.plan_api.specs.Releasing.{Releases};
 ghost use Rattle.plan_api.specs.Relisting.{Relists};
 
 use crate::block_view::BlockView;
+use crate::cells::class_for;
 use crate::counts::Reserve;
+use crate::evacuation::may_leave;
+use crate::fit::fits;
 use crate::flags::PlanFlags;
+use crate::grants::block_counts;
+use crate::holes::first_hole;
+use bitflags::Flags;
 use heap_layout::{Kind, Layout, Region};
 use ideal_heap::{MAX_NUMS, MAX_REFS};
 use object_model::{Collect, Heap, MAX_MEDIUM_WORDS};
@@ -36,7 +42,9 @@ use std::alloc::{AllocError, Global};
 
 /// A plan, as in MMTk: how blocks are filled, which objects fit, and which collection comes first.
 ///
-/// The contract of each method follows from the plan's rules. A plan has no state.
+/// The contract of each method follows from the plan's rules. A plan has no state. Methods with a
+/// body hold for every plan: they ask the plan for the kind that mutators fill, its reserve and its
+/// flags.
 pub trait Plan {
     // The plan's name in the definitions, its rules, and its flags.
     ghost plan: { PlanName };
@@ -55,6 +63,10 @@ pub trait Plan {
     fn plan_name() -> &'static str
         ensures { result.now ≡ plan_word plan };
 
+    /// Whether a collection reclaims anything. If not, it only counts itself.
+    fn collects() -> bool
+        ensures { result ≡ rules.collects };
+
     /// The kind of the blocks that mutators fill.
     fn alloc_kind() -> Kind
         ensures { result ≡ rules.fill };
@@ -71,21 +83,33 @@ pub trait Plan {
     fn class_for(size: u32) -> u32
         requires least { 3 ≤ size }
         requires most { size ≤ MAX_MEDIUM_WORDS }
-        ensures { result ≡ class_for_size rules.fill size };
+        ensures { result ≡ class_for_size rules.fill size }
+    {
+        class_for(Self::alloc_kind(), size)
+    }
 
     /// The first part of a hole of the block that has room for `size` words and begins at or after
     /// the offset `from`, in words, or `None`. A free cell is always returned whole.
+    ///
+    /// For callers that hold a view, as tests do: mutators search the words of a block, by
+    /// `hole_in_block`.
     fn hole_in(view: &BlockView, from: u32, size: u32) -> Option<Region>
         requires least { 3 ≤ size }
         requires most { size ≤ MAX_MEDIUM_WORDS }
         ensures { (s : HeapState) (k : ℕ) → IsViewOf s k view.now → AreApart s k
-            → IsFirstHole rules.fill s k from size result };
+            → IsFirstHole rules.fill s k from size result }
+    {
+        first_hole(Self::alloc_kind(), view, from, size)
+    }
 
     /// Whether an object of `size` words fits the heap without a collection.
     fn fits(heap: &Heap, size: u32) -> bool
         requires least { 3 ≤ size }
         requires most { size ≤ size_of MAX_REFS MAX_NUMS }
-        ensures { IsTrue result ↔ Fits rules (heap_state heap.now) size };
+        ensures { IsTrue result ↔ Fits rules (heap_state heap.now) size }
+    {
+        fits(heap, Self::alloc_kind(), Self::reserve(), size)
+    }
 
     /// The first collection to run when an object does not fit.
     fn kind(heap: &Heap) -> Collect
@@ -93,15 +117,23 @@ pub trait Plan {
 
     /// The number of Free blocks that mutators may take in an epoch.
     fn allowance(heap: &Heap) -> u32
-        ensures { result ≡ allowance_of rules.reserve (heap_state heap.now) };
+        ensures { result ≡ allowance_of rules.reserve (heap_state heap.now) }
+    {
+        block_counts(heap).allowance(Self::reserve())
+    }
 
     /// Whether a collection that evacuates the blocks in `from`, which has an entry for each block,
     /// may move the object.
+    ///
+    /// For callers outside a trace, as tests: a tracer has the list `from`, and asks no plan.
     fn may_move(heap: &Heap, from: &[bool], address: u32) -> bool
         requires held { IsHeld (heap_state heap.now) address }
         requires from { length from.now ≡ (heap_state heap.now).blocks }
         ensures { result ≡ (rules.moves
-            && may_leave (listed from.now) (heap_state heap.now) address) };
+            && may_leave_from (listed from.now) (heap_state heap.now) address) }
+    {
+        Self::FLAGS.contains(PlanFlags::MOVES) && may_leave(heap, from, address)
+    }
 
     /// For each block whether a collection of this kind evacuates it.
     ///

@@ -4,9 +4,8 @@ ghost use Rattle.std.specs.Prelude.{◌≡◌, ◌↔◌, ◌<◌, ℕ, IsTrue, 
 ghost use Rattle.heap_layout.specs.declared.layout.TheConstants.{BLOCK_LINES};
 ghost use Rattle.heap_layout.specs.declared.block.Kind.TheVariants as kinds;
 ghost use Rattle.object_model.specs.Objects.{HeapState, HasKind, word_at, line_marked};
-ghost use Rattle.object_model.specs.Lawful.{LineBitsAreExact};
+ghost use Rattle.object_model.specs.Lawful.{LineBitsAreExact, AllLie};
 ghost use Rattle.block_sweeps.specs.Sweeping.{IsLineWord, IsTouchedHere};
-ghost use Rattle.cell_space.specs.FreeCells.{AllLie};
 ghost use Rattle.sessions.specs.Plans.{Rules};
 ghost use Rattle.plan_api.specs.Relisting.{Relists};
 

@@ -6,13 +6,11 @@ ghost use Rattle.plan_api.proofs.PartLaws.{part-clear};
 ghost use Rattle.plan_api.proofs.ReserveLaws.{headroom-kept};
 ghost use Rattle.std.proofs.Common.{refl};
 
-use crate::release::{mark_lines, release};
-use heap_layout::{Kind, Layout, Region};
+use crate::release::{mark_lines, release_in_place};
+use heap_layout::{Kind, Layout};
 use immix_space::candidates;
 use object_model::{Collect, Heap};
-use plan_api::{
-    BlockView, Plan, PlanFlags, Reserve, block_counts, block_word_in, first_hole, fits, may_leave,
-};
+use plan_api::{Plan, PlanFlags, Reserve, block_word_in};
 use side_meta::Words;
 use std::alloc::{AllocError, Global};
 
@@ -51,6 +49,10 @@ impl Plan for Immix {
         Immix::NAME
     }
 
+    fn collects() -> bool {
+        true
+    }
+
     fn alloc_kind() -> Kind {
         Kind::Immix
     }
@@ -63,28 +65,8 @@ impl Plan for Immix {
         Reserve::Headroom
     }
 
-    fn class_for(_size: u32) -> u32 {
-        0
-    }
-
-    fn hole_in(view: &BlockView, from: u32, size: u32) -> Option<Region> {
-        first_hole(Kind::Immix, view, from, size)
-    }
-
-    fn fits(heap: &Heap, size: u32) -> bool {
-        fits(heap, Kind::Immix, Immix::reserve(), size)
-    }
-
     fn kind(_heap: &Heap) -> Collect {
         Collect::Full
-    }
-
-    fn allowance(heap: &Heap) -> u32 {
-        block_counts(heap).allowance(Immix::reserve())
-    }
-
-    fn may_move(heap: &Heap, from: &[bool], address: u32) -> bool {
-        may_leave(heap, from, address)
     }
 
     // Only full collections are made.
@@ -100,8 +82,7 @@ impl Plan for Immix {
         _collect: Collect,
         base: u64,
     ) {
-        let word = block_word_in(words, layout, block);
-        release(words, layout, block, &word, false, base);
+        release_in_place(words, layout, block, base);
     }
 
     fn relist_block<W: Words>(words: &mut W, layout: &Layout, block: u32) {

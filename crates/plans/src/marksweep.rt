@@ -6,13 +6,10 @@ ghost use Rattle.plan_api.proofs.PartLaws.{part-clear};
 ghost use Rattle.plan_api.proofs.ReserveLaws.{nothing-kept};
 ghost use Rattle.std.proofs.Common.{refl};
 
-use crate::release::release;
-use heap_layout::{Kind, Layout, Region};
+use crate::release::release_in_place;
+use heap_layout::{Kind, Layout};
 use object_model::{Collect, Heap};
-use plan_api::{
-    BlockView, Plan, PlanFlags, Reserve, block_counts, block_word_in, class_for, first_hole, fits,
-    no_blocks,
-};
+use plan_api::{Plan, PlanFlags, Reserve, no_blocks};
 use side_meta::Words;
 use std::alloc::{AllocError, Global};
 
@@ -48,6 +45,10 @@ impl Plan for MarkSweep {
         MarkSweep::NAME
     }
 
+    fn collects() -> bool {
+        true
+    }
+
     fn alloc_kind() -> Kind {
         Kind::Cells
     }
@@ -60,28 +61,8 @@ impl Plan for MarkSweep {
         Reserve::Nothing
     }
 
-    fn class_for(size: u32) -> u32 {
-        class_for(Kind::Cells, size)
-    }
-
-    fn hole_in(view: &BlockView, from: u32, size: u32) -> Option<Region> {
-        first_hole(Kind::Cells, view, from, size)
-    }
-
-    fn fits(heap: &Heap, size: u32) -> bool {
-        fits(heap, Kind::Cells, MarkSweep::reserve(), size)
-    }
-
     fn kind(_heap: &Heap) -> Collect {
         Collect::Full
-    }
-
-    fn allowance(heap: &Heap) -> u32 {
-        block_counts(heap).allowance(MarkSweep::reserve())
-    }
-
-    fn may_move(_heap: &Heap, _from: &[bool], _address: u32) -> bool {
-        false
     }
 
     fn from_blocks(alloc: Global, heap: &Heap, _collect: Collect) -> Result<Vec<bool>, AllocError> {
@@ -95,8 +76,7 @@ impl Plan for MarkSweep {
         _collect: Collect,
         base: u64,
     ) {
-        let word = block_word_in(words, layout, block);
-        release(words, layout, block, &word, false, base);
+        release_in_place(words, layout, block, base);
     }
 
     fn relist_block<W: Words>(_words: &mut W, _layout: &Layout, _block: u32) {}

@@ -1,6 +1,6 @@
 //! The release of a block at the end of a collection, for every plan.
 
-ghost use Rattle.std.specs.Prelude.{◌≡◌, ◌<◌, ◌%◌, ◌||◌, ℕ, length, nat_eq, true, if◌then◌else◌};
+ghost use Rattle.std.specs.Prelude.{◌≡◌, ◌<◌, ◌%◌, ◌||◌, ℕ, length, nat_eq, true, false, if◌then◌else◌};
 ghost use Rattle.heap_layout.specs.Zones.{row_words};
 ghost use Rattle.heap_layout.specs.Blocks.{code_of, kind_code, IsValid};
 ghost use Rattle.heap_layout.specs.declared.block.Kind.TheVariants as kinds;
@@ -13,12 +13,13 @@ ghost use Rattle.plan_api.specs.Evacuation.{HasFills};
 ghost use Rattle.plan_api.specs.Releasing.{Releases, is_kept_after};
 ghost use Rattle.block_sweeps.specs.Sweeping.{AreApart, Sweeps, MarksTouched, object_count};
 
-use block_sweeps::{sweep_block, sweep_run, unlog_block};
+use block_sweeps::{sweep_block, unlog_block};
 use copy_space::release_block;
 use heap_layout::{BlockWord, Kind, Layout, OWNER_UNIT};
 use immix_space::relist;
+use large_space::sweep_large;
 use object_model::Collect;
-use plan_api::Fills;
+use plan_api::{Fills, block_word_in};
 use side_meta::Words;
 
 /// Whether a block with this word is Kept if something stays in it, under a plan that copies whole
@@ -46,6 +47,20 @@ fn may_be_kept(kind: Kind) -> bool
     matches!(kind, Kind::Bump | Kind::Young | Kind::Mature | Kind::Kept)
 }
 
+/// Releases a block under a plan that makes no block Kept.
+pub(crate) fn release_in_place<W: Words>(words: &mut W, layout: &Layout, block: u32, base: u64)
+    requires extent { length (W.words words.old) ≡ row_words layout.now.blocks }
+    requires block { block < layout.now.blocks }
+    requires releasable { IsReleasable (state_over (W.words words.old) layout.now 0 0) block }
+    ensures { (r : Rules) (c : Collect)
+        → is_kept_after r c (state_over (W.words words.old) layout.now 0 0) block ≡ false
+        → Releases r c base (state_over (W.words words.old) layout.now 0 0)
+        (state_over (W.words words.new) layout.now 0 0) block }
+{
+    let word = block_word_in(words, layout, block);
+    release(words, layout, block, &word, false, base);
+}
+
 /// Releases a block whose word is `word`: what does not live is held no more, what lives has its
 /// unlog bit. A block in which nothing lives becomes Free, another one Kept if `kept`.
 pub(crate) fn release<W: Words>(
@@ -71,7 +86,7 @@ pub(crate) fn release<W: Words>(
     match word.kind {
         Kind::Free | Kind::LargeTail => {}
         Kind::LargeHead => {
-            if !sweep_run(words, layout, block, base) {
+            if !sweep_large(words, layout, block, base) {
                 unlog_block(words, layout, block);
             }
         }

@@ -7,12 +7,9 @@ ghost use Rattle.plan_api.proofs.ReserveLaws.{copies-kept};
 ghost use Rattle.std.proofs.Common.{refl};
 
 use crate::release::{is_kept, release};
-use heap_layout::{Kind, Layout, Region};
+use heap_layout::{Kind, Layout};
 use object_model::{Collect, Heap};
-use plan_api::{
-    BlockView, Fills, Plan, PlanFlags, Reserve, block_counts, block_word_in, copied_blocks,
-    first_hole, fits, may_leave,
-};
+use plan_api::{Fills, Plan, PlanFlags, Reserve, block_word_in, copied_blocks};
 use side_meta::Words;
 use std::alloc::{AllocError, Global};
 
@@ -55,6 +52,10 @@ impl Plan for SemiSpace {
         SemiSpace::NAME
     }
 
+    fn collects() -> bool {
+        true
+    }
+
     fn alloc_kind() -> Kind {
         Kind::Bump
     }
@@ -67,28 +68,8 @@ impl Plan for SemiSpace {
         Reserve::Copies
     }
 
-    fn class_for(_size: u32) -> u32 {
-        0
-    }
-
-    fn hole_in(view: &BlockView, from: u32, size: u32) -> Option<Region> {
-        first_hole(Kind::Bump, view, from, size)
-    }
-
-    fn fits(heap: &Heap, size: u32) -> bool {
-        fits(heap, Kind::Bump, SemiSpace::reserve(), size)
-    }
-
     fn kind(_heap: &Heap) -> Collect {
         Collect::Full
-    }
-
-    fn allowance(heap: &Heap) -> u32 {
-        block_counts(heap).allowance(SemiSpace::reserve())
-    }
-
-    fn may_move(heap: &Heap, from: &[bool], address: u32) -> bool {
-        may_leave(heap, from, address)
     }
 
     fn from_blocks(alloc: Global, heap: &Heap, collect: Collect) -> Result<Vec<bool>, AllocError> {

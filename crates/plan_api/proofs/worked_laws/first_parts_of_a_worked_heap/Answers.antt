@@ -1,4 +1,4 @@
-use Rattle.std.proofs.Common.{◌≡◌, refl, ap, ℕ, zero, suc, ◌+◌, ◌*◌, ◌≤◌, lit<, arith, Option, IsTrue}
+use Rattle.std.proofs.Common.{◌≡◌, refl, ap, ℕ, zero, suc, ◌+◌, ◌*◌, ◌≤◌, lit<, arith, IsTrue}
 use Rattle.std.specs.Prelude.{unwrap_or, max}
 use Rattle.heap_layout.specs.Zones.{block_start}
 use Rattle.object_model.specs.Objects.{is_start}

@@ -7,4 +7,4 @@ use Rattle.plans.proofs.immix.ImmixPlan.release_block.Goals as goal
 pub returns : goal.returns
 returns g c =
     let s = state_over (g.W.Words.words c.args.words.now) c.args.layout.now 0 0 in
-    c.release.ensures (rules_of immix) c.args._collect (no-candidate (rules_of immix) c.args._collect s c.args.block refl)
+    c.release_in_place.ensures (rules_of immix) c.args._collect (no-candidate (rules_of immix) c.args._collect s c.args.block refl)

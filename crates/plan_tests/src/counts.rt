@@ -1,0 +1,75 @@
+//! Tests of grants, of an empty heap and of flags.
+
+use bitflags::Flags;
+use heap_layout::{Kind, Layout};
+use object_model::Heap;
+use plan_api::{BlockCounts, PlanFlags, Reserve, block_counts, fits_small, has_hole, view};
+use std::test::Fail;
+
+// Headroom, allowance, whether a block may be granted, and the longest run of blocks that may be
+// granted.
+#[test]
+fn figures(rt: HostRuntime) -> Result<(), Fail> {
+    for (reserve, blocks, free, large, headroom, allowance, grants, run) in [
+        (Reserve::Nothing, 4, 4, 0, 1, 4, true, 4),
+        (Reserve::Nothing, 5, 0, 2, 1, 0, false, 0),
+        (Reserve::Nothing, 16, 9, 3, 1, 9, true, 9),
+        (Reserve::Nothing, 1024, 700, 100, 32, 700, true, 700),
+        (Reserve::Copies, 4, 4, 0, 1, 2, true, 4),
+        (Reserve::Copies, 4, 3, 0, 1, 1, true, 2),
+        (Reserve::Copies, 4, 2, 0, 1, 0, false, 0),
+        (Reserve::Copies, 5, 3, 0, 1, 0, false, 1),
+        (Reserve::Copies, 16, 9, 3, 1, 2, true, 5),
+        (Reserve::Copies, 1024, 700, 100, 32, 238, true, 476),
+        (Reserve::Headroom, 4, 4, 0, 1, 3, true, 3),
+        (Reserve::Headroom, 4, 1, 0, 1, 0, false, 0),
+        (Reserve::Headroom, 5, 3, 1, 1, 2, true, 2),
+        (Reserve::Headroom, 16, 9, 3, 1, 8, true, 8),
+        (Reserve::Headroom, 1024, 33, 0, 32, 1, true, 1),
+        (Reserve::Headroom, 1024, 32, 0, 32, 0, false, 0),
+    ] {
+        let counts = BlockCounts {
+            blocks,
+            free,
+            large,
+        };
+        let seen = (
+            (counts.headroom(), counts.allowance(reserve)),
+            counts.is_grantable(reserve),
+            counts.is_run_grantable(reserve, run),
+            counts.is_run_grantable(reserve, run.saturating_add(1)),
+        );
+        let want = ((headroom, allowance), grants, true, false);
+        assert_eq!(rt; seen, want, "of {blocks} and {free}");
+    }
+    Ok(())
+}
+
+#[test]
+fn empty_heap(rt: HostRuntime) -> Result<(), Fail> {
+    let heap = Heap::new(rt.alloc(), Layout::new(5)?)?;
+    let counts = block_counts(&heap);
+    let figures = (counts.blocks, counts.free, counts.large);
+    let seen = view(&heap, 4);
+    let fits = (
+        has_hole(&heap, Kind::Bump, 3),
+        fits_small(&heap, Kind::Bump, Reserve::Copies, 2048),
+    );
+    assert_eq!(rt; (figures, fits), ((5, 5, 0), (false, true)));
+    assert_eq!(rt;
+        (seen.word.kind, seen.end, seen.lines, seen.starts),
+        (Kind::Free, 0, [0; 4], [0; 64])
+    );
+    Ok(())
+}
+
+#[test]
+fn flags(rt: HostRuntime) -> Result<(), Fail> {
+    let both = PlanFlags::MOVES.union(PlanFlags::LINES);
+    let has = (
+        both.contains(PlanFlags::LINES),
+        both.contains(PlanFlags::YOUNG),
+    );
+    assert_eq!(rt; (both.bits(), has), (5, (true, false)));
+    Ok(())
+}

@@ -1,0 +1,306 @@
+//! Tests of what is found by words alone: holes of block 1 in rows of 4 blocks, and runs in heaps
+//! of 8 blocks.
+
+use heap_layout::{BLOCK_WORDS, BlockWord, CLASS_UNIT, Kind, Layout, Region};
+use object_model::Heap;
+use plan_api::{Reserve, first_hole, fits, has_run, hole_in_block, view_in};
+use releasable_rows::is_releasable;
+use std::alloc::{AllocError, Global};
+use std::test::Fail;
+
+/// A row with objects of 5 words at these offsets of block 1, which has its first line marked.
+fn row_with(
+    alloc: Global,
+    layout: &Layout,
+    kind: Kind,
+    class: u32,
+    offsets: &[u32],
+) -> Result<Vec<u64>, AllocError> {
+    let count = layout.words() as usize;
+    let mut words = Vec::with_capacity(alloc, count)?;
+    words.resize(count, 0)?;
+    put(
+        &mut words,
+        layout.block_at(1),
+        kind as u64 + CLASS_UNIT * class as u64,
+    );
+    put(&mut words, layout.line_at(1), (kind != Kind::Free) as u64);
+    for offset in offsets {
+        write_object(&mut words, layout, *offset);
+    }
+    Ok(words)
+}
+
+/// Sets a word of the row, if there is such a word.
+fn put(words: &mut Vec<u64>, index: u32, value: u64) {
+    if let Some(word) = words.get_mut(index as usize) {
+        *word = value;
+    }
+}
+
+/// Writes an object of 5 words at an offset of block 1, and sets its start bit.
+fn write_object(words: &mut Vec<u64>, layout: &Layout, offset: u32) {
+    let at = offset.min(BLOCK_WORDS - 5);
+    let address = layout.heap_base() + BLOCK_WORDS + at;
+    put(words, address, 33 + 32 * at as u64);
+    put(words, address + 1, 65_536 * 2);
+    if let Some(word) = words.get_mut(layout.start_base() as usize + 64 + at as usize / 64) {
+        *word |= 1 << (at % 64);
+    }
+}
+
+/// The first hole of block 1 from an offset on, by words and by its view, or `None` if there is no
+/// such block or size.
+fn holes(
+    words: &Vec<u64>,
+    layout: &Layout,
+    fill: Kind,
+    from: u32,
+    size: u32,
+) -> Option<(Option<Region>, Option<Region>)> {
+    if words.len() != layout.words() as usize || !is_releasable(words, layout, 1) {
+        return None;
+    }
+    if size < 3 || size > 2048 {
+        return None;
+    }
+    let seen = first_hole(fill, &view_in(words, layout, 1), from, size);
+    Some((hole_in_block(words, layout, fill, 1, from, size), seen))
+}
+
+// The block's kind, class, first line word and objects, and its first hole for a size. The search
+// is for the block's own kind, from an offset on.
+#[test]
+fn holes_by_words(rt: HostRuntime) -> Result<(), Fail> {
+    let layout = Layout::new(4)?;
+    for (kind, class, lines, offsets, from, size, want) in [
+        (Kind::Bump, 0, 1, [].as_slice(), 0, 2048, Some((0, 4096))),
+        (Kind::Bump, 0, 1, [0, 10].as_slice(), 0, 3, Some((15, 4096))),
+        (Kind::Bump, 0, 1, [0].as_slice(), 100, 3, Some((100, 4096))),
+        (
+            Kind::Bump,
+            0,
+            1,
+            [0, 2043].as_slice(),
+            0,
+            2048,
+            Some((2048, 4096)),
+        ),
+        (Kind::Bump, 0, 1, [0, 2044].as_slice(), 0, 2048, None),
+        (Kind::Bump, 0, 1, [0].as_slice(), 2049, 2048, None),
+        (Kind::Bump, 0, 1, [0].as_slice(), 4094, 3, None),
+        (
+            Kind::Young,
+            0,
+            1,
+            [0, 10].as_slice(),
+            0,
+            3,
+            Some((15, 4096)),
+        ),
+        (
+            Kind::Young,
+            0,
+            1,
+            [0].as_slice(),
+            4093,
+            3,
+            Some((4093, 4096)),
+        ),
+        (Kind::Young, 0, 1, [4091].as_slice(), 0, 3, None),
+        (Kind::Young, 0, 1, [0].as_slice(), 4294967295, 3, None),
+        // lines 1 and 3 to 63 are clear, or lines 1 to 63, and lines 65 to 255
+        (Kind::Immix, 0, 0b101, [0].as_slice(), 0, 16, Some((16, 32))),
+        (
+            Kind::Immix,
+            0,
+            0b101,
+            [0].as_slice(),
+            0,
+            17,
+            Some((48, 1024)),
+        ),
+        (
+            Kind::Immix,
+            0,
+            0b101,
+            [0].as_slice(),
+            17,
+            3,
+            Some((48, 1024)),
+        ),
+        (
+            Kind::Immix,
+            0,
+            0b101,
+            [0].as_slice(),
+            97,
+            3,
+            Some((112, 1024)),
+        ),
+        (Kind::Immix, 0, 1, [0].as_slice(), 0, 3, Some((16, 1024))),
+        (
+            Kind::Immix,
+            0,
+            1,
+            [0].as_slice(),
+            16,
+            1008,
+            Some((16, 1024)),
+        ),
+        (
+            Kind::Immix,
+            0,
+            1,
+            [0].as_slice(),
+            16,
+            1009,
+            Some((1040, 4096)),
+        ),
+        (Kind::Immix, 0, 1, [0].as_slice(), 17, 16, Some((32, 1024))),
+        (
+            Kind::Immix,
+            0,
+            1,
+            [0].as_slice(),
+            1024,
+            3,
+            Some((1040, 4096)),
+        ),
+        (
+            Kind::Immix,
+            0,
+            1,
+            [0].as_slice(),
+            2049,
+            2032,
+            Some((2064, 4096)),
+        ),
+        (Kind::Immix, 0, 1, [0].as_slice(), 2049, 2048, None),
+        (
+            Kind::Immix,
+            0,
+            1,
+            [0].as_slice(),
+            4080,
+            16,
+            Some((4080, 4096)),
+        ),
+        (Kind::Immix, 0, 1, [0].as_slice(), 4080, 17, None),
+        (Kind::Immix, 0, 1, [0].as_slice(), 4096, 3, None),
+        (Kind::Cells, 0, 1, [].as_slice(), 0, 3, Some((0, 4))),
+        (Kind::Cells, 1, 1, [6, 12].as_slice(), 0, 6, Some((0, 6))),
+        (Kind::Cells, 1, 1, [6].as_slice(), 1, 5, Some((12, 18))),
+        (Kind::Cells, 1, 1, [0, 6].as_slice(), 0, 5, Some((12, 18))),
+        (Kind::Cells, 1, 1, [0, 6].as_slice(), 0, 4, None),
+        (Kind::Cells, 1, 1, [0, 6].as_slice(), 0, 7, None),
+        (Kind::Cells, 1, 1, [0].as_slice(), 4087, 5, None),
+        (
+            Kind::Cells,
+            17,
+            1,
+            [0].as_slice(),
+            0,
+            1025,
+            Some((1536, 3072)),
+        ),
+        (
+            Kind::Cells,
+            18,
+            1,
+            [0].as_slice(),
+            0,
+            2048,
+            Some((2048, 4096)),
+        ),
+        (Kind::Cells, 18, 1, [0].as_slice(), 2049, 2048, None),
+        (Kind::Cells, 18, 1, [0, 2048].as_slice(), 0, 2048, None),
+        (Kind::Kept, 0, 1, [0].as_slice(), 0, 3, None),
+        (Kind::Mature, 0, 1, [0].as_slice(), 0, 3, None),
+        (Kind::Free, 0, 0, [].as_slice(), 0, 3, None),
+    ] {
+        let want = want.map(|(next, end)| Region { next, end });
+        let mut words = row_with(rt.alloc(), &layout, kind, class, offsets)?;
+        put(&mut words, layout.line_at(1), lines);
+        put(
+            &mut words,
+            layout.line_at(1) + 1,
+            (kind == Kind::Immix) as u64,
+        );
+        let other = if kind == Kind::Bump {
+            Kind::Cells
+        } else {
+            Kind::Bump
+        };
+        let seen = (
+            holes(&words, &layout, kind, from, size),
+            holes(&words, &layout, other, from, size),
+        );
+        assert_eq!(rt;
+            seen,
+            (Some((want, want)), Some((None, None))),
+            "for {size} from {from} of class {class}"
+        );
+    }
+    Ok(())
+}
+
+/// The heap after mutators that fill tails took a block, if it is there and Free.
+fn take(heap: Heap, block: u32) -> Heap {
+    if block >= heap.layout().blocks() || heap.block(block).kind != Kind::Free {
+        return heap;
+    }
+    let mut row = heap.into_row();
+    row.set_block(
+        block,
+        &BlockWord {
+            kind: Kind::Bump,
+            class: 0,
+            owner: 0,
+        },
+    );
+    Heap::from_row(row)
+}
+
+/// A heap of 8 blocks with these in use.
+fn heap_with(alloc: Global, used: &[u32]) -> Result<Heap, Fail> {
+    let mut heap = Heap::new(alloc, Layout::new(8)?)?;
+    for block in used {
+        heap = take(heap, *block);
+    }
+    Ok(heap)
+}
+
+// the blocks in use, and the longest runs that fit under each reserve
+#[test]
+fn runs(rt: HostRuntime) -> Result<(), Fail> {
+    for (used, nothing, copies, headroom) in [
+        ([].as_slice(), 8, 8, 7),
+        ([2, 5].as_slice(), 2, 2, 2),
+        ([3].as_slice(), 4, 4, 4),
+        ([0, 1, 2].as_slice(), 5, 2, 4),
+        ([1, 3, 5, 7].as_slice(), 1, 0, 1),
+        ([0, 1, 2, 3, 4, 6, 7].as_slice(), 1, 0, 0),
+        ([0, 1, 2, 3, 4, 5, 6, 7].as_slice(), 0, 0, 0),
+    ] {
+        let heap = heap_with(rt.alloc(), used)?;
+        for (reserve, longest) in [
+            (Reserve::Nothing, nothing),
+            (Reserve::Copies, copies),
+            (Reserve::Headroom, headroom),
+        ] {
+            for count in 1..10 {
+                let fit = (count as u32) <= longest;
+                for size in [4096 * count, 4096 * count - 2000] {
+                    assert!(rt; 2048 < size && size <= 61027);
+                    let seen = (
+                        has_run(&heap, reserve, size),
+                        fits(&heap, Kind::Bump, reserve, size),
+                    );
+                    assert_eq!(rt; seen, (fit, fit), "{size}");
+                }
+            }
+        }
+    }
+    Ok(())
+}
