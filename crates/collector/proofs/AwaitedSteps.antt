@@ -19,11 +19,13 @@ use Rattle.trace_core.specs.Setups.{Setup, blocks, held, refs}
 use Rattle.trace_core.specs.Machine.{Event}
 use Rattle.trace_core.specs.Traces.{stage_of}
 use Rattle.trace_core.specs.Outcomes.{image}
-use Rattle.trace_core.specs.Views.{View, IsGrey, one_if, hits, times, copied_in, to_scan_in}
-use Rattle.trace_core.specs.Tracers.{Tracks, setup_of}
+use Rattle.trace_core.specs.Views.{View, one_if, hits, times}
+use Rattle.plain_tracer.specs.TokenRights.{IsGrey, copied_in, to_scan_in}
+use Rattle.plain_tracer.specs.Tracers.{Tracks}
+use Rattle.trace_core.specs.Runs.{setup_of}
 use Rattle.trace_core.specs.declared.run.TraceRun.{TraceRun}
-use Rattle.trace_core.specs.declared.plain_trace.PlainTrace.{PlainTrace}
-use Rattle.trace_core.specs.declared.tokens.Grey.{Grey}
+use Rattle.plain_tracer.specs.declared.plain_trace.PlainTrace.{PlainTrace}
+use Rattle.plain_tracer.specs.declared.tokens.Grey.{Grey}
 use Rattle.collector.specs.declared.item.Item.{Item}
 use Rattle.collector.specs.declared.packet_trace.PacketTrace.{PacketTrace}
 use Rattle.collector.specs.declared.worker.TraceStart.{TraceStart}
@@ -35,7 +37,7 @@ use Rattle.collector.specs.Working.{RunsPacket, AwaitsPackets, IsOfTrace, unclai
 use Rattle.collector.proofs.ItemCounts.{all-left, all-right, all-both, registers-append, globals-append, objects-append, tokens-append, no-registers, no-globals, length-tokens, scans-of, copies-of, objects-pushed, tokens-there, SameItems, packets-same}
 use Rattle.collector.proofs.ItsLines.{lines-grow}
 use Rattle.collector.proofs.TallySums.{total-copied}
-use Rattle.collector.proofs.TracedObjects.{token-below}
+use Rattle.plain_tracer.proofs.TracedObjects.{token-below}
 use Rattle.collector.proofs.NextTally.{next-tally}
 use Rattle.collector.proofs.LeftFalls.{left-is}
 

@@ -9,7 +9,7 @@ use Rattle.object_model.specs.Ages as ages
 use Rattle.object_model.specs.Ages.{Lives}
 use Rattle.object_model.specs.Graphs.{IsReachable}
 use Rattle.object_model.specs.Preserving.{PreservesObjects, SameObject, field_after}
-use Rattle.collector.proofs.SameObjects as given
+use Rattle.trace_core.proofs.SameObjects as given
 use Rattle.object_model.proofs.Marks as marks
 use Rattle.object_model.proofs.References.{refers, refers-some}
 use Rattle.sessions.specs.Plans.{Rules, Plan, rules_of}
@@ -19,7 +19,7 @@ use Rattle.trace_core.specs.Setups.{Setup, blocks, collection, may_move, held}
 use Rattle.trace_core.specs.Machine.{Event}
 use Rattle.trace_core.specs.Traces.{IsTrace, IsFinished, Reaches, FromRoot, FromGlobal, FromOld, ByReference, machine_after, heap_after, stage_of}
 use Rattle.trace_core.specs.Outcomes.{base_after, image, HaveAsked, NoOthersAsked}
-use Rattle.trace_core.specs.Tracers.{is_nursery}
+use Rattle.trace_core.specs.Runs.{is_nursery}
 use Rattle.trace_core.proofs.Rows.{row}
 use Rattle.trace_core.proofs.Finished.{preserved, kept-exactly, kept-reachable}
 use Rattle.collector.proofs.Given.{IsSetupUnder, old-given, reachable-before, reachable-given, moves-given}

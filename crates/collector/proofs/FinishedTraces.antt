@@ -16,7 +16,9 @@ use Rattle.trace_core.specs.Machine.{Event, Stage, Unclaimed, Copying, Scanning,
 use Rattle.trace_core.specs.Traces.{IsFinished, machine_after, heap_after, stage_of}
 use Rattle.trace_core.specs.Outcomes.{image, HaveAsked, NoOthersAsked}
 use Rattle.trace_core.specs.Views.{View, IsIdle, one_if, hits, times, is_copied}
-use Rattle.trace_core.specs.Tracers.{Tracks, IsTraced, IsFilled, setup_of, is_nursery, AreLeft}
+use Rattle.plain_tracer.specs.Tracers.{Tracks, IsTraced}
+use Rattle.trace_core.specs.Rooms.{IsFilled, AreLeft}
+use Rattle.trace_core.specs.Runs.{setup_of, is_nursery}
 use Rattle.trace_core.specs.declared.run.TraceRun.{TraceRun}
 use Rattle.trace_core.specs.declared.run.Traced.{Traced}
 use Rattle.trace_core.proofs.Begun.{begun-lines}

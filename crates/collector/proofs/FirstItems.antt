@@ -9,11 +9,13 @@ use Rattle.std.proofs.lemmas.List.Sums.{sum_by-cons}
 use Rattle.std.proofs.Math.Nat.{zero-mul}
 use Rattle.heap_layout.specs.Zones.{row_words}
 use Rattle.object_model.specs.Objects.{HeapState, IsHeld, size_at}
-use Rattle.object_model.specs.Lawful.{IsLawfulButLines}
-use Rattle.trace_core.specs.Views.{IsGrey, one_if, times, first_view}
-use Rattle.trace_core.specs.Tracers.{Tracks, setup_of}
+use Rattle.object_model.specs.Lawful.{IsLawfulButLines, AreRoots}
+use Rattle.plain_tracer.specs.TokenRights.{IsGrey}
+use Rattle.trace_core.specs.Views.{one_if, times, first_view}
+use Rattle.plain_tracer.specs.Tracers.{Tracks}
+use Rattle.trace_core.specs.Runs.{setup_of}
 use Rattle.trace_core.specs.declared.run.TraceRun.{TraceRun}
-use Rattle.trace_core.specs.declared.tokens.GlobalRoot.{GlobalRoot}
+use Rattle.plain_tracer.specs.declared.tokens.GlobalRoot.{GlobalRoot}
 use Rattle.trace_core.proofs.Counting.{count-cons, count-append, times-cons}
 use Rattle.trace_core.proofs.Begun.{held-begun}
 use Rattle.collector.specs.declared.item.Item.{Item}
@@ -23,7 +25,6 @@ use Rattle.collector.specs.declared.tally.Tally.{Tally}
 use Rattle.collector.specs.Items.{registers, globals, objects, tokens_of, is_register, is_global, is_object}
 use Rattle.collector.specs.Serving.{HasRights}
 use Rattle.collector.specs.Awaited.{IsAwaited}
-use Rattle.object_model.specs.Places.{AreRoots}
 use Rattle.collector.specs.Tallies.{IsTally}
 
 equal-turned : (a b : ℕ) → nat_eq a b ≡ nat_eq b a

@@ -8,14 +8,14 @@ use Rattle.object_model.specs.Objects.{HeapState, with_words, block_word, has_ki
 use Rattle.object_model.specs.Ages.{is_old}
 use Rattle.object_model.specs.Graphs.{IsReachable, from_root, from_global, from_field}
 use Rattle.object_model.specs.Preserving.{may_leave}
-use Rattle.collector.proofs.SameObjects.{SameObjects, at, refs-same, size-same, ref-same}
+use Rattle.trace_core.proofs.SameObjects.{SameObjects, at, refs-same, size-same, ref-same}
 use Rattle.object_model.proofs.Frames.{has_kind-same}
 use Rattle.forward_word.specs.CollectorWords.{is_old_word}
 use Rattle.sessions.specs.Plans.{Rules, Plan, rules_of}
 use Rattle.sessions.specs.Collecting as collecting
 use Rattle.sessions.specs.Collecting.{is_evacuated}
 use Rattle.trace_core.specs.Setups.{Setup, blocks, size, may_move}
-use Rattle.trace_core.specs.Tracers.{is_nursery}
+use Rattle.trace_core.specs.Runs.{is_nursery}
 use Rattle.collector.proofs.Spans.{address-block}
 use Rattle.collector.proofs.EvacuatedKinds.{moves-evacuated}
 

@@ -10,11 +10,12 @@ use Rattle.std.proofs.lemmas.List.Elements.{All-head, All-tail}
 use Rattle.std.proofs.lemmas.List.Sorted.{length_permutation, IsPermutation-append, IsPermutation-append_comm, IsPermutation-cons, IsPermutation-to_front, IsPermutation-sym, IsPermutation-trans}
 use Rattle.trace_core.specs.Setups.{Setup}
 use Rattle.trace_core.specs.Machine.{Event}
-use Rattle.trace_core.specs.Views.{View, IsReached, grey_of}
-use Rattle.trace_core.specs.Tracers.{Tracks}
-use Rattle.trace_core.specs.declared.plain_trace.PlainTrace.{PlainTrace}
-use Rattle.trace_core.specs.declared.tokens.Grey.{Grey}
-use Rattle.trace_core.specs.declared.tokens.Reached.{Reached}
+use Rattle.trace_core.specs.Views.{View}
+use Rattle.plain_tracer.specs.TokenRights.{IsReached, grey_of}
+use Rattle.plain_tracer.specs.Tracers.{Tracks}
+use Rattle.plain_tracer.specs.declared.plain_trace.PlainTrace.{PlainTrace}
+use Rattle.plain_tracer.specs.declared.tokens.Grey.{Grey}
+use Rattle.plain_tracer.specs.declared.tokens.Reached.{Reached}
 use Rattle.trace_core.proofs.Counting.{count-append}
 use Rattle.work_packets.specs.declared.packet.Packet.{Packet}
 use Rattle.collector.specs.declared.item.Item.{Item}

@@ -8,7 +8,8 @@ use Rattle.heap_layout.specs.Zones.{StartBits, first, heap_of, bit_of, IsAddress
 use Rattle.heap_layout.proofs.MarkLemmas.{address_bit-at_address}
 use Rattle.object_model.specs.Objects.{HeapState, IsHeld, word_at, is_start, size_at}
 use Rattle.trace_core.specs.Views.{one_if}
-use Rattle.block_sweeps.specs.WordSweeps.{has_bit, start_word, address_of}
+use Rattle.side_meta.specs.BitWords.{has_bit}
+use Rattle.block_sweeps.specs.WordSweeps.{start_word, address_of}
 use Rattle.block_sweeps.proofs.TouchedWords.{without}
 use Rattle.collector.proofs.HeldCounts.{CountsBelow, held_at, words_at, below, below-more}
 

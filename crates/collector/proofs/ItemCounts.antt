@@ -8,8 +8,9 @@ use Rattle.std.proofs.lemmas.List.Sorted.{All-permutation, sum_by-IsPermutation}
 use Rattle.std.proofs.lemmas.List.Sums.{sum_by-cons}
 use Rattle.work_packets.specs.declared.packet.Packet.{Packet}
 use Rattle.trace_core.specs.Setups.{Setup}
-use Rattle.trace_core.specs.Views.{View, IsGrey, one_if, hits, times, copied_in, to_scan_in}
-use Rattle.trace_core.specs.declared.tokens.Grey.{Grey}
+use Rattle.trace_core.specs.Views.{View, one_if, hits, times}
+use Rattle.plain_tracer.specs.TokenRights.{IsGrey, copied_in, to_scan_in}
+use Rattle.plain_tracer.specs.declared.tokens.Grey.{Grey}
 use Rattle.trace_core.proofs.Counting.{count-cons, count-append, hits-cons, times-cons}
 use Rattle.collector.specs.declared.item.Item.{Item}
 use Rattle.collector.specs.declared.item.Item.TheVariants.{Register, Global, Object}

@@ -5,7 +5,7 @@ use Rattle.trace_core.specs.Machine.{Event}
 use Rattle.trace_core.specs.Traces.{IsTrace}
 use Rattle.trace_core.proofs.LineBits.{line-stays}
 use Rattle.collector.specs.Serving.{HasItsLines}
-use Rattle.collector.proofs.TracedObjects.{target-grows}
+use Rattle.plain_tracer.proofs.TracedObjects.{target-grows}
 
 pub lines-grow : (p : Setup) (es ds : List Event) → IsTrace p (es ++ ds) → (x : ℕ) → HasItsLines p es x → HasItsLines p (es ++ ds) x
 lines-grow p es ds trace x had = record {

@@ -9,14 +9,14 @@ use Rattle.trace_core.specs.Setups.{Setup, blocks, collection, held, is_old}
 use Rattle.trace_core.specs.Machine.{Stage, Unclaimed, Copying, Scanning, target, Event, claimed_word}
 use Rattle.trace_core.specs.Traces.{IsTrace, machine_after, heap_after, stage_of, target_of}
 use Rattle.trace_core.specs.Views.{View, Holds, one_if, hits, times, is_copying, is_copied}
-use Rattle.trace_core.specs.Tracers.{Tracks}
-use Rattle.trace_core.specs.declared.plain_trace.PlainTrace.{PlainTrace}
+use Rattle.plain_tracer.specs.Tracers.{Tracks}
+use Rattle.plain_tracer.specs.declared.plain_trace.PlainTrace.{PlainTrace}
 use Rattle.trace_core.proofs.Clauses.{held-of, targets-inside, collector, unclaimed, whole, starts-from, starts-kept, old-target}
 use Rattle.trace_core.proofs.Finished.{parts-of}
 use Rattle.collector.specs.Tallies as tallies
 use Rattle.collector.specs.Tallies.{total}
 use Rattle.collector.proofs.TallySums.{total-same, total-both}
-use Rattle.collector.proofs.TracedObjects.{copied-held}
+use Rattle.plain_tracer.proofs.TracedObjects.{copied-held}
 
 module _ (p : Setup) (es : List Event) (trace : IsTrace p es) (v : View) (holds : Holds p (machine_after p es) v) (idle : v.won ≡ []) where
   abbrev now : HeapState

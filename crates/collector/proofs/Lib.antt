@@ -41,11 +41,9 @@ mod RunningPackets
 pub mod ItemCounts
 pub mod AwaitedSteps
 pub mod TallySums
-pub mod TracedObjects
 pub mod LeftFalls
 pub mod NextTally
 mod TwoBuckets
 pub mod Offered
-mod SameObjects
 pub mod ItsLines
 mod MarkedLines

@@ -19,7 +19,8 @@ use Rattle.object_model.specs.Ages.{is_survivor}
 use Rattle.object_model.specs.Releasing.{IsReleasable}
 use Rattle.block_sweeps.specs.Stores.{Stores}
 use Rattle.block_sweeps.specs.Sweeping.{InBlock, IsAmong, ChangesOnly, KeepsLiving, HasNoLiving, Sweeps, IsTouchedHere, MarksTouched, Frees}
-use Rattle.block_sweeps.specs.WordSweeps.{has_bit, start_word, unlog_word, address_of, MaySweep, SweepsWords}
+use Rattle.side_meta.specs.BitWords.{has_bit}
+use Rattle.block_sweeps.specs.WordSweeps.{start_word, unlog_word, address_of, MaySweep, SweepsWords}
 use Rattle.block_sweeps.proofs.SweptBlocks.{bit-there, may-sweep, may-next, swept-next, start-same, unlog-same, heap-same, keeps-living}
 use Rattle.block_sweeps.proofs.SweptWords.{all-live, some-die}
 use Rattle.block_sweeps.proofs.BlockSweeps.{swept-free, swept-kept, none-counts, none-lives, word-only}

@@ -18,7 +18,8 @@ use Rattle.object_model.proofs.OneKind.{kind-code}
 use Rattle.object_model.proofs.ObjectReads.{place_of_address}
 use Rattle.block_sweeps.specs.Stores.{Stores, Fills}
 use Rattle.block_sweeps.specs.Sweeping.{InBlock, IsAmong, IsObjectBitWord, ChangesOnly, KeepsLiving, HasNoLiving, Sweeps, Frees, Unlogs}
-use Rattle.block_sweeps.specs.WordSweeps.{has_bit, start_word, pin_word, unlog_word, address_of, SweepsWords}
+use Rattle.side_meta.specs.BitWords.{has_bit}
+use Rattle.block_sweeps.specs.WordSweeps.{start_word, pin_word, unlog_word, address_of, SweepsWords}
 use Rattle.block_sweeps.proofs.SweptBlocks.{bit-there, keeps-living}
 use Rattle.block_sweeps.proofs.SweptWords.{within}
 use Rattle.block_sweeps.proofs.BlockSweeps.{swept-free, swept-kept, none-counts, none-lives, word-only}

@@ -11,17 +11,18 @@ use Rattle.trace_core.specs.Setups.{Setup, blocks, size}
 use Rattle.trace_core.specs.Machine.{Event, address_or_nil}
 use Rattle.trace_core.specs.Traces.{IsTrace, machine_after, stage_of}
 use Rattle.trace_core.specs.Outcomes.{image}
-use Rattle.trace_core.specs.Views.{View, Holds, IsGrey, one_if, times, copied_in}
-use Rattle.trace_core.specs.Tracers.{setup_of, without_lines}
+use Rattle.trace_core.specs.Views.{View, Holds, one_if, times}
+use Rattle.plain_tracer.specs.TokenRights.{IsGrey, copied_in}
+use Rattle.trace_core.specs.Runs.{setup_of, without_lines}
 use Rattle.trace_core.specs.declared.run.TraceRun.{TraceRun}
-use Rattle.trace_core.specs.declared.tokens.Grey.{Grey}
+use Rattle.plain_tracer.specs.declared.tokens.Grey.{Grey}
 use Rattle.object_model.proofs.Frames as frames
 use Rattle.trace_core.proofs.WithoutLines as lines
 use Rattle.trace_core.proofs.Begun.{by-begun, keeps-objects}
 use Rattle.collector.specs.declared.tally.Tally.{Tally}
 use Rattle.collector.specs.Tallies.{total, has_moved, Counts, IsTally}
 use Rattle.collector.proofs.TallySums.{total-same, total-most, total-more, total-copied, sum-equal, count-next}
-use Rattle.collector.proofs.TracedObjects.{one-if-few, target-grows, copied-target, copied-held, copied-once, token-held}
+use Rattle.plain_tracer.proofs.TracedObjects.{one-if-few, target-grows, copied-target, copied-held, copied-once, token-held}
 
 -- one thing at most, of at most so much
 product-most : (n k most : ℕ) → n ≤ 1 → (0 < n → k ≤ most) → n * k ≤ most

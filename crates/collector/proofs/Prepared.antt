@@ -12,7 +12,7 @@ use Rattle.sessions.specs.Plans.{Rules, Plan, rules_of, NoGc, MarkSweep, SemiSpa
 use Rattle.sessions.specs.Collecting.{is_evacuated}
 use Rattle.plan_api.specs.Flags.{flags_of}
 use Rattle.trace_core.specs.Setups.{is_copy_kind}
-use Rattle.trace_core.specs.Tracers.{MayRun, is_nursery}
+use Rattle.trace_core.specs.Runs.{MayRun, is_nursery}
 use Rattle.trace_core.specs.declared.run.TraceRun.{TraceRun}
 use Rattle.collector.specs.Collected.{IsRunUnder}
 

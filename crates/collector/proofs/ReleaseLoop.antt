@@ -15,6 +15,9 @@ use Rattle.trace_core.specs.Outcomes.{base_after, image, FinishedRow}
 use Rattle.trace_core.proofs.Rows.{row}
 use Rattle.plan_api.specs.Releasing.{Releases}
 use Rattle.collector.specs.Released.{ReleasesBelow, none, one_more, MoveAll, OwnerTells, MarksTell, MarksTargets, LinesTell}
+use Rattle.collector.specs.Knowing.{IsKnown, Tells}
+use Rattle.collector.specs.declared.releasing.Known.{Known}
+use Rattle.collector.specs.declared.releasing.Known.TheVariants as known
 use Rattle.collector.proofs.InOrder.{next, released}
 use Rattle.collector.proofs.LawfulReleases.{lawful-with}
 use Rattle.collector.proofs.Owners.{tells-next, tells-again}
@@ -62,17 +65,25 @@ module _ (r : Rules) (c : Collect) (base : ℕ) (old : Row) (p : Setup) (es : Li
     pub releasable : n < old.layout.blocks → IsReleasable (state_over words old.layout 0 0) n
     releasable there = releasable-again words old.layout old.number old.base 0 0 n (next p es r c now n trace finished below (subst (λ b. n < b) blocks-same there))
 
-    pub tells : MoveAll p es → n < old.layout.blocks → OwnerTells base (state_over words old.layout 0 0) n
+    tells : MoveAll p es → n < old.layout.blocks → OwnerTells base (state_over words old.layout 0 0) n
     tells move there = subst (λ b. OwnerTells b (state_over words old.layout 0 0) n) (sym is-base)
         (tells-again (base_after p) words old.layout old.number old.base 0 0 n (tells-next p es r c now n trace finished move below (subst (λ b. n < b) blocks-same there)))
 
-    pub lines : MarksTargets p es → n < old.layout.blocks → LinesTell base (state_over words old.layout 0 0) n
+    lines : MarksTargets p es → n < old.layout.blocks → LinesTell base (state_over words old.layout 0 0) n
     lines marked there = subst (λ b. LinesTell b (state_over words old.layout 0 0) n) (sym is-base)
         (lines-again (base_after p) words old.layout old.number old.base 0 0 n (lines-next p es r c now n trace finished marked below (subst (λ b. n < b) blocks-same there)))
 
-    pub marks : p.nursery ≡ false → ((a : ℕ) → is_unlogged p.before a ≡ false) → n < old.layout.blocks → MarksTell base (state_over words old.layout 0 0) n
+    marks : p.nursery ≡ false → ((a : ℕ) → is_unlogged p.before a ≡ false) → n < old.layout.blocks → MarksTell base (state_over words old.layout 0 0) n
     marks full clear there = subst (λ b. MarksTell b (state_over words old.layout 0 0) n) (sym is-base)
         (marks-again (base_after p) words old.layout old.number old.base 0 0 n (marks-next p es r c now n trace finished full clear below (subst (λ b. n < b) blocks-same there)))
+
+    -- what is known of the trace tells of the next block
+    pub told : (k : Known) → IsKnown p es k → (p.nursery ≡ false → (a : ℕ) → is_unlogged p.before a ≡ false) → n < old.layout.blocks
+        → Tells k base (state_over words old.layout 0 0) n
+    told known.Nothing is clear there = tt
+    told known.AllMoved is clear there = tells is there
+    told known.Full is clear there = marks is (clear is) there
+    told known.FullWithLines is clear there = (marks is.0 (clear is.0) there, lines is.1 there)
 
   pub lawful-after : (words : List ℕ) → ReleasesBelow r c base (state_of old) (state_over words old.layout old.number old.base) old.layout.blocks → ((i : ℕ) → word_at (state_over words old.layout old.number old.base) i < 2 ^ 64)
       → (number : ℕ) → number ≡ collection p → IsLawful (state_over words old.layout number base)

@@ -14,9 +14,11 @@ use Rattle.work_packets.specs.Packets.{HasItems}
 use Rattle.object_model.specs.Heaps.{heap_state}
 use Rattle.trace_core.specs.Setups.{Setup}
 use Rattle.trace_core.specs.Machine.{Event}
-use Rattle.trace_core.specs.Views.{View, IsGrey, IsReached, grey_of}
-use Rattle.trace_core.specs.Tracers.{Tracks, IsTracing, setup_of}
-use Rattle.trace_core.specs.declared.tokens.Grey.{Grey}
+use Rattle.trace_core.specs.Views.{View}
+use Rattle.plain_tracer.specs.TokenRights.{IsGrey, IsReached, grey_of}
+use Rattle.plain_tracer.specs.Tracers.{Tracks, IsTracing}
+use Rattle.trace_core.specs.Runs.{setup_of}
+use Rattle.plain_tracer.specs.declared.tokens.Grey.{Grey}
 use Rattle.collector.specs.declared.item.Item.{Item}
 use Rattle.collector.specs.declared.packet_trace.PacketTrace.{PacketTrace}
 use Rattle.collector.specs.declared.worker.TraceStart.{TraceStart}

@@ -9,11 +9,12 @@ use Rattle.object_model.specs.Lines.{TouchesLine}
 use Rattle.trace_core.specs.Setups.{Setup, blocks, refs}
 use Rattle.trace_core.specs.Machine.{Event}
 use Rattle.trace_core.specs.Traces.{heap_after}
-use Rattle.trace_core.specs.Views.{View, IsGrey, one_if, without, is_pair, hits, times, to_scan_in, set_view}
-use Rattle.trace_core.specs.Tracers.{SetsGlobal, ScansFields}
-use Rattle.trace_core.specs.declared.plain_trace.PlainTrace.{PlainTrace}
-use Rattle.trace_core.specs.declared.tokens.Grey.{Grey}
-use Rattle.trace_core.specs.declared.tokens.GlobalRoot.{GlobalRoot}
+use Rattle.trace_core.specs.Views.{View, one_if, without, is_pair, hits, times, set_view}
+use Rattle.plain_tracer.specs.TokenRights.{IsGrey, to_scan_in}
+use Rattle.plain_tracer.specs.Tracers.{SetsGlobal, ScansFields}
+use Rattle.plain_tracer.specs.declared.plain_trace.PlainTrace.{PlainTrace}
+use Rattle.plain_tracer.specs.declared.tokens.Grey.{Grey}
+use Rattle.plain_tracer.specs.declared.tokens.GlobalRoot.{GlobalRoot}
 use Rattle.trace_core.proofs.Counting.{count-cons, times-cons, times-without}
 use Rattle.collector.specs.declared.item.Item.TheVariants.{Global, Object}
 use Rattle.collector.specs.Items.{is_global, is_object, globals, objects}

@@ -7,11 +7,13 @@ use Rattle.std.proofs.lemmas.List.Elements.{All-nil, All-cons}
 use Rattle.object_model.specs.Objects.{IsHeld}
 use Rattle.trace_core.specs.Setups.{Setup, refs}
 use Rattle.trace_core.specs.Machine.{Event, ByRoot, Claim}
-use Rattle.trace_core.specs.Views.{View, IsGrey, one_if, is_pair, hits, times, copied_in, to_scan_in, steps_at_claim, asked_view, claimed_view, copied_view}
-use Rattle.trace_core.specs.Tracers.{Tracks, takes, taken_in, copying}
-use Rattle.trace_core.specs.declared.plain_trace.PlainTrace.{PlainTrace}
-use Rattle.trace_core.specs.declared.tokens.Won.{Won}
-use Rattle.trace_core.specs.declared.tokens.Grey.{Grey}
+use Rattle.trace_core.specs.Views.{View, one_if, is_pair, hits, times, steps_at_claim, asked_view, claimed_view, copied_view}
+use Rattle.plain_tracer.specs.TokenRights.{IsGrey, copied_in, to_scan_in}
+use Rattle.plain_tracer.specs.Tracers.{Tracks}
+use Rattle.trace_core.specs.CallEvents.{takes, taken_in, copying}
+use Rattle.plain_tracer.specs.declared.plain_trace.PlainTrace.{PlainTrace}
+use Rattle.plain_tracer.specs.declared.tokens.Won.{Won}
+use Rattle.plain_tracer.specs.declared.tokens.Grey.{Grey}
 use Rattle.trace_core.proofs.Counting.{count-cons, times-cons, hits-cons, hits-here, hits-more}
 use Rattle.collector.specs.declared.item.Item.TheVariants.{Register}
 use Rattle.collector.specs.Items.{is_register, registers, objects}

@@ -7,11 +7,12 @@ use Rattle.std.proofs.lemmas.List.Elements.{All-nil, All-cons, All-append, All-w
 use Rattle.object_model.specs.Objects.{IsHeld}
 use Rattle.trace_core.specs.Setups.{Setup, refs}
 use Rattle.trace_core.specs.Machine.{Event}
-use Rattle.trace_core.specs.Views.{View, IsGrey, is_pair, hits, times, copied_in, to_scan_in}
-use Rattle.trace_core.specs.Tracers.{Tracks}
+use Rattle.trace_core.specs.Views.{View, is_pair, hits, times}
+use Rattle.plain_tracer.specs.TokenRights.{IsGrey, copied_in, to_scan_in}
+use Rattle.plain_tracer.specs.Tracers.{Tracks}
 use Rattle.trace_core.specs.declared.run.TraceRun.{TraceRun}
-use Rattle.trace_core.specs.declared.plain_trace.PlainTrace.{PlainTrace}
-use Rattle.trace_core.specs.declared.tokens.Grey.{Grey}
+use Rattle.plain_tracer.specs.declared.plain_trace.PlainTrace.{PlainTrace}
+use Rattle.plain_tracer.specs.declared.tokens.Grey.{Grey}
 use Rattle.trace_core.proofs.Counting.{count-append, hits-here, hits-more}
 use Rattle.collector.specs.declared.item.Item.{Item}
 use Rattle.collector.specs.Items.{registers, globals, objects, tokens_of}

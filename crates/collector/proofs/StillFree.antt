@@ -19,7 +19,8 @@ use Rattle.trace_core.specs.Machine.{Event}
 use Rattle.trace_core.specs.Traces.{IsTrace, IsFinished, machine_after, heap_after, stage_of}
 use Rattle.trace_core.specs.Outcomes.{base_after, image}
 use Rattle.trace_core.specs.Views.{one_if, times, without}
-use Rattle.trace_core.specs.Tracers.{is_nursery, IsFilled}
+use Rattle.trace_core.specs.Runs.{is_nursery}
+use Rattle.trace_core.specs.Rooms.{IsFilled}
 use Rattle.trace_core.proofs.Counting.{count-cons, times-without}
 use Rattle.trace_core.proofs.Finished.{option-cases, preserved}
 use Rattle.trace_core.proofs.Rows.{row, owner-lives}

@@ -7,8 +7,9 @@ use Rattle.std.proofs.lemmas.List.Elements.{All-head, All-tail}
 use Rattle.std.proofs.lemmas.List.FromFn.{length-range_with_len}
 use Rattle.std.proofs.lemmas.List.Sums.{sum_by-cons, sum_by-le}
 use Rattle.heap_layout.specs.Zones.{row_words}
-use Rattle.trace_core.specs.Views.{one_if, times, copied_in}
-use Rattle.trace_core.specs.declared.tokens.Grey.{Grey}
+use Rattle.trace_core.specs.Views.{one_if, times}
+use Rattle.plain_tracer.specs.TokenRights.{copied_in}
+use Rattle.plain_tracer.specs.declared.tokens.Grey.{Grey}
 use Rattle.trace_core.proofs.Counting.{times-cons}
 use Rattle.collector.specs.Tallies.{total, capped}
 

@@ -11,12 +11,12 @@ use Rattle.trace_core.specs.Machine.{Event, Machine, address_or_nil}
 use Rattle.trace_core.specs.Traces.{IsTrace, IsFinished, machine_after, stage_of, target_of}
 use Rattle.trace_core.specs.Outcomes.{image}
 use Rattle.trace_core.specs.Views.{View, Holds, one_if, times}
-use Rattle.trace_core.specs.Tracers.{IsLeftFor, AreLeft}
+use Rattle.trace_core.specs.Rooms.{IsLeftFor, AreLeft}
 use Rattle.trace_core.proofs.Rows.{row}
 use Rattle.trace_core.proofs.Clauses.{held-of, has-room, owned-word}
 use Rattle.trace_core.proofs.Finished.{has-target, image-some}
 use Rattle.collector.specs.Collected.{IsCopiedAt, IsLeftForNext, AreFilledInTurn, FillsInTurn}
-use Rattle.collector.proofs.SameObjects as given
+use Rattle.trace_core.proofs.SameObjects as given
 use Rattle.collector.proofs.Given.{SameButBits, kind-given}
 
 module _ (p : Setup) (u : List ℕ) (like : SameButBits p.before u) (es : List Event) (trace : IsTrace p es) (finished : IsFinished p (machine_after p es)) where

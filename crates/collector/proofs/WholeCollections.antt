@@ -16,7 +16,8 @@ use Rattle.trace_core.specs.Setups.{Setup, blocks, collection}
 use Rattle.trace_core.specs.Machine.{Event}
 use Rattle.trace_core.specs.Traces.{IsTrace, IsFinished, machine_after, heap_after, stage_of}
 use Rattle.trace_core.specs.Outcomes.{base_after, image, HaveAsked, NoOthersAsked}
-use Rattle.trace_core.specs.Tracers.{AreLeft, is_nursery, is_set, without_lines, without_unlogs, setup_of, MayRun}
+use Rattle.trace_core.specs.Rooms.{AreLeft}
+use Rattle.trace_core.specs.Runs.{is_nursery, is_set, without_lines, without_unlogs, setup_of, MayRun}
 use Rattle.trace_core.specs.Views.{View, Holds}
 use Rattle.trace_core.specs.declared.run.TraceRun.{TraceRun}
 use Rattle.trace_core.proofs.WithoutLines as lines

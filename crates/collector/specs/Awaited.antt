@@ -7,7 +7,8 @@ use Rattle.trace_core.specs.Machine.{Event}
 use Rattle.trace_core.specs.Traces.{stage_of}
 use Rattle.trace_core.specs.Outcomes.{image}
 use Rattle.trace_core.specs.Views.{View, hits, times}
-use Rattle.trace_core.specs.Tracers.{Tracks, setup_of}
+use Rattle.plain_tracer.specs.Tracers.{Tracks}
+use Rattle.trace_core.specs.Runs.{setup_of}
 use Rattle.trace_core.specs.declared.run.TraceRun.{TraceRun}
 use Rattle.collector.specs.declared.item.Item.{Item}
 use Rattle.collector.specs.declared.packet_trace.PacketTrace.{PacketTrace}

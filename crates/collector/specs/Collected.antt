@@ -13,7 +13,7 @@ use Rattle.sessions.specs.Collecting.{CollectsIf, is_evacuated}
 use Rattle.trace_core.specs.Setups.{Setup}
 use Rattle.trace_core.specs.Machine.{Machine}
 use Rattle.trace_core.specs.Views.{times}
-use Rattle.trace_core.specs.Tracers.{IsFilled}
+use Rattle.trace_core.specs.Rooms.{IsFilled}
 use Rattle.trace_core.specs.declared.run.TraceRun.{TraceRun}
 
 -- `collect` makes collections of this kind under these rules: full ones, today

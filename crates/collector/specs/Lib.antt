@@ -2,6 +2,7 @@ pub mod Awaited
 pub mod Collected
 pub mod Items
 pub mod Released
+pub mod Knowing
 pub mod RootPackets
 pub mod Serving
 pub mod Tallies

@@ -8,7 +8,8 @@ use Rattle.object_model.specs.Objects.{HeapState, HasKind, word_at, owner_at, li
 use Rattle.object_model.specs.Lines.{TouchesLine}
 use Rattle.object_model.specs.Ages.{is_survivor, Lives}
 use Rattle.block_sweeps.specs.Sweeping.{IsMetadata, InBlock, HasNoLiving}
-use Rattle.block_sweeps.specs.WordSweeps.{has_bit, start_word, unlog_word, address_of}
+use Rattle.side_meta.specs.BitWords.{has_bit}
+use Rattle.block_sweeps.specs.WordSweeps.{start_word, unlog_word, address_of}
 use Rattle.sessions.specs.Plans.{Rules}
 use Rattle.trace_core.specs.Setups.{Setup, blocks, size}
 use Rattle.trace_core.specs.Machine.{Event}

@@ -7,11 +7,12 @@ use Rattle.object_model.specs.Lines.{TouchesLine}
 use Rattle.trace_core.specs.Setups.{Setup, blocks, size, refs}
 use Rattle.trace_core.specs.Machine.{Event}
 use Rattle.trace_core.specs.Traces.{heap_after, target_of}
-use Rattle.trace_core.specs.Views.{View, IsGrey, IsReached, grey_of, hits, times, copied_in, to_scan_in}
-use Rattle.trace_core.specs.Tracers.{Tracks}
-use Rattle.trace_core.specs.declared.plain_trace.PlainTrace.{PlainTrace}
-use Rattle.trace_core.specs.declared.tokens.Grey.{Grey}
-use Rattle.trace_core.specs.declared.tokens.Reached.{Reached}
+use Rattle.trace_core.specs.Views.{View, hits, times}
+use Rattle.plain_tracer.specs.TokenRights.{IsGrey, IsReached, grey_of, copied_in, to_scan_in}
+use Rattle.plain_tracer.specs.Tracers.{Tracks}
+use Rattle.plain_tracer.specs.declared.plain_trace.PlainTrace.{PlainTrace}
+use Rattle.plain_tracer.specs.declared.tokens.Grey.{Grey}
+use Rattle.plain_tracer.specs.declared.tokens.Reached.{Reached}
 use Rattle.collector.specs.declared.item.Item.{Item}
 use Rattle.collector.specs.Items.{registers, globals, objects, tokens_of}
 

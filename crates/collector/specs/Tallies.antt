@@ -6,7 +6,7 @@ use Rattle.heap_layout.specs.declared.block.Kind.TheVariants as kinds
 use Rattle.object_model.specs.Objects.{HeapState, has_kind, is_start, number_at, size_at, block_count}
 use Rattle.object_model.specs.declared.collect.Collect.{Collect}
 use Rattle.trace_core.specs.Views.{one_if, times}
-use Rattle.trace_core.specs.declared.tokens.Grey.{Grey}
+use Rattle.plain_tracer.specs.declared.tokens.Grey.{Grey}
 use Rattle.collector.specs.declared.tally.Tally.{Tally}
 use Rattle.collector.specs.declared.outcome.Note.{Note}
 use Rattle.sessions.specs.Plans.{Rules}

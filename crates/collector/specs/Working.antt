@@ -9,8 +9,9 @@ use Rattle.object_model.specs.Heaps.{heap_state}
 use Rattle.trace_core.specs.Setups.{Setup}
 use Rattle.trace_core.specs.Machine.{Event}
 use Rattle.trace_core.specs.Views.{View}
-use Rattle.trace_core.specs.Tracers.{Tracks, MayRun}
-use Rattle.trace_core.specs.declared.tokens.Grey.{Grey}
+use Rattle.plain_tracer.specs.Tracers.{Tracks}
+use Rattle.trace_core.specs.Runs.{MayRun}
+use Rattle.plain_tracer.specs.declared.tokens.Grey.{Grey}
 use Rattle.collector.specs.declared.item.Item.{Item}
 use Rattle.collector.specs.declared.packet_trace.PacketTrace.{PacketTrace}
 use Rattle.collector.specs.declared.worker.TraceStart.{TraceStart}

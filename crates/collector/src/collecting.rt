@@ -5,31 +5,32 @@ ghost use Rattle.object_model.specs.declared.collect.Collect.TheVariants.{Full};
 ghost use Rattle.object_model.specs.Objects.{IsHeld};
 ghost use Rattle.object_model.specs.Heaps.{heap_state};
 ghost use Rattle.sessions.specs.Collecting.{IsCollection, Collects, OnlyCounts};
-ghost use Rattle.trace_core.specs.Tracers.{MayRun, is_nursery};
+ghost use Rattle.trace_core.specs.Runs.{MayRun, is_nursery};
 ghost use Rattle.collector.specs.Collected.{IsOffered, IsRunUnder, FillsInTurn, FillsIf};
 ghost use Rattle.collector.specs.Items.{items_of};
 ghost use Rattle.collector.specs.RootPackets.{AreRootPackets};
 ghost use Rattle.collector.specs.Awaited.{IsAwaited};
 ghost use Rattle.collector.specs.Working.{AwaitsPackets, IsFullTrace};
 ghost use Rattle.collector.specs.Tallies.{IsNote, NotesIf, in_place};
-ghost use Rattle.object_model.specs.Places.{AreRoots};
+ghost use Rattle.object_model.specs.Lawful.{AreRoots};
 ghost use Rattle.collector.specs.declared.worker.TraceStart.{TraceStart};
 
 use crate::counting::count_held;
 use crate::item::Item;
 use crate::outcome::{Collected, Note};
 use crate::packet_trace::PacketTrace;
-use crate::releasing::release_by;
+use crate::releasing::{known_after, release_by};
 use crate::roots::root_packets;
 use crate::tally::Tally;
 use crate::worker::TraceWorker;
 use bitflags::Flags;
 use object_model::{Collect, Heap};
+use plain_tracer::PlainTrace;
 use plan_api::{Plan, PlanFlags, block_counts};
 use pools::Pool;
 use std::alloc::{AllocError, Global};
 use std::thread::Threads;
-use trace_core::{PlainTrace, TraceRun};
+use trace_core::TraceRun;
 use work_packets::{Bucket, Gate, Packet};
 
 /// Runs a full collection of a heap in buckets of work, as MMTk does: the tracer is prepared, the
@@ -63,7 +64,8 @@ pub fn collect<P: Plan, Q: Pool, G: Gate, R: Threads + Sync>(
         × FillsIf P.rules.collects P.rules workers collect (heap_state heap) roots.items
         (heap_state c.heap) c.roots.items made) }
 {
-    if P::FLAGS == PlanFlags(0) {
+    let reclaims = P::collects();
+    if !reclaims {
         return Ok(count_only(heap, roots, collect));
     }
     let run = prepare::<P>(alloc, &heap, collect)?;
@@ -197,8 +199,8 @@ fn finish<P: Plan>(trace: PacketTrace) -> Collected
     } = trace;
     let traced = tracer.close();
     let collect = traced.run.collect;
-    let lines = traced.run.lines;
-    let heap = release_by::<P>(traced, tally.kept == tally.moved, lines);
+    let known = known_after(collect, tally.kept == tally.moved, traced.run.lines);
+    let heap = release_by::<P>(traced, known);
     let free_blocks = block_counts(&heap).free;
     Collected {
         heap,

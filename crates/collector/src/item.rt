@@ -1,6 +1,6 @@
 //! Items of packets: what a worker of a collection serves.
 
-use trace_core::{GlobalRoot, Grey};
+use plain_tracer::{GlobalRoot, Grey};
 
 /// One piece of the work of a trace.
 #[derive(Debug, Drop)]

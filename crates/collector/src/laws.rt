@@ -17,7 +17,7 @@ ghost use Rattle.trace_core.specs.Setups.{Setup, blocks, collection};
 ghost use Rattle.trace_core.specs.Machine.{Event};
 ghost use Rattle.trace_core.specs.Traces.{IsTrace, IsFinished, machine_after, heap_after, stage_of};
 ghost use Rattle.trace_core.specs.Outcomes.{base_after, image, HaveAsked, NoOthersAsked};
-ghost use Rattle.trace_core.specs.Tracers.{setup_of, MayRun};
+ghost use Rattle.trace_core.specs.Runs.{setup_of, MayRun};
 ghost use Rattle.trace_core.specs.declared.run.TraceRun.{TraceRun};
 ghost use Rattle.plan_api.specs.Releasing.{Releases};
 ghost use Rattle.collector.specs.Collected.{IsOffered, IsRunUnder, FillsBlocks};

@@ -5,8 +5,6 @@ mod collecting;
 mod counting;
 mod item;
 mod laws;
-mod marked;
-mod moved;
 mod outcome;
 mod packet_trace;
 mod releasing;

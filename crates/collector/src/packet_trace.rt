@@ -1,4 +1,8 @@
 //! A trace that is made item by item.
+//! The worker (`worker.rt`) calls `serve` for each item of a packet, and `hand_on` after the last.
+//! `serve` writes `roots` and adds to `won`. `hand_on` takes `won` apart: as a token leaves it,
+//! `tally` counts its object, so the two change together. `spare` holds lists between packets.
+//! Never writes a word of the row, which is the tracer's.
 
 ghost use Rattle.std.specs.Prelude.{◌≡◌, ◌∷◌, ◌++◌, ◌≤◌, ◌<◌, [], List, All, IfOk, length, map, vec_capacity};
 ghost use Rattle.std.specs.List.Sorted.{IsPermutation};
@@ -7,10 +11,11 @@ ghost use Rattle.work_packets.specs.declared.packet.Bucket.TheVariants as bucket
 ghost use Rattle.work_packets.specs.declared.packet.TheConstants.{MAX_ITEMS};
 ghost use Rattle.trace_core.specs.Setups.{Setup};
 ghost use Rattle.trace_core.specs.Machine.{Event};
-ghost use Rattle.trace_core.specs.Views.{View, IsReached, grey_of, one_if};
-ghost use Rattle.trace_core.specs.Tracers.{Tracks, IsTracing};
-ghost use Rattle.trace_core.specs.declared.tokens.Grey.{Grey};
-ghost use Rattle.trace_core.specs.declared.tokens.Reached.{Reached};
+ghost use Rattle.trace_core.specs.Views.{View, one_if};
+ghost use Rattle.plain_tracer.specs.TokenRights.{IsReached, grey_of};
+ghost use Rattle.plain_tracer.specs.Tracers.{Tracks, IsTracing};
+ghost use Rattle.plain_tracer.specs.declared.tokens.Grey.{Grey};
+ghost use Rattle.plain_tracer.specs.declared.tokens.Reached.{Reached};
 ghost use Rattle.collector.specs.declared.item.Item.TheVariants as items;
 ghost use Rattle.collector.specs.Items.{items_of, tokens_of, IsObject};
 ghost use Rattle.collector.specs.Serving.{HasRights, Serves, AreShaped};
@@ -18,9 +23,9 @@ ghost use Rattle.collector.specs.Tallies.{Counts, has_moved};
 
 use crate::item::Item;
 use crate::tally::Tally;
+use plain_tracer::{Claim, Grey, PlainTrace, Reached};
 use std::alloc::AllocError;
 use std::mem;
-use trace_core::{Claim, Grey, PlainTrace, Reached};
 use work_packets::{Bucket, MAX_ITEMS, Packet};
 
 /// A trace by one worker, its roots and its counts.

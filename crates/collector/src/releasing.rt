@@ -1,24 +1,68 @@
-//! The release of all blocks at the end of a collection.
+//! The release of all blocks at the end of a collection. What is known of the trace and the kind of
+//! a block say how: after a full trace hardly a word of an object is read.
 
-ghost use Rattle.std.specs.Prelude.{◌≡◌, ◌<◌, ◌^◌, ℕ, List, length, slice_index, true};
+ghost use Rattle.std.specs.Prelude.{◌≡◌, ◌⊎◌, ◌+◌, ◌*◌, ◌<◌, ◌≤◌, ◌^◌, ℕ, List, length, slice_index, true, false};
 ghost use Rattle.heap_layout.specs.Zones.{row_words};
-ghost use Rattle.object_model.specs.Objects.{HeapState, state_of, state_over};
+ghost use Rattle.heap_layout.specs.Blocks.{code_of, IsValid};
+ghost use Rattle.heap_layout.specs.declared.block.Kind.TheVariants as kinds;
+ghost use Rattle.object_model.specs.Objects.{HeapState, state_of, state_over, block_word, IsHeld};
 ghost use Rattle.object_model.specs.Releasing.{IsReleasable};
 ghost use Rattle.object_model.specs.Heaps.{heap_state};
-ghost use Rattle.object_model.specs.declared.collect.Collect.TheVariants.{Full};
+ghost use Rattle.object_model.specs.declared.collect.Collect.{Collect};
+ghost use Rattle.block_sweeps.specs.Stores.{Fills};
+ghost use Rattle.block_sweeps.specs.Sweeping.{Sweeps, InBlock, HasNoLiving};
+ghost use Rattle.block_sweeps.specs.WordSweeps.{MaySweep, SweepsWords};
+ghost use Rattle.sessions.specs.Plans.{Rules};
 ghost use Rattle.trace_core.specs.Setups.{Setup};
 ghost use Rattle.trace_core.specs.Machine.{Event};
 ghost use Rattle.trace_core.specs.Traces.{IsTrace, IsFinished, machine_after, heap_after};
-ghost use Rattle.trace_core.specs.Tracers.{IsRunOf};
+ghost use Rattle.trace_core.specs.Runs.{IsRunOf, is_nursery};
 ghost use Rattle.plan_api.specs.Releasing.{Releases};
-ghost use Rattle.collector.specs.Released.{ReleasesBelow, heap_with, MoveAll, OwnerTells, MarksTell, MarksTargets, LinesTell};
+ghost use Rattle.collector.specs.Released.{ReleasesBelow, heap_with, MoveAll, OwnerTells, MarksTell, MarksTellIn, MarksTargets, LinesTell};
+ghost use Rattle.collector.specs.Knowing.{IsKnown, Tells};
 
-use crate::marked::release_marked;
-use crate::moved::release_moved;
-use heap_layout::Layout;
+use block_sweeps::{free_block, store, unlog_block};
+use heap_layout::{BlockWord, Kind, Layout, encode};
 use object_model::{Collect, Heap, Row};
-use plan_api::Plan;
+use plan_api::{Plan, block_word_in};
+use side_meta::Words;
 use trace_core::{TraceRun, Traced};
+
+/// What is known of a finished trace, from which what lives in a block can be told.
+#[derive(Clone, Copy, Debug, PartialEq, Eq)]
+pub(crate) enum Known {
+    /// Nothing: what lives is told by the collector words of objects.
+    Nothing,
+    /// Every object that was kept moved: the owner of a block tells what lives in it.
+    AllMoved,
+    /// The collection is a full one: the unlog bits of a block tell what lives in it.
+    Full,
+    /// The same, and the trace marked lines: the line bits of an Immix block tell its lines in use.
+    FullWithLines,
+}
+
+/// What is known after a trace, in which all that was kept moved if `moved_all`, and which marked
+/// lines if `lines`. Owners are asked first: then no word of unlog bits is read.
+pub(crate) fn known_after(collect: Collect, moved_all: bool, lines: bool) -> Known
+    ensures { (p : Setup) (es : List Event) → p.nursery ≡ is_nursery collect
+        → (moved_all ≡ true → MoveAll p es) → (lines ≡ true → MarksTargets p es)
+        → IsKnown p es result }
+{
+    let by_owner = moved_all && !lines;
+    if by_owner {
+        return Known::AllMoved;
+    }
+    match collect {
+        Collect::Nursery => Known::Nothing,
+        Collect::Full => {
+            if lines {
+                Known::FullWithLines
+            } else {
+                Known::Full
+            }
+        }
+    }
+}
 
 /// Releases each block of the row after a finished trace by the rules of the plan, which makes it a
 /// lawful heap.
@@ -34,17 +78,15 @@ pub fn release<P: Plan>(traced: Traced) -> Heap
         traced.row.layout.blocks
         × (heap_state result ≡ heap_with new traced.run.number traced.run.base) }
 {
-    release_by::<P>(traced, false, false)
+    let known = known_after(traced.run.collect, false, false);
+    release_by::<P>(traced, known)
 }
 
-/// Releases each block as `release` does. If `lines`, the trace marked lines: then after a full
-/// collection it reads no word of an object in a block of cells or lines. If not, and `moved_all`,
-/// every object that was kept moved: then it reads words of large objects, and of objects in Immix
-/// blocks, alone.
-pub(crate) fn release_by<P: Plan>(traced: Traced, moved_all: bool, lines: bool) -> Heap
+/// Releases each block as `release` does, by what is known of the trace.
+pub(crate) fn release_by<P: Plan>(traced: Traced, known: Known) -> Heap
     requires { (p : Setup) × (es : List Event) × IsTrace p es × IsFinished p (machine_after p es)
         × (state_of traced.row ≡ heap_after p es) × IsRunOf p traced.run
-        × (moved_all ≡ true → MoveAll p es) × (lines ≡ true → MarksTargets p es) }
+        × IsKnown p es known }
     ensures { (new : HeapState)
         × ReleasesBelow P.rules traced.run.collect traced.run.base (state_of traced.row) new
         traced.row.layout.blocks
@@ -63,7 +105,7 @@ pub(crate) fn release_by<P: Plan>(traced: Traced, moved_all: bool, lines: bool) 
         ..
     } = run;
     for block in 0..layout.blocks() {
-        release_next::<P>(&mut words, &layout, block, collect, base, moved_all, lines);
+        release_next::<P>(&mut words, &layout, block, collect, base, known);
     }
     words_fit(&words);
     Heap::from_row(Row {
@@ -74,38 +116,207 @@ pub(crate) fn release_by<P: Plan>(traced: Traced, moved_all: bool, lines: bool) 
     })
 }
 
-/// Releases a block. Its owner tells what lives in it if `moved_all`, and so do its unlog bits in
-/// a full collection, and its line bits if `lines` and if it is an Immix block.
+/// Releases a block, by what is known of the trace and by its kind. Blocks that this does not tell
+/// about are released by the plan: among them are large runs, and Immix blocks unless their lines
+/// were marked, since their line bits follow from the objects in them.
 fn release_next<P: Plan>(
     words: &mut Vec<u64>,
     layout: &Layout,
     block: u32,
     collect: Collect,
     base: u64,
-    moved_all: bool,
-    lines: bool,
+    known: Known,
 )
     requires extent { length words.old.items ≡ row_words layout.now.blocks }
     requires block { block < layout.now.blocks }
     requires releasable { IsReleasable (state_over words.old.items layout.now 0 0) block }
-    requires tells { moved_all ≡ true
-        → OwnerTells base (state_over words.old.items layout.now 0 0) block }
-    requires marks { collect ≡ Full
-        → MarksTell base (state_over words.old.items layout.now 0 0) block }
-    requires lines { lines ≡ true
-        → LinesTell base (state_over words.old.items layout.now 0 0) block }
+    requires tells { Tells known base (state_over words.old.items layout.now 0 0) block }
     ensures { Releases P.rules collect base (state_over words.old.items layout.now 0 0)
         (state_over words.new.items layout.now 0 0) block }
 {
-    let by_owner = moved_all && !lines;
-    if by_owner {
-        release_moved::<P, Vec<u64>>(words, layout, block, collect, base);
+    let word = block_word_in(words, layout, block);
+    match (known, word.kind) {
+        (Known::AllMoved, Kind::Bump | Kind::Young | Kind::Mature | Kind::Cells | Kind::Kept) =>
+            release_by_owner(words, layout, block, &word),
+        (Known::Full, Kind::Cells) => release_by_bits(words, layout, block, &word),
+        (Known::FullWithLines, Kind::Cells | Kind::Immix) => {
+            release_by_bits(words, layout, block, &word);
+        }
+        _ => P::release_block(words, layout, block, collect, base),
+    }
+}
+
+/// Releases a block of small and medium objects whose word is `word`. Its owner tells what lives
+/// in it.
+fn release_by_owner<W: Words>(words: &mut W, layout: &Layout, block: u32, word: &BlockWord)
+    requires extent { length (W.words words.old) ≡ row_words layout.now.blocks }
+    requires block { block < layout.now.blocks }
+    requires releasable { IsReleasable (state_over (W.words words.old) layout.now 0 0) block }
+    requires valid { IsValid word.now }
+    requires code { code_of word.now
+        ≡ block_word (state_over (W.words words.old) layout.now 0 0) block }
+    requires immix { word.now.kind ≡ kinds.Immix → ⊥ }
+    requires head { word.now.kind ≡ kinds.LargeHead → ⊥ }
+    requires tail { word.now.kind ≡ kinds.LargeTail → ⊥ }
+    ensures { (r : Rules) (c : Collect) (base : ℕ)
+        → OwnerTells base (state_over (W.words words.old) layout.now 0 0) block
+        → Releases r c base (state_over (W.words words.old) layout.now 0 0)
+        (state_over (W.words words.new) layout.now 0 0) block }
+{
+    let unowned = word.owner == 0;
+    if unowned {
+        free_left(words, layout, block);
         return;
     }
-    match collect {
-        Collect::Full => release_marked::<P, Vec<u64>>(words, layout, block, collect, base, lines),
-        Collect::Nursery => P::release_block(words, layout, block, collect, base),
+    if has_object(words, layout, block) {
+        keep_copies(words, layout, block, word);
+    } else {
+        free_left(words, layout, block);
     }
+}
+
+/// Keeps a block in which each object lives: its kind and class stay, it has no owner, and each
+/// object has its unlog bit.
+fn keep_copies<W: Words>(words: &mut W, layout: &Layout, block: u32, word: &BlockWord)
+    requires extent { length (W.words words.old) ≡ row_words layout.now.blocks }
+    requires block { block < layout.now.blocks }
+    requires releasable { IsReleasable (state_over (W.words words.old) layout.now 0 0) block }
+    requires valid { IsValid word.now }
+    requires code { code_of word.now
+        ≡ block_word (state_over (W.words words.old) layout.now 0 0) block }
+    requires owner { 0 < word.now.owner }
+    requires immix { word.now.kind ≡ kinds.Immix → ⊥ }
+    requires head { word.now.kind ≡ kinds.LargeHead → ⊥ }
+    requires tail { word.now.kind ≡ kinds.LargeTail → ⊥ }
+    ensures { (r : Rules) (c : Collect) (base a : ℕ)
+        → OwnerTells base (state_over (W.words words.old) layout.now 0 0) block
+        → InBlock (state_over (W.words words.old) layout.now 0 0) block a
+        → IsHeld (state_over (W.words words.old) layout.now 0 0) a
+        → Releases r c base (state_over (W.words words.old) layout.now 0 0)
+        (state_over (W.words words.new) layout.now 0 0) block }
+{
+    let kept = BlockWord {
+        kind: word.kind,
+        class: word.class,
+        owner: 0,
+    };
+    store(words, layout.block_at(block), encode(&kept));
+    unlog_block(words, layout, block);
+}
+
+/// Frees a block in which nothing lives. Writes only words that change.
+fn free_left<W: Words>(words: &mut W, layout: &Layout, block: u32)
+    requires extent { length (W.words words.old) ≡ row_words layout.now.blocks }
+    requires block { block < layout.now.blocks }
+    ensures { (base after : ℕ)
+        → HasNoLiving base (state_over (W.words words.old) layout.now 0 0)
+        (InBlock (state_over (W.words words.old) layout.now 0 0) block)
+        → Sweeps base after (state_over (W.words words.old) layout.now 0 0)
+        (state_over (W.words words.new) layout.now 0 0) block }
+{
+    clear_words(words, layout.start_base() + 64 * block);
+    clear_words(words, layout.pin_base() + 64 * block);
+    clear_words(words, layout.unlog_base() + 64 * block);
+    free_block(words, layout, block);
+}
+
+/// Clears the 64 words from index `from` on. Writes only words that change.
+fn clear_words<W: Words>(words: &mut W, from: u32)
+    requires small { from + 64 < 2 ^ 32 }
+    requires extent { from + 64 ≤ length (W.words words.old) }
+    ensures { Fills (W.words words.old) (W.words words.new) from (from + 64) (λ _. 0) }
+{
+    for index in from..from + 64 {
+        store(words, index, 0);
+    }
+}
+
+/// Releases a block of cells or lines whose word is `word`: objects in it without an unlog bit are
+/// held no more. A block that is left with none becomes Free, another has no owner, and keeps its
+/// line bits.
+fn release_by_bits<W: Words>(words: &mut W, layout: &Layout, block: u32, word: &BlockWord)
+    requires extent { length (W.words words.old) ≡ row_words layout.now.blocks }
+    requires block { block < layout.now.blocks }
+    requires releasable { IsReleasable (state_over (W.words words.old) layout.now 0 0) block }
+    requires valid { IsValid word.now }
+    requires code { code_of word.now
+        ≡ block_word (state_over (W.words words.old) layout.now 0 0) block }
+    requires kind { (word.now.kind ≡ kinds.Cells) ⊎ (word.now.kind ≡ kinds.Immix) }
+    requires tells { (base : ℕ)
+        × MarksTell base (state_over (W.words words.old) layout.now 0 0) block }
+    ensures { (r : Rules) (c : Collect) (base : ℕ)
+        → MarksTell base (state_over (W.words words.old) layout.now 0 0) block
+        → LinesTell base (state_over (W.words words.old) layout.now 0 0) block
+        → Releases r c base (state_over (W.words words.old) layout.now 0 0)
+        (state_over (W.words words.new) layout.now 0 0) block }
+{
+    keep_marked(words, layout, block);
+    if has_object(words, layout, block) {
+        let kept = BlockWord {
+            kind: word.kind,
+            class: word.class,
+            owner: 0,
+        };
+        store(words, layout.block_at(block), encode(&kept));
+    } else {
+        free_block(words, layout, block);
+    }
+}
+
+/// Clears the start and pin bits of objects in the block that have no unlog bit.
+fn keep_marked<W: Words>(words: &mut W, layout: &Layout, block: u32)
+    requires extent { length (W.words words.old) ≡ row_words layout.now.blocks }
+    requires block { block < layout.now.blocks }
+    requires releasable { IsReleasable (state_over (W.words words.old) layout.now 0 0) block }
+    requires tells { (base : ℕ)
+        × MarksTell base (state_over (W.words words.old) layout.now 0 0) block }
+    ensures { (base : ℕ)
+        → MarksTell base (state_over (W.words words.old) layout.now 0 0) block
+        → SweepsWords base (64 * block) 64 (state_over (W.words words.old) layout.now 0 0)
+        (state_over (W.words words.new) layout.now 0 0) }
+{
+    for index in 64 * block..64 * block + 64 {
+        keep_marked_in(words, layout, index);
+    }
+}
+
+/// Makes word `index` of start bits that of unlog bits, which are set only at objects, and clears
+/// the pin bits of the other objects. Writes only words that change.
+fn keep_marked_in<W: Words>(words: &mut W, layout: &Layout, index: u32)
+    requires { MaySweep (state_over (W.words words.old) layout.now 0 0) index }
+    ensures { (base : ℕ)
+        → MarksTellIn base (state_over (W.words words.old) layout.now 0 0) index
+        → SweepsWords base index 1 (state_over (W.words words.old) layout.now 0 0)
+        (state_over (W.words words.new) layout.now 0 0) }
+{
+    let living = words.get(layout.unlog_base() + index);
+    let starts = words.get(layout.start_base() + index);
+    if living != starts {
+        store(words, layout.start_base() + index, living);
+        let pins = words.get(layout.pin_base() + index);
+        store(words, layout.pin_base() + index, pins & living);
+    }
+}
+
+/// Whether an object begins in the block.
+fn has_object<W: Words>(words: &W, layout: &Layout, block: u32) -> bool
+    requires extent { length (W.words words.now) ≡ row_words layout.now.blocks }
+    requires block { block < layout.now.blocks }
+    ensures some { result ≡ true → (a : ℕ)
+        × InBlock (state_over (W.words words.now) layout.now 0 0) block a
+        × IsHeld (state_over (W.words words.now) layout.now 0 0) a }
+    ensures none { result ≡ false → (a : ℕ)
+        → InBlock (state_over (W.words words.now) layout.now 0 0) block a
+        → IsHeld (state_over (W.words words.now) layout.now 0 0) a → ⊥ }
+{
+    let starts = layout.start_base() + 64 * block;
+    for index in 0..64 {
+        let word = words.get(starts + index);
+        if word != 0 {
+            return true;
+        }
+    }
+    false
 }
 
 /// Each word has 64 bits, which a definition that speaks of numbers does not know.

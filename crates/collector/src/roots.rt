@@ -7,8 +7,8 @@ ghost use Rattle.collector.specs.Items.{items_of};
 ghost use Rattle.collector.specs.RootPackets.{AreRootPackets};
 
 use crate::item::Item;
+use plain_tracer::GlobalRoot;
 use std::alloc::{AllocError, Global};
-use trace_core::GlobalRoot;
 use work_packets::{Bucket, MAX_ITEMS, Packet};
 
 /// The packets of `count` roots, in order, and of the globals after them. Each but the last has 64

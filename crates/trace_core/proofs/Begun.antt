@@ -16,7 +16,7 @@ use Rattle.heap_layout.specs.declared.block.Kind.TheVariants as kinds
 use Rattle.object_model.proofs.OneKind.{kind-within}
 use Rattle.object_model.proofs.Blocks as blocks
 use Rattle.trace_core.specs.declared.run.TraceRun.{TraceRun}
-use Rattle.trace_core.specs.Tracers.{zeroed, is_nursery, without_lines, without_unlogs, begun}
+use Rattle.trace_core.specs.Runs.{zeroed, is_nursery, without_lines, without_unlogs, begun}
 use Rattle.trace_core.proofs.WithoutLines as lines
 
 -- with all unlog bits clear

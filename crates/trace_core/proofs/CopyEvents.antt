@@ -4,7 +4,8 @@ use Rattle.std.specs.Prelude.{if◌then◌else◌}
 use Rattle.std.proofs.lemmas.Bool.{cases_eq, cond-true, cond-false, lt-ltb, le-ltb, eq-eqb, ne_eqb, and_from, not_from_false}
 use Rattle.std.proofs.lemmas.Grind.{get_or-set_at}
 use Rattle.heap_layout.specs.Zones.{StartBits, UnlogBits}
-use Rattle.object_model.specs.BitWords.{bit_word, bit_place, with_bit}
+use Rattle.side_meta.specs.BitWords.{with_bit}
+use Rattle.object_model.specs.BitWords.{bit_word, bit_place}
 use Rattle.trace_core.specs.Setups.{Setup, blocks, size}
 use Rattle.trace_core.specs.Machine.{Stage, Copying, Scanning, Machine, Copy, next, put, copied_word, offset_of_step, step_of_offset, copy_place, copy_value, copy_stage}
 use Rattle.trace_core.specs.Traces.{after, AreNext}

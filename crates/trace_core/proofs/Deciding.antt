@@ -1,7 +1,6 @@
--- What the collector word of an object tells a tracer, and what its unlog bit.
-use Rattle.std.proofs.Common.{◌≡◌, ◌≢◌, ℕ, ◌+◌, ◌<◌, ◌≤◌, inl, inr, false, true≢false, ◌&&◌, IsTrue, nat_lt, nat_le, List, get_or, refl, sym, ap, ◌∙◌, subst, arith, Some, None}
+-- What the collector word of an object tells a tracer, and its unlog bit.
+use Rattle.std.proofs.Common.{◌≡◌, ◌≢◌, ℕ, ◌+◌, ◌<◌, ◌≤◌, inl, inr, false, true≢false, ◌&&◌, IsTrue, nat_lt, nat_le, List, refl, sym, ap, ◌∙◌, subst, arith, Some, None}
 use Rattle.std.proofs.lemmas.Bool.{cases_Bool, cases_eq, eq-eqb, cond-true, cond-false, and_parts, and_from, leb-true}
-use Rattle.std.proofs.lemmas.Grind.{get_or_default_zero}
 use Rattle.forward_word.specs.CollectorWords.{collector_word, number_in, target_in, is_old_word}
 use Rattle.heap_layout.specs.Zones.{row_words}
 use Rattle.object_model.specs.Objects.{IsHeld, word_at, is_unlogged}
@@ -11,13 +10,10 @@ use Rattle.trace_core.specs.Machine.{Stage, Unclaimed, Copying, Scanning, target
 use Rattle.trace_core.specs.Traces.{IsTrace, machine_after, heap_after, stage_of, target_of}
 use Rattle.trace_core.specs.Outcomes.{base_after}
 use Rattle.trace_core.specs.Views.{View, Holds, hits, one_if, is_copying}
-use Rattle.trace_core.specs.Tracers.{Tracks, StaysHere}
-use Rattle.trace_core.specs.declared.plain_trace.PlainTrace.{PlainTrace}
+use Rattle.trace_core.specs.Rights.{StaysHere}
 use Rattle.trace_core.proofs.Beginning.{nursery-of, age-of}
 use Rattle.trace_core.proofs.Clauses.{collector, unclaimed, targets-inside, extents-apart, has-room, unlogs-from, unlogs-done}
 use Rattle.trace_core.proofs.Finished.{parts-of, option-cases}
-use Rattle.trace_core.proofs.Reading.{word-within}
-use Rattle.trace_core.proofs.Tracking.{words-are}
 
 module _ (p : Setup) (es : List Event) (trace : IsTrace p es) (x : ℕ) (there : IsHeld p.before x) where
   abbrev word : ℕ
@@ -83,12 +79,6 @@ module _ (p : Setup) (es : List Event) (trace : IsTrace p es) (x : ℕ) (there :
       | inr new ↦ absurd (other (claimed-parts some.0 some.1 new).0)
     ]
   ]
-
--- the collector word that a tracer reads
-pub collector-read : (p : Setup) (es : List Event) (t : PlainTrace) (v : View) → Tracks p es t v → (x : ℕ) → IsHeld p.before x → (w : ℕ)
-    → w ≡ get_or t.row.words.items (x + 2) w → w ≡ word_at (heap_after p es) (x + 2)
-collector-read p es t v tracks x there w is = is ∙ get_or_default_zero t.row.words.items (x + 2) w (word-within p es t v tracks x there 2 (omega arith))
-    ∙ ap (λ ws. get_or ws (x + 2) 0) (words-are p es t v tracks)
 
 -- An unlog bit that is set, where none was, tells that the object there was claimed and stays.
 pub marked : (p : Setup) (es : List Event) → IsTrace p es → (x : ℕ) → IsHeld p.before x → is_unlogged p.before x ≡ false

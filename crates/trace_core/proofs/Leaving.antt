@@ -6,7 +6,7 @@ use Rattle.heap_layout.specs.Zones.{block_start}
 use Rattle.trace_core.specs.Setups.{Setup, blocks}
 use Rattle.trace_core.specs.Machine.{Machine}
 use Rattle.trace_core.specs.Views.{times}
-use Rattle.trace_core.specs.Tracers.{IsFilled, IsLeftFor, AreLeft}
+use Rattle.trace_core.specs.Rooms.{IsFilled, IsLeftFor, AreLeft}
 
 module _ (p : Setup) (m m' : Machine) (more : (a y : ℕ) → m.owner a ≡ Some y → m'.owner a ≡ Some y) where
   still-some : (a : ℕ) → IsTrue (is_some (m.owner a)) → IsTrue (is_some (m'.owner a))

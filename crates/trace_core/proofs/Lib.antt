@@ -1,47 +1,31 @@
-mod Puts
-mod Objects
-mod Places
-mod Steps
+pub mod Puts
+pub mod Objects
+pub mod Places
+pub mod Steps
 mod ObjectEvents
-mod Beginning
+pub mod Beginning
 mod ObjectLaw
 mod Sides
 mod SideEvents
 mod SideLaw
 mod Reasons
-mod Law
+pub mod Law
 mod Once
 mod Staying
 pub mod Clauses
 pub mod Finished
 pub mod Rows
 pub mod Releasable
-mod Appending
+pub mod Appending
 pub mod Counting
-mod Idle
-mod LastBlocks
-mod Tracking
-mod Leaving
-mod TakenRoom
-mod Reading
-mod ClaimedObjects
-mod Deciding
-mod Winning
-mod Asking
-mod CopyEvents
-mod BitStores
-mod CopiedObjects
-mod MarkedWords
-mod LineMarks
+pub mod Idle
+pub mod Leaving
+pub mod CopyEvents
 pub mod WithoutLines
-mod FirstView
-mod BeginningTracer
-pub mod Following
-mod Storing
-pub mod ReachedTokens
-mod ScanRights
-mod ScanSteps
-mod FieldScans
+pub mod FirstView
+pub mod ScanRights
 mod WorkedTraces
 pub mod Begun
 pub mod LineBits
+pub mod Deciding
+pub mod SameObjects

@@ -6,9 +6,11 @@ use Rattle.heap_layout.specs.Zones.{Zone, StopWord, BudgetWord, Globals, BlockWo
 use Rattle.heap_layout.specs.declared.block.Kind.TheVariants as kinds
 use Rattle.heap_layout.proofs.ZoneLemmas.{apart}
 use Rattle.object_model.specs.Objects.{global_at, block_word}
-use Rattle.object_model.specs.BitWords.{bit_word, bit_place, with_bit}
+use Rattle.side_meta.specs.BitWords.{with_bit}
+use Rattle.object_model.specs.BitWords.{bit_word, bit_place}
 use Rattle.object_model.proofs.Marks.{mark-same}
-use Rattle.object_model.proofs.BitWords.{own-mark, other-mark, with-same, with-other}
+use Rattle.side_meta.proofs.BitWords.{with-same, with-other}
+use Rattle.object_model.proofs.BitWords.{own-mark, other-mark}
 use Rattle.trace_core.specs.Setups.{Setup, blocks, size, is_old}
 use Rattle.trace_core.specs.Machine.{Stage, Unclaimed, Copying, Scanning, target, put, forward, IsSettled, taken_word}
 use Rattle.object_model.specs.Lines.{TouchesLine}

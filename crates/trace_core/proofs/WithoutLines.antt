@@ -16,7 +16,7 @@ use Rattle.object_model.proofs.Frames as frames
 use Rattle.object_model.proofs.Marks.{mark-same}
 use Rattle.object_model.proofs.ObjectParts.{objects-of, places-of, together}
 use Rattle.object_model.proofs.OneKind.{kind-within, one-kind}
-use Rattle.trace_core.specs.Tracers.{zeroed, without_lines}
+use Rattle.trace_core.specs.Runs.{zeroed, without_lines}
 
 abbrev zeros : ℕ → List ℕ
 zeros n = replicate n 0

@@ -4,4 +4,7 @@ pub mod Traces
 pub mod Outcomes
 pub mod WorkedTraces
 pub mod Views
-pub mod Tracers
+pub mod Runs
+pub mod Rooms
+pub mod Rights
+pub mod CallEvents

@@ -5,7 +5,8 @@ use Rattle.forward_word.specs.CollectorWords.{collector_word}
 use Rattle.heap_layout.specs.Zones.{Globals, BlockWords, StartBits, UnlogBits, first}
 use Rattle.heap_layout.specs.Blocks.{code_of}
 use Rattle.object_model.specs.Objects.{HeapState, with_words, word_at, global_at, ref_at, is_reference}
-use Rattle.object_model.specs.BitWords.{bit_word, bit_place, with_bit}
+use Rattle.side_meta.specs.BitWords.{with_bit}
+use Rattle.object_model.specs.BitWords.{bit_word, bit_place}
 use Rattle.trace_core.specs.Setups.{Setup, blocks, collection, size, refs, is_old, is_logged}
 
 -- How far an object has come. `target` is where it will be after the collection.

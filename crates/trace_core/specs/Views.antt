@@ -1,13 +1,10 @@
 -- What a tracer has done and may do. Each right is held once, by the tracer or by a token that it gave.
-use Rattle.std.specs.Prelude.{◌≡◌, ℕ, ◌<◌, Bool, true, false, ◌&&◌, not, nat_eq, nat_lt, List, [], ◌∷◌, map, take, ◌++◌, count_by, if◌then◌else◌, Some, All, ◌+◌}
-use Rattle.std.specs.List.{range_with_len}
+use Rattle.std.specs.Prelude.{◌≡◌, ℕ, ◌+◌, ◌<◌, Bool, true, false, nat_eq, List, [], ◌∷◌, ◌++◌, take, Some, if◌then◌else◌, ◌&&◌, not, nat_lt, map, count_by}
 use Rattle.heap_layout.specs.declared.layout.TheConstants.{GLOBALS}
 use Rattle.trace_core.specs.Setups.{Setup, size, refs, is_old, is_idle, is_logged}
-use Rattle.trace_core.specs.Machine.{Stage, Copying, Scanning, target, Machine, Cause, ByRoot}
+use Rattle.trace_core.specs.Machine.{Machine, target, Cause, ByRoot, Stage, Copying, Scanning}
 use Rattle.trace_core.specs.declared.run.TraceRun.{TraceRun}
-use Rattle.trace_core.specs.declared.tokens.Won.{Won}
-use Rattle.trace_core.specs.declared.tokens.Grey.{Grey}
-use Rattle.trace_core.specs.declared.tokens.Reached.{Reached}
+use Rattle.std.specs.List.{range_with_len}
 
 pub record View : Type 0 where
   -- objects that it claimed and has to copy, with the steps of the copying that are made
@@ -73,28 +70,6 @@ pub record Holds (p : Setup) (m : Machine) (v : View) : Type 0 where
 abbrev pub steps_at_claim : Setup → ℕ → ℕ → ℕ
 steps_at_claim p x t = if nat_eq t x then size p x else 0
 
--- the token is the right to copy an object
-pub record IsWon (p : Setup) (v : View) (won : Won) : Type 0 where
-  pub right : 0 < hits won.object (steps_at_claim p won.object won.target) v.won
-  pub target : 0 < hits won.object won.target v.known
-  pub size : won.size ≡ size p won.object
-  pub refs : won.refs ≡ refs p won.object
-
--- the token is the right to scan an object
-pub record IsGrey (p : Setup) (v : View) (grey : Grey) : Type 0 where
-  pub right : 0 < hits grey.object 0 v.grey
-  pub target : 0 < hits grey.object grey.target v.known
-  pub size : grey.size ≡ size p grey.object
-  pub refs : grey.refs ≡ refs p grey.object
-
--- the token with the shape that its object had as the trace began
-abbrev pub grey_of : Setup → Reached → Grey
-grey_of p r = record { object = r.object; target = r.target; size = size p r.object; refs = refs p r.object }
-
--- the token is the right to scan an object, whose shape is not read yet
-abbrev pub IsReached : Setup → View → Reached → Type 0
-IsReached p v r = IsGrey p v (grey_of p r)
-
 -- Nothing is left to do: nothing claimed waits to be copied, each copied or logged object is scanned, each global is set.
 pub record IsIdle (p : Setup) (v : View) : Type 0 where
   pub won : v.won ≡ []
@@ -154,34 +129,3 @@ taken_view b v = record v { blocks = b ∷ v.blocks }
 
 abbrev pub left_view : ℕ → View → View
 left_view b v = record v { blocks = b ∷ v.blocks; sparse = take 1 v.blocks ++ v.sparse }
-
--- Tokens were pushed: the objects of the list were copied, and wait to be scanned. All else is as it was, but that more
--- may be known and more blocks may be taken.
-abbrev pub copied_in : List Grey → List ℕ
-copied_in pushed = map (λ g. g.object) pushed
-
-abbrev pub to_scan_in : List Grey → List (ℕ × ℕ)
-to_scan_in pushed = map (λ g. (g.object, 0)) pushed
-
-pub record Pushes (p : Setup) (v v' : View) (pushed : List Grey) : Type 0 where
-  pub won : v'.won ≡ v.won
-  pub grey : (x k : ℕ) → hits x k v'.grey ≡ hits x k (to_scan_in pushed) + hits x k v.grey
-  pub copied : (x : ℕ) → times x v'.copied ≡ times x (copied_in pushed) + times x v.copied
-  pub unset : v'.unset ≡ v.unset
-  pub set : v'.set ≡ v.set
-  pub asked : v'.asked ≡ v.asked
-  pub known : (x t : ℕ) → 0 < hits x t v.known → 0 < hits x t v'.known
-  pub sparse : v'.sparse ≡ v.sparse
-  pub tokens : All (IsGrey p v') pushed
-
--- The object at x was scanned from its first field up to field k, and tokens were pushed.
-pub record Scanned (p : Setup) (x k : ℕ) (v v' : View) (pushed : List Grey) : Type 0 where
-  pub won : v'.won ≡ v.won
-  pub grey : (y j : ℕ) → hits y j v'.grey + one_if (is_pair y j (x, 0)) ≡ hits y j (to_scan_in pushed) + hits y j v.grey + one_if (is_pair y j (x, k))
-  pub copied : (y : ℕ) → times y v'.copied ≡ times y (copied_in pushed) + times y v.copied
-  pub unset : v'.unset ≡ v.unset
-  pub set : v'.set ≡ v.set
-  pub asked : v'.asked ≡ v.asked
-  pub known : (y t : ℕ) → 0 < hits y t v.known → 0 < hits y t v'.known
-  pub sparse : v'.sparse ≡ v.sparse
-  pub tokens : All (IsGrey p v') pushed

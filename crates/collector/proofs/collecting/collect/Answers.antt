@@ -1,14 +1,13 @@
-use Rattle.std.proofs.Common.{◌≡◌, ◌∙◌, sym, ap, subst, subst₂, true, nat_eq, true≢false}
+use Rattle.std.proofs.Common.{◌≡◌, ◌∙◌, sym, ap, subst, subst₂, true}
 use Rattle.object_model.specs.Heaps.{heap_state}
 use Rattle.sessions.specs.Collecting.{Collects}
-use Rattle.trace_core.specs.Tracers.{is_nursery}
-use Rattle.plan_api.specs.declared.flags.PlanFlags.{PlanFlags}
+use Rattle.trace_core.specs.Runs.{is_nursery}
 use Rattle.collector.specs.Collected.{IsRunUnder, FillsInTurn}
 use Rattle.collector.specs.Working.{IsFullTrace}
 use Rattle.collector.specs.Tallies.{IsNote}
 use Rattle.collector.specs.declared.worker.TraceStart.{TraceStart}
 use Rattle.collector.proofs.Offered.{offered-full}
-use Rattle.collector.proofs.WholeNotes.{reclaims, collects-all, root-buckets}
+use Rattle.collector.proofs.WholeNotes.{collects-all, root-buckets}
 use Rattle.collector.proofs.collecting.collect.Goals as goal
 
 pub count_only-requires-clause-full : goal.count_only-requires-clause-full
@@ -44,8 +43,7 @@ returns g c =
       full = c.in_ok-run.ensures.under.collect ∙ offered-full g.P.Plan.rules c.args.collect c.requires.offered;
       awaited = (c.in_ok-trace-2.ensures start (record { awaited = c.in_ok-trace.ensures.awaits; buckets = root-buckets c.in_ok-trace.first.items c.in_ok-trace.ensures.packets })).awaited;
     } in
-    let all : g.P.Plan.rules.collects ≡ true = reclaims g.P.Plan.plan g.P.Plan.rules g.met.P.Plan.rules_are_of_plan c.FLAGS.result.0
-    (ap (λ (f : PlanFlags). f.0) c.FLAGS.ensures ∙ g.met.P.Plan.flags_are_of_rules) (λ none. true≢false (sym (c.if-eq.ensures ∙ ap (λ n. nat_eq n 0) none))) in
+    let all : g.P.Plan.rules.collects ≡ true = sym c.collects-reclaims.ensures ∙ c.if-not-reclaims.false in
     collects-all g.P.Plan.rules c.args.workers c.args.collect (heap_state c.args.heap) c.args.roots.items (heap_state c.finish.result.heap) c.finish.result.roots.items c.finish.result.note
     g.P.Plan.rules.collects all
     (subst₂ (λ w k. (made : Collects g.P.Plan.rules w k (heap_state c.args.heap) c.args.roots.items (heap_state c.finish.result.heap) c.finish.result.roots.items) × IsNote k (heap_state c.args.heap) made.target (heap_state c.finish.result.heap) c.finish.result.note × FillsInTurn (heap_state c.args.heap) made.target)

@@ -3,7 +3,8 @@ use Rattle.std.proofs.lemmas.Bool.{eqb-true}
 use Rattle.object_model.specs.Heaps.{heap_state}
 use Rattle.sessions.specs.Grants.{BlockCounts}
 use Rattle.trace_core.specs.declared.run.TraceRun.{TraceRun}
-use Rattle.trace_core.specs.Tracers.{setup_of, IsTraced}
+use Rattle.trace_core.specs.Runs.{setup_of}
+use Rattle.plain_tracer.specs.Tracers.{IsTraced}
 use Rattle.collector.proofs.FinishedTraces as whole
 use Rattle.collector.proofs.collecting.finish.Goals as goal
 
@@ -22,8 +23,9 @@ release_by-heap-requires g c =
       finished,
       is.row,
       is.run,
-      λ all. whole.moves-all start w full finished (eqb-true w.tally.kept w.tally.moved all),
-      λ on. whole.marks-lines start w full finished (subst (λ (r : TraceRun). IsTrue r.lines) (c.close-traced.ensures.run ∙ full.awaited.runs) on),
+      c.known_after-known.ensures p es is.run.nursery
+          (λ all. whole.moves-all start w full finished (eqb-true w.tally.kept w.tally.moved all))
+          (λ on. whole.marks-lines start w full finished (subst (λ (r : TraceRun). IsTrue r.lines) (c.close-traced.ensures.run ∙ full.awaited.runs) on)),
     )
 
 pub returns : goal.returns

@@ -5,13 +5,13 @@ use Rattle.std.proofs.lemmas.List.Sorted.{IsPermutation-refl}
 use Rattle.std.proofs.lemmas.List.Sums.{sum_by-cons}
 use Rattle.std.specs.List.Sorted.{IsPermutation}
 use Rattle.trace_core.specs.Views.{one_if}
-use Rattle.trace_core.specs.declared.tokens.Grey.{Grey}
+use Rattle.plain_tracer.specs.declared.tokens.Grey.{Grey}
 use Rattle.trace_core.proofs.Counting.{count-cons}
 use Rattle.collector.specs.declared.item.Item.TheVariants.{Object}
 use Rattle.collector.specs.Items.{tokens_of, IsObject}
 use Rattle.collector.specs.Tallies.{has_moved}
 use Rattle.collector.proofs.HandedOn.{one-token-more, shaped-none, shaped-more, last-reached}
-use Rattle.collector.proofs.TracedObjects.{one-if-few}
+use Rattle.plain_tracer.proofs.TracedObjects.{one-if-few}
 use Rattle.collector.proofs.packet_trace.fill.Goals as goal
 
 pub grey-grey-requires : goal.grey-grey-requires

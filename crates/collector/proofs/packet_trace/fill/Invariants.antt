@@ -1,8 +1,8 @@
 use Rattle.std.proofs.Common.{◌≡◌, ◌*◌, ◌^◌, ◌++◌, ◌≤◌, List, All, length, vec_capacity}
 use Rattle.std.specs.Prelude.{count_by, sum_by}
 use Rattle.std.specs.List.Sorted.{IsPermutation}
-use Rattle.trace_core.specs.declared.tokens.Grey.{Grey}
-use Rattle.trace_core.specs.declared.tokens.Reached.{Reached}
+use Rattle.plain_tracer.specs.declared.tokens.Grey.{Grey}
+use Rattle.plain_tracer.specs.declared.tokens.Reached.{Reached}
 use Rattle.collector.specs.Items.{tokens_of, IsObject}
 use Rattle.collector.specs.Serving.{AreShaped}
 use Rattle.collector.specs.Tallies.{has_moved}

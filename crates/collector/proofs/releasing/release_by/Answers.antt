@@ -1,7 +1,6 @@
 use Rattle.std.proofs.Common.{◌≡◌, ◌∙◌, ap, subst, ℕ, ◌<◌, ◌^◌, arith, false, List, slice_index}
 use Rattle.object_model.specs.Objects.{state_over}
-use Rattle.trace_core.specs.Tracers.{is_nursery}
-use Rattle.collector.proofs.ReleaseLoop.{going-first, going-on, extent, releasable, tells, marks, lines, lawful-after, at-end}
+use Rattle.collector.proofs.ReleaseLoop.{going-first, going-on, extent, releasable, told, lawful-after, at-end}
 use Rattle.collector.proofs.releasing.release_by.Goals as goal
 
 pub loop-block-init : goal.loop-block-init
@@ -18,20 +17,9 @@ release_next-requires-clause-releasable g c =
     releasable g.P.Plan.rules t.run.collect t.run.base t.row is.0 is.1 is.2 is.3 is.4 is.5.base c.loop-block.words.items c.loop-block.block c.loop-block.invariant (subst (λ n. c.loop-block.block < n) c.blocks-block-end.ensures c.loop-block-test.true)
 
 pub release_next-requires-clause-tells : goal.release_next-requires-clause-tells
-release_next-requires-clause-tells g c = λ all.
+release_next-requires-clause-tells g c =
     let t = c.args.traced in let is = c.requires in
-    tells g.P.Plan.rules t.run.collect t.run.base t.row is.0 is.1 is.2 is.3 is.4 is.5.base c.loop-block.words.items c.loop-block.block c.loop-block.invariant (is.6 all) (subst (λ n. c.loop-block.block < n) c.blocks-block-end.ensures c.loop-block-test.true)
-
-pub release_next-requires-clause-marks : goal.release_next-requires-clause-marks
-release_next-requires-clause-marks g c = λ full.
-    let t = c.args.traced in let is = c.requires in
-    let all : (is.0).nursery ≡ false = is.5.nursery ∙ ap is_nursery full in
-    marks g.P.Plan.rules t.run.collect t.run.base t.row is.0 is.1 is.2 is.3 is.4 is.5.base c.loop-block.words.items c.loop-block.block c.loop-block.invariant all (is.5.unlogs all) (subst (λ n. c.loop-block.block < n) c.blocks-block-end.ensures c.loop-block-test.true)
-
-pub release_next-requires-clause-lines : goal.release_next-requires-clause-lines
-release_next-requires-clause-lines g c = λ on.
-    let t = c.args.traced in let is = c.requires in
-    lines g.P.Plan.rules t.run.collect t.run.base t.row is.0 is.1 is.2 is.3 is.4 is.5.base c.loop-block.words.items c.loop-block.block c.loop-block.invariant (is.7 on) (subst (λ n. c.loop-block.block < n) c.blocks-block-end.ensures c.loop-block-test.true)
+    told g.P.Plan.rules t.run.collect t.run.base t.row is.0 is.1 is.2 is.3 is.4 is.5.base c.loop-block.words.items c.loop-block.block c.loop-block.invariant c.args.known is.6 is.5.unlogs (subst (λ n. c.loop-block.block < n) c.blocks-block-end.ensures c.loop-block-test.true)
 
 pub loop-block-preserved : goal.loop-block-preserved
 loop-block-preserved g c =

@@ -5,7 +5,7 @@ use Rattle.heap_layout.specs.Zones.{LineWords, UnlogBits, InZone, first, heap_of
 use Rattle.object_model.specs.Objects.{HeapState, word_at, IsHeld, is_unlogged}
 use Rattle.object_model.specs.Lawful.{IsLawfulButLines}
 use Rattle.object_model.proofs.Frames.{held-kept}
-use Rattle.trace_core.specs.Tracers.{is_nursery, without_lines, without_unlogs, begun}
+use Rattle.trace_core.specs.Runs.{is_nursery, without_lines, without_unlogs, begun}
 use Rattle.trace_core.proofs.WithoutLines as lines
 use Rattle.trace_core.proofs.Begun.{below-unlogs, above-unlogs, keeps-objects, by-begun, begun-same, begun-unlogs, begun-lines}
 use Rattle.trace_core.proofs.laws.traces_begin_with_the_heap.Goals as goal

@@ -4,9 +4,9 @@ use Rattle.std.proofs.lemmas.List.Sorted.{IsPermutation-refl}
 use Rattle.std.specs.List.Sorted.{IsPermutation}
 use Rattle.work_packets.specs.Packets.{HasItems}
 use Rattle.work_packets.specs.declared.packet.Bucket.TheVariants as buckets
-use Rattle.trace_core.specs.Views.{IsReached}
-use Rattle.trace_core.specs.Tracers.{IsTracing}
-use Rattle.trace_core.specs.declared.plain_trace.PlainTrace.{PlainTrace}
+use Rattle.plain_tracer.specs.TokenRights.{IsReached}
+use Rattle.plain_tracer.specs.Tracers.{IsTracing}
+use Rattle.plain_tracer.specs.declared.plain_trace.PlainTrace.{PlainTrace}
 use Rattle.collector.specs.Serving.{AreShaped}
 use Rattle.collector.specs.Items.{items_of, tokens_of, IsObject}
 use Rattle.collector.proofs.HandedOn.{counts-none, counts-before, handed-length, items-more, one-packet-more, shaped-none, shaped-both}

@@ -2,8 +2,8 @@ use Rattle.std.proofs.Common.{◌≡◌, ◌++◌, ◌≤◌, List, All, length}
 use Rattle.std.specs.List.Sorted.{IsPermutation}
 use Rattle.work_packets.specs.Packets.{HasItems}
 use Rattle.work_packets.specs.declared.packet.Bucket.TheVariants as buckets
-use Rattle.trace_core.specs.declared.tokens.Grey.{Grey}
-use Rattle.trace_core.specs.declared.tokens.Reached.{Reached}
+use Rattle.plain_tracer.specs.declared.tokens.Grey.{Grey}
+use Rattle.plain_tracer.specs.declared.tokens.Reached.{Reached}
 use Rattle.collector.specs.Items.{items_of, tokens_of, IsObject}
 use Rattle.collector.specs.Serving.{AreShaped}
 use Rattle.collector.specs.Tallies.{Counts}

@@ -1,5 +1,5 @@
 use Rattle.std.proofs.Common.{All, sym, ap, subst}
-use Rattle.trace_core.specs.Views.{IsReached}
+use Rattle.plain_tracer.specs.TokenRights.{IsReached}
 use Rattle.collector.proofs.packet_trace.PacketTrace.next_packet.Goals as goal
 
 pub fill-requires-clause-tracing : goal.fill-requires-clause-tracing

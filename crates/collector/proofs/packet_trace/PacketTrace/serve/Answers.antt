@@ -1,7 +1,7 @@
 use Rattle.std.proofs.Common.{◌≡◌, List, [], ◌∷◌, ◌++◌, map, sym, subst}
-use Rattle.trace_core.specs.Views.{grey_of}
-use Rattle.trace_core.specs.Tracers.{SetsGlobal, ScansFields}
-use Rattle.trace_core.specs.declared.tokens.Grey.{Grey}
+use Rattle.plain_tracer.specs.TokenRights.{grey_of}
+use Rattle.plain_tracer.specs.Tracers.{SetsGlobal, ScansFields}
+use Rattle.plain_tracer.specs.declared.tokens.Grey.{Grey}
 use Rattle.collector.specs.Serving.{HasRights, Serves}
 use Rattle.collector.proofs.ServedItems.{global-right, serves-global, grey-token, serves-object}
 use Rattle.collector.proofs.packet_trace.PacketTrace.serve.Goals as goal

@@ -1,10 +1,12 @@
 use Rattle.std.proofs.Common.{[], ◌∷◌, ◌++◌, map, ap, length, slice_set, refl, sym, ◌∙◌, subst, arith, append-nil}
 use Rattle.std.proofs.lemmas.List.{get_or_read_under}
 use Rattle.trace_core.specs.Machine.{ByRoot, Ask}
-use Rattle.trace_core.specs.Views.{grey_of, asked_view, claimed_view}
-use Rattle.trace_core.specs.Tracers.{ClaimsRoot, taken_in}
-use Rattle.trace_core.proofs.Following.{won-token}
-use Rattle.trace_core.proofs.ReachedTokens.{grey-again, one-pushed}
+use Rattle.plain_tracer.specs.TokenRights.{grey_of}
+use Rattle.trace_core.specs.Views.{asked_view, claimed_view}
+use Rattle.plain_tracer.specs.Tracers.{ClaimsRoot}
+use Rattle.trace_core.specs.CallEvents.{taken_in}
+use Rattle.plain_tracer.proofs.Following.{won-token}
+use Rattle.plain_tracer.proofs.ReachedTokens.{grey-again, one-pushed}
 use Rattle.collector.proofs.ServedRoots.{Replaces, set-replaces, same-replaces, place-inside, root-held, serves-nil, serves-root, asks-known, serves-won}
 use Rattle.collector.proofs.packet_trace.PacketTrace.serve_root.Goals as goal
 

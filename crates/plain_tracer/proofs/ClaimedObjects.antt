@@ -1,0 +1,271 @@
+-- A tracer claims an object.
+use Rattle.std.proofs.Common.{◌≡◌, ◌≢◌, ℕ, ◌+◌, ◌-◌, ◌^◌, ◌<◌, ◌≤◌, inl, inr, Bool, ◌&&◌, not, IsTrue, nat_eq, List, [], ◌∷◌, ◌++◌, slice_set, refl, sym, ap, ◌∙◌, subst, arith, Option, Some, None}
+use Rattle.std.specs.Prelude.{is_some}
+use Rattle.std.proofs.lemmas.Bool.{cases_eq, cases_lt, cond-true, cond-false, eq-eqb, ne_eqb}
+use Rattle.forward_word.specs.CollectorWords.{collector_word}
+use Rattle.heap_layout.specs.Zones.{block_start, block_at}
+use Rattle.heap_layout.specs.declared.region.Region.{Region}
+use Rattle.object_model.specs.declared.shape.Shape.{Shape}
+use Rattle.object_model.specs.Objects.{IsHeld, state_of, with_words, IsInExtentOf}
+use Rattle.trace_core.specs.Setups.{Setup, blocks, size, refs, is_old, is_idle, may_move}
+use Rattle.trace_core.specs.Machine.{Stage, Unclaimed, Copying, Scanning, target, Machine, Event, Cause, ByRoot, ByGlobal, ByField, Claim, next, put, put_all, asked_after, heap_in}
+use Rattle.trace_core.specs.Traces.{May, NoneIsFree, IsAskedBy, machine_after, stage_of, target_of}
+use Rattle.trace_core.specs.Views.{View, Holds, one_if, hits, times, is_copying, is_scanning, is_copied, steps_at_claim, roots_of, claimed_view}
+use Rattle.plain_tracer.specs.Tracers.{Tracks}
+use Rattle.trace_core.specs.Runs.{IsRunOf}
+use Rattle.trace_core.specs.Rooms.{IsRoom, AreLeft, StayForWantOfRoom}
+use Rattle.trace_core.specs.Rights.{IsWaiting}
+use Rattle.plain_tracer.specs.declared.plain_trace.PlainTrace.{PlainTrace}
+use Rattle.trace_core.proofs.Puts.{put_here, put_else, all_here, all_else}
+use Rattle.trace_core.proofs.Objects.{Some-injective, None-not-Some}
+use Rattle.trace_core.proofs.Appending.{machine-next, trace-next}
+use Rattle.trace_core.proofs.Counting.{hits-cons, hits-from, pair-parts, times-cons}
+use Rattle.trace_core.proofs.Idle.{one-if-true}
+use Rattle.trace_core.proofs.Law.{sound}
+use Rattle.trace_core.proofs.Leaving.{left-more}
+use Rattle.plain_tracer.proofs.Tracking.{words-are, blocks-are}
+use Rattle.plain_tracer.proofs.TakenRoom.{last, room-there, room-end, room-taken, room-block}
+
+pub unclaimed-stage : (st : Stage) → target st ≡ None → st ≡ Unclaimed
+unclaimed-stage Unclaimed is = refl
+unclaimed-stage (Copying t k) is = absurd (None-not-Some t (sym is))
+unclaimed-stage (Scanning t k) is = absurd (None-not-Some t (sym is))
+
+-- the view after a claim of the object at x, which goes to u
+module _ (p : Setup) (m : Machine) (v : View) (holds : Holds p m v) (x u : ℕ) (cause : Cause) (free : m.stage x ≡ Unclaimed) where
+  abbrev steps : ℕ
+  steps = steps_at_claim p x u
+
+  abbrev claimed : Machine
+  claimed = next p m (Claim x u cause)
+
+  here : claimed.stage x ≡ Copying u steps
+  here = put_here m.stage x (Copying u steps)
+
+  there : (y : ℕ) → y ≢ x → claimed.stage y ≡ m.stage y
+  there y ne = put_else m.stage x (Copying u steps) y ne
+
+  won-now : (y j : ℕ) → hits y j ((x, steps) ∷ v.won) ≡ one_if (is_copying j (claimed.stage y))
+  won-now y j = elim (cases_eq y x) as (λ _. hits y j ((x, steps) ∷ v.won) ≡ one_if (is_copying j (claimed.stage y))) [
+    | inl e ↦ (let count : hits y j ((x, steps) ∷ v.won) ≡ one_if (nat_eq x y && nat_eq steps j) + hits y j v.won = hits-cons x steps v.won y j in
+        let one : one_if (nat_eq x y && nat_eq steps j) ≡ one_if (nat_eq steps j) = ap (λ b. one_if (b && nat_eq steps j)) (eq-eqb x y (sym e)) in
+        let none : hits y j v.won ≡ 0 = holds.won y j ∙ ap (λ st. one_if (is_copying j st)) (ap m.stage e ∙ free) in
+        let now : one_if (is_copying j (claimed.stage y)) ≡ one_if (nat_eq steps j) = ap (λ st. one_if (is_copying j st)) (ap claimed.stage e ∙ here) in omega arith)
+    | inr ne ↦ (let count : hits y j ((x, steps) ∷ v.won) ≡ one_if (nat_eq x y && nat_eq steps j) + hits y j v.won = hits-cons x steps v.won y j in
+        let zero : one_if (nat_eq x y && nat_eq steps j) ≡ 0 = ap (λ b. one_if (b && nat_eq steps j)) (ne_eqb x y (λ e. ne (sym e))) in
+        let before : hits y j v.won ≡ one_if (is_copying j (m.stage y)) = holds.won y j in
+        let now : one_if (is_copying j (claimed.stage y)) ≡ one_if (is_copying j (m.stage y)) = ap (λ st. one_if (is_copying j st)) (there y ne) in omega arith)
+  ]
+
+  -- what is the same of an unclaimed object and of one to copy
+  unchanged : (f : Stage → Bool) → f Unclaimed ≡ f (Copying u steps) → (y : ℕ) → f (claimed.stage y) ≡ f (m.stage y)
+  unchanged f same y = elim (cases_eq y x) as (λ _. f (claimed.stage y) ≡ f (m.stage y)) [
+    | inl e ↦ ap f (ap claimed.stage e ∙ here) ∙ sym same ∙ sym (ap f (ap m.stage e ∙ free))
+    | inr ne ↦ ap f (there y ne)
+  ]
+
+  asked-now : (c : Cause) (y : ℕ) → times y (roots_of x c v.asked) ≡ asked_after m (Claim x u c) y
+  asked-now ByRoot y = elim (cases_eq y x) as (λ _. times y (x ∷ v.asked) ≡ put m.asked x (m.asked x + 1) y) [
+    | inl e ↦ (let count : times y (x ∷ v.asked) ≡ one_if (nat_eq y x) + times y v.asked = times-cons x v.asked y in
+        let one : one_if (nat_eq y x) ≡ 1 = one-if-true (nat_eq y x) (eq-eqb y x e) in
+        let before : times y v.asked ≡ m.asked x = holds.asked y ∙ ap m.asked e in
+        let now : put m.asked x (m.asked x + 1) y ≡ m.asked x + 1 = ap (put m.asked x (m.asked x + 1)) e ∙ put_here m.asked x (m.asked x + 1) in omega arith)
+    | inr ne ↦ (let count : times y (x ∷ v.asked) ≡ one_if (nat_eq y x) + times y v.asked = times-cons x v.asked y in
+        let zero : one_if (nat_eq y x) ≡ 0 = ap one_if (ne_eqb y x ne) in
+        let before : times y v.asked ≡ m.asked y = holds.asked y in
+        let now : put m.asked x (m.asked x + 1) y ≡ m.asked y = put_else m.asked x (m.asked x + 1) y ne in omega arith)
+  ]
+  asked-now (ByGlobal g) y = holds.asked y
+  asked-now (ByField z i) y = holds.asked y
+
+  known-now : (y w : ℕ) → 0 < hits y w ((x, u) ∷ v.known) → target (claimed.stage y) ≡ Some w
+  known-now y w some = elim (hits-from x u v.known y w some) as (λ _. target (claimed.stage y) ≡ Some w) [
+    | inl pair ↦ (let both = pair-parts x u y w pair in ap target (ap claimed.stage (sym both.0) ∙ here) ∙ ap Some both.1)
+    | inr before ↦ (let was : target (m.stage y) ≡ Some w = holds.known y w before in
+        ap target (there y (λ e. None-not-Some w (ap target (sym free ∙ ap m.stage (sym e)) ∙ was))) ∙ was)
+  ]
+
+  pub holds-claimed : Holds p claimed (claimed_view p x u cause v)
+  holds-claimed = record {
+    won = won-now;
+    grey = λ y j. holds.grey y j ∙ sym (ap (λ b. one_if (not (is_idle p y) && b)) (unchanged (is_scanning j) refl y));
+    copied = λ y. holds.copied y ∙ sym (ap (λ b. one_if (not (is_old p y) && b)) (unchanged is_copied refl y));
+    unset = holds.unset;
+    set = holds.set;
+    asked = asked-now cause;
+    known = known-now;
+    blocks = holds.blocks;
+  }
+
+-- a word of a target stays that object's
+pub claim-keeps : (p : Setup) (m : Machine) (x u : ℕ) (cause : Cause) → May p m (Claim x u cause) → (a y : ℕ) → m.owner a ≡ Some y → (next p m (Claim x u cause)).owner a ≡ Some y
+claim-keeps p m x u cause may a y own = elim (cases_eq u x) as (λ _. (next p m (Claim x u cause)).owner a ≡ Some y) [
+  | inl e ↦ ap (λ (f : ℕ → Option ℕ). f a) (cond-true (nat_eq u x) m.owner _ (eq-eqb u x e)) ∙ own
+  | inr ne ↦ ap (λ (f : ℕ → Option ℕ). f a) (cond-false (nat_eq u x) m.owner _ (ne_eqb u x ne))
+      ∙ (elim (cases_lt a u) as (λ _. put_all m.owner u (size p x) (Some x) a ≡ Some y) [
+        | inl low ↦ all_else m.owner u (Some x) (size p x) a (inl low) ∙ own
+        | inr from ↦ elim (cases_lt a (u + size p x)) as (λ _. put_all m.owner u (size p x) (Some x) a ≡ Some y) [
+          | inl below ↦ absurd (elim may.3 as (λ _. ⊥) [
+            | inl stays ↦ ne stays.same
+            | inr moves ↦ None-not-Some y (sym (moves.unowned a (record { from = from; below = below })) ∙ own)
+          ])
+          | inr beyond ↦ all_else m.owner u (Some x) (size p x) a (inr beyond) ∙ own
+        ]
+      ])
+]
+
+module _ (p : Setup) (es : List Event) (old new : PlainTrace) (v : View) (tracks : Tracks p es old v) (x u : ℕ) (cause : Cause)
+    (may : May p (machine_after p es) (Claim x u cause))
+    (row : state_of new.row ≡ with_words (state_of old.row) (slice_set old.row.words.items (x + 2) (collector_word old.run.number u)))
+    (run : new.run ≡ old.run) (block : new.block ≡ old.block) (next_block : new.next_block ≡ old.next_block) where
+  abbrev was : Machine
+  was = machine_after p es
+
+  abbrev now : Machine
+  now = next p was (Claim x u cause)
+
+  row-now : state_of new.row ≡ heap_in p now
+  row-now = row ∙ ap (λ s. with_words s (slice_set old.row.words.items (x + 2) (collector_word old.run.number u))) tracks.row
+      ∙ ap (λ ws. with_words p.before (slice_set ws (x + 2) (collector_word old.run.number u))) (words-are p es old v tracks)
+      ∙ ap (λ n. with_words p.before (slice_set was.words (x + 2) (collector_word n u))) tracks.run.number
+
+  left-now : AreLeft p now v.sparse v.blocks
+  left-now = left-more p was now (claim-keeps p was x u cause may) v.sparse v.sparse (λ b few. few) v.blocks tracks.left
+
+  pub tracks-claimed : IsRoom p now v.blocks new.block new.room → StayForWantOfRoom p now new.room → Tracks p (es ++ Claim x u cause ∷ []) new (claimed_view p x u cause v)
+  tracks-claimed room stayed =
+      let same : machine_after p (es ++ Claim x u cause ∷ []) ≡ now = machine-next p es tracks.trace (Claim x u cause) in
+      record {
+        trace = trace-next p es tracks.trace (Claim x u cause) may;
+        run = subst (λ r. IsRunOf p r) (sym run) tracks.run;
+        row = row-now ∙ ap (heap_in p) (sym same);
+        holds = subst (λ n. Holds p n (claimed_view p x u cause v)) (sym same) (holds-claimed p was v tracks.holds x u cause may.1);
+        room = subst (λ n. IsRoom p n v.blocks new.block new.room) (sym same) room;
+        left = subst (λ n. AreLeft p n v.sparse v.blocks) (sym same) left-now;
+        stayed = subst (λ n. StayForWantOfRoom p n new.room) (sym same) stayed;
+        passed = λ c l free. subst (λ n. 0 < n.taken c) (sym same) (tracks.passed c (subst (λ n. c < n) next_block l) free);
+        ahead = λ c some. subst (λ n. c < n) (sym next_block) (tracks.ahead c (subst (λ n. 0 < n.taken c) same some));
+      }
+
+  -- in place no word gets an owner
+  pub tracks-in-place : u ≡ x → new.room ≡ old.room → (IsTrue (may_move p x) → old.room.end < old.room.next + size p x) → Tracks p (es ++ Claim x u cause ∷ []) new (claimed_view p x u cause v)
+  tracks-in-place e room tight = tracks-claimed (subst (λ (r : Region). IsRoom p now v.blocks new.block r) (sym room)
+      (subst (λ n. IsRoom p now v.blocks n old.room) (sym block) (by-blocks v.blocks tracks.room)))
+      (subst (StayForWantOfRoom p now) (sym room) (λ y is young moves. elim (cases_eq y x) as (λ _. old.room.end < old.room.next + size p y) [
+        | inl same-object ↦ subst (λ z. old.room.end < old.room.next + size p z) (sym same-object) (tight (subst (λ z. IsTrue (may_move p z)) same-object moves))
+        | inr ne ↦ tracks.stayed y (ap target (sym (put_else was.stage x _ y ne)) ∙ is) young moves
+      ]))
+    where
+      same : now.owner ≡ was.owner
+      same = cond-true (nat_eq u x) was.owner _ (eq-eqb u x e)
+
+      by-blocks : (bs : List ℕ) → IsRoom p was bs old.block old.room → IsRoom p now bs old.block old.room
+      by-blocks [] is = is
+      by-blocks (b ∷ rest) is = (
+        is.0,
+        is.1,
+        is.2,
+        (λ o l. subst (λ (f : ℕ → Option ℕ). IsTrue (is_some (f (block_start (blocks p) b + o)))) (sym same) (is.3 o l)),
+        (λ o from l. ap (λ (f : ℕ → Option ℕ). f (block_start (blocks p) b + o)) same ∙ is.4 o from l),
+      )
+
+  -- at the front of the room the object's words are a target's, and the room is smaller
+  pub tracks-moved : u ≢ x → (b : ℕ) (rest : List ℕ) → v.blocks ≡ b ∷ rest → u ≡ block_start (blocks p) old.block + old.room.next
+      → old.room.next + size p x ≤ 4096 → new.room.next ≡ old.room.next + size p x → new.room.end ≡ old.room.end
+      → Tracks p (es ++ Claim x u cause ∷ []) new (claimed_view p x u cause v)
+  tracks-moved differ b rest is front fits longer end = tracks-claimed (subst (λ bs. IsRoom p now bs new.block new.room) (sym is) room-now)
+      (λ y at-home young moves. elim (cases_eq y x) as (λ _. new.room.end < new.room.next + size p y) [
+        | inl same ↦ absurd (differ (Some-injective u x (ap target (sym (put_here was.stage x _)) ∙ ap (λ z. target (now.stage z)) (sym same) ∙ at-home ∙ ap Some same)))
+        | inr ne ↦ (let tight : old.room.end < old.room.next + size p y = tracks.stayed y (ap target (sym (put_else was.stage x _ y ne)) ∙ at-home) young moves in
+            let next : new.room.next ≡ old.room.next + size p x = longer in let limit : new.room.end ≡ old.room.end = end in omega arith)
+      ])
+    where
+      room : IsRoom p was (b ∷ rest) old.block old.room
+      room = subst (λ bs. IsRoom p was bs old.block old.room) is tracks.room
+
+      moved : now.owner ≡ put_all was.owner u (size p x) (Some x)
+      moved = cond-false (nat_eq u x) was.owner _ (ne_eqb u x differ)
+
+      at : u ≡ block_start (blocks p) b + old.room.next
+      at = front ∙ ap (λ c. block_start (blocks p) c + old.room.next) room.0
+
+      filled : (o : ℕ) → o < new.room.next → IsTrue (is_some (now.owner (block_start (blocks p) b + o)))
+      filled o l = let place : u ≡ block_start (blocks p) b + old.room.next = at in let more : new.room.next ≡ old.room.next + size p x = longer in
+          subst (λ (f : ℕ → Option ℕ). IsTrue (is_some (f (block_start (blocks p) b + o)))) (sym moved) (elim (cases_lt o old.room.next) as (λ _. IsTrue (is_some (put_all was.owner u (size p x) (Some x) (block_start (blocks p) b + o)))) [
+            | inl low ↦ subst (λ w. IsTrue (is_some w)) (sym (all_else was.owner u (Some x) (size p x) (block_start (blocks p) b + o) (inl (omega arith)))) (room.3 o low)
+            | inr from ↦ subst (λ w. IsTrue (is_some w)) (sym (all_here was.owner u (Some x) (size p x) (block_start (blocks p) b + o) (omega arith) (omega arith))) refl
+          ])
+
+      room-now : IsRoom p now (b ∷ rest) new.block new.room
+      room-now = (
+        block ∙ room.0,
+        end ∙ room.1,
+        omega arith,
+        filled,
+        (λ o from l. let place : u ≡ block_start (blocks p) b + old.room.next = at in ap (λ (f : ℕ → Option ℕ). f (block_start (blocks p) b + o)) moved
+            ∙ all_else was.owner u (Some x) (size p x) (block_start (blocks p) b + o) (inr (omega arith)) ∙ room.4 o (omega arith) l),
+      )
+
+-- the claim may come
+pub may-stay : (p : Setup) (es : List Event) (x : ℕ) (cause : Cause) → IsHeld p.before x → target_of p es x ≡ None → IsAskedBy p (machine_after p es) x cause
+    → (IsTrue (may_move p x) → NoneIsFree p (machine_after p es).taken) → May p (machine_after p es) (Claim x x cause)
+may-stay p es x cause there free asked reason = (there.start, unclaimed-stage (stage_of p es x) free, asked, inl (record { same = refl; reason = reason }))
+
+pub waiting-size : (p : Setup) (es : List Event) (x : ℕ) (shape : Shape) → IsWaiting p es x shape → 3 + shape.refs + shape.nums ≡ size p x
+waiting-size p es x shape is = ap (λ n. 3 + n + shape.nums) is.refs ∙ ap (λ n. 3 + refs p x + n) is.nums
+
+-- The front of the room has room for the object at x, and the object may move.
+module _ (p : Setup) (es : List Event) (t : PlainTrace) (v : View) (tracks : Tracks p es t v) (x u : ℕ) (cause : Cause) (held : IsHeld p.before x)
+    (front : u ≡ block_start (blocks p) t.block + t.room.next) (fits : t.room.next + size p x ≤ t.room.end) (some : 0 < size p x) where
+  room-some : t.room.next < t.room.end
+  room-some = omega arith
+
+  room-fits : t.room.next + size p x ≤ 4096
+  room-fits = let end : t.room.end ≡ 4096 = room-end p es t v tracks room-some in omega arith
+
+  block-there : t.block < blocks p
+  block-there = let there : t.block < t.row.layout.blocks = room-block p es t v tracks room-some in let same : t.row.layout.blocks ≡ blocks p = blocks-are p es t v tracks in omega arith
+
+  pub front-below : u < 2 ^ 24
+  front-below = let there : t.block < blocks p = block-there in let most : blocks p ≤ 1024 = tracks.trace.ready.lawful.order.row.most in
+      let fit : t.room.next + size p x ≤ 4096 = room-fits in omega arith
+
+  pub front-block : block_at (blocks p) u ≡ t.block
+  front-block = let fit : t.room.next + size p x ≤ 4096 = room-fits in omega arith
+
+  pub front-differs : u ≢ x
+  front-differs e =
+      let taken : 0 < (machine_after p es).taken (block_at (blocks p) x) = subst (λ b. 0 < (machine_after p es).taken b) (sym front-block ∙ ap (block_at (blocks p)) e) (room-taken p es t v tracks room-some) in
+      let free = (sound p es tracks.trace).objects.free (block_at (blocks p) x) taken in
+      (tracks.trace.ready.lawful.free (block_at (blocks p) x) free).empty x x held (record { from = omega arith; below = omega arith }) refl
+
+  pub may-move-there : target_of p es x ≡ None → IsAskedBy p (machine_after p es) x cause → IsTrue (may_move p x) → May p (machine_after p es) (Claim x u cause)
+  may-move-there free asked moves = (
+    held.start,
+    unclaimed-stage (stage_of p es x) free,
+    asked,
+    inr (record {
+      room = record {
+        moves = moves;
+        address = (let there : t.block < blocks p = block-there in let fit : t.room.next + size p x ≤ 4096 = room-fits in record { from = omega arith; below = omega arith });
+        block = subst (λ b. 0 < (machine_after p es).taken b) (sym front-block) (room-taken p es t v tracks room-some);
+        within = (let fit : t.room.next + size p x ≤ 4096 = room-fits in omega arith);
+      };
+      unowned = λ i inside. unowned i inside;
+    }),
+  )
+    where
+      unowned : (i : ℕ) → IsInExtentOf u (size p x) i → (machine_after p es).owner i ≡ None
+      unowned i inside =
+          let from : u ≤ i = inside.from in let below : i < u + size p x = inside.below in let fit : t.room.next + size p x ≤ 4096 = room-fits in
+          let room = room-there p es t v tracks room-some in
+          let block : t.block ≡ (last p es t v tracks room-some).0 = room.0 in
+          let offset : i ≡ block_start (blocks p) (last p es t v tracks room-some).0 + (i - block_start (blocks p) t.block) = omega arith in
+          ap (machine_after p es).owner offset ∙ room.4 (i - block_start (blocks p) t.block) (omega arith) (omega arith)
+
+  pub tracks-to-front : (new : PlainTrace) → target_of p es x ≡ None → IsAskedBy p (machine_after p es) x cause → IsTrue (may_move p x)
+      → state_of new.row ≡ with_words (state_of t.row) (slice_set t.row.words.items (x + 2) (collector_word t.run.number u))
+      → new.run ≡ t.run → new.block ≡ t.block → new.next_block ≡ t.next_block → new.room.next ≡ t.room.next + size p x → new.room.end ≡ t.room.end
+      → Tracks p (es ++ Claim x u cause ∷ []) new (claimed_view p x u cause v)
+  tracks-to-front new free asked moves row run block next_block longer end = tracks-moved p es t new v tracks x u cause (may-move-there free asked moves) row run block next_block
+      front-differs (last p es t v tracks room-some).0 (last p es t v tracks room-some).1 (last p es t v tracks room-some).2 front room-fits longer end

@@ -1,0 +1,77 @@
+use Rattle.std.proofs.Common.{sym, subst, ◌∙◌}
+use Rattle.trace_core.specs.Machine.{ByRoot}
+use Rattle.trace_core.specs.Traces.{stage_of}
+use Rattle.trace_core.specs.Views.{claimed_view}
+use Rattle.plain_tracer.specs.Tracers.{Claims}
+use Rattle.trace_core.specs.CallEvents.{taken_in}
+use Rattle.trace_core.proofs.Clauses.{old-target}
+use Rattle.plain_tracer.proofs.Following.{reference-of, settled-at, forward-at, settled-nil, forward-nil, at-once, won-token, by-claim}
+use Rattle.plain_tracer.proofs.Tracking.{blocks-are}
+use Rattle.plain_tracer.proofs.plain_trace.PlainTrace.follow.Goals as goal
+
+pub returns-then-reference-eq0-clause-follows : goal.returns-then-reference-eq0-clause-follows
+returns-then-reference-eq0-clause-follows c p es v cause tracks refers unasked asked = let x = c.args.reference in
+    at-once p es v c.args.self.now x 0 cause c.args.out.now.items tracks
+    (settled-nil (stage_of p es) x c.if-reference-eq0.true) (forward-nil (stage_of p es) x c.if-reference-eq0.true)
+
+pub claim_object-requires-clause-tracing : goal.claim_object-requires-clause-tracing
+claim_object-requires-clause-tracing c = let t = c.requires.tracing in record {
+  setup = t.setup;
+  events = t.events;
+  view = t.view;
+  tracks = t.tracks;
+  right = t.right (reference-of c.args.reference c.if-reference-eq0.false);
+}
+
+pub copy_with-grey-requires-clause-tracing : goal.copy_with-grey-requires-clause-tracing
+copy_with-grey-requires-clause-tracing c =
+    let t = c.requires.tracing in
+    let won = c.in-Won.won in
+    let wins = subst (Claims t.setup t.events t.view c.args.self.now c.claim_object.new.self c.args.reference ByRoot) c.in-Won.is
+    (c.claim_object.ensures.claims t.setup t.events t.view ByRoot t.tracks (t.right (reference-of c.args.reference c.if-reference-eq0.false)) tt) in
+    record {
+      setup = t.setup;
+      events = _;
+      view = claimed_view t.setup c.args.reference won.target ByRoot (taken_in wins.0 t.view);
+      tracks = wins.1.tracks;
+      right = won-token t.setup t.events t.view c.claim_object.new.self c.args.reference ByRoot won wins.0 wins.1;
+    }
+
+pub copy_with-grey-requires-clause-layout : goal.copy_with-grey-requires-clause-layout
+copy_with-grey-requires-clause-layout c =
+    let t = c.requires.tracing in
+    let wins = subst (Claims t.setup t.events t.view c.args.self.now c.claim_object.new.self c.args.reference ByRoot) c.in-Won.is
+    (c.claim_object.ensures.claims t.setup t.events t.view ByRoot t.tracks (t.right (reference-of c.args.reference c.if-reference-eq0.false)) tt) in
+    blocks-are t.setup t.events c.args.self.now t.view t.tracks
+    ∙ sym (blocks-are t.setup _ c.claim_object.new.self _ wins.1.tracks)
+
+pub returns-in-Old-clause-follows : goal.returns-in-Old-clause-follows
+returns-in-Old-clause-follows c p es v cause tracks refers unasked asked =
+    let x = c.args.reference in
+    let some = c.if-reference-eq0.false in
+    let new = c.claim_object.new.self in
+    let old = subst (Claims p es v c.args.self.now new x cause) c.in-Old.is (c.claim_object.ensures.claims p es v cause tracks (refers (reference-of x some)) asked) in
+    let at = old-target p es tracks.trace x old.0 in
+    at-once p es v new x x cause c.args.out.now.items old.1 (settled-at (stage_of p es) x x at) (forward-at (stage_of p es) x x some at)
+
+pub returns-in-Seen-clause-follows : goal.returns-in-Seen-clause-follows
+returns-in-Seen-clause-follows c p es v cause tracks refers unasked asked =
+    let x = c.args.reference in
+    let t = c.in-Seen.target in
+    let some = c.if-reference-eq0.false in
+    let new = c.claim_object.new.self in
+    let seen = subst (Claims p es v c.args.self.now new x cause) c.in-Seen.is (c.claim_object.ensures.claims p es v cause tracks (refers (reference-of x some)) asked) in
+    at-once p es v new x t cause c.args.out.now.items seen.2 (settled-at (stage_of p es) x t seen.1) (forward-at (stage_of p es) x t some seen.1)
+
+pub returns-in-Won-clause-follows : goal.returns-in-Won-clause-follows
+returns-in-Won-clause-follows c p es v cause tracks refers unasked asked =
+    let x = c.args.reference in
+    let won = c.in-Won.won in
+    let some = c.if-reference-eq0.false in
+    let mid = c.claim_object.new.self in
+    let wins = subst (Claims p es v c.args.self.now mid x cause) c.in-Won.is (c.claim_object.ensures.claims p es v cause tracks (refers (reference-of x some)) asked) in
+    let token = won-token p es v mid x cause won wins.0 wins.1 in
+    by-claim p es v mid x cause won wins.0 c.copy_with-grey.new.self c.copy_with-grey.result c.at-target.result
+    c.args.out.now.items c.push_reserved.new.self.items some unasked wins.1.object
+    (c.copy_with-grey.ensures.tracks p _ _ wins.1.tracks token) (c.copy_with-grey.ensures.grey p _ _ wins.1.tracks token)
+    c.copy_with-grey.ensures.object (c.at-target.ensures ∙ c.copy_with-grey.ensures.target) c.push_reserved.ensures.items

@@ -1,0 +1,2 @@
+pub mod TokenRights
+pub mod Tracers

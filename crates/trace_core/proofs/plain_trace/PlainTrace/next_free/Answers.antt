@@ -1,5 +1,0 @@
-use Rattle.trace_core.proofs.Tracking.{tracing-extent}
-use Rattle.trace_core.proofs.plain_trace.PlainTrace.next_free.Goals as goal
-
-pub is_free-requires-clause-extent : goal.is_free-requires-clause-extent
-is_free-requires-clause-extent c = tracing-extent _ _ c.requires

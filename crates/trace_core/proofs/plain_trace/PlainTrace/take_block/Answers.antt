@@ -1,5 +1,0 @@
-use Rattle.trace_core.proofs.Tracking.{tracing-extent}
-use Rattle.trace_core.proofs.plain_trace.PlainTrace.take_block.Goals as goal
-
-pub set_block-requires-clause-extent : goal.set_block-requires-clause-extent
-set_block-requires-clause-extent c = tracing-extent _ _ c.requires.tracing

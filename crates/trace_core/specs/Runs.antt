@@ -1,0 +1,80 @@
+-- What a tracer is told of a collection, and the collection that it begins so.
+use Rattle.std.specs.Prelude.{◌≡◌, ℕ, ◌+◌, ◌*◌, ◌^◌, ◌<◌, Bool, true, false, ◌||◌, IsTrue, List, [], ◌++◌, take, drop, length, slice_get, slice_index, Option, Some, None, replicate, if◌then◌else◌}
+use Rattle.heap_layout.specs.Zones.{LineWords, UnlogBits, first}
+use Rattle.object_model.specs.declared.collect.Collect.{Collect}
+use Rattle.object_model.specs.declared.collect.Collect.TheVariants.{Nursery, Full}
+use Rattle.object_model.specs.Objects.{HeapState, has_kind, with_words, is_unlogged}
+use Rattle.object_model.specs.Ages.{RemembersYoung}
+use Rattle.trace_core.specs.Setups.{Setup, blocks, collection, is_copy_kind}
+use Rattle.trace_core.specs.Outcomes.{base_after}
+use Rattle.trace_core.specs.Views.{one_if, times}
+use Rattle.trace_core.specs.declared.run.TraceRun.{TraceRun}
+use Rattle.heap_layout.specs.declared.block.Kind.TheVariants as kinds
+use Rattle.object_model.specs.Ages as ages
+
+-- a nursery collection
+abbrev pub is_nursery : Collect → Bool
+is_nursery Nursery = true
+is_nursery Full = false
+
+-- a flag of a list, false beyond its end
+abbrev pub is_set : Option Bool → Bool
+is_set None = false
+is_set (Some b) = b
+
+-- the list with n elements from index a on replaced by zeros
+abbrev pub zeroed : List ℕ → ℕ → ℕ → List ℕ
+zeroed xs a n = take a xs ++ (replicate n 0 ++ drop (a + n) xs)
+
+-- the row with all line bits clear, and with all unlog bits clear
+abbrev pub without_lines : HeapState → HeapState
+without_lines s = with_words s (zeroed s.words (first s.blocks LineWords) (4 * s.blocks))
+
+abbrev pub without_unlogs : HeapState → HeapState
+without_unlogs s = with_words s (zeroed s.words (first s.blocks UnlogBits) (64 * s.blocks))
+
+-- The heap as its trace begins. A full collection begins by clearing the unlog bits, so that a set one tells that a target
+-- is there. Under a plan with lines it clears the line bits too.
+abbrev pub begun : HeapState → TraceRun → HeapState
+begun s run = if is_nursery run.collect then s else without_unlogs (if run.lines then without_lines s else s)
+
+-- the collection as its trace begins
+abbrev pub setup_of : HeapState → TraceRun → ℕ → Setup
+setup_of s run workers = record {
+  before = begun s run;
+  nursery = is_nursery run.collect;
+  from = λ b. is_set (slice_get run.from.items b);
+  copy = run.copy_kind;
+  workers = workers;
+}
+
+-- the list has each logged object once, by address
+pub record ListsLogged (s : HeapState) (logged : List ℕ) : Type 0 where
+  pub rising : (i j : ℕ) → i < j → j < length logged → slice_index logged i < slice_index logged j
+  pub all : (x : ℕ) → times x logged ≡ one_if (ages.is_logged s x)
+
+-- A trace of this heap may begin so.
+pub record MayRun (s : HeapState) (run : TraceRun) : Type 0 where
+  pub number : run.number ≡ s.number + 1
+  pub limit : run.number < 2 ^ 40
+  pub base : run.base ≡ (if is_nursery run.collect then s.base else run.number)
+  -- a nursery collection comes after a full one, and finds each reference from an old object to a young one logged
+  pub full : IsTrue (is_nursery run.collect) → 0 < s.base
+  pub remembers : IsTrue (is_nursery run.collect) → RemembersYoung s
+  pub nursery : IsTrue (is_nursery run.collect) → ListsLogged s run.logged.items
+  pub none : is_nursery run.collect ≡ false → run.logged.items ≡ []
+  pub kind : IsTrue (is_copy_kind run.copy_kind)
+  -- no object leaves a large block, and none leaves any block where none are copied
+  pub from : length run.from.items ≡ s.blocks
+  pub small : (b : ℕ) → slice_get run.from.items b ≡ Some true → IsTrue (has_kind s b kinds.LargeHead || has_kind s b kinds.LargeTail) → ⊥
+  pub fixed : run.copy_kind ≡ kinds.Free → (b : ℕ) → slice_get run.from.items b ≡ Some true → ⊥
+
+-- what the tracer was told is so
+pub record IsRunOf (p : Setup) (run : TraceRun) : Type 0 where
+  pub number : run.number ≡ collection p
+  pub base : run.base ≡ base_after p
+  pub from : (b : ℕ) → b < blocks p → slice_get run.from.items b ≡ Some (p.from b)
+  pub kind : run.copy_kind ≡ p.copy
+  -- a full collection began with no unlog bit set
+  pub nursery : p.nursery ≡ is_nursery run.collect
+  pub unlogs : p.nursery ≡ false → (a : ℕ) → is_unlogged p.before a ≡ false
