@@ -14,18 +14,19 @@ use Rattle.mutator_calls.specs.declared.need.Allocated.{Allocated}
 use Rattle.mutator_calls.specs.declared.need.Allocated.TheVariants.{Made, Stop}
 use Rattle.mutator_calls.proofs.Finding.{finds-later}
 use Rattle.mutator_calls.specs.Allocating.{Books, FindsRoom, IsCause, MatchAllocated}
-use Rattle.plain_world.specs.declared.plain_row.PlainRow.{PlainRow}
-use Rattle.plain_world.specs.declared.plain_row.PlainSeat.{PlainSeat}
-use Rattle.plain_world.specs.declared.plain_row.BlockNote.{BlockNote}
-use Rattle.plain_world.specs.declared.plain_row.BlockNote.TheVariants.{Unowned, Owned}
+use Rattle.plain_row.specs.declared.plain_row.PlainRow.{PlainRow}
+use Rattle.local_allocators.specs.declared.local_seat.LocalSeat.{LocalSeat}
+use Rattle.block_regions.specs.declared.block_notes.BlockNote.{BlockNote}
+use Rattle.block_regions.specs.declared.block_notes.BlockNote.TheVariants.{Unowned, Owned}
 use Rattle.plan_api.specs.declared.cursors.Cursors.{Cursors}
 use Rattle.plan_api.specs.Cursors.{TriesOverflow, PlacesInRegion}
-use Rattle.plain_world.specs.Rows.{number_of, births_of, registers_of, ticket_of, seat_at_turn}
-use Rattle.plain_world.specs.TwoRegions.{FillsLines, cursors_of, GoesOver, KeepsOthers, TriesBlock, LacksBlock, LacksRegions}
-use Rattle.plain_world.proofs.Turns.{block-one}
+use Rattle.plain_row.specs.Rows.{number_of, births_of, registers_of, seat_at_turn}
+use Rattle.local_allocators.specs.Seats.{ticket_of}
+use Rattle.local_allocators.specs.TwoRegions.{FillsLines, cursors_of, GoesOver, KeepsOthers, TriesBlock, LacksBlock, LacksRegions}
+use Rattle.plain_row.proofs.Turns.{block-one}
 use Rattle.mutator_calls.specs.Effects.{nothing}
-use Rattle.plain_world.specs.Worlds.{Goes}
-use Rattle.plain_world.specs.Steps.{Lacks, HasBudget, books_of, IsOffer, Offers, PlacesObject}
+use Rattle.plain_row.specs.Worlds.{Goes}
+use Rattle.plain_row.specs.Steps.{Lacks, HasBudget, books_of, IsOffer, Offers, PlacesObject}
 
 pub allocated-weaker : {P P' : Name → Type 0} {Q Q' : Need → Type 0} (r : Allocated) → ((n : Name) → P n → P' n) → ((need : Need) → Q need → Q' need)
     → MatchAllocated r P Q → MatchAllocated r P' Q'
@@ -95,8 +96,8 @@ region-read old new r q is = ap of is
     of (Some (Owned owner region)) = region
 
 -- from two steps of an allocation, in `mid` by the regions as the object was placed, the other regions stay
-rest-kept : (fill then : Kind) (size : ℕ) (before : Cursors) (n0 : List BlockNote) (s0 : Option PlainSeat) (n1 : List BlockNote) (s1 : Option PlainSeat)
-    (n2 : List BlockNote) (s2 : Option PlainSeat) → then ≡ fill → before ≡ cursors_of n1 s1
+rest-kept : (fill then : Kind) (size : ℕ) (before : Cursors) (n0 : List BlockNote) (s0 : Option LocalSeat) (n1 : List BlockNote) (s1 : Option LocalSeat)
+    (n2 : List BlockNote) (s2 : Option LocalSeat) → then ≡ fill → before ≡ cursors_of n1 s1
     → KeepsOthers then size (GoesOver then n1 s1 size) n0 s0 n1 s1 → KeepsOthers then size (GoesOver then n1 s1 size) n1 s1 n2 s2
     → KeepsOthers fill size (FillsLines fill × TriesOverflow before size) n0 s0 n2 s2
 rest-kept fill then size before n0 s0 n1 s1 n2 s2 same are first next = record {

@@ -18,20 +18,21 @@ use Rattle.mutator_core.specs.Machine.{Epoch, first_local, first_local_of}
 use Rattle.heap_layout.specs.declared.block.Kind.TheVariants as kinds
 use Rattle.mutator_core.specs.Epochs.{IsReady, is_filled}
 use Rattle.mutator_calls.specs.declared.need.Mutator.{Mutator}
-use Rattle.plain_world.specs.declared.plain_row.PlainRow.{PlainRow}
-use Rattle.plain_world.specs.declared.plain_row.PlainSeat.{PlainSeat}
-use Rattle.plain_world.specs.declared.plain_row.TheConstants.{CLASSES}
-use Rattle.plain_world.specs.declared.block_notes.BlockNotes.{BlockNotes}
-use Rattle.plain_world.specs.Rows.{mutator_state, ticket_of}
-use Rattle.plain_world.specs.Notes.{FillsHoles, HasNotes, ListsOwned, AreUnowned, AreNotes}
-use Rattle.plain_world.specs.Beginnings.{MayUse, without_stop, epoch_of}
-use Rattle.plain_world.specs.Worlds.{HasState, HasCursors, HasLists, IsAt, IsAfter, IsIdle}
-use Rattle.plain_world.proofs.Lists.{get-map}
-use Rattle.plain_world.proofs.NoteLemmas.{notes-after}
-use Rattle.plain_world.proofs.Owning.{lists-none}
+use Rattle.plain_row.specs.declared.plain_row.PlainRow.{PlainRow}
+use Rattle.local_allocators.specs.declared.local_seat.LocalSeat.{LocalSeat}
+use Rattle.local_allocators.specs.declared.local_seat.TheConstants.{CLASSES}
+use Rattle.block_regions.specs.declared.block_notes.BlockNotes.{BlockNotes}
+use Rattle.heap_users.specs.Users.{mutator_state}
+use Rattle.local_allocators.specs.Seats.{ticket_of}
+use Rattle.block_regions.specs.Notes.{FillsHoles, HasNotes, ListsOwned, AreUnowned, AreNotes}
+use Rattle.heap_users.specs.Beginnings.{MayUse, without_stop, epoch_of}
+use Rattle.plain_row.specs.Worlds.{HasState, HasCursors, HasLists, IsAt, IsAfter, IsIdle}
+use Rattle.block_regions.proofs.Lists.{get-map, get-copy}
+use Rattle.block_regions.proofs.NoteLemmas.{notes-after}
+use Rattle.local_allocators.proofs.OwnedLists.{lists-none}
 use Rattle.plain_world.proofs.CallLemmas.{numbers-mapped}
-use Rattle.plain_world.proofs.Cleared as cleared
-use Rattle.plain_world.proofs.SomeIdeal.{own-local, some-ideal}
+use Rattle.heap_users.proofs.Cleared as cleared
+use Rattle.heap_users.proofs.SomeIdeal.{own-local, some-ideal}
 
 -- the flag of a generational plan
 young-of : (moves young lines cells : Bool) → (bit_and ((if moves then 1 else 0) + (if young then 2 else 0) + (if lines then 4 else 0) + (if cells then 8 else 0)) 2 == 2) ≡ young
@@ -56,14 +57,8 @@ pub young-flag : (r : Rules) → (bit_and (flags_of r) 2 == 2) ≡ r.young
 young-flag r = young-of r.moves r.young r.lines (has_cells r.fill)
 
 -- a seat without a ticket and blocks
-abbrev pub no_seat : PlainSeat
+abbrev pub no_seat : LocalSeat
 no_seat = record { ticket = None; blocks = replicate CLASSES None; over = None }
-
--- an element of a list of copies
-pub get-copy : {A : Type 0} (n : ℕ) (x y : A) (k : ℕ) → slice_get (replicate n x) k ≡ Some y → y ≡ x
-get-copy zero x y k is = let wrong : None ≡ Some y = is in cc
-get-copy (suc n) x y zero is = let e : Some x ≡ Some y = is in cc
-get-copy (suc n) x y (suc k) is = get-copy n x y k is
 
 -- and none of its copies has a ticket
 pub no-ticket : (n k : ℕ) → ticket_of (slice_get (replicate n no_seat) k) ≡ None
@@ -133,7 +128,7 @@ module _ (r : Rules) (s : HeapState) (ms : List MutatorState) (w : PlainRow) (be
     counts = ap (λ c. session_counts c) begun.counts ∙ begun.are.counts ∙ sym (cleared.counts-cleared s lawful);
   }
 
-  no-seat : (k : ℕ) (x : PlainSeat) → slice_get w.seats.items k ≡ Some x → x ≡ no_seat
+  no-seat : (k : ℕ) (x : LocalSeat) → slice_get w.seats.items k ≡ Some x → x ≡ no_seat
   no-seat k x some = get-copy (length w.mutators.items) no_seat x k (ap (λ xs. slice_get xs k) (sym begun.seats) ∙ some)
 
   -- no mutator allocates in a block
@@ -146,7 +141,7 @@ module _ (r : Rules) (s : HeapState) (ms : List MutatorState) (w : PlainRow) (be
     apart = λ lines block is. absurd (let wrong : None ≡ Some block = is in cc);
   }
 
-  state-begun : (k : ℕ) (m : Mutator) (x : PlainSeat) → slice_get w.mutators.items k ≡ Some m → slice_get w.seats.items k ≡ Some x
+  state-begun : (k : ℕ) (m : Mutator) (x : LocalSeat) → slice_get w.mutators.items k ≡ Some m → slice_get w.seats.items k ≡ Some x
       → HasState m x (first_local_of ms m.number)
   state-begun k m x some seat =
       let known : Contains ms (mutator_state m) = get-among ms k (mutator_state m) (ap (λ xs. slice_get xs k) (sym begun.mutators) ∙ get-map mutator_state w.mutators.items k m some) in

@@ -16,17 +16,19 @@ use Rattle.mutator_core.specs.Histories.{history}
 use Rattle.mutator_core.specs.Logs.{machine_after, heap_after}
 use Rattle.mutator_calls.specs.declared.need.Mutator.{Mutator}
 use Rattle.mutator_calls.specs.Effects.{Effect}
-use Rattle.plain_world.specs.declared.plain_row.PlainRow.{PlainRow}
-use Rattle.plain_world.specs.declared.plain_row.PlainSeat.{PlainSeat}
-use Rattle.plain_world.specs.declared.plain_row.BlockNote.{BlockNote}
-use Rattle.plain_world.specs.Rows.{address_at, number_of, births_of, ticket_of, block_of, mutator_state}
-use Rattle.plain_world.specs.Notes.{IsRegionOf}
-use Rattle.plain_world.specs.TwoRegions.{KeepsRegions, region_of, region_noted}
-use Rattle.plain_world.proofs.Lists.{get-some, get-below}
-use Rattle.plain_world.proofs.Turns as turns
-use Rattle.plain_world.specs.Steps.{IsBarred}
-use Rattle.plain_world.specs.Worlds.{IsAt, IsIdle, IsAfter, Goes, births_in}
-use Rattle.plain_world.specs.SeatLaws.{history-append}
+use Rattle.plain_row.specs.declared.plain_row.PlainRow.{PlainRow}
+use Rattle.local_allocators.specs.declared.local_seat.LocalSeat.{LocalSeat}
+use Rattle.block_regions.specs.declared.block_notes.BlockNote.{BlockNote}
+use Rattle.plain_row.specs.Rows.{address_at, number_of, births_of}
+use Rattle.local_allocators.specs.Seats.{ticket_of, block_of}
+use Rattle.heap_users.specs.Users.{mutator_state}
+use Rattle.block_regions.specs.Notes.{IsRegionOf}
+use Rattle.local_allocators.specs.TwoRegions.{KeepsRegions, region_of, region_noted}
+use Rattle.block_regions.proofs.Lists.{get-some, get-below}
+use Rattle.plain_row.proofs.Turns as turns
+use Rattle.plain_row.specs.Steps.{IsBarred}
+use Rattle.plain_row.specs.Worlds.{IsAt, IsIdle, IsAfter, Goes, births_in}
+use Rattle.mutator_core.proofs.Regions.{history-append}
 
 -- whose turn it is says nothing of the epoch
 pub at-turn : (p : Epoch) (i : IdealHeap) (log : List LogEntry) (a : PlainRow) (m : ℕ) → IsAt p i log a → IsAt p i log (record a { turn = m })
@@ -125,7 +127,7 @@ pub regions-after : (a b : PlainRow) (m : ℕ) (e : Effect) → Goes (record a {
     → KeepsRegions a.notes.items (slice_get a.seats.items m) b.notes.items (slice_get b.seats.items m)
 regions-after a b m e goes still = subst (λ t. KeepsRegions a.notes.items (slice_get a.seats.items m) b.notes.items (slice_get b.seats.items t)) goes.turn (goes.regions still)
 
-pub regions-same : (notes : List BlockNote) (seat : Option PlainSeat) → KeepsRegions notes seat notes seat
+pub regions-same : (notes : List BlockNote) (seat : Option LocalSeat) → KeepsRegions notes seat notes seat
 regions-same notes seat = record { classes = λ class. record { block = refl; region = refl }; over = record { block = refl; region = refl } }
 
 -- a region stays if the note of its block does
@@ -136,7 +138,7 @@ region-stays notes later (Some d) same = ap region_noted (same d refl)
 -- of another mutator all stays: number, births and registers, its seat, and its regions
 module _ (a b : PlainRow) (m : ℕ) (e : Effect) (idle : IsIdle a) (place : m < length a.mutators.items) (goes : Goes (record a { turn = m }) e b) (k : ℕ) (other : k ≢ m) where
   -- a block that it owns keeps its note
-  block-stays : (x : PlainSeat) → slice_get a.seats.items k ≡ Some x → (d : ℕ) → ((q : Mutator) → slice_get a.mutators.items k ≡ Some q → IsRegionOf a.notes.items q.number d)
+  block-stays : (x : LocalSeat) → slice_get a.seats.items k ≡ Some x → (d : ℕ) → ((q : Mutator) → slice_get a.mutators.items k ≡ Some q → IsRegionOf a.notes.items q.number d)
       → slice_get b.notes.items d ≡ slice_get a.notes.items d
   block-stays x sits d owns =
       let now = idle.some in
@@ -148,7 +150,7 @@ module _ (a b : PlainRow) (m : ℕ) (e : Effect) (idle : IsIdle a) (place : m < 
       goes.foreign d theirs.0.number has.region
       (λ same. other (turns.differ now.epoch now.ideal now.log a now.at k m theirs.0 mine.0 theirs.1 mine.1 (same ∙ ap number_of mine.1))) has.note ∙ sym has.note
 
-  seat-keeps : (o : Option PlainSeat) → slice_get a.seats.items k ≡ o → KeepsRegions a.notes.items o b.notes.items o
+  seat-keeps : (o : Option LocalSeat) → slice_get a.seats.items k ≡ o → KeepsRegions a.notes.items o b.notes.items o
   seat-keeps None sits = record { classes = λ class. record { block = refl; region = refl }; over = record { block = refl; region = refl } }
   seat-keeps (Some x) sits = let now = idle.some in record {
     classes = λ class. record {

@@ -41,21 +41,22 @@ use Rattle.mutator_core.proofs.GivenBack as back
 use Rattle.mutator_calls.specs.declared.need.Mutator.{Mutator}
 use Rattle.object_model.proofs.Among.{all-to}
 use Rattle.object_model.proofs.Representation.{points-reference}
-use Rattle.plain_world.specs.Beginnings.{MayUse}
-use Rattle.plain_world.specs.declared.plain_row.PlainRow.{PlainRow}
-use Rattle.plain_world.specs.declared.plain_row.PlainSeat.{PlainSeat}
-use Rattle.plain_world.specs.declared.plain_row.BlockNote.{BlockNote}
-use Rattle.plain_world.specs.declared.plain_row.BlockNote.TheVariants.{Unowned, Owned}
-use Rattle.plain_world.specs.Rows.{mutator_state, ticket_of}
-use Rattle.plain_world.specs.Notes.{FillsHoles, IsNote, IsOwnedNote, AreFilled}
-use Rattle.plain_world.specs.Regions.{IsRegionIn}
-use Rattle.plain_world.specs.Worlds.{HasState, IsAt, IsInEpoch}
-use Rattle.plain_world.proofs.LineRegions.{here-some}
-use Rattle.plain_world.proofs.Regions.{fills-cases, region-some}
-use Rattle.plain_world.proofs.Lists.{get-some, get-below}
-use Rattle.plain_world.proofs.Turns.{seat, note-right, owned-note, most-blocks, extent}
-use Rattle.plain_world.proofs.PlacedNotes.{filled-code}
-use Rattle.plain_world.proofs.Facts as facts
+use Rattle.heap_users.specs.Beginnings.{MayUse}
+use Rattle.plain_row.specs.declared.plain_row.PlainRow.{PlainRow}
+use Rattle.local_allocators.specs.declared.local_seat.LocalSeat.{LocalSeat}
+use Rattle.block_regions.specs.declared.block_notes.BlockNote.{BlockNote}
+use Rattle.block_regions.specs.declared.block_notes.BlockNote.TheVariants.{Unowned, Owned}
+use Rattle.heap_users.specs.Users.{mutator_state}
+use Rattle.local_allocators.specs.Seats.{ticket_of}
+use Rattle.block_regions.specs.Notes.{FillsHoles, IsNote, IsOwnedNote, AreFilled}
+use Rattle.block_regions.specs.Regions.{IsRegionIn}
+use Rattle.plain_row.specs.Worlds.{HasState, IsAt, IsInEpoch}
+use Rattle.block_regions.proofs.LineRegions.{here-some}
+use Rattle.block_regions.proofs.Regions.{fills-cases, region-some}
+use Rattle.block_regions.proofs.Lists.{get-some, get-below}
+use Rattle.plain_row.proofs.Turns.{seat, note-right, owned-note, most-blocks, extent}
+use Rattle.block_regions.proofs.PlacedNotes.{filled-code}
+use Rattle.plain_row.proofs.Facts as facts
 
 -- the mutator with a number of the list
 pub member : (ms : List Mutator) (n : ℕ) → Contains (map (λ m. m.number) ms) n → (k : ℕ) × (m : Mutator) × (slice_get ms k ≡ Some m) × (m.number ≡ n)
@@ -72,8 +73,8 @@ states-listed f [] each = refl
 states-listed f (m ∷ ms) each = ap (λ x. x ∷ map f (map (λ y. y.number) ms)) (each 0 m refl) ∙ ap (λ xs. mutator_state m ∷ xs) (states-listed f ms (λ k x is. each (suc k) x is))
 
 -- a sum over the seats, and one over the mutators' numbers
-pub sum-seats : (f : ℕ → ℕ) (g : PlainSeat → ℕ) (ms : List Mutator) (xs : List PlainSeat) → length xs ≡ length ms
-    → ((k : ℕ) (m : Mutator) (x : PlainSeat) → slice_get ms k ≡ Some m → slice_get xs k ≡ Some x → f m.number ≡ g x)
+pub sum-seats : (f : ℕ → ℕ) (g : LocalSeat → ℕ) (ms : List Mutator) (xs : List LocalSeat) → length xs ≡ length ms
+    → ((k : ℕ) (m : Mutator) (x : LocalSeat) → slice_get ms k ≡ Some m → slice_get xs k ≡ Some x → f m.number ≡ g x)
     → sum_by f (map (λ m. m.number) ms) ≡ sum_by g xs
 sum-seats f g [] [] same each = refl
 sum-seats f g [] (x ∷ xs) same each = absurd (let n = length xs in omega arith)
@@ -222,7 +223,7 @@ pub record AreFew (w : PlainRow) : Type 0 where
   pub unused : sum_by (λ x. tickets_in x.ticket) w.seats.items ≤ 16
   pub drawn : word_at (state_of w.row) 1 ≤ w.counts.free + sum_by (λ x. tickets_in x.ticket) w.seats.items
 
-tickets-most : (xs : List PlainSeat) → sum_by (λ x. tickets_in x.ticket) xs ≤ length xs
+tickets-most : (xs : List LocalSeat) → sum_by (λ x. tickets_in x.ticket) xs ≤ length xs
 tickets-most [] = omega arith
 tickets-most (x ∷ xs) =
     let e : sum_by (λ y. tickets_in y.ticket) (x ∷ xs) ≡ tickets_in x.ticket + sum_by (λ y. tickets_in y.ticket) xs = sum_by-cons (λ y. tickets_in y.ticket) x xs in
@@ -301,7 +302,7 @@ may-use s ms i is = record {
   names = is.births.held;
 }
 
-some-ticket : (o : Option PlainSeat) (t : ℕ) → ticket_of o ≡ Some t → (x : PlainSeat) × (o ≡ Some x) × (x.ticket ≡ Some t)
+some-ticket : (o : Option LocalSeat) (t : ℕ) → ticket_of o ≡ Some t → (x : LocalSeat) × (o ≡ Some x) × (x.ticket ≡ Some t)
 some-ticket None t is = absurd (let wrong : None ≡ Some t = is in cc)
 some-ticket (Some x) t is = (x, refl, is)
 

@@ -23,11 +23,13 @@ use Rattle.mutator_core.specs.Machine.{Epoch}
 use Rattle.mutator_calls.specs.Effects.{Effect, draws}
 use Rattle.mutator_calls.specs.Allocating.{Books, births_with, Draws, FindsRoom}
 use Rattle.plain_world.specs.declared.plain_world.PlainWorld.{PlainWorld}
-use Rattle.plain_world.specs.declared.plain_row.PlainSeat.{PlainSeat}
-use Rattle.plain_world.specs.declared.plain_row.BlockNote.{BlockNote}
-use Rattle.plain_world.specs.Rows.{mutator_state, number_of, births_of, registers_of, ticket_of}
-use Rattle.plain_world.specs.TwoRegions.{FillsLines, cursors_of, TriesBlock, Overflows, KeepsHole, KeepsRegions, KeepsOthers, LacksBlock, LacksRegions, OffersRoom}
-use Rattle.plain_world.specs.Worlds.{IsAfter, IsIdle, has, births_in, stop_after}
+use Rattle.local_allocators.specs.declared.local_seat.LocalSeat.{LocalSeat}
+use Rattle.block_regions.specs.declared.block_notes.BlockNote.{BlockNote}
+use Rattle.plain_row.specs.Rows.{number_of, births_of, registers_of}
+use Rattle.heap_users.specs.Users.{mutator_state}
+use Rattle.local_allocators.specs.Seats.{ticket_of}
+use Rattle.local_allocators.specs.TwoRegions.{FillsLines, cursors_of, TriesBlock, Overflows, KeepsHole, KeepsRegions, KeepsOthers, LacksBlock, LacksRegions, OffersRoom}
+use Rattle.plain_row.specs.Worlds.{IsAfter, IsIdle, has, births_in, stop_after}
 
 -- the heap, as the mutators use it
 abbrev pub heap_of : {P : Type 0} → PlainWorld P → HeapState
@@ -113,7 +115,7 @@ books_at w m = record {
 abbrev pub notes_of : {P : Type 0} → PlainWorld P → List BlockNote
 notes_of w = w.row.notes.items
 
-abbrev pub seat_at : {P : Type 0} → PlainWorld P → ℕ → Option PlainSeat
+abbrev pub seat_at : {P : Type 0} → PlainWorld P → ℕ → Option LocalSeat
 seat_at w m = slice_get w.row.seats.items m
 
 -- block k has no room for an object of the size that the mutator at place m may fill

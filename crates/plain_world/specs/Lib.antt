@@ -1,11 +1,2 @@
-pub mod Rows
-pub mod Regions
-pub mod Notes
-pub mod TwoRegions
-pub mod Worlds
-pub mod Steps
-pub mod Changes
-pub mod SeatLaws
 pub mod Calls
-pub mod Beginnings
 pub mod Endings

@@ -5,11 +5,11 @@ ghost use Rattle.object_model.specs.Heaps.{heap_state};
 ghost use Rattle.object_model.specs.Objects.{empty_heap};
 ghost use Rattle.sessions.specs.Plans.{NoGc as no_gc, MarkSweep as mark_sweep, rules_of};
 ghost use Rattle.plain_world.specs.Calls.{IsOpen, SamePlaces};
-ghost use Rattle.plain_world.specs.Notes.{AreNotes, FillsHoles};
+ghost use Rattle.block_regions.specs.Notes.{AreNotes, FillsHoles};
 
-use crate::block_notes::BlockNotes;
 use crate::cell_tests;
 use crate::test_worlds::{World, allocate, begin, new_world};
+use block_regions::BlockNotes;
 use heap_layout::{BlockWord, Kind, Layout};
 use mutator_calls::Allocated;
 use object_model::Heap;

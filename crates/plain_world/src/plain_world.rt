@@ -1,4 +1,8 @@
 //! A world: a heap that mutators use in turns, in one epoch.
+//!
+//! Called by whoever runs an epoch. `begin` makes all fields of the row of a heap, its mutators and
+//! notes; `close` takes them apart. The stop word and the budget word are 0 at the beginning; at
+//! the end no block has an owner, and notes and counts are right for the heap that is handed on.
 
 ghost use Rattle.std.specs.Prelude.{◌≡◌, ◌+◌, ◌<◌, ◌≤◌, ℕ, List, [], ◌∷◌, Some, None, length, map, IfOk};
 ghost use Rattle.ideal_heap.specs.Ideal.{IdealHeap};
@@ -11,19 +15,20 @@ ghost use Rattle.sessions.specs.Sessions.{Stopped};
 ghost use Rattle.mutator_core.specs.Machine.{Epoch};
 ghost use Rattle.mutator_core.specs.Closing.{GivesBack};
 ghost use Rattle.object_model.specs.Graphs.{numbers_of};
-ghost use Rattle.plain_world.specs.Rows.{mutator_state};
-ghost use Rattle.plain_world.specs.Notes.{AreNotes};
+ghost use Rattle.heap_users.specs.Users.{mutator_state};
+ghost use Rattle.block_regions.specs.Notes.{AreNotes};
 ghost use Rattle.plain_world.specs.Calls.{heap_of, mutators_of, is_generational, fill_of, births_at, ticket_at, budget_word, places_of, HasPlace, IsOpen, HasHistory};
-ghost use Rattle.plain_world.specs.Beginnings.{MayUse, without_stop, epoch_of};
+ghost use Rattle.heap_users.specs.Beginnings.{MayUse, without_stop, epoch_of};
 ghost use Rattle.plain_world.specs.Endings.{GrantsWithTickets};
 
-use crate::block_notes::BlockNotes;
-use crate::closing::{copies, give_back, unused_tickets};
-use crate::plain_row::{CLASSES, PlainRow, PlainSeat};
+use crate::closing::{give_back, unused_tickets};
 use bitflags::Flags;
+use block_regions::{BlockNotes, copies};
 use ideal_heap::MAX_MUTATORS;
+use local_allocators::{CLASSES, LocalSeat};
 use mutator_calls::Mutator;
 use object_model::Heap;
+use plain_row::PlainRow;
 use plan_api::{Plan, PlanFlags};
 use std::alloc::{AllocError, Global};
 use std::marker::PhantomData;
@@ -93,7 +98,7 @@ impl<P: Plan> PlainWorld<P> {
             → HasHistory w (epoch_of P.rules (heap_state heap) (map mutator_state mutators.items))
             i []) }
     {
-        let seat = PlainSeat {
+        let seat = LocalSeat {
             ticket: None,
             blocks: [None; CLASSES],
             over: None,

@@ -2,8 +2,8 @@
 
 use crate::plain_world::PlainWorld;
 use crate::test_worlds::allocate;
-use crate::users::{may_use, new_mutators};
 use heap_layout::Layout;
+use heap_users::{may_use, new_mutators};
 use ideal_heap::Name;
 use mutator_calls::Allocated;
 use object_model::Heap;

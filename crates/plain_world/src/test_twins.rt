@@ -6,9 +6,10 @@ ghost use Rattle.sessions.specs.Plans.{NoGc as no_gc, rules_of};
 ghost use Rattle.plain_world.specs.Calls.{IsOpen};
 
 use crate::test_worlds::{World, begin, births, call, new_world};
+use heap_graph::{Place, graph};
 use ideal_heap::{Command, GLOBALS, Ideal, MAX_NUMS, MAX_REFS, Name, Reply, valid};
 use mutator_calls::Mutator;
-use object_model::{Heap, Place, are_roots, graph};
+use object_model::{Heap, are_roots};
 use std::alloc::{AllocError, Global};
 use std::process::Abort;
 use std::test::Fail;

@@ -2,14 +2,14 @@
 
 ghost use Rattle.std.specs.Prelude.{◌≡◌, ◌≤◌, map, IfOk};
 ghost use Rattle.object_model.specs.Heaps.{heap_state};
-ghost use Rattle.plain_world.specs.Rows.{mutator_state};
-ghost use Rattle.plain_world.specs.Beginnings.{MayUse};
+ghost use Rattle.heap_users.specs.Users.{mutator_state};
+ghost use Rattle.heap_users.specs.Beginnings.{MayUse};
 ghost use Rattle.sessions.specs.Plans.{NoGc as no_gc, rules_of};
 ghost use Rattle.plain_world.specs.Calls.{IsOpen, SamePlaces};
 
 use crate::plain_world::PlainWorld;
-use crate::users::new_mutators;
 use heap_layout::Layout;
+use heap_users::new_mutators;
 use ideal_heap::{Command, MAX_MUTATORS, Reply, valid};
 use mutator_calls::{Allocated, Mutator, Polled};
 use object_model::Heap;

@@ -1,4 +1,8 @@
 //! The calls of the mutators of a world.
+//!
+//! Called by whoever runs an epoch. Each writes `turn`, and then makes the steps of that mutator to
+//! the end of the call; so between calls no mutator has an unpublished object. All else is written
+//! by the steps.
 
 ghost use Rattle.std.specs.Prelude.{◌≡◌, ◌+◌, ◌<◌, ◌≤◌, ◌^◌, ◌⊎◌, ℕ, List, [], ◌∷◌, ⊤};
 ghost use Rattle.std.specs.List.{Contains};

@@ -1,7 +1,8 @@
 use Rattle.std.proofs.Common.{◌≡◌, refl, sym, subst, ℕ, ◌<◌, arith, length, get_or}
 use Rattle.object_model.specs.Objects.{state_of}
-use Rattle.plain_world.proofs.GivingBack.{IsGivingBack, gives-nothing, gives-next, gives-back-all, none-owned, owned-below, order-now, codes-now}
-use Rattle.plain_world.proofs.Relisted.{lines-of-plan}
+use Rattle.block_regions.proofs.GivingBack.{IsGivingBack, gives-nothing, gives-next, none-owned, owned-below, order-now, codes-now}
+use Rattle.plain_world.proofs.GivenBack.{gives-back-all}
+use Rattle.block_regions.proofs.Relisted.{lines-of-plan}
 use Rattle.plain_world.proofs.closing.give_back.Goals as goal
 
 pub loop-block-init : goal.loop-block-init

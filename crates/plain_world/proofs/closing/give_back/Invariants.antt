@@ -1,5 +1,5 @@
 use Rattle.object_model.specs.Objects.{state_of}
-use Rattle.plain_world.proofs.GivingBack.{IsGivingBack}
+use Rattle.block_regions.proofs.GivingBack.{IsGivingBack}
 use Rattle.plain_world.proofs.closing.give_back.Given as goal
 
 abbrev pub invariant-loop-block : goal.invariant-loop-block

@@ -7,8 +7,8 @@ use Rattle.object_model.proofs.Representation as standing
 use Rattle.sessions.specs.Sessions.{IsOfPart}
 use Rattle.mutator_core.proofs.Ending.{log-recorded}
 use Rattle.mutator_core.specs.Logs.{heap_after, mutators_after, history_of}
-use Rattle.plain_world.specs.Rows.{mutator_state}
-use Rattle.plain_world.proofs.Facts as facts
+use Rattle.heap_users.specs.Users.{mutator_state}
+use Rattle.plain_row.proofs.Facts as facts
 use Rattle.plain_world.proofs.Closed.{mutators-same}
 use Rattle.plain_world.proofs.laws.worlds_follow_ideal_heaps.Goals as goal
 

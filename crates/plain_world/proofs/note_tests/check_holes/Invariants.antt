@@ -1,5 +1,5 @@
 use Rattle.object_model.specs.Heaps.{heap_state}
-use Rattle.plain_world.specs.Notes.{AreNotes}
+use Rattle.block_regions.specs.Notes.{AreNotes}
 use Rattle.plain_world.proofs.note_tests.check_holes.Given as goal
 
 abbrev pub invariant-loop-size : goal.invariant-loop-size

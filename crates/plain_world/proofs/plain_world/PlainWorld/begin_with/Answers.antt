@@ -3,9 +3,10 @@ use Rattle.std.specs.Prelude.{slice_get}
 use Rattle.object_model.specs.Heaps.{heap_state}
 use Rattle.sessions.specs.Grants.{allowance_in}
 use Rattle.plan_api.specs.Counting.{session_counts}
-use Rattle.plain_world.specs.declared.plain_row.PlainSeat.{PlainSeat}
-use Rattle.plain_world.specs.Rows.{mutator_state, ticket_of}
-use Rattle.plain_world.specs.Beginnings.{without_stop}
+use Rattle.local_allocators.specs.declared.local_seat.LocalSeat.{LocalSeat}
+use Rattle.heap_users.specs.Users.{mutator_state}
+use Rattle.local_allocators.specs.Seats.{ticket_of}
+use Rattle.heap_users.specs.Beginnings.{without_stop}
 use Rattle.plain_world.proofs.Begun as begun
 use Rattle.plain_world.proofs.Begun.{young-flag, no_seat, no-ticket}
 use Rattle.plain_world.proofs.plain_world.PlainWorld.begin_with.Goals as goal
@@ -35,7 +36,7 @@ returns-clause-plan g c = c.contains.ensures tt ∙ ap (λ f. bit_and f.0 2 == 2
     ∙ young-flag g.P.Plan.rules
 
 pub returns-clause-tickets : goal.returns-clause-tickets
-returns-clause-tickets g c = λ k. ap (λ (xs : List PlainSeat). ticket_of (slice_get xs k)) c.in_ok-seats.ensures ∙ no-ticket c.len.result k
+returns-clause-tickets g c = λ k. ap (λ (xs : List LocalSeat). ticket_of (slice_get xs k)) c.in_ok-seats.ensures ∙ no-ticket c.len.result k
 
 pub returns-clause-begins : goal.returns-clause-begins
 returns-clause-begins g c = begun.after-begun g.P.Plan.rules (heap_state c.args.heap) (map mutator_state c.args.mutators.items) _ (record {

@@ -11,11 +11,11 @@ use Rattle.sessions.specs.Sessions.{Stopped}
 use Rattle.mutator_core.specs.Closing.{GivesBack}
 use Rattle.mutator_core.specs.Logs.{history_of}
 use Rattle.mutator_core.specs.Tickets.{tickets_in}
-use Rattle.plain_world.specs.Rows.{mutator_state}
-use Rattle.plain_world.specs.Beginnings.{MayUse}
-use Rattle.plain_world.specs.Notes.{HasNotes}
-use Rattle.plain_world.proofs.Facts as facts
-use Rattle.plain_world.proofs.KeptNotes.{notes-for}
+use Rattle.heap_users.specs.Users.{mutator_state}
+use Rattle.heap_users.specs.Beginnings.{MayUse}
+use Rattle.block_regions.specs.Notes.{HasNotes}
+use Rattle.plain_row.proofs.Facts as facts
+use Rattle.block_regions.proofs.KeptNotes.{notes-for}
 use Rattle.plain_world.proofs.Closed.{AreFew, are-few, more-words, counts-after, ended, may-use, ticket-drawn, tickets-allowed, tickets-drawn}
 use Rattle.plain_world.proofs.plain_world.PlainWorld.close_with.Goals as goal
 

@@ -4,11 +4,11 @@ use Rattle.object_model.specs.Objects.{state_of, word_at, size_of}
 use Rattle.mutator_calls.specs.Effects.{draws, nothing}
 use Rattle.mutator_calls.specs.Allocating.{births_with, Draws, FindsRoom, IsCause}
 use Rattle.mutator_calls.proofs.Finding.{draws-from}
-use Rattle.plain_world.specs.declared.plain_row.PlainRow.{PlainRow}
-use Rattle.plain_world.specs.Worlds.{Goes}
-use Rattle.plain_world.specs.Rows.{ticket_of}
-use Rattle.plain_world.specs.Steps.{AllocatesIn, HasBudget, Lacks, IsUsed, KeepsRegion}
-use Rattle.plain_world.specs.TwoRegions.{TriesBlock, Overflows, KeepsHole}
+use Rattle.plain_row.specs.declared.plain_row.PlainRow.{PlainRow}
+use Rattle.plain_row.specs.Worlds.{Goes}
+use Rattle.local_allocators.specs.Seats.{ticket_of}
+use Rattle.plain_row.specs.Steps.{AllocatesIn, HasBudget, Lacks, IsUsed, KeepsRegion}
+use Rattle.local_allocators.specs.TwoRegions.{TriesBlock, Overflows, KeepsHole}
 use Rattle.plain_world.proofs.CallLemmas.{places-same, young-same, history-gains, births-after, ticket-after, regions-after, others-after, objects-after}
 use Rattle.plain_world.proofs.AllocationCalls.{allocated-weaker, allocated-both, allocated-and, lacks-at, books-at, books_for, LacksAt, FullAt, finds-weaker, next-ticket, cause-weaker, placed-at}
 use Rattle.plain_world.proofs.plain_world.PlainWorld.new_object.Goals as goal

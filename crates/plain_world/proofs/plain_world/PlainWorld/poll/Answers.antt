@@ -3,10 +3,11 @@ use Rattle.std.specs.Prelude.{slice_get}
 use Rattle.object_model.specs.Objects.{state_of}
 use Rattle.mutator_calls.specs.Effects.{nothing}
 use Rattle.mutator_calls.specs.Stopping.{stop_of}
-use Rattle.plain_world.specs.declared.plain_row.PlainRow.{PlainRow}
-use Rattle.plain_world.specs.Rows.{mutator_state, ticket_of}
-use Rattle.plain_world.specs.TwoRegions.{KeepsRegions}
-use Rattle.plain_world.specs.SeatLaws.{goes-nothing}
+use Rattle.plain_row.specs.declared.plain_row.PlainRow.{PlainRow}
+use Rattle.heap_users.specs.Users.{mutator_state}
+use Rattle.local_allocators.specs.Seats.{ticket_of}
+use Rattle.local_allocators.specs.TwoRegions.{KeepsRegions}
+use Rattle.plain_row.specs.SeatLaws.{goes-nothing}
 use Rattle.plain_world.proofs.CallLemmas.{places-same, history-gains, stop-known, regions-same}
 use Rattle.plain_world.proofs.plain_world.PlainWorld.poll.Goals as goal
 

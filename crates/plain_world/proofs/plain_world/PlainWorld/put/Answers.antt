@@ -2,9 +2,9 @@ use Rattle.std.proofs.Common.{◌∙◌, ◌≡◌, ◌⊎◌, inl, inr, subst, 
 use Rattle.ideal_heap.specs.declared.command.Command.TheVariants as command
 use Rattle.ideal_heap.specs.declared.reply.Reply.TheVariants as reply
 use Rattle.mutator_calls.specs.Effects.{logs}
-use Rattle.plain_world.specs.declared.plain_row.PlainRow.{PlainRow}
+use Rattle.plain_row.specs.declared.plain_row.PlainRow.{PlainRow}
 use Rattle.plain_world.specs.Calls.{register_in, IsOldUnlogged}
-use Rattle.plain_world.specs.Steps.{IsBarred}
+use Rattle.plain_row.specs.Steps.{IsBarred}
 use Rattle.plain_world.proofs.CallLemmas.{places-same, young-same, history-gains, births-after, ticket-after, regions-after, others-after, objects-after, unbarred}
 use Rattle.plain_world.proofs.plain_world.PlainWorld.put.Goals as goal
 

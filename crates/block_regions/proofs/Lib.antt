@@ -1,0 +1,17 @@
+pub mod Lists
+pub mod Elements
+pub mod BlockFrames
+pub mod LineRegions
+pub mod Regions
+pub mod RegionFrames
+pub mod NoteLemmas
+pub mod FilledKinds
+pub mod GrownLines
+pub mod BlockSides
+pub mod Relisted
+pub mod NewNotes
+pub mod KeptNotes
+pub mod PlacedNotes
+pub mod PlacedRuns
+pub mod RestCells
+pub mod GivingBack

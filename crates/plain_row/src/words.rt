@@ -1,0 +1,88 @@
+//! Loads and stores of single words and bits of the row.
+//!
+//! Called by the steps. Writes one word of `row`. The caller knows what the word means: a field, a
+//! number, a global, a bit for unlogged or pinned objects, the stop word or the budget word. Never
+//! touches notes, seats or mutators.
+
+ghost use Rattle.std.specs.Prelude.{◌≡◌, ◌+◌, ◌-◌, ◌/◌, ◌%◌, ◌^◌, ◌<◌, ◌≤◌, length, slice_index, nat_eq};
+ghost use Rattle.std.specs.Int.{bit_at};
+ghost use Rattle.heap_layout.specs.Zones.{heap_of, row_words, IsAddress};
+ghost use Rattle.side_meta.specs.BitWords.{with_bit, without_bit};
+ghost use Rattle.plain_row.specs.Rows.{IsTurn, address_at};
+ghost use Rattle.plain_row.specs.Changes.{StoresWord};
+
+use crate::plain_row::PlainRow;
+use ideal_heap::REGISTERS;
+use object_model::{HEADER_WORDS, Shape};
+
+impl PlainRow {
+    /// Stores a word.
+    pub(crate) fn store(&mut self, at: usize, value: u64)
+        requires { at < length self.old.row.words.items }
+        ensures { StoresWord self.old self.new at value }
+    {
+        self.row.words[at] = value;
+    }
+
+    /// The index of the word with the bit of an address, in a zone that has a bit for each word of
+    /// the heap, and the position of the bit in the word.
+    pub(crate) fn bit_at(&self, zone: u32, address: u32) -> (usize, u32)
+        requires address { IsAddress self.now.row.layout.blocks address }
+        requires zone { zone ≤ heap_of self.now.row.layout.blocks }
+        ensures word { result.0 ≡ zone + (address - heap_of self.now.row.layout.blocks) / 64 }
+        ensures bit { result.1 ≡ (address - heap_of self.now.row.layout.blocks) % 64 }
+    {
+        let index = address - self.row.layout.heap_base();
+        ((zone + index / 64) as usize, index % 64)
+    }
+
+    /// Whether a bit of a word is set.
+    pub(crate) fn test_bit(&self, at: usize, bit: u32) -> bool
+        requires word { at < length self.now.row.words.items }
+        requires bit { bit < 64 }
+        ensures { result ≡ nat_eq (bit_at (slice_index self.now.row.words.items at) bit) 1 }
+    {
+        (self.row.words[at] >> bit) & 1 == 1
+    }
+
+    /// Sets a bit of a word.
+    pub(crate) fn set_bit(&mut self, at: usize, bit: u32)
+        requires word { at < length self.old.row.words.items }
+        requires bit { bit < 64 }
+        ensures { StoresWord self.old self.new at
+            (with_bit (slice_index self.old.row.words.items at) bit) }
+    {
+        let word = self.row.words[at];
+        self.store(at, word | (1 << bit));
+    }
+
+    /// Clears a bit of a word.
+    pub(crate) fn clear_bit(&mut self, at: usize, bit: u32)
+        requires word { at < length self.old.row.words.items }
+        requires bit { bit < 64 }
+        ensures { StoresWord self.old self.new at
+            (without_bit (slice_index self.old.row.words.items at) bit) }
+    {
+        let word = self.row.words[at];
+        self.store(at, word & !(1 << bit));
+    }
+
+    /// The index of reference field `i` of the object in register `s`.
+    pub(crate) fn field(&self, s: u32, i: u32) -> usize
+        requires turn { IsTurn self.now }
+        requires register { s < REGISTERS }
+        ensures { result ≡ address_at self.now s + 3 + i }
+    {
+        self.register(s) as usize + HEADER_WORDS as usize + i as usize
+    }
+
+    /// The index of number `j` of the object in register `s`, whose shape is `shape`.
+    pub(crate) fn number_word(&self, s: u32, j: u32, shape: &Shape) -> usize
+        requires turn { IsTurn self.now }
+        requires register { s < REGISTERS }
+        ensures { result ≡ address_at self.now s + 3 + shape.now.refs + j }
+    {
+        let address = self.register(s);
+        address as usize + HEADER_WORDS as usize + shape.refs as usize + j as usize
+    }
+}

@@ -1,7 +1,0 @@
-use Rattle.std.proofs.Common.{ℕ, ◌<◌}
-use Rattle.object_model.specs.Heaps.{heap_state}
-use Rattle.plain_world.specs.Notes.{AreNotes, LacksHoles}
-use Rattle.plain_world.proofs.block_notes.BlockNotes.lowest_hole.Given as goal
-
-abbrev pub invariant-loop-block : goal.invariant-loop-block
-invariant-loop-block l = AreNotes l.fill (heap_state l.heap) l.self × ((k : ℕ) → k < l.block → LacksHoles l.fill (heap_state l.heap) k l.size)
