@@ -7,10 +7,11 @@ ghost use Rattle.sessions.specs.Plans.{NoGc as no_gc, rules_of};
 ghost use Rattle.plain_world.specs.Calls.{HasPlace, IsOpen, SamePlaces};
 
 use anyhow::Error;
+use heap_graph::graph;
 use heap_layout::Layout;
 use ideal_heap::Reply;
 use mutator_calls::Allocated;
-use object_model::{Heap, are_roots, graph};
+use object_model::{Heap, are_roots};
 use plain_world::{PlainWorld, new_mutators};
 use plans::NoGc;
 use std::alloc::{AllocError, Global};

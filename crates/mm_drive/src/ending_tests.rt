@@ -1,70 +1,239 @@
-//! Tests of runs whose files, streams or memory fail: status, exit number and text.
+//! Tests of how runs end: faults of files, limits, and devices or memory that fail.
 
 ghost use Rattle.std.specs.Prelude.{None, Some, []};
 
-use crate::status::Status;
-use crate::test_runs::{FIRST, FIRST_TEXT, file_of, trace_in, words_in};
-use crate::top::run;
-use heap_layout::Layout;
-use outside::{Failed, MemSink, MemSources, OpenFault, Sources};
+use crate::test_runs::{FIRST, FIRST_TEXT, file_of, number_of_run, report, run_line, trace_in};
+use outside::{Failed, MemSink, MemSources, OpenFault, Sink, Sources, SureSink, SureSources};
+use std::alloc::{AllocError, Global};
 use std::test::Fail;
+use std::thread::Threads;
 use trace_text::{TraceFault, Why};
-use work_packets::OpenGate;
 
-// A failure of one call of the sink, over a source that does not fail.
+const GOOD: &str = "--plan nogc --heap 4 a";
+
+// The last lines without a newline are accepted.
 #[test]
-fn failing_writes(rt: HostRuntime) -> Result<(), Fail> {
+fn contents(rt: HostRuntime) -> Result<(), Fail> {
     let alloc = rt.alloc();
-    let words = words_in(alloc, "--plan nogc --heap 4 a")?;
-    for k in 1..4u64 {
-        let files = file_of(alloc, "a", trace_in(alloc, FIRST)?)?;
-        let mut sources = MemSources::new(files, Vec::new(alloc));
-        let mut out = MemSink::new(alloc, 100, 8, [k].to_vec(alloc)?)?;
-        let mut err = MemSink::new(alloc, 100, 100, Vec::new(alloc))?;
-        let status = run(
-            &rt,
-            alloc,
-            &words,
-            &mut sources,
-            &mut out,
-            &mut err,
-            &OpenGate,
-        );
-        assert_eq!(rt; status, Status::WriteFault, "call {k}");
-        assert_eq!(rt; out.bytes().len() as u64, 8 * (k - 1), "call {k}");
-        assert!(rt; FIRST_TEXT.starts_with(out.bytes()));
-        assert_eq!(rt; err.bytes(), b"mm_drive: write failed\n".as_slice());
+    for (line, content, want) in [
+        ("--plan nogc --heap 1024 a", "mmtrace 1", "0|mutator 1\n|"),
+        (GOOD, "mmtrace 1\nread r0 0", "0|mutator 1\nnull\n|"),
+        ("--plan nogc --heap 4 b", "", "3||mm_drive: cannot read b\n"),
+        (GOOD, "", "5||mm_drive: a: line 1: header\n"),
+        (GOOD, "mmtrace 1\n\n", "5||mm_drive: a: line 2: word\n"),
+        (
+            GOOD,
+            "mmtrace 1\nnew r0 1025 0\n",
+            "5||mm_drive: a: line 2: range\n",
+        ),
+        (
+            GOOD,
+            "mmtrace 1\nread r00 0\n",
+            "5||mm_drive: a: line 2: number\n",
+        ),
+        (
+            GOOD,
+            "mmtrace 1\nread r0 0\nread r0\n",
+            "5||mm_drive: a: line 3: count\n",
+        ),
+    ] {
+        let ran = run_line(&rt, alloc, line, content.as_bytes().to_vec(alloc)?)?;
+        assert!(rt; ran.as_slice() == want.as_bytes(), "{line} {content}");
     }
     Ok(())
 }
 
-// A standard error that fails at each call changes no status.
+// A text with a piece appended so many times.
+fn repeated(alloc: Global, head: &str, count: usize, piece: &str) -> Result<Vec<u8>, AllocError> {
+    let mut text = Vec::from_slice(alloc, head.as_bytes())?;
+    for _ in 0..count {
+        text.extend_from_slice(piece.as_bytes())?;
+    }
+    Ok(text)
+}
+
 #[test]
-fn failing_standard_error(rt: HostRuntime) -> Result<(), Fail> {
+fn limits(rt: HostRuntime) -> Result<(), Fail> {
     let alloc = rt.alloc();
-    let line = "--plan nogc --heap 4 a";
-    for (line, content, want) in [
-        ("--plan nogc", "", Status::Usage),
-        ("--plan nogc --heap 4 b", "", Status::ReadFault),
-        (line, "mmtrace 1\nread r0\n", Status::BadTrace),
-        (line, "mmtrace 1\nread r0 0\n", Status::Ok),
+    for (head, count, piece, want) in [
+        (
+            "",
+            16_777_217,
+            "\n",
+            "4||mm_drive: a is longer than 16777216 bytes\n",
+        ),
+        ("", 16_777_216, "\n", "5||mm_drive: a: line 1: header\n"),
+        (
+            "mmtrace 1\n",
+            1_000_001,
+            "gc\n",
+            "5||mm_drive: a: more than 1000000 commands\n",
+        ),
     ] {
-        let words = words_in(alloc, line)?;
-        let files = file_of(alloc, "a", content.as_bytes().to_vec(alloc)?)?;
-        let mut sources = MemSources::new(files, Vec::new(alloc));
-        let mut out = MemSink::new(alloc, 100, 100, Vec::new(alloc))?;
-        let mut err = MemSink::new(alloc, 0, 1, Vec::new(alloc))?;
-        let status = run(
-            &rt,
-            alloc,
-            &words,
-            &mut sources,
-            &mut out,
-            &mut err,
-            &OpenGate,
-        );
-        assert_eq!(rt; status, want, "{line}");
-        assert!(rt; err.bytes().is_empty());
+        let ran = run_line(&rt, alloc, GOOD, repeated(alloc, head, count, piece)?)?;
+        assert!(rt; ran.as_slice() == want.as_bytes(), "{want}");
+    }
+    Ok(())
+}
+
+// A sink that takes each piece whole, and records the longest length and the total.
+#[derive(Drop)]
+struct Gauge {
+    longest: usize,
+    total: usize,
+}
+
+impl Sink for Gauge {
+    ghost state = { λ _. record { written = None; faults = 0 } };
+
+    fn write(&mut self, bytes: &[u8]) -> Result<usize, Failed> {
+        self.longest = self.longest.max(bytes.len());
+        self.total = self.total.saturating_add(bytes.len());
+        Ok(bytes.len())
+    }
+}
+
+// As many commands as a trace may have. The text has a line of ten bytes, and three bytes for each
+// command.
+#[test]
+fn longest_piece(rt: HostRuntime) -> Result<(), Fail> {
+    let alloc = rt.alloc();
+    let text = repeated(alloc, "mmtrace 1\n", 1_000_000, "drop r0\n")?;
+    let mut sources = SureSources::new(file_of(alloc, "a", text)?);
+    let mut out = Gauge {
+        longest: 0,
+        total: 0,
+    };
+    let number = number_of_run(&rt, alloc, GOOD, &mut sources, &mut out, &mut SureSink)?;
+    assert!(rt; number == 0 && out.total == 3_000_010 && out.longest == 65_536);
+    Ok(())
+}
+
+// A sink with room for some bytes, that takes some of them in a call. One call fails, none if its
+// number is 0.
+#[derive(Clone, Copy)]
+struct Device {
+    room: usize,
+    most: usize,
+    failing: u64,
+}
+
+const SOUND: Device = Device {
+    room: 100,
+    most: 100,
+    failing: 0,
+};
+
+const FULL: Device = Device { room: 0, ..SOUND };
+
+const fn sink_that_fails(most: usize, failing: u64) -> Device {
+    Device {
+        room: 100,
+        most,
+        failing,
+    }
+}
+
+fn sink_of(alloc: Global, device: Device) -> Result<MemSink, AllocError> {
+    let fails = [device.failing].to_vec(alloc)?;
+    MemSink::new(alloc, device.room, device.most.max(1), fails)
+}
+
+// Runs the program over these devices. One call of the source fails, none if its number is 0. File
+// `a` has the commands.
+fn run_devices<R: Threads + Sync>(
+    rt: &R,
+    alloc: Global,
+    line: &str,
+    commands: &str,
+    failing: u64,
+    out: Device,
+    err: Device,
+) -> Result<Vec<u8>, AllocError> {
+    let files = file_of(alloc, "a", trace_in(alloc, commands)?)?;
+    let mut sources = MemSources::new(files, [failing].to_vec(alloc)?);
+    let mut out = sink_of(alloc, out)?;
+    let mut err = sink_of(alloc, err)?;
+    let number = number_of_run(rt, alloc, line, &mut sources, &mut out, &mut err)?;
+    report(alloc, number, out.bytes(), err.bytes())
+}
+
+// The report of a run of `FIRST` whose source and sink fail at this call. The source is opened,
+// gives a piece, and then the end. The sink takes a byte a call.
+fn report_of_failure(alloc: Global, call: usize) -> Result<Vec<u8>, AllocError> {
+    if call <= 3 {
+        return report(alloc, 3, b"", b"mm_drive: cannot read a\n");
+    }
+    match FIRST_TEXT.get(..call - 1) {
+        Some(front) if call <= FIRST_TEXT.len() => {
+            report(alloc, 6, front, b"mm_drive: write failed\n")
+        }
+        _ => report(alloc, 0, FIRST_TEXT, b""),
+    }
+}
+
+// A failure at each call of the source and of the sink.
+#[test]
+fn failures(rt: HostRuntime) -> Result<(), Fail> {
+    let alloc = rt.alloc();
+    for call in 1..40usize {
+        let out = sink_that_fails(1, call as u64);
+        let ran = run_devices(&rt, alloc, GOOD, FIRST, call as u64, out, SOUND)?;
+        let want = report_of_failure(alloc, call)?;
+        assert!(rt; ran.as_slice() == want.as_slice(), "call {call}");
+    }
+    Ok(())
+}
+
+// A standard error that fails changes no status.
+#[test]
+fn failing_sinks(rt: HostRuntime) -> Result<(), Fail> {
+    let alloc = rt.alloc();
+    let unread = "--plan nogc --heap 4 b";
+    for (line, commands, out, err, want) in [
+        (
+            GOOD,
+            FIRST,
+            sink_that_fails(8, 1),
+            SOUND,
+            "6||mm_drive: write failed\n",
+        ),
+        (
+            GOOD,
+            FIRST,
+            sink_that_fails(8, 2),
+            SOUND,
+            "6|mutator |mm_drive: write failed\n",
+        ),
+        (
+            GOOD,
+            FIRST,
+            sink_that_fails(8, 3),
+            SOUND,
+            "6|mutator 1\nnew 1.|mm_drive: write failed\n",
+        ),
+        ("--plan nogc", "", SOUND, FULL, "2||"),
+        (unread, "", SOUND, FULL, "3||"),
+        (GOOD, "read r0", SOUND, FULL, "5||"),
+        (GOOD, "read r0 0", SOUND, FULL, "0|mutator 1\nnull\n|"),
+        (unread, "", SOUND, sink_that_fails(100, 1), "3||"),
+        (
+            unread,
+            "",
+            SOUND,
+            sink_that_fails(100, 2),
+            "3||mm_drive: cannot read ",
+        ),
+        (
+            unread,
+            "",
+            SOUND,
+            sink_that_fails(100, 3),
+            "3||mm_drive: cannot read b",
+        ),
+    ] {
+        let ran = run_devices(&rt, alloc, line, commands, 0, out, err)?;
+        assert!(rt; ran.as_slice() == want.as_bytes(), "{line} {want}");
     }
     Ok(())
 }
@@ -86,44 +255,21 @@ impl Sources for Starved {
 }
 
 #[test]
-fn out_of_memory(rt: HostRuntime) -> Result<(), Fail> {
+fn sure_and_starved(rt: HostRuntime) -> Result<(), Fail> {
     let alloc = rt.alloc();
-    let words = words_in(alloc, "--plan nogc --heap 4 a")?;
-    let mut out = MemSink::new(alloc, 100, 100, Vec::new(alloc))?;
-    let mut err = MemSink::new(alloc, 100, 100, Vec::new(alloc))?;
-    let status = run(
-        &rt,
-        alloc,
-        &words,
-        &mut Starved,
-        &mut out,
-        &mut err,
-        &OpenGate,
-    );
-    assert_eq!(rt; status, Status::OutOfMemory);
-    assert!(rt; out.bytes().is_empty());
-    assert_eq!(rt; err.bytes(), b"mm_drive: out of memory\n".as_slice());
+    let mut sources = SureSources::new(file_of(alloc, "a", trace_in(alloc, FIRST)?)?);
+    let number = number_of_run(&rt, alloc, GOOD, &mut sources, &mut SureSink, &mut SureSink)?;
+    let mut out = sink_of(alloc, SOUND)?;
+    let mut err = sink_of(alloc, SOUND)?;
+    let starved = number_of_run(&rt, alloc, GOOD, &mut Starved, &mut out, &mut err)?;
+    let is_silent = out.bytes().is_empty();
+    let is_told = err.bytes() == b"mm_drive: out of memory\n".as_slice();
+    assert!(rt; number == 0 && starved == 7 && is_silent && is_told);
     Ok(())
 }
 
 #[test]
-fn numbers(rt: HostRuntime) {
-    for (status, number) in [
-        (Status::Ok, 0u8),
-        (Status::Usage, 2),
-        (Status::ReadFault, 3),
-        (Status::TooLong, 4),
-        (Status::BadTrace, 5),
-        (Status::WriteFault, 6),
-        (Status::OutOfMemory, 7),
-    ] {
-        assert_eq!(rt; status.number(), number, "{status:?}");
-    }
-}
-
-#[test]
 fn texts_of_faults(rt: HostRuntime) -> Result<(), Fail> {
-    let alloc = rt.alloc();
     for (fault, text) in [
         (TraceFault::Line(1, Why::Header), "line 1: header"),
         (TraceFault::Line(20, Why::Word), "line 20: word"),
@@ -136,16 +282,7 @@ fn texts_of_faults(rt: HostRuntime) -> Result<(), Fail> {
         (TraceFault::TooMany, "more than 1000000 commands"),
         (TraceFault::OutOfMemory, "out of memory"),
     ] {
-        assert_eq!(rt; format!(in alloc; "{fault}")?.as_str(), text);
-    }
-    for (blocks, text) in [
-        (3, "a heap has 4 to 1024 blocks, not 3"),
-        (1025, "a heap has 4 to 1024 blocks, not 1025"),
-    ] {
-        match Layout::new(blocks) {
-            Ok(_) => panic!(rt; "{blocks}"),
-            Err(error) => assert_eq!(rt; format!(in alloc; "{error}")?.as_str(), text),
-        }
+        assert_eq!(rt; format!(in rt.alloc(); "{fault}")?.as_str(), text);
     }
     Ok(())
 }

@@ -1,158 +1,77 @@
-//! Runs of several traces: replies and fault lines.
+//! Runs of several traces: fault lines, additions, and the points of a gate.
 
-use crate::status::Status;
-use crate::test_runs::{check_replies, files_of, repeat, run_traces, text_in, words_in};
-use crate::top::run;
-use outside::{MemSink, MemSources};
+use crate::test_runs::{report, report_of, run_traces};
 use std::alloc::{AllocError, Global};
-use std::fmt::Write;
 use std::process::Abort;
 use std::sync::atomic::{AtomicU64, Ordering};
 use std::test::Fail;
 use std::thread::Threads;
-use work_packets::{Gate, Point};
-
-fn check<R: Threads + Sync + Abort>(
-    rt: &R,
-    alloc: Global,
-    heap: u32,
-    traces: &[&str],
-    replies: &[&str],
-) -> Result<(), AllocError> {
-    check_replies(rt, alloc, "nogc", heap, traces, replies)
-}
-
-#[test]
-fn several_mutators(rt: HostRuntime) -> Result<(), Fail> {
-    let alloc = rt.alloc();
-    // An object is handed over at a `meet`.
-    check(
-        &rt,
-        alloc,
-        4,
-        &[
-            "new r0 0 1;write r0 0 5;share g0 r0;meet",
-            "meet;load r1 g0;read r1 0",
-        ],
-        &["new 1.1;ok;ok;ok", "ok;ref 1.1;num 5"],
-    )?;
-    // The fifth finds each block owned, and is served at the stop.
-    check(
-        &rt,
-        alloc,
-        4,
-        &["new r0 0 1"; 5],
-        &["new 1.1", "new 2.1", "new 3.1", "new 4.1", "new 5.1"],
-    )?;
-    // One has no command, and one meets less often than the others.
-    check(
-        &rt,
-        alloc,
-        4,
-        &[
-            "",
-            "meet;new r0 0 1;meet;share g1 r0;meet",
-            "meet;load r2 g1;meet;meet;load r2 g1",
-            "meet",
-        ],
-        &["", "ok;new 2.1;ok;ok;ok", "ok;nil;ok;ok;ref 2.1", "ok"],
-    )?;
-    // A need and a `gc` at one stop.
-    check(
-        &rt,
-        alloc,
-        4,
-        &["gc;new r0 0 2", "new r0 0 60000;gc;read r0 0", "gc;pin r0"],
-        &["ok;new 1.1", "full;ok;null", "ok;null"],
-    )?;
-    Ok(())
-}
+use work_packets::{Gate, OpenGate, Point};
 
 // The files are read in their order, and the first fault ends the run. Its line names the file.
 #[test]
 fn faults_of_files(rt: HostRuntime) -> Result<(), Fail> {
     let alloc = rt.alloc();
-    let good = "new r0 0 1;write r0 0 5;share g0 r0;meet";
-    let table = [
+    for (traces, line) in [
         (
-            [good, "meet;load r1 g0;read r1"],
+            "new r0 0 1;write r0 0 5;share g0 r0;meet|meet;load r1 g0;read r1",
             "mm_drive: f1: line 4: count\n",
         ),
         (
-            ["meet;load r1 g16", "meet;read r1"],
+            "meet;load r1 g16|meet;read r1",
             "mm_drive: f0: line 3: range\n",
         ),
-    ];
-    for (traces, line) in table {
-        let ran = run_traces(&rt, alloc, "nogc", 4, &traces)?;
-        assert_eq!(rt; ran.status, Status::BadTrace, "{line}");
-        assert!(rt; ran.out.is_empty(), "{line}");
-        assert_eq!(rt; ran.err.as_slice(), line.as_bytes());
+    ] {
+        let ran = run_traces(&rt, alloc, "nogc", 4, traces, &OpenGate)?;
+        let want = report(alloc, 5, b"", line.as_bytes())?;
+        assert!(rt; ran.as_slice() == want.as_slice(), "{line}");
     }
     Ok(())
 }
 
-// The numbers that are replied are those below `count`, each once, and perhaps `count`.
-fn are_all_below(alloc: Global, text: &[u8], count: usize) -> Result<bool, AllocError> {
-    let mut seen = vec![in alloc; false; count]?;
-    for line in text.split(|b| *b == b'\n') {
-        let Some(digits) = line.strip_prefix(b"num ") else {
-            continue;
-        };
-        let Some(number) = str::from_utf8(digits)
-            .ok()
-            .and_then(|d| d.parse::<usize>().ok())
-        else {
-            return Ok(false);
-        };
-        if let Some(seen) = seen.get_mut(number) {
-            if *seen {
-                return Ok(false);
-            }
-            *seen = true;
-        } else if number != count {
-            return Ok(false);
+// The numbers that are replied, in rising order.
+fn numbers_in(alloc: Global, text: &[u8]) -> Result<Vec<u64>, AllocError> {
+    let mut numbers = Vec::new(alloc);
+    for line in str::from_utf8(text).unwrap_or("").lines() {
+        if let Some(digits) = line.strip_prefix("num ") {
+            numbers.push(digits.parse::<u64>().unwrap_or(u64::MAX))?;
         }
     }
-    Ok(seen.iter().all(|seen| *seen))
+    numbers.sort()?;
+    Ok(numbers)
 }
 
-// Four mutators add to one number, through stops that `gc` raises.
+// Four mutators add 1 to one number a thousand times each, through stops that `gc` raises: an
+// addition replies the number before it. At the end one reads the sum.
 #[test]
 fn additions(rt: HostRuntime) -> Result<(), Fail> {
     let alloc = rt.alloc();
-    let mut first = String::from_str(alloc, "new r0 0 1;share g0 r0;meet;load r1 g0")?;
-    repeat(&mut first, 1000, ";add r1 0 1")?;
-    first.push_str(";meet;read r1 0")?;
-    let mut other = String::from_str(alloc, "meet;load r1 g0")?;
-    repeat(&mut other, 500, ";add r1 0 1")?;
-    other.push_str(";gc")?;
-    repeat(&mut other, 500, ";add r1 0 1")?;
-    other.push_str(";meet")?;
-    let other = other.as_str();
+    let first = "new r0 0 1;share g0 r0;meet;load r1 g0;1000*add r1 0 1;meet;read r1 0";
+    let other = "meet;load r1 g0;500*add r1 0 1;gc;500*add r1 0 1;meet";
+    let traces = format!(in alloc; "{first}|{other}|{other}|{other}")?;
+    let want = Vec::from_iter(alloc, 0..4001u64)?;
     for plan in ["nogc", "marksweep", "semispace", "immix"] {
-        let ran = run_traces(&rt, alloc, plan, 8, &[first.as_str(), other, other, other])?;
-        assert_eq!(rt; ran.status, Status::Ok, "{plan}");
-        assert!(rt; are_all_below(alloc, &ran.out, 4000)?, "{plan}");
+        let ran = run_traces(&rt, alloc, plan, 8, &traces, &OpenGate)?;
+        let numbers = numbers_in(alloc, &ran)?;
+        assert!(rt; numbers.as_slice() == want.as_slice(), "{plan}");
     }
     Ok(())
 }
 
-// Sixteen mutators: each allocates, shares and meets.
+// Sixteen mutators: each allocates, shares and meets. Each replies `ok` to `share`, `gc` and both
+// `meet`s.
 #[test]
 fn sixteen_mutators(rt: HostRuntime) -> Result<(), Fail> {
     let alloc = rt.alloc();
     let trace = "new r0 0 1;share g3 r0;meet;load r0 g3;pin r0;gc;meet";
-    let ran = run_traces(&rt, alloc, "nogc", 16, &[trace; 16])?;
-    assert_eq!(rt; ran.status, Status::Ok);
-    let mut lines = 0u32;
-    for line in ran.out.split(|b| *b == b'\n') {
-        if line == b"ok".as_slice() {
-            lines = lines.wrapping_add(1);
-        }
+    let mut traces = String::from_str(alloc, trace)?;
+    for _ in 1..16 {
+        traces.push_str("|")?;
+        traces.push_str(trace)?;
     }
-    // Each replies `ok` to `share`, `gc` and both `meet`s.
-    assert_eq!(rt; lines, 64);
+    let ran = run_traces(&rt, alloc, "nogc", 16, &traces, &OpenGate)?;
+    let text = str::from_utf8(&ran).unwrap_or("");
+    assert_eq!(rt; text.lines().filter(|line| *line == "ok").count(), 64);
     Ok(())
 }
 
@@ -220,28 +139,18 @@ fn work_of(gate: &CountingGate) -> (u64, u64, u64) {
     )
 }
 
-// Runs traces through a gate, with these replies.
-fn run_gated<R: Threads + Sync + Abort>(
+// Runs traces through a gate. They end well, with these replies.
+fn count_points<R: Threads + Sync + Abort>(
     rt: &R,
     alloc: Global,
     plan: &str,
-    traces: &[&str],
-    replies: &[&str],
+    traces: &str,
+    replies: &str,
 ) -> Result<CountingGate, AllocError> {
     let gate = CountingGate::new();
-    let mut line = String::new(alloc);
-    write!(line, "--plan {plan} --heap 4")?;
-    for m in 0..traces.len() {
-        write!(line, " f{m}")?;
-    }
-    let words = words_in(alloc, &line)?;
-    let mut sources = MemSources::new(files_of(alloc, traces)?, Vec::new(alloc));
-    let mut out = MemSink::new(alloc, 1000, 1000, Vec::new(alloc))?;
-    let mut err = MemSink::new(alloc, 1000, 1000, Vec::new(alloc))?;
-    let status = run(rt, alloc, &words, &mut sources, &mut out, &mut err, &gate);
-    assert_eq!(rt; status, Status::Ok, "{plan}");
-    let text = text_in(alloc, replies)?;
-    assert_eq!(rt; out.bytes(), text.as_slice(), "{plan}");
+    let ran = run_traces(rt, alloc, plan, 4, traces, &gate)?;
+    let want = report_of(alloc, replies)?;
+    assert!(rt; ran.as_slice() == want.as_slice(), "{plan}");
     Ok(gate)
 }
 
@@ -249,20 +158,20 @@ fn run_gated<R: Threads + Sync + Abort>(
 // stop. Its `new` is large, so that no object is published.
 #[test]
 fn gates_are_passed(rt: HostRuntime) -> Result<(), Fail> {
-    let gate = run_gated(
+    let gate = count_points(
         &rt,
         rt.alloc(),
         "nogc",
-        &[
-            "new r0 0 1;write r0 0 7;gc",
-            "meet;new r0 0 60000;read r0 0",
-        ],
-        &["new 1.1;ok;ok", "ok;full;null"],
+        "new r0 0 1;write r0 0 7;gc|meet;new r0 0 60000;read r0 0",
+        "new 1.1;ok;ok|ok;full;null",
     )?;
-    assert_eq!(rt; counts_of(&gate.polls), (3, 3));
-    assert_eq!(rt; counts_of(&gate.allocations), (1, 1));
-    assert_eq!(rt; counts_of(&gate.publications), (1, 0));
-    assert_eq!(rt; work_of(&gate), (0, 0, 0));
+    let polls = counts_of(&gate.polls);
+    let allocations = counts_of(&gate.allocations);
+    let publications = counts_of(&gate.publications);
+    let work = work_of(&gate);
+    assert!(rt;
+        polls == (3, 3) && allocations == (1, 1) && publications == (1, 0) && work == (0, 0, 0)
+    );
     Ok(())
 }
 
@@ -271,17 +180,15 @@ fn gates_are_passed(rt: HostRuntime) -> Result<(), Fail> {
 #[test]
 fn gates_are_passed_in_collections(rt: HostRuntime) -> Result<(), Fail> {
     for plan in ["marksweep", "semispace", "immix"] {
-        let gate = run_gated(
+        let gate = count_points(
             &rt,
             rt.alloc(),
             plan,
-            &["new r0 1 0;new r1 0 1;put r0 0 r1;drop r1;gc"],
-            &["new 1.1;new 1.2;ok;ok;ok"],
+            "new r0 1 0;new r1 0 1;put r0 0 r1;drop r1;gc",
+            "new 1.1;new 1.2;ok;ok;ok",
         )?;
         let (packets, items, items_done) = work_of(&gate);
-        assert!(rt; packets > 0, "{plan}");
-        assert!(rt; items > 2, "{plan}");
-        assert_eq!(rt; items_done, items, "{plan}");
+        assert!(rt; packets > 0 && items > 2 && items_done == items, "{plan}");
     }
     Ok(())
 }

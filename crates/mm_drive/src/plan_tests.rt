@@ -1,262 +1,268 @@
-//! Runs under each plan: replies of sessions whose heap is collected.
+//! Runs under each plan: replies of sessions of one mutator and of several.
 
-use crate::test_runs::{check_replies, repeat};
+use crate::test_runs::{FIRST, check_replies};
 use std::alloc::{AllocError, Global};
 use std::fmt::Write;
 use std::test::Fail;
 
-const PLANS: [&str; 4] = ["nogc", "marksweep", "semispace", "immix"];
+const NOGC: &[&str] = &["nogc"];
 
-// A cycle is reached through either object, and is garbage before the second collection.
-const CYCLE: &str = "new r0 1 0;new r1 1 0;put r0 0 r1;put r1 0 r0;drop r1;gc;get r2 r0 0;\
-    get r3 r2 0;drop r0;drop r2;drop r3;gc";
+const MARKSWEEP: &[&str] = &["marksweep"];
 
-const CYCLE_REPLIES: &str = "new 1.1;new 1.2;ok;ok;ok;ok;ref 1.2;ref 1.1;ok;ok;ok;ok";
+const SEMISPACE: &[&str] = &["semispace"];
 
-// Traces of one mutator each, and their replies under each plan, with four blocks.
+const IMMIX: &[&str] = &["immix"];
+
+const ALL: &[&str] = &["nogc", "marksweep", "semispace", "immix"];
+
+const COLLECTING: &[&str] = &["marksweep", "semispace", "immix"];
+
+const BUT_IMMIX: &[&str] = &["nogc", "marksweep", "semispace"];
+
+// Nine objects of half a block, of which the last alone is held.
+const HALVES: &str = "9*new r0 0 2045";
+
+// The largest object takes 15 blocks.
+const LARGEST: &str = "new r0 1024 60000;put r0 1023 r0;get r1 r0 1023";
+
+// A second one finds no run of blocks, before or after the collection that is made for it.
+const TWO_LARGEST: &str = "new r0 1024 60000;new r1 1024 60000";
+
+const PIN_LARGEST: &str = "new r0 1024 60000;pin r0";
+
+// Plans, blocks, and the commands and replies of one mutator.
+const ALONE: [(&[&str], u32, &str, &str); 23] = [
+    (ALL, 4, FIRST, "new 1.1;ok;num 7;nil"),
+    (ALL, 4, "", ""),
+    (
+        ALL,
+        4,
+        "read r3 0;new r0 1 2;read r0 9;read r0 2;get r1 r0 1;pin r3",
+        "null;new 1.1;range;range;range;null",
+    ),
+    (
+        ALL,
+        4,
+        "new r0 0 1;write r0 0 18446744073709551615;add r0 0 1;read r0 0;swap r0 0 1 5;\
+        swap r0 0 0 5;read r0 0",
+        "new 1.1;ok;num 18446744073709551615;num 0;no;yes;num 5",
+    ),
+    // A cycle is reached through either object, and is garbage before the second collection.
+    (
+        ALL,
+        4,
+        "new r0 1 0;new r1 1 0;put r0 0 r1;put r1 0 r0;drop r1;gc;get r2 r0 0;get r3 r2 0;\
+        drop r0;drop r2;drop r3;gc",
+        "new 1.1;new 1.2;ok;ok;ok;ok;ref 1.2;ref 1.1;ok;ok;ok;ok",
+    ),
+    (
+        ALL,
+        4,
+        "new r0 1024 0;get r1 r0 1023;put r0 1023 r0;get r1 r0 1023",
+        "new 1.1;nil;ok;ref 1.1",
+    ),
+    (
+        ALL,
+        4,
+        "load r1 g0;new r0 0 0;share g15 r0;drop r0;pin r0;load r2 g15;move r3 r2;pin r3;pin r2;\
+        unpin r3;unpin r2;meet;share g15 r0;load r2 g15",
+        "nil;new 1.1;ok;ok;null;ref 1.1;ok;yes;no;yes;no;ok;ok;nil",
+    ),
+    // A pinned object and its neighbour.
+    (
+        ALL,
+        4,
+        "new r0 0 1;new r1 0 1;pin r0;pin r0",
+        "new 1.1;new 1.2;yes;no",
+    ),
+    (
+        ALL,
+        4,
+        "new r0 0 1;new r1 0 1;pin r0;pin r0;gc",
+        "new 1.1;new 1.2;yes;no;ok",
+    ),
+    // What a collection moves keeps its numbers, its references and its pin.
+    (
+        ALL,
+        4,
+        "new r0 1 1;new r1 0 1;write r0 0 5;write r1 0 6;put r0 0 r1;pin r1;drop r1;gc;gc;\
+        read r0 0;get r1 r0 0;read r1 0;pin r1;unpin r1;gc;read r1 0",
+        "new 1.1;new 1.2;ok;ok;ok;yes;ok;ok;ok;num 5;ref 1.2;num 6;no;yes;ok;num 6",
+    ),
+    // An object that a global alone holds.
+    (
+        ALL,
+        4,
+        "new r0 0 1;write r0 0 9;share g7 r0;drop r0;gc;load r3 g7;read r3 0;drop r3;share g7 r3;\
+        gc;load r3 g7",
+        "new 1.1;ok;ok;ok;ok;ref 1.1;num 9;ok;ok;ok;nil",
+    ),
+    // A large object takes a block of its own.
+    (
+        ALL,
+        4,
+        "new r0 0 2046;new r0 0 60000;new r0 0 0;new r0 0 2045",
+        "new 1.1;full;new 1.2;new 1.3",
+    ),
+    // A young object that an old one alone reaches, and garbage.
+    (
+        ALL,
+        4,
+        "new r0 1 0;gc;new r1 0 1;write r1 0 9;put r0 0 r1;drop r1;7*new r2 0 2045;get r3 r0 0;\
+        read r3 0",
+        "new 1.1;ok;new 1.2;ok;ok;ok;new 1.3;new 1.4;new 1.5;new 1.6;new 1.7;new 1.8;new 1.9;\
+        ref 1.2;num 9",
+    ),
+    (
+        NOGC,
+        4,
+        HALVES,
+        "new 1.1;new 1.2;new 1.3;new 1.4;new 1.5;new 1.6;new 1.7;new 1.8;full",
+    ),
+    (
+        COLLECTING,
+        4,
+        HALVES,
+        "new 1.1;new 1.2;new 1.3;new 1.4;new 1.5;new 1.6;new 1.7;new 1.8;new 1.9",
+    ),
+    // Immix holds back a Free block to copy into.
+    (BUT_IMMIX, 15, LARGEST, "new 1.1;ok;ref 1.1"),
+    (IMMIX, 16, LARGEST, "new 1.1;ok;ref 1.1"),
+    (BUT_IMMIX, 14, PIN_LARGEST, "full;null"),
+    (IMMIX, 15, PIN_LARGEST, "full;null"),
+    (BUT_IMMIX, 16, TWO_LARGEST, "new 1.1;full"),
+    (IMMIX, 17, TWO_LARGEST, "new 1.1;full"),
+    // Six of eight blocks are Free, but no three beside one another: the third and the sixth block
+    // have small objects that are held. Dropped, they leave room for a large one.
+    (
+        MARKSWEEP,
+        8,
+        "new r0 0 8189;new r1 0 2045;new r2 0 8189;new r3 0 1000;drop r0;drop r2;gc;\
+        new r0 0 8190;new r0 0 8189;drop r0;drop r1;drop r3;new r0 0 8190",
+        "new 1.1;new 1.2;new 1.3;new 1.4;ok;ok;ok;full;new 1.5;ok;ok;ok;new 1.6",
+    ),
+    // A mutator keeps as much as may be in use. Nothing more fits until it drops an object.
+    (
+        SEMISPACE,
+        4,
+        "new r0 0 2045;new r1 0 2045;write r1 0 2;new r2 0 2045;new r3 0 2045;new r4 0 2045;\
+        new r4 0 1;drop r0;new r4 0 2045;read r1 0;new r5 0 1",
+        "new 1.1;new 1.2;ok;new 1.3;new 1.4;full;full;ok;new 1.5;num 2;full",
+    ),
+];
+
 #[test]
-fn replies_under_each_plan(rt: HostRuntime) -> Result<(), Fail> {
-    let table = [
-        (CYCLE, CYCLE_REPLIES),
-        ("", ""),
-        // A pinned object and its neighbour.
-        (
-            "new r0 0 1;new r1 0 1;pin r0;pin r0",
-            "new 1.1;new 1.2;yes;no",
-        ),
-        (
-            "new r0 0 1;new r1 0 1;pin r0;pin r0;gc",
-            "new 1.1;new 1.2;yes;no;ok",
-        ),
-        // What a collection moves keeps its numbers, its references and its pin.
-        (
-            "new r0 1 1;new r1 0 1;write r0 0 5;write r1 0 6;put r0 0 r1;pin r1;drop r1;gc;gc;\
-                read r0 0;get r1 r0 0;read r1 0;pin r1;unpin r1;gc;read r1 0",
-            "new 1.1;new 1.2;ok;ok;ok;yes;ok;ok;ok;num 5;ref 1.2;num 6;no;yes;ok;num 6",
-        ),
-        // An object that a global alone holds.
-        (
-            "new r0 0 1;write r0 0 9;share g7 r0;drop r0;gc;load r3 g7;read r3 0;drop r3;\
-                share g7 r3;gc;load r3 g7",
-            "new 1.1;ok;ok;ok;ok;ref 1.1;num 9;ok;ok;ok;nil",
-        ),
-        // A large object takes a block of its own.
-        (
-            "new r0 0 2046;new r0 0 60000;new r0 0 2045",
-            "new 1.1;full;new 1.2",
-        ),
-        // A young object that an old one alone reaches, and garbage.
-        (
-            "new r0 1 0;gc;new r1 0 1;write r1 0 9;put r0 0 r1;drop r1;new r2 0 2045;\
-                new r2 0 2045;new r2 0 2045;new r2 0 2045;new r2 0 2045;new r2 0 2045;\
-                new r2 0 2045;get r3 r0 0;read r3 0",
-            "new 1.1;ok;new 1.2;ok;ok;ok;new 1.3;new 1.4;new 1.5;new 1.6;new 1.7;new 1.8;\
-                new 1.9;ref 1.2;num 9",
-        ),
-    ];
-    let alloc = rt.alloc();
-    for plan in PLANS {
-        for (trace, replies) in table {
-            check_replies(&rt, alloc, plan, 4, &[trace], &[replies])?;
-        }
-    }
-    Ok(())
-}
-
-// Objects that one mutator makes, and another reads when collections have moved them.
-#[test]
-fn objects_are_handed_over(rt: HostRuntime) -> Result<(), Fail> {
-    let alloc = rt.alloc();
-    let first = "new r0 1 1;write r0 0 5;new r1 0 1;write r1 0 6;put r0 0 r1;share g0 r0;\
-        drop r0;drop r1;gc;meet;gc;meet;load r0 g0;read r0 0";
-    let second = "meet;load r1 g0;read r1 0;write r1 0 8;gc;get r2 r1 0;read r2 0;meet;gc;\
-        read r1 0";
-    for plan in PLANS {
-        check_replies(
-            &rt,
-            alloc,
-            plan,
-            8,
-            &[first, second],
-            &[
-                "new 1.1;ok;new 1.2;ok;ok;ok;ok;ok;ok;ok;ok;ok;ref 1.1;num 8",
-                "ok;ref 1.1;num 5;ok;ok;ref 1.2;num 6;ok;ok;num 8",
-            ],
-        )?;
-    }
-    Ok(())
-}
-
-// The largest object takes 15 blocks. A second one finds no run of them, before or after the
-// collection that is made for it. Immix holds back a Free block to copy into.
-#[test]
-fn largest_objects(rt: HostRuntime) -> Result<(), Fail> {
-    let alloc = rt.alloc();
-    let table = [
-        (
-            15,
-            "new r0 1024 60000;put r0 1023 r0;get r1 r0 1023",
-            "new 1.1;ok;ref 1.1",
-        ),
-        (14, "new r0 1024 60000;pin r0", "full;null"),
-        (16, "new r0 1024 60000;new r1 1024 60000", "new 1.1;full"),
-    ];
-    for plan in PLANS {
-        let held_back = if plan == "immix" { 1 } else { 0 };
-        for (blocks, trace, replies) in table {
-            check_replies(&rt, alloc, plan, blocks + held_back, &[trace], &[replies])?;
-        }
-    }
-    Ok(())
-}
-
-// Six of eight blocks are Free, but no three beside one another: the third and the sixth block have
-// small objects that are held. Dropped, they leave room for a large one.
-#[test]
-fn no_long_run(rt: HostRuntime) -> Result<(), Fail> {
-    let alloc = rt.alloc();
-    let trace = "new r0 0 8189;new r1 0 2045;new r2 0 8189;new r3 0 1000;drop r0;drop r2;gc;\
-        new r0 0 8190;new r0 0 8189;drop r0;drop r1;drop r3;new r0 0 8190";
-    let replies = "new 1.1;new 1.2;new 1.3;new 1.4;ok;ok;ok;full;new 1.5;ok;ok;ok;new 1.6";
-    check_replies(&rt, alloc, "marksweep", 8, &[trace], &[replies])?;
-    Ok(())
-}
-
-// Nine objects of half a block, of which the last alone is held. Without collections the ninth
-// finds no room.
-#[test]
-fn garbage_is_reclaimed(rt: HostRuntime) -> Result<(), Fail> {
-    let alloc = rt.alloc();
-    let mut trace = String::from_str(alloc, "new r0 0 2045")?;
-    repeat(&mut trace, 8, ";new r0 0 2045")?;
-    let names = "new 1.1;new 1.2;new 1.3;new 1.4;new 1.5;new 1.6;new 1.7;new 1.8";
-    for (plan, last) in [
-        ("nogc", "full"),
-        ("semispace", "new 1.9"),
-        ("marksweep", "new 1.9"),
-        ("immix", "new 1.9"),
-    ] {
-        let mut replies = String::from_str(alloc, names)?;
-        write!(replies, ";{last}")?;
-        check_replies(&rt, alloc, plan, 4, &[trace.as_str()], &[replies.as_str()])?;
+fn replies(rt: HostRuntime) -> Result<(), Fail> {
+    for (plans, heap, commands, replies) in ALONE {
+        check_replies(&rt, rt.alloc(), plans, heap, commands, replies)?;
     }
     Ok(())
 }
 
 // Two pinned objects keep a block each. Then no block is left for copies, all objects stay where
 // they are, and nothing fits. Unpinned, the two move together.
-#[test]
-fn kept_blocks(rt: HostRuntime) -> Result<(), Fail> {
-    let alloc = rt.alloc();
-    let pinned = "new r0 0 2045;pin r0;new r1 0 2045;new r2 0 2045;pin r2;new r3 0 2045;gc;\
-        pin r1;gc;gc;new r4 0 1";
-    let replies = "new 1.1;yes;new 1.2;new 1.3;yes;new 1.4;ok;yes;ok;ok;full";
-    check_replies(&rt, alloc, "semispace", 4, &[pinned], &[replies])?;
-    let mut longer = String::from_str(alloc, pinned)?;
-    longer.push_str(";write r2 0 3;drop r1;drop r3;unpin r0;unpin r2;gc;new r4 0 1;read r2 0")?;
-    let mut more = String::from_str(alloc, replies)?;
-    more.push_str(";ok;ok;ok;yes;yes;ok;new 1.5;num 3")?;
-    check_replies(
-        &rt,
-        alloc,
-        "semispace",
-        4,
-        &[longer.as_str()],
-        &[more.as_str()],
-    )?;
-    Ok(())
-}
+const PINNED: &str = "new r0 0 2045;pin r0;new r1 0 2045;new r2 0 2045;pin r2;new r3 0 2045;gc;\
+    pin r1;gc;gc;new r4 0 1";
 
-// A mutator keeps as much as may be in use. Nothing more fits until it drops an object, for itself
-// or for another mutator.
+const PINNED_REPLIES: &str = "new 1.1;yes;new 1.2;new 1.3;yes;new 1.4;ok;yes;ok;ok;full";
+
+const UNPINNED: &str = ";write r2 0 3;drop r1;drop r3;unpin r0;unpin r2;gc;new r4 0 1;read r2 0";
+
+const UNPINNED_REPLIES: &str = ";ok;ok;ok;yes;yes;ok;new 1.5;num 3";
+
+// Plans, blocks, and the commands and replies of each mutator.
+const TOGETHER: [(&[&str], u32, &str, &str); 7] = [
+    // An object is handed over at a `meet`.
+    (
+        ALL,
+        4,
+        "new r0 0 1;write r0 0 5;share g0 r0;meet|meet;load r1 g0;read r1 0",
+        "new 1.1;ok;ok;ok|ok;ref 1.1;num 5",
+    ),
+    // Objects that one mutator makes, and another reads when collections have moved them.
+    (
+        ALL,
+        8,
+        "new r0 1 1;write r0 0 5;new r1 0 1;write r1 0 6;put r0 0 r1;share g0 r0;drop r0;drop r1;\
+        gc;meet;gc;meet;load r0 g0;read r0 0\
+        |meet;load r1 g0;read r1 0;write r1 0 8;gc;get r2 r1 0;read r2 0;meet;gc;read r1 0",
+        "new 1.1;ok;new 1.2;ok;ok;ok;ok;ok;ok;ok;ok;ok;ref 1.1;num 8\
+        |ok;ref 1.1;num 5;ok;ok;ref 1.2;num 6;ok;ok;num 8",
+    ),
+    // The fifth finds each block owned, and is served at the stop.
+    (
+        NOGC,
+        4,
+        "new r0 0 1|new r0 0 1|new r0 0 1|new r0 0 1|new r0 0 1",
+        "new 1.1|new 2.1|new 3.1|new 4.1|new 5.1",
+    ),
+    // One has no command, and one meets less often than the others.
+    (
+        NOGC,
+        4,
+        "|meet;new r0 0 1;meet;share g1 r0;meet|meet;load r2 g1;meet;meet;load r2 g1|meet",
+        "|ok;new 2.1;ok;ok;ok|ok;nil;ok;ok;ref 2.1|ok",
+    ),
+    // A need and a `gc` at one stop.
+    (
+        NOGC,
+        4,
+        "gc;new r0 0 2|new r0 0 60000;gc;read r0 0|gc;pin r0",
+        "ok;new 1.1|full;ok;null|ok;null",
+    ),
+    // One drops an object for another, which nothing else makes room for.
+    (
+        SEMISPACE,
+        4,
+        "new r0 0 2045;new r1 0 2045;write r1 0 2;new r2 0 2045;new r3 0 2045;meet;meet;drop r0;\
+        meet;read r1 0|meet;new r0 0 2045;meet;new r0 0 2045",
+        "new 1.1;new 1.2;ok;new 1.3;new 1.4;ok;ok;ok;ok;num 2|ok;full;ok;new 2.1",
+    ),
+    // Fifteen meet twice. The sixteenth has no command, and holds nobody up.
+    (
+        IMMIX,
+        16,
+        "2*meet|2*meet|2*meet|2*meet|2*meet|2*meet|2*meet|2*meet|2*meet|2*meet|2*meet|2*meet\
+        |2*meet|2*meet|2*meet|",
+        "2*ok|2*ok|2*ok|2*ok|2*ok|2*ok|2*ok|2*ok|2*ok|2*ok|2*ok|2*ok|2*ok|2*ok|2*ok|",
+    ),
+];
+
 #[test]
-fn too_much_is_kept(rt: HostRuntime) -> Result<(), Fail> {
-    let alloc = rt.alloc();
-    let keeps = "new r0 0 2045;new r1 0 2045;write r1 0 2;new r2 0 2045;new r3 0 2045";
-    let names = "new 1.1;new 1.2;ok;new 1.3;new 1.4";
-    let mut alone = String::from_str(alloc, keeps)?;
-    alone.push_str(";new r4 0 2045;new r4 0 1;drop r0;new r4 0 2045;read r1 0;new r5 0 1")?;
-    let mut replies = String::from_str(alloc, names)?;
-    replies.push_str(";full;full;ok;new 1.5;num 2;full")?;
-    check_replies(
-        &rt,
-        alloc,
-        "semispace",
-        4,
-        &[alone.as_str()],
-        &[replies.as_str()],
-    )?;
-    let mut first = String::from_str(alloc, keeps)?;
-    first.push_str(";meet;meet;drop r0;meet;read r1 0")?;
-    let mut first_replies = String::from_str(alloc, names)?;
-    first_replies.push_str(";ok;ok;ok;ok;num 2")?;
-    check_replies(
-        &rt,
-        alloc,
-        "semispace",
-        4,
-        &[first.as_str(), "meet;new r0 0 2045;meet;new r0 0 2045"],
-        &[first_replies.as_str(), "ok;full;ok;new 2.1"],
-    )?;
+fn replies_of_several(rt: HostRuntime) -> Result<(), Fail> {
+    for (plans, heap, commands, replies) in TOGETHER {
+        check_replies(&rt, rt.alloc(), plans, heap, commands, replies)?;
+    }
     Ok(())
 }
 
 // A mutator writes a number to each new object, and reads that of the one before. It holds two at a
-// time.
-fn changing_pair(alloc: Global, objects: u32) -> Result<String, AllocError> {
+// time. The pair are its commands and its replies.
+fn changing_pair(alloc: Global, m: u32, objects: u32) -> Result<(String, String), AllocError> {
     let mut trace = String::from_str(alloc, "drop r2")?;
+    let mut replies = String::from_str(alloc, "ok")?;
+    let mut last = String::from_str(alloc, "null")?;
     for k in 0..objects {
         let (d, s) = (k % 2, (k + 1) % 2);
         write!(trace, ";new r{d} 0 1000;write r{d} 0 {k};read r{s} 0")?;
+        write!(replies, ";new {m}.{};ok;{last}", k + 1)?;
+        last = format!(in alloc; "num {k}")?;
     }
-    Ok(trace)
-}
-
-// What mutator `m` gets.
-fn pair_replies(alloc: Global, m: u32, objects: u32) -> Result<String, AllocError> {
-    let mut replies = String::from_str(alloc, "ok")?;
-    for k in 0..objects {
-        write!(replies, ";new {m}.{};ok", k + 1)?;
-        if k == 0 {
-            replies.push_str(";null")?;
-        } else {
-            write!(replies, ";num {}", k - 1)?;
-        }
-    }
-    Ok(replies)
+    Ok((trace, replies))
 }
 
 // Four mutators in turns make 160 objects, on a heap in which 16 may be at a time.
 #[test]
 fn four_mutators(rt: HostRuntime) -> Result<(), Fail> {
     let alloc = rt.alloc();
-    let trace = changing_pair(alloc, 40)?;
-    let replies = [
-        pair_replies(alloc, 1, 40)?,
-        pair_replies(alloc, 2, 40)?,
-        pair_replies(alloc, 3, 40)?,
-        pair_replies(alloc, 4, 40)?,
-    ];
-    for (plan, heap) in [
-        ("semispace", 8),
-        ("semispace", 16),
-        ("nogc", 64),
-        ("marksweep", 8),
-        ("immix", 8),
-    ] {
-        check_replies(
-            &rt,
-            alloc,
-            plan,
-            heap,
-            &[trace.as_str(); 4],
-            &[
-                replies[0].as_str(),
-                replies[1].as_str(),
-                replies[2].as_str(),
-                replies[3].as_str(),
-            ],
-        )?;
+    let (mut traces, mut replies) = changing_pair(alloc, 1, 40)?;
+    for m in 2..5 {
+        let (trace, own) = changing_pair(alloc, m, 40)?;
+        write!(traces, "|{trace}")?;
+        write!(replies, "|{own}")?;
+    }
+    for (plans, heap) in [(COLLECTING, 8), (SEMISPACE, 16), (NOGC, 64)] {
+        check_replies(&rt, alloc, plans, heap, &traces, &replies)?;
     }
     Ok(())
 }
@@ -272,25 +278,6 @@ fn immix_reclaims_lines(rt: HostRuntime) -> Result<(), Fail> {
         trace.push_str(";drop r0;new r0 0 2045")?;
         write!(replies, ";ok;new 1.{object}")?;
     }
-    check_replies(
-        &rt,
-        alloc,
-        "immix",
-        4,
-        &[trace.as_str()],
-        &[replies.as_str()],
-    )?;
-    Ok(())
-}
-
-// Fifteen mutators meet twice. The sixteenth has no command, and holds nobody up.
-#[test]
-fn immix_with_sixteen_mutators(rt: HostRuntime) -> Result<(), Fail> {
-    let alloc = rt.alloc();
-    let mut traces = ["meet;meet"; 16];
-    let mut replies = ["ok;ok"; 16];
-    traces[15] = "";
-    replies[15] = "";
-    check_replies(&rt, alloc, "immix", 16, &traces, &replies)?;
+    check_replies(&rt, alloc, IMMIX, 4, &trace, &replies)?;
     Ok(())
 }

@@ -1,12 +1,11 @@
 //! Runs of the whole program in memory, for tests.
-use crate::status::Status;
 use crate::top::run;
-use outside::{MemSink, MemSources};
+use outside::{MemSink, MemSources, Sink, Sources};
 use std::alloc::{AllocError, Global};
 use std::fmt::Write;
 use std::process::Abort;
 use std::thread::Threads;
-use work_packets::OpenGate;
+use work_packets::{Gate, OpenGate};
 
 pub(crate) const FIRST: &str = "new r0 1 1;write r0 0 7;read r0 0;get r1 r0 0";
 
@@ -21,16 +20,34 @@ pub(crate) fn words_in(alloc: Global, line: &str) -> Result<Vec<String>, AllocEr
     Ok(words)
 }
 
-// A trace of the commands that semicolons separate, of no command if there is no text.
-pub(crate) fn trace_in(alloc: Global, commands: &str) -> Result<Vec<u8>, AllocError> {
-    let mut text = Vec::from_slice(alloc, b"mmtrace 1\n")?;
-    if commands.is_empty() {
-        return Ok(text);
-    }
-    for command in commands.split(';') {
-        text.extend_from_slice(command.as_bytes())?;
+// Appends a line so many times.
+fn push_line(text: &mut Vec<u8>, count: u32, line: &str) -> Result<(), AllocError> {
+    for _ in 0..count {
+        text.extend_from_slice(line.as_bytes())?;
         text.push(b'\n')?;
     }
+    Ok(())
+}
+
+// Appends the lines that semicolons separate, no line if there is no text. `3*gc` stands for three
+// lines `gc`.
+fn push_lines(text: &mut Vec<u8>, lines: &str) -> Result<(), AllocError> {
+    if lines.is_empty() {
+        return Ok(());
+    }
+    for line in lines.split(';') {
+        match line.split_once('*') {
+            Some((count, line)) => push_line(text, count.parse::<u32>().unwrap_or(0), line)?,
+            None => push_line(text, 1, line)?,
+        }
+    }
+    Ok(())
+}
+
+// A trace of the commands that semicolons separate.
+pub(crate) fn trace_in(alloc: Global, commands: &str) -> Result<Vec<u8>, AllocError> {
+    let mut text = Vec::from_slice(alloc, b"mmtrace 1\n")?;
+    push_lines(&mut text, commands)?;
     Ok(text)
 }
 
@@ -45,140 +62,104 @@ pub(crate) fn file_of(
     Ok(files)
 }
 
-// How a run ended, and what it wrote to standard output and standard error.
-#[derive(Drop)]
-pub(crate) struct Ran {
-    pub(crate) status: Status,
-    pub(crate) out: Vec<u8>,
-    pub(crate) err: Vec<u8>,
+// The exit number of a run, what it wrote to standard output and what to standard error, with bars
+// between them.
+pub(crate) fn report(
+    alloc: Global,
+    number: u8,
+    out: &[u8],
+    err: &[u8],
+) -> Result<Vec<u8>, AllocError> {
+    let mut text = format!(in alloc; "{number}|")?.into_bytes();
+    text.extend_from_slice(out)?;
+    text.push(b'|')?;
+    text.extend_from_slice(err)?;
+    Ok(text)
 }
 
-// Runs the program with a list of arguments over these files.
-fn run_with<R: Threads + Sync>(
+// The report of a run that ends well. Bars separate the mutators, and semicolons their replies.
+pub(crate) fn report_of(alloc: Global, replies: &str) -> Result<Vec<u8>, AllocError> {
+    let mut text = Vec::new(alloc);
+    for (m, replies) in replies.split('|').enumerate() {
+        push_line(&mut text, 1, &format!(in alloc; "mutator {}", m + 1)?)?;
+        push_lines(&mut text, replies)?;
+    }
+    report(alloc, 0, &text, b"")
+}
+
+// Runs the program with the arguments in a line, and returns its exit number.
+pub(crate) fn number_of_run<R: Threads + Sync, S: Sources, O: Sink, E: Sink>(
+    rt: &R,
+    alloc: Global,
+    line: &str,
+    sources: &mut S,
+    out: &mut O,
+    err: &mut E,
+) -> Result<u8, AllocError> {
+    let words = words_in(alloc, line)?;
+    Ok(run(rt, alloc, &words, sources, out, err, &OpenGate).number())
+}
+
+// Runs the program with a list of arguments over these files, through a gate.
+pub(crate) fn run_gated<R: Threads + Sync, G: Gate>(
     rt: &R,
     alloc: Global,
     words: &[String],
     files: Vec<(String, Vec<u8>)>,
-) -> Result<Ran, AllocError> {
+    gate: &G,
+) -> Result<Vec<u8>, AllocError> {
     let mut sources = MemSources::new(files, Vec::new(alloc));
     let mut out = MemSink::new(alloc, 8_000_000, 65_536, Vec::new(alloc))?;
     let mut err = MemSink::new(alloc, 1000, 1000, Vec::new(alloc))?;
-    let status = run(
-        rt,
-        alloc,
-        words,
-        &mut sources,
-        &mut out,
-        &mut err,
-        &OpenGate,
-    );
-    Ok(Ran {
-        status,
-        out: out.bytes().to_vec(alloc)?,
-        err: err.bytes().to_vec(alloc)?,
-    })
-}
-
-// Runs the program with a list of arguments. File `a` has this content.
-pub(crate) fn run_list<R: Threads + Sync>(
-    rt: &R,
-    alloc: Global,
-    words: &[String],
-    content: Vec<u8>,
-) -> Result<Ran, AllocError> {
-    run_with(rt, alloc, words, file_of(alloc, "a", content)?)
-}
-
-// Runs the program with the arguments in a line, over these files.
-pub(crate) fn run_files<R: Threads + Sync>(
-    rt: &R,
-    alloc: Global,
-    line: &str,
-    files: Vec<(String, Vec<u8>)>,
-) -> Result<Ran, AllocError> {
-    run_with(rt, alloc, &words_in(alloc, line)?, files)
+    let status = run(rt, alloc, words, &mut sources, &mut out, &mut err, gate);
+    report(alloc, status.number(), out.bytes(), err.bytes())
 }
 
 // Runs the program with the arguments in a line. File `a` has this content.
-pub(crate) fn run_words<R: Threads + Sync>(
+pub(crate) fn run_line<R: Threads + Sync>(
     rt: &R,
     alloc: Global,
     line: &str,
     content: Vec<u8>,
-) -> Result<Ran, AllocError> {
+) -> Result<Vec<u8>, AllocError> {
     let words = words_in(alloc, line)?;
-    run_list(rt, alloc, &words, content)
+    run_gated(rt, alloc, &words, file_of(alloc, "a", content)?, &OpenGate)
 }
 
-// Files `f0`, `f1` and so on, with one trace each. Semicolons separate commands; an empty trace has
-// none.
-pub(crate) fn files_of(
-    alloc: Global,
-    traces: &[&str],
-) -> Result<Vec<(String, Vec<u8>)>, AllocError> {
-    let mut files = Vec::new(alloc);
-    for (m, commands) in traces.iter().enumerate() {
-        let mut name = String::new(alloc);
-        write!(name, "f{m}")?;
-        files.push((name, trace_in(alloc, commands)?))?;
-    }
-    Ok(files)
-}
-
-// Runs one trace for each mutator, under a plan.
-pub(crate) fn run_traces<R: Threads + Sync>(
+// Runs one trace for each mutator, under a plan, through a gate. Bars separate the traces; their
+// files are `f0`, `f1` and so on.
+pub(crate) fn run_traces<R: Threads + Sync, G: Gate>(
     rt: &R,
     alloc: Global,
     plan: &str,
     heap: u32,
-    traces: &[&str],
-) -> Result<Ran, AllocError> {
-    let mut line = String::new(alloc);
-    write!(line, "--plan {plan} --heap {heap}")?;
-    for m in 0..traces.len() {
-        write!(line, " f{m}")?;
+    traces: &str,
+    gate: &G,
+) -> Result<Vec<u8>, AllocError> {
+    let mut line = format!(in alloc; "--plan {plan} --heap {heap}")?;
+    let mut files = Vec::new(alloc);
+    for (m, commands) in traces.split('|').enumerate() {
+        let name = format!(in alloc; "f{m}")?;
+        write!(line, " {name}")?;
+        files.push((name, trace_in(alloc, commands)?))?;
     }
-    run_files(rt, alloc, &line, files_of(alloc, traces)?)
+    let words = words_in(alloc, &line)?;
+    run_gated(rt, alloc, &words, files, gate)
 }
 
-// The text of the replies, mutator by mutator, which semicolons separate.
-pub(crate) fn text_in(alloc: Global, replies: &[&str]) -> Result<Vec<u8>, AllocError> {
-    let mut text = String::new(alloc);
-    for (m, replies) in replies.iter().enumerate() {
-        writeln!(text, "mutator {}", m + 1)?;
-        for reply in replies.split(';') {
-            if !reply.is_empty() {
-                writeln!(text, "{reply}")?;
-            }
-        }
-    }
-    Ok(text.into_bytes())
-}
-
-// The run of these traces ends well, with these replies.
+// The run of these traces ends well under each of the plans, with these replies.
 pub(crate) fn check_replies<R: Threads + Sync + Abort>(
     rt: &R,
     alloc: Global,
-    plan: &str,
+    plans: &[&str],
     heap: u32,
-    traces: &[&str],
-    replies: &[&str],
+    traces: &str,
+    replies: &str,
 ) -> Result<(), AllocError> {
-    let ran = run_traces(rt, alloc, plan, heap, traces)?;
-    assert_eq!(rt; ran.status, Status::Ok, "{plan} {traces:?}");
-    assert_eq!(rt;
-        ran.out.as_slice(),
-        text_in(alloc, replies)?.as_slice(),
-        "{plan} {traces:?}"
-    );
-    assert!(rt; ran.err.is_empty(), "{plan} {traces:?}");
-    Ok(())
-}
-
-// Appends a piece so many times.
-pub(crate) fn repeat(text: &mut String, count: u32, piece: &str) -> Result<(), AllocError> {
-    for _ in 0..count {
-        text.push_str(piece)?;
+    let want = report_of(alloc, replies)?;
+    for plan in plans {
+        let ran = run_traces(rt, alloc, plan, heap, traces, &OpenGate)?;
+        assert!(rt; ran.as_slice() == want.as_slice(), "{plan} {traces}");
     }
     Ok(())
 }

@@ -8,7 +8,7 @@ use Rattle.sessions.specs.Sessions as sessions
 use Rattle.sessions.specs.Sessions.{Setting, Moment, RunsPart, CollectsFor, ServesAll, Meets, IsEpoch, is_at_gc, is_at_need, next_in, mutators_of}
 use Rattle.sessions.proofs.Orders as orders
 use Rattle.sessions.proofs.Growing as growing
-use Rattle.plain_world.proofs.Lists.{get-some, get-below}
+use Rattle.block_regions.proofs.Lists.{get-some, get-below}
 use Rattle.mm_runtime.specs.declared.progress.Progress.{Progress}
 use Rattle.mm_runtime.specs.declared.progress.End.{End}
 use Rattle.mm_runtime.specs.declared.progress.End.TheVariants as end

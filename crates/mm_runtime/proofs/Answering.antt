@@ -10,8 +10,9 @@ use Rattle.mutator_core.specs.Logs.{history_of}
 use Rattle.mutator_calls.specs.Effects.{Effect, enters}
 use Rattle.sessions.specs.Plans.{Rules}
 use Rattle.plain_world.specs.declared.plain_world.PlainWorld.{PlainWorld}
-use Rattle.plain_world.specs.Rows.{births_of, ticket_of}
-use Rattle.plain_world.specs.Worlds.{has}
+use Rattle.plain_row.specs.Rows.{births_of}
+use Rattle.local_allocators.specs.Seats.{ticket_of}
+use Rattle.plain_row.specs.Worlds.{has}
 use Rattle.plain_world.specs.Calls.{heap_of, number_at, allowance_of, IsOpen, SamePlaces, AddsEntries, AddsEntry, Grants, LeavesRest}
 use Rattle.mm_runtime.specs.Parts.{Answers}
 

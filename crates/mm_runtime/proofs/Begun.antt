@@ -3,7 +3,7 @@ use Rattle.std.proofs.Common.{◌≡◌, refl, sym, ◌∙◌, ap, subst, ℕ, z
 use Rattle.std.specs.Prelude.{slice_get, Some, None}
 use Rattle.std.proofs.lemmas.List.{map-append}
 use Rattle.ideal_heap.specs.declared.command.Command.{Command}
-use Rattle.plain_world.proofs.Lists.{one-element}
+use Rattle.block_regions.proofs.Lists.{one-element}
 use Rattle.mm_runtime.specs.declared.progress.Progress.{Progress}
 use Rattle.mm_runtime.specs.Managers.{traces_of, IsFresh}
 

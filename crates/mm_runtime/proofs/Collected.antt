@@ -18,8 +18,8 @@ use Rattle.sessions.proofs.CollectedMoments as moments
 use Rattle.sessions.proofs.SameStates.{HaveRegisters, first_count, other_counts}
 use Rattle.mutator_calls.specs.declared.need.Mutator.{Mutator}
 use Rattle.mutator_calls.specs.declared.need.Need.{Need}
-use Rattle.plain_world.specs.Rows.{mutator_state}
-use Rattle.plain_world.proofs.Lists.{get-below, one-element}
+use Rattle.heap_users.specs.Users.{mutator_state}
+use Rattle.block_regions.proofs.Lists.{get-below, one-element}
 use Rattle.mm_runtime.specs.declared.progress.Progress.{Progress}
 use Rattle.mm_runtime.specs.declared.manager.Manager.{Manager}
 use Rattle.mm_runtime.specs.Managers.{next_of, replied, IsProgress, IsInOrder, IsAtStop, StandsAt, HasReplies}

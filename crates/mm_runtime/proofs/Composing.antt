@@ -18,8 +18,9 @@ use Rattle.mutator_calls.specs.Effects.{Answered, draws, raises}
 use Rattle.mutator_calls.specs.Allocating.{IsCause}
 use Rattle.sessions.specs.Plans.{Rules}
 use Rattle.plain_world.specs.declared.plain_world.PlainWorld.{PlainWorld}
-use Rattle.plain_world.specs.Rows.{mutator_state, births_of, number_of}
-use Rattle.plain_world.specs.Worlds.{births_in, stop_after}
+use Rattle.plain_row.specs.Rows.{births_of, number_of}
+use Rattle.heap_users.specs.Users.{mutator_state}
+use Rattle.plain_row.specs.Worlds.{births_in, stop_after}
 use Rattle.plain_world.specs.Calls.{number_at, births_at, ticket_at, books_at, HasHistory, HasNoRoom, IsOpen, SamePlaces, AddsEntries, IsUnchanged, LeavesRest, stop_word}
 use Rattle.mm_runtime.specs.Parts.{Answers, IsExhausted}
 use Rattle.mm_runtime.proofs.Answering.{blocks-same, allowance-same}

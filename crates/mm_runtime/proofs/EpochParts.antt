@@ -17,12 +17,13 @@ use Rattle.sessions.specs.Sessions.{Setting, Moment, IsOfPart, ExhaustsAllowance
 use Rattle.mutator_core.specs.Machine.{Epoch}
 use Rattle.mutator_core.specs.Guards.{allowance}
 use Rattle.mutator_core.proofs.Ending.{log-recorded}
-use Rattle.plain_world.specs.Beginnings.{epoch_of}
-use Rattle.plain_world.specs.Rows.{mutator_state, births_of}
+use Rattle.heap_users.specs.Beginnings.{epoch_of}
+use Rattle.plain_row.specs.Rows.{births_of}
+use Rattle.heap_users.specs.Users.{mutator_state}
 use Rattle.plain_world.specs.Calls.{HasHistory, births_at}
-use Rattle.plain_world.proofs.Facts as facts
-use Rattle.plain_world.proofs.StopWords.{stopped-before}
-use Rattle.plain_world.proofs.Cleared as cleared
+use Rattle.plain_row.proofs.Facts as facts
+use Rattle.heap_users.proofs.StopWords.{stopped-before}
+use Rattle.heap_users.proofs.Cleared as cleared
 use Rattle.mm_runtime.specs.declared.progress.Progress.{Progress}
 use Rattle.mm_runtime.specs.declared.progress.End.{End}
 use Rattle.mm_runtime.specs.declared.manager.Manager.{Manager}

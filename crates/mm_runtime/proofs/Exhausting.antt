@@ -15,16 +15,16 @@ use Rattle.mutator_core.specs.Machine.{Epoch}
 use Rattle.mutator_core.specs.Guards.{allowance}
 use Rattle.mutator_core.specs.Tickets.{tickets_below, smaller}
 use Rattle.plain_world.specs.declared.plain_world.PlainWorld.{PlainWorld}
-use Rattle.plain_world.specs.declared.plain_row.PlainSeat.{PlainSeat}
-use Rattle.plain_world.specs.Rows.{ticket_of}
+use Rattle.local_allocators.specs.declared.local_seat.LocalSeat.{LocalSeat}
+use Rattle.local_allocators.specs.Seats.{ticket_of}
 use Rattle.plain_world.specs.Calls.{ticket_at, places_of, budget_word, HasHistory}
-use Rattle.plain_world.specs.Beginnings.{without_stop}
+use Rattle.heap_users.specs.Beginnings.{without_stop}
 use Rattle.plain_world.specs.Endings.{GrantsWithTickets}
-use Rattle.plain_world.proofs.Cleared as cleared
+use Rattle.heap_users.proofs.Cleared as cleared
 use Rattle.mm_runtime.specs.Parts.{IsExhausted}
 use Rattle.mm_runtime.proofs.ListFacts.{sum-less}
 
-seat-of : (o : Option PlainSeat) (t : ℕ) → ticket_of o ≡ Some t → (x : PlainSeat) × (o ≡ Some x) × (x.ticket ≡ Some t)
+seat-of : (o : Option LocalSeat) (t : ℕ) → ticket_of o ≡ Some t → (x : LocalSeat) × (o ≡ Some x) × (x.ticket ≡ Some t)
 seat-of None t is = absurd (let wrong : None ≡ Some t = is in cc)
 seat-of (Some x) t is = (x, refl, is)
 
@@ -45,8 +45,8 @@ exhausts w p i part new k is grants drawn (t, ticket, past) =
     let seat = seat-of (slice_get w.row.seats.items k) t ticket in
     let beyond : allowance p ≤ t = (let allowed = is.at.allowed in omega arith) in
     let none : tickets_below (allowance p) seat.0.ticket ≡ 0 = ap (tickets_below (allowance p)) seat.2 ∙ past-none (allowance p) t beyond in
-    let few : sum_by (λ (x : PlainSeat). tickets_below (allowance p) x.ticket) w.row.seats.items + 1 ≤ length w.row.seats.items =
-    sum-less (λ (x : PlainSeat). tickets_below (allowance p) x.ticket) (λ x. one-most (allowance p) x.ticket) w.row.seats.items k seat.0 seat.1 none in
+    let few : sum_by (λ (x : LocalSeat). tickets_below (allowance p) x.ticket) w.row.seats.items + 1 ≤ length w.row.seats.items =
+    sum-less (λ (x : LocalSeat). tickets_below (allowance p) x.ticket) (λ x. one-most (allowance p) x.ticket) w.row.seats.items k seat.0 seat.1 none in
     let most : smaller (budget_word w) (allowance p) ≡ allowance p = past-smaller (allowance p) (budget_word w) (let less : t < budget_word w = drawn k t ticket in omega arith) in
     let all = grants.allowed in
     let seats = is.at.seats in

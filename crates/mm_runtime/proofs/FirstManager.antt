@@ -12,11 +12,11 @@ use Rattle.sessions.specs.Plans.{Rules}
 use Rattle.sessions.specs.Sessions as sessions
 use Rattle.sessions.specs.Sessions.{Setting, first_moment}
 use Rattle.sessions.proofs.Soundness.{session-sound}
-use Rattle.plain_world.specs.Rows.{mutator_state}
-use Rattle.plain_world.proofs.Lists.{get-below, get-map}
+use Rattle.heap_users.specs.Users.{mutator_state}
+use Rattle.block_regions.proofs.Lists.{get-below, get-map}
 use Rattle.mm_runtime.specs.declared.progress.Progress.{Progress}
 use Rattle.mm_runtime.specs.declared.manager.Manager.{Manager}
-use Rattle.plain_world.specs.Notes.{AreNotes}
+use Rattle.block_regions.specs.Notes.{AreNotes}
 use Rattle.mm_runtime.specs.Managers.{traces_of, IsRunnable, IsFresh, IsInOrder, Closes, IsReady}
 
 -- a mutator that begins has no births

@@ -10,8 +10,8 @@ use Rattle.mutator_calls.specs.Effects.{Answered}
 use Rattle.sessions.specs.Plans.{Rules}
 use Rattle.plain_world.specs.declared.plain_world.PlainWorld.{PlainWorld}
 use Rattle.plain_world.specs.Calls.{number_at, births_at, stop_word, HasHistory, IsOpen}
-use Rattle.plain_world.proofs.Lists.{one-element, get-below}
-use Rattle.plain_world.proofs.Elements.{set-here, set-other}
+use Rattle.block_regions.proofs.Lists.{one-element, get-below}
+use Rattle.block_regions.proofs.Elements.{set-here, set-other}
 use Rattle.mm_runtime.specs.declared.progress.Progress.{Progress}
 use Rattle.mm_runtime.specs.declared.progress.End.{End}
 use Rattle.mm_runtime.specs.Managers.{next_of, IsProgress}

@@ -9,7 +9,7 @@ use Rattle.object_model.specs.declared.collect.Collect.TheVariants.{Full}
 use Rattle.sessions.specs.Plans.{Rules}
 use Rattle.sessions.specs.Sessions.{Setting, Moment, CollectsFor, is_at_gc, mutators_of, ideal_at}
 use Rattle.sessions.proofs.Soundness as soundness
-use Rattle.plain_world.proofs.Lists.{get-below}
+use Rattle.block_regions.proofs.Lists.{get-below}
 use Rattle.mm_runtime.specs.declared.progress.Progress.{Progress}
 use Rattle.mm_runtime.specs.declared.progress.End.{End}
 use Rattle.mm_runtime.specs.declared.progress.End.TheVariants as end

@@ -26,7 +26,7 @@ use Rattle.sessions.proofs.LargePlacing as placing
 use Rattle.large_space.specs.FreeRuns.{IsFirstRun}
 use Rattle.mm_runtime.specs.declared.place.Spot.{Spot}
 use Rattle.plan_api.specs.Relisting.{Relists}
-use Rattle.plain_world.specs.Notes.{FillsHoles}
+use Rattle.block_regions.specs.Notes.{FillsHoles}
 use Rattle.mm_runtime.specs.Stops.{IsPlaceIn, IsRunAt, IsPlace, TakesBlock, TakesSpot, RelistsSpot}
 use Rattle.mm_runtime.proofs.Rooms.{FillsByLines}
 use Rattle.mm_runtime.proofs.Written.{address_of, IsBorn, born-small, readable-small}

@@ -12,7 +12,7 @@ use Rattle.mm_runtime.specs.declared.progress.Progress.{Progress}
 use Rattle.mm_runtime.specs.declared.manager.Manager.{Manager}
 use Rattle.mm_runtime.specs.Managers.{traces_of, left, replied, IsProgress, StandsAt, Closes, HasEnded}
 use Rattle.mm_runtime.proofs.Causes.{next-at}
-use Rattle.plain_world.proofs.Lists.{get-some}
+use Rattle.block_regions.proofs.Lists.{get-some}
 
 abbrev total : List (List Command) → ℕ
 total traces = sum_by (λ trace. length trace) traces

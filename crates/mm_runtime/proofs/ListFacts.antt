@@ -4,7 +4,7 @@ use Rattle.std.specs.Prelude.{Some, None, slice_get, sum_by}
 use Rattle.std.specs.List.{AllByRecursion}
 use Rattle.std.proofs.lemmas.Bool.{ne_eqb}
 use Rattle.std.proofs.lemmas.List.Sums.{sum_by-cons}
-use Rattle.plain_world.proofs.Lists.{one-element}
+use Rattle.block_regions.proofs.Lists.{one-element}
 use Rattle.ideal_heap.specs.declared.command.Command.{Command}
 use Rattle.ideal_heap.specs.declared.reply.Reply.{Reply}
 use Rattle.ideal_heap.specs.Runs.{Entry, entry, of_mutator, commands_of, replies_of}

@@ -10,7 +10,7 @@ use Rattle.ideal_heap.specs.Runs.{trace_of}
 use Rattle.sessions.specs.Plans.{Rules}
 use Rattle.sessions.specs.Sessions.{Setting, Moment, MeetsIf, Meets, is_at_meet, is_waiting, next_in, mutators_of, ideal_at}
 use Rattle.sessions.proofs.Soundness as soundness
-use Rattle.plain_world.proofs.Lists.{get-some, get-below, get-map}
+use Rattle.block_regions.proofs.Lists.{get-some, get-below, get-map}
 use Rattle.mm_runtime.specs.declared.progress.Progress.{Progress}
 use Rattle.mm_runtime.specs.declared.manager.Manager.{Manager}
 use Rattle.mm_runtime.specs.Managers.{next_of, replied, IsInOrder, IsAtStop, StandsAt}

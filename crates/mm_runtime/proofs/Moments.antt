@@ -21,9 +21,9 @@ use Rattle.sessions.specs.Sessions.{Setting, Moment, IsSound, Places, PlacesSmal
 use Rattle.sessions.proofs.CollectedMoments.{remembers-placed}
 use Rattle.mutator_calls.specs.declared.need.Need.{Need}
 use Rattle.mutator_calls.specs.declared.need.Mutator.{Mutator}
-use Rattle.plain_world.specs.Notes.{FillsHoles}
-use Rattle.plain_world.specs.Rows.{mutator_state}
-use Rattle.plain_world.proofs.Lists.{one-element}
+use Rattle.block_regions.specs.Notes.{FillsHoles}
+use Rattle.heap_users.specs.Users.{mutator_state}
+use Rattle.block_regions.proofs.Lists.{one-element}
 use Rattle.mm_runtime.specs.declared.progress.Progress.{Progress}
 use Rattle.mm_runtime.specs.declared.manager.Manager.{Manager}
 use Rattle.mm_runtime.specs.declared.place.Spot.{Spot}

@@ -9,7 +9,7 @@ use Rattle.ideal_heap.specs.Names.{IsName, name}
 use Rattle.sessions.specs.Plans.{Rules}
 use Rattle.mutator_calls.specs.declared.need.Need.{Need}
 use Rattle.mutator_calls.specs.declared.need.Mutator.{Mutator}
-use Rattle.plain_world.proofs.Lists.{get-some}
+use Rattle.block_regions.proofs.Lists.{get-some}
 use Rattle.mm_runtime.specs.declared.progress.Progress.{Progress}
 use Rattle.mm_runtime.specs.declared.manager.Manager.{Manager}
 use Rattle.mm_runtime.specs.Managers.{next_of, IsProgress, IsInOrder}

@@ -15,7 +15,7 @@ use Rattle.sessions.specs.Plans.{Rules}
 use Rattle.sessions.specs.Fitting.{Fits}
 use Rattle.sessions.specs.Sessions.{Setting, Moment, Needs, Serves, ServesAll, is_at_need, mutators_of, next_in}
 use Rattle.mutator_calls.specs.declared.need.Need.{Need}
-use Rattle.plain_world.proofs.Lists.{get-some, get-below}
+use Rattle.block_regions.proofs.Lists.{get-some, get-below}
 use Rattle.mm_runtime.specs.declared.progress.Progress.{Progress}
 use Rattle.mm_runtime.specs.declared.progress.End.{End}
 use Rattle.mm_runtime.specs.declared.progress.End.TheVariants as end

@@ -4,8 +4,8 @@ use Rattle.object_model.specs.Heaps.{heap_state}
 use Rattle.sessions.specs.Plans.{Rules}
 use Rattle.sessions.specs.Sessions.{Setting, Moment}
 use Rattle.mutator_calls.specs.declared.need.Need.{Need}
-use Rattle.plain_world.specs.Notes.{AreNotes}
-use Rattle.plain_world.specs.declared.block_notes.BlockNotes.{BlockNotes}
+use Rattle.block_regions.specs.Notes.{AreNotes}
+use Rattle.block_regions.specs.declared.block_notes.BlockNotes.{BlockNotes}
 use Rattle.mm_runtime.specs.declared.manager.Manager.{Manager}
 use Rattle.mm_runtime.specs.declared.place.Spot.{Spot}
 use Rattle.mm_runtime.specs.Managers.{replied, IsInOrder, IsAtStop, StandsAt}

@@ -4,8 +4,8 @@ use Rattle.std.specs.Prelude.{slice_get, Option, Some, None}
 use Rattle.std.proofs.lemmas.Bool.{cases_eq}
 use Rattle.std.proofs.lemmas.List.{length-set}
 use Rattle.std.proofs.lemmas.Option.{slice_get_cases}
-use Rattle.plain_world.proofs.Lists.{get-some, get-below, one-element}
-use Rattle.plain_world.proofs.Elements.{set-here, set-other}
+use Rattle.block_regions.proofs.Lists.{get-some, get-below, one-element}
+use Rattle.block_regions.proofs.Elements.{set-here, set-other}
 use Rattle.mm_runtime.specs.declared.progress.Progress.{Progress}
 use Rattle.ideal_heap.specs.declared.command.Command.{Command}
 use Rattle.sessions.specs.Sessions.{is_at_gc}

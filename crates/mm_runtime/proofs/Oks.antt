@@ -9,7 +9,7 @@ use Rattle.ideal_heap.specs.declared.reply.Reply.TheVariants as r
 use Rattle.ideal_heap.specs.Ideal.{empty}
 use Rattle.ideal_heap.specs.Runs.{Entry, IsRun, after}
 use Rattle.ideal_heap.proofs.RunLemmas.{longer}
-use Rattle.plain_world.proofs.Lists.{one-element}
+use Rattle.block_regions.proofs.Lists.{one-element}
 use Rattle.sessions.specs.Plans.{Rules}
 use Rattle.sessions.specs.Sessions.{Setting, Moment, Replies, all_done, ideal_at, mutators_of}
 use Rattle.sessions.proofs.Soundness as soundness

@@ -11,7 +11,7 @@ use Rattle.ideal_heap.specs.declared.reply.Reply.{Reply}
 use Rattle.ideal_heap.specs.Commands.{IsValid}
 use Rattle.ideal_heap.specs.Runs.{Entry, entry, IsMutator, of_mutator, commands_of, replies_of}
 use Rattle.ideal_heap.proofs.OrderLemmas.{of_mutator-append, of_mutator-own, commands_of-own}
-use Rattle.plain_world.proofs.Lists.{get-below, one-element}
+use Rattle.block_regions.proofs.Lists.{get-below, one-element}
 use Rattle.mm_runtime.specs.declared.progress.Progress.{Progress}
 use Rattle.mm_runtime.specs.Managers.{next_of, traces_of, replied, IsProgress, HasReplies}
 use Rattle.mm_runtime.specs.Stops.{RepliesAt}

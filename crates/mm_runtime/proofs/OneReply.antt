@@ -2,7 +2,7 @@
 use Rattle.std.proofs.Common.{◌≡◌, sym, subst, ℕ, ◌+◌, ◌-◌, ◌≤◌, arith, List, [], ◌∷◌, ◌++◌, length, length-set, get_or}
 use Rattle.std.specs.Prelude.{slice_set}
 use Rattle.ideal_heap.specs.declared.reply.Reply.{Reply}
-use Rattle.plain_world.proofs.Elements.{set-here, set-other, read-some}
+use Rattle.block_regions.proofs.Elements.{set-here, set-other, read-some}
 use Rattle.mm_runtime.specs.declared.progress.Progress.{Progress}
 use Rattle.mm_runtime.specs.Stops.{RepliesAt}
 

@@ -31,8 +31,8 @@ use Rattle.sessions.specs.Sessions.{UsesBlock, ChangesBlocks, AddsObject, block_
 use Rattle.sessions.proofs.Placing as placing
 use Rattle.sessions.proofs.HoleRooms.{hole-kind, hole-not-free, hole-within, hole-small, hole-room, taken-hole, valid-word}
 use Rattle.plan_api.specs.Relisting.{Relists}
-use Rattle.plain_world.specs.Notes.{FillsHoles}
-use Rattle.plain_world.proofs.Relisted.{IsRelisted, relisted as is-relisted}
+use Rattle.block_regions.specs.Notes.{FillsHoles}
+use Rattle.block_regions.proofs.Relisted.{IsRelisted, relisted as is-relisted}
 use Rattle.mm_runtime.proofs.Relisted as relisted
 use Rattle.mm_runtime.proofs.Rooms.{FillsByLines, holed, lines-filled}
 

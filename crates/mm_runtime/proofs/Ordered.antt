@@ -5,7 +5,7 @@ use Rattle.ideal_heap.specs.declared.reply.Reply.{Reply}
 use Rattle.object_model.specs.Heaps.{heap_state}
 use Rattle.sessions.specs.Plans.{Rules}
 use Rattle.mutator_calls.specs.declared.need.Mutator.{Mutator}
-use Rattle.plain_world.specs.Notes.{AreNotes}
+use Rattle.block_regions.specs.Notes.{AreNotes}
 use Rattle.mm_runtime.specs.declared.progress.Progress.{Progress}
 use Rattle.mm_runtime.specs.declared.manager.Manager.{Manager}
 use Rattle.mm_runtime.specs.Managers.{replied, IsInOrder}

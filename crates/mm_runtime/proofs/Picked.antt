@@ -12,7 +12,7 @@ use Rattle.ideal_heap.proofs.OrderLemmas.{of_mutator-append}
 use Rattle.object_model.proofs.Among.{all-to}
 use Rattle.sessions.specs.Sessions.{all_done}
 use Rattle.mutator_core.proofs.Lists.{all-append}
-use Rattle.plain_world.proofs.Lists.{get-below}
+use Rattle.block_regions.proofs.Lists.{get-below}
 use Rattle.mm_runtime.specs.declared.progress.Progress.{Progress}
 use Rattle.mm_runtime.specs.Managers.{next_of, traces_of, HasReplies}
 use Rattle.mm_runtime.specs.Replying.{GetsOkIf, RepliesBelow}

@@ -15,8 +15,8 @@ use Rattle.sessions.specs.Fitting.{HasHole}
 use Rattle.sessions.specs.Sessions.{PlacesSmall}
 use Rattle.mutator_calls.specs.declared.need.Need.{Need}
 use Rattle.mutator_calls.specs.declared.need.Mutator.{Mutator}
-use Rattle.plain_world.specs.Notes.{FillsHoles, AreNotes, PlacesObject, PlacesRun}
-use Rattle.plain_world.specs.declared.block_notes.BlockNotes.{BlockNotes}
+use Rattle.block_regions.specs.Notes.{FillsHoles, AreNotes, PlacesObject, PlacesRun}
+use Rattle.block_regions.specs.declared.block_notes.BlockNotes.{BlockNotes}
 use Rattle.mm_runtime.specs.declared.manager.Manager.{Manager}
 use Rattle.mm_runtime.specs.declared.place.Spot.{Spot}
 use Rattle.mm_runtime.specs.Managers.{IsAtStop}

@@ -14,10 +14,10 @@ use Rattle.sessions.specs.Plans.{Rules}
 use Rattle.sessions.specs.Sessions.{Setting, Moment, Replies, refusal, ideal_at}
 use Rattle.mutator_calls.specs.declared.need.Mutator.{Mutator}
 use Rattle.mutator_calls.specs.declared.need.Need.{Need}
-use Rattle.plain_world.specs.Rows.{mutator_state}
-use Rattle.plain_world.proofs.Lists.{one-element}
-use Rattle.plain_world.specs.Notes.{AreNotes}
-use Rattle.plain_world.specs.declared.block_notes.BlockNotes.{BlockNotes}
+use Rattle.heap_users.specs.Users.{mutator_state}
+use Rattle.block_regions.proofs.Lists.{one-element}
+use Rattle.block_regions.specs.Notes.{AreNotes}
+use Rattle.block_regions.specs.declared.block_notes.BlockNotes.{BlockNotes}
 use Rattle.mm_runtime.specs.declared.progress.Progress.{Progress}
 use Rattle.mm_runtime.specs.declared.manager.Manager.{Manager}
 use Rattle.mm_runtime.specs.Managers.{next_of, IsInOrder, IsAtStop, HasReplies, StandsAt}

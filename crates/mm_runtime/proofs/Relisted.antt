@@ -19,8 +19,8 @@ use Rattle.sessions.specs.Sessions.{AddsObject, UsesBlock, ChangesBlocks}
 use Rattle.block_sweeps.specs.Sweeping.{AreApart}
 use Rattle.plan_api.specs.Relisting.{RelistsIf, Relists}
 use Rattle.plan_api.proofs.Viewing.{orderly-apart}
-use Rattle.plain_world.proofs.BlockSides.{ChangesSides, order-kept, exact-kept}
-use Rattle.plain_world.proofs.Relisted.{IsRelisted}
+use Rattle.block_regions.proofs.BlockSides.{ChangesSides, order-kept, exact-kept}
+use Rattle.block_regions.proofs.Relisted.{IsRelisted}
 
 -- a block can be read, and its objects share no word, if the heap is lawful but for its line bits
 pub readable : (s : HeapState) (k : ℕ) → IsLawfulButLines s → k < s.blocks → IsReadableBlock s k × AreApart s k

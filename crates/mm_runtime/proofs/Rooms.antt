@@ -7,7 +7,7 @@ use Rattle.object_model.specs.Objects.{HeapState, HasKind}
 use Rattle.object_model.proofs.OneKind.{one-kind}
 use Rattle.sessions.specs.Plans.{Rules}
 use Rattle.sessions.proofs.HoleKinds.{is_holed}
-use Rattle.plain_world.specs.Notes.{FillsHoles}
+use Rattle.block_regions.specs.Notes.{FillsHoles}
 
 pub holed : (fill : Kind) → FillsHoles fill → IsTrue (is_holed (kind_code fill))
 holed kinds.Bump fills = refl

@@ -5,15 +5,14 @@ use Rattle.std.specs.List.{AllByRecursion}
 use Rattle.std.proofs.lemmas.List.{length-map}
 use Rattle.object_model.specs.Heaps.{heap_state}
 use Rattle.object_model.specs.Objects.{HeapState}
-use Rattle.object_model.specs.Lawful.{IsRoot}
-use Rattle.object_model.specs.Places.{AreRoots}
+use Rattle.object_model.specs.Lawful.{IsRoot, AreRoots}
 use Rattle.object_model.specs.Graphs.{MutatorState, AreRegisters, roots_of}
 use Rattle.sessions.specs.Plans.{Rules}
 use Rattle.sessions.specs.Sessions.{ideal_at}
 use Rattle.sessions.proofs.SameStates.{HaveRegisters}
 use Rattle.sessions.proofs.CollectedMoments.{registers-of}
-use Rattle.plain_world.specs.Beginnings.{MayUse}
-use Rattle.plain_world.specs.Rows.{mutator_state}
+use Rattle.heap_users.specs.Beginnings.{MayUse}
+use Rattle.heap_users.specs.Users.{mutator_state}
 use Rattle.plain_world.proofs.Closed.{may-use}
 use Rattle.mm_runtime.specs.declared.manager.Manager.{Manager}
 use Rattle.mm_runtime.specs.Managers.{IsAtStop}

@@ -13,7 +13,7 @@ use Rattle.sessions.specs.Fitting.{Fits}
 use Rattle.sessions.specs.Collecting.{first_collection}
 use Rattle.sessions.specs.Sessions.{Setting, Moment, Places, Serves, FirstTry, at_once, after_nursery, after_full, refused}
 use Rattle.mutator_calls.specs.declared.need.Need.{Need}
-use Rattle.plain_world.specs.Notes.{AreNotes}
+use Rattle.block_regions.specs.Notes.{AreNotes}
 use Rattle.mm_runtime.specs.declared.progress.Progress.{Progress}
 use Rattle.mm_runtime.specs.declared.manager.Manager.{Manager}
 use Rattle.mm_runtime.specs.declared.place.Placed.{Placed}

@@ -7,9 +7,9 @@ use Rattle.std.proofs.lemmas.List.{length-drop, length-take-le, take-append-drop
 use Rattle.object_model.specs.Graphs.{roots_of}
 use Rattle.sessions.specs.Sessions.{birth_count}
 use Rattle.mutator_calls.specs.declared.need.Mutator.{Mutator}
-use Rattle.plain_world.specs.Rows.{mutator_state}
-use Rattle.plain_world.proofs.Elements.{set-here, set-other}
-use Rattle.plain_world.proofs.Lists.{get-below, one-element}
+use Rattle.heap_users.specs.Users.{mutator_state}
+use Rattle.block_regions.proofs.Elements.{set-here, set-other}
+use Rattle.block_regions.proofs.Lists.{get-below, one-element}
 
 abbrev pub with_registers : Mutator → List ℕ → Mutator
 with_registers u l = record u { registers = l }

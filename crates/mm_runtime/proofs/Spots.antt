@@ -14,7 +14,7 @@ use Rattle.sessions.proofs.Placing.{free-none}
 use Rattle.sessions.proofs.WorkedFits.{from-small, to-small, from-large, to-large}
 use Rattle.large_space.specs.FreeRuns.{IsFirstRun, HasNoRun}
 use Rattle.plan_api.proofs.Viewing.{state-same}
-use Rattle.plain_world.specs.Notes.{IsLowestHole}
+use Rattle.block_regions.specs.Notes.{IsLowestHole}
 use Rattle.mm_runtime.specs.Stops.{IsPlaceIn, IsRunAt, IsSpot}
 use Rattle.sessions.proofs.HoleRooms.{hole-kind, hole-not-free}
 

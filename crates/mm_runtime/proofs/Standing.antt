@@ -18,16 +18,17 @@ use Rattle.mutator_core.specs.Closing.{GivesBack}
 use Rattle.mutator_core.proofs.Lists.{all-append}
 use Rattle.mutator_calls.specs.declared.need.Mutator.{Mutator}
 use Rattle.plain_world.specs.declared.plain_world.PlainWorld.{PlainWorld}
-use Rattle.plain_world.specs.Beginnings.{epoch_of}
+use Rattle.heap_users.specs.Beginnings.{epoch_of}
 use Rattle.plain_world.specs.Endings.{GrantsWithTickets}
-use Rattle.plain_world.specs.Rows.{mutator_state, births_of}
+use Rattle.plain_row.specs.Rows.{births_of}
+use Rattle.heap_users.specs.Users.{mutator_state}
 use Rattle.plain_world.specs.Calls.{heap_of, mutators_of, number_at, ticket_at, places_of, budget_word, HasHistory}
 use Rattle.plain_world.proofs.CallLemmas.{numbers-mapped}
-use Rattle.plain_world.proofs.Lists.{get-some, get-below}
+use Rattle.block_regions.proofs.Lists.{get-some, get-below}
 use Rattle.mm_runtime.specs.declared.progress.Progress.{Progress}
 use Rattle.mm_runtime.specs.declared.progress.End.{End}
 use Rattle.mm_runtime.specs.declared.manager.Manager.{Manager}
-use Rattle.plain_world.specs.Notes.{AreNotes}
+use Rattle.block_regions.specs.Notes.{AreNotes}
 use Rattle.mm_runtime.specs.Managers.{traces_of, replied, HasReplies, StandsAt}
 use Rattle.mm_runtime.specs.Parts.{RunsParts}
 use Rattle.mm_runtime.proofs.Composing.{number-mapped, births-same}

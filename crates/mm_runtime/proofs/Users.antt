@@ -13,9 +13,10 @@ use Rattle.object_model.specs.Graphs.{MutatorState, Represents, numbers_of, with
 use Rattle.object_model.proofs.Registers.{changed, changed-yes, changed-no}
 use Rattle.object_model.proofs.Representation.{option_cases}
 use Rattle.mutator_calls.specs.declared.need.Mutator.{Mutator}
-use Rattle.plain_world.specs.Rows.{mutator_state, ChangesAt}
-use Rattle.plain_world.proofs.Lists.{get-below, get-map, one-element}
-use Rattle.plain_world.proofs.UserLists.{all-each, any-get}
+use Rattle.heap_users.specs.Users.{mutator_state}
+use Rattle.block_regions.specs.Elements.{ChangesAt}
+use Rattle.block_regions.proofs.Lists.{get-below, get-map, one-element}
+use Rattle.heap_users.proofs.UserLists.{all-each, any-get}
 use Rattle.mm_runtime.specs.Stops.{bearing}
 
 -- two lists with the same elements

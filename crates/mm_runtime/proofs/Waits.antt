@@ -5,8 +5,8 @@ use Rattle.std.proofs.lemmas.Option.{slice_get_past}
 use Rattle.ideal_heap.specs.declared.command.Command.{Command}
 use Rattle.ideal_heap.specs.declared.command.Command.TheVariants as c
 use Rattle.sessions.specs.Sessions.{is_at_meet}
-use Rattle.plain_world.proofs.Lists.{get-some, get-below, one-element}
-use Rattle.plain_world.proofs.Elements.{read-some}
+use Rattle.block_regions.proofs.Lists.{get-some, get-below, one-element}
+use Rattle.block_regions.proofs.Elements.{read-some}
 use Rattle.mm_runtime.specs.declared.progress.Progress.{Progress}
 use Rattle.mm_runtime.specs.Managers.{next_of}
 use Rattle.mm_runtime.proofs.OkSteps.{at-most}

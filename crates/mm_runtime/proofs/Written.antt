@@ -21,7 +21,7 @@ use Rattle.sessions.specs.Fitting.{HasHole, HasSomeHole, class_for}
 use Rattle.sessions.specs.Sessions.{block_of_kind, PlacesSmall, PlacesLarge, UsesBlock, UsesRun, ChangesBlocks, AddsObject}
 use Rattle.mm_runtime.specs.declared.place.Spot.{Spot}
 use Rattle.plan_api.specs.Relisting.{Relists}
-use Rattle.plain_world.specs.Notes.{FillsHoles, KeepsLines}
+use Rattle.block_regions.specs.Notes.{FillsHoles, KeepsLines}
 use Rattle.mm_runtime.specs.Stops.{IsPlaceIn, TakesBlock}
 use Rattle.mm_runtime.proofs.Openings as openings
 use Rattle.mm_runtime.proofs.Openings.{Opens, opens-hole, opens-free}

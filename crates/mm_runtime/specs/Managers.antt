@@ -15,8 +15,8 @@ use Rattle.sessions.specs.Collecting.{first_collection}
 use Rattle.sessions.specs.Sessions.{Setting, Moment, IsSound, InSession}
 use Rattle.collector.specs.Collected.{IsOffered}
 use Rattle.mutator_calls.specs.declared.need.Mutator.{Mutator}
-use Rattle.plain_world.specs.Rows.{mutator_state}
-use Rattle.plain_world.specs.Notes.{AreNotes, FillsHoles}
+use Rattle.heap_users.specs.Users.{mutator_state}
+use Rattle.block_regions.specs.Notes.{AreNotes, FillsHoles}
 use Rattle.mm_runtime.specs.declared.progress.Progress.{Progress}
 use Rattle.mm_runtime.specs.declared.manager.Manager.{Manager}
 use Rattle.mm_runtime.specs.declared.progress.TheConstants.{MAX_COMMANDS}

@@ -14,7 +14,7 @@ use Rattle.sessions.specs.Sessions.{Cause, AtGc, AtMeet, AtEnd, AtNeed, Raised}
 use Rattle.mutator_calls.specs.declared.need.Need.{Need}
 use Rattle.mutator_calls.specs.Effects.{Answered}
 use Rattle.plain_world.specs.declared.plain_world.PlainWorld.{PlainWorld}
-use Rattle.plain_world.specs.Worlds.{births_in}
+use Rattle.plain_row.specs.Worlds.{births_in}
 use Rattle.plain_world.specs.Calls.{heap_of, number_at, births_at, ticket_at, stop_word, allowance_of, IsOpen, SamePlaces, AddsEntries}
 use Rattle.stored_replies.specs.Replies.{Replies}
 use Rattle.mm_runtime.specs.declared.progress.Progress.{Progress}

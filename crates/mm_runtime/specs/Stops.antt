@@ -22,7 +22,8 @@ use Rattle.large_space.specs.FreeRuns.{IsFirstRun}
 use Rattle.plan_api.specs.Relisting.{Relists}
 use Rattle.sessions.specs.Collecting.{IsCollection, first_collection}
 use Rattle.sessions.specs.Sessions.{Setting, Moment, MakesCollection, FirstTry, Places, Replies, Serves, birth_count, block_of_kind, refusal}
-use Rattle.plain_world.specs.Rows.{ChangesAt, mutator_state}
+use Rattle.heap_users.specs.Users.{mutator_state}
+use Rattle.block_regions.specs.Elements.{ChangesAt}
 use Rattle.mutator_calls.specs.declared.need.Mutator.{Mutator}
 use Rattle.mutator_calls.specs.declared.need.Need.{Need}
 use Rattle.mm_runtime.specs.declared.progress.Progress.{Progress}
@@ -34,7 +35,7 @@ use Rattle.ideal_heap.specs.declared.name.Name.{Name}
 use Rattle.mm_runtime.specs.declared.progress.End.{End}
 use Rattle.mm_runtime.specs.declared.progress.End.TheVariants as end
 use Rattle.mm_runtime.specs.Managers.{next_of, replied as replied_in}
-use Rattle.plain_world.specs.Notes.{AreNotes}
+use Rattle.block_regions.specs.Notes.{AreNotes}
 
 -- the numbers of nursery and full collections after one more of this kind
 abbrev pub counted : Collect → ℕ → ℕ → ℕ × ℕ

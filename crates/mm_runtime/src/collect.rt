@@ -1,10 +1,14 @@
 //! A collection of the manager's heap.
+//!
+//! `collect_at` and `make_room` call `collect`. It writes heap, registers, notes and one of the
+//! counts, which change together: registers are addresses of the new heap, and notes speak of its
+//! blocks. Never writes births or replies.
 
 ghost use Rattle.std.specs.Prelude.{◌≡◌, ◌+◌, ◌*◌, ◌^◌, ◌<◌, map, length, IfOk};
 ghost use Rattle.std.specs.List.{AllByRecursion};
 ghost use Rattle.object_model.specs.Graphs.{roots_of};
 ghost use Rattle.sessions.specs.Sessions.{birth_count};
-ghost use Rattle.plain_world.specs.Rows.{mutator_state};
+ghost use Rattle.heap_users.specs.Users.{mutator_state};
 ghost use Rattle.collector.specs.Collected.{IsOffered};
 ghost use Rattle.mm_runtime.specs.Managers.{IsAtStop};
 ghost use Rattle.mm_runtime.specs.Stops.{counted, HasCollected};

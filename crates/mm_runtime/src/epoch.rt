@@ -1,4 +1,8 @@
 //! An epoch: each mutator runs until it stops.
+//!
+//! `advance` calls `run_epoch` first. It hands heap, mutators and notes to a world and takes back
+//! what the world leaves, all three from the same `close_with`; `run_part` adds the replies. Never
+//! writes the counts of collections.
 
 ghost use Rattle.std.specs.Prelude.{◌≡◌, ◌+◌, ◌<◌, ◌≤◌, ℕ, length, slice_get, Some, IfOk};
 ghost use Rattle.sessions.specs.Sessions.{Setting, Moment, RunsPart};

@@ -1,4 +1,8 @@
 //! The first step of a stop: the collection that `gc` asks for.
+//!
+//! `advance` calls `collect_at` after the epoch, and before any need is served. One collection
+//! answers all: each mutator at `gc` gets its reply together with it, and no other mutator gets
+//! one. Never places an object.
 
 ghost use Rattle.std.specs.Prelude.{◌≡◌, ◌≢◌, ◌↔◌, ◌≤◌, ◌<◌, ℕ, IsTrue, filter, length, Some, slice_get, IfOk};
 ghost use Rattle.sessions.specs.Sessions.{Setting, Moment, CollectsFor, is_at_gc, mutators_of};

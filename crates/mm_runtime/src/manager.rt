@@ -1,4 +1,8 @@
 //! The manager of a heap: epochs and stops, from the empty heap to the end of all traces.
+//!
+//! `mm_drive` calls `begin_stored` once and `advance` until it answers `Ended`. Between two calls
+//! the manager stands at a moment of its session: heap, mutators, replies and counts of
+//! collections belong together, and `notes` are those of this heap. Traces are never written.
 
 ghost use Rattle.std.specs.Prelude.{◌≡◌, ◌↔◌, ◌<◌, ◌≤◌, ℕ, All, Some, length, slice_get, IfOk, IsTrue};
 ghost use Rattle.heap_layout.specs.declared.layout.TheConstants.{MIN_BLOCKS, MAX_BLOCKS};

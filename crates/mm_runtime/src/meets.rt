@@ -1,4 +1,7 @@
 //! The last step of a stop: mutators that meet.
+//!
+//! `advance` calls `meet` and `turn` last. `meet` writes replies alone: either each mutator at
+//! `meet` gets one, or none does. Never writes the heap.
 
 ghost use Rattle.std.specs.Prelude.{◌≡◌, ◌↔◌, ◌≤◌, ℕ, IsTrue, Some, length, slice_get};
 ghost use Rattle.sessions.specs.Sessions.{Setting, Moment, Meets, is_waiting};

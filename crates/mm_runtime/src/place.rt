@@ -1,4 +1,8 @@
 //! The second step of a stop: objects that no mutator could allocate.
+//!
+//! `serve` calls `place_or_collect` for each need. `put` writes the object and its block's word and
+//! line bits, and with them the mutator's births and register, its reply, and the notes: these
+//! change together. A refused need writes a reply alone. Collections are made by `collect.rt`.
 
 ghost use Rattle.std.specs.Prelude.{◌≡◌, ◌≢◌, ◌+◌, ◌≤◌, ◌<◌, ◌^◌, ℕ, length, slice_get, IfSome, IfNone, IfOk};
 ghost use Rattle.heap_layout.specs.Zones.{row_words};
@@ -14,7 +18,7 @@ ghost use Rattle.sessions.specs.Fitting.{Fits, IsFreeRun, counts_of};
 ghost use Rattle.sessions.specs.Plans.{Rules};
 ghost use Rattle.sessions.specs.Sessions.{Setting, Moment, Places, Serves};
 ghost use Rattle.mutator_calls.specs.declared.need.Mutator.{Mutator};
-ghost use Rattle.plain_world.specs.Notes.{AreNotes, FillsHoles, PlacesObject, PlacesRun};
+ghost use Rattle.block_regions.specs.Notes.{AreNotes, FillsHoles, PlacesObject, PlacesRun};
 ghost use Rattle.mm_runtime.specs.Managers.{IsAtStop, IsInOrder, IsManaged, StandsAt};
 ghost use Rattle.mm_runtime.specs.declared.progress.Progress.{Progress};
 ghost use Rattle.mm_runtime.specs.Stops.{IsSpot, IsPlace, NeedsNext, RepliesAt, RepliesTo, TakesBlock, TakesSpot, BearsAt, PutsAt, RelistsSpot, Refuses, MakesRoom, Settles, MatchPlaced};

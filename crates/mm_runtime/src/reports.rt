@@ -1,11 +1,14 @@
-//! What a manager tells of its session.
+//! What a manager answers about its session.
+//!
+//! `mm_drive` calls `mutators` and `replies` as it prints, tests call the others. `collect.rt`
+//! takes its roots from `all_registers`. Nothing here is written.
 
 ghost use Rattle.std.specs.Prelude.{◌≡◌, ◌-◌, ◌<◌, ◌≤◌, ◌++◌, ℕ, Some, length, map, slice_get, IfOk};
 ghost use Rattle.ideal_heap.specs.Runs.{replies_of};
 ghost use Rattle.object_model.specs.Heaps.{heap_state};
 ghost use Rattle.object_model.specs.Graphs.{roots_of};
 ghost use Rattle.object_model.specs.Objects.{global_at as global_word_at};
-ghost use Rattle.plain_world.specs.Rows.{mutator_state};
+ghost use Rattle.heap_users.specs.Users.{mutator_state};
 ghost use Rattle.sessions.specs.Sessions.{Setting, Moment};
 ghost use Rattle.mm_runtime.specs.declared.progress.Progress.{Progress as State};
 ghost use Rattle.mm_runtime.specs.Managers.{globals_of, Closes, HasMutator, IsInOrder};

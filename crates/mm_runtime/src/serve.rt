@@ -1,4 +1,7 @@
 //! All needs of a stop.
+//!
+//! `advance` calls `serve` after `collect_at`. Needs are served in ascending order of the mutators,
+//! each to its end, since one may collect for the next. All that is written, `place.rt` writes.
 
 ghost use Rattle.std.specs.Prelude.{◌≡◌, ◌≤◌, ℕ, filter, length, IfOk};
 ghost use Rattle.sessions.specs.Sessions.{Setting, Moment, ServesAll, is_at_need, mutators_of};

@@ -5,9 +5,10 @@ ghost use Rattle.mm_runtime.specs.Managers.{IsManaged, IsReady, IsRunnable};
 
 use crate::manager::{Manager, Turn};
 use crate::progress::MAX_COMMANDS;
+use heap_graph::{Place, graph};
 use heap_layout::Layout;
 use ideal_heap::{Command, Name, Reply, valid};
-use object_model::{Heap, Place, are_roots, graph};
+use object_model::{Heap, are_roots};
 use plan_api::Plan;
 use plans::NoGc;
 use pools::PlainPool;

@@ -5,12 +5,14 @@ use Rattle.std.proofs.lemmas.List.{map-append}
 use Rattle.std.proofs.lemmas.List.Elements.{All-append, All-cons, All-nil, All-pop, All-weaker}
 use Rattle.trace_core.specs.Setups.{Setup}
 use Rattle.trace_core.specs.Machine.{Event, ByRoot}
-use Rattle.trace_core.specs.Views.{View, IsGrey, Scanned, one_if, without, is_pair, hits, times, to_scan_in, claimed_view, copied_view, set_view}
-use Rattle.trace_core.specs.Tracers.{Tracks, taken_in}
-use Rattle.trace_core.specs.declared.plain_trace.PlainTrace.{PlainTrace}
-use Rattle.trace_core.specs.declared.tokens.Grey.{Grey}
-use Rattle.trace_core.specs.declared.tokens.GlobalRoot.{GlobalRoot}
-use Rattle.trace_core.specs.declared.tokens.Won.{Won}
+use Rattle.trace_core.specs.Views.{View, one_if, without, is_pair, hits, times, claimed_view, copied_view, set_view}
+use Rattle.plain_tracer.specs.TokenRights.{IsGrey, Scanned, to_scan_in}
+use Rattle.plain_tracer.specs.Tracers.{Tracks}
+use Rattle.trace_core.specs.CallEvents.{taken_in}
+use Rattle.plain_tracer.specs.declared.plain_trace.PlainTrace.{PlainTrace}
+use Rattle.plain_tracer.specs.declared.tokens.Grey.{Grey}
+use Rattle.plain_tracer.specs.declared.tokens.GlobalRoot.{GlobalRoot}
+use Rattle.plain_tracer.specs.declared.tokens.Won.{Won}
 use Rattle.trace_core.proofs.Counting.{count-append, hits-cons, hits-here, hits-more, times-cons, times-without}
 use Rattle.trace_tests.specs.Tokens.{IsOf, AreGrey, AreUnset, GoesOn}
 

@@ -4,8 +4,8 @@ use Rattle.std.specs.Prelude.{IfSome, IfNone}
 use Rattle.trace_core.specs.Setups.{Setup}
 use Rattle.trace_core.specs.Machine.{Event, TakeBlock}
 use Rattle.trace_core.specs.Views.{View, left_view}
-use Rattle.trace_core.specs.declared.plain_trace.PlainTrace.{PlainTrace}
-use Rattle.trace_core.specs.Tracers.{Tracks, IsTracing}
+use Rattle.plain_tracer.specs.declared.plain_trace.PlainTrace.{PlainTrace}
+use Rattle.plain_tracer.specs.Tracers.{Tracks, IsTracing}
 
 pub tracing-on : (old new : PlainTrace) (block : Option ℕ)
     → IfSome block (λ b. (p : Setup) (es : List Event) (v : View) → Tracks p es old v → Tracks p (es ++ TakeBlock b 1 ∷ []) new (left_view b v))

@@ -4,15 +4,15 @@ use Rattle.std.specs.List.{range_with_len}
 use Rattle.std.proofs.lemmas.List.Elements.{All-nil}
 use Rattle.heap_layout.specs.declared.layout.TheConstants.{GLOBALS}
 use Rattle.object_model.specs.Objects.{HeapState}
-use Rattle.object_model.specs.Lawful.{IsLawfulButLines}
-use Rattle.object_model.specs.Places.{AreRoots}
+use Rattle.object_model.specs.Lawful.{IsLawfulButLines, AreRoots}
 use Rattle.trace_core.specs.Setups.{Setup}
-use Rattle.trace_core.specs.Views.{View, hits, times, to_scan_in, first_view}
-use Rattle.trace_core.specs.Tracers.{setup_of}
+use Rattle.trace_core.specs.Views.{View, hits, times, first_view}
+use Rattle.plain_tracer.specs.TokenRights.{to_scan_in}
+use Rattle.trace_core.specs.Runs.{setup_of}
 use Rattle.trace_core.proofs.Begun.{held-begun}
 use Rattle.trace_core.specs.declared.run.TraceRun.{TraceRun}
-use Rattle.trace_core.specs.declared.tokens.Grey.{Grey}
-use Rattle.trace_core.specs.declared.tokens.GlobalRoot.{GlobalRoot}
+use Rattle.plain_tracer.specs.declared.tokens.Grey.{Grey}
+use Rattle.plain_tracer.specs.declared.tokens.GlobalRoot.{GlobalRoot}
 use Rattle.trace_tests.specs.Tokens.{IsOf, AreGrey, AreUnset}
 
 -- no token

@@ -3,11 +3,12 @@ use Rattle.std.specs.Prelude.{◌≡◌, ℕ, ◌<◌, ◌≤◌, List, map}
 use Rattle.std.specs.List.{All}
 use Rattle.trace_core.specs.Setups.{Setup, size, refs}
 use Rattle.trace_core.specs.Machine.{Event}
-use Rattle.trace_core.specs.Views.{View, hits, times, to_scan_in}
-use Rattle.trace_core.specs.Tracers.{Tracks}
-use Rattle.trace_core.specs.declared.tokens.Grey.{Grey}
-use Rattle.trace_core.specs.declared.tokens.GlobalRoot.{GlobalRoot}
-use Rattle.trace_core.specs.declared.plain_trace.PlainTrace.{PlainTrace}
+use Rattle.trace_core.specs.Views.{View, hits, times}
+use Rattle.plain_tracer.specs.TokenRights.{to_scan_in}
+use Rattle.plain_tracer.specs.Tracers.{Tracks}
+use Rattle.plain_tracer.specs.declared.tokens.Grey.{Grey}
+use Rattle.plain_tracer.specs.declared.tokens.GlobalRoot.{GlobalRoot}
+use Rattle.plain_tracer.specs.declared.plain_trace.PlainTrace.{PlainTrace}
 
 -- the token is of an object with this target, size and number of references
 pub record IsOf (p : Setup) (v : View) (grey : Grey) : Type 0 where

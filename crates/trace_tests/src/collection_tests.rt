@@ -3,8 +3,9 @@
 use crate::graphs::{list, random_graph};
 use crate::heaps::{Built, build, build_under, with_roots};
 use collector::{Note, collect};
+use heap_graph::{Place, graph};
 use ideal_heap::Command;
-use object_model::{Collect, Place, graph};
+use object_model::Collect;
 use plan_api::Plan;
 use plans::{MarkSweep, NoGc, SemiSpace};
 use pools::PlainPool;

@@ -3,9 +3,9 @@
 ghost use Rattle.std.specs.Prelude.{◌≡◌, ◌<◌, IfOk, IsTrue, false, length};
 ghost use Rattle.heap_layout.specs.declared.block.Kind.TheVariants as kinds;
 ghost use Rattle.object_model.specs.Heaps.{heap_state};
-ghost use Rattle.object_model.specs.Places.{AreRoots};
+ghost use Rattle.object_model.specs.Lawful.{AreRoots};
 ghost use Rattle.plain_world.specs.Calls.{IsOpen, SamePlaces};
-ghost use Rattle.trace_core.specs.Tracers.{MayRun};
+ghost use Rattle.trace_core.specs.Runs.{MayRun};
 ghost use Rattle.trace_tests.specs.Blocks.{is_large, HasSmall};
 
 use heap_layout::{Kind, Layout};

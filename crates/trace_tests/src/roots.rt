@@ -1,16 +1,15 @@
 //! The roots of a trace: registers and globals.
 
 ghost use Rattle.std.specs.Prelude.{ℕ, List, OnOk};
-ghost use Rattle.object_model.specs.Lawful.{IsRoot};
-ghost use Rattle.object_model.specs.Places.{AreRoots};
+ghost use Rattle.object_model.specs.Lawful.{IsRoot, AreRoots};
 ghost use Rattle.trace_core.specs.Setups.{Setup};
 ghost use Rattle.trace_core.specs.Machine.{Event};
 ghost use Rattle.trace_core.specs.Views.{View};
-ghost use Rattle.trace_core.specs.Tracers.{Tracks, IsTracing};
+ghost use Rattle.plain_tracer.specs.Tracers.{Tracks, IsTracing};
 ghost use Rattle.trace_tests.specs.Tokens.{AreGrey, AreUnset, GoesOn};
 
+use plain_tracer::{Claim, GlobalRoot, Grey, PlainTrace};
 use std::alloc::{AllocError, Global};
-use trace_core::{Claim, GlobalRoot, Grey, PlainTrace};
 
 /// The last values of registers, whose objects are claimed and copied.
 pub(crate) fn trace_registers(

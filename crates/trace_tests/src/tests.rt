@@ -2,16 +2,16 @@
 
 ghost use Rattle.std.specs.Prelude.{◌≡◌, ◌<◌};
 ghost use Rattle.heap_layout.specs.declared.block.Kind.TheVariants as kinds;
-ghost use Rattle.trace_core.specs.Tracers.{IsTracing};
+ghost use Rattle.plain_tracer.specs.Tracers.{IsTracing};
 
 use crate::heaps::{Built, build, full_run};
 use crate::tracing::{Outcome, trace};
+use heap_graph::{Place, graph};
 use ideal_heap::Command;
-use object_model::{Place, graph};
+use plain_tracer::PlainTrace;
 use std::alloc::Global;
 use std::process::Abort;
 use std::test::Fail;
-use trace_core::PlainTrace;
 
 fn create(d: u32, refs: u32, nums: u32) -> Command {
     Command::New { d, refs, nums }

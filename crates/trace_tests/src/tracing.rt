@@ -1,14 +1,16 @@
 //! The trace of a whole collection by one worker.
 
 ghost use Rattle.object_model.specs.Heaps.{heap_state};
-ghost use Rattle.trace_core.specs.Tracers.{IsTracing, MayRun};
+ghost use Rattle.plain_tracer.specs.Tracers.{IsTracing};
+ghost use Rattle.trace_core.specs.Runs.{MayRun};
 ghost use Rattle.trace_tests.specs.Tokens.{AreGrey};
 
 use crate::heaps::Built;
 use crate::roots::{trace_globals, trace_registers};
+use plain_tracer::{Grey, PlainTrace};
 use std::alloc::{AllocError, Global};
 use std::process::Abort;
-use trace_core::{Grey, PlainTrace, TraceRun, Traced};
+use trace_core::{TraceRun, Traced};
 
 /// What a trace left: its row, the last values of the registers, and how many objects it scanned.
 #[derive(Drop)]

@@ -1,5 +1,5 @@
 use Rattle.std.proofs.Common.{◌≡◌, ◌*◌, ◌<◌, arith, length}
-use Rattle.plain_world.proofs.Elements.{read-some}
+use Rattle.block_regions.proofs.Elements.{read-some}
 use Rattle.mm_runtime.proofs.SetRegisters as registers
 use Rattle.mm_runtime.proofs.collect.set_registers.Goals as goal
 

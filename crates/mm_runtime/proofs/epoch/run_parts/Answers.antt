@@ -2,7 +2,7 @@
 use Rattle.std.proofs.Common.{◌≡◌, ◌+◌, ◌<◌, [], ◌∷◌, ◌++◌, length, arith}
 use Rattle.std.specs.Prelude.{slice_set}
 use Rattle.plain_world.specs.Calls.{number_at}
-use Rattle.plain_world.proofs.Elements.{read-some}
+use Rattle.block_regions.proofs.Elements.{read-some}
 use Rattle.mm_runtime.proofs.Gathering.{parts-none, parts-more, parts-ends}
 use Rattle.mm_runtime.proofs.epoch.run_parts.Goals as goal
 

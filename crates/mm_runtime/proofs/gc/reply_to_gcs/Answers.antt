@@ -3,7 +3,7 @@ use Rattle.std.specs.Prelude.{Some, slice_get}
 use Rattle.std.proofs.lemmas.Option.{get_or_from_slice_get}
 use Rattle.std.specs.declared.alloc.Global.{Global}
 use Rattle.mm_runtime.specs.declared.progress.Progress.{Progress}
-use Rattle.plain_world.proofs.Elements.{read-some}
+use Rattle.block_regions.proofs.Elements.{read-some}
 use Rattle.mm_runtime.specs.declared.progress.End.TheVariants as end
 use Rattle.mm_runtime.specs.Replying.{is_gc_at, RepliesBelow}
 use Rattle.mm_runtime.proofs.OkSteps as replied

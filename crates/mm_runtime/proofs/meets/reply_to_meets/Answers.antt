@@ -2,7 +2,7 @@ use Rattle.std.proofs.Common.{◌≡◌, sym, ◌∙◌, ap, subst, ◌+◌, ari
 use Rattle.std.specs.Prelude.{Some, slice_get}
 use Rattle.std.specs.declared.alloc.Global.{Global}
 use Rattle.sessions.specs.Sessions.{is_at_meet}
-use Rattle.plain_world.proofs.Elements.{read-some}
+use Rattle.block_regions.proofs.Elements.{read-some}
 use Rattle.mm_runtime.specs.declared.progress.Progress.{Progress}
 use Rattle.mm_runtime.specs.Replying.{next_if, is_meet_at, RepliesBelow}
 use Rattle.mm_runtime.proofs.OkSteps as replied

@@ -5,7 +5,7 @@ use Rattle.object_model.specs.Objects.{HeapState, state_of, state_over}
 use Rattle.plan_api.specs.Relisting.{Relists}
 use Rattle.plan_api.proofs.Viewing.{block-anyway}
 use Rattle.plan_api.proofs.CellParts.{apart-anyway}
-use Rattle.plain_world.proofs.Relisted.{relists-anyway}
+use Rattle.block_regions.proofs.Relisted.{relists-anyway}
 use Rattle.mm_runtime.proofs.place.relist_spot.Goals as goal
 
 pub relist_block-requires-clause-block : goal.relist_block-requires-clause-block

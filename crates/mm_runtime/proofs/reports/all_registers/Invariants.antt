@@ -1,6 +1,6 @@
 use Rattle.std.proofs.Common.{◌≡◌, map, take}
 use Rattle.object_model.specs.Graphs.{roots_of}
-use Rattle.plain_world.specs.Rows.{mutator_state}
+use Rattle.heap_users.specs.Users.{mutator_state}
 use Rattle.mm_runtime.proofs.reports.all_registers.Given as goal
 
 abbrev pub invariant-loop-mutator : goal.invariant-loop-mutator

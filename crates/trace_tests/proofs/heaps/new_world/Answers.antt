@@ -1,7 +1,7 @@
 use Rattle.std.proofs.Common.{sym, subst, map}
 use Rattle.object_model.specs.Objects.{HeapState}
-use Rattle.plain_world.specs.Rows.{mutator_state}
-use Rattle.plain_world.specs.Beginnings.{MayUse}
+use Rattle.heap_users.specs.Users.{mutator_state}
+use Rattle.heap_users.specs.Beginnings.{MayUse}
 use Rattle.trace_tests.proofs.heaps.new_world.Goals as goal
 
 pub begin-requires-clause-users : goal.begin-requires-clause-users

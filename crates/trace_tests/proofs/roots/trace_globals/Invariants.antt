@@ -1,5 +1,5 @@
 use Rattle.std.specs.Vec.Iter.{into_iter_items}
-use Rattle.trace_core.specs.Tracers.{IsTracing}
+use Rattle.plain_tracer.specs.Tracers.{IsTracing}
 use Rattle.trace_tests.specs.Tokens.{AreGrey, AreUnset}
 use Rattle.trace_tests.proofs.roots.trace_globals.Given as goal
 

@@ -1,9 +1,10 @@
 use Rattle.std.proofs.Common.{refl, subst, arith}
 use Rattle.trace_core.specs.Machine.{ByRoot}
 use Rattle.trace_core.specs.Views.{asked_view, claimed_view}
-use Rattle.trace_core.specs.Tracers.{ClaimsRoot, taken_in}
+use Rattle.plain_tracer.specs.Tracers.{ClaimsRoot}
+use Rattle.trace_core.specs.CallEvents.{taken_in}
 use Rattle.trace_core.proofs.Counting.{hits-more}
-use Rattle.trace_core.proofs.Following.{won-token}
+use Rattle.plain_tracer.proofs.Following.{won-token}
 use Rattle.trace_tests.proofs.Going.{same-grey, won-goes}
 use Rattle.trace_tests.proofs.roots.trace_register.Goals as goal
 

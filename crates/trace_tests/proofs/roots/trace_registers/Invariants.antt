@@ -1,9 +1,9 @@
 use Rattle.std.proofs.Common.{List}
-use Rattle.object_model.specs.Places.{AreRoots}
+use Rattle.object_model.specs.Lawful.{AreRoots}
 use Rattle.trace_core.specs.Setups.{Setup}
 use Rattle.trace_core.specs.Machine.{Event}
 use Rattle.trace_core.specs.Views.{View}
-use Rattle.trace_core.specs.Tracers.{Tracks}
+use Rattle.plain_tracer.specs.Tracers.{Tracks}
 use Rattle.trace_tests.specs.Tokens.{AreGrey, GoesOn}
 use Rattle.trace_tests.proofs.roots.trace_registers.Given as goal
 

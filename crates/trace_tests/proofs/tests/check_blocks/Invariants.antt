@@ -1,6 +1,6 @@
 use Rattle.std.proofs.Common.{◌≡◌}
 use Rattle.heap_layout.specs.declared.block.Kind.TheVariants as kinds
-use Rattle.trace_core.specs.Tracers.{IsTracing}
+use Rattle.plain_tracer.specs.Tracers.{IsTracing}
 use Rattle.trace_tests.proofs.tests.check_blocks.Given as goal
 
 abbrev pub invariant-loop-block : goal.invariant-loop-block

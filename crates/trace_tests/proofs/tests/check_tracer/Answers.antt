@@ -2,7 +2,7 @@ use Rattle.std.proofs.Common.{[]}
 use Rattle.object_model.specs.Heaps.{heap_state}
 use Rattle.trace_core.specs.Setups.{Setup}
 use Rattle.trace_core.specs.Views.{View, first_view}
-use Rattle.trace_core.specs.Tracers.{setup_of}
+use Rattle.trace_core.specs.Runs.{setup_of}
 use Rattle.trace_tests.proofs.tests.check_tracer.Goals as goal
 
 pub check_blocks-requires-clause-tracing : goal.check_blocks-requires-clause-tracing

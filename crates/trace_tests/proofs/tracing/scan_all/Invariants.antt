@@ -1,4 +1,4 @@
-use Rattle.trace_core.specs.Tracers.{IsTracing}
+use Rattle.plain_tracer.specs.Tracers.{IsTracing}
 use Rattle.trace_tests.specs.Tokens.{AreGrey}
 use Rattle.trace_tests.proofs.tracing.scan_all.Given as goal
 

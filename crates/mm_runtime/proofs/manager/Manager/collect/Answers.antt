@@ -1,12 +1,12 @@
 -- The roots are those of a stop, and the collection is counted.
 use Rattle.std.proofs.Common.{◌≡◌, refl, sym, ◌∙◌, ap, subst, ℕ, ◌+◌, ◌*◌, ◌≤◌, arith, List, length, map}
 use Rattle.object_model.specs.Heaps.{heap_state}
-use Rattle.object_model.specs.Places.{AreRoots}
+use Rattle.object_model.specs.Lawful.{AreRoots}
 use Rattle.object_model.specs.Graphs.{roots_of}
 use Rattle.sessions.specs.Collecting.{IsCollection}
 use Rattle.sessions.proofs.CollectedMoments.{roots-kept}
 use Rattle.mutator_calls.specs.declared.need.Mutator.{Mutator}
-use Rattle.plain_world.specs.Rows.{mutator_state}
+use Rattle.heap_users.specs.Users.{mutator_state}
 use Rattle.mm_runtime.proofs.Bounds.{collections-few}
 use Rattle.mm_runtime.proofs.RootLists as roots
 use Rattle.mm_runtime.proofs.manager.Manager.collect.Goals as goal

@@ -3,7 +3,7 @@ use Rattle.std.proofs.lemmas.Bool.{false≢true}
 use Rattle.object_model.specs.Heaps.{heap_state}
 use Rattle.sessions.specs.Fitting.{Fits}
 use Rattle.plan_api.specs.Counting.{session_counts, session_reserve}
-use Rattle.plain_world.specs.Notes.{FillsHoles}
+use Rattle.block_regions.specs.Notes.{FillsHoles}
 use Rattle.mm_runtime.specs.declared.place.Spot.{Spot}
 use Rattle.mm_runtime.proofs.Spots.{hole-spot, free-spot, no-grant, no-free, granted, granted-back}
 use Rattle.mm_runtime.proofs.manager.Manager.find.Goals as goal

@@ -1,5 +1,5 @@
 use Rattle.mm_runtime.proofs.Moments as moments
-use Rattle.plain_world.proofs.Relisted.{lines-of-plan}
+use Rattle.block_regions.proofs.Relisted.{lines-of-plan}
 use Rattle.mm_runtime.proofs.manager.Manager.place.Goals as goal
 
 pub returns-clause-order : goal.returns-clause-order

@@ -4,7 +4,7 @@ use Rattle.object_model.specs.Heaps.{heap_state}
 use Rattle.mm_runtime.specs.Stops.{RelistsSpot, WritesAt}
 use Rattle.mm_runtime.proofs.Putting as putting
 use Rattle.mm_runtime.proofs.PutCalls as calls
-use Rattle.plain_world.proofs.Relisted.{lines-of-plan}
+use Rattle.block_regions.proofs.Relisted.{lines-of-plan}
 use Rattle.mm_runtime.proofs.manager.Manager.put.Goals as goal
 
 pub size_words-requires-clause-refs : goal.size_words-requires-clause-refs

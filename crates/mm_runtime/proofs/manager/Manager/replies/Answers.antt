@@ -2,7 +2,7 @@ use Rattle.std.specs.Prelude.{slice_get}
 use Rattle.std.proofs.Common.{◌≡◌, refl, sym, ◌∙◌, ap, ◌+◌, ◌-◌, ◌≤◌, arith, length}
 use Rattle.ideal_heap.specs.Runs.{replies_of}
 use Rattle.mm_runtime.specs.declared.progress.Progress.{Progress}
-use Rattle.plain_world.proofs.Lists.{one-element}
+use Rattle.block_regions.proofs.Lists.{one-element}
 use Rattle.mm_runtime.proofs.Waits.{item}
 use Rattle.mm_runtime.proofs.manager.Manager.replies.Goals as goal
 

@@ -5,7 +5,7 @@ use Rattle.object_model.specs.Objects.{HeapState}
 use Rattle.object_model.specs.Graphs.{numbers_of}
 use Rattle.sessions.specs.Collecting.{Remembers}
 use Rattle.sessions.specs.Sessions.{ideal_at}
-use Rattle.plain_world.specs.Rows.{mutator_state}
+use Rattle.heap_users.specs.Users.{mutator_state}
 use Rattle.plain_world.proofs.Closed.{may-use}
 use Rattle.sessions.specs.Plans.{Rules}
 use Rattle.mm_runtime.specs.declared.progress.End.{End}

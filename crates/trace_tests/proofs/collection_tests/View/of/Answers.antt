@@ -1,6 +1,6 @@
 use Rattle.std.proofs.Common.{sym, subst}
 use Rattle.object_model.specs.Heaps.{heap_state}
-use Rattle.object_model.specs.Places.{AreRoots}
+use Rattle.object_model.specs.Lawful.{AreRoots}
 use Rattle.trace_tests.proofs.collection_tests.View.of.Goals as goal
 
 pub graph-requires : goal.graph-requires
