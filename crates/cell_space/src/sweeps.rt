@@ -12,8 +12,8 @@ use side_meta::Words;
 /// Sweeps a block: objects in it that do not live are held no more. The block becomes Free if none
 /// is left, else it stays as it is. Answers how many are left.
 ///
-/// For callers that sweep a block of cells by itself, as tests do: a plan's release treats blocks of
-/// all kinds, and calls `block_sweeps::sweep_block`.
+/// For callers that sweep a block of cells by itself, as tests do. A plan's release treats blocks
+/// of all kinds, and calls `block_sweeps::sweep_block`.
 pub fn sweep_block<W: Words>(words: &mut W, layout: &Layout, block: u32, base: u64) -> u32
     requires extent { length (W.words words.old) ≡ row_words layout.now.blocks }
     requires block { block < layout.now.blocks }
