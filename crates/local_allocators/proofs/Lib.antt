@@ -1,3 +1,5 @@
+pub mod BlockReads
+pub mod KeptRegions
 pub mod SeatRegions
 pub mod LineLacks
 pub mod OwnedLists

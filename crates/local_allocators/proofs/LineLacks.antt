@@ -1,15 +1,12 @@
 -- A block of a mutator that fills lines lacks room still, after births, and after other blocks were taken.
-use Rattle.std.proofs.Common.{◌≡◌, refl, sym, subst, ℕ, ◌≤◌, arith, List}
-use Rattle.std.specs.Prelude.{Option, Some}
+use Rattle.std.proofs.Common.{◌≡◌, refl, sym, subst, ℕ, ◌≤◌, arith}
+use Rattle.std.specs.Prelude.{Some}
 use Rattle.heap_layout.specs.declared.block.Kind.TheVariants as kinds
 use Rattle.heap_layout.specs.declared.region.Region.{Region}
 use Rattle.object_model.specs.Objects.{HeapState, HasKind}
 use Rattle.plan_api.specs.Cursors.{RegionHasRoom}
 use Rattle.plan_api.specs.Holes.{HasRoomFrom, IsFirstPart}
-use Rattle.local_allocators.specs.declared.local_seat.LocalSeat.{LocalSeat}
-use Rattle.block_regions.specs.declared.block_notes.BlockNote.{BlockNote}
-use Rattle.local_allocators.specs.Seats.{block_of, over_of}
-use Rattle.local_allocators.specs.TwoRegions.{region_of, LacksLines}
+use Rattle.local_allocators.specs.MutatorRegions.{MutatorRegions, LacksLines}
 use Rattle.block_regions.proofs.BlockFrames.{SameLines}
 use Rattle.block_regions.proofs.LineRegions.{line-hole-as}
 
@@ -49,14 +46,14 @@ pub record Shrinks (q r : Region) : Type 0 where
 pub same-shrinks : (q r : Region) → r ≡ q → Shrinks q r
 same-shrinks q r same = subst (λ (x : Region). Shrinks q x) (sym same) (record { end = refl; later = omega arith })
 
-pub lines-lack-still : (notes later : List BlockNote) (seat now : Option LocalSeat) (s t : HeapState) (size k : ℕ)
-    → (block_of now 0 ≡ Some k → block_of seat 0 ≡ Some k) → (over_of now ≡ Some k → over_of seat ≡ Some k)
-    → Shrinks (region_of notes (Some k)) (region_of later (Some k)) → (HasKind t k kinds.Immix → HasKind s k kinds.Immix)
-    → (block_of now 0 ≡ Some k → SameLines s t k) → LacksLines notes seat s size k → LacksLines later now t size k
-lines-lack-still notes later seat now s t size k hole over shrinks kind same lacks = record {
-  region = λ is room. lacks.region (hole is) (room-back (region_of notes (Some k)) (region_of later (Some k)) size shrinks.end shrinks.later room);
+pub lines-lack-still : (old new : MutatorRegions) (s t : HeapState) (size k : ℕ)
+    → (new.blocks 0 ≡ Some k → old.blocks 0 ≡ Some k) → (new.over ≡ Some k → old.over ≡ Some k)
+    → Shrinks (old.left (Some k)) (new.left (Some k)) → (HasKind t k kinds.Immix → HasKind s k kinds.Immix)
+    → (new.blocks 0 ≡ Some k → SameLines s t k) → LacksLines old s size k → LacksLines new t size k
+lines-lack-still old new s t size k hole over shrinks kind same lacks = record {
+  region = λ is room. lacks.region (hole is) (room-back (old.left (Some k)) (new.left (Some k)) size shrinks.end shrinks.later room);
   later = λ is next end has. lacks.later (hole is) next end
-      (part-back s t k (region_of notes (Some k)).end size next end kind (same is)
+      (part-back s t k (old.left (Some k)).end size next end kind (same is)
       (subst (λ (from : ℕ). HasRoomFrom kinds.Immix t k from size next end) shrinks.end has));
-  over = λ is above room. lacks.over (over is) above (room-back (region_of notes (Some k)) (region_of later (Some k)) size shrinks.end shrinks.later room);
+  over = λ is above room. lacks.over (over is) above (room-back (old.left (Some k)) (new.left (Some k)) size shrinks.end shrinks.later room);
 }

@@ -1,5 +1,5 @@
 -- The two regions of a seat under a plan with lines, as the note of one of their blocks changes.
-use Rattle.std.proofs.Common.{◌≡◌, refl, sym, ◌∙◌, ap, subst, ℕ, ◌+◌, ◌≤◌, inl, inr, List}
+use Rattle.std.proofs.Common.{◌≡◌, refl, sym, ◌∙◌, ap, subst, ℕ, ◌+◌, ◌≤◌, List}
 use Rattle.std.specs.Prelude.{Option, Some, None, slice_get, unwrap_or}
 use Rattle.heap_layout.specs.declared.block.Kind.{Kind}
 use Rattle.heap_layout.specs.declared.region.Region.{Region}
@@ -11,7 +11,8 @@ use Rattle.block_regions.specs.declared.block_notes.BlockNote.{BlockNote}
 use Rattle.block_regions.specs.declared.block_notes.BlockNote.TheVariants.{Owned}
 use Rattle.local_allocators.specs.Seats.{block_of, over_of}
 use Rattle.block_regions.specs.Elements.{ChangesAt}
-use Rattle.local_allocators.specs.TwoRegions.{FillsLines, GoesOver, KeepsClass, KeepsOver, KeepsRegions, KeepsOthers, TriesBlock, region_of, region_noted, cursors_of}
+use Rattle.local_allocators.specs.MutatorRegions.{cursors_of, FillsLines, GoesOver, KeepsClass, KeepsOver, KeepsRegions}
+use Rattle.local_allocators.specs.NotedRegions.{region_of, region_noted, regions_of}
 
 -- the class of any size is 0 under lines
 pub lines-for : (fill : Kind) (size : ℕ) → FillsLines fill → class_for fill size ≡ 0
@@ -24,10 +25,10 @@ module _ (notes later : List BlockNote) (block : ℕ) (note : BlockNote) (change
   region-else (Some k) other = ap region_noted (changes.others k (λ same. other (ap (λ (j : ℕ). Some j) same)))
 
   module _ (seat now : Option LocalSeat) where
-    pub class-else : (class : ℕ) → block_of now class ≡ block_of seat class → (block_of seat class ≡ Some block → ⊥) → KeepsClass class notes seat later now
+    pub class-else : (class : ℕ) → block_of now class ≡ block_of seat class → (block_of seat class ≡ Some block → ⊥) → KeepsClass class (regions_of notes seat) (regions_of later now)
     class-else class same other = record { block = same; region = ap (region_of later) same ∙ region-else (block_of seat class) other }
 
-    pub over-else : over_of now ≡ over_of seat → (over_of seat ≡ Some block → ⊥) → KeepsOver notes seat later now
+    pub over-else : over_of now ≡ over_of seat → (over_of seat ≡ Some block → ⊥) → KeepsOver (regions_of notes seat) (regions_of later now)
     over-else same other = record { block = same; region = ap (region_of later) same ∙ region-else (over_of seat) other }
 
 -- The note of one own block changes, which has one of the two regions.
@@ -52,7 +53,7 @@ module _ (notes later : List BlockNote) (seat : Option LocalSeat) (block number 
   }
 
   pub places-hole : block_of seat 0 ≡ Some block → (over_of seat ≡ Some block → ⊥) → region.next + size ≤ region.end → rest ≡ region_after region size
-      → PlacesInHole (cursors_of notes seat) (cursors_of later seat) size block region.next
+      → PlacesInHole (cursors_of (regions_of notes seat)) (cursors_of (regions_of later seat)) size block region.next
   places-hole is other room left =
       let hole : region_of notes (block_of seat 0) ≡ region = ap (region_of notes) is ∙ region-then in
       let now : region_of later (block_of seat 0) ≡ rest = ap (region_of later) is ∙ region-now in
@@ -67,7 +68,7 @@ module _ (notes later : List BlockNote) (seat : Option LocalSeat) (block number 
       }
 
   pub places-over : over_of seat ≡ Some block → (block_of seat 0 ≡ Some block → ⊥) → region.next + size ≤ region.end → rest ≡ region_after region size
-      → (fill : Kind) → GoesOver fill notes seat size → PlacesInOverflow (cursors_of notes seat) (cursors_of later seat) size block region.next
+      → (fill : Kind) → GoesOver fill (regions_of notes seat) size → PlacesInOverflow (cursors_of (regions_of notes seat)) (cursors_of (regions_of later seat)) size block region.next
   places-over is other room left fill goes =
       let over : region_of notes (over_of seat) ≡ region = ap (region_of notes) is ∙ region-then in
       let now : region_of later (over_of seat) ≡ rest = ap (region_of later) is ∙ region-now in
@@ -84,51 +85,8 @@ module _ (notes later : List BlockNote) (seat : Option LocalSeat) (block number 
 
 -- the regions of a seat stay where the notes and its blocks do
 pub same-keeps : (notes later : List BlockNote) (seat now : Option LocalSeat) → later ≡ notes
-    → ((class : ℕ) → block_of now class ≡ block_of seat class) → over_of now ≡ over_of seat → KeepsRegions notes seat later now
+    → ((class : ℕ) → block_of now class ≡ block_of seat class) → over_of now ≡ over_of seat → KeepsRegions (regions_of notes seat) (regions_of later now)
 same-keeps notes later seat now same blocks over = record {
   classes = λ class. record { block = blocks class; region = ap (region_of later) (blocks class) ∙ ap (λ xs. region_of xs (block_of seat class)) same };
   over = record { block = over; region = ap (region_of later) over ∙ ap (λ xs. region_of xs (over_of seat)) same };
 }
-
--- regions that stay twice
-pub keeps-more : (notes mid later : List BlockNote) (seat on now : Option LocalSeat) → KeepsRegions notes seat mid on → KeepsRegions mid on later now
-    → KeepsRegions notes seat later now
-keeps-more notes mid later seat on now one two = record {
-  classes = λ class. record {
-    block = (two.classes class).block ∙ (one.classes class).block;
-    region = (two.classes class).region ∙ (one.classes class).region;
-  };
-  over = record { block = two.over.block ∙ one.over.block; region = two.over.region ∙ one.over.region };
-}
-
--- and then all but one
-pub others-after : (fill : Kind) (size : ℕ) (over : Type 0) (notes mid later : List BlockNote) (seat on now : Option LocalSeat)
-    → KeepsRegions notes seat mid on → KeepsOthers fill size over mid on later now → KeepsOthers fill size over notes seat later now
-others-after fill size over notes mid later seat on now one two = record {
-  classes = λ class other. record {
-    block = (two.classes class other).block ∙ (one.classes class).block;
-    region = (two.classes class other).region ∙ (one.classes class).region;
-  };
-  over_stays = λ other. record {
-    block = (two.over_stays other).block ∙ one.over.block;
-    region = (two.over_stays other).region ∙ one.over.region;
-  };
-}
-
--- the two regions under lines
-pub cursors-same : (notes later : List BlockNote) (seat now : Option LocalSeat) → KeepsRegions notes seat later now → cursors_of later now ≡ cursors_of notes seat
-cursors-same notes later seat now keeps =
-    ap (λ (o : Option ℕ). let c : Cursors = record { hole = region_of later (block_of now 0); hole_block = unwrap_or o 0; over = region_of later (over_of now); over_block = unwrap_or (over_of now) 0 } in c)
-    (keeps.classes 0).block
-    ∙ ap (λ (o : Option ℕ). let c : Cursors = record { hole = region_of later (block_of now 0); hole_block = unwrap_or (block_of seat 0) 0; over = region_of later (over_of now); over_block = unwrap_or o 0 } in c)
-    keeps.over.block
-    ∙ ap (λ (r : Region). let c : Cursors = record { hole = r; hole_block = unwrap_or (block_of seat 0) 0; over = region_of later (over_of now); over_block = unwrap_or (over_of seat) 0 } in c)
-    (keeps.classes 0).region
-    ∙ ap (λ (r : Region). let c : Cursors = record { hole = region_of notes (block_of seat 0); hole_block = unwrap_or (block_of seat 0) 0; over = r; over_block = unwrap_or (over_of seat) 0 } in c)
-    keeps.over.region
-
--- what a seat tries stays with its blocks
-pub tries-still : (f g : Kind) (x y : Option LocalSeat) (n k : ℕ) → g ≡ f → ((class : ℕ) → block_of y class ≡ block_of x class) → over_of y ≡ over_of x
-    → TriesBlock f x n k → TriesBlock g y n k
-tries-still f g x y n k fill blocks over (inl is) = inl (blocks (class_for g n) ∙ ap (λ h. block_of x (class_for h n)) fill ∙ is)
-tries-still f g x y n k fill blocks over (inr is) = inr (fill ∙ is.0, is.1, over ∙ is.2)

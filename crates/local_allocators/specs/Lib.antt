@@ -1,2 +1,6 @@
 pub mod Seats
-pub mod TwoRegions
+pub mod MutatorRegions
+pub mod NotedRegions
+pub mod NotedSeats
+pub mod Placing
+pub mod OwnRooms

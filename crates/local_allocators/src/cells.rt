@@ -1,25 +1,21 @@
-//! Cells: the next free one of a block.
+//! Cells: the next free one of a block, and whether a block has cells of another class.
+//!
+//! Called for plans with cells. Reads block words and start words, and writes nothing.
 
-ghost use Rattle.std.specs.Prelude.{◌≡◌, ◌+◌, ◌*◌, ◌<◌, ◌⊎◌, ℕ, length, slice_index, nat_eq};
-ghost use Rattle.std.specs.Int.{bit_at};
+ghost use Rattle.std.specs.Prelude.{◌≡◌, ◌≢◌, ◌+◌, ◌*◌, ◌<◌, ◌⊎◌, ℕ, true, false, length};
 ghost use Rattle.heap_layout.specs.Zones.{row_words, block_start};
 ghost use Rattle.heap_layout.specs.declared.block.Kind.TheVariants as kinds;
 ghost use Rattle.object_model.specs.Objects.{state_of, class_at, cell_words, is_start, HasKind};
+ghost use Rattle.object_model.specs.Lawful.{IsReadableBlock};
+ghost use Rattle.sessions.specs.Fitting.{class_for as class_for_size};
 ghost use Rattle.block_regions.specs.Regions.{IsCellLeft};
 
 use crate::local_seat::CLASSES;
+use crate::regions::class_of;
 use cell_space::{cell_size, next_cell};
-use heap_layout::{BLOCK_WORDS, Region};
+use heap_layout::{BLOCK_WORDS, Kind, Region};
 use object_model::Row;
-
-/// Whether a bit of a word is set.
-fn test_bit(row: &Row, at: usize, bit: u32) -> bool
-    requires word { at < length row.now.words.items }
-    requires bit { bit < 64 }
-    ensures { result ≡ nat_eq (bit_at (slice_index row.now.words.items at) bit) 1 }
-{
-    (row.words[at] >> bit) & 1 == 1
-}
+use side_meta::test_bit;
 
 /// Whether an object begins at the offset of the block.
 fn is_taken(row: &Row, block: u32, offset: u32) -> bool
@@ -30,7 +26,7 @@ fn is_taken(row: &Row, block: u32, offset: u32) -> bool
         (block_start row.now.layout.blocks block + offset) }
 {
     let word = row.layout.start_base() + 64 * block + offset / 64;
-    test_bit(row, word as usize, offset % 64)
+    test_bit(&row.words, word, offset % 64)
 }
 
 /// The first free cell of the block that begins at or after the offset `from`, where a cell
@@ -61,4 +57,16 @@ pub fn free_cell(row: &Row, block: u32, class: u32, from: u32) -> Region
             end: BLOCK_WORDS,
         },
     }
+}
+
+/// Whether the block has cells for objects of other sizes.
+pub fn has_other_class(row: &Row, fill: Kind, block: u32, size: u32) -> bool
+    requires { IsReadableBlock (state_of row.now) block }
+    ensures other { result ≡ true
+        → class_at (state_of row.now) block ≢ class_for_size fill size }
+    ensures suits { result ≡ false → HasKind (state_of row.now) block fill
+        → class_at (state_of row.now) block ≡ class_for_size fill size }
+{
+    let word = row.block(block);
+    word.kind == fill && word.class != class_of(fill, size)
 }

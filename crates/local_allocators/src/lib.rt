@@ -3,9 +3,16 @@
 #![tactic(auto)]
 
 mod cells;
+mod lines;
 mod local_seat;
+mod own_block;
 mod regions;
+mod tails;
 
-pub use cells::free_cell;
+pub use cells::{free_cell, has_other_class};
 pub use local_seat::{CLASSES, LocalSeat};
-pub use regions::{class_of, first_hole, first_region, has_other_class, is_free, rest_after};
+pub use own_block::OwnRoom;
+pub use regions::{
+    block_for, class_of, first_hole, first_region, hole_block, is_free, overflows, own_room,
+    rest_after,
+};

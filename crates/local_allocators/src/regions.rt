@@ -1,17 +1,31 @@
-//! Regions of each allocator: where one begins, and what an object leaves of it.
+//! Regions, by the kind of the blocks that a mutator fills: where one begins, which one takes an
+//! object, and what the object leaves of it.
+//!
+//! Called by the search of a world. Asks for the kind, and leaves the rest to `tails`, `cells` and
+//! `lines`. Writes nothing.
 
-ghost use Rattle.std.specs.Prelude.{◌≡◌, ◌≢◌, ◌↔◌, ◌+◌, ◌<◌, ◌≤◌, true, false, IsTrue, length};
+ghost use Rattle.std.specs.Prelude.{◌≡◌, ◌↔◌, ◌+◌, ◌<◌, ◌≤◌, ℕ, Some, None, IfSome, IfNone, true, false, IsTrue, length};
 ghost use Rattle.heap_layout.specs.Zones.{row_words};
 ghost use Rattle.heap_layout.specs.declared.block.Kind.TheVariants as kinds;
 ghost use Rattle.object_model.specs.Objects.{state_of, class_at, HasKind};
 ghost use Rattle.object_model.specs.Lawful.{IsWellFormed, IsReadableBlock};
 ghost use Rattle.sessions.specs.Fitting.{class_for as class_for_size};
 ghost use Rattle.plan_api.specs.Holes.{IsFirstHole};
+ghost use Rattle.plan_api.specs.Cursors.{RegionHasRoom, LacksRoom};
 ghost use Rattle.block_regions.specs.Notes.{FillsHoles};
 ghost use Rattle.block_regions.specs.Regions.{IsRegionIn, IsRestAfter, first_region as first_region_of};
+ghost use Rattle.local_allocators.specs.MutatorRegions.{FillsLines, cursors_of, IsBlockFor, Overflows};
+ghost use Rattle.local_allocators.specs.OwnRooms.{IsOwnRoom};
+ghost use Rattle.local_allocators.specs.Seats.{block_of};
+ghost use Rattle.local_allocators.specs.NotedRegions.{region_of};
+ghost use Rattle.local_allocators.specs.NotedSeats.{HasNotedBlocks, regions_in};
 
-use crate::cells::free_cell;
-use crate::local_seat::CLASSES;
+use crate::cells::{free_cell, has_other_class};
+use crate::lines::{block_of_lines, overflows_hole, room_in_lines};
+use crate::local_seat::{CLASSES, LocalSeat};
+use crate::own_block::OwnRoom;
+use crate::tails::rest_of;
+use block_regions::BlockNote;
 use cell_space::cell_size;
 use heap_layout::{BLOCK_WORDS, CLASS_UNIT, Kind, Region};
 use object_model::{MAX_MEDIUM_WORDS, Row};
@@ -48,18 +62,6 @@ pub fn is_free(row: &Row, block: u32) -> bool
     row.words[row.layout.block_at(block) as usize] % CLASS_UNIT == Kind::Free as u64
 }
 
-/// Whether the block has cells for objects of other sizes.
-pub fn has_other_class(row: &Row, fill: Kind, block: u32, size: u32) -> bool
-    requires { IsReadableBlock (state_of row.now) block }
-    ensures other { result ≡ true
-        → class_at (state_of row.now) block ≢ class_for_size fill size }
-    ensures suits { result ≡ false → HasKind (state_of row.now) block fill
-        → class_at (state_of row.now) block ≡ class_for_size fill size }
-{
-    let word = row.block(block);
-    word.kind == fill && word.class != class_of(fill, size)
-}
-
 /// The first part of a hole of a block that has room for `size` words and begins at or after
 /// the offset `from`, if mutators fill blocks of its kind.
 pub fn first_hole(row: &Row, fill: Kind, block: u32, from: u32, size: u32) -> Option<Region>
@@ -87,10 +89,90 @@ pub fn rest_after(row: &Row, fill: Kind, block: u32, region: &Region, size: u32)
     ensures { IsRestAfter fill (state_of row.now) block size region.now result }
 {
     if fill != Kind::Cells {
-        return Region {
-            next: region.next + size,
-            end: region.end,
-        };
+        return rest_of(region, size);
     }
     free_cell(row, block, class_of(fill, size), region.end)
+}
+
+/// The block of the region that takes an object of `size` words. Under a plan with lines there is
+/// none if no region has room.
+#[inline(always)]
+pub fn block_for(notes: &[BlockNote], seat: &LocalSeat, fill: Kind, size: u32) -> Option<u32>
+    requires seat { HasNotedBlocks fill notes.now seat.now }
+    requires least { 3 ≤ size }
+    requires hole { FillsLines fill → (cursors_of (regions_in notes.now seat.now)).hole.next
+        ≤ (cursors_of (regions_in notes.now seat.now)).hole.end }
+    requires over { FillsLines fill → (cursors_of (regions_in notes.now seat.now)).over.next
+        ≤ (cursors_of (regions_in notes.now seat.now)).over.end }
+    ensures some { IfSome result (λ k.
+        IsBlockFor fill (regions_in notes.now seat.now) size k) }
+    ensures room { FillsLines fill → IfSome result (λ k.
+        RegionHasRoom (region_of notes.now (Some k)) size) }
+    ensures none { FillsLines fill → IfNone result (LacksRoom
+        (cursors_of (regions_in notes.now seat.now)) size) }
+    ensures class { (FillsLines fill → ⊥)
+        → result ≡ (regions_in notes.now seat.now).blocks (class_for_size fill size) }
+{
+    if fill == Kind::Immix {
+        return block_of_lines(notes, seat, size);
+    }
+    seat.blocks[class_of(fill, size) as usize]
+}
+
+/// Whether an object of `size` words overflows the hole region, under a plan with lines: it takes
+/// more than a line, and the region has some words left, but too few.
+pub fn overflows(notes: &[BlockNote], seat: &LocalSeat, fill: Kind, size: u32) -> bool
+    requires seat { HasNotedBlocks fill notes.now seat.now }
+    requires hole { FillsLines fill → (cursors_of (regions_in notes.now seat.now)).hole.next
+        ≤ (cursors_of (regions_in notes.now seat.now)).hole.end }
+    ensures yes { result ≡ true → Overflows fill (regions_in notes.now seat.now) size }
+    ensures no { result ≡ false → Overflows fill (regions_in notes.now seat.now) size → ⊥ }
+{
+    if fill != Kind::Immix {
+        return false;
+    }
+    overflows_hole(notes, seat, size)
+}
+
+/// The block of the hole region, under a plan with lines.
+pub fn hole_block(seat: &LocalSeat, fill: Kind) -> Option<u32>
+    ensures some { IfSome result (λ k.
+        FillsLines fill × (block_of (Some seat.now) 0 ≡ Some k)) }
+    ensures none { IfNone result (FillsLines fill → block_of (Some seat.now) 0 ≡ None) }
+{
+    if fill != Kind::Immix {
+        return None;
+    }
+    seat.blocks[0]
+}
+
+/// The room for `size` words in an own block of the mutator: what is left of it, or under a plan
+/// with lines, where what is left has too few words, the next hole.
+pub fn own_room(
+    row: &Row,
+    seat: &LocalSeat,
+    fill: Kind,
+    block: u32,
+    region: &Region,
+    size: u32,
+) -> OwnRoom
+    requires order { IsWellFormed (state_of row.now) }
+    requires block { IsReadableBlock (state_of row.now) block }
+    requires kind { HasKind (state_of row.now) block fill }
+    requires left { region.now.next ≤ region.now.end }
+    requires least { 3 ≤ size }
+    requires most { size ≤ MAX_MEDIUM_WORDS }
+    ensures { IsOwnRoom fill (state_of row.now) (block_of (Some seat.now) 0) block
+        region.now size result }
+{
+    if fill == Kind::Immix {
+        return room_in_lines(row, seat, block, region, size);
+    }
+    if region.end - region.next < size {
+        return OwnRoom::Nothing;
+    }
+    if has_other_class(row, fill, block, size) {
+        return OwnRoom::Nothing;
+    }
+    OwnRoom::Rest
 }

@@ -12,9 +12,9 @@ use Rattle.mutator_calls.specs.declared.need.Mutator.{Mutator}
 use Rattle.plain_row.specs.declared.plain_row.PlainRow.{PlainRow}
 use Rattle.block_regions.specs.declared.block_notes.BlockNote.{BlockNote}
 use Rattle.block_regions.specs.declared.block_notes.BlockNote.TheVariants.{Owned}
-use Rattle.plain_row.specs.Rows.{mutator_at_turn, seat_at_turn, number_at_turn}
+use Rattle.plain_row.specs.Rows.{mutator_at_turn, number_at_turn, regions_at_turn}
 use Rattle.block_regions.specs.Elements.{ChangesAt}
-use Rattle.local_allocators.specs.TwoRegions.{IsBlockFor}
+use Rattle.local_allocators.specs.MutatorRegions.{IsBlockFor}
 use Rattle.block_regions.specs.Regions.{IsRestAfter}
 use Rattle.plain_row.specs.Changes.{Allocates}
 
@@ -30,7 +30,7 @@ pub record IsBorn (a b : PlainRow) (d : ℕ) (n : Name) (refs nums : ℕ) : Type
   pub counts : b.counts ≡ a.counts
   pub owned : b.owned ≡ a.owned
   pub seats : b.seats ≡ a.seats
-  pub current : IsBlockFor a.fill a.notes.items (seat_at_turn a) (size_of refs nums) block
+  pub current : IsBlockFor a.fill (regions_at_turn a) (size_of refs nums) block
   pub was : slice_get a.notes.items block ≡ Some (Owned (number_at_turn a) region)
   pub room : region.next + size_of refs nums ≤ region.end
   pub rest : IsRestAfter a.fill (state_of a.row) block (size_of refs nums) region left

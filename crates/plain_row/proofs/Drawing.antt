@@ -19,20 +19,21 @@ use Rattle.mutator_core.proofs.Sums.{sum-more, free-most}
 use Rattle.mutator_core.proofs.Ending.{log-counted}
 use Rattle.mutator_calls.specs.Effects.{draws as draw_effect}
 use Rattle.plain_row.specs.declared.plain_row.PlainRow.{PlainRow}
-use Rattle.plain_row.specs.Rows.{number_at_turn, seat_at_turn, mutator_at_turn, births_of}
+use Rattle.plain_row.specs.Rows.{number_at_turn, seat_at_turn, mutator_at_turn, births_of, regions_at_turn}
 use Rattle.local_allocators.specs.Seats.{blocks_of, block_of, over_of, ticket_of}
 use Rattle.block_regions.specs.Elements.{ChangesAt}
 use Rattle.local_allocators.specs.declared.local_seat.LocalSeat.{LocalSeat}
 use Rattle.block_regions.specs.declared.block_notes.BlockNote.TheVariants.{Owned}
 use Rattle.block_regions.specs.Notes.{IsRegionOf}
-use Rattle.local_allocators.specs.TwoRegions.{FillsLines, GoesOver, region_of, LacksLines, OffersLines, KeepsRegions}
+use Rattle.local_allocators.specs.MutatorRegions.{FillsLines, GoesOver, LacksLines, OffersLines, KeepsRegions}
+use Rattle.local_allocators.specs.NotedRegions.{region_of}
 use Rattle.block_regions.proofs.BlockFrames.{SameLines}
 use Rattle.local_allocators.proofs.LineLacks.{lines-lack-still, same-shrinks}
-use Rattle.plain_row.proofs.Offering.{KeepsSeat, still-lacks, offered-lines}
+use Rattle.plain_row.proofs.Offering.{KeepsSeat, still-lacks, offered-lines, overflowed}
 use Rattle.plain_row.specs.Worlds.{IsAt, IsInEpoch, IsReady, Goes}
-use Rattle.plain_row.specs.Steps.{Lacks, IsFull, Offers, IsOffer, books_of}
+use Rattle.plain_row.specs.Steps.{Lacks, IsFull, Offers, LeavesClass, IsOffer, books_of}
 use Rattle.local_allocators.proofs.SeatRegions.{same-keeps}
-use Rattle.local_allocators.proofs.SeatRegions.{others-after, cursors-same}
+use Rattle.local_allocators.proofs.KeptRegions.{others-after, cursors-same}
 use Rattle.plan_api.specs.Cursors.{LacksRoom}
 use Rattle.mutator_calls.specs.Allocating.{Books}
 use Rattle.block_regions.proofs.Regions.{hole-kind}
@@ -72,7 +73,7 @@ tickets-few w now =
 pub lacks-after : (a b : PlainRow) (n k : ℕ) → b.fill ≡ a.fill → number_at_turn b ≡ number_at_turn a
     → (k < b.row.layout.blocks → owner_at (state_of b.row) k ≡ owner_at (state_of a.row) k)
     → ((at size : ℕ) → HasHole a.fill (state_of b.row) k at size → HasHole a.fill (state_of a.row) k at size)
-    → (FillsLines a.fill → LacksLines a.notes.items (seat_at_turn a) (state_of a.row) n k → LacksLines b.notes.items (seat_at_turn b) (state_of b.row) n k)
+    → (FillsLines a.fill → LacksLines (regions_at_turn a) (state_of a.row) n k → LacksLines (regions_at_turn b) (state_of b.row) n k)
     → Lacks a n k → Lacks b n k
 lacks-after a b n k fill number owner hole lines lacks = record {
   unowned = λ nobody at there. lacks.unowned (sym (same at there) ∙ nobody) at (hole at n (then at there));
@@ -92,8 +93,8 @@ offer-before : (a b : PlainRow) (k offset n : ℕ) → b.fill ≡ a.fill → num
     → ((at size : ℕ) → HasHole a.fill (state_of b.row) k at size → HasHole a.fill (state_of a.row) k at size)
     → ((at size : ℕ) → HasHole a.fill (state_of a.row) k at size → HasHole a.fill (state_of b.row) k at size)
     → has_kind (state_of b.row) k kinds.Free ≡ has_kind (state_of a.row) k kinds.Free
-    → (OffersLines b.fill b.notes.items (seat_at_turn b) (state_of b.row) (number_at_turn b) k offset n
-    → OffersLines a.fill a.notes.items (seat_at_turn a) (state_of a.row) (number_at_turn a) k offset n)
+    → (OffersLines b.fill (regions_at_turn b) (state_of b.row) (number_at_turn b) k offset n
+    → OffersLines a.fill (regions_at_turn a) (state_of a.row) (number_at_turn a) k offset n)
     → IsOffer b k offset n → IsOffer a k offset n
 offer-before a b k offset n fill number word hole back kind lines offer = elim offer as (λ _. IsOffer a k offset n) [
   | inl there ↦ (
@@ -223,7 +224,7 @@ module _ (a b : PlainRow) (draws : DrawsTicket a b) (ready : IsReady a) (none : 
     lines = lines-same;
   }
 
-  regions-same : KeepsRegions a.notes.items (seat_at_turn a) b.notes.items (seat_at_turn b)
+  regions-same : KeepsRegions (regions_at_turn a) (regions_at_turn b)
   regions-same = same-keeps a.notes.items b.notes.items (seat_at_turn a) (seat_at_turn b) notes-same block-same over-same
 
   pub drawn-goes : Goes a (draw_effect 1) b
@@ -260,7 +261,7 @@ module _ (a b : PlainRow) (draws : DrawsTicket a b) (ready : IsReady a) (none : 
       (subst (λ (f : Kind). HasHole f (with_words (heap_after p now.log) ws) k at size) (sym (ap (λ w. w.fill) draws.rest))
       (notes.hole-after (heap_after p now.log) ws keeps a.fill now.at.fills k at size (subst (λ (t : HeapState). HasHole a.fill t k at size) now.at.heap
       (subst (λ (f : Kind). HasHole f (state_of a.row) k at size) (ap (λ w. w.fill) draws.rest) hole)))))
-      (λ lines. lines-lack-still b.notes.items a.notes.items (seat_at_turn b) (seat_at_turn a) (state_of b.row) (state_of a.row) n k
+      (λ lines. lines-lack-still (regions_at_turn b) (regions_at_turn a) (state_of b.row) (state_of a.row) n k
       (λ here. block-same 0 ∙ here) (λ over. over-same ∙ over)
       (same-shrinks (region_of b.notes.items (Some k)) (region_of a.notes.items (Some k)) (sym (region-same k)))
       (λ kind. kind-same k ∙ kind)
@@ -271,9 +272,23 @@ module _ (a b : PlainRow) (draws : DrawsTicket a b) (ready : IsReady a) (none : 
   drawn-full n full = record {
     own = λ not k is. drawn-lacks n k (full.own (λ lines. not (ap (λ w. w.fill) draws.rest ∙ lines)) k
         (sym (block-same (class_for a.fill n)) ∙ ap (λ (f : Kind). block_of (seat_at_turn b) (class_for f n)) (sym (ap (λ w. w.fill) draws.rest)) ∙ is));
-    lines = λ is. subst (λ c. LacksRoom c n) (sym (cursors-same a.notes.items b.notes.items (seat_at_turn a) (seat_at_turn b) regions-same))
+    lines = λ is. subst (λ c. LacksRoom c n) (sym (cursors-same (regions_at_turn a) (regions_at_turn b) regions-same))
         (full.lines (sym (ap (λ w. w.fill) draws.rest) ∙ is));
   }
+
+  -- what may leave the class might before
+  drawn-leaves : (n k : ℕ) → LeavesClass b n k → LeavesClass a n k
+  drawn-leaves n k (inl own) =
+      let now = ready.idle.some in
+      let keeps = draws-keeps now.epoch now.ideal now.log now.at in
+      let is = words now.epoch now.ideal now.log now.at in
+      let there : k < (heap_after now.epoch now.log).blocks = subst (λ (t : HeapState). k < t.blocks) is own.0 in
+      let same : owner_at (state_of b.row) k ≡ owner_at (state_of a.row) k
+      = ap (λ t. owner_at t k) is ∙ ap (λ v. v / 65536) (keeps.words k there) ∙ ap (λ t. owner_at t k) (sym now.at.heap) in
+      inl (subst (λ (t : HeapState). k < t.blocks) (sym now.at.heap) there, sym same ∙ own.1 ∙ ap number_at_turn draws.rest)
+  drawn-leaves n k (inr free) =
+      let now = ready.idle.some in
+      inr (sym ((reach now.epoch now.ideal now.log now.at).kinds k) ∙ free.0, overflowed a b (ap (λ w. w.fill) draws.rest) (regions-same.classes 0) n free.1)
 
   pub drawn-offers : (c : PlainRow) (n : ℕ) → Offers b c n → Offers a c n
   drawn-offers c n offers =
@@ -295,8 +310,12 @@ module _ (a b : PlainRow) (draws : DrawsTicket a b) (ready : IsReady a) (none : 
             ((reach p now.ideal now.log now.at).kinds offers.block)
             (offered-lines a b keeps-seat ready region-same offers.block offers.region.next n)
             offers.offer;
-        others = others-after c.fill n (GoesOver c.fill c.notes.items (seat_at_turn c) n) a.notes.items b.notes.items c.notes.items
-            (seat_at_turn a) (seat_at_turn b) (seat_at_turn c) regions-same offers.others;
+        class = elim offers.class as (λ _. LeavesClass a n offers.block ⊎ (block_of (seat_at_turn c) (class_for c.fill n) ≡ Some offers.block)) [
+          | inl leaves ↦ inl (drawn-leaves n offers.block leaves)
+          | inr is ↦ inr is
+        ];
+        others = others-after c.fill n (GoesOver c.fill (regions_at_turn c) n) (regions_at_turn a) (regions_at_turn b)
+            (regions_at_turn c) regions-same offers.others;
       }
 
   pub drawn-books : books_of b ≡ record (books_of a) { ticket = Some (word_at (state_of a.row) 1) }

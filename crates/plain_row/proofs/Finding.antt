@@ -22,10 +22,11 @@ use Rattle.plain_row.specs.declared.plain_row.PlainRow.{PlainRow}
 use Rattle.local_allocators.specs.declared.local_seat.LocalSeat.{LocalSeat}
 use Rattle.block_regions.specs.declared.block_notes.BlockNote.{BlockNote}
 use Rattle.block_regions.specs.declared.block_notes.BlockNote.TheVariants.{Unowned, Owned}
-use Rattle.plain_row.specs.Rows.{number_of, number_at_turn, seat_at_turn}
+use Rattle.plain_row.specs.Rows.{number_of, number_at_turn, seat_at_turn, regions_at_turn}
 use Rattle.local_allocators.specs.Seats.{ticket_of, blocks_of, block_of, over_of}
 use Rattle.block_regions.specs.Notes.{FillsTailsOrCells, FillsHoles, IsNote, IsUnownedNote, IsOwnedNote, HasNotes, IsRegionOf}
-use Rattle.local_allocators.specs.TwoRegions.{FillsLines, region_of, region_noted, cursors_of, GoesOver, KeepsRegions, LacksLines}
+use Rattle.local_allocators.specs.MutatorRegions.{FillsLines, cursors_of, GoesOver, KeepsRegions, LacksLines}
+use Rattle.local_allocators.specs.NotedRegions.{region_of, region_noted}
 use Rattle.plan_api.specs.declared.cursors.Cursors.{Cursors}
 use Rattle.plan_api.specs.Cursors.{RegionHasRoom, LacksRoom}
 use Rattle.plain_row.specs.Changes.{ReturnsTo, NotesBlock, KeepsPlan, FindsHole, LacksHole}
@@ -34,10 +35,9 @@ use Rattle.plain_row.specs.Changes.LacksHole.{known, seen, unsuited, foreign, la
 use Rattle.plain_row.specs.Worlds.{IsAt, IsReady, HasRoom, HasState, HasCursors, Goes, has}
 use Rattle.plain_row.specs.Steps.{AllocatesIn, Lacks, IsFull, IsRegion, KeepsRest, Offers, books_of}
 use Rattle.plain_row.specs.SeatLaws.{goes-nothing}
-use Rattle.local_allocators.proofs.SeatRegions.{cursors-same}
+use Rattle.local_allocators.proofs.SeatRegions.{lines-for, class-else, over-else}
 use Rattle.plain_row.proofs.ForeignBlocks.{foreign-same, foreign-but}
 use Rattle.block_regions.proofs.Elements.{set-changes, set-other, changes-cases}
-use Rattle.local_allocators.proofs.SeatRegions.{lines-for, class-else, over-else}
 use Rattle.block_regions.proofs.NoteLemmas.{no-hole}
 use Rattle.block_regions.proofs.Lists.{one-element}
 use Rattle.plain_row.proofs.Lacking.{no-block, unowned-lacks, unsuited-lacks, foreign-lacks, own-lines-lack, over-lacks}
@@ -48,7 +48,8 @@ use Rattle.block_regions.proofs.FilledKinds as filled_kinds
 use Rattle.plain_row.proofs.Turns as turns
 use Rattle.plain_row.proofs.Drawing.{lacks-after}
 use Rattle.plain_row.proofs.Offering.{own-offer, offers-back, KeepsSeat, still-lacks, seat-regions, offered-lines}
-use Rattle.plain_row.proofs.Gaining.{number-kept, turn-kept, still-goes, seat-has, books-kept, taken-goes, taken-region, taken-rest, taken-room, taken-others}
+use Rattle.plain_row.proofs.Gaining.{number-kept, turn-kept, still-goes, seat-has, books-kept, taken-goes, taken-region, taken-class, taken-rest, taken-room, taken-others}
+use Rattle.local_allocators.proofs.KeptRegions.{cursors-same}
 
 -- the world after a mutator returned to a block of its own
 module _ (a b : PlainRow) (block size : ℕ) (region : Region) (note : slice_get a.notes.items block ≡ Some (Owned (number_at_turn a) region))
@@ -209,7 +210,7 @@ unowned-regions a b block least size note marks k = elim (cases_eq k block) as (
 
 -- the mutator's regions stay then
 noted-regions : (a b : PlainRow) (block least size : ℕ) → slice_get a.notes.items block ≡ Some (Unowned least) → NotesBlock a b block (Unowned size) → IsReady a
-    → KeepsRegions a.notes.items (seat_at_turn a) b.notes.items (seat_at_turn b)
+    → KeepsRegions (regions_at_turn a) (regions_at_turn b)
 noted-regions a b block least size note marks ready =
     seat-regions a b (noted-seat a b block (Unowned size) marks) ready (unowned-regions a b block least size note marks)
 
@@ -292,7 +293,7 @@ module _ (a b : PlainRow) (block least size : ℕ) (note : slice_get a.notes.ite
 
 -- a block is as it was, where the row is
 lacks-kept : (a b : PlainRow) → IsReady a → b.row ≡ a.row → b.fill ≡ a.fill → number_at_turn b ≡ number_at_turn a → (n k : ℕ)
-    → (FillsLines a.fill → LacksLines a.notes.items (seat_at_turn a) (state_of a.row) n k → LacksLines b.notes.items (seat_at_turn b) (state_of b.row) n k)
+    → (FillsLines a.fill → LacksLines (regions_at_turn a) (state_of a.row) n k → LacksLines (regions_at_turn b) (state_of b.row) n k)
     → Lacks a n k → Lacks b n k
 lacks-kept a b ready row fill number n k lines = lacks-after a b n k fill number (λ there. ap (λ r. owner_at (state_of r) k) row)
     (λ at size. subst (λ r. HasHole a.fill (state_of r) k at size → HasHole a.fill (state_of a.row) k at size) (sym row) (λ hole. hole)) lines
@@ -373,10 +374,10 @@ module _ (a b : PlainRow) (block size : ℕ) (region hole : Region) (note : slic
   block-again : block_of (seat_at_turn b) 0 ≡ Some block
   block-again = ap (λ o. block_of o 0) same-seat ∙ current
 
-  hole-now : (cursors_of b.notes.items (seat_at_turn b)).hole ≡ hole
+  hole-now : (cursors_of (regions_at_turn b)).hole ≡ hole
   hole-now = ap (region_of b.notes.items) block-again ∙ ap region_noted marks.notes.here
 
-  not-over : GoesOver b.fill b.notes.items (seat_at_turn b) size → ⊥
+  not-over : GoesOver b.fill (regions_at_turn b) size → ⊥
   not-over over = over.tried.full (subst (λ (r : Region). RegionHasRoom r size) (sym hole-now) next.hole.room)
 
   -- the overflow region stays, and what regions there are for other classes
@@ -433,6 +434,10 @@ module _ (a b : PlainRow) (block size : ℕ) (region hole : Region) (note : slic
         ),
       );
     }));
+    class = inl (inl (
+      turns.note-block now.epoch now.ideal now.log a now.at block (Owned (number_at_turn a) region) note,
+      (turns.owned-note now.epoch now.ideal now.log a now.at block (number_at_turn a) region note).owner,
+    ));
     others = moved-rest;
   }
 
@@ -469,6 +474,7 @@ enters-offers a b block size some small ready none (taken least region note hole
         },
         inl (turns.unowned-note now.epoch now.ideal now.log a now.at block least note).owner,
       );
+      class = inr (taken-class a b ready block least size region note hole takes);
       others = taken-rest a b ready block least size region note hole takes;
     }
 
@@ -562,7 +568,7 @@ noted-full a b block least size note marks ready n full = record {
       (full.own (λ lines. not (marks.plan.fill ∙ lines)) k (ap (λ (f : Kind). block_of (seat_at_turn a) (class_for f n)) (sym marks.plan.fill)
       ∙ sym (ap (λ o. block_of o (class_for b.fill n)) (seat-kept a b marks.plan marks.seats)) ∙ here));
   lines = λ lines. subst (λ (c : Cursors). LacksRoom c n)
-      (sym (cursors-same a.notes.items b.notes.items (seat_at_turn a) (seat_at_turn b) (noted-regions a b block least size note marks ready)))
+      (sym (cursors-same (regions_at_turn a) (regions_at_turn b) (noted-regions a b block least size note marks ready)))
       (full.lines (sym marks.plan.fill ∙ lines));
 }
 

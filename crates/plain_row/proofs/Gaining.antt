@@ -35,14 +35,15 @@ use Rattle.mutator_calls.specs.Allocating.{Books}
 use Rattle.plain_row.specs.declared.plain_row.PlainRow.{PlainRow}
 use Rattle.local_allocators.specs.declared.local_seat.LocalSeat.{LocalSeat}
 use Rattle.block_regions.specs.declared.block_notes.BlockNote.TheVariants.{Unowned, Owned}
-use Rattle.plain_row.specs.Rows.{IsTurn, number_of, births_of, number_at_turn, mutator_at_turn, seat_at_turn}
+use Rattle.plain_row.specs.Rows.{IsTurn, number_of, births_of, number_at_turn, mutator_at_turn, seat_at_turn, regions_at_turn}
 use Rattle.local_allocators.specs.Seats.{ticket_of, blocks_of, block_of, over_of}
 use Rattle.block_regions.specs.Notes.{FillsHoles, IsRegionOf}
-use Rattle.local_allocators.specs.TwoRegions.{FillsLines, region_of, region_noted, cursors_of, GoesOver, IsBlockFor, KeepsClass, KeepsRegions}
+use Rattle.local_allocators.specs.MutatorRegions.{FillsLines, cursors_of, GoesOver, IsBlockFor, KeepsClass, KeepsRegions}
+use Rattle.local_allocators.specs.NotedRegions.{region_of, region_noted, regions_of}
 use Rattle.plan_api.specs.Cursors.{RegionHasRoom}
 use Rattle.plain_row.specs.Changes.{TakesBlock, KeepsPlan, seat_with}
 use Rattle.plain_row.specs.Worlds.{IsAt, IsInEpoch, IsReady, HasRoom, Goes, has, births_in}
-use Rattle.plain_row.specs.Steps.{AllocatesIn, Lacks, IsUsed, IsOverflow, KeepsRegion, KeepsRest, IsRegion, Offers, books_of}
+use Rattle.plain_row.specs.Steps.{AllocatesIn, Lacks, IsUsed, IsOverflow, KeepsRegion, KeepsRest, IsRegion, Offers, LeavesClass, books_of}
 use Rattle.std.proofs.lemmas.List.{append-nil}
 use Rattle.plain_row.proofs.ForeignBlocks.{KeepsForeign, foreign-but}
 use Rattle.block_regions.proofs.Elements.{set-here, set-other, changes-cases}
@@ -92,7 +93,7 @@ turn-kept a b turn plan same seats = record {
 pub still-goes : (a b : PlainRow) → KeepsPlan a b → b.mutators ≡ a.mutators → b.row ≡ a.row → ticket_of (seat_at_turn b) ≡ ticket_of (seat_at_turn a)
     → ((k : ℕ) → k ≢ a.turn → slice_get b.seats.items k ≡ slice_get a.seats.items k)
     → ((p : Epoch) (i : IdealHeap) (log : List LogEntry) → IsAt p i log a → IsAt p i log b) → (moved : Bool)
-    → (moved ≡ false → KeepsRegions a.notes.items (seat_at_turn a) b.notes.items (seat_at_turn b)) → KeepsForeign a b → Goes a (record nothing { moved = moved }) b
+    → (moved ≡ false → KeepsRegions (regions_at_turn a) (regions_at_turn b)) → KeepsForeign a b → Goes a (record nothing { moved = moved }) b
 still-goes a b plan mutators row ticket seats reach moved regions foreign = record {
   turn = plan.turn;
   number = number-kept a b plan mutators;
@@ -191,17 +192,20 @@ module _ (a b : PlainRow) (ready : IsReady a) (block size : ℕ) (region : Regio
       ap (λ o. block_of o class) seat-now ∙ ap (λ o. block_of (Some (seat_with o old class block left)) class) is
       ∙ seat-has (blocks_of old) class block (filled_kinds.class-few a.fill size) (turns.own-classes now.epoch now.ideal now.log a now.at ready.turn)
 
-  not-over : gains.over ≡ false → region.next + size ≤ region.end → GoesOver b.fill b.notes.items (seat_at_turn b) size → ⊥
+  class-now : gains.over ≡ false → block_of (seat_at_turn b) (class_for b.fill size) ≡ Some block
+  class-now is = ap (λ (f : Kind). block_of (seat_at_turn b) (class_for f size)) gains.takes.plan.fill ∙ here-now is
+
+  not-over : gains.over ≡ false → region.next + size ≤ region.end → GoesOver b.fill (regions_at_turn b) size → ⊥
   not-over is fits over =
       let first : class ≡ 0 = ap (λ (f : Kind). class_for f size) (sym gains.takes.plan.fill ∙ over.lines) in
-      let hole : (cursors_of b.notes.items (seat_at_turn b)).hole ≡ region
+      let hole : (cursors_of (regions_at_turn b)).hole ≡ region
       = ap (region_of b.notes.items) (ap (block_of (seat_at_turn b)) (sym first) ∙ here-now is) ∙ region-here in
       over.tried.full (subst (λ (r : Region). RegionHasRoom r size) (sym hole) fits)
 
   -- the region that takes the size is in the block, which has room
   block-now : (over : Bool) → gains.over ≡ over → (IsTrue over → IsOverflow a size) → region.next + size ≤ region.end
-      → IsBlockFor b.fill b.notes.items (seat_at_turn b) size block
-  block-now false is overflow fits = inl (not-over is fits, ap (λ (f : Kind). block_of (seat_at_turn b) (class_for f size)) gains.takes.plan.fill ∙ here-now is)
+      → IsBlockFor b.fill (regions_at_turn b) size block
+  block-now false is overflow fits = inl (not-over is fits, class-now is)
   block-now true is overflow fits = inr (
     still-over a b gains.takes.plan.fill (hole-kept is) size (overflow refl).over,
     ap over_of seat-now ∙ ap (λ o. over_of (Some (seat_with o old class block left))) is,
@@ -237,7 +241,7 @@ module _ (a b : PlainRow) (ready : IsReady a) (block size : ℕ) (region : Regio
   own-over k is = let now = ready.idle.some in
       own-other k (turns.own-over now.epoch now.ideal now.log a now.at ready.turn k (turns.own-lined now.epoch now.ideal now.log a now.at ready.turn k is) is)
 
-  class-kept : (c : ℕ) → block_of (seat_at_turn b) c ≡ block_of old c → KeepsClass c a.notes.items old b.notes.items (seat_at_turn b)
+  class-kept : (c : ℕ) → block_of (seat_at_turn b) c ≡ block_of old c → KeepsClass c (regions_of a.notes.items old) (regions_at_turn b)
   class-kept c same = record { block = same; region = ap (region_of b.notes.items) same ∙ kept-region (block_of old c) (own-class c) }
 
   -- all regions but the one that takes the size stay
@@ -278,7 +282,7 @@ module _ (a b : PlainRow) (ready : IsReady a) (block size : ℕ) (region : Regio
   other-lacks n k other = lacks-after a b n k gains.takes.plan.fill number
       (λ there. ap (λ (t : HeapState). owner_at t k) gains.takes.words ∙ taking.owner-same s block v gains.there k other)
       (λ at n hole. taking.hole-before s block v gains.there k other a.fill ready.idle.some.at.fills at n (subst (λ (t : HeapState). HasHole a.fill t k at n) gains.takes.words hole))
-      (λ lines. lines-lack-still a.notes.items b.notes.items old (seat_at_turn b) s (state_of b.row) n k
+      (λ lines. lines-lack-still (regions_of a.notes.items old) (regions_at_turn b) s (state_of b.row) n k
       (hole-then k other gains.over refl) (over-then k other gains.over refl)
       (same-shrinks (region_of a.notes.items (Some k)) (region_of b.notes.items (Some k)) (region-other k other))
       (λ kind. sym (taking.kind-same s block v gains.there k other kinds.Immix) ∙ subst (λ (t : HeapState). HasKind t k kinds.Immix) gains.takes.words kind)
@@ -453,12 +457,18 @@ module _ (a b : PlainRow) (ready : IsReady a) (block size : ℕ) (there : block 
     pub free-room : size ≤ 2048 → HasRoom b size
     free-room small = room a b ready block size (first_region a.fill (class-in a size)) true gains overflow.0 (fits small)
 
+    -- in overflow allocation it is the block of the overflow region, else the one for the class
+    free-class : (o : Bool) → over ≡ o → LeavesClass a size block ⊎ (block_of (seat_at_turn b) (class_for b.fill size) ≡ Some block)
+    free-class true flows = inl (inr (is, overflow.0 flows))
+    free-class false none = inr (class-now a b ready block size (first_region a.fill (class-in a size)) true gains none)
+
     pub free-offers : size ≤ 2048 → Offers a b size
     free-offers small = record {
       block = block;
       region = first_region a.fill (class-in a size);
       now = free-region small;
       offer = inr (inl (is, refl));
+      class = free-class over refl;
       others = rest-kept a b ready block size (first_region a.fill (class-in a size)) true gains over refl overflow.0 (fits small);
     }
 
@@ -558,6 +568,9 @@ module _ (a b : PlainRow) (ready : IsReady a) (block least size : ℕ) (region :
 
     pub taken-region : IsRegion b size block region
     taken-region = region-now a b ready block size region false gained no-overflow hole.hole.room
+
+    pub taken-class : block_of (seat_at_turn b) (class_for b.fill size) ≡ Some block
+    taken-class = class-now a b ready block size region false gained refl
 
     pub taken-rest : KeepsRest b size a b
     taken-rest = rest-kept a b ready block size region false gained false refl no-overflow hole.hole.room

@@ -1,7 +1,7 @@
 -- What lacks room for a size, where no region that the mutator tries for it has room.
 use Rattle.std.proofs.Common.{◌≡◌, ◌≢◌, refl, sym, ◌∙◌, ap, subst, ℕ, ◌+◌, ◌<◌, ◌≤◌, ◌⊎◌, inl, inr, arith}
 use Rattle.std.specs.Prelude.{Option, Some, None, slice_get}
-use Rattle.std.proofs.lemmas.Bool.{cases_lt}
+use Rattle.std.proofs.lemmas.Bool.{cases_lt, cases_eq}
 use Rattle.heap_layout.specs.declared.block.Kind.{Kind}
 use Rattle.heap_layout.specs.declared.block.Kind.TheVariants as kinds
 use Rattle.heap_layout.specs.declared.region.Region.{Region}
@@ -12,10 +12,11 @@ use Rattle.plan_api.specs.Holes.{HasRoomFrom, IsFirstHole}
 use Rattle.block_regions.proofs.Regions.{hole-kind, region-lacks, fills-cases}
 use Rattle.plain_row.specs.declared.plain_row.PlainRow.{PlainRow}
 use Rattle.block_regions.specs.declared.block_notes.BlockNote.TheVariants.{Unowned, Owned}
-use Rattle.plain_row.specs.Rows.{number_at_turn, seat_at_turn}
+use Rattle.plain_row.specs.Rows.{number_at_turn, seat_at_turn, regions_at_turn}
 use Rattle.local_allocators.specs.Seats.{block_of, over_of}
 use Rattle.block_regions.specs.Notes.{IsOwnedNote, IsRegionOf}
-use Rattle.local_allocators.specs.TwoRegions.{FillsLines, region_of, region_noted, cursors_of, IsBlockFor, LacksLines}
+use Rattle.local_allocators.specs.MutatorRegions.{FillsLines, cursors_of, IsBlockFor, LacksLines}
+use Rattle.local_allocators.specs.NotedRegions.{region_of, region_noted}
 use Rattle.plan_api.specs.Cursors.{RegionHasRoom, TriesOverflow, LacksRoom}
 use Rattle.plain_row.specs.Worlds.{IsReady, HasRoom}
 use Rattle.plain_row.specs.Steps.{Lacks, IsFull}
@@ -30,7 +31,7 @@ no-block a block least number note mine = let wrong : Unowned least ≡ Owned nu
     one-element (slice_get a.notes.items block) (Unowned least) (Owned number mine.region) note mine.note in cc
 
 unowned-lines-lack : (a : PlainRow) (block least size : ℕ) → IsReady a → slice_get a.notes.items block ≡ Some (Unowned least) → FillsLines a.fill
-    → LacksLines a.notes.items (seat_at_turn a) (state_of a.row) size block
+    → LacksLines (regions_at_turn a) (state_of a.row) size block
 unowned-lines-lack a block least size ready note lines =
     let now = ready.idle.some in
     let hole : block_of (seat_at_turn a) 0 ≡ Some block → ⊥ = λ is. no-block a block least (number_at_turn a) note
@@ -52,7 +53,7 @@ unowned-lacks a block least size ready note none = record {
 
 -- what it has under lines where no region that takes a size has room
 module _ (a : PlainRow) (size : ℕ) (some : 1 ≤ size) (ready : IsReady a) (lines : FillsLines a.fill) where
-  room-here : (block : ℕ) (region : Region) → IsBlockFor a.fill a.notes.items (seat_at_turn a) size block
+  room-here : (block : ℕ) (region : Region) → IsBlockFor a.fill (regions_at_turn a) size block
       → slice_get a.notes.items block ≡ Some (Owned (number_at_turn a) region) → RegionHasRoom region size → HasRoom a size
   room-here block region current note fits = record {
     turn = ready.turn;
@@ -75,7 +76,7 @@ module _ (a : PlainRow) (size : ℕ) (some : 1 ≤ size) (ready : IsReady a) (li
       )) mine.note (subst (λ (r : Region). RegionHasRoom r size) (ap region_noted mine.note) fits)
 
   -- the overflow region is tried and has room
-  in-over : (o : Option ℕ) → over_of (seat_at_turn a) ≡ o → TriesOverflow (cursors_of a.notes.items (seat_at_turn a)) size
+  in-over : (o : Option ℕ) → over_of (seat_at_turn a) ≡ o → TriesOverflow (cursors_of (regions_at_turn a)) size
       → RegionHasRoom (region_of a.notes.items o) size → HasRoom a size
   in-over None is tried fits = absurd (omega (arith, fits, some))
   in-over (Some k) is tried fits =
@@ -84,7 +85,7 @@ module _ (a : PlainRow) (size : ℕ) (some : 1 ≤ size) (ready : IsReady a) (li
       room-here k mine.region (inr (record { lines = lines; tried = tried }, is)) mine.note (subst (λ (r : Region). RegionHasRoom r size) (ap region_noted mine.note) fits)
 
   -- without room neither region has some
-  pub lacks-regions : (HasRoom a size → ⊥) → LacksRoom (cursors_of a.notes.items (seat_at_turn a)) size
+  pub lacks-regions : (HasRoom a size → ⊥) → LacksRoom (cursors_of (regions_at_turn a)) size
   lacks-regions none = record {
     hole = λ room. none (in-hole (block_of (seat_at_turn a) 0) refl room);
     over = λ tried room. none (in-over (over_of (seat_at_turn a)) refl tried room);
@@ -115,7 +116,7 @@ foreign-lacks a block size owner region ready note away = record {
     ]
     | inr (_, inr class) ↦ unsuited-none a block size ready class at hole
   ];
-  lines = λ lines. elim away as (λ _. LacksLines a.notes.items (seat_at_turn a) (state_of a.row) size block) [
+  lines = λ lines. elim away as (λ _. LacksLines (regions_at_turn a) (state_of a.row) size block) [
     | inl other ↦ record {
       region = λ is. absurd (other (own-of (hole is)));
       later = λ is. absurd (other (own-of (hole is)));
@@ -137,7 +138,7 @@ foreign-lacks a block size owner region ready note away = record {
 
 -- a block of the mutator under lines
 pub own-lines-lack : (a : PlainRow) (block size : ℕ) (region : Region) → IsReady a → slice_get a.notes.items block ≡ Some (Owned (number_at_turn a) region) → FillsLines a.fill
-    → LacksLines a.notes.items (seat_at_turn a) (state_of a.row) size block → Lacks a size block
+    → LacksLines (regions_at_turn a) (state_of a.row) size block → Lacks a size block
 own-lines-lack a block size region ready note lines lack = record {
   unowned = λ nobody at hole.
       let now = ready.idle.some in
@@ -149,7 +150,7 @@ own-lines-lack a block size region ready note lines lack = record {
 
 -- the block of the hole region, whose region is full and has no next hole
 pub lacks-next : (a : PlainRow) (block size : ℕ) (region : Region) → slice_get a.notes.items block ≡ Some (Owned (number_at_turn a) region) → FillsLines a.fill
-    → region.end < region.next + size → IsFirstHole a.fill (state_of a.row) block region.end size None → LacksLines a.notes.items (seat_at_turn a) (state_of a.row) size block
+    → region.end < region.next + size → IsFirstHole a.fill (state_of a.row) block region.end size None → LacksLines (regions_at_turn a) (state_of a.row) size block
 lacks-next a block size region note lines full none = record {
   region = λ is room. full-region room;
   later = λ is next end has. subst (λ (f : Kind). IsFirstHole f (state_of a.row) block region.end size None) lines none next end
@@ -163,7 +164,7 @@ lacks-next a block size region note lines full none = record {
 -- a block that is not the hole region's, and whose region takes no such object
 pub lacks-over : (a : PlainRow) (block size : ℕ) (region : Region) → slice_get a.notes.items block ≡ Some (Owned (number_at_turn a) region)
     → (block_of (seat_at_turn a) 0 ≡ Some block → ⊥) → (over_of (seat_at_turn a) ≡ Some block → 16 < size → RegionHasRoom region size → ⊥)
-    → LacksLines a.notes.items (seat_at_turn a) (state_of a.row) size block
+    → LacksLines (regions_at_turn a) (state_of a.row) size block
 lacks-over a block size region note other none = record {
   region = λ is. absurd (other is);
   later = λ is. absurd (other is);
@@ -184,6 +185,24 @@ pub over-full : (a : PlainRow) (block size : ℕ) (region : Region) → slice_ge
     → IsFull a size → over_of (seat_at_turn a) ≡ Some block → 16 < size → RegionHasRoom region size → ⊥
 over-full a block size region note lines full over above room = (full.lines lines).over (record { above = above; full = (full.lines lines).hole })
     (subst (λ (r : Region). RegionHasRoom r size) (sym (ap (region_of a.notes.items) over ∙ ap region_noted note)) room)
+
+-- whether an option has this number
+block-is : (o : Option ℕ) (k : ℕ) → (o ≡ Some k) ⊎ (o ≡ Some k → ⊥)
+block-is None k = inr (λ is. let wrong : None ≡ Some k = is in cc)
+block-is (Some j) k = elim (cases_eq j k) as (λ _. (Some j ≡ Some k) ⊎ (Some j ≡ Some k → ⊥)) [
+  | inl same ↦ inl (ap (λ (n : ℕ). Some n) same)
+  | inr other ↦ inr (λ is. other (one-element (Some j) j k refl is))
+]
+
+-- a block of the mutator where no region that is tried has room: it lacks room if, as the block of the hole region, it has
+-- no next hole
+pub own-lines : (a : PlainRow) (block size : ℕ) (region : Region) → slice_get a.notes.items block ≡ Some (Owned (number_at_turn a) region) → FillsLines a.fill
+    → IsFull a size → (block_of (seat_at_turn a) 0 ≡ Some block → IsFirstHole a.fill (state_of a.row) block region.end size None)
+    → LacksLines (regions_at_turn a) (state_of a.row) size block
+own-lines a block size region note lines full none = elim (block-is (block_of (seat_at_turn a) 0) block) as (λ _. LacksLines (regions_at_turn a) (state_of a.row) size block) [
+  | inl here ↦ lacks-next a block size region note lines (hole-full a block size region note lines here full) (none here)
+  | inr other ↦ lacks-over a block size region note other (over-full a block size region note lines full)
+]
 
 -- a block of the mutator that has no lines lacks room if the region for the size has none
 pub own-lacks : (a : PlainRow) (size k : ℕ) → IsReady a → (FillsLines a.fill → ⊥) → (HasRoom a size → ⊥) → block_of (seat_at_turn a) (class_for a.fill size) ≡ Some k → Lacks a size k

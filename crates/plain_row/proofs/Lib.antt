@@ -19,3 +19,4 @@ pub mod Finding
 pub mod Storing
 pub mod LoggedStores
 pub mod RoomRead
+pub mod SeatRead

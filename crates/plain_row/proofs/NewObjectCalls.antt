@@ -18,9 +18,10 @@ use Rattle.block_regions.specs.declared.block_notes.BlockNote.{BlockNote}
 use Rattle.local_allocators.specs.declared.local_seat.LocalSeat.{LocalSeat}
 use Rattle.block_regions.specs.declared.block_notes.BlockNote.TheVariants.{Owned}
 use Rattle.plan_api.specs.Cursors.{PlacesInRegion}
-use Rattle.plain_row.specs.Rows.{births_of, mutator_at_turn, seat_at_turn, number_at_turn}
+use Rattle.plain_row.specs.Rows.{births_of, mutator_at_turn, seat_at_turn, number_at_turn, regions_at_turn}
 use Rattle.local_allocators.specs.Seats.{ticket_of, block_of, over_of}
-use Rattle.local_allocators.specs.TwoRegions.{FillsLines, GoesOver, cursors_of, TriesBlock}
+use Rattle.local_allocators.specs.MutatorRegions.{FillsLines, GoesOver, cursors_of, TriesBlock}
+use Rattle.local_allocators.specs.NotedRegions.{regions_of}
 use Rattle.local_allocators.proofs.SeatRegions.{lines-for, class-else, over-else, places-hole, places-over}
 use Rattle.plain_row.proofs.Turns.{block-tries}
 use Rattle.block_regions.specs.Regions.{IsCellLeft, free, full, IsRegionIn, IsRestAfter, without_first}
@@ -72,11 +73,11 @@ module _ (a b : PlainRow) (d refs nums : ℕ) (n : Name) (born : IsBorn a b d n 
   same-seat = ap (λ (v : Vec LocalSeat Global). slice_get v.items b.turn) born.seats ∙ ap (λ t. slice_get a.seats.items t) born.turn
 
   pub region : (k : ℕ) → AllocatesIn a (size_of refs nums) k → AllocatesIn b (size_of refs nums) k
-  region k is = subst (λ (f : Kind). TriesBlock f (seat_at_turn b) (size_of refs nums) k) (sym born.fill)
-      (subst (λ (x : Option LocalSeat). TriesBlock a.fill x (size_of refs nums) k) (sym same-seat) is)
+  region k is = subst (λ (f : Kind). TriesBlock f (regions_at_turn b) (size_of refs nums) k) (sym born.fill)
+      (subst (λ (x : Option LocalSeat). TriesBlock a.fill (regions_of b.notes.items x) (size_of refs nums) k) (sym same-seat) is)
 
   -- the region for a class that does not take the object is in another block, and so is the overflow region
-  other-class : (class : ℕ) → (class ≡ class_for a.fill (size_of refs nums) → GoesOver a.fill a.notes.items (seat_at_turn a) (size_of refs nums))
+  other-class : (class : ℕ) → (class ≡ class_for a.fill (size_of refs nums) → GoesOver a.fill (regions_at_turn a) (size_of refs nums))
       → block_of (seat_at_turn a) class ≡ Some born.block → ⊥
   other-class class other here =
       let now = has.some in
@@ -89,7 +90,7 @@ module _ (a b : PlainRow) (d refs nums : ℕ) (n : Name) (born : IsBorn a b d n 
             (ap (block_of (seat_at_turn a)) (sym (alike ∙ lines-for a.fill (size_of refs nums) is.0.lines)) ∙ here)
       ]
 
-  other-over : (GoesOver a.fill a.notes.items (seat_at_turn a) (size_of refs nums) → ⊥) → over_of (seat_at_turn a) ≡ Some born.block → ⊥
+  other-over : (GoesOver a.fill (regions_at_turn a) (size_of refs nums) → ⊥) → over_of (seat_at_turn a) ≡ Some born.block → ⊥
   other-over other over =
       let now = has.some in
       let lines = turns.own-lined now.epoch now.ideal now.log a now.at has.turn born.block over in
@@ -137,14 +138,14 @@ module _ (a b : PlainRow) (d refs nums : ℕ) (n : Name) (born : IsBorn a b d n 
       }
 
   -- under lines it is in the one of two regions that takes it
-  after : FillsLines b.fill → PlacesInRegion (cursors_of a.notes.items (seat_at_turn a)) (cursors_of b.notes.items (seat_at_turn b)) (size_of refs nums) born.block born.region.next
+  after : FillsLines b.fill → PlacesInRegion (cursors_of (regions_at_turn a)) (cursors_of (regions_at_turn b)) (size_of refs nums) born.block born.region.next
   after lines =
       let now = has.some in
       let fill : a.fill ≡ kinds.Immix = sym born.fill ∙ lines in
       let left : born.left ≡ without_first (size_of refs nums) born.region
       = subst (λ (f : Kind). IsRestAfter f (state_of a.row) born.block (size_of refs nums) born.region born.left) fill born.rest in
-      subst (λ (x : Option LocalSeat). PlacesInRegion (cursors_of a.notes.items (seat_at_turn a)) (cursors_of b.notes.items x) (size_of refs nums) born.block born.region.next)
-      (sym same-seat) (elim born.current as (λ _. PlacesInRegion (cursors_of a.notes.items (seat_at_turn a)) (cursors_of b.notes.items (seat_at_turn a)) (size_of refs nums) born.block born.region.next) [
+      subst (λ (x : Option LocalSeat). PlacesInRegion (cursors_of (regions_at_turn a)) (cursors_of (regions_of b.notes.items x)) (size_of refs nums) born.block born.region.next)
+      (sym same-seat) (elim born.current as (λ _. PlacesInRegion (cursors_of (regions_at_turn a)) (cursors_of (regions_of b.notes.items (seat_at_turn a))) (size_of refs nums) born.block born.region.next) [
         | inl is ↦ (let hole : block_of (seat_at_turn a) 0 ≡ Some born.block = ap (block_of (seat_at_turn a)) (sym (lines-for a.fill (size_of refs nums) fill)) ∙ is.1 in
             inl (places-hole a.notes.items b.notes.items (seat_at_turn a) born.block (number_at_turn a) (size_of refs nums) born.region born.left born.was born.notes hole
             (λ over. turns.own-apart now.epoch now.ideal now.log a now.at has.turn born.block fill over hole) born.room left))
@@ -164,6 +165,7 @@ module _ (a b : PlainRow) (d refs nums : ℕ) (n : Name) (born : IsBorn a b d n 
     current = region born.block (block-tries a.fill a.notes.items (seat_at_turn a) (size_of refs nums) born.block born.current);
     cell = cell;
     region_after = after;
+    blocks = λ class. ap (λ (x : Option LocalSeat). block_of x class) same-seat;
     others = rest;
   }
 

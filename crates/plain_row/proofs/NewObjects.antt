@@ -37,12 +37,13 @@ use Rattle.mutator_calls.specs.Effects.{enters}
 use Rattle.plain_row.specs.declared.plain_row.PlainRow.{PlainRow}
 use Rattle.local_allocators.specs.declared.local_seat.LocalSeat.{LocalSeat}
 use Rattle.block_regions.specs.declared.block_notes.BlockNote.TheVariants.{Owned}
-use Rattle.plain_row.specs.Rows.{number_of, births_of, registers_of, mutator_at_turn, seat_at_turn, number_at_turn, address_at}
+use Rattle.plain_row.specs.Rows.{number_of, births_of, registers_of, mutator_at_turn, seat_at_turn, number_at_turn, address_at, regions_at_turn}
 use Rattle.local_allocators.specs.Seats.{blocks_of, block_of, over_of}
 use Rattle.block_regions.specs.Notes.{FillsTails, FillsHoles, IsOwnedNote, HasNotes, IsRegionOf}
 use Rattle.plain_row.specs.Worlds.{HasState, IsAt, HasRoom, Continues}
 use Rattle.plain_row.specs.Steps.{Lacks}
-use Rattle.local_allocators.specs.TwoRegions.{FillsLines, region_of, region_noted}
+use Rattle.local_allocators.specs.MutatorRegions.{FillsLines}
+use Rattle.local_allocators.specs.NotedRegions.{region_of, region_noted}
 use Rattle.local_allocators.proofs.LineLacks.{Shrinks, same-shrinks, lines-lack-still}
 use Rattle.block_regions.specs.Regions.{IsRegionIn, IsRestAfter, without_first}
 use Rattle.object_model.proofs.OneKind.{kind-within}
@@ -355,7 +356,7 @@ module _ (a b : PlainRow) (d refs nums : ℕ) (n : Name) (born : IsBorn a b d n 
       unowned = λ nobody from hole. let old = hole-then k from size hole in lacks.unowned (sym old.1 ∙ nobody) old.0.0 old.0.1;
       own = λ not own from hole. let old = hole-then k from size hole in
           lacks.own (λ is. not (born.fill ∙ is)) (sym old.1 ∙ own ∙ number-same) old.0.0 old.0.1;
-      lines = λ is. lines-lack-still a.notes.items b.notes.items (seat_at_turn a) (seat_at_turn b) (state_of a.row) (state_of b.row) size k
+      lines = λ is. lines-lack-still (regions_at_turn a) (regions_at_turn b) (state_of a.row) (state_of b.row) size k
           (λ here. ap (λ o. block_of o 0) (sym seat-same) ∙ here) (λ here. ap over_of (sym seat-same) ∙ here) (region-shrinks (sym born.fill ∙ is) k)
           (λ kind. sym (kinds-same k kinds.Immix) ∙ kind)
           (λ here line few.

@@ -1,6 +1,6 @@
 -- The room that a world offers to the mutator whose turn it is.
-use Rattle.std.proofs.Common.{◌≡◌, refl, sym, ◌∙◌, ap, subst, ℕ, zero, suc, ◌+◌, ◌<◌, ◌≤◌, ◌⊎◌, inl, inr, arith, List, [], ◌∷◌, get_or}
-use Rattle.std.specs.Prelude.{Option, Some, None, slice_get, unwrap_or}
+use Rattle.std.proofs.Common.{◌≡◌, refl, sym, ◌∙◌, ap, subst, ℕ, ◌+◌, ◌<◌, ◌≤◌, ◌⊎◌, inl, inr, arith}
+use Rattle.std.specs.Prelude.{Option, Some, None, slice_get}
 use Rattle.heap_layout.specs.declared.block.Kind.{Kind}
 use Rattle.heap_layout.specs.declared.block.Kind.TheVariants as kinds
 use Rattle.heap_layout.specs.declared.region.Region.{Region}
@@ -11,18 +11,19 @@ use Rattle.block_regions.specs.declared.block_notes.BlockNote.TheVariants.{Owned
 use Rattle.plan_api.specs.declared.cursors.Cursors.{Cursors}
 use Rattle.plan_api.specs.Cursors.{RegionHasRoom, LacksRoom}
 use Rattle.plan_api.specs.Holes.{IsFirstPart}
-use Rattle.plain_row.specs.Rows.{number_at_turn, seat_at_turn}
+use Rattle.plain_row.specs.Rows.{number_at_turn, seat_at_turn, regions_at_turn}
 use Rattle.local_allocators.specs.Seats.{block_of, over_of}
 use Rattle.block_regions.specs.Notes.{FillsTailsOrCells, IsRegionOf}
-use Rattle.local_allocators.specs.TwoRegions.{FillsLines, region_of, region_noted, cursors_of, GoesOver, IsBlockFor, KeepsRegions, LacksLines, OffersLines}
+use Rattle.local_allocators.specs.MutatorRegions.{FillsLines, cursors_of, GoesOver, IsBlockFor, KeepsRegions, LacksLines, OffersLines}
+use Rattle.local_allocators.specs.NotedRegions.{region_of, region_noted}
 use Rattle.plain_row.specs.Worlds.{IsInEpoch, IsReady, HasRoom}
 use Rattle.block_regions.specs.Regions.{BeginsHole}
-use Rattle.plain_row.specs.Steps.{IsRegion, IsOffer, Offers, IsFull, IsOverflow, KeepsRegion, KeepsRest}
-use Rattle.local_allocators.proofs.SeatRegions.{cursors-same, others-after}
+use Rattle.plain_row.specs.Steps.{IsRegion, IsOffer, Offers, LeavesClass, IsFull, IsOverflow, KeepsRegion, KeepsRest}
 use Rattle.block_regions.proofs.Regions.{region-hole, region-before, SuitsCells, suits-class, fills-cases, no-lines}
 use Rattle.block_regions.proofs.BlockFrames.{SameLines}
 use Rattle.local_allocators.proofs.LineLacks.{lines-lack-still, same-shrinks, first-back}
 use Rattle.plain_row.proofs.Turns as turns
+use Rattle.local_allocators.proofs.KeptRegions.{others-after, cursors-same}
 
 -- cells of the class for the size suit it
 suits-fill : (fill : Kind) (s : HeapState) (k size : ℕ) → 1 ≤ size → size ≤ 2048 → class_at s k ≡ class_for fill size → fill ≡ kinds.Cells → SuitsCells s k size
@@ -53,6 +54,7 @@ own-offer a b now fills block size region note suits some small fits here rest =
       region = region;
       now = here;
       offer = inl (begins.0, inr ((λ lines. no-lines (subst FillsTailsOrCells lines fills)), begins.1));
+      class = inl (inl (turns.note-block now.epoch now.ideal now.log a now.at block (Owned (number_at_turn a) region) note, begins.1));
       others = rest;
     }
 
@@ -75,6 +77,7 @@ rest-offer a now lines block size region here fits =
         owner = right.owner;
         from = inl (here.current, ap (λ (r : Region). r.next) (sym same), subst (λ (r : Region). RegionHasRoom r size) (sym same) fits);
       }));
+      class = inl (inl (turns.note-block now.epoch now.ideal now.log a now.at block (Owned (number_at_turn a) region) here.note, right.owner));
       others = rest-same a size;
     }
 
@@ -107,15 +110,33 @@ room-not-full a size some small has full = elim (fills-cases a.fill has.some.at.
     room-in : (o : Option ℕ) → o ≡ Some has.block → RegionHasRoom (region_of a.notes.items o) size
     room-in o is = subst (λ (r : Region). RegionHasRoom r size) (sym (ap (region_of a.notes.items) is ∙ ap region_noted has.room.note)) has.room.room
 
+-- while the hole region stays, what overflows it does
+pub still-over : (a b : PlainRow) → b.fill ≡ a.fill → KeepsRegion a b → (size : ℕ) → GoesOver a.fill (regions_at_turn a) size
+    → GoesOver b.fill (regions_at_turn b) size
+still-over a b fill keeps size is = record {
+  lines = fill ∙ is.lines;
+  tried = record { above = is.tried.above; full = λ room. is.tried.full (subst (λ (r : Region). RegionHasRoom r size) keeps.region room) };
+}
+
+pub still-overflows : (a b : PlainRow) → b.fill ≡ a.fill → KeepsRegion a b → (size : ℕ) → IsOverflow a size → IsOverflow b size
+still-overflows a b fill keeps size is = record {
+  over = still-over a b fill keeps size is.over;
+  some = subst (λ (r : Region). r.next < r.end) (sym keeps.region) is.some;
+}
+
+-- what overflows it then did before
+pub overflowed : (a b : PlainRow) → b.fill ≡ a.fill → KeepsRegion a b → (size : ℕ) → IsOverflow b size → IsOverflow a size
+overflowed a b fill keeps size is = still-overflows b a (sym fill) (record { block = sym keeps.block; region = sym keeps.region }) size is
+
 -- what a heap offers to mutator m
 abbrev OfferIn : ℕ → ℕ → ℕ → Kind → HeapState → ℕ → Type 0
 OfferIn k offset size fill s m = (BeginsHole fill s k offset size × ((owner_at s k ≡ 0) ⊎ ((FillsLines fill → ⊥) × (owner_at s k ≡ m))))
 
 -- a world with the same heap offers the same, if it does so of lines
 pub offers-back : (a b c : PlainRow) (n : ℕ) → state_of b.row ≡ state_of a.row → b.fill ≡ a.fill → number_at_turn b ≡ number_at_turn a
-    → ((k offset : ℕ) → OffersLines b.fill b.notes.items (seat_at_turn b) (state_of b.row) (number_at_turn b) k offset n
-    → OffersLines a.fill a.notes.items (seat_at_turn a) (state_of a.row) (number_at_turn a) k offset n)
-    → KeepsRegions a.notes.items (seat_at_turn a) b.notes.items (seat_at_turn b) → Offers b c n → Offers a c n
+    → ((k offset : ℕ) → OffersLines b.fill (regions_at_turn b) (state_of b.row) (number_at_turn b) k offset n
+    → OffersLines a.fill (regions_at_turn a) (state_of a.row) (number_at_turn a) k offset n)
+    → KeepsRegions (regions_at_turn a) (regions_at_turn b) → Offers b c n → Offers a c n
 offers-back a b c n heap fill number lines keeps offers = record {
   block = offers.block;
   region = offers.region;
@@ -127,28 +148,14 @@ offers-back a b c n heap fill number lines keeps offers = record {
     | inr (inl free) ↦ inr (inl (subst (λ (s : HeapState). HasKind s offers.block kinds.Free) heap free.0, free.1))
     | inr (inr own) ↦ inr (inr (lines offers.block offers.region.next own))
   ];
-  others = others-after c.fill n (GoesOver c.fill c.notes.items (seat_at_turn c) n) a.notes.items b.notes.items c.notes.items
-      (seat_at_turn a) (seat_at_turn b) (seat_at_turn c) keeps offers.others;
-}
-
--- an option that is read of a list
-pub option-read : {A : Type 0} (xs : List (Option A)) (k : ℕ) → unwrap_or (slice_get xs k) None ≡ get_or xs k None
-option-read [] k = refl
-option-read (y ∷ ys) zero = refl
-option-read (y ∷ ys) (suc k) = option-read ys k
-
--- while the hole region stays, what overflows it does
-pub still-over : (a b : PlainRow) → b.fill ≡ a.fill → KeepsRegion a b → (size : ℕ) → GoesOver a.fill a.notes.items (seat_at_turn a) size
-    → GoesOver b.fill b.notes.items (seat_at_turn b) size
-still-over a b fill keeps size is = record {
-  lines = fill ∙ is.lines;
-  tried = record { above = is.tried.above; full = λ room. is.tried.full (subst (λ (r : Region). RegionHasRoom r size) keeps.region room) };
-}
-
-pub still-overflows : (a b : PlainRow) → b.fill ≡ a.fill → KeepsRegion a b → (size : ℕ) → IsOverflow a size → IsOverflow b size
-still-overflows a b fill keeps size is = record {
-  over = still-over a b fill keeps size is.over;
-  some = subst (λ (r : Region). r.next < r.end) (sym keeps.region) is.some;
+  class = elim offers.class as (λ _. LeavesClass a n offers.block ⊎ (block_of (seat_at_turn c) (class_for c.fill n) ≡ Some offers.block)) [
+    | inl (inl own) ↦ inl (inl (subst (λ m. (offers.block < (state_of a.row).blocks) × (owner_at (state_of a.row) offers.block ≡ m)) number
+        (subst (λ (s : HeapState). (offers.block < s.blocks) × (owner_at s offers.block ≡ number_at_turn b)) heap own)))
+    | inl (inr free) ↦ inl (inr (subst (λ (s : HeapState). HasKind s offers.block kinds.Free) heap free.0, overflowed a b fill (keeps.classes 0) n free.1))
+    | inr is ↦ inr is
+  ];
+  others = others-after c.fill n (GoesOver c.fill (regions_at_turn c) n) (regions_at_turn a) (regions_at_turn b)
+      (regions_at_turn c) keeps offers.others;
 }
 
 -- From a to b the mutator whose turn it is keeps its blocks, and these their line bits.
@@ -169,8 +176,8 @@ module _ (a b : PlainRow) (keeps : KeepsSeat a b) (ready : IsReady a) where
 
   -- a block whose region stays lacks room still
   pub still-lacks : (n k : ℕ) → region_of b.notes.items (Some k) ≡ region_of a.notes.items (Some k)
-      → LacksLines a.notes.items (seat_at_turn a) (state_of a.row) n k → LacksLines b.notes.items (seat_at_turn b) (state_of b.row) n k
-  still-lacks n k same = lines-lack-still a.notes.items b.notes.items (seat_at_turn a) (seat_at_turn b) (state_of a.row) (state_of b.row) n k
+      → LacksLines (regions_at_turn a) (state_of a.row) n k → LacksLines (regions_at_turn b) (state_of b.row) n k
+  still-lacks n k same = lines-lack-still (regions_at_turn a) (regions_at_turn b) (state_of a.row) (state_of b.row) n k
       (λ here. sym (keeps.block 0) ∙ here) (λ over. sym keeps.over ∙ over)
       (same-shrinks (region_of a.notes.items (Some k)) (region_of b.notes.items (Some k)) same)
       (kind-then k) (λ here. keeps.lines k (own-hole k here))
@@ -181,7 +188,7 @@ module _ (a b : PlainRow) (keeps : KeepsSeat a b) (ready : IsReady a) where
     region-same None = refl
     region-same (Some k) = regions k
 
-    pub seat-regions : KeepsRegions a.notes.items (seat_at_turn a) b.notes.items (seat_at_turn b)
+    pub seat-regions : KeepsRegions (regions_at_turn a) (regions_at_turn b)
     seat-regions = record {
       classes = λ class. record {
         block = keeps.block class;
@@ -193,10 +200,10 @@ module _ (a b : PlainRow) (keeps : KeepsSeat a b) (ready : IsReady a) where
     seat-keeps : KeepsRegion a b
     seat-keeps = seat-regions.classes 0
 
-    goes-over : (size : ℕ) → GoesOver b.fill b.notes.items (seat_at_turn b) size → GoesOver a.fill a.notes.items (seat_at_turn a) size
+    goes-over : (size : ℕ) → GoesOver b.fill (regions_at_turn b) size → GoesOver a.fill (regions_at_turn a) size
     goes-over size is = still-over b a (sym keeps.fill) (record { block = sym seat-keeps.block; region = sym seat-keeps.region }) size is
 
-    block-for : (size k : ℕ) → IsBlockFor b.fill b.notes.items (seat_at_turn b) size k → IsBlockFor a.fill a.notes.items (seat_at_turn a) size k
+    block-for : (size k : ℕ) → IsBlockFor b.fill (regions_at_turn b) size k → IsBlockFor a.fill (regions_at_turn a) size k
     block-for size k (inl is) = inl (
       (λ over. is.0 (still-over a b keeps.fill seat-keeps size over)),
       sym (keeps.block (class_for a.fill size))
@@ -205,8 +212,8 @@ module _ (a b : PlainRow) (keeps : KeepsSeat a b) (ready : IsReady a) where
     block-for size k (inr is) = inr (goes-over size is.0, sym keeps.over ∙ is.1)
 
     -- what lines offer they offered
-    pub offered-lines : (k offset size : ℕ) → OffersLines b.fill b.notes.items (seat_at_turn b) (state_of b.row) (number_at_turn b) k offset size
-        → OffersLines a.fill a.notes.items (seat_at_turn a) (state_of a.row) (number_at_turn a) k offset size
+    pub offered-lines : (k offset size : ℕ) → OffersLines b.fill (regions_at_turn b) (state_of b.row) (number_at_turn b) k offset size
+        → OffersLines a.fill (regions_at_turn a) (state_of a.row) (number_at_turn a) k offset size
     offered-lines k offset size is =
         let now = ready.idle.some in
         let mine : IsRegionOf a.notes.items (number_at_turn a) k = elim is.from as (λ _. IsRegionOf a.notes.items (number_at_turn a) k) [
@@ -216,13 +223,13 @@ module _ (a b : PlainRow) (keeps : KeepsSeat a b) (ready : IsReady a) where
         record {
           lines = sym keeps.fill ∙ is.lines;
           owner = (turns.owned-note now.epoch now.ideal now.log a now.at k (number_at_turn a) mine.region mine.note).owner;
-          from = elim is.from as (λ _. (IsBlockFor a.fill a.notes.items (seat_at_turn a) size k × (offset ≡ (region_of a.notes.items (Some k)).next)
+          from = elim is.from as (λ _. (IsBlockFor a.fill (regions_at_turn a) size k × (offset ≡ (region_of a.notes.items (Some k)).next)
               × RegionHasRoom (region_of a.notes.items (Some k)) size) ⊎ ((block_of (seat_at_turn a) 0 ≡ Some k)
-              × LacksRoom (cursors_of a.notes.items (seat_at_turn a)) size × ((end : ℕ) × IsFirstPart kinds.Immix (state_of a.row) k (region_of a.notes.items (Some k)).end size (record { next = offset; end = end })))) [
+              × LacksRoom (cursors_of (regions_at_turn a)) size × ((end : ℕ) × IsFirstPart kinds.Immix (state_of a.row) k (region_of a.notes.items (Some k)).end size (record { next = offset; end = end })))) [
                 | inl rest ↦ inl (block-for size k rest.0, rest.1 ∙ ap (λ (r : Region). r.next) (regions k), subst (λ (r : Region). RegionHasRoom r size) (regions k) rest.2)
                 | inr later ↦ inr (
                   sym (keeps.block 0) ∙ later.0,
-                  subst (λ (c : Cursors). LacksRoom c size) (cursors-same a.notes.items b.notes.items (seat_at_turn a) (seat_at_turn b) seat-regions) later.1,
+                  subst (λ (c : Cursors). LacksRoom c size) (cursors-same (regions_at_turn a) (regions_at_turn b) seat-regions) later.1,
                   (
                     later.2.0,
                     first-back (state_of a.row) (state_of b.row) k (region_of a.notes.items (Some k)).end size (record { next = offset; end = later.2.0 })

@@ -5,14 +5,14 @@ use Rattle.heap_layout.specs.declared.region.Region.{Region}
 use Rattle.plain_row.specs.declared.plain_row.PlainRow.{PlainRow}
 use Rattle.block_regions.specs.declared.block_notes.BlockNote.{BlockNote}
 use Rattle.block_regions.specs.declared.block_notes.BlockNote.TheVariants.{Unowned, Owned}
-use Rattle.plain_row.specs.Rows.{number_at_turn, seat_at_turn}
-use Rattle.local_allocators.specs.TwoRegions.{IsBlockFor}
+use Rattle.plain_row.specs.Rows.{number_at_turn, regions_at_turn}
+use Rattle.local_allocators.specs.MutatorRegions.{IsBlockFor}
 use Rattle.plain_row.specs.Worlds.{IsReady, HasRoom}
 use Rattle.block_regions.proofs.Elements.{read-some}
 use Rattle.block_regions.proofs.Lists.{one-element}
 use Rattle.plain_row.proofs.Turns as turns
 
-module _ (w : PlainRow) (size : ℕ) (ready : IsReady w) (b : ℕ) (n : BlockNote) (current : IsBlockFor w.fill w.notes.items (seat_at_turn w) size b)
+module _ (w : PlainRow) (size : ℕ) (ready : IsReady w) (b : ℕ) (n : BlockNote) (current : IsBlockFor w.fill (regions_at_turn w) size b)
     (read : n ≡ get_or w.notes.items b n) where
   pub there : b < length w.notes.items
   there = let now = ready.idle.some in turns.block-noted now.epoch now.ideal now.log w now.at ready.turn size b current

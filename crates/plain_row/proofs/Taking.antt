@@ -32,7 +32,7 @@ use Rattle.local_allocators.specs.Seats.{ticket_of, blocks_of, over_of}
 use Rattle.block_regions.specs.Regions.{IsRegionIn}
 use Rattle.block_regions.specs.Notes.{FillsHoles, IsNote, IsOwnedNote, HasNotes, IsRegionOf}
 use Rattle.plain_row.specs.Changes.{TakesBlock, seat_with}
-use Rattle.local_allocators.specs.TwoRegions.{FillsLines}
+use Rattle.local_allocators.specs.MutatorRegions.{FillsLines}
 use Rattle.plain_row.specs.Worlds.{IsAt, HasState, HasCursors, Continues}
 use Rattle.block_regions.proofs.Elements.{set-changes, changes-cases}
 use Rattle.block_regions.proofs.Lists.{one-element}

@@ -1,5 +1,5 @@
 -- The mutators, seats and notes of a world that is in an epoch.
-use Rattle.std.proofs.Common.{◌≡◌, refl, sym, ◌∙◌, ap, subst, ℕ, zero, suc, ◌+◌, ◌<◌, ◌≤◌, ◌^◌, inl, inr, arith, length, get_or, List, [], ◌∷◌, map, Vec, Global}
+use Rattle.std.proofs.Common.{◌≡◌, refl, sym, ◌∙◌, ap, subst, ℕ, ◌+◌, ◌<◌, ◌≤◌, ◌^◌, inl, inr, arith, length, get_or, List, map, Vec, Global}
 use Rattle.std.specs.Prelude.{Option, Some, None, slice_get, unwrap_or}
 use Rattle.std.specs.List.{Contains}
 use Rattle.std.proofs.lemmas.Option.{get_or_from_slice_get}
@@ -29,13 +29,14 @@ use Rattle.plain_row.specs.declared.plain_row.PlainRow.{PlainRow}
 use Rattle.local_allocators.specs.declared.local_seat.LocalSeat.{LocalSeat}
 use Rattle.block_regions.specs.declared.block_notes.BlockNote.{BlockNote}
 use Rattle.block_regions.specs.declared.block_notes.BlockNote.TheVariants.{Unowned, Owned}
-use Rattle.plain_row.specs.Rows.{IsTurn, number_of, births_of, registers_of, mutator_at_turn, seat_at_turn, number_at_turn}
+use Rattle.plain_row.specs.Rows.{IsTurn, number_of, births_of, registers_of, mutator_at_turn, seat_at_turn, number_at_turn, regions_at_turn}
 use Rattle.local_allocators.specs.Seats.{ticket_of, blocks_of, block_of, over_of}
 use Rattle.block_regions.specs.Notes.{IsNote, IsOwnedNote, IsUnownedNote, IsRegionOf}
 use Rattle.plain_row.specs.Worlds.{HasState, HasCursors, IsAt, IsInEpoch, HasRoom, IsReadableSeat}
 use Rattle.plain_row.specs.Changes.{Advances, CountsObject}
 use Rattle.block_regions.proofs.Regions.{region-inside}
-use Rattle.local_allocators.specs.TwoRegions.{FillsLines, IsBlockFor, TriesBlock, region_of, region_noted}
+use Rattle.local_allocators.specs.MutatorRegions.{FillsLines, IsBlockFor, TriesBlock}
+use Rattle.local_allocators.specs.NotedRegions.{region_of, region_noted, regions_of}
 use Rattle.block_regions.proofs.Lists.{get-some, get-below, get-map, one-element}
 use Rattle.block_regions.proofs.Elements.{read-some}
 use Rattle.block_regions.proofs.FilledKinds.{filled-valid, lines-suits}
@@ -53,11 +54,6 @@ set-in xs k b is = of (slice_get xs k) is
     of None wrong = let e : None ≡ Some b = wrong in cc
     of (Some q) e = ap (λ (y : Option ℕ). Some y) e
 
-pub cursor-read : (xs : List (Option ℕ)) (k b : ℕ) → get_or xs k None ≡ Some b → unwrap_or (slice_get xs k) None ≡ Some b
-cursor-read [] k b is = let wrong : None ≡ Some b = is in cc
-cursor-read (y ∷ ys) zero b is = is
-cursor-read (y ∷ ys) (suc k) b is = cursor-read ys k b is
-
 -- mutators' numbers are 1 to 16
 pub number-range : (ms : List MutatorState) (n : ℕ) → AreMutators ms → Contains (numbers_of ms) n → (1 ≤ n) × (n ≤ 16)
 number-range ms n are known =
@@ -65,7 +61,7 @@ number-range ms n are known =
     subst (λ (q : ℕ). (1 ≤ q) × (q ≤ 16)) one.4.1 (one.4.0.least, one.4.0.most)
 
 -- the region that takes a size is in one block
-pub block-one : (fill : Kind) (notes : List BlockNote) (seat : Option LocalSeat) (size j k : ℕ) → IsBlockFor fill notes seat size j → IsBlockFor fill notes seat size k → j ≡ k
+pub block-one : (fill : Kind) (notes : List BlockNote) (seat : Option LocalSeat) (size j k : ℕ) → IsBlockFor fill (regions_of notes seat) size j → IsBlockFor fill (regions_of notes seat) size k → j ≡ k
 block-one fill notes seat size j k (inl one) (inl two) = one-element (block_of seat (class_for fill size)) j k one.1 two.1
 block-one fill notes seat size j k (inl one) (inr two) = absurd (one.0 two.0)
 block-one fill notes seat size j k (inr one) (inl two) = absurd (two.0 one.0)
@@ -239,7 +235,7 @@ module _ (p : Epoch) (i : IdealHeap) (log : List LogEntry) (w : PlainRow) (at : 
     over-order lines = region-order (over_of (seat_at_turn w)) (λ k is. own-over k lines is)
 
     -- it owns the block of the region that takes a size, which has the size's class
-    pub own-block : (size b : ℕ) → IsBlockFor w.fill w.notes.items (seat_at_turn w) size b
+    pub own-block : (size b : ℕ) → IsBlockFor w.fill (regions_at_turn w) size b
         → IsRegionOf w.notes.items (number_at_turn w) b × (class_at (state_of w.row) b ≡ class_for w.fill size)
     own-block size b (inl is) = own-region (class_for w.fill size) b is.1
     own-block size b (inr is) =
@@ -256,11 +252,11 @@ module _ (p : Epoch) (i : IdealHeap) (log : List LogEntry) (w : PlainRow) (at : 
     pub own-valid : (size : ℕ) → IsValid (record { kind = w.fill; class = class_for w.fill size; owner = number_at_turn w })
     own-valid size = filled-valid w.fill size (number_at_turn w) at.fills own-range.1
 
-    pub block-noted : (size b : ℕ) → IsBlockFor w.fill w.notes.items (seat_at_turn w) size b → b < length w.notes.items
+    pub block-noted : (size b : ℕ) → IsBlockFor w.fill (regions_at_turn w) size b → b < length w.notes.items
     block-noted size b is = own-noted b (own-block size b is).0
 
     -- the note that is read of such a block
-    pub own-note : (size b owner : ℕ) (region : Region) → IsBlockFor w.fill w.notes.items (seat_at_turn w) size b
+    pub own-note : (size b owner : ℕ) (region : Region) → IsBlockFor w.fill (regions_at_turn w) size b
         → slice_get w.notes.items b ≡ Some (Owned owner region) → slice_get w.notes.items b ≡ Some (Owned (number_at_turn w) region)
     own-note size b owner region is note =
         let mine = (own-block size b is).0 in
@@ -268,26 +264,14 @@ module _ (p : Epoch) (i : IdealHeap) (log : List LogEntry) (w : PlainRow) (at : 
         let number : owner ≡ number_at_turn w = cc in
         subst (λ (n : ℕ). slice_get w.notes.items b ≡ Some (Owned n region)) number note
 
-    -- the seat that is read
-    pub seat-read : (x : LocalSeat) → x ≡ get_or w.seats.items w.turn x → seat_at_turn w ≡ Some x
-    seat-read x is = read-some w.seats.items w.turn x (let t = turn.turn in let e = turn.seats in omega arith) is
-
-    -- it has the block that the mutator allocates objects of the class in
-    pub current-block : (x : LocalSeat) (class b : ℕ) → x ≡ get_or w.seats.items w.turn x → get_or x.blocks class None ≡ Some b
-        → block_of (seat_at_turn w) class ≡ Some b
-    current-block x class b is read = ap (λ (q : Option LocalSeat). block_of q class) (seat-read x is) ∙ cursor-read x.blocks class b read
-
-    pub current-noted : (x : LocalSeat) (class b : ℕ) → x ≡ get_or w.seats.items w.turn x → get_or x.blocks class None ≡ Some b → b < length w.notes.items
-    current-noted x class b is read = own-noted b (own-region class b (current-block x class b is read)).0
-
 -- the region that takes a size is one that is tried for it
-pub block-tries : (fill : Kind) (notes : List BlockNote) (x : Option LocalSeat) (size k : ℕ) → IsBlockFor fill notes x size k → TriesBlock fill x size k
+pub block-tries : (fill : Kind) (notes : List BlockNote) (x : Option LocalSeat) (size k : ℕ) → IsBlockFor fill (regions_of notes x) size k → TriesBlock fill (regions_of notes x) size k
 block-tries fill notes x size k (inl is) = inl is.1
 block-tries fill notes x size k (inr is) = inr (is.0.lines, is.0.tried.above, is.1)
 
 -- the block for the size, its mutator and its region, as they are read
 pub record IsCurrent (w : PlainRow) (size b owner : ℕ) (region : Region) : Type 0 where
-  pub current : IsBlockFor w.fill w.notes.items (seat_at_turn w) size b
+  pub current : IsBlockFor w.fill (regions_at_turn w) size b
   pub own : owner ≡ number_at_turn w
   pub note : slice_get w.notes.items b ≡ Some (Owned (number_at_turn w) region)
   pub there : b < length w.notes.items
@@ -297,7 +281,7 @@ pub record IsCurrent (w : PlainRow) (size b owner : ℕ) (region : Region) : Typ
   pub class : class_at (state_of w.row) b ≡ class_for w.fill size
   pub kind : HasKind (state_of w.row) b w.fill
 
-pub current-note : (w : PlainRow) (size : ℕ) → HasRoom w size → (b owner : ℕ) (region : Region) → IsBlockFor w.fill w.notes.items (seat_at_turn w) size b
+pub current-note : (w : PlainRow) (size : ℕ) → HasRoom w size → (b owner : ℕ) (region : Region) → IsBlockFor w.fill (regions_at_turn w) size b
     → slice_get w.notes.items b ≡ Some (Owned owner region) → IsCurrent w size b owner region
 current-note w size has b owner region current note =
     let p = has.some.epoch in
@@ -322,7 +306,7 @@ current-note w size has b owner region current note =
     }
 
 pub current-read : (w : PlainRow) (size : ℕ) → HasRoom w size → (b : ℕ) (n : BlockNote) (owner : ℕ) (region : Region)
-    → IsBlockFor w.fill w.notes.items (seat_at_turn w) size b
+    → IsBlockFor w.fill (regions_at_turn w) size b
     → n ≡ get_or w.notes.items b n → n ≡ Owned owner region → IsCurrent w size b owner region
 current-read w size has b n owner region current read is =
     let there = block-noted has.some.epoch has.some.ideal has.some.log w has.some.at has.turn size b current in

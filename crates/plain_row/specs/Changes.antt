@@ -15,10 +15,10 @@ use Rattle.plan_api.specs.Holes.{IsFirstHole}
 use Rattle.block_regions.specs.declared.block_notes.BlockNote.{BlockNote}
 use Rattle.block_regions.specs.declared.block_notes.BlockNote.TheVariants.{Unowned, Owned}
 use Rattle.local_allocators.specs.declared.local_seat.LocalSeat.{LocalSeat}
-use Rattle.plain_row.specs.Rows.{mutator_at_turn, seat_at_turn, number_at_turn}
+use Rattle.plain_row.specs.Rows.{mutator_at_turn, seat_at_turn, number_at_turn, regions_at_turn}
 use Rattle.local_allocators.specs.Seats.{ticket_of, blocks_of, block_of, over_of}
 use Rattle.block_regions.specs.Elements.{ChangesAt}
-use Rattle.local_allocators.specs.TwoRegions.{FillsLines, IsBlockFor, LacksLines}
+use Rattle.local_allocators.specs.MutatorRegions.{FillsLines, IsBlockFor, LacksLines}
 
 -- the word at this index becomes v; all else stays
 pub record StoresWord (old new : PlainRow) (at v : ℕ) : Type 0 where
@@ -109,7 +109,7 @@ pub data LacksHole (old new : PlainRow) (block size : ℕ) : Type 0 where
       → (owner ≢ number_at_turn old) ⊎ ((FillsLines old.fill → ⊥) × ((region.end < region.next + size)
       ⊎ (class_at (state_of old.row) block ≢ class_for old.fill size))) → new ≡ old → LacksHole old new block size
   lacks_lines : (region : Region) → slice_get old.notes.items block ≡ Some (Owned (number_at_turn old) region) → FillsLines old.fill
-      → LacksLines old.notes.items (seat_at_turn old) (state_of old.row) size block → new ≡ old → LacksHole old new block size
+      → LacksLines (regions_at_turn old) (state_of old.row) size block → new ≡ old → LacksHole old new block size
 
 -- The mutator's region for objects of this size, in this block, becomes what such an object at its start leaves. It began
 -- at the offset. All else stays.
@@ -118,7 +118,7 @@ pub record Advances (old new : PlainRow) (size block offset : ℕ) : Type 0 wher
   pub mutators : new.mutators ≡ old.mutators
   pub row : new.row ≡ old.row
   pub seats : new.seats ≡ old.seats
-  pub current : IsBlockFor old.fill old.notes.items (seat_at_turn old) size block
+  pub current : IsBlockFor old.fill (regions_at_turn old) size block
   pub region : Region
   pub rest : Region
   pub was : slice_get old.notes.items block ≡ Some (Owned (number_at_turn old) region)

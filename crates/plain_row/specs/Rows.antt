@@ -4,6 +4,10 @@ use Rattle.mutator_calls.specs.declared.need.Mutator.{Mutator}
 use Rattle.block_regions.specs.Elements.{ChangesAt}
 use Rattle.plain_row.specs.declared.plain_row.PlainRow.{PlainRow}
 use Rattle.local_allocators.specs.declared.local_seat.LocalSeat.{LocalSeat}
+use Rattle.local_allocators.specs.MutatorRegions.{MutatorRegions}
+use Rattle.local_allocators.specs.NotedRegions.{regions_of}
+use Rattle.local_allocators.specs.Placing.{LocalView}
+use Rattle.object_model.specs.Objects.{state_of}
 
 abbrev pub number_of : Option Mutator → ℕ
 number_of None = 0
@@ -29,6 +33,11 @@ mutator_at_turn w = slice_get w.mutators.items w.turn
 abbrev pub seat_at_turn : PlainRow → Option LocalSeat
 seat_at_turn w = slice_get w.seats.items w.turn
 
+-- its regions
+abbrev pub regions_at_turn : PlainRow → MutatorRegions
+regions_at_turn w = regions_of w.notes.items (seat_at_turn w)
+
+-- its number
 abbrev pub number_at_turn : PlainRow → ℕ
 number_at_turn w = number_of (mutator_at_turn w)
 
@@ -51,3 +60,12 @@ pub record SetsRegister (old new : PlainRow) (d address : ℕ) : Type 0 where
   pub was : mutator_at_turn old ≡ Some mutator
   pub mutators : ChangesAt old.mutators.items new.mutators.items old.turn
       (record mutator { registers = slice_set mutator.registers d address })
+
+-- what the row is to the allocation of the mutator at a place of the list
+abbrev pub view_of : PlainRow → ℕ → LocalView
+view_of w m = record {
+  fill = w.fill;
+  heap = state_of w.row;
+  number = number_of (slice_get w.mutators.items m);
+  regions = regions_of w.notes.items (slice_get w.seats.items m);
+}

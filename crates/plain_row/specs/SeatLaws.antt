@@ -19,7 +19,7 @@ use Rattle.mutator_core.proofs.Left.{free-left}
 use Rattle.mutator_calls.specs.declared.need.Mutator.{Mutator}
 use Rattle.object_model.specs.declared.shape.Shape.{Shape}
 use Rattle.mutator_core.specs.declared.state.LogEntry.{LogEntry}
-use Rattle.mutator_core.specs.Machine.{Epoch, next, first_machine}
+use Rattle.mutator_core.specs.Machine.{Epoch, first_machine}
 use Rattle.mutator_core.specs.Histories.{after, history}
 use Rattle.block_regions.proofs.Lists.{get-some}
 use Rattle.mutator_core.specs.Logs.{machine_after, heap_after, local_after_log}
@@ -28,9 +28,10 @@ use Rattle.mutator_calls.specs.Effects.{Effect, nothing, and_then}
 use Rattle.plain_row.specs.declared.plain_row.PlainRow.{PlainRow}
 use Rattle.local_allocators.specs.declared.local_seat.LocalSeat.{LocalSeat}
 use Rattle.plan_api.specs.Cursors.{RegionHasRoom}
-use Rattle.plain_row.specs.Rows.{address_at, number_at_turn, mutator_at_turn, seat_at_turn, number_of, births_of}
+use Rattle.plain_row.specs.Rows.{address_at, number_at_turn, mutator_at_turn, seat_at_turn, number_of, births_of, regions_at_turn}
 use Rattle.local_allocators.specs.Seats.{ticket_of}
-use Rattle.local_allocators.proofs.SeatRegions.{same-keeps, keeps-more, tries-still}
+use Rattle.local_allocators.proofs.KeptRegions.{keeps-more, tries-still}
+use Rattle.local_allocators.proofs.SeatRegions.{same-keeps}
 use Rattle.plain_row.specs.Worlds.{IsAt, IsInEpoch, IsReady, Goes, Continues, has, births_in, stop_after}
 use Rattle.plain_row.specs.Steps.{HasShape, AllocatesIn, IsOverflow, IsUsed, KeepsAll}
 
@@ -52,8 +53,8 @@ and-true false = refl
 -- what a seat tries, and what overflows, stays with the regions
 pub tried-stays : (a b : PlainRow) (n k : ℕ) → KeepsAll a b → AllocatesIn a n k ↔ AllocatesIn b n k
 tried-stays a b n k keeps = (
-  tries-still a.fill b.fill (seat_at_turn a) (seat_at_turn b) n k keeps.0 (λ class. (keeps.1.classes class).block) keeps.1.over.block,
-  tries-still b.fill a.fill (seat_at_turn b) (seat_at_turn a) n k (sym keeps.0) (λ class. sym (keeps.1.classes class).block) (sym keeps.1.over.block),
+  tries-still a.fill b.fill (regions_at_turn a) (regions_at_turn b) n k keeps.0 (λ class. (keeps.1.classes class).block) keeps.1.over.block,
+  tries-still b.fill a.fill (regions_at_turn b) (regions_at_turn a) n k (sym keeps.0) (λ class. sym (keeps.1.classes class).block) (sym keeps.1.over.block),
 )
 
 pub overflow-stays : (a b : PlainRow) (n : ℕ) → KeepsAll a b → IsOverflow a n → IsOverflow b n
@@ -162,7 +163,7 @@ goes-after a b c e f one two = record {
   ticket = λ none kept. let both = none-left e.granted f.granted kept in
       let sum : e.drawn + f.drawn ≡ 0 = none in two.ticket (omega arith) both.1 ∙ one.ticket (omega arith) both.0;
   regions = λ still. let both = or-none e.moved f.moved still in
-      keeps-more a.notes.items b.notes.items c.notes.items (seat_at_turn a) (seat_at_turn b) (seat_at_turn c) (one.regions both.0) (two.regions both.1);
+      keeps-more (regions_at_turn a) (regions_at_turn b) (regions_at_turn c) (one.regions both.0) (two.regions both.1);
   others = λ k other. let before = one.others k other in let after = two.others k (λ same. other (same ∙ one.turn)) in
       (after.0 ∙ before.0, after.1 ∙ before.1);
   foreign = λ k owner region other is. two.foreign k owner region (λ same. other (same ∙ one.number)) (one.foreign k owner region other is);

@@ -24,9 +24,9 @@ use Rattle.block_regions.specs.declared.block_notes.BlockNote.{BlockNote}
 use Rattle.block_regions.specs.declared.block_notes.BlockNote.TheVariants.{Owned}
 use Rattle.heap_layout.specs.declared.region.Region.{Region}
 use Rattle.local_allocators.specs.declared.local_seat.TheConstants.{CLASSES}
-use Rattle.plain_row.specs.Rows.{IsTurn, mutator_at_turn, number_at_turn, seat_at_turn, births_of}
+use Rattle.plain_row.specs.Rows.{IsTurn, mutator_at_turn, number_at_turn, seat_at_turn, births_of, regions_at_turn}
 use Rattle.local_allocators.specs.Seats.{ticket_of, blocks_of, over_of}
-use Rattle.local_allocators.specs.TwoRegions.{FillsLines, IsBlockFor, KeepsRegions}
+use Rattle.local_allocators.specs.MutatorRegions.{FillsLines, IsBlockFor, KeepsRegions}
 use Rattle.block_regions.specs.Notes.{FillsHoles, HasNotes, ListsOwned, IsRegionOf, AreFilled, IsRoomIn}
 
 -- The mutator and its seat have the machine's state of the mutator, which has no unpublished object, and no unlog bit
@@ -100,7 +100,7 @@ pub record HasRoom (w : PlainRow) (size : ℕ) : Type 0 where
   pub turn : IsTurn w
   pub some : IsInEpoch w
   pub block : ℕ
-  pub current : IsBlockFor w.fill w.notes.items (seat_at_turn w) size block
+  pub current : IsBlockFor w.fill (regions_at_turn w) size block
   pub room : IsRoomIn w.notes.items (number_at_turn w) size block
 
 -- the number is in the list
@@ -141,7 +141,7 @@ pub record Goes (a : PlainRow) (e : Effect) (b : PlainRow) : Type 0 where
   pub stop : word_at (state_of b.row) 0 ≡ stop_after e.raised (number_at_turn a) (word_at (state_of a.row) 0)
   pub births : births_of (mutator_at_turn b) ≡ births_of (mutator_at_turn a) + births_in e.entries
   pub ticket : e.drawn ≡ 0 → e.granted ≡ [] → ticket_of (seat_at_turn b) ≡ ticket_of (seat_at_turn a)
-  pub regions : e.moved ≡ false → KeepsRegions a.notes.items (seat_at_turn a) b.notes.items (seat_at_turn b)
+  pub regions : e.moved ≡ false → KeepsRegions (regions_at_turn a) (regions_at_turn b)
   pub others : (k : ℕ) → k ≢ a.turn → (slice_get b.mutators.items k ≡ slice_get a.mutators.items k)
       × (slice_get b.seats.items k ≡ slice_get a.seats.items k)
   -- a block of another mutator keeps its region

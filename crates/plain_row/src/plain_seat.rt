@@ -15,6 +15,7 @@ use crate::plain_row::PlainRow;
 use ideal_heap::{Command, Name};
 use mutator_calls::Seat;
 use object_model::Shape;
+use side_meta::test_bit;
 
 impl Seat for PlainRow {
     ghost is_ready = { λ w. IsReady w };
@@ -124,7 +125,7 @@ impl Seat for PlainRow {
 
     fn is_unlogged(&mut self, register: u32) -> bool {
         let (at, bit) = self.bit_at(self.row.layout.unlog_base(), self.register(register));
-        self.test_bit(at, bit)
+        test_bit(&self.row.words, at, bit)
     }
 
     fn answer_null(&mut self, _command: &Command) {}
@@ -198,14 +199,14 @@ impl Seat for PlainRow {
 
     fn set_pin(&mut self, s: u32) -> bool {
         let (at, bit) = self.bit_at(self.row.layout.pin_base(), self.register(s));
-        let pinned = self.test_bit(at, bit);
+        let pinned = test_bit(&self.row.words, at, bit);
         self.set_bit(at, bit);
         !pinned
     }
 
     fn clear_pin(&mut self, s: u32) -> bool {
         let (at, bit) = self.bit_at(self.row.layout.pin_base(), self.register(s));
-        let pinned = self.test_bit(at, bit);
+        let pinned = test_bit(&self.row.words, at, bit);
         self.clear_bit(at, bit);
         pinned
     }

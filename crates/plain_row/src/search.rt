@@ -4,117 +4,36 @@
 //! words, and the words of new objects. When a block is taken, its word, its note, its entry in
 //! `owned` and the seat change together. Never touches blocks that another mutator owns.
 
-ghost use Rattle.std.specs.Prelude.{◌≡◌, ◌≢◌, ◌↔◌, ◌+◌, ◌*◌, ◌<◌, ◌≤◌, ◌^◌, ◌⊎◌, ℕ, Bool, true, false, IsTrue, length, Option, Some, None, IfSome, IfNone, slice_get, vec_len, vec_capacity};
-ghost use Rattle.heap_layout.specs.Zones.{row_words, block_start};
+ghost use Rattle.std.specs.Prelude.{◌≡◌, ◌↔◌, ◌+◌, ◌<◌, ◌≤◌, ◌^◌, ℕ, Bool, true, false, length, Option, Some, None, IfSome, IfNone, slice_get, vec_len, vec_capacity};
+ghost use Rattle.heap_layout.specs.Zones.{row_words};
 ghost use Rattle.heap_layout.specs.Blocks.{IsValid};
 ghost use Rattle.heap_layout.specs.declared.region.Region.{Region};
-ghost use Rattle.ideal_heap.specs.Names.{IsName};
-ghost use Rattle.object_model.specs.Objects.{state_of, size_of, class_at, cell_words, is_start, HasKind};
+ghost use Rattle.object_model.specs.Objects.{state_of, size_of, HasKind};
 ghost use Rattle.sessions.specs.Fitting.{class_for as class_for_size};
-ghost use Rattle.object_model.specs.Lawful.{IsWellFormed};
-ghost use Rattle.block_sweeps.specs.Sweeping.{AreApart};
 ghost use Rattle.plan_api.specs.Holes.{IsFirstHole};
 ghost use Rattle.plan_api.specs.Cursors.{RegionHasRoom, LacksRoom};
 ghost use Rattle.heap_layout.specs.declared.block.Kind.TheVariants as kinds;
 ghost use Rattle.block_regions.specs.declared.block_notes.BlockNote.TheVariants.{Unowned, Owned};
-ghost use Rattle.block_regions.specs.Notes.{FillsHoles};
 ghost use Rattle.block_regions.specs.Regions.{first_region as first_region_of};
-ghost use Rattle.plain_row.specs.Rows.{IsTurn, number_at_turn, mutator_at_turn, seat_at_turn, births_of};
+ghost use Rattle.plain_row.specs.Rows.{IsTurn, number_at_turn, mutator_at_turn, seat_at_turn, births_of, regions_at_turn};
 ghost use Rattle.local_allocators.specs.Seats.{ticket_of, block_of};
 ghost use Rattle.plain_row.specs.Changes.{TakesBlock, NotesBlock, ReturnsTo, FindsHole, LacksHole, Advances, CountsObject, Allocates};
 ghost use Rattle.plain_row.specs.Worlds.{IsReady, HasRoom, IsReadableSeat};
 ghost use Rattle.plain_row.specs.Steps.{IsFull, IsOverflow};
-ghost use Rattle.local_allocators.specs.TwoRegions.{FillsLines, region_of, cursors_of, IsBlockFor};
+ghost use Rattle.local_allocators.specs.MutatorRegions.{FillsLines, cursors_of, IsBlockFor};
+ghost use Rattle.local_allocators.specs.NotedRegions.{region_of};
 
 use crate::plain_row::PlainRow;
 use block_regions::BlockNote;
-use heap_layout::{BlockWord, Kind, LINE_WORDS, Region};
+use heap_layout::{BlockWord, Region};
 use ideal_heap::{MAX_NUMS, MAX_REFS, Name, REGISTERS};
 use local_allocators::{
-    CLASSES, class_of, first_hole, first_region, has_other_class, is_free, rest_after,
+    CLASSES, OwnRoom, block_for, class_of, first_hole, first_region, has_other_class, hole_block,
+    is_free, overflows, own_room, rest_after,
 };
 use object_model::{MAX_MEDIUM_WORDS, Shape, size_words};
-use plan_api::{Cursors, place_in};
 
 impl PlainRow {
-    /// What is left of a block of the mutator, or no words if there is no block.
-    #[inline(always)]
-    fn region_in(&self, block: Option<u32>) -> Region
-        requires { (k : ℕ) → block ≡ Some k → k < length self.now.notes.items }
-        ensures { result ≡ region_of self.now.notes.items block }
-    {
-        let nowhere = Region { next: 0, end: 0 };
-        let Some(block) = block else {
-            return nowhere;
-        };
-        match self.notes[block as usize] {
-            BlockNote::Unowned { .. } => nowhere,
-            BlockNote::Owned { region, .. } => region,
-        }
-    }
-
-    /// The hole region and the overflow region of the mutator. Each has no words before it has a
-    /// block.
-    fn cursors(&self) -> Cursors
-        requires seat { IsReadableSeat self.now }
-        requires fill { FillsLines self.now.fill }
-        ensures { result ≡ cursors_of self.now.notes.items (seat_at_turn self.now) }
-    {
-        let seat = &self.seats[self.turn];
-        Cursors {
-            hole: self.region_in(seat.blocks[0]),
-            hole_block: seat.blocks[0].unwrap_or(0),
-            over: self.region_in(seat.over),
-            over_block: seat.over.unwrap_or(0),
-        }
-    }
-
-    /// The block of the region that takes an object of `size` words, under a plan with lines, if a
-    /// region has room: both regions are read.
-    fn block_of_regions(&self, size: u32) -> Option<u32>
-        requires seat { IsReadableSeat self.now }
-        requires fill { FillsLines self.now.fill }
-        requires least { 3 ≤ size }
-        requires hole { (cursors_of self.now.notes.items (seat_at_turn self.now)).hole.next
-            ≤ (cursors_of self.now.notes.items (seat_at_turn self.now)).hole.end }
-        requires over { (cursors_of self.now.notes.items (seat_at_turn self.now)).over.next
-            ≤ (cursors_of self.now.notes.items (seat_at_turn self.now)).over.end }
-        ensures some { IfSome result (λ k.
-            IsBlockFor self.now.fill self.now.notes.items (seat_at_turn self.now) size k
-            × RegionHasRoom (region_of self.now.notes.items (Some k)) size) }
-        ensures none { IfNone result (LacksRoom
-            (cursors_of self.now.notes.items (seat_at_turn self.now)) size) }
-    {
-        let mut cursors = self.cursors();
-        let (block, _) = place_in(&mut cursors, size)?;
-        Some(block)
-    }
-
-    /// The block of the region that takes an object of `size` words, under a plan with lines, if a
-    /// region has room. The hole region is read first, since it nearly always has.
-    #[inline(always)]
-    fn block_of_lines(&self, size: u32) -> Option<u32>
-        requires seat { IsReadableSeat self.now }
-        requires fill { FillsLines self.now.fill }
-        requires least { 3 ≤ size }
-        requires hole { (cursors_of self.now.notes.items (seat_at_turn self.now)).hole.next
-            ≤ (cursors_of self.now.notes.items (seat_at_turn self.now)).hole.end }
-        requires over { (cursors_of self.now.notes.items (seat_at_turn self.now)).over.next
-            ≤ (cursors_of self.now.notes.items (seat_at_turn self.now)).over.end }
-        ensures some { IfSome result (λ k.
-            IsBlockFor self.now.fill self.now.notes.items (seat_at_turn self.now) size k
-            × RegionHasRoom (region_of self.now.notes.items (Some k)) size) }
-        ensures none { IfNone result (LacksRoom
-            (cursors_of self.now.notes.items (seat_at_turn self.now)) size) }
-    {
-        let block = self.seats[self.turn].blocks[0];
-        let hole = self.region_in(block);
-        if hole.end - hole.next >= size {
-            return block;
-        }
-        self.block_of_regions(size)
-    }
-
     /// The block of the region that takes an object of `size` words. Under a plan with lines there
     /// is none if no region has room.
     #[inline(always)]
@@ -122,25 +41,21 @@ impl PlainRow {
         requires seat { IsReadableSeat self.now }
         requires least { 3 ≤ size }
         requires hole { FillsLines self.now.fill
-            → (cursors_of self.now.notes.items (seat_at_turn self.now)).hole.next
-            ≤ (cursors_of self.now.notes.items (seat_at_turn self.now)).hole.end }
+            → (cursors_of (regions_at_turn self.now)).hole.next
+            ≤ (cursors_of (regions_at_turn self.now)).hole.end }
         requires over { FillsLines self.now.fill
-            → (cursors_of self.now.notes.items (seat_at_turn self.now)).over.next
-            ≤ (cursors_of self.now.notes.items (seat_at_turn self.now)).over.end }
+            → (cursors_of (regions_at_turn self.now)).over.next
+            ≤ (cursors_of (regions_at_turn self.now)).over.end }
         ensures some { IfSome result (λ k.
-            IsBlockFor self.now.fill self.now.notes.items (seat_at_turn self.now) size k) }
+            IsBlockFor self.now.fill (regions_at_turn self.now) size k) }
         ensures room { FillsLines self.now.fill → IfSome result (λ k.
             RegionHasRoom (region_of self.now.notes.items (Some k)) size) }
         ensures none { FillsLines self.now.fill → IfNone result (LacksRoom
-            (cursors_of self.now.notes.items (seat_at_turn self.now)) size) }
+            (cursors_of (regions_at_turn self.now)) size) }
         ensures class { (FillsLines self.now.fill → ⊥)
             → result ≡ block_of (seat_at_turn self.now) (class_for_size self.now.fill size) }
     {
-        if self.fill == Kind::Immix {
-            return self.block_of_lines(size);
-        }
-        let class = class_of(self.fill, size);
-        self.seats[self.turn].blocks[class as usize]
+        block_for(&self.notes, &self.seats[self.turn], self.fill, size)
     }
 
     /// Whether an object of `size` words overflows the hole region, under a plan with lines: it
@@ -150,15 +65,7 @@ impl PlainRow {
         ensures yes { result ≡ true → IsOverflow self.now size }
         ensures no { result ≡ false → IsOverflow self.now size → ⊥ }
     {
-        if self.fill != Kind::Immix {
-            return false;
-        }
-        if size <= LINE_WORDS {
-            return false;
-        }
-        let region = self.region_in(self.seats[self.turn].blocks[0]);
-        let left = region.end - region.next;
-        0 < left && left < size
+        overflows(&self.notes, &self.seats[self.turn], self.fill, size)
     }
 
     /// Makes the mutator the owner of a block, and the region the one that it allocates objects of
@@ -236,55 +143,22 @@ impl PlainRow {
         }
     }
 
-    /// Makes the first hole of the mutator's block of the hole region that has room for `size`
-    /// words, from the region's end on, the hole region, if there is one.
-    fn take_next_hole(&mut self, block: u32, region: Region, size: u32) -> bool
-        requires ready { IsReady self.old }
-        requires block { block < self.old.row.layout.blocks }
-        requires fill { FillsLines self.old.fill }
-        requires note { slice_get self.old.notes.items block
-            ≡ Some (Owned (number_at_turn self.old) region) }
-        requires current { block_of (seat_at_turn self.old) 0 ≡ Some block }
-        requires full { region.end < region.next + size }
-        requires least { 3 ≤ size }
-        requires most { size ≤ MAX_MEDIUM_WORDS }
-        ensures found { result ≡ true → (hole : Region)
-            × IsFirstHole self.old.fill (state_of self.old.row) block region.end size (Some hole)
-            × NotesBlock self.old self.new block (Owned (number_at_turn self.old) hole) }
-        ensures none { result ≡ false
-            → IsFirstHole self.old.fill (state_of self.old.row) block region.end size None
-            × (self.new ≡ self.old) }
+    /// Makes a hole of an own block of the mutator what is left of the block.
+    fn move_to(&mut self, block: u32, hole: Region)
+        requires turn { IsTurn self.old }
+        requires block { block < length self.old.notes.items }
+        ensures { NotesBlock self.old self.new block (Owned (number_at_turn self.old) hole) }
     {
-        let Some(hole) = first_hole(&self.row, self.fill, block, region.end, size) else {
-            return false;
-        };
-        let number = self.number();
+        let owner = self.number();
         self.notes[block as usize] = BlockNote::Owned {
-            owner: number,
+            owner,
             region: hole,
         };
-        true
     }
 
-    /// Makes a hole of a block of the mutator its hole region, under a plan with lines, if the
-    /// block is that of the hole region and has one from the region's end on.
-    fn take_in_own_lines(&mut self, block: u32, region: Region, size: u32) -> bool
-        requires ready { IsReady self.old }
-        requires block { block < self.old.row.layout.blocks }
-        requires fill { FillsLines self.old.fill }
-        requires note { slice_get self.old.notes.items block
-            ≡ Some (Owned (number_at_turn self.old) region) }
-        requires least { 3 ≤ size }
-        requires most { size ≤ MAX_MEDIUM_WORDS }
-        requires full { IsFull self.old size }
-        ensures found { result ≡ true → FindsHole self.old self.new block size }
-        ensures none { result ≡ false → LacksHole self.old self.new block size }
-    {
-        self.seats[self.turn].blocks[0] == Some(block) && self.take_next_hole(block, region, size)
-    }
-
-    /// Makes room for `size` words in an own block the mutator's region, if it has some. The block
-    /// becomes the one that the mutator allocates objects of the class in.
+    /// Makes room for `size` words in an own block the mutator's region, if it has some: the block
+    /// becomes the one that the mutator allocates objects of the class in, or its next hole the
+    /// hole region.
     fn take_in_own(&mut self, block: u32, region: Region, size: u32) -> bool
         requires ready { IsReady self.old }
         requires block { block < self.old.row.layout.blocks }
@@ -296,18 +170,25 @@ impl PlainRow {
         ensures found { result ≡ true → FindsHole self.old self.new block size }
         ensures none { result ≡ false → LacksHole self.old self.new block size }
     {
-        if self.fill == Kind::Immix {
-            return self.take_in_own_lines(block, region, size);
+        match own_room(
+            &self.row,
+            &self.seats[self.turn],
+            self.fill,
+            block,
+            &region,
+            size,
+        ) {
+            OwnRoom::Nothing => false,
+            OwnRoom::Rest => {
+                let class = class_of(self.fill, size);
+                self.return_to(block, class);
+                true
+            }
+            OwnRoom::Hole(hole) => {
+                self.move_to(block, hole);
+                true
+            }
         }
-        if region.end - region.next < size {
-            return false;
-        }
-        if has_other_class(&self.row, self.fill, block, size) {
-            return false;
-        }
-        let class = class_of(self.fill, size);
-        self.return_to(block, class);
-        true
     }
 
     /// Makes a hole of the block with room for `size` words the mutator's region, if there is one
@@ -344,10 +225,7 @@ impl PlainRow {
             → LacksHole self.old self.new block size }
         ensures same { result ≡ false → self.new ≡ self.old }
     {
-        if self.fill != Kind::Immix {
-            return false;
-        }
-        let Some(block) = self.seats[self.turn].blocks[0] else {
+        let Some(block) = hole_block(&self.seats[self.turn], self.fill) else {
             return false;
         };
         self.take_hole_in(block, size)
@@ -383,7 +261,7 @@ impl PlainRow {
     #[inline(always)]
     fn advance(&mut self, block: u32, owner: u32, region: &Region, size: u32)
         requires room { HasRoom self.old size }
-        requires current { IsBlockFor self.old.fill self.old.notes.items (seat_at_turn self.old)
+        requires current { IsBlockFor self.old.fill (regions_at_turn self.old)
             size block }
         requires note { slice_get self.old.notes.items block ≡ Some (Owned owner region.now) }
         ensures { Advances self.old self.new size block region.now.next }
@@ -423,7 +301,7 @@ impl PlainRow {
         shape: &Shape,
     ) -> Name
         requires room { HasRoom self.old (size_of shape.now.refs shape.now.nums) }
-        requires current { IsBlockFor self.old.fill self.old.notes.items (seat_at_turn self.old)
+        requires current { IsBlockFor self.old.fill (regions_at_turn self.old)
             (size_of shape.now.refs shape.now.nums) block }
         requires note { slice_get self.old.notes.items block ≡ Some (Owned owner region.now) }
         requires register { d < REGISTERS }

@@ -4,9 +4,8 @@
 //! number, a global, a bit for unlogged or pinned objects, the stop word or the budget word. Never
 //! touches notes, seats or mutators.
 
-ghost use Rattle.std.specs.Prelude.{◌≡◌, ◌+◌, ◌-◌, ◌/◌, ◌%◌, ◌^◌, ◌<◌, ◌≤◌, length, slice_index, nat_eq};
-ghost use Rattle.std.specs.Int.{bit_at};
-ghost use Rattle.heap_layout.specs.Zones.{heap_of, row_words, IsAddress};
+ghost use Rattle.std.specs.Prelude.{◌≡◌, ◌+◌, ◌-◌, ◌/◌, ◌%◌, ◌<◌, ◌≤◌, length, slice_index};
+ghost use Rattle.heap_layout.specs.Zones.{heap_of, IsAddress};
 ghost use Rattle.side_meta.specs.BitWords.{with_bit, without_bit};
 ghost use Rattle.plain_row.specs.Rows.{IsTurn, address_at};
 ghost use Rattle.plain_row.specs.Changes.{StoresWord};
@@ -26,45 +25,34 @@ impl PlainRow {
 
     /// The index of the word with the bit of an address, in a zone that has a bit for each word of
     /// the heap, and the position of the bit in the word.
-    pub(crate) fn bit_at(&self, zone: u32, address: u32) -> (usize, u32)
+    pub(crate) fn bit_at(&self, zone: u32, address: u32) -> (u32, u32)
         requires address { IsAddress self.now.row.layout.blocks address }
         requires zone { zone ≤ heap_of self.now.row.layout.blocks }
         ensures word { result.0 ≡ zone + (address - heap_of self.now.row.layout.blocks) / 64 }
         ensures bit { result.1 ≡ (address - heap_of self.now.row.layout.blocks) % 64 }
     {
         let index = address - self.row.layout.heap_base();
-        ((zone + index / 64) as usize, index % 64)
-    }
-
-    /// Whether a bit of a word is set.
-    pub(crate) fn test_bit(&self, at: usize, bit: u32) -> bool
-        requires word { at < length self.now.row.words.items }
-        requires bit { bit < 64 }
-        ensures { result ≡ nat_eq (bit_at (slice_index self.now.row.words.items at) bit) 1 }
-    {
-        (self.row.words[at] >> bit) & 1 == 1
+        (zone + index / 64, index % 64)
     }
 
     /// Sets a bit of a word.
-    pub(crate) fn set_bit(&mut self, at: usize, bit: u32)
+    pub(crate) fn set_bit(&mut self, at: u32, bit: u32)
         requires word { at < length self.old.row.words.items }
         requires bit { bit < 64 }
         ensures { StoresWord self.old self.new at
             (with_bit (slice_index self.old.row.words.items at) bit) }
     {
-        let word = self.row.words[at];
-        self.store(at, word | (1 << bit));
+        side_meta::set_bit(&mut self.row.words, at, bit);
     }
 
     /// Clears a bit of a word.
-    pub(crate) fn clear_bit(&mut self, at: usize, bit: u32)
+    pub(crate) fn clear_bit(&mut self, at: u32, bit: u32)
         requires word { at < length self.old.row.words.items }
         requires bit { bit < 64 }
         ensures { StoresWord self.old self.new at
             (without_bit (slice_index self.old.row.words.items at) bit) }
     {
-        let word = self.row.words[at];
-        self.store(at, word & !(1 << bit));
+        side_meta::clear_bit(&mut self.row.words, at, bit);
     }
 
     /// The index of reference field `i` of the object in register `s`.

@@ -112,8 +112,7 @@ impl PlainTrace {
             ((address - heap_of self.now.row.layout.blocks) % 64)) 1 }
     {
         let index = address - layout.heap_base();
-        let word = self.row.words[(zone + index / 64) as usize];
-        (word >> (index % 64)) & 1 == 1
+        side_meta::test_bit(&self.row.words, zone + index / 64, index % 64)
     }
 
     /// Sets the bit of an address in a zone that has a bit for each word of the heap.
@@ -129,9 +128,7 @@ impl PlainTrace {
             ((address - heap_of self.old.row.layout.blocks) % 64))) }
     {
         let index = address - layout.heap_base();
-        let at = (zone + index / 64) as usize;
-        let word = self.row.words[at];
-        self.row.words[at] = word | (1 << (index % 64));
+        side_meta::set_bit(&mut self.row.words, zone + index / 64, index % 64);
     }
 
     /// Marks the lines that an object touches after the collection.

@@ -1,12 +1,11 @@
 -- What an allocation's effect gives for the world's call.
-use Rattle.std.proofs.Common.{◌≡◌, refl, sym, ◌∙◌, ap, subst, ℕ, ◌+◌, arith, List}
+use Rattle.std.proofs.Common.{◌≡◌, refl, sym, ◌∙◌, ap, subst, ℕ, ◌+◌, ◌⊎◌, inl, inr, arith, List}
 use Rattle.std.specs.Prelude.{Option, Some, None, slice_get, slice_index}
 use Rattle.ideal_heap.specs.declared.name.Name.{Name}
-use Rattle.heap_layout.specs.Zones.{block_start}
 use Rattle.heap_layout.specs.declared.block.Kind.{Kind}
 use Rattle.heap_layout.specs.declared.region.Region.{Region}
-use Rattle.object_model.specs.Objects.{state_of, word_at, owner_at}
-use Rattle.sessions.specs.Fitting.{HasCellFor, class_for}
+use Rattle.object_model.specs.Objects.{state_of, word_at}
+use Rattle.sessions.specs.Fitting.{class_for}
 use Rattle.mutator_calls.specs.declared.need.Need.{Need}
 use Rattle.mutator_calls.specs.declared.need.NeedCause.{NeedCause}
 use Rattle.mutator_calls.specs.declared.need.NeedCause.TheVariants.{Large, Budget}
@@ -20,13 +19,15 @@ use Rattle.block_regions.specs.declared.block_notes.BlockNote.{BlockNote}
 use Rattle.block_regions.specs.declared.block_notes.BlockNote.TheVariants.{Unowned, Owned}
 use Rattle.plan_api.specs.declared.cursors.Cursors.{Cursors}
 use Rattle.plan_api.specs.Cursors.{TriesOverflow, PlacesInRegion}
-use Rattle.plain_row.specs.Rows.{number_of, births_of, registers_of, seat_at_turn}
-use Rattle.local_allocators.specs.Seats.{ticket_of}
-use Rattle.local_allocators.specs.TwoRegions.{FillsLines, cursors_of, GoesOver, KeepsOthers, TriesBlock, LacksBlock, LacksRegions}
+use Rattle.plain_row.specs.Rows.{number_of, births_of, registers_of, seat_at_turn, regions_at_turn, view_of}
+use Rattle.local_allocators.specs.Seats.{ticket_of, block_of}
+use Rattle.local_allocators.specs.MutatorRegions.{FillsLines, cursors_of, GoesOver, KeepsOthers, TriesBlock, LacksBlock, LacksRegions, MayLeaveClass}
+use Rattle.local_allocators.specs.NotedRegions.{regions_of}
+use Rattle.local_allocators.specs.Placing.{IsPlacedIn}
 use Rattle.plain_row.proofs.Turns.{block-one}
 use Rattle.mutator_calls.specs.Effects.{nothing}
 use Rattle.plain_row.specs.Worlds.{Goes}
-use Rattle.plain_row.specs.Steps.{Lacks, HasBudget, books_of, IsOffer, Offers, PlacesObject}
+use Rattle.plain_row.specs.Steps.{Lacks, HasBudget, books_of, IsOffer, Offers, LeavesClass, PlacesObject}
 
 pub allocated-weaker : {P P' : Name → Type 0} {Q Q' : Need → Type 0} (r : Allocated) → ((n : Name) → P n → P' n) → ((need : Need) → Q need → Q' need)
     → MatchAllocated r P Q → MatchAllocated r P' Q'
@@ -40,10 +41,10 @@ allocated-both (Stop need) is = is
 
 -- the same, by the place of the mutator
 abbrev pub LacksAt : PlainRow → ℕ → ℕ → ℕ → Type 0
-LacksAt b m size k = LacksBlock b.fill b.notes.items (slice_get b.seats.items m) (state_of b.row) (number_of (slice_get b.mutators.items m)) size k
+LacksAt b m size k = LacksBlock b.fill (regions_of b.notes.items (slice_get b.seats.items m)) (state_of b.row) (number_of (slice_get b.mutators.items m)) size k
 
 abbrev pub FullAt : PlainRow → ℕ → ℕ → Type 0
-FullAt b m size = LacksRegions b.fill b.notes.items (slice_get b.seats.items m) (state_of b.row) (number_of (slice_get b.mutators.items m)) size
+FullAt b m size = LacksRegions b.fill (regions_of b.notes.items (slice_get b.seats.items m)) (state_of b.row) (number_of (slice_get b.mutators.items m)) size
 
 abbrev pub books_for : PlainRow → ℕ → Books
 books_for b m = record {
@@ -97,40 +98,29 @@ region-read old new r q is = ap of is
 
 -- from two steps of an allocation, in `mid` by the regions as the object was placed, the other regions stay
 rest-kept : (fill then : Kind) (size : ℕ) (before : Cursors) (n0 : List BlockNote) (s0 : Option LocalSeat) (n1 : List BlockNote) (s1 : Option LocalSeat)
-    (n2 : List BlockNote) (s2 : Option LocalSeat) → then ≡ fill → before ≡ cursors_of n1 s1
-    → KeepsOthers then size (GoesOver then n1 s1 size) n0 s0 n1 s1 → KeepsOthers then size (GoesOver then n1 s1 size) n1 s1 n2 s2
-    → KeepsOthers fill size (FillsLines fill × TriesOverflow before size) n0 s0 n2 s2
+    (n2 : List BlockNote) (s2 : Option LocalSeat) → then ≡ fill → before ≡ cursors_of (regions_of n1 s1)
+    → KeepsOthers then size (GoesOver then (regions_of n1 s1) size) (regions_of n0 s0) (regions_of n1 s1) → KeepsOthers then size (GoesOver then (regions_of n1 s1) size) (regions_of n1 s1) (regions_of n2 s2)
+    → KeepsOthers fill size (FillsLines fill × TriesOverflow before size) (regions_of n0 s0) (regions_of n2 s2)
 rest-kept fill then size before n0 s0 n1 s1 n2 s2 same are first next = record {
   classes = λ class free.
-      let yet : class ≡ class_for then size → GoesOver then n1 s1 size = λ is. into (free (is ∙ ap (λ f. class_for f size) same)) in
+      let yet : class ≡ class_for then size → GoesOver then (regions_of n1 s1) size = λ is. into (free (is ∙ ap (λ f. class_for f size) same)) in
       let x = first.classes class yet in let y = next.classes class yet in
       record { block = y.block ∙ x.block; region = y.region ∙ x.region };
   over_stays = λ none.
-      let still : GoesOver then n1 s1 size → ⊥ = λ is. none (outof is) in
+      let still : GoesOver then (regions_of n1 s1) size → ⊥ = λ is. none (outof is) in
       let x = first.over_stays still in let y = next.over_stays still in
       record { block = y.block ∙ x.block; region = y.region ∙ x.region };
 }
   where
-    into : FillsLines fill × TriesOverflow before size → GoesOver then n1 s1 size
+    into : FillsLines fill × TriesOverflow before size → GoesOver then (regions_of n1 s1) size
     into is = record { lines = same ∙ is.0; tried = subst (λ c. TriesOverflow c size) are is.1 }
 
-    outof : GoesOver then n1 s1 size → FillsLines fill × TriesOverflow before size
+    outof : GoesOver then (regions_of n1 s1) size → FillsLines fill × TriesOverflow before size
     outof is = (sym same ∙ is.lines, subst (λ c. TriesOverflow c size) (sym are) is.tried)
 
 -- where the new object lies
-pub record IsPlaced (a b : PlainRow) (m d size : ℕ) : Type 0 where
-  pub block : ℕ
-  pub offset : ℕ
-  pub address : slice_index (registers_of (slice_get b.mutators.items m)) d ≡ block_start (state_of b.row).blocks block + offset
-  pub owner : owner_at (state_of b.row) block ≡ number_of (slice_get b.mutators.items m)
-  pub current : TriesBlock b.fill (slice_get b.seats.items m) size block
-  pub cell : HasCellFor b.fill (state_of b.row) block offset size
-  pub spot : IsOffer (record a { turn = m }) block offset size
-  pub before : Cursors
-  pub region : FillsLines b.fill → PlacesInRegion before (cursors_of b.notes.items (slice_get b.seats.items m)) size block offset
-  pub others : KeepsOthers a.fill size (FillsLines a.fill × TriesOverflow before size) a.notes.items (slice_get a.seats.items m) b.notes.items (slice_get b.seats.items m)
-
-pub placed-at : (a mid b : PlainRow) (m d size : ℕ) → b.turn ≡ m → b.fill ≡ a.fill → Offers (record a { turn = m }) mid size → PlacesObject mid b d size → IsPlaced a b m d size
+pub placed-at : (a mid b : PlainRow) (m d size : ℕ) → b.turn ≡ m → b.fill ≡ a.fill → Offers (record a { turn = m }) mid size → PlacesObject mid b d size
+    → IsPlacedIn (view_of a m) (view_of b m) (slice_index (registers_of (slice_get b.mutators.items m)) d) size
 placed-at a mid b m d size turn fill offers places =
     let block : offers.block ≡ places.block
     = block-one mid.fill mid.notes.items (seat_at_turn mid) size offers.block places.block offers.now.current places.now.current in
@@ -139,17 +129,23 @@ placed-at a mid b m d size turn fill offers places =
     record {
       block = places.block;
       offset = places.region.next;
-      address = ap (λ t. slice_index (registers_of (slice_get b.mutators.items t)) d) (sym turn) ∙ places.address;
+      place = ap (λ t. slice_index (registers_of (slice_get b.mutators.items t)) d) (sym turn) ∙ places.address;
       owner = places.owner ∙ ap (λ t. number_of (slice_get b.mutators.items t)) turn;
-      current = subst (λ t. TriesBlock b.fill (slice_get b.seats.items t) size places.block) turn places.current;
+      current = subst (λ t. TriesBlock b.fill (regions_of b.notes.items (slice_get b.seats.items t)) size places.block) turn places.current;
       cell = places.cell;
       spot = subst (λ k. IsOffer (record a { turn = m }) k places.region.next size) block
           (subst (λ r. IsOffer (record a { turn = m }) offers.block r.next size) region offers.offer);
-      before = cursors_of mid.notes.items (seat_at_turn mid);
-      region = λ lines. subst (λ t. PlacesInRegion (cursors_of mid.notes.items (seat_at_turn mid)) (cursors_of b.notes.items (slice_get b.seats.items t)) size places.block places.region.next)
+      class = elim offers.class as (λ _. MayLeaveClass a.fill (regions_of a.notes.items (slice_get a.seats.items m)) (state_of a.row) (number_of (slice_get a.mutators.items m))
+          size places.block ⊎ (block_of (slice_get b.seats.items m) (class_for b.fill size) ≡ Some places.block)) [
+            | inl leaves ↦ inl (subst (λ k. LeavesClass (record a { turn = m }) size k) block leaves)
+            | inr is ↦ inr (ap (λ t. block_of (slice_get b.seats.items t) (class_for b.fill size)) (sym turn) ∙ places.blocks (class_for b.fill size)
+                ∙ ap (λ (f : Kind). block_of (seat_at_turn mid) (class_for f size)) places.fill ∙ is ∙ ap (λ (k : ℕ). Some k) block)
+          ];
+      before = cursors_of (regions_at_turn mid);
+      region = λ lines. subst (λ t. PlacesInRegion (cursors_of (regions_at_turn mid)) (cursors_of (regions_of b.notes.items (slice_get b.seats.items t))) size places.block places.region.next)
           turn (places.region_after lines);
-      others = rest-kept a.fill mid.fill size (cursors_of mid.notes.items (seat_at_turn mid)) a.notes.items (slice_get a.seats.items m) mid.notes.items (seat_at_turn mid)
+      others = rest-kept a.fill mid.fill size (cursors_of (regions_at_turn mid)) a.notes.items (slice_get a.seats.items m) mid.notes.items (seat_at_turn mid)
           b.notes.items (slice_get b.seats.items m) (sym places.fill ∙ fill) refl offers.others
-          (subst (λ t. KeepsOthers mid.fill size (GoesOver mid.fill mid.notes.items (seat_at_turn mid) size) mid.notes.items (seat_at_turn mid) b.notes.items (slice_get b.seats.items t))
+          (subst (λ t. KeepsOthers mid.fill size (GoesOver mid.fill (regions_at_turn mid) size) (regions_at_turn mid) (regions_of b.notes.items (slice_get b.seats.items t)))
           turn places.others);
     }

@@ -23,7 +23,8 @@ use Rattle.plain_row.specs.Rows.{address_at, number_of, births_of}
 use Rattle.local_allocators.specs.Seats.{ticket_of, block_of}
 use Rattle.heap_users.specs.Users.{mutator_state}
 use Rattle.block_regions.specs.Notes.{IsRegionOf}
-use Rattle.local_allocators.specs.TwoRegions.{KeepsRegions, region_of, region_noted}
+use Rattle.local_allocators.specs.MutatorRegions.{KeepsRegions}
+use Rattle.local_allocators.specs.NotedRegions.{region_of, region_noted, regions_of}
 use Rattle.block_regions.proofs.Lists.{get-some, get-below}
 use Rattle.plain_row.proofs.Turns as turns
 use Rattle.plain_row.specs.Steps.{IsBarred}
@@ -124,10 +125,10 @@ pub ticket-after : (a b : PlainRow) (m : ℕ) (e : Effect) → Goes (record a { 
 ticket-after a b m e goes none kept = ap (λ t. ticket_of (slice_get b.seats.items t)) (sym goes.turn) ∙ goes.ticket none kept
 
 pub regions-after : (a b : PlainRow) (m : ℕ) (e : Effect) → Goes (record a { turn = m }) e b → e.moved ≡ false
-    → KeepsRegions a.notes.items (slice_get a.seats.items m) b.notes.items (slice_get b.seats.items m)
-regions-after a b m e goes still = subst (λ t. KeepsRegions a.notes.items (slice_get a.seats.items m) b.notes.items (slice_get b.seats.items t)) goes.turn (goes.regions still)
+    → KeepsRegions (regions_of a.notes.items (slice_get a.seats.items m)) (regions_of b.notes.items (slice_get b.seats.items m))
+regions-after a b m e goes still = subst (λ t. KeepsRegions (regions_of a.notes.items (slice_get a.seats.items m)) (regions_of b.notes.items (slice_get b.seats.items t))) goes.turn (goes.regions still)
 
-pub regions-same : (notes : List BlockNote) (seat : Option LocalSeat) → KeepsRegions notes seat notes seat
+pub regions-same : (notes : List BlockNote) (seat : Option LocalSeat) → KeepsRegions (regions_of notes seat) (regions_of notes seat)
 regions-same notes seat = record { classes = λ class. record { block = refl; region = refl }; over = record { block = refl; region = refl } }
 
 -- a region stays if the note of its block does
@@ -150,7 +151,7 @@ module _ (a b : PlainRow) (m : ℕ) (e : Effect) (idle : IsIdle a) (place : m < 
       goes.foreign d theirs.0.number has.region
       (λ same. other (turns.differ now.epoch now.ideal now.log a now.at k m theirs.0 mine.0 theirs.1 mine.1 (same ∙ ap number_of mine.1))) has.note ∙ sym has.note
 
-  seat-keeps : (o : Option LocalSeat) → slice_get a.seats.items k ≡ o → KeepsRegions a.notes.items o b.notes.items o
+  seat-keeps : (o : Option LocalSeat) → slice_get a.seats.items k ≡ o → KeepsRegions (regions_of a.notes.items o) (regions_of b.notes.items o)
   seat-keeps None sits = record { classes = λ class. record { block = refl; region = refl }; over = record { block = refl; region = refl } }
   seat-keeps (Some x) sits = let now = idle.some in record {
     classes = λ class. record {
@@ -166,9 +167,9 @@ module _ (a b : PlainRow) (m : ℕ) (e : Effect) (idle : IsIdle a) (place : m < 
   }
 
   pub others-after : (slice_get b.mutators.items k ≡ slice_get a.mutators.items k) × (slice_get b.seats.items k ≡ slice_get a.seats.items k)
-      × KeepsRegions a.notes.items (slice_get a.seats.items k) b.notes.items (slice_get b.seats.items k)
+      × KeepsRegions (regions_of a.notes.items (slice_get a.seats.items k)) (regions_of b.notes.items (slice_get b.seats.items k))
   others-after = let same = goes.others k other in (
     same.0,
     same.1,
-    subst (λ o. KeepsRegions a.notes.items (slice_get a.seats.items k) b.notes.items o) (sym same.1) (seat-keeps (slice_get a.seats.items k) refl),
+    subst (λ o. KeepsRegions (regions_of a.notes.items (slice_get a.seats.items k)) (regions_of b.notes.items o)) (sym same.1) (seat-keeps (slice_get a.seats.items k) refl),
   )

@@ -1,5 +1,5 @@
 -- The heap after mutators gave back all their blocks.
-use Rattle.std.proofs.Common.{◌≡◌, ◌∙◌, ℕ, ◌-◌, ◌/◌, ◌%◌, ◌<◌, ◌≤◌, ◌⊎◌, inl, inr, arith, length, List}
+use Rattle.std.proofs.Common.{◌≡◌, ◌∙◌, ℕ, ◌/◌, ◌%◌, ◌<◌, ◌≤◌, ◌⊎◌, inl, inr, arith, length, List}
 use Rattle.std.proofs.lemmas.Bool.{cases_lt}
 use Rattle.heap_layout.specs.Zones.{first, BlockWords, StartBits}
 use Rattle.heap_layout.specs.declared.block.Kind.{Kind}

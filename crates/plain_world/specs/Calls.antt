@@ -3,7 +3,6 @@ use Rattle.std.specs.Prelude.{◌≡◌, ◌≢◌, ℕ, ◌+◌, ◌<◌, ◌�
 use Rattle.std.specs.List.{Contains}
 use Rattle.heap_layout.specs.declared.block.Kind.{Kind}
 use Rattle.heap_layout.specs.declared.block.Kind.TheVariants as kinds
-use Rattle.heap_layout.specs.Zones.{block_start}
 use Rattle.ideal_heap.specs.declared.command.Command.{Command}
 use Rattle.ideal_heap.specs.declared.command.Command.TheVariants as command
 use Rattle.ideal_heap.specs.declared.reply.Reply.TheVariants as reply
@@ -11,25 +10,24 @@ use Rattle.ideal_heap.specs.declared.name.Name.{Name}
 use Rattle.ideal_heap.specs.declared.reply.Reply.{Reply}
 use Rattle.ideal_heap.specs.Ideal.{IdealHeap}
 use Rattle.ideal_heap.specs.Runs.{Entry, entry}
-use Rattle.object_model.specs.Objects.{HeapState, state_of, word_at, block_word, has_kind, HasKind, IsHeld, owner_at, is_unlogged, size_of}
+use Rattle.object_model.specs.Objects.{HeapState, state_of, word_at, block_word, has_kind, HasKind, IsHeld, is_unlogged, size_of}
 use Rattle.object_model.specs.declared.shape.TheConstants.{HEADER_WORDS, MAX_MEDIUM_WORDS}
 use Rattle.object_model.specs.Graphs.{MutatorState}
 use Rattle.object_model.specs.Ages.{is_old}
-use Rattle.sessions.specs.Fitting.{HasCellFor}
 use Rattle.sessions.specs.Plans.{Rules}
-use Rattle.plan_api.specs.declared.cursors.Cursors.{Cursors}
-use Rattle.plan_api.specs.Cursors.{TriesOverflow, PlacesInRegion}
 use Rattle.mutator_core.specs.Machine.{Epoch}
 use Rattle.mutator_calls.specs.Effects.{Effect, draws}
 use Rattle.mutator_calls.specs.Allocating.{Books, births_with, Draws, FindsRoom}
 use Rattle.plain_world.specs.declared.plain_world.PlainWorld.{PlainWorld}
 use Rattle.local_allocators.specs.declared.local_seat.LocalSeat.{LocalSeat}
 use Rattle.block_regions.specs.declared.block_notes.BlockNote.{BlockNote}
-use Rattle.plain_row.specs.Rows.{number_of, births_of, registers_of}
+use Rattle.plain_row.specs.Rows.{number_of, births_of, registers_of, view_of}
 use Rattle.heap_users.specs.Users.{mutator_state}
 use Rattle.local_allocators.specs.Seats.{ticket_of}
-use Rattle.local_allocators.specs.TwoRegions.{FillsLines, cursors_of, TriesBlock, Overflows, KeepsHole, KeepsRegions, KeepsOthers, LacksBlock, LacksRegions, OffersRoom}
+use Rattle.local_allocators.specs.MutatorRegions.{MutatorRegions, TriesBlock, Overflows, KeepsHole, KeepsRegions, LacksBlock, LacksRegions}
 use Rattle.plain_row.specs.Worlds.{IsAfter, IsIdle, has, births_in, stop_after}
+use Rattle.local_allocators.specs.NotedRegions.{regions_of}
+use Rattle.local_allocators.specs.Placing.{LocalView, IsPlacedIn}
 
 -- the heap, as the mutators use it
 abbrev pub heap_of : {P : Type 0} → PlainWorld P → HeapState
@@ -118,25 +116,33 @@ notes_of w = w.row.notes.items
 abbrev pub seat_at : {P : Type 0} → PlainWorld P → ℕ → Option LocalSeat
 seat_at w m = slice_get w.row.seats.items m
 
+-- what the world is to the allocation of that mutator
+abbrev pub view_at : {P : Type 0} → PlainWorld P → ℕ → LocalView
+view_at w m = view_of w.row m
+
+-- the regions of that mutator
+abbrev pub regions_at : {P : Type 0} → PlainWorld P → ℕ → MutatorRegions
+regions_at w m = regions_of (notes_of w) (seat_at w m)
+
 -- block k has no room for an object of the size that the mutator at place m may fill
 abbrev pub HasNoRoom : {P : Type 0} → PlainWorld P → ℕ → ℕ → ℕ → Type 0
-HasNoRoom w m size k = LacksBlock w.row.fill (notes_of w) (seat_at w m) (heap_of w) (number_at w m) size k
+HasNoRoom w m size k = LacksBlock w.row.fill (regions_at w m) (heap_of w) (number_at w m) size k
 
 -- no region that the mutator at place m tries for the size has room
 abbrev pub HasFullRegions : {P : Type 0} → PlainWorld P → ℕ → ℕ → Type 0
-HasFullRegions w m size = LacksRegions w.row.fill (notes_of w) (seat_at w m) (heap_of w) (number_at w m) size
+HasFullRegions w m size = LacksRegions w.row.fill (regions_at w m) (heap_of w) (number_at w m) size
 
 -- an object of the size overflows the hole region of the mutator at place m
 abbrev pub OverflowsAt : {P : Type 0} → PlainWorld P → ℕ → ℕ → Type 0
-OverflowsAt w m size = Overflows w.row.fill (notes_of w) (seat_at w m) size
+OverflowsAt w m size = Overflows w.row.fill (regions_at w m) size
 
 -- the mutator at place m keeps its hole region
 abbrev pub KeepsHoleAt : {P : Type 0} → PlainWorld P → ℕ → PlainWorld P → Type 0
-KeepsHoleAt old m new = KeepsHole (notes_of old) (seat_at old m) (notes_of new) (seat_at new m)
+KeepsHoleAt old m new = KeepsHole (regions_at old m) (regions_at new m)
 
 -- from the one world to the other the mutator at place m keeps its regions
 abbrev pub KeepsRegionsAt : {P : Type 0} → PlainWorld P → ℕ → PlainWorld P → Type 0
-KeepsRegionsAt old m new = KeepsRegions (notes_of old) (seat_at old m) (notes_of new) (seat_at new m)
+KeepsRegionsAt old m new = KeepsRegions (regions_at old m) (regions_at new m)
 
 -- block k is not Free
 abbrev pub IsNotFree : {P : Type 0} → PlainWorld P → ℕ → Type 0
@@ -180,29 +186,11 @@ pub record IsUnchanged {P : Type 0} (old new : PlainWorld P) : Type 0 where
 
 -- the mutator at place m tries a region in block k for objects of this size
 abbrev pub AllocatesAt : {P : Type 0} → PlainWorld P → ℕ → ℕ → ℕ → Type 0
-AllocatesAt w m size k = TriesBlock w.row.fill (seat_at w m) size k
+AllocatesAt w m size k = TriesBlock w.row.fill (regions_at w m) size k
 
 -- no block in which the mutator at place m tries a region for the size has room for it
 abbrev pub HasSpentBlocks : {P : Type 0} → PlainWorld P → ℕ → ℕ → Type 0
 HasSpentBlocks w m size = (k : ℕ) → AllocatesAt w m size k → HasNoRoom w m size k
-
--- The new object in register d of the mutator at place m lies in a block that the mutator allocates objects of this
--- size in now, which it owns. It begins the first hole with room for it, of a block that was the mutator's or nobody's, or
--- a block that was Free. In cells it has one of the class for the size. Under lines it may also begin the rest of the
--- region that takes it, or a later hole of the block of the hole region; and it is in the one of the two regions that
--- takes it, which begins after it now: `before` are the two as the object was placed. The mutator's other regions stay.
-pub record IsPlacedIn {P : Type 0} (old : PlainWorld P) (m : ℕ) (new : PlainWorld P) (d size : ℕ) : Type 0 where
-  pub block : ℕ
-  pub offset : ℕ
-  pub address : register_in new m d ≡ block_start (heap_of new).blocks block + offset
-  pub owner : owner_at (heap_of new) block ≡ number_at new m
-  pub current : AllocatesAt new m size block
-  pub cell : HasCellFor new.row.fill (heap_of new) block offset size
-  pub spot : OffersRoom old.row.fill (notes_of old) (seat_at old m) (heap_of old) (number_at old m) block offset size
-  pub before : Cursors
-  pub region : FillsLines new.row.fill → PlacesInRegion before (cursors_of (notes_of new) (seat_at new m)) size block offset
-  pub others : KeepsOthers old.row.fill size (FillsLines old.row.fill × TriesOverflow before size)
-      (notes_of old) (seat_at old m) (notes_of new) (seat_at new m)
 
 -- The mutator at place m allocates an object of this name: it takes these blocks, of which these were Free, and draws so
 -- many tickets.
@@ -218,7 +206,7 @@ pub record Allocates {P : Type 0} (old : PlainWorld P) (m d r q : ℕ) (n : Name
       (λ t. t ≡ budget_word old) (HasFullRegions old m (size_of r q)) (HasSpentBlocks old m (size_of r q)) (OverflowsAt old m (size_of r q))
       (KeepsHoleAt old m new)
       (heap_of new).blocks (allowance_of new) (ticket_at old m) (ticket_at new m) taken granted drawn
-  pub placed : IsPlacedIn old m new d (size_of r q)
+  pub placed : IsPlacedIn (view_at old m) (view_at new m) (register_in new m d) (size_of r q)
 
 -- The mutator at place m allocates no object of this size, and keeps its regions. It draws a ticket or none; none if the
 -- object is large. Else no region that it tries has room, nor has a block with such a region.

@@ -1,43 +1,65 @@
-use Rattle.std.proofs.Common.{refl, sym, subst, ℕ, inl, inr, arith}
-use denote.Enum.Bare.{same_false}
-use Rattle.heap_layout.specs.contracts.block.Kind.{the_type}
-use Rattle.heap_layout.specs.declared.block.Kind.TheVariants as kinds
+use Rattle.std.proofs.Common.{refl, sym, ◌∙◌, subst, ℕ, inl, inr}
+use Rattle.block_regions.specs.Notes.{FillsTailsOrCells}
+use Rattle.block_regions.proofs.Regions.{fills-cases, no-lines}
+use Rattle.local_allocators.specs.MutatorRegions.{FillsLines}
 use Rattle.plain_row.specs.Rows.{number_at_turn}
 use Rattle.plain_row.specs.Changes as changes
-use Rattle.local_allocators.specs.TwoRegions.{FillsLines}
+use Rattle.plain_row.specs.Changes.{LacksHole}
+use Rattle.plain_row.proofs.Lacking.{own-lines, hole-full}
 use Rattle.plain_row.proofs.Facts as facts
+use Rattle.plain_row.proofs.SeatRead as reads
 use Rattle.plain_row.proofs.Turns as turns
 use Rattle.plain_row.proofs.plain_row.PlainRow.take_in_own.Goals as goal
 
-pub overflow_sub-region : goal.overflow_sub-region
-overflow_sub-region c =
+pub own_room-requires-clause-order : goal.own_room-requires-clause-order
+own_room-requires-clause-order c = let now = c.requires.ready.idle.some in facts.order now.epoch now.ideal now.log c.args.self.now now.at
+
+pub own_room-requires-clause-block : goal.own_room-requires-clause-block
+own_room-requires-clause-block c =
+    let now = c.requires.ready.idle.some in
+    facts.readable-block now.epoch now.ideal now.log c.args.self.now now.at c.args.block c.requires.block
+
+pub own_room-requires-clause-kind : goal.own_room-requires-clause-kind
+own_room-requires-clause-kind c =
+    let w = c.args.self.now in
+    let now = c.requires.ready.idle.some in
+    (turns.owned-note now.epoch now.ideal now.log w now.at c.args.block (number_at_turn w) c.args.region c.requires.note).kind
+
+pub own_room-requires-clause-left : goal.own_room-requires-clause-left
+own_room-requires-clause-left c =
     let w = c.args.self.now in
     let now = c.requires.ready.idle.some in
     (turns.note-inside now.epoch now.ideal now.log w now.at c.args.block (number_at_turn w) c.args.region c.requires.note).0
 
-pub has_other_class-requires : goal.has_other_class-requires
-has_other_class-requires c =
-    let now = c.requires.ready.idle.some in
-    facts.readable-block now.epoch now.ideal now.log c.args.self.now now.at c.args.block c.requires.block
-
-pub returns-then-region-size-clause-none : goal.returns-then-region-size-clause-none
-returns-then-region-size-clause-none c = λ no.
+pub returns-in-Nothing-clause-none : goal.returns-in-Nothing-clause-none
+returns-in-Nothing-clause-none c = λ no.
     let w = c.args.self.now in
-    let no_lines : FillsLines w.fill → ⊥ = same_false the_type w.fill kinds.Immix (sym c.if-eq.ensures) in
-    changes.foreign (number_at_turn w) c.args.region c.requires.note (inr (no_lines, inl (omega (arith, c.if-region-size.true)))) refl
+    let lack = rw c.in-Nothing.is at c.own_room.ensures in
+    elim (fills-cases w.fill c.requires.ready.idle.some.at.fills) as (λ _. LacksHole w w c.args.block c.args.size) [
+      | inl fills ↦ (
+          let no_lines : FillsLines w.fill → ⊥ = λ lines. no-lines (subst FillsTailsOrCells lines fills) in
+          changes.foreign (number_at_turn w) c.args.region c.requires.note (inr (no_lines, lack.1 no_lines)) refl)
+      | inr lines ↦ changes.lacks_lines c.args.region c.requires.note lines
+          (own-lines w c.args.block c.args.size c.args.region c.requires.note lines c.requires.full
+          (λ here. lack.0 lines (sym (reads.block-read w (reads.readable w c.requires.ready) c.index.result.now c.index.ensures 0) ∙ here))) refl
+    ]
 
-pub returns-then-has_other_class-clause-none : goal.returns-then-has_other_class-clause-none
-returns-then-has_other_class-clause-none c = λ no.
+pub returns-in-Rest-clause-found : goal.returns-in-Rest-clause-found
+returns-in-Rest-clause-found c = λ took.
     let w = c.args.self.now in
-    let no_lines : FillsLines w.fill → ⊥ = same_false the_type w.fill kinds.Immix (sym c.if-eq.ensures) in
-    changes.foreign (number_at_turn w) c.args.region c.requires.note (inr (no_lines, inr (c.has_other_class.ensures.other c.if-has_other_class.true))) refl
-
-pub returns-clause-found : goal.returns-clause-found
-returns-clause-found c = λ took.
-    let w = c.args.self.now in
-    let now = c.requires.ready.idle.some in
-    let no_lines : FillsLines w.fill → ⊥ = same_false the_type w.fill kinds.Immix (sym c.if-eq.ensures) in
-    let right = turns.owned-note now.epoch now.ideal now.log w now.at c.args.block (number_at_turn w) c.args.region c.requires.note in
-    changes.own c.args.region c.requires.note no_lines (c.has_other_class.ensures.suits c.if-has_other_class.false right.kind)
-    (omega (arith, c.if-region-size.false, c.requires.least))
+    let rest = rw c.in-Rest.is at c.own_room.ensures in
+    changes.own c.args.region c.requires.note rest.0 rest.1 rest.2
     (subst (λ (class : ℕ). changes.ReturnsTo w c.return_to.new.self c.args.block class) c.class_of-class.ensures.class c.return_to.ensures)
+
+pub move_to-requires-clause-block : goal.move_to-requires-clause-block
+move_to-requires-clause-block c =
+    let now = c.requires.ready.idle.some in
+    turns.noted now.epoch now.ideal now.log c.args.self.now now.at c.args.block c.requires.block
+
+pub returns-in-Hole-clause-found : goal.returns-in-Hole-clause-found
+returns-in-Hole-clause-found c = λ took.
+    let w = c.args.self.now in
+    let hole = rw c.in-Hole.is at c.own_room.ensures in
+    let current = reads.block-read w (reads.readable w c.requires.ready) c.index.result.now c.index.ensures 0 ∙ hole.1 in
+    changes.next_hole c.args.region c.in-Hole.hole c.requires.note hole.0 current
+    (hole-full w c.args.block c.args.size c.args.region c.requires.note hole.0 current c.requires.full) hole.2 c.move_to.ensures

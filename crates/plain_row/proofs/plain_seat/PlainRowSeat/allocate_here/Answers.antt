@@ -2,6 +2,7 @@ use Rattle.std.proofs.Common.{sym, subst, refl, arith, ℕ}
 use Rattle.object_model.specs.Objects.{size_of}
 use Rattle.plain_row.specs.Worlds.{IsReady}
 use Rattle.plain_row.specs.Steps.{Lacks, KeepsRegion}
+use Rattle.plain_row.specs.Rows.{seat_at_turn}
 use Rattle.plain_row.proofs.Allocated.{allocated}
 use Rattle.plain_row.proofs.Offering.{room-offers, room-not-full}
 use Rattle.plain_row.proofs.Lacking.{own-lacks, lacks-regions}
@@ -59,7 +60,7 @@ returns-in-Some-clause-region c =
     let born = allocated c.args.self.now c.allocate_if_room.new.self c.args.d c.in-Some.name c.args.shape.now.refs c.args.shape.now.nums c.in-Some.ensures.made in
     let w = c.args.self.now in
     let has = c.in-Some.ensures.room in
-    let tries = turns.block-tries w.fill w.notes.items _ (size_of c.args.shape.now.refs c.args.shape.now.nums) has.block has.current in (
+    let tries = turns.block-tries w.fill w.notes.items (seat_at_turn w) (size_of c.args.shape.now.refs c.args.shape.now.nums) has.block has.current in (
       has.block,
       tries,
       calls.region c.args.self.now c.allocate_if_room.new.self c.args.d c.args.shape.now.refs c.args.shape.now.nums c.in-Some.name born c.in-Some.ensures.room c.requires.register c.requires.refs c.requires.nums c.requires.small c.requires.births has.block tries,

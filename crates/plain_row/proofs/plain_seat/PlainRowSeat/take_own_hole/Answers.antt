@@ -3,7 +3,7 @@ use Rattle.std.specs.Prelude.{Some}
 use Rattle.plain_row.specs.declared.plain_row.PlainRow.{PlainRow}
 use Rattle.plain_row.specs.Rows.{seat_at_turn}
 use Rattle.local_allocators.specs.Seats.{block_of}
-use Rattle.local_allocators.specs.TwoRegions.{FillsLines}
+use Rattle.local_allocators.specs.MutatorRegions.{FillsLines}
 use Rattle.plain_row.specs.Changes.{FindsHole}
 use Rattle.std.proofs.lemmas.Bool.{cases_Bool}
 use Rattle.mutator_calls.specs.Effects.{nothing, takes}

@@ -8,7 +8,8 @@ use Rattle.plain_row.specs.declared.plain_row.PlainRow.{PlainRow}
 use Rattle.plain_row.specs.Worlds.{Goes}
 use Rattle.local_allocators.specs.Seats.{ticket_of}
 use Rattle.plain_row.specs.Steps.{AllocatesIn, HasBudget, Lacks, IsUsed, KeepsRegion}
-use Rattle.local_allocators.specs.TwoRegions.{TriesBlock, Overflows, KeepsHole}
+use Rattle.local_allocators.specs.MutatorRegions.{TriesBlock, Overflows, KeepsHole}
+use Rattle.local_allocators.specs.NotedRegions.{regions_of}
 use Rattle.plain_world.proofs.CallLemmas.{places-same, young-same, history-gains, births-after, ticket-after, regions-after, others-after, objects-after}
 use Rattle.plain_world.proofs.AllocationCalls.{allocated-weaker, allocated-both, allocated-and, lacks-at, books-at, books_for, LacksAt, FullAt, finds-weaker, next-ticket, cause-weaker, placed-at}
 use Rattle.plain_world.proofs.plain_world.PlainWorld.new_object.Goals as goal
@@ -46,7 +47,7 @@ returns-clause-made g c =
     let b = c.new_object.new.seat in
     let m = c.args.m in
     let size = size_of c.args.refs c.args.nums in
-    let spent : PlainRow → Type 0 = λ w. (k : ℕ) → TriesBlock w.fill (slice_get w.seats.items m) size k → LacksAt w m size k in
+    let spent : PlainRow → Type 0 = λ w. (k : ℕ) → TriesBlock w.fill (regions_of w.notes.items (slice_get w.seats.items m)) size k → LacksAt w m size k in
     allocated-weaker c.new_object.result
     (λ n both. let did = both.0 in let goes = did.3 in let effect = births_with c.args.d c.args.refs c.args.nums n did.0 did.1 did.2 in
     let placed = placed-at a both.1.0.0 b m c.args.d size goes.turn goes.fill both.1.0.1 both.1.0.2 in record {
@@ -65,28 +66,17 @@ returns-clause-made g c =
         others = others-after a b m effect c.requires.open.idle c.requires.place goes;
         objects = objects-after a b m effect c.requires.open.idle goes;
       };
-      finds = subst (λ t. FindsRoom (LacksAt b m size) (IsUsed b) (TriesBlock a.fill (slice_get a.seats.items m) size)
-          (TriesBlock b.fill (slice_get b.seats.items t) size) (λ n. n ≡ word_at (state_of a.row) 1) (FullAt a m size) (spent a)
-          (Overflows a.fill a.notes.items (slice_get a.seats.items m) size)
-          (KeepsHole a.notes.items (slice_get a.seats.items m) b.notes.items (slice_get b.seats.items t)) b.row.layout.blocks b.allowance
+      finds = subst (λ t. FindsRoom (LacksAt b m size) (IsUsed b) (TriesBlock a.fill (regions_of a.notes.items (slice_get a.seats.items m)) size)
+          (TriesBlock b.fill (regions_of b.notes.items (slice_get b.seats.items t)) size) (λ n. n ≡ word_at (state_of a.row) 1) (FullAt a m size) (spent a)
+          (Overflows a.fill (regions_of a.notes.items (slice_get a.seats.items m)) size)
+          (KeepsHole (regions_of a.notes.items (slice_get a.seats.items m)) (regions_of b.notes.items (slice_get b.seats.items t))) b.row.layout.blocks b.allowance
           (ticket_of (slice_get a.seats.items m)) (ticket_of (slice_get b.seats.items t)) did.0 did.1 did.2) goes.turn
-          (finds-weaker (Lacks b size) (LacksAt b m size) (IsUsed b) (TriesBlock a.fill (slice_get a.seats.items m) size)
+          (finds-weaker (Lacks b size) (LacksAt b m size) (IsUsed b) (TriesBlock a.fill (regions_of a.notes.items (slice_get a.seats.items m)) size)
           (AllocatesIn b size) (AllocatesIn b size) (λ t. (mid : PlainRow) × Goes (record a { turn = m }) nothing mid × HasBudget mid t)
-          (λ t. t ≡ word_at (state_of a.row) 1) (FullAt a m size) (spent a) (Overflows a.fill a.notes.items (slice_get a.seats.items m) size)
+          (λ t. t ≡ word_at (state_of a.row) 1) (FullAt a m size) (spent a) (Overflows a.fill (regions_of a.notes.items (slice_get a.seats.items m)) size)
           (KeepsRegion (record a { turn = m }) b) (KeepsRegion (record a { turn = m }) b) b.row.layout.blocks b.allowance _ _ did.0 did.1 did.2
           (lacks-at b m size goes.turn) (λ k is. is) (next-ticket (record a { turn = m })) (λ is. is) did.4);
-      placed = record {
-        block = placed.block;
-        offset = placed.offset;
-        address = placed.address;
-        owner = placed.owner;
-        current = placed.current;
-        cell = placed.cell;
-        spot = placed.spot;
-        before = placed.before;
-        region = placed.region;
-        others = placed.others;
-      };
+      placed = placed;
     })
     (λ need both. let did = both.1.1.0 in let goes = did.1 in let effect = draws did.0 in record {
       drawn = did.0;

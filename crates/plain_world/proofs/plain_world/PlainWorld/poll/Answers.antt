@@ -6,7 +6,8 @@ use Rattle.mutator_calls.specs.Stopping.{stop_of}
 use Rattle.plain_row.specs.declared.plain_row.PlainRow.{PlainRow}
 use Rattle.heap_users.specs.Users.{mutator_state}
 use Rattle.local_allocators.specs.Seats.{ticket_of}
-use Rattle.local_allocators.specs.TwoRegions.{KeepsRegions}
+use Rattle.local_allocators.specs.MutatorRegions.{KeepsRegions}
+use Rattle.local_allocators.specs.NotedRegions.{regions_of}
 use Rattle.plain_row.specs.SeatLaws.{goes-nothing}
 use Rattle.plain_world.proofs.CallLemmas.{places-same, history-gains, stop-known, regions-same}
 use Rattle.plain_world.proofs.plain_world.PlainWorld.poll.Goals as goal
@@ -33,7 +34,7 @@ returns-clause-same g c = record {
   mutators = ap (λ w. map mutator_state w.mutators.items) c.poll.ensures.looks;
   tickets = λ k. ap (λ w. ticket_of (slice_get w.seats.items k)) c.poll.ensures.looks;
   regions = λ k. let a = c.args.self.now.row in
-      subst (λ (w : PlainRow). KeepsRegions a.notes.items (slice_get a.seats.items k) w.notes.items (slice_get w.seats.items k)) (sym c.poll.ensures.looks)
+      subst (λ (w : PlainRow). KeepsRegions (regions_of a.notes.items (slice_get a.seats.items k)) (regions_of w.notes.items (slice_get w.seats.items k))) (sym c.poll.ensures.looks)
       (regions-same a.notes.items (slice_get a.seats.items k));
 }
 
