@@ -4,7 +4,8 @@ ghost use Rattle.std.specs.Prelude.{◌≡◌, ◌≤◌, ℕ, All, length, IfOk
 ghost use Rattle.sessions.specs.Sessions.{Setting, Moment, IsWhole};
 ghost use Rattle.command_line.specs.Orders.{job_of_order};
 ghost use Rattle.command_line.specs.Words.{is_supported};
-ghost use Rattle.mm_runtime.specs.Managers.{Closes, IsManaged, IsReady, IsRunnable};
+ghost use Rattle.mm_runtime.specs.Managers.{Closes, IsReady, IsRunnable};
+ghost use Rattle.managed_heap.specs.Stopped.{IsManaged};
 ghost use Rattle.mm_drive.specs.Texts.{replies_part};
 ghost use Rattle.mm_drive.specs.Printed.{AreReplies, setting_of, IsPrinted};
 

@@ -18,9 +18,9 @@ replied-below (p ∷ ps) each =
     omega arith
 
 -- the number of collections fits its type
-pub collections-few : {P : Type 0} (rules : Rules) (more : ℕ) (m : Manager P) → IsInOrder rules more m → m.nursery + m.full ≤ 32000000 + more
+pub collections-few : {P : Type 0} (rules : Rules) (more : ℕ) (m : Manager P) → IsInOrder rules more m → m.heap.nursery + m.heap.full ≤ 32000000 + more
 collections-few rules more m order =
     let few : length m.progress.items ≤ 16 = order.few in
     let sum : replied m.progress.items ≤ length m.progress.items * 1000000 = replied-below m.progress.items order.each in
-    let most : m.nursery + m.full ≤ 2 * replied m.progress.items + more = order.collections in
+    let most : m.heap.nursery + m.heap.full ≤ 2 * replied m.progress.items + more = order.collections in
     omega arith

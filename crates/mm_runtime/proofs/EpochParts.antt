@@ -38,10 +38,10 @@ use Rattle.mm_runtime.proofs.Standing.{RunsEpoch}
 module _ {P : Type 0} (rules : Rules) (old new : Manager P) (ends : List End) (r : RunsEpoch rules old new ends) (t : Setting) (now : Moment)
     (stands : StandsAt rules old t now) where
   abbrev before : HeapState
-  before = heap_state old.heap
+  before = heap_state old.heap.heap
 
   abbrev ms : List MutatorState
-  ms = map mutator_state old.mutators.items
+  ms = map mutator_state old.heap.mutators.items
 
   abbrev p : Epoch
   p = epoch_of rules before ms
@@ -51,15 +51,15 @@ module _ {P : Type 0} (rules : Rules) (old new : Manager P) (ends : List End) (r
 
   abbrev pub stop : Moment
   stop = record {
-    heap = heap_state new.heap;
-    mutators = map mutator_state new.mutators.items;
+    heap = heap_state new.heap.heap;
+    mutators = map mutator_state new.heap.mutators.items;
     done = now.done ++ part;
     nursery = now.nursery;
     full = now.full;
   }
 
   lawful : IsLawful before
-  lawful = subst IsLawful (sym stands.heap) stands.sound.lawful
+  lawful = subst IsLawful (sym stands.heap.heap) stands.heap.sound.lawful
 
   history : HasHistory r.last p (ideal_at now) part
   history = standing.history rules old new ends r (ideal_at now) (standing.stands-represents rules old t now stands)
@@ -72,8 +72,8 @@ module _ {P : Type 0} (rules : Rules) (old new : Manager P) (ends : List End) (r
 
   stopped : Stopped t.rules (numbers_in t) now.heap (ideal_at now) part stop.heap stop.mutators
   stopped =
-      subst (λ (x : Rules). Stopped x (numbers_in t) now.heap (ideal_at now) part stop.heap stop.mutators) (sym stands.rules_are)
-      (subst (λ (s : HeapState). Stopped rules (numbers_in t) s (ideal_at now) part stop.heap stop.mutators) stands.heap
+      subst (λ (x : Rules). Stopped x (numbers_in t) now.heap (ideal_at now) part stop.heap stop.mutators) (sym stands.heap.rules_are)
+      (subst (λ (s : HeapState). Stopped rules (numbers_in t) s (ideal_at now) part stop.heap stop.mutators) stands.heap.heap
       (subst (λ (ns : List ℕ). Stopped rules ns before (ideal_at now) part stop.heap stop.mutators) (standing.stands-listed rules old t now stands)
       (stopped-before before lawful rules (numbers_of ms) stop.heap (ideal_at now) part stop.mutators (r.stopped p (ideal_at now) part history))))
 
@@ -92,8 +92,8 @@ module _ {P : Type 0} (rules : Rules) (old new : Manager P) (ends : List End) (r
   exhausted : (k : ℕ) → IsExhausted r.last k → ExhaustsAllowance t now.heap stop.heap
   exhausted k is =
       let allowed : allowance p ≡ allowance_of t.rules.reserve now.heap =
-      cleared.allowance-cleared before lawful rules.reserve ∙ ap (allowance_of rules.reserve) stands.heap ∙ ap (λ (x : Rules). allowance_of x.reserve now.heap) (sym stands.rules_are) in
-      let free : free_of p.before ≡ free_of now.heap = free-cleared before lawful ∙ ap free_of stands.heap in
+      cleared.allowance-cleared before lawful rules.reserve ∙ ap (allowance_of rules.reserve) stands.heap.heap ∙ ap (λ (x : Rules). allowance_of x.reserve now.heap) (sym stands.heap.rules_are) in
+      let free : free_of p.before ≡ free_of now.heap = free-cleared before lawful ∙ ap free_of stands.heap.heap in
       let places = r.count in
       let all = count in
       let few = exhausts r.last p (ideal_at now) part stop.heap k history (r.tickets p (ideal_at now) part history) r.drawn is in
@@ -118,35 +118,43 @@ module _ {P : Type 0} (rules : Rules) (old new : Manager P) (ends : List End) (r
 
   pub stands-after : StandsAt rules new t stop
   stands-after = record {
-    rules_are = stands.rules_are;
-    workers = stands.workers;
-    traces = traces;
-    heap = refl;
-    mutators = refl;
-    replies = replies;
-    nursery = r.nursery ∙ stands.nursery;
-    full = r.full ∙ stands.full;
-    sound = record {
-      lawful = stopped.lawful;
-      remembers = stopped.remembers;
-      represents = subst (λ (h : IdealHeap). Represents stop.heap stop.mutators h) (sym ideal-same) stopped.represents;
-      listed = stopped.listed;
+    heap = record {
+      rules_are = stands.heap.rules_are;
+      workers = stands.heap.workers;
+      heap = refl;
+      mutators = refl;
+      nursery = r.nursery ∙ stands.heap.nursery;
+      full = r.full ∙ stands.heap.full;
+      sound = record {
+        lawful = stopped.lawful;
+        remembers = stopped.remembers;
+        represents = subst (λ (h : IdealHeap). Represents stop.heap stop.mutators h) (sym ideal-same) stopped.represents;
+        listed = stopped.listed;
+      };
+      run = longer ideal.empty now.done part stands.heap.run run;
     };
-    run = longer ideal.empty now.done part stands.run run;
+    traces = traces;
+    replies = replies;
   }
+
+  count-after : IsInOrder rules 0 old → length new.heap.mutators.items ≡ length new.progress.items
+  count-after order = sym (length-map new.heap.mutators.items mutator_state) ∙ ap length r.mutators ∙ length-map r.last.row.mutators.items mutator_state ∙ r.count ∙ sym r.runs.count
 
   pub in-order : IsInOrder rules 0 old → IsInOrder rules 0 new
   in-order order =
       let same = r.runs.count in record {
+        heap = record {
+          few = let few = order.few in let many = count-after order in omega (arith, many, same, few);
+          notes = r.notes p (ideal_at now) part history;
+          number = (r.stopped p (ideal_at now) part history).number ∙ order.heap.number ∙ ap (λ n. n + old.heap.full) (sym r.nursery) ∙ ap (λ n. new.heap.nursery + n) (sym r.full);
+        };
         some = let some = order.some in omega arith;
         few = let few = order.few in omega arith;
-        count = sym (length-map new.mutators.items mutator_state) ∙ ap length r.mutators ∙ length-map r.last.row.mutators.items mutator_state ∙ r.count ∙ sym same;
+        count = count-after order;
         each = r.runs.each;
         births = λ k u q there is. let most : births_at r.last k ≤ length q.replies.items = r.runs.births k q is in
-            let e = births-same r.last.row.mutators.items new.mutators.items r.mutators k in
-            let own : births_of (slice_get new.mutators.items k) ≡ u.births = ap births_of there in
+            let e = births-same r.last.row.mutators.items new.heap.mutators.items r.mutators k in
+            let own : births_of (slice_get new.heap.mutators.items k) ≡ u.births = ap births_of there in
             omega arith;
-        notes = r.notes p (ideal_at now) part history;
-        number = (r.stopped p (ideal_at now) part history).number ∙ order.number ∙ ap (λ n. n + old.full) (sym r.nursery) ∙ ap (λ n. new.nursery + n) (sym r.full);
         collections = let all = order.collections in let more = standing.replied-more rules old new ends r in let nursery = r.nursery in let full = r.full in omega arith;
       }

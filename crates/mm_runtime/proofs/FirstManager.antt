@@ -5,18 +5,15 @@ use Rattle.std.specs.List.{range_with_len}
 use Rattle.std.proofs.lemmas.List.{length-map}
 use Rattle.std.proofs.lemmas.Option.{get_or_from_slice_get}
 use Rattle.ideal_heap.specs.declared.command.Command.{Command}
-use Rattle.object_model.specs.Heaps.{heap_state}
-use Rattle.object_model.specs.Objects.{HeapState, empty_heap}
 use Rattle.object_model.specs.Graphs.{MutatorState, new_mutator}
 use Rattle.sessions.specs.Plans.{Rules}
 use Rattle.sessions.specs.Sessions as sessions
 use Rattle.sessions.specs.Sessions.{Setting, first_moment}
-use Rattle.sessions.proofs.Soundness.{session-sound}
 use Rattle.heap_users.specs.Users.{mutator_state}
 use Rattle.block_regions.proofs.Lists.{get-below, get-map}
+use Rattle.managed_heap.specs.Stopped as stopped
 use Rattle.mm_runtime.specs.declared.progress.Progress.{Progress}
 use Rattle.mm_runtime.specs.declared.manager.Manager.{Manager}
-use Rattle.block_regions.specs.Notes.{AreNotes}
 use Rattle.mm_runtime.specs.Managers.{traces_of, IsRunnable, IsFresh, IsInOrder, Closes, IsReady}
 
 -- a mutator that begins has no births
@@ -29,12 +26,17 @@ none-born (n ∷ ns) zero s is = ap (λ (o : Option MutatorState). births-in o) 
     births-in (Some x) = x.births
 none-born (n ∷ ns) (suc k) s is = none-born ns k s is
 
-module _ {P : Type 0} (rules : Rules) (m : Manager P) (blocks count : ℕ) (traces : List (List Command))
-    (heap : heap_state m.heap ≡ empty_heap blocks) (notes : AreNotes rules.fill (heap_state m.heap) m.notes)
-    (mutators : map mutator_state m.mutators.items ≡ map new_mutator (range_with_len 1 count)) (as_many : length m.mutators.items ≡ count)
+module _ {P : Type 0} (rules : Rules) (m : Manager P) (blocks count : ℕ) (traces : List (List Command)) (stands : (t : Setting) → t.rules ≡ rules → t.workers ≡ 1 → t.blocks ≡ blocks
+    → length t.traces ≡ count → stopped.StandsAt rules m.heap t (first_moment t)) (order : stopped.IsInOrder rules m.heap) (as_many : length m.heap.mutators.items ≡ count)
     (counted : count ≡ length traces) (same : traces_of m.progress.items ≡ traces)
     (fresh : (k : ℕ) (p : Progress) → slice_get m.progress.items k ≡ Some p → IsFresh p.trace p)
-    (nursery : m.nursery ≡ 0) (full : m.full ≡ 0) (some : 1 ≤ length traces) (few : length traces ≤ 16) (runnable : All IsRunnable traces) where
+    (some : 1 ≤ length traces) (few : length traces ≤ 16) (runnable : All IsRunnable traces) where
+  abbrev own : Setting
+  own = record { rules = rules; blocks = blocks; workers = 1; traces = traces }
+
+  first : stopped.StandsAt rules m.heap own (first_moment own)
+  first = stands own refl refl refl (sym counted)
+
   many : length m.progress.items ≡ length traces
   many = sym (length-map m.progress.items (λ p. p.trace)) ∙ ap length same
 
@@ -48,6 +50,7 @@ module _ {P : Type 0} (rules : Rules) (m : Manager P) (blocks count : ℕ) (trac
 
   pub in-order : IsInOrder rules 0 m
   in-order = record {
+    heap = order;
     some = (let e = many in omega arith);
     few = (let e = many in omega arith);
     count = (let e = many in omega arith);
@@ -58,39 +61,25 @@ module _ {P : Type 0} (rules : Rules) (m : Manager P) (blocks count : ℕ) (trac
       room = (fresh k p is).room;
     };
     births = λ k u p at is.
-        let none : u.births ≡ 0 = none-born (range_with_len 1 count) k (mutator_state u) (ap (λ ms. slice_get ms k) (sym mutators) ∙ get-map mutator_state m.mutators.items k u at) in
+        let none : u.births ≡ 0 = none-born (range_with_len 1 (length traces)) k (mutator_state u)
+        (ap (λ ms. slice_get ms k) (sym first.mutators) ∙ get-map mutator_state m.heap.mutators.items k u at) in
         omega arith;
-    notes = notes;
-    number = (let e : (heap_state m.heap).number ≡ 0 = ap (λ (s : HeapState). s.number) heap in omega arith);
-    collections = omega arith;
+    collections = (let nursery : m.heap.nursery ≡ 0 = first.nursery in let full : m.heap.full ≡ 0 = first.full in omega arith);
   }
 
   pub closes : (t : Setting) → t.rules ≡ rules → t.blocks ≡ blocks → t.workers ≡ 1 → t.traces ≡ traces → Closes rules m t (first_moment t)
-  closes t rules_are blocks_are one traces_are =
-      let order = m.heap.lawful.but_lines.order.row in
-      let as_blocks : (heap_state m.heap).blocks ≡ blocks = ap (λ (s : HeapState). s.blocks) heap in
-      let as_traces : length t.traces ≡ length traces = ap length traces_are in
-      record {
-        session = sessions.begun;
-        stands = record {
-          rules_are = rules_are;
-          workers = one;
-          traces = traces_are ∙ sym same;
-          heap = heap ∙ ap empty_heap (sym blocks_are);
-          mutators = mutators ∙ ap (λ n. map new_mutator (range_with_len 1 n)) (counted ∙ sym as_traces);
-          replies = record {
-            mutators = tt;
-            commands = λ k p is. ap (λ n. take n p.trace) (sym (no-replies k p is));
-            replies = λ k p is. sym (fresh k p is).replies;
-          };
-          nursery = nursery;
-          full = full;
-          sound = session-sound t (first_moment t) (let e = order.least in omega arith) (let e : (heap_state m.heap).blocks ≤ 1024 = order.most in omega arith) (omega arith) sessions.begun;
-          run = tt;
-        };
-      }
+  closes t rules_are blocks_are one traces_are = record {
+    session = sessions.begun;
+    stands = record {
+      heap = stands t rules_are one blocks_are (ap length traces_are ∙ sym counted);
+      traces = traces_are ∙ sym same;
+      replies = record {
+        mutators = tt;
+        commands = λ k p is. ap (λ n. take n p.trace) (sym (no-replies k p is));
+        replies = λ k p is. sym (fresh k p is).replies;
+      };
+    };
+  }
 
   pub ready : IsReady rules m
-  ready =
-      let t : Setting = record { rules = rules; blocks = blocks; workers = 1; traces = traces } in
-      record { order = in-order; setting = t; now = first_moment t; closes = closes t refl refl refl refl }
+  ready = record { order = in-order; setting = own; now = first_moment own; closes = closes own refl refl refl refl }

@@ -99,7 +99,7 @@ module _ {P : Type 0} (rules : Rules) (m : Manager P) where
     pub in-order : IsAtStop rules 0 m → IsInOrder rules 0 (record m { progress = v })
     in-order stop =
         let more : replied m.progress.items ≤ replied v.items = replied-kept stop in
-        let few : m.nursery + m.full ≤ 2 * replied m.progress.items + 0 = stop.order.collections in
+        let few : m.heap.nursery + m.heap.full ≤ 2 * replied m.progress.items + 0 = stop.order.collections in
         oks.in-order rules m v (is_meet_at m.progress.items) so 0 0 stop.order (omega arith)
 
     pub meets : AllWait → (t : Setting) (now : Moment) → StandsAt rules m t now → (next : Moment) × Meets t now next × StandsAt rules (record m { progress = v }) t next

@@ -5,7 +5,6 @@ use Rattle.std.proofs.lemmas.Option.{slice_get_within, get_or_from_slice_get}
 use Rattle.std.proofs.lemmas.List.Elements.{All-get_or}
 use Rattle.ideal_heap.specs.declared.command.Command.TheVariants as c
 use Rattle.ideal_heap.specs.Commands.{IsValid}
-use Rattle.ideal_heap.specs.Names.{IsName, name}
 use Rattle.sessions.specs.Plans.{Rules}
 use Rattle.mutator_calls.specs.declared.need.Need.{Need}
 use Rattle.mutator_calls.specs.declared.need.Mutator.{Mutator}
@@ -30,15 +29,15 @@ pub record HasNeed (us : List Mutator) (ps : List Progress) (k m d refs nums : �
   pub most : m ≤ 16
 
 pub has-need : {P : Type 0} (rules : Rules) (more : ℕ) (manager : Manager P) (m : ℕ) (need : Need) → IsInOrder rules more manager → NeedsNext manager m need
-    → HasNeed manager.mutators.items manager.progress.items (m - 1) m need.register need.refs need.nums
+    → HasNeed manager.heap.mutators.items manager.progress.items (m - 1) m need.register need.refs need.nums
 has-need rules more manager m need order needs =
     let at : (m - 1) + 1 ≡ m = (let least : 1 ≤ m = needs.0 in omega arith) in
     let next = needs.1 (m - 1) at in
     let p : Progress = next.0 in
     let there : slice_get manager.progress.items (m - 1) ≡ Some p = next.1 in
     let below : m - 1 < length manager.progress.items = slice_get_within manager.progress.items (m - 1) p there in
-    let same : length manager.mutators.items ≡ length manager.progress.items = order.count in
-    let user = get-some manager.mutators.items (m - 1) (omega arith) in
+    let same : length manager.heap.mutators.items ≡ length manager.progress.items = order.count in
+    let user = get-some manager.heap.mutators.items (m - 1) (omega arith) in
     let is : IsProgress p = order.each (m - 1) p there in
     let within : length p.replies.items < length p.trace = slice_get_within p.trace (length p.replies.items) (c.New need.register need.refs need.nums) next.2 in
     let few : length manager.progress.items ≤ 16 = order.few in
@@ -56,13 +55,3 @@ has-need rules more manager m need order needs =
       births = order.births (m - 1) user.0 p user.1 there;
       most = omega arith;
     }
-
--- its next name
-pub next-name : (us : List Mutator) (ps : List Progress) (k m d refs nums : ℕ) (has : HasNeed us ps k m d refs nums) → IsName (name m (has.user.births + 1))
-next-name us ps k m d refs nums has =
-    let at : k + 1 ≡ m = has.at in
-    let most : m ≤ 16 = has.most in
-    let births : has.user.births ≤ length has.progress.replies.items = has.births in
-    let within : length has.progress.replies.items < length has.progress.trace = has.within in
-    let few : length has.progress.trace ≤ 1000000 = has.is.few in
-    record { least = omega arith; most = omega arith; born = omega arith; fits = omega arith }

@@ -20,8 +20,8 @@ use Rattle.mm_runtime.specs.declared.progress.Progress.{Progress}
 use Rattle.mm_runtime.specs.declared.progress.End.{End}
 use Rattle.mm_runtime.specs.declared.progress.End.TheVariants as end
 use Rattle.mm_runtime.specs.declared.manager.Manager.{Manager}
-use Rattle.mm_runtime.specs.declared.place.Placed.{Placed}
-use Rattle.mm_runtime.specs.declared.place.Placed.TheVariants as placed
+use Rattle.managed_heap.specs.declared.place.Placed.{Placed}
+use Rattle.managed_heap.specs.declared.place.Placed.TheVariants as placed
 use Rattle.mm_runtime.specs.Managers.{next_of, replied, IsInOrder, IsAtStop, StandsAt}
 use Rattle.mm_runtime.specs.Parts.{cause_of, causes, AreNeeds}
 use Rattle.mm_runtime.specs.Stops.{NeedsNext, RepliesTo, MatchPlaced, ServesEnd, AddsReply}
@@ -38,7 +38,7 @@ adds-one old new m reply least to =
     }
 
 pub adds-reply : {P : Type 0} (rules : Rules) (old new : Manager P) (m refs nums : ℕ) (what : Placed) → 1 ≤ m
-    → MatchPlaced what (λ n. RepliesTo old m (r.New n) new) (λ size. RepliesTo old m r.Full new × (size ≡ size_of refs nums) × (new.full ≡ old.full + 1) × (Fits rules (heap_state new.heap) size → ⊥))
+    → MatchPlaced what (λ n. RepliesTo old m (r.New n) new) (λ size. RepliesTo old m r.Full new × (size ≡ size_of refs nums) × (new.heap.full ≡ old.heap.full + 1) × (Fits rules (heap_state new.heap.heap) size → ⊥))
     → AddsReply old m new
 adds-reply rules old new m refs nums (placed.Placed n) least is = adds-one old new m (r.New n) least is
 adds-reply rules old new m refs nums (placed.HeapFull size) least is = adds-one old new m r.Full least is.0

@@ -60,7 +60,7 @@ module _ {P : Type 0} (rules : Rules) (m : Manager P) (v : Vec Progress Global) 
       let same : was.0 ≡ p = one-element (slice_get old k) was.0 p was.2 is in
       trace-kept (chosen k) was.0 now was.3 ∙ ap (λ (x : Progress). x.trace) same)
 
-  pub in-order : (more less : ℕ) → IsInOrder rules more m → m.nursery + m.full ≤ 2 * replied new + less → IsInOrder rules less (record m { progress = v })
+  pub in-order : (more less : ℕ) → IsInOrder rules more m → m.heap.nursery + m.heap.full ≤ 2 * replied new + less → IsInOrder rules less (record m { progress = v })
   in-order more less order few =
       let many : length new ≡ length old = so.count in
       record {
@@ -72,8 +72,7 @@ module _ {P : Type 0} (rules : Rules) (m : Manager P) (v : Vec Progress Global) 
             let few : u.births ≤ length was.0.replies.items = order.births k u was.0 at was.2 in
             let kept = replies-kept (chosen k) was.0 now was.3 in
             omega arith;
-        notes = order.notes;
-        number = order.number;
+        heap = order.heap;
         collections = few;
       }
 
@@ -117,16 +116,18 @@ module _ {P : Type 0} (rules : Rules) (m : Manager P) (v : Vec Progress Global) 
         let replies : Replies (all_done asked (filter pick (mutators_of t))) now (then t now) = record { rest = refl; runs = runs } in (
           replies,
           record {
-            rules_are = at.rules_are;
-            workers = at.workers;
+            heap = record {
+              rules_are = at.heap.rules_are;
+              workers = at.heap.workers;
+              heap = at.heap.heap;
+              mutators = at.heap.mutators;
+              nursery = at.heap.nursery;
+              full = at.heap.full;
+              sound = soundness.replied t _ now (then t now) same replies at.heap.sound;
+              run = longer empty now.done _ at.heap.run runs;
+            };
             traces = at.traces ∙ sym same-traces;
-            heap = at.heap;
-            mutators = at.mutators;
             replies = subst (λ n. HasReplies new (now.done ++ all_done asked (filter pick (range_with_len 1 n)))) (sym many)
                 (picked.now-replies asked chosen old new so pick agree next now.done at.replies);
-            nursery = at.nursery;
-            full = at.full;
-            sound = soundness.replied t _ now (then t now) same replies at.sound;
-            run = longer empty now.done _ at.run runs;
           },
         )

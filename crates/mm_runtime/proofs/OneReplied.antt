@@ -15,7 +15,7 @@ use Rattle.block_regions.proofs.Lists.{get-below, one-element}
 use Rattle.mm_runtime.specs.declared.progress.Progress.{Progress}
 use Rattle.mm_runtime.specs.Managers.{next_of, traces_of, replied, IsProgress, HasReplies}
 use Rattle.mm_runtime.specs.Stops.{RepliesAt}
-use Rattle.mm_runtime.proofs.Users.{same-list}
+use Rattle.managed_heap.proofs.Users.{same-list}
 
 -- a sum of which one part grows
 pub sum-at : {X : Type 0} (f : X → ℕ) (xs ys : List X) (k : ℕ) (x y : X) (n : ℕ) → length ys ≡ length xs → slice_get xs k ≡ Some x → slice_get ys k ≡ Some y

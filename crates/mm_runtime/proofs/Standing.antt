@@ -38,28 +38,28 @@ pub record RunsEpoch {P : Type 0} (rules : Rules) (old new : Manager P) (ends : 
   pub first : PlainWorld P
   pub last : PlainWorld P
   pub count : places_of last ≡ length old.progress.items
-  pub begins : (i : IdealHeap) → Represents (heap_state old.heap) (map mutator_state old.mutators.items) i
-      → HasHistory first (epoch_of rules (heap_state old.heap) (map mutator_state old.mutators.items)) i []
+  pub begins : (i : IdealHeap) → Represents (heap_state old.heap.heap) (map mutator_state old.heap.mutators.items) i
+      → HasHistory first (epoch_of rules (heap_state old.heap.heap) (map mutator_state old.heap.mutators.items)) i []
   pub runs : RunsParts rules first old.progress.items (length old.progress.items) ends last new.progress.items
   pub stopped : (p : Epoch) (i : IdealHeap) (part : List Entry) → HasHistory last p i part
-      → Stopped p.rules (numbers_of p.mutators) p.before i part (heap_state new.heap) (map mutator_state new.mutators.items)
-  pub mutators : map mutator_state new.mutators.items ≡ mutators_of last
-  pub gives : GivesBack (heap_of last) (heap_state new.heap)
+      → Stopped p.rules (numbers_of p.mutators) p.before i part (heap_state new.heap.heap) (map mutator_state new.heap.mutators.items)
+  pub mutators : map mutator_state new.heap.mutators.items ≡ mutators_of last
+  pub gives : GivesBack (heap_of last) (heap_state new.heap.heap)
   pub drawn : (k t : ℕ) → ticket_at last k ≡ Some t → t < budget_word last
-  pub tickets : (p : Epoch) (i : IdealHeap) (part : List Entry) → HasHistory last p i part → GrantsWithTickets p last (heap_state new.heap)
-  pub notes : (p : Epoch) (i : IdealHeap) (part : List Entry) → HasHistory last p i part → AreNotes p.rules.fill (heap_state new.heap) new.notes
-  pub nursery : new.nursery ≡ old.nursery
-  pub full : new.full ≡ old.full
+  pub tickets : (p : Epoch) (i : IdealHeap) (part : List Entry) → HasHistory last p i part → GrantsWithTickets p last (heap_state new.heap.heap)
+  pub notes : (p : Epoch) (i : IdealHeap) (part : List Entry) → HasHistory last p i part → AreNotes p.rules.fill (heap_state new.heap.heap) new.heap.notes
+  pub nursery : new.heap.nursery ≡ old.heap.nursery
+  pub full : new.heap.full ≡ old.heap.full
 
 pub stands-represents : {P : Type 0} (rules : Rules) (m : Manager P) (t : Setting) (now : Moment) → StandsAt rules m t now
-    → Represents (heap_state m.heap) (map mutator_state m.mutators.items) (ideal_at now)
+    → Represents (heap_state m.heap.heap) (map mutator_state m.heap.mutators.items) (ideal_at now)
 stands-represents rules m t now stands =
-    subst (λ (s : HeapState). Represents s (map mutator_state m.mutators.items) (ideal_at now)) (sym stands.heap)
-    (subst (λ (ms : List MutatorState). Represents now.heap ms (ideal_at now)) (sym stands.mutators) stands.sound.represents)
+    subst (λ (s : HeapState). Represents s (map mutator_state m.heap.mutators.items) (ideal_at now)) (sym stands.heap.heap)
+    (subst (λ (ms : List MutatorState). Represents now.heap ms (ideal_at now)) (sym stands.heap.mutators) stands.heap.sound.represents)
 
 pub stands-listed : {P : Type 0} (rules : Rules) (m : Manager P) (t : Setting) (now : Moment) → StandsAt rules m t now
-    → numbers_of (map mutator_state m.mutators.items) ≡ numbers_in t
-stands-listed rules m t now stands = ap numbers_of stands.mutators ∙ stands.sound.listed
+    → numbers_of (map mutator_state m.heap.mutators.items) ≡ numbers_in t
+stands-listed rules m t now stands = ap numbers_of stands.heap.mutators ∙ stands.heap.sound.listed
 
 -- the numbers of the mutators are their places, counted from 1
 pub numbers-listed : {P : Type 0} (w : PlainWorld P) (n : ℕ) → numbers_of (mutators_of w) ≡ range_with_len 1 n → (k : ℕ) → k < places_of w → number_at w k ≡ k + 1
@@ -106,9 +106,9 @@ module _ {P : Type 0} (rules : Rules) (old new : Manager P) (ends : List End) (r
       (λ k p q was is. let more : q.replies.items ≡ p.replies.items ++ replies_of (k + 1) r.runs.part = (r.runs.grows k p q was is).replies in
       omega (arith, ap length more ∙ length-append p.replies.items (replies_of (k + 1) r.runs.part)))
 
-  pub history : (i : IdealHeap) → Represents (heap_state old.heap) (map mutator_state old.mutators.items) i
-      → HasHistory r.last (epoch_of rules (heap_state old.heap) (map mutator_state old.mutators.items)) i r.runs.part
-  history i is = r.runs.history (epoch_of rules (heap_state old.heap) (map mutator_state old.mutators.items)) i [] (r.begins i is)
+  pub history : (i : IdealHeap) → Represents (heap_state old.heap.heap) (map mutator_state old.heap.mutators.items) i
+      → HasHistory r.last (epoch_of rules (heap_state old.heap.heap) (map mutator_state old.heap.mutators.items)) i r.runs.part
+  history i is = r.runs.history (epoch_of rules (heap_state old.heap.heap) (map mutator_state old.heap.mutators.items)) i [] (r.begins i is)
 
   -- the entries of the epoch have the replies that came
   module _ (done : List Entry) (replies : HasReplies ps done) where

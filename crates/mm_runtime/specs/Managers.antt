@@ -4,28 +4,17 @@ use Rattle.std.specs.List.{AllByRecursion, range_with_len}
 use Rattle.ideal_heap.specs.declared.command.Command.{Command}
 use Rattle.ideal_heap.specs.declared.command.TheConstants.{MAX_MUTATORS}
 use Rattle.ideal_heap.specs.Commands.{IsValid}
-use Rattle.ideal_heap.specs.Ideal.{empty}
-use Rattle.ideal_heap.specs.Runs.{Entry, IsRun, IsMutator, commands_of, replies_of}
-use Rattle.object_model.specs.Heaps.{heap_state}
+use Rattle.ideal_heap.specs.Runs.{Entry, IsMutator, commands_of, replies_of}
 use Rattle.object_model.specs.Objects.{HeapState, global_at}
 use Rattle.heap_layout.specs.declared.layout.TheConstants.{GLOBALS}
-use Rattle.object_model.specs.declared.collect.Collect.TheVariants.{Full}
 use Rattle.sessions.specs.Plans.{Rules}
-use Rattle.sessions.specs.Collecting.{first_collection}
-use Rattle.sessions.specs.Sessions.{Setting, Moment, IsSound, InSession}
-use Rattle.collector.specs.Collected.{IsOffered}
+use Rattle.sessions.specs.Sessions.{Setting, Moment, InSession}
 use Rattle.mutator_calls.specs.declared.need.Mutator.{Mutator}
-use Rattle.heap_users.specs.Users.{mutator_state}
-use Rattle.block_regions.specs.Notes.{AreNotes, FillsHoles}
+use Rattle.managed_heap.specs.Stopped as stopped
+use Rattle.managed_heap.specs.Stopped.{collections_of}
 use Rattle.mm_runtime.specs.declared.progress.Progress.{Progress}
 use Rattle.mm_runtime.specs.declared.manager.Manager.{Manager}
 use Rattle.mm_runtime.specs.declared.progress.TheConstants.{MAX_COMMANDS}
-
--- The plans that a manager runs: mutators fill holes of blocks, and the collections are made that `gc` and needs ask for.
-pub record IsManaged (r : Rules) : Type 0 where
-  pub fill : FillsHoles r.fill
-  pub first : (s : HeapState) → IsOffered r (first_collection r s)
-  pub full : IsOffered r Full
 
 -- the command that comes next in a trace, None at its end
 abbrev pub next_of : Progress → Option Command
@@ -76,29 +65,20 @@ pub record HasReplies (ps : List Progress) (done : List Entry) : Type 0 where
 -- What a manager keeps in order, whatever its session. A command causes at most two collections; `more` of those made are
 -- for a command that has no reply yet.
 pub record IsInOrder {P : Type 0} (rules : Rules) (more : ℕ) (m : Manager P) : Type 0 where
+  pub heap : stopped.IsInOrder rules m.heap
   pub some : 1 ≤ length m.progress.items
   pub few : length m.progress.items ≤ MAX_MUTATORS
-  pub count : length m.mutators.items ≡ length m.progress.items
+  pub count : length m.heap.mutators.items ≡ length m.progress.items
   pub each : (k : ℕ) (p : Progress) → slice_get m.progress.items k ≡ Some p → IsProgress p
-  pub births : (k : ℕ) (u : Mutator) (p : Progress) → slice_get m.mutators.items k ≡ Some u
+  pub births : (k : ℕ) (u : Mutator) (p : Progress) → slice_get m.heap.mutators.items k ≡ Some u
       → slice_get m.progress.items k ≡ Some p → u.births ≤ length p.replies.items
-  pub notes : AreNotes rules.fill (heap_state m.heap) m.notes
-  pub number : (heap_state m.heap).number ≡ m.nursery + m.full
-  pub collections : m.nursery + m.full ≤ 2 * replied m.progress.items + more
+  pub collections : collections_of m.heap ≤ 2 * replied m.progress.items + more
 
--- The manager's heap, mutators, replies and counts of collections are those of this moment, and its plan and traces those
--- of the setting. One worker traces.
+-- The manager's heap stands at this moment, its replies are those of the moment, and its traces those of the setting.
 pub record StandsAt {P : Type 0} (rules : Rules) (m : Manager P) (t : Setting) (now : Moment) : Type 0 where
-  pub rules_are : t.rules ≡ rules
-  pub workers : t.workers ≡ 1
+  pub heap : stopped.StandsAt rules m.heap t now
   pub traces : t.traces ≡ traces_of m.progress.items
-  pub heap : heap_state m.heap ≡ now.heap
-  pub mutators : map mutator_state m.mutators.items ≡ now.mutators
   pub replies : HasReplies m.progress.items now.done
-  pub nursery : m.nursery ≡ now.nursery
-  pub full : m.full ≡ now.full
-  pub sound : IsSound t now
-  pub run : IsRun empty now.done
 
 -- the manager closes a session of this setting, at its last moment
 pub record Closes {P : Type 0} (rules : Rules) (m : Manager P) (t : Setting) (now : Moment) : Type 0 where

@@ -2,7 +2,7 @@
 
 ghost use Rattle.std.specs.Prelude.{◌≡◌};
 ghost use Rattle.ideal_heap.specs.Plain.{mutators_of};
-ghost use Rattle.mm_runtime.specs.Managers.{IsManaged};
+ghost use Rattle.managed_heap.specs.Stopped.{IsManaged};
 
 use crate::tests::{create, run_traces};
 use ideal_heap::{Command, Ideal, Reply, valid};

@@ -7,13 +7,15 @@
 ghost use Rattle.std.specs.Prelude.{◌≡◌, ◌+◌, ◌<◌, ◌≤◌, ℕ, length, slice_get, Some, IfOk};
 ghost use Rattle.sessions.specs.Sessions.{Setting, Moment, RunsPart};
 ghost use Rattle.plain_world.specs.Calls.{births_at, number_at, places_of, stop_word, IsOpen};
-ghost use Rattle.mm_runtime.specs.Managers.{replied, IsProgress, Closes, IsInOrder, IsManaged, IsReady, StandsAt};
+ghost use Rattle.mm_runtime.specs.Managers.{replied, IsProgress, Closes, IsInOrder, IsReady, StandsAt};
+ghost use Rattle.managed_heap.specs.Stopped.{IsManaged};
 ghost use Rattle.mm_runtime.specs.Parts.{causes, AreGcs, AreNeeds, RunsParts};
 
 use crate::manager::Manager;
 use crate::part::run_part;
 use crate::progress::{End, Progress};
 use ideal_heap::MAX_MUTATORS;
+use managed_heap::{Parts, StoppedHeap};
 use plain_world::PlainWorld;
 use plan_api::Plan;
 use std::alloc::{AllocError, Global};
@@ -62,26 +64,30 @@ impl<P: Plan> Manager<P> {
     {
         let Manager {
             alloc,
-            heap,
-            mutators,
+            heap: stopped,
             mut progress,
-            notes,
-            nursery,
-            full,
-            plan,
         } = self;
-        let mut world = PlainWorld::<P>::begin_with(alloc, heap, mutators, notes)?;
+        let parts = stopped.into_parts();
+        let mut world = PlainWorld::<P>::begin_with(
+            alloc,
+            parts.heap,
+            parts.mutators,
+            parts.notes,
+        )?;
         let ends = run_parts(alloc, &mut world, &mut progress, gate)?;
         let (heap, mutators, notes) = world.close_with();
+        let parts = Parts {
+            heap,
+            mutators,
+            notes,
+            nursery: parts.nursery,
+            full: parts.full,
+        };
+        let heap = StoppedHeap::from_parts(alloc, parts);
         let manager = Manager {
             alloc,
             heap,
-            mutators,
             progress,
-            notes,
-            nursery,
-            full,
-            plan,
         };
         Ok((manager, ends))
     }

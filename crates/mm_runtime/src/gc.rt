@@ -7,7 +7,8 @@
 ghost use Rattle.std.specs.Prelude.{◌≡◌, ◌≢◌, ◌↔◌, ◌≤◌, ◌<◌, ℕ, IsTrue, filter, length, Some, slice_get, IfOk};
 ghost use Rattle.sessions.specs.Sessions.{Setting, Moment, CollectsFor, is_at_gc, mutators_of};
 ghost use Rattle.mm_runtime.specs.declared.progress.Progress.{Progress as State};
-ghost use Rattle.mm_runtime.specs.Managers.{replied, IsAtStop, IsInOrder, IsManaged, IsProgress, StandsAt};
+ghost use Rattle.mm_runtime.specs.Managers.{replied, IsAtStop, IsInOrder, IsProgress, StandsAt};
+ghost use Rattle.managed_heap.specs.Stopped.{IsManaged};
 ghost use Rattle.mm_runtime.specs.Parts.{causes, AreGcs};
 ghost use Rattle.mm_runtime.specs.Replying.{is_gc_at, HasGc, RepliesBelow};
 ghost use Rattle.mm_runtime.specs.declared.progress.End.TheVariants as end_is;
@@ -77,8 +78,17 @@ impl<P: Plan> Manager<P> {
         if !some_gc(ends) {
             return Ok(self);
         }
-        let mut manager = self.collect(rt, Collect::Full, pool, gate)?;
-        reply_to_gcs(&mut manager.progress, ends);
-        Ok(manager)
+        let Manager {
+            alloc,
+            heap,
+            mut progress,
+        } = self;
+        let (heap, _) = heap.collect(rt, Collect::Full, pool, gate)?;
+        reply_to_gcs(&mut progress, ends);
+        Ok(Manager {
+            alloc,
+            heap,
+            progress,
+        })
     }
 }

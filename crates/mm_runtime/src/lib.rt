@@ -2,14 +2,12 @@
 //! needs.
 #![tactic(auto)]
 
-mod collect;
 #[cfg(test)]
 mod collection_tests;
 mod epoch;
 mod gc;
 #[cfg(test)]
 mod immix_tests;
-mod laws;
 #[cfg(test)]
 mod line_tests;
 mod manager;
@@ -23,6 +21,5 @@ mod serve;
 #[cfg(test)]
 mod tests;
 
-pub use laws::managed_plans;
+pub use managed_heap::{Placed, managed_plans};
 pub use manager::{Manager, Turn};
-pub use place::Placed;

@@ -1,26 +1,24 @@
 //! The manager of a heap: epochs and stops, from the empty heap to the end of all traces.
 //!
 //! `mm_drive` calls `begin_stored` once and `advance` until it answers `Ended`. Between two calls
-//! the manager stands at a moment of its session: heap, mutators, replies and counts of
-//! collections belong together, and `notes` are those of this heap. Traces are never written.
+//! the manager stands at a moment of its session: heap and replies belong together. Traces are
+//! never written.
 
 ghost use Rattle.std.specs.Prelude.{◌≡◌, ◌↔◌, ◌<◌, ◌≤◌, ℕ, All, Some, length, slice_get, IfOk, IsTrue};
 ghost use Rattle.heap_layout.specs.declared.layout.TheConstants.{MIN_BLOCKS, MAX_BLOCKS};
 ghost use Rattle.sessions.specs.Sessions.{Setting, Moment, IsEpoch, IsWhole, first_moment};
 ghost use Rattle.mm_runtime.specs.declared.progress.Progress.{Progress as State};
-ghost use Rattle.mm_runtime.specs.Managers.{left, traces_of, replied, Closes, IsFresh, IsManaged, IsReady, IsRunnable, HasEnded};
+ghost use Rattle.mm_runtime.specs.Managers.{left, traces_of, replied, Closes, IsFresh, IsReady, IsRunnable, HasEnded};
+ghost use Rattle.managed_heap.specs.Stopped.{IsManaged};
 ghost use Rattle.stored_commands.specs.Lists.{lists_of};
 
 use crate::progress::Progress;
 use heap_layout::Layout;
 use ideal_heap::{Command, MAX_MUTATORS};
-use mutator_calls::Mutator;
-use object_model::Heap;
-use plain_world::{BlockNotes, new_mutators};
+use managed_heap::StoppedHeap;
 use plan_api::Plan;
 use pools::Pool;
 use std::alloc::{AllocError, Global};
-use std::marker::PhantomData;
 use std::thread::Threads;
 use stored_commands::{StoredTrace, stored_traces};
 use stored_replies::StoredReplies;
@@ -39,15 +37,9 @@ pub enum Turn {
 #[derive(Debug, Drop)]
 pub struct Manager<P> {
     pub(crate) alloc: Global,
-    pub(crate) heap: Heap,
-    pub(crate) mutators: Vec<Mutator>,
+    pub(crate) heap: StoppedHeap<P>,
     // The trace of each mutator, in their order.
     pub(crate) progress: Vec<Progress>,
-    pub(crate) notes: BlockNotes,
-    // The numbers of nursery and full collections.
-    pub(crate) nursery: u64,
-    pub(crate) full: u64,
-    pub(crate) plan: PhantomData<P>,
 }
 
 /// A trace with room for its replies.
@@ -114,19 +106,12 @@ impl<P: Plan> Manager<P> {
             → t.traces ≡ traces.items → Closes P.rules m t (first_moment t)) }
     {
         let _one = workers;
-        let heap = Heap::new(alloc, layout)?;
-        let notes = BlockNotes::new(alloc, &heap)?;
-        let mutators = new_mutators(alloc, traces.len() as u32)?;
+        let heap = StoppedHeap::new(alloc, layout, traces.len() as u32)?;
         let progress = all_progress(alloc, traces)?;
         Ok(Manager {
             alloc,
             heap,
-            mutators,
             progress,
-            notes,
-            nursery: 0,
-            full: 0,
-            plan: PhantomData,
         })
     }
 

@@ -1,7 +1,7 @@
 //! What a manager answers about its session.
 //!
-//! `mm_drive` calls `mutators` and `replies` as it prints, tests call the others. `collect.rt`
-//! takes its roots from `all_registers`. Nothing here is written.
+//! `mm_drive` calls `mutators` and `replies` as it prints, tests call the others. Nothing here is
+//! written.
 
 ghost use Rattle.std.specs.Prelude.{◌≡◌, ◌-◌, ◌<◌, ◌≤◌, ◌++◌, ℕ, Some, length, map, slice_get, IfOk};
 ghost use Rattle.ideal_heap.specs.Runs.{replies_of};
@@ -16,22 +16,11 @@ ghost use Rattle.mm_runtime.specs.Managers.{globals_of, Closes, HasMutator, IsIn
 use crate::manager::Manager;
 use crate::progress::MAX_COMMANDS;
 use heap_layout::GLOBALS;
-use mutator_calls::Mutator;
+use managed_heap::all_registers;
 use object_model::Heap;
 use plan_api::Plan;
 use std::alloc::{AllocError, Global};
 use stored_replies::StoredReplies;
-
-/// The registers of some mutators, one mutator after another.
-pub(crate) fn all_registers(alloc: Global, mutators: &[Mutator]) -> Result<Vec<u32>, AllocError>
-    ensures { IfOk result (λ v. v.items ≡ roots_of (map mutator_state mutators.now)) }
-{
-    let mut roots = Vec::new(alloc);
-    for mutator in mutators {
-        roots.extend_from_slice(&mutator.registers)?;
-    }
-    Ok(roots)
-}
 
 /// A global: an address, or 0 for nil.
 fn global_at(heap: &Heap, global: u32) -> u32
@@ -78,33 +67,33 @@ impl<P: Plan> Manager<P> {
 
     /// The heap.
     pub fn heap(&self) -> &Heap
-        ensures same { result.now ≡ self.now.heap }
+        ensures same { result.now ≡ self.now.heap.heap }
         ensures session { (t : Setting) (now : Moment) → Closes P.rules self.now t now
             → heap_state result.now ≡ now.heap }
     {
-        &self.heap
+        self.heap.heap()
     }
 
     /// The registers, mutator by mutator, and then the globals: addresses, or 0 for nil. Fails if
     /// memory runs out.
     pub fn roots(&self) -> Result<Vec<u32>, AllocError>
         ensures state { IfOk result (λ v. v.items
-            ≡ roots_of (map mutator_state self.now.mutators.items)
-            ++ globals_of (heap_state self.now.heap)) }
+            ≡ roots_of (map mutator_state self.now.heap.mutators.items)
+            ++ globals_of (heap_state self.now.heap.heap)) }
         ensures session { (t : Setting) (now : Moment) → Closes P.rules self.now t now
             → IfOk result (λ v. v.items ≡ roots_of now.mutators ++ globals_of now.heap) }
     {
-        let mut roots = all_registers(self.alloc, &self.mutators)?;
-        add_globals(&self.heap, &mut roots)?;
+        let mut roots = all_registers(self.alloc, self.heap.mutators())?;
+        add_globals(self.heap.heap(), &mut roots)?;
         Ok(roots)
     }
 
     /// The numbers of nursery and full collections so far.
     pub fn collections(&self) -> (u64, u64)
-        ensures same { result ≡ (self.now.nursery, self.now.full) }
+        ensures same { result ≡ (self.now.heap.nursery, self.now.heap.full) }
         ensures session { (t : Setting) (now : Moment) → Closes P.rules self.now t now
             → (result.0 ≡ now.nursery) × (result.1 ≡ now.full) }
     {
-        (self.nursery, self.full)
+        self.heap.collections()
     }
 }

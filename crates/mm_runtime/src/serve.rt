@@ -5,7 +5,8 @@
 
 ghost use Rattle.std.specs.Prelude.{◌≡◌, ◌≤◌, ℕ, filter, length, IfOk};
 ghost use Rattle.sessions.specs.Sessions.{Setting, Moment, ServesAll, is_at_need, mutators_of};
-ghost use Rattle.mm_runtime.specs.Managers.{replied, IsAtStop, IsInOrder, IsManaged, StandsAt};
+ghost use Rattle.mm_runtime.specs.Managers.{replied, IsAtStop, IsInOrder, StandsAt};
+ghost use Rattle.managed_heap.specs.Stopped.{IsManaged};
 ghost use Rattle.mutator_calls.specs.declared.need.Need.{Need};
 ghost use Rattle.mm_runtime.specs.Parts.{causes, AreNeeds};
 ghost use Rattle.mm_runtime.specs.Stops.{NeedsNext, ServesEnd, AddsReply};

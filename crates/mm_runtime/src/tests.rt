@@ -1,7 +1,8 @@
 //! Sessions of a manager: replies, graphs of the heap, roots and counts of collections.
 
 ghost use Rattle.std.specs.Prelude.{◌≤◌, ℕ, All, IfOk, IsTrue, length};
-ghost use Rattle.mm_runtime.specs.Managers.{IsManaged, IsReady, IsRunnable};
+ghost use Rattle.mm_runtime.specs.Managers.{IsReady, IsRunnable};
+ghost use Rattle.managed_heap.specs.Stopped.{IsManaged};
 
 use crate::manager::{Manager, Turn};
 use crate::progress::MAX_COMMANDS;

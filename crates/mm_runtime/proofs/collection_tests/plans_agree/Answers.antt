@@ -1,4 +1,4 @@
-use Rattle.mm_runtime.proofs.ManagedPlans as managed
+use Rattle.managed_heap.proofs.ManagedPlans as managed
 use Rattle.mm_runtime.proofs.collection_tests.plans_agree.Goals as goal
 
 pub tell-requires-clause-plan : goal.tell-requires-clause-plan

@@ -1,4 +1,4 @@
-use Rattle.mm_runtime.proofs.ManagedPlans as managed
+use Rattle.managed_heap.proofs.ManagedPlans as managed
 use Rattle.mm_runtime.proofs.tests.graphs.Goals as goal
 
 pub run_traces-requires-clause-plan : goal.run_traces-requires-clause-plan

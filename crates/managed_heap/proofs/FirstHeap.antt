@@ -1,0 +1,48 @@
+-- A heap that begins stands at the first moment of each session of its plan.
+use Rattle.std.proofs.Common.{◌≡◌, refl, sym, ◌∙◌, ap, ℕ, ◌≤◌, arith, List, [], length, map, replicate}
+use Rattle.std.specs.List.{range_with_len}
+use Rattle.std.proofs.lemmas.List.{length-replicate}
+use Rattle.ideal_heap.specs.declared.command.Command.{Command}
+use Rattle.object_model.specs.Heaps.{heap_state}
+use Rattle.object_model.specs.Objects.{HeapState, empty_heap}
+use Rattle.object_model.specs.Graphs.{new_mutator}
+use Rattle.sessions.specs.Plans.{Rules}
+use Rattle.sessions.specs.Sessions as sessions
+use Rattle.sessions.specs.Sessions.{Setting, first_moment}
+use Rattle.sessions.proofs.Soundness.{session-sound}
+use Rattle.heap_users.specs.Users.{mutator_state}
+use Rattle.block_regions.specs.Notes.{AreNotes}
+use Rattle.managed_heap.specs.declared.stopped_heap.StoppedHeap.{StoppedHeap}
+use Rattle.managed_heap.specs.Stopped.{IsInOrder, StandsAt, IsStopped}
+
+module _ {P : Type 0} (rules : Rules) (h : StoppedHeap P) (blocks count : ℕ)
+    (heap : heap_state h.heap ≡ empty_heap blocks) (notes : AreNotes rules.fill (heap_state h.heap) h.notes)
+    (mutators : map mutator_state h.mutators.items ≡ map new_mutator (range_with_len 1 count)) (as_many : length h.mutators.items ≡ count)
+    (nursery : h.nursery ≡ 0) (full : h.full ≡ 0) (few : count ≤ 16) where
+  in-order : IsInOrder rules h
+  in-order = record {
+    few = omega arith;
+    notes = notes;
+    number = (let e : (heap_state h.heap).number ≡ 0 = ap (λ (s : HeapState). s.number) heap in omega arith);
+  }
+
+  pub stands-first : (t : Setting) → t.rules ≡ rules → t.workers ≡ 1 → t.blocks ≡ blocks → length t.traces ≡ count → StandsAt rules h t (first_moment t)
+  stands-first t rules_are one blocks_are traces =
+      let order = h.heap.lawful.but_lines.order.row in
+      let as_blocks : (heap_state h.heap).blocks ≡ blocks = ap (λ (s : HeapState). s.blocks) heap in
+      record {
+        rules_are = rules_are;
+        workers = one;
+        heap = heap ∙ ap empty_heap (sym blocks_are);
+        mutators = mutators ∙ ap (λ n. map new_mutator (range_with_len 1 n)) (sym traces);
+        nursery = nursery;
+        full = full;
+        sound = session-sound t (first_moment t) (let e = order.least in omega arith) (let e : (heap_state h.heap).blocks ≤ 1024 = order.most in omega arith) (omega arith) sessions.begun;
+        run = tt;
+      }
+
+  pub stopped-first : IsStopped rules h
+  stopped-first =
+      let empties : List (List Command) = replicate count [] in
+      let t : Setting = record { rules = rules; blocks = blocks; workers = 1; traces = empties } in
+      record { order = in-order; setting = t; now = first_moment t; stands = stands-first t refl refl refl (length-replicate count []) }

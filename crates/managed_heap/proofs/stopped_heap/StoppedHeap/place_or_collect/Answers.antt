@@ -1,0 +1,97 @@
+use Rattle.std.proofs.Common.{◌≡◌, ap, ◌∙◌, arith, ◌+◌, ◌<◌, ◌≤◌}
+use Rattle.object_model.specs.Objects.{size_of}
+use Rattle.managed_heap.specs.declared.place.Placed.TheVariants as answer
+use Rattle.managed_heap.specs.Stopped.{collections_of}
+use Rattle.managed_heap.proofs.Putting as putting
+use Rattle.managed_heap.proofs.BirthCounts.{may-kept}
+use Rattle.managed_heap.proofs.Noted as noted
+use Rattle.managed_heap.proofs.Serving as serving
+use Rattle.managed_heap.proofs.stopped_heap.StoppedHeap.place_or_collect.Goals as goal
+
+pub size_words-size-requires-clause-refs : goal.size_words-size-requires-clause-refs
+size_words-size-requires-clause-refs g c =
+    let most : c.args.need.refs ≤ 1024 = c.requires.may.valid.1 in
+    let same : c.shape_of.result.refs ≡ c.args.need.refs = c.shape_of.ensures.refs in
+    omega arith
+
+pub size_words-size-requires-clause-nums : goal.size_words-size-requires-clause-nums
+size_words-size-requires-clause-nums g c =
+    let most : c.args.need.nums ≤ 60000 = c.requires.may.valid.2 in
+    let same : c.shape_of.result.nums ≡ c.args.need.nums = c.shape_of.ensures.nums in
+    omega arith
+
+pub find-requires-clause-most : goal.find-requires-clause-most
+find-requires-clause-most g c =
+    putting.most-words c.args.self c.args.m c.args.need c.requires.may c.size_words-size.result c.shape_of.result.refs c.shape_of.result.nums
+    c.size_words-size.ensures c.shape_of.ensures.refs c.shape_of.ensures.nums
+
+pub place-stopped-requires-clause-stopped : goal.place-stopped-requires-clause-stopped
+place-stopped-requires-clause-stopped g c = noted.stopped-found g.P.Plan.rules c.args.self c.find.new.self c.find.ensures.rest c.find.ensures.notes c.requires.stopped
+
+pub place-stopped-requires-clause-may : goal.place-stopped-requires-clause-may
+place-stopped-requires-clause-may g c = noted.may-found g.P.Plan.rules c.args.self c.find.new.self c.find.ensures.rest c.find.ensures.notes c.args.m c.args.need c.requires.may
+
+pub place-stopped-requires-clause-spot : goal.place-stopped-requires-clause-spot
+place-stopped-requires-clause-spot g c =
+    noted.spot-found g.P.Plan.rules c.args.self c.find.new.self c.find.ensures.rest c.find.ensures.notes c.size_words-size.result (size_of c.args.need.refs c.args.need.nums) c.in-Some.spot
+    (c.size_words-size.ensures ∙ ap (λ r. size_of r c.shape_of.result.nums) c.shape_of.ensures.refs ∙ ap (λ q. size_of c.args.need.refs q) c.shape_of.ensures.nums) c.in-Some.ensures.spot
+
+pub returns-in-Some-clause-stopped : goal.returns-in-Some-clause-stopped
+returns-in-Some-clause-stopped g c =
+    serving.stopped-served g.P.Plan.rules c.args.self c.place-stopped.result.0 c.args.m c.args.need (answer.Placed c.place-stopped.result.1) c.requires.stopped c.place-stopped.ensures.order
+    (serving.serves-at-once g.P.Plan.rules c.args.self c.find.new.self c.place-stopped.result.0 c.args.m c.args.need (answer.Placed c.place-stopped.result.1) c.find.ensures.rest c.find.ensures.notes c.place-stopped.ensures.places)
+
+pub returns-in-Some-clause-serves : goal.returns-in-Some-clause-serves
+returns-in-Some-clause-serves g c =
+    serving.serves-at-once g.P.Plan.rules c.args.self c.find.new.self c.place-stopped.result.0 c.args.m c.args.need (answer.Placed c.place-stopped.result.1) c.find.ensures.rest c.find.ensures.notes c.place-stopped.ensures.places
+
+pub returns-in-Some-clause-births : goal.returns-in-Some-clause-births
+returns-in-Some-clause-births g c = serving.births-found c.args.self c.find.new.self c.place-stopped.result.0 c.args.m c.find.ensures.rest 1 c.place-stopped.ensures.births
+
+pub returns-in-Some-clause-counts : goal.returns-in-Some-clause-counts
+returns-in-Some-clause-counts g c =
+    let same = serving.counts-found c.args.self c.find.new.self c.place-stopped.result.0 c.args.m c.find.ensures.rest c.place-stopped.ensures.counts in omega (arith, same)
+
+pub make_room-requires-clause-stopped : goal.make_room-requires-clause-stopped
+make_room-requires-clause-stopped g c κs within = noted.stopped-found g.P.Plan.rules c.args.self c.find.new.self c.find.ensures.rest c.find.ensures.notes c.requires.stopped
+
+pub make_room-requires-clause-collections : goal.make_room-requires-clause-collections
+make_room-requires-clause-collections g c κs within =
+    let same : collections_of c.find.new.self ≡ collections_of c.args.self = noted.counts-found c.args.self c.find.new.self c.find.ensures.rest in
+    let few : collections_of c.args.self + 2 < 1099511627776 = c.requires.collections in
+    omega arith
+
+pub make_room-requires-clause-most : goal.make_room-requires-clause-most
+make_room-requires-clause-most g c κs within =
+    putting.most-words c.args.self c.args.m c.args.need c.requires.may c.size_words-size.result c.shape_of.result.refs c.shape_of.result.nums
+    c.size_words-size.ensures c.shape_of.ensures.refs c.shape_of.ensures.nums
+
+pub settle-requires-clause-stopped : goal.settle-requires-clause-stopped
+settle-requires-clause-stopped g c =
+    serving.stopped-made g.P.Plan.rules c.args.self c.find.new.self c.in_ok-stopped.stopped c.in_ok-stopped.stopped c.args.m c.args.need (answer.HeapFull 0) c.size_words-size.result c.find.ensures.rest c.find.ensures.notes (c.size_words-size.ensures ∙ ap (λ r. size_of r c.shape_of.result.nums) c.shape_of.ensures.refs ∙ ap (λ q. size_of c.args.need.refs q) c.shape_of.ensures.nums)
+    c.in_ok-stopped.ensures.order (noted.stopped-found g.P.Plan.rules c.args.self c.find.new.self c.find.ensures.rest c.find.ensures.notes c.requires.stopped) c.in_ok-stopped.ensures.room
+
+pub settle-requires-clause-may : goal.settle-requires-clause-may
+settle-requires-clause-may g c =
+    may-kept c.find.new.self c.in_ok-stopped.stopped c.args.m c.args.need (c.in_ok-stopped.ensures.births c.args.m)
+    (noted.may-found g.P.Plan.rules c.args.self c.find.new.self c.find.ensures.rest c.find.ensures.notes c.args.m c.args.need c.requires.may)
+
+pub returns-clause-stopped : goal.returns-clause-stopped
+returns-clause-stopped g c =
+    serving.stopped-served g.P.Plan.rules c.args.self c.settle.result.0 c.args.m c.args.need c.settle.result.1 c.requires.stopped c.settle.ensures.order
+    (serving.serves-after g.P.Plan.rules c.args.self c.find.new.self c.in_ok-stopped.stopped c.settle.result.0 c.args.m c.args.need c.settle.result.1 c.size_words-size.result c.find.ensures.rest c.find.ensures.notes (c.size_words-size.ensures ∙ ap (λ r. size_of r c.shape_of.result.nums) c.shape_of.ensures.refs ∙ ap (λ q. size_of c.args.need.refs q) c.shape_of.ensures.nums) c.in_default.ensures.none c.in_ok-stopped.ensures.room c.settle.ensures.settles)
+
+pub returns-clause-serves : goal.returns-clause-serves
+returns-clause-serves g c =
+    serving.serves-after g.P.Plan.rules c.args.self c.find.new.self c.in_ok-stopped.stopped c.settle.result.0 c.args.m c.args.need c.settle.result.1 c.size_words-size.result c.find.ensures.rest c.find.ensures.notes (c.size_words-size.ensures ∙ ap (λ r. size_of r c.shape_of.result.nums) c.shape_of.ensures.refs ∙ ap (λ q. size_of c.args.need.refs q) c.shape_of.ensures.nums) c.in_default.ensures.none c.in_ok-stopped.ensures.room c.settle.ensures.settles
+
+pub returns-clause-births : goal.returns-clause-births
+returns-clause-births g c = serving.births-after g.P.Plan.rules c.args.self c.find.new.self c.in_ok-stopped.stopped c.settle.result.0 c.args.m c.args.need c.settle.result.1 c.size_words-size.result c.find.ensures.rest c.find.ensures.notes (c.size_words-size.ensures ∙ ap (λ r. size_of r c.shape_of.result.nums) c.shape_of.ensures.refs ∙ ap (λ q. size_of c.args.need.refs q) c.shape_of.ensures.nums) (c.in_ok-stopped.ensures.births c.args.m) c.settle.ensures.births
+
+pub returns-clause-counts : goal.returns-clause-counts
+returns-clause-counts g c = serving.counts-after g.P.Plan.rules c.args.self c.find.new.self c.in_ok-stopped.stopped c.settle.result.0 c.args.m c.args.need c.settle.result.1 c.size_words-size.result c.find.ensures.rest c.find.ensures.notes (c.size_words-size.ensures ∙ ap (λ r. size_of r c.shape_of.result.nums) c.shape_of.ensures.refs ∙ ap (λ q. size_of c.args.need.refs q) c.shape_of.ensures.nums) c.in_ok-stopped.ensures.counts c.settle.ensures.counts
+
+pub returns-clause-refused : goal.returns-clause-refused
+returns-clause-refused g c =
+    serving.refused-after g.P.Plan.rules c.args.self c.find.new.self c.in_ok-stopped.stopped c.settle.result.0 c.args.need c.settle.result.1 c.size_words-size.result c.find.ensures.rest (c.size_words-size.ensures ∙ ap (λ r. size_of r c.shape_of.result.nums) c.shape_of.ensures.refs ∙ ap (λ q. size_of c.args.need.refs q) c.shape_of.ensures.nums)
+    c.in_ok-stopped.ensures.full c.settle.ensures.refused

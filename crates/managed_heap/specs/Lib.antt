@@ -1,0 +1,3 @@
+pub mod Stopped
+pub mod Spots
+pub mod Needs

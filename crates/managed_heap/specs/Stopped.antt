@@ -1,0 +1,84 @@
+-- A heap between two epochs, the moment of a session at which it stands, and its collections.
+use Rattle.std.specs.Prelude.{◌≡◌, ℕ, ◌+◌, ◌≤◌, List, map, length}
+use Rattle.std.specs.List.{AllByRecursion}
+use Rattle.ideal_heap.specs.declared.command.TheConstants.{MAX_MUTATORS}
+use Rattle.ideal_heap.specs.Ideal.{empty}
+use Rattle.ideal_heap.specs.Runs.{IsRun}
+use Rattle.object_model.specs.Heaps.{heap_state}
+use Rattle.object_model.specs.Graphs.{roots_of}
+use Rattle.object_model.specs.Objects.{HeapState}
+use Rattle.object_model.specs.declared.collect.Collect.{Collect}
+use Rattle.object_model.specs.declared.collect.Collect.TheVariants.{Nursery, Full}
+use Rattle.sessions.specs.Plans.{Rules}
+use Rattle.sessions.specs.Collecting.{IsCollection, first_collection}
+use Rattle.sessions.specs.Sessions.{Setting, Moment, IsSound, birth_count}
+use Rattle.collector.specs.Collected.{IsOffered}
+use Rattle.collector.specs.Tallies.{NotesIf}
+use Rattle.collector.specs.declared.outcome.Note.{Note}
+use Rattle.heap_users.specs.Users.{mutator_state}
+use Rattle.block_regions.specs.Notes.{AreNotes, FillsHoles}
+use Rattle.managed_heap.specs.declared.stopped_heap.StoppedHeap.{StoppedHeap}
+use Rattle.managed_heap.specs.declared.stopped_heap.Parts.{Parts}
+
+-- The plans that can be managed: mutators fill holes of blocks, and the collections are made that allocations ask for.
+pub record IsManaged (r : Rules) : Type 0 where
+  pub fill : FillsHoles r.fill
+  pub first : (s : HeapState) → IsOffered r (first_collection r s)
+  pub full : IsOffered r Full
+
+-- its parts
+abbrev pub parts_of : {P : Type 0} → StoppedHeap P → Parts
+parts_of h = record { heap = h.heap; mutators = h.mutators; notes = h.notes; nursery = h.nursery; full = h.full }
+
+-- the number of mutators
+abbrev pub mutator_count : {P : Type 0} → StoppedHeap P → ℕ
+mutator_count h = length h.mutators.items
+
+-- the number of collections that were made
+abbrev pub collections_of : {P : Type 0} → StoppedHeap P → ℕ
+collections_of h = h.nursery + h.full
+
+-- What a stopped heap keeps in order: the mutators are few, the notes are those of its blocks, and each collection is counted.
+pub record IsInOrder {P : Type 0} (rules : Rules) (h : StoppedHeap P) : Type 0 where
+  pub few : mutator_count h ≤ MAX_MUTATORS
+  pub notes : AreNotes rules.fill (heap_state h.heap) h.notes
+  pub number : (heap_state h.heap).number ≡ collections_of h
+
+-- Heap, mutators and counts of collections are those of this moment, and the plan is that of the setting. One worker traces.
+-- Of the traces of the setting only their number matters.
+pub record StandsAt {P : Type 0} (rules : Rules) (h : StoppedHeap P) (t : Setting) (now : Moment) : Type 0 where
+  pub rules_are : t.rules ≡ rules
+  pub workers : t.workers ≡ 1
+  pub heap : heap_state h.heap ≡ now.heap
+  pub mutators : map mutator_state h.mutators.items ≡ now.mutators
+  pub nursery : h.nursery ≡ now.nursery
+  pub full : h.full ≡ now.full
+  pub sound : IsSound t now
+  pub run : IsRun empty now.done
+
+-- it stands at some moment of some setting
+pub record IsStopped {P : Type 0} (rules : Rules) (h : StoppedHeap P) : Type 0 where
+  pub order : IsInOrder rules h
+  pub setting : Setting
+  pub now : Moment
+  pub stands : StandsAt rules h setting now
+
+-- the numbers of nursery and full collections after one more of this kind
+abbrev pub counted : Collect → ℕ → ℕ → ℕ × ℕ
+counted Nursery nursery full = (nursery + 1, full)
+counted Full nursery full = (nursery, full + 1)
+
+-- the registers of all mutators
+abbrev pub registers_of : {P : Type 0} → StoppedHeap P → List ℕ
+registers_of h = roots_of (map mutator_state h.mutators.items)
+
+-- A collection was made and counted, and the note tells of it. The registers are those that it left, and the notes on blocks
+-- those of its heap. Mutators keep their numbers and births.
+pub record HasCollected {P : Type 0} (rules : Rules) (kind : Collect) (old new : StoppedHeap P) (note : Note) : Type 0 where
+  pub collection : IsCollection rules 1 kind (heap_state old.heap) (registers_of old) (heap_state new.heap) (registers_of new)
+  pub noted : NotesIf rules.collects rules 1 kind (heap_state old.heap) (registers_of old) (heap_state new.heap) (registers_of new)
+      collection note
+  pub births : map birth_count (map mutator_state new.mutators.items) ≡ map birth_count (map mutator_state old.mutators.items)
+  pub registers : AllByRecursion (λ u. length u.registers ≡ 16) new.mutators.items
+  pub counts : (new.nursery, new.full) ≡ counted kind old.nursery old.full
+  pub notes : AreNotes rules.fill (heap_state new.heap) new.notes

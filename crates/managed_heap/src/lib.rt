@@ -1,0 +1,14 @@
+//! A heap between two epochs, for runtimes that make their epochs themselves: collections, and
+//! the placing of objects that no mutator could allocate.
+#![tactic(auto)]
+
+mod collect;
+mod laws;
+mod place;
+mod spot;
+mod stopped_heap;
+
+pub use collect::all_registers;
+pub use laws::managed_plans;
+pub use place::Placed;
+pub use stopped_heap::{Parts, StoppedHeap};

@@ -1,0 +1,291 @@
+//! Objects that no mutator could allocate, placed at a stop.
+//!
+//! `put` writes the object and its block's word and line bits, and with them the mutator's births
+//! and register, and the notes: these change together. A refused need writes nothing. Collections
+//! are made by `collect.rt`.
+
+ghost use Rattle.std.specs.Prelude.{◌≡◌, ◌+◌, ◌≤◌, ◌<◌, ◌^◌, ℕ, length, slice_get, IfSome, IfNone, IfOk};
+ghost use Rattle.object_model.specs.Heaps.{heap_state};
+ghost use Rattle.object_model.specs.Objects.{size_of};
+ghost use Rattle.plan_api.specs.Counting.{session_counts};
+ghost use Rattle.sessions.specs.Fitting.{Fits, counts_of};
+ghost use Rattle.sessions.specs.Sessions.{Setting, Moment, Places, Serves};
+ghost use Rattle.mutator_calls.specs.declared.need.Mutator.{Mutator};
+ghost use Rattle.block_regions.specs.Notes.{AreNotes};
+ghost use Rattle.managed_heap.specs.declared.place.Placed.TheVariants as placed;
+ghost use Rattle.managed_heap.specs.Stopped.{collections_of, IsManaged, IsInOrder, IsStopped, StandsAt};
+ghost use Rattle.managed_heap.specs.Spots.{IsSpot};
+ghost use Rattle.managed_heap.specs.Needs.{born_in, AddsBirths, AddsNeed, BearsAt, IfRefused, MakesRoom, MayAllocate, PutsAt, Settles};
+
+use crate::spot::{Spot, note_placed, relist_spot, take_spot};
+use crate::stopped_heap::StoppedHeap;
+use ideal_heap::{MAX_NUMS, MAX_REFS, Name, REGISTERS};
+use large_space::{blocks_for, find_run};
+use mutator_calls::{Mutator, Need};
+use object_model::{Collect, Heap, MAX_MEDIUM_WORDS, Shape, size_words};
+use plan_api::Plan;
+use pools::Pool;
+use std::alloc::AllocError;
+use std::thread::Threads;
+use work_packets::Gate;
+
+/// What became of a need.
+#[derive(Clone, Copy, Debug, PartialEq, Eq)]
+pub enum Placed {
+    /// The object is placed and has this name.
+    Placed(Name),
+    /// After a full collection an object of `size` words does not fit.
+    HeapFull { size: u32 },
+}
+
+/// The shape of the object that is needed.
+fn shape_of(need: &Need) -> Shape
+    ensures refs { result.refs ≡ need.now.refs }
+    ensures nums { result.nums ≡ need.now.nums }
+{
+    Shape {
+        refs: need.refs,
+        nums: need.nums,
+    }
+}
+
+/// Counts an object of mutator `m` and stores its address into register `d`. Returns its name.
+fn count_birth(mutators: &mut Vec<Mutator>, m: u32, d: u32, address: u32) -> Name
+    requires least { 1 ≤ m }
+    requires most { m ≤ length mutators.old.items }
+    requires register { d < REGISTERS }
+    requires births { (k : ℕ) (u : Mutator) → k + 1 ≡ m
+        → slice_get mutators.old.items k ≡ Some u → u.births + 1 < 2 ^ 32 }
+    ensures { (k : ℕ) → k + 1 ≡ m
+        → BearsAt mutators.old.items mutators.new.items k m d address result }
+{
+    let mutator = &mut mutators[m as usize - 1];
+    mutator.births += 1;
+    mutator.registers[d as usize] = address;
+    Name {
+        mutator: m,
+        birth: mutator.births,
+    }
+}
+
+impl<P: Plan> StoppedHeap<P> {
+    /// Where an object of `size` words is to be placed: in the first hole with room of the lowest
+    /// block that has one, else at the start of the lowest Free block, if one may be granted. If it
+    /// is large, in the lowest run of Free blocks.
+    fn find(&mut self, size: u32) -> Option<Spot>
+        requires plan { IsManaged P.rules }
+        requires notes { AreNotes P.rules.fill (heap_state self.old.heap) self.old.notes }
+        requires least { 3 ≤ size }
+        requires most { size ≤ size_of MAX_REFS MAX_NUMS }
+        ensures notes { AreNotes P.rules.fill (heap_state self.new.heap) self.new.notes }
+        ensures rest { self.new ≡ record self.old { notes = self.new.notes } }
+        ensures spot { IfSome result (IsSpot P.rules (heap_state self.old.heap) size) }
+        ensures none { IfNone result (Fits P.rules (heap_state self.old.heap) size → ⊥) }
+    {
+        if size > MAX_MEDIUM_WORDS {
+            return self.find_large(size);
+        }
+        if let Some((block, offset)) = self.notes.lowest_hole(&self.heap, P::alloc_kind(), size) {
+            return Some(Spot {
+                block,
+                offset,
+                free: false,
+                run: 0,
+            });
+        }
+        let reserve = P::reserve();
+        if !self.notes.counts().is_grantable(reserve) {
+            return None;
+        }
+        let block = self.notes.lowest_free(&self.heap)?;
+        Some(Spot {
+            block,
+            offset: 0,
+            free: true,
+            run: 0,
+        })
+    }
+
+    /// Where a large object of `size` words is to be placed: at the start of the lowest run of Free
+    /// blocks, if it may be granted. Reads block words alone.
+    fn find_large(&self, size: u32) -> Option<Spot>
+        requires counts { session_counts self.now.notes.counts
+            ≡ counts_of (heap_state self.now.heap) }
+        requires large { MAX_MEDIUM_WORDS < size }
+        requires most { size ≤ size_of MAX_REFS MAX_NUMS }
+        ensures spot { IfSome result (IsSpot P.rules (heap_state self.now.heap) size) }
+        ensures none { IfNone result (Fits P.rules (heap_state self.now.heap) size → ⊥) }
+    {
+        let count = blocks_for(size);
+        if !self.notes.counts().is_run_grantable(P::reserve(), count) {
+            return None;
+        }
+        let block = find_run(self.heap.words(), self.heap.layout(), count)?;
+        Some(Spot {
+            block,
+            offset: 0,
+            free: true,
+            run: count,
+        })
+    }
+
+    /// Writes, names and counts the object of a need of mutator `m` at a spot, and relists its
+    /// block.
+    fn put(self, m: u32, need: &Need, spot: Spot) -> (StoppedHeap<P>, Name)
+        requires plan { IsManaged P.rules }
+        requires stopped { IsStopped P.rules self }
+        requires may { MayAllocate self m need.now }
+        requires spot { IsSpot P.rules (heap_state self.heap) (size_of need.now.refs need.now.nums)
+            spot }
+        ensures { PutsAt P.rules self m need.now spot result.1 result.0 }
+    {
+        let StoppedHeap {
+            alloc,
+            heap,
+            mut mutators,
+            mut notes,
+            nursery,
+            full,
+            plan,
+        } = self;
+        let shape = shape_of(need);
+        let mut row = take_spot::<P>(heap.into_row(), &spot, size_words(&shape));
+        let address = row.layout.address(spot.block, spot.offset);
+        let name = count_birth(&mut mutators, m, need.register, address);
+        row.write_object(address, &name, &shape);
+        let row = relist_spot::<P>(row, &spot);
+        let heap = Heap::from_row(row);
+        note_placed(&mut notes, &heap, &spot);
+        let stopped = StoppedHeap {
+            alloc,
+            heap,
+            mutators,
+            notes,
+            nursery,
+            full,
+            plan,
+        };
+        (stopped, name)
+    }
+
+    /// Places the object of a need of mutator `m` there.
+    fn place(self, m: u32, need: &Need, spot: Spot) -> (StoppedHeap<P>, Name)
+        requires plan { IsManaged P.rules }
+        requires stopped { IsStopped P.rules self }
+        requires may { MayAllocate self m need.now }
+        requires spot { IsSpot P.rules (heap_state self.heap) (size_of need.now.refs need.now.nums)
+            spot }
+        ensures order { IsInOrder P.rules result.0 }
+        ensures places { (t : Setting) (now : Moment) → StandsAt P.rules self t now
+            → (next : Moment)
+            × Places t m need.now.register need.now.refs need.now.nums now next
+            × AddsNeed m need.now (placed.Placed result.1) now next
+            × StandsAt P.rules result.0 t next }
+        ensures births { AddsBirths self.mutators.items m 1 result.0.mutators.items }
+        ensures counts { collections_of result.0 ≡ collections_of self }
+    {
+        self.put(m, need, spot)
+    }
+
+    /// The collections for an object of `size` words that does not fit: the one to try first, and a
+    /// full one if that was a nursery one and the object still does not fit.
+    ///
+    /// Fails if memory runs out. The heap is lost then.
+    fn make_room<Q: Pool, G: Gate, R: Threads + Sync>(
+        self,
+        rt: &R,
+        size: u32,
+        pool: &Q,
+        gate: &G,
+    ) -> Result<StoppedHeap<P>, AllocError>
+        requires plan { IsManaged P.rules }
+        requires stopped { IsStopped P.rules self }
+        requires collections { collections_of self + 2 < 2 ^ 40 }
+        requires least { 3 ≤ size }
+        requires most { size ≤ size_of MAX_REFS MAX_NUMS }
+        ensures order { IfOk result (λ r. IsInOrder P.rules r) }
+        ensures room { (t : Setting) (now : Moment) → StandsAt P.rules self t now
+            → IfOk result (λ r. (late : Moment) × MakesRoom t size now late
+            × StandsAt P.rules r t late) }
+        ensures full { IfOk result (λ r. (Fits P.rules (heap_state r.heap) size → ⊥)
+            → r.full ≡ self.full + 1) }
+        ensures births { IfOk result (λ r. (m : ℕ)
+            → AddsBirths self.mutators.items m 0 r.mutators.items) }
+        ensures counts { IfOk result (λ r. collections_of r ≤ collections_of self + 2) }
+    {
+        let first = P::kind(&self.heap);
+        let (stopped, _) = self.collect(rt, first, pool, gate)?;
+        if first == Collect::Full {
+            return Ok(stopped);
+        }
+        if P::fits(&stopped.heap, size) {
+            return Ok(stopped);
+        }
+        let (stopped, _) = stopped.collect(rt, Collect::Full, pool, gate)?;
+        Ok(stopped)
+    }
+
+    /// Places the object of a need of mutator `m` if it fits.
+    fn settle(self, m: u32, need: &Need) -> (StoppedHeap<P>, Placed)
+        requires plan { IsManaged P.rules }
+        requires stopped { IsStopped P.rules self }
+        requires may { MayAllocate self m need.now }
+        ensures order { IsInOrder P.rules result.0 }
+        ensures settles { (t : Setting) (now : Moment) → StandsAt P.rules self t now
+            → (next : Moment) × Settles t m need.now result.1 now next
+            × AddsNeed m need.now result.1 now next × StandsAt P.rules result.0 t next }
+        ensures births { AddsBirths self.mutators.items m (born_in result.1)
+            result.0.mutators.items }
+        ensures counts { collections_of result.0 ≡ collections_of self }
+        ensures refused { IfRefused result.1 (λ size. (size ≡ size_of need.now.refs need.now.nums)
+            × (result.0.full ≡ self.full) × (heap_state result.0.heap ≡ heap_state self.heap)
+            × (Fits P.rules (heap_state result.0.heap) size → ⊥)) }
+    {
+        let size = size_words(&shape_of(need));
+        let mut stopped = self;
+        if let Some(spot) = stopped.find(size) {
+            let (stopped, name) = stopped.place(m, need, spot);
+            return (stopped, Placed::Placed(name));
+        }
+        (stopped, Placed::HeapFull { size })
+    }
+
+    /// Serves a need of mutator `m`. If the object does not fit, the collection to try first is
+    /// made, and a full one if that was a nursery one and the object still does not fit. It is
+    /// placed if it fits then. Writes no reply.
+    ///
+    /// Fails if memory runs out. The heap is lost then.
+    pub fn place_or_collect<Q: Pool, G: Gate, R: Threads + Sync>(
+        self,
+        rt: &R,
+        m: u32,
+        need: Need,
+        pool: &Q,
+        gate: &G,
+    ) -> Result<(StoppedHeap<P>, Placed), AllocError>
+        requires plan { IsManaged P.rules }
+        requires stopped { IsStopped P.rules self }
+        requires may { MayAllocate self m need }
+        requires collections { collections_of self + 2 < 2 ^ 40 }
+        ensures stopped { IfOk result (λ r. IsStopped P.rules r.0) }
+        ensures serves { (t : Setting) (now : Moment) → StandsAt P.rules self t now
+            → IfOk result (λ r. (next : Moment)
+            × Serves t m need.register need.refs need.nums now next
+            × AddsNeed m need r.1 now next × StandsAt P.rules r.0 t next) }
+        ensures births { IfOk result (λ r. AddsBirths self.mutators.items m (born_in r.1)
+            r.0.mutators.items) }
+        ensures counts { IfOk result (λ r. collections_of r.0 ≤ collections_of self + 2) }
+        ensures refused { IfOk result (λ r. IfRefused r.1 (λ size.
+            (size ≡ size_of need.refs need.nums) × (r.0.full ≡ self.full + 1)
+            × (Fits P.rules (heap_state r.0.heap) size → ⊥))) }
+    {
+        let size = size_words(&shape_of(&need));
+        let mut stopped = self;
+        if let Some(spot) = stopped.find(size) {
+            let (stopped, name) = stopped.place(m, &need, spot);
+            return Ok((stopped, Placed::Placed(name)));
+        }
+        let stopped = stopped.make_room(rt, size, pool, gate)?;
+        Ok(stopped.settle(m, &need))
+    }
+}

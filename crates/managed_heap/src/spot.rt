@@ -1,0 +1,114 @@
+//! A place for an object, and what a stop writes there before and after the object.
+
+ghost use Rattle.std.specs.Prelude.{◌≡◌, ◌≢◌, ◌≤◌, ◌<◌, ℕ, length};
+ghost use Rattle.heap_layout.specs.Zones.{row_words};
+ghost use Rattle.heap_layout.specs.declared.block.Kind.{Kind};
+ghost use Rattle.object_model.specs.Heaps.{heap_state};
+ghost use Rattle.object_model.specs.Objects.{HeapState, size_of, state_of};
+ghost use Rattle.object_model.specs.Births.{MakesRun};
+ghost use Rattle.object_model.specs.Lawful.{IsReadableBlock};
+ghost use Rattle.block_sweeps.specs.Sweeping.{AreApart};
+ghost use Rattle.sessions.specs.Fitting.{IsFreeRun};
+ghost use Rattle.sessions.specs.Plans.{Rules};
+ghost use Rattle.block_regions.specs.Notes.{AreNotes, FillsHoles, PlacesObject, PlacesRun};
+ghost use Rattle.managed_heap.specs.Stopped.{IsManaged};
+ghost use Rattle.managed_heap.specs.Spots.{IsPlace, TakesBlock, TakesSpot, RelistsSpot};
+
+use heap_layout::BlockWord;
+use ideal_heap::{MAX_NUMS, MAX_REFS};
+use large_space::place_large;
+use object_model::{Heap, MAX_MEDIUM_WORDS, Row};
+use plain_world::BlockNotes;
+use plan_api::Plan;
+
+/// A place for an object: a block, the offset in it in words, whether the block is Free, and the
+/// number of Free blocks that a large object takes, else 0.
+#[derive(Clone, Copy, Debug)]
+pub(crate) struct Spot {
+    pub(crate) block: u32,
+    pub(crate) offset: u32,
+    pub(crate) free: bool,
+    pub(crate) run: u32,
+}
+
+/// Gives the block of a spot its word, if it is Free.
+fn take_block<P: Plan>(row: Row, spot: &Spot, size: u32) -> Row
+    requires plan { IsManaged P.rules }
+    requires extent { length row.words.items ≡ row_words (state_of row).blocks }
+    requires block { spot.now.block < (state_of row).blocks }
+    requires least { 3 ≤ size }
+    requires most { size ≤ MAX_MEDIUM_WORDS }
+    ensures { TakesBlock P.rules.fill (state_of row) spot.now size (state_of result) }
+{
+    let mut row = row;
+    if !spot.free {
+        return row;
+    }
+    let word = BlockWord {
+        kind: P::alloc_kind(),
+        class: P::class_for(size),
+        owner: 0,
+    };
+    row.set_block(spot.block, &word);
+    row
+}
+
+/// Makes `count` Free blocks, from `block` on, the run of a large object.
+fn take_run(row: Row, block: u32, count: u32) -> Row
+    requires extent { length row.words.items ≡ row_words (state_of row).blocks }
+    requires least { 1 ≤ count }
+    requires most { count ≤ 15 }
+    requires free { IsFreeRun (state_of row) block count }
+    ensures { MakesRun (state_of row) (state_of result) block count }
+{
+    let mut row = row;
+    place_large(&mut row.words, &row.layout, block, count);
+    row
+}
+
+/// Gives the blocks of a spot their words, where they are Free.
+pub(crate) fn take_spot<P: Plan>(row: Row, spot: &Spot, size: u32) -> Row
+    requires plan { IsManaged P.rules }
+    requires extent { length row.words.items ≡ row_words (state_of row).blocks }
+    requires least { 3 ≤ size }
+    requires most { size ≤ size_of MAX_REFS MAX_NUMS }
+    requires place { IsPlace P.rules.fill (state_of row) size spot.now }
+    ensures { TakesSpot P.rules.fill (state_of row) spot.now size (state_of result) }
+{
+    if spot.run == 0 {
+        return take_block::<P>(row, spot, size);
+    }
+    take_run(row, spot.block, spot.run)
+}
+
+/// Relists the block of a spot, where an object was written. A run needs none: its blocks are no
+/// Immix blocks.
+pub(crate) fn relist_spot<P: Plan>(row: Row, spot: &Spot) -> Row
+    requires block { spot.now.run ≡ 0 → IsReadableBlock (state_of row) spot.now.block }
+    requires apart { spot.now.run ≡ 0 → AreApart (state_of row) spot.now.block }
+    ensures { RelistsSpot P.rules (state_of row) spot.now (state_of result) }
+{
+    let mut row = row;
+    if spot.run == 0 {
+        P::relist_block(&mut row.words, &row.layout, spot.block);
+    }
+    row
+}
+
+/// Notes that an object was placed at the spot. The heap is the one with the object.
+pub(crate) fn note_placed(notes: &mut BlockNotes, heap: &Heap, spot: &Spot)
+    ensures small { spot.now.run ≡ 0 → (rules : Rules) (old new : HeapState) (a refs nums : ℕ)
+        → FillsHoles rules.fill → AreNotes rules.fill old notes.old
+        → PlacesObject rules old new a refs nums spot.now.block spot.now.free
+        → AreNotes rules.fill new notes.new }
+    ensures large { spot.now.run ≢ 0 → (fill : Kind) (old : HeapState) (a refs nums : ℕ)
+        → FillsHoles fill → AreNotes fill old notes.old
+        → PlacesRun old (heap_state heap.now) a refs nums spot.now.block
+        → AreNotes fill (heap_state heap.now) notes.new }
+{
+    if spot.run == 0 {
+        notes.placed_in(spot.block, spot.free);
+        return;
+    }
+    notes.placed_run(heap);
+}

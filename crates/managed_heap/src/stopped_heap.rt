@@ -1,0 +1,127 @@
+//! A heap between two epochs: its mutators, what is known of its blocks, and its collections.
+
+ghost use Rattle.std.specs.Prelude.{◌≡◌, ◌≤◌, length, map, IfOk};
+ghost use Rattle.sessions.specs.Sessions.{Setting, Moment, first_moment};
+ghost use Rattle.object_model.specs.Heaps.{heap_state};
+ghost use Rattle.heap_users.specs.Users.{mutator_state};
+ghost use Rattle.managed_heap.specs.Stopped.{parts_of, IsStopped, StandsAt};
+
+use heap_layout::Layout;
+use ideal_heap::MAX_MUTATORS;
+use mutator_calls::Mutator;
+use object_model::Heap;
+use plain_world::{BlockNotes, new_mutators};
+use plan_api::Plan;
+use std::alloc::{AllocError, Global};
+use std::marker::PhantomData;
+
+/// A heap with its mutators, between two epochs. Heap, registers, notes and counts of collections
+/// belong together: registers are addresses of this heap, and the notes speak of its blocks.
+#[derive(Debug, Drop)]
+pub struct StoppedHeap<P> {
+    pub(crate) alloc: Global,
+    pub(crate) heap: Heap,
+    pub(crate) mutators: Vec<Mutator>,
+    // What is known of the blocks.
+    pub(crate) notes: BlockNotes,
+    // The numbers of nursery and full collections.
+    pub(crate) nursery: u64,
+    pub(crate) full: u64,
+    pub(crate) plan: PhantomData<P>,
+}
+
+/// The parts of a stopped heap. `PlainWorld::begin_with` takes the first three, and `close_with`
+/// gives them back.
+#[derive(Debug, Drop)]
+pub struct Parts {
+    pub heap: Heap,
+    pub mutators: Vec<Mutator>,
+    pub notes: BlockNotes,
+    /// The numbers of nursery and full collections.
+    pub nursery: u64,
+    pub full: u64,
+}
+
+impl<P: Plan> StoppedHeap<P> {
+    /// An empty heap with mutators 1 to `mutators`, whose registers are nil. Takes the heap's
+    /// memory, 32 KB a block.
+    ///
+    /// Fails if memory runs out.
+    pub fn new(alloc: Global, layout: Layout, mutators: u32) -> Result<StoppedHeap<P>, AllocError>
+        requires some { 1 ≤ mutators }
+        requires few { mutators ≤ MAX_MUTATORS }
+        ensures stopped { IfOk result (λ h. IsStopped P.rules h) }
+        ensures stands { IfOk result (λ h. (t : Setting) → t.rules ≡ P.rules
+            → t.workers ≡ 1 → t.blocks ≡ layout.blocks → length t.traces ≡ mutators
+            → StandsAt P.rules h t (first_moment t)) }
+        ensures mutators { IfOk result (λ h. length h.mutators.items ≡ mutators) }
+    {
+        let heap = Heap::new(alloc, layout)?;
+        let notes = BlockNotes::new(alloc, &heap)?;
+        let mutators = new_mutators(alloc, mutators)?;
+        Ok(StoppedHeap {
+            alloc,
+            heap,
+            mutators,
+            notes,
+            nursery: 0,
+            full: 0,
+            plan: PhantomData,
+        })
+    }
+
+    /// A stopped heap of its parts, as `into_parts` gives them or an epoch leaves them.
+    pub fn from_parts(alloc: Global, parts: Parts) -> StoppedHeap<P>
+        ensures { parts_of result ≡ parts }
+    {
+        StoppedHeap {
+            alloc,
+            heap: parts.heap,
+            mutators: parts.mutators,
+            notes: parts.notes,
+            nursery: parts.nursery,
+            full: parts.full,
+            plan: PhantomData,
+        }
+    }
+
+    /// Its parts.
+    pub fn into_parts(self) -> Parts
+        ensures { result ≡ parts_of self }
+    {
+        Parts {
+            heap: self.heap,
+            mutators: self.mutators,
+            notes: self.notes,
+            nursery: self.nursery,
+            full: self.full,
+        }
+    }
+
+    /// The heap.
+    pub fn heap(&self) -> &Heap
+        ensures same { result.now ≡ self.now.heap }
+        ensures session { (t : Setting) (now : Moment) → StandsAt P.rules self.now t now
+            → heap_state result.now ≡ now.heap }
+    {
+        &self.heap
+    }
+
+    /// The mutators, with their births and registers.
+    pub fn mutators(&self) -> &[Mutator]
+        ensures same { result.now ≡ self.now.mutators.items }
+        ensures session { (t : Setting) (now : Moment) → StandsAt P.rules self.now t now
+            → map mutator_state result.now ≡ now.mutators }
+    {
+        &self.mutators
+    }
+
+    /// The numbers of nursery and full collections so far.
+    pub fn collections(&self) -> (u64, u64)
+        ensures same { result ≡ (self.now.nursery, self.now.full) }
+        ensures session { (t : Setting) (now : Moment) → StandsAt P.rules self.now t now
+            → (result.0 ≡ now.nursery) × (result.1 ≡ now.full) }
+    {
+        (self.nursery, self.full)
+    }
+}

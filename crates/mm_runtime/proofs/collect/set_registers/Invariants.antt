@@ -1,5 +1,0 @@
-use Rattle.mm_runtime.proofs.SetRegisters.{SetsBelow}
-use Rattle.mm_runtime.proofs.collect.set_registers.Given as goal
-
-abbrev pub invariant-loop-m : goal.invariant-loop-m
-invariant-loop-m l = SetsBelow l.m l.roots l.fn.mutators.items l.mutators.items

@@ -1,4 +1,0 @@
-use Rattle.mm_runtime.proofs.place.note_placed.Goals as goal
-
-pub returns-clause-large : goal.returns-clause-large
-returns-clause-large c = λ some fill old a refs nums fills are placed. c.placed_run.ensures fill old a refs nums c.args.spot.now.block fills are placed

@@ -1,4 +1,0 @@
-use Rattle.mm_runtime.proofs.place.take_run.Goals as goal
-
-pub returns : goal.returns
-returns c = c.place_large.ensures c.args.row.number c.args.row.base
