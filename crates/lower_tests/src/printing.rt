@@ -1,8 +1,8 @@
-//! Printed traces and replies. The texts come from the format, not from its definitions.
+//! Printed traces, replies and faults. The texts come from the format, not from its definitions.
 
 use ideal_heap::{Command, Name, Reply};
 use std::test::Fail;
-use trace_text::{print_mutator, print_reply, print_trace, read_trace};
+use trace_text::{TraceFault, Why, print_mutator, print_reply, print_trace, read_trace};
 
 // A command of each kind, and three with the greatest numbers.
 const COMMANDS: [Command; 18] = [
@@ -94,5 +94,24 @@ fn prints_replies(rt: HostRuntime) -> Result<(), Fail> {
         b"mutator 16\nnew 16.4294967295\nfull\nref 1.10\nnil\nnum 18446744073709551615\nnum 0\n\
         ok\nyes\nno\nnull\nrange\n";
     assert_eq!(rt; text.as_slice(), want.as_slice());
+    Ok(())
+}
+
+#[test]
+fn faults_are_printed(rt: HostRuntime) -> Result<(), Fail> {
+    for (fault, text) in [
+        (TraceFault::Line(1, Why::Header), "line 1: header"),
+        (TraceFault::Line(20, Why::Word), "line 20: word"),
+        (TraceFault::Line(3, Why::Count), "line 3: count"),
+        (TraceFault::Line(4, Why::Number), "line 4: number"),
+        (
+            TraceFault::Line(1_000_001, Why::Range),
+            "line 1000001: range",
+        ),
+        (TraceFault::TooMany, "more than 1000000 commands"),
+        (TraceFault::OutOfMemory, "out of memory"),
+    ] {
+        assert_eq!(rt; format!(in rt.alloc(); "{fault}")?.as_str(), text);
+    }
     Ok(())
 }

@@ -2,46 +2,74 @@
 
 ghost use Rattle.std.specs.Prelude.{None, Some, []};
 
-use crate::test_runs::{FIRST, FIRST_TEXT, file_of, number_of_run, report, run_line, trace_in};
+use crate::test_runs::{
+    FIRST, FIRST_TEXT, file_of, number_of_run, report, run_line, trace_in, words_in,
+};
 use outside::{Failed, MemSink, MemSources, OpenFault, Sink, Sources, SureSink, SureSources};
 use std::alloc::{AllocError, Global};
 use std::test::Fail;
 use std::thread::Threads;
-use trace_text::{TraceFault, Why};
+use work_packets::OpenGate;
 
 const GOOD: &str = "--plan nogc --heap 4 a";
 
-// The last lines without a newline are accepted.
-#[test]
-fn contents(rt: HostRuntime) -> Result<(), Fail> {
-    let alloc = rt.alloc();
-    for (line, content, want) in [
-        ("--plan nogc --heap 1024 a", "mmtrace 1", "0|mutator 1\n|"),
-        (GOOD, "mmtrace 1\nread r0 0", "0|mutator 1\nnull\n|"),
-        ("--plan nogc --heap 4 b", "", "3||mm_drive: cannot read b\n"),
-        (GOOD, "", "5||mm_drive: a: line 1: header\n"),
-        (GOOD, "mmtrace 1\n\n", "5||mm_drive: a: line 2: word\n"),
-        (
-            GOOD,
-            "mmtrace 1\nnew r0 1025 0\n",
-            "5||mm_drive: a: line 2: range\n",
-        ),
-        (
-            GOOD,
-            "mmtrace 1\nread r00 0\n",
-            "5||mm_drive: a: line 2: number\n",
-        ),
-        (
-            GOOD,
-            "mmtrace 1\nread r0 0\nread r0\n",
-            "5||mm_drive: a: line 3: count\n",
-        ),
-    ] {
-        let ran = run_line(&rt, alloc, line, content.as_bytes().to_vec(alloc)?)?;
-        assert!(rt; ran.as_slice() == want.as_bytes(), "{line} {content}");
-    }
-    Ok(())
-}
+const UNREAD: &str = "--plan nogc --heap 4 b";
+
+const LONGEST: &str = "4||mm_drive: a is longer than 16777216 bytes\n";
+
+const MOST: &str = "5||mm_drive: a: more than 1000000 commands\n";
+
+// A line, the beginning of file `a`, how often a piece follows it, and the report.
+const CONTENTS: [(&str, &str, usize, &str, &str); 11] = [
+    // The last lines without a newline are accepted.
+    (
+        "--plan nogc --heap 1024 a",
+        "mmtrace 1",
+        0,
+        "",
+        "0|mutator 1\n|",
+    ),
+    (GOOD, "mmtrace 1\nread r0 0", 0, "", "0|mutator 1\nnull\n|"),
+    (UNREAD, "", 0, "", "3||mm_drive: cannot read b\n"),
+    (GOOD, "", 0, "", "5||mm_drive: a: line 1: header\n"),
+    (
+        GOOD,
+        "mmtrace 1\n\n",
+        0,
+        "",
+        "5||mm_drive: a: line 2: word\n",
+    ),
+    (
+        GOOD,
+        "mmtrace 1\nnew r0 1025 0\n",
+        0,
+        "",
+        "5||mm_drive: a: line 2: range\n",
+    ),
+    (
+        GOOD,
+        "mmtrace 1\nread r00 0\n",
+        0,
+        "",
+        "5||mm_drive: a: line 2: number\n",
+    ),
+    (
+        GOOD,
+        "mmtrace 1\nread r0 0\nread r0\n",
+        0,
+        "",
+        "5||mm_drive: a: line 3: count\n",
+    ),
+    (GOOD, "", 16_777_217, "\n", LONGEST),
+    (
+        GOOD,
+        "",
+        16_777_216,
+        "\n",
+        "5||mm_drive: a: line 1: header\n",
+    ),
+    (GOOD, "mmtrace 1\n", 1_000_001, "gc\n", MOST),
+];
 
 // A text with a piece appended so many times.
 fn repeated(alloc: Global, head: &str, count: usize, piece: &str) -> Result<Vec<u8>, AllocError> {
@@ -53,25 +81,11 @@ fn repeated(alloc: Global, head: &str, count: usize, piece: &str) -> Result<Vec<
 }
 
 #[test]
-fn limits(rt: HostRuntime) -> Result<(), Fail> {
+fn contents(rt: HostRuntime) -> Result<(), Fail> {
     let alloc = rt.alloc();
-    for (head, count, piece, want) in [
-        (
-            "",
-            16_777_217,
-            "\n",
-            "4||mm_drive: a is longer than 16777216 bytes\n",
-        ),
-        ("", 16_777_216, "\n", "5||mm_drive: a: line 1: header\n"),
-        (
-            "mmtrace 1\n",
-            1_000_001,
-            "gc\n",
-            "5||mm_drive: a: more than 1000000 commands\n",
-        ),
-    ] {
-        let ran = run_line(&rt, alloc, GOOD, repeated(alloc, head, count, piece)?)?;
-        assert!(rt; ran.as_slice() == want.as_bytes(), "{want}");
+    for (line, head, count, piece, want) in CONTENTS {
+        let ran = run_line(&rt, alloc, line, repeated(alloc, head, count, piece)?)?;
+        assert!(rt; ran.as_slice() == want.as_bytes(), "{line} {head} {want}");
     }
     Ok(())
 }
@@ -104,7 +118,17 @@ fn longest_piece(rt: HostRuntime) -> Result<(), Fail> {
         longest: 0,
         total: 0,
     };
-    let number = number_of_run(&rt, alloc, GOOD, &mut sources, &mut out, &mut SureSink)?;
+    let words = words_in(alloc, GOOD)?;
+    let mut err = SureSink;
+    let number = number_of_run(
+        &rt,
+        alloc,
+        &words,
+        &mut sources,
+        &mut out,
+        &mut err,
+        &OpenGate,
+    );
     assert!(rt; number == 0 && out.total == 3_000_010 && out.longest == 65_536);
     Ok(())
 }
@@ -150,11 +174,20 @@ fn run_devices<R: Threads + Sync>(
     out: Device,
     err: Device,
 ) -> Result<Vec<u8>, AllocError> {
+    let words = words_in(alloc, line)?;
     let files = file_of(alloc, "a", trace_in(alloc, commands)?)?;
     let mut sources = MemSources::new(files, [failing].to_vec(alloc)?);
     let mut out = sink_of(alloc, out)?;
     let mut err = sink_of(alloc, err)?;
-    let number = number_of_run(rt, alloc, line, &mut sources, &mut out, &mut err)?;
+    let number = number_of_run(
+        rt,
+        alloc,
+        &words,
+        &mut sources,
+        &mut out,
+        &mut err,
+        &OpenGate,
+    );
     report(alloc, number, out.bytes(), err.bytes())
 }
 
@@ -189,7 +222,6 @@ fn failures(rt: HostRuntime) -> Result<(), Fail> {
 #[test]
 fn failing_sinks(rt: HostRuntime) -> Result<(), Fail> {
     let alloc = rt.alloc();
-    let unread = "--plan nogc --heap 4 b";
     for (line, commands, out, err, want) in [
         (
             GOOD,
@@ -213,19 +245,19 @@ fn failing_sinks(rt: HostRuntime) -> Result<(), Fail> {
             "6|mutator 1\nnew 1.|mm_drive: write failed\n",
         ),
         ("--plan nogc", "", SOUND, FULL, "2||"),
-        (unread, "", SOUND, FULL, "3||"),
+        (UNREAD, "", SOUND, FULL, "3||"),
         (GOOD, "read r0", SOUND, FULL, "5||"),
         (GOOD, "read r0 0", SOUND, FULL, "0|mutator 1\nnull\n|"),
-        (unread, "", SOUND, sink_that_fails(100, 1), "3||"),
+        (UNREAD, "", SOUND, sink_that_fails(100, 1), "3||"),
         (
-            unread,
+            UNREAD,
             "",
             SOUND,
             sink_that_fails(100, 2),
             "3||mm_drive: cannot read ",
         ),
         (
-            unread,
+            UNREAD,
             "",
             SOUND,
             sink_that_fails(100, 3),
@@ -257,32 +289,30 @@ impl Sources for Starved {
 #[test]
 fn sure_and_starved(rt: HostRuntime) -> Result<(), Fail> {
     let alloc = rt.alloc();
+    let words = words_in(alloc, GOOD)?;
     let mut sources = SureSources::new(file_of(alloc, "a", trace_in(alloc, FIRST)?)?);
-    let number = number_of_run(&rt, alloc, GOOD, &mut sources, &mut SureSink, &mut SureSink)?;
+    let number = number_of_run(
+        &rt,
+        alloc,
+        &words,
+        &mut sources,
+        &mut SureSink,
+        &mut SureSink,
+        &OpenGate,
+    );
     let mut out = sink_of(alloc, SOUND)?;
     let mut err = sink_of(alloc, SOUND)?;
-    let starved = number_of_run(&rt, alloc, GOOD, &mut Starved, &mut out, &mut err)?;
+    let starved = number_of_run(
+        &rt,
+        alloc,
+        &words,
+        &mut Starved,
+        &mut out,
+        &mut err,
+        &OpenGate,
+    );
     let is_silent = out.bytes().is_empty();
     let is_told = err.bytes() == b"mm_drive: out of memory\n".as_slice();
     assert!(rt; number == 0 && starved == 7 && is_silent && is_told);
-    Ok(())
-}
-
-#[test]
-fn texts_of_faults(rt: HostRuntime) -> Result<(), Fail> {
-    for (fault, text) in [
-        (TraceFault::Line(1, Why::Header), "line 1: header"),
-        (TraceFault::Line(20, Why::Word), "line 20: word"),
-        (TraceFault::Line(3, Why::Count), "line 3: count"),
-        (TraceFault::Line(4, Why::Number), "line 4: number"),
-        (
-            TraceFault::Line(1_000_001, Why::Range),
-            "line 1000001: range",
-        ),
-        (TraceFault::TooMany, "more than 1000000 commands"),
-        (TraceFault::OutOfMemory, "out of memory"),
-    ] {
-        assert_eq!(rt; format!(in rt.alloc(); "{fault}")?.as_str(), text);
-    }
     Ok(())
 }

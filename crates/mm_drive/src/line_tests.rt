@@ -1,9 +1,7 @@
 //! Tests of command lines in whole runs. A run does not show whether a refused line breaks the
 //! usage or asks for a feature that is not implemented. The tests of `command_line` do.
 use crate::test_runs::{FIRST, FIRST_TEXT, report, run_gated, run_line, trace_in};
-use std::alloc::{AllocError, Global};
 use std::test::Fail;
-use std::thread::Threads;
 use work_packets::OpenGate;
 
 const USAGE: &[u8] = b"mm_drive: usage: mm_drive --plan P --heap B [--workers W] [--map] FILE... \
@@ -108,28 +106,18 @@ const REFUSED: &[&str] = &[
     "--plan nogc --heap 4 --make=05",
 ];
 
-// The first line with another report, though file `a` has a good trace.
-fn first_other<'a, R: Threads + Sync>(
-    rt: &R,
-    alloc: Global,
-    lines: &[&'a str],
-    want: &[u8],
-) -> Result<Option<&'a str>, AllocError> {
-    for line in lines {
-        if run_line(rt, alloc, line, trace_in(alloc, FIRST)?)?.as_slice() != want {
-            return Ok(Some(line));
-        }
-    }
-    Ok(None)
-}
-
+// Each line has this report, though file `a` has a good trace. No word at all breaks the usage.
 #[test]
 fn lines(rt: HostRuntime) -> Result<(), Fail> {
     let alloc = rt.alloc();
     let good = report(alloc, 0, FIRST_TEXT, b"")?;
-    assert_eq!(rt; first_other(&rt, alloc, SUPPORTED, &good)?, None);
     let usage = report(alloc, 2, b"", USAGE)?;
-    assert_eq!(rt; first_other(&rt, alloc, REFUSED, &usage)?, None);
+    for (lines, want) in [(SUPPORTED, &good), (REFUSED, &usage)] {
+        for line in lines {
+            let ran = run_line(&rt, alloc, line, trace_in(alloc, FIRST)?)?;
+            assert!(rt; ran.as_slice() == want.as_slice(), "{line}");
+        }
+    }
     let no_word = run_gated(&rt, alloc, &[], Vec::new(alloc), &OpenGate)?;
     assert!(rt; no_word.as_slice() == usage.as_slice());
     Ok(())

@@ -1,6 +1,6 @@
 //! Runs of several traces: fault lines, additions, and the points of a gate.
 
-use crate::test_runs::{report, report_of, run_traces};
+use crate::test_runs::{check_report, report, report_of, run_traces};
 use std::alloc::{AllocError, Global};
 use std::process::Abort;
 use std::sync::atomic::{AtomicU64, Ordering};
@@ -22,9 +22,8 @@ fn faults_of_files(rt: HostRuntime) -> Result<(), Fail> {
             "mm_drive: f0: line 3: range\n",
         ),
     ] {
-        let ran = run_traces(&rt, alloc, "nogc", 4, traces, &OpenGate)?;
         let want = report(alloc, 5, b"", line.as_bytes())?;
-        assert!(rt; ran.as_slice() == want.as_slice(), "{line}");
+        check_report(&rt, alloc, &["nogc"], 4, traces, &want)?;
     }
     Ok(())
 }
@@ -75,120 +74,81 @@ fn sixteen_mutators(rt: HostRuntime) -> Result<(), Fail> {
     Ok(())
 }
 
-// A gate that counts how often mutators 1 and 2, and worker 1, pass each point.
+// A gate that counts what passes each point: polls, allocations and publications of mutators 1 and
+// 2, and packets, items begun and items done of worker 1.
 #[derive(Drop)]
 struct CountingGate {
-    polls: [AtomicU64; 2],
-    allocations: [AtomicU64; 2],
-    publications: [AtomicU64; 2],
-    packets: AtomicU64,
-    items: AtomicU64,
-    items_done: AtomicU64,
+    counts: [AtomicU64; 9],
 }
 
-impl CountingGate {
-    fn new() -> CountingGate {
-        CountingGate {
-            polls: [AtomicU64::new(0), AtomicU64::new(0)],
-            allocations: [AtomicU64::new(0), AtomicU64::new(0)],
-            publications: [AtomicU64::new(0), AtomicU64::new(0)],
-            packets: AtomicU64::new(0),
-            items: AtomicU64::new(0),
-            items_done: AtomicU64::new(0),
-        }
-    }
-}
-
-// Counts a point that worker 1 passes.
-fn count_worker(count: &AtomicU64, who: u32) {
-    if who == 17 {
-        count.fetch_add(1, Ordering::SeqCst);
+// Where a point is counted.
+fn index_of(who: u32, point: Point) -> usize {
+    match (point, who) {
+        (Point::Poll, 1) => 0,
+        (Point::Poll, 2) => 1,
+        (Point::Alloc, 1) => 2,
+        (Point::Alloc, 2) => 3,
+        (Point::Publish, 1) => 4,
+        (Point::Publish, 2) => 5,
+        (Point::Packet, 17) => 6,
+        (Point::Claim, 17) => 7,
+        (Point::Claimed, 17) => 8,
+        _ => 9,
     }
 }
 
 impl Gate for CountingGate {
     fn pass(&self, who: u32, point: Point) {
-        let counts = match point {
-            Point::Poll => &self.polls,
-            Point::Alloc => &self.allocations,
-            Point::Publish => &self.publications,
-            Point::Packet => return count_worker(&self.packets, who),
-            Point::Claim => return count_worker(&self.items, who),
-            Point::Claimed => return count_worker(&self.items_done, who),
-            Point::Steal => return,
-        };
-        if who == 1 || who == 2 {
-            counts[who as usize - 1].fetch_add(1, Ordering::SeqCst);
+        if let Some(count) = self.counts.get(index_of(who, point)) {
+            count.fetch_add(1, Ordering::SeqCst);
         }
     }
 }
 
-fn counts_of(counts: &[AtomicU64; 2]) -> (u64, u64) {
-    (
-        counts[0].load(Ordering::SeqCst),
-        counts[1].load(Ordering::SeqCst),
-    )
-}
-
-// Packets, items begun and items done of worker 1.
-fn work_of(gate: &CountingGate) -> (u64, u64, u64) {
-    (
-        gate.packets.load(Ordering::SeqCst),
-        gate.items.load(Ordering::SeqCst),
-        gate.items_done.load(Ordering::SeqCst),
-    )
-}
-
-// Runs traces through a gate. They end well, with these replies.
+// Runs traces through a gate. They end well, with these replies. Returns what the gate counted.
 fn count_points<R: Threads + Sync + Abort>(
     rt: &R,
     alloc: Global,
     plan: &str,
     traces: &str,
     replies: &str,
-) -> Result<CountingGate, AllocError> {
-    let gate = CountingGate::new();
+) -> Result<[u64; 9], AllocError> {
+    let gate = CountingGate {
+        counts: [
+            AtomicU64::new(0),
+            AtomicU64::new(0),
+            AtomicU64::new(0),
+            AtomicU64::new(0),
+            AtomicU64::new(0),
+            AtomicU64::new(0),
+            AtomicU64::new(0),
+            AtomicU64::new(0),
+            AtomicU64::new(0),
+        ],
+    };
     let ran = run_traces(rt, alloc, plan, 4, traces, &gate)?;
     let want = report_of(alloc, replies)?;
     assert!(rt; ran.as_slice() == want.as_slice(), "{plan}");
-    Ok(gate)
+    let mut seen = [0; 9];
+    for (to, count) in seen.iter_mut().zip(gate.counts.iter()) {
+        *to = count.load(Ordering::SeqCst);
+    }
+    Ok(seen)
 }
 
 // Mutator 1 raises a stop at `gc`. Mutator 2 sees that before its `meet`, which is met at this
-// stop. Its `new` is large, so that no object is published.
+// stop. Its `new` is large, so that no object is published. Under other plans the worker of the
+// collection passes the gate that `run` has, before and after each item: a root, and both objects.
 #[test]
 fn gates_are_passed(rt: HostRuntime) -> Result<(), Fail> {
-    let gate = count_points(
-        &rt,
-        rt.alloc(),
-        "nogc",
-        "new r0 0 1;write r0 0 7;gc|meet;new r0 0 60000;read r0 0",
-        "new 1.1;ok;ok|ok;full;null",
-    )?;
-    let polls = counts_of(&gate.polls);
-    let allocations = counts_of(&gate.allocations);
-    let publications = counts_of(&gate.publications);
-    let work = work_of(&gate);
-    assert!(rt;
-        polls == (3, 3) && allocations == (1, 1) && publications == (1, 0) && work == (0, 0, 0)
-    );
-    Ok(())
-}
-
-// The worker of a collection passes the gate that `run` has, before and after each item: a root,
-// and both objects.
-#[test]
-fn gates_are_passed_in_collections(rt: HostRuntime) -> Result<(), Fail> {
+    let alloc = rt.alloc();
+    let two = "new r0 0 1;write r0 0 7;gc|meet;new r0 0 60000;read r0 0";
+    let seen = count_points(&rt, alloc, "nogc", two, "new 1.1;ok;ok|ok;full;null")?;
+    assert_eq!(rt; seen, [3, 3, 1, 1, 1, 0, 0, 0, 0]);
+    let one = "new r0 1 0;new r1 0 1;put r0 0 r1;drop r1;gc";
     for plan in ["marksweep", "semispace", "immix"] {
-        let gate = count_points(
-            &rt,
-            rt.alloc(),
-            plan,
-            "new r0 1 0;new r1 0 1;put r0 0 r1;drop r1;gc",
-            "new 1.1;new 1.2;ok;ok;ok",
-        )?;
-        let (packets, items, items_done) = work_of(&gate);
-        assert!(rt; packets > 0 && items > 2 && items_done == items, "{plan}");
+        let seen = count_points(&rt, alloc, plan, one, "new 1.1;new 1.2;ok;ok;ok")?;
+        assert!(rt; seen[6] > 0 && seen[7] > 2 && seen[8] == seen[7], "{plan}");
     }
     Ok(())
 }

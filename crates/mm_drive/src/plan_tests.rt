@@ -1,6 +1,6 @@
 //! Runs under each plan: replies of sessions of one mutator and of several.
 
-use crate::test_runs::{FIRST, check_replies};
+use crate::test_runs::{FIRST, check_report, report_of};
 use std::alloc::{AllocError, Global};
 use std::fmt::Write;
 use std::test::Fail;
@@ -30,8 +30,8 @@ const TWO_LARGEST: &str = "new r0 1024 60000;new r1 1024 60000";
 
 const PIN_LARGEST: &str = "new r0 1024 60000;pin r0";
 
-// Plans, blocks, and the commands and replies of one mutator.
-const ALONE: [(&[&str], u32, &str, &str); 23] = [
+// Plans, blocks, and the commands and replies of each mutator.
+const SESSIONS: [(&[&str], u32, &str, &str); 31] = [
     (ALL, 4, FIRST, "new 1.1;ok;num 7;nil"),
     (ALL, 4, "", ""),
     (
@@ -149,29 +149,16 @@ const ALONE: [(&[&str], u32, &str, &str); 23] = [
         new r4 0 1;drop r0;new r4 0 2045;read r1 0;new r5 0 1",
         "new 1.1;new 1.2;ok;new 1.3;new 1.4;full;full;ok;new 1.5;num 2;full",
     ),
-];
-
-#[test]
-fn replies(rt: HostRuntime) -> Result<(), Fail> {
-    for (plans, heap, commands, replies) in ALONE {
-        check_replies(&rt, rt.alloc(), plans, heap, commands, replies)?;
-    }
-    Ok(())
-}
-
-// Two pinned objects keep a block each. Then no block is left for copies, all objects stay where
-// they are, and nothing fits. Unpinned, the two move together.
-const PINNED: &str = "new r0 0 2045;pin r0;new r1 0 2045;new r2 0 2045;pin r2;new r3 0 2045;gc;\
-    pin r1;gc;gc;new r4 0 1";
-
-const PINNED_REPLIES: &str = "new 1.1;yes;new 1.2;new 1.3;yes;new 1.4;ok;yes;ok;ok;full";
-
-const UNPINNED: &str = ";write r2 0 3;drop r1;drop r3;unpin r0;unpin r2;gc;new r4 0 1;read r2 0";
-
-const UNPINNED_REPLIES: &str = ";ok;ok;ok;yes;yes;ok;new 1.5;num 3";
-
-// Plans, blocks, and the commands and replies of each mutator.
-const TOGETHER: [(&[&str], u32, &str, &str); 7] = [
+    // Two pinned objects keep a block each. Then no block is left for copies, all objects stay
+    // where they are, and nothing fits. Unpinned, the two move together.
+    (
+        SEMISPACE,
+        4,
+        "new r0 0 2045;pin r0;new r1 0 2045;new r2 0 2045;pin r2;new r3 0 2045;gc;pin r1;gc;gc;\
+        new r4 0 1;write r2 0 3;drop r1;drop r3;unpin r0;unpin r2;gc;new r4 0 1;read r2 0",
+        "new 1.1;yes;new 1.2;new 1.3;yes;new 1.4;ok;yes;ok;ok;full;ok;ok;ok;yes;yes;ok;new 1.5;\
+        num 3",
+    ),
     // An object is handed over at a `meet`.
     (
         ALL,
@@ -229,9 +216,17 @@ const TOGETHER: [(&[&str], u32, &str, &str); 7] = [
 ];
 
 #[test]
-fn replies_of_several(rt: HostRuntime) -> Result<(), Fail> {
-    for (plans, heap, commands, replies) in TOGETHER {
-        check_replies(&rt, rt.alloc(), plans, heap, commands, replies)?;
+fn replies(rt: HostRuntime) -> Result<(), Fail> {
+    let alloc = rt.alloc();
+    for (plans, heap, commands, replies) in SESSIONS {
+        check_report(
+            &rt,
+            alloc,
+            plans,
+            heap,
+            commands,
+            &report_of(alloc, replies)?,
+        )?;
     }
     Ok(())
 }
@@ -261,23 +256,9 @@ fn four_mutators(rt: HostRuntime) -> Result<(), Fail> {
         write!(traces, "|{trace}")?;
         write!(replies, "|{own}")?;
     }
+    let want = report_of(alloc, &replies)?;
     for (plans, heap) in [(COLLECTING, 8), (SEMISPACE, 16), (NOGC, 64)] {
-        check_replies(&rt, alloc, plans, heap, &traces, &replies)?;
+        check_report(&rt, alloc, plans, heap, &traces, &want)?;
     }
-    Ok(())
-}
-
-// Three of four blocks may be used under Immix, for six objects of half a block, of which one is
-// held.
-#[test]
-fn immix_reclaims_lines(rt: HostRuntime) -> Result<(), Fail> {
-    let alloc = rt.alloc();
-    let mut trace = String::from_str(alloc, "drop r0;new r0 0 2045")?;
-    let mut replies = String::from_str(alloc, "ok;new 1.1")?;
-    for object in 2..51 {
-        trace.push_str(";drop r0;new r0 0 2045")?;
-        write!(replies, ";ok;new 1.{object}")?;
-    }
-    check_replies(&rt, alloc, IMMIX, 4, &trace, &replies)?;
     Ok(())
 }

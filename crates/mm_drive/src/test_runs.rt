@@ -87,17 +87,17 @@ pub(crate) fn report_of(alloc: Global, replies: &str) -> Result<Vec<u8>, AllocEr
     report(alloc, 0, &text, b"")
 }
 
-// Runs the program with the arguments in a line, and returns its exit number.
-pub(crate) fn number_of_run<R: Threads + Sync, S: Sources, O: Sink, E: Sink>(
+// Runs the program with a list of arguments, through a gate, and returns its exit number.
+pub(crate) fn number_of_run<R: Threads + Sync, S: Sources, O: Sink, E: Sink, G: Gate>(
     rt: &R,
     alloc: Global,
-    line: &str,
+    words: &[String],
     sources: &mut S,
     out: &mut O,
     err: &mut E,
-) -> Result<u8, AllocError> {
-    let words = words_in(alloc, line)?;
-    Ok(run(rt, alloc, &words, sources, out, err, &OpenGate).number())
+    gate: &G,
+) -> u8 {
+    run(rt, alloc, words, sources, out, err, gate).number()
 }
 
 // Runs the program with a list of arguments over these files, through a gate.
@@ -111,8 +111,8 @@ pub(crate) fn run_gated<R: Threads + Sync, G: Gate>(
     let mut sources = MemSources::new(files, Vec::new(alloc));
     let mut out = MemSink::new(alloc, 8_000_000, 65_536, Vec::new(alloc))?;
     let mut err = MemSink::new(alloc, 1000, 1000, Vec::new(alloc))?;
-    let status = run(rt, alloc, words, &mut sources, &mut out, &mut err, gate);
-    report(alloc, status.number(), out.bytes(), err.bytes())
+    let number = number_of_run(rt, alloc, words, &mut sources, &mut out, &mut err, gate);
+    report(alloc, number, out.bytes(), err.bytes())
 }
 
 // Runs the program with the arguments in a line. File `a` has this content.
@@ -147,19 +147,18 @@ pub(crate) fn run_traces<R: Threads + Sync, G: Gate>(
     run_gated(rt, alloc, &words, files, gate)
 }
 
-// The run of these traces ends well under each of the plans, with these replies.
-pub(crate) fn check_replies<R: Threads + Sync + Abort>(
+// The run of these traces has this report under each of the plans.
+pub(crate) fn check_report<R: Threads + Sync + Abort>(
     rt: &R,
     alloc: Global,
     plans: &[&str],
     heap: u32,
     traces: &str,
-    replies: &str,
+    want: &[u8],
 ) -> Result<(), AllocError> {
-    let want = report_of(alloc, replies)?;
     for plan in plans {
         let ran = run_traces(rt, alloc, plan, heap, traces, &OpenGate)?;
-        assert!(rt; ran.as_slice() == want.as_slice(), "{plan} {traces}");
+        assert!(rt; ran.as_slice() == want, "{plan} {traces}");
     }
     Ok(())
 }

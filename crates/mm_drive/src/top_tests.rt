@@ -1,4 +1,4 @@
-//! Random commands in whole runs, against the plain ideal heap and against records of the test.
+//! Random commands in whole runs, against the plain ideal heap.
 
 use crate::test_runs::{report, run_line};
 use ideal_heap::Ideal;
@@ -69,54 +69,6 @@ fn random_commands(rt: HostRuntime) -> Result<(), Fail> {
         "--plan immix --heap 64 a",
     ] {
         let ran = run_line(&rt, alloc, line, text.to_vec(alloc)?)?;
-        assert!(rt; ran.as_slice() == want.as_slice(), "{line}");
-    }
-    Ok(())
-}
-
-// Objects of four numbers, against records that the test keeps itself.
-#[test]
-fn plain_records(rt: HostRuntime) -> Result<(), Fail> {
-    let alloc = rt.alloc();
-    let mut text = String::from_str(alloc, "mmtrace 1\n")?;
-    let mut want = String::from_str(alloc, "mutator 1\n")?;
-    let mut records: Vec<[u64; 4]> = Vec::new(alloc);
-    let mut registers = [usize::MAX; 16];
-    let mut x = 7u64;
-    for _ in 0..200_000 {
-        x = stir(x);
-        let s = (x >> 12 & 15) as usize;
-        let j = (x >> 16 & 3) as usize;
-        if x >> 40 & 15 == 0 {
-            writeln!(&mut text, "new r{s} 0 4")?;
-            registers[s] = records.len();
-            records.push([0; 4])?;
-            writeln!(&mut want, "new 1.{}", records.len())?;
-        } else if x >> 40 & 1 == 0 {
-            writeln!(&mut text, "write r{s} {j} {x}")?;
-            match records.get_mut(registers[s]) {
-                Some(record) => {
-                    record[j] = x;
-                    writeln!(&mut want, "ok")?;
-                }
-                None => writeln!(&mut want, "null")?,
-            }
-        } else {
-            writeln!(&mut text, "read r{s} {j}")?;
-            match records.get(registers[s]) {
-                Some(record) => writeln!(&mut want, "num {}", record[j])?,
-                None => writeln!(&mut want, "null")?,
-            }
-        }
-    }
-    let want = report(alloc, 0, want.as_bytes(), b"")?;
-    for line in [
-        "--plan nogc --heap 64 a",
-        "--plan semispace --heap 4 a",
-        "--plan marksweep --heap 4 a",
-        "--plan immix --heap 4 a",
-    ] {
-        let ran = run_line(&rt, alloc, line, text.as_bytes().to_vec(alloc)?)?;
         assert!(rt; ran.as_slice() == want.as_slice(), "{line}");
     }
     Ok(())

@@ -2,14 +2,8 @@
 //! needs.
 #![tactic(auto)]
 
-#[cfg(test)]
-mod collection_tests;
 mod epoch;
 mod gc;
-#[cfg(test)]
-mod immix_tests;
-#[cfg(test)]
-mod line_tests;
 mod manager;
 mod meets;
 mod part;
@@ -18,8 +12,6 @@ mod place;
 mod progress;
 mod reports;
 mod serve;
-#[cfg(test)]
-mod tests;
 
 pub use managed_heap::{Placed, managed_plans};
 pub use manager::{Manager, Turn};

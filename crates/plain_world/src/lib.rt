@@ -10,18 +10,3 @@ pub use block_regions::BlockNotes;
 pub use heap_users::{may_use, new_mutators};
 pub use laws::{worlds_follow_ideal_heaps, worlds_stay_in_order};
 pub use plain_world::PlainWorld;
-
-#[cfg(test)]
-mod cell_tests;
-#[cfg(test)]
-mod filling_tests;
-#[cfg(test)]
-mod note_tests;
-#[cfg(test)]
-mod relisting_tests;
-#[cfg(test)]
-mod test_twins;
-#[cfg(test)]
-mod test_worlds;
-#[cfg(test)]
-mod tests;

@@ -1,152 +1,229 @@
-//! Tests of the plans.
-
-ghost use Rattle.std.specs.Prelude.{◌<◌};
+//! What each plan says of itself, of empty heaps, and of blocks that it fills.
 
 use heap_layout::{BlockWord, Kind, Layout, Region};
 use object_model::{Collect, Heap};
 use plan_api::{BlockView, Plan, PlanFlags, Reserve, plans_hold_reserves};
-use plans::{MarkSweep, NoGc, SemiSpace};
+use plans::{Immix, MarkSweep, NoGc, SemiSpace};
+use std::alloc::{AllocError, Global};
+use std::process::Abort;
 use std::test::Fail;
 
-// The allowance of an empty heap, whether objects of 3, 2,048 and 2,049 words fit, and whether one
-// of 61,027 words does, which needs 15 blocks.
-fn asks<P: Plan>(heap: &Heap) -> (u32, [bool; 3], bool) {
+/// What a plan says of itself.
+#[derive(Clone, Copy, PartialEq)]
+struct Profile {
+    name: &'static str,
+    flags: PlanFlags,
+    collects: bool,
+    kinds: (Kind, Kind),
+    reserve: Reserve,
+    /// The classes for 3, 4, 5, 1,536, 1,537 and 2,048 words.
+    classes: [u32; 6],
+}
+
+/// Blocks of an empty heap, its allowance, and whether an object of 61,027 words fits.
+type EmptyHeap = (u32, u32, bool);
+
+/// The kind, class and line bits of a block with objects of 3 words at its start and at an offset.
+type Block = (Kind, u32, [u64; 4], u32);
+
+/// A block, the offset from which a hole for so many words is looked for, and the first hole.
+type Hole = (Block, u32, u32, Option<(u32, u32)>);
+
+const TAIL: Block = (Kind::Bump, 0, [0; 4], 1997);
+
+const TAILS: [Hole; 4] = [
+    (TAIL, 0, 3, Some((2000, 4096))),
+    (TAIL, 0, 2048, Some((2000, 4096))),
+    (TAIL, 2048, 2048, Some((2048, 4096))),
+    (TAIL, 2049, 2048, None),
+];
+
+// Blocks of cells of 4, 96 and 2,048 words, of which the first two are taken.
+const SMALL: Block = (Kind::Cells, 0, [0; 4], 4);
+
+const MIDDLE: Block = (Kind::Cells, 9, [0; 4], 96);
+
+const LARGE: Block = (Kind::Cells, 18, [0; 4], 2048);
+
+const CELLS: [Hole; 6] = [
+    (SMALL, 0, 3, Some((8, 12))),
+    (SMALL, 9, 4, Some((12, 16))),
+    (SMALL, 0, 5, None),
+    (MIDDLE, 0, 96, Some((192, 288))),
+    (MIDDLE, 3937, 96, None),
+    (LARGE, 0, 2048, None),
+];
+
+const ALL: u64 = u64::MAX;
+
+const CLEAR: Block = (Kind::Immix, 0, [0; 4], 0);
+
+const MARKED: Block = (Kind::Immix, 0, [ALL; 4], 0);
+
+// Line 1 is clear, and lines 3 to 254 are.
+const HOLES: Block = (Kind::Immix, 0, [0b101, 0, 0, 1 << 63], 0);
+
+const LAST: Block = (Kind::Immix, 0, [ALL, ALL, ALL, ALL >> 1], 0);
+
+// Two lines are clear, over the end of a word.
+const TWO: Block = (Kind::Immix, 0, [ALL >> 1, ALL << 1, ALL, ALL], 0);
+
+const KEPT: Block = (Kind::Kept, 0, [0; 4], 0);
+
+const LINES: [Hole; 13] = [
+    (CLEAR, 0, 2048, Some((0, 4096))),
+    (CLEAR, 2049, 2048, None),
+    (MARKED, 0, 3, None),
+    (HOLES, 0, 16, Some((16, 32))),
+    (HOLES, 0, 17, Some((48, 4080))),
+    (HOLES, 17, 3, Some((48, 4080))),
+    (HOLES, 4065, 3, None),
+    (LAST, 0, 16, Some((4080, 4096))),
+    (LAST, 0, 17, None),
+    (TWO, 0, 32, Some((1008, 1040))),
+    (TWO, 0, 33, None),
+    (TAIL, 0, 3, None),
+    (KEPT, 0, 3, None),
+];
+
+fn profile_of<P: Plan>() -> Profile {
+    Profile {
+        name: P::plan_name(),
+        flags: P::FLAGS,
+        collects: P::collects(),
+        kinds: (P::alloc_kind(), P::copy_kind()),
+        reserve: P::reserve(),
+        classes: [
+            P::class_for(3),
+            P::class_for(4),
+            P::class_for(5),
+            P::class_for(1536),
+            P::class_for(1537),
+            P::class_for(2048),
+        ],
+    }
+}
+
+/// The allowance of a heap, whether objects of 3, 2,048 and 2,049 words fit, and whether one of
+/// 61,027 words does, which needs 15 blocks. A collection is a full one.
+fn asks<P: Plan>(heap: &Heap) -> (u32, [bool; 3], bool, Collect) {
     plans_hold_reserves::<P>();
     (
         P::allowance(heap),
         [P::fits(heap, 3), P::fits(heap, 2048), P::fits(heap, 2049)],
         P::fits(heap, 61_027),
+        P::kind(heap),
     )
 }
 
-#[test]
-fn nogc(rt: HostRuntime) -> Result<(), Fail> {
-    assert_eq!(rt; (NoGc::NAME, NoGc::plan_name()), ("nogc", "nogc"));
-    assert_eq!(rt; NoGc::FLAGS, PlanFlags(0));
-    assert_eq!(rt;
-        (NoGc::alloc_kind(), NoGc::copy_kind()),
-        (Kind::Bump, Kind::Free)
-    );
-    assert_eq!(rt; NoGc::reserve(), Reserve::Nothing);
-    assert_eq!(rt; NoGc::class_for(2048), 0);
-    for (blocks, largest) in [(4, false), (14, false), (15, true), (16, true)] {
-        let heap = Heap::new(rt.alloc(), Layout::new(blocks)?)?;
-        assert_eq!(rt;
-            asks::<NoGc>(&heap),
-            (blocks, [true; 3], largest),
-            "of {blocks}"
-        );
-        assert_eq!(rt; NoGc::kind(&heap), Collect::Full);
-    }
-    Ok(())
+/// Whether a full collection evacuates no block.
+fn stays<P: Plan>(alloc: Global, heap: &Heap) -> Result<bool, AllocError> {
+    let from = P::from_blocks(alloc, heap, Collect::Full)?;
+    Ok(from.iter().all(|is| !*is))
 }
 
-#[test]
-fn nogc_holes(rt: HostRuntime) -> Result<(), Fail> {
-    let view = BlockView {
-        word: BlockWord {
-            kind: Kind::Bump,
-            class: 0,
-            owner: 1,
-        },
-        lines: [0; 4],
-        starts: [0; 64],
-        end: 2000,
-    };
-    for (from, size, want) in [
-        (0, 3, Some(2000)),
-        (0, 2048, Some(2000)),
-        (2048, 2048, Some(2048)),
-        (2049, 2048, None),
-    ] {
-        assert!(rt; 3 <= size && size <= 2048);
-        let want = want.map(|next| Region { next, end: 4096 });
-        assert_eq!(rt;
-            NoGc::hole_in(&view, from, size),
-            want,
-            "from {from} for {size}"
-        );
-    }
-    Ok(())
-}
-
-#[test]
-fn marksweep(rt: HostRuntime) -> Result<(), Fail> {
-    assert_eq!(rt;
-        (MarkSweep::NAME, MarkSweep::plan_name()),
-        ("marksweep", "marksweep")
-    );
-    assert_eq!(rt; MarkSweep::FLAGS, PlanFlags(8));
-    assert_eq!(rt;
-        (MarkSweep::alloc_kind(), MarkSweep::copy_kind()),
-        (Kind::Cells, Kind::Free)
-    );
-    assert_eq!(rt; MarkSweep::reserve(), Reserve::Nothing);
-    for (blocks, largest) in [(4, false), (14, false), (15, true), (16, true)] {
-        let heap = Heap::new(rt.alloc(), Layout::new(blocks)?)?;
-        assert_eq!(rt;
-            asks::<MarkSweep>(&heap),
-            (blocks, [true; 3], largest),
-            "of {blocks}"
-        );
-        assert_eq!(rt; MarkSweep::kind(&heap), Collect::Full);
-    }
-    for (size, class) in [(3, 0), (4, 0), (5, 1), (1536, 17), (1537, 18), (2048, 18)] {
-        assert_eq!(rt; MarkSweep::class_for(size), class, "for {size}");
-    }
-    Ok(())
-}
-
-#[test]
-fn semispace(rt: HostRuntime) -> Result<(), Fail> {
-    for (blocks, allowance, largest) in [(4, 2, false), (14, 7, false), (15, 7, true)] {
-        let heap = Heap::new(rt.alloc(), Layout::new(blocks)?)?;
-        assert_eq!(rt;
-            asks::<SemiSpace>(&heap),
-            (allowance, [true; 3], largest),
-            "of {blocks}"
-        );
-    }
-    Ok(())
-}
-
-// A block of this class whose first two cells are taken.
-fn cells(class: u32, second: u32) -> BlockView
-    requires { second < 4096 }
-{
+fn view_of(block: &Block) -> BlockView {
+    let (kind, class, lines, second) = *block;
     let mut starts = [0; 64];
     starts[0] = 1;
-    starts[second as usize / 64] |= 1 << (second % 64);
+    starts[second as usize / 64 % 64] |= 1 << (second % 64);
     BlockView {
         word: BlockWord {
-            kind: Kind::Cells,
+            kind,
             class,
             owner: 0,
         },
-        lines: [0; 4],
+        lines,
         starts,
-        end: second + 3,
+        end: second.wrapping_add(3),
     }
 }
 
-#[test]
-fn marksweep_holes(rt: HostRuntime) -> Result<(), Fail> {
-    for (class, second, from, size, want) in [
-        (0, 4, 0, 3, Some((8, 12))),
-        (0, 4, 9, 4, Some((12, 16))),
-        (0, 4, 0, 5, None),
-        (9, 96, 0, 96, Some((192, 288))),
-        (9, 96, 3937, 96, None),
-        (18, 2048, 0, 2048, None),
-    ] {
-        assert!(rt; 3 <= size && size <= 2048);
-        assert!(rt; second < 4096);
+/// The first holes of blocks under a plan.
+fn check_holes<P: Plan>(rt: &impl Abort, holes: &[Hole]) {
+    for (block, from, size, want) in holes {
+        assert!(rt; 3 <= *size && *size <= 2048);
         let want = want.map(|(next, end)| Region { next, end });
-        assert_eq!(rt;
-            MarkSweep::hole_in(&cells(class, second), from, size),
-            want,
-            "of class {class} from {from} for {size}"
-        );
+        let seen = P::hole_in(&view_of(block), *from, *size);
+        assert_eq!(rt; seen, want, "from {from} for {size}");
     }
+}
+
+/// A plan says this of itself, of empty heaps, and of blocks.
+fn check_plan<P: Plan>(
+    rt: &impl Abort,
+    alloc: Global,
+    want: &Profile,
+    heaps: &[EmptyHeap],
+    holes: &[Hole],
+) -> Result<(), Fail> {
+    assert!(rt;
+        profile_of::<P>() == *want && P::NAME == want.name,
+        "{}",
+        want.name
+    );
+    for (blocks, allowance, largest) in heaps {
+        let heap = Heap::new(alloc, Layout::new(*blocks)?)?;
+        let seen = (asks::<P>(&heap), stays::<P>(alloc, &heap)?);
+        let want = ((*allowance, [true; 3], *largest, Collect::Full), true);
+        assert_eq!(rt; seen, want, "of {blocks}");
+    }
+    check_holes::<P>(rt, holes);
     Ok(())
+}
+
+// No block of an empty heap is held back under NoGC and MarkSweep. SemiSpace lets mutators take
+// half of the blocks, and Immix all but the headroom.
+#[test]
+fn plans_tell(rt: HostRuntime) -> Result<(), Fail> {
+    let alloc = rt.alloc();
+    let nogc = Profile {
+        name: "nogc",
+        flags: PlanFlags(0),
+        collects: false,
+        kinds: (Kind::Bump, Kind::Free),
+        reserve: Reserve::Nothing,
+        classes: [0; 6],
+    };
+    let marksweep = Profile {
+        name: "marksweep",
+        flags: PlanFlags(8),
+        collects: true,
+        kinds: (Kind::Cells, Kind::Free),
+        reserve: Reserve::Nothing,
+        classes: [0, 0, 1, 17, 18, 18],
+    };
+    let semispace = Profile {
+        name: "semispace",
+        flags: PlanFlags(1),
+        collects: true,
+        kinds: (Kind::Bump, Kind::Bump),
+        reserve: Reserve::Copies,
+        classes: [0; 6],
+    };
+    let immix = Profile {
+        name: "immix",
+        flags: PlanFlags(5),
+        collects: true,
+        kinds: (Kind::Immix, Kind::Immix),
+        reserve: Reserve::Headroom,
+        classes: [0; 6],
+    };
+    let whole = [
+        (4, 4, false),
+        (14, 14, false),
+        (15, 15, true),
+        (16, 16, true),
+    ];
+    let half = [(4, 2, false), (14, 7, false), (15, 7, true)];
+    let rest = [
+        (4, 3, false),
+        (15, 14, false),
+        (16, 15, true),
+        (33, 31, true),
+    ];
+    check_plan::<NoGc>(&rt, alloc, &nogc, &whole, &TAILS)?;
+    check_plan::<MarkSweep>(&rt, alloc, &marksweep, &whole, &CELLS)?;
+    check_plan::<SemiSpace>(&rt, alloc, &semispace, &half, &TAILS)?;
+    check_plan::<Immix>(&rt, alloc, &immix, &rest, &LINES)
 }

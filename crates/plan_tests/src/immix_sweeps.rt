@@ -4,7 +4,7 @@ ghost use Rattle.std.specs.Prelude.{◌≡◌, ◌+◌, ◌≤◌, length, IfOk}
 ghost use Rattle.heap_layout.specs.Zones.{row_words};
 
 use heap_layout::{Kind, Layout};
-use immix_space::{headroom, relist, sweep_block};
+use immix_space::{relist, sweep_block};
 use object_model::Shape;
 use releasable_rows::{Object, empty_row, is_releasable, set_block, write_object};
 use std::alloc::{AllocError, Global};
@@ -106,6 +106,17 @@ fn check_lines(rt: &impl Abort, words: &[u64], objects: &[Object], base: u64) {
     assert_eq!(rt; words.get(30).copied(), Some(1));
 }
 
+/// How many of the objects were claimed by collection `base` or later.
+fn plain_count(objects: &[Object], base: u64) -> u32 {
+    let mut count: u32 = 0;
+    for object in objects {
+        if object.collector >> 24 >= base {
+            count = count.wrapping_add(1);
+        }
+    }
+    count
+}
+
 /// A block with these objects and this word is relisted, and another is swept: so many objects are
 /// left, and exactly their lines are marked. A sweep gives the block back, and `relist` does not.
 fn check(rt: &impl Abort, alloc: Global, objects: &[Object], word: u64) -> Result<(), Fail> {
@@ -124,115 +135,55 @@ fn check(rt: &impl Abort, alloc: Global, objects: &[Object], word: u64) -> Resul
     Ok(())
 }
 
+/// The offset, numbers and collection of an object.
+type Claimed = (u32, u32, u64);
+
+/// An object begins in each line of the words from offsets 2112, 2240 and 2304 on. The last of the
+/// first reaches two lines further, that of the second ends with its word.
+const LINES: &[Claimed] = &[
+    (0, 2, 1),
+    (30, 2045, 0),
+    (2112, 13, 1),
+    (2128, 13, 0),
+    (2144, 1, 1),
+    (2165, 40, 2),
+    (2240, 13, 1),
+    (2256, 13, 1),
+    (2272, 13, 1),
+    (2288, 13, 1),
+    (2304, 20, 1),
+    (2335, 0, 1),
+    (2338, 5, 1),
+    (2367, 1700, 1),
+    (4080, 13, 2),
+];
+
+/// Neighbours in one line, and over a line's and a word's edge.
+const CLOSE: &[Claimed] = &[(0, 2, 1), (5, 2, 3), (10, 2, 0), (15, 2, 2)];
+
+const EDGES: &[Claimed] = &[(1020, 3, 2), (1026, 2040, 1), (4080, 13, 7)];
+
+const FULL: &[Claimed] = &[(47, 2045, 2), (2095, 1998, 2)];
+
+/// Objects of a block, and its owner or 0.
+const BLOCKS: [(&[Claimed], u64); 6] = [
+    (&[], 0),
+    (&[(0, 13, 1)], 32),
+    (CLOSE, 0),
+    (EDGES, 1),
+    (FULL, 17),
+    (LINES, 0),
+];
+
 #[test]
 fn worked_blocks(rt: HostRuntime) -> Result<(), Fail> {
-    // An object begins in each line of the words from offsets 2112, 2240 and 2304 on. The last of
-    // the first reaches two lines further, that of the second ends with its word.
-    let lines = [
-        claimed(0, 2, 1),
-        claimed(30, 2045, 0),
-        claimed(2112, 13, 1),
-        claimed(2128, 13, 0),
-        claimed(2144, 1, 1),
-        claimed(2165, 40, 2),
-        claimed(2240, 13, 1),
-        claimed(2256, 13, 1),
-        claimed(2272, 13, 1),
-        claimed(2288, 13, 1),
-        claimed(2304, 20, 1),
-        claimed(2335, 0, 1),
-        claimed(2338, 5, 1),
-        claimed(2367, 1700, 1),
-        claimed(4080, 13, 2),
-    ];
-    // neighbours in one line, and over a line's and a word's edge
-    let close = [
-        claimed(0, 2, 1),
-        claimed(5, 2, 3),
-        claimed(10, 2, 0),
-        claimed(15, 2, 2),
-    ];
-    let edges = [
-        claimed(1020, 3, 2),
-        claimed(1026, 2040, 1),
-        claimed(4080, 13, 7),
-    ];
-    let full = [claimed(47, 2045, 2), claimed(2095, 1998, 2)];
-    let dead = [claimed(0, 13, 1)];
-    for objects in [
-        [].as_slice(),
-        dead.as_slice(),
-        close.as_slice(),
-        edges.as_slice(),
-        full.as_slice(),
-        lines.as_slice(),
-    ] {
-        check(&rt, rt.alloc(), objects, 4)?;
-    }
-    Ok(())
-}
-
-/// The next number of a xorshift sequence.
-fn next_random(last: u64) -> u64 {
-    let first = last ^ last << 13;
-    let second = first ^ first >> 7;
-    second ^ second << 17
-}
-
-/// Objects of random sizes and collections, with gaps between some of them. The greater `mix`, the
-/// larger they are.
-fn random_objects(alloc: Global, random: u64, mix: u64) -> Result<Vec<Object>, AllocError> {
-    let mut objects = Vec::new(alloc);
-    let mut last = random;
-    let mut offset: u64 = 0;
-    for _turn in 0..400 {
-        last = next_random(last);
-        let most = match mix % 4 {
-            0 => 8,
-            1 => 64,
-            2 => 400,
-            _ => 2046,
-        };
-        let nums = (last >> 20) % most;
-        let gap = if last % 2 == 0 { (last >> 8) % 50 } else { 0 };
-        let at = offset.saturating_add(gap);
-        if at.saturating_add(nums) > 4093 {
-            break;
+    for (rows, owner) in BLOCKS {
+        let mut objects = Vec::new(rt.alloc());
+        for (offset, nums, number) in rows {
+            assert!(rt; *offset <= 4093);
+            objects.push(claimed(*offset, *nums, *number))?;
         }
-        objects.push(claimed(at as u32, nums as u32, last >> 40 & 3))?;
-        offset = at.saturating_add(nums).saturating_add(3);
-    }
-    Ok(objects)
-}
-
-/// How many of the objects were claimed by collection `base` or later.
-fn plain_count(objects: &[Object], base: u64) -> u32 {
-    let mut count: u32 = 0;
-    for object in objects {
-        if object.collector >> 24 >= base {
-            count = count.wrapping_add(1);
-        }
-    }
-    count
-}
-
-// Blocks with an owner, and without one.
-#[test]
-fn random_blocks(rt: HostRuntime) -> Result<(), Fail> {
-    let mut random = 88_172_645_463_325_252;
-    for turn in 0..200u64 {
-        random = next_random(random);
-        let objects = random_objects(rt.alloc(), random, turn)?;
-        check(&rt, rt.alloc(), &objects, 4 + random % 33 * 65_536)?;
-    }
-    Ok(())
-}
-
-#[test]
-fn headrooms(rt: HostRuntime) -> Result<(), Fail> {
-    for (blocks, held_back) in [(4, 1), (32, 1), (33, 2), (1024, 32)] {
-        let layout = Layout::new(blocks)?;
-        assert_eq!(rt; headroom(&layout), held_back);
+        check(&rt, rt.alloc(), &objects, 4 + owner % 33 * 65_536)?;
     }
     Ok(())
 }

@@ -11,8 +11,6 @@ mod counts;
 #[cfg(test)]
 mod cursors;
 #[cfg(test)]
-mod evacuation;
-#[cfg(test)]
 mod every_plan;
 #[cfg(test)]
 mod immix_plan;

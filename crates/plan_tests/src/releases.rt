@@ -79,29 +79,32 @@ fn value_at(entries: &[(usize, u64)], index: usize) -> Option<u64> {
     None
 }
 
-/// Of the words before the heap these changed under the plan, and no other one.
+/// Of the words before the heap these of two lists changed under the plan, and no other one.
 pub(crate) fn check_words<P: Plan>(
     rt: &impl Abort,
     before: &[u64],
     words: &[u64],
-    after: &[(usize, u64)],
+    own: &[(usize, u64)],
+    rest: &[(usize, u64)],
 ) {
     for index in 0..806 {
-        let want = value_at(after, index).or(before.get(index).copied());
+        let changed = value_at(own, index).or(value_at(rest, index));
+        let want = changed.or(before.get(index).copied());
         let is = words.get(index).copied();
-        assert_eq!(rt; is, want, "word {index} under {}", P::plan_name());
+        assert!(rt; is == want, "word {index} under {}", P::plan_name());
     }
 }
 
-/// Releases a block after collection 1, a full one. Of the words before the heap these change, and
-/// no other one.
+/// Releases a block after collection 1, a full one. Of the words before the heap those of two lists
+/// change, and no other one.
 fn check_release<P: Plan>(
     rt: &impl Abort,
     alloc: Global,
     layout: &Layout,
     mut words: Vec<u64>,
     block: u32,
-    after: &[(usize, u64)],
+    own: &[(usize, u64)],
+    rest: &[(usize, u64)],
 ) -> Result<(), AllocError>
     requires extent { length words.items ≡ row_words layout.now.blocks }
     requires block { block < layout.now.blocks }
@@ -109,106 +112,73 @@ fn check_release<P: Plan>(
     let before = words.as_slice().to_vec(alloc)?;
     assert!(rt; is_releasable(&words, layout, block));
     P::release_block(&mut words, layout, block, Collect::Full, 1);
-    check_words::<P>(rt, &before, &words, after);
+    check_words::<P>(rt, &before, &words, own, rest);
     Ok(())
 }
+
+/// What becomes of block 1 of a kind and class in which two objects live: its word, and its first
+/// and last line word. The word is another one under a plan that makes evacuated blocks Kept.
+const LIVING: [((Kind, u32), (u64, u64), (u64, u64)); 6] = [
+    ((Kind::Bump, 0), (1, 8), STALE),
+    ((Kind::Young, 0), (2, 2), STALE),
+    ((Kind::Mature, 0), (3, 3), STALE),
+    ((Kind::Immix, 0), (4, 4), TOUCHED),
+    ((Kind::Cells, 8), (2053, 2053), STALE),
+    ((Kind::Kept, 0), (8, 8), STALE),
+];
+
+// The line words of `small_row`, and those of lines 4, 5 and 12 to 15.
+const STALE: (u64, u64) = (1 << 3, 1 << 63);
+
+const TOUCHED: (u64, u64) = (0xf030, 0);
 
 /// The object that moved away and the dead one are held no more. The two that live are unlogged,
-/// and one of them is pinned. The block has this word then, and these first and last line words.
-fn check_some_live<P: Plan>(
-    rt: &impl Abort,
-    alloc: Global,
-    layout: &Layout,
-    block: (Kind, u32),
-    word: u64,
-    lines: (u64, u64),
-) -> Result<(), AllocError>
-    requires { layout.now.blocks ≡ 4 }
-{
-    let words = small_row(alloc, layout, block.0, block.1, 1)?;
-    let after = [
-        (19, word),
-        (26, lines.0),
-        (29, lines.1),
-        (102, 0),
-        (103, 1),
-        (104, 0),
-        (105, 1),
-        (359, 1),
-        (360, 0),
-        (614, 0),
-        (615, 1),
-        (616, 0),
-        (617, 1),
-    ];
-    check_release::<P>(rt, alloc, layout, words, 1, &after)
-}
-
-// Lines 4 and 5 of an Immix block are touched, and lines 12 to 15.
-#[test]
-fn some_live(rt: HostRuntime) -> Result<(), Fail> {
-    let layout = Layout::new(4)?;
-    let stale = (1 << 3, 1 << 63);
-    for (kind, class, plain, copied, lines) in [
-        (Kind::Bump, 0, 1, 8, stale),
-        (Kind::Young, 0, 2, 2, stale),
-        (Kind::Mature, 0, 3, 3, stale),
-        (Kind::Immix, 0, 4, 4, (0xf030, 0)),
-        (Kind::Cells, 8, 2053, 2053, stale),
-        (Kind::Kept, 0, 8, 8, stale),
-    ] {
-        let block = (kind, class);
-        check_some_live::<NoGc>(&rt, rt.alloc(), &layout, block, plain, lines)?;
-        check_some_live::<MarkSweep>(&rt, rt.alloc(), &layout, block, plain, lines)?;
-        check_some_live::<Immix>(&rt, rt.alloc(), &layout, block, plain, lines)?;
-        check_some_live::<SemiSpace>(&rt, rt.alloc(), &layout, block, copied, lines)?;
-    }
-    Ok(())
-}
+/// and one of them is pinned.
+const TWO_LIVE: &[(usize, u64)] = &[
+    (102, 0),
+    (103, 1),
+    (104, 0),
+    (105, 1),
+    (359, 1),
+    (360, 0),
+    (614, 0),
+    (615, 1),
+    (616, 0),
+    (617, 1),
+];
 
 /// A block in which nothing lives is Free, without a bit.
-fn check_none_lives<P: Plan>(
+const NONE_LIVES: &[(usize, u64)] = &[
+    (19, 0),
+    (26, 0),
+    (29, 0),
+    (102, 0),
+    (103, 0),
+    (104, 0),
+    (105, 0),
+    (359, 0),
+    (360, 0),
+    (614, 0),
+    (615, 0),
+    (616, 0),
+];
+
+/// Blocks of each kind that mutators fill, in which two objects live, or none.
+fn check_kinds<P: Plan>(
     rt: &impl Abort,
     alloc: Global,
     layout: &Layout,
-    kind: Kind,
-    class: u32,
+    keeps: bool,
 ) -> Result<(), AllocError>
     requires { layout.now.blocks ≡ 4 }
 {
-    let words = small_row(alloc, layout, kind, class, 0)?;
-    let after = [
-        (19, 0),
-        (26, 0),
-        (29, 0),
-        (102, 0),
-        (103, 0),
-        (104, 0),
-        (105, 0),
-        (359, 0),
-        (360, 0),
-        (614, 0),
-        (615, 0),
-        (616, 0),
-    ];
-    check_release::<P>(rt, alloc, layout, words, 1, &after)
-}
-
-#[test]
-fn none_lives(rt: HostRuntime) -> Result<(), Fail> {
-    let layout = Layout::new(4)?;
-    for (kind, class) in [
-        (Kind::Bump, 0),
-        (Kind::Young, 0),
-        (Kind::Mature, 0),
-        (Kind::Immix, 0),
-        (Kind::Cells, 8),
-        (Kind::Kept, 0),
-    ] {
-        check_none_lives::<NoGc>(&rt, rt.alloc(), &layout, kind, class)?;
-        check_none_lives::<MarkSweep>(&rt, rt.alloc(), &layout, kind, class)?;
-        check_none_lives::<SemiSpace>(&rt, rt.alloc(), &layout, kind, class)?;
-        check_none_lives::<Immix>(&rt, rt.alloc(), &layout, kind, class)?;
+    for ((kind, class), (plain, kept), lines) in LIVING {
+        let word = if keeps { kept } else { plain };
+        let own = [(19, word), (26, lines.0), (29, lines.1)];
+        let living = small_row(alloc, layout, kind, class, 1)?;
+        check_release::<P>(rt, alloc, layout, living, 1, &own, TWO_LIVE)?;
+        let dead = small_row(alloc, layout, kind, class, 0)?;
+        check_release::<P>(rt, alloc, layout, dead, 1, &[], NONE_LIVES)?;
     }
     Ok(())
 }
@@ -230,20 +200,9 @@ fn check_copies<P: Plan>(rt: &impl Abort, alloc: Global, layout: &Layout) -> Res
     let mut words = owned_row(alloc, layout)?;
     let copy = object(0, 10, met(1, 4902), false, false);
     write_object(&mut words, layout, 1, &copy);
-    let after = [(19, 1), (614, 1)];
-    check_release::<P>(rt, alloc, layout, words, 1, &after)?;
+    check_release::<P>(rt, alloc, layout, words, 1, &[(19, 1), (614, 1)], &[])?;
     let words = owned_row(alloc, layout)?;
-    check_release::<P>(rt, alloc, layout, words, 1, &[(19, 0)])
-}
-
-#[test]
-fn copies(rt: HostRuntime) -> Result<(), Fail> {
-    let layout = Layout::new(4)?;
-    check_copies::<NoGc>(&rt, rt.alloc(), &layout)?;
-    check_copies::<MarkSweep>(&rt, rt.alloc(), &layout)?;
-    check_copies::<SemiSpace>(&rt, rt.alloc(), &layout)?;
-    check_copies::<Immix>(&rt, rt.alloc(), &layout)?;
-    Ok(())
+    check_release::<P>(rt, alloc, layout, words, 1, &[(19, 0)], &[])
 }
 
 /// A row with a large run of blocks 1 and 2. Its object is pinned.
@@ -264,27 +223,44 @@ fn run_row(
     Ok(words)
 }
 
-// The first block releases the run. Its other block and a Free one change nothing.
+/// A block of a heap with a large run of blocks 1 and 2, and what its release changes. The first
+/// block releases the run. Its other block and a Free one change nothing.
+const RUNS: [(u64, bool, u32, &[(usize, u64)]); 4] = [
+    ((1 << 24) + 4902, false, 1, &[(614, 1)]),
+    (
+        0,
+        true,
+        1,
+        &[(19, 0), (20, 0), (102, 0), (358, 0), (614, 0)],
+    ),
+    (0, true, 2, &[]),
+    (0, true, 3, &[]),
+];
+
 fn check_runs<P: Plan>(rt: &impl Abort, alloc: Global, layout: &Layout) -> Result<(), AllocError>
     requires { layout.now.blocks ≡ 4 }
 {
-    let living = run_row(alloc, layout, met(1, 4902), false)?;
-    check_release::<P>(rt, alloc, layout, living, 1, &[(614, 1)])?;
-    let dead = run_row(alloc, layout, 0, true)?;
-    let freed = [(19, 0), (20, 0), (102, 0), (358, 0), (614, 0)];
-    check_release::<P>(rt, alloc, layout, dead, 1, &freed)?;
-    let tail = run_row(alloc, layout, 0, true)?;
-    check_release::<P>(rt, alloc, layout, tail, 2, &[])?;
-    let free = run_row(alloc, layout, 0, true)?;
-    check_release::<P>(rt, alloc, layout, free, 3, &[])
+    for (collector, unlogged, block, after) in RUNS {
+        assert!(rt; block < 4);
+        let words = run_row(alloc, layout, collector, unlogged)?;
+        check_release::<P>(rt, alloc, layout, words, block, after, &[])?;
+    }
+    Ok(())
+}
+
+/// All releases under a plan, which may make evacuated blocks Kept.
+fn check_plan<P: Plan>(rt: &impl Abort, alloc: Global, keeps: bool) -> Result<(), Fail> {
+    let layout = Layout::new(4)?;
+    check_kinds::<P>(rt, alloc, &layout, keeps)?;
+    check_copies::<P>(rt, alloc, &layout)?;
+    check_runs::<P>(rt, alloc, &layout)?;
+    Ok(())
 }
 
 #[test]
-fn runs(rt: HostRuntime) -> Result<(), Fail> {
-    let layout = Layout::new(4)?;
-    check_runs::<NoGc>(&rt, rt.alloc(), &layout)?;
-    check_runs::<MarkSweep>(&rt, rt.alloc(), &layout)?;
-    check_runs::<SemiSpace>(&rt, rt.alloc(), &layout)?;
-    check_runs::<Immix>(&rt, rt.alloc(), &layout)?;
-    Ok(())
+fn releases(rt: HostRuntime) -> Result<(), Fail> {
+    check_plan::<NoGc>(&rt, rt.alloc(), false)?;
+    check_plan::<MarkSweep>(&rt, rt.alloc(), false)?;
+    check_plan::<SemiSpace>(&rt, rt.alloc(), true)?;
+    check_plan::<Immix>(&rt, rt.alloc(), false)
 }

@@ -68,157 +68,58 @@ fn holes(
     Some((hole_in_block(words, layout, fill, 1, from, size), seen))
 }
 
-// The block's kind, class, first line word and objects, and its first hole for a size. The search
-// is for the block's own kind, from an offset on.
+/// The block's kind, class, first line word and objects, the offset from which a hole for so many
+/// words is looked for, and the first hole.
+type Hole = (Kind, u32, u64, &'static [u32], u32, u32, Option<(u32, u32)>);
+
+const HOLES: [Hole; 39] = [
+    (Kind::Bump, 0, 1, &[], 0, 2048, Some((0, 4096))),
+    (Kind::Bump, 0, 1, &[0, 10], 0, 3, Some((15, 4096))),
+    (Kind::Bump, 0, 1, &[0], 100, 3, Some((100, 4096))),
+    (Kind::Bump, 0, 1, &[0, 2043], 0, 2048, Some((2048, 4096))),
+    (Kind::Bump, 0, 1, &[0, 2044], 0, 2048, None),
+    (Kind::Bump, 0, 1, &[0], 2049, 2048, None),
+    (Kind::Bump, 0, 1, &[0], 4094, 3, None),
+    (Kind::Young, 0, 1, &[0, 10], 0, 3, Some((15, 4096))),
+    (Kind::Young, 0, 1, &[0], 4093, 3, Some((4093, 4096))),
+    (Kind::Young, 0, 1, &[4091], 0, 3, None),
+    (Kind::Young, 0, 1, &[0], 4294967295, 3, None),
+    // lines 1 and 3 to 63 are clear, or lines 1 to 63, and lines 65 to 255
+    (Kind::Immix, 0, 0b101, &[0], 0, 16, Some((16, 32))),
+    (Kind::Immix, 0, 0b101, &[0], 0, 17, Some((48, 1024))),
+    (Kind::Immix, 0, 0b101, &[0], 17, 3, Some((48, 1024))),
+    (Kind::Immix, 0, 0b101, &[0], 97, 3, Some((112, 1024))),
+    (Kind::Immix, 0, 1, &[0], 0, 3, Some((16, 1024))),
+    (Kind::Immix, 0, 1, &[0], 16, 1008, Some((16, 1024))),
+    (Kind::Immix, 0, 1, &[0], 16, 1009, Some((1040, 4096))),
+    (Kind::Immix, 0, 1, &[0], 17, 16, Some((32, 1024))),
+    (Kind::Immix, 0, 1, &[0], 1024, 3, Some((1040, 4096))),
+    (Kind::Immix, 0, 1, &[0], 2049, 2032, Some((2064, 4096))),
+    (Kind::Immix, 0, 1, &[0], 2049, 2048, None),
+    (Kind::Immix, 0, 1, &[0], 4080, 16, Some((4080, 4096))),
+    (Kind::Immix, 0, 1, &[0], 4080, 17, None),
+    (Kind::Immix, 0, 1, &[0], 4096, 3, None),
+    (Kind::Cells, 0, 1, &[], 0, 3, Some((0, 4))),
+    (Kind::Cells, 1, 1, &[6, 12], 0, 6, Some((0, 6))),
+    (Kind::Cells, 1, 1, &[6], 1, 5, Some((12, 18))),
+    (Kind::Cells, 1, 1, &[0, 6], 0, 5, Some((12, 18))),
+    (Kind::Cells, 1, 1, &[0, 6], 0, 4, None),
+    (Kind::Cells, 1, 1, &[0, 6], 0, 7, None),
+    (Kind::Cells, 1, 1, &[0], 4087, 5, None),
+    (Kind::Cells, 17, 1, &[0], 0, 1025, Some((1536, 3072))),
+    (Kind::Cells, 18, 1, &[0], 0, 2048, Some((2048, 4096))),
+    (Kind::Cells, 18, 1, &[0], 2049, 2048, None),
+    (Kind::Cells, 18, 1, &[0, 2048], 0, 2048, None),
+    (Kind::Kept, 0, 1, &[0], 0, 3, None),
+    (Kind::Mature, 0, 1, &[0], 0, 3, None),
+    (Kind::Free, 0, 0, &[], 0, 3, None),
+];
+
+// The search is for the block's own kind, from an offset on.
 #[test]
 fn holes_by_words(rt: HostRuntime) -> Result<(), Fail> {
     let layout = Layout::new(4)?;
-    for (kind, class, lines, offsets, from, size, want) in [
-        (Kind::Bump, 0, 1, [].as_slice(), 0, 2048, Some((0, 4096))),
-        (Kind::Bump, 0, 1, [0, 10].as_slice(), 0, 3, Some((15, 4096))),
-        (Kind::Bump, 0, 1, [0].as_slice(), 100, 3, Some((100, 4096))),
-        (
-            Kind::Bump,
-            0,
-            1,
-            [0, 2043].as_slice(),
-            0,
-            2048,
-            Some((2048, 4096)),
-        ),
-        (Kind::Bump, 0, 1, [0, 2044].as_slice(), 0, 2048, None),
-        (Kind::Bump, 0, 1, [0].as_slice(), 2049, 2048, None),
-        (Kind::Bump, 0, 1, [0].as_slice(), 4094, 3, None),
-        (
-            Kind::Young,
-            0,
-            1,
-            [0, 10].as_slice(),
-            0,
-            3,
-            Some((15, 4096)),
-        ),
-        (
-            Kind::Young,
-            0,
-            1,
-            [0].as_slice(),
-            4093,
-            3,
-            Some((4093, 4096)),
-        ),
-        (Kind::Young, 0, 1, [4091].as_slice(), 0, 3, None),
-        (Kind::Young, 0, 1, [0].as_slice(), 4294967295, 3, None),
-        // lines 1 and 3 to 63 are clear, or lines 1 to 63, and lines 65 to 255
-        (Kind::Immix, 0, 0b101, [0].as_slice(), 0, 16, Some((16, 32))),
-        (
-            Kind::Immix,
-            0,
-            0b101,
-            [0].as_slice(),
-            0,
-            17,
-            Some((48, 1024)),
-        ),
-        (
-            Kind::Immix,
-            0,
-            0b101,
-            [0].as_slice(),
-            17,
-            3,
-            Some((48, 1024)),
-        ),
-        (
-            Kind::Immix,
-            0,
-            0b101,
-            [0].as_slice(),
-            97,
-            3,
-            Some((112, 1024)),
-        ),
-        (Kind::Immix, 0, 1, [0].as_slice(), 0, 3, Some((16, 1024))),
-        (
-            Kind::Immix,
-            0,
-            1,
-            [0].as_slice(),
-            16,
-            1008,
-            Some((16, 1024)),
-        ),
-        (
-            Kind::Immix,
-            0,
-            1,
-            [0].as_slice(),
-            16,
-            1009,
-            Some((1040, 4096)),
-        ),
-        (Kind::Immix, 0, 1, [0].as_slice(), 17, 16, Some((32, 1024))),
-        (
-            Kind::Immix,
-            0,
-            1,
-            [0].as_slice(),
-            1024,
-            3,
-            Some((1040, 4096)),
-        ),
-        (
-            Kind::Immix,
-            0,
-            1,
-            [0].as_slice(),
-            2049,
-            2032,
-            Some((2064, 4096)),
-        ),
-        (Kind::Immix, 0, 1, [0].as_slice(), 2049, 2048, None),
-        (
-            Kind::Immix,
-            0,
-            1,
-            [0].as_slice(),
-            4080,
-            16,
-            Some((4080, 4096)),
-        ),
-        (Kind::Immix, 0, 1, [0].as_slice(), 4080, 17, None),
-        (Kind::Immix, 0, 1, [0].as_slice(), 4096, 3, None),
-        (Kind::Cells, 0, 1, [].as_slice(), 0, 3, Some((0, 4))),
-        (Kind::Cells, 1, 1, [6, 12].as_slice(), 0, 6, Some((0, 6))),
-        (Kind::Cells, 1, 1, [6].as_slice(), 1, 5, Some((12, 18))),
-        (Kind::Cells, 1, 1, [0, 6].as_slice(), 0, 5, Some((12, 18))),
-        (Kind::Cells, 1, 1, [0, 6].as_slice(), 0, 4, None),
-        (Kind::Cells, 1, 1, [0, 6].as_slice(), 0, 7, None),
-        (Kind::Cells, 1, 1, [0].as_slice(), 4087, 5, None),
-        (
-            Kind::Cells,
-            17,
-            1,
-            [0].as_slice(),
-            0,
-            1025,
-            Some((1536, 3072)),
-        ),
-        (
-            Kind::Cells,
-            18,
-            1,
-            [0].as_slice(),
-            0,
-            2048,
-            Some((2048, 4096)),
-        ),
-        (Kind::Cells, 18, 1, [0].as_slice(), 2049, 2048, None),
-        (Kind::Cells, 18, 1, [0, 2048].as_slice(), 0, 2048, None),
-        (Kind::Kept, 0, 1, [0].as_slice(), 0, 3, None),
-        (Kind::Mature, 0, 1, [0].as_slice(), 0, 3, None),
-        (Kind::Free, 0, 0, [].as_slice(), 0, 3, None),
-    ] {
+    for (kind, class, lines, offsets, from, size, want) in HOLES {
         let want = want.map(|(next, end)| Region { next, end });
         let mut words = row_with(rt.alloc(), &layout, kind, class, offsets)?;
         put(&mut words, layout.line_at(1), lines);
@@ -245,8 +146,8 @@ fn holes_by_words(rt: HostRuntime) -> Result<(), Fail> {
     Ok(())
 }
 
-/// The heap after mutators that fill tails took a block, if it is there and Free.
-fn take(heap: Heap, block: u32) -> Heap {
+/// The heap after a mutator that fills tails took a block, if it is there and Free.
+pub(crate) fn take(heap: Heap, block: u32) -> Heap {
     if block >= heap.layout().blocks() || heap.block(block).kind != Kind::Free {
         return heap;
     }
@@ -271,18 +172,20 @@ fn heap_with(alloc: Global, used: &[u32]) -> Result<Heap, Fail> {
     Ok(heap)
 }
 
-// the blocks in use, and the longest runs that fit under each reserve
+/// The blocks in use, and the longest runs that fit under each reserve.
+const RUNS: [(&[u32], u32, u32, u32); 7] = [
+    (&[], 8, 8, 7),
+    (&[2, 5], 2, 2, 2),
+    (&[3], 4, 4, 4),
+    (&[0, 1, 2], 5, 2, 4),
+    (&[1, 3, 5, 7], 1, 0, 1),
+    (&[0, 1, 2, 3, 4, 6, 7], 1, 0, 0),
+    (&[0, 1, 2, 3, 4, 5, 6, 7], 0, 0, 0),
+];
+
 #[test]
 fn runs(rt: HostRuntime) -> Result<(), Fail> {
-    for (used, nothing, copies, headroom) in [
-        ([].as_slice(), 8, 8, 7),
-        ([2, 5].as_slice(), 2, 2, 2),
-        ([3].as_slice(), 4, 4, 4),
-        ([0, 1, 2].as_slice(), 5, 2, 4),
-        ([1, 3, 5, 7].as_slice(), 1, 0, 1),
-        ([0, 1, 2, 3, 4, 6, 7].as_slice(), 1, 0, 0),
-        ([0, 1, 2, 3, 4, 5, 6, 7].as_slice(), 0, 0, 0),
-    ] {
+    for (used, nothing, copies, headroom) in RUNS {
         let heap = heap_with(rt.alloc(), used)?;
         for (reserve, longest) in [
             (Reserve::Nothing, nothing),

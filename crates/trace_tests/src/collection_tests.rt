@@ -1,7 +1,10 @@
-//! Tests of whole collections, against plain counts.
+//! Tests of whole collections, against plain counts and against the plain tracer.
+
+ghost use Rattle.std.specs.Prelude.{◌≡◌, false};
 
 use crate::graphs::{list, random_graph};
-use crate::heaps::{Built, build, build_under, with_roots};
+use crate::heaps::{Built, build, build_under, full_run, with_roots};
+use crate::tracing::trace;
 use collector::{Note, collect};
 use heap_graph::{Place, graph};
 use ideal_heap::Command;
@@ -199,119 +202,135 @@ fn collect_once<P: Plan, R: Abort + Threads + Sync>(
     Ok((pass, built))
 }
 
-// A root or a field refers to the same object, or is nil, before and after.
-fn check_reference(rt: &impl Abort, old: &View, new: &View, was: u64, is: u64) {
-    assert_eq!(rt; was == 0, is == 0, "{was} became {is}");
-    assert_eq!(rt; old.name(was), new.name(is), "{was} became {is}");
+// Whether a root or a field refers to the same object, or is nil, before and after.
+fn is_same(old: &View, new: &View, was: u64, is: u64) -> bool {
+    (was == 0) == (is == 0) && old.name(was) == new.name(is)
 }
 
-// An object is as it was, but for addresses.
-fn check_object(rt: &impl Abort, old: &View, new: &View, was: &Place, is: &Place) {
-    assert_eq!(rt; was.name, is.name);
-    assert_eq!(rt; was.size, is.size, "{:?}", was.name);
+// Whether an object has the words that it had, but for addresses.
+fn has_same_words(old: &View, new: &View, was: &Place, is: &Place) -> bool {
     let refs = old.shape(u64::from(was.at)) % 65_536;
     for offset in 0..was.size {
         let before = word(&old.words, was.at.wrapping_add(offset) as usize);
         let after = word(&new.words, is.at.wrapping_add(offset) as usize);
-        match offset {
-            2 => {}
-            _ if 3 <= offset && u64::from(offset) < 3 + refs => {
-                check_reference(rt, old, new, before, after);
-            }
-            _ => assert_eq!(rt; before, after, "word {offset} of {:?}", was.name),
+        let same = match offset {
+            2 => true,
+            _ if 3 <= offset && u64::from(offset) < 3 + refs => is_same(old, new, before, after),
+            _ => before == after,
+        };
+        if !same {
+            return false;
         }
     }
-    let pinned = old.is_pinned(u64::from(was.at));
-    assert_eq!(rt; new.is_pinned(u64::from(is.at)), pinned, "{:?}", was.name);
+    true
+}
+
+// Whether an object is as it was, but for addresses.
+fn is_same_object(old: &View, new: &View, was: &Place, is: &Place) -> bool {
+    was.name == is.name
+        && was.size == is.size
+        && old.is_pinned(u64::from(was.at)) == new.is_pinned(u64::from(is.at))
+        && has_same_words(old, new, was, is)
+}
+
+// Whether all roots and globals refer to the same objects.
+fn has_same_roots(old: &View, new: &View) -> bool {
+    let mut roots = old.roots.iter().zip(&new.roots);
+    let globals = old.words.iter().skip(2).zip(new.words.iter().skip(2));
+    old.roots.len() == new.roots.len()
+        && roots.all(|(was, is)| is_same(old, new, u64::from(*was), u64::from(*is)))
+        && globals
+            .take(16)
+            .all(|(was, is)| is_same(old, new, *was, *is))
 }
 
 // The reachable objects and the references of roots and globals are as they were.
 fn check_graph(rt: &impl Abort, pass: &Pass) {
     let (old, new) = (&pass.old, &pass.new);
-    assert_eq!(rt; old.places.len(), new.places.len());
+    assert!(rt; old.places.len() == new.places.len() && has_same_roots(old, new));
     for (was, is) in old.places.iter().zip(&new.places) {
-        check_object(rt, old, new, was, is);
-    }
-    assert_eq!(rt; old.roots.len(), new.roots.len());
-    for (was, is) in old.roots.iter().zip(&new.roots) {
-        check_reference(rt, old, new, u64::from(*was), u64::from(*is));
-    }
-    for global in 2..18 {
-        let (was, is) = (word(&old.words, global), word(&new.words, global));
-        check_reference(rt, old, new, was, is);
+        assert!(rt; is_same_object(old, new, was, is), "{:?}", was.name);
     }
 }
 
-// How many of the objects moved, into Bump blocks. The others are in Kept blocks. With `room` they
-// are those that are pinned.
-fn count_moved(rt: &impl Abort, pass: &Pass, room: bool) -> u32 {
+// Whether an object that moved is in a Bump block and is not pinned, and one that stayed in a Kept
+// one. With `room` all move that are not pinned.
+fn is_placed(pass: &Pass, was: &Place, is: &Place, room: bool) -> bool {
+    let pinned = pass.old.is_pinned(u64::from(was.at));
+    match was.at == is.at {
+        false => !pinned && pass.new.kind(is.at) == 1,
+        true => (pinned || !room) && pass.new.kind(is.at) == 8,
+    }
+}
+
+// How many of the objects moved.
+fn moved(pass: &Pass) -> u32 {
     let mut moved = 0u32;
     for (was, is) in pass.old.places.iter().zip(&pass.new.places) {
-        let has_moved = was.at != is.at;
-        let pinned = pass.old.is_pinned(u64::from(was.at));
-        assert!(rt; !(pinned && has_moved), "{:?} is pinned", was.name);
-        assert!(rt; pinned || has_moved || !room, "{:?} has room", was.name);
-        let kind = if has_moved { 1 } else { 8 };
-        assert_eq!(rt; pass.new.kind(is.at), kind, "the block of {:?}", is.name);
-        moved = moved.wrapping_add(u32::from(has_moved));
+        moved = moved.wrapping_add(u32::from(was.at != is.at));
     }
     moved
 }
 
-// What is reachable is kept, and all else is gone. Of what is kept, so many objects moved.
-fn check_kept(rt: &impl Abort, pass: &Pass, moved: u32) {
-    check_graph(rt, pass);
-    let (kept, kept_words) = pass.new.held();
-    assert_eq!(rt; kept as usize, pass.old.places.len());
-    let want = Note {
+// What is noted of so many objects with so many words, of which some moved.
+fn note_of(counts: (u32, u64), moved: u32, free_blocks: u32) -> Note {
+    let (kept, kept_words) = counts;
+    Note {
         collect: Collect::Full,
         kept,
         moved,
         in_place: kept.wrapping_sub(moved),
         kept_words,
-        free_blocks: pass.new.blocks_of(0),
-    };
-    assert_eq!(rt; pass.note, want);
-    assert_eq!(rt; pass.new.number, pass.old.number.wrapping_add(1));
-    assert_eq!(rt; pass.new.base, pass.new.number);
-    let items = (pass.old.roots.len() as u64)
-        .wrapping_add(u64::from(kept))
-        .wrapping_add(16);
-    assert_eq!(rt; (pass.claim, pass.claimed), (items, items));
-}
-
-// Under MarkSweep objects stay where they are, and a block without objects is Free.
-fn check_sweep(rt: &impl Abort, pass: &Pass) {
-    check_kept(rt, pass, 0);
-    for (was, is) in pass.old.places.iter().zip(&pass.new.places) {
-        assert_eq!(rt; was.at, is.at);
+        free_blocks,
     }
-    let filled = pass.new.filled();
-    assert_eq!(rt; pass.new.blocks_of(5), filled);
-    assert_eq!(rt;
-        pass.new.blocks_of(0).wrapping_add(filled) as usize,
-        pass.new.blocks
-    );
 }
 
-// Under NoGC the heap is as it was, and all held objects count as kept.
-fn check_counts(rt: &impl Abort, pass: &Pass) {
-    check_graph(rt, pass);
-    let (kept, kept_words) = pass.old.held();
-    let want = Note {
-        collect: Collect::Full,
-        kept,
-        moved: 0,
-        in_place: kept,
-        kept_words,
-        free_blocks: pass.old.blocks_of(0),
-    };
-    assert_eq!(rt; pass.note, want);
-    assert!(rt; pass.new.words == pass.old.words);
-    assert_eq!(rt; pass.new.roots, pass.old.roots);
-    assert_eq!(rt; pass.new.number, pass.old.number.wrapping_add(1));
-    assert_eq!(rt; pass.new.base, pass.old.base);
-    assert_eq!(rt; (pass.claim, pass.claimed), (0, 0));
+// Whether what is reachable is kept, and all else is gone, in a collection of which all is counted.
+fn is_kept(pass: &Pass) -> bool {
+    let (old, new) = (&pass.old, &pass.new);
+    let held = new.held();
+    let items = (old.roots.len() as u64)
+        .wrapping_add(u64::from(held.0))
+        .wrapping_add(16);
+    let number = old.number.wrapping_add(1);
+    held.0 as usize == old.places.len()
+        && pass.note == note_of(held, moved(pass), new.blocks_of(0))
+        && (new.number, new.base) == (number, number)
+        && (pass.claim, pass.claimed) == (items, items)
+}
+
+// Whether objects stay where they are, and a block without objects is Free.
+fn is_swept(pass: &Pass) -> bool {
+    let filled = pass.new.filled();
+    is_kept(pass)
+        && moved(pass) == 0
+        && pass.new.blocks_of(5) == filled
+        && pass.new.blocks_of(0).wrapping_add(filled) as usize == pass.new.blocks
+}
+
+// Whether objects are copied.
+fn is_copied(pass: &Pass, room: bool) -> bool {
+    let mut places = pass.old.places.iter().zip(&pass.new.places);
+    is_kept(pass) && places.all(|(was, is)| is_placed(pass, was, is, room))
+}
+
+// Whether the heap is as it was, and all held objects count as kept.
+fn is_counted(pass: &Pass) -> bool {
+    let (old, new) = (&pass.old, &pass.new);
+    pass.note == note_of(old.held(), 0, old.blocks_of(0))
+        && new.words == old.words
+        && new.roots == old.roots
+        && new.number == old.number.wrapping_add(1)
+        && new.base == old.base
+        && (pass.claim, pass.claimed) == (0, 0)
+}
+
+// What a collection does with objects.
+#[derive(Clone, Copy)]
+enum Way {
+    Counts,
+    Sweeps,
+    Copies,
 }
 
 // A heap of this many blocks, and whether all objects that it keeps have room for copies.
@@ -321,8 +340,36 @@ struct Setting {
     room: bool,
 }
 
-// Collects a heap under each plan, once for each number of registers that are roots. Returns what
-// SemiSpace noted.
+// Collects a heap that was built under one plan under another, once for each number of registers
+// that are roots. Returns what is noted.
+fn collect_each<B: Plan, P: Plan, R: Abort + Threads + Sync>(
+    rt: &R,
+    alloc: Global,
+    setting: Setting,
+    way: Way,
+    commands: &[Command],
+    passes: &[usize],
+) -> Result<Vec<Note>, Fail>
+    requires { B.rules.young ≡ false }
+{
+    let mut built = build_under::<B>(rt, alloc, setting.blocks, commands, 16)?;
+    let mut notes = Vec::new(alloc);
+    for kept in passes {
+        let (pass, next) = collect_once::<P, R>(rt, alloc, built, *kept)?;
+        check_graph(rt, &pass);
+        let right = match way {
+            Way::Counts => is_counted(&pass),
+            Way::Sweeps => is_swept(&pass),
+            Way::Copies => is_copied(&pass, setting.room),
+        };
+        assert!(rt; right, "{:?}", pass.note);
+        notes.push(pass.note)?;
+        built = next;
+    }
+    Ok(notes)
+}
+
+// Collects a heap under each plan. Returns what SemiSpace noted.
 fn check_plans<R: Abort + Threads + Sync>(
     rt: &R,
     alloc: Global,
@@ -330,28 +377,9 @@ fn check_plans<R: Abort + Threads + Sync>(
     commands: &[Command],
     passes: &[usize],
 ) -> Result<Vec<Note>, Fail> {
-    let mut built = build(rt, alloc, setting.blocks, commands, 16)?;
-    for kept in passes {
-        let (pass, next) = collect_once::<NoGc, R>(rt, alloc, built, *kept)?;
-        check_counts(rt, &pass);
-        built = next;
-    }
-    let mut built = build_under::<MarkSweep>(rt, alloc, setting.blocks, commands, 16)?;
-    for kept in passes {
-        let (pass, next) = collect_once::<MarkSweep, R>(rt, alloc, built, *kept)?;
-        check_sweep(rt, &pass);
-        built = next;
-    }
-    let mut built = build(rt, alloc, setting.blocks, commands, 16)?;
-    let mut notes = Vec::new(alloc);
-    for kept in passes {
-        let (pass, next) = collect_once::<SemiSpace, R>(rt, alloc, built, *kept)?;
-        let moved = count_moved(rt, &pass, setting.room);
-        check_kept(rt, &pass, moved);
-        notes.push(pass.note)?;
-        built = next;
-    }
-    Ok(notes)
+    collect_each::<NoGc, NoGc, R>(rt, alloc, setting, Way::Counts, commands, passes)?;
+    collect_each::<MarkSweep, MarkSweep, R>(rt, alloc, setting, Way::Sweeps, commands, passes)?;
+    collect_each::<NoGc, SemiSpace, R>(rt, alloc, setting, Way::Copies, commands, passes)
 }
 
 // Graphs of 10,000 objects, of which more and more are dead.
@@ -363,8 +391,26 @@ fn random_graphs(rt: HostRuntime) -> Result<(), Fail> {
     };
     for seed in [1u64, 0x9e37_79b9_7f4a_7c15] {
         let commands = random_graph(rt.alloc(), seed, 10_000)?;
-        let notes = check_plans(&rt, rt.alloc(), setting, &commands, &[16, 8, 2])?;
+        check_plans(&rt, rt.alloc(), setting, &commands, &[16, 8, 2])?;
     }
+    Ok(())
+}
+
+// The plain tracer, which reads each object as it claims it and scans it by `scan_object`, and a
+// collection, whose worker does not, leave the same registers, unlog bits and objects.
+#[test]
+fn plain_and_fast_scans_agree(rt: HostRuntime) -> Result<(), Fail> {
+    let alloc = rt.alloc();
+    let commands = random_graph(alloc, 7, 2_000)?;
+    let built = build(&rt, alloc, 40, &commands, 8)?;
+    let run = full_run(&rt, alloc, &built.heap, 0, false)?;
+    let plain = trace(&rt, alloc, built, run)?;
+    let built = build(&rt, alloc, 40, &commands, 8)?;
+    let (fast, _) = collect_once::<MarkSweep, HostRuntime>(&rt, alloc, built, 8)?;
+    let zone = 18 + 133 * 40;
+    let words = plain.traced.row.words.iter().skip(zone);
+    let same = words.eq(fast.new.words.iter().skip(zone));
+    assert!(rt; same && plain.registers == fast.new.roots && plain.scanned == fast.note.kept);
     Ok(())
 }
 

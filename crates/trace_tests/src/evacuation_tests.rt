@@ -17,30 +17,31 @@ fn moves<P: Plan>(rt: &impl Abort, heap: &Heap, from: &[bool], address: u32) -> 
     P::may_move(heap, from, address)
 }
 
-// Two objects fill block 0, at 806 and 2854, and one lies in block 1, at 4902. The second one is
-// pinned.
+/// Two objects fill block 0, at 806 and 2854, and one lies in block 1, at 4902. The second one is
+/// pinned.
+const COMMANDS: &[Command] = &[
+    Command::New {
+        d: 0,
+        refs: 0,
+        nums: 2045,
+    },
+    Command::New {
+        d: 1,
+        refs: 0,
+        nums: 2045,
+    },
+    Command::New {
+        d: 2,
+        refs: 0,
+        nums: 0,
+    },
+    Command::Pin { s: 1 },
+];
+
 #[test]
 fn evacuated_blocks(rt: HostRuntime) -> Result<(), Fail> {
     let alloc = rt.alloc();
-    let commands = [
-        Command::New {
-            d: 0,
-            refs: 0,
-            nums: 2045,
-        },
-        Command::New {
-            d: 1,
-            refs: 0,
-            nums: 2045,
-        },
-        Command::New {
-            d: 2,
-            refs: 0,
-            nums: 0,
-        },
-        Command::Pin { s: 1 },
-    ];
-    let heap = build(&rt, alloc, 4, &commands, 3)?.heap;
+    let heap = build(&rt, alloc, 4, COMMANDS, 3)?.heap;
     let from = SemiSpace::from_blocks(alloc, &heap, Collect::Full)?;
     let used = [true, true, false, false];
     assert_eq!(rt; from.as_slice(), used.as_slice());

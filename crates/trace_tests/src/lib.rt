@@ -9,8 +9,6 @@ mod evacuation_tests;
 mod graphs;
 #[cfg(test)]
 mod heaps;
-#[cfg(test)]
-mod line_tests;
 mod roots;
 #[cfg(test)]
 mod tests;

@@ -17,18 +17,6 @@ fn create(d: u32, refs: u32, nums: u32) -> Command {
     Command::New { d, refs, nums }
 }
 
-fn put(s: u32, i: u32, v: u32) -> Command {
-    Command::Put { s, i, v }
-}
-
-fn share(g: u32, s: u32) -> Command {
-    Command::Share { g, s }
-}
-
-fn pin(s: u32) -> Command {
-    Command::Pin { s }
-}
-
 fn word(words: &[u64], at: usize) -> u64 {
     words.get(at).copied().unwrap_or(0)
 }
@@ -48,62 +36,52 @@ fn target(words: &[u64], at: u64) -> u64 {
     }
 }
 
-// Each word of an object is at its target, with the targets of references.
-fn check_words_of(rt: &impl Abort, old: &[u64], new: &[u64], place: &Place) {
-    let (at, size) = (place.at as usize, place.size as usize);
+// Whether each word of an object is at its target, with the targets of references.
+fn has_words(old: &[u64], new: &[u64], place: &Place) -> bool {
+    let at = place.at as usize;
     let to = target(new, at as u64);
-    let refs = (word(old, at + 1) % 65_536) as usize;
-    for offset in 0..size {
+    let refs = (word(old, at.wrapping_add(1)) % 65_536) as usize;
+    for offset in 0..place.size as usize {
         let was = word(old, at.wrapping_add(offset));
         let want = match offset {
             2 => to.wrapping_add(1 << 24),
             _ if 3 <= offset && offset < 3 + refs => target(new, was),
             _ => was,
         };
-        let is = word(new, (to as usize).wrapping_add(offset));
-        assert_eq!(rt; is, want, "word {offset} of {:?}", place.name);
+        if word(new, (to as usize).wrapping_add(offset)) != want {
+            return false;
+        }
     }
+    true
 }
 
-// An object has its start bit, its unlog bit and its pin bit at its target.
-fn check_bits_of(rt: &impl Abort, old: &[u64], new: &[u64], place: &Place) {
-    let blocks = old.len().saturating_sub(18) / 4293;
-    assert!(rt; blocks <= 1024);
+// Whether an object has its start bit, its unlog bit and its pin bit at its target.
+fn has_bits(old: &[u64], new: &[u64], place: &Place) -> bool {
+    let blocks = (old.len().saturating_sub(18) / 4293).min(1024);
     let base = 18 + 197 * blocks;
     let from = (place.at as usize).wrapping_sub(base);
     let to = (target(new, place.at as u64) as usize).wrapping_sub(base);
-    let name = place.name;
-    assert!(rt; bit(new, 18 + 5 * blocks, to), "the start bit of {name:?}");
-    assert!(rt;
-        bit(new, 18 + 133 * blocks, to),
-        "the unlog bit of {name:?}"
-    );
     let pins = 18 + 69 * blocks;
-    assert_eq!(rt;
-        bit(new, pins, to),
-        bit(old, pins, from),
-        "the pin bit of {name:?}"
-    );
+    bit(new, 18 + 5 * blocks, to)
+        && bit(new, 18 + 133 * blocks, to)
+        && bit(new, pins, to) == bit(old, pins, from)
 }
 
 // Each object of a graph is at its target.
 fn check_objects(rt: &impl Abort, old: &[u64], new: &[u64], graph: &[Place]) {
     for place in graph {
-        check_words_of(rt, old, new, place);
-        check_bits_of(rt, old, new, place);
+        let name = place.name;
+        assert!(rt; has_words(old, new, place), "the words of {name:?}");
+        assert!(rt; has_bits(old, new, place), "the bits of {name:?}");
     }
 }
 
-// Each global and register has its target.
-fn check_roots(rt: &impl Abort, old: &[u64], new: &[u64], registers: &[u32], last: &[u32]) {
-    for global in 2..18 {
-        let want = target(new, word(old, global));
-        assert_eq!(rt; word(new, global), want, "global word {global}");
-    }
-    assert_eq!(rt; last.len(), registers.len());
-    for (was, last) in registers.iter().zip(last) {
-        assert_eq!(rt; u64::from(*last), target(new, u64::from(*was)), "for {was}");
-    }
+// Whether each global and register has its target.
+fn has_roots(old: &[u64], new: &[u64], registers: &[u32], last: &[u32]) -> bool {
+    let targets = registers.iter().map(|r| target(new, u64::from(*r)));
+    let globals = old.iter().skip(2).take(16).map(|g| target(new, *g));
+    last.iter().map(|r| u64::from(*r)).eq(targets)
+        && new.iter().skip(2).take(16).copied().eq(globals)
 }
 
 // Traces a heap whose first blocks are evacuated. Registers, globals and fields follow, and each
@@ -122,118 +100,138 @@ fn check_trace(
     let outcome = trace(rt, alloc, built, run)?;
     let new = outcome.traced.row.words.as_slice();
     check_objects(rt, &old, new, &places);
-    check_roots(rt, &old, new, &registers, &outcome.registers);
+    assert!(rt; has_roots(&old, new, &registers, &outcome.registers));
     assert_eq!(rt; outcome.scanned as usize, places.len());
     Ok(outcome)
 }
 
-// A trace of a heap of 4 blocks, of which the first is evacuated, leaves these words.
-fn check_words(
-    rt: &impl Abort,
-    alloc: Global,
-    commands: &[Command],
-    kept: usize,
-    words: &[(usize, u64)],
-) -> Result<(), Fail> {
-    let built = build(rt, alloc, 4, commands, kept)?;
-    let outcome = check_trace(rt, alloc, built, 1, false)?;
-    for (at, want) in words {
-        assert_eq!(rt; word(&outcome.traced.row.words, *at), *want, "at {at}");
+/// Two objects that refer to each other move from 806 and 810.
+const CYCLE: &[Command] = &[
+    Command::New {
+        d: 0,
+        refs: 1,
+        nums: 0,
+    },
+    Command::New {
+        d: 1,
+        refs: 1,
+        nums: 1,
+    },
+    Command::Put { s: 0, i: 0, v: 1 },
+    Command::Put { s: 1, i: 0, v: 0 },
+    Command::Share { g: 0, s: 0 },
+    Command::Write { s: 1, j: 0, n: 77 },
+];
+
+const CYCLE_WORDS: &[(usize, u64)] = &[
+    // global 0, the words of blocks 0 and 1
+    (2, 4902),
+    (18, 1),
+    (19, 1 + 65_536 * 17),
+    // start and unlog bits of blocks 0 and 1
+    (38, 17),
+    (102, 17),
+    (550, 0),
+    (614, 17),
+    // what is left of the first object
+    (806, 33),
+    (807, 1),
+    (808, (1 << 24) + 4902),
+    (809, 810),
+    // the copies
+    (4902, 33),
+    (4903, 1),
+    (4904, (1 << 24) + 4902),
+    (4905, 4906),
+    (4906, 65),
+    (4907, 65_537),
+    (4908, (1 << 24) + 4906),
+    (4909, 4902),
+    (4910, 77),
+    (4911, 0),
+];
+
+/// The object at 806 is pinned. The one at 810 moves to 4902, and the one at 814, to which both
+/// refer, to 4906. The one at 817, to which nothing refers, has no target.
+const PINNED: &[Command] = &[
+    Command::New {
+        d: 0,
+        refs: 1,
+        nums: 0,
+    },
+    Command::New {
+        d: 1,
+        refs: 1,
+        nums: 0,
+    },
+    Command::New {
+        d: 2,
+        refs: 0,
+        nums: 0,
+    },
+    Command::New {
+        d: 3,
+        refs: 0,
+        nums: 1,
+    },
+    Command::Put { s: 0, i: 0, v: 2 },
+    Command::Put { s: 1, i: 0, v: 2 },
+    Command::Pin { s: 0 },
+    Command::Share { g: 0, s: 0 },
+    Command::Share { g: 1, s: 1 },
+];
+
+const PINNED_WORDS: &[(usize, u64)] = &[
+    (2, 806),
+    (3, 4902),
+    (806, 33),
+    (808, (1 << 24) + 806),
+    (809, 4906),
+    (812, (1 << 24) + 4902),
+    (816, (1 << 24) + 4906),
+    (819, 0),
+    (4902, 65),
+    (4905, 4906),
+    (4906, 97),
+    (4909, 0),
+    // start, pin and unlog bits
+    (38, 1 + 16 + 256 + 2048),
+    (102, 17),
+    (294, 1),
+    (550, 1),
+    (614, 17),
+];
+
+/// Two registers, two globals and a field refer to one object, which moves once.
+const SHARED: &[Command] = &[
+    Command::New {
+        d: 1,
+        refs: 2,
+        nums: 0,
+    },
+    Command::Put { s: 1, i: 1, v: 1 },
+    Command::Share { g: 3, s: 1 },
+    Command::Share { g: 15, s: 1 },
+    Command::Move { d: 0, s: 1 },
+];
+
+const SHARED_WORDS: &[(usize, u64)] = &[(5, 4902), (17, 4902), (102, 1), (4906, 4902), (4907, 0)];
+
+// What a trace of a heap of 4 blocks, of which the first is evacuated, leaves.
+#[test]
+fn small_graphs(rt: HostRuntime) -> Result<(), Fail> {
+    for (commands, kept, words) in [
+        (CYCLE, 0, CYCLE_WORDS),
+        (PINNED, 0, PINNED_WORDS),
+        (SHARED, 3, SHARED_WORDS),
+    ] {
+        let built = build(&rt, rt.alloc(), 4, commands, kept)?;
+        let outcome = check_trace(&rt, rt.alloc(), built, 1, false)?;
+        for (at, want) in words {
+            assert_eq!(rt; word(&outcome.traced.row.words, *at), *want, "at {at}");
+        }
     }
     Ok(())
-}
-
-// Two objects that refer to each other move from 806 and 810.
-#[test]
-fn cycle(rt: HostRuntime) -> Result<(), Fail> {
-    let commands = [
-        create(0, 1, 0),
-        create(1, 1, 1),
-        put(0, 0, 1),
-        put(1, 0, 0),
-        share(0, 0),
-        Command::Write { s: 1, j: 0, n: 77 },
-    ];
-    let words = [
-        // global 0, the words of blocks 0 and 1
-        (2, 4902),
-        (18, 1),
-        (19, 1 + 65_536 * 17),
-        // start and unlog bits of blocks 0 and 1
-        (38, 17),
-        (102, 17),
-        (550, 0),
-        (614, 17),
-        // what is left of the first object
-        (806, 33),
-        (807, 1),
-        (808, (1 << 24) + 4902),
-        (809, 810),
-        // the copies
-        (4902, 33),
-        (4903, 1),
-        (4904, (1 << 24) + 4902),
-        (4905, 4906),
-        (4906, 65),
-        (4907, 65_537),
-        (4908, (1 << 24) + 4906),
-        (4909, 4902),
-        (4910, 77),
-        (4911, 0),
-    ];
-    check_words(&rt, rt.alloc(), &commands, 0, &words)
-}
-
-// The object at 806 is pinned. The one at 810 moves to 4902, and the one at 814, to which both
-// refer, to 4906. The one at 817, to which nothing refers, has no target.
-#[test]
-fn pinned_object(rt: HostRuntime) -> Result<(), Fail> {
-    let commands = [
-        create(0, 1, 0),
-        create(1, 1, 0),
-        create(2, 0, 0),
-        create(3, 0, 1),
-        put(0, 0, 2),
-        put(1, 0, 2),
-        pin(0),
-        share(0, 0),
-        share(1, 1),
-    ];
-    let words = [
-        (2, 806),
-        (3, 4902),
-        (806, 33),
-        (808, (1 << 24) + 806),
-        (809, 4906),
-        (812, (1 << 24) + 4902),
-        (816, (1 << 24) + 4906),
-        (819, 0),
-        (4902, 65),
-        (4905, 4906),
-        (4906, 97),
-        (4909, 0),
-        // start, pin and unlog bits
-        (38, 1 + 16 + 256 + 2048),
-        (102, 17),
-        (294, 1),
-        (550, 1),
-        (614, 17),
-    ];
-    check_words(&rt, rt.alloc(), &commands, 0, &words)
-}
-
-// Two registers, two globals and a field refer to one object, which moves once.
-#[test]
-fn shared_object(rt: HostRuntime) -> Result<(), Fail> {
-    let commands = [
-        create(1, 2, 0),
-        put(1, 1, 1),
-        share(3, 1),
-        share(15, 1),
-        Command::Move { d: 0, s: 1 },
-    ];
-    let words = [(5, 4902), (17, 4902), (102, 1), (4906, 4902), (4907, 0)];
-    check_words(&rt, rt.alloc(), &commands, 3, &words)
 }
 
 // Objects of half a block in a heap of 4 blocks, each in a register of its own.
@@ -245,17 +243,18 @@ fn build_halves(rt: &impl Abort, alloc: Global, count: u32) -> Result<Built, Fai
     build(rt, alloc, 4, &commands, count as usize)
 }
 
-// Where no block is Free, all objects stay. In the last Free block the first two have room.
+/// Where no block is Free, all objects stay. In the last Free block the first two have room.
+const TARGETS: [&[u32]; 5] = [
+    &[806, 2854, 4902, 6950, 8998, 11_046, 13_094, 15_142],
+    &[13_094, 15_142, 4902, 6950, 8998, 11_046],
+    &[13_094, 15_142, 4902, 6950, 8998],
+    &[8998, 11_046, 13_094, 15_142],
+    &[4902, 6950],
+];
+
 #[test]
 fn full_heaps(rt: HostRuntime) -> Result<(), Fail> {
-    let table: [&[u32]; 5] = [
-        &[806, 2854, 4902, 6950, 8998, 11_046, 13_094, 15_142],
-        &[13_094, 15_142, 4902, 6950, 8998, 11_046],
-        &[13_094, 15_142, 4902, 6950, 8998],
-        &[8998, 11_046, 13_094, 15_142],
-        &[4902, 6950],
-    ];
-    for targets in table {
+    for targets in TARGETS {
         assert!(rt; targets.len() <= 8);
         let built = build_halves(&rt, rt.alloc(), targets.len() as u32)?;
         let outcome = check_trace(&rt, rt.alloc(), built, 4, false)?;
@@ -271,8 +270,9 @@ fn long_list(rt: HostRuntime) -> Result<(), Fail> {
     let alloc = rt.alloc();
     let mut commands = Vec::new(alloc);
     for _ in 0..10_000 {
+        let put = Command::Put { s: 1, i: 0, v: 0 };
         let head = Command::Move { d: 0, s: 1 };
-        commands.extend_from_slice(&[create(1, 1, 0), put(1, 0, 0), head])?;
+        commands.extend_from_slice(&[create(1, 1, 0), put, head])?;
     }
     let outcome = check_trace(&rt, alloc, build(&rt, alloc, 24, &commands, 1)?, 24, false)?;
     assert_eq!(rt; outcome.registers.as_slice(), [45_706].as_slice());
@@ -295,27 +295,50 @@ fn check_lines(rt: &impl Abort, words: &[u64], objects: &[(usize, usize)]) {
     }
 }
 
-// Objects of 4, 1,024, 3, 30 and 18 words at 806, 810, 1834, 1837 and 1867. The second and the last
-// are pinned, and nothing refers to the third.
+/// Objects of 4, 1,024, 3, 30 and 18 words at 806, 810, 1834, 1837 and 1867. The second and the
+/// last are pinned, and nothing refers to the third.
+const MARKED: &[Command] = &[
+    Command::New {
+        d: 0,
+        refs: 0,
+        nums: 1,
+    },
+    Command::New {
+        d: 1,
+        refs: 1,
+        nums: 1020,
+    },
+    Command::New {
+        d: 2,
+        refs: 0,
+        nums: 0,
+    },
+    Command::New {
+        d: 2,
+        refs: 0,
+        nums: 27,
+    },
+    Command::New {
+        d: 3,
+        refs: 0,
+        nums: 15,
+    },
+    Command::Pin { s: 1 },
+    Command::Put { s: 1, i: 0, v: 3 },
+    Command::Pin { s: 3 },
+];
+
+/// How many blocks are evacuated, whether lines are marked, and the objects whose lines are.
+const LINES: [(u32, bool, &[(usize, usize)]); 3] = [
+    (1, true, &[(4902, 4), (810, 1024), (4906, 30), (1867, 18)]),
+    (0, true, &[(806, 4), (810, 1024), (1837, 30), (1867, 18)]),
+    (1, false, &[]),
+];
+
 #[test]
 fn marked_lines(rt: HostRuntime) -> Result<(), Fail> {
-    let commands = [
-        create(0, 0, 1),
-        create(1, 1, 1020),
-        create(2, 0, 0),
-        create(2, 0, 27),
-        create(3, 0, 15),
-        pin(1),
-        put(1, 0, 3),
-        pin(3),
-    ];
-    let table: [(u32, bool, &[(usize, usize)]); 3] = [
-        (1, true, &[(4902, 4), (810, 1024), (4906, 30), (1867, 18)]),
-        (0, true, &[(806, 4), (810, 1024), (1837, 30), (1867, 18)]),
-        (1, false, &[]),
-    ];
-    for (moving, lines, objects) in table {
-        let built = build(&rt, rt.alloc(), 4, &commands, 3)?;
+    for (moving, lines, objects) in LINES {
+        let built = build(&rt, rt.alloc(), 4, MARKED, 3)?;
         let outcome = check_trace(&rt, rt.alloc(), built, moving, lines)?;
         check_lines(&rt, &outcome.traced.row.words, objects);
     }

@@ -1,8 +1,0 @@
-use Rattle.mm_runtime.specs.Managers.{left, IsReady}
-use Rattle.mm_runtime.proofs.tests.run_traces.Given as goal
-
-abbrev pub invariant-epochs : goal.invariant-epochs
-invariant-epochs g l = IsReady g.P.Plan.rules l.manager
-
-abbrev pub decreases-epochs : goal.decreases-epochs
-decreases-epochs g l = left l.manager.progress.items

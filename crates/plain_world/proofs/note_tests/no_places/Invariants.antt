@@ -1,6 +1,0 @@
-use Rattle.sessions.specs.Plans.{NoGc as no_gc, rules_of}
-use Rattle.plain_world.specs.Calls.{IsOpen}
-use Rattle.plain_world.proofs.note_tests.no_places.Given as goal
-
-abbrev pub invariant-loop-nums : goal.invariant-loop-nums
-invariant-loop-nums g l = (IsOpen (rules_of no_gc) l.world)

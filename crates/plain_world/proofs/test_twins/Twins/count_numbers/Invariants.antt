@@ -1,6 +1,0 @@
-use Rattle.sessions.specs.Plans.{NoGc as no_gc, rules_of}
-use Rattle.plain_world.specs.Calls.{IsOpen}
-use Rattle.plain_world.proofs.test_twins.Twins.count_numbers.Given as goal
-
-abbrev pub invariant-loop-j : goal.invariant-loop-j
-invariant-loop-j g l = IsOpen (rules_of no_gc) l.self.world

@@ -1,6 +1,0 @@
-use Rattle.sessions.specs.Plans.{NoGc as no_gc, rules_of}
-use Rattle.plain_world.specs.Calls.{IsOpen}
-use Rattle.plain_world.proofs.test_twins.Twins.list_fields.Given as goal
-
-abbrev pub invariant-loop-i : goal.invariant-loop-i
-invariant-loop-i g l = IsOpen (rules_of no_gc) l.self.world

@@ -1,6 +1,0 @@
-use Rattle.sessions.specs.Plans.{NoGc as no_gc, rules_of}
-use Rattle.plain_world.specs.Calls.{IsOpen}
-use Rattle.plain_world.proofs.tests.random_calls.Given as goal
-
-abbrev pub invariant-loop : goal.invariant-loop
-invariant-loop g l = IsOpen (rules_of no_gc) l.twins.world

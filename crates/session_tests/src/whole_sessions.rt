@@ -1,0 +1,136 @@
+//! Whole sessions under each plan.
+
+ghost use Rattle.std.specs.Prelude.{◌≤◌, ℕ, All, IsTrue, length};
+ghost use Rattle.managed_heap.specs.Stopped.{IsManaged};
+ghost use Rattle.mm_runtime.specs.Managers.{IsReady, IsRunnable};
+
+use heap_graph::{Place, graph};
+use heap_layout::Layout;
+use ideal_heap::{Command, Reply, valid};
+use mm_runtime::{Manager, Turn, managed_plans};
+use object_model::{Heap, are_roots};
+use plan_api::Plan;
+use plans::{Immix, MarkSweep, NoGc, SemiSpace};
+use pools::PlainPool;
+use std::alloc::{AllocError, Global};
+use std::process::Abort;
+use std::test::Fail;
+use std::thread::Threads;
+use work_packets::OpenGate;
+
+/// The plan of a session.
+#[derive(Clone, Copy, Debug, PartialEq, Eq)]
+pub(crate) enum Under {
+    NoGc,
+    MarkSweep,
+    SemiSpace,
+    Immix,
+}
+
+/// What a session left: the replies of each mutator, the roots, the objects that they reach, and
+/// the numbers of nursery and full collections.
+#[derive(Drop)]
+pub(crate) struct End {
+    pub(crate) replies: Vec<Vec<Reply>>,
+    pub(crate) roots: Vec<u32>,
+    pub(crate) places: Vec<Place>,
+    pub(crate) collections: (u64, u64),
+}
+
+fn is_runnable(trace: &[Command]) -> bool
+    ensures { IsTrue result → IsRunnable trace.now }
+{
+    trace.len() <= 1_000_000 && trace.iter().all(|c| valid(c))
+}
+
+fn check_runnable(rt: &impl Abort, traces: &Vec<Vec<Command>>)
+    ensures { All (λ t. IsRunnable t.items) traces.now.items }
+{
+    for trace in traces {
+        assert!(rt; is_runnable(trace));
+    }
+}
+
+// The objects that are reachable from these roots.
+fn graph_from(
+    rt: &impl Abort,
+    alloc: Global,
+    heap: &Heap,
+    roots: &[u32],
+) -> Result<Vec<Place>, AllocError> {
+    assert!(rt; are_roots(heap, roots), "{roots:?}");
+    graph(alloc, heap, roots)
+}
+
+// What a session leaves, with the objects that `from` reaches, or all roots if it is empty.
+fn end_of<P: Plan>(
+    rt: &impl Abort,
+    alloc: Global,
+    manager: Manager<P>,
+    from: &[u32],
+) -> Result<End, AllocError>
+    requires { IsReady P.rules manager }
+{
+    let mut replies = Vec::new(alloc);
+    for m in 0..manager.mutators() {
+        replies.push(manager.replies(m + 1).to_vec(alloc)?)?;
+    }
+    let roots = manager.roots()?;
+    let from = if from.is_empty() {
+        roots.as_slice()
+    } else {
+        from
+    };
+    let places = graph_from(rt, alloc, manager.heap(), from)?;
+    let collections = manager.collections();
+    Ok(End {
+        replies,
+        roots,
+        places,
+        collections,
+    })
+}
+
+fn run<P: Plan, R: Abort + Threads + Sync>(
+    rt: &R,
+    alloc: Global,
+    blocks: u32,
+    traces: Vec<Vec<Command>>,
+    from: &[u32],
+) -> Result<End, Fail>
+    requires { IsManaged P.rules }
+{
+    assert!(rt; 1 <= traces.len() && traces.len() <= 16);
+    check_runnable(rt, &traces);
+    let mut manager = Manager::<P>::begin(alloc, Layout::new(blocks)?, traces, 1)?;
+    'epochs: loop {
+        let (next, turn) = manager.advance(rt, &PlainPool, &OpenGate)?;
+        manager = next;
+        if turn == Turn::Ended {
+            return Ok(end_of(rt, alloc, manager, from)?);
+        }
+    }
+}
+
+/// Runs one trace for each mutator to the end, in a heap of `blocks` blocks. The objects are those
+/// that `from` reaches, or all roots if it is empty.
+pub(crate) fn session<R: Abort + Threads + Sync>(
+    rt: &R,
+    alloc: Global,
+    under: Under,
+    blocks: u32,
+    traces: &[&[Command]],
+    from: &[u32],
+) -> Result<End, Fail> {
+    managed_plans();
+    let mut copies = Vec::new(alloc);
+    for trace in traces {
+        copies.push(trace.to_vec(alloc)?)?;
+    }
+    match under {
+        Under::NoGc => run::<NoGc, R>(rt, alloc, blocks, copies, from),
+        Under::MarkSweep => run::<MarkSweep, R>(rt, alloc, blocks, copies, from),
+        Under::SemiSpace => run::<SemiSpace, R>(rt, alloc, blocks, copies, from),
+        Under::Immix => run::<Immix, R>(rt, alloc, blocks, copies, from),
+    }
+}

@@ -1,0 +1,6 @@
+use Rattle.sessions.specs.Plans.{NoGc as no_gc, rules_of}
+use Rattle.plain_world.specs.Calls.{IsOpen}
+use Rattle.world_tests.proofs.twins.Twins.count_numbers.Given as goal
+
+abbrev pub invariant-loop-j : goal.invariant-loop-j
+invariant-loop-j g l = IsOpen (rules_of no_gc) l.self.world
