@@ -16,3 +16,4 @@ pub mod Serving
 pub mod Moments
 pub mod ManagedPlans
 pub mod FirstHeap
+pub mod EpochLaws

@@ -1,5 +1,5 @@
 -- What a stop does for an object that no mutator could allocate.
-use Rattle.std.specs.Prelude.{◌≡◌, ◌≢◌, ℕ, ◌+◌, ◌<◌, ◌≤◌, ◌^◌, ◌⊎◌, Some, List, [], ◌∷◌, ◌++◌, length, slice_get, slice_set}
+use Rattle.std.specs.Prelude.{◌≡◌, ◌≢◌, ℕ, ◌+◌, ◌<◌, ◌≤◌, ◌^◌, ◌⊎◌, Option, None, Some, List, [], ◌∷◌, ◌++◌, length, slice_get, slice_set}
 use Rattle.ideal_heap.specs.declared.command.Command.TheVariants as c
 use Rattle.ideal_heap.specs.declared.reply.Reply.{Reply}
 use Rattle.ideal_heap.specs.declared.reply.Reply.TheVariants as r
@@ -10,11 +10,13 @@ use Rattle.ideal_heap.specs.Runs.{entry}
 use Rattle.heap_layout.specs.Zones.{block_start}
 use Rattle.object_model.specs.Heaps.{heap_state}
 use Rattle.object_model.specs.Objects.{size_of}
+use Rattle.object_model.specs.declared.collect.Collect.{Collect}
 use Rattle.object_model.specs.declared.collect.Collect.TheVariants.{Nursery, Full}
 use Rattle.sessions.specs.Plans.{Rules}
 use Rattle.sessions.specs.Fitting.{Fits}
 use Rattle.sessions.specs.Collecting.{first_collection}
 use Rattle.sessions.specs.Sessions.{Setting, Moment, MakesCollection, FirstTry, Places, Replies, refusal}
+use Rattle.collector.specs.declared.outcome.Note.{Note}
 use Rattle.block_regions.specs.Elements.{ChangesAt}
 use Rattle.block_regions.specs.Notes.{AreNotes}
 use Rattle.mutator_calls.specs.declared.need.Mutator.{Mutator}
@@ -23,7 +25,7 @@ use Rattle.managed_heap.specs.declared.stopped_heap.StoppedHeap.{StoppedHeap}
 use Rattle.managed_heap.specs.declared.spot.Spot.{Spot}
 use Rattle.managed_heap.specs.declared.place.Placed.{Placed}
 use Rattle.managed_heap.specs.declared.place.Placed.TheVariants as placed
-use Rattle.managed_heap.specs.Stopped.{mutator_count}
+use Rattle.managed_heap.specs.Stopped.{collections_of, mutator_count, HasCollected, StandsAt}
 use Rattle.managed_heap.specs.Spots.{WritesAt}
 
 -- mutator m, counted from 1, may allocate the object of this need: the need is within the limits, and so are its births
@@ -91,3 +93,20 @@ abbrev pub Settles : Setting → ℕ → Need → Placed → Moment → Moment �
 Settles t m need (placed.Placed n) late now = Places t m need.register need.refs need.nums late now
 Settles t m need (placed.HeapFull size) late now = (Fits t.rules late.heap (size_of need.refs need.nums) → ⊥)
     × Replies (refusal m need.register need.refs need.nums ∷ []) late now
+
+-- Collections were made for a need, and the note tells of the last one: it began with `before`, which stands after the
+-- entries of `old`, and left `after`.
+pub record TellsOfLast {P : Type 0} (rules : Rules) (old new : StoppedHeap P) (note : Note) : Type 0 where
+  pub kind : Collect
+  pub before : StoppedHeap P
+  pub after : StoppedHeap P
+  pub stands : (t : Setting) (now : Moment) → StandsAt rules old t now
+      → (at : Moment) × (at.done ≡ now.done) × StandsAt rules before t at
+  pub collected : HasCollected rules kind before after note
+  pub count : collections_of new ≡ collections_of after
+  pub more : collections_of old < collections_of new
+
+-- no collection was made, or the note tells of the last one
+abbrev pub NotesLast : {P : Type 0} → Rules → StoppedHeap P → StoppedHeap P → Option Note → Type 0
+NotesLast rules old new None = collections_of new ≡ collections_of old
+NotesLast rules old new (Some note) = TellsOfLast rules old new note

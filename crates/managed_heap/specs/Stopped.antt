@@ -3,19 +3,20 @@ use Rattle.std.specs.Prelude.{◌≡◌, ℕ, ◌+◌, ◌≤◌, List, map, len
 use Rattle.std.specs.List.{AllByRecursion}
 use Rattle.ideal_heap.specs.declared.command.TheConstants.{MAX_MUTATORS}
 use Rattle.ideal_heap.specs.Ideal.{empty}
-use Rattle.ideal_heap.specs.Runs.{IsRun}
+use Rattle.ideal_heap.specs.Runs.{Entry, IsRun}
 use Rattle.object_model.specs.Heaps.{heap_state}
-use Rattle.object_model.specs.Graphs.{roots_of}
+use Rattle.object_model.specs.Graphs.{numbers_of, roots_of}
 use Rattle.object_model.specs.Objects.{HeapState}
 use Rattle.object_model.specs.declared.collect.Collect.{Collect}
 use Rattle.object_model.specs.declared.collect.Collect.TheVariants.{Nursery, Full}
 use Rattle.sessions.specs.Plans.{Rules}
 use Rattle.sessions.specs.Collecting.{IsCollection, first_collection}
-use Rattle.sessions.specs.Sessions.{Setting, Moment, IsSound, birth_count}
+use Rattle.sessions.specs.Sessions.{Setting, Moment, IsSound, Stopped as EndsPart, birth_count, ideal_at}
 use Rattle.collector.specs.Collected.{IsOffered}
 use Rattle.collector.specs.Tallies.{NotesIf}
 use Rattle.collector.specs.declared.outcome.Note.{Note}
 use Rattle.heap_users.specs.Users.{mutator_state}
+use Rattle.heap_users.specs.Beginnings.{without_stop}
 use Rattle.block_regions.specs.Notes.{AreNotes, FillsHoles}
 use Rattle.managed_heap.specs.declared.stopped_heap.StoppedHeap.{StoppedHeap}
 use Rattle.managed_heap.specs.declared.stopped_heap.Parts.{Parts}
@@ -55,6 +56,25 @@ pub record StandsAt {P : Type 0} (rules : Rules) (h : StoppedHeap P) (t : Settin
   pub full : h.full ≡ now.full
   pub sound : IsSound t now
   pub run : IsRun empty now.done
+
+-- the moment of a stopped heap after these entries
+abbrev pub moment_of : {P : Type 0} → StoppedHeap P → List Entry → Moment
+moment_of h done = record {
+  heap = heap_state h.heap;
+  mutators = map mutator_state h.mutators.items;
+  done = done;
+  nursery = h.nursery;
+  full = h.full;
+}
+
+-- The epoch that began with `old` at this moment ran these entries and ended with `new`. No collection was made.
+pub record EndsEpoch {P : Type 0} (rules : Rules) (old : StoppedHeap P) (now : Moment) (part : List Entry)
+    (new : StoppedHeap P) : Type 0 where
+  pub run : IsRun (ideal_at now) part
+  pub stopped : EndsPart rules (numbers_of now.mutators) (without_stop now.heap) (ideal_at now) part (heap_state new.heap)
+      (map mutator_state new.mutators.items)
+  pub nursery : new.nursery ≡ old.nursery
+  pub full : new.full ≡ old.full
 
 -- it stands at some moment of some setting
 pub record IsStopped {P : Type 0} (rules : Rules) (h : StoppedHeap P) : Type 0 where

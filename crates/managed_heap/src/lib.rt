@@ -9,6 +9,6 @@ mod spot;
 mod stopped_heap;
 
 pub use collect::all_registers;
-pub use laws::managed_plans;
+pub use laws::{closed_worlds_are_stopped, managed_plans, stopped_heaps_begin_epochs};
 pub use place::Placed;
 pub use stopped_heap::{Parts, StoppedHeap};

@@ -15,10 +15,11 @@ ghost use Rattle.block_regions.specs.Notes.{AreNotes};
 ghost use Rattle.managed_heap.specs.declared.place.Placed.TheVariants as placed;
 ghost use Rattle.managed_heap.specs.Stopped.{collections_of, IsManaged, IsInOrder, IsStopped, StandsAt};
 ghost use Rattle.managed_heap.specs.Spots.{IsSpot};
-ghost use Rattle.managed_heap.specs.Needs.{born_in, AddsBirths, AddsNeed, BearsAt, IfRefused, MakesRoom, MayAllocate, PutsAt, Settles};
+ghost use Rattle.managed_heap.specs.Needs.{born_in, AddsBirths, AddsNeed, BearsAt, IfRefused, MakesRoom, MayAllocate, NotesLast, PutsAt, Settles, TellsOfLast};
 
 use crate::spot::{Spot, note_placed, relist_spot, take_spot};
 use crate::stopped_heap::StoppedHeap;
+use collector::Note;
 use ideal_heap::{MAX_NUMS, MAX_REFS, Name, REGISTERS};
 use large_space::{blocks_for, find_run};
 use mutator_calls::{Mutator, Need};
@@ -188,7 +189,8 @@ impl<P: Plan> StoppedHeap<P> {
     }
 
     /// The collections for an object of `size` words that does not fit: the one to try first, and a
-    /// full one if that was a nursery one and the object still does not fit.
+    /// full one if that was a nursery one and the object still does not fit. The note tells of the
+    /// last one.
     ///
     /// Fails if memory runs out. The heap is lost then.
     fn make_room<Q: Pool, G: Gate, R: Threads + Sync>(
@@ -197,32 +199,33 @@ impl<P: Plan> StoppedHeap<P> {
         size: u32,
         pool: &Q,
         gate: &G,
-    ) -> Result<StoppedHeap<P>, AllocError>
+    ) -> Result<(StoppedHeap<P>, Note), AllocError>
         requires plan { IsManaged P.rules }
         requires stopped { IsStopped P.rules self }
         requires collections { collections_of self + 2 < 2 ^ 40 }
         requires least { 3 ≤ size }
         requires most { size ≤ size_of MAX_REFS MAX_NUMS }
-        ensures order { IfOk result (λ r. IsInOrder P.rules r) }
+        ensures order { IfOk result (λ r. IsInOrder P.rules r.0) }
         ensures room { (t : Setting) (now : Moment) → StandsAt P.rules self t now
             → IfOk result (λ r. (late : Moment) × MakesRoom t size now late
-            × StandsAt P.rules r t late) }
-        ensures full { IfOk result (λ r. (Fits P.rules (heap_state r.heap) size → ⊥)
-            → r.full ≡ self.full + 1) }
+            × StandsAt P.rules r.0 t late) }
+        ensures full { IfOk result (λ r. (Fits P.rules (heap_state r.0.heap) size → ⊥)
+            → r.0.full ≡ self.full + 1) }
         ensures births { IfOk result (λ r. (m : ℕ)
-            → AddsBirths self.mutators.items m 0 r.mutators.items) }
-        ensures counts { IfOk result (λ r. collections_of r ≤ collections_of self + 2) }
+            → AddsBirths self.mutators.items m 0 r.0.mutators.items) }
+        ensures counts { IfOk result (λ r. collections_of r.0 ≤ collections_of self + 2) }
+        ensures noted { IfOk result (λ r. TellsOfLast P.rules self r.0 r.1) }
     {
         let first = P::kind(&self.heap);
-        let (stopped, _) = self.collect(rt, first, pool, gate)?;
+        let (stopped, note) = self.collect(rt, first, pool, gate)?;
         if first == Collect::Full {
-            return Ok(stopped);
+            return Ok((stopped, note));
         }
         if P::fits(&stopped.heap, size) {
-            return Ok(stopped);
+            return Ok((stopped, note));
         }
-        let (stopped, _) = stopped.collect(rt, Collect::Full, pool, gate)?;
-        Ok(stopped)
+        let (stopped, note) = stopped.collect(rt, Collect::Full, pool, gate)?;
+        Ok((stopped, note))
     }
 
     /// Places the object of a need of mutator `m` if it fits.
@@ -252,7 +255,8 @@ impl<P: Plan> StoppedHeap<P> {
 
     /// Serves a need of mutator `m`. If the object does not fit, the collection to try first is
     /// made, and a full one if that was a nursery one and the object still does not fit. It is
-    /// placed if it fits then. Writes no reply.
+    /// placed if it fits then. The note tells of the last collection, if one was made. Writes no
+    /// reply.
     ///
     /// Fails if memory runs out. The heap is lost then.
     pub fn place_or_collect<Q: Pool, G: Gate, R: Threads + Sync>(
@@ -262,7 +266,7 @@ impl<P: Plan> StoppedHeap<P> {
         need: Need,
         pool: &Q,
         gate: &G,
-    ) -> Result<(StoppedHeap<P>, Placed), AllocError>
+    ) -> Result<(StoppedHeap<P>, Placed, Option<Note>), AllocError>
         requires plan { IsManaged P.rules }
         requires stopped { IsStopped P.rules self }
         requires may { MayAllocate self m need }
@@ -278,14 +282,16 @@ impl<P: Plan> StoppedHeap<P> {
         ensures refused { IfOk result (λ r. IfRefused r.1 (λ size.
             (size ≡ size_of need.refs need.nums) × (r.0.full ≡ self.full + 1)
             × (Fits P.rules (heap_state r.0.heap) size → ⊥))) }
+        ensures noted { IfOk result (λ r. NotesLast P.rules self r.0 r.2) }
     {
         let size = size_words(&shape_of(&need));
         let mut stopped = self;
         if let Some(spot) = stopped.find(size) {
             let (stopped, name) = stopped.place(m, &need, spot);
-            return Ok((stopped, Placed::Placed(name)));
+            return Ok((stopped, Placed::Placed(name), None));
         }
-        let stopped = stopped.make_room(rt, size, pool, gate)?;
-        Ok(stopped.settle(m, &need))
+        let (stopped, note) = stopped.make_room(rt, size, pool, gate)?;
+        let (stopped, placed) = stopped.settle(m, &need);
+        Ok((stopped, placed, Some(note)))
     }
 }

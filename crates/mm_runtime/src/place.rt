@@ -82,7 +82,7 @@ impl<P: Plan> Manager<P> {
             heap,
             mut progress,
         } = self;
-        let (heap, placed) = heap.place_or_collect(rt, m, need, pool, gate)?;
+        let (heap, placed, _note) = heap.place_or_collect(rt, m, need, pool, gate)?;
         reply_to(&mut progress, m, reply_for(&placed));
         let manager = Manager {
             alloc,

@@ -81,3 +81,40 @@ returns-clause-births g c =
 pub returns-clause-counts : goal.returns-clause-counts
 returns-clause-counts g c =
     serving.counts-both g.P.Plan.rules c.args.self c.in_ok-stopped.stopped c.in_ok-stopped-2.stopped c.kind-first.result _ _ c.in_ok-stopped.ensures.collected c.in_ok-stopped-2.ensures.collected
+
+pub returns-then-eq-clause-noted : goal.returns-then-eq-clause-noted
+returns-then-eq-clause-noted g c = record {
+  kind = c.kind-first.result;
+  before = c.args.self;
+  after = c.in_ok-stopped.stopped;
+  stands = λ t now stands. (now, refl, stands);
+  collected = c.in_ok-stopped.ensures.collected;
+  count = refl;
+  more = (let one : collections_of c.in_ok-stopped.stopped ≡ collections_of c.args.self + 1 = collected.counts g.P.Plan.rules c.kind-first.result c.args.self c.in_ok-stopped.stopped _ c.in_ok-stopped.ensures.collected in omega arith);
+}
+
+pub returns-then-fits-clause-noted : goal.returns-then-fits-clause-noted
+returns-then-fits-clause-noted g c = record {
+  kind = c.kind-first.result;
+  before = c.args.self;
+  after = c.in_ok-stopped.stopped;
+  stands = λ t now stands. (now, refl, stands);
+  collected = c.in_ok-stopped.ensures.collected;
+  count = refl;
+  more = (let one : collections_of c.in_ok-stopped.stopped ≡ collections_of c.args.self + 1 = collected.counts g.P.Plan.rules c.kind-first.result c.args.self c.in_ok-stopped.stopped _ c.in_ok-stopped.ensures.collected in omega arith);
+}
+
+pub returns-clause-noted : goal.returns-clause-noted
+returns-clause-noted g c = record {
+  kind = Full;
+  before = c.in_ok-stopped.stopped;
+  after = c.in_ok-stopped-2.stopped;
+  stands = λ t now stands. let late = c.in_ok-stopped.ensures.makes t now stands in (late.0, late.1.done, late.2);
+  collected = c.in_ok-stopped-2.ensures.collected;
+  count = refl;
+  more = (
+      let one : collections_of c.in_ok-stopped.stopped ≡ collections_of c.args.self + 1 = collected.counts g.P.Plan.rules c.kind-first.result c.args.self c.in_ok-stopped.stopped _ c.in_ok-stopped.ensures.collected in
+      let two : collections_of c.in_ok-stopped-2.stopped ≡ collections_of c.in_ok-stopped.stopped + 1 =
+      collected.counts g.P.Plan.rules Full c.in_ok-stopped.stopped c.in_ok-stopped-2.stopped _ c.in_ok-stopped-2.ensures.collected in
+      omega arith);
+}

@@ -66,32 +66,51 @@ make_room-requires-clause-most g c κs within =
     putting.most-words c.args.self c.args.m c.args.need c.requires.may c.size_words-size.result c.shape_of.result.refs c.shape_of.result.nums
     c.size_words-size.ensures c.shape_of.ensures.refs c.shape_of.ensures.nums
 
-pub settle-requires-clause-stopped : goal.settle-requires-clause-stopped
-settle-requires-clause-stopped g c =
+pub settle-stopped-requires-clause-stopped : goal.settle-stopped-requires-clause-stopped
+settle-stopped-requires-clause-stopped g c =
     serving.stopped-made g.P.Plan.rules c.args.self c.find.new.self c.in_ok-stopped.stopped c.in_ok-stopped.stopped c.args.m c.args.need (answer.HeapFull 0) c.size_words-size.result c.find.ensures.rest c.find.ensures.notes (c.size_words-size.ensures ∙ ap (λ r. size_of r c.shape_of.result.nums) c.shape_of.ensures.refs ∙ ap (λ q. size_of c.args.need.refs q) c.shape_of.ensures.nums)
     c.in_ok-stopped.ensures.order (noted.stopped-found g.P.Plan.rules c.args.self c.find.new.self c.find.ensures.rest c.find.ensures.notes c.requires.stopped) c.in_ok-stopped.ensures.room
 
-pub settle-requires-clause-may : goal.settle-requires-clause-may
-settle-requires-clause-may g c =
+pub settle-stopped-requires-clause-may : goal.settle-stopped-requires-clause-may
+settle-stopped-requires-clause-may g c =
     may-kept c.find.new.self c.in_ok-stopped.stopped c.args.m c.args.need (c.in_ok-stopped.ensures.births c.args.m)
     (noted.may-found g.P.Plan.rules c.args.self c.find.new.self c.find.ensures.rest c.find.ensures.notes c.args.m c.args.need c.requires.may)
 
 pub returns-clause-stopped : goal.returns-clause-stopped
 returns-clause-stopped g c =
-    serving.stopped-served g.P.Plan.rules c.args.self c.settle.result.0 c.args.m c.args.need c.settle.result.1 c.requires.stopped c.settle.ensures.order
-    (serving.serves-after g.P.Plan.rules c.args.self c.find.new.self c.in_ok-stopped.stopped c.settle.result.0 c.args.m c.args.need c.settle.result.1 c.size_words-size.result c.find.ensures.rest c.find.ensures.notes (c.size_words-size.ensures ∙ ap (λ r. size_of r c.shape_of.result.nums) c.shape_of.ensures.refs ∙ ap (λ q. size_of c.args.need.refs q) c.shape_of.ensures.nums) c.in_default.ensures.none c.in_ok-stopped.ensures.room c.settle.ensures.settles)
+    serving.stopped-served g.P.Plan.rules c.args.self c.settle-stopped.result.0 c.args.m c.args.need c.settle-stopped.result.1 c.requires.stopped c.settle-stopped.ensures.order
+    (serving.serves-after g.P.Plan.rules c.args.self c.find.new.self c.in_ok-stopped.stopped c.settle-stopped.result.0 c.args.m c.args.need c.settle-stopped.result.1 c.size_words-size.result c.find.ensures.rest c.find.ensures.notes (c.size_words-size.ensures ∙ ap (λ r. size_of r c.shape_of.result.nums) c.shape_of.ensures.refs ∙ ap (λ q. size_of c.args.need.refs q) c.shape_of.ensures.nums) c.in_default.ensures.none c.in_ok-stopped.ensures.room c.settle-stopped.ensures.settles)
 
 pub returns-clause-serves : goal.returns-clause-serves
 returns-clause-serves g c =
-    serving.serves-after g.P.Plan.rules c.args.self c.find.new.self c.in_ok-stopped.stopped c.settle.result.0 c.args.m c.args.need c.settle.result.1 c.size_words-size.result c.find.ensures.rest c.find.ensures.notes (c.size_words-size.ensures ∙ ap (λ r. size_of r c.shape_of.result.nums) c.shape_of.ensures.refs ∙ ap (λ q. size_of c.args.need.refs q) c.shape_of.ensures.nums) c.in_default.ensures.none c.in_ok-stopped.ensures.room c.settle.ensures.settles
+    serving.serves-after g.P.Plan.rules c.args.self c.find.new.self c.in_ok-stopped.stopped c.settle-stopped.result.0 c.args.m c.args.need c.settle-stopped.result.1 c.size_words-size.result c.find.ensures.rest c.find.ensures.notes (c.size_words-size.ensures ∙ ap (λ r. size_of r c.shape_of.result.nums) c.shape_of.ensures.refs ∙ ap (λ q. size_of c.args.need.refs q) c.shape_of.ensures.nums) c.in_default.ensures.none c.in_ok-stopped.ensures.room c.settle-stopped.ensures.settles
 
 pub returns-clause-births : goal.returns-clause-births
-returns-clause-births g c = serving.births-after g.P.Plan.rules c.args.self c.find.new.self c.in_ok-stopped.stopped c.settle.result.0 c.args.m c.args.need c.settle.result.1 c.size_words-size.result c.find.ensures.rest c.find.ensures.notes (c.size_words-size.ensures ∙ ap (λ r. size_of r c.shape_of.result.nums) c.shape_of.ensures.refs ∙ ap (λ q. size_of c.args.need.refs q) c.shape_of.ensures.nums) (c.in_ok-stopped.ensures.births c.args.m) c.settle.ensures.births
+returns-clause-births g c = serving.births-after g.P.Plan.rules c.args.self c.find.new.self c.in_ok-stopped.stopped c.settle-stopped.result.0 c.args.m c.args.need c.settle-stopped.result.1 c.size_words-size.result c.find.ensures.rest c.find.ensures.notes (c.size_words-size.ensures ∙ ap (λ r. size_of r c.shape_of.result.nums) c.shape_of.ensures.refs ∙ ap (λ q. size_of c.args.need.refs q) c.shape_of.ensures.nums) (c.in_ok-stopped.ensures.births c.args.m) c.settle-stopped.ensures.births
 
 pub returns-clause-counts : goal.returns-clause-counts
-returns-clause-counts g c = serving.counts-after g.P.Plan.rules c.args.self c.find.new.self c.in_ok-stopped.stopped c.settle.result.0 c.args.m c.args.need c.settle.result.1 c.size_words-size.result c.find.ensures.rest c.find.ensures.notes (c.size_words-size.ensures ∙ ap (λ r. size_of r c.shape_of.result.nums) c.shape_of.ensures.refs ∙ ap (λ q. size_of c.args.need.refs q) c.shape_of.ensures.nums) c.in_ok-stopped.ensures.counts c.settle.ensures.counts
+returns-clause-counts g c = serving.counts-after g.P.Plan.rules c.args.self c.find.new.self c.in_ok-stopped.stopped c.settle-stopped.result.0 c.args.m c.args.need c.settle-stopped.result.1 c.size_words-size.result c.find.ensures.rest c.find.ensures.notes (c.size_words-size.ensures ∙ ap (λ r. size_of r c.shape_of.result.nums) c.shape_of.ensures.refs ∙ ap (λ q. size_of c.args.need.refs q) c.shape_of.ensures.nums) c.in_ok-stopped.ensures.counts c.settle-stopped.ensures.counts
 
 pub returns-clause-refused : goal.returns-clause-refused
 returns-clause-refused g c =
-    serving.refused-after g.P.Plan.rules c.args.self c.find.new.self c.in_ok-stopped.stopped c.settle.result.0 c.args.need c.settle.result.1 c.size_words-size.result c.find.ensures.rest (c.size_words-size.ensures ∙ ap (λ r. size_of r c.shape_of.result.nums) c.shape_of.ensures.refs ∙ ap (λ q. size_of c.args.need.refs q) c.shape_of.ensures.nums)
-    c.in_ok-stopped.ensures.full c.settle.ensures.refused
+    serving.refused-after g.P.Plan.rules c.args.self c.find.new.self c.in_ok-stopped.stopped c.settle-stopped.result.0 c.args.need c.settle-stopped.result.1 c.size_words-size.result c.find.ensures.rest (c.size_words-size.ensures ∙ ap (λ r. size_of r c.shape_of.result.nums) c.shape_of.ensures.refs ∙ ap (λ q. size_of c.args.need.refs q) c.shape_of.ensures.nums)
+    c.in_ok-stopped.ensures.full c.settle-stopped.ensures.refused
+
+pub returns-in-Some-clause-noted : goal.returns-in-Some-clause-noted
+returns-in-Some-clause-noted g c = serving.counts-found c.args.self c.find.new.self c.place-stopped.result.0 c.args.m c.find.ensures.rest c.place-stopped.ensures.counts
+
+pub returns-clause-noted : goal.returns-clause-noted
+returns-clause-noted g c =
+    let told = c.in_ok-stopped.ensures.noted in record {
+      kind = told.kind;
+      before = told.before;
+      after = told.after;
+      stands = λ t now stands. told.stands t now (noted.stands-found g.P.Plan.rules c.args.self c.find.new.self c.find.ensures.rest c.find.ensures.notes t now stands);
+      collected = told.collected;
+      count = c.settle-stopped.ensures.counts ∙ told.count;
+      more = (
+          let more : collections_of c.find.new.self < collections_of c.in_ok-stopped.stopped = told.more in
+          let found : collections_of c.find.new.self ≡ collections_of c.args.self = noted.counts-found c.args.self c.find.new.self c.find.ensures.rest in
+          let settled : collections_of c.settle-stopped.result.0 ≡ collections_of c.in_ok-stopped.stopped = c.settle-stopped.ensures.counts in
+          omega arith);
+    }

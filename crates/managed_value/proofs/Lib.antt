@@ -1,0 +1,10 @@
+pub mod Places
+pub mod Runs
+pub mod CallEntries
+pub mod Stops
+pub mod Served
+pub mod Searched
+pub mod FirstEntries
+pub mod Registers
+pub mod Allowed
+pub mod Programs

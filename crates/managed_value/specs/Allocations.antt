@@ -1,0 +1,164 @@
+-- What allocations and collections do to a managed heap.
+use Rattle.std.specs.Prelude.{◌≡◌, ◌≢◌, ℕ, ◌+◌, ◌-◌, ◌<◌, ◌≤◌, ◌^◌, Option, None, Some, [], ◌∷◌, ◌++◌}
+use Rattle.ideal_heap.specs.declared.command.Command.TheVariants as c
+use Rattle.ideal_heap.specs.declared.reply.Reply.{Reply}
+use Rattle.ideal_heap.specs.declared.reply.Reply.TheVariants as r
+use Rattle.ideal_heap.specs.declared.name.Name.{Name}
+use Rattle.ideal_heap.specs.Runs.{entry}
+use Rattle.object_model.specs.Objects.{size_of, empty_heap}
+use Rattle.object_model.specs.declared.collect.Collect.TheVariants.{Full as FullCollection}
+use Rattle.sessions.specs.Plans.{Rules}
+use Rattle.sessions.specs.Fitting.{Fits}
+use Rattle.sessions.specs.Sessions.{Setting, Moment, MakesCollection, Serves}
+use Rattle.heap_users.specs.Beginnings.{without_stop}
+use Rattle.plain_world.specs.declared.plain_world.PlainWorld.{PlainWorld}
+use Rattle.plain_world.specs.Calls.{heap_of, Allocates, Refuses}
+use Rattle.collector.specs.Tallies.{capped}
+use Rattle.collector.specs.declared.outcome.Note.{Note}
+use Rattle.managed_heap.specs.declared.stopped_heap.StoppedHeap.{StoppedHeap}
+use Rattle.managed_heap.specs.Stopped.{StandsAt, HasCollected}
+use Rattle.managed_heap.specs.Needs.{NotesLast}
+use Rattle.managed_heap.specs.declared.place.Placed.{Placed}
+use Rattle.managed_heap.specs.declared.place.Placed.TheVariants as placed
+use Rattle.managed_value.specs.declared.managed.ManagedHeap.{ManagedHeap}
+use Rattle.managed_value.specs.declared.allocate.Refused.{Refused}
+use Rattle.managed_value.specs.declared.allocate.Refused.TheVariants.{Full, OutOfMemory}
+use Rattle.managed_value.specs.Histories.{IsUsable, AddsEntry, KeepsEntries, IsAsBefore, IsAsBeforeOrLost, mutator_count, births_at, used_in, collections_of}
+use Rattle.managed_value.specs.Epochs.{EndsWith, BeginsWith}
+
+-- The mutator at place m has a name left for an object, and two collections may be made for it.
+pub record MayAllocate {P : Type 0} (h : ManagedHeap P) (m : ℕ) : Type 0 where
+  pub births : births_at h m + 1 < 2 ^ 32
+  pub collections : collections_of h + 2 < 2 ^ 40
+
+-- The object has this name, and the mutator one birth more; the others have as many as before.
+pub record Makes {P : Type 0} (rules : Rules) (old : ManagedHeap P) (m d refs nums : ℕ) (n : Name)
+    (new : ManagedHeap P) : Type 0 where
+  pub usable : IsUsable rules new
+  pub history : AddsEntry rules old m (c.New d refs nums) (r.New n) new
+  pub places : mutator_count new ≡ mutator_count old
+  pub births : births_at new m ≡ births_at old m + 1
+  pub others : (k : ℕ) → k ≢ m → births_at new k ≡ births_at old k
+  pub collections : collections_of new ≤ collections_of old + 2
+  pub used : collections_of new ≡ collections_of old
+      → used_in new ≡ capped (2 ^ 64 - 1) (used_in old + size_of refs nums)
+
+-- The heap is full: a full collection was made in this call, after which an object of this size
+-- does not fit.
+pub record IsFull {P : Type 0} (rules : Rules) (old : ManagedHeap P) (m d refs nums : ℕ)
+    (new : ManagedHeap P) : Type 0 where
+  pub usable : IsUsable rules new
+  pub history : AddsEntry rules old m (c.New d refs nums) r.Full new
+  pub places : mutator_count new ≡ mutator_count old
+  pub births : (k : ℕ) → births_at new k ≡ births_at old k
+  pub collections : collections_of new ≤ collections_of old + 2
+  pub full : new.full ≡ old.full + 1
+  pub room : (w : PlainWorld P) → new.world ≡ Some w
+      → Fits rules (heap_of w) (size_of refs nums) → ⊥
+
+-- The object is allocated in the epoch, which goes on.
+pub record AllocatesInEpoch {P : Type 0} (old : ManagedHeap P) (m d refs nums : ℕ) (n : Name)
+    (new : ManagedHeap P) : Type 0 where
+  pub before : PlainWorld P
+  pub here : old.world ≡ Some before
+  pub after : PlainWorld P
+  pub there : new.world ≡ Some after
+  pub allocates : Allocates before m d refs nums n after
+  pub nursery : new.nursery ≡ old.nursery
+  pub full : new.full ≡ old.full
+
+-- The epoch has no room for an object of this size of the mutator at place m. The heap is as before.
+pub record FindsNoRoom {P : Type 0} (rules : Rules) (old : ManagedHeap P) (m size : ℕ)
+    (new : ManagedHeap P) : Type 0 where
+  pub before : PlainWorld P
+  pub here : old.world ≡ Some before
+  pub after : PlainWorld P
+  pub there : new.world ≡ Some after
+  pub refuses : Refuses before m size after
+  pub same : IsAsBefore rules old new
+
+-- the words in use after the last collection, if one was made
+abbrev pub kept_by : Option Note → ℕ → ℕ
+kept_by None used = used
+kept_by (Some note) used = note.kept_words
+
+-- the words in use after a need of this size has this reply
+abbrev pub used_for : Reply → ℕ → ℕ → ℕ
+used_for (r.New n) size used = capped (2 ^ 64 - 1) (used + size)
+used_for _ size used = used
+
+-- The allocation of the mutator at place m is served at a stop: at once if the object fits, else
+-- after the collections that the plan asks for. It is refused only if the object does not fit after
+-- a full one. The next epoch begins with what the stop left.
+pub record ServesAtStop {P : Type 0} (rules : Rules) (old : ManagedHeap P) (m d refs nums : ℕ)
+    (reply : Reply) (new : ManagedHeap P) : Type 0 where
+  pub before : StoppedHeap P
+  pub ends : EndsWith rules old before
+  pub after : StoppedHeap P
+  pub serves : (t : Setting) (now : Moment) → StandsAt rules before t now
+      → (next : Moment) × Serves t (m + 1) d refs nums now next
+      × (next.done ≡ now.done ++ entry (m + 1) (c.New d refs nums) reply ∷ [])
+      × StandsAt rules after t next
+  -- the words in use are those that the last collection kept, with the object's
+  pub note : Option Note
+  pub noted : NotesLast rules before after note
+  pub used : used_in new ≡ used_for reply (size_of refs nums) (kept_by note (used_in old))
+  pub begins : BeginsWith rules after new
+
+-- The epoch had no room for the object, so a stop served it.
+pub record StopsFor {P : Type 0} (rules : Rules) (old : ManagedHeap P) (m d refs nums : ℕ)
+    (reply : Reply) (new : ManagedHeap P) : Type 0 where
+  pub searched : ManagedHeap P
+  pub search : FindsNoRoom rules old m (size_of refs nums) searched
+  pub serves : ServesAtStop rules searched m d refs nums reply new
+
+-- Memory ran out at a stop, to which the allocation came since the epoch had no room.
+pub record RunsOut {P : Type 0} (rules : Rules) (old : ManagedHeap P) (m refs nums : ℕ)
+    (new : ManagedHeap P) : Type 0 where
+  pub searched : ManagedHeap P
+  pub search : FindsNoRoom rules old m (size_of refs nums) searched
+  pub left : IsAsBeforeOrLost rules old new
+
+-- one fact for a full heap, the other for want of memory
+abbrev pub MatchRefused : Type 0 → Type 0 → Refused → Type 0
+MatchRefused P Q Full = P
+MatchRefused P Q OutOfMemory = Q
+
+-- A full collection was made. It adds no entry, so each register holds what it held. The words in
+-- use are those that it kept.
+pub record CollectsAll {P : Type 0} (rules : Rules) (old : ManagedHeap P) (note : Note)
+    (new : ManagedHeap P) : Type 0 where
+  pub usable : IsUsable rules new
+  pub history : KeepsEntries rules old new
+  pub places : mutator_count new ≡ mutator_count old
+  pub births : (k : ℕ) → births_at new k ≡ births_at old k
+  pub nursery : new.nursery ≡ old.nursery
+  pub full : new.full ≡ old.full + 1
+  pub used : used_in new ≡ note.kept_words
+
+-- one fact for an object placed, the other for a full heap
+abbrev pub MatchPlaced : (Name → Type 0) → Type 0 → Placed → Type 0
+MatchPlaced P Q (placed.Placed n) = P n
+MatchPlaced P Q (placed.HeapFull size) = Q
+
+-- the words in use after a need of this size was served
+abbrev pub used_with : Placed → ℕ → ℕ → ℕ
+used_with (placed.Placed n) size used = capped (2 ^ 64 - 1) (used + size)
+used_with (placed.HeapFull words) size used = used
+
+-- The epoch ended, a full collection was made, of which this note tells, and the next epoch began
+-- with what it left.
+pub record CollectsAtStop {P : Type 0} (rules : Rules) (old : ManagedHeap P) (note : Note)
+    (new : ManagedHeap P) : Type 0 where
+  pub before : StoppedHeap P
+  pub ends : EndsWith rules old before
+  pub after : StoppedHeap P
+  pub collected : HasCollected rules FullCollection before after note
+  pub makes : (t : Setting) (now : Moment) → StandsAt rules before t now
+      → (late : Moment) × MakesCollection t FullCollection now late × StandsAt rules after t late
+  pub begins : BeginsWith rules after new
+
+-- The heap is empty, and has this many blocks.
+abbrev pub IsEmpty : {P : Type 0} → ManagedHeap P → ℕ → Type 0
+IsEmpty {P} h blocks = (w : PlainWorld P) → h.world ≡ Some w
+    → heap_of w ≡ without_stop (empty_heap blocks)

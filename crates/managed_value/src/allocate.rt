@@ -1,0 +1,254 @@
+//! Allocation of objects of every size.
+
+ghost use Rattle.std.specs.Prelude.{◌≡◌, ◌+◌, ◌-◌, ◌≤◌, ◌<◌, ◌^◌, ◌⊎◌, ⊤, IfOk, IfSome, IfNone, MatchResult};
+ghost use Rattle.ideal_heap.specs.declared.reply.Reply.TheVariants as reply;
+ghost use Rattle.object_model.specs.Objects.{size_of};
+ghost use Rattle.mutator_calls.specs.Allocating.{IsNeedOf, MatchAllocated};
+ghost use Rattle.collector.specs.Tallies.{capped};
+ghost use Rattle.managed_heap.specs.Stopped.{IsManaged};
+ghost use Rattle.managed_heap.specs.Needs.{reply_of};
+ghost use Rattle.managed_value.specs.Histories.{HasPlace, IsAsBeforeOrLost, IsLost, IsUsable, births_at};
+ghost use Rattle.managed_value.specs.Allocations.{AllocatesInEpoch, FindsNoRoom, IsFull, Makes, MatchPlaced, MatchRefused, MayAllocate, RunsOut, ServesAtStop, StopsFor, kept_by, used_with};
+
+use crate::managed::ManagedHeap;
+use collector::Note;
+use ideal_heap::{MAX_NUMS, MAX_REFS, Name, REGISTERS};
+use managed_heap::Placed;
+use mutator_calls::{Allocated, Need, NeedCause};
+use object_model::{Shape, size_words};
+use plan_api::Plan;
+use pools::{PlainPool, Pool};
+use std::alloc::AllocError;
+use std::thread::Threads;
+use work_packets::{Gate, OpenGate};
+
+/// Why an object was not allocated.
+#[derive(Clone, Copy, Debug, PartialEq, Eq)]
+pub enum Refused {
+    /// After a full collection in this call there is no room for the object.
+    Full,
+    /// The host's memory ran out at a stop. The heap is as it was, or lost.
+    OutOfMemory,
+}
+
+/// The words in use with an object of `size` words more, if they are not too many to be counted.
+fn add_words(words: u64, size: u32) -> u64
+    ensures { result ≡ capped (2 ^ 64 - 1) (words + size) }
+{
+    words.saturating_add(u64::from(size))
+}
+
+/// The words in use after the last collection, if one was made.
+fn kept_words(words: u64, note: &Option<Note>) -> u64
+    ensures { result ≡ kept_by note.now words }
+{
+    match note {
+        Some(note) => note.kept_words,
+        None => words,
+    }
+}
+
+/// The words in use after a need of `size` words was served.
+fn count_words(words: u64, placed: &Placed, size: u32) -> u64
+    ensures { result ≡ used_with placed.now size words }
+{
+    match *placed {
+        Placed::Placed(_) => add_words(words, size),
+        Placed::HeapFull { .. } => words,
+    }
+}
+
+impl<P: Plan> ManagedHeap<P> {
+    /// Allocates an object of `refs` nil references and `nums` zeros, into register `d` of the
+    /// mutator at place `m`, if the epoch has room for it. Makes no collection, takes no memory.
+    ///
+    /// The answer is `None` if it has none, or if the object is large.
+    pub fn new_object(&mut self, m: u32, d: u32, refs: u32, nums: u32) -> Option<Name>
+        requires usable { IsUsable P.rules self.old }
+        requires place { HasPlace self.old m }
+        requires register { d < REGISTERS }
+        requires refs { refs ≤ MAX_REFS }
+        requires nums { nums ≤ MAX_NUMS }
+        requires births { births_at self.old m + 1 < 2 ^ 32 }
+        ensures made { IfSome result (λ n. Makes P.rules self.old m d refs nums n self.new) }
+        ensures epoch { IfSome result (λ n. AllocatesInEpoch self.old m d refs nums n self.new) }
+        ensures none { IfNone result (FindsNoRoom P.rules self.old m (size_of refs nums) self.new) }
+    {
+        match self.try_new(m, d, refs, nums) {
+            Allocated::Made(name) => Some(name),
+            Allocated::Stop(_) => None,
+        }
+    }
+
+    /// Allocates an object if the epoch has room for it, else tells what a stop is to serve.
+    #[inline(always)]
+    fn try_new(&mut self, m: u32, d: u32, refs: u32, nums: u32) -> Allocated
+        requires usable { IsUsable P.rules self.old }
+        requires place { HasPlace self.old m }
+        requires register { d < REGISTERS }
+        requires refs { refs ≤ MAX_REFS }
+        requires nums { nums ≤ MAX_NUMS }
+        requires births { births_at self.old m + 1 < 2 ^ 32 }
+        ensures made { MatchAllocated result (λ n. Makes P.rules self.old m d refs nums n self.new)
+            (λ need. FindsNoRoom P.rules self.old m (size_of refs nums) self.new) }
+        ensures epoch { MatchAllocated result
+            (λ n. AllocatesInEpoch self.old m d refs nums n self.new) (λ need. ⊤) }
+        ensures need { MatchAllocated result (λ n. ⊤) (IsNeedOf d refs nums) }
+    {
+        let Some(world) = &mut self.world else {
+            // The heap is not lost.
+            return Allocated::Stop(Need {
+                register: d,
+                refs,
+                nums,
+                cause: NeedCause::Large,
+            });
+        };
+        match world.new_object(m, d, refs, nums) {
+            Allocated::Made(name) => {
+                let size = size_words(&Shape { refs, nums });
+                self.words = add_words(self.words, size);
+                Allocated::Made(name)
+            }
+            Allocated::Stop(need) => Allocated::Stop(need),
+        }
+    }
+
+    /// Allocates an object of `refs` nil references and `nums` zeros, into register `d` of the
+    /// mutator at place `m`. What the epoch cannot give is placed at a stop: without a collection
+    /// if it fits, else after those that the plan asks for, of which the last is a full one. One
+    /// worker runs their packets in `pool`.
+    ///
+    /// Fails if the heap is full then, or if memory runs out.
+    pub fn new_or_collect_with<Q: Pool, G: Gate, R: Threads + Sync>(
+        &mut self,
+        rt: &R,
+        m: u32,
+        d: u32,
+        refs: u32,
+        nums: u32,
+        pool: &Q,
+        gate: &G,
+    ) -> Result<Name, Refused>
+        requires plan { IsManaged P.rules }
+        requires usable { IsUsable P.rules self.old }
+        requires place { HasPlace self.old m }
+        requires register { d < REGISTERS }
+        requires refs { refs ≤ MAX_REFS }
+        requires nums { nums ≤ MAX_NUMS }
+        requires may { MayAllocate self.old m }
+        ensures made { MatchResult result (λ n. Makes P.rules self.old m d refs nums n self.new)
+            (MatchRefused (IsFull P.rules self.old m d refs nums self.new)
+            (IsAsBeforeOrLost P.rules self.old self.new)) }
+        ensures stop { MatchResult result (λ n. AllocatesInEpoch self.old m d refs nums n self.new
+            ⊎ StopsFor P.rules self.old m d refs nums (reply.New n) self.new)
+            (MatchRefused (StopsFor P.rules self.old m d refs nums reply.Full self.new)
+            (RunsOut P.rules self.old m refs nums self.new)) }
+    {
+        match self.try_new(m, d, refs, nums) {
+            Allocated::Made(name) => Ok(name),
+            Allocated::Stop(need) => self.place_at_stop(rt, m, need, pool, gate),
+        }
+    }
+
+    /// Allocates an object as `new_or_collect_with` does. Collections are made in the caller's
+    /// thread.
+    ///
+    /// Fails if the heap is full after a full collection, or if memory runs out.
+    pub fn new_or_collect<R: Threads + Sync>(
+        &mut self,
+        rt: &R,
+        m: u32,
+        d: u32,
+        refs: u32,
+        nums: u32,
+    ) -> Result<Name, Refused>
+        requires plan { IsManaged P.rules }
+        requires usable { IsUsable P.rules self.old }
+        requires place { HasPlace self.old m }
+        requires register { d < REGISTERS }
+        requires refs { refs ≤ MAX_REFS }
+        requires nums { nums ≤ MAX_NUMS }
+        requires may { MayAllocate self.old m }
+        ensures made { MatchResult result (λ n. Makes P.rules self.old m d refs nums n self.new)
+            (MatchRefused (IsFull P.rules self.old m d refs nums self.new)
+            (IsAsBeforeOrLost P.rules self.old self.new)) }
+        ensures stop { MatchResult result (λ n. AllocatesInEpoch self.old m d refs nums n self.new
+            ⊎ StopsFor P.rules self.old m d refs nums (reply.New n) self.new)
+            (MatchRefused (StopsFor P.rules self.old m d refs nums reply.Full self.new)
+            (RunsOut P.rules self.old m refs nums self.new)) }
+    {
+        self.new_or_collect_with(rt, m, d, refs, nums, &PlainPool, &OpenGate)
+    }
+
+    /// Serves a need of the mutator at place `m` at a stop.
+    fn place_at_stop<Q: Pool, G: Gate, R: Threads + Sync>(
+        &mut self,
+        rt: &R,
+        m: u32,
+        need: Need,
+        pool: &Q,
+        gate: &G,
+    ) -> Result<Name, Refused>
+        requires plan { IsManaged P.rules }
+        requires usable { IsUsable P.rules self.old }
+        requires place { HasPlace self.old m }
+        requires register { need.register < REGISTERS }
+        requires refs { need.refs ≤ MAX_REFS }
+        requires nums { need.nums ≤ MAX_NUMS }
+        requires may { MayAllocate self.old m }
+        ensures made { MatchResult result
+            (λ n. Makes P.rules self.old m need.register need.refs need.nums n self.new)
+            (MatchRefused
+            (IsFull P.rules self.old m need.register need.refs need.nums self.new)
+            (IsLost self.new)) }
+        ensures stop { MatchResult result (λ n. ServesAtStop P.rules self.old m need.register
+            need.refs need.nums (reply.New n) self.new)
+            (MatchRefused (ServesAtStop P.rules self.old m need.register need.refs need.nums
+            reply.Full self.new) ⊤) }
+    {
+        match self.serve(rt, m, need, pool, gate) {
+            Ok(Placed::Placed(name)) => Ok(name),
+            Ok(Placed::HeapFull { .. }) => Err(Refused::Full),
+            Err(_) => Err(Refused::OutOfMemory),
+        }
+    }
+
+    /// Ends the epoch, serves a need of the mutator at place `m`, and begins the next epoch.
+    ///
+    /// Fails if memory runs out. The heap is lost then.
+    fn serve<Q: Pool, G: Gate, R: Threads + Sync>(
+        &mut self,
+        rt: &R,
+        m: u32,
+        need: Need,
+        pool: &Q,
+        gate: &G,
+    ) -> Result<Placed, AllocError>
+        requires plan { IsManaged P.rules }
+        requires usable { IsUsable P.rules self.old }
+        requires place { HasPlace self.old m }
+        requires register { need.register < REGISTERS }
+        requires refs { need.refs ≤ MAX_REFS }
+        requires nums { need.nums ≤ MAX_NUMS }
+        requires may { MayAllocate self.old m }
+        ensures made { MatchResult result (MatchPlaced
+            (λ n. Makes P.rules self.old m need.register need.refs need.nums n self.new)
+            (IsFull P.rules self.old m need.register need.refs need.nums self.new))
+            (λ _. IsLost self.new) }
+        ensures stop { IfOk result (λ what. ServesAtStop P.rules self.old m need.register need.refs
+            need.nums (reply_of what) self.new) }
+    {
+        let size = size_words(&Shape {
+            refs: need.refs,
+            nums: need.nums,
+        });
+        let Some(stopped) = self.stop() else {
+            return Err(AllocError);
+        };
+        let (stopped, placed, note) = stopped.place_or_collect(rt, m + 1, need, pool, gate)?;
+        self.words = count_words(kept_words(self.words, &note), &placed, size);
+        self.go_on(stopped)?;
+        Ok(placed)
+    }
+}

@@ -1,0 +1,150 @@
+//! The managed heap, and what can be asked of it between two calls.
+
+ghost use Rattle.std.specs.Prelude.{◌≡◌, ◌↔◌, ◌+◌, ◌≤◌, ◌<◌, ◌^◌, ℕ, IfOk, IsTrue, [], Some, length, slice_get, slice_index};
+ghost use Rattle.ideal_heap.specs.declared.command.TheConstants.{MAX_MUTATORS, REGISTERS};
+ghost use Rattle.ideal_heap.specs.Ideal.{IdealHeap};
+ghost use Rattle.mutator_calls.specs.declared.need.Mutator.{Mutator as User};
+ghost use Rattle.managed_heap.specs.Stopped.{IsManaged};
+ghost use Rattle.managed_value.specs.Histories.{IsLost, IsUsable, HasEntries, HasPlace, StandsFor, mutator_count, births_at, collections_of, used_in};
+ghost use Rattle.managed_value.specs.Allocations.{IsEmpty, MayAllocate};
+
+use heap_layout::Layout;
+use managed_heap::StoppedHeap;
+use mutator_calls::Mutator;
+use plain_world::PlainWorld;
+use plan_api::Plan;
+use std::alloc::{AllocError, Global};
+
+/// The most collections of a heap, so that an allocation may make two more.
+const MAX_COLLECTIONS: u64 = (1 << 40) - 3;
+
+/// A heap with its mutators, which use it in turns. The mutator at place `m` of their list has the
+/// number `m + 1`.
+///
+/// If the host's memory runs out at a stop, heap and mutators may be lost. Calls that use them
+/// require that they are not.
+#[derive(Debug, Drop)]
+pub struct ManagedHeap<P> {
+    pub(crate) alloc: Global,
+    // None if heap and mutators are lost.
+    pub(crate) world: Option<PlainWorld<P>>,
+    // The numbers of nursery and full collections.
+    pub(crate) nursery: u64,
+    pub(crate) full: u64,
+    // The words of the objects that the last collection kept, and of those allocated since.
+    pub(crate) words: u64,
+}
+
+/// Whether two collections may follow so many nursery and full ones.
+fn may_collect_twice(nursery: u64, full: u64) -> bool
+    ensures { IsTrue result ↔ nursery + full + 2 < 2 ^ 40 }
+{
+    if nursery > MAX_COLLECTIONS {
+        return false;
+    }
+    full <= MAX_COLLECTIONS - nursery
+}
+
+/// Whether two registers of the mutator at place `m` hold one address, or both are nil.
+fn hold_one_address(mutators: &Vec<Mutator>, m: u32, s: u32, v: u32) -> bool
+    requires place { m < length mutators.now.items }
+    requires first { s < REGISTERS }
+    requires second { v < REGISTERS }
+    ensures { (u : User) → slice_get mutators.now.items m ≡ Some u
+        → IsTrue result ↔ (slice_index u.registers s ≡ slice_index u.registers v) }
+{
+    let mutator = &mutators[m as usize];
+    mutator.registers[s as usize] == mutator.registers[v as usize]
+}
+
+impl<P: Plan> ManagedHeap<P> {
+    /// An empty heap of this layout, of blocks of 32 KB each, with mutators 1 to `mutators`, whose
+    /// registers are nil.
+    ///
+    /// Fails if memory runs out.
+    pub fn new(alloc: Global, layout: Layout, mutators: u32) -> Result<ManagedHeap<P>, AllocError>
+        requires plan { IsManaged P.rules }
+        requires some { 1 ≤ mutators }
+        requires few { mutators ≤ MAX_MUTATORS }
+        ensures usable { IfOk result (λ h. IsUsable P.rules h) }
+        ensures places { IfOk result (λ h. mutator_count h ≡ mutators) }
+        ensures births { IfOk result (λ h. (m : ℕ) → births_at h m ≡ 0) }
+        ensures entries { IfOk result (λ h. HasEntries P.rules h []) }
+        ensures collections { IfOk result (λ h. collections_of h ≡ 0) }
+        ensures used { IfOk result (λ h. used_in h ≡ 0) }
+        ensures empty { IfOk result (λ h. IsEmpty h layout.blocks) }
+    {
+        let mut heap = ManagedHeap {
+            alloc,
+            world: None,
+            nursery: 0,
+            full: 0,
+            words: 0,
+        };
+        let stopped = StoppedHeap::new(alloc, layout, mutators)?;
+        heap.go_on(stopped)?;
+        Ok(heap)
+    }
+
+    /// Whether heap and mutators are lost, for want of memory.
+    pub fn is_lost(&self) -> bool
+        ensures { IsTrue result ↔ IsLost self.now }
+    {
+        self.world.is_none()
+    }
+
+    /// The number of objects that the mutator at place `m` has allocated.
+    pub fn births(&self, m: u32) -> u32
+        requires usable { IsUsable P.rules self.now }
+        requires place { HasPlace self.now m }
+        ensures { result ≡ births_at self.now m }
+    {
+        match &self.world {
+            Some(world) => world.births(m),
+            None => 0,
+        }
+    }
+
+    /// Whether the mutator at place `m` may allocate: it has fewer than 4,294,967,295 births, and
+    /// the heap has had few enough collections for two more.
+    pub fn may_allocate(&self, m: u32) -> bool
+        requires usable { IsUsable P.rules self.now }
+        requires place { HasPlace self.now m }
+        ensures { IsTrue result ↔ MayAllocate self.now m }
+    {
+        if !may_collect_twice(self.nursery, self.full) {
+            return false;
+        }
+        self.births(m) < u32::MAX
+    }
+
+    /// The numbers of nursery and full collections so far.
+    pub fn collections(&self) -> (u64, u64)
+        ensures { result ≡ (self.now.nursery, self.now.full) }
+    {
+        (self.nursery, self.full)
+    }
+
+    /// The words of the objects that the last collection kept, and of those allocated since, or the
+    /// largest number if they are more. No object is read.
+    pub fn used_words(&self) -> u64
+        ensures { result ≡ used_in self.now }
+    {
+        self.words
+    }
+
+    /// Whether two registers of the mutator at place `m` hold one object, or both are nil.
+    pub fn same(&self, m: u32, s: u32, v: u32) -> bool
+        requires usable { IsUsable P.rules self.now }
+        requires place { HasPlace self.now m }
+        requires first { s < REGISTERS }
+        requires second { v < REGISTERS }
+        ensures { (i : IdealHeap) → StandsFor P.rules self.now i
+            → IsTrue result ↔ (i.registers (m + 1) s ≡ i.registers (m + 1) v) }
+    {
+        match &self.world {
+            Some(world) => hold_one_address(world.mutators(), m, s, v),
+            None => false,
+        }
+    }
+}

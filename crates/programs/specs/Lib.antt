@@ -1,0 +1,4 @@
+pub mod Contents
+pub mod Footprints
+pub mod Growth
+pub mod Lists

@@ -1,0 +1,21 @@
+//! From the history of a heap to the steps of its commands.
+
+ghost use Rattle.std.specs.Prelude.{◌≡◌, ◌++◌, ◌∷◌, [], ℕ, List, false};
+ghost use Rattle.ideal_heap.specs.declared.command.Command.{Command};
+ghost use Rattle.ideal_heap.specs.declared.reply.Reply.{Reply};
+ghost use Rattle.ideal_heap.specs.declared.reply.Reply.TheVariants as reply;
+ghost use Rattle.ideal_heap.specs.Ideal.{IdealHeap, step};
+ghost use Rattle.ideal_heap.specs.Runs.{Entry, IsRun, after, entry, is_full};
+
+/// The last entry of a run is a step of the heap after the entries before it: its reply is the
+/// step's, and the heap after it is the step's. An allocation that was refused leaves the heap.
+pub fn entries_are_steps()
+    ensures reply { (h : IdealHeap) (es : List Entry) (m : ℕ) (c : Command) (r : Reply)
+        → IsRun h (es ++ entry m c r ∷ []) → is_full r ≡ false
+        → r ≡ (step (after h es) m c).0 }
+    ensures heap { (h : IdealHeap) (es : List Entry) (m : ℕ) (c : Command) (r : Reply)
+        → is_full r ≡ false
+        → after h (es ++ entry m c r ∷ []) ≡ (step (after h es) m c).1 }
+    ensures refused { (h : IdealHeap) (es : List Entry) (m : ℕ) (c : Command)
+        → after h (es ++ entry m c reply.Full ∷ []) ≡ after h es }
+{}
