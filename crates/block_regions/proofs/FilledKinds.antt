@@ -5,7 +5,7 @@ use Rattle.std.proofs.lemmas.Bool.{and_from, cases_lt, le-leb, true≢false}
 use Rattle.heap_layout.specs.declared.block.Kind.{Kind}
 use Rattle.heap_layout.specs.declared.block.Kind.TheVariants as kinds
 use Rattle.heap_layout.specs.declared.block.BlockWord.{BlockWord}
-use Rattle.heap_layout.specs.Blocks.{IsValid, code_of, is_block_code, is_valid_for_some, kind_code, kind_of_code}
+use Rattle.heap_layout.specs.Blocks.{IsValidWord, code_of, is_block_code, is_valid_for_some, kind_code, kind_of_code}
 use Rattle.heap_layout.proofs.BlockLemmas.{parts_of_code, kind_of_code-kind_code}
 use Rattle.object_model.specs.Objects.{HeapState, block_word, HasKind, class_at, owner_at, cell_words}
 use Rattle.object_model.specs.Lawful.{IsClear}
@@ -19,7 +19,7 @@ use Rattle.block_regions.proofs.Lists.{one-element}
 use Rattle.block_regions.proofs.Regions.{hole-kind, class-lacks, clear-region, clear-cells, fills-cases}
 
 -- the kind that is read of a block is the block's
-pub kind-read : (s : HeapState) (k : ℕ) (b : BlockWord) (kind : Kind) → IsValid b → code_of b ≡ block_word s k → HasKind s k kind → b.kind ≡ kind
+pub kind-read : (s : HeapState) (k : ℕ) (b : BlockWord) (kind : Kind) → IsValidWord b → code_of b ≡ block_word s k → HasKind s k kind → b.kind ≡ kind
 kind-read s k b kind valid code is =
     one-element (kind_of_code (kind_code kind)) b.kind kind
     (subst (λ (n : ℕ). kind_of_code n ≡ Some b.kind) (kind-code s k kind is) (parts_of_code b (block_word s k) valid code).0)
@@ -55,7 +55,7 @@ cell-valid : (class owner : ℕ) → class ≤ 18 → owner ≤ 16 → IsTrue (n
 cell-valid class owner small few = and_from (nat_le class 18) (nat_le owner 32) (le-leb class 18 small) (le-leb owner 32 (omega arith))
 
 pub filled-valid : (fill : Kind) (size owner : ℕ) → FillsHoles fill → owner ≤ 16
-    → IsValid (record { kind = fill; class = class_for fill size; owner = owner })
+    → IsValidWord (record { kind = fill; class = class_for fill size; owner = owner })
 filled-valid kinds.Bump size owner fills few = tail-valid owner few
 filled-valid kinds.Young size owner fills few = tail-valid owner few
 filled-valid kinds.Cells size owner fills few = cell-valid (class_for kinds.Cells size) owner (cell-few size) few
@@ -72,25 +72,25 @@ tail-for fill (inl bump) size = ap (λ (f : Kind). class_for f size) bump
 tail-for fill (inr young) size = ap (λ (f : Kind). class_for f size) young
 
 -- a block of tails has class 0
-pub filled-class : (kind : Kind) (class owner : ℕ) → FillsTails kind → IsValid (record { kind = kind; class = class; owner = owner }) → class ≡ 0
+pub filled-class : (kind : Kind) (class owner : ℕ) → FillsTails kind → IsValidWord (record { kind = kind; class = class; owner = owner }) → class ≡ 0
 filled-class kind class owner tails valid = elim tails as (λ _. class ≡ 0) [
-  | inl bump ↦ bumped (subst (λ (k : Kind). IsValid (record { kind = k; class = class; owner = owner })) bump valid)
-  | inr young ↦ younger (subst (λ (k : Kind). IsValid (record { kind = k; class = class; owner = owner })) young valid)
+  | inl bump ↦ bumped (subst (λ (k : Kind). IsValidWord (record { kind = k; class = class; owner = owner })) bump valid)
+  | inr young ↦ younger (subst (λ (k : Kind). IsValidWord (record { kind = k; class = class; owner = owner })) young valid)
 ]
   where
-    bumped : IsValid (record { kind = kinds.Bump; class = class; owner = owner }) → class ≡ 0
+    bumped : IsValidWord (record { kind = kinds.Bump; class = class; owner = owner }) → class ≡ 0
     bumped is = grind arith
 
-    younger : IsValid (record { kind = kinds.Young; class = class; owner = owner }) → class ≡ 0
+    younger : IsValidWord (record { kind = kinds.Young; class = class; owner = owner }) → class ≡ 0
     younger is = grind arith
 
 -- so has a block of lines
-lines-class : (class owner : ℕ) → IsValid (record { kind = kinds.Immix; class = class; owner = owner }) → class ≡ 0
+lines-class : (class owner : ℕ) → IsValidWord (record { kind = kinds.Immix; class = class; owner = owner }) → class ≡ 0
 lines-class class owner valid = grind arith
 
 -- the parts of the word of a block of the kind are valid
 pub valid-parts : (s : HeapState) (k : ℕ) (kind : Kind) → HasKind s k kind → IsTrue (is_block_code (block_word s k))
-    → IsValid (record { kind = kind; class = class_at s k; owner = owner_at s k })
+    → IsValidWord (record { kind = kind; class = class_at s k; owner = owner_at s k })
 valid-parts s k kind is code = subst (λ (o : Option Kind). IsTrue (is_valid_for_some o (class_at s k) (owner_at s k)))
     (ap kind_of_code (kind-code s k kind is) ∙ kind_of_code-kind_code kind) code
 

@@ -21,7 +21,7 @@ use Rattle.plan_api.proofs.Viewing.{orderly-apart}
 use Rattle.block_regions.specs.declared.block_notes.BlockNote.{BlockNote}
 use Rattle.block_regions.specs.declared.block_notes.BlockNote.TheVariants.{Unowned, Owned}
 use Rattle.block_regions.specs.Elements.{ChangesAt}
-use Rattle.block_regions.specs.Notes.{FillsTailsOrCells, FillsHoles, IsNote, IsOwnedNote, IsUnownedNote, HasNotes, ListsOwned, AreUnowned, IsLeastLeft, without_owner, GivesBackBlock, given, nobody}
+use Rattle.block_regions.specs.Notes.{FillsTailsOrCells, FillsHoles, IsBlockNote, IsOwnedNote, IsUnownedNote, HasNotes, ListsOwned, AreUnowned, IsLeastLeft, without_owner, GivesBackBlock, given, nobody}
 use Rattle.block_regions.proofs.Lists.{get-some, get-below, one-element}
 use Rattle.block_regions.proofs.Elements.{changes-cases}
 use Rattle.block_regions.proofs.Regions.{no-lines, fills-cases, region-inside, region-lacks}
@@ -264,9 +264,9 @@ module _ (rules : Rules) (fills : FillsHoles rules.fill) (lines : rules.fill ≡
       | inr other ↦ other.1
     ]
 
-    each-note : (k : ℕ) (x : BlockNote) → slice_get later k ≡ Some x → IsNote rules.fill new k x
-    each-note k x read = elim (changes-cases now later block (Unowned least) changes k x read) as (λ _. IsNote rules.fill new k x) [
-      | inl here ↦ subst (λ (q : ℕ). IsNote rules.fill new q x) (sym here.0) (subst (IsNote rules.fill new block) (sym here.1) own-right)
+    each-note : (k : ℕ) (x : BlockNote) → slice_get later k ≡ Some x → IsBlockNote rules.fill new k x
+    each-note k x read = elim (changes-cases now later block (Unowned least) changes k x read) as (λ _. IsBlockNote rules.fill new k x) [
+      | inl here ↦ subst (λ (q : ℕ). IsBlockNote rules.fill new q x) (sym here.0) (subst (IsBlockNote rules.fill new block) (sym here.1) own-right)
       | inr other ↦ (let below : k < s.blocks = subst (λ (b : ℕ). k < b) is.noted.len (get-below now k x other.1) in
           note-kept rules.fill s new k x (block-kept s new sides k below) (word-other k below other.0) (λ immix. lines-other k other.0) (is.noted.each k x other.1))
     ]

@@ -15,7 +15,7 @@ use Rattle.block_regions.specs.declared.block_notes.BlockNotes.{BlockNotes}
 use Rattle.block_regions.specs.declared.block_notes.BlockNote.{BlockNote}
 use Rattle.block_regions.specs.declared.block_notes.BlockNote.TheVariants.{Unowned, Owned}
 use Rattle.block_regions.specs.Elements.{ChangesAt}
-use Rattle.block_regions.specs.Notes.{FillsHoles, IsNote, HasNotes, AreUnowned, AreNotes, LacksHoles, IsLowestHole}
+use Rattle.block_regions.specs.Notes.{FillsHoles, IsBlockNote, HasNotes, AreUnowned, AreNotes, LacksHoles, IsLowestHole}
 use Rattle.block_regions.proofs.Lists.{get-copy}
 use Rattle.block_regions.proofs.Elements.{changes-cases}
 use Rattle.block_regions.proofs.Lists.{get-below}
@@ -31,7 +31,7 @@ notes-unknown fill s lawful = record {
   len = length-replicate s.blocks (Unowned 4097);
   each = λ k note is.
       let there : k < s.blocks = subst (λ n. k < n) (length-replicate s.blocks (Unowned 4097)) (get-below (replicate s.blocks (Unowned 4097)) k note is) in
-      subst (IsNote fill s k) (sym (get-copy s.blocks (Unowned 4097) note k is)) (note-unknown fill s k (lawful.but_lines.blocks k there).owner);
+      subst (IsBlockNote fill s k) (sym (get-copy s.blocks (Unowned 4097) note k is)) (note-unknown fill s k (lawful.but_lines.blocks k there).owner);
 }
 
 pub none-unknown : (n least : ℕ) → AreUnowned (replicate n (Unowned least))
@@ -50,8 +50,8 @@ pub notes-lacking : (fill : Kind) → FillsHoles fill → (s : HeapState) → Is
     → ChangesAt notes later block (Unowned size) → HasNotes fill s later
 notes-lacking fill fills s lawful notes later block size noted there some small suits none changes = record {
   len = changes.len ∙ noted.len;
-  each = λ k note is. elim (changes-cases notes later block (Unowned size) changes k note is) as (λ _. IsNote fill s k note) [
-    | inl here ↦ subst (λ q. IsNote fill s q note) (sym here.0) (subst (IsNote fill s block) (sym here.1) (record {
+  each = λ k note is. elim (changes-cases notes later block (Unowned size) changes k note is) as (λ _. IsBlockNote fill s k note) [
+    | inl here ↦ subst (λ q. IsBlockNote fill s q note) (sym here.0) (subst (IsBlockNote fill s block) (sym here.1) (record {
       owner = (lawful.but_lines.blocks block there).owner;
       none = no-hole fill fills s block size some small suits none;
     }))

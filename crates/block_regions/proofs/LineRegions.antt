@@ -10,7 +10,7 @@ use Rattle.object_model.specs.Lawful.{IsClear, LineBitsAreExact}
 use Rattle.object_model.proofs.Lines.{word-touched}
 use Rattle.sessions.specs.Fitting.{IsLineHole, HasLineHole, HasHole}
 use Rattle.plan_api.specs.Holes.{IsLinePart, IsFirstPart}
-use Rattle.block_regions.specs.Regions.{EndsAt, IsLinesLeft}
+use Rattle.block_regions.specs.Regions.{HasObjectEndingAt, IsLinesLeft}
 use Rattle.block_regions.proofs.BlockFrames.{SameBlock, AddsInBlock, SameLines}
 
 -- a hole of a block without marked lines begins at line 0
@@ -102,7 +102,7 @@ line-hole-as s t k from len same hole =
 -- the region stays while the objects and the line bits of its block do
 module _ (s t : HeapState) (k : ℕ) (same : SameBlock s t k) (lines : SameLines s t k) where
   -- an object ends where it did
-  ends-as : (at : ℕ) → EndsAt s k at → EndsAt t k at
+  ends-as : (at : ℕ) → HasObjectEndingAt s k at → HasObjectEndingAt t k at
   ends-as at last =
       let now = same.held last.0 last.1 last.2 in (
         last.0,
@@ -123,7 +123,7 @@ module _ (s t : HeapState) (k : ℕ) (same : SameBlock s t k) (lines : SameLines
     line = is.line;
     len = is.len;
     hole = line-hole-as s t k is.line is.len lines is.hole;
-    begins = elim is.begins as (λ _. (r.next ≡ 16 * is.line) ⊎ ((16 * is.line ≤ r.next) × EndsAt t k r.next)) [
+    begins = elim is.begins as (λ _. (r.next ≡ 16 * is.line) ⊎ ((16 * is.line ≤ r.next) × HasObjectEndingAt t k r.next)) [
       | inl at ↦ inl at
       | inr past ↦ inr (past.0, ends-as r.next past.1)
     ];

@@ -17,7 +17,7 @@ use Rattle.block_regions.specs.declared.block_notes.BlockNote.{BlockNote}
 use Rattle.block_regions.specs.declared.block_notes.BlockNote.TheVariants.{Unowned, Owned}
 use Rattle.block_regions.specs.Elements.{ChangesAt}
 use Rattle.block_regions.specs.Regions.{IsRestAfter}
-use Rattle.block_regions.specs.Notes.{FillsTails, FillsHoles, IsNote, IsOwnedNote, HasNotes}
+use Rattle.block_regions.specs.Notes.{FillsTails, FillsHoles, IsBlockNote, IsOwnedNote, HasNotes}
 use Rattle.block_regions.proofs.Lists.{get-below, one-element}
 use Rattle.block_regions.proofs.Regions.{hole-kind}
 use Rattle.block_regions.proofs.BlockFrames.{SameBlock, AddsInBlock}
@@ -82,7 +82,7 @@ module _ (s : HeapState) (w : List ℕ) (a : ℕ) (n : Name) (refs nums : ℕ) (
               (was.0, subst (λ (q : ℕ). HasHole fill s q was.0 size) (sym own) was.1))
         ]
 
-    note-other : (fill : Kind) → FillsHoles fill → (k : ℕ) (note : BlockNote) → k ≢ block → k < s.blocks → IsNote fill s k note → IsNote fill t k note
+    note-other : (fill : Kind) → FillsHoles fill → (k : ℕ) (note : BlockNote) → k ≢ block → k < s.blocks → IsBlockNote fill s k note → IsBlockNote fill t k note
     note-other fill fills k (Unowned least) other there is = record {
       owner = ap (λ v. v / 65536) (words k there) ∙ is.owner;
       none = λ at size most hole. is.none at size most (hole-as fill t s k at size (turn-round s t k (same-block k other there)) (λ is line few. sym (lines k line there few)) hole);
@@ -105,7 +105,7 @@ module _ (s : HeapState) (w : List ℕ) (a : ℕ) (n : Name) (refs nums : ℕ) (
         there : block < s.blocks
         there = subst (λ q. block < q) is.len (get-below notes block (Owned number region) was)
 
-        own : IsNote fill t block (Owned number rest)
+        own : IsBlockNote fill t block (Owned number rest)
         own = record {
           some = old.some;
           owner = ap (λ v. v / 65536) (words block there) ∙ old.owner;
@@ -114,10 +114,10 @@ module _ (s : HeapState) (w : List ℕ) (a : ℕ) (n : Name) (refs nums : ℕ) (
               (λ is line few. lines block line there few) old.left left;
         }
 
-        each : (k : ℕ) (note : BlockNote) → slice_get later k ≡ Some note → IsNote fill t k note
-        each k note some = elim (cases_eq k block) as (λ _. IsNote fill t k note) [
-          | inl same ↦ subst (λ q. IsNote fill t q note) (sym same)
-              (subst (IsNote fill t block) (one-element (slice_get later block) _ note changes.here (subst (λ q. slice_get later q ≡ Some note) same some)) own)
+        each : (k : ℕ) (note : BlockNote) → slice_get later k ≡ Some note → IsBlockNote fill t k note
+        each k note some = elim (cases_eq k block) as (λ _. IsBlockNote fill t k note) [
+          | inl same ↦ subst (λ q. IsBlockNote fill t q note) (sym same)
+              (subst (IsBlockNote fill t block) (one-element (slice_get later block) _ note changes.here (subst (λ q. slice_get later q ≡ Some note) same some)) own)
           | inr other ↦ (let before : slice_get notes k ≡ Some note = sym (changes.others k other) ∙ some in
               note-other fill fills k note other (subst (λ q. k < q) is.len (get-below notes k note before)) (is.each k note before))
         ]

@@ -10,7 +10,7 @@ use Rattle.sessions.specs.Fitting.{HasHole, class_for}
 use Rattle.plan_api.specs.Holes.{IsFirstHole}
 use Rattle.block_regions.specs.declared.block_notes.BlockNote.{BlockNote}
 use Rattle.block_regions.specs.declared.block_notes.BlockNote.TheVariants.{Unowned, Owned}
-use Rattle.block_regions.specs.Notes.{FillsTails, FillsHoles, IsNote, HasNotes}
+use Rattle.block_regions.specs.Notes.{FillsTails, FillsHoles, IsBlockNote, HasNotes}
 use Rattle.block_regions.proofs.Lists.{get-below}
 use Rattle.block_regions.proofs.Regions.{hole-kind, no-class, fills-cases, none-first, suits-class}
 use Rattle.block_regions.proofs.BlockFrames.{SameBlock, SameLines}
@@ -18,7 +18,7 @@ use Rattle.block_regions.proofs.RegionFrames.{turn-round, kind-as, region-as, ho
 
 -- a block with the same word and objects, and where mutators fill lines with the same line bits, keeps its note
 pub note-kept : (fill : Kind) (s t : HeapState) (k : ℕ) (note : BlockNote) → SameBlock s t k → block_word t k ≡ block_word s k → (fill ≡ kinds.Immix → SameLines s t k)
-    → IsNote fill s k note → IsNote fill t k note
+    → IsBlockNote fill s k note → IsBlockNote fill t k note
 note-kept fill s t k (Unowned least) same word lines is = record {
   owner = ap (λ v. v / 65536) word ∙ is.owner;
   none = λ at size most hole. is.none at size most (hole-as fill t s k at size (turn-round s t k same) (λ immix line few. sym (lines immix line few)) hole);
@@ -64,7 +64,7 @@ module _ (s : HeapState) (w : List ℕ) (keeps : KeepsBlocks s w) where
       let there = kind-within s k fill (hole-kind fill s k at size hole) in
       hole-as fill s t k at size (same-block k there) (λ lines line few. keeps.lines k line there few) hole
 
-  pub note-after : (fill : Kind) → FillsHoles fill → (k : ℕ) (note : BlockNote) → k < s.blocks → IsNote fill s k note → IsNote fill t k note
+  pub note-after : (fill : Kind) → FillsHoles fill → (k : ℕ) (note : BlockNote) → k < s.blocks → IsBlockNote fill s k note → IsBlockNote fill t k note
   note-after fill fills k note there is = note-kept fill s t k note (same-block k there) (keeps.words k there) (λ lines line few. keeps.lines k line there few) is
 
   pub notes-after : (fill : Kind) → FillsHoles fill → (notes : List BlockNote) → HasNotes fill s notes → HasNotes fill t notes
@@ -87,7 +87,7 @@ small-hole kinds.LargeTail s k at size most hole = hole
 small-hole kinds.Kept s k at size most hole = hole
 
 -- the note of a block of which nothing is known
-pub note-unknown : (fill : Kind) (s : HeapState) (k : ℕ) → owner_at s k ≡ 0 → IsNote fill s k (Unowned 4097)
+pub note-unknown : (fill : Kind) (s : HeapState) (k : ℕ) → owner_at s k ≡ 0 → IsBlockNote fill s k (Unowned 4097)
 note-unknown fill s k nobody = record { owner = nobody; none = λ at size most hole. small-hole fill s k at size most hole }
 
 -- a tail with room has room for fewer words

@@ -21,7 +21,7 @@ use Rattle.block_regions.specs.declared.block_notes.BlockNotes.{BlockNotes}
 use Rattle.block_regions.specs.declared.block_notes.BlockNote.{BlockNote}
 use Rattle.block_regions.specs.declared.block_notes.BlockNote.TheVariants.{Unowned, Owned}
 use Rattle.block_regions.specs.Elements.{ChangesAt}
-use Rattle.block_regions.specs.Notes.{FillsHoles, IsNote, AreNotes, PlacesObject}
+use Rattle.block_regions.specs.Notes.{FillsHoles, IsBlockNote, AreNotes, PlacesInBlock}
 use Rattle.block_regions.proofs.KeptNotes.{none-changed}
 use Rattle.block_regions.proofs.NoteLemmas.{note-unknown}
 use Rattle.block_regions.proofs.Elements.{changes-cases}
@@ -42,7 +42,7 @@ filled-code fill fills = elim (fills-cases fill fills) as (λ _. (0 < kind_code 
 ]
 
 module _ (rules : Rules) (fills : FillsHoles rules.fill) (s : HeapState) (w : List ℕ) (a refs nums block : ℕ) (was_free : Bool)
-    (placed : PlacesObject rules s (with_words s w) a refs nums block was_free) where
+    (placed : PlacesInBlock rules s (with_words s w) a refs nums block was_free) where
   abbrev t : HeapState
   t = with_words s w
 
@@ -89,7 +89,7 @@ module _ (rules : Rules) (fills : FillsHoles rules.fill) (s : HeapState) (w : Li
 
   -- a block with the same word
   module _ (k : ℕ) (there : k < s.blocks) (word : block_word t k ≡ block_word s k) where
-    note-other : k ≢ block → (least : ℕ) → IsNote rules.fill s k (Unowned least) → IsNote rules.fill t k (Unowned least)
+    note-other : k ≢ block → (least : ℕ) → IsBlockNote rules.fill s k (Unowned least) → IsBlockNote rules.fill t k (Unowned least)
     note-other other least is = record {
       owner = ap (λ v. v / 65536) word ∙ is.owner;
       none = λ at size most hole.
@@ -98,7 +98,7 @@ module _ (rules : Rules) (fills : FillsHoles rules.fill) (s : HeapState) (w : Li
     }
 
     -- in its hole it takes room away
-    note-own : k ≡ block → HasHole rules.fill s block (offset_at s.blocks a) (size_of refs nums) → (least : ℕ) → IsNote rules.fill s k (Unowned least) → IsNote rules.fill t k (Unowned least)
+    note-own : k ≡ block → HasHole rules.fill s block (offset_at s.blocks a) (size_of refs nums) → (least : ℕ) → IsBlockNote rules.fill s k (Unowned least) → IsBlockNote rules.fill t k (Unowned least)
     note-own own spot least is = record {
       owner = ap (λ v. v / 65536) word ∙ is.owner;
       none = λ at size most hole.
@@ -157,14 +157,14 @@ module _ (rules : Rules) (fills : FillsHoles rules.fill) (s : HeapState) (w : Li
       room = are.room;
     }
       where
-        of-note : (k : ℕ) (note : BlockNote) → slice_get n.notes.items k ≡ Some note → k < s.blocks → IsNote rules.fill s k note → IsNote rules.fill t k note
+        of-note : (k : ℕ) (note : BlockNote) → slice_get n.notes.items k ≡ Some note → k < s.blocks → IsBlockNote rules.fill s k note → IsBlockNote rules.fill t k note
         of-note k (Owned owner region) is there right = absurd (are.unowned k owner region is)
-        of-note k (Unowned least) is there right = elim (cases_eq k block) as (λ _. IsNote rules.fill t k (Unowned least)) [
+        of-note k (Unowned least) is there right = elim (cases_eq k block) as (λ _. IsBlockNote rules.fill t k (Unowned least)) [
           | inl own ↦ note-own k there (word-same k there) own spot least right
           | inr other ↦ note-other k there (word-same k there) other least right
         ]
 
-        each : (k : ℕ) (note : BlockNote) → slice_get n.notes.items k ≡ Some note → IsNote rules.fill t k note
+        each : (k : ℕ) (note : BlockNote) → slice_get n.notes.items k ≡ Some note → IsBlockNote rules.fill t k note
         each k note is = of-note k note is (subst (λ b. k < b) are.notes.len (get-below n.notes.items k note is)) (are.notes.each k note is)
 
   -- in a block that was Free
@@ -216,30 +216,30 @@ module _ (rules : Rules) (fills : FillsHoles rules.fill) (s : HeapState) (w : Li
             ∙ ap (λ f. counts_with s.blocks f n.counts.large) left
             ∙ ap (counts_with s.blocks (free_of t)) (ap (λ (c : BlockCounts). c.large) are.counts ∙ sym large-same)
 
-        of-note : (k : ℕ) (note : BlockNote) → slice_get n.notes.items k ≡ Some note → k < s.blocks → k ≢ block → IsNote rules.fill s k note → IsNote rules.fill t k note
+        of-note : (k : ℕ) (note : BlockNote) → slice_get n.notes.items k ≡ Some note → k < s.blocks → k ≢ block → IsBlockNote rules.fill s k note → IsBlockNote rules.fill t k note
         of-note k (Owned owner region) is below other right = absurd (are.unowned k owner region is)
         of-note k (Unowned least) is below other right = note-other k below (other-word k below other) other least right
 
-        each : (k : ℕ) (note : BlockNote) → slice_get later.notes.items k ≡ Some note → IsNote rules.fill t k note
-        each k note is = elim (changes-cases n.notes.items later.notes.items block (Unowned 4097) changes k note is) as (λ _. IsNote rules.fill t k note) [
-          | inl own ↦ subst (λ q. IsNote rules.fill t q note) (sym own.0) (subst (IsNote rules.fill t block) (sym own.1) (note-unknown rules.fill t block (free-word free).1))
+        each : (k : ℕ) (note : BlockNote) → slice_get later.notes.items k ≡ Some note → IsBlockNote rules.fill t k note
+        each k note is = elim (changes-cases n.notes.items later.notes.items block (Unowned 4097) changes k note is) as (λ _. IsBlockNote rules.fill t k note) [
+          | inl own ↦ subst (λ q. IsBlockNote rules.fill t q note) (sym own.0) (subst (IsBlockNote rules.fill t block) (sym own.1) (note-unknown rules.fill t block (free-word free).1))
           | inr other ↦ of-note k note other.1 (subst (λ b. k < b) are.notes.len (get-below n.notes.items k note other.1)) other.0 (are.notes.each k note other.1)
         ]
 
 -- from any heap to any other
 pub after-hole : (rules : Rules) → FillsHoles rules.fill → (old new : HeapState) (a refs nums block : ℕ) (was_free : Bool) → was_free ≡ false → (n : BlockNotes) → AreNotes rules.fill old n
-    → PlacesObject rules old new a refs nums block was_free → AreNotes rules.fill new n
+    → PlacesInBlock rules old new a refs nums block was_free → AreNotes rules.fill new n
 after-hole rules fills old new a refs nums block was_free used n are placed =
     let same : new ≡ with_words old new.words = same-layout old new placed.layout.0 placed.layout.1 placed.layout.2 in
     let free : has_kind old block kinds.Free ≡ false = sym placed.free ∙ used in
     subst (λ t. AreNotes rules.fill t n) (sym same) (placed-hole rules fills old new.words a refs nums block was_free
-    (subst (λ t. PlacesObject rules old t a refs nums block was_free) same placed) (λ is. let wrong : true ≡ false = sym is ∙ free in cc) n are)
+    (subst (λ t. PlacesInBlock rules old t a refs nums block was_free) same placed) (λ is. let wrong : true ≡ false = sym is ∙ free in cc) n are)
 
 pub after-free : (rules : Rules) → FillsHoles rules.fill → (old new : HeapState) (a refs nums block : ℕ) (was_free : Bool) → was_free ≡ true → (n later : BlockNotes) → AreNotes rules.fill old n
-    → PlacesObject rules old new a refs nums block was_free → session_counts later.counts ≡ counts_with n.counts.blocks (n.counts.free - 1) n.counts.large
+    → PlacesInBlock rules old new a refs nums block was_free → session_counts later.counts ≡ counts_with n.counts.blocks (n.counts.free - 1) n.counts.large
     → ChangesAt n.notes.items later.notes.items block (Unowned 4097) → later.owned ≡ n.owned → AreNotes rules.fill new later
 after-free rules fills old new a refs nums block was_free used n later are placed counts changes owned =
     let same : new ≡ with_words old new.words = same-layout old new placed.layout.0 placed.layout.1 placed.layout.2 in
     let free : HasKind old block kinds.Free = sym placed.free ∙ used in
     subst (λ t. AreNotes rules.fill t later) (sym same) (placed-free rules fills old new.words a refs nums block was_free
-    (subst (λ t. PlacesObject rules old t a refs nums block was_free) same placed) free n later are counts changes owned)
+    (subst (λ t. PlacesInBlock rules old t a refs nums block was_free) same placed) free n later are counts changes owned)

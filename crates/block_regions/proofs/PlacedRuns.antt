@@ -15,7 +15,7 @@ use Rattle.plan_api.specs.Counting.{session_counts}
 use Rattle.block_regions.specs.declared.block_notes.BlockNotes.{BlockNotes}
 use Rattle.block_regions.specs.declared.block_notes.BlockNote.{BlockNote}
 use Rattle.block_regions.specs.declared.block_notes.BlockNote.TheVariants.{Unowned, Owned}
-use Rattle.block_regions.specs.Notes.{FillsHoles, IsNote, HasNotes, AreUnowned, AreNotes, PlacesRun}
+use Rattle.block_regions.specs.Notes.{FillsHoles, IsBlockNote, HasNotes, AreUnowned, AreNotes, PlacesRun}
 use Rattle.block_regions.proofs.Lists.{get-below}
 use Rattle.block_regions.proofs.PlacedNotes.{filled-code}
 use Rattle.block_regions.proofs.Regions.{hole-kind}
@@ -64,7 +64,7 @@ module _ (fill : Kind) (fills : FillsHoles fill) (s t : HeapState) (lawful : IsL
       apart : (x : ℕ) → block_at s.blocks x ≡ k → x ≢ a
       apart x inside own = elsewhere (sym inside ∙ ap (block_at s.blocks) own ∙ placed.here)
 
-  note-after : (k : ℕ) → k < s.blocks → (least : ℕ) → IsNote fill s k (Unowned least) → IsNote fill t k (Unowned least)
+  note-after : (k : ℕ) → k < s.blocks → (least : ℕ) → IsBlockNote fill s k (Unowned least) → IsBlockNote fill t k (Unowned least)
   note-after k there least is = record {
     owner = (lawful.but_lines.blocks k (subst (λ (b : ℕ). k < b) (sym placed.blocks) there)).owner;
     none = λ at size most hole. elim (cases_lt k block) as (λ _. ⊥) [
@@ -90,9 +90,9 @@ module _ (fill : Kind) (fills : FillsHoles fill) (s t : HeapState) (lawful : IsL
     room = subst (λ v. t.blocks ≤ vec_capacity v) (sym owned) (subst (λ (b : ℕ). b ≤ vec_capacity notes.owned) (sym placed.blocks) are.room);
   }
     where
-      of-note : (k : ℕ) (note : BlockNote) → slice_get notes.notes.items k ≡ Some note → k < s.blocks → IsNote fill s k note → IsNote fill t k note
+      of-note : (k : ℕ) (note : BlockNote) → slice_get notes.notes.items k ≡ Some note → k < s.blocks → IsBlockNote fill s k note → IsBlockNote fill t k note
       of-note k (Owned owner region) is there right = absurd (are.unowned k owner region is)
       of-note k (Unowned least) is there right = note-after k there least right
 
-      each : (k : ℕ) (note : BlockNote) → slice_get notes.notes.items k ≡ Some note → IsNote fill t k note
+      each : (k : ℕ) (note : BlockNote) → slice_get notes.notes.items k ≡ Some note → IsBlockNote fill t k note
       each k note is = of-note k note is (subst (λ (b : ℕ). k < b) are.notes.len (get-below notes.notes.items k note is)) (are.notes.each k note is)

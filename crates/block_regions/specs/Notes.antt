@@ -45,14 +45,14 @@ pub record IsOwnedNote (fill : Kind) (s : HeapState) (k number : ℕ) (region : 
   pub left : IsRegionIn fill s k region
 
 -- the note is right for block k
-abbrev pub IsNote : Kind → HeapState → ℕ → BlockNote → Type 0
-IsNote fill s k (Unowned least) = IsUnownedNote fill s k least
-IsNote fill s k (Owned owner region) = IsOwnedNote fill s k owner region
+abbrev pub IsBlockNote : Kind → HeapState → ℕ → BlockNote → Type 0
+IsBlockNote fill s k (Unowned least) = IsUnownedNote fill s k least
+IsBlockNote fill s k (Owned owner region) = IsOwnedNote fill s k owner region
 
 -- there is a note for each block, and it is right
 pub record HasNotes (fill : Kind) (s : HeapState) (notes : List BlockNote) : Type 0 where
   pub len : length notes ≡ s.blocks
-  pub each : (k : ℕ) (note : BlockNote) → slice_get notes k ≡ Some note → IsNote fill s k note
+  pub each : (k : ℕ) (note : BlockNote) → slice_get notes k ≡ Some note → IsBlockNote fill s k note
 
 -- a block that the mutator allocates in is its own
 pub record IsRegionOf (notes : List BlockNote) (number block : ℕ) : Type 0 where
@@ -122,7 +122,7 @@ KeepsLines old new = (k line : ℕ) → k < old.blocks → line < BLOCK_LINES �
 
 -- From `old` to `new` an object was placed at the address, in a block that was Free or in a hole of its block. The line bits
 -- of the block may have been written anew.
-pub record PlacesObject (rules : Rules) (old new : HeapState) (a refs nums block : ℕ) (was_free : Bool) : Type 0 where
+pub record PlacesInBlock (rules : Rules) (old new : HeapState) (a refs nums block : ℕ) (was_free : Bool) : Type 0 where
   pub layout : (new.blocks ≡ old.blocks) × (new.number ≡ old.number) × (new.base ≡ old.base)
   pub object : AddsObject old new a refs nums
   pub here : block_at old.blocks a ≡ block

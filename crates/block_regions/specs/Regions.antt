@@ -21,8 +21,8 @@ pub data IsCellLeft (s : HeapState) (k from : ℕ) (region : Region) : Type 0 wh
   full : HasNoCell s k from → region.next ≡ BLOCK_WORDS → region.end ≡ BLOCK_WORDS → IsCellLeft s k from region
 
 -- an object of block k ends at this offset
-abbrev pub EndsAt : HeapState → ℕ → ℕ → Type 0
-EndsAt s k at = (a : ℕ) × IsHeld s a × (block_at s.blocks a ≡ k) × (offset_at s.blocks a + size_at s a ≡ at)
+abbrev pub HasObjectEndingAt : HeapState → ℕ → ℕ → Type 0
+HasObjectEndingAt s k at = (a : ℕ) × IsHeld s a × (block_at s.blocks a ≡ k) × (offset_at s.blocks a + size_at s a ≡ at)
 
 -- The region is what is left of a hole of clear lines of block k: it begins with the hole, or where an object ends, and
 -- ends with the hole. No object of the block has a word in it, and none touches a clear line after it.
@@ -30,7 +30,8 @@ pub record IsLinesLeft (s : HeapState) (k : ℕ) (region : Region) : Type 0 wher
   pub line : ℕ
   pub len : ℕ
   pub hole : IsLineHole s k line len
-  pub begins : (region.next ≡ LINE_WORDS * line) ⊎ ((LINE_WORDS * line ≤ region.next) × EndsAt s k region.next)
+  pub begins : (region.next ≡ LINE_WORDS * line) ⊎ ((LINE_WORDS * line ≤ region.next)
+      × HasObjectEndingAt s k region.next)
   pub inside : region.next ≤ region.end
   pub end : region.end ≡ LINE_WORDS * (line + len)
   pub clear : (a i : ℕ) → IsHeld s a → block_at s.blocks a ≡ k → IsInExtent s a i → block_at s.blocks i ≡ k

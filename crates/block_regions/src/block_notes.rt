@@ -10,7 +10,7 @@ ghost use Rattle.plan_api.specs.Holes.{IsFirstPart, IsFirstHole};
 ghost use Rattle.sessions.specs.Fitting.{counts_of, HasHole, HasSomeHole, class_for as class_for_size};
 ghost use Rattle.sessions.specs.Plans.{Rules};
 ghost use Rattle.block_regions.specs.declared.block_notes.BlockNote.TheVariants.{Unowned};
-ghost use Rattle.block_regions.specs.Notes.{FillsHoles, AreNotes, IsLowestHole, LacksHoles, PlacesObject, PlacesRun};
+ghost use Rattle.block_regions.specs.Notes.{FillsHoles, AreNotes, IsLowestHole, LacksHoles, PlacesInBlock, PlacesRun};
 
 use crate::vectors::copies;
 use heap_layout::{BLOCK_WORDS, Kind, Region};
@@ -165,7 +165,7 @@ impl BlockNotes {
     pub fn placed_in(&mut self, block: u32, was_free: bool)
         ensures { (rules : Rules) (old new : HeapState) (a refs nums : ℕ)
             → FillsHoles rules.fill → AreNotes rules.fill old self.old
-            → PlacesObject rules old new a refs nums block was_free
+            → PlacesInBlock rules old new a refs nums block was_free
             → AreNotes rules.fill new self.new }
     {
         if was_free {

@@ -1,8 +1,8 @@
 //! Words stored, blocks made Free, and unlog bits set.
 
 ghost use Rattle.std.specs.Prelude.{◌≡◌, ◌+◌, ◌<◌, length};
-ghost use Rattle.heap_layout.specs.Zones.{row_words};
-ghost use Rattle.object_model.specs.Objects.{state_over};
+ghost use Rattle.heap_layout.specs.Zones.{IsRowOf};
+ghost use Rattle.object_model.specs.Objects.{shown};
 ghost use Rattle.block_sweeps.specs.Stores.{Stores};
 ghost use Rattle.block_sweeps.specs.Sweeping.{Frees, Unlogs};
 
@@ -21,10 +21,10 @@ pub fn store<W: Words>(words: &mut W, index: u32, value: u64)
 
 /// Makes a block Free, and clears its line bits. Writes only words that change.
 pub fn free_block<W: Words>(words: &mut W, layout: &Layout, block: u32)
-    requires extent { length (W.words words.old) ≡ row_words layout.now.blocks }
+    requires extent { IsRowOf layout.now (W.words words.old) }
     requires block { block < layout.now.blocks }
-    ensures { Frees (state_over (W.words words.old) layout.now 0 0)
-        (state_over (W.words words.new) layout.now 0 0) block }
+    ensures { Frees (shown (W.words words.old) layout.now)
+        (shown (W.words words.new) layout.now) block }
 {
     store(words, layout.block_at(block), Kind::Free as u64);
     let lines = layout.line_at(block);
@@ -36,10 +36,10 @@ pub fn free_block<W: Words>(words: &mut W, layout: &Layout, block: u32)
 /// Sets the unlog bit of each object that begins in the block, and clears all others of the block.
 /// Writes only words that change.
 pub fn unlog_block<W: Words>(words: &mut W, layout: &Layout, block: u32)
-    requires extent { length (W.words words.old) ≡ row_words layout.now.blocks }
+    requires extent { IsRowOf layout.now (W.words words.old) }
     requires block { block < layout.now.blocks }
-    ensures { Unlogs (state_over (W.words words.old) layout.now 0 0)
-        (state_over (W.words words.new) layout.now 0 0) block }
+    ensures { Unlogs (shown (W.words words.old) layout.now)
+        (shown (W.words words.new) layout.now) block }
 {
     for index in 64 * block..64 * block + 64 {
         let starts = words.get(layout.start_base() + index);

@@ -3,9 +3,9 @@
 ghost use Rattle.std.specs.Prelude.{◌≡◌, true, false, ◌↔◌, ◌+◌, ◌-◌, ◌*◌, ◌<◌, ◌≤◌, ℕ, IsTrue, length, slice_index};
 ghost use Rattle.line_bits.specs.LineMarks.{IsFromTo};
 ghost use Rattle.std.specs.Int.{bit_at};
-ghost use Rattle.heap_layout.specs.Zones.{row_words, first, block_start, LineWords};
+ghost use Rattle.heap_layout.specs.Zones.{first, block_start, LineWords, IsRowOf};
 ghost use Rattle.heap_layout.specs.declared.block.Kind.TheVariants as kinds;
-ghost use Rattle.object_model.specs.Objects.{HeapState, state_over, HasKind, is_start};
+ghost use Rattle.object_model.specs.Objects.{HeapState, HasKind, is_start, shown};
 ghost use Rattle.object_model.specs.Lawful.{IsReadableBlock};
 ghost use Rattle.block_sweeps.specs.Stores.{Fills};
 ghost use Rattle.block_sweeps.specs.Touches.{AddsEnds, AddsLines, AreBegun, AreBitsOf, AreStarts, BeginsFrom, BeginsIn, MarksFrom, TouchesAt, has_line};
@@ -21,11 +21,11 @@ use side_meta::Words;
 /// start bits, and the shape word of an object only if it is the last that begins in its line and
 /// none begins in the next one of the same 64 lines. Writes only words that change.
 pub fn mark_touched_lines<W: Words>(words: &mut W, layout: &Layout, block: u32)
-    requires block { IsReadableBlock (state_over (W.words words.old) layout.now 0 0) block }
-    requires apart { AreApart (state_over (W.words words.old) layout.now 0 0) block }
-    requires kind { HasKind (state_over (W.words words.old) layout.now 0 0) block kinds.Immix }
-    ensures { MarksTouched (state_over (W.words words.old) layout.now 0 0)
-        (state_over (W.words words.new) layout.now 0 0) block }
+    requires block { IsReadableBlock (shown (W.words words.old) layout.now) block }
+    requires apart { AreApart (shown (W.words words.old) layout.now) block }
+    requires kind { HasKind (shown (W.words words.old) layout.now) block kinds.Immix }
+    ensures { MarksTouched (shown (W.words words.old) layout.now)
+        (shown (W.words words.new) layout.now) block }
 {
     let lines = touched_lines(words, layout, block);
     store_lines(words, layout, block, &lines);
@@ -33,7 +33,7 @@ pub fn mark_touched_lines<W: Words>(words: &mut W, layout: &Layout, block: u32)
 
 /// Stores the line words of a block.
 fn store_lines<W: Words>(words: &mut W, layout: &Layout, block: u32, lines: &[u64; 4])
-    requires extent { length (W.words words.old) ≡ row_words layout.now.blocks }
+    requires extent { IsRowOf layout.now (W.words words.old) }
     requires block { block < layout.now.blocks }
     requires len { length lines.now ≡ 4 }
     ensures { Fills (W.words words.old) (W.words words.new)
@@ -50,12 +50,12 @@ fn store_lines<W: Words>(words: &mut W, layout: &Layout, block: u32, lines: &[u6
 /// The line bits of the lines that objects in the block touch: those in which objects begin, and
 /// those that the last object of a line reaches. Any other object ends before one in its line.
 fn touched_lines<W: Words>(words: &W, layout: &Layout, block: u32) -> [u64; 4]
-    requires block { IsReadableBlock (state_over (W.words words.now) layout.now 0 0) block }
-    requires apart { AreApart (state_over (W.words words.now) layout.now 0 0) block }
-    requires kind { HasKind (state_over (W.words words.now) layout.now 0 0) block kinds.Immix }
+    requires block { IsReadableBlock (shown (W.words words.now) layout.now) block }
+    requires apart { AreApart (shown (W.words words.now) layout.now) block }
+    requires kind { HasKind (shown (W.words words.now) layout.now) block kinds.Immix }
     ensures len { length result ≡ 4 }
     ensures lines { (line : ℕ) → line < BLOCK_LINES → IsTrue (has_line result line)
-        ↔ IsTouchedHere (state_over (W.words words.now) layout.now 0 0) block line }
+        ↔ IsTouchedHere (shown (W.words words.now) layout.now) block line }
 {
     let begun = begun_lines(words, layout, block);
     let mut lines = begun;
@@ -67,11 +67,11 @@ fn touched_lines<W: Words>(words: &W, layout: &Layout, block: u32) -> [u64; 4]
 
 /// The line bits of the lines in which objects begin.
 fn begun_lines<W: Words>(words: &W, layout: &Layout, block: u32) -> [u64; 4]
-    requires extent { length (W.words words.now) ≡ row_words layout.now.blocks }
+    requires extent { IsRowOf layout.now (W.words words.now) }
     requires block { block < layout.now.blocks }
     ensures len { length result ≡ 4 }
     ensures lines { (word : ℕ) → word < 4
-        → AreBegun (state_over (W.words words.now) layout.now 0 0) block word
+        → AreBegun (shown (W.words words.now) layout.now) block word
         (slice_index result word) }
 {
     let mut lines = [0; 4];
@@ -116,7 +116,7 @@ fn add_if_begun(bits: u64, line: u32, lines: &mut [u64; 4])
     set_run(lines, line, line);
 }
 
-/// For each of 64 lines in which objects begin, as the bits of `begun` tell, adds the lines that
+/// For each of 64 lines in which objects begin, as the bits of `begun` say, adds the lines that
 /// the last of them touches. It is not read if one begins in the next line, since it ends there.
 fn add_ends<W: Words>(
     words: &W,
@@ -126,13 +126,13 @@ fn add_ends<W: Words>(
     begun: u64,
     lines: &mut [u64; 4],
 )
-    requires block { IsReadableBlock (state_over (W.words words.now) layout.now 0 0) block }
-    requires apart { AreApart (state_over (W.words words.now) layout.now 0 0) block }
-    requires kind { HasKind (state_over (W.words words.now) layout.now 0 0) block kinds.Immix }
+    requires block { IsReadableBlock (shown (W.words words.now) layout.now) block }
+    requires apart { AreApart (shown (W.words words.now) layout.now) block }
+    requires kind { HasKind (shown (W.words words.now) layout.now) block kinds.Immix }
     requires word { word < 4 }
-    requires begun { AreBegun (state_over (W.words words.now) layout.now 0 0) block word begun }
+    requires begun { AreBegun (shown (W.words words.now) layout.now) block word begun }
     requires len { length lines.old ≡ 4 }
-    ensures { AddsEnds (state_over (W.words words.now) layout.now 0 0) block
+    ensures { AddsEnds (shown (W.words words.now) layout.now) block
         (64 * word) (64 * word + 64) lines.old lines.new }
 {
     let mut rest = begun & !(begun >> 1);
@@ -146,13 +146,13 @@ fn add_ends<W: Words>(
 /// Adds the lines that objects touch which begin in a line. Only the last of them is read.
 #[inline(always)]
 fn add_last<W: Words>(words: &W, layout: &Layout, block: u32, line: u32, lines: &mut [u64; 4])
-    requires block { IsReadableBlock (state_over (W.words words.now) layout.now 0 0) block }
-    requires apart { AreApart (state_over (W.words words.now) layout.now 0 0) block }
-    requires kind { HasKind (state_over (W.words words.now) layout.now 0 0) block kinds.Immix }
+    requires block { IsReadableBlock (shown (W.words words.now) layout.now) block }
+    requires apart { AreApart (shown (W.words words.now) layout.now) block }
+    requires kind { HasKind (shown (W.words words.now) layout.now) block kinds.Immix }
     requires line { line < BLOCK_LINES }
-    requires begins { BeginsIn (state_over (W.words words.now) layout.now 0 0) block line }
+    requires begins { BeginsIn (shown (W.words words.now) layout.now) block line }
     requires len { length lines.old ≡ 4 }
-    ensures { MarksFrom (state_over (W.words words.now) layout.now 0 0) block
+    ensures { MarksFrom (shown (W.words words.now) layout.now) block
         (LINE_WORDS * line) (LINE_WORDS * line + LINE_WORDS) lines.old lines.new }
 {
     let bits = line_bits(start_word(words, layout, block, line / 4), line % 4);
@@ -162,10 +162,10 @@ fn add_last<W: Words>(words: &W, layout: &Layout, block: u32, line: u32, lines: 
 
 /// The start bits of 64 addresses of the block, from offset `64 * index` on.
 fn start_word<W: Words>(words: &W, layout: &Layout, block: u32, index: u32) -> u64
-    requires extent { length (W.words words.now) ≡ row_words layout.now.blocks }
+    requires extent { IsRowOf layout.now (W.words words.now) }
     requires block { block < layout.now.blocks }
     requires index { index < 64 }
-    ensures { AreStarts (state_over (W.words words.now) layout.now 0 0) block index result }
+    ensures { AreStarts (shown (W.words words.now) layout.now) block index result }
 {
     words.get(layout.start_base() + 64 * block + index)
 }
@@ -198,13 +198,13 @@ fn is_dense(starts: u64) -> bool
 
 /// Adds the lines that the object at this offset touches.
 fn add_object<W: Words>(words: &W, layout: &Layout, block: u32, offset: u32, lines: &mut [u64; 4])
-    requires block { IsReadableBlock (state_over (W.words words.now) layout.now 0 0) block }
-    requires kind { HasKind (state_over (W.words words.now) layout.now 0 0) block kinds.Immix }
+    requires block { IsReadableBlock (shown (W.words words.now) layout.now) block }
+    requires kind { HasKind (shown (W.words words.now) layout.now) block kinds.Immix }
     requires offset { offset < BLOCK_WORDS }
-    requires start { IsTrue (is_start (state_over (W.words words.now) layout.now 0 0)
+    requires start { IsTrue (is_start (shown (W.words words.now) layout.now)
         (block_start layout.now.blocks block + offset)) }
     requires len { length lines.old ≡ 4 }
-    ensures { AddsLines (TouchesAt (state_over (W.words words.now) layout.now 0 0) block offset)
+    ensures { AddsLines (TouchesAt (shown (W.words words.now) layout.now) block offset)
         lines.old lines.new }
 {
     let size = object_size(words, layout.address(block, offset));

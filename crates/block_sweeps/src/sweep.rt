@@ -2,9 +2,9 @@
 
 ghost use Rattle.std.specs.Prelude.{◌≡◌, ◌+◌, ◌<◌, ◌^◌, ◌&&◌, ℕ, IsTrue, length, slice_index, bit_and, count_ones};
 ghost use Rattle.side_meta.specs.BitWords.{has_bit};
-ghost use Rattle.heap_layout.specs.Zones.{row_words};
-ghost use Rattle.heap_layout.specs.Blocks.{code_of, IsValid};
-ghost use Rattle.object_model.specs.Objects.{state_over};
+ghost use Rattle.heap_layout.specs.Zones.{IsRowOf};
+ghost use Rattle.heap_layout.specs.Blocks.{code_of, IsValidWord};
+ghost use Rattle.object_model.specs.Objects.{shown};
 ghost use Rattle.object_model.specs.Releasing.{IsReleasable};
 ghost use Rattle.block_sweeps.specs.Stores.{Stores};
 ghost use Rattle.block_sweeps.specs.Sweeping.{Sweeps, KeepsLiving, ChangesOnly, IsObjectBitWord, InBlock, object_count};
@@ -26,15 +26,15 @@ pub fn sweep_block<W: Words>(
     base: u64,
     living: &BlockWord,
 ) -> u32
-    requires extent { length (W.words words.old) ≡ row_words layout.now.blocks }
+    requires extent { IsRowOf layout.now (W.words words.old) }
     requires block { block < layout.now.blocks }
-    requires releasable { IsReleasable (state_over (W.words words.old) layout.now 0 0) block }
-    requires word { IsValid living.now }
+    requires releasable { IsReleasable (shown (W.words words.old) layout.now) block }
+    requires word { IsValidWord living.now }
     ensures swept { Sweeps base (code_of living.now)
-        (state_over (W.words words.old) layout.now 0 0)
-        (state_over (W.words words.new) layout.now 0 0) block }
+        (shown (W.words words.old) layout.now)
+        (shown (W.words words.new) layout.now) block }
     ensures count { result
-        ≡ object_count (state_over (W.words words.new) layout.now 0 0) block }
+        ≡ object_count (shown (W.words words.new) layout.now) block }
 {
     let count = sweep_objects(words, layout, block, base);
     if count == 0 {
@@ -48,18 +48,18 @@ pub fn sweep_block<W: Words>(
 /// Clears the start, pin and unlog bits of objects in the block that do not live. Answers how many
 /// live.
 fn sweep_objects<W: Words>(words: &mut W, layout: &Layout, block: u32, base: u64) -> u32
-    requires extent { length (W.words words.old) ≡ row_words layout.now.blocks }
+    requires extent { IsRowOf layout.now (W.words words.old) }
     requires block { block < layout.now.blocks }
-    requires releasable { IsReleasable (state_over (W.words words.old) layout.now 0 0) block }
+    requires releasable { IsReleasable (shown (W.words words.old) layout.now) block }
     ensures objects { KeepsLiving base
-        (InBlock (state_over (W.words words.old) layout.now 0 0) block)
-        (state_over (W.words words.old) layout.now 0 0)
-        (state_over (W.words words.new) layout.now 0 0) }
+        (InBlock (shown (W.words words.old) layout.now) block)
+        (shown (W.words words.old) layout.now)
+        (shown (W.words words.new) layout.now) }
     ensures rest { ChangesOnly (IsObjectBitWord layout.now.blocks block)
-        (state_over (W.words words.old) layout.now 0 0)
-        (state_over (W.words words.new) layout.now 0 0) }
+        (shown (W.words words.old) layout.now)
+        (shown (W.words words.new) layout.now) }
     ensures count { result
-        ≡ object_count (state_over (W.words words.new) layout.now 0 0) block }
+        ≡ object_count (shown (W.words words.new) layout.now) block }
 {
     let mut count = 0;
     for index in 64 * block..64 * block + 64 {
@@ -71,13 +71,13 @@ fn sweep_objects<W: Words>(words: &mut W, layout: &Layout, block: u32, base: u64
 /// Sweeps the objects that begin at the addresses of word `index` of start bits. Answers how many
 /// live.
 fn sweep_word<W: Words>(words: &mut W, layout: &Layout, index: u32, base: u64) -> u32
-    requires { MaySweep (state_over (W.words words.old) layout.now 0 0) index }
+    requires { MaySweep (shown (W.words words.old) layout.now) index }
     ensures swept { SweepsWords base index 1
-        (state_over (W.words words.old) layout.now 0 0)
-        (state_over (W.words words.new) layout.now 0 0) }
+        (shown (W.words words.old) layout.now)
+        (shown (W.words words.new) layout.now) }
     ensures count { result ≡ count_ones
-        (start_word (state_over (W.words words.new) layout.now 0 0) index) }
-    ensures fits { start_word (state_over (W.words words.new) layout.now 0 0) index < 2 ^ 64 }
+        (start_word (shown (W.words words.new) layout.now) index) }
+    ensures fits { start_word (shown (W.words words.new) layout.now) index < 2 ^ 64 }
 {
     let starts = words.get(layout.start_base() + index);
     if starts == 0 {

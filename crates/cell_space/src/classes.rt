@@ -66,7 +66,7 @@ pub fn class_of(size: u32) -> Option<u32>
 }
 
 /// The least class whose cells have room for `size` words. Sizes of cells are powers of two and
-/// their halfway points, so the two highest bits of `size - 1` tell the class.
+/// their halfway points, so the two highest bits of `size - 1` give the class.
 fn class_within(size: u32) -> u32
     requires { size ≤ MAX_MEDIUM_WORDS }
     ensures class { class_of_size size ≡ Some result }

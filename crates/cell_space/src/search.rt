@@ -2,9 +2,9 @@
 
 ghost use Rattle.std.specs.Prelude.{◌≡◌, ◌+◌, ◌*◌, ◌<◌, ◌≤◌, ◌^◌, length, IfSome, MatchOption};
 ghost use Rattle.object_model.specs.Lawful.{AllLie, MeetsNoObject};
-ghost use Rattle.heap_layout.specs.Zones.{row_words, block_start};
+ghost use Rattle.heap_layout.specs.Zones.{block_start, IsRowOf};
 ghost use Rattle.heap_layout.specs.declared.block.Kind.TheVariants as kinds;
-ghost use Rattle.object_model.specs.Objects.{state_over, HasKind, class_at, cell_words};
+ghost use Rattle.object_model.specs.Objects.{HasKind, class_at, cell_words, shown};
 ghost use Rattle.cell_space.specs.FreeCells.{IsNextCell, HasNoCell};
 ghost use Rattle.cell_space.specs.WordCells.{IsFirstBeside, HasNoneBeside, IsFirstClear, HasNoneClear};
 
@@ -22,15 +22,15 @@ pub fn next_cell<W: Words>(
     class: u32,
     from: u32,
 ) -> Option<u32>
-    requires extent { length (W.words words.now) ≡ row_words layout.now.blocks }
-    requires kind { HasKind (state_over (W.words words.now) layout.now 0 0) block kinds.Cells }
-    requires class { class_at (state_over (W.words words.now) layout.now 0 0) block ≡ class }
+    requires extent { IsRowOf layout.now (W.words words.now) }
+    requires kind { HasKind (shown (W.words words.now) layout.now) block kinds.Cells }
+    requires class { class_at (shown (W.words words.now) layout.now) block ≡ class }
     requires known { class ≤ 18 }
     ensures cell { MatchOption result
-        (HasNoCell (state_over (W.words words.now) layout.now 0 0) block from)
-        (λ at. IsNextCell (state_over (W.words words.now) layout.now 0 0) block from at) }
-    ensures apart { AllLie (state_over (W.words words.now) layout.now 0 0)
-        → IfSome result (λ at. MeetsNoObject (state_over (W.words words.now) layout.now 0 0)
+        (HasNoCell (shown (W.words words.now) layout.now) block from)
+        (λ at. IsNextCell (shown (W.words words.now) layout.now) block from at) }
+    ensures apart { AllLie (shown (W.words words.now) layout.now)
+        → IfSome result (λ at. MeetsNoObject (shown (W.words words.now) layout.now)
         (block_start layout.now.blocks block + at) (cell_words class)) }
 {
     let size = cell_size(class);
@@ -63,14 +63,14 @@ fn fitting(offset: u32, size: u32) -> Option<u32>
 /// The first free cell from the one at offset `at` on, among those that begin at addresses of the
 /// same word of start bits.
 fn free_beside<W: Words>(words: &W, layout: &Layout, block: u32, class: u32, at: u32) -> Option<u32>
-    requires extent { length (W.words words.now) ≡ row_words layout.now.blocks }
+    requires extent { IsRowOf layout.now (W.words words.now) }
     requires block { block < layout.now.blocks }
     requires class { class ≤ 18 }
     requires offset { at < BLOCK_WORDS }
     ensures cell { MatchOption result
-        (HasNoneBeside (state_over (W.words words.now) layout.now 0 0)
+        (HasNoneBeside (shown (W.words words.now) layout.now)
         block (cell_words class) at)
-        (λ x. IsFirstBeside (state_over (W.words words.now) layout.now 0 0)
+        (λ x. IsFirstBeside (shown (W.words words.now) layout.now)
         block (cell_words class) at x) }
     ensures inside { IfSome result (λ x. x < BLOCK_WORDS) }
 {

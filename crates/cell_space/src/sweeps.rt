@@ -1,8 +1,8 @@
 //! The sweep of a block of cells.
 
 ghost use Rattle.std.specs.Prelude.{◌≡◌, ◌<◌, length};
-ghost use Rattle.heap_layout.specs.Zones.{row_words};
-ghost use Rattle.object_model.specs.Objects.{state_over, block_word};
+ghost use Rattle.heap_layout.specs.Zones.{IsRowOf};
+ghost use Rattle.object_model.specs.Objects.{block_word, shown};
 ghost use Rattle.object_model.specs.Releasing.{IsReleasable};
 ghost use Rattle.block_sweeps.specs.Sweeping.{Sweeps, object_count};
 
@@ -15,14 +15,14 @@ use side_meta::Words;
 /// For callers that sweep a block of cells by itself, as tests do. A plan's release treats blocks
 /// of all kinds, and calls `block_sweeps::sweep_block`.
 pub fn sweep_block<W: Words>(words: &mut W, layout: &Layout, block: u32, base: u64) -> u32
-    requires extent { length (W.words words.old) ≡ row_words layout.now.blocks }
+    requires extent { IsRowOf layout.now (W.words words.old) }
     requires block { block < layout.now.blocks }
-    requires releasable { IsReleasable (state_over (W.words words.old) layout.now 0 0) block }
-    ensures swept { Sweeps base (block_word (state_over (W.words words.old) layout.now 0 0) block)
-        (state_over (W.words words.old) layout.now 0 0)
-        (state_over (W.words words.new) layout.now 0 0) block }
+    requires releasable { IsReleasable (shown (W.words words.old) layout.now) block }
+    ensures swept { Sweeps base (block_word (shown (W.words words.old) layout.now) block)
+        (shown (W.words words.old) layout.now)
+        (shown (W.words words.new) layout.now) block }
     ensures count { result
-        ≡ object_count (state_over (W.words words.new) layout.now 0 0) block }
+        ≡ object_count (shown (W.words words.new) layout.now) block }
 {
     let living = decode(words.get(layout.block_at(block))).unwrap();
     block_sweeps::sweep_block(words, layout, block, base, &living)

@@ -27,10 +27,10 @@ use Rattle.trace_core.specs.declared.run.TraceRun.{TraceRun}
 use Rattle.plain_tracer.specs.declared.plain_trace.PlainTrace.{PlainTrace}
 use Rattle.plain_tracer.specs.declared.tokens.Grey.{Grey}
 use Rattle.collector.specs.declared.item.Item.{Item}
-use Rattle.collector.specs.declared.packet_trace.PacketTrace.{PacketTrace}
-use Rattle.collector.specs.declared.worker.TraceStart.{TraceStart}
+use Rattle.collector.specs.declared.packet_tracer.PacketTracer.{PacketTracer}
+use Rattle.collector.specs.declared.worker.TracingStart.{TracingStart}
 use Rattle.collector.specs.Items.{registers, globals, objects, items_of, tokens_of, IsObject}
-use Rattle.collector.specs.Serving.{HasRights, IsTargetOf, HasItsLines, Serves}
+use Rattle.collector.specs.Serving.{HasRights, IsTargetOf, HasItsLines, ServesItems}
 use Rattle.collector.specs.Tallies.{total, unclaimed, Counts, IsTally}
 use Rattle.collector.specs.Awaited.{IsAwaited}
 use Rattle.collector.specs.Working.{RunsPacket, AwaitsPackets, IsOfTrace, unclaimed_by}
@@ -42,7 +42,7 @@ use Rattle.collector.proofs.NextTally.{next-tally}
 use Rattle.collector.proofs.LeftFalls.{left-is}
 
 -- A step of a trace: these items were served, and the tokens that were won are those of the items pushed.
-pub record IsStep (w v : PacketTrace) (items pushed : List Item) : Type 0 where
+pub record IsStep (w v : PacketTracer) (items pushed : List Item) : Type 0 where
   pub won : List Grey
   pub tokens : IsPermutation won (tokens_of pushed)
   pub objects : All IsObject pushed
@@ -50,9 +50,9 @@ pub record IsStep (w v : PacketTrace) (items pushed : List Item) : Type 0 where
   pub counts : Counts w.tally v.tally won
   pub serves : (setup : Setup) (es : List Event) (view : View) → Tracks setup es w.tracer view
       → HasRights setup view w.roots.items items
-      → Serves setup es view w.tracer w.roots.items items v.tracer v.roots.items won
+      → ServesItems setup es view w.tracer w.roots.items items v.tracer v.roots.items won
 
-pub step-of : (w v : PacketTrace) (p : Packet Item) (q : List (Packet Item)) → RunsPacket w p q v → All IsObject (items_of q) → v.won.items ≡ [] → IsStep w v p.items.items (items_of q)
+pub step-of : (w v : PacketTracer) (p : Packet Item) (q : List (Packet Item)) → RunsPacket w p q v → All IsObject (items_of q) → v.won.items ≡ [] → IsStep w v p.items.items (items_of q)
 step-of w v p q runs objects none = record { won = runs.won; tokens = runs.pushed; objects = objects; none = none; counts = runs.counts; serves = runs.serves }
 
 -- roots and their targets
@@ -63,7 +63,7 @@ target-stays v v' r t known is = elim is as (λ _. IsTargetOf v' r t) [ inl nil 
 module _ (p : Setup) (v : View) (roots : List ℕ) (items rest : List Item) (had : HasRights p v roots (items ++ rest)) where
   rights-of-first : HasRights p v roots items
   rights-of-first = record {
-    idle = had.idle;
+    none_won = had.none_won;
     tokens = all-left (IsGrey p v) (tokens_of items) (tokens_of rest) (subst (All (IsGrey p v)) (tokens-append items rest) had.tokens);
     objects_once = λ x. (let both = objects-append x items rest in let all : objects x (items ++ rest) ≤ hits x 0 v.grey = had.objects_once x in omega arith);
     globals_once = λ g. (let both = globals-append g items rest in let all : globals g (items ++ rest) ≤ times g v.unset = had.globals_once g in omega arith);
@@ -72,12 +72,12 @@ module _ (p : Setup) (v : View) (roots : List ℕ) (items rest : List Item) (had
     refer = λ i some. had.refer i (let both = registers-append i items rest in omega arith);
   }
 
--- the order of items is not told
-module _ (s : HeapState) (run : TraceRun) (roots : List ℕ) (w : PacketTrace) (xs ys : List Item) (same : SameItems xs ys) where
+-- the order of items is open
+module _ (s : HeapState) (run : TraceRun) (roots : List ℕ) (w : PacketTracer) (xs ys : List Item) (same : SameItems xs ys) where
   module _ (p : Setup) (v : View) (had : HasRights p v w.roots.items xs) where
     same-rights : HasRights p v w.roots.items ys
     same-rights = record {
-      idle = had.idle;
+      none_won = had.none_won;
       tokens = same.tokens p v had.tokens;
       objects_once = λ x. subst (λ n. n ≤ hits x 0 v.grey) (sym (same.of_objects x)) (had.objects_once x);
       globals_once = λ g. subst (λ n. n ≤ times g v.unset) (sym (same.of_globals g)) (had.globals_once g);
@@ -107,7 +107,7 @@ module _ (s : HeapState) (run : TraceRun) (roots : List ℕ) (w : PacketTrace) (
   }
 
 -- Items were served, and more came of it.
-module _ (s : HeapState) (run : TraceRun) (roots : List ℕ) (w v : PacketTrace) (items rest pushed : List Item)
+module _ (s : HeapState) (run : TraceRun) (roots : List ℕ) (w v : PacketTracer) (items rest pushed : List Item)
     (aw : IsAwaited s run roots w (items ++ rest)) (step : IsStep w v items pushed) (lawful : IsLawfulButLines s) where
   abbrev p : Setup
   p = setup_of s run 1
@@ -115,7 +115,7 @@ module _ (s : HeapState) (run : TraceRun) (roots : List ℕ) (w v : PacketTrace)
   first-rights : HasRights p aw.view w.roots.items items
   first-rights = rights-of-first p aw.view w.roots.items items rest aw.rights
 
-  sv : Serves p aw.events aw.view w.tracer w.roots.items items v.tracer v.roots.items step.won
+  sv : ServesItems p aw.events aw.view w.tracer w.roots.items items v.tracer v.roots.items step.won
   sv = step.serves p aw.events aw.view aw.tracks first-rights
 
   -- what came of it, and what was left before, waits to be scanned
@@ -144,7 +144,7 @@ module _ (s : HeapState) (run : TraceRun) (roots : List ℕ) (w v : PacketTrace)
 
   new-rights : HasRights p sv.view v.roots.items (pushed ++ rest)
   new-rights = record {
-    idle = sv.idle;
+    none_won = sv.none_won;
     tokens = subst (All (IsGrey p sv.view)) (sym (tokens-append pushed rest)) (All-append (IsGrey p sv.view) (tokens_of pushed) (tokens_of rest)
         (All-permutation (IsGrey p sv.view) step.won (tokens_of pushed) step.tokens sv.tokens)
         (all-both (IsGrey p aw.view) (λ grey. 0 < objects grey.object rest) (IsGrey p sv.view) token-stays (tokens_of rest) rest-tokens (tokens-there rest)));
@@ -291,14 +291,14 @@ module _ (s : HeapState) (run : TraceRun) (roots : List ℕ) (w v : PacketTrace)
   }
 
 -- whatever the order of packets
-permuted : (start : TraceStart) (v : PacketTrace) (ps qs : List (Packet Item)) → IsPermutation ps qs → AwaitsPackets start v ps → AwaitsPackets start v qs
+permuted : (start : TracingStart) (v : PacketTracer) (ps qs : List (Packet Item)) → IsPermutation ps qs → AwaitsPackets start v ps → AwaitsPackets start v qs
 permuted start v ps qs order aw = record {
   awaited = same-awaited (heap_state start.heap) start.run start.roots.items v (items_of ps) (items_of qs) (packets-same ps qs order) aw.awaited;
   buckets = All-permutation IsOfTrace ps qs order aw.buckets;
 }
 
 -- a packet was run, and others are left
-pub awaits-next : (start : TraceStart) (w v : PacketTrace) (p : Packet Item) (q rest : List (Packet Item)) → RunsPacket w p q v → All IsObject (items_of q) → v.won.items ≡ []
+pub awaits-next : (start : TracingStart) (w v : PacketTracer) (p : Packet Item) (q rest : List (Packet Item)) → RunsPacket w p q v → All IsObject (items_of q) → v.won.items ≡ []
     → AwaitsPackets start w (p ∷ rest) → AwaitsPackets start v (q ++ rest)
 awaits-next start w v p q rest runs objects none aw = record {
   awaited = subst (IsAwaited (heap_state start.heap) start.run start.roots.items v) (sym (flat_map-append (λ (r : Packet Item). r.items.items) q rest))
@@ -306,7 +306,7 @@ awaits-next start w v p q rest runs objects none aw = record {
   buckets = All-append IsOfTrace q rest (All-weaker (λ packet. packet.bucket ≡ buckets.Closure) IsOfTrace (λ packet is. inr is) q runs.closure) (All-tail IsOfTrace p rest aw.buckets);
 }
 
-pub stays-awaited : (start : TraceStart) (w v : PacketTrace) (p : Packet Item) (q rest : List (Packet Item)) → RunsPacket w p q v → All IsObject (items_of q) → v.won.items ≡ []
+pub stays-awaited : (start : TracingStart) (w v : PacketTracer) (p : Packet Item) (q rest : List (Packet Item)) → RunsPacket w p q v → All IsObject (items_of q) → v.won.items ≡ []
     → AwaitsAll AwaitsPackets start w (p ∷ rest) → AwaitsAll AwaitsPackets start v (q ++ rest)
 stays-awaited start w v p q rest runs objects none all qs order = permuted start v (q ++ rest) qs order (awaits-next start w v p q rest runs objects none (all (p ∷ rest) (IsPermutation-refl (p ∷ rest))))
 
@@ -337,12 +337,12 @@ falls p es es' t t' v v' tracks tracks' idle idle' won more tokens n few =
     (All-weaker (IsGrey p v') (λ grey. grey.object < row_words (blocks p)) (token-below p es' tracks'.trace v' tracks'.holds) won tokens) in
     omega arith
 
-pub left-falls : (start : TraceStart) (w v : PacketTrace) (p : Packet Item) (q rest : List (Packet Item)) → RunsPacket w p q v → All IsObject (items_of q) → All HasItems q
+pub left-falls : (start : TracingStart) (w v : PacketTracer) (p : Packet Item) (q rest : List (Packet Item)) → RunsPacket w p q v → All IsObject (items_of q) → All HasItems q
     → AwaitsAll AwaitsPackets start w (p ∷ rest) → unclaimed_by v + length q ≤ unclaimed_by w
 left-falls start w v p q rest runs objects items all =
     let aw : IsAwaited (heap_state start.heap) start.run start.roots.items w (p.items.items ++ items_of rest) = (all (p ∷ rest) (IsPermutation-refl (p ∷ rest))).awaited in
     let setup : Setup = setup_of (heap_state start.heap) start.run 1 in
-    let sv : Serves setup aw.events aw.view w.tracer w.roots.items p.items.items v.tracer v.roots.items runs.won = runs.serves setup aw.events aw.view aw.tracks
+    let sv : ServesItems setup aw.events aw.view w.tracer w.roots.items p.items.items v.tracer v.roots.items runs.won = runs.serves setup aw.events aw.view aw.tracks
     (rights-of-first setup aw.view w.roots.items p.items.items (items_of rest) aw.rights) in
-    falls setup aw.events (aw.events ++ sv.events) w.tracer v.tracer aw.view sv.view aw.tracks sv.tracks aw.rights.idle sv.idle runs.won sv.copied sv.tokens (length q)
+    falls setup aw.events (aw.events ++ sv.events) w.tracer v.tracer aw.view sv.view aw.tracks sv.tracks aw.rights.none_won sv.none_won runs.won sv.copied sv.tokens (length q)
     (packets-few q items objects runs.won runs.pushed)

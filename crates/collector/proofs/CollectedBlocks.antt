@@ -14,8 +14,8 @@ use Rattle.plan_api.specs.Releasing.{is_kept_after, word_after}
 use Rattle.plan_api.proofs.EvacuationLaws.{none-large, kept-if, not-kept, immix-kept, copies-not-kept}
 use Rattle.trace_core.specs.Setups.{Setup, blocks, collection}
 use Rattle.trace_core.specs.Machine.{Event, taken_word}
-use Rattle.trace_core.specs.Traces.{IsTrace, IsFinished, machine_after, heap_after, stage_of}
-use Rattle.trace_core.specs.Outcomes.{base_after, image, FinishedRow}
+use Rattle.trace_core.specs.Traces.{IsTracing, IsFinished, machine_after, heap_after, stage_of}
+use Rattle.trace_core.specs.Outcomes.{base_after_trace, image, FinishedRow}
 use Rattle.trace_core.proofs.Rows.{row}
 use Rattle.trace_core.proofs.Releasable.{copy-low}
 use Rattle.collector.proofs.EvacuatedKinds.{evacuated-kind}
@@ -74,8 +74,8 @@ module _ {r : Rules} {c : Collect} {base : ℕ} {s : HeapState} {v : List ℕ} {
     | inr some ↦ some
   ]
 
-module _ {q : Plan} {c : Collect} {p : Setup} {u : List ℕ} (under : IsSetupUnder q c p u) {es : List Event} (trace : IsTrace p es) (finished : IsFinished p (machine_after p es))
-    {v : List ℕ} (all : IsAllReleased (rules_of q) c (base_after p) (heap_after p es) v (collection p) (base_after p)) where
+module _ {q : Plan} {c : Collect} {p : Setup} {u : List ℕ} (under : IsSetupUnder q c p u) {es : List Event} (trace : IsTracing p es) (finished : IsFinished p (machine_after p es))
+    {v : List ℕ} (all : IsAllReleased (rules_of q) c (base_after_trace p) (heap_after p es) v (collection p) (base_after_trace p)) where
   abbrev r : Rules
   r = rules_of q
 
@@ -86,7 +86,7 @@ module _ {q : Plan} {c : Collect} {p : Setup} {u : List ℕ} (under : IsSetupUnd
   after = heap_after p es
 
   abbrev now : HeapState
-  now = record { words = v; blocks = blocks p; number = collection p; base = base_after p }
+  now = record { words = v; blocks = blocks p; number = collection p; base = base_after_trace p }
 
   abbrev taken : ℕ → ℕ
   taken = (machine_after p es).taken
@@ -107,14 +107,14 @@ module _ {q : Plan} {c : Collect} {p : Setup} {u : List ℕ} (under : IsSetupUnd
   unowned : (k : ℕ) → k < blocks p → owner_at old k ≡ 0
   unowned k there = ap (λ w. w / 65536) (under.like.blocks k there) ∙ (trace.ready.lawful.blocks k there).owner
 
-  large-before : (k : ℕ) → IsInLargeUse r c (base_after p) after now k → HasKind after k kinds.LargeTail
+  large-before : (k : ℕ) → IsInLargeUse r c (base_after_trace p) after now k → HasKind after k kinds.LargeTail
   large-before k large = tail-of after all.before.blocks large.first k large.head large.past large.below
 
-  used-word : (k : ℕ) → k < blocks p → taken k ≡ 0 → IsInUse r c (base_after p) after now k → block_word now k ≡ word_after r c old k
+  used-word : (k : ℕ) → k < blocks p → taken k ≡ 0 → IsInUse r c (base_after_trace p) after now k → block_word now k ≡ word_after r c old k
   used-word k there none used = used.word ∙ after-same r old after k refl (untaken-word k there none) c
 
   -- a taken block has the kind that workers fill
-  taken-kind : (k : ℕ) → HasKind old k kinds.Free → IsInUse r c (base_after p) after now k ⊎ IsInLargeUse r c (base_after p) after now k → HasKind now k r.copy
+  taken-kind : (k : ℕ) → HasKind old k kinds.Free → IsInUse r c (base_after_trace p) after now k ⊎ IsInLargeUse r c (base_after_trace p) after now k → HasKind now k r.copy
   taken-kind k free busy =
       let there : k < blocks p = kind-within old k kinds.Free free in
       elim (cases_eq (taken k) 0) as (λ _. HasKind now k r.copy) [
@@ -137,7 +137,7 @@ module _ {q : Plan} {c : Collect} {p : Setup} {u : List ℕ} (under : IsSetupUnd
 
   -- an evacuated block without lines is Kept
   kept-kind : (k : ℕ) → IsTrue (is_evacuated r c old k) → (HasKind old k kinds.Immix → ⊥) → (HasKind old k kinds.Free → ⊥) → k < blocks p
-      → IsInUse r c (base_after p) after now k ⊎ IsInLargeUse r c (base_after p) after now k → HasKind now k kinds.Kept
+      → IsInUse r c (base_after_trace p) after now k ⊎ IsInLargeUse r c (base_after_trace p) after now k → HasKind now k kinds.Kept
   kept-kind k from other some there busy =
       let none : taken k ≡ 0 = untaken k some in
       elim busy as (λ _. HasKind now k kinds.Kept) [
@@ -149,7 +149,7 @@ module _ {q : Plan} {c : Collect} {p : Setup} {u : List ℕ} (under : IsSetupUnd
 
   -- the word of any other block is unchanged
   other-word : (k : ℕ) → (HasKind old k kinds.Free → ⊥) → (IsTrue (is_evacuated r c old k) → HasKind old k kinds.Immix) → k < blocks p
-      → IsInUse r c (base_after p) after now k ⊎ IsInLargeUse r c (base_after p) after now k → block_word now k ≡ block_word old k
+      → IsInUse r c (base_after_trace p) after now k ⊎ IsInLargeUse r c (base_after_trace p) after now k → block_word now k ≡ block_word old k
   other-word k some immix there busy =
       let none : taken k ≡ 0 = untaken k some in
       elim busy as (λ _. block_word now k ≡ block_word old k) [

@@ -15,10 +15,10 @@ use Rattle.object_model.proofs.References.{refers, refers-some}
 use Rattle.sessions.specs.Plans.{Rules, Plan, rules_of}
 use Rattle.sessions.specs.Collecting as collecting
 use Rattle.sessions.specs.Collecting.{is_old_under, is_logged_under, IsNurseryReachable, is_root, is_global, was_old, is_field, IsPrecise}
-use Rattle.trace_core.specs.Setups.{Setup, blocks, collection, may_move, held}
+use Rattle.trace_core.specs.Setups.{Setup, blocks, collection, may_be_moved, held}
 use Rattle.trace_core.specs.Machine.{Event}
-use Rattle.trace_core.specs.Traces.{IsTrace, IsFinished, Reaches, FromRoot, FromGlobal, FromOld, ByReference, machine_after, heap_after, stage_of}
-use Rattle.trace_core.specs.Outcomes.{base_after, image, HaveAsked, NoOthersAsked}
+use Rattle.trace_core.specs.Traces.{IsTracing, IsFinished, TraceKeeps, FromRoot, FromGlobal, FromOld, ByReference, machine_after, heap_after, stage_of}
+use Rattle.trace_core.specs.Outcomes.{base_after_trace, image, HaveAsked, NoOthersAsked}
 use Rattle.trace_core.specs.Runs.{is_nursery}
 use Rattle.trace_core.proofs.Rows.{row}
 use Rattle.trace_core.proofs.Finished.{preserved, kept-exactly, kept-reachable}
@@ -27,8 +27,8 @@ use Rattle.collector.proofs.Fates as fates
 use Rattle.collector.proofs.Fates.{IsAllReleased}
 use Rattle.collector.proofs.ReleasedObjects as released
 
-module _ {q : Plan} {c : Collect} {p : Setup} {u : List ℕ} (under : IsSetupUnder q c p u) {es : List Event} (trace : IsTrace p es) (finished : IsFinished p (machine_after p es))
-    {v : List ℕ} (all : IsAllReleased (rules_of q) c (base_after p) (heap_after p es) v (collection p) (base_after p)) where
+module _ {q : Plan} {c : Collect} {p : Setup} {u : List ℕ} (under : IsSetupUnder q c p u) {es : List Event} (trace : IsTracing p es) (finished : IsFinished p (machine_after p es))
+    {v : List ℕ} (all : IsAllReleased (rules_of q) c (base_after_trace p) (heap_after p es) v (collection p) (base_after_trace p)) where
   abbrev r : Rules
   r = rules_of q
 
@@ -36,13 +36,13 @@ module _ {q : Plan} {c : Collect} {p : Setup} {u : List ℕ} (under : IsSetupUnd
   old = with_words p.before u
 
   abbrev new : HeapState
-  new = record { words = v; blocks = blocks p; number = collection p; base = base_after p }
+  new = record { words = v; blocks = blocks p; number = collection p; base = base_after_trace p }
 
   abbrev F : ℕ → ℕ
   F = image (stage_of p es)
 
   module _ (roots : List ℕ) (asked : HaveAsked roots (machine_after p es).asked) where
-    was : PreservesObjects (may_move p) p.before roots (Lives (base_after p) (heap_after p es)) (heap_after p es) (map F roots) F
+    was : PreservesObjects (may_be_moved p) p.before roots (Lives (base_after_trace p) (heap_after p es)) (heap_after p es) (map F roots) F
     was = preserved p es trace finished roots asked
 
     held-now : (a : ℕ) → 0 < F a → IsHeld new (F a)
@@ -74,7 +74,7 @@ module _ {q : Plan} {c : Collect} {p : Setup} {u : List ℕ} (under : IsSetupUnd
             let to : a + (3 + refs_at s a + j) ≡ a + 3 + refs_at t a + j = omega arith in
             ap (word_at s) at ∙ same (3 + refs_at s a + j) ∙ ap (word_at t) to
 
-        pin-of : (x : ℕ) → Lives (base_after p) (heap_after p es) x → is_pinned new x ≡ is_pinned (heap_after p es) x
+        pin-of : (x : ℕ) → Lives (base_after_trace p) (heap_after p es) x → is_pinned new x ≡ is_pinned (heap_after p es) x
         pin-of x lives = fates.pin-same all x (fates.lives-held all x lives)
 
     pub kept : PreservesObjects (collecting.may_move r c old) old roots (IsHeld new) new (map F roots) F
@@ -106,13 +106,13 @@ module _ {q : Plan} {c : Collect} {p : Setup} {u : List ℕ} (under : IsSetupUnd
       | inr ne ↦ (let other : a ≢ 0 = ne in omega arith)
     ]
 
-    kept-held : (a : ℕ) → Reaches p (machine_after p es).asked a → IsHeld p.before a
+    kept-held : (a : ℕ) → TraceKeeps p (machine_after p es).asked a → IsHeld p.before a
     kept-held a from = was.held a ((kept-exactly p es trace finished a).1 from)
 
     -- in a nursery collection, what is kept is what roots, globals and old objects reach
     module _ (no-others : NoOthersAsked roots (machine_after p es).asked) where
       module _ (nursery : IsTrue p.nursery) (young : IsTrue r.young) where
-        to-nursery : (a : ℕ) → Reaches p (machine_after p es).asked a → IsNurseryReachable r old roots a
+        to-nursery : (a : ℕ) → TraceKeeps p (machine_after p es).asked a → IsNurseryReachable r old roots a
         to-nursery _ (FromRoot a some) = let d = no-others a some in is_root d.0 d.1 (positive a ((kept-exactly p es trace finished a).1 (FromRoot a some)))
         to-nursery _ (FromGlobal g few reference) = is_global g few (under.like.heap.globals g few) (let some : global_at p.before g ≢ 0 = refers-some (global_at p.before g) reference in omega arith)
         to-nursery _ (FromOld a aged) =
@@ -123,20 +123,20 @@ module _ {q : Plan} {c : Collect} {p : Setup} {u : List ℕ} (under : IsSetupUnd
             let there : IsHeld p.before y = kept-held y from in
             is_field y i (to-nursery y from) (subst (λ n. i < n) (sym (given.refs-same p.before u under.like.heap y there)) few) (given.ref-same p.before u under.like.heap y i there) reference
 
-        from-nursery : (a : ℕ) → IsNurseryReachable r old roots a → Reaches p (machine_after p es).asked a
-        from-nursery a (is_root i is some) = subst (Reaches p (machine_after p es).asked) is (FromRoot (slice_index roots i) (asked i (subst (λ n. 0 < n) (sym is) some)))
+        from-nursery : (a : ℕ) → IsNurseryReachable r old roots a → TraceKeeps p (machine_after p es).asked a
+        from-nursery a (is_root i is some) = subst (TraceKeeps p (machine_after p es).asked) is (FromRoot (slice_index roots i) (asked i (subst (λ n. 0 < n) (sym is) some)))
         from-nursery a (is_global g few is some) =
             let before : global_at p.before g ≡ a = sym (under.like.heap.globals g few) ∙ is in
-            subst (Reaches p (machine_after p es).asked) before (FromGlobal g few (subst (λ n. IsTrue (is_reference n)) (sym before) (refers a (λ e. omega arith))))
+            subst (TraceKeeps p (machine_after p es).asked) before (FromGlobal g few (subst (λ n. IsTrue (is_reference n)) (sym before) (refers a (λ e. omega arith))))
         from-nursery a (was_old there aged) =
             let before : IsHeld p.before a = given.held-before p.before u under.like.heap a there in
             FromOld a (and_from p.nursery (held p a && ages.is_old p.before a) nursery
             (and_from (held p a) (ages.is_old p.before a) before.start (sym (old-given under.like a before) ∙ (and_parts r.young (ages.is_old old a) aged).1)))
         from-nursery a (is_field x i path less is reference) =
-            let from : Reaches p (machine_after p es).asked x = from-nursery x path in
+            let from : TraceKeeps p (machine_after p es).asked x = from-nursery x path in
             let there : IsHeld p.before x = kept-held x from in
             let same : ref_at p.before x i ≡ a = sym (given.ref-same p.before u under.like.heap x i there) ∙ is in
-            subst (Reaches p (machine_after p es).asked) same
+            subst (TraceKeeps p (machine_after p es).asked) same
             (ByReference x i from (subst (λ n. i < n) (given.refs-same p.before u under.like.heap x there) less) (subst (λ n. IsTrue (is_reference n)) (sym same) reference))
 
       -- by the kind of the collection
@@ -152,8 +152,8 @@ module _ {q : Plan} {c : Collect} {p : Setup} {u : List ℕ} (under : IsSetupUnd
       precise = by-kind c under.nursery under.young
 
   -- each object is old and not logged
-  base-some : 0 < base_after p
-  base-some = elim (cases_Bool p.nursery) as (λ _. 0 < base_after p) [
+  base-some : 0 < base_after_trace p
+  base-some = elim (cases_Bool p.nursery) as (λ _. 0 < base_after_trace p) [
     | inl nursery ↦ subst (λ n. 0 < n) (sym (cond-true p.nursery p.before.base (collection p) nursery)) (trace.ready.base nursery)
     | inr full ↦ subst (λ n. 0 < n) (sym (cond-false p.nursery p.before.base (collection p) full)) (omega arith)
   ]
@@ -161,9 +161,9 @@ module _ {q : Plan} {c : Collect} {p : Setup} {u : List ℕ} (under : IsSetupUnd
   pub aged : (a : ℕ) → IsHeld new a → IsTrue r.young → IsTrue (is_old_under r new a)
   aged a there young =
       let survives = (fates.held-lives all a there).survives in
-      let least = and_parts (nat_le (base_after p) (number_at (heap_after p es) a)) (nat_eq (target_at (heap_after p es) a) a) survives in
-      and_from r.young (ages.is_old new a) young (and_from (nat_lt 0 (base_after p)) (nat_le (base_after p) (number_at new a)) (lt-ltb 0 (base_after p) base-some)
-      (ap (λ w. nat_le (base_after p) (number_in w)) (fates.word-same all a 2 there) ∙ least.0))
+      let least = and_parts (nat_le (base_after_trace p) (number_at (heap_after p es) a)) (nat_eq (target_at (heap_after p es) a) a) survives in
+      and_from r.young (ages.is_old new a) young (and_from (nat_lt 0 (base_after_trace p)) (nat_le (base_after_trace p) (number_at new a)) (lt-ltb 0 (base_after_trace p) base-some)
+      (ap (λ w. nat_le (base_after_trace p) (number_in w)) (fates.word-same all a 2 there) ∙ least.0))
 
   pub none-logged : (a : ℕ) → IsTrue (is_logged_under r new a) → ⊥
   none-logged a set =
@@ -178,9 +178,9 @@ module _ {q : Plan} {c : Collect} {p : Setup} {u : List ℕ} (under : IsSetupUnd
   pub has-number : p.nursery ≡ false → (a : ℕ) → IsHeld new a → number_at new a ≡ collection p
   has-number full a there =
       let lives = fates.held-lives all a there in
-      let least = and_parts (nat_le (base_after p) (number_at (heap_after p es) a)) (nat_eq (target_at (heap_after p es) a) a) lives.survives in
-      let from : base_after p ≤ number_at (heap_after p es) a = leb-true (base_after p) (number_at (heap_after p es) a) least.0 in
+      let least = and_parts (nat_le (base_after_trace p) (number_at (heap_after p es) a)) (nat_eq (target_at (heap_after p es) a) a) lives.survives in
+      let from : base_after_trace p ≤ number_at (heap_after p es) a = leb-true (base_after_trace p) (number_at (heap_after p es) a) least.0 in
       let most : number_at (heap_after p es) a ≤ collection p = (row p es trace finished).number a lives in
-      let base : base_after p ≡ collection p = cond-false p.nursery p.before.base (collection p) full in
+      let base : base_after_trace p ≡ collection p = cond-false p.nursery p.before.base (collection p) full in
       let same : number_at (heap_after p es) a ≡ collection p = omega arith in
       ap number_in (fates.word-same all a 2 there) ∙ same

@@ -11,11 +11,11 @@ use Rattle.object_model.specs.Objects.{HeapState, state_of, size_at, is_unlogged
 use Rattle.object_model.specs.Ages as ages
 use Rattle.object_model.specs.declared.shape.TheConstants.{MAX_MEDIUM_WORDS}
 use Rattle.sessions.specs.Plans.{Rules, Plan, rules_of}
-use Rattle.trace_core.specs.Setups.{Setup, blocks, held, size, refs, is_old, is_logged}
+use Rattle.trace_core.specs.Setups.{Setup, blocks, held, size, refs, stays_old, was_logged}
 use Rattle.trace_core.specs.Machine.{Event, Stage, Unclaimed, Copying, Scanning, Machine, target, address_or_nil}
 use Rattle.trace_core.specs.Traces.{IsFinished, machine_after, heap_after, stage_of}
 use Rattle.trace_core.specs.Outcomes.{image, HaveAsked, NoOthersAsked}
-use Rattle.trace_core.specs.Views.{View, IsIdle, one_if, hits, times, is_copied}
+use Rattle.trace_core.specs.Views.{View, NothingIsLeft, one_if, hits, times, is_stage_copied}
 use Rattle.plain_tracer.specs.Tracers.{Tracks, IsTraced}
 use Rattle.trace_core.specs.Rooms.{IsFilled, AreLeft}
 use Rattle.trace_core.specs.Runs.{setup_of, is_nursery}
@@ -26,16 +26,16 @@ use Rattle.trace_core.proofs.Clauses.{held-of}
 use Rattle.trace_core.proofs.Finished.{image-some}
 use Rattle.collector.specs.Collected.{FillsBlocks, IsRunUnder, FillsInTurn}
 use Rattle.collector.specs.Serving.{IsTargetOf}
-use Rattle.collector.specs.Working.{IsFullTrace}
+use Rattle.collector.specs.Working.{IsFullTracer}
 use Rattle.collector.specs.Tallies.{total}
-use Rattle.collector.specs.declared.packet_trace.PacketTrace.{PacketTrace}
-use Rattle.collector.specs.declared.worker.TraceStart.{TraceStart}
+use Rattle.collector.specs.declared.packet_tracer.PacketTracer.{PacketTracer}
+use Rattle.collector.specs.declared.worker.TracingStart.{TracingStart}
 use Rattle.trace_core.proofs.Rows.{row}
 use Rattle.object_model.specs.declared.heap.Heap.{Heap}
 use Rattle.object_model.specs.Objects.{block_count, has_kind}
 use Rattle.heap_layout.specs.declared.block.Kind.TheVariants as kinds
 use Rattle.sessions.specs.Collecting.{Collects}
-use Rattle.collector.specs.Released.{ReleasesBelow, heap_with, MoveAll, MarksTargets}
+use Rattle.collector.specs.Released.{ReleasesBelow, with_numbers, MoveAll, LinesOfTargetsAreMarked}
 use Rattle.collector.specs.Tallies.{IsNote}
 use Rattle.collector.specs.declared.outcome.Note.{Note}
 use Rattle.collector.proofs.WholeCollections.{CollectsBy, makes, numbered, turns}
@@ -45,7 +45,7 @@ and-none : (t u : Bool) → t ≡ false → (t && u) ≡ false
 and-none false u none = refl
 and-none true u wrong = absurd (true≢false wrong)
 
-module _ (start : TraceStart) (w : PacketTrace) (full : IsFullTrace start w) where
+module _ (start : TracingStart) (w : PacketTracer) (full : IsFullTracer start w) where
   abbrev s : HeapState
   s = heap_state start.heap
 
@@ -71,15 +71,15 @@ module _ (start : TraceStart) (w : PacketTrace) (full : IsFullTrace start w) whe
   no-nursery : is_nursery start.run.collect ≡ false
   no-nursery = ap is_nursery full.full
 
-  none-old : (x : ℕ) → is_old p x ≡ false
+  none-old : (x : ℕ) → stays_old p x ≡ false
   none-old x = and-none p.nursery (held p x && ages.is_old p.before x) no-nursery
 
-  none-logged : (x : ℕ) → is_logged p x ≡ false
-  none-logged x = and-none (is_old p x) (not (is_unlogged p.before x)) (none-old x)
+  none-logged : (x : ℕ) → was_logged p x ≡ false
+  none-logged x = and-none (stays_old p x) (not (is_unlogged p.before x)) (none-old x)
 
-  pub idle : IsIdle p v
+  pub idle : NothingIsLeft p v
   idle = record {
-    won = full.awaited.rights.idle;
+    won = full.awaited.rights.none_won;
     copied = λ x some. elim (full.awaited.scanned x some) as (λ _. 0 < hits x (refs p x) v.grey) [
       | inl left ↦ absurd (omega (arith, left))
       | inr scanned ↦ scanned
@@ -122,7 +122,7 @@ module _ (start : TraceStart) (w : PacketTrace) (full : IsFullTrace start w) whe
         ∙ sym (get_or-map F start.roots.items i 0 0 there))
 
     -- what is copied has a target
-    copied-stage : (a : ℕ) (stage : Stage) → stage ≡ stage_of p es a → one_if (is_copied stage) ≡ one_if (nat_lt 0 (address_or_nil (target stage)))
+    copied-stage : (a : ℕ) (stage : Stage) → stage ≡ stage_of p es a → one_if (is_stage_copied stage) ≡ one_if (nat_lt 0 (address_or_nil (target stage)))
     copied-stage a Unclaimed is = refl
     copied-stage a (Copying t k) is = absurd (let wrong : Copying t k ≡ Scanning t _ = is ∙ finished.objects a t (sym (ap target is)) in cc)
     copied-stage a (Scanning t k) is =
@@ -131,7 +131,7 @@ module _ (start : TraceStart) (w : PacketTrace) (full : IsFullTrace start w) whe
         sym (ap one_if (lt-ltb 0 t (omega (arith, some, at))))
 
     pub copied-image : (a : ℕ) → times a v.copied ≡ one_if (nat_lt 0 (F a))
-    copied-image a = tracks.holds.copied a ∙ ap (λ o. one_if (not o && is_copied (stage_of p es a))) (none-old a) ∙ copied-stage a (stage_of p es a) refl
+    copied-image a = tracks.holds.copied a ∙ ap (λ o. one_if (not o && is_stage_copied (stage_of p es a))) (none-old a) ∙ copied-stage a (stage_of p es a) refl
 
     -- the counts are those of the map
     pub kept-is : w.tally.kept ≡ total s.blocks (λ a. one_if (nat_lt 0 (F a)))
@@ -162,7 +162,7 @@ module _ (start : TraceStart) (w : PacketTrace) (full : IsFullTrace start w) whe
         omega (arith, kept-is, moved-is, sum, parts)
 
     -- if the run marks lines, those of each target are marked
-    pub marks-lines : IsTrue start.run.lines → MarksTargets p es
+    pub marks-lines : IsTrue start.run.lines → LinesOfTargetsAreMarked p es
     marks-lines on = record {
       clear = λ k line there few. begun-lines s start.run start.heap.lawful.but_lines on no-nursery k line (subst (λ b. k < b) (numbered s start.run 1 full.may p refl).blocks there) few;
       all = λ x t n is few touches.
@@ -186,10 +186,10 @@ module _ (start : TraceStart) (w : PacketTrace) (full : IsFullTrace start w) whe
         omega (arith, equal, none, one, part)
 
 -- what the blocks' release makes of a finished trace
-module _ (q : Plan) (r : Rules) (of : r ≡ rules_of q) (start : TraceStart) (w : PacketTrace) (full : IsFullTrace start w) (told : IsRunUnder r start.run.collect (heap_state start.heap) start.run)
+module _ (q : Plan) (r : Rules) (of : r ≡ rules_of q) (start : TracingStart) (w : PacketTracer) (full : IsFullTracer start w) (shown : IsRunUnder r start.run.collect (heap_state start.heap) start.run)
     (traced : Traced) (runs : traced.run ≡ w.tracer.run) (is : IsTraced (p start w full) (es start w full) (v start w full) traced) (finished : IsFinished (p start w full) (m start w full))
     (heap : Heap) (new : HeapState) (below : ReleasesBelow r traced.run.collect traced.run.base (state_of traced.row) new traced.row.layout.blocks)
-    (after : heap_state heap ≡ heap_with new traced.run.number traced.run.base) where
+    (after : heap_state heap ≡ with_numbers new traced.run.number traced.run.base) where
   abbrev h : HeapState
   h = heap_state start.heap
 
@@ -206,8 +206,8 @@ module _ (q : Plan) (r : Rules) (of : r ≡ rules_of q) (start : TraceStart) (w 
       (subst (λ (t : TraceRun). ReleasesBelow (rules_of q) t.collect t.base (state_of traced.row) new traced.row.layout.blocks) same-run
       (subst (λ r. ReleasesBelow r traced.run.collect traced.run.base (state_of traced.row) new traced.row.layout.blocks) of below)))
 
-  collected : CollectsBy (F start w full) (rules_of q) 1 start.run.collect h start.roots.items (heap_with new start.run.number start.run.base) (map (F start w full) start.roots.items)
-  collected = makes q start.run.collect h start.run 1 start.heap.lawful full.may (subst (λ r. IsRunUnder r start.run.collect h start.run) of told) (p start w full) refl (es start w full)
+  collected : CollectsBy (F start w full) (rules_of q) 1 start.run.collect h start.roots.items (with_numbers new start.run.number start.run.base) (map (F start w full) start.roots.items)
+  collected = makes q start.run.collect h start.run 1 start.heap.lawful full.may (subst (λ r. IsRunUnder r start.run.collect h start.run) of shown) (p start w full) refl (es start w full)
       start.roots.items new (tracks start w full).trace finished (asked start w full) (no-others start w full) (fills start w full traced is) released
 
   nil : F start w full 0 ≡ 0
@@ -215,8 +215,8 @@ module _ (q : Plan) (r : Rules) (of : r ≡ rules_of q) (start : TraceStart) (w 
 
   made : CollectsBy (F start w full) r 1 start.run.collect h start.roots.items (heap_state heap) w.roots.items
   made = subst (λ l. CollectsBy (F start w full) r 1 start.run.collect h start.roots.items (heap_state heap) l) (sym (roots-are start w full finished nil))
-      (subst (λ x. CollectsBy (F start w full) r 1 start.run.collect h start.roots.items x (map (F start w full) start.roots.items)) (sym (after ∙ ap (λ (t : TraceRun). heap_with new t.number t.base) same-run))
-      (subst (λ r. CollectsBy (F start w full) r 1 start.run.collect h start.roots.items (heap_with new start.run.number start.run.base) (map (F start w full) start.roots.items)) (sym of) collected))
+      (subst (λ x. CollectsBy (F start w full) r 1 start.run.collect h start.roots.items x (map (F start w full) start.roots.items)) (sym (after ∙ ap (λ (t : TraceRun). with_numbers new t.number t.base) same-run))
+      (subst (λ r. CollectsBy (F start w full) r 1 start.run.collect h start.roots.items (with_numbers new start.run.number start.run.base) (map (F start w full) start.roots.items)) (sym of) collected))
 
   pub finishes : (note : Note) → note.collect ≡ traced.run.collect → note.kept ≡ w.tally.kept → note.moved ≡ w.tally.moved → note.in_place ≡ w.tally.kept - w.tally.moved
       → note.kept_words ≡ w.tally.words → note.free_blocks ≡ block_count (heap_state heap) (λ k. has_kind (heap_state heap) k kinds.Free)
@@ -231,6 +231,6 @@ module _ (q : Plan) (r : Rules) (of : r ≡ rules_of q) (start : TraceStart) (w 
       words = words ∙ words-is start w full finished;
       free = free;
     }),
-    subst (FillsInTurn h) (sym made.1) (turns q start.run.collect h start.run 1 start.heap.lawful full.may (subst (λ r. IsRunUnder r start.run.collect h start.run) of told) (p start w full) refl
+    subst (FillsInTurn h) (sym made.1) (turns q start.run.collect h start.run 1 start.heap.lawful full.may (subst (λ r. IsRunUnder r start.run.collect h start.run) of shown) (p start w full) refl
         (es start w full) (v start w full) (tracks start w full).trace finished is.holds (subst (λ l. AreLeft (p start w full) (m start w full) l (v start w full).blocks) full.awaited.sparse is.left) is.lowest),
   )

@@ -20,7 +20,7 @@ use Rattle.trace_core.proofs.Counting.{count-cons, count-append, times-cons}
 use Rattle.trace_core.proofs.Begun.{held-begun}
 use Rattle.collector.specs.declared.item.Item.{Item}
 use Rattle.collector.specs.declared.item.Item.TheVariants.{Register, Global}
-use Rattle.collector.specs.declared.packet_trace.PacketTrace.{PacketTrace}
+use Rattle.collector.specs.declared.packet_tracer.PacketTracer.{PacketTracer}
 use Rattle.collector.specs.declared.tally.Tally.{Tally}
 use Rattle.collector.specs.Items.{registers, globals, objects, tokens_of, is_register, is_global, is_object}
 use Rattle.collector.specs.Serving.{HasRights}
@@ -142,7 +142,7 @@ module _ (s : HeapState) (run : TraceRun) (roots : List ℕ) (lawful : IsLawfulB
 
   pub first-rights : HasRights (setup_of s run 1) (first_view run) roots items
   first-rights = record {
-    idle = refl;
+    none_won = refl;
     tokens = subst (λ l. All (IsGrey (setup_of s run 1) (first_view run)) l) (sym (no-tokens (range_with_len 0 (length roots)) tokens)) (All-nil (IsGrey (setup_of s run 1) (first_view run)));
     objects_once = λ x. (let none : objects x items ≡ 0 = first-objects (length roots) tokens every x in omega (arith, none));
     globals_once = λ g. (let same : globals g items ≡ times g (range_with_len 0 16) = first-globals (length roots) tokens every g in omega (arith, same));
@@ -167,7 +167,7 @@ first-tally s F tally kept moved words = record {
 }
 
 pub first-awaited : (s : HeapState) (run : TraceRun) (roots : List ℕ) → IsLawfulButLines s → AreRoots s roots → (tokens : List GlobalRoot)
-    → map (λ (token : GlobalRoot). token.global) tokens ≡ range_with_len 0 16 → (w : PacketTrace) → Tracks (setup_of s run 1) [] w.tracer (first_view run)
+    → map (λ (token : GlobalRoot). token.global) tokens ≡ range_with_len 0 16 → (w : PacketTracer) → Tracks (setup_of s run 1) [] w.tracer (first_view run)
     → w.tracer.run ≡ run → w.roots.items ≡ roots → w.won.items ≡ [] → w.tally.kept ≡ 0 → w.tally.moved ≡ 0 → w.tally.words ≡ 0
     → IsAwaited s run roots w (starting_items (length roots) tokens)
 first-awaited s run roots lawful held tokens every w tracks runs same none kept moved words = record {

@@ -14,7 +14,7 @@ use Rattle.forward_word.specs.CollectorWords.{is_old_word}
 use Rattle.sessions.specs.Plans.{Rules, Plan, rules_of}
 use Rattle.sessions.specs.Collecting as collecting
 use Rattle.sessions.specs.Collecting.{is_evacuated}
-use Rattle.trace_core.specs.Setups.{Setup, blocks, size, may_move}
+use Rattle.trace_core.specs.Setups.{Setup, blocks, size, may_be_moved}
 use Rattle.trace_core.specs.Runs.{is_nursery}
 use Rattle.collector.proofs.Spans.{address-block}
 use Rattle.collector.proofs.EvacuatedKinds.{moves-evacuated}
@@ -68,7 +68,7 @@ by-flag false from x y is = ap (λ z. z && x && y) is
 by-flag true from x y is = refl
 
 pub moves-given : {q : Plan} {c : Collect} {p : Setup} {u : List ℕ} → (under : IsSetupUnder q c p u) → (a : ℕ) → IsHeld p.before a
-    → may_move p a ≡ collecting.may_move (rules_of q) c (with_words p.before u) a
+    → may_be_moved p a ≡ collecting.may_move (rules_of q) c (with_words p.before u) a
 moves-given {q} {c} {p} {u} under a there =
     let r : Rules = rules_of q in
     let old : HeapState = with_words p.before u in

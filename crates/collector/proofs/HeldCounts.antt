@@ -12,7 +12,7 @@ use Rattle.heap_layout.specs.declared.block.Kind.TheVariants as kinds
 use Rattle.object_model.specs.declared.collect.Collect.{Collect}
 use Rattle.object_model.proofs.Counts.{counted}
 use Rattle.collector.specs.declared.outcome.Note.{Note}
-use Rattle.collector.specs.Tallies.{total, in_place, IsNote}
+use Rattle.collector.specs.Tallies.{total, stays_in_place, IsNote}
 
 abbrev pub held_at : HeapState → ℕ → ℕ
 held_at s a = one_if (is_start s a)
@@ -84,8 +84,8 @@ not-nil s a set = elim (cases_lt a (heap_of s.blocks)) as (λ _. 0 < a) [
   | inr from ↦ omega (arith, from)
 ]
 
-stays : (s : HeapState) (P : Bool → ℕ → Type 0) (a : ℕ) → (0 < a → P true a) → P false 0 → P (is_start s a) (in_place s a)
-stays s P a set clear = elim (cases_Bool (is_start s a)) as (λ _. P (is_start s a) (in_place s a)) [
+stays : (s : HeapState) (P : Bool → ℕ → Type 0) (a : ℕ) → (0 < a → P true a) → P false 0 → P (is_start s a) (stays_in_place s a)
+stays s P a set clear = elim (cases_Bool (is_start s a)) as (λ _. P (is_start s a) (stays_in_place s a)) [
   | inl is ↦ subst (λ (b : Bool). P b (if b then a else 0)) (sym is) (set (not-nil s a is))
   | inr none ↦ subst (λ (b : Bool). P b (if b then a else 0)) (sym none) clear
 ]
@@ -93,7 +93,7 @@ stays s P a set clear = elim (cases_Bool (is_start s a)) as (λ _. P (is_start s
 pub note-counted : (c : Collect) (s new : HeapState) (note : Note) (n m : ℕ) → new ≡ counted s
     → n ≡ total s.blocks (held_at s) → m ≡ total s.blocks (words_at s)
     → note.collect ≡ c → note.kept ≡ n → note.moved ≡ 0 → note.in_place ≡ n → note.kept_words ≡ m
-    → note.free_blocks ≡ block_count s (λ k. has_kind s k kinds.Free) → IsNote c s (in_place s) new note
+    → note.free_blocks ≡ block_count s (λ k. has_kind s k kinds.Free) → IsNote c s (stays_in_place s) new note
 note-counted c s new note n m is objects words of kept moved left size free = record {
   collect = of;
   kept = kept ∙ objects ∙ total-same s.blocks _ _ (λ a. stays s (λ (b : Bool) (t : ℕ). one_if b ≡ one_if (nat_lt 0 t)) a

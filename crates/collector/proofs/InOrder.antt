@@ -10,8 +10,8 @@ use Rattle.block_sweeps.specs.Sweeping.{IsOfSpan}
 use Rattle.sessions.specs.Plans.{Rules}
 use Rattle.trace_core.specs.Setups.{Setup, blocks}
 use Rattle.trace_core.specs.Machine.{Event}
-use Rattle.trace_core.specs.Traces.{IsTrace, IsFinished, machine_after, heap_after}
-use Rattle.trace_core.specs.Outcomes.{base_after}
+use Rattle.trace_core.specs.Traces.{IsTracing, IsFinished, machine_after, heap_after}
+use Rattle.trace_core.specs.Outcomes.{base_after_trace}
 use Rattle.trace_core.proofs.Releasable.{releasable}
 use Rattle.collector.specs.Released.{ReleasesBelow, none, one_more, AreReleased}
 use Rattle.collector.proofs.Metadata.{SameReads}
@@ -72,13 +72,13 @@ module _ (r : Rules) (c : Collect) (base : ℕ) (s : HeapState) (ready : (k : �
       | inr apart ↦ releasable-after s mid ready below.rest n (apart-reads apart) (ready n there)
     ]
 
-pub next : (p : Setup) (es : List Event) (r : Rules) (c : Collect) (mid : HeapState) (n : ℕ) → IsTrace p es → IsFinished p (machine_after p es)
-    → ReleasesBelow r c (base_after p) (heap_after p es) mid n → n < blocks p → IsReleasable mid n
+pub next : (p : Setup) (es : List Event) (r : Rules) (c : Collect) (mid : HeapState) (n : ℕ) → IsTracing p es → IsFinished p (machine_after p es)
+    → ReleasesBelow r c (base_after_trace p) (heap_after p es) mid n → n < blocks p → IsReleasable mid n
 next p es r c mid n trace finished below there =
-    let now : IsReleasedBelow r c (base_after p) (heap_after p es) mid n = released-below r c (base_after p) (heap_after p es) (releasable p es trace finished) mid n below in next-releasable r c (base_after p) (heap_after p es) (releasable p es trace finished) mid n there now
+    let now : IsReleasedBelow r c (base_after_trace p) (heap_after p es) mid n = released-below r c (base_after_trace p) (heap_after p es) (releasable p es trace finished) mid n below in next-releasable r c (base_after_trace p) (heap_after p es) (releasable p es trace finished) mid n there now
 
-pub released : (p : Setup) (es : List Event) (r : Rules) (c : Collect) (mid : HeapState) (n : ℕ) → IsTrace p es → IsFinished p (machine_after p es)
-    → ReleasesBelow r c (base_after p) (heap_after p es) mid n → AreReleased r c (base_after p) (heap_after p es) mid n
+pub released : (p : Setup) (es : List Event) (r : Rules) (c : Collect) (mid : HeapState) (n : ℕ) → IsTracing p es → IsFinished p (machine_after p es)
+    → ReleasesBelow r c (base_after_trace p) (heap_after p es) mid n → AreReleased r c (base_after_trace p) (heap_after p es) mid n
 released p es r c mid n trace finished below =
-    let now : IsReleasedBelow r c (base_after p) (heap_after p es) mid n = released-below r c (base_after p) (heap_after p es) (releasable p es trace finished) mid n below in
+    let now : IsReleasedBelow r c (base_after_trace p) (heap_after p es) mid n = released-below r c (base_after_trace p) (heap_after p es) (releasable p es trace finished) mid n below in
     record { blocks = now.rest.blocks; extent = now.extent; each = now.each; others = now.rest.others; fit = now.fit }

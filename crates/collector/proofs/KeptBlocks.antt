@@ -9,7 +9,7 @@ use Rattle.object_model.specs.declared.collect.Collect.TheVariants.{Full, Nurser
 use Rattle.object_model.specs.Objects.{HeapState, block_word, has_kind, HasKind}
 use Rattle.object_model.proofs.OneKind.{kind-code}
 use Rattle.sessions.specs.Plans.{Rules, Reserve, Nothing, Copies, Headroom}
-use Rattle.sessions.specs.Collecting.{is_copied, is_candidate, is_recyclable, marked_in, is_evacuated_by}
+use Rattle.sessions.specs.Collecting.{is_copied_out, is_candidate, is_recyclable, marked_in, is_evacuated_by}
 use Rattle.plan_api.specs.Releasing.{is_kept_kind, is_kept_after, word_after}
 
 -- the test by whether the block is one of the heap's, and the code of its kind
@@ -33,7 +33,7 @@ module _ (r : Rules) (s t : HeapState) (k : ℕ) (blocks : t.blocks ≡ s.blocks
   kept_kind-same : is_kept_kind t k ≡ is_kept_kind s k
   kept_kind-same = ap₂ (λ b w. is_kept_code (nat_lt k b) (w % 256)) blocks word
 
-  copied-same : (c : Collect) → is_copied r c t k ≡ is_copied r c s k
+  copied-same : (c : Collect) → is_copied_out r c t k ≡ is_copied_out r c s k
   copied-same Full = ap₂ (λ x y. x || y) (ap₂ (λ x y. x || y) (kind-same r.fill) (kind-same r.copy)) (kind-same kinds.Kept)
   copied-same Nursery = ap (λ filled. r.young && filled) (kind-same r.fill)
 

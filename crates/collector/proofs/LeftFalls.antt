@@ -5,10 +5,10 @@ use Rattle.heap_layout.specs.Zones.{row_words}
 use Rattle.forward_word.specs.CollectorWords.{collector_word, number_in}
 use Rattle.object_model.specs.Objects.{HeapState, state_of, word_at, is_start, IsHeld, number_at}
 use Rattle.object_model.proofs.Marks as marks
-use Rattle.trace_core.specs.Setups.{Setup, blocks, collection, held, is_old}
+use Rattle.trace_core.specs.Setups.{Setup, blocks, collection, held, stays_old}
 use Rattle.trace_core.specs.Machine.{Stage, Unclaimed, Copying, Scanning, target, Event, claimed_word}
-use Rattle.trace_core.specs.Traces.{IsTrace, machine_after, heap_after, stage_of, target_of}
-use Rattle.trace_core.specs.Views.{View, Holds, one_if, hits, times, is_copying, is_copied}
+use Rattle.trace_core.specs.Traces.{IsTracing, machine_after, heap_after, stage_of, target_of}
+use Rattle.trace_core.specs.Views.{View, Holds, one_if, hits, times, is_copying, is_stage_copied}
 use Rattle.plain_tracer.specs.Tracers.{Tracks}
 use Rattle.plain_tracer.specs.declared.plain_trace.PlainTrace.{PlainTrace}
 use Rattle.trace_core.proofs.Clauses.{held-of, targets-inside, collector, unclaimed, whole, starts-from, starts-kept, old-target}
@@ -18,7 +18,7 @@ use Rattle.collector.specs.Tallies.{total}
 use Rattle.collector.proofs.TallySums.{total-same, total-both}
 use Rattle.plain_tracer.proofs.TracedObjects.{copied-held}
 
-module _ (p : Setup) (es : List Event) (trace : IsTrace p es) (v : View) (holds : Holds p (machine_after p es) v) (idle : v.won ≡ []) where
+module _ (p : Setup) (es : List Event) (trace : IsTracing p es) (v : View) (holds : Holds p (machine_after p es) v) (idle : v.won ≡ []) where
   abbrev now : HeapState
   now = heap_after p es
 
@@ -35,12 +35,12 @@ module _ (p : Setup) (es : List Event) (trace : IsTrace p es) (v : View) (holds 
       (not_from_true (nat_eq (number_at now a) (collection p)) (eq-eqb (number_at now a) (collection p) e)))
 
   -- the number that a claim wrote
-  claimed-number : (x t word : ℕ) → target_of p es x ≡ Some t → is_old p x ≡ false → word ≡ claimed_word p x t → number_in word ≡ collection p
+  claimed-number : (x t word : ℕ) → target_of p es x ≡ Some t → stays_old p x ≡ false → word ≡ claimed_word p x t → number_in word ≡ collection p
   claimed-number x t word is young written =
       let most : p.before.blocks ≤ 1024 = trace.ready.lawful.order.row.most in
       let inside = targets-inside p es trace x t t is (record { from = omega arith; below = omega arith }) in
       let below : t < row_words (blocks p) = inside.below in
-      (parts-of (collection p) t word (omega arith) (written ∙ cond-false (is_old p x) (word_at p.before (x + 2)) (collector_word (collection p) t) young)).0
+      (parts-of (collection p) t word (omega arith) (written ∙ cond-false (stays_old p x) (word_at p.before (x + 2)) (collector_word (collection p) t) young)).0
 
   -- the number that an object had before is no number of the collection
   past : (a : ℕ) → IsHeld p.before a → word_at now (a + 2) ≡ word_at p.before (a + 2) → number_at now a ≢ collection p
@@ -56,27 +56,27 @@ module _ (p : Setup) (es : List Event) (trace : IsTrace p es) (v : View) (holds 
       start-now : is_start now a ≡ true
       start-now = (starts-kept p es trace a there).start
 
-      young-by : (st : Stage) → stage_of p es a ≡ st → is_old p a ≡ false → Counted 1
+      young-by : (st : Stage) → stage_of p es a ≡ st → stays_old p a ≡ false → Counted 1
       young-by Unclaimed is young =
           let waiting : one_if (waits a) ≡ 1 = waits-unless a start-now (past a there (unclaimed p es trace a there (ap target is))) in
-          let none : times a v.copied ≡ 0 = holds.copied a ∙ ap one_if (and_right (not (is_old p a)) (is_copied (stage_of p es a)) (ap is_copied is)) in omega arith
+          let none : times a v.copied ≡ 0 = holds.copied a ∙ ap one_if (and_right (not (stays_old p a)) (is_stage_copied (stage_of p es a)) (ap is_stage_copied is)) in omega arith
       young-by (Copying t k) is young =
           let none : hits a k v.won ≡ 0 = ap (hits a k) idle in
           let one : hits a k v.won ≡ 1 = holds.won a k ∙ ap (λ z. one_if (is_copying k z)) is ∙ ap one_if (eq-eqb k k refl) in absurd (omega arith)
       young-by (Scanning t k) is young =
           let claimed : one_if (waits a) ≡ 0 = claimed-waits a (claimed-number a t (word_at now (a + 2)) (ap target is) young (collector p es trace a t (ap target is))) in
-          let one : times a v.copied ≡ 1 = holds.copied a ∙ ap one_if (and_from (not (is_old p a)) (is_copied (stage_of p es a)) (not_from_false (is_old p a) young) (ap is_copied is)) in omega arith
+          let one : times a v.copied ≡ 1 = holds.copied a ∙ ap one_if (and_from (not (stays_old p a)) (is_stage_copied (stage_of p es a)) (not_from_false (stays_old p a) young) (ap is_stage_copied is)) in omega arith
 
       of-held : Counted 1
-      of-held = elim (cases_Bool (is_old p a)) as (λ _. Counted 1) [
+      of-held = elim (cases_Bool (stays_old p a)) as (λ _. Counted 1) [
         | inl aged ↦ (let same : word_at now (a + 2) ≡ word_at p.before (a + 2) = old-word aged in
             let waiting : one_if (waits a) ≡ 1 = waits-unless a start-now (past a there same) in
-            let none : times a v.copied ≡ 0 = holds.copied a ∙ ap (λ b. one_if (not b && is_copied (stage_of p es a))) aged in omega arith)
+            let none : times a v.copied ≡ 0 = holds.copied a ∙ ap (λ b. one_if (not b && is_stage_copied (stage_of p es a))) aged in omega arith)
         | inr young ↦ young-by (stage_of p es a) refl young
       ]
         where
-          old-word : IsTrue (is_old p a) → word_at now (a + 2) ≡ word_at p.before (a + 2)
-          old-word aged = collector p es trace a a (old-target p es trace a aged) ∙ cond-true (is_old p a) (word_at p.before (a + 2)) (collector_word (collection p) a) aged
+          old-word : IsTrue (stays_old p a) → word_at now (a + 2) ≡ word_at p.before (a + 2)
+          old-word aged = collector p es trace a a (old-target p es trace a aged) ∙ cond-true (stays_old p a) (word_at p.before (a + 2)) (collector_word (collection p) a) aged
 
     module _ (none : held p a ≡ false) where
       not-held : IsTrue (held p a) → ⊥
@@ -90,7 +90,7 @@ module _ (p : Setup) (es : List Event) (trace : IsTrace p es) (v : View) (holds 
 
       -- what begins here now is a copy
       copy-here : (x k : ℕ) → stage_of p es x ≡ Scanning a k → one_if (waits a) ≡ 0
-      copy-here x k is = elim (cases_Bool (is_old p x)) as (λ _. one_if (waits a) ≡ 0) [
+      copy-here x k is = elim (cases_Bool (stays_old p x)) as (λ _. one_if (waits a) ≡ 0) [
         | inl aged ↦ absurd (let same : Some a ≡ Some x = sym (ap target is) ∙ old-target p es trace x aged in
             not-held (subst (λ y. IsTrue (held p y)) (let e : x ≡ a = cc in e) (held-of p es trace x a (ap target is))))
         | inr young ↦ claimed-waits a (claimed-number x a (word_at now (a + 2)) (ap target is) young (whole p es trace x a k 2 is (omega arith) (inl (omega arith))))

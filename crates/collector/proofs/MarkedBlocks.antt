@@ -1,11 +1,11 @@
--- The release of a block of cells or lines whose bits tell what lives in it.
+-- The release of a block of cells or lines whose bits show what lives in it.
 use Rattle.std.proofs.Common.{◌≡◌, refl, sym, ◌∙◌, ap, ℕ, ◌+◌, ◌*◌, ◌-◌, ◌<◌, ◌≤◌, ◌/◌, ◌%◌, ◌⊎◌, inl, inr, arith, Bool, true, false, true≢false, ◌&&◌, IsTrue, nat_eq, nat_le, bit_and, List, length, slice_index, if◌then◌else◌, subst}
 use Rattle.std.specs.Int.Bits.{and_self}
 use Rattle.std.proofs.Math.Logic.{∥∥₁_elim}
 use Rattle.std.proofs.lemmas.Bool.{cases_Bool, and_parts, and_from, and_right}
 use Rattle.forward_word.specs.CollectorWords.{number_in, target_in}
 use Rattle.heap_layout.specs.Zones.{StartBits, PinBits, UnlogBits, BlockWords, first, row_words, IsAddress}
-use Rattle.heap_layout.specs.Blocks.{kind_code, code_of, IsValid}
+use Rattle.heap_layout.specs.Blocks.{kind_code, code_of, IsValidWord}
 use Rattle.heap_layout.specs.declared.block.Kind.{Kind}
 use Rattle.heap_layout.specs.declared.block.Kind.TheVariants as kinds
 use Rattle.heap_layout.specs.declared.block.BlockWord.{BlockWord}
@@ -28,9 +28,9 @@ use Rattle.sessions.specs.Plans.{Rules}
 use Rattle.plan_api.specs.Releasing.{Releases, word_after, is_kept_after}
 use Rattle.plan_api.proofs.EvacuationLaws.{not-kept, other-kind}
 use Rattle.plan_api.proofs.ReleasedBlocks as blocks
-use Rattle.collector.specs.Released.{MarksTell, MarksTellIn, LivesOnLine, LinesTell}
+use Rattle.collector.specs.Released.{UnlogBitsMarkSurvivors, UnlogWordMarksSurvivors, LivesOnLine, LineBitsMarkSurvivors}
 use Rattle.collector.proofs.Metadata.{heap-word}
-use Rattle.collector.proofs.MovedBlocks.{kind-told, unowned-code}
+use Rattle.collector.proofs.MovedBlocks.{kind-shown, unowned-code}
 
 both-ways : (x y : Bool) → (IsTrue x → IsTrue y) → (IsTrue y → IsTrue x) → x ≡ y
 both-ways true true to from = refl
@@ -38,11 +38,11 @@ both-ways true false to from = sym (to refl)
 both-ways false true to from = from refl
 both-ways false false to from = refl
 
--- the words of a block whose unlog bits tell what lives in it
-module _ (base k i : ℕ) (s : HeapState) (long : length s.words ≡ row_words s.blocks) (there : k < s.blocks) (may : IsReleasable s k) (tells : MarksTell base s k)
+-- the words of a block whose unlog bits show what lives in it
+module _ (base k i : ℕ) (s : HeapState) (long : length s.words ≡ row_words s.blocks) (there : k < s.blocks) (may : IsReleasable s k) (shows : UnlogBitsMarkSurvivors base s k)
     (from : 64 * k ≤ i) (below : i < 64 * k + 64) where
-  word-tells : MarksTellIn base s i
-  word-tells j small =
+  word-shows : UnlogWordMarksSurvivors base s i
+  word-shows j small =
       let a : ℕ = address_of s i j in
       let at : IsAddress s.blocks a = record { from = omega arith; below = omega arith } in
       let here : InBlock s k a = record { address = at; block = omega arith } in
@@ -51,9 +51,9 @@ module _ (base k i : ℕ) (s : HeapState) (long : length s.words ≡ row_words s
       let held : IsTrue (has_bit (start_word s i) j) → IsHeld s a = λ set. record { address = at; start = start ∙ set } in
       both-ways (has_bit (unlog_word s i) j) (has_bit (start_word s i) j && is_survivor s base a)
       (λ set. let begins = (may-sweep s k i long there may from below).unlogs j small set in
-      and_from (has_bit (start_word s i) j) (is_survivor s base a) begins ((tells a here (held begins)).1 (unlog ∙ set)).survives)
+      and_from (has_bit (start_word s i) j) (is_survivor s base a) begins ((shows a here (held begins)).1 (unlog ∙ set)).survives)
       (λ both. let parts = and_parts (has_bit (start_word s i) j) (is_survivor s base a) both in
-      sym unlog ∙ (tells a here (held parts.0)).0 (record { held = held parts.0; survives = parts.1 }))
+      sym unlog ∙ (shows a here (held parts.0)).0 (record { held = held parts.0; survives = parts.1 }))
 
 -- the words before were swept
 module _ (base from index : ℕ) (s : HeapState) (ws : List ℕ) (rising : from ≤ index) (inside : index < 64 * s.blocks)
@@ -61,19 +61,19 @@ module _ (base from index : ℕ) (s : HeapState) (ws : List ℕ) (rising : from 
   apart : IsAmong from (index - from) index → ⊥
   apart among = let below = among.below in omega arith
 
-  word-later : MarksTellIn base s index → MarksTellIn base (with_words s ws) index
-  word-later tells j small =
+  word-later : UnlogWordMarksSurvivors base s index → UnlogWordMarksSurvivors base (with_words s ws) index
+  word-later shows j small =
       let a : ℕ = address_of s index j in
       ap (λ v. has_bit v j) (unlog-same s ws from (index - from) swept.rest (omega arith) index inside apart)
-      ∙ tells j small
+      ∙ shows j small
       ∙ ap (λ v. has_bit v j && is_survivor s base a) (sym (start-same s ws from (index - from) swept.rest (omega arith) index inside apart))
       ∙ ap (λ w. has_bit (start_word (with_words s ws) index) j && (nat_le base (number_in w) && nat_eq (target_in w) a))
       (sym (heap-same s ws from (index - from) swept.rest (omega arith) (a + 2) (omega arith)))
 
 -- one word of start bits became that of unlog bits
-module _ (base i : ℕ) (s : HeapState) (may : MaySweep s i) (tells : MarksTellIn base s i) where
+module _ (base i : ℕ) (s : HeapState) (may : MaySweep s i) (shows : UnlogWordMarksSurvivors base s i) where
   pub word-stays : unlog_word s i ≡ start_word s i → SweepsWords base i 1 s s
-  word-stays same = all-live base i s may (λ j small. ap (λ v. has_bit v j) (sym same) ∙ tells j small)
+  word-stays same = all-live base i s may (λ j small. ap (λ v. has_bit v j) (sym same) ∙ shows j small)
 
   module _ (ws ws' : List ℕ) (start : Stores s.words ws (first s.blocks StartBits + i) (unlog_word s i))
       (pin : Stores ws ws' (first s.blocks PinBits + i) (bit_and (slice_index ws (first s.blocks PinBits + i)) (unlog_word s i))) where
@@ -91,17 +91,17 @@ module _ (base i : ℕ) (s : HeapState) (may : MaySweep s i) (tells : MarksTellI
     }
 
     pub word-falls : SweepsWords base i 1 s (with_words s ws')
-    word-falls = some-die base i (unlog_word s i) s may ws ws' ws' tells start pin unlog-stays
+    word-falls = some-die base i (unlog_word s i) s may ws ws' ws' shows start pin unlog-stays
 
 -- one word more of block k
 module _ (base k index : ℕ) (s : HeapState) (ws ws' : List ℕ) (long : length s.words ≡ row_words s.blocks) (there : k < s.blocks) (may : IsReleasable s k)
-    (tells : MarksTell base s k) (from : 64 * k ≤ index) (below : index < 64 * k + 64) (swept : SweepsWords base (64 * k) (index - 64 * k) s (with_words s ws)) where
+    (shows : UnlogBitsMarkSurvivors base s k) (from : 64 * k ≤ index) (below : index < 64 * k + 64) (swept : SweepsWords base (64 * k) (index - 64 * k) s (with_words s ws)) where
   pub may-mark : MaySweep (with_words s ws) index
   may-mark = may-next base (64 * k) index s ws from (omega arith) swept (may-sweep s k index long there may from below)
 
-  pub marked-next : (MarksTellIn base (with_words s ws) index → SweepsWords base index 1 (with_words s ws) (with_words s ws')) → SweepsWords base (64 * k) (index + 1 - 64 * k) s (with_words s ws')
+  pub marked-next : (UnlogWordMarksSurvivors base (with_words s ws) index → SweepsWords base index 1 (with_words s ws) (with_words s ws')) → SweepsWords base (64 * k) (index + 1 - 64 * k) s (with_words s ws')
   marked-next more = swept-next base (64 * k) index s ws ws' from (omega arith) swept
-      (more (word-later base (64 * k) index s ws from (omega arith) swept (word-tells base k index s long there may tells from below)))
+      (more (word-later base (64 * k) index s ws from (omega arith) swept (word-shows base k index s long there may shows from below)))
 
 -- nothing was swept yet
 pub marked-first : (base from : ℕ) (s : HeapState) → SweepsWords base from 0 s s
@@ -113,8 +113,8 @@ marked-first base from s = record {
 }
 
 -- a block of cells has no lines
-pub no-lines : (base : ℕ) (s : HeapState) (k : ℕ) (w : BlockWord) → IsValid w → code_of w ≡ block_word s k → w.kind ≡ kinds.Cells → LinesTell base s k
-no-lines base s k w valid code cells immix = absurd (let wrong : kinds.Cells ≡ kinds.Immix = sym cells ∙ kind-told s k kinds.Immix w valid code immix in cc)
+pub no-lines : (base : ℕ) (s : HeapState) (k : ℕ) (w : BlockWord) → IsValidWord w → code_of w ≡ block_word s k → w.kind ≡ kinds.Cells → LineBitsMarkSurvivors base s k
+no-lines base s k w valid code cells immix = absurd (let wrong : kinds.Cells ≡ kinds.Immix = sym cells ∙ kind-shown s k kinds.Immix w valid code immix in cc)
 
 -- Block k has cells or lines, and of its start bits those with an unlog bit were left.
 module _ (r : Rules) (c : Collect) (l : Layout) (base k : ℕ) (old mid new : List ℕ) (w : BlockWord) where
@@ -124,7 +124,7 @@ module _ (r : Rules) (c : Collect) (l : Layout) (base k : ℕ) (old mid new : Li
   abbrev m : HeapState
   m = state_over mid l 0 0
 
-  module _ (there : k < l.blocks) (valid : IsValid w) (code : code_of w ≡ block_word s k) (kind : (w.kind ≡ kinds.Cells) ⊎ (w.kind ≡ kinds.Immix)) (tells : MarksTell base s k) (lines : LinesTell base s k)
+  module _ (there : k < l.blocks) (valid : IsValidWord w) (code : code_of w ≡ block_word s k) (kind : (w.kind ≡ kinds.Cells) ⊎ (w.kind ≡ kinds.Immix)) (shows : UnlogBitsMarkSurvivors base s k) (lines : LineBitsMarkSurvivors base s k)
       (swept : SweepsWords base (64 * k) 64 s m) where
     objects : KeepsLiving base (InBlock s k) s m
     objects = keeps-living base k s mid there swept
@@ -134,7 +134,7 @@ module _ (r : Rules) (c : Collect) (l : Layout) (base k : ℕ) (old mid new : Li
     one-of-two kind' (inr immix) same differ differ' = true≢false (ap (λ d. nat_eq (kind_code kinds.Immix) (kind_code d)) (sym immix ∙ same) ∙ differ')
 
     other : (kind' : Kind) → nat_eq (kind_code kinds.Cells) (kind_code kind') ≡ false → nat_eq (kind_code kinds.Immix) (kind_code kind') ≡ false → HasKind s k kind' → ⊥
-    other kind' differ differ' is = one-of-two kind' kind (kind-told s k kind' w valid code is) differ differ'
+    other kind' differ differ' is = one-of-two kind' kind (kind-shown s k kind' w valid code is) differ differ'
 
     pub freed : ((a : ℕ) → InBlock m k a → IsHeld m a → ⊥) → Frees m (state_over new l 0 0) k → Releases r c base s (state_over new l 0 0) k
     freed none frees =
@@ -180,7 +180,7 @@ module _ (r : Rules) (c : Collect) (l : Layout) (base k : ℕ) (old mid new : Li
           sweep.objects.unlogs x before ∙ elim (cases_Bool (is_start (state_over new l 0 0) x)) as (λ _. (is_unlogged s x && is_start (state_over new l 0 0) x) ≡ is_start (state_over new l 0 0) x) [
             | inl set ↦
                 let living = (sweep.objects.held x before).0 (record { address = at.address; start = set }) in
-                and_from (is_unlogged s x) (is_start (state_over new l 0 0) x) ((tells x before living.held).0 living) set ∙ sym set
+                and_from (is_unlogged s x) (is_start (state_over new l 0 0) x) ((shows x before living.held).0 living) set ∙ sym set
             | inr clear ↦ and_right (is_unlogged s x) (is_start (state_over new l 0 0) x) clear ∙ sym clear
           ]
 

@@ -1,10 +1,10 @@
--- The release of a block whose owner tells what lives in it.
+-- The release of a block whose owner shows what lives in it.
 use Rattle.std.proofs.Common.{◌≡◌, ◌≢◌, refl, sym, ◌∙◌, ap, subst, ℕ, ◌+◌, ◌*◌, ◌-◌, ◌/◌, ◌%◌, ◌^◌, ◌<◌, ◌≤◌, inl, inr, arith, w64, ◌&&◌, ◌||◌, false, true, IsTrue, nat_eq, List, Some, slice_index, eq-eqb, if◌then◌else◌}
 use Rattle.std.specs.Int.{bit_at, trailing_zeros}
 use Rattle.std.proofs.lemmas.Bool.{cases_lt, and_parts, and_right, ne_eqb, or_left, or_right, eqb-true, false_from_ne_true}
 use Rattle.std.proofs.lemmas.Nat.Bits.{bit_at-zero, bit_at-trailing_zeros}
 use Rattle.heap_layout.specs.Zones.{StartBits, PinBits, UnlogBits, BlockWords, first, heap_of, block_at, offset_at, IsAddress}
-use Rattle.heap_layout.specs.Blocks.{kind_code, code_of, IsValid, kind_of_code}
+use Rattle.heap_layout.specs.Blocks.{kind_code, code_of, IsValidWord, kind_of_code}
 use Rattle.heap_layout.specs.declared.block.Kind.{Kind}
 use Rattle.heap_layout.specs.declared.block.Kind.TheVariants as kinds
 use Rattle.heap_layout.specs.declared.block.BlockWord.{BlockWord}
@@ -27,19 +27,19 @@ use Rattle.sessions.specs.Plans.{Rules}
 use Rattle.sessions.specs.Collecting.{is_evacuated}
 use Rattle.plan_api.specs.Releasing.{Releases, is_kept_kind, is_kept_after, word_after}
 use Rattle.plan_api.proofs.ReleasedBlocks as blocks
-use Rattle.collector.specs.Released.{OwnerTells}
+use Rattle.collector.specs.Released.{OwnerShowsWhatLives}
 
 -- the kind of a block is that of its word
-pub kind-told : (s : HeapState) (k : ℕ) (kind : Kind) (w : BlockWord) → IsValid w → code_of w ≡ block_word s k → HasKind s k kind → w.kind ≡ kind
-kind-told s k kind w valid code is =
+pub kind-shown : (s : HeapState) (k : ℕ) (kind : Kind) (w : BlockWord) → IsValidWord w → code_of w ≡ block_word s k → HasKind s k kind → w.kind ≡ kind
+kind-shown s k kind w valid code is =
     let e : Some w.kind ≡ Some kind = sym (parts_of_code w (block_word s k) valid code).0 ∙ ap kind_of_code (kind-code s k kind is) ∙ kind_of_code-kind_code kind in cc
 
 -- the owner, too
-pub owner-told : (s : HeapState) (k : ℕ) (w : BlockWord) → IsValid w → code_of w ≡ block_word s k → owner_at s k ≡ w.owner
-owner-told s k w valid code = (parts_of_code w (block_word s k) valid code).2
+pub owner-shown : (s : HeapState) (k : ℕ) (w : BlockWord) → IsValidWord w → code_of w ≡ block_word s k → owner_at s k ≡ w.owner
+owner-shown s k w valid code = (parts_of_code w (block_word s k) valid code).2
 
 -- the code of a word without its owner
-pub unowned-code : (w : BlockWord) (v : ℕ) → IsValid w → code_of w ≡ v → code_of (record { kind = w.kind; class = w.class; owner = 0 }) ≡ v % 65536
+pub unowned-code : (w : BlockWord) (v : ℕ) → IsValidWord w → code_of w ≡ v → code_of (record { kind = w.kind; class = w.class; owner = 0 }) ≡ v % 65536
 unowned-code w v valid code =
     let class : v / 256 % 256 ≡ w.class = (parts_of_code w v valid code).1 in
     let kind : kind_code w.kind ≤ 8 = kind_code_most w.kind in
@@ -157,15 +157,15 @@ module _ (r : Rules) (c : Collect) (l : Layout) (base k a : ℕ) (old mid new : 
   abbrev s : HeapState
   s = state_over old l 0 0
 
-  module _ (there : k < l.blocks) (may : IsReleasable s k) (valid : IsValid w) (code : code_of w ≡ block_word s k) (owner : 0 < w.owner)
+  module _ (there : k < l.blocks) (may : IsReleasable s k) (valid : IsValidWord w) (code : code_of w ≡ block_word s k) (owner : 0 < w.owner)
       (not-immix : w.kind ≡ kinds.Immix → ⊥) (not-head : w.kind ≡ kinds.LargeHead → ⊥) (not-tail : w.kind ≡ kinds.LargeTail → ⊥)
-      (tells : OwnerTells base s k) (here : InBlock s k a) (held : IsHeld s a)
+      (shows : OwnerShowsWhatLives base s k) (here : InBlock s k a) (held : IsHeld s a)
       (word : Stores old mid (first l.blocks BlockWords + k) (code_of (record { kind = w.kind; class = w.class; owner = 0 }))) (unlogs : Unlogs (state_over mid l 0 0) (state_over new l 0 0) k) where
     owned : 0 < owner_at s k
-    owned = subst (λ n. 0 < n) (sym (owner-told s k w valid code)) owner
+    owned = subst (λ n. 0 < n) (sym (owner-shown s k w valid code)) owner
 
     all-live : (x : ℕ) → InBlock s k x → IsHeld s x → Lives base s x
-    all-live = tells.owned owned
+    all-live = shows.owned owned
 
     marked : (x : ℕ) → InBlock s k x → IsTrue (is_pinned s x || is_unlogged s x) → IsTrue (is_start s x)
     marked x at set = (may.marks x (record { address = at.address; block = inl at.block }) set).start
@@ -195,5 +195,5 @@ module _ (r : Rules) (c : Collect) (l : Layout) (base k a : ℕ) (old mid new : 
         (λ none. none-lives base k s old mid there kept-objects unchanged (word-only s k (word_after r c s k) old mid word-is) none a here (all-live a here held)) word-is
 
     pub kept : Releases r c base s (state_over new l 0 0) k
-    kept = blocks.small l r c base k old mid mid new there (λ is. not-head (kind-told s k kinds.LargeHead w valid code is)) swept
-        (λ is. absurd (not-immix (kind-told s k kinds.Immix w valid code is))) (λ not. refl) unlogs (λ is. not-tail (kind-told s k kinds.LargeTail w valid code is))
+    kept = blocks.small l r c base k old mid mid new there (λ is. not-head (kind-shown s k kinds.LargeHead w valid code is)) swept
+        (λ is. absurd (not-immix (kind-shown s k kinds.Immix w valid code is))) (λ not. refl) unlogs (λ is. not-tail (kind-shown s k kinds.LargeTail w valid code is))

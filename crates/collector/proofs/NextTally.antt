@@ -9,7 +9,7 @@ use Rattle.object_model.specs.Lawful.{IsLawfulButLines}
 use Rattle.object_model.proofs.Blocks as given
 use Rattle.trace_core.specs.Setups.{Setup, blocks, size}
 use Rattle.trace_core.specs.Machine.{Event, address_or_nil}
-use Rattle.trace_core.specs.Traces.{IsTrace, machine_after, stage_of}
+use Rattle.trace_core.specs.Traces.{IsTracing, machine_after, stage_of}
 use Rattle.trace_core.specs.Outcomes.{image}
 use Rattle.trace_core.specs.Views.{View, Holds, one_if, times}
 use Rattle.plain_tracer.specs.TokenRights.{IsGrey, copied_in}
@@ -55,8 +55,8 @@ module _ (s : HeapState) (run : TraceRun) (lawful : IsLawfulButLines s) where
       (λ a there. frames.size-after s _ (keeps-objects s lawful) a (frames.held-before s _ (keeps-objects s lawful) a there))
       (λ a there. refl)
 
-  module _ (es ds : List Event) (v v' : View) (trace : IsTrace p es) (holds : Holds p (machine_after p es) v)
-      (trace' : IsTrace p (es ++ ds)) (holds' : Holds p (machine_after p (es ++ ds)) v') (pushed : List Grey)
+  module _ (es ds : List Event) (v v' : View) (trace : IsTracing p es) (holds : Holds p (machine_after p es) v)
+      (trace' : IsTracing p (es ++ ds)) (holds' : Holds p (machine_after p (es ++ ds)) v') (pushed : List Grey)
       (more : (x : ℕ) → times x v'.copied ≡ times x (copied_in pushed) + times x v.copied) (tokens : All (IsGrey p v') pushed)
       (tally tally' : Tally) (counts : Counts tally tally' pushed) (was : IsTally s (image (stage_of p es)) v.copied tally) where
     few-blocks : s.blocks ≤ 1024

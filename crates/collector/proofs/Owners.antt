@@ -1,4 +1,4 @@
--- After a trace in which all that was kept moved, the owner of a block tells what lives in it.
+-- After a trace in which all that was kept moved, the owner of a block shows what lives in it.
 use Rattle.std.proofs.Common.{◌≡◌, sym, ◌∙◌, ap, subst, ℕ, ◌+◌, ◌*◌, ◌/◌, ◌<◌, inl, inr, arith, true≢false, ◌||◌, List, Some}
 use Rattle.std.proofs.lemmas.Bool.{cases_eq, or_left}
 use Rattle.heap_layout.specs.Zones.{block_at, IsAddress}
@@ -12,13 +12,13 @@ use Rattle.block_sweeps.specs.Sweeping.{InBlock}
 use Rattle.sessions.specs.Plans.{Rules}
 use Rattle.trace_core.specs.Setups.{Setup, blocks}
 use Rattle.trace_core.specs.Machine.{Event}
-use Rattle.trace_core.specs.Traces.{IsTrace, IsFinished, machine_after, heap_after, stage_of, target_of}
-use Rattle.trace_core.specs.Outcomes.{base_after, image, FinishedRow}
+use Rattle.trace_core.specs.Traces.{IsTracing, IsFinished, machine_after, heap_after, stage_of, target_of}
+use Rattle.trace_core.specs.Outcomes.{base_after_trace, image, FinishedRow}
 use Rattle.trace_core.proofs.Rows.{row, holds}
 use Rattle.trace_core.proofs.Clauses.{has-room}
 use Rattle.trace_core.proofs.Finished.{has-target, lives, onto}
 use Rattle.trace_core.proofs.Releasable.{releasable}
-use Rattle.collector.specs.Released.{ReleasesBelow, MoveAll, OwnerTells}
+use Rattle.collector.specs.Released.{ReleasesBelow, MoveAll, OwnerShowsWhatLives}
 use Rattle.collector.proofs.Metadata.{SameReads}
 use Rattle.collector.proofs.Alike.{SameRest, rest-back, reads-back, held-after, lives-after}
 use Rattle.collector.proofs.Bare.{IsBare}
@@ -30,7 +30,7 @@ use Rattle.collector.proofs.InOrder.{released-below}
 owner-in : (v w code : ℕ) → v ≡ code + 256 * 0 + 65536 * (16 + w) → 0 < v / 65536
 owner-in v w code is = omega arith
 
-module _ (p : Setup) (es : List Event) (trace : IsTrace p es) (finished : IsFinished p (machine_after p es)) where
+module _ (p : Setup) (es : List Event) (trace : IsTracing p es) (finished : IsFinished p (machine_after p es)) where
   abbrev after : HeapState
   after = heap_after p es
 
@@ -58,29 +58,29 @@ module _ (p : Setup) (es : List Event) (trace : IsTrace p es) (finished : IsFini
       (trace.ready.lawful.free k (left.was_free k some)).marks a here
       (or_left (is_start p.before a || is_pinned p.before a) (is_unlogged p.before a) (or_left (is_start p.before a) (is_pinned p.before a) was.start))
 
-  pub all-live : (k : ℕ) → k < blocks p → 0 < owner_at after k → (a : ℕ) → block_at (blocks p) a ≡ k → IsHeld after a → Lives (base_after p) after a
-  all-live k there owner a here held = elim (holds p es trace finished a held) as (λ _. Lives (base_after p) after a) [
+  pub all-live : (k : ℕ) → k < blocks p → 0 < owner_at after k → (a : ℕ) → block_at (blocks p) a ≡ k → IsHeld after a → Lives (base_after_trace p) after a
+  all-live k there owner a here held = elim (holds p es trace finished a held) as (λ _. Lives (base_after_trace p) after a) [
     | inl was ↦ absurd (none-before k (owner-taken k there owner) a here was)
     | inr by ↦ lives p es trace finished by.0 a by.1
   ]
 
   module _ (move : MoveAll p es) where
-    in-taken : (a : ℕ) → Lives (base_after p) after a → 0 < taken (block_at (blocks p) a)
+    in-taken : (a : ℕ) → Lives (base_after_trace p) after a → 0 < taken (block_at (blocks p) a)
     in-taken a living =
         let by = onto p es trace finished a living in
         let is : target_of p es by.0 ≡ Some a = has-target p es trace finished by.0 by.1 ∙ ap Some by.2 in
         (has-room p es trace by.0 a is (move by.0 a is)).block
 
-    pub tells : (k : ℕ) → k < blocks p → OwnerTells (base_after p) after k
-    tells k there = record {
+    pub shows : (k : ℕ) → k < blocks p → OwnerShowsWhatLives (base_after_trace p) after k
+    shows k there = record {
       owned = λ owner a here held. all-live k there owner a here.block held;
       unowned = λ none a here living.
           let some : 0 < owner_at after k = taken-owner k there (subst (λ b. 0 < taken b) here.block (in-taken a living)) in omega (arith, none, some);
     }
 
 -- a block without objects
-bare-tells : (base : ℕ) (s : HeapState) (k : ℕ) → IsBare s k → OwnerTells base s k
-bare-tells base s k bare = record {
+bare-shows : (base : ℕ) (s : HeapState) (k : ℕ) → IsBare s k → OwnerShowsWhatLives base s k
+bare-shows base s k bare = record {
   owned = λ owner a here held. absurd (true≢false (sym held.start ∙ bare.starts a here.block));
   unowned = λ none a here living. true≢false (sym living.held.start ∙ bare.starts a here.block);
 }
@@ -93,8 +93,8 @@ module _ (base : ℕ) (s t : HeapState) (rest : SameRest s t) (k : ℕ) (same : 
   in-before : (a : ℕ) → InBlock t k a → InBlock s k a
   in-before a here = record { address = subst (λ b. IsAddress b a) rest.blocks here.address; block = ap (λ b. block_at b a) (sym rest.blocks) ∙ here.block }
 
-  same-tells : OwnerTells base s k → OwnerTells base t k
-  same-tells was = record {
+  same-shows : OwnerShowsWhatLives base s k → OwnerShowsWhatLives base t k
+  same-shows was = record {
     owned = λ owner a here held.
         let now = in-before a here in
         lives-after s t rest k same base a now.block
@@ -104,24 +104,24 @@ module _ (base : ℕ) (s t : HeapState) (rest : SameRest s t) (k : ℕ) (same : 
         was.unowned (ap (λ v. v / 65536) (sym same.word) ∙ none) a now (lives-after t s (rest-back s t rest) k back base a here.block living);
   }
 
--- the owner of the next block to release tells the same as before the release of others
+-- the owner of the next block to release shows the same as before the release of others
 module _ (r : Rules) (c : Collect) (base : ℕ) (s : HeapState) (ready : (k : ℕ) → k < s.blocks → IsReleasable s k) (mid : HeapState) (n : ℕ) (there : n < s.blocks)
     (below : IsReleasedBelow r c base s mid n) where
-  tells-still : OwnerTells base s n → OwnerTells base mid n
-  tells-still was = elim (some-or-none s n n) as (λ _. OwnerTells base mid n) [
-    | inl some ↦ bare-tells base mid n (tail-bare r c base s ready mid n there below (span-tail s ready some.0 n some.2 (λ same. let less : some.0 < n = some.1 in omega arith)) some.0 some.1 some.2)
-    | inr apart ↦ same-tells base s mid below.rest n (below.later n there apart) was
+  shows-still : OwnerShowsWhatLives base s n → OwnerShowsWhatLives base mid n
+  shows-still was = elim (some-or-none s n n) as (λ _. OwnerShowsWhatLives base mid n) [
+    | inl some ↦ bare-shows base mid n (tail-bare r c base s ready mid n there below (span-tail s ready some.0 n some.2 (λ same. let less : some.0 < n = some.1 in omega arith)) some.0 some.1 some.2)
+    | inr apart ↦ same-shows base s mid below.rest n (below.later n there apart) was
   ]
 
-pub tells-next : (p : Setup) (es : List Event) (r : Rules) (c : Collect) (mid : HeapState) (n : ℕ) → IsTrace p es → IsFinished p (machine_after p es) → MoveAll p es
-    → ReleasesBelow r c (base_after p) (heap_after p es) mid n → n < blocks p → OwnerTells (base_after p) mid n
-tells-next p es r c mid n trace finished move below there =
+pub shows-next : (p : Setup) (es : List Event) (r : Rules) (c : Collect) (mid : HeapState) (n : ℕ) → IsTracing p es → IsFinished p (machine_after p es) → MoveAll p es
+    → ReleasesBelow r c (base_after_trace p) (heap_after p es) mid n → n < blocks p → OwnerShowsWhatLives (base_after_trace p) mid n
+shows-next p es r c mid n trace finished move below there =
     let ready : (k : ℕ) → k < blocks p → IsReleasable (heap_after p es) k = releasable p es trace finished in
-    tells-still r c (base_after p) (heap_after p es) ready mid n there (released-below r c (base_after p) (heap_after p es) ready mid n below) (tells p es trace finished move n there)
+    shows-still r c (base_after_trace p) (heap_after p es) ready mid n there (released-below r c (base_after_trace p) (heap_after p es) ready mid n below) (shows p es trace finished move n there)
 
 -- the numbers of a heap are no part of it
-pub tells-again : (age : ℕ) (words : List ℕ) (l : Layout) (number base number' base' k : ℕ) → OwnerTells age (state_over words l number base) k → OwnerTells age (state_over words l number' base') k
-tells-again age words l number base number' base' k was = record {
+pub shows-again : (age : ℕ) (words : List ℕ) (l : Layout) (number base number' base' k : ℕ) → OwnerShowsWhatLives age (state_over words l number base) k → OwnerShowsWhatLives age (state_over words l number' base') k
+shows-again age words l number base number' base' k was = record {
   owned = λ owner a here held.
       let living = was.owned owner a (record { address = here.address; block = here.block }) (record { address = held.address; start = held.start }) in
       record { held = held; survives = living.survives };

@@ -1,4 +1,4 @@
--- What a tracer is told of a full collection.
+-- What a tracer gets as the description of a full collection.
 use Rattle.std.proofs.Common.{◌≡◌, refl, sym, ◌∙◌, ap, subst, subst₂, ℕ, ◌+◌, ◌<◌, ◌^◌, Bool, true, false, IsTrue, [], map, length, Some, true≢false, arith}
 use Rattle.std.specs.Prelude.{nat_eq, bit_and, slice_get, ◌||◌, if◌then◌else◌}
 use Rattle.std.specs.List.{range_with_len}
@@ -92,5 +92,5 @@ lines-flag GenCopy = refl
 lines-flag Immix = refl
 lines-flag StickyImmix = refl
 
-pub lines-told : (q : Plan) (r : Rules) → r ≡ rules_of q → (flags : ℕ) → flags ≡ flags_of r → nat_eq (bit_and flags 4) 4 ≡ r.lines
-lines-told q r of flags are = ap (λ f. nat_eq (bit_and f 4) 4) (are ∙ ap flags_of of) ∙ lines-flag q ∙ sym (ap (λ (r : Rules). r.lines) of)
+pub lines-shown : (q : Plan) (r : Rules) → r ≡ rules_of q → (flags : ℕ) → flags ≡ flags_of r → nat_eq (bit_and flags 4) 4 ≡ r.lines
+lines-shown q r of flags are = ap (λ f. nat_eq (bit_and f 4) 4) (are ∙ ap flags_of of) ∙ lines-flag q ∙ sym (ap (λ (r : Rules). r.lines) of)

@@ -10,17 +10,17 @@ use Rattle.object_model.specs.declared.collect.Collect.{Collect}
 use Rattle.sessions.specs.Plans.{Rules}
 use Rattle.trace_core.specs.Setups.{Setup, blocks, collection}
 use Rattle.trace_core.specs.Machine.{Event}
-use Rattle.trace_core.specs.Traces.{IsTrace, IsFinished, machine_after, heap_after, stage_of}
-use Rattle.trace_core.specs.Outcomes.{base_after, image, FinishedRow}
+use Rattle.trace_core.specs.Traces.{IsTracing, IsFinished, machine_after, heap_after, stage_of}
+use Rattle.trace_core.specs.Outcomes.{base_after_trace, image, FinishedRow}
 use Rattle.trace_core.proofs.Rows.{row}
 use Rattle.plan_api.specs.Releasing.{Releases}
-use Rattle.collector.specs.Released.{ReleasesBelow, none, one_more, MoveAll, OwnerTells, MarksTell, MarksTargets, LinesTell}
-use Rattle.collector.specs.Knowing.{IsKnown, Tells}
+use Rattle.collector.specs.Released.{ReleasesBelow, none, one_more, MoveAll, OwnerShowsWhatLives, UnlogBitsMarkSurvivors, LinesOfTargetsAreMarked, LineBitsMarkSurvivors}
+use Rattle.collector.specs.Knowing.{IsKnown, ShowsWhatLives}
 use Rattle.collector.specs.declared.releasing.Known.{Known}
 use Rattle.collector.specs.declared.releasing.Known.TheVariants as known
 use Rattle.collector.proofs.InOrder.{next, released}
 use Rattle.collector.proofs.LawfulReleases.{lawful-with}
-use Rattle.collector.proofs.Owners.{tells-next, tells-again}
+use Rattle.collector.proofs.Owners.{shows-next, shows-again}
 use Rattle.collector.proofs.UnlogBits.{marks-next, marks-again}
 use Rattle.collector.proofs.MarkedLines.{lines-next, lines-again}
 use Rattle.collector.proofs.Numbers.{releasable-again, releases-again}
@@ -44,8 +44,8 @@ pub at-end : (r : Rules) (c : Collect) (base : ℕ) (old : Row) (words : List �
     → ReleasesBelow r c base (state_of old) (state_over words old.layout old.number old.base) old.layout.blocks
 at-end r c base old words n all going = subst (ReleasesBelow r c base (state_of old) (state_over words old.layout old.number old.base)) all going.below
 
-module _ (r : Rules) (c : Collect) (base : ℕ) (old : Row) (p : Setup) (es : List Event) (trace : IsTrace p es) (finished : IsFinished p (machine_after p es))
-    (same : state_of old ≡ heap_after p es) (is-base : base ≡ base_after p) where
+module _ (r : Rules) (c : Collect) (base : ℕ) (old : Row) (p : Setup) (es : List Event) (trace : IsTracing p es) (finished : IsFinished p (machine_after p es))
+    (same : state_of old ≡ heap_after p es) (is-base : base ≡ base_after_trace p) where
   left : FinishedRow p (heap_after p es) (image (stage_of p es)) (machine_after p es).taken
   left = row p es trace finished
 
@@ -56,7 +56,7 @@ module _ (r : Rules) (c : Collect) (base : ℕ) (old : Row) (p : Setup) (es : Li
     abbrev now : HeapState
     now = state_over words old.layout old.number old.base
 
-    below : ReleasesBelow r c (base_after p) (heap_after p es) now n
+    below : ReleasesBelow r c (base_after_trace p) (heap_after p es) now n
     below = subst₂ (λ b s. ReleasesBelow r c b s now n) is-base same going.below
 
     pub extent : length words ≡ row_words old.layout.blocks
@@ -65,30 +65,30 @@ module _ (r : Rules) (c : Collect) (base : ℕ) (old : Row) (p : Setup) (es : Li
     pub releasable : n < old.layout.blocks → IsReleasable (state_over words old.layout 0 0) n
     releasable there = releasable-again words old.layout old.number old.base 0 0 n (next p es r c now n trace finished below (subst (λ b. n < b) blocks-same there))
 
-    tells : MoveAll p es → n < old.layout.blocks → OwnerTells base (state_over words old.layout 0 0) n
-    tells move there = subst (λ b. OwnerTells b (state_over words old.layout 0 0) n) (sym is-base)
-        (tells-again (base_after p) words old.layout old.number old.base 0 0 n (tells-next p es r c now n trace finished move below (subst (λ b. n < b) blocks-same there)))
+    shows : MoveAll p es → n < old.layout.blocks → OwnerShowsWhatLives base (state_over words old.layout 0 0) n
+    shows move there = subst (λ b. OwnerShowsWhatLives b (state_over words old.layout 0 0) n) (sym is-base)
+        (shows-again (base_after_trace p) words old.layout old.number old.base 0 0 n (shows-next p es r c now n trace finished move below (subst (λ b. n < b) blocks-same there)))
 
-    lines : MarksTargets p es → n < old.layout.blocks → LinesTell base (state_over words old.layout 0 0) n
-    lines marked there = subst (λ b. LinesTell b (state_over words old.layout 0 0) n) (sym is-base)
-        (lines-again (base_after p) words old.layout old.number old.base 0 0 n (lines-next p es r c now n trace finished marked below (subst (λ b. n < b) blocks-same there)))
+    lines : LinesOfTargetsAreMarked p es → n < old.layout.blocks → LineBitsMarkSurvivors base (state_over words old.layout 0 0) n
+    lines marked there = subst (λ b. LineBitsMarkSurvivors b (state_over words old.layout 0 0) n) (sym is-base)
+        (lines-again (base_after_trace p) words old.layout old.number old.base 0 0 n (lines-next p es r c now n trace finished marked below (subst (λ b. n < b) blocks-same there)))
 
-    marks : p.nursery ≡ false → ((a : ℕ) → is_unlogged p.before a ≡ false) → n < old.layout.blocks → MarksTell base (state_over words old.layout 0 0) n
-    marks full clear there = subst (λ b. MarksTell b (state_over words old.layout 0 0) n) (sym is-base)
-        (marks-again (base_after p) words old.layout old.number old.base 0 0 n (marks-next p es r c now n trace finished full clear below (subst (λ b. n < b) blocks-same there)))
+    marks : p.nursery ≡ false → ((a : ℕ) → is_unlogged p.before a ≡ false) → n < old.layout.blocks → UnlogBitsMarkSurvivors base (state_over words old.layout 0 0) n
+    marks full clear there = subst (λ b. UnlogBitsMarkSurvivors b (state_over words old.layout 0 0) n) (sym is-base)
+        (marks-again (base_after_trace p) words old.layout old.number old.base 0 0 n (marks-next p es r c now n trace finished full clear below (subst (λ b. n < b) blocks-same there)))
 
-    -- what is known of the trace tells of the next block
-    pub told : (k : Known) → IsKnown p es k → (p.nursery ≡ false → (a : ℕ) → is_unlogged p.before a ≡ false) → n < old.layout.blocks
-        → Tells k base (state_over words old.layout 0 0) n
-    told known.Nothing is clear there = tt
-    told known.AllMoved is clear there = tells is there
-    told known.Full is clear there = marks is (clear is) there
-    told known.FullWithLines is clear there = (marks is.0 (clear is.0) there, lines is.1 there)
+    -- what is known of the trace shows of the next block
+    pub shown : (k : Known) → IsKnown p es k → (p.nursery ≡ false → (a : ℕ) → is_unlogged p.before a ≡ false) → n < old.layout.blocks
+        → ShowsWhatLives k base (state_over words old.layout 0 0) n
+    shown known.Nothing is clear there = tt
+    shown known.AllMoved is clear there = shows is there
+    shown known.Full is clear there = marks is (clear is) there
+    shown known.FullWithLines is clear there = (marks is.0 (clear is.0) there, lines is.1 there)
 
   pub lawful-after : (words : List ℕ) → ReleasesBelow r c base (state_of old) (state_over words old.layout old.number old.base) old.layout.blocks → ((i : ℕ) → word_at (state_over words old.layout old.number old.base) i < 2 ^ 64)
       → (number : ℕ) → number ≡ collection p → IsLawful (state_over words old.layout number base)
   lawful-after words all-below fits number is =
       let now : HeapState = state_over words old.layout old.number old.base in
-      let all = released p es r c now (blocks p) trace finished (subst (ReleasesBelow r c (base_after p) (heap_after p es) now) blocks-same (subst₂ (λ b s. ReleasesBelow r c b s now old.layout.blocks) is-base same all-below)) in
+      let all = released p es r c now (blocks p) trace finished (subst (ReleasesBelow r c (base_after_trace p) (heap_after p es) now) blocks-same (subst₂ (λ b s. ReleasesBelow r c b s now old.layout.blocks) is-base same all-below)) in
       subst₂ (λ n b. IsLawful (state_over words old.layout n b)) (sym is) (sym is-base)
       (lawful-with p es trace finished r c now fits all)

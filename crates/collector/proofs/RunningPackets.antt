@@ -16,50 +16,50 @@ use Rattle.trace_core.specs.Setups.{Setup}
 use Rattle.trace_core.specs.Machine.{Event}
 use Rattle.trace_core.specs.Views.{View}
 use Rattle.plain_tracer.specs.TokenRights.{IsGrey, IsReached, grey_of}
-use Rattle.plain_tracer.specs.Tracers.{Tracks, IsTracing}
+use Rattle.plain_tracer.specs.Tracers.{Tracks, TracerHolds}
 use Rattle.trace_core.specs.Runs.{setup_of}
 use Rattle.plain_tracer.specs.declared.tokens.Grey.{Grey}
 use Rattle.collector.specs.declared.item.Item.{Item}
-use Rattle.collector.specs.declared.packet_trace.PacketTrace.{PacketTrace}
-use Rattle.collector.specs.declared.worker.TraceStart.{TraceStart}
+use Rattle.collector.specs.declared.packet_tracer.PacketTracer.{PacketTracer}
+use Rattle.collector.specs.declared.worker.TracingStart.{TracingStart}
 use Rattle.collector.specs.Items.{items_of, tokens_of, IsObject}
-use Rattle.collector.specs.Serving.{HasRights, Serves, AreShaped}
+use Rattle.collector.specs.Serving.{HasRights, ServesItems, AreShaped}
 use Rattle.collector.specs.Tallies.{Counts}
 use Rattle.collector.specs.Working.{TakesPlaces, RunsPacket, AwaitsPackets, IsOfTrace}
 use Rattle.collector.proofs.ItemCounts.{all-left, all-right, all-of-map, no-registers}
 use Rattle.collector.proofs.ServesAppend.{Halves, halves-cut, halves-ends, rights-part, rights-after, serves-both, serves-none}
 
 -- Of all items these are left. The others were served, and nothing was handed on.
-pub record HasServed (old new : PacketTrace) (all left : List Item) : Type 0 where
+pub record HasServed (old new : PacketTracer) (all left : List Item) : Type 0 where
   pub done : List Item
   pub cut : all ≡ left ++ done
   pub tally : new.tally ≡ old.tally
   pub serves : (p : Setup) (es : List Event) (v : View) → Tracks p es old.tracer v → HasRights p v old.roots.items all
-      → Serves p es v old.tracer old.roots.items done new.tracer new.roots.items (map (grey_of p) new.won.items)
+      → ServesItems p es v old.tracer old.roots.items done new.tracer new.roots.items (map (grey_of p) new.won.items)
 
 -- the trace has the right to serve these items
-abbrev pub MayServe : PacketTrace → List Item → Type 0
-MayServe w items = IsTracing w.tracer (λ p es v. HasRights p v w.roots.items items)
+abbrev pub MayServe : PacketTracer → List Item → Type 0
+MayServe w items = TracerHolds w.tracer (λ p es v. HasRights p v w.roots.items items)
 
 -- what was done by one item
-abbrev pub ServesOne : PacketTrace → Item → PacketTrace → Type 0
+abbrev pub ServesOne : PacketTracer → Item → PacketTracer → Type 0
 ServesOne old item new = (p : Setup) (es : List Event) (v : View) → Tracks p es old.tracer v
     → HasRights p v old.roots.items (item ∷ [])
     → (pushed : List Grey) × (map (grey_of p) new.won.items ≡ map (grey_of p) old.won.items ++ pushed)
-    × Serves p es v old.tracer old.roots.items (item ∷ []) new.tracer new.roots.items pushed
+    × ServesItems p es v old.tracer old.roots.items (item ∷ []) new.tracer new.roots.items pushed
 
-pub served-none : (w : PacketTrace) (all : List Item) → w.won.items ≡ [] → HasServed w w all all
+pub served-none : (w : PacketTracer) (all : List Item) → w.won.items ≡ [] → HasServed w w all all
 served-none w all none = record {
   done = [];
   cut = sym (append-nil all);
   tally = refl;
   serves = λ p es v tracks rights.
-      subst (λ won. Serves p es v w.tracer w.roots.items [] w.tracer w.roots.items (map (grey_of p) won)) (sym none)
-      (serves-none w.roots.items tracks rights.idle);
+      subst (λ won. ServesItems p es v w.tracer w.roots.items [] w.tracer w.roots.items (map (grey_of p) won)) (sym none)
+      (serves-none w.roots.items tracks rights.none_won);
 }
 
 -- one more item, the last of those that are left
-module _ {old mid : PacketTrace} {all items : List Item} (left : List Item) (item : Item)
+module _ {old mid : PacketTracer} {all items : List Item} (left : List Item) (item : Item)
     (served : HasServed old mid all items) (popped : items ≡ left ++ item ∷ []) where
   halves-left : Halves all served.done items
   halves-left = subst (λ l. Halves l served.done items) (sym served.cut) (halves-cut items served.done)
@@ -84,7 +84,7 @@ module _ {old mid : PacketTrace} {all items : List Item} (left : List Item) (ite
   one-more : Halves (item ∷ served.done) served.done (item ∷ [])
   one-more = halves-cut (item ∷ []) served.done
 
-  pub served-more : {new : PacketTrace} → ServesOne mid item new → new.tally ≡ mid.tally → HasServed old new all left
+  pub served-more : {new : PacketTracer} → ServesOne mid item new → new.tally ≡ mid.tally → HasServed old new all left
   served-more {new} one tally = record {
     done = item ∷ served.done;
     cut = cut-more;
@@ -96,13 +96,13 @@ module _ {old mid : PacketTrace} {all items : List Item} (left : List Item) (ite
         let part = rights-part
         (subst (λ l. Halves l left (item ∷ served.done)) (sym cut-more)
         (halves-ends left (item ∷ served.done))) rights in
-        subst (λ won. Serves p es v old.tracer old.roots.items (item ∷ served.done) new.tracer new.roots.items won)
+        subst (λ won. ServesItems p es v old.tracer old.roots.items (item ∷ served.done) new.tracer new.roots.items won)
         (sym now.1)
         (serves-both one-more part before now.2));
   }
 
 -- The tokens that were won are handed on, in these packets.
-pub record HandsOn (old new : PacketTrace) (q : List (Packet Item)) : Type 0 where
+pub record HandsOn (old new : PacketTracer) (q : List (Packet Item)) : Type 0 where
   pub greys : List Grey
   pub shaped : AreShaped old.tracer old.won.items greys
   pub tokens : IsPermutation greys (tokens_of (items_of q))
@@ -114,7 +114,7 @@ pub record HandsOn (old new : PacketTrace) (q : List (Packet Item)) : Type 0 whe
   pub sizes : All HasItems q
   pub none : new.won.items ≡ []
 
-pub hands-on : {X E : Type 0} (r : Result X E) (old new : PacketTrace) (q : List (Packet Item))
+pub hands-on : {X E : Type 0} (r : Result X E) (old new : PacketTracer) (q : List (Packet Item))
     → IfOk r (λ _. (greys : List Grey) × AreShaped old.tracer old.won.items greys × IsPermutation greys (tokens_of (items_of q)) × Counts old.tally new.tally greys)
     → IfOk r (λ _. All IsObject (items_of q))
     → IfOk r (λ _. All (λ packet. packet.bucket ≡ buckets.Closure) q)
@@ -138,8 +138,8 @@ hands-on (Ok x) old new q tokens objects closure tracer roots sizes none = recor
 hands-on (Err e) old new q tokens objects closure tracer roots sizes none = tt
 
 -- the tokens that were won are rights
-pub all-reached : {old mid : PacketTrace} {all left : List Item} → HasServed old mid all left → MayServe old all
-    → IsTracing mid.tracer (λ p es v. All (IsReached p v) mid.won.items)
+pub all-reached : {old mid : PacketTracer} {all left : List Item} → HasServed old mid all left → MayServe old all
+    → TracerHolds mid.tracer (λ p es v. All (IsReached p v) mid.won.items)
 all-reached {old} {mid} served may =
     let before = served.serves may.setup may.events may.view may.tracks may.right in
     record {
@@ -151,7 +151,7 @@ all-reached {old} {mid} served may =
     }
 
 -- all items were served, and what was won is handed on
-pub runs-packet : {old mid new : PacketTrace} {left : List Item} (p : Packet Item) (q : List (Packet Item))
+pub runs-packet : {old mid new : PacketTracer} {left : List Item} (p : Packet Item) (q : List (Packet Item))
     → HasServed old mid p.items.items left
     → left ≡ [] → HandsOn mid new q → RunsPacket old p q new
 runs-packet {old} {mid} {new} p q served none handed = record {
@@ -163,24 +163,24 @@ runs-packet {old} {mid} {new} p q served none handed = record {
       (let s = served.serves setup es view tracks rights in
       let greys = handed.shaped.shaped setup (es ++ s.events) s.view s.tracks
       (all-of-map (IsGrey setup s.view) (grey_of setup) mid.won.items s.tokens) in
-      subst (λ won. Serves setup es view old.tracer old.roots.items p.items.items new.tracer new.roots.items won) greys
-      (subst (λ t. Serves setup es view old.tracer old.roots.items p.items.items t new.roots.items (map (grey_of setup) mid.won.items))
+      subst (λ won. ServesItems setup es view old.tracer old.roots.items p.items.items new.tracer new.roots.items won) greys
+      (subst (λ t. ServesItems setup es view old.tracer old.roots.items p.items.items t new.roots.items (map (grey_of setup) mid.won.items))
       (sym handed.tracer)
-      (subst (λ rs. Serves setup es view old.tracer old.roots.items p.items.items mid.tracer rs.items (map (grey_of setup) mid.won.items))
+      (subst (λ rs. ServesItems setup es view old.tracer old.roots.items p.items.items mid.tracer rs.items (map (grey_of setup) mid.won.items))
       (sym handed.roots)
-      (subst (λ l. Serves setup es view old.tracer old.roots.items l mid.tracer mid.roots.items (map (grey_of setup) mid.won.items))
+      (subst (λ l. ServesItems setup es view old.tracer old.roots.items l mid.tracer mid.roots.items (map (grey_of setup) mid.won.items))
       (sym (served.cut ∙ ap (λ l. l ++ served.done) none)) s))));
 }
 
-pub places-stay : {old mid : PacketTrace} {all left : List Item} (new : PacketTrace) → HasServed old mid all left
+pub places-stay : {old mid : PacketTracer} {all left : List Item} (new : PacketTracer) → HasServed old mid all left
     → MayServe old all → new.roots ≡ mid.roots
     → length new.roots.items ≡ length old.roots.items
 places-stay new served may roots = ap (λ rs. length rs.items) roots
     ∙ (served.serves may.setup may.events may.view may.tracks may.right).as_many
 
 -- what a packet that is awaited brings
-module _ {w : PacketTrace} {p : Packet Item}
-    (awaited : (start : TraceStart) × (rest : List (Packet Item)) × AwaitsAll AwaitsPackets start w (p ∷ rest)) where
+module _ {w : PacketTracer} {p : Packet Item}
+    (awaited : (start : TracingStart) × (rest : List (Packet Item)) × AwaitsAll AwaitsPackets start w (p ∷ rest)) where
   now : AwaitsPackets awaited.0 w (p ∷ awaited.1)
   now = awaited.2 (p ∷ awaited.1) (IsPermutation-refl (p ∷ awaited.1))
 

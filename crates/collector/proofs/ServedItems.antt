@@ -18,7 +18,7 @@ use Rattle.plain_tracer.specs.declared.tokens.GlobalRoot.{GlobalRoot}
 use Rattle.trace_core.proofs.Counting.{count-cons, times-cons, times-without}
 use Rattle.collector.specs.declared.item.Item.TheVariants.{Global, Object}
 use Rattle.collector.specs.Items.{is_global, is_object, globals, objects}
-use Rattle.collector.specs.Serving.{HasRights, HasItsLines, Serves}
+use Rattle.collector.specs.Serving.{HasRights, HasItsLines, ServesItems}
 use Rattle.collector.proofs.ServedRoots.{none-if}
 
 eq-flip : (a b : ℕ) → nat_eq a b ≡ nat_eq b a
@@ -43,7 +43,7 @@ module _ (p : Setup) (es : List Event) (v : View) (t t' : PlainTrace) (roots : L
       let d : globals root.global (Global root ∷ []) ≡ one_if (nat_eq root.global root.global) = global-one root g in omega arith
 
   pub serves-global : (root : GlobalRoot) → HasRights p v roots (Global root ∷ []) → SetsGlobal p es v t' root.global out out' → t'.run ≡ t.run
-      → (pushed : List Grey) × (out' ≡ out ++ pushed) × Serves p es v t roots (Global root ∷ []) t' roots pushed
+      → (pushed : List Grey) × (out' ≡ out ++ pushed) × ServesItems p es v t roots (Global root ∷ []) t' roots pushed
   serves-global root rights sets run =
       let g : ℕ = root.global in
       let w : View = sets.view in
@@ -55,7 +55,7 @@ module _ (p : Setup) (es : List Event) (v : View) (t t' : PlainTrace) (roots : L
           view = set_view g w;
           tracks = sets.grows.tracks;
           run = run;
-          idle = sets.pushes.won ∙ rights.idle;
+          none_won = sets.pushes.won ∙ rights.none_won;
           sparse = sets.pushes.sparse;
           known = sets.pushes.known;
           copied = sets.pushes.copied;
@@ -114,7 +114,7 @@ module _ (p : Setup) (es : List Event) (v : View) (t t' : PlainTrace) (roots : L
 
   pub serves-object : (lines : Bool) → ScansFields p es v t' lines grey grey.refs out out' → t'.run ≡ t.run
       → (IsTrue t.run.lines → (n : ℕ) → TouchesLine (blocks p) grey.target grey.size n → IsTrue (bit_of (blocks p) LineWords t'.row.words.items n))
-      → (pushed : List Grey) × (out' ≡ out ++ pushed) × Serves p es v t roots (Object grey ∷ []) t' roots pushed
+      → (pushed : List Grey) × (out' ≡ out ++ pushed) × ServesItems p es v t roots (Object grey ∷ []) t' roots pushed
   serves-object lines scans run marked =
       let x : ℕ = grey.object in
       let w : View = scans.view in (
@@ -125,7 +125,7 @@ module _ (p : Setup) (es : List Event) (v : View) (t t' : PlainTrace) (roots : L
           view = w;
           tracks = scans.grows.tracks;
           run = run;
-          idle = scans.scanned.won ∙ rights.idle;
+          none_won = scans.scanned.won ∙ rights.none_won;
           sparse = scans.scanned.sparse;
           known = scans.scanned.known;
           copied = scans.scanned.copied;

@@ -10,14 +10,14 @@ use Rattle.trace_core.specs.Machine.{Event, ByRoot, Claim}
 use Rattle.trace_core.specs.Views.{View, one_if, is_pair, hits, times, steps_at_claim, asked_view, claimed_view, copied_view}
 use Rattle.plain_tracer.specs.TokenRights.{IsGrey, copied_in, to_scan_in}
 use Rattle.plain_tracer.specs.Tracers.{Tracks}
-use Rattle.trace_core.specs.CallEvents.{takes, taken_in, copying}
+use Rattle.trace_core.specs.CallEvents.{block_taken, taken_in, copying}
 use Rattle.plain_tracer.specs.declared.plain_trace.PlainTrace.{PlainTrace}
 use Rattle.plain_tracer.specs.declared.tokens.Won.{Won}
 use Rattle.plain_tracer.specs.declared.tokens.Grey.{Grey}
 use Rattle.trace_core.proofs.Counting.{count-cons, times-cons, hits-cons, hits-here, hits-more}
 use Rattle.collector.specs.declared.item.Item.TheVariants.{Register}
 use Rattle.collector.specs.Items.{is_register, registers, objects}
-use Rattle.collector.specs.Serving.{HasRights, Serves, IsTargetOf}
+use Rattle.collector.specs.Serving.{HasRights, ServesItems, IsTargetOf}
 
 pub none-if : (b : Bool) (n : ℕ) → n ≡ 0 → (if b then n else 0) ≡ 0
 none-if true n none = none
@@ -81,13 +81,13 @@ module _ (p : Setup) (es : List Event) (v : View) (t : PlainTrace) (roots : List
   ]
 
   -- nothing is done for nil
-  pub serves-nil : slice_index roots place ≡ 0 → Tracks p es t v → Serves p es v t roots (Register place ∷ []) t roots []
+  pub serves-nil : slice_index roots place ≡ 0 → Tracks p es t v → ServesItems p es v t roots (Register place ∷ []) t roots []
   serves-nil nil tracks = record {
     events = [];
     view = v;
     tracks = subst (λ ds. Tracks p ds t v) (sym (append-nil es)) tracks;
     run = refl;
-    idle = rights.idle;
+    none_won = rights.none_won;
     sparse = refl;
     known = λ y u some. some;
     copied = λ y. omega arith;
@@ -109,13 +109,13 @@ module _ (p : Setup) (es : List Event) (v : View) (t : PlainTrace) (roots : List
   -- an object has its target, or gets it
   pub serves-root : (ds : List Event) (w : View) (x u : ℕ) (pushed : List Grey) (t' : PlainTrace) (roots' : List ℕ) → x ≡ slice_index roots place → x ≢ 0
       → Tracks p (es ++ ds) t' w → t'.run ≡ t.run → AsksFor p v w x u pushed → Replaces roots place u roots'
-      → Serves p es v t roots (Register place ∷ []) t' roots' pushed
+      → ServesItems p es v t roots (Register place ∷ []) t' roots' pushed
   serves-root ds w x u pushed t' roots' is some tracks run asks replaces = record {
     events = ds;
     view = w;
     tracks = tracks;
     run = run;
-    idle = asks.won ∙ rights.idle;
+    none_won = asks.won ∙ rights.none_won;
     sparse = asks.sparse;
     known = asks.known;
     copied = asks.copied;
@@ -202,17 +202,17 @@ asks-taken p x t v (Some b) grey same token = let d = asks-won p x t (taken_in (
 -- the object is claimed and copied, and its token is pushed
 pub serves-won : (p : Setup) (es : List Event) (v : View) (t : PlainTrace) (roots : List ℕ) (place : ℕ) → HasRights p v roots (Register place ∷ [])
     → (t' : PlainTrace) (x : ℕ) (won : Won) (taken : Option ℕ) (grey : Grey) (roots' : List ℕ) → x ≡ slice_index roots place → x ≢ 0 → won.object ≡ x
-    → Tracks p ((es ++ (takes taken ++ Claim x won.target ByRoot ∷ [])) ++ copying p won.object won.target) t'
+    → Tracks p ((es ++ (block_taken taken ++ Claim x won.target ByRoot ∷ [])) ++ copying p won.object won.target) t'
     (copied_view p won.object won.target (claimed_view p x won.target ByRoot (taken_in taken v)))
     → IsGrey p (copied_view p won.object won.target (claimed_view p x won.target ByRoot (taken_in taken v))) grey
     → grey.object ≡ won.object → t'.run ≡ t.run → Replaces roots place won.target roots'
-    → Serves p es v t roots (Register place ∷ []) t' roots' (grey ∷ [])
+    → ServesItems p es v t roots (Register place ∷ []) t' roots' (grey ∷ [])
 serves-won p es v t roots place rights t' x won taken grey roots' is some object tracks token same run replaces =
-    let ds : List Event = takes taken ++ Claim x won.target ByRoot ∷ [] in
+    let ds : List Event = block_taken taken ++ Claim x won.target ByRoot ∷ [] in
     let w : View = root_view p x won.target (taken_in taken v) in
-    let now : Tracks p (es ++ ((takes taken ++ Claim x won.target ByRoot ∷ []) ++ copying p x won.target)) t' (root_view p x won.target (taken_in taken v)) =
+    let now : Tracks p (es ++ ((block_taken taken ++ Claim x won.target ByRoot ∷ []) ++ copying p x won.target)) t' (root_view p x won.target (taken_in taken v)) =
     subst (λ fs. Tracks p fs t' (root_view p x won.target (taken_in taken v))) (append_assoc es ds (copying p x won.target))
-    (subst (λ y. Tracks p ((es ++ (takes taken ++ Claim x won.target ByRoot ∷ [])) ++ copying p y won.target) t'
+    (subst (λ y. Tracks p ((es ++ (block_taken taken ++ Claim x won.target ByRoot ∷ [])) ++ copying p y won.target) t'
     (copied_view p y won.target (claimed_view p x won.target ByRoot (taken_in taken v)))) object tracks) in
     let grey-is : IsGrey p (root_view p x won.target (taken_in taken v)) grey =
     subst (λ y. IsGrey p (copied_view p y won.target (claimed_view p x won.target ByRoot (taken_in taken v))) grey) object token in

@@ -16,7 +16,7 @@ use Rattle.plain_tracer.specs.declared.tokens.Grey.{Grey}
 use Rattle.trace_core.proofs.Counting.{count-append, hits-here, hits-more}
 use Rattle.collector.specs.declared.item.Item.{Item}
 use Rattle.collector.specs.Items.{registers, globals, objects, tokens_of}
-use Rattle.collector.specs.Serving.{HasRights, IsTargetOf, HasItsLines, Serves}
+use Rattle.collector.specs.Serving.{HasRights, IsTargetOf, HasItsLines, ServesItems}
 use Rattle.collector.proofs.ItsLines.{lines-grow}
 use Rattle.collector.proofs.ItemCounts.{all-left, all-right, registers-append, globals-append, objects-append, tokens-append, tokens-there}
 
@@ -51,7 +51,7 @@ module _ {p : Setup} {v : View} {roots : List ℕ} {all first second : List Item
 
   pub rights-part : HasRights p v roots second
   rights-part = record {
-    idle = rights.idle;
+    none_won = rights.none_won;
     tokens = tokens-part;
     objects_once = λ x. (let sum = halves.objects x in let room = rights.objects_once x in omega arith);
     globals_once = λ g. (let sum = halves.globals g in let room = rights.globals_once g in omega arith);
@@ -66,7 +66,7 @@ module _ {p : Setup} {v : View} {roots : List ℕ} {all first second : List Item
 
   -- the first part was served
   module _ {es : List Event} {t t1 : PlainTrace} {roots1 : List ℕ} {won : List Grey}
-      (served : Serves p es v t roots first t1 roots1 won) where
+      (served : ServesItems p es v t roots first t1 roots1 won) where
     root-stays : (i : ℕ) → 0 < registers i second → slice_index roots1 i ≡ slice_index roots i
     root-stays i some = served.others i (one-part i some)
 
@@ -91,7 +91,7 @@ module _ {p : Setup} {v : View} {roots : List ℕ} {all first second : List Item
     -- what was served takes nothing from the other items
     pub rights-after : HasRights p served.view roots1 second
     rights-after = record {
-      idle = served.idle;
+      none_won = served.none_won;
       tokens = λ i d l. token-left _ (tokens-there second i d l) (tokens-part i d l);
       objects_once = λ x. (let left = right-left x in omega arith);
       globals_once = λ g.
@@ -107,7 +107,7 @@ module _ {p : Setup} {v : View} {roots : List ℕ} {all first second : List Item
 
     -- the second part was served next
     module _ {t2 : PlainTrace} {roots2 : List ℕ} {won' : List Grey}
-        (next : Serves p (es ++ served.events) served.view t1 roots1 second t2 roots2 won') where
+        (next : ServesItems p (es ++ served.events) served.view t1 roots1 second t2 roots2 won') where
       target-stays : (r u : ℕ) → IsTargetOf served.view r u → IsTargetOf next.view r u
       target-stays r u target = elim target as (λ _. IsTargetOf next.view r u) [
         | inl nil ↦ inl nil
@@ -200,13 +200,13 @@ module _ {p : Setup} {v : View} {roots : List ℕ} {all first second : List Item
         | inr none ↦ next.lines (subst (λ (r : TraceRun). IsTrue r.lines) (sym served.run) on) x (let sum = halves.objects x in omega (arith, sum, some, none))
       ]
 
-      pub serves-both : Serves p es v t roots all t2 roots2 (won ++ won')
+      pub serves-both : ServesItems p es v t roots all t2 roots2 (won ++ won')
       serves-both = record {
         events = served.events ++ next.events;
         view = next.view;
         tracks = subst (λ ds. Tracks p ds t2 next.view) (append_assoc es served.events next.events) next.tracks;
         run = next.run ∙ served.run;
-        idle = next.idle;
+        none_won = next.none_won;
         sparse = next.sparse ∙ served.sparse;
         known = λ x u some. next.known x u (served.known x u some);
         copied = λ x.
@@ -234,13 +234,13 @@ module _ {p : Setup} {v : View} {roots : List ℕ} {all first second : List Item
 -- no items were served
 pub serves-none : {p : Setup} {es : List Event} {v : View} {t : PlainTrace} (roots : List ℕ) → Tracks p es t v
     → v.won ≡ []
-    → Serves p es v t roots [] t roots []
+    → ServesItems p es v t roots [] t roots []
 serves-none {p = p} {es = es} {v = v} {t = t} roots tracks idle = record {
   events = [];
   view = v;
   tracks = subst (λ ds. Tracks p ds t v) (sym (append-nil es)) tracks;
   run = refl;
-  idle = idle;
+  none_won = idle;
   sparse = refl;
   known = λ x u some. some;
   copied = λ x. omega arith;

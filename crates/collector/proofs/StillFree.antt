@@ -14,10 +14,10 @@ use Rattle.object_model.proofs.OneKind.{kind-code, kind-within, kind-from}
 use Rattle.sessions.specs.Plans.{Rules, Plan, rules_of}
 use Rattle.sessions.specs.Collecting as collecting
 use Rattle.sessions.specs.Collecting.{is_old_under, still_free}
-use Rattle.trace_core.specs.Setups.{Setup, blocks, collection, held, is_old}
+use Rattle.trace_core.specs.Setups.{Setup, blocks, collection, held, stays_old}
 use Rattle.trace_core.specs.Machine.{Event}
-use Rattle.trace_core.specs.Traces.{IsTrace, IsFinished, machine_after, heap_after, stage_of}
-use Rattle.trace_core.specs.Outcomes.{base_after, image}
+use Rattle.trace_core.specs.Traces.{IsTracing, IsFinished, machine_after, heap_after, stage_of}
+use Rattle.trace_core.specs.Outcomes.{base_after_trace, image}
 use Rattle.trace_core.specs.Views.{one_if, times, without}
 use Rattle.trace_core.specs.Runs.{is_nursery}
 use Rattle.trace_core.specs.Rooms.{IsFilled}
@@ -63,8 +63,8 @@ nursery-is : (kind : Collect) → IsTrue (is_nursery kind) → kind ≡ Nursery
 nursery-is Nursery is = refl
 nursery-is Full is = absurd (true≢false (sym is))
 
-module _ {q : Plan} {c : Collect} {p : Setup} {u : List ℕ} (under : IsSetupUnder q c p u) {es : List Event} (trace : IsTrace p es) (finished : IsFinished p (machine_after p es))
-    {v : List ℕ} (all : IsAllReleased (rules_of q) c (base_after p) (heap_after p es) v (collection p) (base_after p)) where
+module _ {q : Plan} {c : Collect} {p : Setup} {u : List ℕ} (under : IsSetupUnder q c p u) {es : List Event} (trace : IsTracing p es) (finished : IsFinished p (machine_after p es))
+    {v : List ℕ} (all : IsAllReleased (rules_of q) c (base_after_trace p) (heap_after p es) v (collection p) (base_after_trace p)) where
   abbrev r : Rules
   r = rules_of q
 
@@ -75,7 +75,7 @@ module _ {q : Plan} {c : Collect} {p : Setup} {u : List ℕ} (under : IsSetupUnd
   after = heap_after p es
 
   abbrev new : HeapState
-  new = record { words = v; blocks = blocks p; number = collection p; base = base_after p }
+  new = record { words = v; blocks = blocks p; number = collection p; base = base_after_trace p }
 
   abbrev taken : ℕ → ℕ
   taken = (machine_after p es).taken
@@ -93,8 +93,8 @@ module _ {q : Plan} {c : Collect} {p : Setup} {u : List ℕ} (under : IsSetupUnd
       ]
 
   -- In a full collection no object counts as old, and in a nursery collection the plan's old ones.
-  young-given : (a : ℕ) → (c ≡ Full) ⊎ (is_old_under r old a ≡ false) → is_old p a ≡ false
-  young-given a young = false_from_ne_true (is_old p a) (λ aged.
+  young-given : (a : ℕ) → (c ≡ Full) ⊎ (is_old_under r old a ≡ false) → stays_old p a ≡ false
+  young-given a young = false_from_ne_true (stays_old p a) (λ aged.
       let nursery = and_parts p.nursery (held p a && ages.is_old p.before a) aged in
       let both = and_parts (held p a) (ages.is_old p.before a) nursery.1 in
       elim young as (λ _. ⊥) [

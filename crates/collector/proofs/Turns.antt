@@ -8,7 +8,7 @@ use Rattle.object_model.specs.Objects.{HeapState, with_words, HasKind, IsInExten
 use Rattle.object_model.proofs.Marks as marks
 use Rattle.trace_core.specs.Setups.{Setup, blocks, size}
 use Rattle.trace_core.specs.Machine.{Event, Machine, address_or_nil}
-use Rattle.trace_core.specs.Traces.{IsTrace, IsFinished, machine_after, stage_of, target_of}
+use Rattle.trace_core.specs.Traces.{IsTracing, IsFinished, machine_after, stage_of, target_of}
 use Rattle.trace_core.specs.Outcomes.{image}
 use Rattle.trace_core.specs.Views.{View, Holds, one_if, times}
 use Rattle.trace_core.specs.Rooms.{IsLeftFor, AreLeft}
@@ -19,7 +19,7 @@ use Rattle.collector.specs.Collected.{IsCopiedAt, IsLeftForNext, AreFilledInTurn
 use Rattle.trace_core.proofs.SameObjects as given
 use Rattle.collector.proofs.Given.{SameButBits, kind-given}
 
-module _ (p : Setup) (u : List ℕ) (like : SameButBits p.before u) (es : List Event) (trace : IsTrace p es) (finished : IsFinished p (machine_after p es)) where
+module _ (p : Setup) (u : List ℕ) (like : SameButBits p.before u) (es : List Event) (trace : IsTracing p es) (finished : IsFinished p (machine_after p es)) where
   abbrev old : HeapState
   old = with_words p.before u
 

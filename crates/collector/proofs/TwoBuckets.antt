@@ -12,8 +12,8 @@ use Rattle.work_packets.specs.Buckets.{is_before}
 use Rattle.work_packets.specs.Packets.{packets_after}
 use Rattle.object_model.specs.Heaps.{heap_state}
 use Rattle.collector.specs.declared.item.Item.{Item}
-use Rattle.collector.specs.declared.packet_trace.PacketTrace.{PacketTrace}
-use Rattle.collector.specs.declared.worker.TraceStart.{TraceStart}
+use Rattle.collector.specs.declared.packet_tracer.PacketTracer.{PacketTracer}
+use Rattle.collector.specs.declared.worker.TracingStart.{TracingStart}
 use Rattle.collector.specs.Items.{registers, items_of}
 use Rattle.collector.specs.Working.{AwaitsPackets, IsOfTrace, TakesPlaces}
 use Rattle.collector.proofs.ItemCounts.{registers-append, all-both, packets-same}
@@ -22,8 +22,8 @@ use Rattle.collector.proofs.AwaitedSteps.{same-awaited}
 no-truth : false ≡ true → ⊥
 no-truth e = cc
 
--- the order of packets is not told
-pub awaits-all : (start : TraceStart) (w : PacketTrace) (ps : List (Packet Item)) → AwaitsPackets start w ps → AwaitsAll AwaitsPackets start w ps
+-- the order of packets is open
+pub awaits-all : (start : TracingStart) (w : PacketTracer) (ps : List (Packet Item)) → AwaitsPackets start w ps → AwaitsAll AwaitsPackets start w ps
 awaits-all start w ps aw = λ qs order. record {
   awaited = same-awaited (heap_state start.heap) start.run start.roots.items w (items_of ps) (items_of qs) (packets-same ps qs order) aw.awaited;
   buckets = All-permutation IsOfTrace ps qs order aw.buckets;
@@ -37,7 +37,7 @@ module _ (h : ℕ) where
       (λ i some. places i (let both = registers-append i p.items.items (items_of ps) in omega arith))
       (places-of ps (λ i some. places i (let both = registers-append i p.items.items (items_of ps) in omega arith)))
 
-pub takes-awaited : (start : TraceStart) (w : PacketTrace) (ps : List (Packet Item)) → AwaitsPackets start w ps → All (TakesPlaces (length w.roots.items)) ps
+pub takes-awaited : (start : TracingStart) (w : PacketTracer) (ps : List (Packet Item)) → AwaitsPackets start w ps → All (TakesPlaces (length w.roots.items)) ps
 takes-awaited start w ps aw = places-of (length w.roots.items) ps aw.awaited.rights.places
 
 -- packets of the trace after one of its buckets
@@ -80,15 +80,15 @@ module _ {X : Type 0} where
   holds-of-one P xs x one holds = subst (All P) (sym one) (All-cons P x [] holds (All-nil P))
 
 -- the workers of a trace
-module _ {W : Type 0} (trace : W → PacketTrace) where
+module _ {W : Type 0} (trace : W → PacketTracer) where
   pub one-home : (ws : List W) (w : W) → ws ≡ w ∷ [] → All (λ v. length (trace v).roots.items ≡ length (trace w).roots.items) ws
   one-home ws w one = holds-of-one (λ v. length (trace v).roots.items ≡ length (trace w).roots.items) ws w one refl
 
-  abbrev pub Waits : TraceStart → W → List (Packet Item) → Type 0
+  abbrev pub Waits : TracingStart → W → List (Packet Item) → Type 0
   Waits start w ps = AwaitsPackets start (trace w) ps
 
   -- after the scans, the one worker that is popped awaits nothing
-  pub nothing-awaited : (start : TraceStart) (ws rest : List W) (v w : W) (ps later : List (Packet Item)) → ws ≡ v ∷ [] → ws ≡ rest ++ w ∷ []
+  pub nothing-awaited : (start : TracingStart) (ws rest : List W) (v w : W) (ps later : List (Packet Item)) → ws ≡ v ∷ [] → ws ≡ rest ++ w ∷ []
       → AwaitsAll Waits start v later → IsPermutation (packets_after Closure ps) later → AwaitsPackets start (trace w) []
   nothing-awaited start ws rest v w ps later one popped all left =
       let aw : AwaitsPackets start (trace v) later = all later (IsPermutation-refl later) in

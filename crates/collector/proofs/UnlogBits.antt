@@ -1,4 +1,4 @@
--- After a trace that began with no unlog bit set, the unlog bits tell what lives.
+-- After a trace that began with no unlog bit set, the unlog bits show what lives.
 use Rattle.std.proofs.Common.{◌≡◌, sym, ◌∙◌, ap, subst, ℕ, ◌<◌, inl, inr, arith, false, true≢false, ◌&&◌, not, IsTrue, List, Some}
 use Rattle.heap_layout.specs.Zones.{block_at, IsAddress}
 use Rattle.heap_layout.specs.declared.layout.Layout.{Layout}
@@ -9,15 +9,15 @@ use Rattle.object_model.specs.Ages.{Lives}
 use Rattle.object_model.specs.Releasing.{IsReleasable}
 use Rattle.block_sweeps.specs.Sweeping.{InBlock}
 use Rattle.sessions.specs.Plans.{Rules}
-use Rattle.trace_core.specs.Setups.{Setup, blocks, held, is_logged}
+use Rattle.trace_core.specs.Setups.{Setup, blocks, held, was_logged}
 use Rattle.trace_core.specs.Machine.{Event, target}
-use Rattle.trace_core.specs.Traces.{IsTrace, IsFinished, machine_after, heap_after, stage_of, target_of}
-use Rattle.trace_core.specs.Outcomes.{base_after, image, FinishedRow}
+use Rattle.trace_core.specs.Traces.{IsTracing, IsFinished, machine_after, heap_after, stage_of, target_of}
+use Rattle.trace_core.specs.Outcomes.{base_after_trace, image, FinishedRow}
 use Rattle.trace_core.proofs.Rows.{row}
 use Rattle.trace_core.proofs.Clauses.{unlogs-from}
 use Rattle.trace_core.proofs.Finished.{lives, onto}
 use Rattle.trace_core.proofs.Releasable.{releasable}
-use Rattle.collector.specs.Released.{ReleasesBelow, MarksTell}
+use Rattle.collector.specs.Released.{ReleasesBelow, UnlogBitsMarkSurvivors}
 use Rattle.collector.proofs.Metadata.{SameReads}
 use Rattle.collector.proofs.Alike.{SameRest, rest-back, reads-back, held-after, lives-after}
 use Rattle.collector.proofs.Bare.{IsBare}
@@ -25,7 +25,7 @@ use Rattle.collector.proofs.Runs.{some-or-none, span-tail}
 use Rattle.collector.proofs.Steps.{IsReleasedBelow, tail-bare}
 use Rattle.collector.proofs.InOrder.{released-below}
 
-module _ (p : Setup) (es : List Event) (trace : IsTrace p es) (finished : IsFinished p (machine_after p es))
+module _ (p : Setup) (es : List Event) (trace : IsTracing p es) (finished : IsFinished p (machine_after p es))
     (full : p.nursery ≡ false) (clear : (a : ℕ) → is_unlogged p.before a ≡ false) where
   abbrev after : HeapState
   after = heap_after p es
@@ -34,27 +34,27 @@ module _ (p : Setup) (es : List Event) (trace : IsTrace p es) (finished : IsFini
   left = row p es trace finished
 
   -- no object is old
-  not-logged : (x : ℕ) → is_logged p x ≡ false
+  not-logged : (x : ℕ) → was_logged p x ≡ false
   not-logged x = ap (λ nursery. (nursery && (held p x && ages.is_old p.before x)) && not (is_unlogged p.before x)) full
 
-  living-marked : (a : ℕ) → Lives (base_after p) after a → IsTrue (is_unlogged after a)
+  living-marked : (a : ℕ) → Lives (base_after_trace p) after a → IsTrue (is_unlogged after a)
   living-marked a living =
       let by = onto p es trace finished a living in
       subst (λ t. IsTrue (is_unlogged after t)) by.2 (left.unlogged by.0 by.1 (not-logged by.0))
 
-  marked-lives : (a : ℕ) → IsTrue (is_unlogged after a) → Lives (base_after p) after a
-  marked-lives a set = elim (unlogs-from p es trace a set) as (λ _. Lives (base_after p) after a) [
+  marked-lives : (a : ℕ) → IsTrue (is_unlogged after a) → Lives (base_after_trace p) after a
+  marked-lives a set = elim (unlogs-from p es trace a set) as (λ _. Lives (base_after_trace p) after a) [
     | inl was ↦ absurd (true≢false (sym was ∙ clear a))
     | inr by ↦
         let goes : target_of p es by.0 ≡ Some a = elim by.3 as (λ _. target_of p es by.0 ≡ Some a) [ inl scans ↦ ap target scans | inr copies ↦ ap target copies.0 ] in
         lives p es trace finished by.0 a goes
   ]
 
-  pub marks : (k : ℕ) → MarksTell (base_after p) after k
+  pub marks : (k : ℕ) → UnlogBitsMarkSurvivors (base_after_trace p) after k
   marks k a here there = (living-marked a, marked-lives a)
 
 -- a block without objects
-bare-marks : (base : ℕ) (s : HeapState) (k : ℕ) → IsBare s k → MarksTell base s k
+bare-marks : (base : ℕ) (s : HeapState) (k : ℕ) → IsBare s k → UnlogBitsMarkSurvivors base s k
 bare-marks base s k bare a here held = absurd (true≢false (sym held.start ∙ bare.starts a here.block))
 
 -- a block whose metadata reads the same
@@ -65,34 +65,34 @@ module _ (base : ℕ) (s t : HeapState) (rest : SameRest s t) (k : ℕ) (same : 
   in-before : (a : ℕ) → InBlock t k a → InBlock s k a
   in-before a here = record { address = subst (λ b. IsAddress b a) rest.blocks here.address; block = ap (λ b. block_at b a) (sym rest.blocks) ∙ here.block }
 
-  same-marks : MarksTell base s k → MarksTell base t k
+  same-marks : UnlogBitsMarkSurvivors base s k → UnlogBitsMarkSurvivors base t k
   same-marks was a here held =
       let now = in-before a here in
-      let tells = was a now (held-after t s (rest-back s t rest) k back a here.block held) in (
-        (λ living. same.unlogs a now.block ∙ tells.0 (lives-after t s (rest-back s t rest) k back base a here.block living)),
-        (λ set. lives-after s t rest k same base a now.block (tells.1 (sym (same.unlogs a now.block) ∙ set))),
+      let shows = was a now (held-after t s (rest-back s t rest) k back a here.block held) in (
+        (λ living. same.unlogs a now.block ∙ shows.0 (lives-after t s (rest-back s t rest) k back base a here.block living)),
+        (λ set. lives-after s t rest k same base a now.block (shows.1 (sym (same.unlogs a now.block) ∙ set))),
       )
 
--- the unlog bits of the next block to release tell the same as before the release of others
+-- the unlog bits of the next block to release show the same as before the release of others
 module _ (r : Rules) (c : Collect) (base : ℕ) (s : HeapState) (ready : (k : ℕ) → k < s.blocks → IsReleasable s k) (mid : HeapState) (n : ℕ) (there : n < s.blocks)
     (below : IsReleasedBelow r c base s mid n) where
-  marks-still : MarksTell base s n → MarksTell base mid n
-  marks-still was = elim (some-or-none s n n) as (λ _. MarksTell base mid n) [
+  marks-still : UnlogBitsMarkSurvivors base s n → UnlogBitsMarkSurvivors base mid n
+  marks-still was = elim (some-or-none s n n) as (λ _. UnlogBitsMarkSurvivors base mid n) [
     | inl some ↦ bare-marks base mid n (tail-bare r c base s ready mid n there below (span-tail s ready some.0 n some.2 (λ same. let less : some.0 < n = some.1 in omega arith)) some.0 some.1 some.2)
     | inr apart ↦ same-marks base s mid below.rest n (below.later n there apart) was
   ]
 
-pub marks-next : (p : Setup) (es : List Event) (r : Rules) (c : Collect) (mid : HeapState) (n : ℕ) → IsTrace p es → IsFinished p (machine_after p es)
+pub marks-next : (p : Setup) (es : List Event) (r : Rules) (c : Collect) (mid : HeapState) (n : ℕ) → IsTracing p es → IsFinished p (machine_after p es)
     → p.nursery ≡ false → ((a : ℕ) → is_unlogged p.before a ≡ false)
-    → ReleasesBelow r c (base_after p) (heap_after p es) mid n → n < blocks p → MarksTell (base_after p) mid n
+    → ReleasesBelow r c (base_after_trace p) (heap_after p es) mid n → n < blocks p → UnlogBitsMarkSurvivors (base_after_trace p) mid n
 marks-next p es r c mid n trace finished full clear below there =
     let ready : (k : ℕ) → k < blocks p → IsReleasable (heap_after p es) k = releasable p es trace finished in
-    marks-still r c (base_after p) (heap_after p es) ready mid n there (released-below r c (base_after p) (heap_after p es) ready mid n below) (marks p es trace finished full clear n)
+    marks-still r c (base_after_trace p) (heap_after p es) ready mid n there (released-below r c (base_after_trace p) (heap_after p es) ready mid n below) (marks p es trace finished full clear n)
 
 -- the numbers of a heap are no part of it
-pub marks-again : (age : ℕ) (words : List ℕ) (l : Layout) (number base number' base' k : ℕ) → MarksTell age (state_over words l number base) k → MarksTell age (state_over words l number' base') k
+pub marks-again : (age : ℕ) (words : List ℕ) (l : Layout) (number base number' base' k : ℕ) → UnlogBitsMarkSurvivors age (state_over words l number base) k → UnlogBitsMarkSurvivors age (state_over words l number' base') k
 marks-again age words l number base number' base' k was a here held =
-    let tells = was a (record { address = here.address; block = here.block }) (record { address = held.address; start = held.start }) in (
-      (λ living. tells.0 (record { held = record { address = living.held.address; start = living.held.start }; survives = living.survives })),
-      (λ set. record { held = held; survives = (tells.1 set).survives }),
+    let shows = was a (record { address = here.address; block = here.block }) (record { address = held.address; start = held.start }) in (
+      (λ living. shows.0 (record { held = record { address = living.held.address; start = living.held.start }; survives = living.survives })),
+      (λ set. record { held = held; survives = (shows.1 set).survives }),
     )

@@ -14,16 +14,16 @@ use Rattle.plan_api.specs.Evacuation.{listed}
 use Rattle.plan_api.proofs.EvacuationLaws.{flag-of}
 use Rattle.trace_core.specs.Setups.{Setup, blocks, collection}
 use Rattle.trace_core.specs.Machine.{Event}
-use Rattle.trace_core.specs.Traces.{IsTrace, IsFinished, machine_after, heap_after, stage_of}
-use Rattle.trace_core.specs.Outcomes.{base_after, image, HaveAsked, NoOthersAsked}
+use Rattle.trace_core.specs.Traces.{IsTracing, IsFinished, machine_after, heap_after, stage_of}
+use Rattle.trace_core.specs.Outcomes.{base_after_trace, image, HaveAsked, NoOthersAsked}
 use Rattle.trace_core.specs.Rooms.{AreLeft}
-use Rattle.trace_core.specs.Runs.{is_nursery, is_set, without_lines, without_unlogs, setup_of, MayRun}
+use Rattle.trace_core.specs.Runs.{is_nursery, is_some_true, without_lines, without_unlogs, setup_of, MayRun}
 use Rattle.trace_core.specs.Views.{View, Holds}
 use Rattle.trace_core.specs.declared.run.TraceRun.{TraceRun}
 use Rattle.trace_core.proofs.WithoutLines as lines
 use Rattle.trace_core.proofs.Begun as begins
 use Rattle.trace_core.proofs.Begun.{by-begun}
-use Rattle.collector.specs.Released.{ReleasesBelow, AreReleased, heap_with}
+use Rattle.collector.specs.Released.{ReleasesBelow, AreReleased, with_numbers}
 use Rattle.collector.specs.Collected.{IsRunUnder, FillsBlocks, FillsInTurn}
 use Rattle.collector.proofs.Given.{SameButBits, IsSetupUnder}
 use Rattle.collector.proofs.Fates.{IsAllReleased}
@@ -41,14 +41,14 @@ CollectsBy F r w c old roots new after = (made : Collects r w c old roots new af
 abbrev with : List ℕ → ℕ → ℕ → ℕ → HeapState
 with w b number base = record { words = w; blocks = b; number = number; base = base }
 
-module _ {q : Plan} {c : Collect} {p : Setup} {u : List ℕ} (under : IsSetupUnder q c p u) {es : List Event} (trace : IsTrace p es) (finished : IsFinished p (machine_after p es))
-    {v : List ℕ} (all : IsAllReleased (rules_of q) c (base_after p) (heap_after p es) v (collection p) (base_after p))
+module _ {q : Plan} {c : Collect} {p : Setup} {u : List ℕ} (under : IsSetupUnder q c p u) {es : List Event} (trace : IsTracing p es) (finished : IsFinished p (machine_after p es))
+    {v : List ℕ} (all : IsAllReleased (rules_of q) c (base_after_trace p) (heap_after p es) v (collection p) (base_after_trace p))
     (roots : List ℕ) (asked : HaveAsked roots (machine_after p es).asked) (no-others : NoOthersAsked roots (machine_after p es).asked) (fills : FillsBlocks p (machine_after p es)) where
-  base-by : (kind : Collect) → p.nursery ≡ is_nursery kind → base_after p ≡ collecting.base_after kind (collection p) p.before.base
+  base-by : (kind : Collect) → p.nursery ≡ is_nursery kind → base_after_trace p ≡ collecting.base_after kind (collection p) p.before.base
   base-by Full full = cond-false p.nursery p.before.base (collection p) full
   base-by Nursery nursery = cond-true p.nursery p.before.base (collection p) nursery
 
-  collects : Collects (rules_of q) p.workers c (with_words p.before u) roots (with v (blocks p) (collection p) (base_after p)) (map (image (stage_of p es)) roots)
+  collects : Collects (rules_of q) p.workers c (with_words p.before u) roots (with v (blocks p) (collection p) (base_after_trace p)) (map (image (stage_of p es)) roots)
   collects = record {
     target = image (stage_of p es);
     kept = kept under trace finished all roots asked;
@@ -62,25 +62,25 @@ module _ {q : Plan} {c : Collect} {p : Setup} {u : List ℕ} (under : IsSetupUnd
     base = base-by c under.nursery;
     layout = refl;
     moved = λ a some young moves same.
-        let most : still_free (with_words p.before u) (with v (blocks p) (collection p) (base_after p)) ≤ length fills.last = in-place under trace finished all fills.last fills.full a some young moves same in
+        let most : still_free (with_words p.before u) (with v (blocks p) (collection p) (base_after_trace p)) ≤ length fills.last = in-place under trace finished all fills.last fills.full a some young moves same in
         let few : length fills.last ≤ p.workers = fills.few in omega (arith, most, few);
   }
 
 -- the flag of a block, as setups and as lists read it
-set-listed : (o : Option Bool) → is_set o ≡ unwrap_or o false
+set-listed : (o : Option Bool) → is_some_true o ≡ unwrap_or o false
 set-listed None = refl
 set-listed (Some b) = refl
 
--- the number and the base that the tracer is told are those of the setup
+-- the number and the base that the tracer gets are those of the setup
 pub record IsNumbered (s : HeapState) (run : TraceRun) (p : Setup) : Type 0 where
   pub blocks : blocks p ≡ s.blocks
   pub number : run.number ≡ collection p
-  pub base : run.base ≡ base_after p
+  pub base : run.base ≡ base_after_trace p
 
 module _ (s : HeapState) (run : TraceRun) (w : ℕ) where
   -- the setup, by the heap as its trace begins
   abbrev setup : HeapState → Setup
-  setup h = record { before = h; nursery = is_nursery run.collect; from = λ b. is_set (slice_get run.from.items b); copy = run.copy_kind; workers = w }
+  setup h = record { before = h; nursery = is_nursery run.collect; from = λ b. is_some_true (slice_get run.from.items b); copy = run.copy_kind; workers = w }
 
   by-heap : (P : Setup → Type 0) → P (setup (without_unlogs (without_lines s))) → P (setup (without_unlogs s)) → P (setup s) → P (setup_of s run w)
   by-heap P = by-begun s run (λ h. P (setup h))
@@ -99,25 +99,25 @@ module _ (s : HeapState) (run : TraceRun) (w : ℕ) where
     numbered p is = subst (IsNumbered s run) (sym is) (by-heap (IsNumbered s run) (numbered-by (without_unlogs (without_lines s)) refl) (numbered-by (without_unlogs s) refl) (numbered-by s refl))
 
     -- what the release of all blocks left, by the setup's numbers
-    releases : (p : Setup) → IsNumbered s run p → (es : List Event) (r : Rules) (c : Collect) (new : HeapState) → IsTrace p es → IsFinished p (machine_after p es)
-        → ReleasesBelow r c run.base (heap_after p es) new s.blocks → AreReleased r c (base_after p) (heap_after p es) new (blocks p)
+    releases : (p : Setup) → IsNumbered s run p → (es : List Event) (r : Rules) (c : Collect) (new : HeapState) → IsTracing p es → IsFinished p (machine_after p es)
+        → ReleasesBelow r c run.base (heap_after p es) new s.blocks → AreReleased r c (base_after_trace p) (heap_after p es) new (blocks p)
     releases p is es r c new trace finished below = released p es r c new (blocks p) trace finished (subst₂ (λ b n. ReleasesBelow r c b (heap_after p es) new n) is.base (sym is.blocks) below)
 
-    pub lawful-after : (p : Setup) → p ≡ setup_of s run w → (es : List Event) (r : Rules) (c : Collect) (new : HeapState) → IsTrace p es → IsFinished p (machine_after p es)
-        → ((i : ℕ) → word_at (heap_after p es) i < 2 ^ 64) → ReleasesBelow r c run.base (heap_after p es) new s.blocks → IsLawful (heap_with new run.number run.base)
+    pub lawful-after : (p : Setup) → p ≡ setup_of s run w → (es : List Event) (r : Rules) (c : Collect) (new : HeapState) → IsTracing p es → IsFinished p (machine_after p es)
+        → ((i : ℕ) → word_at (heap_after p es) i < 2 ^ 64) → ReleasesBelow r c run.base (heap_after p es) new s.blocks → IsLawful (with_numbers new run.number run.base)
     lawful-after p is es r c new trace finished fits below =
         let numbers = numbered p is in
-        subst₂ (λ n b. IsLawful (heap_with new n b)) (sym numbers.number) (sym numbers.base) (lawful p es trace finished r c new fits (releases p numbers es r c new trace finished below))
+        subst₂ (λ n b. IsLawful (with_numbers new n b)) (sym numbers.number) (sym numbers.base) (lawful p es trace finished r c new fits (releases p numbers es r c new trace finished below))
 
-module _ (q : Plan) (c : Collect) (s : HeapState) (run : TraceRun) (w : ℕ) (lawful-before : IsLawful s) (may : MayRun s run) (told : IsRunUnder (rules_of q) c s run) where
+module _ (q : Plan) (c : Collect) (s : HeapState) (run : TraceRun) (w : ℕ) (lawful-before : IsLawful s) (may : MayRun s run) (shown : IsRunUnder (rules_of q) c s run) where
   abbrev r : Rules
   r = rules_of q
 
   abbrev Makes : Setup → Type 0
-  Makes p = (es : List Event) (roots : List ℕ) (new : HeapState) → IsTrace p es → IsFinished p (machine_after p es)
+  Makes p = (es : List Event) (roots : List ℕ) (new : HeapState) → IsTracing p es → IsFinished p (machine_after p es)
       → HaveAsked roots (machine_after p es).asked → NoOthersAsked roots (machine_after p es).asked → FillsBlocks p (machine_after p es)
       → ReleasesBelow r c run.base (heap_after p es) new s.blocks
-      → CollectsBy (image (stage_of p es)) r w c s roots (heap_with new run.number run.base) (map (image (stage_of p es)) roots)
+      → CollectsBy (image (stage_of p es)) r w c s roots (with_numbers new run.number run.base) (map (image (stage_of p es)) roots)
 
   -- with unlog bits cleared, and with line bits cleared before
   unlogs : SameButBits (without_unlogs s) s.words
@@ -161,31 +161,31 @@ module _ (q : Plan) (c : Collect) (s : HeapState) (run : TraceRun) (w : ℕ) (la
     under : IsSetupUnder q c p s.words
     under = record {
       like = like;
-      nursery = ap is_nursery told.collect;
-      young = told.young;
-      from = λ k there. set-listed (slice_get run.from.items k) ∙ ap (λ l. listed l k) told.from
+      nursery = ap is_nursery shown.collect;
+      young = shown.young;
+      from = λ k there. set-listed (slice_get run.from.items k) ∙ ap (λ l. listed l k) shown.from
           ∙ flag-of (is_evacuated r c s) s.blocks k (subst (λ n. k < n) numbers.blocks there) ∙ ap (λ (x : HeapState). is_evacuated r c x k) (sym same);
-      copy = told.copy;
+      copy = shown.copy;
     }
 
     of-setup : Makes p
     unfolding collects
     of-setup es roots new trace finished asked no-others fills below =
-        let are : AreReleased r c (base_after p) (heap_after p es) new (blocks p) = releases s run w may p numbers es r c new trace finished below in
+        let are : AreReleased r c (base_after_trace p) (heap_after p es) new (blocks p) = releases s run w may p numbers es r c new trace finished below in
         let after : List ℕ = map (image (stage_of p es)) roots in
         let F : ℕ → ℕ = image (stage_of p es) in
         subst (λ n. CollectsBy F r w c s roots (with new.words new.blocks run.number n) after) (sym numbers.base)
-        (subst (λ n. CollectsBy F r w c s roots (with new.words new.blocks n (base_after p)) after) (sym numbers.number)
-        (subst (λ n. CollectsBy F r w c s roots (with new.words n (collection p) (base_after p)) after) (sym are.blocks)
-        (subst (λ old. CollectsBy F r w c old roots (with new.words (blocks p) (collection p) (base_after p)) after) same
-        (collects under trace finished (all-numbered p es trace finished r c new (collection p) (base_after p) are) roots asked no-others fills, refl))))
+        (subst (λ n. CollectsBy F r w c s roots (with new.words new.blocks n (base_after_trace p)) after) (sym numbers.number)
+        (subst (λ n. CollectsBy F r w c s roots (with new.words n (collection p) (base_after_trace p)) after) (sym are.blocks)
+        (subst (λ old. CollectsBy F r w c old roots (with new.words (blocks p) (collection p) (base_after_trace p)) after) same
+        (collects under trace finished (all-numbered p es trace finished r c new (collection p) (base_after_trace p) are) roots asked no-others fills, refl))))
 
   pub makes : (p : Setup) → p ≡ setup_of s run w → Makes p
   makes p is = subst Makes (sym is) (by-heap s run w Makes (of-setup (without_unlogs (without_lines s)) both refl) (of-setup (without_unlogs s) unlogs refl) (of-setup s itself refl))
 
   -- how one worker filled blocks
   abbrev Turns : Setup → Type 0
-  Turns p = (es : List Event) (v : View) → IsTrace p es → IsFinished p (machine_after p es) → Holds p (machine_after p es) v → AreLeft p (machine_after p es) [] v.blocks
+  Turns p = (es : List Event) (v : View) → IsTracing p es → IsFinished p (machine_after p es) → Holds p (machine_after p es) v → AreLeft p (machine_after p es) [] v.blocks
       → ((b d : ℕ) → 0 < (machine_after p es).taken b → d < b → HasKind p.before d kinds.Free → 0 < (machine_after p es).taken d) → FillsInTurn s (image (stage_of p es))
 
   turns-by : (h : HeapState) → SameButBits h s.words → with_words h s.words ≡ s → Turns (setup s run w h)

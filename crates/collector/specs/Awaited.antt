@@ -11,7 +11,7 @@ use Rattle.plain_tracer.specs.Tracers.{Tracks}
 use Rattle.trace_core.specs.Runs.{setup_of}
 use Rattle.trace_core.specs.declared.run.TraceRun.{TraceRun}
 use Rattle.collector.specs.declared.item.Item.{Item}
-use Rattle.collector.specs.declared.packet_trace.PacketTrace.{PacketTrace}
+use Rattle.collector.specs.declared.packet_tracer.PacketTracer.{PacketTracer}
 use Rattle.collector.specs.Items.{registers, globals, objects}
 use Rattle.collector.specs.Serving.{HasRights, IsTargetOf, HasItsLines}
 use Rattle.collector.specs.Tallies.{IsTally}
@@ -19,7 +19,8 @@ use Rattle.collector.specs.Tallies.{IsTally}
 -- A trace of this heap from these roots has made some events, and is finished once these items, and no others, are
 -- served: all else that is copied is scanned, and its lines are marked if the run marks lines, the other globals are
 -- set, and the other roots are replaced by their targets. What is copied is counted.
-pub record IsAwaited (s : HeapState) (run : TraceRun) (roots : List ℕ) (w : PacketTrace) (items : List Item) : Type 0 where
+pub record IsAwaited (s : HeapState) (run : TraceRun) (roots : List ℕ) (w : PacketTracer)
+    (items : List Item) : Type 0 where
   pub events : List Event
   pub view : View
   pub tracks : Tracks (setup_of s run 1) events w.tracer view

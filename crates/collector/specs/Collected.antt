@@ -1,4 +1,4 @@
--- What a tracer is told of a collection under a plan, and how it fills blocks.
+-- How a collection under a plan is described to a tracer, and how it fills blocks.
 use Rattle.std.specs.Prelude.{◌≡◌, ◌≢◌, ℕ, ◌+◌, ◌<◌, ◌≤◌, ◌⊎◌, Bool, true, false, IsTrue, List, [], ◌∷◌, length, map}
 use Rattle.std.specs.List.{range_with_len}
 use Rattle.heap_layout.specs.Zones.{block_at, block_start}
@@ -20,8 +20,8 @@ use Rattle.trace_core.specs.declared.run.TraceRun.{TraceRun}
 unfoldable pub IsOffered : Rules → Collect → Type 0
 IsOffered r c = c ≡ Full
 
--- The tracer is told of a collection of this kind under these rules: which blocks the rules evacuate, the kind of blocks
--- that workers fill, and whether lines are marked. Only rules with young objects have nursery collections.
+-- The description is of a collection of this kind under these rules: which blocks the rules evacuate, the kind of
+-- blocks that workers fill, and whether lines are marked. Only rules with young objects have nursery collections.
 pub record IsRunUnder (r : Rules) (c : Collect) (s : HeapState) (run : TraceRun) : Type 0 where
   pub collect : run.collect ≡ c
   pub young : c ≡ Nursery → IsTrue r.young

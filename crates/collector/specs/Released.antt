@@ -32,29 +32,31 @@ pub record AreReleased (r : Rules) (c : Collect) (base : ℕ) (s s' : HeapState)
   pub fit : ((i : ℕ) → word_at s i < 2 ^ 64) → (i : ℕ) → word_at s' i < 2 ^ 64
 
 -- the heap with this row after a collection with these numbers
-abbrev pub heap_with : HeapState → ℕ → ℕ → HeapState
-heap_with s number base = record { words = s.words; blocks = s.blocks; number = number; base = base }
+abbrev pub with_numbers : HeapState → ℕ → ℕ → HeapState
+with_numbers s number base = record { words = s.words; blocks = s.blocks; number = number; base = base }
 
 -- each object that the trace keeps has a target other than its own place
 abbrev pub MoveAll : Setup → List Event → Type 0
 MoveAll p es = (x t : ℕ) → target_of p es x ≡ Some t → t ≢ x
 
--- The owner of block k tells what lives in it: all objects that begin in it if it has an owner, as the workers of a trace
--- are of the blocks that they copy into, and none if it has no owner.
-pub record OwnerTells (base : ℕ) (s : HeapState) (k : ℕ) : Type 0 where
+-- The owner of block k shows what lives in it: all objects that begin in it if it has an owner, as the workers of a
+-- trace are of the blocks that they copy into, and none if it has no owner.
+pub record OwnerShowsWhatLives (base : ℕ) (s : HeapState) (k : ℕ) : Type 0 where
   pub owned : 0 < owner_at s k → (a : ℕ) → InBlock s k a → IsHeld s a → Lives base s a
   pub unowned : owner_at s k ≡ 0 → HasNoLiving base s (InBlock s k)
 
--- The unlog bits of block k tell what lives in it: an object that is held there lives if and only if its unlog bit is set.
-abbrev pub MarksTell : ℕ → HeapState → ℕ → Type 0
-MarksTell base s k = (a : ℕ) → InBlock s k a → IsHeld s a → Lives base s a ↔ IsTrue (is_unlogged s a)
+-- The unlog bits of block k show what lives in it: an object that is held there lives if and only if its unlog bit is
+-- set.
+abbrev pub UnlogBitsMarkSurvivors : ℕ → HeapState → ℕ → Type 0
+UnlogBitsMarkSurvivors base s k = (a : ℕ) → InBlock s k a → IsHeld s a → Lives base s a ↔ IsTrue (is_unlogged s a)
 
 -- so does word i of unlog bits: of its bits exactly those of objects that live are set
-abbrev pub MarksTellIn : ℕ → HeapState → ℕ → Type 0
-MarksTellIn base s i = (j : ℕ) → j < 64 → has_bit (unlog_word s i) j ≡ (has_bit (start_word s i) j && is_survivor s base (address_of s i j))
+abbrev pub UnlogWordMarksSurvivors : ℕ → HeapState → ℕ → Type 0
+UnlogWordMarksSurvivors base s i = (j : ℕ) → j < 64 → has_bit (unlog_word s i) j
+    ≡ (has_bit (start_word s i) j && is_survivor s base (address_of s i j))
 
 -- The trace began with no line bit set, and marked each line that a target touches.
-pub record MarksTargets (p : Setup) (es : List Event) : Type 0 where
+pub record LinesOfTargetsAreMarked (p : Setup) (es : List Event) : Type 0 where
   pub clear : (k line : ℕ) → k < blocks p → line < BLOCK_LINES → line_marked p.before k line ≡ false
   pub all : (x t n : ℕ) → target_of p es x ≡ Some t → n < BLOCK_LINES * blocks p → TouchesLine (blocks p) t (size p x) n
       → IsTrue (bit_of (blocks p) LineWords (heap_after p es).words n)
@@ -67,5 +69,6 @@ pub record LivesOnLine (base : ℕ) (s : HeapState) (k line : ℕ) : Type 0 wher
   pub touches : TouchesLine s.blocks object (size_at s object) (BLOCK_LINES * k + line)
 
 -- The line bits of block k, if it is an Immix block, are those of the lines that what lives in it touches.
-abbrev pub LinesTell : ℕ → HeapState → ℕ → Type 0
-LinesTell base s k = HasKind s k kinds.Immix → (line : ℕ) → line < BLOCK_LINES → IsTrue (line_marked s k line) ↔ LivesOnLine base s k line
+abbrev pub LineBitsMarkSurvivors : ℕ → HeapState → ℕ → Type 0
+LineBitsMarkSurvivors base s k = HasKind s k kinds.Immix → (line : ℕ) → line < BLOCK_LINES
+    → IsTrue (line_marked s k line) ↔ LivesOnLine base s k line

@@ -18,7 +18,7 @@ use Rattle.collector.specs.Items.{registers, globals, objects, tokens_of}
 
 -- The view has the rights that these items need, each once, and these roots are nil or refer to objects.
 pub record HasRights (p : Setup) (v : View) (roots : List ℕ) (items : List Item) : Type 0 where
-  pub idle : v.won ≡ []
+  pub none_won : v.won ≡ []
   pub tokens : All (IsGrey p v) (tokens_of items)
   pub objects_once : (x : ℕ) → objects x items ≤ hits x 0 v.grey
   pub globals_once : (g : ℕ) → globals g items ≤ times g v.unset
@@ -40,13 +40,13 @@ pub record HasItsLines (p : Setup) (es : List Event) (x : ℕ) : Type 0 where
 -- The items were served: the tracer, whose view was v, made more events, the objects of the items were scanned, and
 -- their lines marked if the run marks lines, the globals set and the roots replaced by their targets. The tokens are
 -- those of the objects that were copied meanwhile.
-pub record Serves (p : Setup) (es : List Event) (v : View) (t : PlainTrace) (roots : List ℕ) (items : List Item)
+pub record ServesItems (p : Setup) (es : List Event) (v : View) (t : PlainTrace) (roots : List ℕ) (items : List Item)
     (t' : PlainTrace) (roots' : List ℕ) (pushed : List Grey) : Type 0 where
   pub events : List Event
   pub view : View
   pub tracks : Tracks p (es ++ events) t' view
   pub run : t'.run ≡ t.run
-  pub idle : view.won ≡ []
+  pub none_won : view.won ≡ []
   pub sparse : view.sparse ≡ v.sparse
   pub known : (x u : ℕ) → 0 < hits x u v.known → 0 < hits x u view.known
   -- objects

@@ -50,11 +50,11 @@ pub record IsNote (c : Collect) (s : HeapState) (target : ℕ → ℕ) (new : He
   pub free : note.free_blocks ≡ block_count new (λ k. has_kind new k kinds.Free)
 
 -- the target of each object where it is: a collection that reclaims nothing preserves all that is held
-abbrev pub in_place : HeapState → ℕ → ℕ
-in_place s a = if is_start s a then a else 0
+abbrev pub stays_in_place : HeapState → ℕ → ℕ
+stays_in_place s a = if is_start s a then a else 0
 
 -- the note of a collection, whose counts are those of its map
 abbrev pub NotesIf : (collects : Bool) (r : Rules) (w : ℕ) (c : Collect) (s : HeapState) (roots : List ℕ) (new : HeapState)
     (roots' : List ℕ) → CollectsIf collects r w c s roots new roots' → Note → Type 0
 NotesIf true r w c s roots new roots' made note = IsNote c s made.target new note
-NotesIf false r w c s roots new roots' made note = IsNote c s (in_place s) new note
+NotesIf false r w c s roots new roots' made note = IsNote c s (stays_in_place s) new note

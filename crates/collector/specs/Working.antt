@@ -13,10 +13,10 @@ use Rattle.plain_tracer.specs.Tracers.{Tracks}
 use Rattle.trace_core.specs.Runs.{MayRun}
 use Rattle.plain_tracer.specs.declared.tokens.Grey.{Grey}
 use Rattle.collector.specs.declared.item.Item.{Item}
-use Rattle.collector.specs.declared.packet_trace.PacketTrace.{PacketTrace}
-use Rattle.collector.specs.declared.worker.TraceStart.{TraceStart}
+use Rattle.collector.specs.declared.packet_tracer.PacketTracer.{PacketTracer}
+use Rattle.collector.specs.declared.worker.TracingStart.{TracingStart}
 use Rattle.collector.specs.Items.{registers, items_of, tokens_of}
-use Rattle.collector.specs.Serving.{HasRights, Serves}
+use Rattle.collector.specs.Serving.{HasRights, ServesItems}
 use Rattle.collector.specs.Awaited.{IsAwaited}
 use Rattle.collector.specs.Tallies.{Counts, unclaimed}
 
@@ -26,17 +26,17 @@ TakesPlaces h p = (i : ℕ) → 0 < registers i p.items.items → i < h
 
 -- The trace ran a packet and pushed these: whatever collection it traces, it served the items of the packet and pushed
 -- the objects that it copied meanwhile, which it counted.
-pub record RunsPacket (w : PacketTrace) (p : Packet Item) (q : List (Packet Item)) (v : PacketTrace) : Type 0 where
+pub record RunsPacket (w : PacketTracer) (p : Packet Item) (q : List (Packet Item)) (v : PacketTracer) : Type 0 where
   pub won : List Grey
   pub pushed : IsPermutation won (tokens_of (items_of q))
   pub closure : All (λ packet. packet.bucket ≡ buckets.Closure) q
   pub counts : Counts w.tally v.tally won
   pub serves : (setup : Setup) (es : List Event) (view : View) → Tracks setup es w.tracer view
       → HasRights setup view w.roots.items p.items.items
-      → Serves setup es view w.tracer w.roots.items p.items.items v.tracer v.roots.items won
+      → ServesItems setup es view w.tracer w.roots.items p.items.items v.tracer v.roots.items won
 
 -- the objects that the trace has still to claim are at most so many
-abbrev pub unclaimed_by : PacketTrace → ℕ
+abbrev pub unclaimed_by : PacketTracer → ℕ
 unclaimed_by w = unclaimed (state_of w.tracer.row) w.tracer.run.number
 
 -- the packet is run while objects are traced
@@ -44,12 +44,12 @@ abbrev pub IsOfTrace : Packet Item → Type 0
 IsOfTrace p = (p.bucket ≡ buckets.Roots) ⊎ (p.bucket ≡ buckets.Closure)
 
 -- The trace began so, and these packets are left.
-pub record AwaitsPackets (start : TraceStart) (w : PacketTrace) (ps : List (Packet Item)) : Type 0 where
+pub record AwaitsPackets (start : TracingStart) (w : PacketTracer) (ps : List (Packet Item)) : Type 0 where
   pub awaited : IsAwaited (heap_state start.heap) start.run start.roots.items w (items_of ps)
   pub buckets : All IsOfTrace ps
 
 -- The trace of a full collection began so, and nothing is left to serve.
-pub record IsFullTrace (start : TraceStart) (w : PacketTrace) : Type 0 where
+pub record IsFullTracer (start : TracingStart) (w : PacketTracer) : Type 0 where
   pub may : MayRun (heap_state start.heap) start.run
   pub full : start.run.collect ≡ Full
   pub awaited : IsAwaited (heap_state start.heap) start.run start.roots.items w []

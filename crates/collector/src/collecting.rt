@@ -10,19 +10,19 @@ ghost use Rattle.collector.specs.Collected.{IsOffered, IsRunUnder, FillsInTurn, 
 ghost use Rattle.collector.specs.Items.{items_of};
 ghost use Rattle.collector.specs.RootPackets.{AreRootPackets};
 ghost use Rattle.collector.specs.Awaited.{IsAwaited};
-ghost use Rattle.collector.specs.Working.{AwaitsPackets, IsFullTrace};
-ghost use Rattle.collector.specs.Tallies.{IsNote, NotesIf, in_place};
+ghost use Rattle.collector.specs.Working.{AwaitsPackets, IsFullTracer};
+ghost use Rattle.collector.specs.Tallies.{IsNote, NotesIf, stays_in_place};
 ghost use Rattle.object_model.specs.Lawful.{AreRoots};
-ghost use Rattle.collector.specs.declared.worker.TraceStart.{TraceStart};
+ghost use Rattle.collector.specs.declared.worker.TracingStart.{TracingStart};
 
 use crate::counting::count_held;
 use crate::item::Item;
 use crate::outcome::{Collected, Note};
-use crate::packet_trace::PacketTrace;
+use crate::packet_tracer::PacketTracer;
 use crate::releasing::{known_after, release_by};
 use crate::roots::root_packets;
 use crate::tally::Tally;
-use crate::worker::TraceWorker;
+use crate::worker::TracingWorker;
 use bitflags::Flags;
 use object_model::{Collect, Heap};
 use plain_tracer::PlainTrace;
@@ -80,7 +80,7 @@ fn count_only(heap: Heap, roots: Vec<u32>, collect: Collect) -> Collected
     requires number { (heap_state heap).number + 1 < 2 ^ 40 }
     ensures heap { OnlyCounts collect (heap_state heap) roots.items (heap_state result.heap)
         result.roots.items }
-    ensures note { IsNote collect (heap_state heap) (in_place (heap_state heap))
+    ensures note { IsNote collect (heap_state heap) (stays_in_place (heap_state heap))
         (heap_state result.heap) result.note }
 {
     let (kept, kept_words) = count_held(&heap);
@@ -101,7 +101,7 @@ fn count_only(heap: Heap, roots: Vec<u32>, collect: Collect) -> Collected
     }
 }
 
-/// What the tracer is told of a full collection under the plan.
+/// What the tracer gets as the description of a full collection under the plan.
 fn prepare<P: Plan>(alloc: Global, heap: &Heap, collect: Collect) -> Result<TraceRun, AllocError>
     requires full { collect ≡ Full }
     requires number { (heap_state heap.now).number + 1 < 2 ^ 40 }
@@ -127,7 +127,7 @@ fn begin(
     heap: Heap,
     run: TraceRun,
     roots: Vec<u32>,
-) -> Result<(PacketTrace, Vec<Packet<Item>>), AllocError>
+) -> Result<(PacketTracer, Vec<Packet<Item>>), AllocError>
     requires may { MayRun (heap_state heap) run }
     requires full { is_nursery run.collect ≡ false }
     requires few { length roots.items ≤ 1000000 }
@@ -139,7 +139,7 @@ fn begin(
     let mut tracer = PlainTrace::begin(heap, run)?;
     let globals = tracer.take_globals(alloc)?;
     let first = root_packets(alloc, roots.len() as u32, globals)?;
-    let trace = PacketTrace {
+    let trace = PacketTracer {
         tracer,
         roots,
         tally: Tally {
@@ -156,19 +156,19 @@ fn begin(
 /// Runs the packets of the roots, and then all that scan objects.
 fn run_packets<Q: Pool, G: Gate, R: Threads + Sync>(
     rt: &R,
-    trace: PacketTrace,
+    trace: PacketTracer,
     first: Vec<Packet<Item>>,
     pool: &Q,
     gate: &G,
-) -> Result<PacketTrace, AllocError>
-    requires awaits { (start : TraceStart) × AwaitsPackets start trace first.items }
+) -> Result<PacketTracer, AllocError>
+    requires awaits { (start : TracingStart) × AwaitsPackets start trace first.items }
     requires packets { AreRootPackets first.items }
-    ensures { IfOk result (λ t. (start : TraceStart) → AwaitsPackets start trace first.items
+    ensures { IfOk result (λ t. (start : TracingStart) → AwaitsPackets start trace first.items
         → AwaitsPackets start t []) }
 {
     let alloc = *first.allocator();
     let mut workers = Vec::with_capacity(alloc, 1)?;
-    workers.push_reserved(TraceWorker {
+    workers.push_reserved(TracingWorker {
         trace,
         gate,
         who: 17,
@@ -182,16 +182,16 @@ fn run_packets<Q: Pool, G: Gate, R: Threads + Sync>(
 }
 
 /// The heap after a trace of which nothing is left to do.
-fn finish<P: Plan>(trace: PacketTrace) -> Collected
-    requires { (start : TraceStart) × IsFullTrace start trace }
-    ensures { (start : TraceStart) → IsFullTrace start trace → P.rules.collects ≡ true
+fn finish<P: Plan>(trace: PacketTracer) -> Collected
+    requires { (start : TracingStart) × IsFullTracer start trace }
+    ensures { (start : TracingStart) → IsFullTracer start trace → P.rules.collects ≡ true
         → IsRunUnder P.rules start.run.collect (heap_state start.heap) start.run
         → (made : Collects P.rules 1 start.run.collect (heap_state start.heap)
         start.roots.items (heap_state result.heap) result.roots.items)
         × IsNote start.run.collect (heap_state start.heap) made.target
         (heap_state result.heap) result.note × FillsInTurn (heap_state start.heap) made.target }
 {
-    let PacketTrace {
+    let PacketTracer {
         tracer,
         roots,
         tally,

@@ -15,51 +15,51 @@ ghost use Rattle.sessions.specs.Plans.{Rules, Plan, rules_of};
 ghost use Rattle.sessions.specs.Collecting.{IsCollection};
 ghost use Rattle.trace_core.specs.Setups.{Setup, blocks, collection};
 ghost use Rattle.trace_core.specs.Machine.{Event};
-ghost use Rattle.trace_core.specs.Traces.{IsTrace, IsFinished, machine_after, heap_after, stage_of};
-ghost use Rattle.trace_core.specs.Outcomes.{base_after, image, HaveAsked, NoOthersAsked};
+ghost use Rattle.trace_core.specs.Traces.{IsTracing, IsFinished, machine_after, heap_after, stage_of};
+ghost use Rattle.trace_core.specs.Outcomes.{base_after_trace, image, HaveAsked, NoOthersAsked};
 ghost use Rattle.trace_core.specs.Runs.{setup_of, MayRun};
 ghost use Rattle.trace_core.specs.declared.run.TraceRun.{TraceRun};
 ghost use Rattle.plan_api.specs.Releasing.{Releases};
 ghost use Rattle.collector.specs.Collected.{IsOffered, IsRunUnder, FillsBlocks};
-ghost use Rattle.collector.specs.Released.{ReleasesBelow, AreReleased, heap_with, MoveAll, OwnerTells, MarksTell, MarksTargets, LinesTell};
+ghost use Rattle.collector.specs.Released.{ReleasesBelow, AreReleased, with_numbers, MoveAll, OwnerShowsWhatLives, UnlogBitsMarkSurvivors, LinesOfTargetsAreMarked, LineBitsMarkSurvivors};
 
 /// After a finished trace the blocks can be released in order: the next block may be released each
 /// time. What each release left stays, and no word but metadata of blocks changes.
 pub fn blocks_are_released_in_order()
     ensures next { (p : Setup) (es : List Event) (r : Rules) (c : Collect) (mid : HeapState)
-        (n : ℕ) → IsTrace p es → IsFinished p (machine_after p es)
-        → ReleasesBelow r c (base_after p) (heap_after p es) mid n → n < blocks p
+        (n : ℕ) → IsTracing p es → IsFinished p (machine_after p es)
+        → ReleasesBelow r c (base_after_trace p) (heap_after p es) mid n → n < blocks p
         → IsReleasable mid n }
     ensures released { (p : Setup) (es : List Event) (r : Rules) (c : Collect) (mid : HeapState)
-        (n : ℕ) → IsTrace p es → IsFinished p (machine_after p es)
-        → ReleasesBelow r c (base_after p) (heap_after p es) mid n
-        → AreReleased r c (base_after p) (heap_after p es) mid n }
+        (n : ℕ) → IsTracing p es → IsFinished p (machine_after p es)
+        → ReleasesBelow r c (base_after_trace p) (heap_after p es) mid n
+        → AreReleased r c (base_after_trace p) (heap_after p es) mid n }
 {}
 
-/// After a finished trace in which all that is kept moved, the owner of a block tells what lives in
+/// After a finished trace in which all that is kept moved, the owner of a block shows what lives in
 /// it.
-pub fn owners_tell_what_lives()
-    ensures { (p : Setup) (es : List Event) (k : ℕ) → IsTrace p es
+pub fn owners_show_what_lives()
+    ensures { (p : Setup) (es : List Event) (k : ℕ) → IsTracing p es
         → IsFinished p (machine_after p es) → MoveAll p es → k < blocks p
-        → OwnerTells (base_after p) (heap_after p es) k }
+        → OwnerShowsWhatLives (base_after_trace p) (heap_after p es) k }
 {}
 
 /// After a finished trace of a full collection, which began with no unlog bit set, the unlog bits
-/// of a block tell what lives in it.
-pub fn marks_tell_what_lives()
-    ensures { (p : Setup) (es : List Event) (k : ℕ) → IsTrace p es
+/// of a block show what lives in it.
+pub fn unlog_bits_show_what_lives()
+    ensures { (p : Setup) (es : List Event) (k : ℕ) → IsTracing p es
         → IsFinished p (machine_after p es) → p.nursery ≡ false
         → ((a : ℕ) → is_unlogged p.before a ≡ false)
-        → MarksTell (base_after p) (heap_after p es) k }
+        → UnlogBitsMarkSurvivors (base_after_trace p) (heap_after p es) k }
 {}
 
 /// After a finished trace that began with no line bit set, and marked the lines of each object
 /// that it keeps, the line bits of an Immix block are those of the lines that what lives in it
 /// touches.
-pub fn lines_tell_what_lives()
-    ensures { (p : Setup) (es : List Event) (k : ℕ) → IsTrace p es
-        → IsFinished p (machine_after p es) → MarksTargets p es → k < blocks p
-        → LinesTell (base_after p) (heap_after p es) k }
+pub fn line_bits_show_what_lives()
+    ensures { (p : Setup) (es : List Event) (k : ℕ) → IsTracing p es
+        → IsFinished p (machine_after p es) → LinesOfTargetsAreMarked p es → k < blocks p
+        → LineBitsMarkSurvivors (base_after_trace p) (heap_after p es) k }
 {}
 
 /// If each block of the row after a finished trace was released, the objects held are exactly those
@@ -68,34 +68,34 @@ pub fn lines_tell_what_lives()
 /// block that is no Immix block, where an object that lives begins, keeps its line bits.
 pub fn released_heaps_are_lawful()
     ensures held { (p : Setup) (es : List Event) (r : Rules) (c : Collect) (new : HeapState)
-        (a : ℕ) → IsTrace p es → IsFinished p (machine_after p es)
-        → ReleasesBelow r c (base_after p) (heap_after p es) new (blocks p)
-        → IsHeld new a ↔ Lives (base_after p) (heap_after p es) a }
+        (a : ℕ) → IsTracing p es → IsFinished p (machine_after p es)
+        → ReleasesBelow r c (base_after_trace p) (heap_after p es) new (blocks p)
+        → IsHeld new a ↔ Lives (base_after_trace p) (heap_after p es) a }
     ensures unlogged { (p : Setup) (es : List Event) (r : Rules) (c : Collect) (new : HeapState)
-        (a : ℕ) → IsTrace p es → IsFinished p (machine_after p es)
-        → ReleasesBelow r c (base_after p) (heap_after p es) new (blocks p)
+        (a : ℕ) → IsTracing p es → IsFinished p (machine_after p es)
+        → ReleasesBelow r c (base_after_trace p) (heap_after p es) new (blocks p)
         → IsHeld new a → IsTrue (is_unlogged new a) }
     ensures words { (p : Setup) (es : List Event) (r : Rules) (c : Collect) (new : HeapState)
-        (i : ℕ) → IsTrace p es → IsFinished p (machine_after p es)
-        → ReleasesBelow r c (base_after p) (heap_after p es) new (blocks p)
+        (i : ℕ) → IsTracing p es → IsFinished p (machine_after p es)
+        → ReleasesBelow r c (base_after_trace p) (heap_after p es) new (blocks p)
         → i < 2 → word_at new i ≡ word_at p.before i }
     ensures shapes { (p : Setup) (es : List Event) (r : Rules) (c : Collect) (new : HeapState)
-        (x : ℕ) → IsTrace p es → IsFinished p (machine_after p es)
-        → ReleasesBelow r c (base_after p) (heap_after p es) new (blocks p)
+        (x : ℕ) → IsTracing p es → IsFinished p (machine_after p es)
+        → ReleasesBelow r c (base_after_trace p) (heap_after p es) new (blocks p)
         → IsHeld p.before x → IsHeld new x
         → (refs_at new x ≡ refs_at p.before x) × (nums_at new x ≡ nums_at p.before x) }
     ensures lines { (p : Setup) (es : List Event) (r : Rules) (c : Collect) (new : HeapState)
-        (a line : ℕ) → IsTrace p es → IsFinished p (machine_after p es)
-        → ReleasesBelow r c (base_after p) (heap_after p es) new (blocks p)
-        → Lives (base_after p) (heap_after p es) a
+        (a line : ℕ) → IsTracing p es → IsFinished p (machine_after p es)
+        → ReleasesBelow r c (base_after_trace p) (heap_after p es) new (blocks p)
+        → Lives (base_after_trace p) (heap_after p es) a
         → (HasKind (heap_after p es) (block_at (blocks p) a) kinds.Immix → ⊥)
         → line < BLOCK_LINES → line_marked new (block_at (blocks p) a) line
         ≡ line_marked (heap_after p es) (block_at (blocks p) a) line }
     ensures lawful { (p : Setup) (es : List Event) (r : Rules) (c : Collect) (new : HeapState)
-        → IsTrace p es → IsFinished p (machine_after p es)
+        → IsTracing p es → IsFinished p (machine_after p es)
         → ((i : ℕ) → word_at (heap_after p es) i < 2 ^ 64)
-        → ReleasesBelow r c (base_after p) (heap_after p es) new (blocks p)
-        → IsLawful (heap_with new (collection p) (base_after p)) }
+        → ReleasesBelow r c (base_after_trace p) (heap_after p es) new (blocks p)
+        → IsLawful (with_numbers new (collection p) (base_after_trace p)) }
 {}
 
 /// Under every plan that reclaims, a finished trace and the release of all blocks make a
@@ -105,18 +105,18 @@ pub fn released_traces_are_collections()
     ensures collects { (q : Plan) (c : Collect) (s : HeapState) (run : TraceRun) (w : ℕ)
         (p : Setup) (es : List Event) (roots : List ℕ) (new : HeapState) → IsLawful s
         → MayRun s run → IsRunUnder (rules_of q) c s run → (rules_of q).collects ≡ true
-        → p ≡ setup_of s run w → IsTrace p es → IsFinished p (machine_after p es)
+        → p ≡ setup_of s run w → IsTracing p es → IsFinished p (machine_after p es)
         → HaveAsked roots (machine_after p es).asked
         → NoOthersAsked roots (machine_after p es).asked → FillsBlocks p (machine_after p es)
         → ReleasesBelow (rules_of q) c run.base (heap_after p es) new s.blocks
-        → IsCollection (rules_of q) w c s roots (heap_with new run.number run.base)
+        → IsCollection (rules_of q) w c s roots (with_numbers new run.number run.base)
         (map (image (stage_of p es)) roots) }
     ensures lawful { (s : HeapState) (run : TraceRun) (w : ℕ) (p : Setup) (es : List Event)
         (r : Rules) (c : Collect) (new : HeapState) → MayRun s run → p ≡ setup_of s run w
-        → IsTrace p es → IsFinished p (machine_after p es)
+        → IsTracing p es → IsFinished p (machine_after p es)
         → ((i : ℕ) → word_at (heap_after p es) i < 2 ^ 64)
         → ReleasesBelow r c run.base (heap_after p es) new s.blocks
-        → IsLawful (heap_with new run.number run.base) }
+        → IsLawful (with_numbers new run.number run.base) }
 {}
 
 /// Whether a block may be released, and what its release does, does not depend on the heap's

@@ -6,7 +6,7 @@ mod counting;
 mod item;
 mod laws;
 mod outcome;
-mod packet_trace;
+mod packet_tracer;
 mod releasing;
 mod roots;
 mod tally;
@@ -15,9 +15,9 @@ mod worker;
 pub use collecting::collect;
 pub use item::Item;
 pub use laws::{
-    blocks_are_released_in_order, lines_tell_what_lives, marks_tell_what_lives,
-    offered_collections, owners_tell_what_lives, released_heaps_are_lawful,
-    released_traces_are_collections, releases_ignore_numbers,
+    blocks_are_released_in_order, line_bits_show_what_lives, offered_collections,
+    owners_show_what_lives, released_heaps_are_lawful, released_traces_are_collections,
+    releases_ignore_numbers, unlog_bits_show_what_lives,
 };
 pub use outcome::{Collected, Note};
 pub use releasing::release;

@@ -2,10 +2,10 @@
 //! a block say how: after a full trace hardly a word of an object is read.
 
 ghost use Rattle.std.specs.Prelude.{◌≡◌, ◌⊎◌, ◌+◌, ◌*◌, ◌<◌, ◌≤◌, ◌^◌, ℕ, List, length, slice_index, true, false};
-ghost use Rattle.heap_layout.specs.Zones.{row_words};
-ghost use Rattle.heap_layout.specs.Blocks.{code_of, IsValid};
+ghost use Rattle.heap_layout.specs.Zones.{IsRowOf};
+ghost use Rattle.heap_layout.specs.Blocks.{code_of, IsValidWord};
 ghost use Rattle.heap_layout.specs.declared.block.Kind.TheVariants as kinds;
-ghost use Rattle.object_model.specs.Objects.{HeapState, state_of, state_over, block_word, IsHeld};
+ghost use Rattle.object_model.specs.Objects.{HeapState, state_of, block_word, IsHeld, shown};
 ghost use Rattle.object_model.specs.Releasing.{IsReleasable};
 ghost use Rattle.object_model.specs.Heaps.{heap_state};
 ghost use Rattle.object_model.specs.declared.collect.Collect.{Collect};
@@ -15,11 +15,11 @@ ghost use Rattle.block_sweeps.specs.WordSweeps.{MaySweep, SweepsWords};
 ghost use Rattle.sessions.specs.Plans.{Rules};
 ghost use Rattle.trace_core.specs.Setups.{Setup};
 ghost use Rattle.trace_core.specs.Machine.{Event};
-ghost use Rattle.trace_core.specs.Traces.{IsTrace, IsFinished, machine_after, heap_after};
+ghost use Rattle.trace_core.specs.Traces.{IsTracing, IsFinished, machine_after, heap_after};
 ghost use Rattle.trace_core.specs.Runs.{IsRunOf, is_nursery};
 ghost use Rattle.plan_api.specs.Releasing.{Releases};
-ghost use Rattle.collector.specs.Released.{ReleasesBelow, heap_with, MoveAll, OwnerTells, MarksTell, MarksTellIn, MarksTargets, LinesTell};
-ghost use Rattle.collector.specs.Knowing.{IsKnown, Tells};
+ghost use Rattle.collector.specs.Released.{ReleasesBelow, with_numbers, MoveAll, OwnerShowsWhatLives, UnlogBitsMarkSurvivors, UnlogWordMarksSurvivors, LinesOfTargetsAreMarked, LineBitsMarkSurvivors};
+ghost use Rattle.collector.specs.Knowing.{IsKnown, ShowsWhatLives};
 
 use block_sweeps::{free_block, store, unlog_block};
 use heap_layout::{BlockWord, Kind, Layout, encode};
@@ -28,16 +28,16 @@ use plan_api::{Plan, block_word_in};
 use side_meta::Words;
 use trace_core::{TraceRun, Traced};
 
-/// What is known of a finished trace, from which what lives in a block can be told.
+/// What is known of a finished trace, which says what lives in a block.
 #[derive(Clone, Copy, Debug, PartialEq, Eq)]
 pub(crate) enum Known {
-    /// Nothing: what lives is told by the collector words of objects.
+    /// Nothing: what lives is seen by the collector words of objects.
     Nothing,
-    /// Every object that was kept moved: the owner of a block tells what lives in it.
+    /// Every object that was kept moved: the owner of a block shows what lives in it.
     AllMoved,
-    /// The collection is a full one: the unlog bits of a block tell what lives in it.
+    /// The collection is a full one: the unlog bits of a block show what lives in it.
     Full,
-    /// The same, and the trace marked lines: the line bits of an Immix block tell its lines in use.
+    /// The same, and the trace marked lines: the line bits of an Immix block are its lines in use.
     FullWithLines,
 }
 
@@ -45,7 +45,7 @@ pub(crate) enum Known {
 /// lines if `lines`. Owners are asked first: then no word of unlog bits is read.
 pub(crate) fn known_after(collect: Collect, moved_all: bool, lines: bool) -> Known
     ensures { (p : Setup) (es : List Event) → p.nursery ≡ is_nursery collect
-        → (moved_all ≡ true → MoveAll p es) → (lines ≡ true → MarksTargets p es)
+        → (moved_all ≡ true → MoveAll p es) → (lines ≡ true → LinesOfTargetsAreMarked p es)
         → IsKnown p es result }
 {
     let by_owner = moved_all && !lines;
@@ -71,12 +71,12 @@ pub(crate) fn known_after(collect: Collect, moved_all: bool, lines: bool) -> Kno
 /// of an object in a block of cells nothing after a full collection. It does not rely on marks of
 /// lines, which a finished trace may lack.
 pub fn release<P: Plan>(traced: Traced) -> Heap
-    requires { (p : Setup) × (es : List Event) × IsTrace p es × IsFinished p (machine_after p es)
+    requires { (p : Setup) × (es : List Event) × IsTracing p es × IsFinished p (machine_after p es)
         × (state_of traced.row ≡ heap_after p es) × IsRunOf p traced.run }
     ensures { (new : HeapState)
         × ReleasesBelow P.rules traced.run.collect traced.run.base (state_of traced.row) new
         traced.row.layout.blocks
-        × (heap_state result ≡ heap_with new traced.run.number traced.run.base) }
+        × (heap_state result ≡ with_numbers new traced.run.number traced.run.base) }
 {
     let known = known_after(traced.run.collect, false, false);
     release_by::<P>(traced, known)
@@ -84,13 +84,13 @@ pub fn release<P: Plan>(traced: Traced) -> Heap
 
 /// Releases each block as `release` does, by what is known of the trace.
 pub(crate) fn release_by<P: Plan>(traced: Traced, known: Known) -> Heap
-    requires { (p : Setup) × (es : List Event) × IsTrace p es × IsFinished p (machine_after p es)
+    requires { (p : Setup) × (es : List Event) × IsTracing p es × IsFinished p (machine_after p es)
         × (state_of traced.row ≡ heap_after p es) × IsRunOf p traced.run
         × IsKnown p es known }
     ensures { (new : HeapState)
         × ReleasesBelow P.rules traced.run.collect traced.run.base (state_of traced.row) new
         traced.row.layout.blocks
-        × (heap_state result ≡ heap_with new traced.run.number traced.run.base) }
+        × (heap_state result ≡ with_numbers new traced.run.number traced.run.base) }
 {
     let Traced { row, run } = traced;
     let Row {
@@ -116,7 +116,7 @@ pub(crate) fn release_by<P: Plan>(traced: Traced, known: Known) -> Heap
     })
 }
 
-/// Releases a block, by what is known of the trace and by its kind. Blocks that this does not tell
+/// Releases a block, by what is known of the trace and by its kind. Blocks that this does not show
 /// about are released by the plan: among them are large runs, and Immix blocks unless their lines
 /// were marked, since their line bits follow from the objects in them.
 fn release_next<P: Plan>(
@@ -127,12 +127,12 @@ fn release_next<P: Plan>(
     base: u64,
     known: Known,
 )
-    requires extent { length words.old.items ≡ row_words layout.now.blocks }
+    requires extent { IsRowOf layout.now words.old.items }
     requires block { block < layout.now.blocks }
-    requires releasable { IsReleasable (state_over words.old.items layout.now 0 0) block }
-    requires tells { Tells known base (state_over words.old.items layout.now 0 0) block }
-    ensures { Releases P.rules collect base (state_over words.old.items layout.now 0 0)
-        (state_over words.new.items layout.now 0 0) block }
+    requires releasable { IsReleasable (shown words.old.items layout.now) block }
+    requires shows { ShowsWhatLives known base (shown words.old.items layout.now) block }
+    ensures { Releases P.rules collect base (shown words.old.items layout.now)
+        (shown words.new.items layout.now) block }
 {
     let word = block_word_in(words, layout, block);
     match (known, word.kind) {
@@ -146,22 +146,22 @@ fn release_next<P: Plan>(
     }
 }
 
-/// Releases a block of small and medium objects whose word is `word`. Its owner tells what lives
+/// Releases a block of small and medium objects whose word is `word`. Its owner shows what lives
 /// in it.
 fn release_by_owner<W: Words>(words: &mut W, layout: &Layout, block: u32, word: &BlockWord)
-    requires extent { length (W.words words.old) ≡ row_words layout.now.blocks }
+    requires extent { IsRowOf layout.now (W.words words.old) }
     requires block { block < layout.now.blocks }
-    requires releasable { IsReleasable (state_over (W.words words.old) layout.now 0 0) block }
-    requires valid { IsValid word.now }
+    requires releasable { IsReleasable (shown (W.words words.old) layout.now) block }
+    requires valid { IsValidWord word.now }
     requires code { code_of word.now
-        ≡ block_word (state_over (W.words words.old) layout.now 0 0) block }
+        ≡ block_word (shown (W.words words.old) layout.now) block }
     requires immix { word.now.kind ≡ kinds.Immix → ⊥ }
     requires head { word.now.kind ≡ kinds.LargeHead → ⊥ }
     requires tail { word.now.kind ≡ kinds.LargeTail → ⊥ }
     ensures { (r : Rules) (c : Collect) (base : ℕ)
-        → OwnerTells base (state_over (W.words words.old) layout.now 0 0) block
-        → Releases r c base (state_over (W.words words.old) layout.now 0 0)
-        (state_over (W.words words.new) layout.now 0 0) block }
+        → OwnerShowsWhatLives base (shown (W.words words.old) layout.now) block
+        → Releases r c base (shown (W.words words.old) layout.now)
+        (shown (W.words words.new) layout.now) block }
 {
     let unowned = word.owner == 0;
     if unowned {
@@ -178,22 +178,22 @@ fn release_by_owner<W: Words>(words: &mut W, layout: &Layout, block: u32, word: 
 /// Keeps a block in which each object lives: its kind and class stay, it has no owner, and each
 /// object has its unlog bit.
 fn keep_copies<W: Words>(words: &mut W, layout: &Layout, block: u32, word: &BlockWord)
-    requires extent { length (W.words words.old) ≡ row_words layout.now.blocks }
+    requires extent { IsRowOf layout.now (W.words words.old) }
     requires block { block < layout.now.blocks }
-    requires releasable { IsReleasable (state_over (W.words words.old) layout.now 0 0) block }
-    requires valid { IsValid word.now }
+    requires releasable { IsReleasable (shown (W.words words.old) layout.now) block }
+    requires valid { IsValidWord word.now }
     requires code { code_of word.now
-        ≡ block_word (state_over (W.words words.old) layout.now 0 0) block }
+        ≡ block_word (shown (W.words words.old) layout.now) block }
     requires owner { 0 < word.now.owner }
     requires immix { word.now.kind ≡ kinds.Immix → ⊥ }
     requires head { word.now.kind ≡ kinds.LargeHead → ⊥ }
     requires tail { word.now.kind ≡ kinds.LargeTail → ⊥ }
     ensures { (r : Rules) (c : Collect) (base a : ℕ)
-        → OwnerTells base (state_over (W.words words.old) layout.now 0 0) block
-        → InBlock (state_over (W.words words.old) layout.now 0 0) block a
-        → IsHeld (state_over (W.words words.old) layout.now 0 0) a
-        → Releases r c base (state_over (W.words words.old) layout.now 0 0)
-        (state_over (W.words words.new) layout.now 0 0) block }
+        → OwnerShowsWhatLives base (shown (W.words words.old) layout.now) block
+        → InBlock (shown (W.words words.old) layout.now) block a
+        → IsHeld (shown (W.words words.old) layout.now) a
+        → Releases r c base (shown (W.words words.old) layout.now)
+        (shown (W.words words.new) layout.now) block }
 {
     let kept = BlockWord {
         kind: word.kind,
@@ -206,13 +206,13 @@ fn keep_copies<W: Words>(words: &mut W, layout: &Layout, block: u32, word: &Bloc
 
 /// Frees a block in which nothing lives. Writes only words that change.
 fn free_left<W: Words>(words: &mut W, layout: &Layout, block: u32)
-    requires extent { length (W.words words.old) ≡ row_words layout.now.blocks }
+    requires extent { IsRowOf layout.now (W.words words.old) }
     requires block { block < layout.now.blocks }
     ensures { (base after : ℕ)
-        → HasNoLiving base (state_over (W.words words.old) layout.now 0 0)
-        (InBlock (state_over (W.words words.old) layout.now 0 0) block)
-        → Sweeps base after (state_over (W.words words.old) layout.now 0 0)
-        (state_over (W.words words.new) layout.now 0 0) block }
+        → HasNoLiving base (shown (W.words words.old) layout.now)
+        (InBlock (shown (W.words words.old) layout.now) block)
+        → Sweeps base after (shown (W.words words.old) layout.now)
+        (shown (W.words words.new) layout.now) block }
 {
     clear_words(words, layout.start_base() + 64 * block);
     clear_words(words, layout.pin_base() + 64 * block);
@@ -235,20 +235,20 @@ fn clear_words<W: Words>(words: &mut W, from: u32)
 /// held no more. A block that is left with none becomes Free, another has no owner, and keeps its
 /// line bits.
 fn release_by_bits<W: Words>(words: &mut W, layout: &Layout, block: u32, word: &BlockWord)
-    requires extent { length (W.words words.old) ≡ row_words layout.now.blocks }
+    requires extent { IsRowOf layout.now (W.words words.old) }
     requires block { block < layout.now.blocks }
-    requires releasable { IsReleasable (state_over (W.words words.old) layout.now 0 0) block }
-    requires valid { IsValid word.now }
+    requires releasable { IsReleasable (shown (W.words words.old) layout.now) block }
+    requires valid { IsValidWord word.now }
     requires code { code_of word.now
-        ≡ block_word (state_over (W.words words.old) layout.now 0 0) block }
+        ≡ block_word (shown (W.words words.old) layout.now) block }
     requires kind { (word.now.kind ≡ kinds.Cells) ⊎ (word.now.kind ≡ kinds.Immix) }
-    requires tells { (base : ℕ)
-        × MarksTell base (state_over (W.words words.old) layout.now 0 0) block }
+    requires shows { (base : ℕ)
+        × UnlogBitsMarkSurvivors base (shown (W.words words.old) layout.now) block }
     ensures { (r : Rules) (c : Collect) (base : ℕ)
-        → MarksTell base (state_over (W.words words.old) layout.now 0 0) block
-        → LinesTell base (state_over (W.words words.old) layout.now 0 0) block
-        → Releases r c base (state_over (W.words words.old) layout.now 0 0)
-        (state_over (W.words words.new) layout.now 0 0) block }
+        → UnlogBitsMarkSurvivors base (shown (W.words words.old) layout.now) block
+        → LineBitsMarkSurvivors base (shown (W.words words.old) layout.now) block
+        → Releases r c base (shown (W.words words.old) layout.now)
+        (shown (W.words words.new) layout.now) block }
 {
     keep_marked(words, layout, block);
     if has_object(words, layout, block) {
@@ -265,15 +265,15 @@ fn release_by_bits<W: Words>(words: &mut W, layout: &Layout, block: u32, word: &
 
 /// Clears the start and pin bits of objects in the block that have no unlog bit.
 fn keep_marked<W: Words>(words: &mut W, layout: &Layout, block: u32)
-    requires extent { length (W.words words.old) ≡ row_words layout.now.blocks }
+    requires extent { IsRowOf layout.now (W.words words.old) }
     requires block { block < layout.now.blocks }
-    requires releasable { IsReleasable (state_over (W.words words.old) layout.now 0 0) block }
-    requires tells { (base : ℕ)
-        × MarksTell base (state_over (W.words words.old) layout.now 0 0) block }
+    requires releasable { IsReleasable (shown (W.words words.old) layout.now) block }
+    requires shows { (base : ℕ)
+        × UnlogBitsMarkSurvivors base (shown (W.words words.old) layout.now) block }
     ensures { (base : ℕ)
-        → MarksTell base (state_over (W.words words.old) layout.now 0 0) block
-        → SweepsWords base (64 * block) 64 (state_over (W.words words.old) layout.now 0 0)
-        (state_over (W.words words.new) layout.now 0 0) }
+        → UnlogBitsMarkSurvivors base (shown (W.words words.old) layout.now) block
+        → SweepsWords base (64 * block) 64 (shown (W.words words.old) layout.now)
+        (shown (W.words words.new) layout.now) }
 {
     for index in 64 * block..64 * block + 64 {
         keep_marked_in(words, layout, index);
@@ -283,11 +283,11 @@ fn keep_marked<W: Words>(words: &mut W, layout: &Layout, block: u32)
 /// Makes word `index` of start bits that of unlog bits, which are set only at objects, and clears
 /// the pin bits of the other objects. Writes only words that change.
 fn keep_marked_in<W: Words>(words: &mut W, layout: &Layout, index: u32)
-    requires { MaySweep (state_over (W.words words.old) layout.now 0 0) index }
+    requires { MaySweep (shown (W.words words.old) layout.now) index }
     ensures { (base : ℕ)
-        → MarksTellIn base (state_over (W.words words.old) layout.now 0 0) index
-        → SweepsWords base index 1 (state_over (W.words words.old) layout.now 0 0)
-        (state_over (W.words words.new) layout.now 0 0) }
+        → UnlogWordMarksSurvivors base (shown (W.words words.old) layout.now) index
+        → SweepsWords base index 1 (shown (W.words words.old) layout.now)
+        (shown (W.words words.new) layout.now) }
 {
     let living = words.get(layout.unlog_base() + index);
     let starts = words.get(layout.start_base() + index);
@@ -300,14 +300,14 @@ fn keep_marked_in<W: Words>(words: &mut W, layout: &Layout, index: u32)
 
 /// Whether an object begins in the block.
 fn has_object<W: Words>(words: &W, layout: &Layout, block: u32) -> bool
-    requires extent { length (W.words words.now) ≡ row_words layout.now.blocks }
+    requires extent { IsRowOf layout.now (W.words words.now) }
     requires block { block < layout.now.blocks }
     ensures some { result ≡ true → (a : ℕ)
-        × InBlock (state_over (W.words words.now) layout.now 0 0) block a
-        × IsHeld (state_over (W.words words.now) layout.now 0 0) a }
+        × InBlock (shown (W.words words.now) layout.now) block a
+        × IsHeld (shown (W.words words.now) layout.now) a }
     ensures none { result ≡ false → (a : ℕ)
-        → InBlock (state_over (W.words words.now) layout.now 0 0) block a
-        → IsHeld (state_over (W.words words.now) layout.now 0 0) a → ⊥ }
+        → InBlock (shown (W.words words.now) layout.now) block a
+        → IsHeld (shown (W.words words.now) layout.now) a → ⊥ }
 {
     let starts = layout.start_base() + 64 * block;
     for index in 0..64 {

@@ -1,7 +1,7 @@
 //! The worker of a collection: it runs packets of items.
 
 use crate::item::Item;
-use crate::packet_trace::PacketTrace;
+use crate::packet_tracer::PacketTracer;
 use object_model::Heap;
 use std::alloc::AllocError;
 use trace_core::TraceRun;
@@ -9,7 +9,7 @@ use work_packets::{Gate, Packet, PacketWorker, Point};
 
 /// What a trace began from. Contracts alone speak of it.
 #[derive(Debug, Drop)]
-pub struct TraceStart {
+pub struct TracingStart {
     pub heap: Heap,
     pub run: TraceRun,
     pub roots: Vec<u32>,
@@ -17,17 +17,17 @@ pub struct TraceStart {
 
 /// The worker of a collection. It passes the gate before and after each item.
 #[derive(Drop)]
-pub struct TraceWorker<'g, G: Gate> {
-    pub(crate) trace: PacketTrace,
+pub struct TracingWorker<'g, G: Gate> {
+    pub(crate) trace: PacketTracer,
     pub(crate) gate: &'g G,
     // 16 and the worker's number, counted from 1.
     pub(crate) who: u32,
 }
 
-impl<'g, G: Gate> PacketWorker<Item> for TraceWorker<'g, G> {
+impl<'g, G: Gate> PacketWorker<Item> for TracingWorker<'g, G> {
     type Home = usize;
 
-    type Start = TraceStart;
+    type Start = TracingStart;
 
     ghost use Rattle.std.specs.Prelude.{◌≡◌, ◌+◌, ◌≤◌, ◌∷◌, ◌++◌, [], List, All, IfOk, length};
     ghost use Rattle.work_packets.specs.Buckets.{IsSameOrLater};
@@ -35,7 +35,7 @@ impl<'g, G: Gate> PacketWorker<Item> for TraceWorker<'g, G> {
     ghost use Rattle.work_packets.specs.Awaiting.{AwaitsAll};
     ghost use Rattle.work_packets.specs.declared.packet.Packet.{Packet};
     ghost use Rattle.collector.specs.declared.item.Item.{Item};
-    ghost use Rattle.collector.specs.declared.worker.TraceStart.{TraceStart};
+    ghost use Rattle.collector.specs.declared.worker.TracingStart.{TracingStart};
     ghost use Rattle.collector.specs.Working.{TakesPlaces, RunsPacket, AwaitsPackets, unclaimed_by};
 
     ghost home = { λ w. length w.trace.roots.items };
@@ -52,7 +52,7 @@ impl<'g, G: Gate> PacketWorker<Item> for TraceWorker<'g, G> {
         requires takes { TakesPlaces (length self.old.trace.roots.items) p }
         requires items { HasItems p }
         requires empty { pushed.old.items ≡ [] }
-        requires awaited { (start : TraceStart) × (rest : List (Packet Item))
+        requires awaited { (start : TracingStart) × (rest : List (Packet Item))
             × AwaitsAll AwaitsPackets start self.old.trace (p ∷ rest) }
         ensures home { IfOk result (λ _. length self.new.trace.roots.items
             ≡ length self.old.trace.roots.items) }
@@ -65,7 +65,7 @@ impl<'g, G: Gate> PacketWorker<Item> for TraceWorker<'g, G> {
         ensures items { IfOk result (λ _. All HasItems pushed.new.items) }
         ensures order { IfOk result
             (λ _. All (λ q. IsSameOrLater p.bucket q.bucket) pushed.new.items) }
-        ensures awaits { IfOk result (λ _. (start : TraceStart) (rest : List (Packet Item))
+        ensures awaits { IfOk result (λ _. (start : TracingStart) (rest : List (Packet Item))
             → AwaitsAll AwaitsPackets start self.old.trace (p ∷ rest)
             → AwaitsAll AwaitsPackets start self.new.trace (pushed.new.items ++ rest)) }
     {

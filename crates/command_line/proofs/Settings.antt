@@ -1,7 +1,7 @@
 -- Settings, followed by the rest of the command line.
 use Rattle.std.proofs.Common.{◌≡◌, refl, ◌∙◌, sym, ap, cond, ℕ, Bool, true, false, List, [], ◌∷◌, ◌++◌, append_assoc}
 use Rattle.std.specs.Prelude.{Option, None, Some, option_map, option_and_then}
-use Rattle.command_line.specs.Words.{GivenOption, Line, are_single, split_line, form_of, if_single, job_in, line_of, with_setting}
+use Rattle.command_line.specs.Words.{GivenOption, Line, are_single, split_line, form_of, if_single, job_in, line_of_words, with_setting}
 
 abbrev pub with_all : List GivenOption → Line → Line
 with_all ss line = record line { settings = ss ++ line.settings }
@@ -10,10 +10,10 @@ pub with_more : (ss : List GivenOption) (s : GivenOption) (rest : Option Line) �
 with_more ss s None = refl
 with_more ss s (Some line) = ap (λ all. Some (record line { settings = all })) (append_assoc ss (s ∷ []) line.settings)
 
-pub line_made : (words : List (List ℕ)) (l : Line) → split_line words ≡ Some l → are_single l.settings ≡ true → line_of words ≡ Some l
+pub line_made : (words : List (List ℕ)) (l : Line) → split_line words ≡ Some l → are_single l.settings ≡ true → line_of_words words ≡ Some l
 line_made words l e single = ap (option_and_then if_single) e ∙ ap (λ b. cond b (Some l) None) single
 
-pub line_parts : (words : List (List ℕ)) (l : Line) → line_of words ≡ Some l → (split_line words ≡ Some l) × (are_single l.settings ≡ true)
+pub line_parts : (words : List (List ℕ)) (l : Line) → line_of_words words ≡ Some l → (split_line words ≡ Some l) × (are_single l.settings ≡ true)
 line_parts words l e = go (split_line words) e
   where
     kept : (m : Line) (b : Bool) → are_single m.settings ≡ b → cond b (Some m) None ≡ Some l → (Some m ≡ Some l) × (are_single l.settings ≡ true)
@@ -26,6 +26,6 @@ line_parts words l e = go (split_line words) e
     go None same = cc
     go (Some m) same = kept m (are_single m.settings) refl same
 
-pub form_made : (words : List (List ℕ)) (l : Line) → line_of words ≡ Some l → form_of words ≡ job_in l
+pub form_made : (words : List (List ℕ)) (l : Line) → line_of_words words ≡ Some l → form_of words ≡ job_in l
 unfolding form_of
 form_made words l e = ap (option_and_then job_in) e

@@ -7,7 +7,7 @@ use Rattle.clap.specs.Walk.{Row, Text, Walk, has_row, settled_rows, walked}
 use Rattle.clap.specs.Simple.{Shape, built}
 use Rattle.clap.specs.Takes.{settle_passes, takes, turn_passes, walk_passes}
 use Rattle.clap.proofs.OnLiterals.{clap_on_literals}
-use Rattle.command_line.specs.Words.{GivenOption, Line, are_single, split_line, has_dash, in_one_word, in_two_words, is_file, line_of, only_files, setting_or, takes_value, with_setting}
+use Rattle.command_line.specs.Words.{GivenOption, Line, are_single, split_line, has_dash, in_one_word, in_two_words, is_file, line_of_words, only_files, setting_or, takes_value, with_setting}
 use Rattle.command_line.specs.Reader.{reader}
 use Rattle.command_line.proofs.Options.{are_options, row_for, used_by, valued_cases}
 use Rattle.command_line.proofs.Settings.{line_parts}
@@ -202,10 +202,10 @@ split_taken words l e single few =
     simp (stopped, passes, settled)
 
 -- words that are options, each given once, and then files are accepted
-pub taken : (words : List Text) → is_some (line_of words) ≡ true → IsFew (length words) → takes reader words ≡ true
-taken words e few = go (line_of words) refl e
+pub taken : (words : List Text) → is_some (line_of_words words) ≡ true → IsFew (length words) → takes reader words ≡ true
+taken words e few = go (line_of_words words) refl e
   where
-    go : (o : Option Line) → line_of words ≡ o → is_some o ≡ true → takes reader words ≡ true
+    go : (o : Option Line) → line_of_words words ≡ o → is_some o ≡ true → takes reader words ≡ true
     go None is there = let bad : false ≡ true = there in cc
     go (Some l) is there =
         let parts = line_parts words l is in

@@ -116,20 +116,20 @@ abbrev pub if_within : ℕ → ℕ → ℕ → Option ℕ
 if_within least most n = if nat_le least n && nat_le n most then Some n else None
 
 -- the number of a numeral, if it lies within the bounds
-abbrev pub number_in : ℕ → ℕ → List ℕ → Option ℕ
-number_in least most word = option_and_then (if_within least most) (numeral word)
+abbrev pub bounded_numeral : ℕ → ℕ → List ℕ → Option ℕ
+bounded_numeral least most word = option_and_then (if_within least most) (numeral word)
 
 -- the number of workers: 1 if the option is not given
 abbrev pub workers_of : Option (List ℕ) → Option ℕ
 workers_of None = Some 1
-workers_of (Some word) = number_in 1 MAX_WORKERS word
+workers_of (Some word) = bounded_numeral 1 MAX_WORKERS word
 
 -- 1 to MAX_FILES files; or, with `--make`, a made trace, with neither a map nor a file
 abbrev pub work_of : Option (List ℕ) → Bool → List (List ℕ) → Option Work
 work_of None has_map files =
     if nat_le 1 (length files) && nat_le (length files) MAX_FILES then Some (Files files) else None
 work_of (Some word) has_map files = if has_map
-    || nat_lt 0 (length files) then None else option_map Made (number_in 1 MAX_COMMANDS word)
+    || nat_lt 0 (length files) then None else option_map Made (bounded_numeral 1 MAX_COMMANDS word)
 
 -- the value of each option, and whether `--map` is given
 pub record Values : Type 0 where
@@ -158,7 +158,7 @@ job_with has_map _ _ _ _ = None
 -- the job of these values and files; `--plan` and `--heap` are required
 abbrev pub job_for : Values → List (List ℕ) → Option Job
 job_for v files =
-    job_with v.has_map (option_and_then plan_of v.plan) (option_and_then (number_in MIN_BLOCKS MAX_BLOCKS) v.heap)
+    job_with v.has_map (option_and_then plan_of v.plan) (option_and_then (bounded_numeral MIN_BLOCKS MAX_BLOCKS) v.heap)
     (workers_of v.workers) (work_of v.make v.has_map files)
 
 -- the job of a command line
@@ -170,12 +170,12 @@ abbrev pub if_single : Line → Option Line
 if_single line = if are_single line.settings then Some line else None
 
 -- the words, split into settings, of options that are given once, and files
-abbrev pub line_of : List (List ℕ) → Option Line
-line_of words = option_and_then if_single (split_line words)
+abbrev pub line_of_words : List (List ℕ) → Option Line
+line_of_words words = option_and_then if_single (split_line words)
 
 -- the job that the words ask for; None if they do not match the usage
 unfoldable pub form_of : List (List ℕ) → Option Job
-form_of words = option_and_then job_in (line_of words)
+form_of words = option_and_then job_in (line_of_words words)
 
 -- the plans that the program runs
 abbrev pub is_implemented : Plan → Bool

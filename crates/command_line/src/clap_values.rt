@@ -2,7 +2,7 @@
 
 ghost use Rattle.std.specs.Prelude.{◌≡◌, IfOk, Some, true, false, alloc_error, is_some};
 ghost use Rattle.clap.specs.Words.{app_of, kind_of, rule_of};
-ghost use Rattle.command_line.specs.Words.{Line, line_of, values_in};
+ghost use Rattle.command_line.specs.Words.{Line, line_of_words, values_in};
 ghost use Rattle.command_line.specs.Orders.{texts, values_seen};
 ghost use Rattle.command_line.specs.Reader.{bare as bare_app, files_rule, map_rule, option_rule, reader, with_option_rules};
 
@@ -89,8 +89,8 @@ fn refused(error: &Error) -> AllocError
 //
 // Errors: out of memory.
 pub(crate) fn read_values<'a>(alloc: Global, words: &'a [String]) -> Result<Found<'a>, AllocError>
-    requires { is_some (line_of (texts words.now)) ≡ true }
-    ensures { IfOk result (λ v. (l : Line) → line_of (texts words.now) ≡ Some l
+    requires { is_some (line_of_words (texts words.now)) ≡ true }
+    ensures { IfOk result (λ v. (l : Line) → line_of_words (texts words.now) ≡ Some l
         → values_seen v ≡ values_in l.settings) }
 {
     let command = command(alloc)?;

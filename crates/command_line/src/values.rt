@@ -1,7 +1,7 @@
 //! The meaning of the values of options.
 
 ghost use Rattle.std.specs.Prelude.{◌≡◌, ◌≤◌, ◌<◌, ◌^◌, map, option_map, length, is_some};
-ghost use Rattle.command_line.specs.Words.{number_in, plan_of, work_of as work_with, workers_of as workers_with};
+ghost use Rattle.command_line.specs.Words.{bounded_numeral, plan_of, work_of as work_with, workers_of as workers_with};
 ghost use Rattle.command_line.specs.Orders.{plan_in, texts, work_in};
 
 use crate::order::{MAX_FILES, MAX_WORKERS, PlanName, Target};
@@ -9,7 +9,7 @@ use trace_text::{MAX_COMMANDS, read_numeral};
 
 // The number of a numeral. `None` if the word is no numeral or its number is out of bounds.
 pub(crate) fn number_within(word: &str, least: u32, most: u32) -> Option<u32>
-    ensures { result ≡ number_in least most word.now }
+    ensures { result ≡ bounded_numeral least most word.now }
 {
     let number = read_numeral(word.as_bytes(), u64::from(most)).ok()?;
     if number < u64::from(least) {

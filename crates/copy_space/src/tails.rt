@@ -1,9 +1,9 @@
 //! The free words at the end of a block.
 
 ghost use Rattle.std.specs.Prelude.{◌≡◌, ◌<◌, ◌≤◌, ℕ, length, MatchOption};
-ghost use Rattle.heap_layout.specs.Zones.{row_words};
+ghost use Rattle.heap_layout.specs.Zones.{IsRowOf};
 ghost use Rattle.heap_layout.specs.declared.block.Kind.TheVariants as kinds;
-ghost use Rattle.object_model.specs.Objects.{state_over, HasKind, IsHeld, size_at};
+ghost use Rattle.object_model.specs.Objects.{HasKind, IsHeld, size_at, shown};
 ghost use Rattle.object_model.specs.Lawful.{IsReadableBlock, Lies};
 ghost use Rattle.sessions.specs.Fitting.{IsTail};
 ghost use Rattle.block_sweeps.specs.Sweeping.{AreApart};
@@ -18,17 +18,17 @@ use side_meta::Words;
 /// For callers that have words and no view, as tests: a search for room reads the end of the last
 /// object from the block's view, and the rest of a block that a mutator fills is kept as a region.
 pub fn tail<W: Words>(words: &W, layout: &Layout, block: u32) -> Region
-    requires block { IsReadableBlock (state_over (W.words words.now) layout.now 0 0) block }
-    requires apart { AreApart (state_over (W.words words.now) layout.now 0 0) block }
-    requires head { HasKind (state_over (W.words words.now) layout.now 0 0) block
+    requires block { IsReadableBlock (shown (W.words words.now) layout.now) block }
+    requires apart { AreApart (shown (W.words words.now) layout.now) block }
+    requires head { HasKind (shown (W.words words.now) layout.now) block
         kinds.LargeHead → ⊥ }
-    requires tail { HasKind (state_over (W.words words.now) layout.now 0 0) block
+    requires tail { HasKind (shown (W.words words.now) layout.now) block
         kinds.LargeTail → ⊥ }
-    ensures tail { IsTail (state_over (W.words words.now) layout.now 0 0) block result.next }
-    ensures clear { ((a : ℕ) → IsHeld (state_over (W.words words.now) layout.now 0 0) a
-        → Lies (state_over (W.words words.now) layout.now 0 0) a
-        (size_at (state_over (W.words words.now) layout.now 0 0) a))
-        → HasNoWordFrom (state_over (W.words words.now) layout.now 0 0) block result.next }
+    ensures tail { IsTail (shown (W.words words.now) layout.now) block result.next }
+    ensures clear { ((a : ℕ) → IsHeld (shown (W.words words.now) layout.now) a
+        → Lies (shown (W.words words.now) layout.now) a
+        (size_at (shown (W.words words.now) layout.now) a))
+        → HasNoWordFrom (shown (W.words words.now) layout.now) block result.next }
     ensures end { result.end ≡ BLOCK_WORDS }
     ensures inside { result.next ≤ BLOCK_WORDS }
 {
@@ -40,11 +40,11 @@ pub fn tail<W: Words>(words: &W, layout: &Layout, block: u32) -> Region
 
 /// The offset after the last object that begins in the block, or 0.
 fn objects_end<W: Words>(words: &W, layout: &Layout, block: u32) -> u32
-    requires block { IsReadableBlock (state_over (W.words words.now) layout.now 0 0) block }
-    requires apart { AreApart (state_over (W.words words.now) layout.now 0 0) block }
-    requires head { HasKind (state_over (W.words words.now) layout.now 0 0) block
+    requires block { IsReadableBlock (shown (W.words words.now) layout.now) block }
+    requires apart { AreApart (shown (W.words words.now) layout.now) block }
+    requires head { HasKind (shown (W.words words.now) layout.now) block
         kinds.LargeHead → ⊥ }
-    ensures tail { IsTail (state_over (W.words words.now) layout.now 0 0) block result }
+    ensures tail { IsTail (shown (W.words words.now) layout.now) block result }
     ensures inside { result ≤ BLOCK_WORDS }
 {
     match last_object(words, layout, block) {
@@ -56,11 +56,11 @@ fn objects_end<W: Words>(words: &W, layout: &Layout, block: u32) -> u32
 /// The offset of the last object that begins in the block. Looks for it from the end of the block,
 /// a word of start bits at a time.
 fn last_object<W: Words>(words: &W, layout: &Layout, block: u32) -> Option<u32>
-    requires extent { length (W.words words.now) ≡ row_words layout.now.blocks }
+    requires extent { IsRowOf layout.now (W.words words.now) }
     requires block { block < layout.now.blocks }
     ensures { MatchOption result
-        (HasNone (state_over (W.words words.now) layout.now 0 0) block)
-        (λ offset. IsLast (state_over (W.words words.now) layout.now 0 0) block offset) }
+        (HasNone (shown (W.words words.now) layout.now) block)
+        (λ offset. IsLast (shown (W.words words.now) layout.now) block offset) }
 {
     for index in (0..64).rev() {
         let starts = words.get(layout.start_base() + 64 * block + index);

@@ -1,5 +1,5 @@
 //! The collector word of an object: a mark and a forwarding address in one word, so that one
-//! exchange claims an object and tells where it is.
+//! exchange claims an object and says where it is.
 #![tactic(auto)]
 
 pub mod laws;

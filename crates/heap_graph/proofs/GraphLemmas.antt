@@ -17,12 +17,12 @@ use Rattle.object_model.specs.Objects.{HeapState, global_at, IsHeld, name_at, re
 use Rattle.object_model.specs.Lawful.{IsWellFormed}
 use Rattle.object_model.specs.Graphs.{IsReachable, from_root, from_global, from_field}
 use Rattle.object_model.proofs.References.{refers-some}
-use Rattle.heap_graph.specs.Places.{IsPlace, IsGraphOf, addresses_of}
-use Rattle.heap_graph.specs.Walks.{is_among, Adds, HasFields, Closes}
+use Rattle.heap_graph.specs.Places.{IsPlaceOfObject, IsGraphOf, addresses_of}
+use Rattle.heap_graph.specs.Walks.{is_among, Adds, HasFields, ClosesFields}
 use Rattle.heap_graph.proofs.WalkLemmas.{among-more}
 
 module _ (s : HeapState) (roots first second last : List ℕ)
-    (from_roots : Adds (λ i. slice_index roots i) (length roots) [] first) (from_globals : Adds (global_at s) 16 first second) (closes : Closes s (length last) second last) where
+    (from_roots : Adds (λ i. slice_index roots i) (length roots) [] first) (from_globals : Adds (global_at s) 16 first second) (closes : ClosesFields s (length last) second last) where
   -- every reachable object was visited
 
   kept : (a : ℕ) → IsTrue (is_among first a) → IsTrue (is_among last a)
@@ -67,7 +67,7 @@ module _ (s : HeapState) (roots first second last : List ℕ)
 -- in order of names
 
 -- two places of the list belong to two objects, so their names differ
-names-differ : (s : HeapState) → IsWellFormed s → (places : List Place) → All (IsHeld s) (addresses_of places) → All (IsPlace s) places → IsDistinct nat_eq (addresses_of places)
+names-differ : (s : HeapState) → IsWellFormed s → (places : List Place) → All (IsHeld s) (addresses_of places) → All (IsPlaceOfObject s) places → IsDistinct nat_eq (addresses_of places)
     → AllPairs (λ p q. p.name ≢ q.name) places
 names-differ s order places held each apart i j d less inside =
     let before : i < length places = omega arith in
@@ -84,13 +84,13 @@ names-differ s order places held each apart i j d less inside =
     AllPairs-from_IsDistinct Decides-eqb (addresses_of places) apart i j 0 less far (p_at ∙ order.objects.names p.at q.at p_held q_held names ∙ sym q_at)
 
 pub is-graph : (s : HeapState) → IsWellFormed s → (roots first second : List ℕ) (found places : List Place)
-    → Adds (λ i. slice_index roots i) (length roots) [] first → Adds (global_at s) 16 first second → Closes s (length (addresses_of found)) second (addresses_of found)
-    → All (IsHeld s) (addresses_of found) → All (IsPlace s) found → IsDistinct nat_eq (addresses_of found)
+    → Adds (λ i. slice_index roots i) (length roots) [] first → Adds (global_at s) 16 first second → ClosesFields s (length (addresses_of found)) second (addresses_of found)
+    → All (IsHeld s) (addresses_of found) → All (IsPlaceOfObject s) found → IsDistinct nat_eq (addresses_of found)
     → IsPermutation found places → IsSortedByKey (λ p. p.name) compare places
     → IsGraphOf s roots places
 is-graph s order roots first second found places from_roots from_globals closes held each apart moved sorted =
     let moved_addresses : IsPermutation (addresses_of found) (addresses_of places) = IsPermutation-map (λ p. p.at) found places moved in
-    let placed : All (IsPlace s) places = All-permutation (IsPlace s) found places moved each in
+    let placed : All (IsPlaceOfObject s) places = All-permutation (IsPlaceOfObject s) found places moved each in
     let differ : AllPairs (λ p q. p.name ≢ q.name) places = names-differ s order places (All-permutation (IsHeld s) _ _ moved_addresses held) placed
     (IsDistinct-IsPermutation nat_eq nat_eq_equiv.symm _ _ moved_addresses apart) in
     record {

@@ -13,12 +13,12 @@ use Rattle.std.proofs.lemmas.Bool.{cases_eq, cases_lt, eq-eqb, eqb-true, ne_eqb}
 use Rattle.heap_layout.specs.Zones.{IsAddress, row_words}
 use Rattle.heap_graph.specs.declared.place.Place.{Place}
 use Rattle.heap_graph.specs.declared.walk.Walk.{Walk}
-use Rattle.heap_graph.specs.AddressSets.{has}
+use Rattle.heap_graph.specs.AddressSets.{has_address}
 use Rattle.object_model.specs.Objects.{HeapState, IsHeld, refs_at, ref_at}
 use Rattle.object_model.specs.Graphs.{IsReachable, from_field}
 use Rattle.object_model.proofs.References.{refers}
-use Rattle.heap_graph.specs.Places.{IsPlace, addresses_of}
-use Rattle.heap_graph.specs.Walks.{met, is_among, IsWalk, Adds, HasFields, Closes}
+use Rattle.heap_graph.specs.Places.{IsPlaceOfObject, addresses_of}
+use Rattle.heap_graph.specs.Walks.{met, is_among, IsWalk, Adds, HasFields, ClosesFields}
 
 -- an address in the list stays in it
 
@@ -48,7 +48,7 @@ unfolding IsDistinct
 distinct-none = tt
 
 fields-more : (s : HeapState) (xs ys : List ℕ) (a : ℕ) → HasFields s xs a → HasFields s (xs ++ ys) a
-fields-more s xs ys a has i less some = among-more xs ys (ref_at s a i) (has i less some)
+fields-more s xs ys a has_address i less some = among-more xs ys (ref_at s a i) (has_address i less some)
 
 -- one address
 
@@ -93,11 +93,11 @@ more-met old new f n adds = omega (arith, length-append old adds.more, ap length
 
 -- fields
 
-pub closes-nothing : (s : HeapState) (xs : List ℕ) → Closes s 0 xs xs
+pub closes-nothing : (s : HeapState) (xs : List ℕ) → ClosesFields s 0 xs xs
 closes-nothing s xs = record { kept = λ a there. there; closed = λ k less. absurd (omega arith); reached = λ roots all. all }
 
-pub closes-next : (s : HeapState) (n a : ℕ) (old mid new : List ℕ) → n < length mid → a ≡ slice_index mid n → Closes s n old mid → Adds (ref_at s a) (refs_at s a) mid new
-    → Closes s (n + 1) old new
+pub closes-next : (s : HeapState) (n a : ℕ) (old mid new : List ℕ) → n < length mid → a ≡ slice_index mid n → ClosesFields s n old mid → Adds (ref_at s a) (refs_at s a) mid new
+    → ClosesFields s (n + 1) old new
 closes-next s n a old mid new inside is first last =
     let same : (k : ℕ) → k < length mid → slice_index new k ≡ slice_index mid k = λ k less. ap (λ l. slice_index l k) last.is ∙ get_or-append mid last.more 0 k less in
     record {
@@ -134,26 +134,26 @@ met-most s w walk = length-le_from_distinct_below (met w) (row_words s.blocks) w
     let held : IsHeld s (slice_index_or (met w) place.0 q) = walk.held place.0 q place.1 in
     subst (λ x. x < row_words s.blocks) place.2 held.address.below)
 
-pub walk-empty : (s : HeapState) (w : Walk) → w.places.items ≡ [] → w.visited.layout.blocks ≡ s.blocks → ((a : ℕ) → has w.visited a ≡ false) → IsWalk s w
+pub walk-empty : (s : HeapState) (w : Walk) → w.places.items ≡ [] → w.visited.layout.blocks ≡ s.blocks → ((a : ℕ) → has_address w.visited a ≡ false) → IsWalk s w
 walk-empty s w none blocks empty = record {
   blocks = blocks;
   visited = λ a at. empty a ∙ ap (λ l. is_among (addresses_of l) a) (sym none);
   held = subst (λ l. All (IsHeld s) (addresses_of l)) (sym none) (All-nil (IsHeld s));
-  each = subst (λ l. All (IsPlace s) l) (sym none) (All-nil (IsPlace s));
+  each = subst (λ l. All (IsPlaceOfObject s) l) (sym none) (All-nil (IsPlaceOfObject s));
   apart = subst (λ l. IsDistinct nat_eq (addresses_of l)) (sym none) distinct-none;
 }
 
 pub walk-known : (s : HeapState) (w w' : Walk) (a : ℕ) → IsWalk s w → w'.places.items ≡ w.places.items → w'.visited.layout.blocks ≡ w.visited.layout.blocks
-    → has w.visited a ≡ true → has w'.visited a ≡ true → ((x : ℕ) → IsAddress w.visited.layout.blocks x → x ≢ a → has w'.visited x ≡ has w.visited x)
+    → has_address w.visited a ≡ true → has_address w'.visited a ≡ true → ((x : ℕ) → IsAddress w.visited.layout.blocks x → x ≢ a → has_address w'.visited x ≡ has_address w.visited x)
     → IsWalk s w'
 walk-known s w w' a walk places blocks had has' others = record {
   blocks = blocks ∙ walk.blocks;
-  visited = λ x at. elim (cases_eq x a) as (λ _. has w'.visited x ≡ is_among (met w') x) [
-    | inl same ↦ ap (has w'.visited) same ∙ has' ∙ sym had ∙ ap (has w.visited) (sym same) ∙ walk.visited x at ∙ ap (λ l. is_among (addresses_of l) x) (sym places)
+  visited = λ x at. elim (cases_eq x a) as (λ _. has_address w'.visited x ≡ is_among (met w') x) [
+    | inl same ↦ ap (has_address w'.visited) same ∙ has' ∙ sym had ∙ ap (has_address w.visited) (sym same) ∙ walk.visited x at ∙ ap (λ l. is_among (addresses_of l) x) (sym places)
     | inr other ↦ others x (subst (λ b. IsAddress b x) (sym walk.blocks) at) other ∙ walk.visited x at ∙ ap (λ l. is_among (addresses_of l) x) (sym places)
   ];
   held = subst (λ l. All (IsHeld s) (addresses_of l)) (sym places) walk.held;
-  each = subst (λ l. All (IsPlace s) l) (sym places) walk.each;
+  each = subst (λ l. All (IsPlaceOfObject s) l) (sym places) walk.each;
   apart = subst (λ l. IsDistinct nat_eq (addresses_of l)) (sym places) walk.apart;
 }
 
@@ -165,20 +165,20 @@ adds-place w w' p some places =
     let now : met w' ≡ met w ++ p.at ∷ [] = ap addresses_of places ∙ met-pushed w.places.items p in
     subst (Adds (λ _. p.at) 1 (met w)) (sym now) (adds-pushed (met w) p.at some)
 
-pub walk-pushed : (s : HeapState) (w w' : Walk) (p : Place) → IsWalk s w → IsHeld s p.at → IsPlace s p → w'.places.items ≡ w.places.items ++ p ∷ []
-    → w'.visited.layout.blocks ≡ w.visited.layout.blocks → has w.visited p.at ≡ false → has w'.visited p.at ≡ true
-    → ((x : ℕ) → IsAddress w.visited.layout.blocks x → x ≢ p.at → has w'.visited x ≡ has w.visited x)
+pub walk-pushed : (s : HeapState) (w w' : Walk) (p : Place) → IsWalk s w → IsHeld s p.at → IsPlaceOfObject s p → w'.places.items ≡ w.places.items ++ p ∷ []
+    → w'.visited.layout.blocks ≡ w.visited.layout.blocks → has_address w.visited p.at ≡ false → has_address w'.visited p.at ≡ true
+    → ((x : ℕ) → IsAddress w.visited.layout.blocks x → x ≢ p.at → has_address w'.visited x ≡ has_address w.visited x)
     → IsWalk s w'
 walk-pushed s w w' p walk held place places blocks had has' others =
     let now : met w' ≡ met w ++ p.at ∷ [] = ap addresses_of places ∙ met-pushed w.places.items p in
     let new : is_among (met w) p.at ≡ false = sym (walk.visited p.at held.address) ∙ had in
     record {
       blocks = blocks ∙ walk.blocks;
-      visited = λ x at. elim (cases_eq x p.at) as (λ _. has w'.visited x ≡ is_among (met w') x) [
-        | inl same ↦ ap (has w'.visited) same ∙ has' ∙ sym (among-pushed (met w) p.at) ∙ ap (is_among (met w ++ p.at ∷ [])) (sym same) ∙ ap (λ l. is_among l x) (sym now)
+      visited = λ x at. elim (cases_eq x p.at) as (λ _. has_address w'.visited x ≡ is_among (met w') x) [
+        | inl same ↦ ap (has_address w'.visited) same ∙ has' ∙ sym (among-pushed (met w) p.at) ∙ ap (is_among (met w ++ p.at ∷ [])) (sym same) ∙ ap (λ l. is_among l x) (sym now)
         | inr other ↦ others x (subst (λ b. IsAddress b x) (sym walk.blocks) at) other ∙ walk.visited x at ∙ sym (among-other (met w) p.at x other) ∙ ap (λ l. is_among l x) (sym now)
       ];
       held = subst (All (IsHeld s)) (sym now) (All-push (IsHeld s) (met w) p.at walk.held held);
-      each = subst (All (IsPlace s)) (sym places) (All-push (IsPlace s) w.places.items p walk.each place);
+      each = subst (All (IsPlaceOfObject s)) (sym places) (All-push (IsPlaceOfObject s) w.places.items p walk.each place);
       apart = subst (IsDistinct nat_eq) (sym now) (IsDistinct-push nat_eq_equiv (met w) p.at walk.apart new);
     }

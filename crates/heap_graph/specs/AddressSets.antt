@@ -9,5 +9,5 @@ abbrev pub has_place : AddressSet → ℕ → Bool
 has_place s n = nat_eq (bit_at (slice_index s.words.items (n / 64)) (n % 64)) 1
 
 -- the set has the address
-abbrev pub has : AddressSet → ℕ → Bool
-has s a = has_place s (a - heap_of s.layout.blocks)
+abbrev pub has_address : AddressSet → ℕ → Bool
+has_address s a = has_place s (a - heap_of s.layout.blocks)

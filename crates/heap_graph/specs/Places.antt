@@ -10,12 +10,12 @@ abbrev pub addresses_of : List Place → List ℕ
 addresses_of places = map (λ p. p.at) places
 
 -- the place has the name and the size of the object at its address
-pub record IsPlace (s : HeapState) (p : Place) : Type 0 where
+pub record IsPlaceOfObject (s : HeapState) (p : Place) : Type 0 where
   pub name : p.name ≡ name_at s p.at
   pub size : p.size ≡ size_at s p.at
 
 -- The places are those of all reachable objects and of no others, each once, in rising order of names.
 pub record IsGraphOf (s : HeapState) (roots : List ℕ) (places : List Place) : Type 0 where
   pub reached : (a : ℕ) → IsReachable s roots a ↔ Contains (addresses_of places) a
-  pub each : All (IsPlace s) places
+  pub each : All (IsPlaceOfObject s) places
   pub rise : AllPairs (λ p q. IsBefore p.name q.name) places

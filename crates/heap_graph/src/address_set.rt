@@ -18,12 +18,12 @@ pub(crate) struct AddressSet {
 impl AddressSet {
     ghost use Rattle.std.specs.Prelude.{◌≡◌, ◌≢◌, ℕ, true, false, not, OnOk, IfOk};
     ghost use Rattle.heap_layout.specs.Zones.{IsAddress};
-    ghost use Rattle.heap_graph.specs.AddressSets.{has};
+    ghost use Rattle.heap_graph.specs.AddressSets.{has_address};
 
     /// An empty set. It allocates 512 bytes a block.
     pub(crate) fn new(alloc: Global, layout: &Layout) -> Result<AddressSet, AllocError>
         ensures blocks { IfOk result (λ s. s.layout.blocks ≡ layout.now.blocks) }
-        ensures empty { IfOk result (λ s. (a : ℕ) → has s a ≡ false) }
+        ensures empty { IfOk result (λ s. (a : ℕ) → has_address s a ≡ false) }
     {
         let words = vec![in alloc; 0; 64 * layout.blocks() as usize]?;
         Ok(AddressSet {
@@ -36,10 +36,10 @@ impl AddressSet {
     pub(crate) fn insert(&mut self, address: u32) -> bool
         requires { IsAddress self.old.layout.blocks address }
         ensures blocks { self.new.layout.blocks ≡ self.old.layout.blocks }
-        ensures new { result ≡ not (has self.old address) }
-        ensures there { has self.new address ≡ true }
+        ensures new { result ≡ not (has_address self.old address) }
+        ensures there { has_address self.new address ≡ true }
         ensures others { (x : ℕ) → IsAddress self.old.layout.blocks x → x ≢ address
-            → has self.new x ≡ has self.old x }
+            → has_address self.new x ≡ has_address self.old x }
     {
         let bits = bit_spec(&self.layout, 0);
         if test(&self.words, &bits, address) {

@@ -4,7 +4,7 @@ ghost use Rattle.std.specs.Prelude.{◌≡◌, ◌<◌, OnOk, IfOk, [], slice_in
 ghost use Rattle.object_model.specs.Objects.{IsHeld, global_at as global_word_at, ref_at, refs_at};
 ghost use Rattle.object_model.specs.Heaps.{heap_state};
 ghost use Rattle.object_model.specs.Lawful.{AreRoots, IsRoot};
-ghost use Rattle.heap_graph.specs.Walks.{met, IsWalk, Adds, Closes};
+ghost use Rattle.heap_graph.specs.Walks.{met, IsWalk, Adds, ClosesFields};
 
 use crate::address_set::AddressSet;
 use crate::place::Place;
@@ -107,7 +107,7 @@ impl Walk {
     pub(crate) fn follow(&mut self, heap: &Heap) -> Result<(), AllocError>
         requires walk { IsWalk (heap_state heap.now) self.old }
         ensures walk { OnOk result (IsWalk (heap_state heap.now) self.new) }
-        ensures closes { OnOk result (Closes (heap_state heap.now) (length (met self.new))
+        ensures closes { OnOk result (ClosesFields (heap_state heap.now) (length (met self.new))
             (met self.old) (met self.new)) }
     {
         let mut next = 0;

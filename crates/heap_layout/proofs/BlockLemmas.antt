@@ -3,7 +3,7 @@ use Rattle.std.proofs.Common.{ℕ, ◌≤◌, ◌+◌, ◌*◌, ◌/◌, ◌%◌
 use Rattle.heap_layout.specs.declared.block.Kind.{Kind}
 use Rattle.heap_layout.specs.declared.block.Kind.TheVariants.{Free, Bump, Young, Mature, Immix, Cells, LargeHead, LargeTail, Kept}
 use Rattle.heap_layout.specs.declared.block.BlockWord.{BlockWord}
-use Rattle.heap_layout.specs.Blocks.{kind_code, kind_of_code, code_of, is_valid_for, IsValid, is_block_code}
+use Rattle.heap_layout.specs.Blocks.{kind_code, kind_of_code, code_of, is_valid_for, IsValidWord, is_block_code}
 
 -- a kind's number decodes to it
 pub kind_of_code-kind_code : (k : Kind) → kind_of_code (kind_code k) ≡ Some k
@@ -30,13 +30,13 @@ pub code_parts : (k class owner v : ℕ) → k ≤ 8 → class ≤ 18 → k + 25
 code_parts k class owner v small few same = (omega arith, omega arith, omega arith)
 
 -- the parts of a valid block word's code
-pub parts_of_code : (w : BlockWord) (v : ℕ) → IsValid w → code_of w ≡ v → (kind_of_code (v % 256) ≡ Some w.kind) × (v / 256 % 256 ≡ w.class) × (v / 65536 ≡ w.owner)
+pub parts_of_code : (w : BlockWord) (v : ℕ) → IsValidWord w → code_of w ≡ v → (kind_of_code (v % 256) ≡ Some w.kind) × (v / 256 % 256 ≡ w.class) × (v / 65536 ≡ w.owner)
 parts_of_code w v valid same =
     let parts = code_parts (kind_code w.kind) w.class w.owner v (kind_code_most w.kind) (valid_most w.kind w.class w.owner valid).0 same in
     (ap kind_of_code parts.0 ∙ kind_of_code-kind_code w.kind, parts.1, parts.2)
 
 -- a valid block word's code is one
-pub is_block_code-code_of : (w : BlockWord) (v : ℕ) → IsValid w → code_of w ≡ v → IsTrue (is_block_code v)
+pub is_block_code-code_of : (w : BlockWord) (v : ℕ) → IsValidWord w → code_of w ≡ v → IsTrue (is_block_code v)
 is_block_code-code_of w v valid same =
     let parts = parts_of_code w v valid same in
     rw (parts.0, parts.1, parts.2) valid
@@ -49,7 +49,7 @@ block_word_same x y kind class owner =
     ∙ ap (λ (n : ℕ). let w : BlockWord = record { kind = y.kind; class = y.class; owner = n } in w) owner)
 
 -- a valid block word is the one that its code's three parts make
-pub block_word_of_code : (kind : Kind) (owner v : ℕ) (w : BlockWord) → kind_of_code (v % 256) ≡ Some kind → owner ≡ v / 65536 → IsValid w → code_of w ≡ v → record { kind = kind; class = v / 256 % 256; owner = owner } ≡ w
+pub block_word_of_code : (kind : Kind) (owner v : ℕ) (w : BlockWord) → kind_of_code (v % 256) ≡ Some kind → owner ≡ v / 65536 → IsValidWord w → code_of w ≡ v → record { kind = kind; class = v / 256 % 256; owner = owner } ≡ w
 block_word_of_code kind owner v w there high valid same =
     let parts = parts_of_code w v valid same in
     let is : kind ≡ w.kind = cc in

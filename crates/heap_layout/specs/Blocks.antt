@@ -40,8 +40,8 @@ is_valid_for LargeHead class owner = nat_le 1 class && nat_le class 15 && nat_eq
 is_valid_for LargeTail class owner = nat_eq class 0 && nat_eq owner 0
 is_valid_for Kept class owner = nat_eq class 0 && nat_eq owner 0
 
-abbrev pub IsValid : BlockWord → Type 0
-IsValid w = IsTrue (is_valid_for w.kind w.class w.owner)
+abbrev pub IsValidWord : BlockWord → Type 0
+IsValidWord w = IsTrue (is_valid_for w.kind w.class w.owner)
 
 -- there is a kind, and it allows this class and this owner
 abbrev pub is_valid_for_some : Option Kind → ℕ → ℕ → Bool

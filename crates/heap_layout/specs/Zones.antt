@@ -1,6 +1,7 @@
 -- The zones of a heap's row of words. b is the number of blocks. Indexes and sizes are in words.
-use Rattle.std.specs.Prelude.{ℕ, ◌+◌, ◌*◌, ◌-◌, ◌/◌, ◌%◌, ◌<◌, ◌≤◌, List, slice_index, nat_eq, nat_le, nat_lt, ◌&&◌, Bool}
+use Rattle.std.specs.Prelude.{ℕ, ◌≡◌, length, ◌+◌, ◌*◌, ◌-◌, ◌/◌, ◌%◌, ◌<◌, ◌≤◌, List, slice_index, nat_eq, nat_le, nat_lt, ◌&&◌, Bool}
 use Rattle.std.specs.Int.{bit_at}
+use Rattle.heap_layout.specs.declared.layout.Layout.{Layout}
 use Rattle.heap_layout.specs.declared.layout.TheConstants.{BLOCK_WORDS, LINE_WORDS, GLOBALS}
 
 -- the parts of the row, in order
@@ -42,6 +43,10 @@ extent b HeapWords = BLOCK_WORDS * b
 -- the number of words of the row
 abbrev pub row_words : ℕ → ℕ
 row_words b = 18 + 4293 * b
+
+-- the words are a whole row of this layout
+abbrev pub IsRowOf : Layout → List ℕ → Type 0
+IsRowOf layout words = length words ≡ row_words layout.blocks
 
 -- the index i lies in the zone
 pub record InZone (b : ℕ) (z : Zone) (i : ℕ) : Type 0 where

@@ -1,7 +1,7 @@
 //! The numbers that encode block words.
 
 ghost use Rattle.std.specs.Prelude.{◌↔◌, IsTrue, IsSome, ◌≡◌, ◌≢◌, Some, IfSome, IfNone};
-ghost use Rattle.heap_layout.specs.Blocks.{code_of, kind_code, kind_of_code, is_block_code, IsValid};
+ghost use Rattle.heap_layout.specs.Blocks.{code_of, kind_code, kind_of_code, is_block_code, IsValidWord};
 ghost use Rattle.heap_layout.specs.declared.block.BlockWord.{BlockWord};
 
 use crate::block::{BlockWord, Kind};
@@ -18,7 +18,7 @@ pub const OWNER_UNIT: u64 = 65_536;
 impl BlockWord {
     /// Whether the kind allows this class and this owner.
     pub fn is_valid(&self) -> bool
-        ensures { IsTrue result ↔ IsValid self.now }
+        ensures { IsTrue result ↔ IsValidWord self.now }
     {
         let class = self.class;
         let owner = self.owner;
@@ -34,7 +34,7 @@ impl BlockWord {
 /// The number that encodes a valid block word: the kind in bits 0 to 7, the class in bits 8 to 15,
 /// the owner from bit 16 on.
 pub fn encode(word: &BlockWord) -> u64
-    requires { IsValid word.now }
+    requires { IsValidWord word.now }
     ensures { result ≡ code_of word.now }
 {
     kind_number(word.kind) + CLASS_UNIT * word.class as u64 + OWNER_UNIT * word.owner as u64
@@ -42,9 +42,9 @@ pub fn encode(word: &BlockWord) -> u64
 
 /// The valid block word that a number encodes, or `None` if it encodes none.
 pub fn decode(code: u64) -> Option<BlockWord>
-    ensures some { IfSome result (λ w. IsValid w × (code_of w ≡ code)) }
-    ensures none { IfNone result ((w : BlockWord) → IsValid w → code_of w ≢ code) }
-    ensures back { (w : BlockWord) → IsValid w → code_of w ≡ code → result ≡ Some w }
+    ensures some { IfSome result (λ w. IsValidWord w × (code_of w ≡ code)) }
+    ensures none { IfNone result ((w : BlockWord) → IsValidWord w → code_of w ≢ code) }
+    ensures back { (w : BlockWord) → IsValidWord w → code_of w ≡ code → result ≡ Some w }
     ensures code { IsSome result ↔ IsTrue (is_block_code code) }
 {
     let word = BlockWord {

@@ -20,7 +20,7 @@ use Rattle.object_model.proofs.Marks.{mark-same}
 use Rattle.sessions.specs.Plans.{Rules}
 use Rattle.sessions.specs.Collecting.{is_logged_under}
 use Rattle.sessions.specs.Fitting.{HasHole, LiesInHole, LiesInTail, LiesInLineHole, IsTail, IsLineHole, IsFreeCell, class_of, allowance_of, free_of}
-use Rattle.sessions.specs.Sessions.{Stopped, IsBirth, IsPacked, StoresInto}
+use Rattle.sessions.specs.Sessions.{Stopped, IsBirth, LeavesNoGap, StoresInto}
 use Rattle.heap_users.specs.Beginnings.{without_stop}
 use Rattle.heap_users.proofs.Cleared as cleared
 
@@ -154,11 +154,11 @@ module _ (s : HeapState) (lawful : IsLawful s) where
           | inl free ↦ inl (kind-before (block_at new.blocks a) kinds.Free free)
           | inr hole ↦ inr (hole-before rules.fill (block_at new.blocks a) (offset_at new.blocks a) (size_at new a) hole)
         ];
-    packed = elim birth.packed as (λ _. IsPacked rules.fill s new a) [
+    packed = elim birth.packed as (λ _. LeavesNoGap rules.fill s new a) [
       | inl cells ↦ inl cells
-      | inr other ↦ elim other as (λ _. IsPacked rules.fill s new a) [
+      | inr other ↦ elim other as (λ _. LeavesNoGap rules.fill s new a) [
         | inl hole ↦ inr (inl (hole-start-before rules.fill (block_at new.blocks a) (offset_at new.blocks a) (size_at new a) hole))
-        | inr rest ↦ elim rest as (λ _. IsPacked rules.fill s new a) [
+        | inr rest ↦ elim rest as (λ _. LeavesNoGap rules.fill s new a) [
           | inl free ↦ inr (inr (inl (kind-before (block_at new.blocks a) kinds.Free free.0, free.1)))
           | inr behind ↦ inr (inr (inr behind))
         ]

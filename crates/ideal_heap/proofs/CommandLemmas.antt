@@ -9,7 +9,7 @@ use Rattle.ideal_heap.specs.declared.command.Command.TheVariants as c
 use Rattle.ideal_heap.specs.declared.reply.Reply.{Reply}
 use Rattle.ideal_heap.specs.declared.reply.Reply.TheVariants as r
 use Rattle.ideal_heap.specs.Names.{name}
-use Rattle.ideal_heap.specs.Ideal.{IdealHeap, Record, Nil, Outcome, set_register, set_global, set_record, set_pinned, record_of, field_at, field_of, put_field, put_number, name_in, global_reply, field_reply, born, with_object, with_new, step}
+use Rattle.ideal_heap.specs.Ideal.{IdealHeap, Record, Nil, Outcome, set_register, set_global, set_record, set_pinned, record_of, field_at, field_of, put_field, put_number, name_of_field, global_reply, field_reply, born, with_object, with_new, step}
 use Rattle.ideal_heap.proofs.UpdateLemmas.{nat_lt-cases, at_number-same}
 use Rattle.ideal_heap.proofs.StepLemmas.{object-null, object-some, ref-past, ref-within, num-past, num-within, getting, putting, reading, writing, adding, swapping, pinning, unpinning}
 
@@ -112,7 +112,7 @@ global_reply-field : (v : Option Name) → global_reply v ≡ field_reply (field
 global_reply-field None = refl
 global_reply-field (Some n) = refl
 
-name_in-field : (v : Option Name) → name_in (field_of v) ≡ v
+name_in-field : (v : Option Name) → name_of_field (field_of v) ≡ v
 name_in-field None = refl
 name_in-field (Some n) = refl
 
@@ -139,7 +139,7 @@ get-done h k m d s i n xs v x is refs within v_is reply heap =
     with_heap x k (set_register h m d v) heap
     ∙ ap (λ y. let o : Outcome = (y, set_register h m d v) in o) (reply ∙ global_reply-field v)
     ∙ ap (λ w. let o : Outcome = (field_reply (field_of v), set_register h m d w) in o) (sym (name_in-field v))
-    ∙ ap (λ f. let o : Outcome = (field_reply f, set_register h m d (name_in f)) in o) (sym field)
+    ∙ ap (λ f. let o : Outcome = (field_reply f, set_register h m d (name_of_field f)) in o) (sym field)
     ∙ sym (ref-within h (h.registers m s) i (getting h m d i) n is (omega (arith, within, ap length refs, length-map xs field_of)))
 
 pub put-null : (h : IdealHeap) (m s i v : ℕ) → h.registers m s ≡ None → (let o : Outcome = (r.Null, h) in o) ≡ step h m (c.Put s i v)

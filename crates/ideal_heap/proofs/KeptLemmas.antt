@@ -7,8 +7,8 @@ use Rattle.ideal_heap.specs.declared.reply.Reply.{Reply}
 use Rattle.ideal_heap.specs.Names.{name, same_name}
 use Rattle.ideal_heap.specs.Commands.{IsValid}
 use Rattle.ideal_heap.specs.Ideal.{Outcome, IdealHeap, Record, Nil, At, empty, at_number, set_register, set_global, set_record, set_pinned, record_of, no_fields, field_at, born, with_new, step, HasRecord, IsClosed, IsIdeal, HasShapeOf}
-use Rattle.ideal_heap.specs.Reach.{Reaches, from_register, from_global, from_field}
-use Rattle.ideal_heap.specs.Runs.{Entry, after, after_entry, is_full}
+use Rattle.ideal_heap.specs.Reach.{PathReaches, from_register, from_global, from_field}
+use Rattle.ideal_heap.specs.Runs.{Entry, heap_after_run, after_entry, is_full}
 use Rattle.ideal_heap.proofs.UpdateLemmas.{at_number-cases, at_number-same, at_name-cases, at_name-same, register-cases, at-nils}
 use Rattle.ideal_heap.proofs.StepLemmas.{by_step}
 
@@ -195,7 +195,7 @@ after-entry-ideal ms h e ideal one valid = elim (is_full e.reply) as (λ b. IsId
   | false ↦ step-ideal ms h e.mutator e.command ideal one valid
 ]
 
-pub after-ideal : (ms : List ℕ) (h : IdealHeap) (es : List Entry) → IsIdeal ms h → AllByRecursion (λ e. Contains ms e.mutator × IsValid e.command) es → IsIdeal ms (after h es)
+pub after-ideal : (ms : List ℕ) (h : IdealHeap) (es : List Entry) → IsIdeal ms h → AllByRecursion (λ e. Contains ms e.mutator × IsValid e.command) es → IsIdeal ms (heap_after_run h es)
 after-ideal ms h [] ideal all = ideal
 after-ideal ms h (e ∷ es) ideal all = after-ideal ms (after_entry h e) es (after-entry-ideal ms h e ideal all.0.0 all.0.1) all.1
 
@@ -250,11 +250,11 @@ entry-stays ms h e n x ideal is = elim (is_full e.reply) as (λ b. IsSomeAnd ((i
 ]
 
 pub after-stays : (ms : List ℕ) (h : IdealHeap) (es : List Entry) (n : Name) (x : Record) → IsIdeal ms h → AllByRecursion (λ e. Contains ms e.mutator × IsValid e.command) es
-    → h.records n ≡ Some x → IsSomeAnd ((after h es).records n) (HasShapeOf x)
+    → h.records n ≡ Some x → IsSomeAnd ((heap_after_run h es).records n) (HasShapeOf x)
 after-stays ms h [] n x ideal all is = same-stays (h.records n) x is
 after-stays ms h (e ∷ es) n x ideal all is =
     let next : (y : Record) × ((after_entry h e).records n ≡ Some y) × HasShapeOf x y = some_of ((after_entry h e).records n) (HasShapeOf x) (entry-stays ms h e n x ideal is) in
-    and-then ((after h (e ∷ es)).records n) x next.0 next.2
+    and-then ((heap_after_run h (e ∷ es)).records n) x next.0 next.2
     (after-stays ms (after_entry h e) es n next.0 (after-entry-ideal ms h e ideal all.0.0 all.0.1) all.1 next.1)
 
 -- a fact of the heap after a step that may fail for lack of memory
@@ -266,7 +266,7 @@ pub empty-closed : (h : IdealHeap) → h ≡ empty → IsClosed h
 empty-closed h is = subst IsClosed (sym is) ((empty-ideal []).closed)
 
 -- a name that a path reaches is an object's
-pub reached-born : (h : IdealHeap) → IsClosed h → (n : Name) → Reaches h n → HasRecord h n
+pub reached-born : (h : IdealHeap) → IsClosed h → (n : Name) → PathReaches h n → HasRecord h n
 reached-born h closed n (from_register m d is) = closed.registers m d n is
 reached-born h closed n (from_global g is) = closed.globals g n is
 reached-born h closed n (from_field k i reached is) = closed.fields k n i (ap (λ o. unwrap_or o Nil) is)

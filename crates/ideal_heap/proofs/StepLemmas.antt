@@ -5,7 +5,7 @@ use Rattle.ideal_heap.specs.declared.command.Command.{Command}
 use Rattle.ideal_heap.specs.declared.command.Command.TheVariants as c
 use Rattle.ideal_heap.specs.declared.reply.Reply.TheVariants as r
 use Rattle.ideal_heap.specs.Commands.{IsValid}
-use Rattle.ideal_heap.specs.Ideal.{IdealHeap, Record, Field, Nil, At, Outcome, set_register, set_global, set_record, set_pinned, record_of, field_at, field_of, put_field, put_number, name_in, global_reply, field_reply, on_object, in_range, on_ref, on_num, with_new, step, HasRecord, IsClosed, HasShapeOf}
+use Rattle.ideal_heap.specs.Ideal.{IdealHeap, Record, Field, Nil, At, Outcome, set_register, set_global, set_record, set_pinned, record_of, field_at, field_of, put_field, put_number, name_of_field, global_reply, field_reply, on_object, in_range, on_ref, on_num, with_new, step, HasRecord, IsClosed, HasShapeOf}
 use Rattle.ideal_heap.specs.Runs.{is_full}
 use Rattle.ideal_heap.proofs.UpdateLemmas.{nat_lt-cases, field-cases, name_in-at, field_of-at, field-born, number-born}
 
@@ -38,7 +38,7 @@ by_test P false x y px py = py
 -- the outcome of a command on an object, as in the step
 
 abbrev pub getting : IdealHeap → ℕ → ℕ → ℕ → Name → Record → Outcome
-getting h m d i n x = (field_reply (field_at x i), set_register h m d (name_in (field_at x i)))
+getting h m d i n x = (field_reply (field_at x i), set_register h m d (name_of_field (field_at x i)))
 
 abbrev pub putting : IdealHeap → ℕ → ℕ → ℕ → Name → Record → Outcome
 putting h m i v n x = (r.Done, set_record h n (put_field x i (field_of (h.registers m v))))
@@ -133,7 +133,7 @@ pub by_step : (P : IdealHeap → Type 0) (h : IdealHeap) (m : ℕ) (c : Command)
 unfolding step
 by_step P h m (c.New d refs nums) closed all = all.created d refs nums (λ v. v.0)
 by_step P h m (c.Get d s i) closed all = by_ref (λ o. P o.1) h (h.registers m s) i (getting h m d i) all.same all.same
-    (λ n is l. all.register d (name_in (field_at (record_of h n) i)) (λ v. v.0) (λ to e. closed.fields n to i (name_in-at (field_at (record_of h n) i) to e)))
+    (λ n is l. all.register d (name_of_field (field_at (record_of h n) i)) (λ v. v.0) (λ to e. closed.fields n to i (name_in-at (field_at (record_of h n) i) to e)))
 by_step P h m (c.Put s i v) closed all = by_ref (λ o. P o.1) h (h.registers m s) i (putting h m i v) all.same all.same
     (λ n is l. all.replaced n (put_field (record_of h n) i (field_of (h.registers m v))) (field-born h n i l) (put-shape (record_of h n) i (field_of (h.registers m v))) (put-fields h closed m n i v))
 by_step P h m (c.Read s j) closed all = by_num (λ o. P o.1) h (h.registers m s) j (reading h j) all.same all.same (λ n is l. all.same)

@@ -3,7 +3,7 @@ use Rattle.std.proofs.Common.{◌≡◌, ℕ, ◌<◌, ◌≤◌, true, false, n
 use Rattle.std.proofs.lemmas.Bool.Decides.{eqb_tells, leb_tells, nat_tests}
 use Rattle.ideal_heap.specs.declared.name.Name.{Name}
 use Rattle.ideal_heap.specs.Names.{same_name, name}
-use Rattle.ideal_heap.specs.Ideal.{IdealHeap, Record, Field, Nil, At, at_number, at_name, set_register, record_of, no_fields, field_at, put_field, name_in, field_of, HasRecord}
+use Rattle.ideal_heap.specs.Ideal.{IdealHeap, Record, Field, Nil, At, at_number, at_name, set_register, record_of, no_fields, field_at, put_field, name_of_field, field_of, HasRecord}
 
 pub same_name-same : (n : Name) → same_name n n ≡ true
 same_name-same n = grind (arith, nat_tests)
@@ -74,7 +74,7 @@ at-nils zero j = refl
 at-nils (suc n) zero = refl
 at-nils (suc n) (suc j) = at-nils n j
 
-pub name_in-at : (f : Field) (n : Name) → name_in f ≡ Some n → f ≡ At n
+pub name_in-at : (f : Field) (n : Name) → name_of_field f ≡ Some n → f ≡ At n
 name_in-at Nil n e = cc
 name_in-at (At k) n e = cc
 

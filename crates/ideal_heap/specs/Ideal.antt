@@ -65,9 +65,9 @@ field_of None = Nil
 field_of (Some n) = At n
 
 -- the name that a register gets from a field
-abbrev pub name_in : Field → Option Name
-name_in Nil = None
-name_in (At n) = Some n
+abbrev pub name_of_field : Field → Option Name
+name_of_field Nil = None
+name_of_field (At n) = Some n
 
 -- the reply to the read of a field
 abbrev pub field_reply : Field → Reply
@@ -124,7 +124,7 @@ with_new h m d refs nums = set_register (with_object h m (born refs nums)) m d (
 unfoldable pub step : IdealHeap → ℕ → Command → Outcome
 step h m (c.New d refs nums) = (r.New (name m (h.births m + 1)), with_new h m d refs nums)
 step h m (c.Get d s i) = on_ref h (h.registers m s) i (λ n x.
-    (field_reply (field_at x i), set_register h m d (name_in (field_at x i))))
+    (field_reply (field_at x i), set_register h m d (name_of_field (field_at x i))))
 step h m (c.Put s i v) = on_ref h (h.registers m s) i (λ n x.
     (r.Done, set_record h n (put_field x i (field_of (h.registers m v)))))
 step h m (c.Read s j) = on_num h (h.registers m s) j (λ n x. (r.Num (slice_index x.nums j), h))

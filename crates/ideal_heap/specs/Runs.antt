@@ -28,9 +28,9 @@ abbrev pub Answers : IdealHeap → Entry → Type 0
 Answers h e = (e.reply ≡ (step h e.mutator e.command).0) ⊎ ((e.reply ≡ r.Full) × IsTrue (is_new e.command))
 
 -- the heap after the entries
-abbrev pub after : IdealHeap → List Entry → IdealHeap
-after h [] = h
-after h (e ∷ es) = after (after_entry h e) es
+abbrev pub heap_after_run : IdealHeap → List Entry → IdealHeap
+heap_after_run h [] = h
+heap_after_run h (e ∷ es) = heap_after_run (after_entry h e) es
 
 -- each entry answers the heap after the entries before it
 abbrev pub IsRun : IdealHeap → List Entry → Type 0

@@ -6,8 +6,8 @@ ghost use Rattle.ideal_heap.specs.declared.reply.Reply.TheVariants as reply;
 ghost use Rattle.ideal_heap.specs.Names.{name, IsName};
 ghost use Rattle.ideal_heap.specs.Ideal.{empty, born, HasShapeOf};
 ghost use Rattle.ideal_heap.specs.Commands.{IsValid, size_wanted};
-ghost use Rattle.ideal_heap.specs.Reach.{Reaches};
-ghost use Rattle.ideal_heap.specs.Runs.{Entry, IsRun, IsOrder, IsOrderPrefix, alone, after, entry, replies_of, trace_of};
+ghost use Rattle.ideal_heap.specs.Reach.{PathReaches};
+ghost use Rattle.ideal_heap.specs.Runs.{Entry, IsRun, IsOrder, IsOrderPrefix, alone, heap_after_run, entry, replies_of, trace_of};
 
 /// Numbers: the maximum, a sum that wraps, a swap that fails and one that succeeds, and sums, which
 /// reply the number before.
@@ -65,7 +65,7 @@ pub fn register_examples()
 pub fn run_examples()
     ensures refused { IsRun empty (entry 1 (command.New 0 0 0) reply.Full
         ∷ entry 1 (command.New 0 0 0) (reply.New (name 1 1)) ∷ []) }
-    ensures births { (after empty (entry 1 (command.New 0 0 0) reply.Full
+    ensures births { (heap_after_run empty (entry 1 (command.New 0 0 0) reply.Full
         ∷ entry 1 (command.New 0 0 0) (reply.New (name 1 1)) ∷ [])).births 1 ≡ 1 }
     ensures run { IsRun empty (entry 1 (command.New 0 0 1) (reply.New (name 1 1))
         ∷ entry 1 (command.Write 0 0 5) reply.Done ∷ entry 1 (command.Share 0 0) reply.Done
@@ -140,12 +140,15 @@ pub fn name_examples()
 
 /// Paths begin in a register or a global, and go on through each field.
 pub fn path_examples()
-    ensures register { Reaches (after empty (entry 1 (command.New 5 0 0) (reply.New (name 1 1))
+    ensures register { PathReaches (heap_after_run empty (entry 1 (command.New 5 0 0) (reply.New
+        (name 1 1))
         ∷ [])) (name 1 1) }
-    ensures global { Reaches (after empty (entry 2 (command.New 0 0 0) (reply.New (name 2 1))
+    ensures global { PathReaches (heap_after_run empty (entry 2 (command.New 0 0 0) (reply.New
+        (name 2 1))
         ∷ entry 2 (command.Share 3 0) reply.Done ∷ entry 2 (command.DropReg 0) reply.Done
         ∷ [])) (name 2 1) }
-    ensures field { Reaches (after empty (entry 1 (command.New 0 2 0) (reply.New (name 1 1))
+    ensures field { PathReaches (heap_after_run empty (entry 1 (command.New 0 2 0) (reply.New
+        (name 1 1))
         ∷ entry 1 (command.New 1 0 0) (reply.New (name 1 2))
         ∷ entry 1 (command.Put 0 0 1) reply.Done ∷ entry 1 (command.DropReg 1) reply.Done
         ∷ [])) (name 1 2) }

@@ -8,8 +8,8 @@ ghost use Rattle.ideal_heap.specs.Names.{name, IsName, IsBefore, name_code, name
 ghost use Rattle.std.specs.declared.cmp.Ordering.TheVariants.{Less};
 ghost use Rattle.ideal_heap.specs.Commands.{IsValid};
 ghost use Rattle.ideal_heap.specs.Ideal.{IdealHeap, Record, IsIdeal, IsClosed, HasRecord, HasShapeOf, at_name, at_number, empty, step};
-ghost use Rattle.ideal_heap.specs.Reach.{Reaches};
-ghost use Rattle.ideal_heap.specs.Runs.{Entry, IsRun, IsOrderPrefix, IsOrder, after, after_entry, alone, commands_of, replies_of, is_full};
+ghost use Rattle.ideal_heap.specs.Reach.{PathReaches};
+ghost use Rattle.ideal_heap.specs.Runs.{Entry, IsRun, IsOrderPrefix, IsOrder, heap_after_run, after_entry, alone, commands_of, replies_of, is_full};
 
 use crate::name::Name;
 
@@ -39,7 +39,7 @@ pub fn updates()
 
 /// In a closed heap, all names that paths from registers and globals reach are names of objects.
 pub fn paths_reach_objects()
-    ensures { (h : IdealHeap) (n : Name) → IsClosed h → Reaches h n → HasRecord h n }
+    ensures { (h : IdealHeap) (n : Name) → IsClosed h → PathReaches h n → HasRecord h n }
 {}
 
 /// The empty heap is an ideal heap of any mutators, and each valid command of one of them leaves an
@@ -56,7 +56,7 @@ pub fn steps()
         → is_full (step h m c).0 ≡ false }
     ensures run { (ms : List ℕ) (h : IdealHeap) (es : List Entry) → IsIdeal ms h
         → AllByRecursion (λ e. Contains ms e.mutator × IsValid e.command) es
-        → IsIdeal ms (after h es) }
+        → IsIdeal ms (heap_after_run h es) }
 {}
 
 /// In an ideal heap no object has birth 0, and none has the name of a mutator's next object. The
@@ -78,7 +78,7 @@ pub fn ideal_heaps()
 pub fn records_stay()
     ensures run { (ms : List ℕ) (h : IdealHeap) (es : List Entry) (n : Name) (x : Record)
         → IsIdeal ms h → AllByRecursion (λ e. Contains ms e.mutator × IsValid e.command) es
-        → h.records n ≡ Some x → IsSomeAnd ((after h es).records n) (HasShapeOf x) }
+        → h.records n ≡ Some x → IsSomeAnd ((heap_after_run h es).records n) (HasShapeOf x) }
     ensures step { (ms : List ℕ) (h : IdealHeap) (m : ℕ) (c : Command) (n : Name) (x : Record)
         → IsIdeal ms h → h.records n ≡ Some x
         → IsSomeAnd ((step h m c).1.records n) (HasShapeOf x) }
@@ -87,13 +87,13 @@ pub fn records_stay()
 /// `es ++ more` is a run if and only if `es` is a run and `more` is a run from the heap after `es`.
 pub fn runs_go_on()
     ensures longer { (h : IdealHeap) (es more : List Entry) → IsRun h es
-        → IsRun (after h es) more → IsRun h (es ++ more) }
+        → IsRun (heap_after_run h es) more → IsRun h (es ++ more) }
     ensures heap { (h : IdealHeap) (es more : List Entry)
-        → after h (es ++ more) ≡ after (after h es) more }
+        → heap_after_run h (es ++ more) ≡ heap_after_run (heap_after_run h es) more }
     ensures prefix { (h : IdealHeap) (es more : List Entry) → IsRun h (es ++ more)
         → IsRun h es }
     ensures rest { (h : IdealHeap) (es more : List Entry) → IsRun h (es ++ more)
-        → IsRun (after h es) more }
+        → IsRun (heap_after_run h es) more }
 {}
 
 /// If no `new` was refused, the replies of one mutator are a function of its commands. Its entries

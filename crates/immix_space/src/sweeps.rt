@@ -1,9 +1,9 @@
 //! The sweep of an Immix block, after which a line is free exactly where no object touches it.
 
 ghost use Rattle.std.specs.Prelude.{◌≡◌, ◌<◌, length};
-ghost use Rattle.heap_layout.specs.Zones.{row_words};
+ghost use Rattle.heap_layout.specs.Zones.{IsRowOf};
 ghost use Rattle.heap_layout.specs.declared.block.Kind.TheVariants as kinds;
-ghost use Rattle.object_model.specs.Objects.{state_over, HasKind};
+ghost use Rattle.object_model.specs.Objects.{HasKind, shown};
 ghost use Rattle.object_model.specs.Lawful.{IsReadableBlock, LineBitsAreExact};
 ghost use Rattle.object_model.specs.Releasing.{IsReleasable};
 ghost use Rattle.block_sweeps.specs.Sweeping.{AreApart, MarksTouched, object_count};
@@ -21,16 +21,16 @@ use side_meta::Words;
 /// bits and treats blocks of all kinds, so it takes the parts, `block_sweeps::sweep_block` and
 /// `relist`.
 pub fn sweep_block<W: Words>(words: &mut W, layout: &Layout, block: u32, base: u64) -> u32
-    requires extent { length (W.words words.old) ≡ row_words layout.now.blocks }
+    requires extent { IsRowOf layout.now (W.words words.old) }
     requires block { block < layout.now.blocks }
-    requires releasable { IsReleasable (state_over (W.words words.old) layout.now 0 0) block }
-    requires kind { HasKind (state_over (W.words words.old) layout.now 0 0) block kinds.Immix }
-    ensures swept { SweepsLines base (state_over (W.words words.old) layout.now 0 0)
-        (state_over (W.words words.new) layout.now 0 0) block }
+    requires releasable { IsReleasable (shown (W.words words.old) layout.now) block }
+    requires kind { HasKind (shown (W.words words.old) layout.now) block kinds.Immix }
+    ensures swept { SweepsLines base (shown (W.words words.old) layout.now)
+        (shown (W.words words.new) layout.now) block }
     ensures count { result
-        ≡ object_count (state_over (W.words words.new) layout.now 0 0) block }
-    ensures exact { IsTouchedFromWithin (state_over (W.words words.old) layout.now 0 0) block
-        → LineBitsAreExact (state_over (W.words words.new) layout.now 0 0) block }
+        ≡ object_count (shown (W.words words.new) layout.now) block }
+    ensures exact { IsTouchedFromWithin (shown (W.words words.old) layout.now) block
+        → LineBitsAreExact (shown (W.words words.new) layout.now) block }
 {
     let living = BlockWord {
         kind: Kind::Immix,
@@ -48,13 +48,13 @@ pub fn sweep_block<W: Words>(words: &mut W, layout: &Layout, block: u32, base: u
 /// Makes the line bits of an Immix block those of the lines that objects in it touch, so they are
 /// exact if no object reaches in from another block.
 pub fn relist<W: Words>(words: &mut W, layout: &Layout, block: u32)
-    requires block { IsReadableBlock (state_over (W.words words.old) layout.now 0 0) block }
-    requires apart { AreApart (state_over (W.words words.old) layout.now 0 0) block }
-    requires kind { HasKind (state_over (W.words words.old) layout.now 0 0) block kinds.Immix }
-    ensures marked { MarksTouched (state_over (W.words words.old) layout.now 0 0)
-        (state_over (W.words words.new) layout.now 0 0) block }
-    ensures exact { IsTouchedFromWithin (state_over (W.words words.old) layout.now 0 0) block
-        → LineBitsAreExact (state_over (W.words words.new) layout.now 0 0) block }
+    requires block { IsReadableBlock (shown (W.words words.old) layout.now) block }
+    requires apart { AreApart (shown (W.words words.old) layout.now) block }
+    requires kind { HasKind (shown (W.words words.old) layout.now) block kinds.Immix }
+    ensures marked { MarksTouched (shown (W.words words.old) layout.now)
+        (shown (W.words words.new) layout.now) block }
+    ensures exact { IsTouchedFromWithin (shown (W.words words.old) layout.now) block
+        → LineBitsAreExact (shown (W.words words.new) layout.now) block }
 {
     mark_touched_lines(words, layout, block);
 }

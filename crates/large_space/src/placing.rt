@@ -1,10 +1,10 @@
 //! The blocks of a large object.
 
 ghost use Rattle.std.specs.Prelude.{◌≡◌, ◌+◌, ◌*◌, ◌<◌, ◌≤◌, ℕ, length};
-ghost use Rattle.heap_layout.specs.Zones.{row_words, first, BlockWords};
+ghost use Rattle.heap_layout.specs.Zones.{first, BlockWords, IsRowOf};
 ghost use Rattle.heap_layout.specs.declared.block.Kind.TheVariants as kinds;
 ghost use Rattle.heap_layout.specs.Blocks.{kind_code};
-ghost use Rattle.object_model.specs.Objects.{state_over};
+ghost use Rattle.object_model.specs.Objects.{state_over, shown};
 ghost use Rattle.object_model.specs.Births.{MakesRun};
 ghost use Rattle.sessions.specs.Fitting.{IsFreeRun};
 ghost use Rattle.block_sweeps.specs.Stores.{Stores, Fills};
@@ -15,10 +15,10 @@ use side_meta::Words;
 /// Makes `count` Free blocks, from `block` on, the run of one large object: a head whose class is
 /// `count`, and tails.
 pub fn place_large<W: Words>(words: &mut W, layout: &Layout, block: u32, count: u32)
-    requires extent { length (W.words words.old) ≡ row_words layout.now.blocks }
+    requires extent { IsRowOf layout.now (W.words words.old) }
     requires least { 1 ≤ count }
     requires most { count ≤ 15 }
-    requires free { IsFreeRun (state_over (W.words words.old) layout.now 0 0) block count }
+    requires free { IsFreeRun (shown (W.words words.old) layout.now) block count }
     ensures { (number base : ℕ)
         → MakesRun (state_over (W.words words.old) layout.now number base)
         (state_over (W.words words.new) layout.now number base) block count }
@@ -29,7 +29,7 @@ pub fn place_large<W: Words>(words: &mut W, layout: &Layout, block: u32, count: 
 
 /// Makes the block the head of a run of `count` blocks.
 fn make_head<W: Words>(words: &mut W, layout: &Layout, block: u32, count: u32)
-    requires extent { length (W.words words.old) ≡ row_words layout.now.blocks }
+    requires extent { IsRowOf layout.now (W.words words.old) }
     requires block { block < layout.now.blocks }
     requires least { 1 ≤ count }
     requires most { count ≤ 15 }
@@ -47,7 +47,7 @@ fn make_head<W: Words>(words: &mut W, layout: &Layout, block: u32, count: u32)
 
 /// Makes the blocks from `from` on, before `to`, tails.
 fn make_tails<W: Words>(words: &mut W, layout: &Layout, from: u32, to: u32)
-    requires extent { length (W.words words.old) ≡ row_words layout.now.blocks }
+    requires extent { IsRowOf layout.now (W.words words.old) }
     requires order { from ≤ to }
     requires blocks { to ≤ layout.now.blocks }
     ensures { Fills (W.words words.old) (W.words words.new)

@@ -1,8 +1,8 @@
 //! The search for a run of Free blocks.
 
 ghost use Rattle.std.specs.Prelude.{◌≡◌, ◌+◌, ◌*◌, ◌<◌, ◌≤◌, ℕ, IfSome, MatchOption, length};
-ghost use Rattle.heap_layout.specs.Zones.{row_words, block_start};
-ghost use Rattle.object_model.specs.Objects.{state_over, blocks_for as blocks_for_size};
+ghost use Rattle.heap_layout.specs.Zones.{block_start, IsRowOf};
+ghost use Rattle.object_model.specs.Objects.{blocks_for as blocks_for_size, shown};
 ghost use Rattle.object_model.specs.Lawful.{FreeBlockIsClear, IsClear, AllLie, MeetsNoObject};
 ghost use Rattle.large_space.specs.FreeRuns.{IsFirstRun, HasNoRun};
 
@@ -20,18 +20,18 @@ pub fn blocks_for(size: u32) -> u32
 ///
 /// Reads each block word at most once.
 pub fn find_run<W: Words>(words: &W, layout: &Layout, count: u32) -> Option<u32>
-    requires extent { length (W.words words.now) ≡ row_words layout.now.blocks }
+    requires extent { IsRowOf layout.now (W.words words.now) }
     requires least { 1 ≤ count }
     requires most { count ≤ 15 }
     ensures run { MatchOption result
-        (HasNoRun (state_over (W.words words.now) layout.now 0 0) count)
-        (λ block. IsFirstRun (state_over (W.words words.now) layout.now 0 0) block count) }
+        (HasNoRun (shown (W.words words.now) layout.now) count)
+        (λ block. IsFirstRun (shown (W.words words.now) layout.now) block count) }
     ensures clear { ((k : ℕ)
-        → FreeBlockIsClear (state_over (W.words words.now) layout.now 0 0) k)
+        → FreeBlockIsClear (shown (W.words words.now) layout.now) k)
         → IfSome result (λ block. (j : ℕ) → j < count
-        → IsClear (state_over (W.words words.now) layout.now 0 0) (block + j)) }
-    ensures apart { AllLie (state_over (W.words words.now) layout.now 0 0)
-        → IfSome result (λ block. MeetsNoObject (state_over (W.words words.now) layout.now 0 0)
+        → IsClear (shown (W.words words.now) layout.now) (block + j)) }
+    ensures apart { AllLie (shown (W.words words.now) layout.now)
+        → IfSome result (λ block. MeetsNoObject (shown (W.words words.now) layout.now)
         (block_start layout.now.blocks block) (4096 * count)) }
 {
     let mut from = 0;

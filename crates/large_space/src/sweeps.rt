@@ -1,9 +1,9 @@
 //! The sweep of a large run.
 
 ghost use Rattle.std.specs.Prelude.{◌≡◌, ◌↔◌, IsTrue, length};
-ghost use Rattle.heap_layout.specs.Zones.{row_words, block_start};
+ghost use Rattle.heap_layout.specs.Zones.{block_start, IsRowOf};
 ghost use Rattle.heap_layout.specs.declared.block.Kind.TheVariants as kinds;
-ghost use Rattle.object_model.specs.Objects.{state_over, HasKind};
+ghost use Rattle.object_model.specs.Objects.{HasKind, shown};
 ghost use Rattle.object_model.specs.Releasing.{IsReleasable};
 ghost use Rattle.object_model.specs.Ages.{Lives};
 ghost use Rattle.block_sweeps.specs.Sweeping.{SweepsRun};
@@ -17,13 +17,13 @@ use side_meta::Words;
 ///
 /// A plan's release of a large run calls it.
 pub fn sweep_large<W: Words>(words: &mut W, layout: &Layout, block: u32, base: u64) -> bool
-    requires extent { length (W.words words.old) ≡ row_words layout.now.blocks }
-    requires releasable { IsReleasable (state_over (W.words words.old) layout.now 0 0) block }
-    requires kind { HasKind (state_over (W.words words.old) layout.now 0 0) block kinds.LargeHead }
-    ensures freed { IsTrue result ↔ (Lives base (state_over (W.words words.old) layout.now 0 0)
+    requires extent { IsRowOf layout.now (W.words words.old) }
+    requires releasable { IsReleasable (shown (W.words words.old) layout.now) block }
+    requires kind { HasKind (shown (W.words words.old) layout.now) block kinds.LargeHead }
+    ensures freed { IsTrue result ↔ (Lives base (shown (W.words words.old) layout.now)
         (block_start layout.now.blocks block) → ⊥) }
-    ensures swept { SweepsRun base (state_over (W.words words.old) layout.now 0 0)
-        (state_over (W.words words.new) layout.now 0 0) block }
+    ensures swept { SweepsRun base (shown (W.words words.old) layout.now)
+        (shown (W.words words.new) layout.now) block }
 {
     sweep_run(words, layout, block, base)
 }

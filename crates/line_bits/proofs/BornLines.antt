@@ -20,7 +20,7 @@ line-word b a size i last outside has =
     elim outside as (λ _. ⊥) [ inl before ↦ omega arith | inr beyond ↦ omega arith ]
 
 pub born-lines : (old new : List ℕ) (l : Layout) (number base a size : ℕ) → ((i : ℕ) → slice_index old i < 2 ^ 64) → a + size ≤ row_words l.blocks
-    → MarksLines (state_over old l 0 0) (state_over new l 0 0) a size → births.MarksLines (state_over old l number base) (state_over new l number base) a size
+    → MarksLines (state_over old l 0 0) (state_over new l 0 0) a size → births.MarksLinesOfBirth (state_over old l number base) (state_over new l number base) a size
 born-lines old new l number base a size fits last marks = record {
   blocks = refl;
   number = refl;

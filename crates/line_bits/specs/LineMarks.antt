@@ -12,15 +12,15 @@ pub record HasTouched (b a size i : ℕ) : Type 0 where
   pub word : i ≡ first b LineWords + line / 64
 
 -- line n of the heap is marked
-abbrev pub IsMarked : HeapState → ℕ → Type 0
-IsMarked s n = IsTrue (bit_of s.blocks LineWords s.words n)
+abbrev pub LineIsMarked : HeapState → ℕ → Type 0
+LineIsMarked s n = IsTrue (bit_of s.blocks LineWords s.words n)
 
 -- The lines that an object of this size at address a touches were marked, and nothing else changed. Only words with bits
 -- of these lines were changed, and each word has 64 bits if it had before.
 pub record MarksLines (s s' : HeapState) (a size : ℕ) : Type 0 where
-  pub marked : (n : ℕ) → TouchesLine s.blocks a size n → IsMarked s' n
-  pub kept : (n : ℕ) → IsMarked s n → IsMarked s' n
-  pub only : (n : ℕ) → IsMarked s' n → IsMarked s n ⊎ TouchesLine s.blocks a size n
+  pub marked : (n : ℕ) → TouchesLine s.blocks a size n → LineIsMarked s' n
+  pub kept : (n : ℕ) → LineIsMarked s n → LineIsMarked s' n
+  pub only : (n : ℕ) → LineIsMarked s' n → LineIsMarked s n ⊎ TouchesLine s.blocks a size n
   pub blocks : s'.blocks ≡ s.blocks
   pub extent : length s'.words ≡ length s.words
   pub others : (i : ℕ) → (HasTouched s.blocks a size i → ⊥) → word_at s' i ≡ word_at s i

@@ -3,8 +3,8 @@
 ghost use Rattle.std.specs.Prelude.{ℕ, List, ◌+◌, ◌<◌, ◌≤◌, ◌^◌, slice_index};
 ghost use Rattle.heap_layout.specs.Zones.{row_words};
 ghost use Rattle.heap_layout.specs.declared.layout.Layout.{Layout};
-ghost use Rattle.object_model.specs.Births.{MarksLines as MarksLinesOfBirth};
-ghost use Rattle.object_model.specs.Objects.{state_over};
+ghost use Rattle.object_model.specs.Births.{MarksLinesOfBirth};
+ghost use Rattle.object_model.specs.Objects.{state_over, shown};
 ghost use Rattle.line_bits.specs.LineMarks.{MarksLines};
 
 /// `mark` marks the lines of an object that is born: in a row of 64-bit words with room for the
@@ -12,7 +12,7 @@ ghost use Rattle.line_bits.specs.LineMarks.{MarksLines};
 pub fn births_mark_lines()
     ensures { (old new : List ℕ) (l : Layout) (number base a size : ℕ)
         → ((i : ℕ) → slice_index old i < 2 ^ 64) → a + size ≤ row_words l.blocks
-        → MarksLines (state_over old l 0 0) (state_over new l 0 0) a size
+        → MarksLines (shown old l) (shown new l) a size
         → MarksLinesOfBirth (state_over old l number base) (state_over new l number base)
         a size }
 {}

@@ -1,8 +1,8 @@
 //! Marks of the lines that an object touches.
 
 ghost use Rattle.std.specs.Prelude.{◌≡◌, ◌+◌, ◌<◌, ◌≤◌, length};
-ghost use Rattle.heap_layout.specs.Zones.{row_words, IsAddress};
-ghost use Rattle.object_model.specs.Objects.{state_over};
+ghost use Rattle.heap_layout.specs.Zones.{row_words, IsAddress, IsRowOf};
+ghost use Rattle.object_model.specs.Objects.{shown};
 ghost use Rattle.line_bits.specs.LineMarks.{MarksLines, SetsRun};
 
 use crate::masks::run_mask;
@@ -12,12 +12,12 @@ use side_meta::Words;
 /// Marks the lines that an object of `size` words at the address touches, in one block or several.
 /// Writes only words that change.
 pub fn mark<W: Words>(words: &mut W, layout: &Layout, address: u32, size: u32)
-    requires extent { length (W.words words.old) ≡ row_words layout.now.blocks }
+    requires extent { IsRowOf layout.now (W.words words.old) }
     requires address { IsAddress layout.now.blocks address }
     requires some { 1 ≤ size }
     requires last { address + size ≤ row_words layout.now.blocks }
-    ensures { MarksLines (state_over (W.words words.old) layout.now 0 0)
-        (state_over (W.words words.new) layout.now 0 0) address size }
+    ensures { MarksLines (shown (W.words words.old) layout.now)
+        (shown (W.words words.new) layout.now) address size }
 {
     let first = line_of(layout, address);
     let last = line_of(layout, address + size - 1);

@@ -4,7 +4,7 @@ use Rattle.std.specs.Int.{bit_at}
 use Rattle.heap_layout.specs.Zones.{first, LineWords}
 use Rattle.std.proofs.lemmas.Bool.{cases_lt, cases_eq, cases_Bool, false_from_ne_true, true≢false}
 use Rattle.object_model.specs.Objects.{HeapState, line_marked}
-use Rattle.line_marks.specs.Bits.{bit_in, IsClearFrom, IsFirstRun}
+use Rattle.line_marks.specs.Bits.{bit_in, IsClearFrom, IsFirstClearRun}
 use Rattle.line_marks.specs.LineHoles.{IsHoleFrom}
 
 -- the line words of a block have its line bits
@@ -38,7 +38,7 @@ module _ (s : HeapState) (k : ℕ) (lines : List ℕ) (read : (line : ℕ) → l
         (before.0, (let le = before.1 in omega arith), (λ m from below. elim (cases_eq m (suc x)) as (λ _. bit_in lines m ≡ false) [ inl e ↦ subst (λ (q : ℕ). bit_in lines q ≡ false) (sym e) clear | inr other ↦ before.2 m from (omega arith) ]), before.3)
   ]
 
-  pub run-hole : (from needed x end : ℕ) → 1 ≤ needed → IsFirstRun lines from needed x end → IsHoleFrom s k from x (end - x)
+  pub run-hole : (from needed x end : ℕ) → 1 ≤ needed → IsFirstClearRun lines from needed x end → IsHoleFrom s k from x (end - x)
   run-hole from needed x end some run =
       let room = run.room in
       let inside = run.inside in
@@ -78,7 +78,7 @@ module _ (s : HeapState) (k : ℕ) (lines : List ℕ) (read : (line : ℕ) → l
       )
 
   -- the first run of clear bits is that of the first hole
-  pub run-first : (from needed x end : ℕ) → IsFirstRun lines from needed x end → (y len : ℕ) → IsHoleFrom s k from y len → needed ≤ len → x ≤ y
+  pub run-first : (from needed x end : ℕ) → IsFirstClearRun lines from needed x end → (y len : ℕ) → IsHoleFrom s k from y len → needed ≤ len → x ≤ y
   run-first from needed x end run y len part room = elim (cases_lt y x) as (λ _. x ≤ y) [
     | inl less ↦ absurd (let clear = hole-clear from needed y len part room in run.first y clear.0 less clear.1)
     | inr past ↦ past

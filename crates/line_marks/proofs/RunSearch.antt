@@ -1,7 +1,7 @@
 -- Runs of clear bits.
 use Rattle.std.proofs.Common.{◌≡◌, sym, ◌∙◌, ap, ℕ, ◌+◌, ◌-◌, ◌<◌, ◌≤◌, ◌⊎◌, inl, inr, arith, true, false, List, length}
 use Rattle.std.proofs.lemmas.Bool.{cases_lt, cases_eq, cases_Bool, true≢false}
-use Rattle.line_marks.specs.Bits.{bit_in, IsFirstBit, HasNoBit, IsRunEnd, IsClearFrom, IsFirstRun, HasNoRun}
+use Rattle.line_marks.specs.Bits.{bit_in, IsFirstBit, HasNoBit, IsRunEnd, IsClearFrom, IsFirstClearRun, HasNoClearRun}
 
 -- the state of a search for a run at bit `at`: no run with room begins before `at` or continues across it
 pub record IsSearched (words : List ℕ) (from needed at : ℕ) : Type 0 where
@@ -31,7 +31,7 @@ module _ (words : List ℕ) (four : length words ≡ 4) (from needed at : ℕ) (
     ]
   ]
 
-  pub run-found : x + needed ≤ end → IsFirstRun words from needed x end
+  pub run-found : x + needed ≤ end → IsFirstClearRun words from needed x end
   run-found room = record {
     after = (let past = found.after in let more = searched.after in omega arith);
     room = room;
@@ -55,7 +55,7 @@ module _ (words : List ℕ) (four : length words ≡ 4) (from needed at : ℕ) (
     ];
   }
 
-pub none-found : (words : List ℕ) (from needed at : ℕ) → length words ≡ 4 → 1 ≤ needed → IsSearched words from needed at → HasNoBit words false at → HasNoRun words from needed
+pub none-found : (words : List ℕ) (from needed at : ℕ) → length words ≡ 4 → 1 ≤ needed → IsSearched words from needed at → HasNoBit words false at → HasNoClearRun words from needed
 none-found words from needed at four some searched none y past clear = elim (cases_lt y at) as (λ _. ⊥) [
   | inl less ↦ searched.none y past less clear
   | inr there ↦ (let inside = clear.inside in none y there (omega arith) (clear.clear y (omega arith) (omega arith)))

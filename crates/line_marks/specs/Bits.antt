@@ -48,7 +48,7 @@ pub record IsClearFrom (words : List ℕ) (x needed : ℕ) : Type 0 where
   pub clear : (m : ℕ) → x ≤ m → m < x + needed → bit_in words m ≡ false
 
 -- The bits from x up to `end` are the first run of at least `needed` clear bits, among the bits at or after `from`.
-pub record IsFirstRun (words : List ℕ) (from needed x end : ℕ) : Type 0 where
+pub record IsFirstClearRun (words : List ℕ) (from needed x end : ℕ) : Type 0 where
   pub after : from ≤ x
   pub room : x + needed ≤ end
   pub inside : end ≤ BLOCK_LINES
@@ -58,5 +58,5 @@ pub record IsFirstRun (words : List ℕ) (from needed x end : ℕ) : Type 0 wher
   pub first : (y : ℕ) → from ≤ y → y < x → IsClearFrom words y needed → ⊥
 
 -- there is no run of `needed` clear bits at or after bit `from`
-abbrev pub HasNoRun : List ℕ → ℕ → ℕ → Type 0
-HasNoRun words from needed = (y : ℕ) → from ≤ y → IsClearFrom words y needed → ⊥
+abbrev pub HasNoClearRun : List ℕ → ℕ → ℕ → Type 0
+HasNoClearRun words from needed = (y : ℕ) → from ≤ y → IsClearFrom words y needed → ⊥

@@ -2,10 +2,10 @@
 
 ghost use Rattle.std.specs.Prelude.{◌≡◌, ◌+◌, ◌*◌, ◌-◌, ◌<◌, ◌≤◌, ◌&&◌, ℕ, not, nat_eq, length, slice_index, MatchOption, IfSome};
 ghost use Rattle.side_meta.specs.BitWords.{has_bit};
-ghost use Rattle.heap_layout.specs.Zones.{first, row_words, LineWords};
+ghost use Rattle.heap_layout.specs.Zones.{first, LineWords, IsRowOf};
 ghost use Rattle.heap_layout.specs.declared.block.Kind.TheVariants as kinds;
 ghost use Rattle.heap_layout.specs.declared.layout.TheConstants.{LINE_WORDS};
-ghost use Rattle.object_model.specs.Objects.{state_over, HasKind};
+ghost use Rattle.object_model.specs.Objects.{HasKind, shown};
 ghost use Rattle.object_model.specs.Lawful.{LineBitsAreExact, MeetsNoObject};
 ghost use Rattle.sessions.specs.Collecting.{holes_in, marked_in};
 ghost use Rattle.line_marks.specs.LineHoles.{IsNextHole, HasNoHole};
@@ -34,7 +34,7 @@ pub struct LineCounts {
 
 /// The four words with the line bits of a block.
 pub fn line_words<W: Words>(words: &W, layout: &Layout, block: u32) -> [u64; 4]
-    requires extent { length (W.words words.now) ≡ row_words layout.now.blocks }
+    requires extent { IsRowOf layout.now (W.words words.now) }
     requires block { block < layout.now.blocks }
     ensures len { length result ≡ 4 }
     ensures words { (n : ℕ) → n < 4 → slice_index result n
@@ -62,16 +62,16 @@ pub fn next_hole<W: Words>(
     from: u32,
     lines: u32,
 ) -> Option<Hole>
-    requires extent { length (W.words words.now) ≡ row_words layout.now.blocks }
+    requires extent { IsRowOf layout.now (W.words words.now) }
     requires block { block < layout.now.blocks }
     requires some { 1 ≤ lines }
     ensures hole { MatchOption result
-        (HasNoHole (state_over (W.words words.now) layout.now 0 0) block from lines)
-        (λ hole. IsNextHole (state_over (W.words words.now) layout.now 0 0)
+        (HasNoHole (shown (W.words words.now) layout.now) block from lines)
+        (λ hole. IsNextHole (shown (W.words words.now) layout.now)
         block from lines hole) }
-    ensures apart { HasKind (state_over (W.words words.now) layout.now 0 0) block kinds.Immix
-        → LineBitsAreExact (state_over (W.words words.now) layout.now 0 0) block
-        → IfSome result (λ hole. MeetsNoObject (state_over (W.words words.now) layout.now 0 0)
+    ensures apart { HasKind (shown (W.words words.now) layout.now) block kinds.Immix
+        → LineBitsAreExact (shown (W.words words.now) layout.now) block
+        → IfSome result (λ hole. MeetsNoObject (shown (W.words words.now) layout.now)
         hole.start (LINE_WORDS * hole.lines)) }
 {
     let bits = line_words(words, layout, block);
@@ -86,12 +86,12 @@ pub fn next_hole<W: Words>(
 
 /// How many holes and how many marked lines the block has, from one pass over its line words.
 pub fn line_counts<W: Words>(words: &W, layout: &Layout, block: u32) -> LineCounts
-    requires extent { length (W.words words.now) ≡ row_words layout.now.blocks }
+    requires extent { IsRowOf layout.now (W.words words.now) }
     requires block { block < layout.now.blocks }
     ensures holes { result.holes
-        ≡ holes_in (state_over (W.words words.now) layout.now 0 0) block }
+        ≡ holes_in (shown (W.words words.now) layout.now) block }
     ensures marked { result.marked
-        ≡ marked_in (state_over (W.words words.now) layout.now 0 0) block }
+        ≡ marked_in (shown (W.words words.now) layout.now) block }
 {
     let mut holes = 0;
     let mut marked = 0;
@@ -120,18 +120,18 @@ fn hole_starts(word: u64, before: u64) -> u64
 /// For callers that want one count alone, as tests: the choice of candidates for evacuation takes
 /// both at once, by `line_counts`.
 pub fn count_holes<W: Words>(words: &W, layout: &Layout, block: u32) -> u32
-    requires extent { length (W.words words.now) ≡ row_words layout.now.blocks }
+    requires extent { IsRowOf layout.now (W.words words.now) }
     requires block { block < layout.now.blocks }
-    ensures { result ≡ holes_in (state_over (W.words words.now) layout.now 0 0) block }
+    ensures { result ≡ holes_in (shown (W.words words.now) layout.now) block }
 {
     line_counts(words, layout, block).holes
 }
 
 /// How many lines of the block are marked. For callers of one count alone, as `count_holes`.
 pub fn marked_lines<W: Words>(words: &W, layout: &Layout, block: u32) -> u32
-    requires extent { length (W.words words.now) ≡ row_words layout.now.blocks }
+    requires extent { IsRowOf layout.now (W.words words.now) }
     requires block { block < layout.now.blocks }
-    ensures { result ≡ marked_in (state_over (W.words words.now) layout.now 0 0) block }
+    ensures { result ≡ marked_in (shown (W.words words.now) layout.now) block }
 {
     line_counts(words, layout, block).marked
 }

@@ -1,7 +1,7 @@
 //! The search for a run of clear bits in the line words of a block.
 
 ghost use Rattle.std.specs.Prelude.{◌≡◌, ◌<◌, ◌≤◌, false, length, MatchOption};
-ghost use Rattle.line_marks.specs.Bits.{bit_in, IsRunEnd, IsFirstRun, HasNoRun};
+ghost use Rattle.line_marks.specs.Bits.{bit_in, IsRunEnd, IsFirstClearRun, HasNoClearRun};
 
 use crate::bits::first_bit;
 use heap_layout::BLOCK_LINES;
@@ -29,8 +29,8 @@ fn run_end(lines: &[u64], line: u32) -> u32
 pub fn first_run(lines: &[u64], from: u32, needed: u32) -> Option<Run>
     requires words { length lines.now ≡ 4 }
     requires some { 1 ≤ needed }
-    ensures { MatchOption result (HasNoRun lines.now from needed)
-        (λ r. IsFirstRun lines.now from needed r.start r.end) }
+    ensures { MatchOption result (HasNoClearRun lines.now from needed)
+        (λ r. IsFirstClearRun lines.now from needed r.start r.end) }
 {
     let mut at = from;
     while let Some(line) = first_bit(lines, false, at) {

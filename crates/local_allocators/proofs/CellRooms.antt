@@ -17,7 +17,7 @@ use Rattle.mutator_core.specs.declared.state.Extent.{Extent}
 use Rattle.mutator_core.specs.declared.state.OwnedBlock.{OwnedBlock}
 use Rattle.mutator_core.specs.Machine.{Epoch, Machine, heap_in}
 use Rattle.mutator_core.specs.Guards.{IsCell, IsAvailable, BeginsRegion}
-use Rattle.mutator_core.specs.Epochs.{IsReady, IsInEpoch, IsOwned, IsMade}
+use Rattle.mutator_core.specs.Epochs.{EpochMayBegin, IsInEpoch, IsOwned, IsMade}
 use Rattle.mutator_core.proofs.Fills.{owned-class}
 use Rattle.block_regions.specs.Notes.{FillsTails, FillsHoles, IsOwnedNote}
 use Rattle.block_regions.specs.Regions.{IsRegionIn, IsCellLeft, free, full, IsRestAfter, without_first}
@@ -159,7 +159,7 @@ module _ (p : Epoch) (cells : p.rules.fill ≡ kinds.Cells) (h : Machine) (now :
   }
 
 -- under tails and cells
-module _ (p : Epoch) (ready : IsReady p) (fills : FillsHoles p.rules.fill) (h : Machine) (now : IsInEpoch p (heap_in p h) h.locals)
+module _ (p : Epoch) (ready : EpochMayBegin p) (fills : FillsHoles p.rules.fill) (h : Machine) (now : IsInEpoch p (heap_in p h) h.locals)
     (m block a size : ℕ) (region : Region) (note : IsOwnedNote p.rules.fill (heap_in p h) block m region)
     (taken : Contains (h.locals m).owned (record { block = block; class = class_at (heap_in p h) block }))
     (there : block < p.before.blocks) (some : 0 < size) (room : region.next + size ≤ region.end)

@@ -14,12 +14,12 @@ use Rattle.sessions.specs.Fitting.{IsLineHole, HasHole, LiesInHole}
 use Rattle.mutator_core.specs.declared.state.Extent.{Extent}
 use Rattle.mutator_core.specs.Machine.{Epoch, Machine, heap_in}
 use Rattle.mutator_core.specs.Guards.{IsAvailable, BeginsRegion}
-use Rattle.mutator_core.specs.Epochs.{IsReady, IsInEpoch, IsOwned, IsMade}
+use Rattle.mutator_core.specs.Epochs.{EpochMayBegin, IsInEpoch, IsOwned, IsMade}
 use Rattle.mutator_core.proofs.Places.{extent-then, place-owner}
-use Rattle.block_regions.specs.Regions.{EndsAt, IsLinesLeft}
+use Rattle.block_regions.specs.Regions.{HasObjectEndingAt, IsLinesLeft}
 use Rattle.block_regions.proofs.LineRegions.{hole-first, word-marked, line-hole-as}
 
-module _ (p : Epoch) (ready : IsReady p) (fills : p.rules.fill ≡ kinds.Immix) (h : Machine) (now : IsInEpoch p (heap_in p h) h.locals)
+module _ (p : Epoch) (ready : EpochMayBegin p) (fills : p.rules.fill ≡ kinds.Immix) (h : Machine) (now : IsInEpoch p (heap_in p h) h.locals)
     (m block a size : ℕ) (region : Region) (owner : owner_at (heap_in p h) block ≡ m) (left : IsLinesLeft (heap_in p h) block region)
     (taken : Contains (h.locals m).owned (record { block = block; class = class_at (heap_in p h) block }))
     (there : block < p.before.blocks) (some : 0 < size) (room : region.next + size ≤ region.end)
@@ -80,7 +80,7 @@ module _ (p : Epoch) (ready : IsReady p) (fills : p.rules.fill ≡ kinds.Immix) 
         → block_at p.before.blocks x ≡ block → offset_at p.before.blocks x + size_at s x ≡ region.next → Begins
 
   -- an object that ends in the hole is new, and made by the block's owner
-  after-object : 16 * left.line < region.next → EndsAt (heap_in p h) block region.next → Begins
+  after-object : 16 * left.line < region.next → HasObjectEndingAt (heap_in p h) block region.next → Begins
   after-object later last =
       let x : ℕ = last.0 in
       let from : heap_of p.before.blocks ≤ last.0 = last.1.address.from in

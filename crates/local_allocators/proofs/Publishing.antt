@@ -15,7 +15,7 @@ use Rattle.mutator_core.specs.declared.state.Local.{Local}
 use Rattle.mutator_core.specs.declared.state.LogEntry.{LogEntry}
 use Rattle.mutator_core.specs.declared.state.Event.{Event}
 use Rattle.mutator_core.specs.declared.state.Event.TheVariants as e
-use Rattle.mutator_core.specs.Machine.{Epoch, Machine, next, answer_at, place, stored, found, local_after, birth_word, next_name, published, nothing_unpublished}
+use Rattle.mutator_core.specs.Machine.{Epoch, Machine, next, answer_at, word_of_event, stored, found, local_after, birth_word, next_name, published, nothing_unpublished}
 use Rattle.side_meta.specs.BitWords.{with_bit}
 use Rattle.object_model.specs.BitWords.{bit_word, bit_place}
 use Rattle.mutator_core.specs.Guards.{MayStep, MayBegin}
@@ -71,7 +71,7 @@ module _ (p : Epoch) (m : ℕ) (known : Contains (numbers_of p.mutators) m) (a d
     mine = (refl, tt);
     own = own-next h (e.Perform (c.New d refs nums)) ∙ ap (λ (q : Local). published q d refs nums) is;
     others = other-next h (e.Perform (c.New d refs nums));
-    words = subst (λ (q : Local). Stores p.before.blocks h.words (slice_set h.words (place p q (e.Perform (c.New d refs nums))) (stored p q (e.Perform (c.New d refs nums)) (slice_index h.words (place p q (e.Perform (c.New d refs nums)))))) (next_name l) a refs nums (size_of refs nums)) (sym is) stores;
+    words = subst (λ (q : Local). Stores p.before.blocks h.words (slice_set h.words (word_of_event p q (e.Perform (c.New d refs nums))) (stored p q (e.Perform (c.New d refs nums)) (slice_index h.words (word_of_event p q (e.Perform (c.New d refs nums)))))) (next_name l) a refs nums (size_of refs nums)) (sym is) stores;
     history = ap (λ (q : Local). entry m (c.New d refs nums) (r.New (next_name q)) ∷ []) is;
   }
     where

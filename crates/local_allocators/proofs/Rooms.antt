@@ -13,8 +13,8 @@ use Rattle.object_model.proofs.OneKind.{kind-from}
 use Rattle.sessions.specs.Fitting.{IsTail, HasHole, LiesInHole, LiesInTail}
 use Rattle.mutator_core.specs.declared.state.Extent.{Extent}
 use Rattle.mutator_core.specs.Machine.{Epoch, Machine, heap_in}
-use Rattle.mutator_core.specs.Guards.{IsPlace, IsAvailable, BeginsRegion}
-use Rattle.mutator_core.specs.Epochs.{IsReady, IsInEpoch, IsOwned, IsMade}
+use Rattle.mutator_core.specs.Guards.{IsPlaceOfMutator, IsAvailable, BeginsRegion}
+use Rattle.mutator_core.specs.Epochs.{EpochMayBegin, IsInEpoch, IsOwned, IsMade}
 use Rattle.mutator_core.proofs.Fills.{fill-not-free}
 use Rattle.mutator_core.proofs.Places.{place-owner}
 use Rattle.block_regions.specs.Notes.{FillsTails, IsOwnedNote}
@@ -40,7 +40,7 @@ module _ (fill : Kind) (fills : FillsTails fill) (s : HeapState) (k from size : 
     | inr young ↦ subst (λ (f : Kind). HasHole f s k from size) (sym young) (subst (HasKind s k) young kind, tail, room)
   ]
 
-module _ (p : Epoch) (ready : IsReady p) (fills : FillsTails p.rules.fill) (h : Machine) (now : IsInEpoch p (heap_in p h) h.locals)
+module _ (p : Epoch) (ready : EpochMayBegin p) (fills : FillsTails p.rules.fill) (h : Machine) (now : IsInEpoch p (heap_in p h) h.locals)
     (m block a size : ℕ) (region : Region) (note : IsOwnedNote p.rules.fill (heap_in p h) block m region)
     (taken : Contains (h.locals m).owned (record { block = block; class = 0 }))
     (there : block < p.before.blocks) (some : 0 < size) (room : region.next + size ≤ 4096)
@@ -81,7 +81,7 @@ module _ (p : Epoch) (ready : IsReady p) (fills : FillsTails p.rules.fill) (h : 
   data Begins : Type 0 where
     empty : region.next ≡ 0 → Begins
     old : (x : ℕ) → IsHeld p.before x → block_at p.before.blocks x ≡ block → offset_at p.before.blocks x + size_at p.before x ≡ region.next → Begins
-    made : (x : ℕ) → Contains (h.locals m).made (record { address = x; size = size_at s x }) → IsPlace p (h.locals m).owned x (size_at s x)
+    made : (x : ℕ) → Contains (h.locals m).made (record { address = x; size = size_at s x }) → IsPlaceOfMutator p (h.locals m).owned x (size_at s x)
         → block_at p.before.blocks x ≡ block → offset_at p.before.blocks x + size_at s x ≡ region.next → Begins
 
   begins : Begins
@@ -94,7 +94,7 @@ module _ (p : Epoch) (ready : IsReady p) (fills : FillsTails p.rules.fill) (h : 
           (now.knows allocated.0).objects (record { address = last.0; size = size_at s last.0 }) allocated.1 in
           let who : allocated.0 ≡ m = sym (place-owner p h now allocated.0 last.0 (size_at s last.0) is.place).0 ∙ ap (λ (k : ℕ). block_word s k / 65536) last.2 ∙ note.owner in
           made last.0 (subst (λ (q : ℕ). Contains (h.locals q).made (record { address = last.0; size = size_at s last.0 })) who allocated.1)
-          (subst (λ (q : ℕ). IsPlace p (h.locals q).owned last.0 (size_at s last.0)) who is.place) last.2 last.3)
+          (subst (λ (q : ℕ). IsPlaceOfMutator p (h.locals q).owned last.0 (size_at s last.0)) who is.place) last.2 last.3)
     ]
   ]
 

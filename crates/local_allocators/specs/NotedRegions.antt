@@ -11,7 +11,7 @@ use Rattle.local_allocators.specs.MutatorRegions.{MutatorRegions}
 abbrev pub nowhere : Region
 nowhere = record { next = 0; end = 0 }
 
--- the region that a note tells, or no words if nobody owns the block
+-- the region that a note has, or no words if nobody owns the block
 abbrev pub region_noted : Option BlockNote → Region
 region_noted None = nowhere
 region_noted (Some (Unowned least)) = nowhere

@@ -3,7 +3,7 @@
 //! Called for plans with cells. Reads block words and start words, and writes nothing.
 
 ghost use Rattle.std.specs.Prelude.{◌≡◌, ◌≢◌, ◌+◌, ◌*◌, ◌<◌, ◌⊎◌, ℕ, true, false, length};
-ghost use Rattle.heap_layout.specs.Zones.{row_words, block_start};
+ghost use Rattle.heap_layout.specs.Zones.{block_start, IsRowOf};
 ghost use Rattle.heap_layout.specs.declared.block.Kind.TheVariants as kinds;
 ghost use Rattle.object_model.specs.Objects.{state_of, class_at, cell_words, is_start, HasKind};
 ghost use Rattle.object_model.specs.Lawful.{IsReadableBlock};
@@ -19,7 +19,7 @@ use side_meta::test_bit;
 
 /// Whether an object begins at the offset of the block.
 fn is_taken(row: &Row, block: u32, offset: u32) -> bool
-    requires extent { length row.now.words.items ≡ row_words row.now.layout.blocks }
+    requires extent { IsRowOf row.now.layout row.now.words.items }
     requires block { block < row.now.layout.blocks }
     requires offset { offset < BLOCK_WORDS }
     ensures { result ≡ is_start (state_of row.now)
@@ -32,7 +32,7 @@ fn is_taken(row: &Row, block: u32, offset: u32) -> bool
 /// The first free cell of the block that begins at or after the offset `from`, where a cell
 /// begins, or no words. That cell is tested first: the search for others takes divisions.
 pub fn free_cell(row: &Row, block: u32, class: u32, from: u32) -> Region
-    requires extent { length row.now.words.items ≡ row_words row.now.layout.blocks }
+    requires extent { IsRowOf row.now.layout row.now.words.items }
     requires kind { HasKind (state_of row.now) block kinds.Cells }
     requires class { class_at (state_of row.now) block ≡ class }
     requires few { class < CLASSES }

@@ -5,7 +5,7 @@
 //! `lines`. Writes nothing.
 
 ghost use Rattle.std.specs.Prelude.{◌≡◌, ◌↔◌, ◌+◌, ◌<◌, ◌≤◌, ℕ, Some, None, IfSome, IfNone, true, false, IsTrue, length};
-ghost use Rattle.heap_layout.specs.Zones.{row_words};
+ghost use Rattle.heap_layout.specs.Zones.{IsRowOf};
 ghost use Rattle.heap_layout.specs.declared.block.Kind.TheVariants as kinds;
 ghost use Rattle.object_model.specs.Objects.{state_of, class_at, HasKind};
 ghost use Rattle.object_model.specs.Lawful.{IsWellFormed, IsReadableBlock};
@@ -53,9 +53,9 @@ pub fn first_region(fill: Kind, size: u32) -> Region
     Region { next: 0, end }
 }
 
-/// Whether a block is Free: the code of its kind alone tells.
+/// Whether a block is Free: the code of its kind alone says it.
 pub fn is_free(row: &Row, block: u32) -> bool
-    requires extent { length row.now.words.items ≡ row_words row.now.layout.blocks }
+    requires extent { IsRowOf row.now.layout row.now.words.items }
     requires block { block < row.now.layout.blocks }
     ensures { IsTrue result ↔ HasKind (state_of row.now) block kinds.Free }
 {
@@ -79,7 +79,7 @@ pub fn first_hole(row: &Row, fill: Kind, block: u32, from: u32, size: u32) -> Op
 #[inline(always)]
 pub fn rest_after(row: &Row, fill: Kind, block: u32, region: &Region, size: u32) -> Region
     requires fills { FillsHoles fill }
-    requires extent { length row.now.words.items ≡ row_words row.now.layout.blocks }
+    requires extent { IsRowOf row.now.layout row.now.words.items }
     requires kind { HasKind (state_of row.now) block fill }
     requires class { class_at (state_of row.now) block
         ≡ class_for_size fill size }

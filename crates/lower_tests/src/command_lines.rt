@@ -102,7 +102,7 @@ const FAULTY: &str = "\n\
     --plan nogc --heap 1025 a";
 
 #[test]
-fn tells_the_form_and_what_is_implemented(rt: HostRuntime) -> Result<(), Fail> {
+fn usage_and_what_is_implemented(rt: HostRuntime) -> Result<(), Fail> {
     for (lines, want) in [
         (IMPLEMENTED, (true, true)),
         (NOT_IMPLEMENTED, (true, false)),

@@ -10,7 +10,7 @@ use Rattle.block_regions.proofs.Lists.{get-below, get-some, one-element}
 use Rattle.ideal_heap.specs.declared.name.Name.{Name}
 use Rattle.mutator_calls.specs.declared.need.Need.{Need}
 use Rattle.managed_heap.specs.declared.stopped_heap.StoppedHeap.{StoppedHeap}
-use Rattle.managed_heap.specs.Needs.{AddsBirths, BearsAt, MayAllocate, bearing}
+use Rattle.managed_heap.specs.Needs.{AddsBirths, MutatorAllocatesAt, MayAllocate, with_new_object}
 
 abbrev pub counts_of : List Mutator → List (ℕ × ℕ)
 counts_of us = map birth_count (map mutator_state us)
@@ -62,13 +62,13 @@ added-after old mid new m more first then = record {
     between k u was = get-some mid k (let below : k < length old = get-below old k u was in let same : length mid ≡ length old = first.count in omega arith)
 
 -- a birth at a place
-pub one-added : (old new : List Mutator) (k m d a : ℕ) (n : Name) → k + 1 ≡ m → BearsAt old new k m d a n → AddsBirths old m 1 new
+pub one-added : (old new : List Mutator) (k m d a : ℕ) (n : Name) → k + 1 ≡ m → MutatorAllocatesAt old new k m d a n → AddsBirths old m 1 new
 one-added old new k m d a n place bears = record {
   count = bears.change.len;
   own = λ j u v at was is.
       let here : j ≡ k = omega arith in
       let old-one : u ≡ bears.mutator = one-element (slice_get old k) u bears.mutator (ap (slice_get old) (sym here) ∙ was) bears.was in
-      let new-one : v ≡ bearing bears.mutator d a = one-element (slice_get new k) v (bearing bears.mutator d a) (ap (slice_get new) (sym here) ∙ is) bears.change.here in
+      let new-one : v ≡ with_new_object bears.mutator d a = one-element (slice_get new k) v (with_new_object bears.mutator d a) (ap (slice_get new) (sym here) ∙ is) bears.change.here in
       let before : u.births ≡ bears.mutator.births = ap (λ (x : Mutator). x.births) old-one in
       let after : v.births ≡ bears.mutator.births + 1 = ap (λ (x : Mutator). x.births) new-one in
       omega arith;

@@ -18,7 +18,7 @@ use Rattle.mutator_calls.specs.declared.need.Mutator.{Mutator}
 use Rattle.heap_users.specs.Users.{mutator_state}
 use Rattle.block_regions.specs.Notes.{AreNotes}
 use Rattle.managed_heap.specs.declared.stopped_heap.StoppedHeap.{StoppedHeap}
-use Rattle.managed_heap.specs.Stopped.{collections_of, registers_of, counted, IsInOrder, IsStopped, StandsAt, HasCollected}
+use Rattle.managed_heap.specs.Stopped.{collections_of, registers_of_heap, counted, IsHeapInOrder, IsStopped, HeapStandsAt, HasCollected}
 use Rattle.managed_heap.specs.Needs.{AddsBirths}
 use Rattle.managed_heap.proofs.BirthCounts.{as-many, none-added}
 
@@ -45,19 +45,19 @@ module _ {P : Type 0} (rules : Rules) (kind : Collect) (old new : StoppedHeap P)
     full = new.full;
   }
 
-  module _ (t : Setting) (now : Moment) (at : StandsAt rules old t now) where
-    collection-at : IsCollection t.rules t.workers kind now.heap (roots_of now.mutators) (heap_state new.heap) (registers_of new)
+  module _ (t : Setting) (now : Moment) (at : HeapStandsAt rules old t now) where
+    collection-at : IsCollection t.rules t.workers kind now.heap (roots_of now.mutators) (heap_state new.heap) (registers_of_heap new)
     collection-at =
-        subst (λ (r : Rules). IsCollection r t.workers kind now.heap (roots_of now.mutators) (heap_state new.heap) (registers_of new)) (sym at.rules_are)
-        (subst (λ (w : ℕ). IsCollection rules w kind now.heap (roots_of now.mutators) (heap_state new.heap) (registers_of new)) (sym at.workers)
-        (subst (λ (s : HeapState). IsCollection rules 1 kind s (roots_of now.mutators) (heap_state new.heap) (registers_of new)) at.heap
-        (subst (λ (ms : List MutatorState). IsCollection rules 1 kind (heap_state old.heap) (roots_of ms) (heap_state new.heap) (registers_of new)) at.mutators made.collection)))
+        subst (λ (r : Rules). IsCollection r t.workers kind now.heap (roots_of now.mutators) (heap_state new.heap) (registers_of_heap new)) (sym at.rules_are)
+        (subst (λ (w : ℕ). IsCollection rules w kind now.heap (roots_of now.mutators) (heap_state new.heap) (registers_of_heap new)) (sym at.workers)
+        (subst (λ (s : HeapState). IsCollection rules 1 kind s (roots_of now.mutators) (heap_state new.heap) (registers_of_heap new)) at.heap
+        (subst (λ (ms : List MutatorState). IsCollection rules 1 kind (heap_state old.heap) (roots_of ms) (heap_state new.heap) (registers_of_heap new)) at.mutators made.collection)))
 
     pub makes : MakesCollection t kind now (late now)
     makes = moments.makes-after t kind now (late now) at.sound collection-at new.heap.lawful (made.births ∙ ap (map birth_count) at.mutators)
         (states-registers new.mutators.items made.registers) refl (made.counts ∙ counted-after kind old.nursery old.full now at.nursery at.full)
 
-    pub stands : StandsAt rules new t (late now)
+    pub stands : HeapStandsAt rules new t (late now)
     stands = record {
       rules_are = at.rules_are;
       workers = at.workers;
@@ -75,14 +75,14 @@ module _ {P : Type 0} (rules : Rules) (kind : Collect) (old new : StoppedHeap P)
   pub births : (m : ℕ) → AddsBirths old.mutators.items m 0 new.mutators.items
   births m = none-added old.mutators.items new.mutators.items m made.births
 
-  pub in-order : IsInOrder rules old → IsInOrder rules new
+  pub in-order : IsHeapInOrder rules old → IsHeapInOrder rules new
   in-order order =
       let few : length old.mutators.items ≤ 16 = order.few in
       let same : length new.mutators.items ≡ length old.mutators.items = as-many new.mutators.items old.mutators.items made.births in
       let number : (heap_state old.heap).number ≡ old.nursery + old.full = order.number in
       let sum : new.nursery + new.full ≡ old.nursery + old.full + 1 = counts in
       let risen : (heap_state new.heap).number ≡ (heap_state old.heap).number + 1 =
-      (counts-one rules 1 kind (heap_state old.heap) (heap_state new.heap) (registers_of old) (registers_of new) made.collection).0 in
+      (counts-one rules 1 kind (heap_state old.heap) (heap_state new.heap) (registers_of_heap old) (registers_of_heap new) made.collection).0 in
       record { few = omega arith; notes = made.notes; number = omega arith }
 
   pub stopped-made : IsStopped rules old → IsStopped rules new
@@ -93,19 +93,19 @@ module _ {P : Type 0} (rules : Rules) (kind : Collect) (old new : StoppedHeap P)
     stands = stands stopped.setting stopped.now stopped.stands;
   }
 
-  pub makes-from : (t : Setting) (now : Moment) → StandsAt rules old t now → (next : Moment) × MakesCollection t kind now next × StandsAt rules new t next
+  pub makes-from : (t : Setting) (now : Moment) → HeapStandsAt rules old t now → (next : Moment) × MakesCollection t kind now next × HeapStandsAt rules new t next
   makes-from t now at = (late now, makes t now at, stands t now at)
 
 -- a collection of the registers, which are set to the targets of the roots
-pub has-collected : {P : Type 0} (rules : Rules) (kind : Collect) (old new : StoppedHeap P) (note : Note) (from to : List ℕ) → from ≡ registers_of old → to ≡ registers_of new
+pub has-collected : {P : Type 0} (rules : Rules) (kind : Collect) (old new : StoppedHeap P) (note : Note) (from to : List ℕ) → from ≡ registers_of_heap old → to ≡ registers_of_heap new
     → ((made : IsCollection rules 1 kind (heap_state old.heap) from (heap_state new.heap) to) × NotesIf rules.collects rules 1 kind (heap_state old.heap) from (heap_state new.heap) to made note)
     → map birth_count (map mutator_state new.mutators.items) ≡ map birth_count (map mutator_state old.mutators.items) → AllByRecursion (λ u. length u.registers ≡ 16) new.mutators.items
     → (new.nursery, new.full) ≡ counted kind old.nursery old.full → AreNotes rules.fill (heap_state new.heap) new.notes → HasCollected rules kind old new note
 has-collected rules kind old new note from to read set pair births registers counts notes =
-    let both : (made : IsCollection rules 1 kind (heap_state old.heap) (registers_of old) (heap_state new.heap) (registers_of new))
-    × NotesIf rules.collects rules 1 kind (heap_state old.heap) (registers_of old) (heap_state new.heap) (registers_of new) made note =
-    subst (λ (l : List ℕ). (made : IsCollection rules 1 kind (heap_state old.heap) l (heap_state new.heap) (registers_of new))
-    × NotesIf rules.collects rules 1 kind (heap_state old.heap) l (heap_state new.heap) (registers_of new) made note) read
+    let both : (made : IsCollection rules 1 kind (heap_state old.heap) (registers_of_heap old) (heap_state new.heap) (registers_of_heap new))
+    × NotesIf rules.collects rules 1 kind (heap_state old.heap) (registers_of_heap old) (heap_state new.heap) (registers_of_heap new) made note =
+    subst (λ (l : List ℕ). (made : IsCollection rules 1 kind (heap_state old.heap) l (heap_state new.heap) (registers_of_heap new))
+    × NotesIf rules.collects rules 1 kind (heap_state old.heap) l (heap_state new.heap) (registers_of_heap new) made note) read
     (subst (λ (l : List ℕ). (made : IsCollection rules 1 kind (heap_state old.heap) from (heap_state new.heap) l)
     × NotesIf rules.collects rules 1 kind (heap_state old.heap) from (heap_state new.heap) l made note) set pair) in
     record { collection = both.0; noted = both.1; births = births; registers = registers; counts = counts; notes = notes }

@@ -15,8 +15,8 @@ use Rattle.heap_users.specs.Users.{mutator_state}
 use Rattle.heap_users.specs.Beginnings.{MayUse}
 use Rattle.plain_world.proofs.Closed.{may-use}
 use Rattle.managed_heap.specs.declared.stopped_heap.StoppedHeap.{StoppedHeap}
-use Rattle.managed_heap.specs.Stopped.{EndsEpoch, IsInOrder, IsStopped, StandsAt, moment_of}
-use Rattle.managed_heap.proofs.Putting.{stands-represents}
+use Rattle.managed_heap.specs.Stopped.{EndsEpoch, IsHeapInOrder, IsStopped, HeapStandsAt, moment_of}
+use Rattle.managed_heap.proofs.NeedsWritten.{stands-represents}
 
 pub remembers : {P : Type 0} (rules : Rules) (h : StoppedHeap P) → IsStopped rules h → Remembers rules (heap_state h.heap)
 remembers rules h stopped =
@@ -26,9 +26,9 @@ pub users : {P : Type 0} (rules : Rules) (h : StoppedHeap P) → IsStopped rules
 users rules h stopped = may-use (heap_state h.heap) (map mutator_state h.mutators.items) (ideal_at stopped.now) (stands-represents rules h stopped.setting stopped.now stopped.stands)
 
 -- the end of an epoch that began with a stopped heap
-module _ {P : Type 0} (rules : Rules) (old new : StoppedHeap P) (t : Setting) (now : Moment) (part : List Entry) (stands : StandsAt rules old t now)
+module _ {P : Type 0} (rules : Rules) (old new : StoppedHeap P) (t : Setting) (now : Moment) (part : List Entry) (stands : HeapStandsAt rules old t now)
     (ends : EndsEpoch rules old now part new) where
-  pub stands-after : StandsAt rules new t (moment_of new (now.done ++ part))
+  pub stands-after : HeapStandsAt rules new t (moment_of new (now.done ++ part))
   stands-after = record {
     rules_are = stands.rules_are;
     workers = stands.workers;
@@ -55,7 +55,7 @@ module _ {P : Type 0} (rules : Rules) (old new : StoppedHeap P) (t : Setting) (n
       ∙ length-map (map mutator_state old.mutators.items) (λ (m : MutatorState). m.number)
       ∙ length-map old.mutators.items mutator_state
 
-  pub is-stopped : IsInOrder rules old → AreNotes rules.fill (heap_state new.heap) new.notes → IsStopped rules new
+  pub is-stopped : IsHeapInOrder rules old → AreNotes rules.fill (heap_state new.heap) new.notes → IsStopped rules new
   is-stopped order notes = record {
     order = record {
       few = subst (λ (n : ℕ). n ≤ 16) (sym count) order.few;

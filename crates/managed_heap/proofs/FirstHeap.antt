@@ -13,20 +13,20 @@ use Rattle.sessions.proofs.Soundness.{session-sound}
 use Rattle.heap_users.specs.Users.{mutator_state}
 use Rattle.block_regions.specs.Notes.{AreNotes}
 use Rattle.managed_heap.specs.declared.stopped_heap.StoppedHeap.{StoppedHeap}
-use Rattle.managed_heap.specs.Stopped.{IsInOrder, StandsAt, IsStopped}
+use Rattle.managed_heap.specs.Stopped.{IsHeapInOrder, HeapStandsAt, IsStopped}
 
 module _ {P : Type 0} (rules : Rules) (h : StoppedHeap P) (blocks count : ℕ)
     (heap : heap_state h.heap ≡ empty_heap blocks) (notes : AreNotes rules.fill (heap_state h.heap) h.notes)
     (mutators : map mutator_state h.mutators.items ≡ map new_mutator (range_with_len 1 count)) (as_many : length h.mutators.items ≡ count)
     (nursery : h.nursery ≡ 0) (full : h.full ≡ 0) (few : count ≤ 16) where
-  in-order : IsInOrder rules h
+  in-order : IsHeapInOrder rules h
   in-order = record {
     few = omega arith;
     notes = notes;
     number = (let e : (heap_state h.heap).number ≡ 0 = ap (λ (s : HeapState). s.number) heap in omega arith);
   }
 
-  pub stands-first : (t : Setting) → t.rules ≡ rules → t.workers ≡ 1 → t.blocks ≡ blocks → length t.traces ≡ count → StandsAt rules h t (first_moment t)
+  pub stands-first : (t : Setting) → t.rules ≡ rules → t.workers ≡ 1 → t.blocks ≡ blocks → length t.traces ≡ count → HeapStandsAt rules h t (first_moment t)
   stands-first t rules_are one blocks_are traces =
       let order = h.heap.lawful.but_lines.order.row in
       let as_blocks : (heap_state h.heap).blocks ≡ blocks = ap (λ (s : HeapState). s.blocks) heap in

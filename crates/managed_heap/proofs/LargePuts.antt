@@ -27,7 +27,7 @@ use Rattle.large_space.specs.FreeRuns.{IsFirstRun}
 use Rattle.managed_heap.specs.declared.spot.Spot.{Spot}
 use Rattle.plan_api.specs.Relisting.{Relists}
 use Rattle.block_regions.specs.Notes.{FillsHoles}
-use Rattle.managed_heap.specs.Spots.{IsPlaceIn, IsRunAt, IsPlace, TakesBlock, TakesSpot, RelistsSpot}
+use Rattle.managed_heap.specs.Spots.{IsPlaceIn, IsRunAt, IsPlaceForSize, TakesSpotBlock, TakesSpot, RelistsSpot}
 use Rattle.managed_heap.proofs.Rooms.{FillsByLines}
 use Rattle.managed_heap.proofs.Written.{address_of, IsBorn, born-small, readable-small}
 
@@ -36,7 +36,7 @@ pub run-of : (s : HeapState) (size : ℕ) (spot : Spot) → IsRunAt s size spot 
 run-of s size spot is = subst (λ (c : ℕ). IsFirstRun s spot.block c) is.count is.run
 
 -- a spot, by whether it has a run
-pub by-run : (fill : Kind) (s : HeapState) (size : ℕ) (spot : Spot) (M : Type 0) → IsPlace fill s size spot
+pub by-run : (fill : Kind) (s : HeapState) (size : ℕ) (spot : Spot) (M : Type 0) → IsPlaceForSize fill s size spot
     → (spot.run ≡ 0 → IsPlaceIn fill s size spot → M) → (spot.run ≢ 0 → IsRunAt s size spot → M) → M
 by-run fill s size spot M is small large = elim (eqb_tells spot.run 0) as (λ _. M) [
   | inl e ↦ small e.1 (subst (λ (b : Bool). MatchBool b (IsPlaceIn fill s size spot) (IsRunAt s size spot)) e.0 is)
@@ -127,21 +127,21 @@ module _ (rules : Rules) (fills : FillsHoles rules.fill) (s between written : He
     (writes : WritesObject between written (address_of s spot) n refs nums) (few_refs : refs ≤ 1024) (few_nums : nums ≤ 60000) (named : IsName n)
     (fresh : (x : ℕ) → IsHeld s x → name_at s x ≢ n) where
   born-either : (new : HeapState) → FillsByLines rules → (b : Bool) → MatchBool b (IsPlaceIn rules.fill s (size_of refs nums) spot) (IsRunAt s (size_of refs nums) spot)
-      → MatchBool b (TakesBlock rules.fill s spot (size_of refs nums) between) (MakesRun s between spot.block spot.run)
+      → MatchBool b (TakesSpotBlock rules.fill s spot (size_of refs nums) between) (MakesRun s between spot.block spot.run)
       → MatchBool b (Relists rules written new spot.block × (new.number ≡ written.number) × (new.base ≡ written.base)) (new ≡ written) → IsBorn rules s spot n refs nums new
   born-either new filled true is takes relists = born-small rules fills s between written spot n refs nums lawful is takes writes few_refs few_nums named fresh new filled relists
   born-either new filled false is makes same = subst (IsBorn rules s spot n refs nums) (sym same)
       (born-large rules s between written spot n refs nums lawful is makes writes few_refs few_nums named fresh)
 
-  pub born-at : (new : HeapState) → FillsByLines rules → IsPlace rules.fill s (size_of refs nums) spot → TakesSpot rules.fill s spot (size_of refs nums) between
+  pub born-at : (new : HeapState) → FillsByLines rules → IsPlaceForSize rules.fill s (size_of refs nums) spot → TakesSpot rules.fill s spot (size_of refs nums) between
       → RelistsSpot rules written spot new → IsBorn rules s spot n refs nums new
   born-at new filled = born-either new filled (nat_eq spot.run 0)
 
   -- a block without a run can be read, to be relisted
   readable-either : (b : Bool) → IsTrue b → MatchBool b (IsPlaceIn rules.fill s (size_of refs nums) spot) (IsRunAt s (size_of refs nums) spot)
-      → MatchBool b (TakesBlock rules.fill s spot (size_of refs nums) between) (MakesRun s between spot.block spot.run) → IsReadableBlock written spot.block × AreApart written spot.block
+      → MatchBool b (TakesSpotBlock rules.fill s spot (size_of refs nums) between) (MakesRun s between spot.block spot.run) → IsReadableBlock written spot.block × AreApart written spot.block
   readable-either true none is takes = readable-small rules fills s between written spot n refs nums lawful is takes writes few_refs few_nums named fresh
   readable-either false none is makes = absurd (let wrong : false ≡ true = none in cc)
 
-  pub readable-at : spot.run ≡ 0 → IsPlace rules.fill s (size_of refs nums) spot → TakesSpot rules.fill s spot (size_of refs nums) between → IsReadableBlock written spot.block × AreApart written spot.block
+  pub readable-at : spot.run ≡ 0 → IsPlaceForSize rules.fill s (size_of refs nums) spot → TakesSpot rules.fill s spot (size_of refs nums) between → IsReadableBlock written spot.block × AreApart written spot.block
   readable-at none = readable-either (nat_eq spot.run 0) (eq-eqb spot.run 0 none)

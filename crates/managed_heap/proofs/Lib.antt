@@ -7,12 +7,12 @@ pub mod LargePuts
 pub mod Users
 pub mod SetRegisters
 pub mod RootLists
-pub mod Putting
+pub mod NeedsWritten
 pub mod PutCalls
 pub mod BirthCounts
 pub mod Collected
 pub mod Noted
-pub mod Serving
+pub mod ServedNeeds
 pub mod Moments
 pub mod ManagedPlans
 pub mod FirstHeap

@@ -7,7 +7,7 @@ use Rattle.ideal_heap.specs.declared.command.Command.TheVariants as c
 use Rattle.ideal_heap.specs.declared.reply.Reply.TheVariants as r
 use Rattle.ideal_heap.specs.Names.{name}
 use Rattle.ideal_heap.specs.Ideal.{IdealHeap, empty, step, with_new}
-use Rattle.ideal_heap.specs.Runs.{Entry, entry, Answers, after, after_entry, IsRun}
+use Rattle.ideal_heap.specs.Runs.{Entry, entry, Answers, heap_after_run, after_entry, IsRun}
 use Rattle.ideal_heap.proofs.RunLemmas.{after-append, extended}
 use Rattle.object_model.specs.Heaps.{heap_state}
 use Rattle.object_model.specs.Objects.{HeapState, size_of, blocks_for}
@@ -25,13 +25,13 @@ use Rattle.heap_users.specs.Users.{mutator_state}
 use Rattle.managed_heap.specs.declared.stopped_heap.StoppedHeap.{StoppedHeap}
 use Rattle.managed_heap.specs.declared.spot.Spot.{Spot}
 use Rattle.managed_heap.specs.declared.place.Placed.TheVariants as answer
-use Rattle.managed_heap.specs.Stopped.{collections_of, IsInOrder, IsStopped, StandsAt}
+use Rattle.managed_heap.specs.Stopped.{collections_of, IsHeapInOrder, IsStopped, HeapStandsAt}
 use Rattle.managed_heap.specs.Spots.{IsSpot}
-use Rattle.managed_heap.specs.Needs.{MayAllocate, BearsAt, PutsAt, AddsBirths, AddsNeed}
+use Rattle.managed_heap.specs.Needs.{MayAllocate, MutatorAllocatesAt, WritesNeed, AddsBirths, AddsNeed}
 use Rattle.managed_heap.proofs.Users.{known-number, births-here, mutators-after}
 use Rattle.managed_heap.proofs.Rooms.{FillsByLines}
 use Rattle.managed_heap.proofs.Written.{address_of, IsBorn}
-use Rattle.managed_heap.proofs.Putting as putting
+use Rattle.managed_heap.proofs.NeedsWritten as putting
 use Rattle.managed_heap.proofs.BirthCounts.{one-added}
 
 -- the reply of a step, and the heap after it
@@ -44,7 +44,7 @@ unfolding step
 new-heap h m d refs nums n = refl
 
 module _ {P : Type 0} (rules : Rules) (old new : StoppedHeap P) (m : ℕ) (need : Need) (spot : Spot) (n : Name) (fills : FillsHoles rules.fill) (filled : FillsByLines rules) (stopped : IsStopped rules old)
-    (may : MayAllocate old m need) (is : IsSpot rules (heap_state old.heap) (size_of need.refs need.nums) spot) (puts : PutsAt rules old m need spot n new) where
+    (may : MayAllocate old m need) (is : IsSpot rules (heap_state old.heap) (size_of need.refs need.nums) spot) (puts : WritesNeed rules old m need spot n new) where
   abbrev k : ℕ
   k = m - 1
 
@@ -57,7 +57,7 @@ module _ {P : Type 0} (rules : Rules) (old new : StoppedHeap P) (m : ℕ) (need 
   user-here : slice_get old.mutators.items k ≡ Some user
   user-here = (putting.the-user old m need may).1
 
-  bears : BearsAt old.mutators.items new.mutators.items k m need.register (address_of (heap_state old.heap) spot) n
+  bears : MutatorAllocatesAt old.mutators.items new.mutators.items k m need.register (address_of (heap_state old.heap) spot) n
   bears = puts.births k at
 
   name-is : n ≡ name m (user.births + 1)
@@ -72,13 +72,13 @@ module _ {P : Type 0} (rules : Rules) (old new : StoppedHeap P) (m : ℕ) (need 
   pub counts-placed : collections_of new ≡ collections_of old
   counts-placed = ap (λ (x : ℕ). x + new.full) puts.nursery ∙ ap (λ (x : ℕ). old.nursery + x) puts.full
 
-  pub order-placed : IsInOrder rules new
+  pub order-placed : IsHeapInOrder rules new
   order-placed =
       let few : length old.mutators.items ≤ 16 = stopped.order.few in
       let many : length new.mutators.items ≡ length old.mutators.items = bears.change.len in
       record { few = omega arith; notes = puts.notes; number = born.layout.1 ∙ stopped.order.number ∙ sym counts-placed }
 
-  module _ (t : Setting) (now : Moment) (stands : StandsAt rules old t now) where
+  module _ (t : Setting) (now : Moment) (stands : HeapStandsAt rules old t now) where
     abbrev h : IdealHeap
     h = ideal_at now
 
@@ -105,11 +105,11 @@ module _ {P : Type 0} (rules : Rules) (old new : StoppedHeap P) (m : ℕ) (need 
     answers : Answers h e
     answers = new-answers h m need.register need.refs need.nums n named
 
-    ideal-after : after empty moment.done ≡ with_new h m need.register need.refs need.nums
+    ideal-after : heap_after_run empty moment.done ≡ with_new h m need.register need.refs need.nums
     ideal-after = after-append empty now.done (e ∷ []) ∙ new-heap h m need.register need.refs need.nums n
 
-    represents-after : Represents (heap_state new.heap) (map mutator_state new.mutators.items) (after empty moment.done)
-    represents-after = subst (λ (ms : List MutatorState). Represents (heap_state new.heap) ms (after empty moment.done)) (sym changed-mutators)
+    represents-after : Represents (heap_state new.heap) (map mutator_state new.mutators.items) (heap_after_run empty moment.done)
+    represents-after = subst (λ (ms : List MutatorState). Represents (heap_state new.heap) ms (heap_after_run empty moment.done)) (sym changed-mutators)
         (subst (λ (x : IdealHeap). Represents (heap_state new.heap) (set_register_of (add_birth (map mutator_state old.mutators.items) m) m need.register (address_of (heap_state old.heap) spot)) x) (sym ideal-after)
         (born.represents (map mutator_state old.mutators.items) h m need.register (putting.stands-represents rules old t now stands) named
         (known-number old.mutators.items (length t.traces) (putting.stands-listed rules old t now stands) k m user at user-here)
@@ -129,7 +129,7 @@ module _ {P : Type 0} (rules : Rules) (old new : StoppedHeap P) (m : ℕ) (need 
     run-after : IsRun empty moment.done
     run-after = extended empty now.done e stands.run answers
 
-    pub stands-after : StandsAt rules new t moment
+    pub stands-after : HeapStandsAt rules new t moment
     stands-after = record {
       rules_are = stands.rules_are;
       workers = stands.workers;
@@ -171,6 +171,6 @@ module _ {P : Type 0} (rules : Rules) (old new : StoppedHeap P) (m : ℕ) (need 
     pub places-after : Places t m need.register need.refs need.nums now moment
     places-after = subst (λ (x : HeapState). Places t m need.register need.refs need.nums (record now { heap = x }) moment) stands.heap places-here
 
-  pub placed : (t : Setting) (now : Moment) → StandsAt rules old t now
-      → (late : Moment) × Places t m need.register need.refs need.nums now late × AddsNeed m need (answer.Placed n) now late × StandsAt rules new t late
+  pub placed : (t : Setting) (now : Moment) → HeapStandsAt rules old t now
+      → (late : Moment) × Places t m need.register need.refs need.nums now late × AddsNeed m need (answer.Placed n) now late × HeapStandsAt rules new t late
   placed t now stands = (moment t now stands, places-after t now stands, refl, stands-after t now stands)

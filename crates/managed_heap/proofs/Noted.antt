@@ -8,7 +8,7 @@ use Rattle.block_regions.specs.Notes.{AreNotes}
 use Rattle.block_regions.specs.declared.block_notes.BlockNotes.{BlockNotes}
 use Rattle.managed_heap.specs.declared.stopped_heap.StoppedHeap.{StoppedHeap}
 use Rattle.managed_heap.specs.declared.spot.Spot.{Spot}
-use Rattle.managed_heap.specs.Stopped.{collections_of, IsInOrder, IsStopped, StandsAt}
+use Rattle.managed_heap.specs.Stopped.{collections_of, IsHeapInOrder, IsStopped, HeapStandsAt}
 use Rattle.managed_heap.specs.Spots.{IsSpot}
 use Rattle.managed_heap.specs.Needs.{MayAllocate}
 
@@ -20,10 +20,10 @@ abbrev pub IsFound : {P : Type 0} → StoppedHeap P → StoppedHeap P → Type 0
 IsFound old new = new ≡ record old { notes = new.notes }
 
 module _ {P : Type 0} (rules : Rules) (h : StoppedHeap P) (notes : BlockNotes) where
-  same-noted : IsInOrder rules h → AreNotes rules.fill (heap_state h.heap) notes → IsInOrder rules (with_notes h notes)
+  same-noted : IsHeapInOrder rules h → AreNotes rules.fill (heap_state h.heap) notes → IsHeapInOrder rules (with_notes h notes)
   same-noted order are = record { few = order.few; notes = are; number = order.number }
 
-  stands-noted : (t : Setting) (now : Moment) → StandsAt rules h t now → StandsAt rules (with_notes h notes) t now
+  stands-noted : (t : Setting) (now : Moment) → HeapStandsAt rules h t now → HeapStandsAt rules (with_notes h notes) t now
   stands-noted t now stands = record {
     rules_are = stands.rules_are;
     workers = stands.workers;
@@ -42,11 +42,11 @@ module _ {P : Type 0} (rules : Rules) (old new : StoppedHeap P) (rest : IsFound 
   are-own : AreNotes rules.fill (heap_state old.heap) new.notes
   are-own = subst (λ (x : StoppedHeap P). AreNotes rules.fill (heap_state x.heap) new.notes) rest are
 
-  pub order-found : IsInOrder rules old → IsInOrder rules new
-  order-found order = subst (IsInOrder rules) (sym rest) (same-noted rules old new.notes order are-own)
+  pub order-found : IsHeapInOrder rules old → IsHeapInOrder rules new
+  order-found order = subst (IsHeapInOrder rules) (sym rest) (same-noted rules old new.notes order are-own)
 
-  pub stands-found : (t : Setting) (now : Moment) → StandsAt rules old t now → StandsAt rules new t now
-  stands-found t now stands = subst (λ (x : StoppedHeap P). StandsAt rules x t now) (sym rest) (stands-noted rules old new.notes t now stands)
+  pub stands-found : (t : Setting) (now : Moment) → HeapStandsAt rules old t now → HeapStandsAt rules new t now
+  stands-found t now stands = subst (λ (x : StoppedHeap P). HeapStandsAt rules x t now) (sym rest) (stands-noted rules old new.notes t now stands)
 
   pub spot-found : (size words : ℕ) (spot : Spot) → size ≡ words → IsSpot rules (heap_state old.heap) size spot → IsSpot rules (heap_state new.heap) words spot
   spot-found size words spot same is = subst (λ (n : ℕ). IsSpot rules (heap_state new.heap) n spot) same

@@ -15,17 +15,17 @@ use Rattle.sessions.specs.Fitting.{HasHole}
 use Rattle.sessions.specs.Sessions.{PlacesSmall}
 use Rattle.mutator_calls.specs.declared.need.Need.{Need}
 use Rattle.mutator_calls.specs.declared.need.Mutator.{Mutator}
-use Rattle.block_regions.specs.Notes.{FillsHoles, AreNotes, PlacesObject, PlacesRun}
+use Rattle.block_regions.specs.Notes.{FillsHoles, AreNotes, PlacesInBlock, PlacesRun}
 use Rattle.block_regions.specs.declared.block_notes.BlockNotes.{BlockNotes}
 use Rattle.managed_heap.specs.declared.stopped_heap.StoppedHeap.{StoppedHeap}
 use Rattle.managed_heap.specs.declared.spot.Spot.{Spot}
 use Rattle.managed_heap.specs.Stopped.{IsStopped}
-use Rattle.managed_heap.specs.Spots.{IsPlaceIn, IsRunAt, IsPlace, IsSpot, TakesSpot, RelistsSpot, WritesAt}
-use Rattle.managed_heap.specs.Needs.{MayAllocate, BearsAt}
+use Rattle.managed_heap.specs.Spots.{IsPlaceIn, IsRunAt, IsPlaceForSize, IsSpot, TakesSpot, RelistsSpot, WritesAt}
+use Rattle.managed_heap.specs.Needs.{MayAllocate, MutatorAllocatesAt}
 use Rattle.managed_heap.proofs.Written.{address_of, IsBorn}
 use Rattle.managed_heap.proofs.LargePuts.{by-run, readable-at}
-use Rattle.managed_heap.proofs.Putting as putting
-use Rattle.managed_heap.proofs.Putting.{IsBetween}
+use Rattle.managed_heap.proofs.NeedsWritten as putting
+use Rattle.managed_heap.proofs.NeedsWritten.{IsBetween}
 use Rattle.managed_heap.proofs.Rooms.{FillsByLines}
 
 module _ {P : Type 0} (rules : Rules) (h : StoppedHeap P) (m : ℕ) (need : Need) (spot : Spot) (fills : FillsHoles rules.fill) (stopped : IsStopped rules h)
@@ -34,7 +34,7 @@ module _ {P : Type 0} (rules : Rules) (h : StoppedHeap P) (m : ℕ) (need : Need
   abbrev s : HeapState
   s = heap_state h.heap
 
-  found : IsPlace rules.fill s (size_of need.refs need.nums) spot
+  found : IsPlaceForSize rules.fill s (size_of need.refs need.nums) spot
   found = is.place
 
   took : TakesSpot rules.fill s spot (size_of need.refs need.nums) between
@@ -62,7 +62,7 @@ module _ {P : Type 0} (rules : Rules) (h : StoppedHeap P) (m : ℕ) (need : Need
   at-spot a at = at ∙ ap (λ b. block_start b spot.block + spot.offset) between-there.blocks
 
   module _ (us : List Mutator) (a : ℕ) (n : Name) (at : a ≡ block_start between.blocks spot.block + spot.offset)
-      (bears : (k : ℕ) → k + 1 ≡ m → BearsAt h.mutators.items us k m need.register a n) where
+      (bears : (k : ℕ) → k + 1 ≡ m → MutatorAllocatesAt h.mutators.items us k m need.register a n) where
     name-is : n ≡ name m ((putting.the-user h m need may).0.births + 1)
     name-is = putting.birth-name h m need may us (m - 1) need.register a n (putting.at h m need may)
         (bears (m - 1) (putting.at h m need may))
@@ -70,8 +70,8 @@ module _ {P : Type 0} (rules : Rules) (h : StoppedHeap P) (m : ℕ) (need : Need
     pub named : IsName n
     named = putting.is-name rules h m need stopped may n name-is
 
-    pub bears-at : (k : ℕ) → k + 1 ≡ m → BearsAt h.mutators.items us k m need.register (address_of s spot) n
-    bears-at k is' = subst (λ (x : ℕ). BearsAt h.mutators.items us k m need.register x n) (at-spot a at) (bears k is')
+    pub bears-at : (k : ℕ) → k + 1 ≡ m → MutatorAllocatesAt h.mutators.items us k m need.register (address_of s spot) n
+    bears-at k is' = subst (λ (x : ℕ). MutatorAllocatesAt h.mutators.items us k m need.register x n) (at-spot a at) (bears k is')
 
     module _ (written : HeapState) (writes : WritesObject between written a n r q) where
       object : WritesObject between written (address_of s spot) n need.refs need.nums
@@ -105,7 +105,7 @@ module _ {P : Type 0} (rules : Rules) (h : StoppedHeap P) (m : ℕ) (need : Need
           | inr free ↦ inl (subst (λ (b : ℕ). HasKind s b kinds.Free) born.block free.0)
         ]
 
-        small-placed : (is : IsPlaceIn rules.fill s (size_of need.refs need.nums) spot) → PlacesObject rules s new (address_of s spot) need.refs need.nums spot.block spot.free
+        small-placed : (is : IsPlaceIn rules.fill s (size_of need.refs need.nums) spot) → PlacesInBlock rules s new (address_of s spot) need.refs need.nums spot.block spot.free
         small-placed is = (let placed = born.small is.small in record {
           layout = born.layout;
           object = born.object;
@@ -127,7 +127,7 @@ module _ {P : Type 0} (rules : Rules) (h : StoppedHeap P) (m : ℕ) (need : Need
 
         -- the notes, as they follow the placement
         pub notes : (old after : BlockNotes) → AreNotes rules.fill s old
-            → (spot.run ≡ 0 → (x : Rules) (u v : HeapState) (a refs nums : ℕ) → FillsHoles x.fill → AreNotes x.fill u old → PlacesObject x u v a refs nums spot.block spot.free
+            → (spot.run ≡ 0 → (x : Rules) (u v : HeapState) (a refs nums : ℕ) → FillsHoles x.fill → AreNotes x.fill u old → PlacesInBlock x u v a refs nums spot.block spot.free
             → AreNotes x.fill v after)
             → (spot.run ≢ 0 → (x : Kind) (u : HeapState) (a refs nums : ℕ) → FillsHoles x → AreNotes x u old → PlacesRun u new a refs nums spot.block → AreNotes x new after)
             → AreNotes rules.fill new after

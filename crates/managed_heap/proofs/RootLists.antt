@@ -16,7 +16,7 @@ use Rattle.heap_users.specs.Users.{mutator_state}
 use Rattle.plain_world.proofs.Closed.{may-use}
 use Rattle.managed_heap.specs.declared.stopped_heap.StoppedHeap.{StoppedHeap}
 use Rattle.managed_heap.specs.Stopped.{IsStopped}
-use Rattle.managed_heap.proofs.Putting.{stands-represents}
+use Rattle.managed_heap.proofs.NeedsWritten.{stands-represents}
 
 pub length-roots : (ms : List MutatorState) → HaveRegisters ms → length (roots_of ms) ≡ 16 * length ms
 length-roots [] all = refl

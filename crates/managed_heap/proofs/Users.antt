@@ -17,7 +17,7 @@ use Rattle.heap_users.specs.Users.{mutator_state}
 use Rattle.block_regions.specs.Elements.{ChangesAt}
 use Rattle.block_regions.proofs.Lists.{get-below, get-map, one-element}
 use Rattle.heap_users.proofs.UserLists.{all-each, any-get}
-use Rattle.managed_heap.specs.Needs.{bearing}
+use Rattle.managed_heap.specs.Needs.{with_new_object}
 
 -- two lists with the same elements
 pub same-list : {A : Type 0} (xs ys : List A) → ((j : ℕ) → slice_get xs j ≡ slice_get ys j) → xs ≡ ys
@@ -70,11 +70,11 @@ module _ (us : List Mutator) (n : ℕ) (listed : numbers_of (map mutator_state u
           omega arith
 
     -- the mutators after it allocated one more
-    module _ (new : List Mutator) (d a : ℕ) (change : ChangesAt us new k (bearing u d a)) where
+    module _ (new : List Mutator) (d a : ℕ) (change : ChangesAt us new k (with_new_object u d a)) where
       abbrev grown : MutatorState → MutatorState
       grown x = changed m (λ y. with_register y d a) (changed m with_birth x)
 
-      own : grown (mutator_state u) ≡ mutator_state (bearing u d a)
+      own : grown (mutator_state u) ≡ mutator_state (with_new_object u d a)
       own = ap (changed m (λ y. with_register y d a)) (changed-yes m with_birth (mutator_state u) number-here)
           ∙ changed-yes m (λ y. with_register y d a) (with_birth (mutator_state u)) number-here
 
@@ -94,7 +94,7 @@ module _ (us : List Mutator) (n : ℕ) (listed : numbers_of (map mutator_state u
       each-after : (j : ℕ) → slice_get (map mutator_state new) j ≡ option_map grown (slice_get (map mutator_state us) j)
       each-after j = elim (cases_eq j k) as (λ _. slice_get (map mutator_state new) j ≡ option_map grown (slice_get (map mutator_state us) j)) [
         | inl e ↦ subst (λ (q : ℕ). slice_get (map mutator_state new) q ≡ option_map grown (slice_get (map mutator_state us) q)) (sym e)
-            (get-map mutator_state new k (bearing u d a) change.here ∙ ap (λ x. Some x) (sym own) ∙ sym (ap (option_map grown) (get-map mutator_state us k u here)))
+            (get-map mutator_state new k (with_new_object u d a) change.here ∙ ap (λ x. Some x) (sym own) ∙ sym (ap (option_map grown) (get-map mutator_state us k u here)))
         | inr away ↦ slice_get-map mutator_state new j ∙ ap (option_map mutator_state) (change.others j away) ∙ kept j away ∙ ap (option_map grown) (sym (slice_get-map mutator_state us j))
       ]
         where

@@ -22,7 +22,7 @@ use Rattle.sessions.specs.Sessions.{block_of_kind, PlacesSmall, PlacesLarge, Use
 use Rattle.managed_heap.specs.declared.spot.Spot.{Spot}
 use Rattle.plan_api.specs.Relisting.{Relists}
 use Rattle.block_regions.specs.Notes.{FillsHoles, KeepsLines}
-use Rattle.managed_heap.specs.Spots.{IsPlaceIn, TakesBlock}
+use Rattle.managed_heap.specs.Spots.{IsPlaceIn, TakesSpotBlock}
 use Rattle.managed_heap.proofs.Openings as openings
 use Rattle.managed_heap.proofs.Openings.{Opens, opens-hole, opens-free}
 use Rattle.managed_heap.proofs.Relisted.{readable, relists-blocks}
@@ -86,7 +86,7 @@ pub record IsBorn (rules : Rules) (s : HeapState) (spot : Spot) (n : Name) (refs
 
 -- a small or medium object
 module _ (rules : Rules) (fills : FillsHoles rules.fill) (s between written : HeapState) (spot : Spot) (n : Name) (refs nums : ℕ) (lawful : IsLawful s)
-    (is : IsPlaceIn rules.fill s (size_of refs nums) spot) (takes : TakesBlock rules.fill s spot (size_of refs nums) between)
+    (is : IsPlaceIn rules.fill s (size_of refs nums) spot) (takes : TakesSpotBlock rules.fill s spot (size_of refs nums) between)
     (writes : WritesObject between written (address_of s spot) n refs nums) (few_refs : refs ≤ 1024) (few_nums : nums ≤ 60000) (named : IsName n)
     (fresh : (x : ℕ) → IsHeld s x → name_at s x ≢ n) where
   open-there : IsOpened rules.fill s between spot.block spot.offset (size_of refs nums)

@@ -15,7 +15,7 @@ use Rattle.object_model.specs.declared.collect.Collect.TheVariants.{Nursery, Ful
 use Rattle.sessions.specs.Plans.{Rules}
 use Rattle.sessions.specs.Fitting.{Fits}
 use Rattle.sessions.specs.Collecting.{first_collection}
-use Rattle.sessions.specs.Sessions.{Setting, Moment, MakesCollection, FirstTry, Places, Replies, refusal}
+use Rattle.sessions.specs.Sessions.{Setting, Moment, MakesCollection, FirstTry, Places, OnlyReplies, refused_entry}
 use Rattle.collector.specs.declared.outcome.Note.{Note}
 use Rattle.block_regions.specs.Elements.{ChangesAt}
 use Rattle.block_regions.specs.Notes.{AreNotes}
@@ -25,13 +25,13 @@ use Rattle.managed_heap.specs.declared.stopped_heap.StoppedHeap.{StoppedHeap}
 use Rattle.managed_heap.specs.declared.spot.Spot.{Spot}
 use Rattle.managed_heap.specs.declared.place.Placed.{Placed}
 use Rattle.managed_heap.specs.declared.place.Placed.TheVariants as placed
-use Rattle.managed_heap.specs.Stopped.{collections_of, mutator_count, HasCollected, StandsAt}
+use Rattle.managed_heap.specs.Stopped.{collections_of, count_of_mutators, HasCollected, HeapStandsAt}
 use Rattle.managed_heap.specs.Spots.{WritesAt}
 
 -- mutator m, counted from 1, may allocate the object of this need: the need is within the limits, and so are its births
 pub record MayAllocate {P : Type 0} (h : StoppedHeap P) (m : ℕ) (need : Need) : Type 0 where
   pub least : 1 ≤ m
-  pub most : m ≤ mutator_count h
+  pub most : m ≤ count_of_mutators h
   pub valid : IsValid (c.New need.register need.refs need.nums)
   pub births : (k : ℕ) (u : Mutator) → k + 1 ≡ m → slice_get h.mutators.items k ≡ Some u → u.births + 1 < 2 ^ 32
 
@@ -43,21 +43,21 @@ MakesRoom t size before late =
     ⊎ ((mid : Moment) × FirstTry t size (first_collection t.rules before.heap) before mid × MakesCollection t Full mid late)
 
 -- one more object of the mutator, with its address in register d
-abbrev pub bearing : Mutator → ℕ → ℕ → Mutator
-bearing u d address = record u { births = u.births + 1; registers = slice_set u.registers d address }
+abbrev pub with_new_object : Mutator → ℕ → ℕ → Mutator
+with_new_object u d address = record u { births = u.births + 1; registers = slice_set u.registers d address }
 
 -- the mutator at place k, counted from 1 as m, allocates one more object, which gets the name n
-pub record BearsAt (old new : List Mutator) (k m d address : ℕ) (n : Name) : Type 0 where
+pub record MutatorAllocatesAt (old new : List Mutator) (k m d address : ℕ) (n : Name) : Type 0 where
   pub mutator : Mutator
   pub was : slice_get old k ≡ Some mutator
-  pub change : ChangesAt old new k (bearing mutator d address)
+  pub change : ChangesAt old new k (with_new_object mutator d address)
   pub name : n ≡ name m (mutator.births + 1)
 
 -- An object of the need is placed at the spot. It is written and counted.
-pub record PutsAt {P : Type 0} (rules : Rules) (old : StoppedHeap P) (m : ℕ) (need : Need) (spot : Spot) (n : Name)
+pub record WritesNeed {P : Type 0} (rules : Rules) (old : StoppedHeap P) (m : ℕ) (need : Need) (spot : Spot) (n : Name)
     (new : StoppedHeap P) : Type 0 where
   pub heap : WritesAt rules (heap_state old.heap) spot n need.refs need.nums (heap_state new.heap)
-  pub births : (k : ℕ) → k + 1 ≡ m → BearsAt old.mutators.items new.mutators.items k m need.register
+  pub births : (k : ℕ) → k + 1 ≡ m → MutatorAllocatesAt old.mutators.items new.mutators.items k m need.register
       (block_start (heap_state old.heap).blocks spot.block + spot.offset) n
   pub notes : AreNotes rules.fill (heap_state new.heap) new.notes
   pub nursery : new.nursery ≡ old.nursery
@@ -92,7 +92,7 @@ AddsNeed m need what before now = now.done ≡ before.done ++ entry m (c.New nee
 abbrev pub Settles : Setting → ℕ → Need → Placed → Moment → Moment → Type 0
 Settles t m need (placed.Placed n) late now = Places t m need.register need.refs need.nums late now
 Settles t m need (placed.HeapFull size) late now = (Fits t.rules late.heap (size_of need.refs need.nums) → ⊥)
-    × Replies (refusal m need.register need.refs need.nums ∷ []) late now
+    × OnlyReplies (refused_entry m need.register need.refs need.nums ∷ []) late now
 
 -- Collections were made for a need, and the note tells of the last one: it began with `before`, which stands after the
 -- entries of `old`, and left `after`.
@@ -100,8 +100,8 @@ pub record TellsOfLast {P : Type 0} (rules : Rules) (old new : StoppedHeap P) (n
   pub kind : Collect
   pub before : StoppedHeap P
   pub after : StoppedHeap P
-  pub stands : (t : Setting) (now : Moment) → StandsAt rules old t now
-      → (at : Moment) × (at.done ≡ now.done) × StandsAt rules before t at
+  pub stands : (t : Setting) (now : Moment) → HeapStandsAt rules old t now
+      → (at : Moment) × (at.done ≡ now.done) × HeapStandsAt rules before t at
   pub collected : HasCollected rules kind before after note
   pub count : collections_of new ≡ collections_of after
   pub more : collections_of old < collections_of new

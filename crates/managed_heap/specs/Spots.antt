@@ -35,22 +35,22 @@ pub record IsRunAt (s : HeapState) (size : ℕ) (spot : Spot) : Type 0 where
   pub run : IsFirstRun s spot.block spot.run
 
 -- an object of this size is to be placed here, a large one in a run of blocks
-abbrev pub IsPlace : Kind → HeapState → ℕ → Spot → Type 0
-IsPlace fill s size spot = MatchBool (nat_eq spot.run 0) (IsPlaceIn fill s size spot) (IsRunAt s size spot)
+abbrev pub IsPlaceForSize : Kind → HeapState → ℕ → Spot → Type 0
+IsPlaceForSize fill s size spot = MatchBool (nat_eq spot.run 0) (IsPlaceIn fill s size spot) (IsRunAt s size spot)
 
 -- the size fits, and this is its place
 pub record IsSpot (rules : Rules) (s : HeapState) (size : ℕ) (spot : Spot) : Type 0 where
   pub fits : Fits rules s size
-  pub place : IsPlace rules.fill s size spot
+  pub place : IsPlaceForSize rules.fill s size spot
 
 -- The block of the spot gets its word if it is Free. All else is unchanged.
-abbrev pub TakesBlock : Kind → HeapState → Spot → ℕ → HeapState → Type 0
-TakesBlock fill old spot size new = MatchBool spot.free
+abbrev pub TakesSpotBlock : Kind → HeapState → Spot → ℕ → HeapState → Type 0
+TakesSpotBlock fill old spot size new = MatchBool spot.free
     (new ≡ with_block old spot.block (block_of_kind fill (class_for fill size))) (new ≡ old)
 
 -- The blocks of the spot become a run if it has one. Else its block gets its word if it is Free.
 abbrev pub TakesSpot : Kind → HeapState → Spot → ℕ → HeapState → Type 0
-TakesSpot fill old spot size new = MatchBool (nat_eq spot.run 0) (TakesBlock fill old spot size new)
+TakesSpot fill old spot size new = MatchBool (nat_eq spot.run 0) (TakesSpotBlock fill old spot size new)
     (MakesRun old new spot.block spot.run)
 
 -- The block of the spot is relisted: where mutators fill lines, its line bits become those of the lines that its objects

@@ -32,22 +32,22 @@ abbrev pub parts_of : {P : Type 0} → StoppedHeap P → Parts
 parts_of h = record { heap = h.heap; mutators = h.mutators; notes = h.notes; nursery = h.nursery; full = h.full }
 
 -- the number of mutators
-abbrev pub mutator_count : {P : Type 0} → StoppedHeap P → ℕ
-mutator_count h = length h.mutators.items
+abbrev pub count_of_mutators : {P : Type 0} → StoppedHeap P → ℕ
+count_of_mutators h = length h.mutators.items
 
 -- the number of collections that were made
 abbrev pub collections_of : {P : Type 0} → StoppedHeap P → ℕ
 collections_of h = h.nursery + h.full
 
 -- What a stopped heap keeps in order: the mutators are few, the notes are those of its blocks, and each collection is counted.
-pub record IsInOrder {P : Type 0} (rules : Rules) (h : StoppedHeap P) : Type 0 where
-  pub few : mutator_count h ≤ MAX_MUTATORS
+pub record IsHeapInOrder {P : Type 0} (rules : Rules) (h : StoppedHeap P) : Type 0 where
+  pub few : count_of_mutators h ≤ MAX_MUTATORS
   pub notes : AreNotes rules.fill (heap_state h.heap) h.notes
   pub number : (heap_state h.heap).number ≡ collections_of h
 
 -- Heap, mutators and counts of collections are those of this moment, and the plan is that of the setting. One worker traces.
 -- Of the traces of the setting only their number matters.
-pub record StandsAt {P : Type 0} (rules : Rules) (h : StoppedHeap P) (t : Setting) (now : Moment) : Type 0 where
+pub record HeapStandsAt {P : Type 0} (rules : Rules) (h : StoppedHeap P) (t : Setting) (now : Moment) : Type 0 where
   pub rules_are : t.rules ≡ rules
   pub workers : t.workers ≡ 1
   pub heap : heap_state h.heap ≡ now.heap
@@ -78,10 +78,10 @@ pub record EndsEpoch {P : Type 0} (rules : Rules) (old : StoppedHeap P) (now : M
 
 -- it stands at some moment of some setting
 pub record IsStopped {P : Type 0} (rules : Rules) (h : StoppedHeap P) : Type 0 where
-  pub order : IsInOrder rules h
+  pub order : IsHeapInOrder rules h
   pub setting : Setting
   pub now : Moment
-  pub stands : StandsAt rules h setting now
+  pub stands : HeapStandsAt rules h setting now
 
 -- the numbers of nursery and full collections after one more of this kind
 abbrev pub counted : Collect → ℕ → ℕ → ℕ × ℕ
@@ -89,14 +89,16 @@ counted Nursery nursery full = (nursery + 1, full)
 counted Full nursery full = (nursery, full + 1)
 
 -- the registers of all mutators
-abbrev pub registers_of : {P : Type 0} → StoppedHeap P → List ℕ
-registers_of h = roots_of (map mutator_state h.mutators.items)
+abbrev pub registers_of_heap : {P : Type 0} → StoppedHeap P → List ℕ
+registers_of_heap h = roots_of (map mutator_state h.mutators.items)
 
 -- A collection was made and counted, and the note tells of it. The registers are those that it left, and the notes on blocks
 -- those of its heap. Mutators keep their numbers and births.
 pub record HasCollected {P : Type 0} (rules : Rules) (kind : Collect) (old new : StoppedHeap P) (note : Note) : Type 0 where
-  pub collection : IsCollection rules 1 kind (heap_state old.heap) (registers_of old) (heap_state new.heap) (registers_of new)
-  pub noted : NotesIf rules.collects rules 1 kind (heap_state old.heap) (registers_of old) (heap_state new.heap) (registers_of new)
+  pub collection : IsCollection rules 1 kind (heap_state old.heap) (registers_of_heap old) (heap_state new.heap)
+      (registers_of_heap new)
+  pub noted : NotesIf rules.collects rules 1 kind (heap_state old.heap) (registers_of_heap old) (heap_state new.heap)
+      (registers_of_heap new)
       collection note
   pub births : map birth_count (map mutator_state new.mutators.items) ≡ map birth_count (map mutator_state old.mutators.items)
   pub registers : AllByRecursion (λ u. length u.registers ≡ 16) new.mutators.items

@@ -9,7 +9,7 @@ ghost use Rattle.object_model.specs.Graphs.{roots_of};
 ghost use Rattle.sessions.specs.Sessions.{Setting, Moment, MakesCollection, birth_count};
 ghost use Rattle.heap_users.specs.Users.{mutator_state};
 ghost use Rattle.collector.specs.Collected.{IsOffered};
-ghost use Rattle.managed_heap.specs.Stopped.{collections_of, counted, HasCollected, IsStopped, StandsAt};
+ghost use Rattle.managed_heap.specs.Stopped.{collections_of, counted, HasCollected, IsStopped, HeapStandsAt};
 
 use crate::stopped_heap::StoppedHeap;
 use collector::Note;
@@ -78,9 +78,9 @@ impl<P: Plan> StoppedHeap<P> {
         requires collections { collections_of self + 1 < 2 ^ 40 }
         ensures stopped { IfOk result (λ r. IsStopped P.rules r.0) }
         ensures collected { IfOk result (λ r. HasCollected P.rules kind self r.0 r.1) }
-        ensures makes { (t : Setting) (now : Moment) → StandsAt P.rules self t now
+        ensures makes { (t : Setting) (now : Moment) → HeapStandsAt P.rules self t now
             → IfOk result (λ r. (late : Moment) × MakesCollection t kind now late
-            × StandsAt P.rules r.0 t late) }
+            × HeapStandsAt P.rules r.0 t late) }
     {
         let StoppedHeap {
             alloc,

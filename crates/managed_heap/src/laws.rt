@@ -12,7 +12,7 @@ ghost use Rattle.heap_users.specs.Beginnings.{MayUse};
 ghost use Rattle.heap_users.specs.Users.{mutator_state};
 ghost use Rattle.block_regions.specs.Notes.{AreNotes};
 ghost use Rattle.managed_heap.specs.declared.stopped_heap.StoppedHeap.{StoppedHeap};
-ghost use Rattle.managed_heap.specs.Stopped.{EndsEpoch, IsManaged, IsInOrder, IsStopped, StandsAt, moment_of};
+ghost use Rattle.managed_heap.specs.Stopped.{EndsEpoch, IsManaged, IsHeapInOrder, IsStopped, HeapStandsAt, moment_of};
 
 use crate::stopped_heap::StoppedHeap;
 
@@ -46,10 +46,10 @@ pub fn stopped_heaps_begin_epochs<P>(heap: &StoppedHeap<P>)
 /// heap with which its epoch began, are a stopped heap. It stands after the entries of the epoch.
 pub fn closed_worlds_are_stopped<P>(heap: &StoppedHeap<P>)
     ensures stands { (rules : Rules) (old : StoppedHeap P) (t : Setting) (now : Moment)
-        (part : List Entry) → StandsAt rules old t now → EndsEpoch rules old now part heap.now
-        → StandsAt rules heap.now t (moment_of heap.now (now.done ++ part)) }
+        (part : List Entry) → HeapStandsAt rules old t now → EndsEpoch rules old now part heap.now
+        → HeapStandsAt rules heap.now t (moment_of heap.now (now.done ++ part)) }
     ensures stopped { (rules : Rules) (old : StoppedHeap P) (t : Setting) (now : Moment)
-        (part : List Entry) → StandsAt rules old t now → EndsEpoch rules old now part heap.now
-        → IsInOrder rules old → AreNotes rules.fill (heap_state heap.now.heap) heap.now.notes
+        (part : List Entry) → HeapStandsAt rules old t now → EndsEpoch rules old now part heap.now
+        → IsHeapInOrder rules old → AreNotes rules.fill (heap_state heap.now.heap) heap.now.notes
         → IsStopped rules heap.now }
 {}

@@ -1,21 +1,21 @@
 //! Objects that no mutator could allocate, placed at a stop.
 //!
-//! `put` writes the object and its block's word and line bits, and with them the mutator's births
-//! and register, and the notes: these change together. A refused need writes nothing. Collections
-//! are made by `collect.rt`.
+//! `write_object` writes the object and its block's word and line bits, and with them the mutator's
+//! births and register, and the notes: these change together. A refused need writes nothing.
+//! Collections are made by `collect.rt`.
 
 ghost use Rattle.std.specs.Prelude.{◌≡◌, ◌+◌, ◌≤◌, ◌<◌, ◌^◌, ℕ, length, slice_get, IfSome, IfNone, IfOk};
 ghost use Rattle.object_model.specs.Heaps.{heap_state};
 ghost use Rattle.object_model.specs.Objects.{size_of};
 ghost use Rattle.plan_api.specs.Counting.{session_counts};
 ghost use Rattle.sessions.specs.Fitting.{Fits, counts_of};
-ghost use Rattle.sessions.specs.Sessions.{Setting, Moment, Places, Serves};
+ghost use Rattle.sessions.specs.Sessions.{Setting, Moment, Places, ServesNeed};
 ghost use Rattle.mutator_calls.specs.declared.need.Mutator.{Mutator};
 ghost use Rattle.block_regions.specs.Notes.{AreNotes};
 ghost use Rattle.managed_heap.specs.declared.place.Placed.TheVariants as placed;
-ghost use Rattle.managed_heap.specs.Stopped.{collections_of, IsManaged, IsInOrder, IsStopped, StandsAt};
+ghost use Rattle.managed_heap.specs.Stopped.{collections_of, IsManaged, IsHeapInOrder, IsStopped, HeapStandsAt};
 ghost use Rattle.managed_heap.specs.Spots.{IsSpot};
-ghost use Rattle.managed_heap.specs.Needs.{born_in, AddsBirths, AddsNeed, BearsAt, IfRefused, MakesRoom, MayAllocate, NotesLast, PutsAt, Settles, TellsOfLast};
+ghost use Rattle.managed_heap.specs.Needs.{born_in, AddsBirths, AddsNeed, MutatorAllocatesAt, IfRefused, MakesRoom, MayAllocate, NotesLast, WritesNeed, Settles, TellsOfLast};
 
 use crate::spot::{Spot, note_placed, relist_spot, take_spot};
 use crate::stopped_heap::StoppedHeap;
@@ -50,21 +50,21 @@ fn shape_of(need: &Need) -> Shape
     }
 }
 
-/// Counts an object of mutator `m` and stores its address into register `d`. Returns its name.
-fn count_birth(mutators: &mut Vec<Mutator>, m: u32, d: u32, address: u32) -> Name
-    requires least { 1 ≤ m }
-    requires most { m ≤ length mutators.old.items }
+/// Counts an object of mutator `number` and stores its address into register `d`. Returns its name.
+fn count_birth(mutators: &mut Vec<Mutator>, number: u32, d: u32, address: u32) -> Name
+    requires least { 1 ≤ number }
+    requires most { number ≤ length mutators.old.items }
     requires register { d < REGISTERS }
-    requires births { (k : ℕ) (u : Mutator) → k + 1 ≡ m
+    requires births { (k : ℕ) (u : Mutator) → k + 1 ≡ number
         → slice_get mutators.old.items k ≡ Some u → u.births + 1 < 2 ^ 32 }
-    ensures { (k : ℕ) → k + 1 ≡ m
-        → BearsAt mutators.old.items mutators.new.items k m d address result }
+    ensures { (k : ℕ) → k + 1 ≡ number
+        → MutatorAllocatesAt mutators.old.items mutators.new.items k number d address result }
 {
-    let mutator = &mut mutators[m as usize - 1];
+    let mutator = &mut mutators[number as usize - 1];
     mutator.births += 1;
     mutator.registers[d as usize] = address;
     Name {
-        mutator: m,
+        mutator: number,
         birth: mutator.births,
     }
 }
@@ -73,7 +73,7 @@ impl<P: Plan> StoppedHeap<P> {
     /// Where an object of `size` words is to be placed: in the first hole with room of the lowest
     /// block that has one, else at the start of the lowest Free block, if one may be granted. If it
     /// is large, in the lowest run of Free blocks.
-    fn find(&mut self, size: u32) -> Option<Spot>
+    fn find_place(&mut self, size: u32) -> Option<Spot>
         requires plan { IsManaged P.rules }
         requires notes { AreNotes P.rules.fill (heap_state self.old.heap) self.old.notes }
         requires least { 3 ≤ size }
@@ -130,15 +130,15 @@ impl<P: Plan> StoppedHeap<P> {
         })
     }
 
-    /// Writes, names and counts the object of a need of mutator `m` at a spot, and relists its
+    /// Writes, names and counts the object of a need of mutator `number` at a spot, and relists its
     /// block.
-    fn put(self, m: u32, need: &Need, spot: Spot) -> (StoppedHeap<P>, Name)
+    fn write_object(self, number: u32, need: &Need, spot: Spot) -> (StoppedHeap<P>, Name)
         requires plan { IsManaged P.rules }
         requires stopped { IsStopped P.rules self }
-        requires may { MayAllocate self m need.now }
+        requires may { MayAllocate self number need.now }
         requires spot { IsSpot P.rules (heap_state self.heap) (size_of need.now.refs need.now.nums)
             spot }
-        ensures { PutsAt P.rules self m need.now spot result.1 result.0 }
+        ensures { WritesNeed P.rules self number need.now spot result.1 result.0 }
     {
         let StoppedHeap {
             alloc,
@@ -152,7 +152,7 @@ impl<P: Plan> StoppedHeap<P> {
         let shape = shape_of(need);
         let mut row = take_spot::<P>(heap.into_row(), &spot, size_words(&shape));
         let address = row.layout.address(spot.block, spot.offset);
-        let name = count_birth(&mut mutators, m, need.register, address);
+        let name = count_birth(&mut mutators, number, need.register, address);
         row.write_object(address, &name, &shape);
         let row = relist_spot::<P>(row, &spot);
         let heap = Heap::from_row(row);
@@ -169,23 +169,23 @@ impl<P: Plan> StoppedHeap<P> {
         (stopped, name)
     }
 
-    /// Places the object of a need of mutator `m` there.
-    fn place(self, m: u32, need: &Need, spot: Spot) -> (StoppedHeap<P>, Name)
+    /// Places the object of a need of mutator `number` there.
+    fn place_need(self, number: u32, need: &Need, spot: Spot) -> (StoppedHeap<P>, Name)
         requires plan { IsManaged P.rules }
         requires stopped { IsStopped P.rules self }
-        requires may { MayAllocate self m need.now }
+        requires may { MayAllocate self number need.now }
         requires spot { IsSpot P.rules (heap_state self.heap) (size_of need.now.refs need.now.nums)
             spot }
-        ensures order { IsInOrder P.rules result.0 }
-        ensures places { (t : Setting) (now : Moment) → StandsAt P.rules self t now
+        ensures order { IsHeapInOrder P.rules result.0 }
+        ensures places { (t : Setting) (now : Moment) → HeapStandsAt P.rules self t now
             → (next : Moment)
-            × Places t m need.now.register need.now.refs need.now.nums now next
-            × AddsNeed m need.now (placed.Placed result.1) now next
-            × StandsAt P.rules result.0 t next }
-        ensures births { AddsBirths self.mutators.items m 1 result.0.mutators.items }
+            × Places t number need.now.register need.now.refs need.now.nums now next
+            × AddsNeed number need.now (placed.Placed result.1) now next
+            × HeapStandsAt P.rules result.0 t next }
+        ensures births { AddsBirths self.mutators.items number 1 result.0.mutators.items }
         ensures counts { collections_of result.0 ≡ collections_of self }
     {
-        self.put(m, need, spot)
+        self.write_object(number, need, spot)
     }
 
     /// The collections for an object of `size` words that does not fit: the one to try first, and a
@@ -205,10 +205,10 @@ impl<P: Plan> StoppedHeap<P> {
         requires collections { collections_of self + 2 < 2 ^ 40 }
         requires least { 3 ≤ size }
         requires most { size ≤ size_of MAX_REFS MAX_NUMS }
-        ensures order { IfOk result (λ r. IsInOrder P.rules r.0) }
-        ensures room { (t : Setting) (now : Moment) → StandsAt P.rules self t now
+        ensures order { IfOk result (λ r. IsHeapInOrder P.rules r.0) }
+        ensures room { (t : Setting) (now : Moment) → HeapStandsAt P.rules self t now
             → IfOk result (λ r. (late : Moment) × MakesRoom t size now late
-            × StandsAt P.rules r.0 t late) }
+            × HeapStandsAt P.rules r.0 t late) }
         ensures full { IfOk result (λ r. (Fits P.rules (heap_state r.0.heap) size → ⊥)
             → r.0.full ≡ self.full + 1) }
         ensures births { IfOk result (λ r. (m : ℕ)
@@ -228,16 +228,16 @@ impl<P: Plan> StoppedHeap<P> {
         Ok((stopped, note))
     }
 
-    /// Places the object of a need of mutator `m` if it fits.
-    fn settle(self, m: u32, need: &Need) -> (StoppedHeap<P>, Placed)
+    /// Places the object of a need of mutator `number` if it fits.
+    fn place_or_refuse(self, number: u32, need: &Need) -> (StoppedHeap<P>, Placed)
         requires plan { IsManaged P.rules }
         requires stopped { IsStopped P.rules self }
-        requires may { MayAllocate self m need.now }
-        ensures order { IsInOrder P.rules result.0 }
-        ensures settles { (t : Setting) (now : Moment) → StandsAt P.rules self t now
-            → (next : Moment) × Settles t m need.now result.1 now next
-            × AddsNeed m need.now result.1 now next × StandsAt P.rules result.0 t next }
-        ensures births { AddsBirths self.mutators.items m (born_in result.1)
+        requires may { MayAllocate self number need.now }
+        ensures order { IsHeapInOrder P.rules result.0 }
+        ensures settles { (t : Setting) (now : Moment) → HeapStandsAt P.rules self t now
+            → (next : Moment) × Settles t number need.now result.1 now next
+            × AddsNeed number need.now result.1 now next × HeapStandsAt P.rules result.0 t next }
+        ensures births { AddsBirths self.mutators.items number (born_in result.1)
             result.0.mutators.items }
         ensures counts { collections_of result.0 ≡ collections_of self }
         ensures refused { IfRefused result.1 (λ size. (size ≡ size_of need.now.refs need.now.nums)
@@ -246,15 +246,15 @@ impl<P: Plan> StoppedHeap<P> {
     {
         let size = size_words(&shape_of(need));
         let mut stopped = self;
-        if let Some(spot) = stopped.find(size) {
-            let (stopped, name) = stopped.place(m, need, spot);
+        if let Some(spot) = stopped.find_place(size) {
+            let (stopped, name) = stopped.place_need(number, need, spot);
             return (stopped, Placed::Placed(name));
         }
         (stopped, Placed::HeapFull { size })
     }
 
-    /// Serves a need of mutator `m`. If the object does not fit, the collection to try first is
-    /// made, and a full one if that was a nursery one and the object still does not fit. It is
+    /// Serves a need of mutator `number`. If the object does not fit, the collection to try first
+    /// is made, and a full one if that was a nursery one and the object still does not fit. It is
     /// placed if it fits then. The note tells of the last collection, if one was made. Writes no
     /// reply.
     ///
@@ -262,21 +262,21 @@ impl<P: Plan> StoppedHeap<P> {
     pub fn place_or_collect<Q: Pool, G: Gate, R: Threads + Sync>(
         self,
         rt: &R,
-        m: u32,
+        number: u32,
         need: Need,
         pool: &Q,
         gate: &G,
     ) -> Result<(StoppedHeap<P>, Placed, Option<Note>), AllocError>
         requires plan { IsManaged P.rules }
         requires stopped { IsStopped P.rules self }
-        requires may { MayAllocate self m need }
+        requires may { MayAllocate self number need }
         requires collections { collections_of self + 2 < 2 ^ 40 }
         ensures stopped { IfOk result (λ r. IsStopped P.rules r.0) }
-        ensures serves { (t : Setting) (now : Moment) → StandsAt P.rules self t now
+        ensures serves { (t : Setting) (now : Moment) → HeapStandsAt P.rules self t now
             → IfOk result (λ r. (next : Moment)
-            × Serves t m need.register need.refs need.nums now next
-            × AddsNeed m need r.1 now next × StandsAt P.rules r.0 t next) }
-        ensures births { IfOk result (λ r. AddsBirths self.mutators.items m (born_in r.1)
+            × ServesNeed t number need.register need.refs need.nums now next
+            × AddsNeed number need r.1 now next × HeapStandsAt P.rules r.0 t next) }
+        ensures births { IfOk result (λ r. AddsBirths self.mutators.items number (born_in r.1)
             r.0.mutators.items) }
         ensures counts { IfOk result (λ r. collections_of r.0 ≤ collections_of self + 2) }
         ensures refused { IfOk result (λ r. IfRefused r.1 (λ size.
@@ -286,12 +286,12 @@ impl<P: Plan> StoppedHeap<P> {
     {
         let size = size_words(&shape_of(&need));
         let mut stopped = self;
-        if let Some(spot) = stopped.find(size) {
-            let (stopped, name) = stopped.place(m, &need, spot);
+        if let Some(spot) = stopped.find_place(size) {
+            let (stopped, name) = stopped.place_need(number, &need, spot);
             return Ok((stopped, Placed::Placed(name), None));
         }
         let (stopped, note) = stopped.make_room(rt, size, pool, gate)?;
-        let (stopped, placed) = stopped.settle(m, &need);
+        let (stopped, placed) = stopped.place_or_refuse(number, &need);
         Ok((stopped, placed, Some(note)))
     }
 }

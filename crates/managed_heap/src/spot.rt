@@ -1,7 +1,7 @@
 //! A place for an object, and what a stop writes there before and after the object.
 
 ghost use Rattle.std.specs.Prelude.{◌≡◌, ◌≢◌, ◌≤◌, ◌<◌, ℕ, length};
-ghost use Rattle.heap_layout.specs.Zones.{row_words};
+ghost use Rattle.heap_layout.specs.Zones.{IsRowOf};
 ghost use Rattle.heap_layout.specs.declared.block.Kind.{Kind};
 ghost use Rattle.object_model.specs.Heaps.{heap_state};
 ghost use Rattle.object_model.specs.Objects.{HeapState, size_of, state_of};
@@ -10,9 +10,9 @@ ghost use Rattle.object_model.specs.Lawful.{IsReadableBlock};
 ghost use Rattle.block_sweeps.specs.Sweeping.{AreApart};
 ghost use Rattle.sessions.specs.Fitting.{IsFreeRun};
 ghost use Rattle.sessions.specs.Plans.{Rules};
-ghost use Rattle.block_regions.specs.Notes.{AreNotes, FillsHoles, PlacesObject, PlacesRun};
+ghost use Rattle.block_regions.specs.Notes.{AreNotes, FillsHoles, PlacesInBlock, PlacesRun};
 ghost use Rattle.managed_heap.specs.Stopped.{IsManaged};
-ghost use Rattle.managed_heap.specs.Spots.{IsPlace, TakesBlock, TakesSpot, RelistsSpot};
+ghost use Rattle.managed_heap.specs.Spots.{IsPlaceForSize, TakesSpotBlock, TakesSpot, RelistsSpot};
 
 use heap_layout::BlockWord;
 use ideal_heap::{MAX_NUMS, MAX_REFS};
@@ -34,11 +34,11 @@ pub(crate) struct Spot {
 /// Gives the block of a spot its word, if it is Free.
 fn take_block<P: Plan>(row: Row, spot: &Spot, size: u32) -> Row
     requires plan { IsManaged P.rules }
-    requires extent { length row.words.items ≡ row_words (state_of row).blocks }
+    requires extent { IsRowOf row.layout row.words.items }
     requires block { spot.now.block < (state_of row).blocks }
     requires least { 3 ≤ size }
     requires most { size ≤ MAX_MEDIUM_WORDS }
-    ensures { TakesBlock P.rules.fill (state_of row) spot.now size (state_of result) }
+    ensures { TakesSpotBlock P.rules.fill (state_of row) spot.now size (state_of result) }
 {
     let mut row = row;
     if !spot.free {
@@ -55,7 +55,7 @@ fn take_block<P: Plan>(row: Row, spot: &Spot, size: u32) -> Row
 
 /// Makes `count` Free blocks, from `block` on, the run of a large object.
 fn take_run(row: Row, block: u32, count: u32) -> Row
-    requires extent { length row.words.items ≡ row_words (state_of row).blocks }
+    requires extent { IsRowOf row.layout row.words.items }
     requires least { 1 ≤ count }
     requires most { count ≤ 15 }
     requires free { IsFreeRun (state_of row) block count }
@@ -69,10 +69,10 @@ fn take_run(row: Row, block: u32, count: u32) -> Row
 /// Gives the blocks of a spot their words, where they are Free.
 pub(crate) fn take_spot<P: Plan>(row: Row, spot: &Spot, size: u32) -> Row
     requires plan { IsManaged P.rules }
-    requires extent { length row.words.items ≡ row_words (state_of row).blocks }
+    requires extent { IsRowOf row.layout row.words.items }
     requires least { 3 ≤ size }
     requires most { size ≤ size_of MAX_REFS MAX_NUMS }
-    requires place { IsPlace P.rules.fill (state_of row) size spot.now }
+    requires place { IsPlaceForSize P.rules.fill (state_of row) size spot.now }
     ensures { TakesSpot P.rules.fill (state_of row) spot.now size (state_of result) }
 {
     if spot.run == 0 {
@@ -99,7 +99,7 @@ pub(crate) fn relist_spot<P: Plan>(row: Row, spot: &Spot) -> Row
 pub(crate) fn note_placed(notes: &mut BlockNotes, heap: &Heap, spot: &Spot)
     ensures small { spot.now.run ≡ 0 → (rules : Rules) (old new : HeapState) (a refs nums : ℕ)
         → FillsHoles rules.fill → AreNotes rules.fill old notes.old
-        → PlacesObject rules old new a refs nums spot.now.block spot.now.free
+        → PlacesInBlock rules old new a refs nums spot.now.block spot.now.free
         → AreNotes rules.fill new notes.new }
     ensures large { spot.now.run ≢ 0 → (fill : Kind) (old : HeapState) (a refs nums : ℕ)
         → FillsHoles fill → AreNotes fill old notes.old

@@ -4,7 +4,7 @@ ghost use Rattle.std.specs.Prelude.{◌≡◌, ◌≤◌, length, map, IfOk};
 ghost use Rattle.sessions.specs.Sessions.{Setting, Moment, first_moment};
 ghost use Rattle.object_model.specs.Heaps.{heap_state};
 ghost use Rattle.heap_users.specs.Users.{mutator_state};
-ghost use Rattle.managed_heap.specs.Stopped.{parts_of, IsStopped, StandsAt};
+ghost use Rattle.managed_heap.specs.Stopped.{parts_of, IsStopped, HeapStandsAt};
 
 use heap_layout::Layout;
 use ideal_heap::MAX_MUTATORS;
@@ -53,7 +53,7 @@ impl<P: Plan> StoppedHeap<P> {
         ensures stopped { IfOk result (λ h. IsStopped P.rules h) }
         ensures stands { IfOk result (λ h. (t : Setting) → t.rules ≡ P.rules
             → t.workers ≡ 1 → t.blocks ≡ layout.blocks → length t.traces ≡ mutators
-            → StandsAt P.rules h t (first_moment t)) }
+            → HeapStandsAt P.rules h t (first_moment t)) }
         ensures mutators { IfOk result (λ h. length h.mutators.items ≡ mutators) }
     {
         let heap = Heap::new(alloc, layout)?;
@@ -101,7 +101,7 @@ impl<P: Plan> StoppedHeap<P> {
     /// The heap.
     pub fn heap(&self) -> &Heap
         ensures same { result.now ≡ self.now.heap }
-        ensures session { (t : Setting) (now : Moment) → StandsAt P.rules self.now t now
+        ensures session { (t : Setting) (now : Moment) → HeapStandsAt P.rules self.now t now
             → heap_state result.now ≡ now.heap }
     {
         &self.heap
@@ -110,7 +110,7 @@ impl<P: Plan> StoppedHeap<P> {
     /// The mutators, with their births and registers.
     pub fn mutators(&self) -> &[Mutator]
         ensures same { result.now ≡ self.now.mutators.items }
-        ensures session { (t : Setting) (now : Moment) → StandsAt P.rules self.now t now
+        ensures session { (t : Setting) (now : Moment) → HeapStandsAt P.rules self.now t now
             → map mutator_state result.now ≡ now.mutators }
     {
         &self.mutators
@@ -119,7 +119,7 @@ impl<P: Plan> StoppedHeap<P> {
     /// The numbers of nursery and full collections so far.
     pub fn collections(&self) -> (u64, u64)
         ensures same { result ≡ (self.now.nursery, self.now.full) }
-        ensures session { (t : Setting) (now : Moment) → StandsAt P.rules self.now t now
+        ensures session { (t : Setting) (now : Moment) → HeapStandsAt P.rules self.now t now
             → (result.0 ≡ now.nursery) × (result.1 ≡ now.full) }
     {
         (self.nursery, self.full)

@@ -9,18 +9,18 @@ use Rattle.mutator_calls.specs.Effects.{Effect}
 use Rattle.plain_row.specs.Rows.{births_of}
 use Rattle.plain_row.specs.Worlds.{births_in}
 use Rattle.plain_world.specs.declared.plain_world.PlainWorld.{PlainWorld}
-use Rattle.plain_world.specs.Calls.{places_of, number_at, IsOpen, LeavesRest, SamePlaces, AddsEntries as AddMoreToWorld, AddsEntry as AddsToWorld}
+use Rattle.plain_world.specs.Calls.{places_of, mutator_number_at, IsOpen, LeavesRest, SamePlaces, AddsEntries as AddMoreToWorld, AddsEntry as AddsToWorld}
 use Rattle.heap_users.specs.Beginnings.{epoch_of}
 use Rattle.sessions.specs.Plans.{Rules}
 use Rattle.sessions.specs.Sessions.{ideal_at}
 use Rattle.managed_value.specs.declared.managed.ManagedHeap.{ManagedHeap}
-use Rattle.managed_value.specs.Histories.{IsUsable, HasEntries, AddsEntry, AddsEntries, KeepsEntries, IsSince, GoesOn, StaysInEpoch, mutator_count, births_at, used_in, places_in, born_to}
+use Rattle.managed_value.specs.Histories.{IsUsable, HasEntries, AddsHeapEntry, AddsHeapEntries, KeepsEntries, IsSince, GoesOn, StaysInEpoch, mutators_of_heap, heap_births_at, words_used, places_in, born_to}
 use Rattle.managed_value.proofs.Places.{since-here, number-here}
 
 module _ {P : Type 0} (rules : Rules) (old new : ManagedHeap P) (v w : PlainWorld P) (here : old.world ≡ Some v) (there : new.world ≡ Some w)
     (nursery : new.nursery ≡ old.nursery) (full : new.full ≡ old.full) where
   -- the world's entries are added to those of the heap
-  pub calls-add : (more : List Entry) → AddMoreToWorld v more w → AddsEntries rules old more new
+  pub calls-add : (more : List Entry) → AddMoreToWorld v more w → AddsHeapEntries rules old more new
   calls-add more adds es has =
       let since : IsSince rules old v has.now has.part = since-here rules old v es has here in record {
         world = w;
@@ -42,34 +42,34 @@ module _ {P : Type 0} (rules : Rules) (old new : ManagedHeap P) (v w : PlainWorl
       }
 
   -- the heap is in use, with the world's mutators
-  pub usable-with : (more : List Entry) → IsUsable rules old → IsOpen rules w → SamePlaces v w → AddsEntries rules old more new → IsUsable rules new
+  pub usable-with : (more : List Entry) → IsUsable rules old → IsOpen rules w → SamePlaces v w → AddsHeapEntries rules old more new → IsUsable rules new
   usable-with more usable is_open places adds =
       let both : Some usable.world ≡ Some v = sym usable.here ∙ here in
       let same : usable.world ≡ v = cc in
       let some : 1 ≤ places_of v = subst (λ (x : PlainWorld P). 1 ≤ places_of x) same usable.some in
       let few : places_of v ≤ 16 = subst (λ (x : PlainWorld P). places_of x ≤ 16) same usable.few in
       let count : places_of w ≡ places_of v = places.count in
-      record { world = w; here = there; idle = is_open; some = omega arith; few = omega arith; entries = usable.entries ++ more; has = adds usable.entries usable.has }
+      record { world = w; here = there; between_calls = is_open; some = omega arith; few = omega arith; entries = usable.entries ++ more; has = adds usable.entries usable.has }
 
-  pub places-with : SamePlaces v w → mutator_count new ≡ mutator_count old
+  pub places-with : SamePlaces v w → mutators_of_heap new ≡ mutators_of_heap old
   places-with places = ap places_in there ∙ places.count ∙ sym (ap places_in here)
 
   -- the births, at the place of the call and at the others
-  pub births-with : (m : ℕ) (e : Effect) → LeavesRest v m e w → births_at new m ≡ births_at old m + births_in e.entries
+  pub births-with : (m : ℕ) (e : Effect) → LeavesRest v m e w → heap_births_at new m ≡ heap_births_at old m + births_in e.entries
   births-with m e rest = ap (λ o. born_to o m) there ∙ rest.births ∙ ap (λ o. born_to o m + births_in e.entries) (sym here)
 
-  pub others-with : (m : ℕ) (e : Effect) → LeavesRest v m e w → (k : ℕ) → k ≢ m → births_at new k ≡ births_at old k
+  pub others-with : (m : ℕ) (e : Effect) → LeavesRest v m e w → (k : ℕ) → k ≢ m → heap_births_at new k ≡ heap_births_at old k
   others-with m e rest k away = ap (λ o. born_to o k) there ∙ ap births_of (rest.others k away).0 ∙ ap (λ o. born_to o k) (sym here)
 
-  pub births-stay : (m : ℕ) (e : Effect) → LeavesRest v m e w → births_in e.entries ≡ 0 → (k : ℕ) → births_at new k ≡ births_at old k
-  births-stay m e rest none k = elim (cases_eq k m) as (λ _. births_at new k ≡ births_at old k) [
-    | inl same ↦ subst (λ (j : ℕ). births_at new j ≡ births_at old j) (sym same) (let e1 = births-with m e rest in omega (arith, e1, none))
+  pub births-stay : (m : ℕ) (e : Effect) → LeavesRest v m e w → births_in e.entries ≡ 0 → (k : ℕ) → heap_births_at new k ≡ heap_births_at old k
+  births-stay m e rest none k = elim (cases_eq k m) as (λ _. heap_births_at new k ≡ heap_births_at old k) [
+    | inl same ↦ subst (λ (j : ℕ). heap_births_at new j ≡ heap_births_at old j) (sym same) (let e1 = births-with m e rest in omega (arith, e1, none))
     | inr away ↦ others-with m e rest k away
   ]
 
   -- a call of the mutator at place m, which has the number m + 1
   module _ (m : ℕ) (command : Command) (reply : Reply) (place : m < places_of v) (adds : AddsToWorld v m command reply w) where
-    pub call-adds : AddsEntry rules old m command reply new
+    pub call-adds : AddsHeapEntry rules old m command reply new
     call-adds es has = calls-add (entry (m + 1) command reply ∷ [])
         (subst (λ (k : ℕ). AddMoreToWorld v (entry k command reply ∷ []) w) (number-here rules old v m es has here place) adds) es has
 
@@ -84,9 +84,9 @@ module _ {P : Type 0} (rules : Rules) (old new : ManagedHeap P) (v w : PlainWorl
 
   -- a call that allocates nothing
   pub call-rest : (m : ℕ) (command : Command) (reply : Reply) (e : Effect) → AddsToWorld v m command reply w → SamePlaces v w → LeavesRest v m e w
-      → births_in e.entries ≡ 0 → used_in new ≡ used_in old → StaysInEpoch old new
+      → births_in e.entries ≡ 0 → words_used new ≡ words_used old → StaysInEpoch old new
   call-rest m command reply e adds places rest none used = record {
-    epoch = goes-on (entry (number_at v m) command reply ∷ []) adds;
+    epoch = goes-on (entry (mutator_number_at v m) command reply ∷ []) adds;
     places = places-with places;
     births = births-stay m e rest none;
     nursery = nursery;

@@ -12,14 +12,14 @@ use Rattle.sessions.specs.Sessions.{birth_count}
 use Rattle.mutator_calls.specs.declared.need.Mutator.{Mutator}
 use Rattle.heap_users.specs.Users.{mutator_state}
 use Rattle.block_regions.proofs.Lists.{get-some}
-use Rattle.plain_row.specs.Rows.{births_of, number_of}
+use Rattle.plain_row.specs.Rows.{births_of, mutator_number}
 use Rattle.plain_world.specs.declared.plain_world.PlainWorld.{PlainWorld}
-use Rattle.plain_world.specs.Calls.{number_at, places_of, births_at as births_in, IsOpen}
+use Rattle.plain_world.specs.Calls.{mutator_number_at, places_of, births_at as births_in, IsOpen}
 use Rattle.managed_heap.specs.Needs.{AddsBirths}
 use Rattle.managed_value.specs.declared.managed.ManagedHeap.{ManagedHeap}
-use Rattle.managed_value.specs.Histories.{HasEntries, HasPlace, IsSince, IsUsable, births_at, born_to, mutator_count, places_in}
+use Rattle.managed_value.specs.Histories.{HasEntries, HeapHasPlace, IsSince, IsUsable, heap_births_at, born_to, mutators_of_heap, places_in}
 
-number-mapped : (xs : List Mutator) (k : ℕ) → number_of (slice_get xs k) ≡ slice_index (map (λ m. m.number) xs) k
+number-mapped : (xs : List Mutator) (k : ℕ) → mutator_number (slice_get xs k) ≡ slice_index (map (λ m. m.number) xs) k
 number-mapped [] k = refl
 number-mapped (x ∷ xs) zero = refl
 number-mapped (x ∷ xs) (suc k) = number-mapped xs k
@@ -34,7 +34,7 @@ since-here rules h w es has here =
 
 -- the mutator at place m has the number m + 1
 pub number-here : {P : Type 0} (rules : Rules) (h : ManagedHeap P) (w : PlainWorld P) (m : ℕ) (es : List Entry) → HasEntries rules h es → h.world ≡ Some w → m < places_of w
-    → number_at w m ≡ m + 1
+    → mutator_number_at w m ≡ m + 1
 number-here rules h w m es has here below =
     let since : IsSince rules h w has.now has.part = since-here rules h w es has here in
     let n : ℕ = length since.setting.traces in
@@ -113,17 +113,17 @@ module _ {P : Type 0} (rules : Rules) (h : ManagedHeap P) where
     same-world usable = let both : Some usable.world ≡ Some w = sym usable.here ∙ here in cc
 
     pub open-here : IsUsable rules h → IsOpen rules w
-    open-here usable = subst (λ (x : PlainWorld P). IsOpen rules x) (same-world usable) usable.idle
+    open-here usable = subst (λ (x : PlainWorld P). IsOpen rules x) (same-world usable) usable.between_calls
 
-    pub place-here : (m : ℕ) → HasPlace h m → m < places_of w
+    pub place-here : (m : ℕ) → HeapHasPlace h m → m < places_of w
     place-here m place = subst (λ (o : Option (PlainWorld P)). m < places_in o) here place
 
-    pub births-of-world : (m : ℕ) → births_in w m ≡ births_at h m
+    pub births-of-world : (m : ℕ) → births_in w m ≡ heap_births_at h m
     births-of-world m = ap (λ (o : Option (PlainWorld P)). born_to o m) (sym here)
 
   -- there is a mutator, and there are few
-  pub some-there : IsUsable rules h → 1 ≤ mutator_count h
+  pub some-there : IsUsable rules h → 1 ≤ mutators_of_heap h
   some-there usable = subst (λ (o : Option (PlainWorld P)). 1 ≤ places_in o) (sym usable.here) usable.some
 
-  pub few-there : IsUsable rules h → mutator_count h ≤ 16
+  pub few-there : IsUsable rules h → mutators_of_heap h ≤ 16
   few-there usable = subst (λ (o : Option (PlainWorld P)). places_in o ≤ 16) (sym usable.here) usable.few

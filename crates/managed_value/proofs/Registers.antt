@@ -4,7 +4,7 @@ use Rattle.std.specs.Prelude.{slice_get, slice_index}
 use Rattle.std.specs.List.{AllByRecursion}
 use Rattle.ideal_heap.specs.declared.name.Name.{Name}
 use Rattle.ideal_heap.specs.Ideal.{empty}
-use Rattle.ideal_heap.specs.Runs.{Entry, after}
+use Rattle.ideal_heap.specs.Runs.{Entry, heap_after_run}
 use Rattle.object_model.specs.Objects.{HeapState}
 use Rattle.object_model.specs.Lawful.{HasLawfulObjects}
 use Rattle.object_model.specs.Graphs.{MutatorState, PointsTo, numbers_of, register_at}
@@ -12,10 +12,10 @@ use Rattle.mutator_calls.specs.declared.need.Mutator.{Mutator}
 use Rattle.heap_users.specs.Users.{mutator_state}
 use Rattle.heap_users.specs.Beginnings.{epoch_of}
 use Rattle.heap_users.proofs.UserLists.{all-each}
-use Rattle.plain_row.proofs.Facts as facts
+use Rattle.plain_row.proofs.EpochFacts as facts
 use Rattle.plain_world.proofs.CallLemmas.{numbers-mapped}
 use Rattle.plain_world.specs.declared.plain_world.PlainWorld.{PlainWorld}
-use Rattle.plain_world.specs.Calls.{heap_of, mutators_of}
+use Rattle.plain_world.specs.Calls.{heap_of_world, mutators_of_world}
 use Rattle.managed_heap.proofs.Users.{number-of}
 use Rattle.sessions.specs.Plans.{Rules}
 use Rattle.sessions.specs.Sessions.{ideal_at}
@@ -40,13 +40,13 @@ module _ (s : HeapState) (objects : HasLawfulObjects s) where
 
 -- the registers of the mutator at place m, in the world and in the ideal heap
 module _ {P : Type 0} (rules : Rules) (h : ManagedHeap P) (w : PlainWorld P) (es : List Entry) (has : HasEntries rules h es) (here : h.world ≡ Some w)
-    (m : ℕ) (u : Mutator) (us : List Mutator) (states : map mutator_state us ≡ mutators_of w) (there : slice_get us m ≡ Some u) where
-  objects : HasLawfulObjects (heap_of w)
+    (m : ℕ) (u : Mutator) (us : List Mutator) (states : map mutator_state us ≡ mutators_of_world w) (there : slice_get us m ≡ Some u) where
+  objects : HasLawfulObjects (heap_of_world w)
   objects = (let since = since-here rules h w es has here in (facts.order (epoch_of rules has.now.heap has.now.mutators) (ideal_at has.now) since.history.log w.row since.history.at).objects)
 
-  points : (d : ℕ) → d < 16 → PointsTo (heap_of w) (register_at (mutator_state u) d) ((after empty es).registers u.number d)
-  points = all-each (λ (x : MutatorState). (d : ℕ) → d < 16 → PointsTo (heap_of w) (register_at x d) ((after empty es).registers x.number d)) us m u
-      (subst (AllByRecursion (λ (x : MutatorState). (d : ℕ) → d < 16 → PointsTo (heap_of w) (register_at x d) ((after empty es).registers x.number d))) (sym states)
+  points : (d : ℕ) → d < 16 → PointsTo (heap_of_world w) (register_at (mutator_state u) d) ((heap_after_run empty es).registers u.number d)
+  points = all-each (λ (x : MutatorState). (d : ℕ) → d < 16 → PointsTo (heap_of_world w) (register_at x d) ((heap_after_run empty es).registers x.number d)) us m u
+      (subst (AllByRecursion (λ (x : MutatorState). (d : ℕ) → d < 16 → PointsTo (heap_of_world w) (register_at x d) ((heap_after_run empty es).registers x.number d))) (sym states)
       (entries-represent rules h es w has here).pointers.registers) there
 
   number : u.number ≡ m + 1
@@ -55,15 +55,15 @@ module _ {P : Type 0} (rules : Rules) (h : ManagedHeap P) (w : PlainWorld P) (es
       number-of us (length since.setting.traces) (ap numbers_of states ∙ numbers-mapped w.row.mutators.items ∙ since.history.at.numbers ∙ since.sound.listed) m u there
 
   abbrev name-in : ℕ → Option Name
-  name-in d = (after empty es).registers (m + 1) d
+  name-in d = (heap_after_run empty es).registers (m + 1) d
 
-  points-here : (d : ℕ) → d < 16 → PointsTo (heap_of w) (slice_index u.registers d) (name-in d)
-  points-here d small = subst (λ (n : ℕ). PointsTo (heap_of w) (slice_index u.registers d) ((after empty es).registers n d)) number (points d small)
+  points-here : (d : ℕ) → d < 16 → PointsTo (heap_of_world w) (slice_index u.registers d) (name-in d)
+  points-here d small = subst (λ (n : ℕ). PointsTo (heap_of_world w) (slice_index u.registers d) ((heap_after_run empty es).registers n d)) number (points d small)
 
   -- the registers of one address hold one object, and the other way round
   pub same-names : (s v : ℕ) → s < 16 → v < 16 → slice_index u.registers s ≡ slice_index u.registers v → name-in s ≡ name-in v
-  same-names s v first second same = one-value (heap_of w) objects (slice_index u.registers v) (name-in s) (name-in v)
-      (subst (λ (a : ℕ). PointsTo (heap_of w) a (name-in s)) same (points-here s first)) (points-here v second)
+  same-names s v first second same = one-value (heap_of_world w) objects (slice_index u.registers v) (name-in s) (name-in v)
+      (subst (λ (a : ℕ). PointsTo (heap_of_world w) a (name-in s)) same (points-here s first)) (points-here v second)
 
   pub same-addresses : (s v : ℕ) → s < 16 → v < 16 → name-in s ≡ name-in v → slice_index u.registers s ≡ slice_index u.registers v
-  same-addresses s v first second same = one-word (heap_of w) objects (slice_index u.registers s) (slice_index u.registers v) (name-in s) (name-in v) (points-here s first) (points-here v second) same
+  same-addresses s v first second same = one-word (heap_of_world w) objects (slice_index u.registers s) (slice_index u.registers v) (name-in s) (name-in v) (points-here s first) (points-here v second) same

@@ -11,21 +11,21 @@ use Rattle.plain_world.specs.Calls.{IsOpen, SamePlaces, Allocates, Refuses}
 use Rattle.sessions.specs.Plans.{Rules}
 use Rattle.managed_heap.specs.declared.place.Placed.TheVariants as placed
 use Rattle.managed_value.specs.declared.managed.ManagedHeap.{ManagedHeap}
-use Rattle.managed_value.specs.Histories.{HasPlace, IsUsable, IsAsBefore, births_at, used_in, collections_of}
-use Rattle.managed_value.specs.Allocations.{AllocatesInEpoch, FindsNoRoom, Makes, MayAllocate, used_with}
+use Rattle.managed_value.specs.Histories.{HeapHasPlace, IsUsable, IsAsBefore, heap_births_at, words_used, collections_made}
+use Rattle.managed_value.specs.Allocations.{AllocatesInEpoch, FindsNoRoom, Makes, HeapMayAllocate, used_with}
 use Rattle.managed_value.proofs.Places.{place-here}
 use Rattle.managed_value.proofs.CallEntries as calls
 
 module _ {P : Type 0} (rules : Rules) (old new : ManagedHeap P) (v w : PlainWorld P) (here : old.world ≡ Some v) (there : new.world ≡ Some w)
-    (nursery : new.nursery ≡ old.nursery) (full : new.full ≡ old.full) (m : ℕ) (place : HasPlace old m) (usable : IsUsable rules old)
+    (nursery : new.nursery ≡ old.nursery) (full : new.full ≡ old.full) (m : ℕ) (place : HeapHasPlace old m) (usable : IsUsable rules old)
     (is_open : IsOpen rules w) (same : SamePlaces v w) where
-  few : collections_of new ≤ collections_of old + 2
+  few : collections_made new ≤ collections_made old + 2
   few = (
       let a : new.nursery ≡ old.nursery = nursery in
       let b : new.full ≡ old.full = full in
       omega arith)
 
-  pub made : (d refs nums : ℕ) (n : Name) → Allocates v m d refs nums n w → used_in new ≡ used_with (placed.Placed n) (size_of refs nums) (used_in old)
+  pub made : (d refs nums : ℕ) (n : Name) → Allocates v m d refs nums n w → words_used new ≡ used_with (placed.Placed n) (size_of refs nums) (words_used old)
       → Makes rules old m d refs nums n new
   made d refs nums n makes used = record {
     usable = calls.call-usable rules old new v w here there nursery full m (c.New d refs nums) (r.New n) (place-here rules old v here m place) makes.history usable is_open same;
@@ -49,7 +49,7 @@ module _ {P : Type 0} (rules : Rules) (old new : ManagedHeap P) (v w : PlainWorl
   }
 
   -- the heap is as it was
-  pub searched : (size : ℕ) → Refuses v m size w → used_in new ≡ used_in old → FindsNoRoom rules old m size new
+  pub searched : (size : ℕ) → Refuses v m size w → words_used new ≡ words_used old → FindsNoRoom rules old m size new
   searched size refuses used = record {
     before = v;
     here = here;
@@ -69,12 +69,12 @@ module _ {P : Type 0} (rules : Rules) (old new : ManagedHeap P) (v w : PlainWorl
 
 -- the mutator may allocate as before
 module _ {P : Type 0} (rules : Rules) (old new : ManagedHeap P) (m : ℕ) (is : IsAsBefore rules old new) where
-  pub place-still : HasPlace old m → HasPlace new m
+  pub place-still : HeapHasPlace old m → HeapHasPlace new m
   place-still place = subst (λ (n : ℕ). m < n) (sym is.places) place
 
-  pub may-still : MayAllocate old m → MayAllocate new m
+  pub may-still : HeapMayAllocate old m → HeapMayAllocate new m
   may-still may = record {
-    births = (let b : births_at new m ≡ births_at old m = is.births m in let most : births_at old m + 1 < 4294967296 = may.births in omega arith);
+    births = (let b : heap_births_at new m ≡ heap_births_at old m = is.births m in let most : heap_births_at old m + 1 < 4294967296 = may.births in omega arith);
     collections = (
         let a : new.nursery ≡ old.nursery = is.nursery in
         let b : new.full ≡ old.full = is.full in

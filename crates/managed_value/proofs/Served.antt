@@ -15,7 +15,7 @@ use Rattle.object_model.specs.Lawful.{IsLawful}
 use Rattle.sessions.specs.Plans.{Rules}
 use Rattle.sessions.specs.Grants.{BlockCounts, IsGrantable, IsRunGrantable}
 use Rattle.sessions.specs.Fitting.{Fits, FitsSmall, FitsLarge}
-use Rattle.sessions.specs.Sessions.{Setting, Moment, MakesCollection, Serves}
+use Rattle.sessions.specs.Sessions.{Setting, Moment, MakesCollection, ServesNeed}
 use Rattle.collector.specs.declared.outcome.Note.{Note}
 use Rattle.collector.specs.Tallies.{capped}
 use Rattle.mutator_calls.specs.declared.need.Need.{Need}
@@ -28,14 +28,14 @@ use Rattle.plain_row.specs.Rows.{births_of}
 use Rattle.managed_heap.specs.declared.stopped_heap.StoppedHeap.{StoppedHeap}
 use Rattle.managed_heap.specs.declared.place.Placed.{Placed}
 use Rattle.managed_heap.specs.declared.place.Placed.TheVariants as placed
-use Rattle.managed_heap.specs.Stopped.{StandsAt, HasCollected, collections_of as stopped_collections}
+use Rattle.managed_heap.specs.Stopped.{HeapStandsAt, HasCollected, collections_of as stopped_collections}
 use Rattle.managed_heap.specs.Needs.{AddsBirths, AddsNeed, IfRefused, NotesLast, born_in, reply_of, MayAllocate as MayAllocateAt}
 use Rattle.managed_heap.proofs.BirthCounts.{as-many}
 use Rattle.managed_value.specs.declared.managed.ManagedHeap.{ManagedHeap}
 use Rattle.managed_value.specs.declared.allocate.Refused.{Refused}
 use Rattle.managed_value.specs.declared.allocate.Refused.TheVariants as refused
-use Rattle.managed_value.specs.Histories.{IsAsBefore, IsAsBeforeOrLost, IsLost, IsUsable, HasEntries, AddsEntry, HasPlace, mutator_count, births_at, used_in, collections_of}
-use Rattle.managed_value.specs.Allocations.{MayAllocate, AllocatesInEpoch, CollectsAtStop, FindsNoRoom, Makes, IsFull, MatchPlaced, MatchRefused, CollectsAll, RunsOut, ServesAtStop, StopsFor, kept_by, used_for, used_with}
+use Rattle.managed_value.specs.Histories.{IsAsBefore, IsAsBeforeOrLost, IsLost, IsUsable, HasEntries, AddsHeapEntry, HeapHasPlace, mutators_of_heap, heap_births_at, words_used, collections_made}
+use Rattle.managed_value.specs.Allocations.{HeapMayAllocate, AllocatesInEpoch, CollectsAtStop, FindsNoRoom, Makes, RepliesFull, MatchAnswer, MatchRefused, CollectsAll, RunsOut, ServesAtStop, StopsFor, kept_by, used_for, used_with}
 use Rattle.managed_value.specs.Epochs.{EndsWith, BeginsWith}
 use Rattle.managed_value.proofs.Places.{births-own, births-others, births-kept, some-there}
 
@@ -67,7 +67,7 @@ used-replied (placed.HeapFull words) size used = refl
 
 -- From a stop to the next epoch.
 module _ {P : Type 0} (rules : Rules) (old new : ManagedHeap P) (s r : StoppedHeap P) (ends : EndsWith rules old s) (begins : BeginsWith rules r new) where
-  pub counts-after : stopped_collections r ≤ stopped_collections s + 2 → collections_of new ≤ collections_of old + 2
+  pub counts-after : stopped_collections r ≤ stopped_collections s + 2 → collections_made new ≤ collections_made old + 2
   counts-after most =
       let a : s.nursery ≡ old.nursery = ends.nursery in
       let b : s.full ≡ old.full = ends.full in
@@ -77,9 +77,9 @@ module _ {P : Type 0} (rules : Rules) (old new : ManagedHeap P) (s r : StoppedHe
       omega arith
 
   pub serves-at-stop : (m : ℕ) (need : Need) (what : Placed)
-      → ((t : Setting) (now : Moment) → StandsAt rules s t now
-      → (next : Moment) × Serves t (m + 1) need.register need.refs need.nums now next × AddsNeed (m + 1) need what now next × StandsAt rules r t next)
-      → (note : Option Note) → NotesLast rules s r note → used_in new ≡ used_with what (size_of need.refs need.nums) (kept_by note (used_in old))
+      → ((t : Setting) (now : Moment) → HeapStandsAt rules s t now
+      → (next : Moment) × ServesNeed t (m + 1) need.register need.refs need.nums now next × AddsNeed (m + 1) need what now next × HeapStandsAt rules r t next)
+      → (note : Option Note) → NotesLast rules s r note → words_used new ≡ used_with what (size_of need.refs need.nums) (kept_by note (words_used old))
       → ServesAtStop rules old m need.register need.refs need.nums (reply_of what) new
   serves-at-stop m need what serves note noted used = record {
     before = s;
@@ -88,14 +88,14 @@ module _ {P : Type 0} (rules : Rules) (old new : ManagedHeap P) (s r : StoppedHe
     serves = serves;
     note = note;
     noted = noted;
-    used = used ∙ used-replied what (size_of need.refs need.nums) (kept_by note (used_in old));
+    used = used ∙ used-replied what (size_of need.refs need.nums) (kept_by note (words_used old));
     begins = begins;
   }
 
   -- a full collection
   module _ (note : Note) (made : HasCollected rules Full s r note)
-      (makes : (t : Setting) (now : Moment) → StandsAt rules s t now → (late : Moment) × MakesCollection t Full now late × StandsAt rules r t late)
-      (used : used_in new ≡ note.kept_words) where
+      (makes : (t : Setting) (now : Moment) → HeapStandsAt rules s t now → (late : Moment) × MakesCollection t Full now late × HeapStandsAt rules r t late)
+      (used : words_used new ≡ note.kept_words) where
     pub collects-all : CollectsAll rules old note new
     collects-all = record {
       usable = begins.usable;
@@ -114,11 +114,11 @@ module _ {P : Type 0} (rules : Rules) (old new : ManagedHeap P) (s r : StoppedHe
     collects-at-stop = record { before = s; ends = ends; after = r; collected = made; makes = makes; begins = begins }
 
   -- a need
-  module _ (m : ℕ) (need : Need) (place : m < mutator_count old) (fills : FillsHoles rules.fill) (few : stopped_collections r ≤ stopped_collections s + 2) where
+  module _ (m : ℕ) (need : Need) (place : m < mutators_of_heap old) (fills : FillsHoles rules.fill) (few : stopped_collections r ≤ stopped_collections s + 2) where
     adds-need : (what : Placed)
-        → ((t : Setting) (now : Moment) → StandsAt rules s t now
-        → (next : Moment) × Serves t (m + 1) need.register need.refs need.nums now next × AddsNeed (m + 1) need what now next × StandsAt rules r t next)
-        → AddsEntry rules old m (c.New need.register need.refs need.nums) (reply_of what) new
+        → ((t : Setting) (now : Moment) → HeapStandsAt rules s t now
+        → (next : Moment) × ServesNeed t (m + 1) need.register need.refs need.nums now next × AddsNeed (m + 1) need what now next × HeapStandsAt rules r t next)
+        → AddsHeapEntry rules old m (c.New need.register need.refs need.nums) (reply_of what) new
     adds-need what serves es has =
         let at = ends.stands es has in
         let then = serves at.0 at.1 at.3 in
@@ -127,14 +127,14 @@ module _ {P : Type 0} (rules : Rules) (old new : ManagedHeap P) (s r : StoppedHe
     below : m < length s.mutators.items
     below = subst (λ (n : ℕ). m < n) (sym ends.places) place
 
-    births-there : (more : ℕ) → AddsBirths s.mutators.items (m + 1) more r.mutators.items → births_at new m ≡ births_at old m + more
+    births-there : (more : ℕ) → AddsBirths s.mutators.items (m + 1) more r.mutators.items → heap_births_at new m ≡ heap_births_at old m + more
     births-there more adds = begins.births m ∙ births-own s.mutators.items r.mutators.items m more adds below ∙ ap (λ (n : ℕ). n + more) (ends.births m)
 
-    births-elsewhere : (more : ℕ) → AddsBirths s.mutators.items (m + 1) more r.mutators.items → (k : ℕ) → k ≢ m → births_at new k ≡ births_at old k
+    births-elsewhere : (more : ℕ) → AddsBirths s.mutators.items (m + 1) more r.mutators.items → (k : ℕ) → k ≢ m → heap_births_at new k ≡ heap_births_at old k
     births-elsewhere more adds k other = begins.births k ∙ births-others s.mutators.items r.mutators.items m more adds k other ∙ ends.births k
 
     -- no collection was made, so the words are those of before
-    kept-same : (note : Option Note) → NotesLast rules s r note → collections_of new ≡ collections_of old → kept_by note (used_in old) ≡ used_in old
+    kept-same : (note : Option Note) → NotesLast rules s r note → collections_made new ≡ collections_made old → kept_by note (words_used old) ≡ words_used old
     kept-same None noted same = refl
     kept-same (Some note) noted same = absurd (
         let a : s.nursery ≡ old.nursery = ends.nursery in
@@ -146,12 +146,12 @@ module _ {P : Type 0} (rules : Rules) (old new : ManagedHeap P) (s r : StoppedHe
         omega arith)
 
     pub serves-need : (note : Option Note) → NotesLast rules s r note → (what : Placed)
-        → ((t : Setting) (now : Moment) → StandsAt rules s t now
-        → (next : Moment) × Serves t (m + 1) need.register need.refs need.nums now next × AddsNeed (m + 1) need what now next × StandsAt rules r t next)
+        → ((t : Setting) (now : Moment) → HeapStandsAt rules s t now
+        → (next : Moment) × ServesNeed t (m + 1) need.register need.refs need.nums now next × AddsNeed (m + 1) need what now next × HeapStandsAt rules r t next)
         → AddsBirths s.mutators.items (m + 1) (born_in what) r.mutators.items
         → IfRefused what (λ size. (size ≡ size_of need.refs need.nums) × (r.full ≡ s.full + 1) × (Fits rules (heap_state r.heap) size → ⊥))
-        → used_in new ≡ used_with what (size_of need.refs need.nums) (kept_by note (used_in old))
-        → MatchPlaced (λ n. Makes rules old m need.register need.refs need.nums n new) (IsFull rules old m need.register need.refs need.nums new) what
+        → words_used new ≡ used_with what (size_of need.refs need.nums) (kept_by note (words_used old))
+        → MatchAnswer (λ n. Makes rules old m need.register need.refs need.nums n new) (RepliesFull rules old m need.register need.refs need.nums new) what
     serves-need last noted (placed.Placed n) serves adds none used = record {
       usable = begins.usable;
       history = adds-need (placed.Placed n) serves;
@@ -165,8 +165,8 @@ module _ {P : Type 0} (rules : Rules) (old new : ManagedHeap P) (s r : StoppedHe
       usable = begins.usable;
       history = adds-need (placed.HeapFull size) serves;
       places = begins.places ∙ adds.count ∙ ends.places;
-      births = λ k. elim (cases_eq k m) as (λ _. births_at new k ≡ births_at old k) [
-        | inl same ↦ subst (λ (j : ℕ). births_at new j ≡ births_at old j) (sym same) (let e = births-there 0 adds in omega (arith, e))
+      births = λ k. elim (cases_eq k m) as (λ _. heap_births_at new k ≡ heap_births_at old k) [
+        | inl same ↦ subst (λ (j : ℕ). heap_births_at new j ≡ heap_births_at old j) (sym same) (let e = births-there 0 adds in omega (arith, e))
         | inr away ↦ births-elsewhere 0 adds k away
       ];
       collections = counts-after few;
@@ -177,7 +177,7 @@ module _ {P : Type 0} (rules : Rules) (old new : ManagedHeap P) (s r : StoppedHe
     }
 
 -- a mutator may allocate at the stop
-pub may-at-stop : {P : Type 0} (rules : Rules) (old : ManagedHeap P) (s : StoppedHeap P) (m : ℕ) (need : Need) → EndsWith rules old s → HasPlace old m → MayAllocate old m
+pub may-at-stop : {P : Type 0} (rules : Rules) (old : ManagedHeap P) (s : StoppedHeap P) (m : ℕ) (need : Need) → EndsWith rules old s → HeapHasPlace old m → HeapMayAllocate old m
     → need.register ≤ 15 → need.refs ≤ 1024 → need.nums ≤ 60000 → MayAllocateAt s (m + 1) need
 may-at-stop rules old s m need ends place may register refs nums = record {
   least = omega arith;
@@ -186,14 +186,14 @@ may-at-stop rules old s m need ends place may register refs nums = record {
   births = λ k u at is.
       let here : k ≡ m = omega arith in
       let same : births_of (slice_get s.mutators.items m) ≡ u.births = ap (λ (j : ℕ). births_of (slice_get s.mutators.items j)) (sym here) ∙ ap births_of is in
-      let there : births_of (slice_get s.mutators.items m) ≡ births_at old m = ends.births m in
-      let few : births_at old m + 1 < 4294967296 = may.births in
+      let there : births_of (slice_get s.mutators.items m) ≡ heap_births_at old m = ends.births m in
+      let few : heap_births_at old m + 1 < 4294967296 = may.births in
       omega arith;
 }
 
 -- from a heap that is as it was
 module _ {P : Type 0} (rules : Rules) (old mid new : ManagedHeap P) (is : IsAsBefore rules old mid) (m d refs nums : ℕ) where
-  few-from : collections_of new ≤ collections_of mid + 2 → collections_of new ≤ collections_of old + 2
+  few-from : collections_made new ≤ collections_made mid + 2 → collections_made new ≤ collections_made old + 2
   few-from few = (
       let a : mid.nursery ≡ old.nursery = is.nursery in
       let b : mid.full ≡ old.full = is.full in
@@ -208,11 +208,11 @@ module _ {P : Type 0} (rules : Rules) (old mid new : ManagedHeap P) (is : IsAsBe
     births = makes.births ∙ ap (λ (x : ℕ). x + 1) (is.births m);
     others = λ k other. makes.others k other ∙ is.births k;
     collections = few-from makes.collections;
-    used = λ same. subst (λ (x : ℕ). used_in new ≡ used_with (placed.Placed n) (size_of refs nums) x) is.used
+    used = λ same. subst (λ (x : ℕ). words_used new ≡ used_with (placed.Placed n) (size_of refs nums) x) is.used
         (makes.used (same ∙ ap (λ (x : ℕ). x + old.full) (sym is.nursery) ∙ ap (λ (x : ℕ). mid.nursery + x) (sym is.full)));
   }
 
-  full-from : IsFull rules mid m d refs nums new → IsFull rules old m d refs nums new
+  full-from : RepliesFull rules mid m d refs nums new → RepliesFull rules old m d refs nums new
   full-from whole = record {
     usable = whole.usable;
     history = λ es has. whole.history es (is.history es has);
@@ -225,16 +225,16 @@ module _ {P : Type 0} (rules : Rules) (old mid new : ManagedHeap P) (is : IsAsBe
 
   -- an allocation after a search, by the numbers of its call
   pub answered : (need : Need) → IsNeedOf d refs nums need → (result : Result Name Refused)
-      → MatchResult result (λ n. Makes rules mid m need.register need.refs need.nums n new) (MatchRefused (IsFull rules mid m need.register need.refs need.nums new) (IsLost new))
-      → MatchResult result (λ n. Makes rules old m d refs nums n new) (MatchRefused (IsFull rules old m d refs nums new) (IsAsBeforeOrLost rules old new))
+      → MatchResult result (λ n. Makes rules mid m need.register need.refs need.nums n new) (MatchRefused (RepliesFull rules mid m need.register need.refs need.nums new) (IsLost new))
+      → MatchResult result (λ n. Makes rules old m d refs nums n new) (MatchRefused (RepliesFull rules old m d refs nums new) (IsAsBeforeOrLost rules old new))
   answered need of (Ok n) makes = makes-from n
       (subst (λ (x : ℕ). Makes rules mid m x refs nums n new) of.register
       (subst (λ (x : ℕ). Makes rules mid m need.register x nums n new) of.refs
       (subst (λ (x : ℕ). Makes rules mid m need.register need.refs x n new) of.nums makes)))
   answered need of (Err refused.Full) whole = full-from
-      (subst (λ (x : ℕ). IsFull rules mid m x refs nums new) of.register
-      (subst (λ (x : ℕ). IsFull rules mid m need.register x nums new) of.refs
-      (subst (λ (x : ℕ). IsFull rules mid m need.register need.refs x new) of.nums whole)))
+      (subst (λ (x : ℕ). RepliesFull rules mid m x refs nums new) of.register
+      (subst (λ (x : ℕ). RepliesFull rules mid m need.register x nums new) of.refs
+      (subst (λ (x : ℕ). RepliesFull rules mid m need.register need.refs x new) of.nums whole)))
   answered need of (Err refused.OutOfMemory) lost = inr lost
 
   -- and how: a search in the epoch, then a stop
@@ -252,7 +252,7 @@ module _ {P : Type 0} (rules : Rules) (old mid new : ManagedHeap P) (is : IsAsBe
 
     pub stopped-for : (need : Need) → IsNeedOf d refs nums need → (result : Result Name Refused)
         → MatchResult result (λ n. ServesAtStop rules mid m need.register need.refs need.nums (reply.New n) new) (MatchRefused (ServesAtStop rules mid m need.register need.refs need.nums reply.Full new) ⊤)
-        → MatchResult result (λ n. Makes rules mid m need.register need.refs need.nums n new) (MatchRefused (IsFull rules mid m need.register need.refs need.nums new) (IsLost new))
+        → MatchResult result (λ n. Makes rules mid m need.register need.refs need.nums n new) (MatchRefused (RepliesFull rules mid m need.register need.refs need.nums new) (IsLost new))
         → MatchResult result (λ n. AllocatesInEpoch old m d refs nums n new ⊎ StopsFor rules old m d refs nums (reply.New n) new)
         (MatchRefused (StopsFor rules old m d refs nums reply.Full new) (RunsOut rules old m refs nums new))
     stopped-for need of (Ok n) serves makes = inr (stops-with need (reply.New n) of serves)

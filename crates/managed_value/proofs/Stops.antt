@@ -16,11 +16,11 @@ use Rattle.block_regions.specs.Notes.{AreNotes}
 use Rattle.heap_users.specs.Users.{mutator_state}
 use Rattle.heap_users.specs.Beginnings.{epoch_of, without_stop, MayUse}
 use Rattle.plain_world.specs.declared.plain_world.PlainWorld.{PlainWorld}
-use Rattle.plain_world.specs.Calls.{heap_of, mutators_of, places_of, HasHistory, IsOpen}
+use Rattle.plain_world.specs.Calls.{heap_of_world, mutators_of_world, places_of, HasHistory, IsOpen}
 use Rattle.plain_world.proofs.Closed.{may-use}
 use Rattle.managed_heap.specs.declared.stopped_heap.StoppedHeap.{StoppedHeap}
-use Rattle.managed_heap.specs.Stopped.{StandsAt, IsInOrder, IsStopped}
-use Rattle.managed_heap.proofs.Putting.{stands-represents}
+use Rattle.managed_heap.specs.Stopped.{HeapStandsAt, IsHeapInOrder, IsStopped}
+use Rattle.managed_heap.proofs.NeedsWritten.{stands-represents}
 use Rattle.managed_value.specs.declared.managed.ManagedHeap.{ManagedHeap}
 use Rattle.managed_value.specs.Histories.{HasEntries, IsSince, IsUsable, places_in, born_to}
 use Rattle.managed_value.specs.Epochs.{Closes, EndsWith, BeginsWith}
@@ -39,7 +39,7 @@ moment_of s done = record {
 
 pub stopped-stands : {P : Type 0} (rules : Rules) (h : ManagedHeap P) (w : PlainWorld P) (s : StoppedHeap P) (now : Moment) (part : List Entry) (since : IsSince rules h w now part)
     → Stopped rules (numbers_of now.mutators) (without_stop now.heap) (ideal_at now) part (heap_state s.heap) (map mutator_state s.mutators.items)
-    → StandsAt rules s since.setting (moment_of s (now.done ++ part))
+    → HeapStandsAt rules s since.setting (moment_of s (now.done ++ part))
 stopped-stands rules h w s now part since stopped = record {
   rules_are = since.rules_are;
   workers = since.workers;
@@ -69,10 +69,10 @@ module _ {P : Type 0} (rules : Rules) (h : ManagedHeap P) (w : PlainWorld P) (s 
     (nursery : s.nursery ≡ h.nursery) (full : s.full ≡ h.full)
     (stops : (p : Epoch) (i : IdealHeap) (part : List Entry) → HasHistory w p i part
     → Stopped p.rules (numbers_of p.mutators) p.before i part (heap_state s.heap) (map mutator_state s.mutators.items))
-    (states : map mutator_state s.mutators.items ≡ mutators_of w)
+    (states : map mutator_state s.mutators.items ≡ mutators_of_world w)
     (notes : (p : Epoch) (i : IdealHeap) (part : List Entry) → HasHistory w p i part → AreNotes p.rules.fill (heap_state s.heap) s.notes)
-    (gives : GivesBack (heap_of w) (heap_state s.heap)) where
-  stands-at : (es : List Entry) → HasEntries rules h es → (t : Setting) × (now : Moment) × (now.done ≡ es) × StandsAt rules s t now
+    (gives : GivesBack (heap_of_world w) (heap_state s.heap)) where
+  stands-at : (es : List Entry) → HasEntries rules h es → (t : Setting) × (now : Moment) × (now.done ≡ es) × HeapStandsAt rules s t now
   stands-at es has =
       let since = since-here rules h w es has here in (
         since.setting,
@@ -84,7 +84,7 @@ module _ {P : Type 0} (rules : Rules) (h : ManagedHeap P) (w : PlainWorld P) (s 
   count : length s.mutators.items ≡ places_of w
   count = long-same w.row.mutators.items s.mutators.items states
 
-  in-order : IsInOrder rules s
+  in-order : IsHeapInOrder rules s
   in-order =
       let has = usable.has in
       let since = since-here rules h w usable.entries has here in
@@ -120,11 +120,11 @@ module _ {P : Type 0} (rules : Rules) (h : ManagedHeap P) (w : PlainWorld P) (s 
 -- An epoch begins with a stopped heap.
 module _ {P : Type 0} (rules : Rules) (s : StoppedHeap P) (h : ManagedHeap P) (w : PlainWorld P) (stopped : IsStopped rules s) (some : 1 ≤ length s.mutators.items)
     (here : h.world ≡ Some w) (nursery : h.nursery ≡ s.nursery) (full : h.full ≡ s.full) (is_open : IsOpen rules w)
-    (states : mutators_of w ≡ map mutator_state s.mutators.items)
-    (cleared : heap_of w ≡ without_stop (heap_state s.heap))
+    (states : mutators_of_world w ≡ map mutator_state s.mutators.items)
+    (cleared : heap_of_world w ≡ without_stop (heap_state s.heap))
     (begins : (i : IdealHeap) → Represents (heap_state s.heap) (map mutator_state s.mutators.items) i
     → HasHistory w (epoch_of rules (heap_state s.heap) (map mutator_state s.mutators.items)) i []) where
-  entries : (t : Setting) (now : Moment) → StandsAt rules s t now → HasEntries rules h now.done
+  entries : (t : Setting) (now : Moment) → HeapStandsAt rules s t now → HasEntries rules h now.done
   entries t now stands = record {
     world = w;
     here = here;
@@ -154,7 +154,7 @@ module _ {P : Type 0} (rules : Rules) (s : StoppedHeap P) (h : ManagedHeap P) (w
     usable = record {
       world = w;
       here = here;
-      idle = is_open;
+      between_calls = is_open;
       some = subst (λ (n : ℕ). 1 ≤ n) (sym count-begun) some;
       few = subst (λ (n : ℕ). n ≤ 16) (sym count-begun) stopped.order.few;
       entries = stopped.now.done;
@@ -165,6 +165,6 @@ module _ {P : Type 0} (rules : Rules) (s : StoppedHeap P) (h : ManagedHeap P) (w
     births = λ m. ap (λ o. born_to o m) here ∙ births-same s.mutators.items w.row.mutators.items states m;
     nursery = nursery;
     full = full;
-    heap = λ v there. let both : Some v ≡ Some w = sym there ∙ here in let same : w ≡ v = cc in subst (λ (x : PlainWorld P). heap_of x ≡ without_stop (heap_state s.heap)) same cleared;
-    registers = λ v there. let both : Some v ≡ Some w = sym there ∙ here in let same : w ≡ v = cc in subst (λ (x : PlainWorld P). mutators_of x ≡ map mutator_state s.mutators.items) same states;
+    heap = λ v there. let both : Some v ≡ Some w = sym there ∙ here in let same : w ≡ v = cc in subst (λ (x : PlainWorld P). heap_of_world x ≡ without_stop (heap_state s.heap)) same cleared;
+    registers = λ v there. let both : Some v ≡ Some w = sym there ∙ here in let same : w ≡ v = cc in subst (λ (x : PlainWorld P). mutators_of_world x ≡ map mutator_state s.mutators.items) same states;
   }

@@ -9,52 +9,52 @@ use Rattle.object_model.specs.Objects.{size_of, empty_heap}
 use Rattle.object_model.specs.declared.collect.Collect.TheVariants.{Full as FullCollection}
 use Rattle.sessions.specs.Plans.{Rules}
 use Rattle.sessions.specs.Fitting.{Fits}
-use Rattle.sessions.specs.Sessions.{Setting, Moment, MakesCollection, Serves}
+use Rattle.sessions.specs.Sessions.{Setting, Moment, MakesCollection, ServesNeed}
 use Rattle.heap_users.specs.Beginnings.{without_stop}
 use Rattle.plain_world.specs.declared.plain_world.PlainWorld.{PlainWorld}
-use Rattle.plain_world.specs.Calls.{heap_of, Allocates, Refuses}
+use Rattle.plain_world.specs.Calls.{heap_of_world, Allocates, Refuses}
 use Rattle.collector.specs.Tallies.{capped}
 use Rattle.collector.specs.declared.outcome.Note.{Note}
 use Rattle.managed_heap.specs.declared.stopped_heap.StoppedHeap.{StoppedHeap}
-use Rattle.managed_heap.specs.Stopped.{StandsAt, HasCollected}
+use Rattle.managed_heap.specs.Stopped.{HeapStandsAt, HasCollected}
 use Rattle.managed_heap.specs.Needs.{NotesLast}
 use Rattle.managed_heap.specs.declared.place.Placed.{Placed}
 use Rattle.managed_heap.specs.declared.place.Placed.TheVariants as placed
 use Rattle.managed_value.specs.declared.managed.ManagedHeap.{ManagedHeap}
 use Rattle.managed_value.specs.declared.allocate.Refused.{Refused}
 use Rattle.managed_value.specs.declared.allocate.Refused.TheVariants.{Full, OutOfMemory}
-use Rattle.managed_value.specs.Histories.{IsUsable, AddsEntry, KeepsEntries, IsAsBefore, IsAsBeforeOrLost, mutator_count, births_at, used_in, collections_of}
+use Rattle.managed_value.specs.Histories.{IsUsable, AddsHeapEntry, KeepsEntries, IsAsBefore, IsAsBeforeOrLost, mutators_of_heap, heap_births_at, words_used, collections_made}
 use Rattle.managed_value.specs.Epochs.{EndsWith, BeginsWith}
 
 -- The mutator at place m has a name left for an object, and two collections may be made for it.
-pub record MayAllocate {P : Type 0} (h : ManagedHeap P) (m : ℕ) : Type 0 where
-  pub births : births_at h m + 1 < 2 ^ 32
-  pub collections : collections_of h + 2 < 2 ^ 40
+pub record HeapMayAllocate {P : Type 0} (h : ManagedHeap P) (m : ℕ) : Type 0 where
+  pub births : heap_births_at h m + 1 < 2 ^ 32
+  pub collections : collections_made h + 2 < 2 ^ 40
 
 -- The object has this name, and the mutator one birth more; the others have as many as before.
 pub record Makes {P : Type 0} (rules : Rules) (old : ManagedHeap P) (m d refs nums : ℕ) (n : Name)
     (new : ManagedHeap P) : Type 0 where
   pub usable : IsUsable rules new
-  pub history : AddsEntry rules old m (c.New d refs nums) (r.New n) new
-  pub places : mutator_count new ≡ mutator_count old
-  pub births : births_at new m ≡ births_at old m + 1
-  pub others : (k : ℕ) → k ≢ m → births_at new k ≡ births_at old k
-  pub collections : collections_of new ≤ collections_of old + 2
-  pub used : collections_of new ≡ collections_of old
-      → used_in new ≡ capped (2 ^ 64 - 1) (used_in old + size_of refs nums)
+  pub history : AddsHeapEntry rules old m (c.New d refs nums) (r.New n) new
+  pub places : mutators_of_heap new ≡ mutators_of_heap old
+  pub births : heap_births_at new m ≡ heap_births_at old m + 1
+  pub others : (k : ℕ) → k ≢ m → heap_births_at new k ≡ heap_births_at old k
+  pub collections : collections_made new ≤ collections_made old + 2
+  pub used : collections_made new ≡ collections_made old
+      → words_used new ≡ capped (2 ^ 64 - 1) (words_used old + size_of refs nums)
 
 -- The heap is full: a full collection was made in this call, after which an object of this size
 -- does not fit.
-pub record IsFull {P : Type 0} (rules : Rules) (old : ManagedHeap P) (m d refs nums : ℕ)
+pub record RepliesFull {P : Type 0} (rules : Rules) (old : ManagedHeap P) (m d refs nums : ℕ)
     (new : ManagedHeap P) : Type 0 where
   pub usable : IsUsable rules new
-  pub history : AddsEntry rules old m (c.New d refs nums) r.Full new
-  pub places : mutator_count new ≡ mutator_count old
-  pub births : (k : ℕ) → births_at new k ≡ births_at old k
-  pub collections : collections_of new ≤ collections_of old + 2
+  pub history : AddsHeapEntry rules old m (c.New d refs nums) r.Full new
+  pub places : mutators_of_heap new ≡ mutators_of_heap old
+  pub births : (k : ℕ) → heap_births_at new k ≡ heap_births_at old k
+  pub collections : collections_made new ≤ collections_made old + 2
   pub full : new.full ≡ old.full + 1
   pub room : (w : PlainWorld P) → new.world ≡ Some w
-      → Fits rules (heap_of w) (size_of refs nums) → ⊥
+      → Fits rules (heap_of_world w) (size_of refs nums) → ⊥
 
 -- The object is allocated in the epoch, which goes on.
 pub record AllocatesInEpoch {P : Type 0} (old : ManagedHeap P) (m d refs nums : ℕ) (n : Name)
@@ -95,14 +95,14 @@ pub record ServesAtStop {P : Type 0} (rules : Rules) (old : ManagedHeap P) (m d 
   pub before : StoppedHeap P
   pub ends : EndsWith rules old before
   pub after : StoppedHeap P
-  pub serves : (t : Setting) (now : Moment) → StandsAt rules before t now
-      → (next : Moment) × Serves t (m + 1) d refs nums now next
+  pub serves : (t : Setting) (now : Moment) → HeapStandsAt rules before t now
+      → (next : Moment) × ServesNeed t (m + 1) d refs nums now next
       × (next.done ≡ now.done ++ entry (m + 1) (c.New d refs nums) reply ∷ [])
-      × StandsAt rules after t next
+      × HeapStandsAt rules after t next
   -- the words in use are those that the last collection kept, with the object's
   pub note : Option Note
   pub noted : NotesLast rules before after note
-  pub used : used_in new ≡ used_for reply (size_of refs nums) (kept_by note (used_in old))
+  pub used : words_used new ≡ used_for reply (size_of refs nums) (kept_by note (words_used old))
   pub begins : BeginsWith rules after new
 
 -- The epoch had no room for the object, so a stop served it.
@@ -130,16 +130,16 @@ pub record CollectsAll {P : Type 0} (rules : Rules) (old : ManagedHeap P) (note 
     (new : ManagedHeap P) : Type 0 where
   pub usable : IsUsable rules new
   pub history : KeepsEntries rules old new
-  pub places : mutator_count new ≡ mutator_count old
-  pub births : (k : ℕ) → births_at new k ≡ births_at old k
+  pub places : mutators_of_heap new ≡ mutators_of_heap old
+  pub births : (k : ℕ) → heap_births_at new k ≡ heap_births_at old k
   pub nursery : new.nursery ≡ old.nursery
   pub full : new.full ≡ old.full + 1
-  pub used : used_in new ≡ note.kept_words
+  pub used : words_used new ≡ note.kept_words
 
 -- one fact for an object placed, the other for a full heap
-abbrev pub MatchPlaced : (Name → Type 0) → Type 0 → Placed → Type 0
-MatchPlaced P Q (placed.Placed n) = P n
-MatchPlaced P Q (placed.HeapFull size) = Q
+abbrev pub MatchAnswer : (Name → Type 0) → Type 0 → Placed → Type 0
+MatchAnswer P Q (placed.Placed n) = P n
+MatchAnswer P Q (placed.HeapFull size) = Q
 
 -- the words in use after a need of this size was served
 abbrev pub used_with : Placed → ℕ → ℕ → ℕ
@@ -154,11 +154,11 @@ pub record CollectsAtStop {P : Type 0} (rules : Rules) (old : ManagedHeap P) (no
   pub ends : EndsWith rules old before
   pub after : StoppedHeap P
   pub collected : HasCollected rules FullCollection before after note
-  pub makes : (t : Setting) (now : Moment) → StandsAt rules before t now
-      → (late : Moment) × MakesCollection t FullCollection now late × StandsAt rules after t late
+  pub makes : (t : Setting) (now : Moment) → HeapStandsAt rules before t now
+      → (late : Moment) × MakesCollection t FullCollection now late × HeapStandsAt rules after t late
   pub begins : BeginsWith rules after new
 
 -- The heap is empty, and has this many blocks.
 abbrev pub IsEmpty : {P : Type 0} → ManagedHeap P → ℕ → Type 0
 IsEmpty {P} h blocks = (w : PlainWorld P) → h.world ≡ Some w
-    → heap_of w ≡ without_stop (empty_heap blocks)
+    → heap_of_world w ≡ without_stop (empty_heap blocks)

@@ -12,11 +12,11 @@ use Rattle.heap_users.specs.Users.{mutator_state}
 use Rattle.heap_users.specs.Beginnings.{without_stop}
 use Rattle.plain_row.specs.Rows.{births_of}
 use Rattle.plain_world.specs.declared.plain_world.PlainWorld.{PlainWorld}
-use Rattle.plain_world.specs.Calls.{heap_of, mutators_of, HasHistory}
+use Rattle.plain_world.specs.Calls.{heap_of_world, mutators_of_world, HasHistory}
 use Rattle.managed_heap.specs.declared.stopped_heap.StoppedHeap.{StoppedHeap}
-use Rattle.managed_heap.specs.Stopped.{IsStopped, StandsAt, mutator_count as stopped_count}
+use Rattle.managed_heap.specs.Stopped.{IsStopped, HeapStandsAt, count_of_mutators as stopped_count}
 use Rattle.managed_value.specs.declared.managed.ManagedHeap.{ManagedHeap}
-use Rattle.managed_value.specs.Histories.{IsUsable, HasEntries, mutator_count, births_at}
+use Rattle.managed_value.specs.Histories.{IsUsable, HasEntries, mutators_of_heap, heap_births_at}
 
 -- the number of objects that the mutator at a place of a stopped heap has allocated
 abbrev pub stopped_births : {P : Type 0} → StoppedHeap P → ℕ → ℕ
@@ -28,8 +28,8 @@ pub record Closes {P : Type 0} (w : PlainWorld P) (s : StoppedHeap P) : Type 0 w
   pub stopped : (p : Epoch) (i : IdealHeap) (part : List Entry) → HasHistory w p i part
       → Stopped p.rules (numbers_of p.mutators) p.before i part (heap_state s.heap)
       (map mutator_state s.mutators.items)
-  pub gives : GivesBack (heap_of w) (heap_state s.heap)
-  pub registers : map mutator_state s.mutators.items ≡ mutators_of w
+  pub gives : GivesBack (heap_of_world w) (heap_state s.heap)
+  pub registers : map mutator_state s.mutators.items ≡ mutators_of_world w
 
 -- A stop: the epoch ended with this stopped heap. It stands after the entries of the heap, and adds
 -- none.
@@ -38,9 +38,9 @@ pub record EndsWith {P : Type 0} (rules : Rules) (old : ManagedHeap P) (s : Stop
   pub stopped : IsStopped rules s
   pub closes : (w : PlainWorld P) → old.world ≡ Some w → Closes w s
   pub stands : (es : List Entry) → HasEntries rules old es
-      → (t : Setting) × (now : Moment) × (now.done ≡ es) × StandsAt rules s t now
-  pub places : stopped_count s ≡ mutator_count old
-  pub births : (m : ℕ) → stopped_births s m ≡ births_at old m
+      → (t : Setting) × (now : Moment) × (now.done ≡ es) × HeapStandsAt rules s t now
+  pub places : stopped_count s ≡ mutators_of_heap old
+  pub births : (m : ℕ) → stopped_births s m ≡ heap_births_at old m
   pub nursery : s.nursery ≡ old.nursery
   pub full : s.full ≡ old.full
 
@@ -48,12 +48,12 @@ pub record EndsWith {P : Type 0} (rules : Rules) (old : ManagedHeap P) (s : Stop
 pub record BeginsWith {P : Type 0} (rules : Rules) (s : StoppedHeap P) (new : ManagedHeap P)
     : Type 0 where
   pub usable : IsUsable rules new
-  pub entries : (t : Setting) (now : Moment) → StandsAt rules s t now
+  pub entries : (t : Setting) (now : Moment) → HeapStandsAt rules s t now
       → HasEntries rules new now.done
-  pub places : mutator_count new ≡ stopped_count s
-  pub births : (m : ℕ) → births_at new m ≡ stopped_births s m
+  pub places : mutators_of_heap new ≡ stopped_count s
+  pub births : (m : ℕ) → heap_births_at new m ≡ stopped_births s m
   pub nursery : new.nursery ≡ s.nursery
   pub full : new.full ≡ s.full
-  pub heap : (w : PlainWorld P) → new.world ≡ Some w → heap_of w ≡ without_stop (heap_state s.heap)
+  pub heap : (w : PlainWorld P) → new.world ≡ Some w → heap_of_world w ≡ without_stop (heap_state s.heap)
   pub registers : (w : PlainWorld P) → new.world ≡ Some w
-      → mutators_of w ≡ map mutator_state s.mutators.items
+      → mutators_of_world w ≡ map mutator_state s.mutators.items

@@ -4,7 +4,7 @@ use Rattle.ideal_heap.specs.declared.command.Command.{Command}
 use Rattle.ideal_heap.specs.declared.command.TheConstants.{MAX_MUTATORS}
 use Rattle.ideal_heap.specs.declared.reply.Reply.{Reply}
 use Rattle.ideal_heap.specs.Ideal.{IdealHeap, empty}
-use Rattle.ideal_heap.specs.Runs.{Entry, IsRun, after, entry}
+use Rattle.ideal_heap.specs.Runs.{Entry, IsRun, heap_after_run, entry}
 use Rattle.sessions.specs.Plans.{Rules}
 use Rattle.sessions.specs.Sessions.{Setting, Moment, IsSound, ideal_at}
 use Rattle.heap_users.specs.Beginnings.{epoch_of}
@@ -21,28 +21,28 @@ abbrev pub places_in : {P : Type 0} → Option (PlainWorld P) → ℕ
 places_in None = 0
 places_in (Some w) = places_of w
 
-abbrev pub mutator_count : {P : Type 0} → ManagedHeap P → ℕ
-mutator_count h = places_in h.world
+abbrev pub mutators_of_heap : {P : Type 0} → ManagedHeap P → ℕ
+mutators_of_heap h = places_in h.world
 
 -- a place in the list of mutators; the mutator there has the number m + 1
-abbrev pub HasPlace : {P : Type 0} → ManagedHeap P → ℕ → Type 0
-HasPlace h m = m < mutator_count h
+abbrev pub HeapHasPlace : {P : Type 0} → ManagedHeap P → ℕ → Type 0
+HeapHasPlace h m = m < mutators_of_heap h
 
 -- the number of objects that the mutator at a place has allocated
 abbrev pub born_to : {P : Type 0} → Option (PlainWorld P) → ℕ → ℕ
 born_to None m = 0
 born_to (Some w) m = births_in w m
 
-abbrev pub births_at : {P : Type 0} → ManagedHeap P → ℕ → ℕ
-births_at h m = born_to h.world m
+abbrev pub heap_births_at : {P : Type 0} → ManagedHeap P → ℕ → ℕ
+heap_births_at h m = born_to h.world m
 
 -- the words of the objects that the last collection kept, and of those allocated since
-abbrev pub used_in : {P : Type 0} → ManagedHeap P → ℕ
-used_in h = h.words
+abbrev pub words_used : {P : Type 0} → ManagedHeap P → ℕ
+words_used h = h.words
 
 -- the number of collections so far
-abbrev pub collections_of : {P : Type 0} → ManagedHeap P → ℕ
-collections_of h = h.nursery + h.full
+abbrev pub collections_made : {P : Type 0} → ManagedHeap P → ℕ
+collections_made h = h.nursery + h.full
 
 -- At the last stop, of which this is the moment, the heap stood for the ideal heap of the entries
 -- up to then. An epoch began with it, and its history since is the part. Each collection is
@@ -56,7 +56,7 @@ pub record IsSince {P : Type 0} (rules : Rules) (h : ManagedHeap P) (w : PlainWo
   pub run : IsRun empty now.done
   pub nursery : h.nursery ≡ now.nursery
   pub full : h.full ≡ now.full
-  pub number : now.heap.number ≡ collections_of h
+  pub number : now.heap.number ≡ collections_made h
   pub history : HasHistory w (epoch_of rules now.heap now.mutators) (ideal_at now) part
 
 -- Entries that lead to this heap: those up to the last stop, and those of the epoch since. `new`
@@ -82,15 +82,15 @@ pub record IsUsable {P : Type 0} (rules : Rules) (h : ManagedHeap P) : Type 0 wh
   pub has : HasEntries rules h entries
 
 -- the entries get these ones
-abbrev pub AddsEntries : {P : Type 0} → Rules → ManagedHeap P → List Entry → ManagedHeap P → Type 0
-AddsEntries rules old more new =
+abbrev pub AddsHeapEntries : {P : Type 0} → Rules → ManagedHeap P → List Entry → ManagedHeap P → Type 0
+AddsHeapEntries rules old more new =
     (es : List Entry) → HasEntries rules old es → HasEntries rules new (es ++ more)
 
 -- the entries get one more, of the mutator at place m
-abbrev pub AddsEntry : {P : Type 0} → Rules → ManagedHeap P → ℕ → Command → Reply → ManagedHeap P
+abbrev pub AddsHeapEntry : {P : Type 0} → Rules → ManagedHeap P → ℕ → Command → Reply → ManagedHeap P
     → Type 0
-AddsEntry rules old m command reply new =
-    AddsEntries rules old (entry (m + 1) command reply ∷ []) new
+AddsHeapEntry rules old m command reply new =
+    AddsHeapEntries rules old (entry (m + 1) command reply ∷ []) new
 
 -- the entries stay: so does the ideal heap
 abbrev pub KeepsEntries : {P : Type 0} → Rules → ManagedHeap P → ManagedHeap P → Type 0
@@ -104,21 +104,21 @@ GoesOn {P} old new = (v : PlainWorld P) → old.world ≡ Some v
 -- A call within the epoch, which allocates no object. There are the same mutators.
 pub record StaysInEpoch {P : Type 0} (old new : ManagedHeap P) : Type 0 where
   pub epoch : GoesOn old new
-  pub places : mutator_count new ≡ mutator_count old
-  pub births : (k : ℕ) → births_at new k ≡ births_at old k
+  pub places : mutators_of_heap new ≡ mutators_of_heap old
+  pub births : (k : ℕ) → heap_births_at new k ≡ heap_births_at old k
   pub nursery : new.nursery ≡ old.nursery
   pub full : new.full ≡ old.full
-  pub used : used_in new ≡ used_in old
+  pub used : words_used new ≡ words_used old
 
 -- The heap is as it was, for all that a program can ask of it.
 pub record IsAsBefore {P : Type 0} (rules : Rules) (old new : ManagedHeap P) : Type 0 where
   pub usable : IsUsable rules new
   pub history : KeepsEntries rules old new
-  pub places : mutator_count new ≡ mutator_count old
-  pub births : (k : ℕ) → births_at new k ≡ births_at old k
+  pub places : mutators_of_heap new ≡ mutators_of_heap old
+  pub births : (k : ℕ) → heap_births_at new k ≡ heap_births_at old k
   pub nursery : new.nursery ≡ old.nursery
   pub full : new.full ≡ old.full
-  pub used : used_in new ≡ used_in old
+  pub used : words_used new ≡ words_used old
 
 -- The host's memory ran out: the heap is as it was, or lost.
 abbrev pub IsAsBeforeOrLost : {P : Type 0} → Rules → ManagedHeap P → ManagedHeap P → Type 0
@@ -128,10 +128,10 @@ IsAsBeforeOrLost rules old new = IsAsBefore rules old new ⊎ IsLost new
 pub record StandsFor {P : Type 0} (rules : Rules) (h : ManagedHeap P) (i : IdealHeap) : Type 0 where
   pub entries : List Entry
   pub has : HasEntries rules h entries
-  pub ideal : i ≡ after empty entries
+  pub ideal : i ≡ heap_after_run empty entries
 
 -- Q holds of an ideal heap that the heap stands for: what a program knows of its registers
-pub record Holds {P : Type 0} (rules : Rules) (h : ManagedHeap P) (Q : IdealHeap → Type 0)
+pub record HoldsOfIdeal {P : Type 0} (rules : Rules) (h : ManagedHeap P) (Q : IdealHeap → Type 0)
     : Type 0 where
   pub ideal : IdealHeap
   pub stands : StandsFor rules h ideal

@@ -7,8 +7,8 @@ ghost use Rattle.mutator_calls.specs.Allocating.{IsNeedOf, MatchAllocated};
 ghost use Rattle.collector.specs.Tallies.{capped};
 ghost use Rattle.managed_heap.specs.Stopped.{IsManaged};
 ghost use Rattle.managed_heap.specs.Needs.{reply_of};
-ghost use Rattle.managed_value.specs.Histories.{HasPlace, IsAsBeforeOrLost, IsLost, IsUsable, births_at};
-ghost use Rattle.managed_value.specs.Allocations.{AllocatesInEpoch, FindsNoRoom, IsFull, Makes, MatchPlaced, MatchRefused, MayAllocate, RunsOut, ServesAtStop, StopsFor, kept_by, used_with};
+ghost use Rattle.managed_value.specs.Histories.{HeapHasPlace, IsAsBeforeOrLost, IsLost, IsUsable, heap_births_at};
+ghost use Rattle.managed_value.specs.Allocations.{AllocatesInEpoch, FindsNoRoom, RepliesFull, Makes, MatchAnswer, MatchRefused, HeapMayAllocate, RunsOut, ServesAtStop, StopsFor, kept_by, used_with};
 
 use crate::managed::ManagedHeap;
 use collector::Note;
@@ -65,11 +65,11 @@ impl<P: Plan> ManagedHeap<P> {
     /// The answer is `None` if it has none, or if the object is large.
     pub fn new_object(&mut self, m: u32, d: u32, refs: u32, nums: u32) -> Option<Name>
         requires usable { IsUsable P.rules self.old }
-        requires place { HasPlace self.old m }
+        requires place { HeapHasPlace self.old m }
         requires register { d < REGISTERS }
         requires refs { refs ≤ MAX_REFS }
         requires nums { nums ≤ MAX_NUMS }
-        requires births { births_at self.old m + 1 < 2 ^ 32 }
+        requires births { heap_births_at self.old m + 1 < 2 ^ 32 }
         ensures made { IfSome result (λ n. Makes P.rules self.old m d refs nums n self.new) }
         ensures epoch { IfSome result (λ n. AllocatesInEpoch self.old m d refs nums n self.new) }
         ensures none { IfNone result (FindsNoRoom P.rules self.old m (size_of refs nums) self.new) }
@@ -84,11 +84,11 @@ impl<P: Plan> ManagedHeap<P> {
     #[inline(always)]
     fn try_new(&mut self, m: u32, d: u32, refs: u32, nums: u32) -> Allocated
         requires usable { IsUsable P.rules self.old }
-        requires place { HasPlace self.old m }
+        requires place { HeapHasPlace self.old m }
         requires register { d < REGISTERS }
         requires refs { refs ≤ MAX_REFS }
         requires nums { nums ≤ MAX_NUMS }
-        requires births { births_at self.old m + 1 < 2 ^ 32 }
+        requires births { heap_births_at self.old m + 1 < 2 ^ 32 }
         ensures made { MatchAllocated result (λ n. Makes P.rules self.old m d refs nums n self.new)
             (λ need. FindsNoRoom P.rules self.old m (size_of refs nums) self.new) }
         ensures epoch { MatchAllocated result
@@ -132,13 +132,13 @@ impl<P: Plan> ManagedHeap<P> {
     ) -> Result<Name, Refused>
         requires plan { IsManaged P.rules }
         requires usable { IsUsable P.rules self.old }
-        requires place { HasPlace self.old m }
+        requires place { HeapHasPlace self.old m }
         requires register { d < REGISTERS }
         requires refs { refs ≤ MAX_REFS }
         requires nums { nums ≤ MAX_NUMS }
-        requires may { MayAllocate self.old m }
+        requires may { HeapMayAllocate self.old m }
         ensures made { MatchResult result (λ n. Makes P.rules self.old m d refs nums n self.new)
-            (MatchRefused (IsFull P.rules self.old m d refs nums self.new)
+            (MatchRefused (RepliesFull P.rules self.old m d refs nums self.new)
             (IsAsBeforeOrLost P.rules self.old self.new)) }
         ensures stop { MatchResult result (λ n. AllocatesInEpoch self.old m d refs nums n self.new
             ⊎ StopsFor P.rules self.old m d refs nums (reply.New n) self.new)
@@ -165,13 +165,13 @@ impl<P: Plan> ManagedHeap<P> {
     ) -> Result<Name, Refused>
         requires plan { IsManaged P.rules }
         requires usable { IsUsable P.rules self.old }
-        requires place { HasPlace self.old m }
+        requires place { HeapHasPlace self.old m }
         requires register { d < REGISTERS }
         requires refs { refs ≤ MAX_REFS }
         requires nums { nums ≤ MAX_NUMS }
-        requires may { MayAllocate self.old m }
+        requires may { HeapMayAllocate self.old m }
         ensures made { MatchResult result (λ n. Makes P.rules self.old m d refs nums n self.new)
-            (MatchRefused (IsFull P.rules self.old m d refs nums self.new)
+            (MatchRefused (RepliesFull P.rules self.old m d refs nums self.new)
             (IsAsBeforeOrLost P.rules self.old self.new)) }
         ensures stop { MatchResult result (λ n. AllocatesInEpoch self.old m d refs nums n self.new
             ⊎ StopsFor P.rules self.old m d refs nums (reply.New n) self.new)
@@ -192,15 +192,15 @@ impl<P: Plan> ManagedHeap<P> {
     ) -> Result<Name, Refused>
         requires plan { IsManaged P.rules }
         requires usable { IsUsable P.rules self.old }
-        requires place { HasPlace self.old m }
+        requires place { HeapHasPlace self.old m }
         requires register { need.register < REGISTERS }
         requires refs { need.refs ≤ MAX_REFS }
         requires nums { need.nums ≤ MAX_NUMS }
-        requires may { MayAllocate self.old m }
+        requires may { HeapMayAllocate self.old m }
         ensures made { MatchResult result
             (λ n. Makes P.rules self.old m need.register need.refs need.nums n self.new)
             (MatchRefused
-            (IsFull P.rules self.old m need.register need.refs need.nums self.new)
+            (RepliesFull P.rules self.old m need.register need.refs need.nums self.new)
             (IsLost self.new)) }
         ensures stop { MatchResult result (λ n. ServesAtStop P.rules self.old m need.register
             need.refs need.nums (reply.New n) self.new)
@@ -227,14 +227,14 @@ impl<P: Plan> ManagedHeap<P> {
     ) -> Result<Placed, AllocError>
         requires plan { IsManaged P.rules }
         requires usable { IsUsable P.rules self.old }
-        requires place { HasPlace self.old m }
+        requires place { HeapHasPlace self.old m }
         requires register { need.register < REGISTERS }
         requires refs { need.refs ≤ MAX_REFS }
         requires nums { need.nums ≤ MAX_NUMS }
-        requires may { MayAllocate self.old m }
-        ensures made { MatchResult result (MatchPlaced
+        requires may { HeapMayAllocate self.old m }
+        ensures made { MatchResult result (MatchAnswer
             (λ n. Makes P.rules self.old m need.register need.refs need.nums n self.new)
-            (IsFull P.rules self.old m need.register need.refs need.nums self.new))
+            (RepliesFull P.rules self.old m need.register need.refs need.nums self.new))
             (λ _. IsLost self.new) }
         ensures stop { IfOk result (λ what. ServesAtStop P.rules self.old m need.register need.refs
             need.nums (reply_of what) self.new) }

@@ -2,7 +2,7 @@
 
 ghost use Rattle.std.specs.Prelude.{◌<◌};
 ghost use Rattle.ideal_heap.specs.declared.command.Command.TheVariants as command;
-ghost use Rattle.managed_value.specs.Histories.{IsUsable, HasPlace, AddsEntry, StaysInEpoch};
+ghost use Rattle.managed_value.specs.Histories.{IsUsable, HeapHasPlace, AddsHeapEntry, StaysInEpoch};
 
 use crate::managed::ManagedHeap;
 use ideal_heap::{GLOBALS, REGISTERS, Reply};
@@ -12,11 +12,11 @@ impl<P: Plan> ManagedHeap<P> {
     /// Loads reference `i` of the object in register `s` into register `d`.
     pub fn get(&mut self, m: u32, d: u32, s: u32, i: u32) -> Reply
         requires usable { IsUsable P.rules self.old }
-        requires place { HasPlace self.old m }
+        requires place { HeapHasPlace self.old m }
         requires target { d < REGISTERS }
         requires source { s < REGISTERS }
         ensures usable { IsUsable P.rules self.new }
-        ensures history { AddsEntry P.rules self.old m (command.Get d s i) result self.new }
+        ensures history { AddsHeapEntry P.rules self.old m (command.Get d s i) result self.new }
         ensures rest { StaysInEpoch self.old self.new }
     {
         match &mut self.world {
@@ -28,11 +28,11 @@ impl<P: Plan> ManagedHeap<P> {
     /// Stores register `v` into reference `i` of the object in register `s`.
     pub fn put(&mut self, m: u32, s: u32, i: u32, v: u32) -> Reply
         requires usable { IsUsable P.rules self.old }
-        requires place { HasPlace self.old m }
+        requires place { HeapHasPlace self.old m }
         requires target { s < REGISTERS }
         requires source { v < REGISTERS }
         ensures usable { IsUsable P.rules self.new }
-        ensures history { AddsEntry P.rules self.old m (command.Put s i v) result self.new }
+        ensures history { AddsHeapEntry P.rules self.old m (command.Put s i v) result self.new }
         ensures rest { StaysInEpoch self.old self.new }
     {
         match &mut self.world {
@@ -44,10 +44,10 @@ impl<P: Plan> ManagedHeap<P> {
     /// Loads number `j` of the object in register `s`.
     pub fn read(&mut self, m: u32, s: u32, j: u32) -> Reply
         requires usable { IsUsable P.rules self.old }
-        requires place { HasPlace self.old m }
+        requires place { HeapHasPlace self.old m }
         requires register { s < REGISTERS }
         ensures usable { IsUsable P.rules self.new }
-        ensures history { AddsEntry P.rules self.old m (command.Read s j) result self.new }
+        ensures history { AddsHeapEntry P.rules self.old m (command.Read s j) result self.new }
         ensures rest { StaysInEpoch self.old self.new }
     {
         match &mut self.world {
@@ -59,10 +59,10 @@ impl<P: Plan> ManagedHeap<P> {
     /// Stores number `j` of the object in register `s`.
     pub fn write(&mut self, m: u32, s: u32, j: u32, n: u64) -> Reply
         requires usable { IsUsable P.rules self.old }
-        requires place { HasPlace self.old m }
+        requires place { HeapHasPlace self.old m }
         requires register { s < REGISTERS }
         ensures usable { IsUsable P.rules self.new }
-        ensures history { AddsEntry P.rules self.old m (command.Write s j n) result self.new }
+        ensures history { AddsHeapEntry P.rules self.old m (command.Write s j n) result self.new }
         ensures rest { StaysInEpoch self.old self.new }
     {
         match &mut self.world {
@@ -74,10 +74,10 @@ impl<P: Plan> ManagedHeap<P> {
     /// Adds to number `j` of the object in register `s`, modulo 2^64. Replies the number before.
     pub fn add(&mut self, m: u32, s: u32, j: u32, n: u64) -> Reply
         requires usable { IsUsable P.rules self.old }
-        requires place { HasPlace self.old m }
+        requires place { HeapHasPlace self.old m }
         requires register { s < REGISTERS }
         ensures usable { IsUsable P.rules self.new }
-        ensures history { AddsEntry P.rules self.old m (command.Add s j n) result self.new }
+        ensures history { AddsHeapEntry P.rules self.old m (command.Add s j n) result self.new }
         ensures rest { StaysInEpoch self.old self.new }
     {
         match &mut self.world {
@@ -89,10 +89,11 @@ impl<P: Plan> ManagedHeap<P> {
     /// Sets number `j` of the object in register `s` to `next` if it is `was`.
     pub fn swap(&mut self, m: u32, s: u32, j: u32, was: u64, next: u64) -> Reply
         requires usable { IsUsable P.rules self.old }
-        requires place { HasPlace self.old m }
+        requires place { HeapHasPlace self.old m }
         requires register { s < REGISTERS }
         ensures usable { IsUsable P.rules self.new }
-        ensures history { AddsEntry P.rules self.old m (command.Swap s j was next) result self.new }
+        ensures history { AddsHeapEntry P.rules self.old m
+            (command.Swap s j was next) result self.new }
         ensures rest { StaysInEpoch self.old self.new }
     {
         match &mut self.world {
@@ -104,11 +105,11 @@ impl<P: Plan> ManagedHeap<P> {
     /// Copies register `s` to register `d`.
     pub fn move_register(&mut self, m: u32, d: u32, s: u32) -> Reply
         requires usable { IsUsable P.rules self.old }
-        requires place { HasPlace self.old m }
+        requires place { HeapHasPlace self.old m }
         requires target { d < REGISTERS }
         requires source { s < REGISTERS }
         ensures usable { IsUsable P.rules self.new }
-        ensures history { AddsEntry P.rules self.old m (command.Move d s) result self.new }
+        ensures history { AddsHeapEntry P.rules self.old m (command.Move d s) result self.new }
         ensures rest { StaysInEpoch self.old self.new }
     {
         match &mut self.world {
@@ -120,10 +121,10 @@ impl<P: Plan> ManagedHeap<P> {
     /// Clears register `s`.
     pub fn drop_register(&mut self, m: u32, s: u32) -> Reply
         requires usable { IsUsable P.rules self.old }
-        requires place { HasPlace self.old m }
+        requires place { HeapHasPlace self.old m }
         requires register { s < REGISTERS }
         ensures usable { IsUsable P.rules self.new }
-        ensures history { AddsEntry P.rules self.old m (command.DropReg s) result self.new }
+        ensures history { AddsHeapEntry P.rules self.old m (command.DropReg s) result self.new }
         ensures rest { StaysInEpoch self.old self.new }
     {
         match &mut self.world {
@@ -135,11 +136,11 @@ impl<P: Plan> ManagedHeap<P> {
     /// Loads global `g` into register `d`.
     pub fn load(&mut self, m: u32, d: u32, g: u32) -> Reply
         requires usable { IsUsable P.rules self.old }
-        requires place { HasPlace self.old m }
+        requires place { HeapHasPlace self.old m }
         requires register { d < REGISTERS }
         requires global { g < GLOBALS }
         ensures usable { IsUsable P.rules self.new }
-        ensures history { AddsEntry P.rules self.old m (command.Load d g) result self.new }
+        ensures history { AddsHeapEntry P.rules self.old m (command.Load d g) result self.new }
         ensures rest { StaysInEpoch self.old self.new }
     {
         match &mut self.world {
@@ -151,11 +152,11 @@ impl<P: Plan> ManagedHeap<P> {
     /// Stores register `s` into global `g`.
     pub fn share(&mut self, m: u32, g: u32, s: u32) -> Reply
         requires usable { IsUsable P.rules self.old }
-        requires place { HasPlace self.old m }
+        requires place { HeapHasPlace self.old m }
         requires register { s < REGISTERS }
         requires global { g < GLOBALS }
         ensures usable { IsUsable P.rules self.new }
-        ensures history { AddsEntry P.rules self.old m (command.Share g s) result self.new }
+        ensures history { AddsHeapEntry P.rules self.old m (command.Share g s) result self.new }
         ensures rest { StaysInEpoch self.old self.new }
     {
         match &mut self.world {
@@ -167,10 +168,10 @@ impl<P: Plan> ManagedHeap<P> {
     /// Pins the object in register `s`: no collection moves it.
     pub fn pin(&mut self, m: u32, s: u32) -> Reply
         requires usable { IsUsable P.rules self.old }
-        requires place { HasPlace self.old m }
+        requires place { HeapHasPlace self.old m }
         requires register { s < REGISTERS }
         ensures usable { IsUsable P.rules self.new }
-        ensures history { AddsEntry P.rules self.old m (command.Pin s) result self.new }
+        ensures history { AddsHeapEntry P.rules self.old m (command.Pin s) result self.new }
         ensures rest { StaysInEpoch self.old self.new }
     {
         match &mut self.world {
@@ -182,10 +183,10 @@ impl<P: Plan> ManagedHeap<P> {
     /// Unpins the object in register `s`.
     pub fn unpin(&mut self, m: u32, s: u32) -> Reply
         requires usable { IsUsable P.rules self.old }
-        requires place { HasPlace self.old m }
+        requires place { HeapHasPlace self.old m }
         requires register { s < REGISTERS }
         ensures usable { IsUsable P.rules self.new }
-        ensures history { AddsEntry P.rules self.old m (command.Unpin s) result self.new }
+        ensures history { AddsHeapEntry P.rules self.old m (command.Unpin s) result self.new }
         ensures rest { StaysInEpoch self.old self.new }
     {
         match &mut self.world {

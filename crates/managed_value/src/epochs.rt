@@ -4,8 +4,8 @@
 //! failure there leaves it so.
 
 ghost use Rattle.std.specs.Prelude.{◌≡◌, ◌+◌, ◌≤◌, ◌<◌, ◌^◌, None, IfSome, IfOk, OnErr, MatchResult};
-ghost use Rattle.managed_heap.specs.Stopped.{IsManaged, IsStopped, mutator_count as stopped_count};
-ghost use Rattle.managed_value.specs.Histories.{IsLost, IsUsable, IsAsBeforeOrLost, collections_of, used_in};
+ghost use Rattle.managed_heap.specs.Stopped.{IsManaged, IsStopped, count_of_mutators as stopped_count};
+ghost use Rattle.managed_value.specs.Histories.{IsLost, IsUsable, IsAsBeforeOrLost, collections_made, words_used};
 ghost use Rattle.managed_value.specs.Allocations.{CollectsAll, CollectsAtStop};
 ghost use Rattle.managed_value.specs.Epochs.{EndsWith, BeginsWith};
 
@@ -48,7 +48,7 @@ impl<P: Plan> ManagedHeap<P> {
         requires stopped { IsStopped P.rules stopped }
         requires some { 1 ≤ stopped_count stopped }
         ensures begins { IfOk result (λ _. BeginsWith P.rules stopped self.new) }
-        ensures used { IfOk result (λ _. used_in self.new ≡ used_in self.old) }
+        ensures used { IfOk result (λ _. words_used self.new ≡ words_used self.old) }
         ensures lost { OnErr result (IsLost self.new) }
     {
         let Parts {
@@ -76,7 +76,7 @@ impl<P: Plan> ManagedHeap<P> {
     ) -> Result<Note, AllocError>
         requires plan { IsManaged P.rules }
         requires usable { IsUsable P.rules self.old }
-        requires collections { collections_of self.old + 1 < 2 ^ 40 }
+        requires collections { collections_made self.old + 1 < 2 ^ 40 }
         ensures made { MatchResult result (λ note. CollectsAll P.rules self.old note self.new)
             (λ _. IsAsBeforeOrLost P.rules self.old self.new) }
         ensures stop { IfOk result (λ note. CollectsAtStop P.rules self.old note self.new) }
@@ -96,7 +96,7 @@ impl<P: Plan> ManagedHeap<P> {
     pub fn collect<R: Threads + Sync>(&mut self, rt: &R) -> Result<Note, AllocError>
         requires plan { IsManaged P.rules }
         requires usable { IsUsable P.rules self.old }
-        requires collections { collections_of self.old + 1 < 2 ^ 40 }
+        requires collections { collections_made self.old + 1 < 2 ^ 40 }
         ensures made { MatchResult result (λ note. CollectsAll P.rules self.old note self.new)
             (λ _. IsAsBeforeOrLost P.rules self.old self.new) }
         ensures stop { IfOk result (λ note. CollectsAtStop P.rules self.old note self.new) }

@@ -6,15 +6,15 @@ ghost use Rattle.ideal_heap.specs.declared.reply.Reply.{Reply};
 ghost use Rattle.ideal_heap.specs.declared.reply.Reply.TheVariants as reply;
 ghost use Rattle.ideal_heap.specs.Commands.{is_new};
 ghost use Rattle.ideal_heap.specs.Ideal.{IdealHeap, empty, step};
-ghost use Rattle.ideal_heap.specs.Runs.{Entry, IsRun, after, is_full};
+ghost use Rattle.ideal_heap.specs.Runs.{Entry, IsRun, heap_after_run, is_full};
 ghost use Rattle.object_model.specs.Graphs.{Represents};
 ghost use Rattle.sessions.specs.Plans.{Rules};
 ghost use Rattle.plain_world.specs.declared.plain_world.PlainWorld.{PlainWorld};
-ghost use Rattle.plain_world.specs.Calls.{heap_of, mutators_of};
+ghost use Rattle.plain_world.specs.Calls.{heap_of_world, mutators_of_world};
 ghost use Rattle.programs.specs.Growth.{IsGrown};
 ghost use Rattle.programs.specs.Lists.{heap_after};
 ghost use Rattle.managed_value.specs.declared.managed.ManagedHeap.{ManagedHeap};
-ghost use Rattle.managed_value.specs.Histories.{HasEntries, IsUsable, AddsEntry, KeepsEntries, StandsFor};
+ghost use Rattle.managed_value.specs.Histories.{HasEntries, IsUsable, AddsHeapEntry, KeepsEntries, StandsFor};
 
 use crate::managed::ManagedHeap;
 
@@ -25,7 +25,7 @@ pub fn managed_heaps_follow_ideal_heaps<P>(heap: &ManagedHeap<P>)
         → IsRun empty es }
     ensures represents { (rules : Rules) (es : List Entry) (w : PlainWorld P)
         → HasEntries rules heap.now es → heap.now.world ≡ Some w
-        → Represents (heap_of w) (mutators_of w) (after empty es) }
+        → Represents (heap_of_world w) (mutators_of_world w) (heap_after_run empty es) }
 {}
 
 /// How a program carries what it knows from call to call. A heap that is new stands for the empty
@@ -36,17 +36,19 @@ pub fn ideal_heaps_go_on<P>()
     ensures begins { (rules : Rules) (heap : ManagedHeap P) → HasEntries rules heap []
         → StandsFor rules heap empty }
     ensures reply { (rules : Rules) (old new : ManagedHeap P) (m : ℕ) (c : Command) (r : Reply)
-        (i : IdealHeap) → AddsEntry rules old m c r new → (IsTrue (is_new c) → is_full r ≡ false)
+        (i : IdealHeap) → AddsHeapEntry rules old m c r new → (IsTrue (is_new c) → is_full r
+        ≡ false)
         → StandsFor rules old i → r ≡ (step i (m + 1) c).0 }
     ensures step { (rules : Rules) (old new : ManagedHeap P) (m : ℕ) (c : Command) (r : Reply)
-        (i : IdealHeap) → AddsEntry rules old m c r new → (IsTrue (is_new c) → is_full r ≡ false)
+        (i : IdealHeap) → AddsHeapEntry rules old m c r new → (IsTrue (is_new c) → is_full r
+        ≡ false)
         → StandsFor rules old i → StandsFor rules new (step i (m + 1) c).1 }
     ensures commands { (rules : Rules) (old new : ManagedHeap P) (m : ℕ) (c : Command)
-        (r : Reply) (i : IdealHeap) (cs : List Command) → AddsEntry rules old m c r new
+        (r : Reply) (i : IdealHeap) (cs : List Command) → AddsHeapEntry rules old m c r new
         → (IsTrue (is_new c) → is_full r ≡ false) → StandsFor rules old (heap_after i (m + 1) cs)
         → StandsFor rules new (heap_after i (m + 1) (cs ++ c ∷ [])) }
     ensures refused { (rules : Rules) (old new : ManagedHeap P) (m : ℕ) (c : Command)
-        (i : IdealHeap) → AddsEntry rules old m c reply.Full new → StandsFor rules old i
+        (i : IdealHeap) → AddsHeapEntry rules old m c reply.Full new → StandsFor rules old i
         → StandsFor rules new i }
     ensures kept { (rules : Rules) (old new : ManagedHeap P) (i : IdealHeap)
         → KeepsEntries rules old new → StandsFor rules old i → StandsFor rules new i }
@@ -56,5 +58,5 @@ pub fn ideal_heaps_go_on<P>()
         → StandsFor rules heap i → IsGrown i }
     ensures represents { (rules : Rules) (heap : ManagedHeap P) (i : IdealHeap)
         (w : PlainWorld P) → StandsFor rules heap i → heap.world ≡ Some w
-        → Represents (heap_of w) (mutators_of w) i }
+        → Represents (heap_of_world w) (mutators_of_world w) i }
 {}

@@ -5,8 +5,8 @@ ghost use Rattle.ideal_heap.specs.declared.command.TheConstants.{MAX_MUTATORS, R
 ghost use Rattle.ideal_heap.specs.Ideal.{IdealHeap};
 ghost use Rattle.mutator_calls.specs.declared.need.Mutator.{Mutator as User};
 ghost use Rattle.managed_heap.specs.Stopped.{IsManaged};
-ghost use Rattle.managed_value.specs.Histories.{IsLost, IsUsable, HasEntries, HasPlace, StandsFor, mutator_count, births_at, collections_of, used_in};
-ghost use Rattle.managed_value.specs.Allocations.{IsEmpty, MayAllocate};
+ghost use Rattle.managed_value.specs.Histories.{IsLost, IsUsable, HasEntries, HeapHasPlace, StandsFor, mutators_of_heap, heap_births_at, collections_made, words_used};
+ghost use Rattle.managed_value.specs.Allocations.{IsEmpty, HeapMayAllocate};
 
 use heap_layout::Layout;
 use managed_heap::StoppedHeap;
@@ -67,11 +67,11 @@ impl<P: Plan> ManagedHeap<P> {
         requires some { 1 ≤ mutators }
         requires few { mutators ≤ MAX_MUTATORS }
         ensures usable { IfOk result (λ h. IsUsable P.rules h) }
-        ensures places { IfOk result (λ h. mutator_count h ≡ mutators) }
-        ensures births { IfOk result (λ h. (m : ℕ) → births_at h m ≡ 0) }
+        ensures places { IfOk result (λ h. mutators_of_heap h ≡ mutators) }
+        ensures births { IfOk result (λ h. (m : ℕ) → heap_births_at h m ≡ 0) }
         ensures entries { IfOk result (λ h. HasEntries P.rules h []) }
-        ensures collections { IfOk result (λ h. collections_of h ≡ 0) }
-        ensures used { IfOk result (λ h. used_in h ≡ 0) }
+        ensures collections { IfOk result (λ h. collections_made h ≡ 0) }
+        ensures used { IfOk result (λ h. words_used h ≡ 0) }
         ensures empty { IfOk result (λ h. IsEmpty h layout.blocks) }
     {
         let mut heap = ManagedHeap {
@@ -96,8 +96,8 @@ impl<P: Plan> ManagedHeap<P> {
     /// The number of objects that the mutator at place `m` has allocated.
     pub fn births(&self, m: u32) -> u32
         requires usable { IsUsable P.rules self.now }
-        requires place { HasPlace self.now m }
-        ensures { result ≡ births_at self.now m }
+        requires place { HeapHasPlace self.now m }
+        ensures { result ≡ heap_births_at self.now m }
     {
         match &self.world {
             Some(world) => world.births(m),
@@ -109,8 +109,8 @@ impl<P: Plan> ManagedHeap<P> {
     /// the heap has had few enough collections for two more.
     pub fn may_allocate(&self, m: u32) -> bool
         requires usable { IsUsable P.rules self.now }
-        requires place { HasPlace self.now m }
-        ensures { IsTrue result ↔ MayAllocate self.now m }
+        requires place { HeapHasPlace self.now m }
+        ensures { IsTrue result ↔ HeapMayAllocate self.now m }
     {
         if !may_collect_twice(self.nursery, self.full) {
             return false;
@@ -128,7 +128,7 @@ impl<P: Plan> ManagedHeap<P> {
     /// The words of the objects that the last collection kept, and of those allocated since, or the
     /// largest number if they are more. No object is read.
     pub fn used_words(&self) -> u64
-        ensures { result ≡ used_in self.now }
+        ensures { result ≡ words_used self.now }
     {
         self.words
     }
@@ -136,7 +136,7 @@ impl<P: Plan> ManagedHeap<P> {
     /// Whether two registers of the mutator at place `m` hold one object, or both are nil.
     pub fn same(&self, m: u32, s: u32, v: u32) -> bool
         requires usable { IsUsable P.rules self.now }
-        requires place { HasPlace self.now m }
+        requires place { HeapHasPlace self.now m }
         requires first { s < REGISTERS }
         requires second { v < REGISTERS }
         ensures { (i : IdealHeap) → StandsFor P.rules self.now i

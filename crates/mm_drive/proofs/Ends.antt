@@ -17,10 +17,10 @@ use Rattle.mm_drive.specs.declared.traces.FileFault.{FileFault}
 use Rattle.mm_drive.specs.declared.traces.FileFault.TheVariants as file
 use Rattle.mm_drive.specs.declared.traces.FilesFault.{FilesFault}
 use Rattle.mm_drive.specs.declared.traces.FilesFault.TheVariants as files
-use Rattle.mm_drive.specs.Statuses.{number_of}
-use Rattle.mm_drive.specs.Printed.{job_files, HasTraces, EndsAtKnown, IsLong, IsNoTrace, HasFault, Unread, IsTooLong, IsBad, fault_of, unread_line, long_line, fault_line, memory_line, WritesFaultLine}
+use Rattle.mm_drive.specs.Statuses.{status_number}
+use Rattle.mm_drive.specs.Printed.{job_files, HasTraces, EndsAtKnown, IsLong, IsNoTrace, HasFault, Unread, IsTooLong, IsBad, fault_of_flaw, unread_line, long_line, fault_line, memory_line, WritesFaultLine}
 use Rattle.mm_drive.specs.Exits.{OpensOnly, Ran, IsReported}
-use Rattle.mm_drive.specs.Reading.{Halts, IsOneOf, text_fault, status_of, name_in, line_of}
+use Rattle.mm_drive.specs.Reading.{Halts, IsOneOf, text_fault, status_of, file_name_in, fault_line_of}
 use Rattle.mm_drive.proofs.Joining.{asks-none, risen-since, long-off, bad-off, fault-off, long-bad, fault-long, reported-clash, ends-clash}
 use Rattle.mm_drive.proofs.Outcomes.{within-files, to-files}
 
@@ -31,12 +31,12 @@ flaw-in file.Unread = flaws.TooMany
 flaw-in file.TooLong = flaws.TooMany
 flaw-in file.OutOfMemory = flaws.TooMany
 
-pub bad-from : (f : TraceFault) (flaw : Flaw) → text_fault f ≡ file.Bad flaw → f ≡ fault_of flaw
-bad-from (texts.Line n w) flaw e = ap (λ x. fault_of (flaw-in x)) e
-bad-from texts.TooMany flaw e = ap (λ x. fault_of (flaw-in x)) e
+pub bad-from : (f : TraceFault) (flaw : Flaw) → text_fault f ≡ file.Bad flaw → f ≡ fault_of_flaw flaw
+bad-from (texts.Line n w) flaw e = ap (λ x. fault_of_flaw (flaw-in x)) e
+bad-from texts.TooMany flaw e = ap (λ x. fault_of_flaw (flaw-in x)) e
 bad-from texts.OutOfMemory flaw e = absurd (let wrong : file.OutOfMemory ≡ file.Bad flaw = e in cc)
 
-pub bad-text : (flaw : Flaw) (r : Result (List Command) TraceFault) → Gives (λ (v : List Command). v) (Err (fault_of flaw)) r → r ≡ Err (fault_of flaw)
+pub bad-text : (flaw : Flaw) (r : Result (List Command) TraceFault) → Gives (λ (v : List Command). v) (Err (fault_of_flaw flaw)) r → r ≡ Err (fault_of_flaw flaw)
 bad-text (flaws.Line n w) r gives = gives
 bad-text flaws.TooMany r gives = gives
 
@@ -48,43 +48,43 @@ one-of named before after (files.Bad k flaw) ends = within-files named k ends.0.
 one-of named before after files.OutOfMemory ends = tt
 
 -- the numbers of such statuses
-low-number : (f : FilesFault) → 3 ≤ number_of (status_of f)
+low-number : (f : FilesFault) → 3 ≤ status_number (status_of f)
 low-number (files.Unread k) = omega arith
 low-number (files.TooLong k) = omega arith
 low-number (files.Bad k flaw) = omega arith
 low-number files.OutOfMemory = omega arith
 
-other-number : (f : FilesFault) → number_of (status_of f) ≡ 6 → ⊥
+other-number : (f : FilesFault) → status_number (status_of f) ≡ 6 → ⊥
 other-number (files.Unread k) e = omega (arith, e)
 other-number (files.TooLong k) e = omega (arith, e)
 other-number (files.Bad k flaw) e = omega (arith, e)
 other-number files.OutOfMemory e = omega (arith, e)
 
 pub not-ok : (f : FilesFault) → status_of f ≡ status.Ok → ⊥
-not-ok f e = omega (arith, low-number f, ap number_of e)
+not-ok f e = omega (arith, low-number f, ap status_number e)
 
 pub not-usage : (f : FilesFault) → status_of f ≡ status.Usage → ⊥
-not-usage f e = omega (arith, low-number f, ap number_of e)
+not-usage f e = omega (arith, low-number f, ap status_number e)
 
 pub not-unwritten : (f : FilesFault) → status_of f ≡ status.WriteFault → ⊥
-not-unwritten f e = other-number f (ap number_of e)
+not-unwritten f e = other-number f (ap status_number e)
 
 -- a status with another number
-other : (s t : Status) → (number_of s ≡ number_of t → ⊥) → s ≡ t → ⊥
-other s t differ e = differ (ap number_of e)
+other : (s t : Status) → (status_number s ≡ status_number t → ⊥) → s ≡ t → ⊥
+other s t differ e = differ (ap status_number e)
 
-pub memory-end : (names : List (List ℕ)) (Writes : List ℕ → Type 0) (f : FilesFault) → Writes (line_of names f) → status_of f ≡ status.OutOfMemory → Writes memory_line
+pub memory-end : (names : List (List ℕ)) (Writes : List ℕ → Type 0) (f : FilesFault) → Writes (fault_line_of names f) → status_of f ≡ status.OutOfMemory → Writes memory_line
 memory-end names Writes (files.Unread k) line is = absurd (other status.ReadFault status.OutOfMemory (λ e. omega (arith, e)) is)
 memory-end names Writes (files.TooLong k) line is = absurd (other status.TooLong status.OutOfMemory (λ e. omega (arith, e)) is)
 memory-end names Writes (files.Bad k flaw) line is = absurd (other status.BadTrace status.OutOfMemory (λ e. omega (arith, e)) is)
 memory-end names Writes files.OutOfMemory line is = line
 
 module _ (names : List (List ℕ)) (before after : SourceState) (Writes : List ℕ → Type 0) where
-  named : (k : ℕ) (name : List ℕ) → slice_get names k ≡ Some name → name_in names k ≡ name
+  named : (k : ℕ) (name : List ℕ) → slice_get names k ≡ Some name → file_name_in names k ≡ name
   named k name is = ap (λ o. unwrap_or o []) is
 
   -- each fault has its status, with its line
-  pub unread-end : (f : FilesFault) → Halts names before after f → Writes (line_of names f) → status_of f ≡ status.ReadFault → Unread names before after Writes
+  pub unread-end : (f : FilesFault) → Halts names before after f → Writes (fault_line_of names f) → status_of f ≡ status.ReadFault → Unread names before after Writes
   unread-end (files.Unread k) ends line is = record {
     place = k;
     at = ends.0;
@@ -100,14 +100,14 @@ module _ (names : List (List ℕ)) (before after : SourceState) (Writes : List �
   unread-end (files.Bad k flaw) ends line is = absurd (other status.BadTrace status.ReadFault (λ e. omega (arith, e)) is)
   unread-end files.OutOfMemory ends line is = absurd (other status.OutOfMemory status.ReadFault (λ e. omega (arith, e)) is)
 
-  pub long-end : (f : FilesFault) → Halts names before after f → Writes (line_of names f) → status_of f ≡ status.TooLong → IsTooLong names before after Writes
+  pub long-end : (f : FilesFault) → Halts names before after f → Writes (fault_line_of names f) → status_of f ≡ status.TooLong → IsTooLong names before after Writes
   long-end (files.Unread k) ends line is = absurd (other status.ReadFault status.TooLong (λ e. omega (arith, e)) is)
   long-end (files.TooLong k) ends line is =
       record { place = k; at = ends.0; asked = ends.1; line = subst (λ (x : List ℕ). Writes (long_line x)) (named k ends.0.file ends.0.is) line }
   long-end (files.Bad k flaw) ends line is = absurd (other status.BadTrace status.TooLong (λ e. omega (arith, e)) is)
   long-end files.OutOfMemory ends line is = absurd (other status.OutOfMemory status.TooLong (λ e. omega (arith, e)) is)
 
-  pub bad-end : (f : FilesFault) → Halts names before after f → Writes (line_of names f) → status_of f ≡ status.BadTrace → IsBad names before after Writes
+  pub bad-end : (f : FilesFault) → Halts names before after f → Writes (fault_line_of names f) → status_of f ≡ status.BadTrace → IsBad names before after Writes
   bad-end (files.Unread k) ends line is = absurd (other status.ReadFault status.BadTrace (λ e. omega (arith, e)) is)
   bad-end (files.TooLong k) ends line is = absurd (other status.TooLong status.BadTrace (λ e. omega (arith, e)) is)
   bad-end (files.Bad k flaw) ends line is =

@@ -5,7 +5,7 @@ use Rattle.std.proofs.lemmas.Bool.{true≢false, leb-true}
 use Rattle.std.proofs.lemmas.Option.{none-some}
 use Rattle.trace_text.specs.Grammar.{numeral}
 use Rattle.sessions.specs.Plans.{Plan}
-use Rattle.command_line.specs.Words.{Job, Work, Files, Made, Line, Values, job_of, form_of, line_of, job_in, job_with, plan_of, number_in, if_within, workers_of, work_of, values_in, is_supported, if_supported, is_implemented, has_files}
+use Rattle.command_line.specs.Words.{Job, Work, Files, Made, Line, Values, job_of, form_of, line_of_words, job_in, job_with, plan_of, bounded_numeral, if_within, workers_of, work_of, values_in, is_supported, if_supported, is_implemented, has_files}
 use Rattle.mm_drive.specs.Printed.{files_in, job_files}
 
 both : (a b : Bool) → (a && b) ≡ true → (a ≡ true) × (b ≡ true)
@@ -34,7 +34,7 @@ within-bounds least most (Some k) n e =
     let q = both (nat_le least k) (nat_le k most) p.0 in
     (subst (λ (x : ℕ). least ≤ x) p.1 (leb-true least k q.0), subst (λ (x : ℕ). x ≤ most) p.1 (leb-true k most q.1))
 
-read-bounds : (least most : ℕ) (o : Option (List ℕ)) (n : ℕ) → option_and_then (number_in least most) o ≡ Some n → (least ≤ n) × (n ≤ most)
+read-bounds : (least most : ℕ) (o : Option (List ℕ)) (n : ℕ) → option_and_then (bounded_numeral least most) o ≡ Some n → (least ≤ n) × (n ≤ most)
 read-bounds least most None n e = absurd (none-some n e)
 read-bounds least most (Some word) n e = within-bounds least most (numeral word) n e
 
@@ -52,12 +52,12 @@ line-bounds None job e = absurd (none-some job e)
 line-bounds (Some line) job e =
     let v : Values = values_in line.settings in
     read-bounds 4 1024 v.heap job.blocks
-    (with-blocks v.has_map (option_and_then plan_of v.plan) (option_and_then (number_in 4 1024) v.heap) (workers_of v.workers) (work_of v.make v.has_map line.files) job e)
+    (with-blocks v.has_map (option_and_then plan_of v.plan) (option_and_then (bounded_numeral 4 1024) v.heap) (workers_of v.workers) (work_of v.make v.has_map line.files) job e)
 
 -- its blocks are as many as a heap may have
 pub job-blocks : (words : List (List ℕ)) (job : Job) → form_of words ≡ Some job → (4 ≤ job.blocks) × (job.blocks ≤ 1024)
 unfolding form_of
-job-blocks words job e = line-bounds (line_of words) job e
+job-blocks words job e = line-bounds (line_of_words words) job e
 
 made-none : (b : Bool) (o : Option ℕ) (work : Work) → (if b then None else option_map Made o) ≡ Some work → has_files work ≡ true → ⊥
 made-none true o work e kept = none-some work e
@@ -70,7 +70,7 @@ files-within None has_map files work e kept =
     let p = picked (nat_le 1 (length files) && nat_le (length files) 16) (Files files) work e in
     let q = both (nat_le 1 (length files)) (nat_le (length files) 16) p.0 in
     subst (λ (w : Work). (1 ≤ length (files_in w)) × (length (files_in w) ≤ 16)) p.1 (leb-true 1 (length files) q.0, leb-true (length files) 16 q.1)
-files-within (Some word) has_map files work e kept = absurd (made-none (has_map || nat_lt 0 (length files)) (number_in 1 1000000 word) work e kept)
+files-within (Some word) has_map files work e kept = absurd (made-none (has_map || nat_lt 0 (length files)) (bounded_numeral 1 1000000 word) work e kept)
 
 with-work : (has_map : Bool) (p : Option Plan) (b w : Option ℕ) (k : Option Work) (job : Job) → job_with has_map p b w k ≡ Some job → k ≡ Some job.work
 with-work has_map None b w k job e = absurd (none-some job e)
@@ -86,12 +86,12 @@ line-files None job e kept = absurd (none-some job e)
 line-files (Some line) job e kept =
     let v : Values = values_in line.settings in
     files-within v.make v.has_map line.files job.work
-    (with-work v.has_map (option_and_then plan_of v.plan) (option_and_then (number_in 4 1024) v.heap) (workers_of v.workers) (work_of v.make v.has_map line.files) job e) kept
+    (with-work v.has_map (option_and_then plan_of v.plan) (option_and_then (bounded_numeral 4 1024) v.heap) (workers_of v.workers) (work_of v.make v.has_map line.files) job e) kept
 
 -- it has 1 to 16 files, if its work is files
 pub job-files : (words : List (List ℕ)) (job : Job) → form_of words ≡ Some job → has_files job.work ≡ true → (1 ≤ length (job_files job)) × (length (job_files job) ≤ 16)
 unfolding form_of
-job-files words job e kept = line-files (line_of words) job e kept
+job-files words job e kept = line-files (line_of_words words) job e kept
 
 -- its work is files
 pub supported-work : (job : Job) → is_supported job ≡ true → has_files job.work ≡ true

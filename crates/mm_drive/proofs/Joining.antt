@@ -13,7 +13,7 @@ use Rattle.outside.specs.Outside.{Asked, SourceState, HasRisen}
 use Rattle.outside.specs.declared.reader.TheConstants.{MAX_FILE_BYTES}
 use Rattle.mm_drive.specs.declared.traces.FileFault.{FileFault}
 use Rattle.mm_drive.specs.declared.traces.FileFault.TheVariants as file
-use Rattle.mm_drive.specs.Printed.{Content, IsTraceIn, AreTraces, AreKnown, EndsAt, EndsAtKnown, AsksFirst, AsksPrefix, IsAny, IsLong, IsNoTrace, HasFault, fault_of}
+use Rattle.mm_drive.specs.Printed.{Content, IsTraceIn, AreTraces, AreKnown, EndsAtFile, EndsAtKnown, AsksFirst, AsksPrefix, IsAny, IsLong, IsNoTrace, HasFault, fault_of_flaw}
 use Rattle.mm_drive.specs.Reading.{AsksName, Halts, fault_at}
 
 any-content : (o : Option (List ℕ)) → IfSome o IsAny
@@ -82,7 +82,7 @@ asks-prefix (Err file.OutOfMemory) names k name before now next is asked one =
 -- the fault of one file, after files that have traces
 module _ (names : List (List ℕ)) (k : ℕ) (name : List ℕ) (ts : List (List Command)) (first now next : SourceState) (is : slice_get names k ≡ Some name)
     (good : AreTraces first.content (take k names) ts) (same : now.content ≡ first.content) (later : first.faults ≤ now.faults) (asked : AsksFirst k names first.asked now.asked) where
-  abbrev ends : (P : List ℕ → Type 0) → IfSome (now.content name) P → EndsAt first.content names k P
+  abbrev ends : (P : List ℕ → Type 0) → IfSome (now.content name) P → EndsAtFile first.content names k P
   ends P holds = record { file = name; is = is; traces = ts; good = good; content_is = subst (λ (content : Content). IfSome (content name) P) same holds }
 
   pub halts : (X : Type 0) (fault : FileFault) → AsksName {X = X} (Err fault) name now next → (fault ≡ file.Unread → HasRisen now.faults next.faults) → (fault ≡ file.TooLong → IfSome (now.content name) IsLong)
@@ -119,7 +119,7 @@ pub bad-off : IsOffTrace IsNoTrace
 bad-off bytes t bad fine = no-error (trace bytes) t fine.1 bad.1
 
 pub fault-off : (f : Flaw) → IsOffTrace (HasFault f)
-fault-off f bytes t bad fine = no-error (trace bytes) t fine.1 (fault-is (trace bytes) (fault_of f) bad.1)
+fault-off f bytes t bad fine = no-error (trace bytes) t fine.1 (fault-is (trace bytes) (fault_of_flaw f) bad.1)
 
 pub long-bad : AreApart IsLong IsNoTrace
 long-bad bytes long bad = let most : MAX_FILE_BYTES < length bytes = long in omega (arith, most, bad.0)
@@ -137,7 +137,7 @@ module _ (content : Content) (names : List (List ℕ)) where
       off known.0 t.0 (of-reported content at.file known.0 Q known.1 at.content_is) (of-reported content at.file known.0 (λ bytes. (length bytes ≤ MAX_FILE_BYTES) × (trace bytes ≡ Ok t.0)) known.1 t.1)
 
   -- one file is not a trace, yet all are known and have traces
-  pub reported-clash : (ts : List (List Command)) (k : ℕ) (P : List ℕ → Type 0) → IsOffTrace P → EndsAt content names k P → AreKnown content names → AreTraces content names ts → ⊥
+  pub reported-clash : (ts : List (List Command)) (k : ℕ) (P : List ℕ → Type 0) → IsOffTrace P → EndsAtFile content names k P → AreKnown content names → AreTraces content names ts → ⊥
   reported-clash ts k P off at reported good =
       let t = trace-at content names ts k at.file good at.is in
       let known = reported-at content names k at.file reported at.is in
@@ -150,7 +150,7 @@ module _ (content : Content) (names : List (List ℕ)) where
       off bytes t.0 p (of-reported content file bytes (λ x. (length x ≤ MAX_FILE_BYTES) × (trace x ≡ Ok t.0)) known t.1)
 
   -- reading ends at a single file, with a single cause
-  pub ends-clash : (k : ℕ) (P Q : List ℕ → Type 0) → IsOffTrace P → IsOffTrace Q → AreApart P Q → EndsAt content names k P → EndsAtKnown content names Q → ⊥
+  pub ends-clash : (k : ℕ) (P Q : List ℕ → Type 0) → IsOffTrace P → IsOffTrace Q → AreApart P Q → EndsAtFile content names k P → EndsAtKnown content names Q → ⊥
   ends-clash k P Q off-p off-q apart at ends =
       let j = ends.0 in
       let other = ends.1 in
@@ -178,6 +178,6 @@ trace-in (Err e) content bytes few is read = tt
 trace-in (Ok commands) None bytes few is read = tt
 trace-in (Ok commands) (Some known) bytes few is read = subst (λ (b : List ℕ). (length b ≤ MAX_FILE_BYTES) × (trace b ≡ Ok commands)) is (few, read)
 
-pub fault-in : (f : Flaw) (content : Option (List ℕ)) (bytes : List ℕ) → length bytes ≤ MAX_FILE_BYTES → IfSome content (λ known. bytes ≡ known) → trace bytes ≡ Err (fault_of f) → IfSome content (HasFault f)
+pub fault-in : (f : Flaw) (content : Option (List ℕ)) (bytes : List ℕ) → length bytes ≤ MAX_FILE_BYTES → IfSome content (λ known. bytes ≡ known) → trace bytes ≡ Err (fault_of_flaw f) → IfSome content (HasFault f)
 fault-in f None bytes few is bad = tt
 fault-in f (Some known) bytes few is bad = subst (HasFault f) is (few, bad)

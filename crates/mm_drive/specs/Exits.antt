@@ -6,7 +6,7 @@ use Rattle.command_line.specs.Words.{Job}
 use Rattle.outside.specs.Outside.{Asked, SourceState, SinkState}
 use Rattle.mm_drive.specs.declared.status.Status.{Status}
 use Rattle.mm_drive.specs.declared.status.Status.TheVariants as status
-use Rattle.mm_drive.specs.Statuses.{number_of}
+use Rattle.mm_drive.specs.Statuses.{status_number}
 use Rattle.mm_drive.specs.Printed.{job_files, Prints, PrintsPrefix, AsksFirst, AsksPrefix, Unread, IsTooLong, IsBad, IsUsage, WritesFaultLine, usage_line, write_line, memory_line}
 
 -- the status if the system gives no arguments: out of memory if it reports that, else usage: an argument is not UTF-8
@@ -53,4 +53,4 @@ pub record IsReported (job : Option Job) (s : Status) (files files' : SourceStat
 
 -- the number of such a status
 abbrev pub IsExit : Option Job → ℕ → Type 0
-IsExit job n = (s : Status) × (n ≡ number_of s) × IsStatusOf job s
+IsExit job n = (s : Status) × (n ≡ status_number s) × IsStatusOf job s

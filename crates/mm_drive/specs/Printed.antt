@@ -114,7 +114,7 @@ abbrev pub AsksPrefix : List (List ℕ) → Asked → Asked → Type 0
 AsksPrefix files before after = (n : ℕ) × AsksFirst n files before after
 
 -- Reading ends at file k, from 0 on: the files before it have traces, and P holds of its content, if known.
-pub record EndsAt (content : Content) (files : List (List ℕ)) (k : ℕ) (P : List ℕ → Type 0) : Type 0 where
+pub record EndsAtFile (content : Content) (files : List (List ℕ)) (k : ℕ) (P : List ℕ → Type 0) : Type 0 where
   pub file : List ℕ
   pub is : slice_get files k ≡ Some file
   pub traces : List (List Command)
@@ -123,7 +123,7 @@ pub record EndsAt (content : Content) (files : List (List ℕ)) (k : ℕ) (P : L
 
 -- reading ends at some file, and the contents up to it are known
 abbrev pub EndsAtKnown : Content → List (List ℕ) → (List ℕ → Type 0) → Type 0
-EndsAtKnown content files P = (k : ℕ) × EndsAt content files k P × AreKnown content (take (suc k) files)
+EndsAtKnown content files P = (k : ℕ) × EndsAtFile content files k P × AreKnown content (take (suc k) files)
 
 abbrev pub IsLong : List ℕ → Type 0
 IsLong bytes = MAX_FILE_BYTES < length bytes
@@ -133,12 +133,12 @@ abbrev pub IsNoTrace : List ℕ → Type 0
 IsNoTrace bytes = (length bytes ≤ MAX_FILE_BYTES) × IsErr (trace bytes)
 
 -- the reader's fault for a file with this flaw
-abbrev pub fault_of : Flaw → TraceFault
-fault_of (flaws.Line n w) = Line n w
-fault_of flaws.TooMany = TooMany
+abbrev pub fault_of_flaw : Flaw → TraceFault
+fault_of_flaw (flaws.Line n w) = Line n w
+fault_of_flaw flaws.TooMany = TooMany
 
 abbrev pub HasFault : Flaw → List ℕ → Type 0
-HasFault flaw bytes = (length bytes ≤ MAX_FILE_BYTES) × (trace bytes ≡ Err (fault_of flaw))
+HasFault flaw bytes = (length bytes ≤ MAX_FILE_BYTES) × (trace bytes ≡ Err (fault_of_flaw flaw))
 
 abbrev pub IsAny : List ℕ → Type 0
 IsAny bytes = Unit {0}
@@ -200,7 +200,7 @@ pub record IsUsage (job : Option Job) (before after : SourceState) (Writes : Lis
 -- at the start, and the count has risen since. The line names the file.
 pub record Unread (files : List (List ℕ)) (before after : SourceState) (Writes : List ℕ → Type 0) : Type 0 where
   pub place : ℕ
-  pub at : EndsAt before.content files place IsAny
+  pub at : EndsAtFile before.content files place IsAny
   pub earlier : Asked
   pub prefix : AsksFirst place files before.asked earlier
   pub count : ℕ
@@ -212,7 +212,7 @@ pub record Unread (files : List (List ℕ)) (before after : SourceState) (Writes
 -- A file is too long. It was asked for last, and the line names it.
 pub record IsTooLong (files : List (List ℕ)) (before after : SourceState) (Writes : List ℕ → Type 0) : Type 0 where
   pub place : ℕ
-  pub at : EndsAt before.content files place IsLong
+  pub at : EndsAtFile before.content files place IsLong
   pub asked : AsksFirst (suc place) files before.asked after.asked
   pub line : Writes (long_line at.file)
 
@@ -220,6 +220,6 @@ pub record IsTooLong (files : List (List ℕ)) (before after : SourceState) (Wri
 pub record IsBad (files : List (List ℕ)) (before after : SourceState) (Writes : List ℕ → Type 0) : Type 0 where
   pub flaw : Flaw
   pub place : ℕ
-  pub at : EndsAt before.content files place (HasFault flaw)
+  pub at : EndsAtFile before.content files place (HasFault flaw)
   pub asked : AsksFirst (suc place) files before.asked after.asked
   pub line : Writes (fault_line at.file flaw)

@@ -12,7 +12,7 @@ use Rattle.mm_drive.specs.declared.traces.FileFault.{FileFault}
 use Rattle.mm_drive.specs.declared.traces.FileFault.TheVariants as file
 use Rattle.mm_drive.specs.declared.traces.FilesFault.{FilesFault}
 use Rattle.mm_drive.specs.declared.traces.FilesFault.TheVariants as files
-use Rattle.mm_drive.specs.Printed.{AsksFirst, EndsAt, IsAny, IsLong, HasFault, unread_line, long_line, fault_line, memory_line}
+use Rattle.mm_drive.specs.Printed.{AsksFirst, EndsAtFile, IsAny, IsLong, HasFault, unread_line, long_line, fault_line, memory_line}
 
 -- why a file that was not read has no trace
 abbrev pub reading_fault : ReadFault → FileFault
@@ -54,11 +54,11 @@ pub record IsUnread (names : List (List ℕ)) (k : ℕ) (name : List ℕ) (befor
 -- Reading ends at the file that the fault names. It was asked for last, and its content has the fault. Nothing is said
 -- of where memory runs out.
 abbrev pub Halts : List (List ℕ) → SourceState → SourceState → FilesFault → Type 0
-Halts names before after (files.Unread k) = (at : EndsAt before.content names k IsAny)
+Halts names before after (files.Unread k) = (at : EndsAtFile before.content names k IsAny)
     × IsUnread names k at.file before after
-Halts names before after (files.TooLong k) = EndsAt before.content names k IsLong
+Halts names before after (files.TooLong k) = EndsAtFile before.content names k IsLong
     × AsksFirst (suc k) names before.asked after.asked
-Halts names before after (files.Bad k f) = EndsAt before.content names k (HasFault f)
+Halts names before after (files.Bad k f) = EndsAtFile before.content names k (HasFault f)
     × AsksFirst (suc k) names before.asked after.asked
 Halts names before after files.OutOfMemory = Unit {0}
 
@@ -70,15 +70,15 @@ status_of (files.Bad k f) = status.BadTrace
 status_of files.OutOfMemory = status.OutOfMemory
 
 -- the name of the file with this index
-abbrev pub name_in : List (List ℕ) → ℕ → List ℕ
-name_in names k = unwrap_or (slice_get names k) []
+abbrev pub file_name_in : List (List ℕ) → ℕ → List ℕ
+file_name_in names k = unwrap_or (slice_get names k) []
 
 -- the line on standard error for a fault of these files
-abbrev pub line_of : List (List ℕ) → FilesFault → List ℕ
-line_of names (files.Unread k) = unread_line (name_in names k)
-line_of names (files.TooLong k) = long_line (name_in names k)
-line_of names (files.Bad k f) = fault_line (name_in names k) f
-line_of names files.OutOfMemory = memory_line
+abbrev pub fault_line_of : List (List ℕ) → FilesFault → List ℕ
+fault_line_of names (files.Unread k) = unread_line (file_name_in names k)
+fault_line_of names (files.TooLong k) = long_line (file_name_in names k)
+fault_line_of names (files.Bad k f) = fault_line (file_name_in names k) f
+fault_line_of names files.OutOfMemory = memory_line
 
 -- the file at fault is one of n
 abbrev pub IsOneOf : ℕ → FilesFault → Type 0

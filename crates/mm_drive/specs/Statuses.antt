@@ -3,11 +3,11 @@ use Rattle.std.specs.Prelude.{ℕ}
 use Rattle.mm_drive.specs.declared.status.Status.{Status}
 use Rattle.mm_drive.specs.declared.status.Status.TheVariants as status
 
-abbrev pub number_of : Status → ℕ
-number_of status.Ok = 0
-number_of status.Usage = 2
-number_of status.ReadFault = 3
-number_of status.TooLong = 4
-number_of status.BadTrace = 5
-number_of status.WriteFault = 6
-number_of status.OutOfMemory = 7
+abbrev pub status_number : Status → ℕ
+status_number status.Ok = 0
+status_number status.Usage = 2
+status_number status.ReadFault = 3
+status_number status.TooLong = 4
+status_number status.BadTrace = 5
+status_number status.WriteFault = 6
+status_number status.OutOfMemory = 7

@@ -33,20 +33,20 @@ held_in s = flat_map (λ a. if is_start s a then a ∷ [] else [])
     (range_with_len (heap_of s.blocks) (BLOCK_WORDS * s.blocks))
 
 -- the words of the objects at these addresses
-abbrev pub words_at : HeapState → List ℕ → ℕ
-words_at s [] = 0
-words_at s (a ∷ rest) = size_at s a + words_at s rest
+abbrev pub count_words_at : HeapState → List ℕ → ℕ
+count_words_at s [] = 0
+count_words_at s (a ∷ rest) = size_at s a + count_words_at s rest
 
 abbrev pub kind_count : HeapState → Kind → ℕ
 kind_count s kind = block_count s (λ k. has_kind s k kind)
 
 abbrev pub live_line : HeapState → List ℕ → List ℕ
 live_line s live = ended (codes "live objects " ++ decimal (length live)
-    ++ codes " words " ++ decimal (words_at s live))
+    ++ codes " words " ++ decimal (count_words_at s live))
 
 abbrev pub held_line : HeapState → List ℕ
 held_line s = ended (codes "held objects " ++ decimal (length (held_in s))
-    ++ codes " words " ++ decimal (words_at s (held_in s)))
+    ++ codes " words " ++ decimal (count_words_at s (held_in s)))
 
 abbrev pub kinds_line : HeapState → List ℕ
 kinds_line s = ended (codes "kinds free " ++ decimal (kind_count s kinds.Free)

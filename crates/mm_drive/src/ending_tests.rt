@@ -312,7 +312,7 @@ fn sure_and_starved(rt: HostRuntime) -> Result<(), Fail> {
         &OpenGate,
     );
     let is_silent = out.bytes().is_empty();
-    let is_told = err.bytes() == b"mm_drive: out of memory\n".as_slice();
-    assert!(rt; number == 0 && starved == 7 && is_silent && is_told);
+    let is_reported = err.bytes() == b"mm_drive: out of memory\n".as_slice();
+    assert!(rt; number == 0 && starved == 7 && is_silent && is_reported);
     Ok(())
 }

@@ -10,7 +10,7 @@ ghost use Rattle.object_model.specs.Objects.{empty_heap};
 ghost use Rattle.object_model.specs.Graphs.{MutatorState};
 ghost use Rattle.sessions.specs.Plans.{NoGc};
 ghost use Rattle.mm_drive.specs.Made.{command_at, made_trace};
-ghost use Rattle.mm_drive.specs.Texts.{map_line, report_part, summary_part, replies_part, words_at, kinds_line};
+ghost use Rattle.mm_drive.specs.Texts.{map_line, report_part, summary_part, replies_part, count_words_at, kinds_line};
 ghost use Rattle.mm_drive.specs.Printed.{AreReplies};
 ghost use Rattle.ideal_heap.specs.declared.command.Command.{Command};
 ghost use Rattle.ideal_heap.specs.Ideal.{empty};
@@ -111,7 +111,7 @@ pub fn texts_of_a_heap()
     ensures place { map_line (record (empty_heap 0) {
       words = replicate 4119 0 ++ 97 ∷ 131073 ∷ 0 ∷ [];
     }) 4119 ≡ codes "map 1.3 block 1 word 5 size 6\n" }
-    ensures words { words_at (record (empty_heap 0) {
+    ensures words { count_words_at (record (empty_heap 0) {
       words = replicate 18 0 ++ 97 ∷ 131073 ∷ 0 ∷ [];
     }) (18 ∷ 18 ∷ []) ≡ 12 }
     ensures kinds { kinds_line (record (empty_heap 12) {

@@ -5,13 +5,13 @@ ghost use Rattle.std.specs.Vec.Iter.{into_iter_items};
 ghost use Rattle.std.specs.IoError.{error_kind};
 ghost use Rattle.command_line.specs.Orders.{texts};
 ghost use Rattle.command_line.specs.Words.{job_of};
-ghost use Rattle.mm_drive.specs.Statuses.{number_of};
+ghost use Rattle.mm_drive.specs.Statuses.{status_number};
 ghost use Rattle.mm_drive.specs.Printed.{WritesFaultLine};
 ghost use Rattle.mm_drive.specs.Exits.{Ran, IsReported, IsExit, refusal, refusal_line};
 
 use crate::fault_lines::{write_memory_fault, write_usage_fault};
+use crate::run::run;
 use crate::status::Status;
-use crate::top::run;
 use outside::{ErrSink, FileSources, OutSink, Sink, Sources};
 use std::alloc::{AllocError, Global};
 use std::env::Args;
@@ -92,7 +92,7 @@ pub fn program<R: Threads + Sync + Files>(
     err: Stderr,
 ) -> u8
     // An argument is not UTF-8, or memory for the arguments ran out.
-    ensures refused { IfErr args (λ e. result ≡ number_of (refusal (error_kind e))) }
+    ensures refused { IfErr args (λ e. result ≡ status_number (refusal (error_kind e))) }
     // Otherwise the number of the status of a run of the arguments after the program's name.
     ensures ran { IfOk args (λ it. IsExit (job_of (texts (drop 1 (into_iter_items it)))) result) }
 {

@@ -23,11 +23,11 @@ pub enum Status {
 }
 
 impl Status {
-    ghost use Rattle.mm_drive.specs.Statuses.{number_of};
+    ghost use Rattle.mm_drive.specs.Statuses.{status_number};
 
     /// The exit status of the process.
     pub fn number(self) -> u8
-        ensures { result ≡ number_of self }
+        ensures { result ≡ status_number self }
     {
         match self {
             Status::Ok => 0,

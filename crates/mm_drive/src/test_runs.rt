@@ -1,5 +1,5 @@
 //! Runs of the whole program in memory, for tests.
-use crate::top::run;
+use crate::run::run;
 use outside::{MemSink, MemSources, Sink, Sources};
 use std::alloc::{AllocError, Global};
 use std::fmt::Write;

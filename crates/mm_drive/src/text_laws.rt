@@ -226,7 +226,7 @@ pub fn texts_of_no_commands()
 
 /// The text of one file is the replies of its trace alone and more, if the line `full` does not
 /// stand in it. Where nothing is reachable, no object is counted or in the map.
-pub fn texts_tell_of_sessions()
+pub fn texts_are_of_sessions()
     ensures one { (job : Job) (file text : List ℕ) (cs : List Command)
         → job.work ≡ Files (file ∷ []) → IsWholeText job (cs ∷ []) text
         → (HasFullLine text → ⊥)

@@ -6,7 +6,7 @@ ghost use Rattle.command_line.specs.Orders.{texts};
 ghost use Rattle.outside.specs.Outside.{HasRisen};
 ghost use Rattle.mm_drive.specs.declared.fault_lines.Flaw.{Flaw as AnyFlaw};
 ghost use Rattle.mm_drive.specs.Printed.{AreTraces, IsTraceIn, IsLong, HasFault, AsksFirst, AsksPrefix};
-ghost use Rattle.mm_runtime.specs.Managers.{IsRunnable};
+ghost use Rattle.mm_runtime.specs.Managers.{IsRunnableTrace};
 ghost use Rattle.mm_drive.specs.Reading.{AsksName, Halts, fault_at, status_of};
 
 use crate::fault_lines::Flaw;
@@ -125,7 +125,7 @@ fn trace_of_file<S: Sources>(
     name: &str,
 ) -> Result<StoredTrace, FileFault>
     ensures ok { IfOk result (λ v. IsTraceIn ((S.state sources.old).content name.now) v) }
-    ensures fit { IfOk result IsRunnable }
+    ensures fit { IfOk result IsRunnableTrace }
     ensures unread { IsErrOf result FileFault.Unread
         → HasRisen (S.state sources.old).faults (S.state sources.new).faults }
     ensures asked { AsksName result name.now (S.state sources.old) (S.state sources.new) }
@@ -152,7 +152,7 @@ pub(crate) fn traces_of_files<S: Sources>(
 ) -> Result<Vec<StoredTrace>, FilesFault>
     ensures ok { IfOk result (λ v. AreTraces (S.state sources.old).content (texts files.now)
         v.items) }
-    ensures fit { IfOk result (λ v. All IsRunnable v.items) }
+    ensures fit { IfOk result (λ v. All IsRunnableTrace v.items) }
     ensures all { OnOk result (AsksFirst (length files.now) (texts files.now)
         (S.state sources.old).asked (S.state sources.new).asked) }
     ensures fault { IfErr result (Halts (texts files.now) (S.state sources.old)

@@ -5,7 +5,7 @@ use Rattle.std.specs.List.{AllByRecursion}
 use Rattle.ideal_heap.specs.Runs.{of_mutator, commands_of, trace_of, IsMutator}
 use Rattle.sessions.specs.Plans.{Rules}
 use Rattle.sessions.specs.Sessions as sessions
-use Rattle.sessions.specs.Sessions.{Setting, Moment, RunsPart, CollectsFor, ServesAll, Meets, IsEpoch, is_at_gc, is_at_need, next_in, mutators_of}
+use Rattle.sessions.specs.Sessions.{Setting, Moment, RunsPart, CollectsFor, ServesAll, Meets, IsEpoch, is_at_gc, is_at_need, next_in, traced_mutators}
 use Rattle.sessions.proofs.Orders as orders
 use Rattle.sessions.proofs.Growing as growing
 use Rattle.block_regions.proofs.Lists.{get-some, get-below}
@@ -54,9 +54,9 @@ module _ {P : Type 0} (rules : Rules) where
 
   module _ (before stop collected served now : Manager P) (ends gc_ends need_ends : List End) (gc_same : gc_ends ≡ ends) (need_same : need_ends ≡ ends)
       (run : (t : Setting) (at : Moment) → Closes rules before t at → (next : Moment) × RunsPart t at (causes ends) next × StandsAt rules stop t next)
-      (gc : (t : Setting) (at : Moment) → StandsAt rules stop t at → (next : Moment) × CollectsFor t (filter (λ m. is_at_gc (causes gc_ends m)) (mutators_of t)) at next
+      (gc : (t : Setting) (at : Moment) → StandsAt rules stop t at → (next : Moment) × CollectsFor t (filter (λ m. is_at_gc (causes gc_ends m)) (traced_mutators t)) at next
       × StandsAt rules collected t next)
-      (needs : (t : Setting) (at : Moment) → StandsAt rules collected t at → (next : Moment) × ServesAll t (filter (λ m. is_at_need (causes need_ends m)) (mutators_of t)) at next
+      (needs : (t : Setting) (at : Moment) → StandsAt rules collected t at → (next : Moment) × ServesAll t (filter (λ m. is_at_need (causes need_ends m)) (traced_mutators t)) at next
       × StandsAt rules served t next)
       (meets : (t : Setting) (at : Moment) → StandsAt rules served t at → (next : Moment) × Meets t at next × StandsAt rules now t next) where
     pub epoch : (t : Setting) (at : Moment) → Closes rules before t at → (next : Moment) × IsEpoch t at next × Closes rules now t next
@@ -65,8 +65,8 @@ module _ {P : Type 0} (rules : Rules) where
         let first = gc t part.0 part.2 in
         let second = needs t first.0 first.2 in
         let third = meets t second.0 second.2 in
-        let gcs = subst (λ es. CollectsFor t (filter (λ m. is_at_gc (causes es m)) (mutators_of t)) part.0 first.0) gc_same first.1 in
-        let placed = subst (λ es. ServesAll t (filter (λ m. is_at_need (causes es m)) (mutators_of t)) first.0 second.0) need_same second.1 in
+        let gcs = subst (λ es. CollectsFor t (filter (λ m. is_at_gc (causes es m)) (traced_mutators t)) part.0 first.0) gc_same first.1 in
+        let placed = subst (λ es. ServesAll t (filter (λ m. is_at_need (causes es m)) (traced_mutators t)) first.0 second.0) need_same second.1 in
         let whole : IsEpoch t at third.0 = record {
           ends = causes ends;
           stop = part.0;

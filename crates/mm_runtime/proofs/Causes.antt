@@ -13,12 +13,12 @@ use Rattle.block_regions.proofs.Lists.{get-some, get-below, get-map}
 use Rattle.mm_runtime.specs.declared.progress.Progress.{Progress}
 use Rattle.mm_runtime.specs.declared.progress.End.{End}
 use Rattle.mm_runtime.specs.declared.progress.End.TheVariants as end
-use Rattle.mm_runtime.specs.Managers.{next_of, traces_of, HasReplies}
-use Rattle.mm_runtime.specs.Parts.{IsExhausted, EndedFor, HasRaised, raises_stop, cause_of, causes}
+use Rattle.mm_runtime.specs.Managers.{next_in_trace, traces_of, HasReplies}
+use Rattle.mm_runtime.specs.Parts.{IsExhausted, EndedFor, EndRaisesStop, raises_stop, cause_of, causes}
 
 -- the next command of a mutator, by its trace and replies
 pub next-at : (t : Setting) (stop : Moment) (qs : List Progress) → t.traces ≡ traces_of qs → HasReplies qs stop.done → (k : ℕ) (q : Progress) → slice_get qs k ≡ Some q
-    → next_in t stop (suc k) ≡ next_of q
+    → next_in t stop (suc k) ≡ next_in_trace q
 next-at t stop qs traces replies k q is =
     let n : ℕ = length (of_mutator (suc k) stop.done) in
     let count : n ≡ length q.replies.items = sym (length-map (of_mutator (suc k) stop.done) (λ (e : Entry). e.reply))
@@ -35,7 +35,7 @@ gc-or-need end.Trace raises = let wrong : false ≡ true = raises in cc
 gc-or-need (end.Need need) raises = inr refl
 gc-or-need (end.Raised by) raises = let wrong : false ≡ true = raises in cc
 
-raised-cause : (ends : List End) (by : ℕ) → HasRaised ends by → (is_at_gc (causes ends by) ≡ true) ⊎ (is_at_need (causes ends by) ≡ true)
+raised-cause : (ends : List End) (by : ℕ) → EndRaisesStop ends by → (is_at_gc (causes ends by) ≡ true) ⊎ (is_at_need (causes ends by) ≡ true)
 raised-cause ends by raised =
     subst (λ (n : ℕ). (is_at_gc (causes ends n) ≡ true) ⊎ (is_at_need (causes ends n) ≡ true)) (sym (raised.number_is ∙ add-one raised.place))
     (subst (λ (o : Option End). (is_at_gc (cause_of o) ≡ true) ⊎ (is_at_need (cause_of o) ≡ true)) (sym raised.is) (gc-or-need raised.end raised.raises))
@@ -43,11 +43,11 @@ raised-cause ends by raised =
 -- the ends of the parts, by the next commands
 module _ {P : Type 0} (w : PlainWorld P) (t : Setting) (stop : Moment) (qs : List Progress) (ends : List End) (traces : t.traces ≡ traces_of qs)
     (replies : HasReplies qs stop.done) (many : length ends ≡ length qs)
-    (each : (k : ℕ) (q : Progress) (e : End) → slice_get qs k ≡ Some q → slice_get ends k ≡ Some e → EndedFor w ends k (next_of q) e) where
+    (each : (k : ℕ) (q : Progress) (e : End) → slice_get qs k ≡ Some q → slice_get ends k ≡ Some e → EndedFor w ends k (next_in_trace q) e) where
   count : length t.traces ≡ length qs
   count = ap length traces ∙ length-map qs (λ (p : Progress). p.trace)
 
-  ends-by : (k : ℕ) (q : Progress) (e : End) → slice_get qs k ≡ Some q → EndedFor w ends k (next_of q) e → EndsBy t stop (causes ends) (suc k) (cause_of (Some e))
+  ends-by : (k : ℕ) (q : Progress) (e : End) → slice_get qs k ≡ Some q → EndedFor w ends k (next_in_trace q) e → EndsBy t stop (causes ends) (suc k) (cause_of (Some e))
   ends-by k q end.Gc here is = next-at t stop qs traces replies k q here ∙ is
   ends-by k q end.Meet here is = next-at t stop qs traces replies k q here ∙ is
   ends-by k q end.Trace here is = next-at t stop qs traces replies k q here ∙ is
@@ -76,7 +76,7 @@ module _ {P : Type 0} (w : PlainWorld P) (t : Setting) (stop : Moment) (qs : Lis
       let at = mutator-at k is in
       subst (λ (o : Option End). EndsBy t stop (causes ends) (suc k) (cause_of o)) (sym at.3) (ends-by k at.0 at.1 at.2 (each k at.0 at.1 at.2 at.3))
 
-  need-exhausted : (k d refs nums : ℕ) (q : Progress) (e : End) → EndedFor w ends k (next_of q) e → cause_of (Some e) ≡ AtNeed → next_of q ≡ Some (c.New d refs nums)
+  need-exhausted : (k d refs nums : ℕ) (q : Progress) (e : End) → EndedFor w ends k (next_in_trace q) e → cause_of (Some e) ≡ AtNeed → next_in_trace q ≡ Some (c.New d refs nums)
       → size_of refs nums ≤ MAX_MEDIUM_WORDS → IsExhausted w k
   need-exhausted k d refs nums q end.Gc is at next small = let wrong : AtGc ≡ AtNeed = at in cc
   need-exhausted k d refs nums q end.Meet is at next small = let wrong : AtMeet ≡ AtNeed = at in cc

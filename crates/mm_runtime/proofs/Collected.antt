@@ -3,7 +3,7 @@ use Rattle.std.proofs.Common.{◌≡◌, sym, ◌∙◌, subst, ℕ, ◌+◌, �
 use Rattle.ideal_heap.specs.declared.command.Command.TheVariants as c
 use Rattle.object_model.specs.declared.collect.Collect.TheVariants.{Full}
 use Rattle.sessions.specs.Plans.{Rules}
-use Rattle.sessions.specs.Sessions.{Setting, Moment, Replies, CollectsFor, all_done}
+use Rattle.sessions.specs.Sessions.{Setting, Moment, OnlyReplies, CollectsFor, all_done}
 use Rattle.collector.specs.declared.outcome.Note.{Note}
 use Rattle.managed_heap.specs.declared.stopped_heap.StoppedHeap.{StoppedHeap}
 use Rattle.managed_heap.specs.Stopped.{collections_of, HasCollected, IsStopped}
@@ -46,7 +46,7 @@ module _ {P : Type 0} (rules : Rules) (old : Manager P) (h : StoppedHeap P) (not
   }
 
   -- and the replies for mutators at `gc`
-  pub for-some : (t : Setting) (ms : List ℕ) (x : ℕ) (xs : List ℕ) (now next : Moment) → ms ≡ x ∷ xs → StandsAt rules old t now → Replies (all_done c.Gc ms) (late now) next → CollectsFor t ms now next
+  pub for-some : (t : Setting) (ms : List ℕ) (x : ℕ) (xs : List ℕ) (now next : Moment) → ms ≡ x ∷ xs → StandsAt rules old t now → OnlyReplies (all_done c.Gc ms) (late now) next → CollectsFor t ms now next
   for-some t ms x xs now next is at replies =
       subst (λ ys. CollectsFor t ys now next) (sym is)
-      (late now, heaps.makes rules Full old.heap h note made t now at.heap, subst (λ ys. Replies (all_done c.Gc ys) (late now) next) is replies)
+      (late now, heaps.makes rules Full old.heap h note made t now at.heap, subst (λ ys. OnlyReplies (all_done c.Gc ys) (late now) next) is replies)

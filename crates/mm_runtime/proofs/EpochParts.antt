@@ -5,7 +5,7 @@ use Rattle.std.specs.List.{AllByRecursion}
 use Rattle.std.proofs.lemmas.List.{length-map}
 use Rattle.ideal_heap.specs.Ideal as ideal
 use Rattle.ideal_heap.specs.Ideal.{IdealHeap}
-use Rattle.ideal_heap.specs.Runs.{Entry, IsRun, after}
+use Rattle.ideal_heap.specs.Runs.{Entry, IsRun, heap_after_run}
 use Rattle.ideal_heap.proofs.RunLemmas.{after-append, longer}
 use Rattle.object_model.specs.Objects.{HeapState}
 use Rattle.object_model.specs.Heaps.{heap_state}
@@ -13,7 +13,7 @@ use Rattle.object_model.specs.Graphs.{MutatorState, Represents, numbers_of}
 use Rattle.object_model.specs.Lawful.{IsLawful}
 use Rattle.sessions.specs.Plans.{Rules}
 use Rattle.sessions.specs.Fitting.{free_of, allowance_of}
-use Rattle.sessions.specs.Sessions.{Setting, Moment, IsOfPart, ExhaustsAllowance, RunsPart, Stopped, ideal_at, mutators_of as numbers_in}
+use Rattle.sessions.specs.Sessions.{Setting, Moment, IsOfPart, ExhaustsAllowance, RunsPart, Stopped, ideal_at, traced_mutators as numbers_in}
 use Rattle.mutator_core.specs.Machine.{Epoch}
 use Rattle.mutator_core.specs.Guards.{allowance}
 use Rattle.mutator_core.proofs.Ending.{log-recorded}
@@ -21,7 +21,7 @@ use Rattle.heap_users.specs.Beginnings.{epoch_of}
 use Rattle.plain_row.specs.Rows.{births_of}
 use Rattle.heap_users.specs.Users.{mutator_state}
 use Rattle.plain_world.specs.Calls.{HasHistory, births_at}
-use Rattle.plain_row.proofs.Facts as facts
+use Rattle.plain_row.proofs.EpochFacts as facts
 use Rattle.heap_users.proofs.StopWords.{stopped-before}
 use Rattle.heap_users.proofs.Cleared as cleared
 use Rattle.mm_runtime.specs.declared.progress.Progress.{Progress}
@@ -29,11 +29,11 @@ use Rattle.mm_runtime.specs.declared.progress.End.{End}
 use Rattle.mm_runtime.specs.declared.manager.Manager.{Manager}
 use Rattle.mm_runtime.specs.Managers.{traces_of, HasReplies, IsInOrder, StandsAt}
 use Rattle.mm_runtime.specs.Parts.{causes, IsExhausted}
-use Rattle.mm_runtime.proofs.Composing.{births-same}
+use Rattle.mm_runtime.proofs.AnswersInTurn.{births-same}
 use Rattle.mm_runtime.proofs.Exhausting.{exhausts, free-cleared}
 use Rattle.mm_runtime.proofs.Causes as ends-of
-use Rattle.mm_runtime.proofs.Standing as standing
-use Rattle.mm_runtime.proofs.Standing.{RunsEpoch}
+use Rattle.mm_runtime.proofs.ManagersStand as standing
+use Rattle.mm_runtime.proofs.ManagersStand.{RunsEpoch}
 
 module _ {P : Type 0} (rules : Rules) (old new : Manager P) (ends : List End) (r : RunsEpoch rules old new ends) (t : Setting) (now : Moment)
     (stands : StandsAt rules old t now) where
@@ -113,7 +113,7 @@ module _ {P : Type 0} (rules : Rules) (old new : Manager P) (ends : List End) (r
         exhausted k.0 k.1;
   }
 
-  ideal-same : ideal_at stop ≡ after (ideal_at now) part
+  ideal-same : ideal_at stop ≡ heap_after_run (ideal_at now) part
   ideal-same = after-append ideal.empty now.done part
 
   pub stands-after : StandsAt rules new t stop

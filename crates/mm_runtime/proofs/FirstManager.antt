@@ -14,7 +14,7 @@ use Rattle.block_regions.proofs.Lists.{get-below, get-map}
 use Rattle.managed_heap.specs.Stopped as stopped
 use Rattle.mm_runtime.specs.declared.progress.Progress.{Progress}
 use Rattle.mm_runtime.specs.declared.manager.Manager.{Manager}
-use Rattle.mm_runtime.specs.Managers.{traces_of, IsRunnable, IsFresh, IsInOrder, Closes, IsReady}
+use Rattle.mm_runtime.specs.Managers.{traces_of, IsRunnableTrace, IsFresh, IsInOrder, Closes, ClosesSome}
 
 -- a mutator that begins has no births
 none-born : (numbers : List ℕ) (k : ℕ) (s : MutatorState) → slice_get (map new_mutator numbers) k ≡ Some s → s.births ≡ 0
@@ -27,14 +27,14 @@ none-born (n ∷ ns) zero s is = ap (λ (o : Option MutatorState). births-in o) 
 none-born (n ∷ ns) (suc k) s is = none-born ns k s is
 
 module _ {P : Type 0} (rules : Rules) (m : Manager P) (blocks count : ℕ) (traces : List (List Command)) (stands : (t : Setting) → t.rules ≡ rules → t.workers ≡ 1 → t.blocks ≡ blocks
-    → length t.traces ≡ count → stopped.StandsAt rules m.heap t (first_moment t)) (order : stopped.IsInOrder rules m.heap) (as_many : length m.heap.mutators.items ≡ count)
+    → length t.traces ≡ count → stopped.HeapStandsAt rules m.heap t (first_moment t)) (order : stopped.IsHeapInOrder rules m.heap) (as_many : length m.heap.mutators.items ≡ count)
     (counted : count ≡ length traces) (same : traces_of m.progress.items ≡ traces)
     (fresh : (k : ℕ) (p : Progress) → slice_get m.progress.items k ≡ Some p → IsFresh p.trace p)
-    (some : 1 ≤ length traces) (few : length traces ≤ 16) (runnable : All IsRunnable traces) where
+    (some : 1 ≤ length traces) (few : length traces ≤ 16) (runnable : All IsRunnableTrace traces) where
   abbrev own : Setting
   own = record { rules = rules; blocks = blocks; workers = 1; traces = traces }
 
-  first : stopped.StandsAt rules m.heap own (first_moment own)
+  first : stopped.HeapStandsAt rules m.heap own (first_moment own)
   first = stands own refl refl refl (sym counted)
 
   many : length m.progress.items ≡ length traces
@@ -43,10 +43,10 @@ module _ {P : Type 0} (rules : Rules) (m : Manager P) (blocks count : ℕ) (trac
   no-replies : (k : ℕ) (p : Progress) → slice_get m.progress.items k ≡ Some p → length p.replies.items ≡ 0
   no-replies k p is = ap length (fresh k p is).replies
 
-  runs : (k : ℕ) (p : Progress) → slice_get m.progress.items k ≡ Some p → IsRunnable p.trace
+  runs : (k : ℕ) (p : Progress) → slice_get m.progress.items k ≡ Some p → IsRunnableTrace p.trace
   runs k p is =
       let at : slice_get traces k ≡ Some p.trace = ap (λ ts. slice_get ts k) (sym same) ∙ get-map (λ (x : Progress). x.trace) m.progress.items k p is in
-      subst IsRunnable (get_or_from_slice_get traces k p.trace [] at) (runnable k [] (get-below traces k p.trace at))
+      subst IsRunnableTrace (get_or_from_slice_get traces k p.trace [] at) (runnable k [] (get-below traces k p.trace at))
 
   pub in-order : IsInOrder rules 0 m
   in-order = record {
@@ -81,5 +81,5 @@ module _ {P : Type 0} (rules : Rules) (m : Manager P) (blocks count : ℕ) (trac
     };
   }
 
-  pub ready : IsReady rules m
+  pub ready : ClosesSome rules m
   ready = record { order = in-order; setting = own; now = first_moment own; closes = closes own refl refl refl refl }

@@ -7,7 +7,7 @@ use Rattle.std.proofs.lemmas.List.{length-map}
 use Rattle.ideal_heap.specs.declared.command.Command.TheVariants as c
 use Rattle.object_model.specs.declared.collect.Collect.TheVariants.{Full}
 use Rattle.sessions.specs.Plans.{Rules}
-use Rattle.sessions.specs.Sessions.{Setting, Moment, CollectsFor, is_at_gc, mutators_of, ideal_at}
+use Rattle.sessions.specs.Sessions.{Setting, Moment, CollectsFor, is_at_gc, traced_mutators, ideal_at}
 use Rattle.sessions.proofs.Soundness as soundness
 use Rattle.block_regions.proofs.Lists.{get-below}
 use Rattle.collector.specs.declared.outcome.Note.{Note}
@@ -17,7 +17,7 @@ use Rattle.mm_runtime.specs.declared.progress.Progress.{Progress}
 use Rattle.mm_runtime.specs.declared.progress.End.{End}
 use Rattle.mm_runtime.specs.declared.progress.End.TheVariants as end
 use Rattle.mm_runtime.specs.declared.manager.Manager.{Manager}
-use Rattle.mm_runtime.specs.Managers.{next_of, replied, IsInOrder, IsAtStop, StandsAt}
+use Rattle.mm_runtime.specs.Managers.{next_in_trace, replied, IsInOrder, IsAtStop, StandsAt}
 use Rattle.mm_runtime.specs.Parts.{causes, AreGcs}
 use Rattle.mm_runtime.specs.Replying.{is_gc_at, HasGc, RepliesBelow}
 use Rattle.mm_runtime.proofs.OkSteps as replies
@@ -28,13 +28,13 @@ use Rattle.mm_runtime.proofs.Gcs as gcs
 module _ {P : Type 0} (rules : Rules) (ends : List End) where
   -- no mutator is at `gc`
   pub nothing : (m : Manager P) → (HasGc ends → ⊥) → (t : Setting) (now : Moment) → StandsAt rules m t now
-      → (mid : Moment) × CollectsFor t (filter (λ m. is_at_gc (causes ends m)) (mutators_of t)) now mid × StandsAt rules m t mid
+      → (mid : Moment) × CollectsFor t (filter (λ m. is_at_gc (causes ends m)) (traced_mutators t)) now mid × StandsAt rules m t mid
   nothing m none t now at = (now, subst (λ ms. CollectsFor t ms now now) (sym (gcs.none-at-gc ends (length t.traces) none)) refl, at)
 
   module _ (old : Manager P) (h : StoppedHeap P) (note : Note) (v : Vec Progress Global) (made : HasCollected rules Full old.heap h note) (at_gc : AreGcs old.progress.items ends)
       (so : RepliesBelow (is_gc_at ends) (length old.progress.items) old.progress.items v.items) (some : HasGc ends)
       (as_many : length ends ≡ length old.progress.items) where
-    asks : (k : ℕ) (p : Progress) → slice_get old.progress.items k ≡ Some p → is_gc_at ends k ≡ true → next_of p ≡ Some c.Gc
+    asks : (k : ℕ) (p : Progress) → slice_get old.progress.items k ≡ Some p → is_gc_at ends k ≡ true → next_in_trace p ≡ Some c.Gc
     asks k p is chosen = at_gc k p is (gcs.at-gc ends k chosen)
 
     abbrev mid : Manager P
@@ -64,10 +64,10 @@ module _ {P : Type 0} (rules : Rules) (ends : List End) where
     others k other = replies.unchosen (is_gc_at ends) old.progress.items v.items so k (replies.not-gc (slice_get ends k) other)
 
     pub for-gcs : (t : Setting) (now : Moment) → StandsAt rules old t now
-        → (next : Moment) × CollectsFor t (filter (λ m. is_at_gc (causes ends m)) (mutators_of t)) now next × StandsAt rules (record mid { progress = v }) t next
+        → (next : Moment) × CollectsFor t (filter (λ m. is_at_gc (causes ends m)) (traced_mutators t)) now next × StandsAt rules (record mid { progress = v }) t next
     for-gcs t now before =
         let at = collected.stands rules old h note made t now before in
-        let ms : List ℕ = filter (λ m. is_at_gc (causes ends m)) (mutators_of t) in
+        let ms : List ℕ = filter (λ m. is_at_gc (causes ends m)) (traced_mutators t) in
         let then = oks.stands rules mid v (is_gc_at ends) so c.Gc (λ m. is_at_gc (causes ends m)) (λ k below. gcs.at-place ends k) asks t (collected.late rules old h note made now) at
         (soundness.gcs-run (ideal_at (collected.late rules old h note made now)) ms) (soundness.all-gc (ideal_at (collected.late rules old h note made now)) ms) in
         let many : length t.traces ≡ length old.progress.items = ap length at.traces ∙ length-map old.progress.items (λ p. p.trace) in

@@ -11,7 +11,7 @@ use Rattle.mutator_calls.specs.declared.need.Mutator.{Mutator}
 use Rattle.block_regions.proofs.Lists.{get-some}
 use Rattle.mm_runtime.specs.declared.progress.Progress.{Progress}
 use Rattle.mm_runtime.specs.declared.manager.Manager.{Manager}
-use Rattle.mm_runtime.specs.Managers.{next_of, IsProgress, IsInOrder}
+use Rattle.mm_runtime.specs.Managers.{next_in_trace, IsProgress, IsInOrder}
 use Rattle.mm_runtime.specs.Stops.{NeedsNext}
 
 -- mutator m, at place k, with its trace and what is known of its next command, a `new` of this shape
@@ -22,7 +22,7 @@ pub record HasNeed (us : List Mutator) (ps : List Progress) (k m d refs nums : �
   pub progress : Progress
   pub there : slice_get ps k ≡ Some progress
   pub is : IsProgress progress
-  pub next : next_of progress ≡ Some (c.New d refs nums)
+  pub next : next_in_trace progress ≡ Some (c.New d refs nums)
   pub within : length progress.replies.items < length progress.trace
   pub valid : IsValid (c.New d refs nums)
   pub births : user.births ≤ length progress.replies.items

@@ -13,7 +13,7 @@ use Rattle.object_model.specs.Heaps.{heap_state}
 use Rattle.object_model.specs.Objects.{size_of}
 use Rattle.sessions.specs.Plans.{Rules}
 use Rattle.sessions.specs.Fitting.{Fits}
-use Rattle.sessions.specs.Sessions.{Setting, Moment, Needs, Serves, ServesAll, is_at_need, mutators_of, next_in}
+use Rattle.sessions.specs.Sessions.{Setting, Moment, Needs, ServesNeed, ServesAll, is_at_need, traced_mutators, next_in}
 use Rattle.mutator_calls.specs.declared.need.Need.{Need}
 use Rattle.block_regions.proofs.Lists.{get-some, get-below}
 use Rattle.mm_runtime.specs.declared.progress.Progress.{Progress}
@@ -22,7 +22,7 @@ use Rattle.mm_runtime.specs.declared.progress.End.TheVariants as end
 use Rattle.mm_runtime.specs.declared.manager.Manager.{Manager}
 use Rattle.managed_heap.specs.declared.place.Placed.{Placed}
 use Rattle.managed_heap.specs.declared.place.Placed.TheVariants as placed
-use Rattle.mm_runtime.specs.Managers.{next_of, replied, IsInOrder, IsAtStop, StandsAt}
+use Rattle.mm_runtime.specs.Managers.{next_in_trace, replied, IsInOrder, IsAtStop, StandsAt}
 use Rattle.mm_runtime.specs.Parts.{cause_of, causes, AreNeeds}
 use Rattle.mm_runtime.specs.Stops.{NeedsNext, RepliesTo, MatchPlaced, ServesEnd, AddsReply}
 use Rattle.mm_runtime.proofs.OneReplied as replies
@@ -45,7 +45,7 @@ adds-reply rules old new m refs nums (placed.HeapFull size) least is = adds-one 
 
 -- the command that is next in the definitions
 next-is : {P : Type 0} (rules : Rules) (manager : Manager P) (t : Setting) (now : Moment) (k : ℕ) (p : Progress) → StandsAt rules manager t now → slice_get manager.progress.items k ≡ Some p
-    → next_in t now (suc k) ≡ next_of p
+    → next_in t now (suc k) ≡ next_in_trace p
 next-is rules manager t now k p stands here =
     let trace : trace_of t.traces (suc k) ≡ p.trace =
     ap (λ ts. unwrap_or (slice_get ts k) []) stands.traces ∙ ap (λ o. unwrap_or o []) (slice_get-map (λ (q : Progress). q.trace) manager.progress.items k)
@@ -63,9 +63,9 @@ range-more : (n : ℕ) → range_with_len 1 (n + 1) ≡ range_with_len 1 n ++ su
 range-more n = sym (map-same (range_with_len 1 (n + 1))) ∙ map-range_with_len_more (λ x. x) 1 n (suc n) (omega arith) ∙ ap (λ xs. xs ++ suc n ∷ []) (map-same (range_with_len 1 n))
 
 -- one more need
-serves-more : (t : Setting) (xs : List ℕ) (m d refs nums : ℕ) (before mid now : Moment) → ServesAll t xs before mid → Needs t mid m d refs nums → Serves t m d refs nums mid now → ServesAll t (xs ++ m ∷ []) before now
+serves-more : (t : Setting) (xs : List ℕ) (m d refs nums : ℕ) (before mid now : Moment) → ServesAll t xs before mid → Needs t mid m d refs nums → ServesNeed t m d refs nums mid now → ServesAll t (xs ++ m ∷ []) before now
 serves-more t [] m d refs nums before mid now all needs serves =
-    (d, refs, nums, now, subst (λ (x : Moment). Needs t x m d refs nums) all needs, subst (λ (x : Moment). Serves t m d refs nums x now) all serves, refl)
+    (d, refs, nums, now, subst (λ (x : Moment). Needs t x m d refs nums) all needs, subst (λ (x : Moment). ServesNeed t m d refs nums x now) all serves, refl)
 serves-more t (x ∷ xs) m d refs nums before mid now all needs serves =
     (all.0, all.1, all.2, all.3, all.4, all.5, serves-more t xs m d refs nums all.3 mid now all.6 needs serves)
 
@@ -86,7 +86,7 @@ serves-next rules ends i (end.Need need) manager t before mid now here stands ne
     let needs : Needs t mid (suc i) need.register need.refs need.nums = next-is rules manager t mid i p.0 stands p.1 ∙ p.2 in
     subst (λ (xs : List ℕ). ServesAll t xs before now) (sym (needs-more ends i true (ap (λ o. is_at_need (cause_of o)) here)))
     (serves-more t (needs_below ends i) (suc i) need.register need.refs need.nums before mid now all needs
-    (subst (λ (m : ℕ). Serves t m need.register need.refs need.nums mid now) at serves))
+    (subst (λ (m : ℕ). ServesNeed t m need.register need.refs need.nums mid now) at serves))
 serves-next rules ends i end.Gc manager t before mid now here stands next all serves =
     subst (λ (xs : List ℕ). ServesAll t xs before now) (sym (needs-more ends i false (ap (λ o. is_at_need (cause_of o)) here) ∙ append-nil (needs_below ends i))) (subst (ServesAll t (needs_below ends i) before) (sym serves) all)
 serves-next rules ends i end.Meet manager t before mid now here stands next all serves =
@@ -134,7 +134,7 @@ module _ {P : Type 0} (rules : Rules) (first : Manager P) (ends : List End) (i :
     }
 
 pub serves-all : {P : Type 0} (rules : Rules) (first last : Manager P) (ends : List End) (n : ℕ) → n ≡ length ends → length ends ≡ length first.progress.items → ServesBelow rules first ends n last
-    → (t : Setting) (now : Moment) → StandsAt rules first t now → (mid : Moment) × ServesAll t (filter (λ m. is_at_need (causes ends m)) (mutators_of t)) now mid × StandsAt rules last t mid
+    → (t : Setting) (now : Moment) → StandsAt rules first t now → (mid : Moment) × ServesAll t (filter (λ m. is_at_need (causes ends m)) (traced_mutators t)) now mid × StandsAt rules last t mid
 serves-all rules first last ends n is count below t now stands =
     let many : length t.traces ≡ length first.progress.items = ap length stands.traces ∙ length-map first.progress.items (λ (p : Progress). p.trace) in
     let same : n ≡ length t.traces = omega arith in

@@ -12,7 +12,7 @@ use Rattle.sessions.specs.Sessions.{is_at_gc}
 use Rattle.mm_runtime.specs.declared.progress.End.{End}
 use Rattle.mm_runtime.specs.declared.progress.End.TheVariants as end
 use Rattle.mm_runtime.specs.Parts.{cause_of}
-use Rattle.mm_runtime.specs.Managers.{next_of}
+use Rattle.mm_runtime.specs.Managers.{next_in_trace}
 use Rattle.mm_runtime.specs.Replying.{GetsOk, GetsOkIf, RepliesBelow}
 
 -- below or at a place
@@ -76,7 +76,7 @@ not-gc (Some (end.Need need)) other = refl
 not-gc (Some (end.Raised by)) other = refl
 
 -- where a command is next, there is one reply less than commands
-pub has-next : (p : Progress) (command : Command) → next_of p ≡ Some command → length p.replies.items < length p.trace
+pub has-next : (p : Progress) (command : Command) → next_in_trace p ≡ Some command → length p.replies.items < length p.trace
 has-next p command next = get-below p.trace (length p.replies.items) command next
 
 abbrev pub is-gc : Option End → Bool

@@ -7,15 +7,15 @@ use Rattle.std.proofs.lemmas.List.{length-map, length-append}
 use Rattle.ideal_heap.specs.declared.command.Command.{Command}
 use Rattle.ideal_heap.specs.declared.reply.Reply.TheVariants as r
 use Rattle.ideal_heap.specs.Ideal.{empty}
-use Rattle.ideal_heap.specs.Runs.{Entry, IsRun, after}
+use Rattle.ideal_heap.specs.Runs.{Entry, IsRun, heap_after_run}
 use Rattle.ideal_heap.proofs.RunLemmas.{longer}
 use Rattle.block_regions.proofs.Lists.{one-element}
 use Rattle.sessions.specs.Plans.{Rules}
-use Rattle.sessions.specs.Sessions.{Setting, Moment, Replies, all_done, ideal_at, mutators_of}
+use Rattle.sessions.specs.Sessions.{Setting, Moment, OnlyReplies, all_done, ideal_at, traced_mutators}
 use Rattle.sessions.proofs.Soundness as soundness
 use Rattle.mm_runtime.specs.declared.progress.Progress.{Progress}
 use Rattle.mm_runtime.specs.declared.manager.Manager.{Manager}
-use Rattle.mm_runtime.specs.Managers.{next_of, traces_of, replied, IsProgress, HasReplies, IsInOrder, StandsAt}
+use Rattle.mm_runtime.specs.Managers.{next_in_trace, traces_of, replied, IsProgress, HasReplies, IsInOrder, StandsAt}
 use Rattle.mm_runtime.specs.Replying.{GetsOkIf, RepliesBelow}
 use Rattle.mm_runtime.proofs.OkSteps.{back}
 use Rattle.mm_runtime.proofs.Picked as picked
@@ -77,7 +77,7 @@ module _ {P : Type 0} (rules : Rules) (m : Manager P) (v : Vec Progress Global) 
       }
 
   module _ (asked : Command) (pick : ℕ → Bool) (agree : (k : ℕ) → k < length old → pick (k + 1) ≡ chosen k)
-      (next : (k : ℕ) (p : Progress) → slice_get old k ≡ Some p → chosen k ≡ true → next_of p ≡ Some asked) where
+      (next : (k : ℕ) (p : Progress) → slice_get old k ≡ Some p → chosen k ≡ true → next_in_trace p ≡ Some asked) where
     abbrev entries : List Entry
     entries = picked.picked asked chosen old new so pick agree next
 
@@ -105,15 +105,15 @@ module _ {P : Type 0} (rules : Rules) (m : Manager P) (v : Vec Progress Global) 
 
     -- the moment with these entries
     pub then : Setting → Moment → Moment
-    then t now = record now { done = now.done ++ all_done asked (filter pick (mutators_of t)) }
+    then t now = record now { done = now.done ++ all_done asked (filter pick (traced_mutators t)) }
 
-    pub stands : (t : Setting) (now : Moment) → StandsAt rules m t now → IsRun (ideal_at now) (all_done asked (filter pick (mutators_of t)))
-        → after (ideal_at now) (all_done asked (filter pick (mutators_of t))) ≡ ideal_at now
-        → Replies (all_done asked (filter pick (mutators_of t))) now (then t now) × StandsAt rules (record m { progress = v }) t (then t now)
+    pub stands : (t : Setting) (now : Moment) → StandsAt rules m t now → IsRun (ideal_at now) (all_done asked (filter pick (traced_mutators t)))
+        → heap_after_run (ideal_at now) (all_done asked (filter pick (traced_mutators t))) ≡ ideal_at now
+        → OnlyReplies (all_done asked (filter pick (traced_mutators t))) now (then t now) × StandsAt rules (record m { progress = v }) t (then t now)
     unfolding then
     stands t now at runs same =
         let many : length t.traces ≡ length old = ap length at.traces ∙ length-map old (λ p. p.trace) in
-        let replies : Replies (all_done asked (filter pick (mutators_of t))) now (then t now) = record { rest = refl; runs = runs } in (
+        let replies : OnlyReplies (all_done asked (filter pick (traced_mutators t))) now (then t now) = record { rest = refl; runs = runs } in (
           replies,
           record {
             heap = record {

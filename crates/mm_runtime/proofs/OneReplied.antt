@@ -13,7 +13,7 @@ use Rattle.ideal_heap.specs.Runs.{Entry, entry, IsMutator, of_mutator, commands_
 use Rattle.ideal_heap.proofs.OrderLemmas.{of_mutator-append, of_mutator-own, commands_of-own}
 use Rattle.block_regions.proofs.Lists.{get-below, one-element}
 use Rattle.mm_runtime.specs.declared.progress.Progress.{Progress}
-use Rattle.mm_runtime.specs.Managers.{next_of, traces_of, replied, IsProgress, HasReplies}
+use Rattle.mm_runtime.specs.Managers.{next_in_trace, traces_of, replied, IsProgress, HasReplies}
 use Rattle.mm_runtime.specs.Stops.{RepliesAt}
 use Rattle.managed_heap.proofs.Users.{same-list}
 
@@ -90,7 +90,7 @@ module _ (old new : List Progress) (k : ℕ) (reply : Reply) (at : RepliesAt old
           }
 
   -- the entries with one more, for the command that was next
-  pub has-replies : (done : List Entry) (command : Command) → HasReplies old done → next_of at.before ≡ Some command → HasReplies new (done ++ entry (k + 1) command reply ∷ [])
+  pub has-replies : (done : List Entry) (command : Command) → HasReplies old done → next_in_trace at.before ≡ Some command → HasReplies new (done ++ entry (k + 1) command reply ∷ [])
   has-replies done command has next = record {
     mutators = subst (λ ts. AllByRecursion (λ e. IsMutator ts e.mutator) (done ++ e ∷ [])) (sym traces-same)
         (all-append (λ x. IsMutator (traces_of old) x.mutator) done (e ∷ []) has.mutators (one, tt));

@@ -8,7 +8,7 @@ use Rattle.object_model.specs.Heaps.{heap_state}
 use Rattle.object_model.specs.Objects.{size_of}
 use Rattle.sessions.specs.Plans.{Rules}
 use Rattle.sessions.specs.Fitting.{Fits}
-use Rattle.sessions.specs.Sessions.{Setting, Moment, Serves}
+use Rattle.sessions.specs.Sessions.{Setting, Moment, ServesNeed}
 use Rattle.mutator_calls.specs.declared.need.Mutator.{Mutator}
 use Rattle.mutator_calls.specs.declared.need.Need.{Need}
 use Rattle.block_regions.proofs.Lists.{get-some, get-below, one-element}
@@ -19,7 +19,7 @@ use Rattle.managed_heap.specs.Stopped.{collections_of}
 use Rattle.managed_heap.specs.Needs.{MayAllocate, AddsBirths, AddsNeed, IfRefused, born_in, reply_of}
 use Rattle.mm_runtime.specs.declared.progress.Progress.{Progress}
 use Rattle.mm_runtime.specs.declared.manager.Manager.{Manager}
-use Rattle.mm_runtime.specs.Managers.{next_of, replied, HasReplies, IsInOrder, StandsAt}
+use Rattle.mm_runtime.specs.Managers.{next_in_trace, replied, HasReplies, IsInOrder, StandsAt}
 use Rattle.mm_runtime.specs.Stops.{MatchPlaced, NeedsNext, RepliesAt, RepliesTo}
 use Rattle.mm_runtime.proofs.Needs.{HasNeed, has-need}
 use Rattle.mm_runtime.proofs.OneReplied as replies
@@ -76,8 +76,8 @@ module _ {P : Type 0} (rules : Rules) (old new : Manager P) (m : ℕ) (need : Ne
   same : at.before ≡ has.progress
   same = one-element (slice_get old.progress.items k) at.before has.progress at.was has.there
 
-  next-is : next_of at.before ≡ Some (c.New need.register need.refs need.nums)
-  next-is = subst (λ (p : Progress). next_of p ≡ Some (c.New need.register need.refs need.nums)) (sym same) has.next
+  next-is : next_in_trace at.before ≡ Some (c.New need.register need.refs need.nums)
+  next-is = subst (λ (p : Progress). next_in_trace p ≡ Some (c.New need.register need.refs need.nums)) (sym same) has.next
 
   within : length at.before.replies.items < length at.before.trace
   within = subst (λ (p : Progress). length p.replies.items < length p.trace) (sym same) has.within
@@ -107,7 +107,7 @@ module _ {P : Type 0} (rules : Rules) (old new : Manager P) (m : ℕ) (need : Ne
             let born : v.births ≡ u.0.births = adds.others j u.0 v (λ e. other (omega arith)) u.1 here in
             omega arith
 
-    pub order-after : stopped.IsInOrder rules new.heap → collections_of new.heap ≤ collections_of old.heap + 2 → IsInOrder rules 0 new
+    pub order-after : stopped.IsHeapInOrder rules new.heap → collections_of new.heap ≤ collections_of old.heap + 2 → IsInOrder rules 0 new
     order-after heap collections =
         let many : length new.progress.items ≡ length old.progress.items = at.count in
         let some : 1 ≤ length old.progress.items = order.some in
@@ -126,9 +126,9 @@ module _ {P : Type 0} (rules : Rules) (old new : Manager P) (m : ℕ) (need : Ne
           collections = omega arith;
         }
 
-  pub serves : ((t : Setting) (now : Moment) → stopped.StandsAt rules old.heap t now
-      → (late : Moment) × Serves t m need.register need.refs need.nums now late × AddsNeed m need what now late × stopped.StandsAt rules new.heap t late)
-      → (t : Setting) (now : Moment) → StandsAt rules old t now → (late : Moment) × Serves t m need.register need.refs need.nums now late × StandsAt rules new t late
+  pub serves : ((t : Setting) (now : Moment) → stopped.HeapStandsAt rules old.heap t now
+      → (late : Moment) × ServesNeed t m need.register need.refs need.nums now late × AddsNeed m need what now late × stopped.HeapStandsAt rules new.heap t late)
+      → (t : Setting) (now : Moment) → StandsAt rules old t now → (late : Moment) × ServesNeed t m need.register need.refs need.nums now late × StandsAt rules new t late
   serves heap t now stands =
       let late = heap t now stands.heap in (
         late.0,

@@ -14,7 +14,7 @@ use Rattle.sessions.specs.Sessions.{all_done}
 use Rattle.mutator_core.proofs.Lists.{all-append}
 use Rattle.block_regions.proofs.Lists.{get-below}
 use Rattle.mm_runtime.specs.declared.progress.Progress.{Progress}
-use Rattle.mm_runtime.specs.Managers.{next_of, traces_of, HasReplies}
+use Rattle.mm_runtime.specs.Managers.{next_in_trace, traces_of, HasReplies}
 use Rattle.mm_runtime.specs.Replying.{GetsOkIf, RepliesBelow}
 use Rattle.mm_runtime.proofs.OkSteps.{back}
 
@@ -70,7 +70,7 @@ module _ (asked : Command) where
 
   -- the commands and replies of one mutator
 
-  own-commands : (b : Bool) (m : ℕ) (p after : Progress) → GetsOkIf b p after → (b ≡ true → next_of p ≡ Some asked)
+  own-commands : (b : Bool) (m : ℕ) (p after : Progress) → GetsOkIf b p after → (b ≡ true → next_in_trace p ≡ Some asked)
       → take (length p.replies.items) p.trace ++ map (λ e. e.command) (cond b (ok m ∷ []) []) ≡ take (length after.replies.items) after.trace
   own-commands true m p after gets next =
       let more : length after.replies.items ≡ length p.replies.items + 1 = ap length gets.replies ∙ length-append p.replies.items (r.Done ∷ []) in
@@ -86,7 +86,7 @@ module _ (asked : Command) where
   own-replies false m p after same = append-nil p.replies.items ∙ ap (λ (x : Progress). x.replies.items) (sym same)
 
   module _ (chosen : ℕ → Bool) (old new : List Progress) (so : RepliesBelow chosen (length old) old new) (pick : ℕ → Bool)
-      (agree : (k : ℕ) → k < length old → pick (k + 1) ≡ chosen k) (next : (k : ℕ) (p : Progress) → slice_get old k ≡ Some p → chosen k ≡ true → next_of p ≡ Some asked) where
+      (agree : (k : ℕ) → k < length old → pick (k + 1) ≡ chosen k) (next : (k : ℕ) (p : Progress) → slice_get old k ≡ Some p → chosen k ≡ true → next_in_trace p ≡ Some asked) where
     abbrev pub picked : List Entry
     picked = all_done asked (filter pick (range_with_len 1 (length old)))
 

@@ -14,9 +14,9 @@ use Rattle.plain_world.specs.Calls.{IsOpen, stop_word}
 use Rattle.stored_replies.specs.Replies.{Replies}
 use Rattle.mm_runtime.specs.declared.progress.Progress.{Progress}
 use Rattle.mm_runtime.specs.declared.progress.End.{End}
-use Rattle.mm_runtime.specs.Managers.{next_of, IsProgress}
-use Rattle.mm_runtime.specs.Parts.{Answers, EndsFor, EndsPart, GetsReply, RunsTrace}
-use Rattle.mm_runtime.proofs.Composing.{answers-none, answers-append}
+use Rattle.mm_runtime.specs.Managers.{next_in_trace, IsProgress}
+use Rattle.mm_runtime.specs.Parts.{AnswersMutator, EndsFor, EndsPart, GetsReply, RunsTrace}
+use Rattle.mm_runtime.proofs.AnswersInTurn.{answers-none, answers-append}
 
 -- one more element is taken
 take-more : {A : Type 0} (xs : List A) (k : ℕ) (x : A) → slice_get xs k ≡ Some x → take (k + 1) xs ≡ take k xs ++ x ∷ []
@@ -25,21 +25,21 @@ take-more xs k x is =
     ∙ ap (λ y. take k xs ++ y ∷ []) (get_or_from_slice_get xs k x x is)
 
 -- the next command is read at the number of replies
-pub next-read : (p : Progress) (k : ℕ) (x : Option Command) → k ≡ length p.replies.items → slice_get p.trace k ≡ x → next_of p ≡ x
+pub next-read : (p : Progress) (k : ℕ) (x : Option Command) → k ≡ length p.replies.items → slice_get p.trace k ≡ x → next_in_trace p ≡ x
 next-read p k x count is =
     ap (slice_get p.trace) (sym count) ∙ is
 
 -- the next command is one of the trace
-pub next-within : (p : Progress) (command : Command) → next_of p ≡ Some command → length p.replies.items < length p.trace
+pub next-within : (p : Progress) (command : Command) → next_in_trace p ≡ Some command → length p.replies.items < length p.trace
 next-within p command is = slice_get_within p.trace (length p.replies.items) command is
 
-pub next-valid : (p : Progress) (command : Command) → IsProgress p → next_of p ≡ Some command → IsValid command
+pub next-valid : (p : Progress) (command : Command) → IsProgress p → next_in_trace p ≡ Some command → IsValid command
 next-valid p command order is =
     subst IsValid (get_or_from_slice_get p.trace (length p.replies.items) command command is)
     (order.valid (length p.replies.items) command (next-within p command is))
 
 -- one more reply is in order
-pub order-more : (old new : Progress) (command : Command) (reply : Reply) → IsProgress old → next_of old ≡ Some command → new.trace ≡ old.trace
+pub order-more : (old new : Progress) (command : Command) (reply : Reply) → IsProgress old → next_in_trace old ≡ Some command → new.trace ≡ old.trace
     → new.replies.items ≡ old.replies.items ++ reply ∷ [] → new.replies.capacity ≡ old.replies.capacity → IsProgress new
 order-more old new command reply order is trace replies capacity =
     let more = next-within old command is in
@@ -63,7 +63,7 @@ runs-none w m p is = record {
 
 -- one more reply
 pub runs-more : {P : Type 0} {rules : Rules} (old mid new : PlainWorld P) (m : ℕ) (before between after : Progress) (command : Command) (reply : Reply)
-    → RunsTrace rules old m before mid between → Answers rules mid m (record { command = command; reply = reply } ∷ []) new → next_of between ≡ Some command
+    → RunsTrace rules old m before mid between → AnswersMutator rules mid m (record { command = command; reply = reply } ∷ []) new → next_in_trace between ≡ Some command
     → after.trace ≡ between.trace → after.replies.items ≡ between.replies.items ++ reply ∷ [] → RunsTrace rules old m before new after
 runs-more old mid new m before between after command reply runs answers is trace replies =
     let one : List Answered = record { command = command; reply = reply } ∷ [] in
@@ -82,11 +82,11 @@ runs-more old mid new m before between after command reply runs answers is trace
     }
 
 -- and no reply more
-runs-stopped : {P : Type 0} {rules : Rules} (old mid new : PlainWorld P) (m : ℕ) (before between : Progress) → RunsTrace rules old m before mid between → Answers rules mid m [] new
+runs-stopped : {P : Type 0} {rules : Rules} (old mid new : PlainWorld P) (m : ℕ) (before between : Progress) → RunsTrace rules old m before mid between → AnswersMutator rules mid m [] new
     → RunsTrace rules old m before new between
 runs-stopped {P} {rules} old mid new m before between runs answers = record {
   answered = runs.answered;
-  answers = subst (λ (es : List Answered). Answers rules old m es new) (append-nil runs.answered) (answers-append old mid new m runs.answered [] runs.answers answers);
+  answers = subst (λ (es : List Answered). AnswersMutator rules old m es new) (append-nil runs.answered) (answers-append old mid new m runs.answered [] runs.answers answers);
   trace = runs.trace;
   replies = runs.replies;
   commands = runs.commands;
@@ -107,7 +107,7 @@ runs-ended old mid new m command before between after end runs trace ends =
 
 -- a step that a call without entries comes before
 module _ {P : Type 0} {rules : Rules} (old mid new : PlainWorld P) (m : ℕ) (command : Command) (before after : Replies)
-    (first : Answers rules old m [] mid) (calm : stop_word mid ≡ stop_word old) where
+    (first : AnswersMutator rules old m [] mid) (calm : stop_word mid ≡ stop_word old) where
   pub gets-after : GetsReply rules mid m command before new after → GetsReply rules old m command before new after
   gets-after gets = record {
     reply = gets.reply;

@@ -8,17 +8,17 @@ use Rattle.sessions.specs.Sessions.{is_at_meet}
 use Rattle.block_regions.proofs.Lists.{get-some, get-below, one-element}
 use Rattle.block_regions.proofs.Elements.{read-some}
 use Rattle.mm_runtime.specs.declared.progress.Progress.{Progress}
-use Rattle.mm_runtime.specs.Managers.{next_of}
+use Rattle.mm_runtime.specs.Managers.{next_in_trace}
 use Rattle.mm_runtime.proofs.OkSteps.{at-most}
 
 -- a trace with a command left
-pub goes-on : (p : Progress) → length p.replies.items < length p.trace → next_of p ≢ None
+pub goes-on : (p : Progress) → length p.replies.items < length p.trace → next_in_trace p ≢ None
 goes-on p less none =
     let next = get-some p.trace (length p.replies.items) (omega arith) in
     let wrong : None ≡ Some next.0 = sym none ∙ next.1 in cc
 
 -- and with none left
-pub has-ended : (p : Progress) → length p.trace ≤ length p.replies.items → next_of p ≡ None
+pub has-ended : (p : Progress) → length p.trace ≤ length p.replies.items → next_in_trace p ≡ None
 has-ended p most =
     slice_get_past p.trace (length p.replies.items) most
 

@@ -17,8 +17,8 @@ use Rattle.mm_runtime.specs.declared.manager.Manager.{Manager}
 use Rattle.mm_runtime.specs.declared.progress.TheConstants.{MAX_COMMANDS}
 
 -- the command that comes next in a trace, None at its end
-abbrev pub next_of : Progress → Option Command
-next_of p = slice_get p.trace (length p.replies.items)
+abbrev pub next_in_trace : Progress → Option Command
+next_in_trace p = slice_get p.trace (length p.replies.items)
 
 -- the traces of some mutators
 abbrev pub traces_of : List Progress → List (List Command)
@@ -40,7 +40,7 @@ pub record IsProgress (p : Progress) : Type 0 where
   pub room : length p.trace ≤ p.replies.capacity
 
 -- a trace that can be run
-pub record IsRunnable (trace : List Command) : Type 0 where
+pub record IsRunnableTrace (trace : List Command) : Type 0 where
   pub valid : All IsValid trace
   pub few : length trace ≤ MAX_COMMANDS
 
@@ -51,7 +51,7 @@ pub record IsFresh (trace : List Command) (p : Progress) : Type 0 where
   pub room : length trace ≤ p.replies.capacity
 
 -- there is a mutator with this number
-pub record HasMutator {P : Type 0} (manager : Manager P) (m : ℕ) : Type 0 where
+pub record IsMutatorOf {P : Type 0} (manager : Manager P) (m : ℕ) : Type 0 where
   pub least : 1 ≤ m
   pub most : m ≤ length manager.progress.items
 
@@ -65,7 +65,7 @@ pub record HasReplies (ps : List Progress) (done : List Entry) : Type 0 where
 -- What a manager keeps in order, whatever its session. A command causes at most two collections; `more` of those made are
 -- for a command that has no reply yet.
 pub record IsInOrder {P : Type 0} (rules : Rules) (more : ℕ) (m : Manager P) : Type 0 where
-  pub heap : stopped.IsInOrder rules m.heap
+  pub heap : stopped.IsHeapInOrder rules m.heap
   pub some : 1 ≤ length m.progress.items
   pub few : length m.progress.items ≤ MAX_MUTATORS
   pub count : length m.heap.mutators.items ≡ length m.progress.items
@@ -76,7 +76,7 @@ pub record IsInOrder {P : Type 0} (rules : Rules) (more : ℕ) (m : Manager P) :
 
 -- The manager's heap stands at this moment, its replies are those of the moment, and its traces those of the setting.
 pub record StandsAt {P : Type 0} (rules : Rules) (m : Manager P) (t : Setting) (now : Moment) : Type 0 where
-  pub heap : stopped.StandsAt rules m.heap t now
+  pub heap : stopped.HeapStandsAt rules m.heap t now
   pub traces : t.traces ≡ traces_of m.progress.items
   pub replies : HasReplies m.progress.items now.done
 
@@ -93,7 +93,7 @@ pub record IsAtStop {P : Type 0} (rules : Rules) (more : ℕ) (m : Manager P) : 
   pub stands : StandsAt rules m setting now
 
 -- the manager closes some session
-pub record IsReady {P : Type 0} (rules : Rules) (m : Manager P) : Type 0 where
+pub record ClosesSome {P : Type 0} (rules : Rules) (m : Manager P) : Type 0 where
   pub order : IsInOrder rules 0 m
   pub setting : Setting
   pub now : Moment
@@ -101,7 +101,7 @@ pub record IsReady {P : Type 0} (rules : Rules) (m : Manager P) : Type 0 where
 
 -- every command has its reply
 abbrev pub HasEnded : {P : Type 0} → Manager P → Type 0
-HasEnded m = (k : ℕ) (p : Progress) → slice_get m.progress.items k ≡ Some p → next_of p ≡ None
+HasEnded m = (k : ℕ) (p : Progress) → slice_get m.progress.items k ≡ Some p → next_in_trace p ≡ None
 
 -- the globals: addresses, or 0 for nil
 abbrev pub globals_of : HeapState → List ℕ

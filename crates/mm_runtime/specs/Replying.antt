@@ -6,7 +6,7 @@ use Rattle.sessions.specs.Sessions.{is_at_gc, is_at_meet}
 use Rattle.mm_runtime.specs.declared.progress.Progress.{Progress}
 use Rattle.mm_runtime.specs.declared.progress.End.{End}
 use Rattle.mm_runtime.specs.declared.progress.End.TheVariants as end
-use Rattle.mm_runtime.specs.Managers.{next_of, IsProgress}
+use Rattle.mm_runtime.specs.Managers.{next_in_trace, IsProgress}
 use Rattle.mm_runtime.specs.Parts.{cause_of}
 use Rattle.mm_runtime.specs.Stops.{with_reply}
 
@@ -23,7 +23,7 @@ GetsOkIf false before after = after ≡ before
 -- the next command of the mutator at place k, if there is one
 abbrev pub next_if : Option Progress → Option Command
 next_if None = None
-next_if (Some p) = next_of p
+next_if (Some p) = next_in_trace p
 
 abbrev pub next_at : List Progress → ℕ → Option Command
 next_at ps k = next_if (slice_get ps k)

@@ -3,7 +3,7 @@ use Rattle.std.specs.Prelude.{◌≡◌, ◌≢◌, ℕ, ◌+◌, ◌≤◌, Som
 use Rattle.ideal_heap.specs.declared.command.Command.TheVariants as c
 use Rattle.ideal_heap.specs.declared.name.Name.{Name}
 use Rattle.ideal_heap.specs.declared.reply.Reply.{Reply}
-use Rattle.sessions.specs.Sessions.{Setting, Moment, Serves}
+use Rattle.sessions.specs.Sessions.{Setting, Moment, ServesNeed}
 use Rattle.mutator_calls.specs.declared.need.Need.{Need}
 use Rattle.managed_heap.specs.declared.place.Placed.{Placed}
 use Rattle.managed_heap.specs.declared.place.Placed.TheVariants as placed
@@ -11,7 +11,7 @@ use Rattle.mm_runtime.specs.declared.progress.Progress.{Progress}
 use Rattle.mm_runtime.specs.declared.progress.End.{End}
 use Rattle.mm_runtime.specs.declared.progress.End.TheVariants as end
 use Rattle.mm_runtime.specs.declared.manager.Manager.{Manager}
-use Rattle.mm_runtime.specs.Managers.{next_of, replied as replied_in}
+use Rattle.mm_runtime.specs.Managers.{next_in_trace, replied as replied_in}
 
 -- the replies, and one more
 abbrev pub with_reply : Progress → Reply → List Reply
@@ -32,7 +32,7 @@ pub record RepliesAt (old new : List Progress) (k : ℕ) (reply : Reply) : Type 
 -- mutator m, counted from 1, has this `new` next
 abbrev pub NeedsNext : {P : Type 0} → Manager P → ℕ → Need → Type 0
 NeedsNext manager m need = (1 ≤ m) × ((k : ℕ) → k + 1 ≡ m → (p : Progress) × (slice_get manager.progress.items k ≡ Some p)
-    × (next_of p ≡ Some (c.New need.register need.refs need.nums)))
+    × (next_in_trace p ≡ Some (c.New need.register need.refs need.nums)))
 
 -- mutator m, counted from 1, gets one more reply, the others none
 abbrev pub RepliesTo : {P : Type 0} → Manager P → ℕ → Reply → Manager P → Type 0
@@ -45,7 +45,7 @@ MatchPlaced (placed.HeapFull size) P Q = Q size
 
 -- the end of the part of mutator m is served, if it is a need
 abbrev pub ServesEnd : Setting → ℕ → End → Moment → Moment → Type 0
-ServesEnd t m (end.Need need) before now = Serves t m need.register need.refs need.nums before now
+ServesEnd t m (end.Need need) before now = ServesNeed t m need.register need.refs need.nums before now
 ServesEnd t m end.Gc before now = now ≡ before
 ServesEnd t m end.Meet before now = now ≡ before
 ServesEnd t m end.Trace before now = now ≡ before

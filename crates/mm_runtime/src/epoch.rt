@@ -6,8 +6,8 @@
 
 ghost use Rattle.std.specs.Prelude.{◌≡◌, ◌+◌, ◌<◌, ◌≤◌, ℕ, length, slice_get, Some, IfOk};
 ghost use Rattle.sessions.specs.Sessions.{Setting, Moment, RunsPart};
-ghost use Rattle.plain_world.specs.Calls.{births_at, number_at, places_of, stop_word, IsOpen};
-ghost use Rattle.mm_runtime.specs.Managers.{replied, IsProgress, Closes, IsInOrder, IsReady, StandsAt};
+ghost use Rattle.plain_world.specs.Calls.{births_at, mutator_number_at, places_of, stop_word, IsOpen};
+ghost use Rattle.mm_runtime.specs.Managers.{replied, IsProgress, Closes, IsInOrder, ClosesSome, StandsAt};
 ghost use Rattle.managed_heap.specs.Stopped.{IsManaged};
 ghost use Rattle.mm_runtime.specs.Parts.{causes, AreGcs, AreNeeds, RunsParts};
 
@@ -21,7 +21,7 @@ use plan_api::Plan;
 use std::alloc::{AllocError, Global};
 use work_packets::Gate;
 
-/// Runs each mutator's part, one after another. Tells how each ended.
+/// Runs each mutator's part, one after another. Returns how each ended.
 fn run_parts<P: Plan, G: Gate>(
     alloc: Global,
     world: &mut PlainWorld<P>,
@@ -31,7 +31,7 @@ fn run_parts<P: Plan, G: Gate>(
     requires open { IsOpen P.rules world.old }
     requires few { places_of world.old ≤ MAX_MUTATORS }
     requires places { places_of world.old ≡ length progress.old.items }
-    requires numbers { (k : ℕ) → k < places_of world.old → number_at world.old k ≡ k + 1 }
+    requires numbers { (k : ℕ) → k < places_of world.old → mutator_number_at world.old k ≡ k + 1 }
     requires calm { stop_word world.old ≡ 0 }
     requires each { (k : ℕ) (p : Progress) → slice_get progress.old.items k ≡ Some p
         → IsProgress p }
@@ -48,10 +48,10 @@ fn run_parts<P: Plan, G: Gate>(
 }
 
 impl<P: Plan> Manager<P> {
-    /// Runs an epoch. Tells how each mutator's part of it ended.
+    /// Runs an epoch. Returns how each mutator's part of it ended.
     pub(crate) fn run_epoch<G: Gate>(self, gate: &G) -> Result<(Manager<P>, Vec<End>), AllocError>
         requires plan { IsManaged P.rules }
-        requires ready { IsReady P.rules self }
+        requires ready { ClosesSome P.rules self }
         ensures order { IfOk result (λ r. IsInOrder P.rules 0 r.0) }
         ensures part { (t : Setting) (now : Moment) → Closes P.rules self t now
             → IfOk result (λ r. (stop : Moment) × RunsPart t now (causes r.1.items) stop

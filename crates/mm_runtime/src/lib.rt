@@ -2,8 +2,8 @@
 //! needs.
 #![tactic(auto)]
 
+mod collections_at_gc;
 mod epoch;
-mod gc;
 mod manager;
 mod meets;
 mod part;

@@ -8,7 +8,7 @@ ghost use Rattle.std.specs.Prelude.{◌≡◌, ◌↔◌, ◌<◌, ◌≤◌, �
 ghost use Rattle.heap_layout.specs.declared.layout.TheConstants.{MIN_BLOCKS, MAX_BLOCKS};
 ghost use Rattle.sessions.specs.Sessions.{Setting, Moment, IsEpoch, IsWhole, first_moment};
 ghost use Rattle.mm_runtime.specs.declared.progress.Progress.{Progress as State};
-ghost use Rattle.mm_runtime.specs.Managers.{left, traces_of, replied, Closes, IsFresh, IsReady, IsRunnable, HasEnded};
+ghost use Rattle.mm_runtime.specs.Managers.{left, traces_of, replied, Closes, IsFresh, ClosesSome, IsRunnableTrace, HasEnded};
 ghost use Rattle.managed_heap.specs.Stopped.{IsManaged};
 ghost use Rattle.stored_commands.specs.Lists.{lists_of};
 
@@ -77,8 +77,8 @@ impl<P: Plan> Manager<P> {
         requires workers { workers ≡ 1 }
         requires some { 1 ≤ length traces.items }
         requires few { length traces.items ≤ MAX_MUTATORS }
-        requires runnable { All IsRunnable (lists_of traces.items) }
-        ensures ready { IfOk result (λ m. IsReady P.rules m) }
+        requires runnable { All IsRunnableTrace (lists_of traces.items) }
+        ensures ready { IfOk result (λ m. ClosesSome P.rules m) }
         ensures closes { IfOk result (λ m. (t : Setting) → t.rules ≡ P.rules
             → t.blocks ≡ layout.blocks → t.workers ≡ workers
             → t.traces ≡ lists_of traces.items → Closes P.rules m t (first_moment t)) }
@@ -99,8 +99,8 @@ impl<P: Plan> Manager<P> {
         requires workers { workers ≡ 1 }
         requires some { 1 ≤ length traces.items }
         requires few { length traces.items ≤ MAX_MUTATORS }
-        requires runnable { All IsRunnable (traces.items) }
-        ensures ready { IfOk result (λ m. IsReady P.rules m) }
+        requires runnable { All IsRunnableTrace (traces.items) }
+        ensures ready { IfOk result (λ m. ClosesSome P.rules m) }
         ensures closes { IfOk result (λ m. (t : Setting) → t.rules ≡ P.rules
             → t.blocks ≡ layout.blocks → t.workers ≡ workers
             → t.traces ≡ traces.items → Closes P.rules m t (first_moment t)) }
@@ -126,8 +126,8 @@ impl<P: Plan> Manager<P> {
         gate: &G,
     ) -> Result<(Manager<P>, Turn), AllocError>
         requires plan { IsManaged P.rules }
-        requires ready { IsReady P.rules self }
-        ensures ready { IfOk result (λ r. IsReady P.rules r.0) }
+        requires ready { ClosesSome P.rules self }
+        ensures ready { IfOk result (λ r. ClosesSome P.rules r.0) }
         ensures epoch { (t : Setting) (now : Moment) → Closes P.rules self t now
             → IfOk result (λ r. (next : Moment) × IsEpoch t now next
             × Closes P.rules r.0 t next) }
@@ -141,7 +141,7 @@ impl<P: Plan> Manager<P> {
     {
         let (manager, ends) = self.run_epoch(gate)?;
         let manager = manager.collect_at(rt, &ends, pool, gate)?;
-        let mut manager = manager.serve(rt, &ends, pool, gate)?;
+        let mut manager = manager.serve_needs(rt, &ends, pool, gate)?;
         manager.meet();
         let turn = manager.turn();
         Ok((manager, turn))

@@ -6,7 +6,7 @@
 ghost use Rattle.std.specs.Prelude.{◌≡◌, ◌↔◌, ◌≤◌, ℕ, IsTrue, Some, length, slice_get};
 ghost use Rattle.sessions.specs.Sessions.{Setting, Moment, Meets, is_waiting};
 ghost use Rattle.mm_runtime.specs.declared.progress.Progress.{Progress as State};
-ghost use Rattle.mm_runtime.specs.Managers.{next_of, replied, HasEnded, IsProgress, IsAtStop, IsInOrder, StandsAt};
+ghost use Rattle.mm_runtime.specs.Managers.{next_in_trace, replied, HasEnded, IsProgress, IsAtStop, IsInOrder, StandsAt};
 ghost use Rattle.mm_runtime.specs.Replying.{is_meet_at, RepliesBelow};
 
 use crate::manager::{Manager, Turn};
@@ -32,7 +32,7 @@ impl<P: Plan> Manager<P> {
     fn all_wait(&self) -> bool
         ensures { IsTrue result ↔ ((k : ℕ) (p : State)
             → slice_get self.now.progress.items k ≡ Some p
-            → IsTrue (is_waiting (next_of p))) }
+            → IsTrue (is_waiting (next_in_trace p))) }
     {
         for progress in &self.progress {
             if !progress.waits() {

@@ -4,7 +4,7 @@ ghost use Rattle.std.specs.Prelude.{◌≡◌, ◌+◌, ◌<◌, ◌≤◌, ◌^
 ghost use Rattle.ideal_heap.specs.Commands.{IsValid};
 ghost use Rattle.ideal_heap.specs.declared.command.Command.TheVariants as command_is;
 ghost use Rattle.plain_world.specs.Calls.{HasPlace, IsOpen, births_at, places_of, stop_word};
-ghost use Rattle.mm_runtime.specs.Managers.{next_of, IsProgress};
+ghost use Rattle.mm_runtime.specs.Managers.{next_in_trace, IsProgress};
 ghost use Rattle.mm_runtime.specs.Parts.{EndsFor, EndsPart, GetsReply, RunsTrace};
 
 use crate::perform::perform;
@@ -21,7 +21,7 @@ use work_packets::{Gate, Point};
 /// to serve it. A reply answered within another enum would be copied, and wait for its own stores.
 fn allocate<P: Plan, G: Gate>(
     world: &mut PlainWorld<P>,
-    m: u32,
+    place: u32,
     d: u32,
     refs: u32,
     nums: u32,
@@ -29,29 +29,29 @@ fn allocate<P: Plan, G: Gate>(
     gate: &G,
 ) -> Option<End>
     requires open { IsOpen P.rules world.old }
-    requires place { HasPlace world.old m }
+    requires place { HasPlace world.old place }
     requires few { places_of world.old ≤ MAX_MUTATORS }
     requires register { d < REGISTERS }
     requires refs { refs ≤ MAX_REFS }
     requires nums { nums ≤ MAX_NUMS }
-    requires births { births_at world.old m + 1 < 2 ^ 32 }
+    requires births { births_at world.old place + 1 < 2 ^ 32 }
     requires calm { stop_word world.old ≡ 0 }
     requires room { length replies.old.items < replies.old.capacity }
     ensures { MatchOption result
-        (GetsReply P.rules world.old m (command_is.New d refs nums) replies.old
+        (GetsReply P.rules world.old place (command_is.New d refs nums) replies.old
         world.new replies.new)
-        (EndsPart P.rules world.old m (command_is.New d refs nums) replies.old
+        (EndsPart P.rules world.old place (command_is.New d refs nums) replies.old
         world.new replies.new) }
 {
-    gate.pass(m + 1, Point::Alloc);
-    match world.new_object(m, d, refs, nums) {
+    gate.pass(place + 1, Point::Alloc);
+    match world.new_object(place, d, refs, nums) {
         Allocated::Made(name) => {
-            gate.pass(m + 1, Point::Publish);
+            gate.pass(place + 1, Point::Publish);
             replies.push_reserved(Reply::New(name));
             None
         }
         Allocated::Stop(need) => {
-            world.raise(m);
+            world.raise(place);
             Some(End::Need(need))
         }
     }
@@ -60,59 +60,60 @@ fn allocate<P: Plan, G: Gate>(
 /// One step of the part: the reply to the next command goes to the replies, or the part ends.
 fn step<P: Plan, G: Gate>(
     world: &mut PlainWorld<P>,
-    m: u32,
+    place: u32,
     stored: StoredCommand<'_>,
     replies: &mut StoredReplies,
     gate: &G,
 ) -> Option<End>
     requires open { IsOpen P.rules world.old }
-    requires place { HasPlace world.old m }
+    requires place { HasPlace world.old place }
     requires few { places_of world.old ≤ MAX_MUTATORS }
     requires valid { IsValid stored }
-    requires births { births_at world.old m + 1 < 2 ^ 32 }
+    requires births { births_at world.old place + 1 < 2 ^ 32 }
     requires room { length replies.old.items < replies.old.capacity }
     ensures { MatchOption result
-        (GetsReply P.rules world.old m stored.entry replies.old world.new replies.new)
-        (EndsPart P.rules world.old m stored.entry replies.old world.new replies.new) }
+        (GetsReply P.rules world.old place stored.entry replies.old world.new replies.new)
+        (EndsPart P.rules world.old place stored.entry replies.old world.new replies.new) }
 {
-    gate.pass(m + 1, Point::Poll);
-    if let Polled::Raised(by) = world.poll(m) {
+    gate.pass(place + 1, Point::Poll);
+    if let Polled::Raised(by) = world.poll(place) {
         return Some(End::Raised(by));
     }
     let command = stored.command();
     match command {
         Command::Gc => {
-            world.raise(m);
+            world.raise(place);
             Some(End::Gc)
         }
         Command::Meet => Some(End::Meet),
-        Command::New { d, refs, nums } => allocate(world, m, d, refs, nums, replies, gate),
+        Command::New { d, refs, nums } => allocate(world, place, d, refs, nums, replies, gate),
         _ => {
-            replies.push_reserved(perform(world, m, command));
+            replies.push_reserved(perform(world, place, command));
             None
         }
     }
 }
 
-/// Runs the mutator at place `m` from its next command on, until its part of the epoch ends.
+/// Runs the mutator at place `place` from its next command on, until its part of the epoch ends.
 pub(crate) fn run_part<P: Plan, G: Gate>(
     world: &mut PlainWorld<P>,
-    m: u32,
+    place: u32,
     progress: &mut Progress,
     gate: &G,
 ) -> End
     requires open { IsOpen P.rules world.old }
-    requires place { HasPlace world.old m }
+    requires place { HasPlace world.old place }
     requires few { places_of world.old ≤ MAX_MUTATORS }
     requires progress { IsProgress progress.old }
-    requires births { births_at world.old m ≤ length progress.old.replies.items }
-    ensures runs { RunsTrace P.rules world.old m progress.old world.new progress.new }
+    requires births { births_at world.old place ≤ length progress.old.replies.items }
+    ensures runs { RunsTrace P.rules world.old place progress.old world.new progress.new }
     ensures progress { IsProgress progress.new }
-    ensures births { births_at world.new m ≤ length progress.new.replies.items }
-    ensures end { EndsFor (stop_word world.old) world.new m (next_of progress.new) result }
+    ensures births { births_at world.new place ≤ length progress.new.replies.items }
+    ensures end { EndsFor (stop_word world.old) world.new place
+        (next_in_trace progress.new) result }
 {
     while let Some(stored) = progress.trace.get(progress.replies.len()) {
-        if let Some(end) = step(world, m, stored, &mut progress.replies, gate) {
+        if let Some(end) = step(world, place, stored, &mut progress.replies, gate) {
             return end;
         }
     }

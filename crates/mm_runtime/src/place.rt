@@ -8,7 +8,7 @@ ghost use Rattle.ideal_heap.specs.declared.reply.Reply.TheVariants as reply_is;
 ghost use Rattle.object_model.specs.Heaps.{heap_state};
 ghost use Rattle.object_model.specs.Objects.{size_of};
 ghost use Rattle.sessions.specs.Fitting.{Fits};
-ghost use Rattle.sessions.specs.Sessions.{Setting, Moment, Serves};
+ghost use Rattle.sessions.specs.Sessions.{Setting, Moment, ServesNeed};
 ghost use Rattle.managed_heap.specs.Stopped.{IsManaged};
 ghost use Rattle.managed_heap.specs.Needs.{reply_of};
 ghost use Rattle.mm_runtime.specs.Managers.{IsAtStop, IsInOrder, StandsAt};
@@ -36,44 +36,44 @@ fn reply_for(placed: &Placed) -> Reply
     }
 }
 
-/// The next reply to mutator `m`.
-fn reply_to(progress: &mut Vec<Progress>, m: u32, reply: Reply)
-    requires least { 1 ≤ m }
-    requires most { m ≤ length progress.old.items }
-    requires room { (k : ℕ) (p : Progress) → k + 1 ≡ m
+/// The next reply to mutator `number`.
+fn reply_to(progress: &mut Vec<Progress>, number: u32, reply: Reply)
+    requires least { 1 ≤ number }
+    requires most { number ≤ length progress.old.items }
+    requires room { (k : ℕ) (p : Progress) → k + 1 ≡ number
         → slice_get progress.old.items k ≡ Some p
         → length p.replies.items < p.replies.capacity }
-    ensures { (k : ℕ) → k + 1 ≡ m
+    ensures { (k : ℕ) → k + 1 ≡ number
         → RepliesAt progress.old.items progress.new.items k reply }
 {
-    progress[m as usize - 1].replies.push_reserved(reply);
+    progress[number as usize - 1].replies.push_reserved(reply);
 }
 
 impl<P: Plan> Manager<P> {
-    /// Serves a need of mutator `m`. If the object does not fit, the collection to try first is
-    /// made, and a full one if that was a nursery one and the object still does not fit. It is
+    /// Serves a need of mutator `number`. If the object does not fit, the collection to try first
+    /// is made, and a full one if that was a nursery one and the object still does not fit. It is
     /// placed if it fits then, and the reply is `full` if it does not.
     ///
     /// Fails if memory runs out. The manager is lost then.
     pub fn place_or_collect<Q: Pool, G: Gate, R: Threads + Sync>(
         self,
         rt: &R,
-        m: u32,
+        number: u32,
         need: Need,
         pool: &Q,
         gate: &G,
     ) -> Result<(Manager<P>, Placed), AllocError>
         requires plan { IsManaged P.rules }
         requires stop { IsAtStop P.rules 0 self }
-        requires next { NeedsNext self m need }
+        requires next { NeedsNext self number need }
         ensures order { IfOk result (λ r. IsInOrder P.rules 0 r.0) }
         ensures serves { (t : Setting) (now : Moment) → StandsAt P.rules self t now
             → IfOk result (λ r. (next : Moment)
-            × Serves t m need.register need.refs need.nums now next
+            × ServesNeed t number need.register need.refs need.nums now next
             × StandsAt P.rules r.0 t next) }
         ensures placed { IfOk result (λ r. MatchPlaced r.1
-            (λ n. RepliesTo self m (reply_is.New n) r.0)
-            (λ size. RepliesTo self m reply_is.Full r.0 × (size ≡ size_of need.refs need.nums)
+            (λ n. RepliesTo self number (reply_is.New n) r.0)
+            (λ size. RepliesTo self number reply_is.Full r.0 × (size ≡ size_of need.refs need.nums)
             × (r.0.heap.full ≡ self.heap.full + 1)
             × (Fits P.rules (heap_state r.0.heap.heap) size → ⊥))) }
     {
@@ -82,8 +82,8 @@ impl<P: Plan> Manager<P> {
             heap,
             mut progress,
         } = self;
-        let (heap, placed, _note) = heap.place_or_collect(rt, m, need, pool, gate)?;
-        reply_to(&mut progress, m, reply_for(&placed));
+        let (heap, placed, _note) = heap.place_or_collect(rt, number, need, pool, gate)?;
+        reply_to(&mut progress, number, reply_for(&placed));
         let manager = Manager {
             alloc,
             heap,

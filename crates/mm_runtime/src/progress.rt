@@ -2,7 +2,7 @@
 
 ghost use Rattle.std.specs.Prelude.{◌≡◌, ◌<◌, length, Some, None, MatchOption};
 ghost use Rattle.sessions.specs.Sessions.{is_at_meet, is_waiting};
-ghost use Rattle.mm_runtime.specs.Managers.{next_of, IsProgress};
+ghost use Rattle.mm_runtime.specs.Managers.{next_in_trace, IsProgress};
 ghost use Rattle.mm_runtime.specs.Replying.{GetsOk};
 
 use ideal_heap::{Command, Reply};
@@ -40,15 +40,15 @@ impl Progress {
     /// The next command as it is stored, `None` at the end of the trace.
     #[inline(always)]
     pub(crate) fn next_stored(&self) -> Option<StoredCommand<'_>>
-        ensures { MatchOption result (next_of self.now ≡ None)
-            (λ c. next_of self.now ≡ Some c) }
+        ensures { MatchOption result (next_in_trace self.now ≡ None)
+            (λ c. next_in_trace self.now ≡ Some c) }
     {
         self.trace.get(self.replies.len())
     }
 
     /// The next command, `None` at the end of the trace.
     pub(crate) fn next(&self) -> Option<Command>
-        ensures { result ≡ next_of self.now }
+        ensures { result ≡ next_in_trace self.now }
     {
         match self.next_stored() {
             Some(stored) => Some(stored.command()),
@@ -58,7 +58,7 @@ impl Progress {
 
     /// Whether it is at `meet`.
     pub(crate) fn is_at_meet(&self) -> bool
-        ensures { result ≡ is_at_meet (next_of self.now) }
+        ensures { result ≡ is_at_meet (next_in_trace self.now) }
     {
         match self.next() {
             None => false,
@@ -68,7 +68,7 @@ impl Progress {
 
     /// Whether it is at `meet` or at the end of its trace.
     pub(crate) fn waits(&self) -> bool
-        ensures { result ≡ is_waiting (next_of self.now) }
+        ensures { result ≡ is_waiting (next_in_trace self.now) }
     {
         match self.next() {
             None => true,

@@ -11,7 +11,7 @@ ghost use Rattle.object_model.specs.Objects.{global_at as global_word_at};
 ghost use Rattle.heap_users.specs.Users.{mutator_state};
 ghost use Rattle.sessions.specs.Sessions.{Setting, Moment};
 ghost use Rattle.mm_runtime.specs.declared.progress.Progress.{Progress as State};
-ghost use Rattle.mm_runtime.specs.Managers.{globals_of, Closes, HasMutator, IsInOrder};
+ghost use Rattle.mm_runtime.specs.Managers.{globals_of, Closes, IsMutatorOf, IsInOrder};
 
 use crate::manager::Manager;
 use crate::progress::MAX_COMMANDS;
@@ -52,17 +52,17 @@ impl<P: Plan> Manager<P> {
         self.progress.len() as u32
     }
 
-    /// The replies of mutator `m`, from 1 on, in the order of its trace.
-    pub fn replies(&self, m: u32) -> &StoredReplies
+    /// The replies of mutator `number`, from 1 on, in the order of its trace.
+    pub fn replies(&self, number: u32) -> &StoredReplies
         requires order { IsInOrder P.rules 0 self.now }
-        requires mutator { HasMutator self.now m }
+        requires mutator { IsMutatorOf self.now number }
         ensures few { length result.now.items ≤ MAX_COMMANDS }
-        ensures same { (p : State) → slice_get self.now.progress.items (m - 1) ≡ Some p
+        ensures same { (p : State) → slice_get self.now.progress.items (number - 1) ≡ Some p
             → result.now ≡ p.replies }
         ensures session { (t : Setting) (now : Moment) → Closes P.rules self.now t now
-            → result.now.items ≡ replies_of m now.done }
+            → result.now.items ≡ replies_of number now.done }
     {
-        &self.progress[m as usize - 1].replies
+        &self.progress[number as usize - 1].replies
     }
 
     /// The heap.

@@ -1,10 +1,11 @@
 //! All needs of a stop.
 //!
-//! `advance` calls `serve` after `collect_at`. Needs are served in ascending order of the mutators,
-//! each to its end, since one may collect for the next. All that is written, `place.rt` writes.
+//! `advance` calls `serve_needs` after `collect_at`. Needs are served in ascending order of the
+//! mutators, each to its end, since one may collect for the next. All that is written, `place.rt`
+//! writes.
 
 ghost use Rattle.std.specs.Prelude.{◌≡◌, ◌≤◌, ℕ, filter, length, IfOk};
-ghost use Rattle.sessions.specs.Sessions.{Setting, Moment, ServesAll, is_at_need, mutators_of};
+ghost use Rattle.sessions.specs.Sessions.{Setting, Moment, ServesAll, is_at_need, traced_mutators};
 ghost use Rattle.mm_runtime.specs.Managers.{replied, IsAtStop, IsInOrder, StandsAt};
 ghost use Rattle.managed_heap.specs.Stopped.{IsManaged};
 ghost use Rattle.mutator_calls.specs.declared.need.Need.{Need};
@@ -20,34 +21,34 @@ use std::thread::Threads;
 use work_packets::Gate;
 
 impl<P: Plan> Manager<P> {
-    /// Serves the need of mutator `m`, if its part of the epoch ended at one.
+    /// Serves the need of mutator `number`, if its part of the epoch ended at one.
     fn serve_end<Q: Pool, G: Gate, R: Threads + Sync>(
         self,
         rt: &R,
-        m: u32,
+        number: u32,
         end: End,
         pool: &Q,
         gate: &G,
     ) -> Result<Manager<P>, AllocError>
         requires plan { IsManaged P.rules }
         requires stop { IsAtStop P.rules 0 self }
-        requires least { 1 ≤ m }
-        requires next { (need : Need) → end ≡ End.Need need → NeedsNext self m need }
+        requires least { 1 ≤ number }
+        requires next { (need : Need) → end ≡ End.Need need → NeedsNext self number need }
         ensures order { IfOk result (λ r. IsInOrder P.rules 0 r) }
         ensures serves { (t : Setting) (now : Moment) → StandsAt P.rules self t now
-            → IfOk result (λ r. (next : Moment) × ServesEnd t m end now next
+            → IfOk result (λ r. (next : Moment) × ServesEnd t number end now next
             × StandsAt P.rules r t next) }
-        ensures replies { IfOk result (λ r. AddsReply self m r) }
+        ensures replies { IfOk result (λ r. AddsReply self number r) }
     {
         let End::Need(need) = end else {
             return Ok(self);
         };
-        let (manager, _placed) = self.place_or_collect(rt, m, need, pool, gate)?;
+        let (manager, _placed) = self.place_or_collect(rt, number, need, pool, gate)?;
         Ok(manager)
     }
 
     /// Serves each need, in ascending order of the mutators.
-    pub(crate) fn serve<Q: Pool, G: Gate, R: Threads + Sync>(
+    pub(crate) fn serve_needs<Q: Pool, G: Gate, R: Threads + Sync>(
         self,
         rt: &R,
         ends: &[End],
@@ -61,7 +62,7 @@ impl<P: Plan> Manager<P> {
         ensures order { IfOk result (λ r. IsInOrder P.rules 0 r) }
         ensures needs { (t : Setting) (now : Moment) → StandsAt P.rules self t now
             → IfOk result (λ r. (mid : Moment)
-            × ServesAll t (filter (λ m. is_at_need (causes ends.now m)) (mutators_of t)) now mid
+            × ServesAll t (filter (λ m. is_at_need (causes ends.now m)) (traced_mutators t)) now mid
             × StandsAt P.rules r t mid) }
         ensures replied { IfOk result (λ r.
             replied self.progress.items ≤ replied r.progress.items) }

@@ -1,4 +1,4 @@
--- The stop word that an answer to a poll tells.
+-- The stop word that an answer to a poll gives.
 use Rattle.std.specs.Prelude.{ℕ}
 use Rattle.mutator_calls.specs.declared.need.Polled.{Polled}
 use Rattle.mutator_calls.specs.declared.need.Polled.TheVariants.{Go, Raised}

@@ -9,20 +9,20 @@ ghost use Rattle.mutator_core.specs.Machine.{source};
 ghost use Rattle.mutator_calls.specs.Effects.{enters, logs, IsFound};
 ghost use Rattle.mutator_calls.specs.Accesses.{IsAccess, LacksIndex};
 
-use crate::seat::Seat;
+use crate::mutator_steps::MutatorSteps;
 use ideal_heap::{Command, GLOBALS, REGISTERS, Reply};
 use object_model::Shape;
 
 /// The shape of the object in register `s`, or the reply if the register is nil.
-fn shape_in<S: Seat>(seat: &mut S, s: u32, command: &Command) -> Result<Shape, Reply>
+fn shape_in<S: MutatorSteps>(seat: &mut S, s: u32, command: &Command) -> Result<Shape, Reply>
     requires ready { S.is_ready seat.old }
     requires register { s < REGISTERS }
     requires access { IsAccess command.now }
     requires source { source command.now ≡ s }
     ensures ready { S.is_ready seat.new }
-    ensures goes { MatchResult result (λ shape. S.looks seat.old seat.new
+    ensures goes { MatchResult result (λ shape. S.only_loads seat.old seat.new
         × S.has_shape seat.new s shape)
-        (λ reply. S.goes seat.old (enters command.now reply) seat.new) }
+        (λ reply. S.makes_steps seat.old (enters command.now reply) seat.new) }
     ensures refused { MatchResult result (λ shape. ⊤) (λ r. r ≢ reply.Done) }
 {
     if seat.is_nil(s) {
@@ -34,7 +34,7 @@ fn shape_in<S: Seat>(seat: &mut S, s: u32, command: &Command) -> Result<Shape, R
 
 /// The shape of the object in register `s`, or the reply if the register is nil or the object
 /// lacks reference field `i`.
-fn shape_with_field<S: Seat>(
+fn shape_with_field<S: MutatorSteps>(
     seat: &mut S,
     s: u32,
     i: u32,
@@ -46,9 +46,9 @@ fn shape_with_field<S: Seat>(
     requires source { source command.now ≡ s }
     requires lacks { (shape : Shape) → shape.refs ≤ i → LacksIndex shape command.now }
     ensures ready { S.is_ready seat.new }
-    ensures goes { MatchResult result (λ shape. S.looks seat.old seat.new
+    ensures goes { MatchResult result (λ shape. S.only_loads seat.old seat.new
         × S.has_shape seat.new s shape × (i < shape.refs))
-        (λ reply. S.goes seat.old (enters command.now reply) seat.new) }
+        (λ reply. S.makes_steps seat.old (enters command.now reply) seat.new) }
     ensures refused { MatchResult result (λ shape. ⊤) (λ r. r ≢ reply.Done) }
 {
     let shape = shape_in(seat, s, command)?;
@@ -61,7 +61,7 @@ fn shape_with_field<S: Seat>(
 
 /// The shape of the object in register `s`, or the reply if the register is nil or the object
 /// lacks number `j`.
-fn shape_with_number<S: Seat>(
+fn shape_with_number<S: MutatorSteps>(
     seat: &mut S,
     s: u32,
     j: u32,
@@ -73,9 +73,9 @@ fn shape_with_number<S: Seat>(
     requires source { source command.now ≡ s }
     requires lacks { (shape : Shape) → shape.nums ≤ j → LacksIndex shape command.now }
     ensures ready { S.is_ready seat.new }
-    ensures goes { MatchResult result (λ shape. S.looks seat.old seat.new
+    ensures goes { MatchResult result (λ shape. S.only_loads seat.old seat.new
         × S.has_shape seat.new s shape × (j < shape.nums))
-        (λ reply. S.goes seat.old (enters command.now reply) seat.new) }
+        (λ reply. S.makes_steps seat.old (enters command.now reply) seat.new) }
 {
     let shape = shape_in(seat, s, command)?;
     if j >= shape.nums {
@@ -86,11 +86,11 @@ fn shape_with_number<S: Seat>(
 }
 
 /// The reply to a load into register `d`: nil, or the object's name.
-fn found<S: Seat>(seat: &mut S, d: u32) -> Reply
+fn found<S: MutatorSteps>(seat: &mut S, d: u32) -> Reply
     requires ready { S.is_ready seat.old }
     requires register { d < REGISTERS }
     ensures ready { S.is_ready seat.new }
-    ensures looks { S.looks seat.old seat.new }
+    ensures looks { S.only_loads seat.old seat.new }
     ensures found { (reply : Reply) → IsFound (S.has_name seat.old) (S.address seat.old d) reply
         → reply ≡ result }
 {
@@ -101,12 +101,12 @@ fn found<S: Seat>(seat: &mut S, d: u32) -> Reply
 }
 
 /// Loads reference field `i` of the object in register `s` into register `d`.
-pub fn get<S: Seat>(seat: &mut S, d: u32, s: u32, i: u32) -> Reply
+pub fn get<S: MutatorSteps>(seat: &mut S, d: u32, s: u32, i: u32) -> Reply
     requires ready { S.is_ready seat.old }
     requires target { d < REGISTERS }
     requires source { s < REGISTERS }
     ensures ready { S.is_ready seat.new }
-    ensures goes { S.goes seat.old (enters (command.Get d s i) result) seat.new }
+    ensures goes { S.makes_steps seat.old (enters (command.Get d s i) result) seat.new }
 {
     match shape_with_field(seat, s, i, &Command::Get { d, s, i }) {
         Err(reply) => reply,
@@ -119,29 +119,29 @@ pub fn get<S: Seat>(seat: &mut S, d: u32, s: u32, i: u32) -> Reply
 
 /// Whether a store of a reference into the object in register `s` must log the object: the plan is
 /// generational, and the object is old and not logged yet.
-fn must_log<S: Seat>(seat: &mut S, s: u32) -> bool
+fn must_log<S: MutatorSteps>(seat: &mut S, s: u32) -> bool
     requires ready { S.is_ready seat.old }
     requires register { s < REGISTERS }
     requires some { S.address seat.old s ≢ 0 }
     ensures ready { S.is_ready seat.new }
-    ensures looks { S.looks seat.old seat.new }
+    ensures looks { S.only_loads seat.old seat.new }
     ensures needed { result ≡ true
         → S.has_ages seat.old × S.is_aged seat.old s × S.is_marked seat.old s }
-    ensures barred { result ≡ false → S.is_barred seat.new s }
+    ensures barred { result ≡ false → S.may_store_unlogged seat.new s }
 {
     seat.is_generational() && seat.is_old(s) && seat.is_unlogged(s)
 }
 
 /// Stores register `v` into reference field `i` of the object in register `s`, after the barrier.
-pub fn put<S: Seat>(seat: &mut S, s: u32, i: u32, v: u32) -> Reply
+pub fn put<S: MutatorSteps>(seat: &mut S, s: u32, i: u32, v: u32) -> Reply
     requires ready { S.is_ready seat.old }
     requires target { s < REGISTERS }
     requires source { v < REGISTERS }
     ensures ready { S.is_ready seat.new }
-    ensures goes { (logged : List ℕ) × S.goes seat.old
+    ensures goes { (logged : List ℕ) × S.makes_steps seat.old
         (logs logged (command.Put s i v) result) seat.new
-        × (((logged ≡ []) × (result ≡ reply.Done → (mid : S) × S.looks seat.old mid
-        × S.is_barred mid s))
+        × (((logged ≡ []) × (result ≡ reply.Done → (mid : S) × S.only_loads seat.old mid
+        × S.may_store_unlogged mid s))
         ⊎ ((logged ≡ S.address seat.old s ∷ []) × (result ≡ reply.Done)
         × S.has_ages seat.old × S.is_aged seat.old s × S.is_marked seat.old s)) }
 {
@@ -159,11 +159,11 @@ pub fn put<S: Seat>(seat: &mut S, s: u32, i: u32, v: u32) -> Reply
 }
 
 /// Loads number `j` of the object in register `s`.
-pub fn read<S: Seat>(seat: &mut S, s: u32, j: u32) -> Reply
+pub fn read<S: MutatorSteps>(seat: &mut S, s: u32, j: u32) -> Reply
     requires ready { S.is_ready seat.old }
     requires register { s < REGISTERS }
     ensures ready { S.is_ready seat.new }
-    ensures goes { S.goes seat.old (enters (command.Read s j) result) seat.new }
+    ensures goes { S.makes_steps seat.old (enters (command.Read s j) result) seat.new }
 {
     match shape_with_number(seat, s, j, &Command::Read { s, j }) {
         Err(reply) => reply,
@@ -172,11 +172,11 @@ pub fn read<S: Seat>(seat: &mut S, s: u32, j: u32) -> Reply
 }
 
 /// Stores number `j` of the object in register `s`.
-pub fn write<S: Seat>(seat: &mut S, s: u32, j: u32, n: u64) -> Reply
+pub fn write<S: MutatorSteps>(seat: &mut S, s: u32, j: u32, n: u64) -> Reply
     requires ready { S.is_ready seat.old }
     requires register { s < REGISTERS }
     ensures ready { S.is_ready seat.new }
-    ensures goes { S.goes seat.old (enters (command.Write s j n) result) seat.new }
+    ensures goes { S.makes_steps seat.old (enters (command.Write s j n) result) seat.new }
 {
     match shape_with_number(seat, s, j, &Command::Write { s, j, n }) {
         Err(reply) => reply,
@@ -188,11 +188,11 @@ pub fn write<S: Seat>(seat: &mut S, s: u32, j: u32, n: u64) -> Reply
 }
 
 /// Adds to number `j` of the object in register `s`, modulo 2^64. Replies the number before.
-pub fn add<S: Seat>(seat: &mut S, s: u32, j: u32, n: u64) -> Reply
+pub fn add<S: MutatorSteps>(seat: &mut S, s: u32, j: u32, n: u64) -> Reply
     requires ready { S.is_ready seat.old }
     requires register { s < REGISTERS }
     ensures ready { S.is_ready seat.new }
-    ensures goes { S.goes seat.old (enters (command.Add s j n) result) seat.new }
+    ensures goes { S.makes_steps seat.old (enters (command.Add s j n) result) seat.new }
 {
     match shape_with_number(seat, s, j, &Command::Add { s, j, n }) {
         Err(reply) => reply,
@@ -208,11 +208,11 @@ fn yes_or_no(changed: bool) -> Reply
 }
 
 /// Sets number `j` of the object in register `s` to `next` if it is `was`.
-pub fn swap<S: Seat>(seat: &mut S, s: u32, j: u32, was: u64, next: u64) -> Reply
+pub fn swap<S: MutatorSteps>(seat: &mut S, s: u32, j: u32, was: u64, next: u64) -> Reply
     requires ready { S.is_ready seat.old }
     requires register { s < REGISTERS }
     ensures ready { S.is_ready seat.new }
-    ensures goes { S.goes seat.old (enters (command.Swap s j was next) result) seat.new }
+    ensures goes { S.makes_steps seat.old (enters (command.Swap s j was next) result) seat.new }
 {
     match shape_with_number(seat, s, j, &Command::Swap { s, j, was, next }) {
         Err(reply) => reply,
@@ -221,58 +221,58 @@ pub fn swap<S: Seat>(seat: &mut S, s: u32, j: u32, was: u64, next: u64) -> Reply
 }
 
 /// Copies register `s` to register `d`.
-pub fn move_register<S: Seat>(seat: &mut S, d: u32, s: u32) -> Reply
+pub fn move_register<S: MutatorSteps>(seat: &mut S, d: u32, s: u32) -> Reply
     requires ready { S.is_ready seat.old }
     requires target { d < REGISTERS }
     requires source { s < REGISTERS }
     ensures ready { S.is_ready seat.new }
-    ensures goes { S.goes seat.old (enters (command.Move d s) result) seat.new }
+    ensures goes { S.makes_steps seat.old (enters (command.Move d s) result) seat.new }
 {
     seat.copy_register(d, s);
     Reply::Done
 }
 
 /// Clears register `s`.
-pub fn drop_register<S: Seat>(seat: &mut S, s: u32) -> Reply
+pub fn drop_register<S: MutatorSteps>(seat: &mut S, s: u32) -> Reply
     requires ready { S.is_ready seat.old }
     requires register { s < REGISTERS }
     ensures ready { S.is_ready seat.new }
-    ensures goes { S.goes seat.old (enters (command.DropReg s) result) seat.new }
+    ensures goes { S.makes_steps seat.old (enters (command.DropReg s) result) seat.new }
 {
     seat.clear_register(s);
     Reply::Done
 }
 
 /// Loads global `g` into register `d`.
-pub fn load<S: Seat>(seat: &mut S, d: u32, g: u32) -> Reply
+pub fn load<S: MutatorSteps>(seat: &mut S, d: u32, g: u32) -> Reply
     requires ready { S.is_ready seat.old }
     requires register { d < REGISTERS }
     requires global { g < GLOBALS }
     ensures ready { S.is_ready seat.new }
-    ensures goes { S.goes seat.old (enters (command.Load d g) result) seat.new }
+    ensures goes { S.makes_steps seat.old (enters (command.Load d g) result) seat.new }
 {
     seat.load_global(d, g);
     found(seat, d)
 }
 
 /// Stores register `s` into global `g`.
-pub fn share<S: Seat>(seat: &mut S, g: u32, s: u32) -> Reply
+pub fn share<S: MutatorSteps>(seat: &mut S, g: u32, s: u32) -> Reply
     requires ready { S.is_ready seat.old }
     requires register { s < REGISTERS }
     requires global { g < GLOBALS }
     ensures ready { S.is_ready seat.new }
-    ensures goes { S.goes seat.old (enters (command.Share g s) result) seat.new }
+    ensures goes { S.makes_steps seat.old (enters (command.Share g s) result) seat.new }
 {
     seat.store_global(g, s);
     Reply::Done
 }
 
 /// Pins the object in register `s`: no collection moves it.
-pub fn pin<S: Seat>(seat: &mut S, s: u32) -> Reply
+pub fn pin<S: MutatorSteps>(seat: &mut S, s: u32) -> Reply
     requires ready { S.is_ready seat.old }
     requires register { s < REGISTERS }
     ensures ready { S.is_ready seat.new }
-    ensures goes { S.goes seat.old (enters (command.Pin s) result) seat.new }
+    ensures goes { S.makes_steps seat.old (enters (command.Pin s) result) seat.new }
 {
     if seat.is_nil(s) {
         seat.answer_null(&Command::Pin { s });
@@ -282,11 +282,11 @@ pub fn pin<S: Seat>(seat: &mut S, s: u32) -> Reply
 }
 
 /// Unpins the object in register `s`.
-pub fn unpin<S: Seat>(seat: &mut S, s: u32) -> Reply
+pub fn unpin<S: MutatorSteps>(seat: &mut S, s: u32) -> Reply
     requires ready { S.is_ready seat.old }
     requires register { s < REGISTERS }
     ensures ready { S.is_ready seat.new }
-    ensures goes { S.goes seat.old (enters (command.Unpin s) result) seat.new }
+    ensures goes { S.makes_steps seat.old (enters (command.Unpin s) result) seat.new }
 {
     if seat.is_nil(s) {
         seat.answer_null(&Command::Unpin { s });

@@ -5,30 +5,30 @@ ghost use Rattle.object_model.specs.Objects.{size_of};
 ghost use Rattle.mutator_calls.specs.Effects.{nothing, takes, grants, draws};
 ghost use Rattle.mutator_calls.specs.Allocating.{births_with, searches, IsNextTicket, IsSpent, Draws, FindsRoom, TakesFree, IsShort, IsCause, IsNeedOf, MatchAllocated};
 
+use crate::mutator_steps::MutatorSteps;
 use crate::need::{Allocated, Need, NeedCause};
-use crate::seat::Seat;
 use ideal_heap::{MAX_NUMS, MAX_REFS, REGISTERS};
 use object_model::{MAX_MEDIUM_WORDS, Shape, size_words};
 
 /// Makes the first hole with room for `size` words, in ascending order of blocks, the seat's
 /// region. Returns whether there was one.
-fn take_some_hole<S: Seat>(seat: &mut S, size: u32) -> bool
+fn take_some_hole<S: MutatorSteps>(seat: &mut S, size: u32) -> bool
     requires ready { S.is_ready seat.old }
     requires least { 3 ≤ size }
     requires most { size ≤ MAX_MEDIUM_WORDS }
     requires full { S.is_full seat.old size }
     ensures found { result ≡ true → S.has_room seat.new size }
-    ensures offered { result ≡ true → S.offers seat.old seat.new size }
+    ensures offered { result ≡ true → S.offers_room seat.old seat.new size }
     ensures taken { result ≡ true → (k : ℕ) × (taken : List ℕ)
-        × ((taken ≡ []) ⊎ (taken ≡ k ∷ [])) × S.goes seat.old (takes taken) seat.new
-        × ((j : ℕ) → j < k → S.lacks seat.new size j) × S.allocates_in seat.new size k
-        × ((j : ℕ) → S.lacks seat.old size j → j ≢ k → S.lacks seat.new size j) }
+        × ((taken ≡ []) ⊎ (taken ≡ k ∷ [])) × S.makes_steps seat.old (takes taken) seat.new
+        × ((j : ℕ) → j < k → S.has_no_room seat.new size j) × S.allocates_in seat.new size k
+        × ((j : ℕ) → S.has_no_room seat.old size j → j ≢ k → S.has_no_room seat.new size j) }
     ensures ready { result ≡ false → S.is_ready seat.new }
-    ensures goes { result ≡ false → S.goes seat.old nothing seat.new }
+    ensures goes { result ≡ false → S.makes_steps seat.old nothing seat.new }
     ensures lacks { (k : ℕ) → result ≡ false → k < (S.books seat.new).blocks
-        → S.lacks seat.new size k }
-    ensures same { (c : S) (n : ℕ) → result ≡ false → S.offers seat.new c n
-        → S.offers seat.old c n }
+        → S.has_no_room seat.new size k }
+    ensures same { (c : S) (n : ℕ) → result ≡ false → S.offers_room seat.new c n
+        → S.offers_room seat.old c n }
     ensures still { (k : ℕ) → S.is_used seat.old k → S.is_used seat.new k }
     ensures books { S.books seat.new ≡ S.books seat.old }
 {
@@ -41,16 +41,16 @@ fn take_some_hole<S: Seat>(seat: &mut S, size: u32) -> bool
 }
 
 /// The mutator's ticket, which is drawn if it has none.
-fn hold_ticket<S: Seat>(seat: &mut S) -> u32
+fn hold_ticket<S: MutatorSteps>(seat: &mut S) -> u32
     requires { S.is_ready seat.old }
     ensures ready { S.is_ready seat.new }
-    ensures goes { (drawn : ℕ) × S.goes seat.old (draws drawn) seat.new
+    ensures goes { (drawn : ℕ) × S.makes_steps seat.old (draws drawn) seat.new
         × Draws (S.has_budget seat.old) (S.books seat.old).ticket (Some result) drawn }
     ensures full { (n : ℕ) → S.is_full seat.old n → S.is_full seat.new n }
-    ensures stays { (n k : ℕ) → S.lacks seat.old n k → S.lacks seat.new n k }
-    ensures lacked { (n k : ℕ) → S.allocates_in seat.old n k → S.lacks seat.new n k
-        → S.lacks seat.old n k }
-    ensures same { (c : S) (n : ℕ) → S.offers seat.new c n → S.offers seat.old c n }
+    ensures stays { (n k : ℕ) → S.has_no_room seat.old n k → S.has_no_room seat.new n k }
+    ensures lacked { (n k : ℕ) → S.allocates_in seat.old n k → S.has_no_room seat.new n k
+        → S.has_no_room seat.old n k }
+    ensures same { (c : S) (n : ℕ) → S.offers_room seat.new c n → S.offers_room seat.old c n }
     ensures books { S.books seat.new ≡ record (S.books seat.old) { ticket = Some result } }
 {
     match seat.ticket() {
@@ -61,16 +61,16 @@ fn hold_ticket<S: Seat>(seat: &mut S) -> u32
 
 /// Takes the first Free block with the mutator's ticket. There is one, since the ticket is below
 /// the allowance.
-fn take_some_free<S: Seat>(seat: &mut S, size: u32)
+fn take_some_free<S: MutatorSteps>(seat: &mut S, size: u32)
     requires ready { S.is_ready seat.old }
     requires least { 3 ≤ size }
     requires most { size ≤ MAX_MEDIUM_WORDS }
     requires ticket { (t : ℕ) × ((S.books seat.old).ticket ≡ Some t)
         × (t < (S.books seat.old).allowance) }
     ensures found { S.has_room seat.new size }
-    ensures offered { S.offers seat.old seat.new size }
-    ensures grants { (k : ℕ) × S.goes seat.old (grants k) seat.new
-        × ((j : ℕ) → S.lacks seat.old size j → j ≢ k → S.lacks seat.new size j)
+    ensures offered { S.offers_room seat.old seat.new size }
+    ensures grants { (k : ℕ) × S.makes_steps seat.old (grants k) seat.new
+        × ((j : ℕ) → S.has_no_room seat.old size j → j ≢ k → S.has_no_room seat.new size j)
         × ((j : ℕ) → j < k → S.is_used seat.new j) × S.allocates_in seat.new size k }
     ensures keeps { S.is_overflow seat.old size → S.keeps_hole seat.old seat.new }
     ensures overflow { S.is_overflow seat.old size → S.is_overflow seat.new size }
@@ -86,32 +86,32 @@ fn take_some_free<S: Seat>(seat: &mut S, size: u32)
 
 /// Takes the first Free block with the mutator's ticket, which is drawn if it has none. The error
 /// is a ticket that is not below the allowance.
-fn take_free_block<S: Seat>(seat: &mut S, size: u32) -> Result<(), u32>
+fn take_free_block<S: MutatorSteps>(seat: &mut S, size: u32) -> Result<(), u32>
     requires ready { S.is_ready seat.old }
     requires least { 3 ≤ size }
     requires most { size ≤ MAX_MEDIUM_WORDS }
     ensures room { IsOk result → S.has_room seat.new size }
-    ensures offered { IsOk result → S.offers seat.old seat.new size }
+    ensures offered { IsOk result → S.offers_room seat.old seat.new size }
     ensures takes { IsOk result → (k : ℕ) × (drawn : ℕ)
-        × S.goes seat.old (searches (k ∷ []) (k ∷ []) drawn) seat.new
+        × S.makes_steps seat.old (searches (k ∷ []) (k ∷ []) drawn) seat.new
         × TakesFree (S.is_used seat.new) (S.allocates_in seat.new size) (S.has_budget seat.old)
         (S.books seat.old) (S.books seat.new) k drawn
-        × ((j : ℕ) → S.lacks seat.old size j → j ≢ k → S.lacks seat.new size j) }
+        × ((j : ℕ) → S.has_no_room seat.old size j → j ≢ k → S.has_no_room seat.new size j) }
     ensures keeps { S.is_overflow seat.old size → S.keeps_hole seat.old seat.new }
     ensures overflow { S.is_overflow seat.old size → S.is_overflow seat.new size }
     ensures births { (S.books seat.new).births ≡ (S.books seat.old).births }
     ensures blocks { (S.books seat.new).blocks ≡ (S.books seat.old).blocks }
     ensures ready { IsErr result → S.is_ready seat.new }
-    ensures goes { IsErr result → (drawn : ℕ) × S.goes seat.old (draws drawn) seat.new
+    ensures goes { IsErr result → (drawn : ℕ) × S.makes_steps seat.old (draws drawn) seat.new
         × Draws (S.has_budget seat.old)
         (S.books seat.old).ticket (S.books seat.new).ticket drawn }
     ensures full { IsErr result → S.is_full seat.old size → S.is_full seat.new size }
-    ensures lacks { (j : ℕ) → IsErr result → S.lacks seat.old size j
-        → S.lacks seat.new size j }
+    ensures lacks { (j : ℕ) → IsErr result → S.has_no_room seat.old size j
+        → S.has_no_room seat.new size j }
     ensures lacked { (j : ℕ) → IsErr result → S.allocates_in seat.old size j
-        → S.lacks seat.new size j → S.lacks seat.old size j }
-    ensures same { (c : S) (n : ℕ) → IsErr result → S.offers seat.new c n
-        → S.offers seat.old c n }
+        → S.has_no_room seat.new size j → S.has_no_room seat.old size j }
+    ensures same { (c : S) (n : ℕ) → IsErr result → S.offers_room seat.new c n
+        → S.offers_room seat.old c n }
     ensures short { IfErr result (IsShort (S.books seat.new)) }
 {
     let ticket = hold_ticket(seat);
@@ -124,30 +124,31 @@ fn take_free_block<S: Seat>(seat: &mut S, size: u32) -> Result<(), u32>
 
 /// Makes the seat's region one with room for an object of `size` words that overflows the region:
 /// a Free block, else a hole, first one in the block of the hole region.
-fn find_overflow<S: Seat>(seat: &mut S, size: u32) -> Result<(), u32>
+fn find_overflow<S: MutatorSteps>(seat: &mut S, size: u32) -> Result<(), u32>
     requires ready { S.is_ready seat.old }
     requires least { 3 ≤ size }
     requires most { size ≤ MAX_MEDIUM_WORDS }
     requires overflow { S.is_overflow seat.old size }
     requires full { S.is_full seat.old size }
     ensures room { IsOk result → S.has_room seat.new size }
-    ensures offered { IsOk result → S.offers seat.old seat.new size }
+    ensures offered { IsOk result → S.offers_room seat.old seat.new size }
     ensures finds { IsOk result → (taken : List ℕ) × (granted : List ℕ) × (drawn : ℕ)
-        × S.goes seat.old (searches taken granted drawn) seat.new
-        × FindsRoom (S.lacks seat.new size) (S.is_used seat.new) (S.allocates_in seat.old size)
+        × S.makes_steps seat.old (searches taken granted drawn) seat.new
+        × FindsRoom (S.has_no_room seat.new size) (S.is_used seat.new)
+        (S.allocates_in seat.old size)
         (S.allocates_in seat.new size) (S.has_budget seat.old) (S.is_full seat.old size)
-        (IsSpent S.allocates_in S.lacks seat.old size)
+        (IsSpent S.allocates_in S.has_no_room seat.old size)
         (S.is_overflow seat.old size) (S.keeps_hole seat.old seat.new
         × S.is_overflow seat.new size) (S.books seat.new).blocks (S.books seat.new).allowance
         (S.books seat.old).ticket (S.books seat.new).ticket taken granted drawn }
     ensures births { (S.books seat.new).births ≡ (S.books seat.old).births }
     ensures ready { IsErr result → S.is_ready seat.new }
-    ensures goes { IsErr result → (drawn : ℕ) × S.goes seat.old (draws drawn) seat.new
+    ensures goes { IsErr result → (drawn : ℕ) × S.makes_steps seat.old (draws drawn) seat.new
         × Draws (S.has_budget seat.old)
         (S.books seat.old).ticket (S.books seat.new).ticket drawn }
     ensures spent { IsErr result
-        → IsSpent S.allocates_in S.lacks seat.old size }
-    ensures cause { IfErr result (λ t. IsCause (S.books seat.new) (S.lacks seat.new size)
+        → IsSpent S.allocates_in S.has_no_room seat.old size }
+    ensures cause { IfErr result (λ t. IsCause (S.books seat.new) (S.has_no_room seat.new size)
         size (NeedCause.Budget t)) }
 {
     let Err(ticket) = take_free_block(seat, size) else {
@@ -166,30 +167,31 @@ fn find_overflow<S: Seat>(seat: &mut S, size: u32) -> Result<(), u32>
 /// found, first one in the block of the hole region, or a Free block is taken with a ticket. In
 /// overflow allocation a Free block comes before a hole.
 #[inline(never)]
-fn find_room<S: Seat>(seat: &mut S, size: u32) -> Result<(), u32>
+fn find_room<S: MutatorSteps>(seat: &mut S, size: u32) -> Result<(), u32>
     requires ready { S.is_ready seat.old }
     requires least { 3 ≤ size }
     requires most { size ≤ MAX_MEDIUM_WORDS }
     requires full { S.is_full seat.old size }
     ensures room { IsOk result → S.has_room seat.new size }
-    ensures offered { IsOk result → S.offers seat.old seat.new size }
+    ensures offered { IsOk result → S.offers_room seat.old seat.new size }
     ensures finds { IsOk result → (taken : List ℕ) × (granted : List ℕ) × (drawn : ℕ)
-        × S.goes seat.old (searches taken granted drawn) seat.new
-        × FindsRoom (S.lacks seat.new size) (S.is_used seat.new) (S.allocates_in seat.old size)
-        (S.allocates_in seat.new size) (IsNextTicket S.goes S.has_budget seat.old)
+        × S.makes_steps seat.old (searches taken granted drawn) seat.new
+        × FindsRoom (S.has_no_room seat.new size) (S.is_used seat.new)
+        (S.allocates_in seat.old size)
+        (S.allocates_in seat.new size) (IsNextTicket S.makes_steps S.has_budget seat.old)
         (S.is_full seat.old size)
-        (IsSpent S.allocates_in S.lacks seat.old size)
+        (IsSpent S.allocates_in S.has_no_room seat.old size)
         (S.is_overflow seat.old size) (S.keeps_hole seat.old seat.new
         × S.is_overflow seat.new size) (S.books seat.new).blocks (S.books seat.new).allowance
         (S.books seat.old).ticket (S.books seat.new).ticket taken granted drawn }
     ensures births { (S.books seat.new).births ≡ (S.books seat.old).births }
     ensures ready { IsErr result → S.is_ready seat.new }
-    ensures goes { IsErr result → (drawn : ℕ) × S.goes seat.old (draws drawn) seat.new
-        × Draws (IsNextTicket S.goes S.has_budget seat.old)
+    ensures goes { IsErr result → (drawn : ℕ) × S.makes_steps seat.old (draws drawn) seat.new
+        × Draws (IsNextTicket S.makes_steps S.has_budget seat.old)
         (S.books seat.old).ticket (S.books seat.new).ticket drawn }
     ensures spent { IsErr result
-        → IsSpent S.allocates_in S.lacks seat.old size }
-    ensures cause { IfErr result (λ t. IsCause (S.books seat.new) (S.lacks seat.new size)
+        → IsSpent S.allocates_in S.has_no_room seat.old size }
+    ensures cause { IfErr result (λ t. IsCause (S.books seat.new) (S.has_no_room seat.new size)
         size (NeedCause.Budget t)) }
 {
     if seat.overflows(size) {
@@ -207,7 +209,7 @@ fn find_room<S: Seat>(seat: &mut S, size: u32) -> Result<(), u32>
 /// Allocates an object for which no region has room, after a search for room. It is inlined, as its
 /// caller is, so that the answer stays in registers.
 #[inline(always)]
-fn allocate_elsewhere<S: Seat>(seat: &mut S, d: u32, refs: u32, nums: u32) -> Allocated
+fn allocate_elsewhere<S: MutatorSteps>(seat: &mut S, d: u32, refs: u32, nums: u32) -> Allocated
     requires ready { S.is_ready seat.old }
     requires register { d < REGISTERS }
     requires refs { refs ≤ MAX_REFS }
@@ -218,32 +220,33 @@ fn allocate_elsewhere<S: Seat>(seat: &mut S, d: u32, refs: u32, nums: u32) -> Al
     ensures ready { S.is_ready seat.new }
     ensures made { MatchAllocated result
         (λ name. (taken : List ℕ) × (granted : List ℕ) × (drawn : ℕ)
-        × S.goes seat.old (births_with d refs nums name taken granted drawn) seat.new
-        × FindsRoom (S.lacks seat.new (size_of refs nums)) (S.is_used seat.new)
+        × S.makes_steps seat.old (births_with d refs nums name taken granted drawn) seat.new
+        × FindsRoom (S.has_no_room seat.new (size_of refs nums)) (S.is_used seat.new)
         (S.allocates_in seat.old (size_of refs nums))
-        (S.allocates_in seat.new (size_of refs nums)) (IsNextTicket S.goes S.has_budget seat.old)
+        (S.allocates_in seat.new (size_of refs nums))
+        (IsNextTicket S.makes_steps S.has_budget seat.old)
         (S.is_full seat.old (size_of refs nums))
-        (IsSpent S.allocates_in S.lacks seat.old (size_of refs nums))
+        (IsSpent S.allocates_in S.has_no_room seat.old (size_of refs nums))
         (S.is_overflow seat.old (size_of refs nums))
         (S.keeps_hole seat.old seat.new) (S.books seat.new).blocks (S.books seat.new).allowance
         (S.books seat.old).ticket (S.books seat.new).ticket
         taken granted drawn) (λ need. ⊤) }
     ensures placed { MatchAllocated result (λ name. (mid : S)
-        × S.offers seat.old mid (size_of refs nums)
+        × S.offers_room seat.old mid (size_of refs nums)
         × S.places mid seat.new d (size_of refs nums)) (λ need. ⊤) }
     ensures small { MatchAllocated result (λ name. size_of refs nums ≤ MAX_MEDIUM_WORDS)
         (λ need. ⊤) }
     ensures stopped { MatchAllocated result (λ name. ⊤)
-        (λ need. (drawn : ℕ) × S.goes seat.old (draws drawn) seat.new
-        × Draws (IsNextTicket S.goes S.has_budget seat.old)
+        (λ need. (drawn : ℕ) × S.makes_steps seat.old (draws drawn) seat.new
+        × Draws (IsNextTicket S.makes_steps S.has_budget seat.old)
         (S.books seat.old).ticket (S.books seat.new).ticket drawn
         × (MAX_MEDIUM_WORDS < size_of refs nums → drawn ≡ 0)) }
     ensures spent { MatchAllocated result (λ name. ⊤) (λ need.
         size_of refs nums ≤ MAX_MEDIUM_WORDS
-        → IsSpent S.allocates_in S.lacks seat.old (size_of refs nums)) }
+        → IsSpent S.allocates_in S.has_no_room seat.old (size_of refs nums)) }
     ensures need { MatchAllocated result (λ name. ⊤) (IsNeedOf d refs nums) }
     ensures cause { MatchAllocated result (λ name. ⊤) (λ need. IsCause (S.books seat.new)
-        (S.lacks seat.new (size_of refs nums)) (size_of refs nums) need.cause) }
+        (S.has_no_room seat.new (size_of refs nums)) (size_of refs nums) need.cause) }
 {
     let shape = Shape { refs, nums };
     match find_room(seat, size_words(&shape)) {
@@ -259,7 +262,7 @@ fn allocate_elsewhere<S: Seat>(seat: &mut S, d: u32, refs: u32, nums: u32) -> Al
 /// The answer is `Stop` if the object is large, or if no block has room that the mutator may fill
 /// and no Free block may be taken. No region changes then.
 #[inline(always)]
-pub fn new_object<S: Seat>(seat: &mut S, d: u32, refs: u32, nums: u32) -> Allocated
+pub fn new_object<S: MutatorSteps>(seat: &mut S, d: u32, refs: u32, nums: u32) -> Allocated
     requires ready { S.is_ready seat.old }
     requires register { d < REGISTERS }
     requires refs { refs ≤ MAX_REFS }
@@ -268,34 +271,35 @@ pub fn new_object<S: Seat>(seat: &mut S, d: u32, refs: u32, nums: u32) -> Alloca
     ensures ready { S.is_ready seat.new }
     ensures made { MatchAllocated result
         (λ name. (taken : List ℕ) × (granted : List ℕ) × (drawn : ℕ)
-        × S.goes seat.old (births_with d refs nums name taken granted drawn) seat.new
-        × FindsRoom (S.lacks seat.new (size_of refs nums)) (S.is_used seat.new)
+        × S.makes_steps seat.old (births_with d refs nums name taken granted drawn) seat.new
+        × FindsRoom (S.has_no_room seat.new (size_of refs nums)) (S.is_used seat.new)
         (S.allocates_in seat.old (size_of refs nums))
-        (S.allocates_in seat.new (size_of refs nums)) (IsNextTicket S.goes S.has_budget seat.old)
+        (S.allocates_in seat.new (size_of refs nums))
+        (IsNextTicket S.makes_steps S.has_budget seat.old)
         (S.is_full seat.old (size_of refs nums))
-        (IsSpent S.allocates_in S.lacks seat.old (size_of refs nums))
+        (IsSpent S.allocates_in S.has_no_room seat.old (size_of refs nums))
         (S.is_overflow seat.old (size_of refs nums))
         (S.keeps_hole seat.old seat.new) (S.books seat.new).blocks (S.books seat.new).allowance
         (S.books seat.old).ticket (S.books seat.new).ticket
         taken granted drawn) (λ need. ⊤) }
     ensures placed { MatchAllocated result (λ name. (mid : S)
-        × S.offers seat.old mid (size_of refs nums)
+        × S.offers_room seat.old mid (size_of refs nums)
         × S.places mid seat.new d (size_of refs nums)) (λ need. ⊤) }
     ensures small { MatchAllocated result (λ name. size_of refs nums ≤ MAX_MEDIUM_WORDS)
         (λ need. ⊤) }
     ensures stopped { MatchAllocated result (λ name. ⊤)
-        (λ need. (drawn : ℕ) × S.goes seat.old (draws drawn) seat.new
-        × Draws (IsNextTicket S.goes S.has_budget seat.old)
+        (λ need. (drawn : ℕ) × S.makes_steps seat.old (draws drawn) seat.new
+        × Draws (IsNextTicket S.makes_steps S.has_budget seat.old)
         (S.books seat.old).ticket (S.books seat.new).ticket drawn
         × (MAX_MEDIUM_WORDS < size_of refs nums → drawn ≡ 0)) }
     ensures full { MatchAllocated result (λ name. ⊤) (λ need.
         size_of refs nums ≤ MAX_MEDIUM_WORDS → S.is_full seat.old (size_of refs nums)) }
     ensures spent { MatchAllocated result (λ name. ⊤) (λ need.
         size_of refs nums ≤ MAX_MEDIUM_WORDS
-        → IsSpent S.allocates_in S.lacks seat.old (size_of refs nums)) }
+        → IsSpent S.allocates_in S.has_no_room seat.old (size_of refs nums)) }
     ensures need { MatchAllocated result (λ name. ⊤) (IsNeedOf d refs nums) }
     ensures cause { MatchAllocated result (λ name. ⊤) (λ need. IsCause (S.books seat.new)
-        (S.lacks seat.new (size_of refs nums)) (size_of refs nums) need.cause) }
+        (S.has_no_room seat.new (size_of refs nums)) (size_of refs nums) need.cause) }
 {
     let shape = Shape { refs, nums };
     let size = size_words(&shape);

@@ -3,14 +3,14 @@
 
 mod access;
 mod allocation;
+mod mutator_steps;
 mod need;
-mod seat;
 mod stops;
 
 pub use access::{
     add, drop_register, get, load, move_register, pin, put, read, share, swap, unpin, write,
 };
 pub use allocation::new_object;
+pub use mutator_steps::MutatorSteps;
 pub use need::{Allocated, Mutator, Need, NeedCause, Polled};
-pub use seat::Seat;
 pub use stops::{poll, raise};

@@ -18,8 +18,8 @@ pub struct Mutator {
 pub enum NeedCause {
     /// The object has more than 2,048 words.
     Large,
-    /// No block has room that the mutator may fill, and the ticket that it drew is not below the
-    /// allowance of the epoch.
+    /// No block has room that the mutator may fill, and the allowance is used up: the ticket that
+    /// the mutator drew is not below it.
     Budget(u32),
 }
 

@@ -4,14 +4,14 @@ ghost use Rattle.std.specs.Prelude.{◌≡◌, ◌≢◌, ℕ};
 ghost use Rattle.mutator_calls.specs.Effects.{raises};
 ghost use Rattle.mutator_calls.specs.Stopping.{stop_of};
 
+use crate::mutator_steps::MutatorSteps;
 use crate::need::Polled;
-use crate::seat::Seat;
 
 /// Whether a stop is raised, and by which mutator.
-pub fn poll<S: Seat>(seat: &mut S) -> Polled
+pub fn poll<S: MutatorSteps>(seat: &mut S) -> Polled
     requires { S.is_ready seat.old }
     ensures ready { S.is_ready seat.new }
-    ensures looks { S.looks seat.old seat.new }
+    ensures looks { S.only_loads seat.old seat.new }
     ensures stop { S.has_stop seat.old (stop_of result) }
     ensures raised { (n : ℕ) → result ≡ Polled.Raised n → n ≢ 0 }
 {
@@ -22,10 +22,10 @@ pub fn poll<S: Seat>(seat: &mut S) -> Polled
 }
 
 /// Raises a stop, unless one is raised.
-pub fn raise<S: Seat>(seat: &mut S)
+pub fn raise<S: MutatorSteps>(seat: &mut S)
     requires { S.is_ready seat.old }
     ensures ready { S.is_ready seat.new }
-    ensures goes { S.goes seat.old raises seat.new }
+    ensures goes { S.makes_steps seat.old raises seat.new }
 {
     seat.raise_stop();
 }

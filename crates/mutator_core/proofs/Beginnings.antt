@@ -16,7 +16,7 @@ use Rattle.mutator_core.specs.declared.state.LogEntry.{LogEntry}
 use Rattle.mutator_core.specs.declared.state.Answer.{Answer}
 use Rattle.mutator_core.specs.Machine.{Epoch, Machine, heap_in, mutator_of, next, found, local_after, answer_at, first_local, first_local_of, first_machine}
 use Rattle.mutator_core.specs.Histories.{after, IsLog, history, reply_in, entry_of, entries_of, entries_with}
-use Rattle.mutator_core.specs.Epochs.{IsReady, IsInEpoch, KnowsItsState}
+use Rattle.mutator_core.specs.Epochs.{EpochMayBegin, IsInEpoch, KnowsItsState}
 use Rattle.mutator_core.proofs.Lists.{contains-none, first-number}
 use Rattle.mutator_core.proofs.Law.{Goes, goes}
 use Rattle.mutator_core.proofs.Moments.{Holds}
@@ -47,7 +47,7 @@ first-mutators (m ∷ ms) differ =
     (λ k other. ap mutator_of (cond-false (nat_eq k m.number) (first_local m) (first_local_of ms k) (ne_eqb k m.number other))) (numbers_of ms) (differ-head m.number (numbers_of ms) differ)
     ∙ first-mutators ms (differ-tail m.number (numbers_of ms) differ))
 
-module _ (p : Epoch) (ready : IsReady p) (i : IdealHeap) (stood : Represents p.before p.mutators i) where
+module _ (p : Epoch) (ready : EpochMayBegin p) (i : IdealHeap) (stood : Represents p.before p.mutators i) where
   first-epoch : IsInEpoch p p.before (first_local_of p.mutators)
   first-epoch = record {
     numbers = first-number p.mutators;
@@ -81,19 +81,19 @@ module _ (p : Epoch) (ready : IsReady p) (i : IdealHeap) (stood : Represents p.b
 pub record Ends (p : Epoch) (h : Machine) (i : IdealHeap) (log : List LogEntry) : Type 1 where
   pub set : ℕ → Type 0
   pub run : runs.IsRun i (history p h log)
-  pub moment : Holds p (after p h log) (runs.after i (history p h log)) set
+  pub moment : Holds p (after p h log) (runs.heap_after_run i (history p h log)) set
 
-pub ends : (p : Epoch) → IsReady p → (log : List LogEntry) (h : Machine) (i : IdealHeap) (set : ℕ → Type 0) → Holds p h i set → IsLog p h log → Ends p h i log
+pub ends : (p : Epoch) → EpochMayBegin p → (log : List LogEntry) (h : Machine) (i : IdealHeap) (set : ℕ → Type 0) → Holds p h i set → IsLog p h log → Ends p h i log
 ends p ready [] h i set now is = record { set = set; run = tt; moment = now }
 ends p ready (x ∷ xs) h i set now is =
     let step : Goes p h i x.mutator x.event = goes p ready h i set now x.mutator is.0 x.event is.1 in
     let same : entries_with x.mutator (entry_of x.event) (reply_in (heap_in p h) (answer_at p h x.mutator x.event)) ≡ entries_of (heap_in p h) x =
     ap (λ (y : Answer). entries_with x.mutator (entry_of x.event) (reply_in (heap_in p h) y)) (sym is.2) in
     let run : runs.IsRun i (entries_of (heap_in p h) x) = subst (runs.IsRun i) same step.run in
-    let moment : Holds p (next p h x.mutator x.event) (runs.after i (entries_of (heap_in p h) x)) step.set =
-    subst (λ es. Holds p (next p h x.mutator x.event) (runs.after i es) step.set) same step.moment in
-    let rest : Ends p (next p h x.mutator x.event) (runs.after i (entries_of (heap_in p h) x)) xs =
-    ends p ready xs (next p h x.mutator x.event) (runs.after i (entries_of (heap_in p h) x)) step.set moment is.3 in
+    let moment : Holds p (next p h x.mutator x.event) (runs.heap_after_run i (entries_of (heap_in p h) x)) step.set =
+    subst (λ es. Holds p (next p h x.mutator x.event) (runs.heap_after_run i es) step.set) same step.moment in
+    let rest : Ends p (next p h x.mutator x.event) (runs.heap_after_run i (entries_of (heap_in p h) x)) xs =
+    ends p ready xs (next p h x.mutator x.event) (runs.heap_after_run i (entries_of (heap_in p h) x)) step.set moment is.3 in
     record {
       set = rest.set;
       run = longer i (entries_of (heap_in p h) x) (history p (next p h x.mutator x.event) xs) run rest.run;
@@ -101,7 +101,7 @@ ends p ready (x ∷ xs) h i set now is =
     }
 
 -- from the beginning of an epoch
-pub log-ends : (p : Epoch) (i : IdealHeap) (log : List LogEntry) → IsReady p → Represents p.before p.mutators i → IsLog p (first_machine p) log → Ends p (first_machine p) i log
+pub log-ends : (p : Epoch) (i : IdealHeap) (log : List LogEntry) → EpochMayBegin p → Represents p.before p.mutators i → IsLog p (first_machine p) log → Ends p (first_machine p) i log
 log-ends p i log ready standing is = ends p ready log (first_machine p) i (IsReachable p.before (roots_of p.mutators)) (first-holds p ready i standing) is
 
 -- a number that no mutator has keeps its first state

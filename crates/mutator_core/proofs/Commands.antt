@@ -29,16 +29,16 @@ use Rattle.mutator_core.specs.declared.state.Answer.TheVariants.{Reference}
 use Rattle.mutator_core.specs.Machine.{Epoch, Machine, heap_in, address_in, with_address, mutator_of, mutators_in, next, source, refs_in, nums_in, number_word}
 use Rattle.side_meta.specs.BitWords.{with_bit, without_bit}
 use Rattle.object_model.specs.BitWords.{bit_word, bit_place}
-use Rattle.mutator_core.specs.Guards.{IsBarred, HasShape, HasField, HasNumber, LacksField, LacksNumber, IsMiss}
+use Rattle.mutator_core.specs.Guards.{MayStoreReference, HasLoadedShape, HasField, HasNumber, LacksField, LacksNumber, IsMiss}
 use Rattle.mutator_core.specs.Histories.{reply_in}
-use Rattle.mutator_core.specs.Epochs.{IsReady, KnowsItsState}
+use Rattle.mutator_core.specs.Epochs.{EpochMayBegin, KnowsItsState}
 use Rattle.mutator_core.proofs.Kept as kept
 use Rattle.mutator_core.proofs.Kept.{Untouched, KeepsFields, Grows, grown}
 use Rattle.object_model.proofs.BitWords as bits
 use Rattle.side_meta.proofs.BitWords as single
 use Rattle.mutator_core.proofs.Moments.{Holds, Replies, machine_with, same-words, finish, one-of}
 
-module _ (p : Epoch) (ready : IsReady p) (h : Machine) (i : IdealHeap) (set : ℕ → Type 0) (now : Holds p h i set) (m : ℕ) (known : Contains (numbers_of p.mutators) m) where
+module _ (p : Epoch) (ready : EpochMayBegin p) (h : Machine) (i : IdealHeap) (set : ℕ → Type 0) (now : Holds p h i set) (m : ℕ) (known : Contains (numbers_of p.mutators) m) where
   abbrev s : HeapState
   s = heap_in p h
 
@@ -101,18 +101,18 @@ module _ (p : Epoch) (ready : IsReady p) (h : Machine) (i : IdealHeap) (set : �
       (registers.load-nil s (mutator_of l) d g low few) (registers.load-ref s (mutator_of l) d g low few)
 
   -- the object in a register, whose shape was loaded
-  known-object : (q : ℕ) → HasShape (h.locals m) q → IsHeld (heap_in p h) (address_in (h.locals m) q) × (word_at (heap_in p h) (address_in (h.locals m) q + 1) ≡ (h.locals m).shape.word)
+  known-object : (q : ℕ) → HasLoadedShape (h.locals m) q → IsHeld (heap_in p h) (address_in (h.locals m) q) × (word_at (heap_in p h) (address_in (h.locals m) q + 1) ≡ (h.locals m).shape.word)
   known-object q has =
       let is = (now.epoch.knows m).header (subst (λ (x : ℕ). 0 < x) (sym has.2) has.1) in
       (subst (IsHeld s) has.2 is.0, subst (λ (x : ℕ). word_at s (x + 1) ≡ l.shape.word) has.2 is.1)
 
-  known-refs : (q : ℕ) → HasShape (h.locals m) q → refs_at (heap_in p h) (address_in (h.locals m) q) ≡ refs_in (h.locals m).shape.word
+  known-refs : (q : ℕ) → HasLoadedShape (h.locals m) q → refs_at (heap_in p h) (address_in (h.locals m) q) ≡ refs_in (h.locals m).shape.word
   known-refs q has = ap refs_in (known-object q has).1
 
-  known-nums : (q : ℕ) → HasShape (h.locals m) q → nums_at (heap_in p h) (address_in (h.locals m) q) ≡ nums_in (h.locals m).shape.word
+  known-nums : (q : ℕ) → HasLoadedShape (h.locals m) q → nums_at (heap_in p h) (address_in (h.locals m) q) ≡ nums_in (h.locals m).shape.word
   known-nums q has = ap nums_in (known-object q has).1
 
-  some-address : (q : ℕ) → HasShape (h.locals m) q → address_in (h.locals m) q ≢ 0
+  some-address : (q : ℕ) → HasLoadedShape (h.locals m) q → address_in (h.locals m) q ≢ 0
   some-address q has e = let some : 0 < address_in l q = has.1 in omega arith
 
   pub get : (d q k : ℕ) → d < 16 → HasField (h.locals m) q k → Replies p h i set m (c.Get d q k) (reply_in (heap_in p h) (Reference (ref_at (heap_in p h) (address_in (h.locals m) q) k))) (next p h m (e.Perform (c.Get d q k)))
@@ -122,7 +122,7 @@ module _ (p : Epoch) (ready : IsReady p) (h : Machine) (i : IdealHeap) (set : �
       (cases.get-nil s (mutator_of l) d q k low has.0.0 (some-address q has.0) less) (cases.get-ref s (mutator_of l) d q k low has.0.0 (some-address q has.0) less)
 
   -- a store after the barrier leaves the fields of old objects whose unlog bits are set
-  put-fields : (q k v : ℕ) → HasField (h.locals m) q k → IsBarred p (h.locals m) q → KeepsFields p (heap_in p h) (slice_set h.words (address_in (h.locals m) q + 3 + k) v)
+  put-fields : (q k v : ℕ) → HasField (h.locals m) q k → MayStoreReference p (h.locals m) q → KeepsFields p (heap_in p h) (slice_set h.words (address_in (h.locals m) q + 3 + k) v)
   put-fields q k v has barred young x j holds less aged unlogged = elim (cases_eq (x + 3 + j) (address_in l q + 3 + k)) as (λ _. ref_at (with_words s (slice_set h.words (address_in l q + 3 + k) v)) x j ≡ ref_at s x j) [
     | inr other ↦ get_or-set_other h.words (address_in l q + 3 + k) (x + 3 + j) v 0 other
     | inl e ↦ absurd (elim (cases_eq x (address_in l q)) as (λ _. ⊥) [
@@ -144,7 +144,7 @@ module _ (p : Epoch) (ready : IsReady p) (h : Machine) (i : IdealHeap) (set : �
         ]
       ]
 
-  pub put : (q k v : ℕ) → v < 16 → HasField (h.locals m) q k → IsBarred p (h.locals m) q → Replies p h i set m (c.Put q k v) r.Done (next p h m (e.Perform (c.Put q k v)))
+  pub put : (q k v : ℕ) → v < 16 → HasField (h.locals m) q k → MayStoreReference p (h.locals m) q → Replies p h i set m (c.Put q k v) r.Done (next p h m (e.Perform (c.Put q k v)))
   put q k v low has barred =
       let a : ℕ = address_in l q in
       let less : k < refs_at s a = subst (λ (n : ℕ). k < n) (sym (known-refs q has.0)) has.1 in
@@ -178,7 +178,7 @@ module _ (p : Epoch) (ready : IsReady p) (h : Machine) (i : IdealHeap) (set : �
       ])
 
   -- a step on a number, by the number of references that was loaded
-  by-refs : (q : ℕ) (P : ℕ → Type 1) → HasShape (h.locals m) q → P (refs_at (heap_in p h) (address_in (h.locals m) q)) → P (refs_in (h.locals m).shape.word)
+  by-refs : (q : ℕ) (P : ℕ → Type 1) → HasLoadedShape (h.locals m) q → P (refs_at (heap_in p h) (address_in (h.locals m) q)) → P (refs_in (h.locals m).shape.word)
   by-refs q P has = subst P (known-refs q has)
 
   pub read : (q j : ℕ) → HasNumber (h.locals m) q j → Replies p h i set m (c.Read q j) (r.Num (word_at (heap_in p h) (number_word (h.locals m) q j))) (next p h m (e.Perform (c.Read q j)))

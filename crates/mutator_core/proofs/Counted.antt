@@ -27,8 +27,8 @@ use Rattle.mutator_core.specs.declared.state.LogEntry.{LogEntry}
 use Rattle.mutator_core.specs.Machine.{Epoch, Machine, heap_in, next, found, found_code, owned_code, local_after, taken, first_local_of}
 use Rattle.mutator_core.specs.Guards.{MayStep, MayTake}
 use Rattle.mutator_core.specs.Histories.{after, IsLog}
-use Rattle.mutator_core.specs.Epochs.{IsReady}
-use Rattle.mutator_core.specs.Tickets.{AreCounted, tickets_in, tickets_below, taken_by, drawn_by, allowed_to, smaller}
+use Rattle.mutator_core.specs.Epochs.{EpochMayBegin}
+use Rattle.mutator_core.specs.Tickets.{TicketsAreCounted, tickets_in, tickets_below, taken_by, drawn_by, allowed_to, smaller}
 use Rattle.mutator_core.proofs.Lists.{with_local, local-cases}
 use Rattle.mutator_core.proofs.Fills.{fills-some}
 use Rattle.mutator_core.proofs.Spots.{Spot, spot, draws_ticket, takes_block}
@@ -89,7 +89,7 @@ below-least : (most : ℕ) (o : Option ℕ) → tickets_in o ≤ tickets_below m
 below-least most None = omega arith
 below-least most (Some t) = omega arith
 
-module _ (p : Epoch) (ready : IsReady p) (differ : AreDifferent (numbers_of p.mutators)) (s : HeapState) (locals : ℕ → Local) (m : ℕ) (known : Contains (numbers_of p.mutators) m) (counted : AreCounted p s locals) where
+module _ (p : Epoch) (ready : EpochMayBegin p) (differ : AreDifferent (numbers_of p.mutators)) (s : HeapState) (locals : ℕ → Local) (m : ℕ) (known : Contains (numbers_of p.mutators) m) (counted : TicketsAreCounted p s locals) where
   abbrev most : ℕ
   most = allowance_of p.rules.reserve p.before
 
@@ -116,7 +116,7 @@ module _ (p : Epoch) (ready : IsReady p) (differ : AreDifferent (numbers_of p.mu
       before q = local-cases (λ j x. x.ticket ≡ Some t → (locals j).ticket ≡ Some t) locals m l q (λ e. had t) (λ other has. has)
 
   -- neither tickets nor taken blocks change
-  unchanged : (w : List ℕ) (l : Local) → slice_index w 1 ≡ word_at s 1 → free_of (with_words s w) ≡ free_of s → l.granted ≡ (locals m).granted → l.ticket ≡ (locals m).ticket → AreCounted p (with_words s w) (with_local locals m l)
+  unchanged : (w : List ℕ) (l : Local) → slice_index w 1 ≡ word_at s 1 → free_of (with_words s w) ≡ free_of s → l.granted ≡ (locals m).granted → l.ticket ≡ (locals m).ticket → TicketsAreCounted p (with_words s w) (with_local locals m l)
   unchanged w l budget free granted ticket =
       let same_taken : taken_by l ≡ taken_by (locals m) = ap length granted in
       let same_drawn : drawn_by l ≡ drawn_by (locals m) = ap (λ g. length g + tickets_in l.ticket) granted ∙ ap (λ t. taken_by (locals m) + tickets_in t) ticket in
@@ -145,7 +145,7 @@ module _ (p : Epoch) (ready : IsReady p) (differ : AreDifferent (numbers_of p.mu
 
   -- a ticket is drawn
   drew : (w : List ℕ) (l : Local) → slice_index w 1 ≡ word_at s 1 + 1 → free_of (with_words s w) ≡ free_of s → l.granted ≡ (locals m).granted → (locals m).ticket ≡ None → l.ticket ≡ Some (word_at s 1)
-      → AreCounted p (with_words s w) (with_local locals m l)
+      → TicketsAreCounted p (with_words s w) (with_local locals m l)
   drew w l budget free granted before ticket =
       let n : ℕ = word_at s 1 in
       let same_taken : taken_by l ≡ taken_by (locals m) = ap length granted in
@@ -199,7 +199,7 @@ module _ (p : Epoch) (ready : IsReady p) (differ : AreDifferent (numbers_of p.mu
 
   -- a Free block is taken with a ticket
   used-ticket : (w : List ℕ) (l : Local) (k t : ℕ) → slice_index w 1 ≡ word_at s 1 → free_of s ≡ free_of (with_words s w) + 1 → l.granted ≡ k ∷ (locals m).granted → (locals m).ticket ≡ Some t → t < most → l.ticket ≡ None
-      → AreCounted p (with_words s w) (with_local locals m l)
+      → TicketsAreCounted p (with_words s w) (with_local locals m l)
   used-ticket w l k t budget free granted before less ticket =
       let more_taken : taken_by l ≡ taken_by (locals m) + 1 = ap length granted ∙ (omega arith) in
       let old_drawn : drawn_by (locals m) ≡ taken_by (locals m) + 1 = ap (λ o. taken_by (locals m) + tickets_in o) before in
@@ -218,8 +218,8 @@ module _ (p : Epoch) (ready : IsReady p) (differ : AreDifferent (numbers_of p.mu
         apart = kept-apart l (λ t has. absurd (none-some t (sym ticket ∙ has)));
       }
 
-module _ (p : Epoch) (ready : IsReady p) (differ : AreDifferent (numbers_of p.mutators)) (h : Machine) (i : IdealHeap) (set : ℕ → Type 0) (now : Holds p h i set) (m : ℕ) (known : Contains (numbers_of p.mutators) m)
-    (counted : AreCounted p (heap_in p h) h.locals) where
+module _ (p : Epoch) (ready : EpochMayBegin p) (differ : AreDifferent (numbers_of p.mutators)) (h : Machine) (i : IdealHeap) (set : ℕ → Type 0) (now : Holds p h i set) (m : ℕ) (known : Contains (numbers_of p.mutators) m)
+    (counted : TicketsAreCounted p (heap_in p h) h.locals) where
   abbrev heap : HeapState
   heap = heap_in p h
 
@@ -230,13 +230,13 @@ module _ (p : Epoch) (ready : IsReady p) (differ : AreDifferent (numbers_of p.mu
   free-same : (w : List ℕ) → ((k : ℕ) → k < heap.blocks → block_word (with_words heap w) k ≡ block_word heap k) → free_of (with_words heap w) ≡ free_of heap
   free-same w same = ap (λ f. count_by f (range_with_len 0 heap.blocks)) (fun_ext (λ k. has_kind-same heap w same k kinds.Free))
 
-  steady : (x : Event) → (may : MayStep p own x) → draws_ticket x ≡ false → takes_block x ≡ false → AreCounted p (heap_in p (next p h m x)) (next p h m x).locals
+  steady : (x : Event) → (may : MayStep p own x) → draws_ticket x ≡ false → takes_block x ≡ false → TicketsAreCounted p (heap_in p (next p h m x)) (next p h m x).locals
   steady x may draws takes =
       let at : Spot heap (next p h m x).words x = spot p ready h i set now m known x may in
       let same = granted-same p own x (found p h m x) draws takes in
       unchanged p ready differ heap h.locals m known counted (next p h m x).words (local_after p own x (found p h m x)) (at.tickets draws) (free-same (next p h m x).words (at.blocks takes)) same.0 same.1
 
-  draw-counted : (may : MayStep p own e.DrawTicket) → AreCounted p (heap_in p (next p h m e.DrawTicket)) (next p h m e.DrawTicket).locals
+  draw-counted : (may : MayStep p own e.DrawTicket) → TicketsAreCounted p (heap_in p (next p h m e.DrawTicket)) (next p h m e.DrawTicket).locals
   draw-counted may =
       let at : Spot heap (next p h m e.DrawTicket).words e.DrawTicket = spot p ready h i set now m known e.DrawTicket may in
       let n : ℕ = word_at heap 1 in
@@ -278,10 +278,10 @@ module _ (p : Epoch) (ready : IsReady p) (differ : AreDifferent (numbers_of p.mu
     seen = record own { blocks = (record { at = k; word = block_word heap k }) ∷ own.blocks }
 
     abbrev Result : Bool → Type 0
-    Result b = AreCounted p (with_words heap (slice_set h.words (first heap.blocks BlockWords + k) (if b then v else block_word heap k))) (with_local h.locals m (if b then taken p own k class free else seen))
+    Result b = TicketsAreCounted p (with_words heap (slice_set h.words (first heap.blocks BlockWords + k) (if b then v else block_word heap k))) (with_local h.locals m (if b then taken p own k class free else seen))
 
     lost : Result false
-    lost = subst (λ (ws : List ℕ). AreCounted p (with_words heap ws) (with_local h.locals m seen)) (sym (same-words h.words (first heap.blocks BlockWords + k)))
+    lost = subst (λ (ws : List ℕ). TicketsAreCounted p (with_words heap ws) (with_local h.locals m seen)) (sym (same-words h.words (first heap.blocks BlockWords + k)))
         (unchanged p ready differ heap h.locals m known counted h.words seen refl refl refl refl)
 
   -- the block word found was the expected one
@@ -301,13 +301,13 @@ module _ (p : Epoch) (ready : IsReady p) (differ : AreDifferent (numbers_of p.mu
       let sum = counts k class false may in
       unchanged p ready differ heap h.locals m known counted (w k class false may) (taken p own k class false) (budget-same k class false may) (omega arith) refl refl
 
-  take-counted : (k class : ℕ) (free : Bool) (may : MayTake p own k class free) → AreCounted p (heap_in p (next p h m (e.TakeBlock k class free))) (next p h m (e.TakeBlock k class free)).locals
+  take-counted : (k class : ℕ) (free : Bool) (may : MayTake p own k class free) → TicketsAreCounted p (heap_in p (next p h m (e.TakeBlock k class free))) (next p h m (e.TakeBlock k class free)).locals
   take-counted k class free may = elim (cases_eq (block_word heap k) (found_code p class free)) as (λ _. Result k class free may (nat_eq (block_word heap k) (found_code p class free))) [
     | inl e ↦ subst (Result k class free may) (sym (eq-eqb (block_word heap k) (found_code p class free) e)) (took k class free may e)
     | inr other ↦ subst (Result k class free may) (sym (ne_eqb (block_word heap k) (found_code p class free) other)) (lost k class free may)
   ]
 
-  pub counted-next : (x : Event) → MayStep p own x → AreCounted p (heap_in p (next p h m x)) (next p h m x).locals
+  pub counted-next : (x : Event) → MayStep p own x → TicketsAreCounted p (heap_in p (next p h m x)) (next p h m x).locals
   counted-next (e.Perform command) may = steady (e.Perform command) may refl refl
   counted-next (e.Miss command) may = steady (e.Miss command) may refl refl
   counted-next e.Poll may = steady e.Poll may refl refl
@@ -325,15 +325,15 @@ module _ (p : Epoch) (ready : IsReady p) (differ : AreDifferent (numbers_of p.mu
   counted-next (e.TakeBlock k class free) may = take-counted k class free may
 
 -- after each step of a log
-pub counted-ends : (p : Epoch) → IsReady p → AreDifferent (numbers_of p.mutators) → (log : List LogEntry) (h : Machine) (i : IdealHeap) (set : ℕ → Type 0) → Holds p h i set
-    → AreCounted p (heap_in p h) h.locals → IsLog p h log → AreCounted p (heap_in p (after p h log)) (after p h log).locals
+pub counted-ends : (p : Epoch) → EpochMayBegin p → AreDifferent (numbers_of p.mutators) → (log : List LogEntry) (h : Machine) (i : IdealHeap) (set : ℕ → Type 0) → Holds p h i set
+    → TicketsAreCounted p (heap_in p h) h.locals → IsLog p h log → TicketsAreCounted p (heap_in p (after p h log)) (after p h log).locals
 counted-ends p ready differ [] h i set now counted is = counted
 counted-ends p ready differ (x ∷ xs) h i set now counted is =
     let step : Goes p h i x.mutator x.event = goes p ready h i set now x.mutator is.0 x.event is.1 in
     counted-ends p ready differ xs (next p h x.mutator x.event) _ step.set step.moment (counted-next p ready differ h i set now x.mutator is.0 counted x.event is.1) is.3
 
 -- from the beginning of an epoch
-pub first-counted : (p : Epoch) → IsReady p → AreCounted p p.before (first_local_of p.mutators)
+pub first-counted : (p : Epoch) → EpochMayBegin p → TicketsAreCounted p p.before (first_local_of p.mutators)
 first-counted p ready =
     let most : ℕ = allowance_of p.rules.reserve p.before in
     let none : (ks : List ℕ) → sum_by (λ k. 0) ks ≡ 0 = nothing in

@@ -5,7 +5,7 @@ use Rattle.object_model.specs.Objects.{empty_heap}
 use Rattle.object_model.specs.Graphs.{new_mutator}
 use Rattle.object_model.proofs.Zeros as zeros
 use Rattle.sessions.specs.Plans.{Plan, NoGc, MarkSweep, SemiSpace, GenCopy, Immix, StickyImmix, rules_of}
-use Rattle.mutator_core.specs.Epochs.{IsReady, is_filled}
+use Rattle.mutator_core.specs.Epochs.{EpochMayBegin, is_filled}
 
 fills : (plan : Plan) → IsTrue (is_filled (rules_of plan).fill)
 fills NoGc = refl
@@ -16,7 +16,7 @@ fills Immix = refl
 fills StickyImmix = refl
 
 pub empty-ready : (plan : Plan) (b : ℕ) (numbers : List ℕ) → 4 ≤ b → b ≤ 1024 → length numbers ≤ 16
-    → IsReady (record { rules = rules_of plan; before = empty_heap b; mutators = map new_mutator numbers })
+    → EpochMayBegin (record { rules = rules_of plan; before = empty_heap b; mutators = map new_mutator numbers })
 empty-ready plan b numbers least most few = record {
   lawful = zeros.lawful b least most;
   remembers = λ young a j holds old unlogged less some. absurd (zeros.none_held b a holds);

@@ -21,13 +21,13 @@ use Rattle.object_model.proofs.Frames.{same-layout}
 use Rattle.object_model.proofs.OneKind.{kind-within, kind-from, kind-code}
 use Rattle.sessions.specs.Fitting.{free_of, allowance_of, class_of, HasHole, LiesInHole}
 use Rattle.sessions.specs.Collecting.{is_logged_under}
-use Rattle.sessions.specs.Sessions.{Stopped, IsBirth, IsBirthOf, IsPacked, StoresInto}
+use Rattle.sessions.specs.Sessions.{Stopped, IsBirth, IsBirthOf, LeavesNoGap, StoresInto}
 use Rattle.mutator_core.specs.declared.state.LogEntry.{LogEntry}
 use Rattle.mutator_core.specs.Machine.{Epoch, Machine, heap_in, mutators_in, first_local_of, first_machine}
 use Rattle.mutator_core.specs.Logs.{IsEpochLog, machine_after, heap_after, mutators_after, local_after_log, history_of, AreBetweenCalls}
 use Rattle.mutator_core.specs.Guards.{IsCell, BeginsRegion}
-use Rattle.mutator_core.specs.Epochs.{IsReady, IsOwned, IsMade}
-use Rattle.mutator_core.specs.Tickets.{AreCounted, taken_by, allowed_to, smaller}
+use Rattle.mutator_core.specs.Epochs.{EpochMayBegin, IsOwned, IsMade}
+use Rattle.mutator_core.specs.Tickets.{TicketsAreCounted, taken_by, allowed_to, smaller}
 use Rattle.mutator_core.specs.Seen.{AreSeen, AreLoaded}
 use Rattle.mutator_core.specs.Closing.{IsBetweenCalls, GivesBack}
 use Rattle.mutator_core.proofs.Lists.{mutators-listed, contains-none}
@@ -41,8 +41,8 @@ use Rattle.mutator_core.proofs.SeenWords.{seen-ends, first-seen}
 use Rattle.mutator_core.proofs.GivenBack as back
 use Rattle.mutator_core.proofs.Moments.{Holds}
 
-module _ (p : Epoch) (ready : IsReady p) (h : Machine) (first : IdealHeap) (past : List Entry) (set : ℕ → Type 0) (now : Holds p h (runs.after first past) set)
-    (recorded : Recorded p first past (heap_in p h) h.locals) (counted : AreCounted p (heap_in p h) h.locals) (rest : (m : ℕ) → Contains (numbers_of p.mutators) m → IsBetweenCalls p (h.locals m))
+module _ (p : Epoch) (ready : EpochMayBegin p) (h : Machine) (first : IdealHeap) (past : List Entry) (set : ℕ → Type 0) (now : Holds p h (runs.heap_after_run first past) set)
+    (recorded : Recorded p first past (heap_in p h) h.locals) (counted : TicketsAreCounted p (heap_in p h) h.locals) (rest : (m : ℕ) → Contains (numbers_of p.mutators) m → IsBetweenCalls p (h.locals m))
     (strangers : (m : ℕ) → Contains (numbers_of p.mutators) m ⊎ ((h.locals m).pending ≡ 0))
     (w : List ℕ) (gives : GivesBack (heap_in p h) (with_words p.before w)) where
   abbrev s : HeapState
@@ -52,7 +52,7 @@ module _ (p : Epoch) (ready : IsReady p) (h : Machine) (first : IdealHeap) (past
   new = with_words p.before w
 
   abbrev ideal : IdealHeap
-  ideal = runs.after first past
+  ideal = runs.heap_after_run first past
 
   heap-word : (k : ℕ) → heap_of p.before.blocks ≤ k → word_at new k ≡ word_at s k
   heap-word = back.heap-word p ready h ideal set now w gives
@@ -73,12 +73,12 @@ module _ (p : Epoch) (ready : IsReady p) (h : Machine) (first : IdealHeap) (past
   size-now a holds = ap (λ v. size_of (v % 65536) (v / 65536)) (sym (shape-now a holds))
 
   -- where an object that was allocated begins
-  packed : (a m size : ℕ) → size ≡ size_at new a → BeginsRegion p (h.locals m).made a size → IsPacked p.rules.fill p.before new a
-  packed a m size same begins = elim begins as (λ _. IsPacked p.rules.fill p.before new a) [
+  packed : (a m size : ℕ) → size ≡ size_at new a → BeginsRegion p (h.locals m).made a size → LeavesNoGap p.rules.fill p.before new a
+  packed a m size same begins = elim begins as (λ _. LeavesNoGap p.rules.fill p.before new a) [
     | inl cells ↦ inl cells
-    | inr other ↦ elim other as (λ _. IsPacked p.rules.fill p.before new a) [
+    | inr other ↦ elim other as (λ _. LeavesNoGap p.rules.fill p.before new a) [
       | inl hole ↦ inr (inl (subst (λ (n : ℕ). HasHole p.rules.fill p.before (block_at p.before.blocks a) (offset_at p.before.blocks a) n) same hole))
-      | inr rest ↦ elim rest as (λ _. IsPacked p.rules.fill p.before new a) [
+      | inr rest ↦ elim rest as (λ _. LeavesNoGap p.rules.fill p.before new a) [
         | inl free ↦ inr (inr (inl free))
         | inr behind ↦ inr (inr (inr (
             let x : IsMade p s (h.locals m).owned behind.0 = (now.epoch.knows m).objects behind.0 behind.1 in
@@ -223,7 +223,7 @@ first-recorded p first = record {
 pub log-recorded : (p : Epoch) (i : IdealHeap) (log : List LogEntry) → IsEpochLog p i log → Recorded p i (history_of p log) (heap_after p log) (local_after_log p log)
 log-recorded p i log is = recorded-ends p is.ready log (first_machine p) i [] (IsReachable p.before (roots_of p.mutators)) (first-holds p is.ready i is.represents) (first-recorded p i) is.steps
 
-pub log-counted : (p : Epoch) (i : IdealHeap) (log : List LogEntry) → IsEpochLog p i log → AreCounted p (heap_after p log) (local_after_log p log)
+pub log-counted : (p : Epoch) (i : IdealHeap) (log : List LogEntry) → IsEpochLog p i log → TicketsAreCounted p (heap_after p log) (local_after_log p log)
 log-counted p i log is = counted-ends p is.ready is.represents.mutators.differ log (first_machine p) i (IsReachable p.before (roots_of p.mutators)) (first-holds p is.ready i is.represents) (first-counted p is.ready) is.steps
 
 pub log-seen : (p : Epoch) (i : IdealHeap) (log : List LogEntry) → IsEpochLog p i log → AreSeen p (heap_after p log) (local_after_log p log)

@@ -29,7 +29,7 @@ use Rattle.mutator_core.specs.declared.state.LogEntry.{LogEntry}
 use Rattle.mutator_core.specs.Machine.{Epoch, Machine, heap_in, mutators_in, mutator_of, address_in, next, next_name, found, found_code, local_after, taken, answer_at}
 use Rattle.mutator_core.specs.Guards.{MayStep, MayPerform, IsMiss}
 use Rattle.mutator_core.specs.Histories.{after, IsLog, history, reply_in, entry_of, entries_of, entries_with}
-use Rattle.mutator_core.specs.Epochs.{IsReady}
+use Rattle.mutator_core.specs.Epochs.{EpochMayBegin}
 use Rattle.mutator_core.proofs.Lists.{contains-cases, local-cases, any-cases, any-here, any-left, any-right, any-split, all-append}
 use Rattle.mutator_core.proofs.Kept.{Leaves}
 use Rattle.object_model.proofs.BitWords as bits
@@ -137,7 +137,7 @@ stores-longer first past more n into = record {
 IsPartCommand : Command → Type 0
 IsPartCommand command = (is_gc command ≡ false) × (is_meet command ≡ false) × (size_wanted command ≤ 2048)
 
-module _ (p : Epoch) (ready : IsReady p) (h : Machine) (first : IdealHeap) (past : List Entry) (set : ℕ → Type 0) (now : Holds p h (runs.after first past) set) (m : ℕ) (known : Contains (numbers_of p.mutators) m)
+module _ (p : Epoch) (ready : EpochMayBegin p) (h : Machine) (first : IdealHeap) (past : List Entry) (set : ℕ → Type 0) (now : Holds p h (runs.heap_after_run first past) set) (m : ℕ) (known : Contains (numbers_of p.mutators) m)
     (recorded : Recorded p first past (heap_in p h) h.locals) where
   abbrev s : HeapState
   s = heap_in p h
@@ -146,7 +146,7 @@ module _ (p : Epoch) (ready : IsReady p) (h : Machine) (first : IdealHeap) (past
   l = h.locals m
 
   abbrev ideal : IdealHeap
-  ideal = runs.after first past
+  ideal = runs.heap_after_run first past
 
   abbrev entries : Event → List Entry
   entries x = entries_with m (entry_of x) (reply_in (heap_in p h) (answer_at p h m x))
@@ -167,7 +167,7 @@ module _ (p : Epoch) (ready : IsReady p) (h : Machine) (first : IdealHeap) (past
       (subst (λ (v : ℕ). Any (IsBirthOf (name_at s a) (v % 65536) (v / 65536)) es) (sym shape) any)
 
   -- the consequences of an event that neither allocates nor clears an unlog bit
-  pub general : (x : Event) (step : Goes p h (runs.after first past) m x) → AllByRecursion IsOfPart (entries x)
+  pub general : (x : Event) (step : Goes p h (runs.heap_after_run first past) m x) → AllByRecursion IsOfPart (entries x)
       → ((k : ℕ) (y : Extent) → Contains ((next p h m x).locals k).made y
       → Any (IsBirthOf (name_at (heap_in p (next p h m x)) y.address) (refs_at (heap_in p (next p h m x)) y.address) (nums_at (heap_in p (next p h m x)) y.address)) (past ++ entries x))
       → ((n : Name) → HasBirth (entries x) n → (a : ℕ) × IsHeld (heap_in p (next p h m x)) a × (name_at (heap_in p (next p h m x)) a ≡ n))
@@ -184,17 +184,17 @@ module _ (p : Epoch) (ready : IsReady p) (h : Machine) (first : IdealHeap) (past
     logs = logs;
   }
 
-  allocated-before : (x : Event) (step : Goes p h (runs.after first past) m x) → is_publication x ≡ false → (k : ℕ) (y : Extent) → Contains ((next p h m x).locals k).made y
+  allocated-before : (x : Event) (step : Goes p h (runs.heap_after_run first past) m x) → is_publication x ≡ false → (k : ℕ) (y : Extent) → Contains ((next p h m x).locals k).made y
       → Any (IsBirthOf (name_at (heap_in p (next p h m x)) y.address) (refs_at (heap_in p (next p h m x)) y.address) (nums_at (heap_in p (next p h m x)) y.address)) (past ++ entries x)
   allocated-before x step other k y there =
       let before : Contains (h.locals k).made y = local-cases (λ q z. Contains z.made y → Contains (h.locals q).made y) h.locals m (local_after p l x (found p h m x)) k
       (λ e. subst (λ (ys : List Extent). Contains ys y → Contains l.made y) (sym (made-same p l x (found p h m x) other)) (λ z. z)) (λ differ z. z) there in
       any-left _ past (entries x) (birth-left (next p h m x).words step.leaves y.address ((now.epoch.knows k).objects y before).held past (recorded.allocated k y before))
 
-  stored-before : (x : Event) (step : Goes p h (runs.after first past) m x) (a : ℕ) → IsTrue (is_unlogged p.before a) → StoresInto first past (name_at s a) → StoresInto first (past ++ entries x) (name_at (heap_in p (next p h m x)) a)
+  stored-before : (x : Event) (step : Goes p h (runs.heap_after_run first past) m x) (a : ℕ) → IsTrue (is_unlogged p.before a) → StoresInto first past (name_at s a) → StoresInto first (past ++ entries x) (name_at (heap_in p (next p h m x)) a)
   stored-before x step a was into = subst (StoresInto first (past ++ entries x)) (sym (name-left (next p h m x).words step.leaves a (unlogged-held a was))) (stores-longer first past (entries x) (name_at s a) into)
 
-  logs-before : (x : Event) (step : Goes p h (runs.after first past) m x) → Spot s (next p h m x).words x → clears_unlog x ≡ false → is_put x ≡ false
+  logs-before : (x : Event) (step : Goes p h (runs.heap_after_run first past) m x) → Spot s (next p h m x).words x → clears_unlog x ≡ false → is_put x ≡ false
       → (a : ℕ) → IsTrue (is_unlogged p.before a) → is_unlogged (heap_in p (next p h m x)) a ≡ false
       → ((k : ℕ) × (((next p h m x).locals k).pending ≡ a)) ⊎ StoresInto first (past ++ entries x) (name_at (heap_in p (next p h m x)) a)
   logs-before x step at clear put a was clear_now = elim (recorded.logs a was (sym (at.unlogs clear a) ∙ clear_now)) as
@@ -208,7 +208,7 @@ module _ (p : Epoch) (ready : IsReady p) (h : Machine) (first : IdealHeap) (past
       ]
 
   -- an event that neither publishes an object, nor clears an unlog bit, nor stores a field
-  plain : (x : Event) (step : Goes p h (runs.after first past) m x) → Spot s (next p h m x).words x → is_publication x ≡ false → clears_unlog x ≡ false → is_put x ≡ false → AllByRecursion IsOfPart (entries x)
+  plain : (x : Event) (step : Goes p h (runs.heap_after_run first past) m x) → Spot s (next p h m x).words x → is_publication x ≡ false → clears_unlog x ≡ false → is_put x ≡ false → AllByRecursion IsOfPart (entries x)
       → Recorded p first (past ++ entries x) (heap_in p (next p h m x)) (next p h m x).locals
   plain x step at other clear put part = general x step part (allocated-before x step other) (λ n any. absurd (step.no_birth other n any)) (logs-before x step at clear put)
 
@@ -267,7 +267,7 @@ module _ (p : Epoch) (ready : IsReady p) (h : Machine) (first : IdealHeap) (past
       x : Event
       x = e.Perform (c.Put q k v)
 
-      step : Goes p h (runs.after first past) m (e.Perform (c.Put q k v))
+      step : Goes p h (runs.heap_after_run first past) m (e.Perform (c.Put q k v))
       step = goes p ready h ideal set now m known (e.Perform (c.Put q k v)) may
 
       into : (a : ℕ) → IsTrue (is_unlogged p.before a) → a ≡ address_in l q → StoresInto first (past ++ entries (e.Perform (c.Put q k v))) (name_at (heap_in p (next p h m (e.Perform (c.Put q k v)))) a)
@@ -309,7 +309,7 @@ module _ (p : Epoch) (ready : IsReady p) (h : Machine) (first : IdealHeap) (past
   clear-recorded : (q : ℕ) → (may : MayStep p l (e.ClearUnlog q)) → Recorded p first (past ++ entries (e.ClearUnlog q)) (heap_in p (next p h m (e.ClearUnlog q))) (next p h m (e.ClearUnlog q)).locals
   clear-recorded q may = general (e.ClearUnlog q) step tt (allocated-before (e.ClearUnlog q) step refl) (λ n any. absurd (step.no_birth refl n any)) logs
     where
-      step : Goes p h (runs.after first past) m (e.ClearUnlog q)
+      step : Goes p h (runs.heap_after_run first past) m (e.ClearUnlog q)
       step = goes p ready h ideal set now m known (e.ClearUnlog q) may
 
       logs : (a : ℕ) → IsTrue (is_unlogged p.before a) → is_unlogged (heap_in p (next p h m (e.ClearUnlog q))) a ≡ false
@@ -334,7 +334,7 @@ module _ (p : Epoch) (ready : IsReady p) (h : Machine) (first : IdealHeap) (past
   new-recorded d refs nums may = general (e.Perform (c.New d refs nums)) step (part-of (e.Perform (c.New d refs nums)) (c.New d refs nums) (may-stand (c.New d refs nums) may) (r.New (next_name l)) refl) allocated all
       (logs-before (e.Perform (c.New d refs nums)) step (spot p ready h ideal set now m known (e.Perform (c.New d refs nums)) may) refl refl)
     where
-      step : Goes p h (runs.after first past) m (e.Perform (c.New d refs nums))
+      step : Goes p h (runs.heap_after_run first past) m (e.Perform (c.New d refs nums))
       step = goes p ready h ideal set now m known (e.Perform (c.New d refs nums)) may
 
       facts : IsHeld (heap_in p (next p h m (e.Perform (c.New d refs nums)))) l.unpublished.address × (name_at (heap_in p (next p h m (e.Perform (c.New d refs nums)))) l.unpublished.address ≡ next_name l)
@@ -418,14 +418,14 @@ module _ (p : Epoch) (ready : IsReady p) (h : Machine) (first : IdealHeap) (past
   recorded-next (e.TakeBlock k class free) may = silent (e.TakeBlock k class free) refl refl refl tt may
 
 -- the same after each step of a log
-pub recorded-ends : (p : Epoch) → IsReady p → (log : List LogEntry) (h : Machine) (first : IdealHeap) (past : List Entry) (set : ℕ → Type 0) → Holds p h (runs.after first past) set
+pub recorded-ends : (p : Epoch) → EpochMayBegin p → (log : List LogEntry) (h : Machine) (first : IdealHeap) (past : List Entry) (set : ℕ → Type 0) → Holds p h (runs.heap_after_run first past) set
     → Recorded p first past (heap_in p h) h.locals → IsLog p h log → Recorded p first (past ++ history p h log) (heap_in p (after p h log)) (after p h log).locals
 recorded-ends p ready [] h first past set now recorded is = subst (λ (es : List Entry). Recorded p first es (heap_in p h) h.locals) (sym (append-nil past)) recorded
 recorded-ends p ready (x ∷ xs) h first past set now recorded is =
-    let step : Goes p h (runs.after first past) x.mutator x.event = goes p ready h (runs.after first past) set now x.mutator is.0 x.event is.1 in
+    let step : Goes p h (runs.heap_after_run first past) x.mutator x.event = goes p ready h (runs.heap_after_run first past) set now x.mutator is.0 x.event is.1 in
     let es : List Entry = entries_with x.mutator (entry_of x.event) (reply_in (heap_in p h) (answer_at p h x.mutator x.event)) in
     let same : es ≡ entries_of (heap_in p h) x = ap (λ (y : Answer). entries_with x.mutator (entry_of x.event) (reply_in (heap_in p h) y)) (sym is.2) in
-    let moment : Holds p (next p h x.mutator x.event) (runs.after first (past ++ es)) step.set =
+    let moment : Holds p (next p h x.mutator x.event) (runs.heap_after_run first (past ++ es)) step.set =
     subst (λ (k : IdealHeap). Holds p (next p h x.mutator x.event) k step.set) (sym (run_lemmas.after-append first past es)) step.moment in
     let rest : Recorded p first ((past ++ es) ++ history p (next p h x.mutator x.event) xs) (heap_in p (after p h (x ∷ xs))) (after p h (x ∷ xs)).locals =
     recorded-ends p ready xs (next p h x.mutator x.event) first (past ++ es) step.set moment (recorded-next p ready h first past set now x.mutator is.0 recorded x.event is.1) is.3 in

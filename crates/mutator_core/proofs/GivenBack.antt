@@ -24,7 +24,7 @@ use Rattle.sessions.specs.Collecting.{Remembers}
 use Rattle.sessions.specs.Sessions.{block_of_kind}
 use Rattle.mutator_core.specs.declared.state.OwnedBlock.{OwnedBlock}
 use Rattle.mutator_core.specs.Machine.{Epoch, Machine, heap_in, mutators_in}
-use Rattle.mutator_core.specs.Epochs.{IsReady, IsOwned}
+use Rattle.mutator_core.specs.Epochs.{EpochMayBegin, IsOwned}
 use Rattle.mutator_core.specs.Closing.{GivesBack}
 use Rattle.mutator_core.proofs.Fills.{owned-kind, fill-not-free}
 use Rattle.mutator_core.proofs.Regions.{unowned-lines}
@@ -34,7 +34,7 @@ use Rattle.mutator_core.proofs.Moments.{Holds}
 ownerless : (kind : Kind) (class owner : ℕ) → IsTrue (is_valid_for kind class owner) → IsTrue (is_valid_for kind class 0)
 ownerless kind class owner valid = grind arith
 
-module _ (p : Epoch) (ready : IsReady p) (h : Machine) (i : IdealHeap) (set : ℕ → Type 0) (now : Holds p h i set) (w : List ℕ) (gives : GivesBack (heap_in p h) (with_words p.before w)) where
+module _ (p : Epoch) (ready : EpochMayBegin p) (h : Machine) (i : IdealHeap) (set : ℕ → Type 0) (now : Holds p h i set) (w : List ℕ) (gives : GivesBack (heap_in p h) (with_words p.before w)) where
   abbrev s : HeapState
   s = heap_in p h
 

@@ -17,7 +17,7 @@ use Rattle.sessions.specs.Collecting.{Remembers}
 use Rattle.mutator_core.specs.declared.state.Extent.{Extent}
 use Rattle.mutator_core.specs.declared.state.OwnedBlock.{OwnedBlock}
 use Rattle.mutator_core.specs.Machine.{Epoch, Machine, heap_in}
-use Rattle.mutator_core.specs.Epochs.{IsReady, IsInEpoch, IsMade, IsOwned, KnowsItsState}
+use Rattle.mutator_core.specs.Epochs.{EpochMayBegin, IsInEpoch, IsMade, IsOwned, KnowsItsState}
 use Rattle.mutator_core.proofs.Lists.{with_local, local-cases}
 use Rattle.mutator_core.proofs.Fills.{owned-owner}
 use Rattle.mutator_core.proofs.Places.{place-clear}
@@ -173,7 +173,7 @@ epoch-with p s locals m l now known number knows grows = record {
 }
 
 -- one word changes
-module _ (p : Epoch) (ready : IsReady p) (h : Machine) (now : IsInEpoch p (heap_in p h) h.locals) (i v : ℕ) where
+module _ (p : Epoch) (ready : EpochMayBegin p) (h : Machine) (now : IsInEpoch p (heap_in p h) h.locals) (i v : ℕ) where
   abbrev changed : List ℕ
   changed = slice_set h.words i v
 

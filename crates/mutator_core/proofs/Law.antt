@@ -21,7 +21,7 @@ use Rattle.mutator_core.specs.declared.state.Event.TheVariants as e
 use Rattle.mutator_core.specs.Machine.{Epoch, Machine, heap_in, next, answer_at}
 use Rattle.mutator_core.specs.Guards.{MayStep, MayPerform}
 use Rattle.mutator_core.specs.Histories.{reply_in, entry_of, entries_with}
-use Rattle.mutator_core.specs.Epochs.{IsReady}
+use Rattle.mutator_core.specs.Epochs.{EpochMayBegin}
 use Rattle.mutator_core.proofs.Lists.{any-cases}
 use Rattle.mutator_core.proofs.Kept.{Leaves, grown}
 use Rattle.mutator_core.proofs.Commands as commands
@@ -40,16 +40,16 @@ is_publication _ = false
 pub record Goes (p : Epoch) (h : Machine) (i : IdealHeap) (m : ℕ) (x : Event) : Type 1 where
   pub set : ℕ → Type 0
   pub run : runs.IsRun i (entries_with m (entry_of x) (reply_in (heap_in p h) (answer_at p h m x)))
-  pub moment : Holds p (next p h m x) (runs.after i (entries_with m (entry_of x) (reply_in (heap_in p h) (answer_at p h m x)))) set
+  pub moment : Holds p (next p h m x) (runs.heap_after_run i (entries_with m (entry_of x) (reply_in (heap_in p h) (answer_at p h m x)))) set
   pub leaves : Leaves (heap_in p h) (next p h m x).words
   pub no_birth : is_publication x ≡ false → (n : Name) → HasBirth (entries_with m (entry_of x) (reply_in (heap_in p h) (answer_at p h m x))) n → ⊥
   pub no_full : AllByRecursion (λ e. is_full e.reply ≡ false) (entries_with m (entry_of x) (reply_in (heap_in p h) (answer_at p h m x)))
 
 -- an entry with the reply of the ideal heap's step
-entered : (i : IdealHeap) (m : ℕ) (command : Command) (reply : Reply) → reply ≡ (step i m command).0 → runs.after i (entry m command reply ∷ []) ≡ (step i m command).1
+entered : (i : IdealHeap) (m : ℕ) (command : Command) (reply : Reply) → reply ≡ (step i m command).0 → runs.heap_after_run i (entry m command reply ∷ []) ≡ (step i m command).1
 entered i m command reply answers = cond-false (is_full reply) i (step i m command).1 (ap is_full answers ∙ never_full i m command)
 
-module _ (p : Epoch) (ready : IsReady p) (h : Machine) (i : IdealHeap) (set : ℕ → Type 0) (now : Holds p h i set) (m : ℕ) (known : Contains (numbers_of p.mutators) m) where
+module _ (p : Epoch) (ready : EpochMayBegin p) (h : Machine) (i : IdealHeap) (set : ℕ → Type 0) (now : Holds p h i set) (m : ℕ) (known : Contains (numbers_of p.mutators) m) where
   abbrev l : Local
   l = h.locals m
 
@@ -60,7 +60,7 @@ module _ (p : Epoch) (ready : IsReady p) (h : Machine) (i : IdealHeap) (set : �
     no_full = subst (λ (o : Option Command). AllByRecursion (λ e. is_full e.reply ≡ false) (entries_with m o (reply_in (heap_in p h) (answer_at p h m x)))) (sym none) tt;
     set = set;
     run = subst (λ (o : Option Command). runs.IsRun i (entries_with m o (reply_in (heap_in p h) (answer_at p h m x)))) (sym none) tt;
-    moment = subst (λ (o : Option Command). Holds p (next p h m x) (runs.after i (entries_with m o (reply_in (heap_in p h) (answer_at p h m x)))) set) (sym none) moved.moment;
+    moment = subst (λ (o : Option Command). Holds p (next p h m x) (runs.heap_after_run i (entries_with m o (reply_in (heap_in p h) (answer_at p h m x)))) set) (sym none) moved.moment;
   }
 
   recorded : (x : Event) (command : Command) (set' : ℕ → Type 0) → entry_of x ≡ Some command → reply_in (heap_in p h) (answer_at p h m x) ≡ (step i m command).0
@@ -77,7 +77,7 @@ module _ (p : Epoch) (ready : IsReady p) (h : Machine) (i : IdealHeap) (set : �
         ]);
         no_full = subst (λ (o : Option Command). AllByRecursion (λ e. is_full e.reply ≡ false) (entries_with m o reply)) (sym some) (ap is_full answers ∙ never_full i m command, tt);
         run = subst (λ (o : Option Command). runs.IsRun i (entries_with m o reply)) (sym some) (inl answers, tt);
-        moment = subst (λ (o : Option Command). Holds p (next p h m x) (runs.after i (entries_with m o reply)) set') (sym some)
+        moment = subst (λ (o : Option Command). Holds p (next p h m x) (runs.heap_after_run i (entries_with m o reply)) set') (sym some)
             (subst (λ (k : IdealHeap). Holds p (next p h m x) k set') (sym (entered i m command reply answers)) moment);
       }
 

@@ -22,7 +22,7 @@ use Rattle.side_meta.specs.BitWords.{with_bit}
 use Rattle.object_model.specs.BitWords.{bit_word, bit_place}
 use Rattle.mutator_core.specs.Guards.{MayStep, MayPerform}
 use Rattle.mutator_core.specs.Histories.{after, IsLog}
-use Rattle.mutator_core.specs.Epochs.{IsReady}
+use Rattle.mutator_core.specs.Epochs.{EpochMayBegin}
 use Rattle.mutator_core.specs.Seen.{IsLoaded, AreLoaded}
 use Rattle.mutator_core.proofs.Lists.{contains-cases, contains-none, with_local, local-cases}
 use Rattle.mutator_core.proofs.Spots.{spot}
@@ -76,7 +76,7 @@ loaded-same p l (e.LoadName s) n other = absurd (let wrong : true ≡ false = ot
 loaded-same p l (e.LoadShapeAt a) n other = absurd (let wrong : true ≡ false = other in cc)
 loaded-same p l (e.LoadSide k) n other = absurd (let wrong : true ≡ false = other in cc)
 
-module _ (p : Epoch) (ready : IsReady p) (h : Machine) (i : IdealHeap) (set : ℕ → Type 0) (now : Holds p h i set) (m : ℕ) (known : Contains (numbers_of p.mutators) m) (loaded : AreLoaded p (heap_in p h) h.locals) where
+module _ (p : Epoch) (ready : EpochMayBegin p) (h : Machine) (i : IdealHeap) (set : ℕ → Type 0) (now : Holds p h i set) (m : ℕ) (known : Contains (numbers_of p.mutators) m) (loaded : AreLoaded p (heap_in p h) h.locals) where
   abbrev s : HeapState
   s = heap_in p h
 
@@ -214,7 +214,7 @@ module _ (p : Epoch) (ready : IsReady p) (h : Machine) (i : IdealHeap) (set : �
   loaded-next (e.LoadSide k) may = looked k k (local_after p l (e.LoadSide k) (found p h m (e.LoadSide k))) (of-side k may) refl
 
 -- after each step of a log
-pub loaded-ends : (p : Epoch) → IsReady p → (log : List LogEntry) (h : Machine) (i : IdealHeap) (set : ℕ → Type 0) → Holds p h i set → AreLoaded p (heap_in p h) h.locals → IsLog p h log → AreLoaded p (heap_in p (after p h log)) (after p h log).locals
+pub loaded-ends : (p : Epoch) → EpochMayBegin p → (log : List LogEntry) (h : Machine) (i : IdealHeap) (set : ℕ → Type 0) → Holds p h i set → AreLoaded p (heap_in p h) h.locals → IsLog p h log → AreLoaded p (heap_in p (after p h log)) (after p h log).locals
 loaded-ends p ready [] h i set now loaded is = loaded
 loaded-ends p ready (x ∷ xs) h i set now loaded is =
     let step : Goes p h i x.mutator x.event = goes p ready h i set now x.mutator is.0 x.event is.1 in

@@ -6,8 +6,8 @@ use Rattle.heap_layout.specs.Zones.{heap_of, block_at, offset_at}
 use Rattle.object_model.specs.Objects.{HeapState, word_at, IsHeld, IsInExtent, size_at, size_of, block_word, owner_at}
 use Rattle.sessions.proofs.Holes.{hole-clear}
 use Rattle.mutator_core.specs.Machine.{Epoch, heap_in, Machine}
-use Rattle.mutator_core.specs.Guards.{IsPlace, IsAvailable}
-use Rattle.mutator_core.specs.Epochs.{IsReady, IsInEpoch, IsMade, IsOwned}
+use Rattle.mutator_core.specs.Guards.{IsPlaceOfMutator, IsAvailable}
+use Rattle.mutator_core.specs.Epochs.{EpochMayBegin, IsInEpoch, IsMade, IsOwned}
 use Rattle.mutator_core.proofs.Fills.{owned-owner}
 
 -- the extent of an object held as the epoch began is unchanged
@@ -18,7 +18,7 @@ extent-then p h now x i before inside =
     record { from = inside.from; below = subst (λ (n : ℕ). i < x + n) size inside.below }
 
 -- the mutator of a place owns its block
-pub place-owner : (p : Epoch) (h : Machine) → IsInEpoch p (heap_in p h) h.locals → (m a size : ℕ) → IsPlace p (h.locals m).owned a size
+pub place-owner : (p : Epoch) (h : Machine) → IsInEpoch p (heap_in p h) h.locals → (m a size : ℕ) → IsPlaceOfMutator p (h.locals m).owned a size
     → (owner_at (heap_in p h) (block_at p.before.blocks a) ≡ m) × (0 < m)
 place-owner p h now m a size place =
     let is : IsOwned p (heap_in p h) (h.locals m).number place.owned = (now.knows m).owned place.owned place.among in
@@ -35,12 +35,12 @@ unowned-word p h now k there nobody = elim (now.blocks k there) as (λ _. block_
       omega arith)
 ]
 
-module _ (p : Epoch) (ready : IsReady p) (h : Machine) (now : IsInEpoch p (heap_in p h) h.locals)
+module _ (p : Epoch) (ready : EpochMayBegin p) (h : Machine) (now : IsInEpoch p (heap_in p h) h.locals)
     (m a size : ℕ) (available : IsAvailable p (h.locals m).owned (h.locals m).made a size) where
   abbrev s : HeapState
   s = heap_in p h
 
-  place : IsPlace p (h.locals m).owned a size
+  place : IsPlaceOfMutator p (h.locals m).owned a size
   place = available.place
 
   -- a word of the place is one of its block

@@ -34,8 +34,8 @@ use Rattle.mutator_core.specs.declared.state.Event.TheVariants as e
 use Rattle.mutator_core.specs.Machine.{Epoch, Machine, heap_in, mutators_in, mutator_of, next, next_name, birth_word, published}
 use Rattle.side_meta.specs.BitWords.{with_bit}
 use Rattle.object_model.specs.BitWords.{bit_word, bit_place}
-use Rattle.mutator_core.specs.Guards.{IsPlace, IsCell, IsWriting, BeginsRegion}
-use Rattle.mutator_core.specs.Epochs.{IsReady, IsInEpoch, IsOwned, IsMade, IsUnpublished, KnowsItsState}
+use Rattle.mutator_core.specs.Guards.{IsPlaceOfMutator, IsCell, IsWriting, BeginsRegion}
+use Rattle.mutator_core.specs.Epochs.{EpochMayBegin, IsInEpoch, IsOwned, IsMade, IsUnpublished, KnowsItsState}
 use Rattle.mutator_core.proofs.Lists.{contains-cases, contains-here, contains-there, with_local, local-cases, mutators-with_birth}
 use Rattle.mutator_core.proofs.Places.{place-clear}
 use Rattle.mutator_core.proofs.Fills.{fill-small, fill-not-free, fills-cells, owned-kind, owned-class}
@@ -62,7 +62,7 @@ more-region p y made a size begins = elim begins as (λ _. BeginsRegion p (y ∷
   ]
 ]
 
-module _ (p : Epoch) (ready : IsReady p) (h : Machine) (i : IdealHeap) (set : ℕ → Type 0) (now : Holds p h i set) (m : ℕ) (known : Contains (numbers_of p.mutators) m)
+module _ (p : Epoch) (ready : EpochMayBegin p) (h : Machine) (i : IdealHeap) (set : ℕ → Type 0) (now : Holds p h i set) (m : ℕ) (known : Contains (numbers_of p.mutators) m)
     (d refs nums : ℕ) (small : d < 16) (some : 0 < (h.locals m).unpublished.address)
     (whole : IsWriting (h.locals m) (h.locals m).unpublished.address refs nums (size_of refs nums)) where
   abbrev s : HeapState
@@ -86,7 +86,7 @@ module _ (p : Epoch) (ready : IsReady p) (h : Machine) (i : IdealHeap) (set : �
   begun : IsUnpublished p s n l.owned l.made complete
   begun = subst (IsUnpublished p s n l.owned l.made) whole ((now.epoch.knows m).unpublished some)
 
-  place : IsPlace p l.owned a (size_of refs nums)
+  place : IsPlaceOfMutator p l.owned a (size_of refs nums)
   place = begun.available.place
 
   owned : IsOwned p s l.number place.owned

@@ -25,14 +25,14 @@ use Rattle.mutator_core.specs.Machine.{Epoch, Machine, heap_in, mutators_in, mut
 use Rattle.side_meta.specs.BitWords.{without_bit}
 use Rattle.object_model.specs.BitWords.{bit_word, bit_place}
 use Rattle.mutator_core.specs.Guards.{HasObjectIn}
-use Rattle.mutator_core.specs.Epochs.{IsReady, IsInEpoch, KnowsItsState}
+use Rattle.mutator_core.specs.Epochs.{EpochMayBegin, IsInEpoch, KnowsItsState}
 use Rattle.mutator_core.proofs.Lists.{mutators-same}
 use Rattle.mutator_core.proofs.Kept as kept
 use Rattle.mutator_core.proofs.Kept.{Untouched, KeepsFields, Grows, grown, leaves-kept, free-kept, epoch-left, epoch-with}
 use Rattle.object_model.proofs.BitWords as bits
 use Rattle.mutator_core.proofs.Moments.{Holds, Moved, machine_with, same-words, one-of}
 
-module _ (p : Epoch) (ready : IsReady p) (h : Machine) (i : IdealHeap) (set : ℕ → Type 0) (now : Holds p h i set) (m : ℕ) (known : Contains (numbers_of p.mutators) m) where
+module _ (p : Epoch) (ready : EpochMayBegin p) (h : Machine) (i : IdealHeap) (set : ℕ → Type 0) (now : Holds p h i set) (m : ℕ) (known : Contains (numbers_of p.mutators) m) where
   abbrev s : HeapState
   s = heap_in p h
 

@@ -9,7 +9,7 @@ use Rattle.heap_layout.proofs.MarkLemmas.{bit_from_mark}
 use Rattle.object_model.proofs.Marks.{mark-from}
 use Rattle.std.proofs.Math.Logic.{∥∥₁_map}
 use Rattle.heap_layout.specs.Zones.{StartBits, first, heap_of, row_words, block_at, offset_at, IsAddress}
-use Rattle.heap_layout.specs.Blocks.{is_block_code, IsValid}
+use Rattle.heap_layout.specs.Blocks.{is_block_code, IsValidWord}
 use Rattle.heap_layout.specs.declared.block.Kind.TheVariants as kinds
 use Rattle.ideal_heap.specs.Ideal.{IdealHeap}
 use Rattle.object_model.specs.Objects.{HeapState, word_at, owner_at, class_at, HasKind, line_marked, IsHeld, IsInExtent, size_at, size_of}
@@ -23,7 +23,7 @@ use Rattle.mutator_core.specs.Machine.{Epoch, Machine, heap_in, next, first_mach
 use Rattle.object_model.specs.BitWords.{bit_word, bit_place}
 use Rattle.mutator_core.specs.Histories.{after, IsLog, history, entries_of}
 use Rattle.mutator_core.specs.Guards.{IsAvailable}
-use Rattle.mutator_core.specs.Epochs.{IsReady, IsInEpoch, IsOwned, IsMade}
+use Rattle.mutator_core.specs.Epochs.{EpochMayBegin, IsInEpoch, IsOwned, IsMade}
 use Rattle.mutator_core.proofs.Fills.{owned-owner, owned-class, owned-kind}
 use Rattle.mutator_core.proofs.Places.{unowned-word, place-owner, place-clear}
 use Rattle.mutator_core.specs.Logs.{IsEpochLog, machine_after, heap_after, IsUntaken, IsTaken, IsOwnedBy, IsListed}
@@ -31,7 +31,7 @@ use Rattle.mutator_core.proofs.Beginnings.{log-ends}
 use Rattle.mutator_core.proofs.Law.{Goes, goes}
 use Rattle.mutator_core.proofs.Moments.{Holds}
 
-module _ (p : Epoch) (ready : IsReady p) (h : Machine) (now : IsInEpoch p (heap_in p h) h.locals) where
+module _ (p : Epoch) (ready : EpochMayBegin p) (h : Machine) (now : IsInEpoch p (heap_in p h) h.locals) where
   abbrev s : HeapState
   s = heap_in p h
 
@@ -60,8 +60,8 @@ module _ (p : Epoch) (ready : IsReady p) (h : Machine) (now : IsInEpoch p (heap_
           owner = subst (Contains (numbers_of p.mutators)) (sym by.owner) by.member;
           some = subst (λ (q : ℕ). 0 < q) who is.somebody;
           kind = by.kind;
-          valid = subst (λ (q : ℕ). IsValid (record { kind = p.rules.fill; class = class_at s owned.1.block; owner = q })) who
-              (subst (λ (c : ℕ). IsValid (record { kind = p.rules.fill; class = c; owner = (h.locals owned.0).number })) (sym by.class) is.valid);
+          valid = subst (λ (q : ℕ). IsValidWord (record { kind = p.rules.fill; class = class_at s owned.1.block; owner = q })) who
+              (subst (λ (c : ℕ). IsValidWord (record { kind = p.rules.fill; class = c; owner = (h.locals owned.0).number })) (sym by.class) is.valid);
         }))
   ]
 
@@ -187,7 +187,7 @@ log-rest p h [] more is = is
 log-rest p h (x ∷ xs) more is = log-rest p (next p h x.mutator x.event) xs more is.3
 
 -- an object stays with its header
-pub log-stays : (p : Epoch) → IsReady p → (log : List LogEntry) (h : Machine) (i : IdealHeap) (set : ℕ → Type 0) → Holds p h i set → IsLog p h log
+pub log-stays : (p : Epoch) → EpochMayBegin p → (log : List LogEntry) (h : Machine) (i : IdealHeap) (set : ℕ → Type 0) → Holds p h i set → IsLog p h log
     → (a : ℕ) → IsHeld (heap_in p h) a → IsHeld (heap_in p (after p h log)) a × ((j : ℕ) → j < 3 → word_at (heap_in p (after p h log)) (a + j) ≡ word_at (heap_in p h) (a + j))
 log-stays p ready [] h i set now is a holds = (holds, λ j few. refl)
 log-stays p ready (x ∷ xs) h i set now is a holds =

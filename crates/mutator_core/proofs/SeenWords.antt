@@ -21,7 +21,7 @@ use Rattle.mutator_core.specs.declared.state.LogEntry.{LogEntry}
 use Rattle.mutator_core.specs.Machine.{Epoch, Machine, heap_in, next, found, found_code, owned_code, local_after, taken, first_local_of}
 use Rattle.mutator_core.specs.Guards.{MayStep, MayTake}
 use Rattle.mutator_core.specs.Histories.{after, IsLog}
-use Rattle.mutator_core.specs.Epochs.{IsReady}
+use Rattle.mutator_core.specs.Epochs.{EpochMayBegin}
 use Rattle.mutator_core.specs.Seen.{IsSeen, AreSeen}
 use Rattle.mutator_core.proofs.Lists.{contains-cases, contains-none, with_local, local-cases}
 use Rattle.mutator_core.proofs.Spots.{Spot, spot, takes_block, raises_stop}
@@ -79,7 +79,7 @@ seen-left s w x leaves back is = (
   },
 )
 
-module _ (p : Epoch) (ready : IsReady p) (h : Machine) (i : IdealHeap) (set : ℕ → Type 0) (now : Holds p h i set) (m : ℕ) (known : Contains (numbers_of p.mutators) m) (seen : AreSeen p (heap_in p h) h.locals) where
+module _ (p : Epoch) (ready : EpochMayBegin p) (h : Machine) (i : IdealHeap) (set : ℕ → Type 0) (now : Holds p h i set) (m : ℕ) (known : Contains (numbers_of p.mutators) m) (seen : AreSeen p (heap_in p h) h.locals) where
   abbrev s : HeapState
   s = heap_in p h
 
@@ -238,14 +238,14 @@ module _ (p : Epoch) (ready : IsReady p) (h : Machine) (i : IdealHeap) (set : �
   seen-next (e.TakeBlock k class free) may = take-seen k class free may
 
 -- after each step of a log
-pub seen-ends : (p : Epoch) → IsReady p → (log : List LogEntry) (h : Machine) (i : IdealHeap) (set : ℕ → Type 0) → Holds p h i set → AreSeen p (heap_in p h) h.locals → IsLog p h log → AreSeen p (heap_in p (after p h log)) (after p h log).locals
+pub seen-ends : (p : Epoch) → EpochMayBegin p → (log : List LogEntry) (h : Machine) (i : IdealHeap) (set : ℕ → Type 0) → Holds p h i set → AreSeen p (heap_in p h) h.locals → IsLog p h log → AreSeen p (heap_in p (after p h log)) (after p h log).locals
 seen-ends p ready [] h i set now seen is = seen
 seen-ends p ready (x ∷ xs) h i set now seen is =
     let step : Goes p h i x.mutator x.event = goes p ready h i set now x.mutator is.0 x.event is.1 in
     seen-ends p ready xs (next p h x.mutator x.event) _ step.set step.moment (seen-next p ready h i set now x.mutator is.0 seen x.event is.1) is.3
 
 -- from the beginning of an epoch
-pub first-seen : (p : Epoch) → IsReady p → AreSeen p p.before (first_local_of p.mutators)
+pub first-seen : (p : Epoch) → EpochMayBegin p → AreSeen p p.before (first_local_of p.mutators)
 first-seen p ready = record {
   stop = inl ready.stop;
   polled = first-states (λ l. 0 < l.stop → word_at p.before 0 ≡ l.stop) (λ m some. absurd (omega arith)) p.mutators;

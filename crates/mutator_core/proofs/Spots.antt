@@ -16,7 +16,7 @@ use Rattle.mutator_core.specs.declared.state.Event.TheVariants as e
 use Rattle.mutator_core.specs.Machine.{Epoch, Machine, heap_in, address_in, next, number_word}
 use Rattle.object_model.specs.BitWords.{bit_word}
 use Rattle.mutator_core.specs.Guards.{MayStep, MayPerform, HasObjectIn}
-use Rattle.mutator_core.specs.Epochs.{IsReady}
+use Rattle.mutator_core.specs.Epochs.{EpochMayBegin}
 use Rattle.mutator_core.proofs.Moments.{Holds, same-words}
 use Rattle.mutator_core.proofs.Quiet.{in-register}
 use Rattle.mutator_core.proofs.Published as published
@@ -46,7 +46,7 @@ pub record Spot (s : HeapState) (w : List ℕ) (x : Event) : Type 0 where
   pub blocks : takes_block x ≡ false → (k : ℕ) → k < s.blocks → block_word (record s { words = w }) k ≡ block_word s k
   pub sides : (k : ℕ) → 18 + s.blocks ≤ k → k < 18 + 69 * s.blocks → (is_publication x ≡ false) ⊎ (k < 18 + 5 * s.blocks) → slice_index w k ≡ slice_index s.words k
 
-module _ (p : Epoch) (ready : IsReady p) (h : Machine) (i : IdealHeap) (set : ℕ → Type 0) (now : Holds p h i set) (m : ℕ) (known : Contains (numbers_of p.mutators) m) where
+module _ (p : Epoch) (ready : EpochMayBegin p) (h : Machine) (i : IdealHeap) (set : ℕ → Type 0) (now : Holds p h i set) (m : ℕ) (known : Contains (numbers_of p.mutators) m) where
   abbrev s : HeapState
   s = heap_in p h
 

@@ -4,7 +4,7 @@ use Rattle.std.specs.Prelude.{if◌then◌else◌}
 use Rattle.std.specs.List.{Contains}
 use Rattle.std.proofs.lemmas.Bool.{cases_eq, ne_eqb}
 use Rattle.heap_layout.specs.Zones.{BlockWords, first, heap_of, row_words}
-use Rattle.heap_layout.specs.Blocks.{kind_code, code_of, IsValid}
+use Rattle.heap_layout.specs.Blocks.{kind_code, code_of, IsValidWord}
 use Rattle.heap_layout.specs.declared.block.Kind.TheVariants as kinds
 use Rattle.heap_layout.proofs.BlockLemmas.{code_parts, valid_most, kind_code_most}
 use Rattle.ideal_heap.specs.Ideal.{IdealHeap}
@@ -23,8 +23,8 @@ use Rattle.mutator_core.specs.declared.state.Extent.{Extent}
 use Rattle.mutator_core.specs.declared.state.OwnedBlock.{OwnedBlock}
 use Rattle.mutator_core.specs.declared.state.Event.TheVariants as e
 use Rattle.mutator_core.specs.Machine.{Epoch, Machine, heap_in, mutators_in, mutator_of, next, owned_code, found_code, taken}
-use Rattle.mutator_core.specs.Guards.{IsPlace}
-use Rattle.mutator_core.specs.Epochs.{IsReady, IsOwned, IsMade, Knows, KnowsItsState}
+use Rattle.mutator_core.specs.Guards.{IsPlaceOfMutator}
+use Rattle.mutator_core.specs.Epochs.{EpochMayBegin, IsOwned, IsMade, Knows, KnowsItsState}
 use Rattle.mutator_core.proofs.Lists.{contains-cases, contains-here, contains-there, with_local, local-cases, mutators-same}
 use Rattle.mutator_core.proofs.Fills.{fills-small, fill-not-free}
 use Rattle.mutator_core.proofs.Kept as kept
@@ -34,7 +34,7 @@ use Rattle.mutator_core.proofs.Quiet.{loads}
 use Rattle.mutator_core.proofs.Moments.{Holds, Moved, machine_with, one-of}
 
 -- a permitted place stays one if the mutator owns one block more
-more-place : (p : Epoch) (o : OwnedBlock) (owned : List OwnedBlock) (a size : ℕ) → IsPlace p owned a size → IsPlace p (o ∷ owned) a size
+more-place : (p : Epoch) (o : OwnedBlock) (owned : List OwnedBlock) (a size : ℕ) → IsPlaceOfMutator p owned a size → IsPlaceOfMutator p (o ∷ owned) a size
 more-place p o owned a size is = record {
   address = is.address;
   inside = is.inside;
@@ -46,7 +46,7 @@ more-place p o owned a size is = record {
 }
 
 -- a block with the word of a kind that mutators fill is not Free
-pub taken-not-free : (p : Epoch) → IsReady p → (s : HeapState) (k class number : ℕ) → k < s.blocks → length s.words ≡ row_words s.blocks → IsValid (record { kind = p.rules.fill; class = class; owner = number })
+pub taken-not-free : (p : Epoch) → EpochMayBegin p → (s : HeapState) (k class number : ℕ) → k < s.blocks → length s.words ≡ row_words s.blocks → IsValidWord (record { kind = p.rules.fill; class = class; owner = number })
     → HasKind (with_words s (set_block s k (code_of (record { kind = p.rules.fill; class = class; owner = number })))) k kinds.Free → ⊥
 taken-not-free p ready s k class number there many valid free =
     let v : ℕ = code_of (record { kind = p.rules.fill; class = class; owner = number }) in
@@ -56,8 +56,8 @@ taken-not-free p ready s k class number there many valid free =
     let word : block_word new k ≡ v = blocks.block-set s k v there many in
     fill-not-free new k p.rules.fill ready.fills (kind-from new k p.rules.fill there (ap (λ x. x % 256) word ∙ parts.0)) free
 
-module _ (p : Epoch) (ready : IsReady p) (h : Machine) (i : IdealHeap) (set : ℕ → Type 0) (now : Holds p h i set) (m : ℕ) (known : Contains (numbers_of p.mutators) m)
-    (k class : ℕ) (there : k < p.before.blocks) (valid : IsValid (record { kind = p.rules.fill; class = class; owner = (h.locals m).number })) where
+module _ (p : Epoch) (ready : EpochMayBegin p) (h : Machine) (i : IdealHeap) (set : ℕ → Type 0) (now : Holds p h i set) (m : ℕ) (known : Contains (numbers_of p.mutators) m)
+    (k class : ℕ) (there : k < p.before.blocks) (valid : IsValidWord (record { kind = p.rules.fill; class = class; owner = (h.locals m).number })) where
   abbrev s : HeapState
   s = heap_in p h
 

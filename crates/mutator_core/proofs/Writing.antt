@@ -19,8 +19,8 @@ use Rattle.mutator_core.specs.declared.state.Local.{Local}
 use Rattle.mutator_core.specs.declared.state.Unpublished.{Unpublished}
 use Rattle.mutator_core.specs.declared.state.Event.TheVariants as e
 use Rattle.mutator_core.specs.Machine.{Epoch, Machine, heap_in, mutators_in, mutator_of, next, birth_word, next_name}
-use Rattle.mutator_core.specs.Guards.{IsPlace, MayInitialize}
-use Rattle.mutator_core.specs.Epochs.{IsReady, IsUnpublished}
+use Rattle.mutator_core.specs.Guards.{IsPlaceOfMutator, MayInitialize}
+use Rattle.mutator_core.specs.Epochs.{EpochMayBegin, IsUnpublished}
 use Rattle.mutator_core.proofs.Places.{place-clear, place-owner}
 use Rattle.mutator_core.proofs.Kept as kept
 use Rattle.mutator_core.proofs.Kept.{Untouched, grown}
@@ -33,7 +33,7 @@ birth-fits n refs nums zero few births some more = (let e : name_code n ≡ 32 *
 birth-fits n refs nums (suc zero) few births some more = omega arith
 birth-fits n refs nums (suc (suc offset)) few births some more = omega arith
 
-module _ (p : Epoch) (ready : IsReady p) (h : Machine) (i : IdealHeap) (set : ℕ → Type 0) (now : Holds p h i set) (m : ℕ) (known : Contains (numbers_of p.mutators) m)
+module _ (p : Epoch) (ready : EpochMayBegin p) (h : Machine) (i : IdealHeap) (set : ℕ → Type 0) (now : Holds p h i set) (m : ℕ) (known : Contains (numbers_of p.mutators) m)
     (a refs nums offset : ℕ) (may : MayInitialize p (h.locals m) a refs nums offset) where
   abbrev s : HeapState
   s = heap_in p h
@@ -133,7 +133,7 @@ module _ (p : Epoch) (ready : IsReady p) (h : Machine) (i : IdealHeap) (set : �
   ]
 
   -- the place of another mutator is in another block
-  away : (k b large j : ℕ) → k ≢ m → IsPlace p (h.locals k).owned b large → j < large → b + j ≢ a + offset
+  away : (k b large j : ℕ) → k ≢ m → IsPlaceOfMutator p (h.locals k).owned b large → j < large → b + j ≢ a + offset
   away k b large j differ place less e =
       let inside : offset_at p.before.blocks b + large ≤ 4096 = place.inside in
       let from : heap_of p.before.blocks ≤ b = place.address.from in

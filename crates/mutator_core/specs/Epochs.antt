@@ -4,7 +4,7 @@ use Rattle.ideal_heap.specs.declared.command.TheConstants.{MAX_MUTATORS, MAX_REF
 use Rattle.object_model.specs.declared.shape.TheConstants.{MAX_MEDIUM_WORDS}
 use Rattle.std.specs.Prelude.{◌≡◌, ℕ, ◌+◌, ◌<◌, ◌≤◌, ◌^◌, ◌⊎◌, Bool, true, false, IsTrue, List, length}
 use Rattle.std.specs.List.{Contains}
-use Rattle.heap_layout.specs.Blocks.{IsValid, code_of}
+use Rattle.heap_layout.specs.Blocks.{IsValidWord, code_of}
 use Rattle.heap_layout.specs.declared.block.Kind.{Kind}
 use Rattle.heap_layout.specs.declared.block.Kind.TheVariants as kinds
 use Rattle.ideal_heap.specs.declared.name.Name.{Name}
@@ -19,7 +19,7 @@ use Rattle.mutator_core.specs.declared.state.Extent.{Extent}
 use Rattle.mutator_core.specs.declared.state.OwnedBlock.{OwnedBlock}
 use Rattle.mutator_core.specs.declared.state.Unpublished.{Unpublished}
 use Rattle.mutator_core.specs.Machine.{Epoch, birth_word, found_code}
-use Rattle.mutator_core.specs.Guards.{IsPlace, IsAvailable, BeginsRegion}
+use Rattle.mutator_core.specs.Guards.{IsPlaceOfMutator, IsAvailable, BeginsRegion}
 
 -- mutators fill blocks of this kind under some plan
 abbrev pub is_filled : Kind → Bool
@@ -34,7 +34,7 @@ is_filled kinds.LargeTail = false
 is_filled kinds.Kept = false
 
 -- an epoch may begin: the heap is lawful and remembers its young references, no stop is raised, and no ticket is drawn
-pub record IsReady (p : Epoch) : Type 0 where
+pub record EpochMayBegin (p : Epoch) : Type 0 where
   pub lawful : IsLawful p.before
   pub remembers : Remembers p.rules p.before
   pub fills : IsTrue (is_filled p.rules.fill)
@@ -47,7 +47,7 @@ pub record IsReady (p : Epoch) : Type 0 where
 pub record IsOwned (p : Epoch) (s : HeapState) (number : ℕ) (o : OwnedBlock) : Type 0 where
   pub inside : o.block < s.blocks
   pub somebody : 0 < number
-  pub valid : IsValid (record { kind = p.rules.fill; class = o.class; owner = number })
+  pub valid : IsValidWord (record { kind = p.rules.fill; class = o.class; owner = number })
   pub word : block_word s o.block ≡ code_of (record { kind = p.rules.fill; class = o.class; owner = number })
   pub before : (block_word p.before o.block ≡ found_code p o.class true)
       ⊎ (block_word p.before o.block ≡ found_code p o.class false)
@@ -56,7 +56,7 @@ pub record IsOwned (p : Epoch) (s : HeapState) (number : ℕ) (o : OwnedBlock) :
 pub record IsMade (p : Epoch) (s : HeapState) (blocks : List OwnedBlock) (x : Extent) : Type 0 where
   pub held : IsHeld s x.address
   pub same : size_at s x.address ≡ x.size
-  pub place : IsPlace p blocks x.address x.size
+  pub place : IsPlaceOfMutator p blocks x.address x.size
   pub unclaimed : word_at s (x.address + 2) ≡ 0
   pub unmarked : IsTrue (is_unlogged s x.address) → ⊥
 

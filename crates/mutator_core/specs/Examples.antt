@@ -33,8 +33,8 @@ birth_events m =
     ∷ []
 
 -- the allocation by mutator 1, and then the commands of both mutators on the object
-abbrev pub shared_events : List (ℕ × Event)
-shared_events =
+abbrev pub share_events : List (ℕ × Event)
+share_events =
     birth_events 1 ++ (1, e.Perform (c.New 0 1 1)) ∷ (1, e.LoadShape 0) ∷ (1, e.Perform (c.Write 0 0 5))
     ∷ (1, e.Perform (c.Share 9 0)) ∷ (2, e.Perform (c.Load 3 9)) ∷ (2, e.LoadShape 3)
     ∷ (2, e.Perform (c.Add 3 0 4)) ∷ (1, e.Perform (c.Read 0 0)) ∷ (2, e.Perform (c.Swap 3 0 9 7))

@@ -8,7 +8,7 @@ use Rattle.std.specs.List.{Contains}
 use Rattle.std.specs.Int.{bit_at}
 use Rattle.forward_word.specs.CollectorWords.{is_old_word}
 use Rattle.heap_layout.specs.Zones.{LineWords, StartBits, InZone, block_at, offset_at, IsAddress}
-use Rattle.heap_layout.specs.Blocks.{IsValid}
+use Rattle.heap_layout.specs.Blocks.{IsValidWord}
 use Rattle.heap_layout.specs.declared.block.Kind.TheVariants as kinds
 use Rattle.ideal_heap.specs.declared.command.Command.{Command}
 use Rattle.ideal_heap.specs.declared.command.Command.TheVariants as c
@@ -24,22 +24,22 @@ use Rattle.mutator_core.specs.Machine.{Epoch, address_in, refs_in, nums_in, noth
 use Rattle.object_model.specs.BitWords.{bit_word, bit_place}
 
 -- register s holds an object, and the shape last loaded is that object's
-abbrev pub HasShape : Local → ℕ → Type 0
-HasShape l s = (s < REGISTERS) × (0 < address_in l s) × (l.shape.at ≡ address_in l s)
+abbrev pub HasLoadedShape : Local → ℕ → Type 0
+HasLoadedShape l s = (s < REGISTERS) × (0 < address_in l s) × (l.shape.at ≡ address_in l s)
 
 -- the object in register s has a field i, or a number j
 abbrev pub HasField : Local → ℕ → ℕ → Type 0
-HasField l s i = HasShape l s × (i < refs_in l.shape.word)
+HasField l s i = HasLoadedShape l s × (i < refs_in l.shape.word)
 
 abbrev pub HasNumber : Local → ℕ → ℕ → Type 0
-HasNumber l s j = HasShape l s × (j < nums_in l.shape.word)
+HasNumber l s j = HasLoadedShape l s × (j < nums_in l.shape.word)
 
 -- register s is nil, or its object has no field i, or no number j
 abbrev pub LacksField : Local → ℕ → ℕ → Type 0
-LacksField l s i = (s < REGISTERS) × ((address_in l s ≡ 0) ⊎ (HasShape l s × (refs_in l.shape.word ≤ i)))
+LacksField l s i = (s < REGISTERS) × ((address_in l s ≡ 0) ⊎ (HasLoadedShape l s × (refs_in l.shape.word ≤ i)))
 
 abbrev pub LacksNumber : Local → ℕ → ℕ → Type 0
-LacksNumber l s j = (s < REGISTERS) × ((address_in l s ≡ 0) ⊎ (HasShape l s × (nums_in l.shape.word ≤ j)))
+LacksNumber l s j = (s < REGISTERS) × ((address_in l s ≡ 0) ⊎ (HasLoadedShape l s × (nums_in l.shape.word ≤ j)))
 
 -- register s is nil
 abbrev pub LacksObject : Local → ℕ → Type 0
@@ -67,8 +67,8 @@ IsNotOld p l s = (l.collector.at ≡ address_in l s) × (is_old_word_under p l.c
 
 -- A reference may be stored into the object in register s: the plan is not generational, the object is not old, or its
 -- unlog bit is known to be clear.
-abbrev pub IsBarred : Epoch → Local → ℕ → Type 0
-IsBarred p l s = (p.rules.young ≡ false) ⊎ IsNotOld p l s ⊎ (l.logged ≡ address_in l s)
+abbrev pub MayStoreReference : Epoch → Local → ℕ → Type 0
+MayStoreReference p l s = (p.rules.young ≡ false) ⊎ IsNotOld p l s ⊎ (l.logged ≡ address_in l s)
 
 -- the address is that of a cell of this class, which is the class for the size
 pub record IsCell (a size blocks class : ℕ) : Type 0 where
@@ -79,7 +79,7 @@ pub record IsCell (a size blocks class : ℕ) : Type 0 where
 
 -- A mutator that owns these blocks may have an object of this size at address a: in an owned block that was Free as the
 -- epoch began, or that had a hole there.
-pub record IsPlace (p : Epoch) (blocks : List OwnedBlock) (a size : ℕ) : Type 0 where
+pub record IsPlaceOfMutator (p : Epoch) (blocks : List OwnedBlock) (a size : ℕ) : Type 0 where
   pub address : IsAddress p.before.blocks a
   pub inside : offset_at p.before.blocks a + size ≤ BLOCK_WORDS
   pub owned : OwnedBlock
@@ -91,7 +91,7 @@ pub record IsPlace (p : Epoch) (blocks : List OwnedBlock) (a size : ℕ) : Type 
 
 -- the mutator may write such an object there: it overlaps none that the mutator allocated
 pub record IsAvailable (p : Epoch) (blocks : List OwnedBlock) (made : List Extent) (a size : ℕ) : Type 0 where
-  pub place : IsPlace p blocks a size
+  pub place : IsPlaceOfMutator p blocks a size
   pub beside : (x : Extent) → Contains made x → (x.address + x.size ≤ a) ⊎ (a + size ≤ x.address)
 
 -- An object of this size at address a begins at the start of a hole of the epoch's beginning, at the start of a block
@@ -135,7 +135,7 @@ HasTicket p l = (t : ℕ) × (l.ticket ≡ Some t) × (t < allowance p)
 -- The mutator may try to take block k. The class is one that blocks of the kind have. A Free block requires a ticket.
 abbrev pub MayTake : Epoch → Local → ℕ → ℕ → Bool → Type 0
 MayTake p l k class free =
-    (k < p.before.blocks) × IsValid (record { kind = p.rules.fill; class = class; owner = l.number })
+    (k < p.before.blocks) × IsValidWord (record { kind = p.rules.fill; class = class; owner = l.number })
     × (IsTrue free → HasTicket p l)
 
 -- the mutator loaded a start word with the bit of address a set
@@ -148,7 +148,7 @@ abbrev pub MayPerform : Epoch → Local → Command → Type 0
 MayPerform p l (c.New d refs nums) = (d < REGISTERS) × (0 < l.unpublished.address)
     × IsWriting l l.unpublished.address refs nums (size_of refs nums)
 MayPerform p l (c.Get d s i) = (d < REGISTERS) × HasField l s i
-MayPerform p l (c.Put s i v) = (v < REGISTERS) × HasField l s i × IsBarred p l s
+MayPerform p l (c.Put s i v) = (v < REGISTERS) × HasField l s i × MayStoreReference p l s
     × ((l.pending ≡ 0) ⊎ (l.pending ≡ address_in l s))
 MayPerform p l (c.Read s j) = HasNumber l s j
 MayPerform p l (c.Write s j n) = HasNumber l s j × (n < 2 ^ 64)

@@ -1,7 +1,7 @@
 -- The logs of an epoch from its beginning, and the heap and mutators after a log.
 use Rattle.std.specs.Prelude.{◌≡◌, ℕ, ◌<◌, true, List, sum_by}
 use Rattle.std.specs.List.{Contains}
-use Rattle.heap_layout.specs.Blocks.{IsValid}
+use Rattle.heap_layout.specs.Blocks.{IsValidWord}
 use Rattle.ideal_heap.specs.Ideal.{IdealHeap}
 use Rattle.ideal_heap.specs.Runs.{Entry}
 use Rattle.object_model.specs.Objects.{HeapState, HasKind, block_word, class_at, owner_at, size_of, IsInExtentOf}
@@ -14,7 +14,7 @@ use Rattle.mutator_core.specs.declared.state.OwnedBlock.{OwnedBlock}
 use Rattle.mutator_core.specs.Machine.{Epoch, Machine, first_machine, heap_in, mutators_in}
 use Rattle.mutator_core.specs.Guards.{IsAvailable}
 use Rattle.mutator_core.specs.Histories.{after, IsLog, history}
-use Rattle.mutator_core.specs.Epochs.{IsReady}
+use Rattle.mutator_core.specs.Epochs.{EpochMayBegin}
 use Rattle.mutator_core.specs.Closing.{IsBetweenCalls}
 
 -- the machine after a log, and its heap, its mutators and the state of each
@@ -36,7 +36,7 @@ history_of p log = history p (first_machine p) log
 
 -- The log is one of an epoch that may begin, whose heap with its mutators represents the ideal heap i.
 pub record IsEpochLog (p : Epoch) (i : IdealHeap) (log : List LogEntry) : Type 0 where
-  pub ready : IsReady p
+  pub ready : EpochMayBegin p
   pub represents : Represents p.before p.mutators i
   pub steps : IsLog p (first_machine p) log
 
@@ -59,7 +59,7 @@ pub record IsTaken (p : Epoch) (s : HeapState) (k : ℕ) : Type 0 where
   pub owner : Contains (numbers_of p.mutators) (owner_at s k)
   pub some : 0 < owner_at s k
   pub kind : HasKind s k p.rules.fill
-  pub valid : IsValid (record { kind = p.rules.fill; class = class_at s k; owner = owner_at s k })
+  pub valid : IsValidWord (record { kind = p.rules.fill; class = class_at s k; owner = owner_at s k })
 
 -- the block that mutator m took has m as owner, the kind that mutators fill, and the class that it was taken for
 pub record IsOwnedBy (p : Epoch) (s : HeapState) (m : ℕ) (o : OwnedBlock) : Type 0 where
@@ -80,7 +80,7 @@ abbrev pub sum_after : (Local → ℕ) → Epoch → List LogEntry → ℕ
 sum_after f p log = sum_by (λ m. f (local_after_log p log m)) (numbers_of p.mutators)
 
 -- m is the number of a mutator that raised a stop
-pub record HasRaised (p : Epoch) (log : List LogEntry) (m : ℕ) : Type 0 where
+pub record HasRaisedStop (p : Epoch) (log : List LogEntry) (m : ℕ) : Type 0 where
   pub known : Contains (numbers_of p.mutators) m
   pub raised : (local_after_log p log m).raised ≡ true
 

@@ -58,8 +58,8 @@ abbrev pub nums_in : ℕ → ℕ
 nums_in word = word / NUMS_UNIT
 
 -- in a word of side metadata, the bit of the object in register s
-abbrev pub bit_in : Epoch → Local → ℕ → ℕ → ℕ
-bit_in p l s word = bit_at word (bit_place p.before.blocks (address_in l s))
+abbrev pub bit_of_object : Epoch → Local → ℕ → ℕ → ℕ
+bit_of_object p l s word = bit_at word (bit_place p.before.blocks (address_in l s))
 
 -- the address of number j of the object in register s, whose shape was loaded
 abbrev pub number_word : Local → ℕ → ℕ → ℕ
@@ -102,22 +102,22 @@ place_of_command p l c.Gc = first p.before.blocks StopWord
 place_of_command p l c.Meet = first p.before.blocks StopWord
 
 -- the index of the word that an event reads or changes
-abbrev pub place : Epoch → Local → Event → ℕ
-place p l (e.Perform command) = place_of_command p l command
-place p l (e.Miss command) = first p.before.blocks StopWord
-place p l e.Poll = first p.before.blocks StopWord
-place p l (e.LoadName s) = address_in l s
-place p l (e.LoadShape s) = address_in l s + 1
-place p l (e.LoadCollector s) = address_in l s + 2
-place p l (e.LoadShapeAt a) = a + 1
-place p l (e.LoadBlock k) = first p.before.blocks BlockWords + k
-place p l (e.LoadSide i) = i
-place p l (e.LoadUnlog s) = bit_word p.before.blocks UnlogBits (address_in l s)
-place p l e.Raise = first p.before.blocks StopWord
-place p l (e.ClearUnlog s) = bit_word p.before.blocks UnlogBits (address_in l s)
-place p l (e.Initialize a refs nums offset) = a + offset
-place p l e.DrawTicket = first p.before.blocks BudgetWord
-place p l (e.TakeBlock k class free) = first p.before.blocks BlockWords + k
+abbrev pub word_of_event : Epoch → Local → Event → ℕ
+word_of_event p l (e.Perform command) = place_of_command p l command
+word_of_event p l (e.Miss command) = first p.before.blocks StopWord
+word_of_event p l e.Poll = first p.before.blocks StopWord
+word_of_event p l (e.LoadName s) = address_in l s
+word_of_event p l (e.LoadShape s) = address_in l s + 1
+word_of_event p l (e.LoadCollector s) = address_in l s + 2
+word_of_event p l (e.LoadShapeAt a) = a + 1
+word_of_event p l (e.LoadBlock k) = first p.before.blocks BlockWords + k
+word_of_event p l (e.LoadSide i) = i
+word_of_event p l (e.LoadUnlog s) = bit_word p.before.blocks UnlogBits (address_in l s)
+word_of_event p l e.Raise = first p.before.blocks StopWord
+word_of_event p l (e.ClearUnlog s) = bit_word p.before.blocks UnlogBits (address_in l s)
+word_of_event p l (e.Initialize a refs nums offset) = a + offset
+word_of_event p l e.DrawTicket = first p.before.blocks BudgetWord
+word_of_event p l (e.TakeBlock k class free) = first p.before.blocks BlockWords + k
 
 -- that word after the entry of a command, from the word n found
 abbrev pub store_of_command : Epoch → Local → Command → ℕ → ℕ
@@ -168,8 +168,8 @@ answer_of_command p l (c.Move d s) n = Plain r.Done
 answer_of_command p l (c.DropReg s) n = Plain r.Done
 answer_of_command p l (c.Load d g) n = Reference n
 answer_of_command p l (c.Share g s) n = Plain r.Done
-answer_of_command p l (c.Pin s) n = Plain (if nat_eq (bit_in p l s n) 1 then r.No else r.Yes)
-answer_of_command p l (c.Unpin s) n = Plain (if nat_eq (bit_in p l s n) 1 then r.Yes else r.No)
+answer_of_command p l (c.Pin s) n = Plain (if nat_eq (bit_of_object p l s n) 1 then r.No else r.Yes)
+answer_of_command p l (c.Unpin s) n = Plain (if nat_eq (bit_of_object p l s n) 1 then r.Yes else r.No)
 answer_of_command p l c.Gc n = Plain r.Done
 answer_of_command p l c.Meet n = Plain r.Done
 
@@ -251,7 +251,10 @@ local_after p l (e.LoadCollector s) n = record l { collector = record { at = add
 local_after p l (e.LoadShapeAt a) n = record l { loaded = (record { at = a + 1; word = n }) ∷ l.loaded }
 local_after p l (e.LoadBlock k) n = record l { blocks = (record { at = k; word = n }) ∷ l.blocks }
 local_after p l (e.LoadSide i) n = record l { loaded = (record { at = i; word = n }) ∷ l.loaded }
-local_after p l (e.LoadUnlog s) n = record l { logged = if nat_eq (bit_in p l s n) 1 then l.logged else address_in l s }
+local_after p l (e.LoadUnlog s) n = record l {
+  logged = if nat_eq
+      (bit_of_object p l s n) 1 then l.logged else address_in l s;
+}
 local_after p l e.Raise n = record l { raised = true }
 local_after p l (e.ClearUnlog s) n = record l { logged = address_in l s; pending = address_in l s }
 local_after p l (e.Initialize a refs nums offset) n = record l {
@@ -269,12 +272,12 @@ local_after p l (e.TakeBlock k class free) n =
 
 -- the word that an event of mutator m finds
 abbrev pub found : Epoch → Machine → ℕ → Event → ℕ
-found p h m x = slice_index h.words (place p (h.locals m) x)
+found p h m x = slice_index h.words (word_of_event p (h.locals m) x)
 
 -- the machine after one event of mutator m
 abbrev pub next : Epoch → Machine → ℕ → Event → Machine
 next p h m x = record {
-  words = slice_set h.words (place p (h.locals m) x) (stored p (h.locals m) x (found p h m x));
+  words = slice_set h.words (word_of_event p (h.locals m) x) (stored p (h.locals m) x (found p h m x));
   locals = λ k. if nat_eq k m then local_after p (h.locals m) x (found p h m x) else h.locals k;
 }
 

@@ -35,7 +35,7 @@ smaller a b = if nat_lt a b then a else b
 -- The budget word is the number of tickets drawn. Each ticket below the allowance is used for a Free block, or unused.
 -- The number of Free blocks has fallen by the number of those taken. Each unused ticket is below the budget word, and
 -- no two mutators have the same one.
-pub record AreCounted (p : Epoch) (s : HeapState) (locals : ℕ → Local) : Type 0 where
+pub record TicketsAreCounted (p : Epoch) (s : HeapState) (locals : ℕ → Local) : Type 0 where
   pub budget : sum_by (λ m. drawn_by (locals m)) (numbers_of p.mutators) ≡ word_at s 1
   pub allowed : sum_by (λ m. allowed_to (allowance p) (locals m)) (numbers_of p.mutators)
       ≡ smaller (word_at s 1) (allowance p)

@@ -12,8 +12,8 @@ ghost use Rattle.sessions.specs.Plans.{NoGc, Plan, rules_of};
 ghost use Rattle.mutator_core.specs.declared.state.Event.TheVariants as event;
 ghost use Rattle.mutator_core.specs.Machine.{first_machine};
 ghost use Rattle.mutator_core.specs.Histories.{history, IsLog};
-ghost use Rattle.mutator_core.specs.Epochs.{IsReady};
-ghost use Rattle.mutator_core.specs.Examples.{small_epoch, log_of, birth_events, shared_events, separate_events, old_object_epoch, barrier_events, empty_epoch, mixed_log};
+ghost use Rattle.mutator_core.specs.Epochs.{EpochMayBegin};
+ghost use Rattle.mutator_core.specs.Examples.{small_epoch, log_of, birth_events, share_events, separate_events, old_object_epoch, barrier_events, empty_epoch, mixed_log};
 ghost use Rattle.mutator_core.specs.Logs.{IsEpochLog, history_of, local_after_log, AreBetweenCalls};
 
 use heap_layout::{MAX_BLOCKS, MIN_BLOCKS};
@@ -68,7 +68,7 @@ pub fn allocations_in_turns()
 /// still serves its last step, when another register holds the object.
 pub fn commands_in_turns()
     ensures entries { history (small_epoch NoGc) (first_machine (small_epoch NoGc))
-        (log_of (small_epoch NoGc) (first_machine (small_epoch NoGc)) shared_events)
+        (log_of (small_epoch NoGc) (first_machine (small_epoch NoGc)) share_events)
         ≡ entry 1 (command.New 0 1 1) (reply.New (name 1 1))
         ∷ entry 1 (command.Write 0 0 5) reply.Done
         ∷ entry 1 (command.Share 9 0) reply.Done
@@ -90,7 +90,7 @@ pub fn commands_in_turns()
         ∷ entry 1 (command.Read 1 0) (reply.Num 7)
         ∷ [] }
     ensures steps { IsLog (small_epoch NoGc) (first_machine (small_epoch NoGc))
-        (log_of (small_epoch NoGc) (first_machine (small_epoch NoGc)) shared_events) }
+        (log_of (small_epoch NoGc) (first_machine (small_epoch NoGc)) share_events) }
 {}
 
 /// Each command of an epoch, by one mutator after the other.
@@ -154,7 +154,7 @@ pub fn barriers_before_stores()
 pub fn empty_heaps_are_ready()
     ensures { (plan : Plan) (b : ℕ) (numbers : List ℕ) → MIN_BLOCKS ≤ b → b ≤ MAX_BLOCKS
         → length numbers ≤ MAX_MUTATORS
-        → IsReady (record {
+        → EpochMayBegin (record {
           rules = rules_of plan;
           before = empty_heap b;
           mutators = map new_mutator numbers;

@@ -8,7 +8,7 @@ ghost use Rattle.ideal_heap.specs.declared.command.Command.{Command};
 ghost use Rattle.ideal_heap.specs.declared.command.Command.TheVariants as commands;
 ghost use Rattle.ideal_heap.specs.declared.reply.Reply.TheVariants as replies;
 ghost use Rattle.ideal_heap.specs.Ideal.{IdealHeap};
-ghost use Rattle.ideal_heap.specs.Runs.{entry, IsRun, after};
+ghost use Rattle.ideal_heap.specs.Runs.{entry, IsRun, heap_after_run};
 ghost use Rattle.object_model.specs.Objects.{HeapState, HasKind, with_words, size_of, IsHeld, IsInExtent, is_pinned, is_unlogged, name_at, refs_at, nums_at, ref_at, num_at, global_at, word_at, owner_at};
 ghost use Rattle.object_model.specs.Lawful.{IsWellFormed, FreeBlockIsClear, LineBitsAreExact};
 ghost use Rattle.object_model.specs.Graphs.{MutatorState, Represents, register_at, with_register};
@@ -25,12 +25,12 @@ ghost use Rattle.mutator_core.specs.declared.state.Extent.{Extent};
 ghost use Rattle.mutator_core.specs.declared.state.Loaded.{Loaded};
 ghost use Rattle.mutator_core.specs.Machine.{Epoch};
 ghost use Rattle.object_model.specs.BitWords.{bit_word};
-ghost use Rattle.mutator_core.specs.Guards.{allowance, HasTicket, IsPlace, BeginsRegion};
+ghost use Rattle.mutator_core.specs.Guards.{allowance, HasTicket, IsPlaceOfMutator, BeginsRegion};
 ghost use Rattle.mutator_core.specs.Histories.{history, entry_of, entries_of, reply_in};
 ghost use Rattle.mutator_core.specs.Seen.{IsSeen, HasSeenUsed, IsLoaded};
 ghost use Rattle.mutator_core.specs.Tickets.{tickets_below, taken_by, drawn_by, allowed_to, smaller};
 ghost use Rattle.mutator_core.specs.Closing.{GivesBack};
-ghost use Rattle.mutator_core.specs.Logs.{IsEpochLog, machine_after, heap_after, mutators_after, local_after_log, history_of, IsUnpublishedWord, HasAvailable, IsUntaken, IsTaken, IsOwnedBy, IsListed, sum_after, HasRaised, AreBetweenCalls, IsStoppedAfter};
+ghost use Rattle.mutator_core.specs.Logs.{IsEpochLog, machine_after, heap_after, mutators_after, local_after_log, history_of, IsUnpublishedWord, HasAvailable, IsUntaken, IsTaken, IsOwnedBy, IsListed, sum_after, HasRaisedStop, AreBetweenCalls, IsStoppedAfter};
 
 use heap_layout::GLOBALS;
 use ideal_heap::REGISTERS;
@@ -195,7 +195,7 @@ pub fn unpublished_objects_are_apart()
 pub fn objects_lie_in_holes()
     ensures made { (p : Epoch) (i : IdealHeap) (log : List LogEntry) → IsEpochLog p i log
         → (m : ℕ) (x : Extent) → Contains (local_after_log p log m).made x
-        → IsPlace p (local_after_log p log m).owned x.address x.size }
+        → IsPlaceOfMutator p (local_after_log p log m).owned x.address x.size }
     ensures unpublished { (p : Epoch) (i : IdealHeap) (log : List LogEntry) → IsEpochLog p i log
         → (m : ℕ) → 0 < (local_after_log p log m).unpublished.address
         → HasAvailable p (local_after_log p log m) }
@@ -235,7 +235,8 @@ pub fn histories_are_runs()
     ensures run { (p : Epoch) (i : IdealHeap) (log : List LogEntry) → IsEpochLog p i log
         → IsRun i (history_of p log) }
     ensures represents { (p : Epoch) (i : IdealHeap) (log : List LogEntry) → IsEpochLog p i log
-        → Represents (heap_after p log) (mutators_after p log) (after i (history_of p log)) }
+        → Represents (heap_after p log) (mutators_after p log) (heap_after_run i
+        (history_of p log)) }
 {}
 
 /// The shape word and the collector word that a mutator loaded have not changed. An unlog bit that
@@ -260,7 +261,7 @@ pub fn loaded_headers_stay()
 pub fn seen_words_stay()
     ensures stop { (p : Epoch) (i : IdealHeap) (log : List LogEntry) → IsEpochLog p i log
         → (word_at (heap_after p log) 0 ≡ 0)
-        ⊎ HasRaised p log (word_at (heap_after p log) 0) }
+        ⊎ HasRaisedStop p log (word_at (heap_after p log) 0) }
     ensures polled { (p : Epoch) (i : IdealHeap) (log : List LogEntry) → IsEpochLog p i log
         → (m : ℕ) → 0 < (local_after_log p log m).stop
         → word_at (heap_after p log) 0 ≡ (local_after_log p log m).stop }

@@ -10,7 +10,7 @@ use Rattle.object_model.specs.Objects.{HeapState, with_words, HasKind, size_of, 
 use Rattle.object_model.specs.Lawful.{IsLawful, IsLawfulButLines, IsWellFormed}
 use Rattle.object_model.specs.Graphs.{MutatorState, Represents, IsReachable, roots_of, numbers_of, add_birth, set_register_of}
 use Rattle.object_model.specs.Changes.{WritesObject}
-use Rattle.object_model.specs.Births.{IsVacant, IsRoom, IsLargeRoom, MarksLines, MakesRun}
+use Rattle.object_model.specs.Births.{IsVacant, IsRoom, IsLargeRoom, MarksLinesOfBirth, MakesRun}
 use Rattle.object_model.proofs.BirthRepresentation.{joined, birth-models}
 use Rattle.object_model.proofs.Births as births
 use Rattle.object_model.proofs.Births.{Adds}
@@ -62,22 +62,22 @@ represents-small s new ms h m d a refs nums order represents known few room writ
 
 -- with its lines marked, after or before
 pub lawful-marked : (s between new : HeapState) (a refs nums : ℕ) (n : Name) → IsLawful s → IsRoom s a n refs nums
-    → WritesObject s between a n refs nums → MarksLines between new a (size_of refs nums) → IsLawful new
+    → WritesObject s between a n refs nums → MarksLinesOfBirth between new a (size_of refs nums) → IsLawful new
 lawful-marked s between new a refs nums n lawful room writes marks =
     let same : between ≡ with_words s between.words = same-layout s between writes.blocks writes.number writes.base in
-    let from : MarksLines (with_words s between.words) new a (size_of refs nums) = subst (λ (x : HeapState). MarksLines x new a (size_of refs nums)) same marks in
+    let from : MarksLinesOfBirth (with_words s between.words) new a (size_of refs nums) = subst (λ (x : HeapState). MarksLinesOfBirth x new a (size_of refs nums)) same marks in
     let made : new ≡ with_words s new.words = same-layout (with_words s between.words) new from.blocks from.number from.base in
     in-layout IsLawful s new from.blocks from.number from.base
     (lawful-then s between.words new.words a n refs nums lawful.but_lines.order room (written-in s between a refs nums n writes)
-    (subst (λ (x : HeapState). MarksLines (with_words s between.words) x a (size_of refs nums)) made from) lawful)
+    (subst (λ (x : HeapState). MarksLinesOfBirth (with_words s between.words) x a (size_of refs nums)) made from) lawful)
 
 pub lawful-marked_before : (s between new : HeapState) (a refs nums : ℕ) (n : Name) → IsLawful s → IsRoom s a n refs nums
-    → MarksLines s between a (size_of refs nums) → WritesObject between new a n refs nums → IsLawful new
+    → MarksLinesOfBirth s between a (size_of refs nums) → WritesObject between new a n refs nums → IsLawful new
 lawful-marked_before s between new a refs nums n lawful room marks writes =
     let same : between ≡ with_words s between.words = same-layout s between marks.blocks marks.number marks.base in
     let from : WritesObject (with_words s between.words) new a n refs nums = subst (λ (x : HeapState). WritesObject x new a n refs nums) same writes in
     in-layout IsLawful s new from.blocks from.number from.base
-    (lawful-first s between.words new.words a n refs nums lawful.but_lines.order room (subst (λ (x : HeapState). MarksLines s x a (size_of refs nums)) same marks)
+    (lawful-first s between.words new.words a n refs nums lawful.but_lines.order room (subst (λ (x : HeapState). MarksLinesOfBirth s x a (size_of refs nums)) same marks)
     (written-in (with_words s between.words) new a refs nums n from) lawful)
 
 -- a large object

@@ -8,24 +8,24 @@ use Rattle.std.proofs.lemmas.List.Sums.{sum_by-cons}
 use Rattle.std.proofs.lemmas.List.FromFn.{get_or-map-range_with_len, length-map-range_with_len}
 use Rattle.heap_layout.specs.Zones.{row_words, first, Globals, BlockWords, LineWords, StartBits, PinBits, UnlogBits, HeapWords}
 use Rattle.object_model.specs.Objects.{word_at}
-use Rattle.object_model.specs.WorkedHeaps.{WorkedHeap, WorkedObject, words_before, words_at, object_word, built_word, build_heap}
+use Rattle.object_model.specs.WorkedHeaps.{WorkedHeap, WorkedObject, words_before, object_words, object_word, built_word, build_heap}
 use Rattle.object_model.proofs.LawfulTests.{in-range, in-list}
 
 abbrev pub fits_object : ℕ → WorkedObject → Bool
-fits_object start o = list_all (λ w. nat_lt w 1152921504606846976) (words_at (start + words_before o) o)
+fits_object start o = list_all (λ w. nat_lt w 1152921504606846976) (object_words (start + words_before o) o)
 
 object-most : (start i : ℕ) (xs : List WorkedObject) → list_all (fits_object start) xs ≡ true → object_word start xs i ≤ 1152921504606846976 * length xs
 object-most start i [] all = omega arith
 object-most start i (o ∷ xs) all =
     let both = and_parts (fits_object start o) _ all in
     let rest : object_word start xs i ≤ 1152921504606846976 * length xs = object-most start i xs both.1 in
-    let word : ℕ = slice_index (words_at (start + words_before o) o) (i - words_before o) in
-    let small : word < 1152921504606846976 = ltb-true _ _ (in-list (λ w. nat_lt w 1152921504606846976) (words_at (start + words_before o) o) refl both.0 (i - words_before o)) in
+    let word : ℕ = slice_index (object_words (start + words_before o) o) (i - words_before o) in
+    let small : word < 1152921504606846976 = ltb-true _ _ (in-list (λ w. nat_lt w 1152921504606846976) (object_words (start + words_before o) o) refl both.0 (i - words_before o)) in
     elim (cases_Bool (nat_le (words_before o) i)) as (λ _. object_word start (o ∷ xs) i ≤ 1152921504606846976 * length (o ∷ xs)) [
-      | inl past ↦ (let e : object_word start (o ∷ xs) i ≡ word + object_word start xs i = sum_by-cons (λ x. if nat_le (words_before x) i then slice_index (words_at (start + words_before x) x) (i - words_before x) else 0) o xs
+      | inl past ↦ (let e : object_word start (o ∷ xs) i ≡ word + object_word start xs i = sum_by-cons (λ x. if nat_le (words_before x) i then slice_index (object_words (start + words_before x) x) (i - words_before x) else 0) o xs
           ∙ ap (λ w. w + object_word start xs i) (cond-true (nat_le (words_before o) i) word 0 past) in
           let more : length (o ∷ xs) ≡ suc (length xs) = refl in omega arith)
-      | inr before ↦ (let e : object_word start (o ∷ xs) i ≡ 0 + object_word start xs i = sum_by-cons (λ x. if nat_le (words_before x) i then slice_index (words_at (start + words_before x) x) (i - words_before x) else 0) o xs
+      | inr before ↦ (let e : object_word start (o ∷ xs) i ≡ 0 + object_word start xs i = sum_by-cons (λ x. if nat_le (words_before x) i then slice_index (object_words (start + words_before x) x) (i - words_before x) else 0) o xs
           ∙ ap (λ w. w + object_word start xs i) (cond-false (nat_le (words_before o) i) word 0 before) in
           let more : length (o ∷ xs) ≡ suc (length xs) = refl in omega arith)
     ]

@@ -7,7 +7,7 @@ use Rattle.ideal_heap.specs.declared.name.Name.{Name}
 use Rattle.object_model.specs.Objects.{HeapState, with_words, block_word, line_marked, size_of}
 use Rattle.object_model.specs.Lawful.{IsLawful, IsLawfulButLines, IsWellFormed}
 use Rattle.object_model.specs.Changes.{WritesObject}
-use Rattle.object_model.specs.Births.{IsRoom, MarksLines}
+use Rattle.object_model.specs.Births.{IsRoom, MarksLinesOfBirth}
 use Rattle.object_model.specs.Lines.{TouchesLine}
 use Rattle.object_model.proofs.Blocks.{SameHeap}
 use Rattle.object_model.proofs.Births as births
@@ -17,7 +17,7 @@ use Rattle.object_model.proofs.Marks.{mark-same}
 use Rattle.object_model.proofs.OneKind.{kind-within}
 
 -- marking lines touches no object
-pub marks-same : (s : HeapState) (w : List ℕ) (a size : ℕ) → MarksLines s (with_words s w) a size → SameHeap s w
+pub marks-same : (s : HeapState) (w : List ℕ) (a size : ℕ) → MarksLinesOfBirth s (with_words s w) a size → SameHeap s w
 marks-same s w a size marks = record {
   words = λ i above. marks.rest i (inr (omega arith));
   globals = λ g small. marks.rest (first s.blocks Globals + g) (inl (omega arith));
@@ -62,7 +62,7 @@ module _ (s : HeapState) (w : List ℕ) (a : ℕ) (n : Name) (refs nums : ℕ) (
 
 -- the object is written, then its lines are marked
 module _ (s : HeapState) (w1 w2 : List ℕ) (a : ℕ) (n : Name) (refs nums : ℕ) (order : IsWellFormed s) (room : IsRoom s a n refs nums)
-    (writes : WritesObject s (with_words s w1) a n refs nums) (marks : MarksLines (with_words s w1) (with_words s w2) a (size_of refs nums)) where
+    (writes : WritesObject s (with_words s w1) a n refs nums) (marks : MarksLinesOfBirth (with_words s w1) (with_words s w2) a (size_of refs nums)) where
   one_then : Adds s w2 a n refs nums
   one_then = births.adds-to s w1 w2 a n refs nums room.vacant.address (births.adds s w1 a n refs nums writes room.vacant.address) (marks-same (with_words s w1) w2 a (size_of refs nums) marks)
 
@@ -77,7 +77,7 @@ module _ (s : HeapState) (w1 w2 : List ℕ) (a : ℕ) (n : Name) (refs nums : �
 
 -- its lines are marked, then it is written
 module _ (s : HeapState) (w1 w2 : List ℕ) (a : ℕ) (n : Name) (refs nums : ℕ) (order : IsWellFormed s) (room : IsRoom s a n refs nums)
-    (marks : MarksLines s (with_words s w1) a (size_of refs nums)) (writes : WritesObject (with_words s w1) (with_words s w2) a n refs nums) where
+    (marks : MarksLinesOfBirth s (with_words s w1) a (size_of refs nums)) (writes : WritesObject (with_words s w1) (with_words s w2) a n refs nums) where
   one_first : Adds s w2 a n refs nums
   one_first = births.adds-from s w1 w2 a n refs nums (marks-same s w1 a (size_of refs nums) marks) (births.adds (with_words s w1) w2 a n refs nums writes room.vacant.address)
 

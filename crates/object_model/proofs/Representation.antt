@@ -11,7 +11,7 @@ use Rattle.std.proofs.lemmas.List.{get_or_past, get_or-append-add, get_or_defaul
 use Rattle.ideal_heap.specs.declared.name.Name.{Name}
 use Rattle.ideal_heap.specs.Ideal.{IdealHeap, Nil, At, record_of, no_fields}
 use Rattle.ideal_heap.specs.Reach as reach
-use Rattle.ideal_heap.specs.Reach.{Reaches}
+use Rattle.ideal_heap.specs.Reach.{PathReaches}
 use Rattle.object_model.specs.Objects.{HeapState, global_at, IsHeld, name_at, refs_at, ref_at, record_at, field_of_word, is_reference}
 use Rattle.object_model.specs.Graphs as graphs
 use Rattle.object_model.specs.Graphs.{MutatorState, IsMutatorState, PointsTo, IsReachable, Represents, numbers_of, roots_of, register_at}
@@ -100,7 +100,7 @@ module _ (s : HeapState) (ms : List MutatorState) (h : IdealHeap) (set : ℕ →
 
   -- in the set, and its name is reached
   abbrev Found : ℕ → Type 0
-  Found a = set a × Reaches h (name_at s a)
+  Found a = set a × PathReaches h (name_at s a)
 
   registers-found : (xs : List MutatorState) → AllByRecursion (λ m. (d : ℕ) → d < 16 → PointsTo s (register_at m d) (h.registers m.number d)) xs
       → AllByRecursion (λ m. (d : ℕ) → d < 16 → register_at m d ≢ 0 → set (register_at m d)) xs
@@ -135,7 +135,7 @@ module _ (s : HeapState) (ms : List MutatorState) (h : IdealHeap) (set : ℕ →
   abbrev At' : Name → Type 0
   At' n = (a : ℕ) × IsReachable s (roots_of ms) a × (name_at s a ≡ n)
 
-  reached-arrives : (n : Name) → Reaches h n → At' n
+  reached-arrives : (n : Name) → PathReaches h n → At' n
   reached-arrives n (reach.from_register m d e) =
       let place = model.pointers.confined.registers m d n e in
       let k : ℕ = place.1.0 in

@@ -9,7 +9,7 @@ use Rattle.ideal_heap.specs.declared.command.Command.{Command}
 use Rattle.ideal_heap.specs.declared.command.Command.TheVariants as c
 use Rattle.ideal_heap.specs.declared.reply.Reply.{Reply}
 use Rattle.ideal_heap.specs.declared.reply.Reply.TheVariants as r
-use Rattle.ideal_heap.specs.Ideal.{IdealHeap, Outcome, Nil, step, record_of, field_at, field_reply, name_in, set_register, no_fields}
+use Rattle.ideal_heap.specs.Ideal.{IdealHeap, Outcome, Nil, step, record_of, field_at, field_reply, name_of_field, set_register, no_fields}
 use Rattle.ideal_heap.proofs.StepLemmas.{object-null, ref-past, ref-within, num-past, num-within, getting, reading, writing}
 use Rattle.object_model.specs.Objects.{HeapState, IsHeld, name_at, refs_at, nums_at, ref_at, num_at, record_at, field_of_word}
 use Rattle.object_model.specs.Graphs.{MutatorState, PointsTo, register_at, with_register, with_mutator}
@@ -152,7 +152,7 @@ unfolding step
 get-nil s m d e i low small some less nil = register-step s m (c.Get d e i) r.Nil d 0 (λ h. None) low
     (λ ms h set model among. ref-within h (h.registers m.number e) i (getting h m.number d i) (name_at s (register_at m e)) (register-named s ms h set model m among e small some)
     (let many : length (record_of h (name_at s (register_at m e))).refs ≡ refs_at s (register_at m e) = count-fields s ms h set model m among e small some in omega arith)
-    ∙ ap (λ f. outcome (field_reply f) (set_register h m.number d (name_in f))) (field-read s ms h set model m among e small i some less ∙ nil-word s (ref_at s (register_at m e) i) (nil-refers (ref_at s (register_at m e) i) nil)))
+    ∙ ap (λ f. outcome (field_reply f) (set_register h m.number d (name_of_field f))) (field-read s ms h set model m among e small i some less ∙ nil-word s (ref_at s (register_at m e) i) (nil-refers (ref_at s (register_at m e) i) nil)))
     (λ ms h set model among. refl) (λ ms h set model among other. absurd (other refl)) (λ n same. cc)
 
 -- and one that names an object
@@ -164,6 +164,6 @@ get-ref s m d e i low small some less there =
     register-step s m (c.Get d e i) (r.Ref (name_at s v)) d v (λ h. Some (name_at s v)) low
     (λ ms h set model among. ref-within h (h.registers m.number e) i (getting h m.number d i) (name_at s (register_at m e)) (register-named s ms h set model m among e small some)
     (let many : length (record_of h (name_at s (register_at m e))).refs ≡ refs_at s (register_at m e) = count-fields s ms h set model m among e small some in omega arith)
-    ∙ ap (λ f. outcome (field_reply f) (set_register h m.number d (name_in f))) (field-read s ms h set model m among e small i some less ∙ word-named s v (refers v there)))
+    ∙ ap (λ f. outcome (field_reply f) (set_register h m.number d (name_of_field f))) (field-read s ms h set model m among e small i some less ∙ word-named s v (refers v there)))
     (λ ms h set model among. (omega arith, model.mirrors.held v (model.mirrors.fields (register_at m e) i (register-in s ms h set model m among e small some) less (refers v there)), refl))
     (λ ms h set model among other. model.mirrors.fields (register_at m e) i (register-in s ms h set model m among e small some) less (refers v there)) (λ n same. cc)

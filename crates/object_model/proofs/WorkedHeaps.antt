@@ -7,7 +7,7 @@ use Rattle.std.proofs.lemmas.Nat.Bits.{bit_at-zero, bit_at-pow_other}
 use Rattle.std.proofs.lemmas.Bool.{cases_eq, cases_lt, eqb-true}
 use Rattle.std.proofs.lemmas.List.{get_or-set_same, get_or-set_other, length-set, length-replicate}
 use Rattle.heap_layout.specs.Zones.{StartBits, LineWords, bit_of}
-use Rattle.heap_layout.specs.Blocks.{IsValid, code_of, kind_code}
+use Rattle.heap_layout.specs.Blocks.{IsValidWord, code_of, kind_code}
 use Rattle.heap_layout.specs.declared.block.Kind.{Kind}
 use Rattle.heap_layout.specs.declared.block.Kind.TheVariants as kinds
 use Rattle.heap_layout.proofs.BlockLemmas.{code_parts, kind_code_most, valid_most}
@@ -16,7 +16,7 @@ use Rattle.ideal_heap.specs.Names.{name}
 use Rattle.object_model.specs.Objects.{HeapState, empty_heap, with_words, word_at, block_word, HasKind, class_at, IsHeld, size_at, size_of, cell_words}
 use Rattle.object_model.specs.Lawful.{IsLawful, LiesInCell, has_small}
 use Rattle.object_model.specs.Changes.{WritesObject}
-use Rattle.object_model.specs.Births.{IsVacant, IsRoom, MarksLines, MakesRun, with_block}
+use Rattle.object_model.specs.Births.{IsVacant, IsRoom, MarksLinesOfBirth, MakesRun, with_block}
 use Rattle.object_model.specs.WorkedHeaps.{unowned, one_block, with_lines, with_first_object}
 use Rattle.object_model.proofs.Zeros as zeros
 use Rattle.object_model.proofs.Zeros.{zero_of}
@@ -143,7 +143,7 @@ is-free : (k : ℕ) → k < 4 → HasKind (empty_heap 4) k kinds.Free
 is-free k there = kind-from (empty_heap 4) k kinds.Free there (ap (λ v. v % 256) (zero_of 17190 (18 + k)))
 
 -- block 0 of a kind for small objects
-module _ (kind : Kind) (class : ℕ) (valid : IsValid (unowned kind class)) where
+module _ (kind : Kind) (class : ℕ) (valid : IsValidWord (unowned kind class)) where
   abbrev code : ℕ
   code = code_of (unowned kind class)
 
@@ -189,10 +189,10 @@ module _ (kind : Kind) (class : ℕ) (valid : IsValid (unowned kind class)) wher
         (writes w0 q (set-long nothing 18 code long0) (set-zero nothing 18 code (lit< tt) (λ j high. zero_of 17190 j)) fit0 (omega arith))
         (λ is. no_lines (sym (kind-code (one_block kind class) 0 kind kind0) ∙ kind-code (one_block kind class) 0 kinds.Immix is)) (lawful0 small)
 
-pub plain : (kind : Kind) → IsValid (unowned kind 0) → IsTrue (is_small_code true (kind_code kind)) → kind_code kind ≢ 4 → kind_code kind ≢ 5 → IsLawful (with_first_object (one_block kind 0) 1)
+pub plain : (kind : Kind) → IsValidWord (unowned kind 0) → IsTrue (is_small_code true (kind_code kind)) → kind_code kind ≢ 4 → kind_code kind ≢ 5 → IsLawful (with_first_object (one_block kind 0) 1)
 plain kind valid small no_lines no_cells = lawful-one kind 0 valid 1 small (omega arith) (λ e. absurd (no_cells e)) no_lines
 
-pub in-cell : (class q : ℕ) → IsValid (unowned kinds.Cells class) → 3 + q ≤ 2048 → 3 + q ≤ cell_words class → cell_words class ≤ 4096 → 0 % cell_words class ≡ 0 → IsLawful (with_first_object (one_block kinds.Cells class) q)
+pub in-cell : (class q : ℕ) → IsValidWord (unowned kinds.Cells class) → 3 + q ≤ 2048 → 3 + q ≤ cell_words class → cell_words class ≤ 4096 → 0 % cell_words class ≡ 0 → IsLawful (with_first_object (one_block kinds.Cells class) q)
 in-cell class q valid few room within first_cell = lawful-one kinds.Cells class valid q refl few (λ e. record {
   start = subst (λ (k : ℕ). 0 % cell_words k ≡ 0) (sym (class0 kinds.Cells class valid)) first_cell;
   room = subst (λ (k : ℕ). 3 + q ≤ cell_words k) (sym (class0 kinds.Cells class valid)) room;
@@ -219,7 +219,7 @@ module _ (w : List ℕ) (long : length w ≡ 17190) (zero : (i : ℕ) → 22 ≤
   own : slice_index lined 22 ≡ 3
   own = get_or-set_same w 22 3 0 (omega (arith, long))
 
-  marks-two : MarksLines (with_words (empty_heap 4) w) (with_words (empty_heap 4) lined) 806 23
+  marks-two : MarksLinesOfBirth (with_words (empty_heap 4) w) (with_words (empty_heap 4) lined) 806 23
   marks-two = record {
     blocks = refl;
     number = refl;

@@ -15,7 +15,7 @@ use Rattle.heap_layout.proofs.MarkLemmas.{bit_from_mark}
 use Rattle.ideal_heap.specs.declared.name.Name.{Name}
 use Rattle.ideal_heap.specs.Names.{IsName}
 use Rattle.ideal_heap.specs.Ideal.{empty}
-use Rattle.ideal_heap.specs.Reach.{Reaches, from_register, from_global, from_field}
+use Rattle.ideal_heap.specs.Reach.{PathReaches, from_register, from_global, from_field}
 use Rattle.object_model.specs.Objects.{HeapState, empty_heap, word_at, global_at, block_word, is_start, is_pinned, is_unlogged, IsHeld, HasKind, size_of, blocks_for}
 use Rattle.object_model.specs.Lawful.{IsLawful}
 use Rattle.object_model.specs.Births.{IsLargeRoom}
@@ -146,7 +146,7 @@ nothing_arrives b ms a (graphs.from_root i e some) = let z : slice_index (roots_
 nothing_arrives b ms a (graphs.from_global g small e some) = let z : global_at (zeros b) g ≡ 0 = zero_word b _ in omega arith
 nothing_arrives b ms a (graphs.from_field x i there small e some) = nothing_arrives b ms x there
 
-nothing_reached : (n : Name) → Reaches empty n → ⊥
+nothing_reached : (n : Name) → PathReaches empty n → ⊥
 nothing_reached n (from_register m d e) = cc
 nothing_reached n (from_global g e) = cc
 nothing_reached n (from_field k i there e) = nothing_reached k there

@@ -46,7 +46,7 @@ abbrev pub with_block : HeapState → ℕ → BlockWord → HeapState
 with_block s k word = with_words s (slice_set s.words (first s.blocks BlockWords + k) (code_of word))
 
 -- The line bit of each line that an object of `size` words at a touches is set. All else is unchanged.
-pub record MarksLines (old new : HeapState) (a size : ℕ) : Type 0 where
+pub record MarksLinesOfBirth (old new : HeapState) (a size : ℕ) : Type 0 where
   pub blocks : new.blocks ≡ old.blocks
   pub number : new.number ≡ old.number
   pub base : new.base ≡ old.base

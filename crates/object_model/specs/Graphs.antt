@@ -3,7 +3,7 @@ use Rattle.std.specs.Prelude.{◌≡◌, ℕ, ◌+◌, ◌<◌, ◌≤◌, ◌�
 use Rattle.std.specs.List.{flat_map, AllByRecursion, Any}
 use Rattle.ideal_heap.specs.declared.name.Name.{Name}
 use Rattle.ideal_heap.specs.Ideal.{IdealHeap, IsConfined}
-use Rattle.ideal_heap.specs.Reach.{Reaches}
+use Rattle.ideal_heap.specs.Reach.{PathReaches}
 use Rattle.object_model.specs.Objects.{HeapState, global_at, is_pinned, IsHeld, name_at, refs_at, ref_at, is_reference, record_at}
 use Rattle.object_model.specs.Lawful.{IsRoot}
 
@@ -99,6 +99,6 @@ pub record Represents (s : HeapState) (ms : List MutatorState) (h : IdealHeap) :
   pub pointers : ArePointers s ms h
   pub births : AreBirths s ms h
   pub there : (a : ℕ) → IsReachable s (roots_of ms) a
-      → Reaches h (name_at s a) × (h.records (name_at s a) ≡ Some (record_at s a))
-  pub all : (n : Name) → Reaches h n → (a : ℕ) × IsReachable s (roots_of ms) a × (name_at s a ≡ n)
+      → PathReaches h (name_at s a) × (h.records (name_at s a) ≡ Some (record_at s a))
+  pub all : (n : Name) → PathReaches h n → (a : ℕ) × IsReachable s (roots_of ms) a × (name_at s a ≡ n)
   pub pins : (a : ℕ) → IsReachable s (roots_of ms) a → IsTrue (is_pinned s a) ↔ IsTrue (h.pinned (name_at s a))

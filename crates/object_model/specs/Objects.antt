@@ -23,6 +23,10 @@ pub record HeapState : Type 0 where
 abbrev pub state_over : List ℕ → Layout → ℕ → ℕ → HeapState
 state_over words layout number base = record { words = words; blocks = layout.blocks; number = number; base = base }
 
+-- the heap that these words show under a layout, where its numbers do not matter
+abbrev pub shown : List ℕ → Layout → HeapState
+shown words layout = state_over words layout 0 0
+
 abbrev pub state_of : Row → HeapState
 state_of r = state_over r.words.items r.layout r.number r.base
 

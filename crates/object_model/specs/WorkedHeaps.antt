@@ -68,15 +68,16 @@ abbrev pub worked_size : WorkedObject → ℕ
 worked_size o = size_of (length o.refs) (length o.nums)
 
 -- the words of an object at the address: name, shape, collector word, references, numbers
-abbrev pub words_at : ℕ → WorkedObject → List ℕ
-words_at a o =
+abbrev pub object_words : ℕ → WorkedObject → List ℕ
+object_words a o =
     name_code o.name ∷ shape_code (length o.refs) (length o.nums)
     ∷ (if nat_eq o.number 0 then 0 else collector_word o.number a) ∷ o.refs ++ o.nums
 
 -- word i of the heap's blocks, where the first is at the address
 abbrev pub object_word : ℕ → List WorkedObject → ℕ → ℕ
 object_word start objects i = sum_by
-    (λ o. if nat_le (words_before o) i then slice_index (words_at (start + words_before o) o) (i - words_before o) else 0)
+    (λ o. if nat_le (words_before o) i then slice_index (object_words (start + words_before o) o)
+    (i - words_before o) else 0)
     objects
 
 -- word i of a zone with a bit for each word of the heap, set where an object that passes the test begins

@@ -1,7 +1,7 @@
 //! Side metadata with one bit for each address.
 
 ghost use Rattle.std.specs.Prelude.{◌≡◌, ◌↔◌, ℕ, IsTrue, length};
-ghost use Rattle.heap_layout.specs.Zones.{heap_of, row_words, IsAddress};
+ghost use Rattle.heap_layout.specs.Zones.{heap_of, IsAddress, IsRowOf};
 ghost use Rattle.object_model.specs.Objects.{state_over, IsHeld};
 
 use heap_layout::Layout;
@@ -24,7 +24,7 @@ pub fn bit_spec(layout: &Layout, zone: u32) -> Spec
 
 /// Whether the start bit of an address is set in a row of any kind of words.
 pub(crate) fn is_held<W: Words>(words: &W, layout: &Layout, address: u32) -> bool
-    requires extent { length (W.words words.now) ≡ row_words layout.now.blocks }
+    requires extent { IsRowOf layout.now (W.words words.now) }
     requires address { IsAddress layout.now.blocks address }
     ensures { (number base : ℕ) → IsTrue result
         ↔ IsHeld (state_over (W.words words.now) layout.now number base) address }

@@ -23,7 +23,7 @@ pub struct Heap {
 impl Heap {
     ghost use Rattle.std.specs.Prelude.{◌≡◌, ◌≢◌, ◌↔◌, ◌+◌, ◌<◌, ◌≤◌, IfOk, IsTrue};
     ghost use Rattle.heap_layout.specs.Zones.{IsAddress};
-    ghost use Rattle.heap_layout.specs.Blocks.{code_of, IsValid};
+    ghost use Rattle.heap_layout.specs.Blocks.{code_of, IsValidWord};
     ghost use Rattle.ideal_heap.specs.Names.{IsName};
     ghost use Rattle.object_model.specs.Objects.{empty_heap, IsHeld, is_pinned, block_word, name_at as object_name, refs_at, nums_at, ref_at as ref_word_at, num_at as num_word_at};
     ghost use Rattle.object_model.specs.Lawful.{IsRefField};
@@ -92,7 +92,7 @@ impl Heap {
     pub fn block(&self, block: u32) -> BlockWord
         requires { block < (heap_state self.now).blocks }
         ensures code { code_of result ≡ block_word (heap_state self.now) block }
-        ensures valid { IsValid result }
+        ensures valid { IsValidWord result }
     {
         self.row.block(block)
     }

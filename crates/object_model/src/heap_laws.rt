@@ -4,7 +4,7 @@ ghost use Rattle.std.specs.Prelude.{◌≡◌, ◌≢◌, ◌↔◌, ℕ, ◌+�
 ghost use Rattle.std.specs.List.{Contains};
 ghost use Rattle.heap_layout.specs.declared.block.BlockWord.{BlockWord};
 ghost use Rattle.heap_layout.specs.declared.block.Kind.TheVariants as kinds;
-ghost use Rattle.heap_layout.specs.Blocks.{IsValid, code_of};
+ghost use Rattle.heap_layout.specs.Blocks.{IsValidWord, code_of};
 ghost use Rattle.heap_layout.specs.Zones.{first, Globals, BlockWords, block_at, block_start};
 ghost use Rattle.ideal_heap.specs.declared.name.Name.{Name};
 ghost use Rattle.ideal_heap.specs.Names.{name};
@@ -13,7 +13,7 @@ ghost use Rattle.object_model.specs.Objects.{HeapState, with_words, word_at, blo
 ghost use Rattle.object_model.specs.Lawful.{IsLawful, IsLawfulButLines, IsWellFormed, IsClear, IsRefField, IsRoot, has_small};
 ghost use Rattle.object_model.specs.Graphs.{MutatorState, Represents, numbers_of, add_birth, set_register_of};
 ghost use Rattle.object_model.specs.Changes.{WritesObject, SetsPin, ClearsUnlog};
-ghost use Rattle.object_model.specs.Births.{IsRoom, IsLargeRoom, MarksLines, WritesLargeObject, with_block};
+ghost use Rattle.object_model.specs.Births.{IsRoom, IsLargeRoom, MarksLinesOfBirth, WritesLargeObject, with_block};
 ghost use Rattle.object_model.specs.WorkedHeaps.{unowned, one_block, with_lines, with_first_object};
 
 use crate::shape::HEADER_WORDS;
@@ -48,17 +48,17 @@ pub fn free_blocks_may_be_taken()
     ensures held { (s : HeapState) (k a : ℕ) (word : BlockWord) → k < s.blocks
         → IsHeld (with_block s k word) a ↔ IsHeld s a }
     ensures order { (s : HeapState) (k : ℕ) (word : BlockWord) → IsWellFormed s
-        → HasKind s k kinds.Free → IsClear s k → IsValid word
+        → HasKind s k kinds.Free → IsClear s k → IsValidWord word
         → IsTrue (has_small (with_block s k word) k) → IsWellFormed (with_block s k word) }
     ensures but_lines { (s : HeapState) (k : ℕ) (word : BlockWord) → IsLawfulButLines s
-        → HasKind s k kinds.Free → IsValid word → word.owner ≡ 0
+        → HasKind s k kinds.Free → IsValidWord word → word.owner ≡ 0
         → IsTrue (has_small (with_block s k word) k) → IsLawfulButLines (with_block s k word) }
     ensures lawful { (s : HeapState) (k : ℕ) (word : BlockWord) → IsLawful s
-        → HasKind s k kinds.Free → IsValid word → word.owner ≡ 0
+        → HasKind s k kinds.Free → IsValidWord word → word.owner ≡ 0
         → IsTrue (has_small (with_block s k word) k) → IsLawful (with_block s k word) }
     ensures represents { (s : HeapState) (k : ℕ) (word : BlockWord) (ms : List MutatorState)
         (h : IdealHeap) → IsWellFormed s → HasKind s k kinds.Free → IsClear s k
-        → IsValid word → IsTrue (has_small (with_block s k word) k) → Represents s ms h
+        → IsValidWord word → IsTrue (has_small (with_block s k word) k) → Represents s ms h
         → Represents (with_block s k word) ms h }
 {}
 
@@ -74,9 +74,9 @@ pub fn births_keep_heaps_lawful()
         → WritesObject s new a n refs nums → IsLawful new }
     ensures marked { (s between new : HeapState) (a refs nums : ℕ) (n : Name) → IsLawful s
         → IsRoom s a n refs nums → WritesObject s between a n refs nums
-        → MarksLines between new a (size_of refs nums) → IsLawful new }
+        → MarksLinesOfBirth between new a (size_of refs nums) → IsLawful new }
     ensures marked_before { (s between new : HeapState) (a refs nums : ℕ) (n : Name)
-        → IsLawful s → IsRoom s a n refs nums → MarksLines s between a (size_of refs nums)
+        → IsLawful s → IsRoom s a n refs nums → MarksLinesOfBirth s between a (size_of refs nums)
         → WritesObject between new a n refs nums → IsLawful new }
     ensures represents { (s new : HeapState) (ms : List MutatorState) (h : IdealHeap)
         (m d a refs nums : ℕ) → IsWellFormed s → Represents s ms h

@@ -11,7 +11,7 @@ ghost use Rattle.object_model.specs.Births.{IsLargeRoom};
 ghost use Rattle.std.specs.Int.{bit_at};
 ghost use Rattle.heap_layout.specs.declared.block.BlockWord.{BlockWord};
 ghost use Rattle.heap_layout.specs.declared.block.Kind.TheVariants as kinds;
-ghost use Rattle.heap_layout.specs.Blocks.{IsValid, code_of, kind_code, is_block_code};
+ghost use Rattle.heap_layout.specs.Blocks.{IsValidWord, code_of, kind_code, is_block_code};
 ghost use Rattle.ideal_heap.specs.Ideal.{empty};
 ghost use Rattle.object_model.specs.Objects.{HeapState, empty_heap, word_at, block_word, HasKind, class_at, owner_at, number_at, target_at, line_marked, cell_words, blocks_for, lines_for, is_start, is_pinned, is_unlogged, IsHeld, IsInExtent, IsInExtentOf, refs_at, ref_at, is_reference, size_of, size_at, name_at};
 ghost use Rattle.object_model.specs.Lawful.{IsLawful, IsLawfulButLines, IsWellFormed, IsClear, LineBitsAreExact, Lies, IsRoot, IsReadable, IsReadableBlock, HasObject, HasHeader, has_small};
@@ -128,7 +128,7 @@ pub fn objects_are_preserved()
 
 /// The kind, class and owner read from a block's word are those that were encoded.
 pub fn block_words_read()
-    ensures { (s : HeapState) (k : ℕ) (w : BlockWord) → IsValid w → k < s.blocks
+    ensures { (s : HeapState) (k : ℕ) (w : BlockWord) → IsValidWord w → k < s.blocks
         → block_word s k ≡ code_of w → HasKind s k w.kind × (class_at s k ≡ w.class)
         × (owner_at s k ≡ w.owner) }
 {}

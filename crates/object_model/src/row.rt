@@ -27,7 +27,7 @@ pub struct Row {
 
 impl Row {
     ghost use Rattle.heap_layout.specs.Zones.{first, row_words, IsAddress, Globals, BlockWords};
-    ghost use Rattle.heap_layout.specs.Blocks.{code_of, IsValid};
+    ghost use Rattle.heap_layout.specs.Blocks.{code_of, IsValidWord};
     ghost use Rattle.ideal_heap.specs.Names.{IsName};
     ghost use Rattle.object_model.specs.Objects.{state_of, with_words, IsHeld, is_pinned, size_of, name_at, refs_at, nums_at, ref_at as ref_word_at, num_at as num_word_at, global_at, block_word};
     ghost use Rattle.object_model.specs.Lawful.{IsWellFormed, IsReadable, IsReadableBlock, IsRefField, IsRoot};
@@ -107,7 +107,7 @@ impl Row {
     pub fn block(&self, block: u32) -> BlockWord
         requires { IsReadableBlock (state_of self.now) block }
         ensures code { code_of result ≡ block_word (state_of self.now) block }
-        ensures valid { IsValid result }
+        ensures valid { IsValidWord result }
     {
         decode(self.words[self.layout.block_at(block) as usize]).unwrap()
     }
@@ -116,7 +116,7 @@ impl Row {
     pub fn set_block(&mut self, block: u32, word: &BlockWord)
         requires extent { length self.old.words.items ≡ row_words (state_of self.old).blocks }
         requires block { block < (state_of self.old).blocks }
-        requires valid { IsValid word.now }
+        requires valid { IsValidWord word.now }
         ensures { state_of self.new ≡ with_words (state_of self.old)
             (slice_set self.old.words.items (first (state_of self.old).blocks BlockWords + block)
             (code_of word.now)) }

@@ -33,8 +33,8 @@ calls_of s = s.calls
 abbrev pub fails_of : MemSources → List ℕ
 fails_of s = s.fails.items
 
-abbrev pub state_of : MemSources → SourceState
-state_of s = record {
+abbrev pub sources_state : MemSources → SourceState
+sources_state s = record {
   content = content_in (files_of s);
   left = Some (left_of s);
   asked = asked_of s;

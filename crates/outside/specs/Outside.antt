@@ -40,7 +40,7 @@ asked_after (Err fault.Failed) name count before = before ++ (name, count) ∷ [
 asked_after (Err fault.OutOfMemory) name count before = before
 
 -- the first n bytes of `left` move to the beginning of the buffer
-pub record Moves (n : ℕ) (left : List ℕ) (buf : List ℕ) (left' : Option (List ℕ)) : Type 0 where
+pub record MovesBytes (n : ℕ) (left : List ℕ) (buf : List ℕ) (left' : Option (List ℕ)) : Type 0 where
   pub most : n ≤ length left
   pub bytes : take n buf ≡ take n left
   pub rest : left' ≡ Some (drop n left)

@@ -23,9 +23,9 @@ is_interrupted kinds.Interrupted = true
 is_interrupted _ = false
 
 -- out of memory if the system reports it, and otherwise a fault
-abbrev pub fault_of : ErrorKind → OpenFault
-fault_of kinds.OutOfMemory = fault.OutOfMemory
-fault_of _ = fault.Failed
+abbrev pub open_fault_of : ErrorKind → OpenFault
+open_fault_of kinds.OutOfMemory = fault.OutOfMemory
+open_fault_of _ = fault.Failed
 
 -- the result of a call that returned this error; None if the call is repeated
 abbrev pub answer_to : Error → Option (Result ℕ Failed)

@@ -21,5 +21,5 @@ left_of s = left_in (files_of s) s.shelf.place s.shelf.read
 abbrev pub asked_of : SureSources → Asked
 asked_of s = names_in s.asked.items
 
-abbrev pub state_of : SureSources → SourceState
-state_of s = record { content = content_of s; left = Some (left_of s); asked = asked_of s; faults = 0 }
+abbrev pub sources_state : SureSources → SourceState
+sources_state s = record { content = content_of s; left = Some (left_of s); asked = asked_of s; faults = 0 }

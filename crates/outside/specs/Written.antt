@@ -12,12 +12,12 @@ abbrev pub room_of : MemSink → ℕ
 room_of s = s.room
 
 -- the most bytes in one call
-abbrev pub most_of : MemSink → ℕ
-most_of s = s.most
+abbrev pub most_bytes_of : MemSink → ℕ
+most_bytes_of s = s.most
 
 -- the sink has no room left
-abbrev pub is_full : MemSink → Bool
-is_full s = nat_le s.room (length s.bytes.items)
+abbrev pub has_no_room : MemSink → Bool
+has_no_room s = nat_le s.room (length s.bytes.items)
 
 -- the count of faults
 abbrev pub faults_of : MemSink → ℕ
@@ -31,5 +31,5 @@ calls_of s = s.calls
 abbrev pub fails_of : MemSink → List ℕ
 fails_of s = s.fails.items
 
-abbrev pub state_of : MemSink → SinkState
-state_of s = record { written = Some (bytes_of s); faults = faults_of s }
+abbrev pub sink_state : MemSink → SinkState
+sink_state s = record { written = Some (bytes_of s); faults = faults_of s }

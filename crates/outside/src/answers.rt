@@ -2,8 +2,8 @@
 
 ghost use Rattle.std.specs.Prelude.{◌≡◌, ◌≤◌, ◌<◌, [], length, take, None, Some, IfOk, IfSome, OnErr};
 ghost use Rattle.std.specs.IoError.{error_kind};
-ghost use Rattle.outside.specs.Outside.{Moves, AppendsText};
-ghost use Rattle.outside.specs.Real.{answer_to, fault_of, is_interrupted as comes_from_signal, read_answer, write_answer};
+ghost use Rattle.outside.specs.Outside.{MovesBytes, AppendsText};
+ghost use Rattle.outside.specs.Real.{answer_to, open_fault_of, is_interrupted as comes_from_signal, read_answer, write_answer};
 
 use crate::traits::{Failed, OpenFault};
 use std::io;
@@ -11,7 +11,7 @@ use std::io::{ErrorKind, Read, Write};
 
 /// Why a file could not be opened.
 pub fn open_fault(error: &io::Error) -> OpenFault
-    ensures { result ≡ fault_of (error_kind error.now) }
+    ensures { result ≡ open_fault_of (error_kind error.now) }
 {
     match error.kind() {
         ErrorKind::OutOfMemory => OpenFault::OutOfMemory,
@@ -63,7 +63,7 @@ fn write_answer_of(piece: &[u8], answer: io::Result<usize>) -> Option<Result<usi
 pub fn read_once<R: Read>(from: &mut R, buf: &mut [u8]) -> Result<usize, Failed>
     ensures most { IfOk result (λ n. n ≤ length buf.old) }
     ensures moved { IfOk result (λ n. IfSome (R.remaining from.old)
-        (λ bytes. Moves n bytes buf.new (R.remaining from.new))) }
+        (λ bytes. MovesBytes n bytes buf.new (R.remaining from.new))) }
     ensures failed { OnErr result (IfSome (R.remaining from.old)
         (λ bytes. R.remaining from.new ≡ Some bytes)) }
 {

@@ -1,7 +1,7 @@
 //! Files of the file system, as sources.
 
 ghost use Rattle.std.specs.Prelude.{◌≡◌, ◌⊎◌, ◌+◌, ◌≤◌, [], length, min, if◌then◌else◌, None, Some, Ok, IfOk, IfSome, IsErr, IsErrOf, is_err};
-ghost use Rattle.outside.specs.Outside.{LAST, HasRisen, Opens, asked_after, Moves};
+ghost use Rattle.outside.specs.Outside.{LAST, HasRisen, Opens, asked_after, MovesBytes};
 ghost use Rattle.outside.specs.AskedNames.{names_in};
 ghost use Rattle.outside.specs.Real.{left_of_file};
 
@@ -81,7 +81,8 @@ impl<R: Files> Sources for FileSources<'_, R> {
     fn read(&mut self, buf: &mut [u8]) -> Result<usize, Failed>
         ensures most { IfOk result (λ n. n ≤ length buf.old) }
         ensures moved { IfOk result (λ n. IfSome (left_of_file R.File.Read.remaining self.old.file)
-            (λ bytes. Moves n bytes buf.new (left_of_file R.File.Read.remaining self.new.file))) }
+            (λ bytes. MovesBytes n bytes buf.new
+            (left_of_file R.File.Read.remaining self.new.file))) }
         ensures closed { self.old.file ≡ None → result ≡ Ok 0 }
         ensures cause { IsErr result → HasRisen self.old.count self.new.count }
         ensures count { self.new.count ≡ (if is_err result then min

@@ -1,7 +1,7 @@
 //! Files in memory, by name.
 
 ghost use Rattle.std.specs.Prelude.{◌≡◌, ℕ, ◌+◌, ◌^◌, ◌<◌, ◌≤◌, [], length, drop, map, min, Option, Some, None, MatchOption, is_some, unwrap_or};
-ghost use Rattle.outside.specs.Outside.{Moves};
+ghost use Rattle.outside.specs.Outside.{MovesBytes};
 ghost use Rattle.outside.specs.Files.{file_of, content_in, content_at, left_in};
 
 // A list of files. The one with index `place` is open, and `read` bytes of it were read.
@@ -47,7 +47,7 @@ fn after_first(bytes: &[u8], count: usize) -> &[u8]
 // Copies the first bytes of `left` into the buffer, as many as fit, and returns their number.
 fn copy_first(left: &[u8], buf: &mut [u8]) -> usize
     ensures most { result ≡ min (length buf.old) (length left.now) }
-    ensures moved { Moves result left.now buf.new (Some (drop result left.now)) }
+    ensures moved { MovesBytes result left.now buf.new (Some (drop result left.now)) }
 {
     let n = buf.len().min(left.len());
     buf[..n].copy_from_slice(&left[..n]);
@@ -110,7 +110,7 @@ impl Shelf {
     pub(crate) fn read_next(&mut self, buf: &mut [u8]) -> usize
         ensures most { result ≡ min (length buf.old) (length
             (left_in (map file_of self.old.files.items) self.old.place self.old.read)) }
-        ensures moved { Moves result (left_in
+        ensures moved { MovesBytes result (left_in
             (map file_of self.old.files.items) self.old.place self.old.read) buf.new
             (Some (left_in (map file_of self.new.files.items) self.new.place self.new.read)) }
         ensures files { self.new.files ≡ self.old.files }

@@ -1,7 +1,7 @@
 //! Laws of sources and sinks.
 
 ghost use Rattle.std.specs.Prelude.{◌≡◌, ◌≢◌, ℕ, ◌+◌, ◌<◌, ◌≤◌, List, [], ◌∷◌, ◌++◌, length, take, Some, None, Option, Ok, Err, Result, false};
-ghost use Rattle.outside.specs.Outside.{LAST, HasRisen, AppendsText, AppendsPrefix, Opens, Moves, Asked};
+ghost use Rattle.outside.specs.Outside.{LAST, HasRisen, AppendsText, AppendsPrefix, Opens, MovesBytes, Asked};
 ghost use Rattle.outside.specs.Reading.{Moved, TakesMore, TakesAll, AsksFor};
 ghost use Rattle.outside.specs.declared.traits.OpenFault.{OpenFault};
 ghost use Rattle.outside.specs.declared.reader.ReadFault.{ReadFault};
@@ -10,7 +10,7 @@ ghost use Rattle.outside.specs.declared.reader.TheConstants.{MAX_FILE_BYTES};
 ghost use Rattle.outside.specs.declared.memory_sources.MemSources.{MemSources};
 ghost use Rattle.outside.specs.declared.memory_sources.SureSources.{SureSources};
 ghost use Rattle.outside.specs.declared.memory_sinks.MemSink.{MemSink};
-ghost use Rattle.outside.specs.Memory.{state_of, files_of, left_of, asked_of, faults_of, is_open};
+ghost use Rattle.outside.specs.Memory.{sources_state, files_of, left_of, asked_of, faults_of, is_open};
 ghost use Rattle.outside.specs.Sure as sure;
 ghost use Rattle.outside.specs.Written as written;
 ghost use Rattle.outside.specs.Real.{left_of_file};
@@ -35,28 +35,28 @@ pub fn texts_in_turn()
     ensures front { (old first second now : List ℕ) (between : Option (List ℕ))
         → AppendsText (Some old) between first → AppendsPrefix between (Some now) second
         → take (length now) (old ++ first ++ second) ≡ now }
-    ensures told { (old text : List ℕ) → AppendsPrefix (Some old) None text → ⊥ }
+    ensures known { (old text : List ℕ) → AppendsPrefix (Some old) None text → ⊥ }
 {}
 
 /// What sources and sinks in memory hold is known: the content of each name, what is left of the
 /// open file, the names asked for, the faults, and the bytes written.
 pub fn memory_is_known()
     ensures content { (s : MemSources) (name bytes : List ℕ) (files : List (List ℕ × List ℕ))
-        → files_of s ≡ (name, bytes) ∷ files → (state_of s).content name ≡ Some bytes }
+        → files_of s ≡ (name, bytes) ∷ files → (sources_state s).content name ≡ Some bytes }
     ensures missing { (s : MemSources) (name : List ℕ) → files_of s ≡ []
-        → (state_of s).content name ≡ None }
-    ensures closed { (s : MemSources) → is_open s ≡ false → (state_of s).left ≡ Some [] }
-    ensures open { (s : MemSources) → (state_of s).left ≡ Some (left_of s) }
-    ensures counted { (s : MemSources) → ((state_of s).asked ≡ asked_of s)
-        × ((state_of s).faults ≡ faults_of s) }
+        → (sources_state s).content name ≡ None }
+    ensures closed { (s : MemSources) → is_open s ≡ false → (sources_state s).left ≡ Some [] }
+    ensures open { (s : MemSources) → (sources_state s).left ≡ Some (left_of s) }
+    ensures counted { (s : MemSources) → ((sources_state s).asked ≡ asked_of s)
+        × ((sources_state s).faults ≡ faults_of s) }
     ensures sure { (s : SureSources) (name bytes : List ℕ) (files : List (List ℕ × List ℕ))
         → sure.files_of s ≡ (name, bytes) ∷ files
-        → (sure.state_of s).content name ≡ Some bytes }
+        → (sure.sources_state s).content name ≡ Some bytes }
     ensures sure_missing { (s : SureSources) (name : List ℕ) → sure.files_of s ≡ []
-        → (sure.state_of s).content name ≡ Some [] }
-    ensures sure_counted { (s : SureSources) → ((sure.state_of s).left ≡ Some (sure.left_of s))
-        × ((sure.state_of s).asked ≡ sure.asked_of s) × ((sure.state_of s).faults ≡ 0) }
-    ensures sink { (s : MemSink) → written.state_of s
+        → (sure.sources_state s).content name ≡ Some [] }
+    ensures sure_counted { (s : SureSources) → ((sure.sources_state s).left ≡ Some (sure.left_of s))
+        × ((sure.sources_state s).asked ≡ sure.asked_of s) × ((sure.sources_state s).faults ≡ 0) }
+    ensures sink { (s : MemSink) → written.sink_state s
         ≡ record { written = Some (written.bytes_of s); faults = written.faults_of s } }
     ensures real { (remaining : ℕ → Option (List ℕ)) (file : ℕ)
         → left_of_file remaining (Some file) ≡ remaining file }
@@ -66,7 +66,7 @@ pub fn memory_is_known()
 /// what was taken before: the next bytes, and of a whole file all, which is no longer than the
 /// maximum. Each name is asked for once, after all others, unless memory runs out.
 pub fn files_are_taken_in_order()
-    ensures moved { (n : ℕ) (left buf rest : List ℕ) → Moves n left buf (Some rest)
+    ensures moved { (n : ℕ) (left buf rest : List ℕ) → MovesBytes n left buf (Some rest)
         → (take n buf ++ rest ≡ left) × (n + length rest ≡ length left) }
     ensures left { (n : ℕ) (left rest : List ℕ) → Moved n left (Some rest)
         → (take n left ++ rest ≡ left) × (n + length rest ≡ length left) }

@@ -36,7 +36,7 @@ pub struct MemSink {
 }
 
 impl MemSink {
-    ghost use Rattle.outside.specs.Written.{bytes_of, room_of, most_of, faults_of, calls_of, fails_of};
+    ghost use Rattle.outside.specs.Written.{bytes_of, room_of, most_bytes_of, faults_of, calls_of, fails_of};
 
     /// A sink of at most `room` bytes in all, and at most `most` bytes in one call. A call fails if
     /// `fails` has its number, counted from 1, or if it has a byte to write and the sink is full.
@@ -51,7 +51,7 @@ impl MemSink {
         requires { 1 ≤ most }
         ensures bytes { IfOk result (λ sink. bytes_of sink ≡ []) }
         ensures room { IfOk result (λ sink. room_of sink ≡ room) }
-        ensures most { IfOk result (λ sink. most_of sink ≡ most) }
+        ensures most { IfOk result (λ sink. most_bytes_of sink ≡ most) }
         ensures faults { IfOk result (λ sink. faults_of sink ≡ 0) }
         ensures calls { IfOk result (λ sink. calls_of sink ≡ 0) }
         ensures fails { IfOk result (λ sink. fails_of sink ≡ fails.items) }
@@ -75,19 +75,19 @@ impl MemSink {
 }
 
 impl Sink for MemSink {
-    ghost use Rattle.outside.specs.Written.{state_of, bytes_of, room_of, most_of, is_full, faults_of, calls_of, fails_of};
+    ghost use Rattle.outside.specs.Written.{sink_state, bytes_of, room_of, most_bytes_of, has_no_room, faults_of, calls_of, fails_of};
 
-    ghost state = { λ s. state_of s };
+    ghost state = { λ s. sink_state s };
 
     fn write(&mut self, bytes: &[u8]) -> Result<usize, Failed>
-        ensures taken { IfOk result (λ n. n ≡ min (length bytes.now) (min (most_of self.old)
+        ensures taken { IfOk result (λ n. n ≡ min (length bytes.now) (min (most_bytes_of self.old)
             (room_of self.old - length (bytes_of self.old)))) }
         ensures some { IfOk result (λ n. 0 < length bytes.now → 0 < n) }
         ensures added { IfOk result (λ n. bytes_of self.new ≡ bytes_of self.old
             ++ take n bytes.now) }
         ensures failed { OnErr result (bytes_of self.new ≡ bytes_of self.old) }
         ensures fails { is_err result ≡ (is_listed (fails_of self.old) (calls_of self.new)
-            || (nat_lt 0 (length bytes.now) && is_full self.old)) }
+            || (nat_lt 0 (length bytes.now) && has_no_room self.old)) }
         ensures cause { IsErr result → HasRisen (faults_of self.old) (faults_of self.new) }
         ensures count { faults_of self.new ≡ (if is_err result then min
             (faults_of self.old + 1) LAST else faults_of self.old) }
@@ -95,7 +95,7 @@ impl Sink for MemSink {
         ensures calls { calls_of self.new ≡ next_call (calls_of self.old) }
         ensures within { length (bytes_of self.new) ≤ room_of self.new }
         ensures same_room { room_of self.new ≡ room_of self.old }
-        ensures same_most { most_of self.new ≡ most_of self.old }
+        ensures same_most { most_bytes_of self.new ≡ most_bytes_of self.old }
         ensures same_fails { fails_of self.new ≡ fails_of self.old }
     {
         self.calls = self.calls.saturating_add(1);

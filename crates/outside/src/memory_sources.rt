@@ -1,7 +1,7 @@
 //! Files in memory, as sources.
 
 ghost use Rattle.std.specs.Prelude.{◌≡◌, ◌+◌, ◌≤◌, ℕ, ◌&&◌, if◌then◌else◌, [], length, map, min, Option, Some, None, Ok, true, false, IfOk, OnErr, OnOk, IsErr, IsErrOf, IsTrue, ◌⊎◌, is_ok, is_err};
-ghost use Rattle.outside.specs.Outside.{LAST, HasRisen, Opens, asked_after, Moves};
+ghost use Rattle.outside.specs.Outside.{LAST, HasRisen, Opens, asked_after, MovesBytes};
 ghost use Rattle.outside.specs.Files.{file_of, content_in};
 ghost use Rattle.outside.specs.Calls.{is_listed, next_call};
 
@@ -60,9 +60,9 @@ impl MemSources {
 }
 
 impl Sources for MemSources {
-    ghost use Rattle.outside.specs.Memory.{state_of, files_of, left_of, asked_of, is_open, faults_of, calls_of, fails_of};
+    ghost use Rattle.outside.specs.Memory.{sources_state, files_of, left_of, asked_of, is_open, faults_of, calls_of, fails_of};
 
-    ghost state = { λ s. state_of s };
+    ghost state = { λ s. sources_state s };
 
     fn open_file(&mut self, name: &str) -> Result<(), OpenFault>
         ensures opened { Opens result (content_in (files_of self.old) name.now)
@@ -98,7 +98,7 @@ impl Sources for MemSources {
 
     fn read(&mut self, buf: &mut [u8]) -> Result<usize, Failed>
         ensures most { IfOk result (λ n. n ≡ min (length buf.old) (length (left_of self.old))) }
-        ensures moved { IfOk result (λ n. Moves n (left_of self.old) buf.new
+        ensures moved { IfOk result (λ n. MovesBytes n (left_of self.old) buf.new
             (Some (left_of self.new))) }
         ensures closed { is_open self.old ≡ false → result ≡ Ok 0 }
         ensures open { is_open self.new ≡ is_open self.old }
@@ -150,9 +150,9 @@ impl SureSources {
 }
 
 impl Sources for SureSources {
-    ghost use Rattle.outside.specs.Sure.{state_of};
+    ghost use Rattle.outside.specs.Sure.{sources_state};
 
-    ghost state = { λ s. state_of s };
+    ghost state = { λ s. sources_state s };
 
     fn open_file(&mut self, name: &str) -> Result<(), OpenFault> {
         self.shelf.close();

@@ -1,7 +1,7 @@
 //! The traits of sources and sinks.
 
 ghost use Rattle.std.specs.Prelude.{◌≡◌, ◌+◌, ◌<◌, ◌≤◌, [], length, min, take, IfSome, IfOk, OnErr, IsErr, IsErrOf};
-ghost use Rattle.outside.specs.Outside.{LAST, SourceState, SinkState, HasRisen, Opens, asked_after, Moves, AppendsText};
+ghost use Rattle.outside.specs.Outside.{LAST, SourceState, SinkState, HasRisen, Opens, asked_after, MovesBytes, AppendsText};
 
 use std::alloc::AllocError;
 use thiserror::Error;
@@ -62,7 +62,7 @@ pub trait Sources {
     fn read(&mut self, buf: &mut [u8]) -> Result<usize, Failed>
         ensures most { IfOk result (λ n. n ≤ length buf.old) }
         ensures moved { IfOk result (λ n. IfSome (state self.old).left
-            (λ bytes. Moves n bytes buf.new (state self.new).left)) }
+            (λ bytes. MovesBytes n bytes buf.new (state self.new).left)) }
         ensures cause { IsErr result → HasRisen (state self.old).faults (state self.new).faults }
         ensures later { (state self.old).faults ≤ (state self.new).faults }
         ensures asked { (state self.new).asked ≡ (state self.old).asked }

@@ -255,7 +255,7 @@ fn reads_on_after_a_signal(rt: HostRuntime) {
     }
 }
 
-// The texts differ, so that each tells the fault.
+// The texts differ, so that each shows the fault.
 #[test]
 fn faults(rt: HostRuntime) -> Result<(), Fail> {
     let alloc = rt.alloc();

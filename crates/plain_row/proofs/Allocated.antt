@@ -16,7 +16,7 @@ use Rattle.plain_row.specs.Rows.{mutator_at_turn, number_at_turn, regions_at_tur
 use Rattle.block_regions.specs.Elements.{ChangesAt}
 use Rattle.local_allocators.specs.MutatorRegions.{IsBlockFor}
 use Rattle.block_regions.specs.Regions.{IsRestAfter}
-use Rattle.plain_row.specs.Changes.{Allocates}
+use Rattle.plain_row.specs.Changes.{AllocatesInRow}
 
 -- the mutator has an object more, at the start of the region that it allocates in, and owns what that leaves
 pub record IsBorn (a b : PlainRow) (d : ℕ) (n : Name) (refs nums : ℕ) : Type 0 where
@@ -44,7 +44,7 @@ pub record IsBorn (a b : PlainRow) (d : ℕ) (n : Name) (refs nums : ℕ) : Type
   pub named : n ≡ name mutator.number (mutator.births + 1)
   pub object : WritesObject (state_of a.row) (state_of b.row) (block_start a.row.layout.blocks block + region.next) n refs nums
 
-pub allocated : (a b : PlainRow) (d : ℕ) (n : Name) (refs nums : ℕ) → Allocates a b d n refs nums → IsBorn a b d n refs nums
+pub allocated : (a b : PlainRow) (d : ℕ) (n : Name) (refs nums : ℕ) → AllocatesInRow a b d n refs nums → IsBorn a b d n refs nums
 allocated a b d n refs nums by = record {
   block = by.block;
   region = by.region.region;

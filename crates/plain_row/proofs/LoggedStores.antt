@@ -19,7 +19,7 @@ use Rattle.mutator_core.specs.declared.state.Local.{Local}
 use Rattle.mutator_core.specs.declared.state.LogEntry.{LogEntry}
 use Rattle.mutator_core.specs.declared.state.Event.{Event}
 use Rattle.mutator_core.specs.declared.state.Event.TheVariants as e
-use Rattle.mutator_core.specs.Machine.{Epoch, Machine, heap_in, next, found, place, stored, answer_at, local_after, address_in}
+use Rattle.mutator_core.specs.Machine.{Epoch, Machine, heap_in, next, found, word_of_event, stored, answer_at, local_after, address_in}
 use Rattle.side_meta.specs.BitWords.{without_bit}
 use Rattle.object_model.specs.BitWords.{bit_word, bit_place}
 use Rattle.mutator_core.specs.Guards.{MayStep}
@@ -37,20 +37,20 @@ use Rattle.plain_row.specs.Rows.{IsTurn, births_of, mutator_at_turn, seat_at_tur
 use Rattle.local_allocators.specs.Seats.{ticket_of, block_of, over_of}
 use Rattle.block_regions.specs.Notes.{AreFilled, HasNotes, IsRegionOf}
 use Rattle.plain_row.specs.Changes.{StoresWord}
-use Rattle.plain_row.specs.Worlds.{IsAt, IsReady, HasState, Continues, Goes, has}
+use Rattle.plain_row.specs.Worlds.{IsAt, MayCall, HasState, Continues, Goes, is_in_list}
 use Rattle.plain_row.specs.SeatLaws.{continues-after}
 use Rattle.local_allocators.proofs.SeatRegions.{same-keeps}
 use Rattle.plain_row.proofs.ForeignBlocks.{foreign-same}
 use Rattle.plain_row.specs.Steps.{HasShape}
 use Rattle.block_regions.proofs.NoteLemmas as notes
 use Rattle.block_regions.proofs.NoteLemmas.{KeepsBlocks}
-use Rattle.plain_row.proofs.Facts as facts
-use Rattle.plain_row.proofs.Stepping as stepping
-use Rattle.plain_row.proofs.Stepping.{Updates}
-use Rattle.plain_row.proofs.Following.{at-follows}
-use Rattle.plain_row.proofs.Owning.{lists-kept}
-use Rattle.plain_row.proofs.Entering as entering
-use Rattle.plain_row.proofs.Storing as storing
+use Rattle.plain_row.proofs.EpochFacts as facts
+use Rattle.plain_row.proofs.LogStep as stepping
+use Rattle.plain_row.proofs.LogStep.{Updates}
+use Rattle.plain_row.proofs.LogSteps.{at-follows}
+use Rattle.plain_row.proofs.OwnedLists.{lists-kept}
+use Rattle.plain_row.proofs.EntriesMade as entering
+use Rattle.plain_row.proofs.StoreSteps as storing
 
 -- a step that neither publishes an object nor takes a block keeps the blocks
 keeps-of : (s : HeapState) (w : List ℕ) (x : Event) → Spot s w x → Leaves s w → is_publication x ≡ false → takes_block x ≡ false → KeepsBlocks s w
@@ -93,7 +93,7 @@ module _ (p : Epoch) (i : IdealHeap) (log : List LogEntry) (a b : PlainRow) (at 
     may-then : MayStep p (g.locals m) y
     may-then = subst (λ z. MayStep p z y) (sym own-next) next-may
 
-    abbrev one : law.Goes p h (runs.after i (history_of p log)) m x
+    abbrev one : law.Goes p h (runs.heap_after_run i (history_of p log)) m x
     one = law.goes p at.epoch.ready h _ (facts.end p i log a at).set (facts.moment p i log a at) m (stepping.known p i log a at turn) x may
 
     keeps-one : KeepsBlocks (heap_in p h) g.words
@@ -108,13 +108,13 @@ module _ (p : Epoch) (i : IdealHeap) (log : List LogEntry) (a b : PlainRow) (at 
     notes-two = notes.notes-after (heap_in p g) (next p g m y).words keeps-two a.fill at.fills a.notes.items
         (notes.notes-after (heap_in p h) g.words keeps-one a.fill at.fills a.notes.items (subst (λ t. HasNotes a.fill t a.notes.items) at.heap at.notes))
 
-    module _ (words : state_of b.row ≡ with_words (heap_after p log) (slice_set g.words (place p between y) (stored p between y (slice_index g.words (place p between y)))))
-        (up : Updates a b (local_after p between y (slice_index g.words (place p between y)))) where
+    module _ (words : state_of b.row ≡ with_words (heap_after p log) (slice_set g.words (word_of_event p between y) (stored p between y (slice_index g.words (word_of_event p between y)))))
+        (up : Updates a b (local_after p between y (slice_index g.words (word_of_event p between y)))) where
       words-two : state_of b.row ≡ with_words (heap_after p log) (next p g m y).words
-      words-two = words ∙ ap (λ z. with_words (heap_after p log) (slice_set g.words (place p z y) (stored p z y (slice_index g.words (place p z y))))) (sym own-next)
+      words-two = words ∙ ap (λ z. with_words (heap_after p log) (slice_set g.words (word_of_event p z y) (stored p z y (slice_index g.words (word_of_event p z y))))) (sym own-next)
 
-      local-two : (next p g m y).locals m ≡ local_after p between y (slice_index g.words (place p between y))
-      local-two = cond-true (nat_eq m m) _ _ (eq-eqb m m refl) ∙ ap (λ z. local_after p z y (slice_index g.words (place p z y))) own-next
+      local-two : (next p g m y).locals m ≡ local_after p between y (slice_index g.words (word_of_event p between y))
+      local-two = cond-true (nat_eq m m) _ _ (eq-eqb m m refl) ∙ ap (λ z. local_after p z y (slice_index g.words (word_of_event p z y))) own-next
 
       pub at-two : IsAt p i (log ++ both) b
       at-two = at-follows p i log a at turn both (stepping.known p i log a at turn, may, refl, (stepping.known p i log a at turn, may-then, refl, tt)) b (record {
@@ -172,7 +172,7 @@ and-true true = refl
 and-true false = refl
 
 -- The unlog bit of the object in register s becomes clear, and then its field k becomes the address in register v.
-module _ (a cleared b : PlainRow) (ready : IsReady a) (s k v : ℕ) (shape : Shape) (register : s < 16) (value : v < 16) (has-shape : HasShape a s shape) (there : k < shape.refs)
+module _ (a cleared b : PlainRow) (ready : MayCall a) (s k v : ℕ) (shape : Shape) (register : s < 16) (value : v < 16) (has-shape : HasShape a s shape) (there : k < shape.refs)
     (clears : StoresWord a cleared (first a.row.layout.blocks UnlogBits + (address_at a s - heap_of a.row.layout.blocks) / 64)
     (without_bit (word_at (state_of a.row) (first a.row.layout.blocks UnlogBits + (address_at a s - heap_of a.row.layout.blocks) / 64)) ((address_at a s - heap_of a.row.layout.blocks) % 64)))
     (stores : StoresWord cleared b (address_at a s + 3 + k) (address_at a v)) where
@@ -200,7 +200,7 @@ module _ (a cleared b : PlainRow) (ready : IsReady a) (s k v : ℕ) (shape : Sha
   words-are : state_of b.row ≡ with_words t (slice_set first-words (object + 3 + k) (address_at a v))
   words-are = stores.words ∙ ap (λ q. with_words q (slice_set q.words (object + 3 + k) (address_at a v))) clears.words
 
-  logged : (x : ℕ) → is_unlogged (state_of b.row) x ≡ (is_unlogged t x && not (has (object ∷ []) x))
+  logged : (x : ℕ) → is_unlogged (state_of b.row) x ≡ (is_unlogged t x && not (is_in_list (object ∷ []) x))
   logged x = ap (λ q. is_unlogged q x) words-are ∙ after-store ∙ after-clear
     where
       after-store : is_unlogged (with_words t (slice_set first-words (object + 3 + k) (address_at a v))) x ≡ is_unlogged (with_words t first-words) x
@@ -211,7 +211,7 @@ module _ (a cleared b : PlainRow) (ready : IsReady a) (s k v : ℕ) (shape : Sha
           (get_or-set_other first-words (object + 3 + k) (first a.row.layout.blocks UnlogBits + (x - heap_of a.row.layout.blocks) / 64) (address_at a v) 0 (λ same. omega arith)))
 
       cleared-bit : ClearsUnlog t (with_words t first-words) object
-      cleared-bit = bits.clears-unlog t (facts.order ready.idle.some.epoch ready.idle.some.ideal ready.idle.some.log a ready.idle.some.at) object address
+      cleared-bit = bits.clears-unlog t (facts.order ready.between_calls.some.epoch ready.between_calls.some.ideal ready.between_calls.some.log a ready.between_calls.some.at) object address
 
       after-clear : is_unlogged (with_words t first-words) x ≡ (is_unlogged t x && not (nat_eq x object || false))
       after-clear = elim (cases_eq x object) as (λ _. is_unlogged (with_words t first-words) x ≡ (is_unlogged t x && not (nat_eq x object || false))) [
@@ -309,31 +309,31 @@ module _ (a cleared b : PlainRow) (ready : IsReady a) (s k v : ℕ) (shape : Sha
     foreign = foreign-same a b (ap (λ w. w.notes) rest);
   }
 
-  pub ready-logged : IsReady b
+  pub ready-logged : MayCall b
   ready-logged = record {
     turn = subst IsTurn (sym rest) (record { turn = ready.turn.turn; seats = ready.turn.seats });
-    idle = record {
+    between_calls = record {
       some = record {
-        epoch = ready.idle.some.epoch;
-        ideal = ready.idle.some.ideal;
-        log = ready.idle.some.log ++ now.more;
+        epoch = ready.between_calls.some.epoch;
+        ideal = ready.between_calls.some.ideal;
+        log = ready.between_calls.some.log ++ now.more;
         at = now.at;
       };
-      filled = subst (λ w. AreFilled w.notes.items) (sym rest) ready.idle.filled;
+      filled = subst (λ w. AreFilled w.notes.items) (sym rest) ready.between_calls.filled;
     };
   }
     where
-      now : Continues ready.idle.some.epoch ready.idle.some.ideal ready.idle.some.log (number_at_turn a) (logs (object ∷ []) (c.Put s k v) r.Done) b
-      now = steps ready.idle.some.epoch ready.idle.some.ideal ready.idle.some.log ready.idle.some.at
+      now : Continues ready.between_calls.some.epoch ready.between_calls.some.ideal ready.between_calls.some.log (number_at_turn a) (logs (object ∷ []) (c.Put s k v) r.Done) b
+      now = steps ready.between_calls.some.epoch ready.between_calls.some.ideal ready.between_calls.some.log ready.between_calls.some.at
 
 -- the words and bits where the code finds them
 pub clears-there : (a cleared : PlainRow) (s n bit : ℕ) → n ≡ first a.row.layout.blocks UnlogBits + (address_at a s - heap_of a.row.layout.blocks) / 64
     → bit ≡ (address_at a s - heap_of a.row.layout.blocks) % 64 → StoresWord a cleared n (without_bit (word_at (state_of a.row) n) bit)
     → StoresWord a cleared (first a.row.layout.blocks UnlogBits + (address_at a s - heap_of a.row.layout.blocks) / 64)
     (without_bit (word_at (state_of a.row) (first a.row.layout.blocks UnlogBits + (address_at a s - heap_of a.row.layout.blocks) / 64)) ((address_at a s - heap_of a.row.layout.blocks) % 64))
-clears-there a cleared s n bit word place clears =
+clears-there a cleared s n bit word word_of_event clears =
     subst (λ q. StoresWord a cleared q (without_bit (word_at (state_of a.row) q) ((address_at a s - heap_of a.row.layout.blocks) % 64))) word
-    (subst (λ q. StoresWord a cleared n (without_bit (word_at (state_of a.row) n) q)) place clears)
+    (subst (λ q. StoresWord a cleared n (without_bit (word_at (state_of a.row) n) q)) word_of_event clears)
 
 pub address-stays : (a cleared : PlainRow) (s n x : ℕ) → StoresWord a cleared n x → address_at cleared s ≡ address_at a s
 address-stays a cleared s n x clears = ap (λ w. address_at w s) clears.rest
@@ -344,7 +344,7 @@ stores-there a cleared b s k v n x at value clears here is stores =
     subst (λ q. StoresWord cleared b q (address_at a v)) (here ∙ ap (λ q. q + 3 + k) (address-stays a cleared s n x clears))
     (subst (λ q. StoresWord cleared b at q) (is ∙ address-stays a cleared v n x clears) stores)
 
-pub field-inside-then : (a cleared : PlainRow) → IsReady a → (s k : ℕ) (shape : Shape) → s < 16 → HasShape a s shape → k < shape.refs → (n x at : ℕ) → StoresWord a cleared n x
+pub field-inside-then : (a cleared : PlainRow) → MayCall a → (s k : ℕ) (shape : Shape) → s < 16 → HasShape a s shape → k < shape.refs → (n x at : ℕ) → StoresWord a cleared n x
     → at ≡ address_at cleared s + 3 + k → at < length cleared.row.words.items
 field-inside-then a cleared ready s k shape register is there n x at clears here =
     subst (λ q. at < q) (sym (ap (λ q. length q.words) clears.words ∙ length-set (state_of a.row).words n x))

@@ -26,8 +26,8 @@ use Rattle.local_allocators.proofs.SeatRegions.{lines-for, class-else, over-else
 use Rattle.plain_row.proofs.Turns.{block-tries}
 use Rattle.block_regions.specs.Regions.{IsCellLeft, free, full, IsRegionIn, IsRestAfter, without_first}
 use Rattle.block_regions.specs.Notes.{AreFilled}
-use Rattle.plain_row.specs.Worlds.{IsReady, HasRoom, Continues, Goes}
-use Rattle.plain_row.specs.Steps.{Lacks, IsUsed, IsOverflow, KeepsRegion, KeepsRest, AllocatesIn, PlacesObject}
+use Rattle.plain_row.specs.Worlds.{MayCall, RegionHasRoomFor, Continues, Goes}
+use Rattle.plain_row.specs.Steps.{Lacks, IsUsed, IsOverflow, KeepsRegion, KeepsRest, AllocatesIn, PlacesAtRegion}
 use Rattle.plain_row.proofs.ForeignBlocks.{foreign-but}
 use Rattle.local_allocators.proofs.CellRooms.{rest-later}
 use Rattle.block_regions.proofs.Regions.{suits-class}
@@ -36,7 +36,7 @@ use Rattle.block_regions.proofs.Lists.{one-element}
 use Rattle.plain_row.proofs.Allocated.{IsBorn}
 use Rattle.plain_row.proofs.NewObjects as objects
 
-module _ (a b : PlainRow) (d refs nums : ℕ) (n : Name) (born : IsBorn a b d n refs nums) (has : HasRoom a (size_of refs nums)) (register : d < 16)
+module _ (a b : PlainRow) (d refs nums : ℕ) (n : Name) (born : IsBorn a b d n refs nums) (has : RegionHasRoomFor a (size_of refs nums)) (register : d < 16)
     (few_refs : refs ≤ 1024) (few_nums : nums ≤ 60000) (small : size_of refs nums ≤ 2048) (few_births : births_of (mutator_at_turn a) + 1 < 2 ^ 32) where
   and-true : (q : Bool) → q ≡ (q && not false)
   and-true true = refl
@@ -153,7 +153,7 @@ module _ (a b : PlainRow) (d refs nums : ℕ) (n : Name) (born : IsBorn a b d n 
             (λ hole. turns.own-apart now.epoch now.ideal now.log a now.at has.turn born.block fill is.1 hole) born.room left a.fill is.0)
       ])
 
-  pub places : PlacesObject a b d (size_of refs nums)
+  pub places : PlacesAtRegion a b d (size_of refs nums)
   places = record {
     fill = born.fill;
     block = born.block;
@@ -191,13 +191,13 @@ module _ (a b : PlainRow) (d refs nums : ℕ) (n : Name) (born : IsBorn a b d n 
     ]
   ]
 
-  pub ready : IsReady b
+  pub ready : MayCall b
   ready = record {
     turn = record {
       turn = subst (λ k. b.turn < k) (sym born.mutators.len) (subst (λ k. k < length a.mutators.items) (sym born.turn) has.turn.turn);
       seats = ap (λ w. length w.items) born.seats ∙ has.turn.seats ∙ sym born.mutators.len;
     };
-    idle = record {
+    between_calls = record {
       some = record {
         epoch = has.some.epoch;
         ideal = has.some.ideal;

@@ -37,10 +37,10 @@ use Rattle.mutator_calls.specs.Effects.{enters}
 use Rattle.plain_row.specs.declared.plain_row.PlainRow.{PlainRow}
 use Rattle.local_allocators.specs.declared.local_seat.LocalSeat.{LocalSeat}
 use Rattle.block_regions.specs.declared.block_notes.BlockNote.TheVariants.{Owned}
-use Rattle.plain_row.specs.Rows.{number_of, births_of, registers_of, mutator_at_turn, seat_at_turn, number_at_turn, address_at, regions_at_turn}
+use Rattle.plain_row.specs.Rows.{mutator_number, births_of, registers_of, mutator_at_turn, seat_at_turn, number_at_turn, address_at, regions_at_turn}
 use Rattle.local_allocators.specs.Seats.{blocks_of, block_of, over_of}
 use Rattle.block_regions.specs.Notes.{FillsTails, FillsHoles, IsOwnedNote, HasNotes, IsRegionOf}
-use Rattle.plain_row.specs.Worlds.{HasState, IsAt, HasRoom, Continues}
+use Rattle.plain_row.specs.Worlds.{HasState, IsAt, RegionHasRoomFor, Continues}
 use Rattle.plain_row.specs.Steps.{Lacks}
 use Rattle.local_allocators.specs.MutatorRegions.{FillsLines}
 use Rattle.local_allocators.specs.NotedRegions.{region_of, region_noted}
@@ -51,17 +51,17 @@ use Rattle.object_model.proofs.Frames.{same-layout}
 use Rattle.block_regions.proofs.Regions.{suits-class, hole-kind}
 use Rattle.block_regions.proofs.RegionFrames.{region-tail}
 use Rattle.block_regions.proofs.Lists.{one-element}
-use Rattle.plain_row.proofs.Owning.{lists-moved}
+use Rattle.plain_row.proofs.OwnedLists.{lists-moved}
 use Rattle.local_allocators.proofs.OwnedLists.{listed-moved}
-use Rattle.plain_row.proofs.Facts as facts
+use Rattle.plain_row.proofs.EpochFacts as facts
 use Rattle.plain_row.proofs.Turns as turns
-use Rattle.plain_row.proofs.Stepping as stepping
+use Rattle.plain_row.proofs.LogStep as stepping
 use Rattle.local_allocators.proofs.Publishing as publishing
 use Rattle.local_allocators.proofs.Publishing.{Stores, Publishes}
 use Rattle.local_allocators.proofs.WrittenWords.{words-written}
 use Rattle.local_allocators.proofs.CellRooms as rooms
 use Rattle.block_regions.proofs.NewNotes as notes
-use Rattle.plain_row.proofs.Following.{Follows, at-follows}
+use Rattle.plain_row.proofs.LogSteps.{Follows, at-follows}
 use Rattle.plain_row.proofs.Allocated.{IsBorn}
 
 -- the name of the mutator's next object is new
@@ -78,7 +78,7 @@ fresh p h i set now m known x holds same =
     let equal : y.births ≡ l.births = sym count ∙ ap i.births (sym who) ∙ own in
     omega arith
 
-module _ (a b : PlainRow) (d refs nums : ℕ) (n : Name) (born : IsBorn a b d n refs nums) (has : HasRoom a (size_of refs nums)) (register : d < 16)
+module _ (a b : PlainRow) (d refs nums : ℕ) (n : Name) (born : IsBorn a b d n refs nums) (has : RegionHasRoomFor a (size_of refs nums)) (register : d < 16)
     (few_refs : refs ≤ 1024) (few_nums : nums ≤ 60000) (small : size_of refs nums ≤ 2048) (few_births : births_of (mutator_at_turn a) + 1 < 2 ^ 32) where
   abbrev x : ℕ
   x = block_start a.row.layout.blocks born.block + born.region.next
@@ -93,7 +93,7 @@ module _ (a b : PlainRow) (d refs nums : ℕ) (n : Name) (born : IsBorn a b d n 
   mutator-now = ap (λ k. slice_get b.mutators.items k) born.turn ∙ born.mutators.here
 
   pub number-same : number_at_turn b ≡ number_at_turn a
-  number-same = ap number_of mutator-now ∙ ap number_of (sym born.is)
+  number-same = ap mutator_number mutator-now ∙ ap mutator_number (sym born.is)
 
   b-state : state_of b.row ≡ with_words (state_of a.row) v
   b-state = same-layout (state_of a.row) (state_of b.row) born.object.blocks born.object.number born.object.base
@@ -106,7 +106,7 @@ module _ (a b : PlainRow) (d refs nums : ℕ) (n : Name) (born : IsBorn a b d n 
     abbrev s : HeapState
     s = heap_after p log
 
-    moment : Holds p (machine_after p log) (runs.after i (history_of p log)) (facts.end p i log a at).set
+    moment : Holds p (machine_after p log) (runs.heap_after_run i (history_of p log)) (facts.end p i log a at).set
     moment = facts.moment p i log a at
 
     order : IsWellFormed (heap_after p log)
@@ -175,7 +175,7 @@ module _ (a b : PlainRow) (d refs nums : ℕ) (n : Name) (born : IsBorn a b d n 
     }
 
     own-name : next_name (local_after_log p log m) ≡ n
-    own-name = ap (λ q. name q ((local_after_log p log m).births + 1)) (turns.own-local-number p i log a at has.turn ∙ ap number_of born.is)
+    own-name = ap (λ q. name q ((local_after_log p log m).births + 1)) (turns.own-local-number p i log a at has.turn ∙ ap mutator_number born.is)
         ∙ ap (λ q. name born.mutator.number (q + 1)) (turns.own-births p i log a at has.turn ∙ ap births_of born.is) ∙ sym born.named
 
     length-room : x + size_of refs nums ≤ length h.words
@@ -213,7 +213,7 @@ module _ (a b : PlainRow) (d refs nums : ℕ) (n : Name) (born : IsBorn a b d n 
       few_refs = few_refs;
       few_nums = few_nums;
       apart = place-clear p at.epoch.ready h moment.epoch m x (size_of refs nums) available;
-      fresh = λ y holds same. fresh p h (runs.after i (history_of p log)) (facts.end p i log a at).set moment m known y holds (same ∙ sym own-name);
+      fresh = λ y holds same. fresh p h (runs.heap_after_run i (history_of p log)) (facts.end p i log a at).set moment m known y holds (same ∙ sym own-name);
     }
 
     adds : Adds (heap_after p log) v x n refs nums
@@ -273,7 +273,7 @@ module _ (a b : PlainRow) (d refs nums : ℕ) (n : Name) (born : IsBorn a b d n 
         here = ap (λ (w : Vec LocalSeat Global). slice_get w.items a.turn) born.seats ∙ (stepping.seat p i log a at has.turn).1;
         others = λ k other. ap (λ (w : Vec LocalSeat Global). slice_get w.items k) born.seats;
       };
-      number = ap number_of (sym born.is);
+      number = ap mutator_number (sym born.is);
       blocks = ap blocks_of (sym (stepping.seat p i log a at has.turn).1);
       over = ap over_of (sym (stepping.seat p i log a at has.turn).1);
       state = subst (HasState (record born.mutator { births = born.mutator.births + 1; registers = slice_set born.mutator.registers d x }) (stepping.seat p i log a at has.turn).0) (sym run.own) (record {

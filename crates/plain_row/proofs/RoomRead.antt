@@ -7,19 +7,19 @@ use Rattle.block_regions.specs.declared.block_notes.BlockNote.{BlockNote}
 use Rattle.block_regions.specs.declared.block_notes.BlockNote.TheVariants.{Unowned, Owned}
 use Rattle.plain_row.specs.Rows.{number_at_turn, regions_at_turn}
 use Rattle.local_allocators.specs.MutatorRegions.{IsBlockFor}
-use Rattle.plain_row.specs.Worlds.{IsReady, HasRoom}
+use Rattle.plain_row.specs.Worlds.{MayCall, RegionHasRoomFor}
 use Rattle.block_regions.proofs.Elements.{read-some}
 use Rattle.block_regions.proofs.Lists.{one-element}
 use Rattle.plain_row.proofs.Turns as turns
 
-module _ (w : PlainRow) (size : ℕ) (ready : IsReady w) (b : ℕ) (n : BlockNote) (current : IsBlockFor w.fill (regions_at_turn w) size b)
+module _ (w : PlainRow) (size : ℕ) (ready : MayCall w) (b : ℕ) (n : BlockNote) (current : IsBlockFor w.fill (regions_at_turn w) size b)
     (read : n ≡ get_or w.notes.items b n) where
   pub there : b < length w.notes.items
-  there = let now = ready.idle.some in turns.block-noted now.epoch now.ideal now.log w now.at ready.turn size b current
+  there = let now = ready.between_calls.some in turns.block-noted now.epoch now.ideal now.log w now.at ready.turn size b current
 
   pub not-unowned : (least : ℕ) → n ≡ Unowned least → ⊥
   not-unowned least is =
-      let now = ready.idle.some in
+      let now = ready.between_calls.some in
       let mine = (turns.own-block now.epoch now.ideal now.log w now.at ready.turn size b current).0 in
       let note : slice_get w.notes.items b ≡ Some (Unowned least) = read-some w.notes.items b n there read ∙ ap (λ (y : BlockNote). Some y) is in
       let wrong : Unowned least ≡ Owned (number_at_turn w) mine.region
@@ -31,10 +31,10 @@ module _ (w : PlainRow) (size : ℕ) (ready : IsReady w) (b : ℕ) (n : BlockNot
     note = read-some w.notes.items b n there read ∙ ap (λ (y : BlockNote). Some y) is
 
     pub inside : region.next ≤ region.end
-    inside = let now = ready.idle.some in (turns.note-inside now.epoch now.ideal now.log w now.at b owner region note).0
+    inside = let now = ready.between_calls.some in (turns.note-inside now.epoch now.ideal now.log w now.at b owner region note).0
 
-    pub has : region.next + size ≤ region.end → HasRoom w size
-    has room = let now = ready.idle.some in record {
+    pub has : region.next + size ≤ region.end → RegionHasRoomFor w size
+    has room = let now = ready.between_calls.some in record {
       turn = ready.turn;
       some = now;
       block = b;
@@ -43,6 +43,6 @@ module _ (w : PlainRow) (size : ℕ) (ready : IsReady w) (b : ℕ) (n : BlockNot
         region = region;
         note = turns.own-note now.epoch now.ideal now.log w now.at ready.turn size b owner region current note;
         room = room;
-        others = λ k owner r is. inr (ready.idle.filled k owner r is);
+        others = λ k owner r is. inr (ready.between_calls.filled k owner r is);
       };
     }

@@ -8,13 +8,13 @@ use Rattle.local_allocators.specs.MutatorRegions.{cursors_of}
 use Rattle.local_allocators.specs.NotedRegions.{regions_of}
 use Rattle.local_allocators.specs.NotedSeats.{HasNotedBlocks, regions_in}
 use Rattle.plain_row.specs.Rows.{seat_at_turn, regions_at_turn}
-use Rattle.plain_row.specs.Worlds.{IsReady, IsReadableSeat}
+use Rattle.plain_row.specs.Worlds.{MayCall, IsReadableSeat}
 use Rattle.block_regions.proofs.Elements.{read-some}
 use Rattle.plain_row.proofs.Turns as turns
 
 -- the seat can be read
-pub readable : (w : PlainRow) → IsReady w → IsReadableSeat w
-readable w ready = let now = ready.idle.some in turns.own-readable now.epoch now.ideal now.log w now.at ready.turn
+pub readable : (w : PlainRow) → MayCall w → IsReadableSeat w
+readable w ready = let now = ready.between_calls.some in turns.own-readable now.epoch now.ideal now.log w now.at ready.turn
 
 module _ (w : PlainRow) (readable : IsReadableSeat w) (x : LocalSeat) (read : x ≡ get_or w.seats.items w.turn x) where
   pub seat-is : seat_at_turn w ≡ Some x

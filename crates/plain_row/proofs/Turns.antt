@@ -7,7 +7,7 @@ use Rattle.heap_layout.specs.declared.block.Kind.{Kind}
 use Rattle.heap_layout.specs.declared.block.Kind.TheVariants as kinds
 use Rattle.heap_layout.specs.declared.region.Region.{Region}
 use Rattle.heap_layout.specs.Zones.{row_words, block_start, IsAddress}
-use Rattle.heap_layout.specs.Blocks.{IsValid}
+use Rattle.heap_layout.specs.Blocks.{IsValidWord}
 use Rattle.ideal_heap.specs.declared.name.Name.{Name}
 use Rattle.ideal_heap.specs.Names.{IsName}
 use Rattle.ideal_heap.specs.Ideal.{IdealHeap}
@@ -29,10 +29,10 @@ use Rattle.plain_row.specs.declared.plain_row.PlainRow.{PlainRow}
 use Rattle.local_allocators.specs.declared.local_seat.LocalSeat.{LocalSeat}
 use Rattle.block_regions.specs.declared.block_notes.BlockNote.{BlockNote}
 use Rattle.block_regions.specs.declared.block_notes.BlockNote.TheVariants.{Unowned, Owned}
-use Rattle.plain_row.specs.Rows.{IsTurn, number_of, births_of, registers_of, mutator_at_turn, seat_at_turn, number_at_turn, regions_at_turn}
+use Rattle.plain_row.specs.Rows.{IsTurn, mutator_number, births_of, registers_of, mutator_at_turn, seat_at_turn, number_at_turn, regions_at_turn}
 use Rattle.local_allocators.specs.Seats.{ticket_of, blocks_of, block_of, over_of}
-use Rattle.block_regions.specs.Notes.{IsNote, IsOwnedNote, IsUnownedNote, IsRegionOf}
-use Rattle.plain_row.specs.Worlds.{HasState, HasCursors, IsAt, IsInEpoch, HasRoom, IsReadableSeat}
+use Rattle.block_regions.specs.Notes.{IsBlockNote, IsOwnedNote, IsUnownedNote, IsRegionOf}
+use Rattle.plain_row.specs.Worlds.{HasState, HasCursors, IsAt, IsInSomeEpoch, RegionHasRoomFor, IsReadableSeat}
 use Rattle.plain_row.specs.Changes.{Advances, CountsObject}
 use Rattle.block_regions.proofs.Regions.{region-inside}
 use Rattle.local_allocators.specs.MutatorRegions.{FillsLines, IsBlockFor, TriesBlock}
@@ -40,7 +40,7 @@ use Rattle.local_allocators.specs.NotedRegions.{region_of, region_noted, regions
 use Rattle.block_regions.proofs.Lists.{get-some, get-below, get-map, one-element}
 use Rattle.block_regions.proofs.Elements.{read-some}
 use Rattle.block_regions.proofs.FilledKinds.{filled-valid, lines-suits}
-use Rattle.plain_row.proofs.Facts as facts
+use Rattle.plain_row.proofs.EpochFacts as facts
 
 -- an element that is there is one of the list
 pub contains-at : {A : Type 0} (xs : List A) (k : ℕ) (x : A) → slice_get xs k ≡ Some x → Contains xs x
@@ -119,7 +119,7 @@ module _ (p : Epoch) (i : IdealHeap) (log : List LogEntry) (w : PlainRow) (at : 
   pub note-block : (k : ℕ) (note : BlockNote) → slice_get w.notes.items k ≡ Some note → k < w.row.layout.blocks
   note-block k note is = let there = get-below w.notes.items k note is in let many = at.notes.len in omega arith
 
-  pub note-right : (k : ℕ) (note : BlockNote) → slice_get w.notes.items k ≡ Some note → IsNote w.fill (state_of w.row) k note
+  pub note-right : (k : ℕ) (note : BlockNote) → slice_get w.notes.items k ≡ Some note → IsBlockNote w.fill (state_of w.row) k note
   note-right k note is = at.notes.each k note is
 
   pub owned-note : (k number : ℕ) (region : Region) → slice_get w.notes.items k ≡ Some (Owned number region) → IsOwnedNote w.fill (state_of w.row) k number region
@@ -160,7 +160,7 @@ module _ (p : Epoch) (i : IdealHeap) (log : List LogEntry) (w : PlainRow) (at : 
     mutator = get-some w.mutators.items w.turn turn.turn
 
     pub own-number : number_at_turn w ≡ mutator.0.number
-    own-number = ap number_of mutator.1
+    own-number = ap mutator_number mutator.1
 
     pub own-known : Contains (numbers_of p.mutators) (number_at_turn w)
     own-known = subst (Contains (numbers_of p.mutators)) (sym own-number) (known w.turn mutator.0 mutator.1)
@@ -249,7 +249,7 @@ module _ (p : Epoch) (i : IdealHeap) (log : List LogEntry) (w : PlainRow) (at : 
         )
 
     -- the word of a block that it takes
-    pub own-valid : (size : ℕ) → IsValid (record { kind = w.fill; class = class_for w.fill size; owner = number_at_turn w })
+    pub own-valid : (size : ℕ) → IsValidWord (record { kind = w.fill; class = class_for w.fill size; owner = number_at_turn w })
     own-valid size = filled-valid w.fill size (number_at_turn w) at.fills own-range.1
 
     pub block-noted : (size b : ℕ) → IsBlockFor w.fill (regions_at_turn w) size b → b < length w.notes.items
@@ -281,7 +281,7 @@ pub record IsCurrent (w : PlainRow) (size b owner : ℕ) (region : Region) : Typ
   pub class : class_at (state_of w.row) b ≡ class_for w.fill size
   pub kind : HasKind (state_of w.row) b w.fill
 
-pub current-note : (w : PlainRow) (size : ℕ) → HasRoom w size → (b owner : ℕ) (region : Region) → IsBlockFor w.fill (regions_at_turn w) size b
+pub current-note : (w : PlainRow) (size : ℕ) → RegionHasRoomFor w size → (b owner : ℕ) (region : Region) → IsBlockFor w.fill (regions_at_turn w) size b
     → slice_get w.notes.items b ≡ Some (Owned owner region) → IsCurrent w size b owner region
 current-note w size has b owner region current note =
     let p = has.some.epoch in
@@ -305,7 +305,7 @@ current-note w size has b owner region current note =
       kind = (owned-note p has.some.ideal has.some.log w at b owner region note).kind;
     }
 
-pub current-read : (w : PlainRow) (size : ℕ) → HasRoom w size → (b : ℕ) (n : BlockNote) (owner : ℕ) (region : Region)
+pub current-read : (w : PlainRow) (size : ℕ) → RegionHasRoomFor w size → (b : ℕ) (n : BlockNote) (owner : ℕ) (region : Region)
     → IsBlockFor w.fill (regions_at_turn w) size b
     → n ≡ get_or w.notes.items b n → n ≡ Owned owner region → IsCurrent w size b owner region
 current-read w size has b n owner region current read is =
@@ -319,7 +319,7 @@ pub record IsPlaced (blocks size block offset : ℕ) : Type 0 where
   pub address : IsAddress blocks (block_start blocks block + offset)
   pub inside : block_start blocks block + offset + size ≤ row_words blocks
 
-pub advanced-place : (w new : PlainRow) (size block offset : ℕ) → IsInEpoch w → 0 < size → Advances w new size block offset → IsPlaced w.row.layout.blocks size block offset
+pub advanced-place : (w new : PlainRow) (size block offset : ℕ) → IsInSomeEpoch w → 0 < size → Advances w new size block offset → IsPlaced w.row.layout.blocks size block offset
 advanced-place w new size block offset now some by =
     let there : block < w.row.layout.blocks = note-block now.epoch now.ideal now.log w now.at block (Owned (number_at_turn w) by.region) by.was in
     let end : by.region.end ≤ 4096 = (note-inside now.epoch now.ideal now.log w now.at block (number_at_turn w) by.region by.was).1 in
@@ -334,12 +334,12 @@ advanced-place w new size block offset now some by =
     }
 
 -- the mutator's next object has a name
-pub counted-name : (w advanced new : PlainRow) (d address : ℕ) (n : Name) → IsInEpoch w → IsTurn w → births_of (mutator_at_turn w) + 1 < 2 ^ 32
+pub counted-name : (w advanced new : PlainRow) (d address : ℕ) (n : Name) → IsInSomeEpoch w → IsTurn w → births_of (mutator_at_turn w) + 1 < 2 ^ 32
     → advanced.mutators ≡ w.mutators → advanced.turn ≡ w.turn → CountsObject advanced new d address n → IsName n
 counted-name w advanced new d address n now turn few mutators turns by =
     let same : mutator_at_turn w ≡ Some by.mutator =
     ap (λ (k : ℕ). slice_get w.mutators.items k) (sym turns) ∙ ap (λ (v : Vec Mutator Global). slice_get v.items advanced.turn) (sym mutators) ∙ by.was in
     let range = own-range now.epoch now.ideal now.log w now.at turn in
-    let number : number_at_turn w ≡ by.mutator.number = ap number_of same in
+    let number : number_at_turn w ≡ by.mutator.number = ap mutator_number same in
     let births : births_of (mutator_at_turn w) ≡ by.mutator.births = ap births_of same in
     subst IsName (sym by.named) (record { least = omega (arith, range.0); most = omega (arith, range.1); born = omega arith; fits = omega arith })

@@ -45,7 +45,8 @@ seat_with true seat class block ticket = record { ticket = ticket; blocks = bloc
 
 -- The mutator takes the block for objects of the class, or for its overflow region: it becomes its owner and allocates
 -- them in the region of the block. It has this ticket then.
-pub record TakesBlock (old new : PlainRow) (over : Bool) (block class : ℕ) (region : Region) (ticket : Option ℕ) : Type 0 where
+pub record OwnsBlock (old new : PlainRow) (over : Bool) (block class : ℕ) (region : Region)
+    (ticket : Option ℕ) : Type 0 where
   pub plan : KeepsPlan old new
   pub mutators : new.mutators ≡ old.mutators
   pub words : state_of new.row ≡ with_words (state_of old.row) (slice_set (state_of old.row).words
@@ -92,7 +93,7 @@ pub data FindsHole (old new : PlainRow) (block size : ℕ) : Type 0 where
       → NotesBlock old new block (Owned (number_at_turn old) hole) → FindsHole old new block size
   taken : (least : ℕ) (region : Region) → slice_get old.notes.items block ≡ Some (Unowned least)
       → IsFirstHole old.fill (state_of old.row) block 0 size (Some region)
-      → TakesBlock old new false block (class_for old.fill size) region (ticket_of (seat_at_turn old))
+      → OwnsBlock old new false block (class_for old.fill size) region (ticket_of (seat_at_turn old))
       → FindsHole old new block size
 
 -- The block has no such room. At most its note changes, if it lacks holes for all greater sizes too.
@@ -144,7 +145,7 @@ pub record CountsObject (old new : PlainRow) (d address : ℕ) (n : Name) : Type
   pub named : n ≡ name mutator.number (mutator.births + 1)
 
 -- The mutator allocates an object at the start of its region for objects of this size.
-pub record Allocates (old new : PlainRow) (d : ℕ) (n : Name) (refs nums : ℕ) : Type 0 where
+pub record AllocatesInRow (old new : PlainRow) (d : ℕ) (n : Name) (refs nums : ℕ) : Type 0 where
   pub block : ℕ
   pub offset : ℕ
   pub advanced : PlainRow

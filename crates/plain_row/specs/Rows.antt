@@ -9,9 +9,9 @@ use Rattle.local_allocators.specs.NotedRegions.{regions_of}
 use Rattle.local_allocators.specs.Placing.{LocalView}
 use Rattle.object_model.specs.Objects.{state_of}
 
-abbrev pub number_of : Option Mutator → ℕ
-number_of None = 0
-number_of (Some m) = m.number
+abbrev pub mutator_number : Option Mutator → ℕ
+mutator_number None = 0
+mutator_number (Some m) = m.number
 
 abbrev pub births_of : Option Mutator → ℕ
 births_of None = 0
@@ -39,7 +39,7 @@ regions_at_turn w = regions_of w.notes.items (seat_at_turn w)
 
 -- its number
 abbrev pub number_at_turn : PlainRow → ℕ
-number_at_turn w = number_of (mutator_at_turn w)
+number_at_turn w = mutator_number (mutator_at_turn w)
 
 -- the address in a register of that mutator
 abbrev pub address_at : PlainRow → ℕ → ℕ
@@ -66,6 +66,6 @@ abbrev pub view_of : PlainRow → ℕ → LocalView
 view_of w m = record {
   fill = w.fill;
   heap = state_of w.row;
-  number = number_of (slice_get w.mutators.items m);
+  number = mutator_number (slice_get w.mutators.items m);
   regions = regions_of w.notes.items (slice_get w.seats.items m);
 }

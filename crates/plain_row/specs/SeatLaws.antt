@@ -28,11 +28,11 @@ use Rattle.mutator_calls.specs.Effects.{Effect, nothing, and_then}
 use Rattle.plain_row.specs.declared.plain_row.PlainRow.{PlainRow}
 use Rattle.local_allocators.specs.declared.local_seat.LocalSeat.{LocalSeat}
 use Rattle.plan_api.specs.Cursors.{RegionHasRoom}
-use Rattle.plain_row.specs.Rows.{address_at, number_at_turn, mutator_at_turn, seat_at_turn, number_of, births_of, regions_at_turn}
+use Rattle.plain_row.specs.Rows.{address_at, number_at_turn, mutator_at_turn, seat_at_turn, mutator_number, births_of, regions_at_turn}
 use Rattle.local_allocators.specs.Seats.{ticket_of}
 use Rattle.local_allocators.proofs.KeptRegions.{keeps-more, tries-still}
 use Rattle.local_allocators.proofs.SeatRegions.{same-keeps}
-use Rattle.plain_row.specs.Worlds.{IsAt, IsInEpoch, IsReady, Goes, Continues, has, births_in, stop_after}
+use Rattle.plain_row.specs.Worlds.{IsAt, IsInSomeEpoch, MayCall, Goes, Continues, is_in_list, births_in, stop_after}
 use Rattle.plain_row.specs.Steps.{HasShape, AllocatesIn, IsOverflow, IsUsed, KeepsAll}
 
 pub shape-some : (a : PlainRow) (s : ℕ) (shape : Shape) → HasShape a s shape → address_at a s ≢ 0
@@ -43,8 +43,10 @@ both-tests true true q = refl
 both-tests true false q = refl
 both-tests false p q = refl
 
-has-append : (xs ys : List ℕ) (x : ℕ) (b : Bool) → ((b && not (has xs x)) && not (has ys x)) ≡ (b && not (has (xs ++ ys) x))
-has-append xs ys x b = both-tests b (has xs x) (has ys x) ∙ ap (λ t. b && not t) (sym (list_any-append (nat_eq x) xs ys))
+has-append : (xs ys : List ℕ) (x : ℕ) (b : Bool) → ((b && not (is_in_list xs x)) && not (is_in_list ys x))
+    ≡ (b && not (is_in_list (xs ++ ys) x))
+has-append xs ys x b = both-tests b (is_in_list xs x) (is_in_list ys x) ∙ ap (λ t. b && not t) (sym (list_any-append
+    (nat_eq x) xs ys))
 
 and-true : (b : Bool) → b ≡ (b && true)
 and-true true = refl
@@ -130,8 +132,9 @@ or-none : (p q : Bool) → (p || q) ≡ false → (p ≡ false) × (q ≡ false)
 or-none true q is = absurd (let wrong : true ≡ false = is in cc)
 or-none false q is = (refl, is)
 
-has-none : (xs ys : List ℕ) (k : ℕ) → has (xs ++ ys) k ≡ false → (has xs k ≡ false) × (has ys k ≡ false)
-has-none xs ys k is = or-none (has xs k) (has ys k) (sym (list_any-append (nat_eq k) xs ys) ∙ is)
+has-none : (xs ys : List ℕ) (k : ℕ) → is_in_list (xs ++ ys) k ≡ false → (is_in_list xs k ≡ false) × (is_in_list ys k
+    ≡ false)
+has-none xs ys k is = or-none (is_in_list xs k) (is_in_list ys k) (sym (list_any-append (nat_eq k) xs ys) ∙ is)
 
 none-left : (xs ys : List ℕ) → xs ++ ys ≡ [] → (xs ≡ []) × (ys ≡ [])
 none-left [] ys is = (refl, is)
@@ -144,11 +147,14 @@ goes-after a b c e f one two = record {
   number = two.number ∙ one.number;
   steps = λ p i log at. let first = one.steps p i log at in
       continues-after p i log (number_at_turn a) (number_at_turn b) b c e f one.number first (two.steps p i (log ++ first.more) first.at);
-  logged = λ x. two.logged x ∙ ap (λ t. t && not (has f.logged x)) (one.logged x) ∙ has-append e.logged f.logged x (is_unlogged (state_of a.row) x);
-  granted = λ k. two.granted k ∙ ap (λ t. t && not (has f.granted k)) (one.granted k) ∙ has-append e.granted f.granted k (has_kind (state_of a.row) k kinds.Free);
+  logged = λ x. two.logged x ∙ ap (λ t. t && not (is_in_list f.logged x))
+      (one.logged x) ∙ has-append e.logged f.logged x (is_unlogged (state_of a.row) x);
+  granted = λ k. two.granted k ∙ ap (λ t. t && not (is_in_list f.granted k))
+      (one.granted k) ∙ has-append e.granted f.granted k (has_kind (state_of a.row) k kinds.Free);
   free = λ k there. elim (Contains-append_cases e.granted f.granted k there) as (λ _. HasKind (state_of a.row) k kinds.Free) [
     | inl before ↦ one.free k before
-    | inr later ↦ (and_parts (has_kind (state_of a.row) k kinds.Free) (not (has e.granted k)) (sym (one.granted k) ∙ two.free k later)).0
+    | inr later ↦ (and_parts (has_kind (state_of a.row) k kinds.Free) (not (is_in_list e.granted k)) (sym
+        (one.granted k) ∙ two.free k later)).0
   ];
   size = two.size ∙ one.size;
   fill = two.fill ∙ one.fill;
@@ -170,12 +176,12 @@ goes-after a b c e f one two = record {
 }
 
 -- while the mutator has an unused ticket below the allowance, some block is Free
-pub free-block-is-left : (a : PlainRow) (t : ℕ) → IsReady a → ticket_of (seat_at_turn a) ≡ Some t → t < a.allowance
+pub free-block-is-left : (a : PlainRow) (t : ℕ) → MayCall a → ticket_of (seat_at_turn a) ≡ Some t → t < a.allowance
     → ((k : ℕ) → k < a.row.layout.blocks → IsUsed a k) → ⊥
 free-block-is-left a t ready ticket few used = used free.0 (kind-within (state_of a.row) free.0 kinds.Free kind) kind
   where
-    now : IsInEpoch a
-    now = ready.idle.some
+    now : IsInSomeEpoch a
+    now = ready.between_calls.some
 
     mutator : (x : Mutator) × (mutator_at_turn a ≡ Some x)
     mutator = get-some a.mutators.items a.turn ready.turn.turn
@@ -184,7 +190,7 @@ free-block-is-left a t ready ticket few used = used free.0 (kind-within (state_o
     seat = get-some a.seats.items a.turn (subst (λ n. a.turn < n) (sym ready.turn.seats) ready.turn.turn)
 
     own : (local_after_log now.epoch now.log (number_at_turn a)).ticket ≡ Some t
-    own = ap (λ n. (local_after_log now.epoch now.log n).ticket) (ap number_of mutator.1)
+    own = ap (λ n. (local_after_log now.epoch now.log n).ticket) (ap mutator_number mutator.1)
         ∙ (now.at.each a.turn mutator.0 seat.0 mutator.1 seat.1).ticket ∙ sym (ap ticket_of seat.1) ∙ ticket
 
     free : (k : ℕ) × HasKind (heap_after now.epoch now.log) k kinds.Free

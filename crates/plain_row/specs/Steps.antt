@@ -37,8 +37,8 @@ HasName w a n = n ≡ name_at (state_of w.row) a
 
 -- a reference may be stored into the object in register s: the plan is not generational, or the object is not old, or
 -- it is logged
-abbrev pub IsBarred : PlainRow → ℕ → Type 0
-IsBarred w s = (w.young ≡ false) ⊎ (is_old (state_of w.row) (address_at w s) ≡ false)
+abbrev pub MayStoreUnlogged : PlainRow → ℕ → Type 0
+MayStoreUnlogged w s = (w.young ≡ false) ⊎ (is_old (state_of w.row) (address_at w s) ≡ false)
     ⊎ (is_unlogged (state_of w.row) (address_at w s) ≡ false)
 
 -- block k has no room for the size that the mutator may fill
@@ -85,8 +85,8 @@ HasAges w = w.young ≡ true
 abbrev pub IsAged : PlainRow → ℕ → Type 0
 IsAged w s = is_old (state_of w.row) (address_at w s) ≡ true
 
-abbrev pub IsMarked : PlainRow → ℕ → Type 0
-IsMarked w s = is_unlogged (state_of w.row) (address_at w s) ≡ true
+abbrev pub HasUnlogBit : PlainRow → ℕ → Type 0
+HasUnlogBit w s = is_unlogged (state_of w.row) (address_at w s) ≡ true
 
 -- the world `a` offers the words from this offset of block k on to an object of the size
 abbrev pub IsOffer : PlainRow → ℕ → ℕ → ℕ → Type 0
@@ -118,7 +118,7 @@ pub record Offers (a b : PlainRow) (size : ℕ) : Type 0 where
 -- The object in register d of `c` was placed at the start of the region in `b`, in a block that the mutator owns and
 -- allocates objects of this size in. In cells it has one of the class for the size. Under lines it is in the one of two
 -- regions that takes it, which then begins after it. The mutator's other regions stay.
-pub record PlacesObject (b c : PlainRow) (d size : ℕ) : Type 0 where
+pub record PlacesAtRegion (b c : PlainRow) (d size : ℕ) : Type 0 where
   pub fill : c.fill ≡ b.fill
   pub block : ℕ
   pub region : Region

@@ -79,33 +79,33 @@ pub record IsReadableSeat (w : PlainRow) : Type 0 where
   pub over : (k : ℕ) → FillsLines w.fill → over_of (seat_at_turn w) ≡ Some k → k < length w.notes.items
 
 -- the world is in some epoch
-pub record IsInEpoch (w : PlainRow) : Type 0 where
+pub record IsInSomeEpoch (w : PlainRow) : Type 0 where
   pub epoch : Epoch
   pub ideal : IdealHeap
   pub log : List LogEntry
   pub at : IsAt epoch ideal log w
 
 -- the world is between two calls
-pub record IsIdle (w : PlainRow) : Type 0 where
-  pub some : IsInEpoch w
+pub record RowIsBetweenCalls (w : PlainRow) : Type 0 where
+  pub some : IsInSomeEpoch w
   pub filled : AreFilled w.notes.items
 
 -- and it is the turn of a mutator
-pub record IsReady (w : PlainRow) : Type 0 where
+pub record MayCall (w : PlainRow) : Type 0 where
   pub turn : IsTurn w
-  pub idle : IsIdle w
+  pub between_calls : RowIsBetweenCalls w
 
 -- the region that takes objects of this size of the mutator whose turn it is has room for one
-pub record HasRoom (w : PlainRow) (size : ℕ) : Type 0 where
+pub record RegionHasRoomFor (w : PlainRow) (size : ℕ) : Type 0 where
   pub turn : IsTurn w
-  pub some : IsInEpoch w
+  pub some : IsInSomeEpoch w
   pub block : ℕ
   pub current : IsBlockFor w.fill (regions_at_turn w) size block
   pub room : IsRoomIn w.notes.items (number_at_turn w) size block
 
 -- the number is in the list
-abbrev pub has : List ℕ → ℕ → Bool
-has xs x = list_any (nat_eq x) xs
+abbrev pub is_in_list : List ℕ → ℕ → Bool
+is_in_list xs x = list_any (nat_eq x) xs
 
 -- From the log on, mutator m made steps that make the entries of this effect.
 pub record Continues (p : Epoch) (i : IdealHeap) (log : List LogEntry) (m : ℕ) (e : Effect) (w : PlainRow) : Type 0 where
@@ -129,13 +129,14 @@ pub record Goes (a : PlainRow) (e : Effect) (b : PlainRow) : Type 0 where
   pub number : number_at_turn b ≡ number_at_turn a
   pub steps : (p : Epoch) (i : IdealHeap) (log : List LogEntry) → IsAt p i log a
       → Continues p i log (number_at_turn a) e b
-  pub logged : (x : ℕ) → is_unlogged (state_of b.row) x ≡ (is_unlogged (state_of a.row) x && not (has e.logged x))
+  pub logged : (x : ℕ) → is_unlogged (state_of b.row) x
+      ≡ (is_unlogged (state_of a.row) x && not (is_in_list e.logged x))
   pub granted : (k : ℕ) → has_kind (state_of b.row) k kinds.Free
-      ≡ (has_kind (state_of a.row) k kinds.Free && not (has e.granted k))
+      ≡ (has_kind (state_of a.row) k kinds.Free && not (is_in_list e.granted k))
   pub free : (k : ℕ) → Contains e.granted k → HasKind (state_of a.row) k kinds.Free
   pub size : b.row.layout.blocks ≡ a.row.layout.blocks
   pub fill : b.fill ≡ a.fill
-  pub blocks : (k : ℕ) → k < a.row.layout.blocks → has e.taken k ≡ false
+  pub blocks : (k : ℕ) → k < a.row.layout.blocks → is_in_list e.taken k ≡ false
       → block_word (state_of b.row) k ≡ block_word (state_of a.row) k
   pub budget : word_at (state_of b.row) 1 ≡ word_at (state_of a.row) 1 + e.drawn
   pub stop : word_at (state_of b.row) 0 ≡ stop_after e.raised (number_at_turn a) (word_at (state_of a.row) 0)

@@ -3,7 +3,7 @@
 #![tactic(auto)]
 
 mod plain_row;
-mod plain_seat;
+mod row_steps;
 mod search;
 mod words;
 

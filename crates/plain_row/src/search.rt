@@ -5,8 +5,8 @@
 //! `owned` and the seat change together. Never touches blocks that another mutator owns.
 
 ghost use Rattle.std.specs.Prelude.{◌≡◌, ◌↔◌, ◌+◌, ◌<◌, ◌≤◌, ◌^◌, ℕ, Bool, true, false, length, Option, Some, None, IfSome, IfNone, slice_get, vec_len, vec_capacity};
-ghost use Rattle.heap_layout.specs.Zones.{row_words};
-ghost use Rattle.heap_layout.specs.Blocks.{IsValid};
+ghost use Rattle.heap_layout.specs.Zones.{IsRowOf};
+ghost use Rattle.heap_layout.specs.Blocks.{IsValidWord};
 ghost use Rattle.heap_layout.specs.declared.region.Region.{Region};
 ghost use Rattle.object_model.specs.Objects.{state_of, size_of, HasKind};
 ghost use Rattle.sessions.specs.Fitting.{class_for as class_for_size};
@@ -17,8 +17,8 @@ ghost use Rattle.block_regions.specs.declared.block_notes.BlockNote.TheVariants.
 ghost use Rattle.block_regions.specs.Regions.{first_region as first_region_of};
 ghost use Rattle.plain_row.specs.Rows.{IsTurn, number_at_turn, mutator_at_turn, seat_at_turn, births_of, regions_at_turn};
 ghost use Rattle.local_allocators.specs.Seats.{ticket_of, block_of};
-ghost use Rattle.plain_row.specs.Changes.{TakesBlock, NotesBlock, ReturnsTo, FindsHole, LacksHole, Advances, CountsObject, Allocates};
-ghost use Rattle.plain_row.specs.Worlds.{IsReady, HasRoom, IsReadableSeat};
+ghost use Rattle.plain_row.specs.Changes.{OwnsBlock, NotesBlock, ReturnsTo, FindsHole, LacksHole, Advances, CountsObject, AllocatesInRow};
+ghost use Rattle.plain_row.specs.Worlds.{MayCall, RegionHasRoomFor, IsReadableSeat};
 ghost use Rattle.plain_row.specs.Steps.{IsFull, IsOverflow};
 ghost use Rattle.local_allocators.specs.MutatorRegions.{FillsLines, cursors_of, IsBlockFor};
 ghost use Rattle.local_allocators.specs.NotedRegions.{region_of};
@@ -61,7 +61,7 @@ impl PlainRow {
     /// Whether an object of `size` words overflows the hole region, under a plan with lines: it
     /// takes more than a line, and the region has some words left, but too few.
     pub(crate) fn is_overflow(&self, size: u32) -> bool
-        requires { IsReady self.now }
+        requires { MayCall self.now }
         ensures yes { result ≡ true → IsOverflow self.now size }
         ensures no { result ≡ false → IsOverflow self.now size → ⊥ }
     {
@@ -72,17 +72,17 @@ impl PlainRow {
     /// the class in, or, if `over`, its overflow region.
     fn take(&mut self, over: bool, block: u32, class: u32, region: Region, ticket: Option<u32>)
         requires turn { IsTurn self.old }
-        requires extent { length self.old.row.words.items ≡ row_words self.old.row.layout.blocks }
+        requires extent { IsRowOf self.old.row.layout self.old.row.words.items }
         requires block { block < self.old.row.layout.blocks }
         requires notes { block < length self.old.notes.items }
         requires room { vec_len self.old.owned < vec_capacity self.old.owned }
         requires class { class < CLASSES }
-        requires valid { IsValid (record {
+        requires valid { IsValidWord (record {
           kind = self.old.fill;
           class = class;
           owner = number_at_turn self.old;
         }) }
-        ensures { TakesBlock self.old self.new over block class region ticket }
+        ensures { OwnsBlock self.old self.new over block class region ticket }
     {
         let owner = self.number();
         let word = BlockWord {
@@ -114,7 +114,7 @@ impl PlainRow {
 
     /// Takes a block that nobody owns if it has a hole with room for `size` words.
     fn take_unowned(&mut self, block: u32, size: u32) -> bool
-        requires ready { IsReady self.old }
+        requires ready { MayCall self.old }
         requires block { block < self.old.row.layout.blocks }
         requires note { (least : ℕ)
             × (slice_get self.old.notes.items block ≡ Some (Unowned least)) }
@@ -122,7 +122,7 @@ impl PlainRow {
         requires most { size ≤ MAX_MEDIUM_WORDS }
         ensures found { result ≡ true → (region : Region)
             × IsFirstHole self.old.fill (state_of self.old.row) block 0 size (Some region)
-            × TakesBlock self.old self.new false block (class_for_size self.old.fill size) region
+            × OwnsBlock self.old self.new false block (class_for_size self.old.fill size) region
             (ticket_of (seat_at_turn self.old)) }
         ensures none { result ≡ false → LacksHole self.old self.new block size }
     {
@@ -160,7 +160,7 @@ impl PlainRow {
     /// becomes the one that the mutator allocates objects of the class in, or its next hole the
     /// hole region.
     fn take_in_own(&mut self, block: u32, region: Region, size: u32) -> bool
-        requires ready { IsReady self.old }
+        requires ready { MayCall self.old }
         requires block { block < self.old.row.layout.blocks }
         requires note { slice_get self.old.notes.items block
             ≡ Some (Owned (number_at_turn self.old) region) }
@@ -194,7 +194,7 @@ impl PlainRow {
     /// Makes a hole of the block with room for `size` words the mutator's region, if there is one
     /// that it may fill.
     pub(crate) fn take_hole_in(&mut self, block: u32, size: u32) -> bool
-        requires ready { IsReady self.old }
+        requires ready { MayCall self.old }
         requires block { block < self.old.row.layout.blocks }
         requires least { 3 ≤ size }
         requires most { size ≤ MAX_MEDIUM_WORDS }
@@ -213,7 +213,7 @@ impl PlainRow {
     /// Makes the first hole of the mutator's block of the hole region that has room for `size`
     /// words, from the region's end on, the hole region, under a plan with lines, if there is one.
     pub(crate) fn take_hole_in_own(&mut self, size: u32) -> bool
-        requires ready { IsReady self.old }
+        requires ready { MayCall self.old }
         requires least { 3 ≤ size }
         requires most { size ≤ MAX_MEDIUM_WORDS }
         requires full { IsFull self.old size }
@@ -234,11 +234,11 @@ impl PlainRow {
     /// Takes a block for objects of `size` words if it is Free. In overflow allocation it is the
     /// block of the overflow region then.
     pub(crate) fn take_free_block(&mut self, block: u32, size: u32) -> bool
-        requires ready { IsReady self.old }
+        requires ready { MayCall self.old }
         requires block { block < self.old.row.layout.blocks }
         ensures found { result ≡ true → HasKind (state_of self.old.row) block kinds.Free
             × ((over : Bool) × ((over ≡ true) ↔ IsOverflow self.old size)
-            × TakesBlock self.old self.new over block (class_for_size self.old.fill size)
+            × OwnsBlock self.old self.new over block (class_for_size self.old.fill size)
             (first_region_of self.old.fill (class_for_size self.old.fill size)) None) }
         ensures none { result ≡ false
             → (HasKind (state_of self.old.row) block kinds.Free → ⊥)
@@ -260,7 +260,7 @@ impl PlainRow {
     /// Makes the region of the block what an object of `size` words at its start leaves.
     #[inline(always)]
     fn advance(&mut self, block: u32, owner: u32, region: &Region, size: u32)
-        requires room { HasRoom self.old size }
+        requires room { RegionHasRoomFor self.old size }
         requires current { IsBlockFor self.old.fill (regions_at_turn self.old)
             size block }
         requires note { slice_get self.old.notes.items block ≡ Some (Owned owner region.now) }
@@ -300,7 +300,7 @@ impl PlainRow {
         d: u32,
         shape: &Shape,
     ) -> Name
-        requires room { HasRoom self.old (size_of shape.now.refs shape.now.nums) }
+        requires room { RegionHasRoomFor self.old (size_of shape.now.refs shape.now.nums) }
         requires current { IsBlockFor self.old.fill (regions_at_turn self.old)
             (size_of shape.now.refs shape.now.nums) block }
         requires note { slice_get self.old.notes.items block ≡ Some (Owned owner region.now) }
@@ -309,7 +309,7 @@ impl PlainRow {
         requires nums { shape.now.nums ≤ MAX_NUMS }
         requires small { size_of shape.now.refs shape.now.nums ≤ MAX_MEDIUM_WORDS }
         requires births { births_of (mutator_at_turn self.old) + 1 < 2 ^ 32 }
-        ensures { Allocates self.old self.new d result shape.now.refs shape.now.nums }
+        ensures { AllocatesInRow self.old self.new d result shape.now.refs shape.now.nums }
     {
         self.advance(block, owner, region, size_words(shape));
         let address = self.row.layout.address(block, region.next);
@@ -321,13 +321,13 @@ impl PlainRow {
     /// Allocates an object at the start of the mutator's region and stores its address into
     /// register `d`. Returns its name.
     pub(crate) fn allocate(&mut self, d: u32, shape: &Shape) -> Name
-        requires room { HasRoom self.old (size_of shape.now.refs shape.now.nums) }
+        requires room { RegionHasRoomFor self.old (size_of shape.now.refs shape.now.nums) }
         requires register { d < REGISTERS }
         requires refs { shape.now.refs ≤ MAX_REFS }
         requires nums { shape.now.nums ≤ MAX_NUMS }
         requires small { size_of shape.now.refs shape.now.nums ≤ MAX_MEDIUM_WORDS }
         requires births { births_of (mutator_at_turn self.old) + 1 < 2 ^ 32 }
-        ensures { Allocates self.old self.new d result shape.now.refs shape.now.nums }
+        ensures { AllocatesInRow self.old self.new d result shape.now.refs shape.now.nums }
     {
         let Some(block) = self.block_for(size_words(shape)) else {
             unreachable!()
@@ -342,18 +342,18 @@ impl PlainRow {
     /// stores its address into register `d`. The region is looked up once.
     #[inline(always)]
     pub(crate) fn allocate_if_room(&mut self, d: u32, shape: &Shape) -> Option<Name>
-        requires ready { IsReady self.old }
+        requires ready { MayCall self.old }
         requires register { d < REGISTERS }
         requires refs { shape.now.refs ≤ MAX_REFS }
         requires nums { shape.now.nums ≤ MAX_NUMS }
         requires small { size_of shape.now.refs shape.now.nums ≤ MAX_MEDIUM_WORDS }
         requires births { births_of (mutator_at_turn self.old) + 1 < 2 ^ 32 }
         ensures room { IfSome result (λ name.
-            HasRoom self.old (size_of shape.now.refs shape.now.nums)) }
+            RegionHasRoomFor self.old (size_of shape.now.refs shape.now.nums)) }
         ensures made { IfSome result (λ name.
-            Allocates self.old self.new d name shape.now.refs shape.now.nums) }
+            AllocatesInRow self.old self.new d name shape.now.refs shape.now.nums) }
         ensures none { IfNone result
-            (HasRoom self.old (size_of shape.now.refs shape.now.nums) → ⊥) }
+            (RegionHasRoomFor self.old (size_of shape.now.refs shape.now.nums) → ⊥) }
         ensures same { IfNone result (self.new ≡ self.old) }
     {
         let size = size_words(shape);

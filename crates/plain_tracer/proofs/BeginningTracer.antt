@@ -1,4 +1,4 @@
--- A tracer begins: what it is told makes a setup that is ready, which it tracks from no event on.
+-- A tracer begins: what it is given makes a setup that is ready, which it tracks from no event on.
 use Rattle.std.proofs.Common.{◌≡◌, ℕ, ◌+◌, ◌<◌, ◌^◌, inl, inr, Bool, true, false, true≢false, ◌&&◌, ◌||◌, not, IsTrue, [], length, Option, Some, None, refl, sym, ap, ◌∙◌, subst, arith}
 use Rattle.std.specs.Prelude.{if◌then◌else◌, slice_get}
 use Rattle.std.proofs.lemmas.Bool.{cases_Bool, cond-true, cond-false, false_from_ne_true}
@@ -13,10 +13,10 @@ use Rattle.object_model.specs.Objects.{HeapState, state_of, has_kind, is_start, 
 use Rattle.object_model.specs.Lawful.{IsLawfulButLines}
 use Rattle.object_model.specs.Ages as ages
 use Rattle.object_model.specs.Ages.{RemembersYoung}
-use Rattle.trace_core.specs.Setups.{Setup, IsReady, blocks, collection, is_logged}
-use Rattle.trace_core.specs.Outcomes.{base_after}
+use Rattle.trace_core.specs.Setups.{Setup, TraceMayBegin, blocks, collection, was_logged}
+use Rattle.trace_core.specs.Outcomes.{base_after_trace}
 use Rattle.trace_core.specs.Views.{one_if, times, first_view}
-use Rattle.trace_core.specs.Runs.{is_nursery, is_set, without_lines, without_unlogs, setup_of, MayRun, IsRunOf}
+use Rattle.trace_core.specs.Runs.{is_nursery, is_some_true, without_lines, without_unlogs, setup_of, MayRun, IsRunOf}
 use Rattle.plain_tracer.specs.Tracers.{Tracks}
 use Rattle.trace_core.proofs.Objects.{None-not-Some}
 use Rattle.trace_core.proofs.Beginning.{first-young}
@@ -41,12 +41,12 @@ pub straight : (b : Bool) → not b ≡ true → b ≡ false
 straight true is = sym is
 straight false is = refl
 
-set-some : (o : Option Bool) → is_set o ≡ true → o ≡ Some true
+set-some : (o : Option Bool) → is_some_true o ≡ true → o ≡ Some true
 set-some None is = absurd (true≢false (sym is))
 set-some (Some b) is = ap (λ x. Some x) is
 
-some-set : (o : Option Bool) (b : Bool) → o ≡ Some b → o ≡ Some (is_set o)
-some-set None b e = e ∙ ap (λ x. Some x) (sym (ap is_set e))
+some-set : (o : Option Bool) (b : Bool) → o ≡ Some b → o ≡ Some (is_some_true o)
+some-set None b e = e ∙ ap (λ x. Some x) (sym (ap is_some_true e))
 some-set (Some c) b e = refl
 
 module _ (s : HeapState) (run : TraceRun) (lawful : IsLawfulButLines s) (may : MayRun s run) where
@@ -83,7 +83,7 @@ module _ (s : HeapState) (run : TraceRun) (lawful : IsLawfulButLines s) (may : M
   large-same b = ap (λ t. t || has_kind p.before b kinds.LargeTail) (kinds-same b kinds.LargeHead)
       ∙ ap (λ t. has_kind s b kinds.LargeHead || t) (kinds-same b kinds.LargeTail)
 
-  pub ready : IsReady p
+  pub ready : TraceMayBegin p
   ready = record {
     lawful = begun-lawful s run lawful;
     number = subst (λ (n : ℕ). n < 2 ^ 40) (may.number ∙ ap (λ n. n + 1) (sym number-same)) may.limit;
@@ -102,7 +102,7 @@ module _ (s : HeapState) (run : TraceRun) (lawful : IsLawfulButLines s) (may : M
   run-of : IsRunOf p run
   run-of = record {
     number = may.number ∙ ap (λ n. n + 1) (sym number-same);
-    base = may.base ∙ elim (cases_Bool nursery) as (λ _. (if nursery then s.base else run.number) ≡ base_after p) [
+    base = may.base ∙ elim (cases_Bool nursery) as (λ _. (if nursery then s.base else run.number) ≡ base_after_trace p) [
       | inl young ↦ cond-true nursery s.base run.number young ∙ sym base-same ∙ sym (cond-true nursery p.before.base (collection p) young)
       | inr full ↦ cond-false nursery s.base run.number full ∙ may.number ∙ ap (λ n. n + 1) (sym number-same)
           ∙ sym (cond-false nursery p.before.base (collection p) full)
@@ -119,8 +119,8 @@ module _ (s : HeapState) (run : TraceRun) (lawful : IsLawfulButLines s) (may : M
   abbrev logged_in : Bool → HeapState → ℕ → Bool
   logged_in young h x = young && (is_start h x && ages.is_old h x) && not (is_unlogged h x)
 
-  logged : (x : ℕ) → times x run.logged.items ≡ one_if (is_logged p x)
-  logged x = elim (cases_Bool nursery) as (λ _. times x run.logged.items ≡ one_if (is_logged p x)) [
+  logged : (x : ℕ) → times x run.logged.items ≡ one_if (was_logged p x)
+  logged x = elim (cases_Bool nursery) as (λ _. times x run.logged.items ≡ one_if (was_logged p x)) [
     | inl young ↦ (may.nursery young).all x ∙ ap (λ n. one_if (logged_in n s x)) (sym young)
         ∙ ap (λ h. one_if (logged_in nursery h x)) (sym (before-same young))
     | inr full ↦ ap (times x) (may.none full) ∙ ap (λ n. one_if (logged_in n p.before x)) (sym full)
@@ -129,9 +129,9 @@ module _ (s : HeapState) (run : TraceRun) (lawful : IsLawfulButLines s) (may : M
   -- a tracer of this row that did nothing yet
   pub begins : (t : PlainTrace) → state_of t.row ≡ p.before → t.run ≡ run → t.room.next ≡ t.room.end → t.next_block ≡ 0
       → Tracks p [] t (first_view run)
-  begins t row told empty next = record {
+  begins t row shown empty next = record {
     trace = record { ready = ready; events = tt };
-    run = subst (IsRunOf p) (sym told) run-of;
+    run = subst (IsRunOf p) (sym shown) run-of;
     row = row;
     holds = first-holds p ready run logged;
     room = empty;

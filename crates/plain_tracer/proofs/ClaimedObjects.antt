@@ -7,13 +7,13 @@ use Rattle.heap_layout.specs.Zones.{block_start, block_at}
 use Rattle.heap_layout.specs.declared.region.Region.{Region}
 use Rattle.object_model.specs.declared.shape.Shape.{Shape}
 use Rattle.object_model.specs.Objects.{IsHeld, state_of, with_words, IsInExtentOf}
-use Rattle.trace_core.specs.Setups.{Setup, blocks, size, refs, is_old, is_idle, may_move}
-use Rattle.trace_core.specs.Machine.{Stage, Unclaimed, Copying, Scanning, target, Machine, Event, Cause, ByRoot, ByGlobal, ByField, Claim, next, put, put_all, asked_after, heap_in}
+use Rattle.trace_core.specs.Setups.{Setup, blocks, size, refs, stays_old, keeps_its_words, may_be_moved}
+use Rattle.trace_core.specs.Machine.{Stage, Unclaimed, Copying, Scanning, target, Machine, Event, ClaimCause, ByRoot, ByGlobal, ByField, Claim, next, put, put_all, asks_after, heap_in}
 use Rattle.trace_core.specs.Traces.{May, NoneIsFree, IsAskedBy, machine_after, stage_of, target_of}
-use Rattle.trace_core.specs.Views.{View, Holds, one_if, hits, times, is_copying, is_scanning, is_copied, steps_at_claim, roots_of, claimed_view}
+use Rattle.trace_core.specs.Views.{View, Holds, one_if, hits, times, is_copying, is_scanning, is_stage_copied, steps_at_claim, asked_roots, claimed_view}
 use Rattle.plain_tracer.specs.Tracers.{Tracks}
 use Rattle.trace_core.specs.Runs.{IsRunOf}
-use Rattle.trace_core.specs.Rooms.{IsRoom, AreLeft, StayForWantOfRoom}
+use Rattle.trace_core.specs.Rooms.{IsCopyRoom, AreLeft, StayForWantOfRoom}
 use Rattle.trace_core.specs.Rights.{IsWaiting}
 use Rattle.plain_tracer.specs.declared.plain_trace.PlainTrace.{PlainTrace}
 use Rattle.trace_core.proofs.Puts.{put_here, put_else, all_here, all_else}
@@ -22,7 +22,7 @@ use Rattle.trace_core.proofs.Appending.{machine-next, trace-next}
 use Rattle.trace_core.proofs.Counting.{hits-cons, hits-from, pair-parts, times-cons}
 use Rattle.trace_core.proofs.Idle.{one-if-true}
 use Rattle.trace_core.proofs.Law.{sound}
-use Rattle.trace_core.proofs.Leaving.{left-more}
+use Rattle.trace_core.proofs.BlocksLeft.{left-more}
 use Rattle.plain_tracer.proofs.Tracking.{words-are, blocks-are}
 use Rattle.plain_tracer.proofs.TakenRoom.{last, room-there, room-end, room-taken, room-block}
 
@@ -32,7 +32,7 @@ unclaimed-stage (Copying t k) is = absurd (None-not-Some t (sym is))
 unclaimed-stage (Scanning t k) is = absurd (None-not-Some t (sym is))
 
 -- the view after a claim of the object at x, which goes to u
-module _ (p : Setup) (m : Machine) (v : View) (holds : Holds p m v) (x u : ℕ) (cause : Cause) (free : m.stage x ≡ Unclaimed) where
+module _ (p : Setup) (m : Machine) (v : View) (holds : Holds p m v) (x u : ℕ) (cause : ClaimCause) (free : m.stage x ≡ Unclaimed) where
   abbrev steps : ℕ
   steps = steps_at_claim p x u
 
@@ -64,7 +64,7 @@ module _ (p : Setup) (m : Machine) (v : View) (holds : Holds p m v) (x u : ℕ) 
     | inr ne ↦ ap f (there y ne)
   ]
 
-  asked-now : (c : Cause) (y : ℕ) → times y (roots_of x c v.asked) ≡ asked_after m (Claim x u c) y
+  asked-now : (c : ClaimCause) (y : ℕ) → times y (asked_roots x c v.asked) ≡ asks_after m (Claim x u c) y
   asked-now ByRoot y = elim (cases_eq y x) as (λ _. times y (x ∷ v.asked) ≡ put m.asked x (m.asked x + 1) y) [
     | inl e ↦ (let count : times y (x ∷ v.asked) ≡ one_if (nat_eq y x) + times y v.asked = times-cons x v.asked y in
         let one : one_if (nat_eq y x) ≡ 1 = one-if-true (nat_eq y x) (eq-eqb y x e) in
@@ -88,8 +88,8 @@ module _ (p : Setup) (m : Machine) (v : View) (holds : Holds p m v) (x u : ℕ) 
   pub holds-claimed : Holds p claimed (claimed_view p x u cause v)
   holds-claimed = record {
     won = won-now;
-    grey = λ y j. holds.grey y j ∙ sym (ap (λ b. one_if (not (is_idle p y) && b)) (unchanged (is_scanning j) refl y));
-    copied = λ y. holds.copied y ∙ sym (ap (λ b. one_if (not (is_old p y) && b)) (unchanged is_copied refl y));
+    grey = λ y j. holds.grey y j ∙ sym (ap (λ b. one_if (not (keeps_its_words p y) && b)) (unchanged (is_scanning j) refl y));
+    copied = λ y. holds.copied y ∙ sym (ap (λ b. one_if (not (stays_old p y) && b)) (unchanged is_stage_copied refl y));
     unset = holds.unset;
     set = holds.set;
     asked = asked-now cause;
@@ -98,7 +98,7 @@ module _ (p : Setup) (m : Machine) (v : View) (holds : Holds p m v) (x u : ℕ) 
   }
 
 -- a word of a target stays that object's
-pub claim-keeps : (p : Setup) (m : Machine) (x u : ℕ) (cause : Cause) → May p m (Claim x u cause) → (a y : ℕ) → m.owner a ≡ Some y → (next p m (Claim x u cause)).owner a ≡ Some y
+pub claim-keeps : (p : Setup) (m : Machine) (x u : ℕ) (cause : ClaimCause) → May p m (Claim x u cause) → (a y : ℕ) → m.owner a ≡ Some y → (next p m (Claim x u cause)).owner a ≡ Some y
 claim-keeps p m x u cause may a y own = elim (cases_eq u x) as (λ _. (next p m (Claim x u cause)).owner a ≡ Some y) [
   | inl e ↦ ap (λ (f : ℕ → Option ℕ). f a) (cond-true (nat_eq u x) m.owner _ (eq-eqb u x e)) ∙ own
   | inr ne ↦ ap (λ (f : ℕ → Option ℕ). f a) (cond-false (nat_eq u x) m.owner _ (ne_eqb u x ne))
@@ -114,7 +114,7 @@ claim-keeps p m x u cause may a y own = elim (cases_eq u x) as (λ _. (next p m 
       ])
 ]
 
-module _ (p : Setup) (es : List Event) (old new : PlainTrace) (v : View) (tracks : Tracks p es old v) (x u : ℕ) (cause : Cause)
+module _ (p : Setup) (es : List Event) (old new : PlainTrace) (v : View) (tracks : Tracks p es old v) (x u : ℕ) (cause : ClaimCause)
     (may : May p (machine_after p es) (Claim x u cause))
     (row : state_of new.row ≡ with_words (state_of old.row) (slice_set old.row.words.items (x + 2) (collector_word old.run.number u)))
     (run : new.run ≡ old.run) (block : new.block ≡ old.block) (next_block : new.next_block ≡ old.next_block) where
@@ -132,7 +132,7 @@ module _ (p : Setup) (es : List Event) (old new : PlainTrace) (v : View) (tracks
   left-now : AreLeft p now v.sparse v.blocks
   left-now = left-more p was now (claim-keeps p was x u cause may) v.sparse v.sparse (λ b few. few) v.blocks tracks.left
 
-  pub tracks-claimed : IsRoom p now v.blocks new.block new.room → StayForWantOfRoom p now new.room → Tracks p (es ++ Claim x u cause ∷ []) new (claimed_view p x u cause v)
+  pub tracks-claimed : IsCopyRoom p now v.blocks new.block new.room → StayForWantOfRoom p now new.room → Tracks p (es ++ Claim x u cause ∷ []) new (claimed_view p x u cause v)
   tracks-claimed room stayed =
       let same : machine_after p (es ++ Claim x u cause ∷ []) ≡ now = machine-next p es tracks.trace (Claim x u cause) in
       record {
@@ -140,7 +140,7 @@ module _ (p : Setup) (es : List Event) (old new : PlainTrace) (v : View) (tracks
         run = subst (λ r. IsRunOf p r) (sym run) tracks.run;
         row = row-now ∙ ap (heap_in p) (sym same);
         holds = subst (λ n. Holds p n (claimed_view p x u cause v)) (sym same) (holds-claimed p was v tracks.holds x u cause may.1);
-        room = subst (λ n. IsRoom p n v.blocks new.block new.room) (sym same) room;
+        room = subst (λ n. IsCopyRoom p n v.blocks new.block new.room) (sym same) room;
         left = subst (λ n. AreLeft p n v.sparse v.blocks) (sym same) left-now;
         stayed = subst (λ n. StayForWantOfRoom p n new.room) (sym same) stayed;
         passed = λ c l free. subst (λ n. 0 < n.taken c) (sym same) (tracks.passed c (subst (λ n. c < n) next_block l) free);
@@ -148,18 +148,18 @@ module _ (p : Setup) (es : List Event) (old new : PlainTrace) (v : View) (tracks
       }
 
   -- in place no word gets an owner
-  pub tracks-in-place : u ≡ x → new.room ≡ old.room → (IsTrue (may_move p x) → old.room.end < old.room.next + size p x) → Tracks p (es ++ Claim x u cause ∷ []) new (claimed_view p x u cause v)
-  tracks-in-place e room tight = tracks-claimed (subst (λ (r : Region). IsRoom p now v.blocks new.block r) (sym room)
-      (subst (λ n. IsRoom p now v.blocks n old.room) (sym block) (by-blocks v.blocks tracks.room)))
+  pub tracks-in-place : u ≡ x → new.room ≡ old.room → (IsTrue (may_be_moved p x) → old.room.end < old.room.next + size p x) → Tracks p (es ++ Claim x u cause ∷ []) new (claimed_view p x u cause v)
+  tracks-in-place e room tight = tracks-claimed (subst (λ (r : Region). IsCopyRoom p now v.blocks new.block r) (sym room)
+      (subst (λ n. IsCopyRoom p now v.blocks n old.room) (sym block) (by-blocks v.blocks tracks.room)))
       (subst (StayForWantOfRoom p now) (sym room) (λ y is young moves. elim (cases_eq y x) as (λ _. old.room.end < old.room.next + size p y) [
-        | inl same-object ↦ subst (λ z. old.room.end < old.room.next + size p z) (sym same-object) (tight (subst (λ z. IsTrue (may_move p z)) same-object moves))
+        | inl same-object ↦ subst (λ z. old.room.end < old.room.next + size p z) (sym same-object) (tight (subst (λ z. IsTrue (may_be_moved p z)) same-object moves))
         | inr ne ↦ tracks.stayed y (ap target (sym (put_else was.stage x _ y ne)) ∙ is) young moves
       ]))
     where
       same : now.owner ≡ was.owner
       same = cond-true (nat_eq u x) was.owner _ (eq-eqb u x e)
 
-      by-blocks : (bs : List ℕ) → IsRoom p was bs old.block old.room → IsRoom p now bs old.block old.room
+      by-blocks : (bs : List ℕ) → IsCopyRoom p was bs old.block old.room → IsCopyRoom p now bs old.block old.room
       by-blocks [] is = is
       by-blocks (b ∷ rest) is = (
         is.0,
@@ -173,15 +173,15 @@ module _ (p : Setup) (es : List Event) (old new : PlainTrace) (v : View) (tracks
   pub tracks-moved : u ≢ x → (b : ℕ) (rest : List ℕ) → v.blocks ≡ b ∷ rest → u ≡ block_start (blocks p) old.block + old.room.next
       → old.room.next + size p x ≤ 4096 → new.room.next ≡ old.room.next + size p x → new.room.end ≡ old.room.end
       → Tracks p (es ++ Claim x u cause ∷ []) new (claimed_view p x u cause v)
-  tracks-moved differ b rest is front fits longer end = tracks-claimed (subst (λ bs. IsRoom p now bs new.block new.room) (sym is) room-now)
+  tracks-moved differ b rest is front fits longer end = tracks-claimed (subst (λ bs. IsCopyRoom p now bs new.block new.room) (sym is) room-now)
       (λ y at-home young moves. elim (cases_eq y x) as (λ _. new.room.end < new.room.next + size p y) [
         | inl same ↦ absurd (differ (Some-injective u x (ap target (sym (put_here was.stage x _)) ∙ ap (λ z. target (now.stage z)) (sym same) ∙ at-home ∙ ap Some same)))
         | inr ne ↦ (let tight : old.room.end < old.room.next + size p y = tracks.stayed y (ap target (sym (put_else was.stage x _ y ne)) ∙ at-home) young moves in
             let next : new.room.next ≡ old.room.next + size p x = longer in let limit : new.room.end ≡ old.room.end = end in omega arith)
       ])
     where
-      room : IsRoom p was (b ∷ rest) old.block old.room
-      room = subst (λ bs. IsRoom p was bs old.block old.room) is tracks.room
+      room : IsCopyRoom p was (b ∷ rest) old.block old.room
+      room = subst (λ bs. IsCopyRoom p was bs old.block old.room) is tracks.room
 
       moved : now.owner ≡ put_all was.owner u (size p x) (Some x)
       moved = cond-false (nat_eq u x) was.owner _ (ne_eqb u x differ)
@@ -196,7 +196,7 @@ module _ (p : Setup) (es : List Event) (old new : PlainTrace) (v : View) (tracks
             | inr from ↦ subst (λ w. IsTrue (is_some w)) (sym (all_here was.owner u (Some x) (size p x) (block_start (blocks p) b + o) (omega arith) (omega arith))) refl
           ])
 
-      room-now : IsRoom p now (b ∷ rest) new.block new.room
+      room-now : IsCopyRoom p now (b ∷ rest) new.block new.room
       room-now = (
         block ∙ room.0,
         end ∙ room.1,
@@ -207,15 +207,15 @@ module _ (p : Setup) (es : List Event) (old new : PlainTrace) (v : View) (tracks
       )
 
 -- the claim may come
-pub may-stay : (p : Setup) (es : List Event) (x : ℕ) (cause : Cause) → IsHeld p.before x → target_of p es x ≡ None → IsAskedBy p (machine_after p es) x cause
-    → (IsTrue (may_move p x) → NoneIsFree p (machine_after p es).taken) → May p (machine_after p es) (Claim x x cause)
+pub may-stay : (p : Setup) (es : List Event) (x : ℕ) (cause : ClaimCause) → IsHeld p.before x → target_of p es x ≡ None → IsAskedBy p (machine_after p es) x cause
+    → (IsTrue (may_be_moved p x) → NoneIsFree p (machine_after p es).taken) → May p (machine_after p es) (Claim x x cause)
 may-stay p es x cause there free asked reason = (there.start, unclaimed-stage (stage_of p es x) free, asked, inl (record { same = refl; reason = reason }))
 
 pub waiting-size : (p : Setup) (es : List Event) (x : ℕ) (shape : Shape) → IsWaiting p es x shape → 3 + shape.refs + shape.nums ≡ size p x
 waiting-size p es x shape is = ap (λ n. 3 + n + shape.nums) is.refs ∙ ap (λ n. 3 + refs p x + n) is.nums
 
 -- The front of the room has room for the object at x, and the object may move.
-module _ (p : Setup) (es : List Event) (t : PlainTrace) (v : View) (tracks : Tracks p es t v) (x u : ℕ) (cause : Cause) (held : IsHeld p.before x)
+module _ (p : Setup) (es : List Event) (t : PlainTrace) (v : View) (tracks : Tracks p es t v) (x u : ℕ) (cause : ClaimCause) (held : IsHeld p.before x)
     (front : u ≡ block_start (blocks p) t.block + t.room.next) (fits : t.room.next + size p x ≤ t.room.end) (some : 0 < size p x) where
   room-some : t.room.next < t.room.end
   room-some = omega arith
@@ -239,7 +239,7 @@ module _ (p : Setup) (es : List Event) (t : PlainTrace) (v : View) (tracks : Tra
       let free = (sound p es tracks.trace).objects.free (block_at (blocks p) x) taken in
       (tracks.trace.ready.lawful.free (block_at (blocks p) x) free).empty x x held (record { from = omega arith; below = omega arith }) refl
 
-  pub may-move-there : target_of p es x ≡ None → IsAskedBy p (machine_after p es) x cause → IsTrue (may_move p x) → May p (machine_after p es) (Claim x u cause)
+  pub may-move-there : target_of p es x ≡ None → IsAskedBy p (machine_after p es) x cause → IsTrue (may_be_moved p x) → May p (machine_after p es) (Claim x u cause)
   may-move-there free asked moves = (
     held.start,
     unclaimed-stage (stage_of p es x) free,
@@ -263,7 +263,7 @@ module _ (p : Setup) (es : List Event) (t : PlainTrace) (v : View) (tracks : Tra
           let offset : i ≡ block_start (blocks p) (last p es t v tracks room-some).0 + (i - block_start (blocks p) t.block) = omega arith in
           ap (machine_after p es).owner offset ∙ room.4 (i - block_start (blocks p) t.block) (omega arith) (omega arith)
 
-  pub tracks-to-front : (new : PlainTrace) → target_of p es x ≡ None → IsAskedBy p (machine_after p es) x cause → IsTrue (may_move p x)
+  pub tracks-to-front : (new : PlainTrace) → target_of p es x ≡ None → IsAskedBy p (machine_after p es) x cause → IsTrue (may_be_moved p x)
       → state_of new.row ≡ with_words (state_of t.row) (slice_set t.row.words.items (x + 2) (collector_word t.run.number u))
       → new.run ≡ t.run → new.block ≡ t.block → new.next_block ≡ t.next_block → new.room.next ≡ t.room.next + size p x → new.room.end ≡ t.room.end
       → Tracks p (es ++ Claim x u cause ∷ []) new (claimed_view p x u cause v)

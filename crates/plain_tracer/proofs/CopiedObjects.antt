@@ -9,14 +9,14 @@ use Rattle.heap_layout.specs.Zones.{row_words, StartBits, UnlogBits, IsAddress}
 use Rattle.object_model.specs.Objects.{state_of, with_words, is_unlogged}
 use Rattle.side_meta.specs.BitWords.{with_bit}
 use Rattle.object_model.specs.BitWords.{bit_word, bit_place}
-use Rattle.trace_core.specs.Setups.{Setup, blocks, size, is_old, is_idle}
+use Rattle.trace_core.specs.Setups.{Setup, blocks, size, stays_old, keeps_its_words}
 use Rattle.trace_core.specs.Machine.{Stage, Unclaimed, Copying, Scanning, target, Machine, Event, Copy, next, put, copied_word, step_of_offset, heap_in}
 use Rattle.trace_core.specs.Traces.{AreNext, after, machine_after, stage_of}
-use Rattle.trace_core.specs.Views.{View, Holds, one_if, hits, times, is_pair, is_copying, is_scanning, is_copied, without, steps_at_claim, copied_view}
+use Rattle.trace_core.specs.Views.{View, Holds, one_if, hits, times, is_pair, is_copying, is_scanning, is_stage_copied, without, steps_at_claim, copied_view}
 use Rattle.plain_tracer.specs.TokenRights.{IsWon}
 use Rattle.plain_tracer.specs.Tracers.{Tracks}
 use Rattle.trace_core.specs.Runs.{IsRunOf}
-use Rattle.trace_core.specs.Rooms.{IsRoom, AreLeft, StayForWantOfRoom}
+use Rattle.trace_core.specs.Rooms.{IsCopyRoom, AreLeft, StayForWantOfRoom}
 use Rattle.trace_core.specs.Rights.{IsMoving, IsCopiedHere}
 use Rattle.trace_core.specs.CallEvents.{copying as copying-events}
 use Rattle.plain_tracer.specs.declared.plain_trace.PlainTrace.{PlainTrace}
@@ -32,7 +32,7 @@ use Rattle.trace_core.proofs.Appending.{machine-more, trace-more, after-append, 
 use Rattle.trace_core.proofs.Counting.{hits-cons, hits-without, times-cons}
 use Rattle.trace_core.proofs.Idle.{one-if-from, one-if-true}
 use Rattle.plain_tracer.proofs.Storing.{room-stays}
-use Rattle.trace_core.proofs.Leaving.{left-stays}
+use Rattle.trace_core.proofs.BlocksLeft.{left-stays}
 use Rattle.trace_core.proofs.CopyEvents.{Reaches, Copies, copies, unlogged-moved, unlogged-in-place, started, reaches-on}
 
 -- the stage of an object with this right
@@ -46,12 +46,12 @@ won-stage p m v holds x k t right known = by-stage (m.stage x) refl
     by-stage (Scanning u n) is = absurd (let none : hits x k v.won ≡ 0 = holds.won x k ∙ ap (λ z. one_if (is_copying k z)) is in omega arith)
 
 -- the view after an object is copied
-module _ (p : Setup) (m m' : Machine) (v : View) (holds : Holds p m v) (x t : ℕ) (young : is_old p x ≡ false) (stage : m.stage x ≡ Copying t (steps_at_claim p x t))
+module _ (p : Setup) (m m' : Machine) (v : View) (holds : Holds p m v) (x t : ℕ) (young : stays_old p x ≡ false) (stage : m.stage x ≡ Copying t (steps_at_claim p x t))
     (reaches : Reaches m m' x (Scanning t 0)) where
   abbrev s : ℕ
   s = steps_at_claim p x t
 
-  not-idle : is_idle p x ≡ false
+  not-idle : keeps_its_words p x ≡ false
   not-idle = ap (λ b. b && is_unlogged p.before x) young
 
   won-here : 0 < hits x s v.won
@@ -69,30 +69,30 @@ module _ (p : Setup) (m m' : Machine) (v : View) (holds : Holds p m v) (x t : �
             let now : one_if (is_copying j (m'.stage y)) ≡ one_if (is_copying j (m.stage y)) = ap (λ z. one_if (is_copying j z)) (reaches.others y ne) in omega arith)
       ]
 
-  grey-now : (y j : ℕ) → hits y j ((x, 0) ∷ v.grey) ≡ one_if (not (is_idle p y) && is_scanning j (m'.stage y))
+  grey-now : (y j : ℕ) → hits y j ((x, 0) ∷ v.grey) ≡ one_if (not (keeps_its_words p y) && is_scanning j (m'.stage y))
   grey-now y j =
       let count : hits y j ((x, 0) ∷ v.grey) ≡ one_if (nat_eq x y && nat_eq 0 j) + hits y j v.grey = hits-cons x 0 v.grey y j in
-      let before : hits y j v.grey ≡ one_if (not (is_idle p y) && is_scanning j (m.stage y)) = holds.grey y j in
-      elim (cases_eq y x) as (λ _. hits y j ((x, 0) ∷ v.grey) ≡ one_if (not (is_idle p y) && is_scanning j (m'.stage y))) [
-        | inl e ↦ (let busy : not (is_idle p y) ≡ true = ap not (ap (is_idle p) e ∙ not-idle) in
-            let was : one_if (not (is_idle p y) && is_scanning j (m.stage y)) ≡ 0 = ap (λ b. one_if (b && is_scanning j (m.stage y))) busy ∙ ap (λ z. one_if (is_scanning j z)) (ap m.stage e ∙ stage) in
+      let before : hits y j v.grey ≡ one_if (not (keeps_its_words p y) && is_scanning j (m.stage y)) = holds.grey y j in
+      elim (cases_eq y x) as (λ _. hits y j ((x, 0) ∷ v.grey) ≡ one_if (not (keeps_its_words p y) && is_scanning j (m'.stage y))) [
+        | inl e ↦ (let busy : not (keeps_its_words p y) ≡ true = ap not (ap (keeps_its_words p) e ∙ not-idle) in
+            let was : one_if (not (keeps_its_words p y) && is_scanning j (m.stage y)) ≡ 0 = ap (λ b. one_if (b && is_scanning j (m.stage y))) busy ∙ ap (λ z. one_if (is_scanning j z)) (ap m.stage e ∙ stage) in
             let one : one_if (nat_eq x y && nat_eq 0 j) ≡ one_if (nat_eq 0 j) = ap (λ b. one_if (b && nat_eq 0 j)) (eq-eqb x y (sym e)) in
-            let now : one_if (not (is_idle p y) && is_scanning j (m'.stage y)) ≡ one_if (nat_eq 0 j) = ap (λ b. one_if (b && is_scanning j (m'.stage y))) busy ∙ ap (λ z. one_if (is_scanning j z)) (ap m'.stage e ∙ reaches.stage) in omega arith)
+            let now : one_if (not (keeps_its_words p y) && is_scanning j (m'.stage y)) ≡ one_if (nat_eq 0 j) = ap (λ b. one_if (b && is_scanning j (m'.stage y))) busy ∙ ap (λ z. one_if (is_scanning j z)) (ap m'.stage e ∙ reaches.stage) in omega arith)
         | inr ne ↦ (let zero : one_if (nat_eq x y && nat_eq 0 j) ≡ 0 = ap (λ b. one_if (b && nat_eq 0 j)) (ne_eqb x y (λ e. ne (sym e))) in
-            let now : one_if (not (is_idle p y) && is_scanning j (m'.stage y)) ≡ one_if (not (is_idle p y) && is_scanning j (m.stage y)) = ap (λ z. one_if (not (is_idle p y) && is_scanning j z)) (reaches.others y ne) in omega arith)
+            let now : one_if (not (keeps_its_words p y) && is_scanning j (m'.stage y)) ≡ one_if (not (keeps_its_words p y) && is_scanning j (m.stage y)) = ap (λ z. one_if (not (keeps_its_words p y) && is_scanning j z)) (reaches.others y ne) in omega arith)
       ]
 
-  copied-now : (y : ℕ) → times y (x ∷ v.copied) ≡ one_if (not (is_old p y) && is_copied (m'.stage y))
+  copied-now : (y : ℕ) → times y (x ∷ v.copied) ≡ one_if (not (stays_old p y) && is_stage_copied (m'.stage y))
   copied-now y =
       let count : times y (x ∷ v.copied) ≡ one_if (nat_eq y x) + times y v.copied = times-cons x v.copied y in
-      let before : times y v.copied ≡ one_if (not (is_old p y) && is_copied (m.stage y)) = holds.copied y in
-      elim (cases_eq y x) as (λ _. times y (x ∷ v.copied) ≡ one_if (not (is_old p y) && is_copied (m'.stage y))) [
-        | inl e ↦ (let new : not (is_old p y) ≡ true = ap not (ap (is_old p) e ∙ young) in
-            let was : one_if (not (is_old p y) && is_copied (m.stage y)) ≡ 0 = ap (λ b. one_if (b && is_copied (m.stage y))) new ∙ ap (λ z. one_if (is_copied z)) (ap m.stage e ∙ stage) in
+      let before : times y v.copied ≡ one_if (not (stays_old p y) && is_stage_copied (m.stage y)) = holds.copied y in
+      elim (cases_eq y x) as (λ _. times y (x ∷ v.copied) ≡ one_if (not (stays_old p y) && is_stage_copied (m'.stage y))) [
+        | inl e ↦ (let new : not (stays_old p y) ≡ true = ap not (ap (stays_old p) e ∙ young) in
+            let was : one_if (not (stays_old p y) && is_stage_copied (m.stage y)) ≡ 0 = ap (λ b. one_if (b && is_stage_copied (m.stage y))) new ∙ ap (λ z. one_if (is_stage_copied z)) (ap m.stage e ∙ stage) in
             let one : one_if (nat_eq y x) ≡ 1 = one-if-true (nat_eq y x) (eq-eqb y x e) in
-            let now : one_if (not (is_old p y) && is_copied (m'.stage y)) ≡ 1 = ap (λ b. one_if (b && is_copied (m'.stage y))) new ∙ ap (λ z. one_if (is_copied z)) (ap m'.stage e ∙ reaches.stage) in omega arith)
+            let now : one_if (not (stays_old p y) && is_stage_copied (m'.stage y)) ≡ 1 = ap (λ b. one_if (b && is_stage_copied (m'.stage y))) new ∙ ap (λ z. one_if (is_stage_copied z)) (ap m'.stage e ∙ reaches.stage) in omega arith)
         | inr ne ↦ (let zero : one_if (nat_eq y x) ≡ 0 = ap one_if (ne_eqb y x ne) in
-            let now : one_if (not (is_old p y) && is_copied (m'.stage y)) ≡ one_if (not (is_old p y) && is_copied (m.stage y)) = ap (λ z. one_if (not (is_old p y) && is_copied z)) (reaches.others y ne) in omega arith)
+            let now : one_if (not (stays_old p y) && is_stage_copied (m'.stage y)) ≡ one_if (not (stays_old p y) && is_stage_copied (m.stage y)) = ap (λ z. one_if (not (stays_old p y) && is_stage_copied z)) (reaches.others y ne) in omega arith)
       ]
 
   known-now : (y u : ℕ) → 0 < hits y u v.known → target (m'.stage y) ≡ Some u
@@ -120,7 +120,7 @@ module _ (p : Setup) (es : List Event) (old new : PlainTrace) (v : View) (tracks
   abbrev was : Machine
   was = machine_after p es
 
-  pub young : is_old p x ≡ false
+  pub young : stays_old p x ≡ false
   young = (copying p es tracks.trace x t (steps_at_claim p x t) stage).young
 
   pub tracks-copied : (ds : List Event) → AreNext p was ds → Reaches was (after p was ds) x (Scanning t 0) → state_of new.row ≡ heap_in p (after p was ds)
@@ -137,8 +137,8 @@ module _ (p : Setup) (es : List Event) (old new : PlainTrace) (v : View) (tracks
         run = subst (λ r. IsRunOf p r) (sym run) tracks.run;
         row = row ∙ ap (heap_in p) (sym same);
         holds = subst (λ n. Holds p n (copied_view p x t v)) (sym same) (holds-copied p was (after p was ds) v tracks.holds x t young stage reaches);
-        room = subst (λ n. IsRoom p n v.blocks new.block new.room) (sym same) (subst (λ r. IsRoom p (after p was ds) v.blocks new.block r) (sym room)
-            (subst (λ b. IsRoom p (after p was ds) v.blocks b old.room) (sym block) (room-stays p was (after p was ds) owner v.blocks old.block old.room tracks.room)));
+        room = subst (λ n. IsCopyRoom p n v.blocks new.block new.room) (sym same) (subst (λ r. IsCopyRoom p (after p was ds) v.blocks new.block r) (sym room)
+            (subst (λ b. IsCopyRoom p (after p was ds) v.blocks b old.room) (sym block) (room-stays p was (after p was ds) owner v.blocks old.block old.room tracks.room)));
         left = subst (λ n. AreLeft p n v.sparse v.blocks) (sym same) (left-stays p was (after p was ds) owner v.sparse v.sparse refl v.blocks tracks.left);
         stayed = subst (λ n. StayForWantOfRoom p n new.room) (sym same) (subst (StayForWantOfRoom p (after p was ds)) (sym room)
             (λ y is aged moves. tracks.stayed y (same-target y ∙ is) aged moves));

@@ -8,7 +8,7 @@ use Rattle.trace_core.specs.Setups.{Setup, size, refs}
 use Rattle.trace_core.specs.Machine.{Event, Claim, Ask, Copy, Scan, SetGlobal, MarkLines, TakeBlock}
 use Rattle.trace_core.specs.Views.{View, one_if, without, is_pair, hits, times, scanned_view}
 use Rattle.plain_tracer.specs.TokenRights.{IsGrey, Pushes, Scanned, copied_in, to_scan_in}
-use Rattle.plain_tracer.specs.Tracers.{Tracks, Grows, ScansField, ScansFields}
+use Rattle.plain_tracer.specs.Tracers.{Tracks, MakesEvents, ScansField, ScansFields}
 use Rattle.plain_tracer.specs.TokenRights.{IsMarking, IsNextField}
 use Rattle.trace_core.specs.CallEvents.{Marks, Scans}
 use Rattle.plain_tracer.specs.declared.plain_trace.PlainTrace.{PlainTrace}
@@ -192,7 +192,7 @@ lines-unmarked p es v new lines grey k out out' s = record {
 
 -- then the object's lines are marked
 pub lines-marked : (p : Setup) (es : List Event) (v : View) (mid new : PlainTrace) (grey : Grey) (k : ℕ) (out out' : List Grey)
-    (s : ScansFields p es v mid false grey k out out') → Grows p (es ++ s.grows.events) new s.view (Marks grey.object) → ScansFields p es v new true grey k out out'
+    (s : ScansFields p es v mid false grey k out out') → MakesEvents p (es ++ s.grows.events) new s.view (Marks grey.object) → ScansFields p es v new true grey k out out'
 lines-marked p es v mid new grey k out out' s more = let fs : List Event = s.grows.events in record {
   view = s.view;
   grows = record {

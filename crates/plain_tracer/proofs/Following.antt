@@ -6,12 +6,12 @@ use Rattle.std.proofs.lemmas.List.{append-nil, append_assoc}
 use Rattle.std.proofs.lemmas.List.Elements.{All-nil, All-cons, All-append, All-replicate}
 use Rattle.object_model.specs.Objects.{is_reference}
 use Rattle.trace_core.specs.Setups.{Setup, size, refs}
-use Rattle.trace_core.specs.Machine.{Stage, target, Event, Cause, Claim, Copy, TakeBlock, IsSettled, forward, address_or_nil}
+use Rattle.trace_core.specs.Machine.{Stage, target, Event, ClaimCause, Claim, Copy, TakeBlock, IsSettled, forward, address_or_nil}
 use Rattle.trace_core.specs.Traces.{stage_of, target_of}
 use Rattle.trace_core.specs.Views.{View, is_pair, hits, times, steps_at_claim, claimed_view, copied_view}
 use Rattle.plain_tracer.specs.TokenRights.{IsWon, IsGrey, Pushes}
 use Rattle.plain_tracer.specs.Tracers.{Tracks, Wins, Forwards}
-use Rattle.trace_core.specs.CallEvents.{takes, taken_in, copying, Follows, IsNoRoot}
+use Rattle.trace_core.specs.CallEvents.{block_taken, taken_in, copying, Follows, IsNoRoot}
 use Rattle.plain_tracer.specs.declared.plain_trace.PlainTrace.{PlainTrace}
 use Rattle.plain_tracer.specs.declared.tokens.Won.{Won}
 use Rattle.plain_tracer.specs.declared.tokens.Grey.{Grey}
@@ -35,7 +35,7 @@ settled-nil stage x none reference = absurd (let wrong : not (nat_eq x 0) ≡ no
 pub forward-nil : (stage : ℕ → Stage) (x : ℕ) → x ≡ 0 → 0 ≡ forward stage x
 forward-nil stage x none = sym (ap (forward stage) none)
 
-module _ (p : Setup) (es : List Event) (v : View) (new : PlainTrace) (x value : ℕ) (cause : Cause) where
+module _ (p : Setup) (es : List Event) (v : View) (new : PlainTrace) (x value : ℕ) (cause : ClaimCause) where
   -- what has its last value is left as it is
   pub at-once : (out : List Grey) → Tracks p es new v → IsSettled (stage_of p es) x → value ≡ forward (stage_of p es) x
       → Forwards p es v new x value cause out out
@@ -61,7 +61,7 @@ module _ (p : Setup) (es : List Event) (v : View) (new : PlainTrace) (x value : 
   }
 
 -- the view after an object is claimed and copied
-module _ (p : Setup) (x t : ℕ) (cause : Cause) (v : View) where
+module _ (p : Setup) (x t : ℕ) (cause : ClaimCause) (v : View) where
   abbrev won_view : View
   won_view = copied_view p x t (claimed_view p x t cause v)
 
@@ -81,9 +81,9 @@ module _ (p : Setup) (x t : ℕ) (cause : Cause) (v : View) where
   }
 
 -- A block that is taken first changes nothing of this.
-module _ (p : Setup) (es : List Event) (v : View) (mid : PlainTrace) (x : ℕ) (cause : Cause) (won : Won) where
+module _ (p : Setup) (es : List Event) (v : View) (mid : PlainTrace) (x : ℕ) (cause : ClaimCause) (won : Won) where
   abbrev claiming : Option ℕ → List Event
-  claiming taken = takes taken ++ Claim x won.target cause ∷ []
+  claiming taken = block_taken taken ++ Claim x won.target cause ∷ []
 
   -- the token of the claim
   pub won-token : {old : PlainTrace} (taken : Option ℕ) → Wins p es v old mid taken x cause won → IsWon p (claimed_view p x won.target cause (taken_in taken v)) won
@@ -110,13 +110,13 @@ module _ (p : Setup) (es : List Event) (v : View) (mid : PlainTrace) (x : ℕ) (
     tokens = d.tokens;
   }
 
-  follows-takes : (taken : Option ℕ) → All (Follows cause) (takes taken)
+  follows-takes : (taken : Option ℕ) → All (Follows cause) (block_taken taken)
   follows-takes None = All-nil (Follows cause)
   follows-takes (Some b) = All-cons (Follows cause) (TakeBlock b 1) [] refl (All-nil (Follows cause))
 
   follows-all : (taken : Option ℕ) → All (Follows cause) (claiming taken ++ copying p x won.target)
   follows-all taken = All-append (Follows cause) (claiming taken) (copying p x won.target)
-      (All-append (Follows cause) (takes taken) (Claim x won.target cause ∷ []) (follows-takes taken)
+      (All-append (Follows cause) (block_taken taken) (Claim x won.target cause ∷ []) (follows-takes taken)
       (All-cons (Follows cause) (Claim x won.target cause) [] refl (All-nil (Follows cause))))
       (All-replicate (Follows cause) (if nat_eq won.target x then 1 else size p x + 2) (Copy x) tt)
 

@@ -5,7 +5,7 @@ use Rattle.std.proofs.lemmas.Bool.{cases_eq, eq-eqb, lt-ltb, ne_eqb}
 use Rattle.heap_layout.specs.Zones.{block_start}
 use Rattle.trace_core.specs.Setups.{Setup, blocks, size}
 use Rattle.trace_core.specs.Machine.{Event}
-use Rattle.trace_core.specs.Traces.{IsTrace, machine_after}
+use Rattle.trace_core.specs.Traces.{IsTracing, machine_after}
 use Rattle.trace_core.specs.Views.{View, one_if, times}
 use Rattle.plain_tracer.specs.Tracers.{Tracks, IsTraced}
 use Rattle.trace_core.specs.Rooms.{IsFilled, IsLeftFor, AreLeft}
@@ -14,7 +14,7 @@ use Rattle.trace_core.proofs.Counting.{times-cons}
 use Rattle.trace_core.proofs.Idle.{one-if-true}
 use Rattle.trace_core.proofs.Law.{sound}
 use Rattle.trace_core.proofs.Clauses.{has-room}
-use Rattle.plain_tracer.proofs.Winning.{moves-small}
+use Rattle.plain_tracer.proofs.Claimed.{moves-small}
 
 -- an element of a list is the first one, or one of the others
 first-or-later : (b : ℕ) (l : List ℕ) → 0 < times b l → (0 < times b (take 1 l)) ⊎ (0 < times b (drop 1 l))
@@ -32,7 +32,7 @@ length-first [] = omega arith
 length-first (c ∷ l) = omega arith
 
 -- a block that was left for an object has more than 2,048 words of targets
-module _ (p : Setup) (es : List Event) (trace : IsTrace p es) where
+module _ (p : Setup) (es : List Event) (trace : IsTracing p es) where
   left-long : (b next : ℕ) → (left : IsLeftFor p (machine_after p es) b next) → 2048 < left.words
   left-long b next left =
       let own = (sound p es trace).objects.owned (block_start (blocks p) next) left.object left.first in

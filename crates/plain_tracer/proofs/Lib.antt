@@ -3,8 +3,8 @@ mod Tracking
 mod TakenRoom
 mod Reading
 mod ClaimedObjects
-mod Winning
-mod Asking
+mod Claimed
+mod AskedTargets
 mod BitStores
 mod CopiedObjects
 mod MarkedWords

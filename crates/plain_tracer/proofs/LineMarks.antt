@@ -12,11 +12,11 @@ use Rattle.object_model.specs.Lines.{TouchesLine}
 use Rattle.line_bits.specs.LineMarks.{MarksLines}
 use Rattle.trace_core.specs.Setups.{Setup, blocks, size}
 use Rattle.trace_core.specs.Machine.{Machine, target, Event, MarkLines, next, heap_in}
-use Rattle.trace_core.specs.Traces.{May, IsTrace, machine_after, target_of}
+use Rattle.trace_core.specs.Traces.{May, IsTracing, machine_after, target_of}
 use Rattle.trace_core.specs.Views.{View, Holds}
-use Rattle.plain_tracer.specs.Tracers.{Tracks, Grows, ChangesWords}
+use Rattle.plain_tracer.specs.Tracers.{Tracks, MakesEvents, ChangesWords}
 use Rattle.trace_core.specs.Runs.{IsRunOf}
-use Rattle.trace_core.specs.Rooms.{IsRoom, StayForWantOfRoom}
+use Rattle.trace_core.specs.Rooms.{IsCopyRoom, StayForWantOfRoom}
 use Rattle.trace_core.specs.CallEvents.{Marks}
 use Rattle.plain_tracer.specs.TokenRights.{IsMarking}
 use Rattle.plain_tracer.specs.declared.plain_trace.PlainTrace.{PlainTrace}
@@ -26,7 +26,7 @@ use Rattle.trace_core.proofs.Clauses.{targets-inside}
 use Rattle.plain_tracer.proofs.Tracking.{words-are, blocks-are}
 use Rattle.trace_core.proofs.Appending.{machine-next, trace-next}
 use Rattle.plain_tracer.proofs.Storing.{room-stays}
-use Rattle.trace_core.proofs.Leaving.{left-stays}
+use Rattle.trace_core.proofs.BlocksLeft.{left-stays}
 use Rattle.plain_tracer.proofs.MarkedWords.{Marked, gained, gained-touches, with-gained, other-word}
 
 -- the machine with other words
@@ -37,7 +37,7 @@ with m words = record m { words = words }
 record MarkedTo (p : Setup) (es : List Event) (x : ℕ) (new : List ℕ) (at n : ℕ) : Type 0 where
   pub events : List Event
   pub all : All (Marks x) events
-  pub trace : IsTrace p (es ++ events)
+  pub trace : IsTracing p (es ++ events)
   pub words : List ℕ
   pub machine : machine_after p (es ++ events) ≡ with (machine_after p es) words
   pub extent : length words ≡ length (machine_after p es).words
@@ -99,7 +99,7 @@ module _ (p : Setup) (es : List Event) (t : PlainTrace) (v : View) (tracks : Tra
     none-yet = record {
       events = [];
       all = All-nil (Marks grey.object);
-      trace = subst (IsTrace p) (sym (append-nil es)) tracks.trace;
+      trace = subst (IsTracing p) (sym (append-nil es)) tracks.trace;
       words = m.words;
       machine = ap (machine_after p) (append-nil es);
       extent = refl;
@@ -143,7 +143,7 @@ module _ (p : Setup) (es : List Event) (t : PlainTrace) (v : View) (tracks : Tra
       one-more = let next-n : suc n ≡ n + 1 = omega arith in record {
         events = to.events ++ mark n ∷ [];
         all = All-push (Marks grey.object) to.events (mark n) to.all refl;
-        trace = subst (IsTrace p) (append_assoc es to.events (mark n ∷ [])) (trace-next p (es ++ to.events) to.trace (mark n) may-mark);
+        trace = subst (IsTracing p) (append_assoc es to.events (mark n ∷ [])) (trace-next p (es ++ to.events) to.trace (mark n) may-mark);
         words = slice_set to.words (at + n) value;
         machine = ap (machine_after p) (sym (append_assoc es to.events (mark n ∷ []))) ∙ machine-next p (es ++ to.events) to.trace (mark n)
             ∙ ap (λ k. next p k (mark n)) to.machine;
@@ -203,8 +203,8 @@ module _ (p : Setup) (es : List Event) (t : PlainTrace) (v : View) (tracks : Tra
               known = tracks.holds.known;
               blocks = tracks.holds.blocks;
             });
-            room = subst (λ b. IsRoom p (machine_after p ds) v.blocks b t'.room) (sym changes.block)
-                (subst (λ r. IsRoom p (machine_after p ds) v.blocks t.block r) (sym changes.room)
+            room = subst (λ b. IsCopyRoom p (machine_after p ds) v.blocks b t'.room) (sym changes.block)
+                (subst (λ r. IsCopyRoom p (machine_after p ds) v.blocks t.block r) (sym changes.room)
                 (room-stays p m (machine_after p ds) owners v.blocks t.block t.room tracks.room));
             left = left-stays p m (machine_after p ds) owners v.sparse v.sparse refl v.blocks tracks.left;
             stayed = subst (StayForWantOfRoom p (machine_after p ds)) (sym changes.room)
@@ -213,7 +213,7 @@ module _ (p : Setup) (es : List Event) (t : PlainTrace) (v : View) (tracks : Tra
             ahead = λ b some. subst (λ n. b < n) (sym changes.next_block) (tracks.ahead b (subst (λ take. 0 < take b) takes some));
           }
 
-      grows-by-marks : Grows p es t' v (Marks grey.object)
+      grows-by-marks : MakesEvents p es t' v (Marks grey.object)
       grows-by-marks = record { events = all-words.events; all = all-words.all; tracks = tracks-marks }
 
   -- the same from what was said of the tracer's own row
@@ -225,5 +225,5 @@ module _ (p : Setup) (es : List Event) (t : PlainTrace) (v : View) (tracks : Tra
     pub lines-set : (k : ℕ) → TouchesLine (blocks p) grey.target grey.size k → IsTrue (bit_of (blocks p) LineWords new k)
     lines-set = marked.marked
 
-    pub grows-marks : ((i : ℕ) → slice_index t.row.words.items i < 2 ^ 64) → (t' : PlainTrace) → ChangesWords t t' new → Grows p es t' v (Marks grey.object)
+    pub grows-marks : ((i : ℕ) → slice_index t.row.words.items i < 2 ^ 64) → (t' : PlainTrace) → ChangesWords t t' new → MakesEvents p es t' v (Marks grey.object)
     grows-marks fit = grows-by-marks new marked (λ i. subst (λ ws. slice_index ws i < 2 ^ 64) (words-are p es t v tracks) (fit i))

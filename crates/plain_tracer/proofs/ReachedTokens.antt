@@ -5,7 +5,7 @@ use Rattle.std.proofs.lemmas.List.{map-append}
 use Rattle.heap_layout.specs.Zones.{UnlogBits, IsAddress, heap_of, first}
 use Rattle.object_model.specs.Objects.{is_unlogged}
 use Rattle.trace_core.specs.Setups.{Setup, size, refs}
-use Rattle.trace_core.specs.Machine.{Event, Cause, Claim}
+use Rattle.trace_core.specs.Machine.{Event, ClaimCause, Claim}
 use Rattle.trace_core.specs.Traces.{heap_after, stage_of, target_of}
 use Rattle.trace_core.specs.Views.{View, claimed_view, copied_view, steps_at_claim}
 use Rattle.plain_tracer.specs.TokenRights.{IsGrey, grey_of}
@@ -42,7 +42,7 @@ module _ (p : Setup) (es : List Event) (t : PlainTrace) (v : View) (tracks : Tra
       ∙ bit-read t UnlogBits zone x found (subst (λ b. IsAddress b x) (sym (blocks-are p es t v tracks)) stays.held.address) at is
 
   -- it is set, so the object is claimed
-  pub claimed-before : (cause : Cause) (out : List Grey) → found ≡ true → x ≢ 0 → Forwards p es v t x x cause out out
+  pub claimed-before : (cause : ClaimCause) (out : List Grey) → found ≡ true → x ≢ 0 → Forwards p es v t x x cause out out
   claimed-before cause out set some =
       let here = (marked p es tracks.trace x stays.held (tracks.run.unlogs stays.full x) (unlog-read ∙ set)).1 in
       at-once p es v t x x cause out tracks (settled-at (stage_of p es) x x here) (forward-at (stage_of p es) x x some here)
@@ -52,11 +52,11 @@ module _ (p : Setup) (es : List Event) (t : PlainTrace) (v : View) (tracks : Tra
   not-claimed clear = unmarked p es tracks.trace v tracks.holds x stays (unlog-read ∙ clear)
 
 -- the right to copy an object that was claimed in place
-pub claimed-here : (p : Setup) (es : List Event) (v : View) (x : ℕ) (cause : Cause) → IsCopiedHere x p es (claimed_view p x x cause v)
+pub claimed-here : (p : Setup) (es : List Event) (v : View) (x : ℕ) (cause : ClaimCause) → IsCopiedHere x p es (claimed_view p x x cause v)
 claimed-here p es v x cause = record { right = hits-here x (steps_at_claim p x x) v.won; target = hits-here x x v.known }
 
 -- An object was claimed and copied in place, and its token pushed.
-pub reached-here : (p : Setup) (es : List Event) (v : View) (mid new : PlainTrace) (x : ℕ) (cause : Cause) (out out' : List Reached) → x ≢ 0 → IsNoRoot x cause
+pub reached-here : (p : Setup) (es : List Event) (v : View) (mid new : PlainTrace) (x : ℕ) (cause : ClaimCause) (out out' : List Reached) → x ≢ 0 → IsNoRoot x cause
     → Tracks p ((es ++ Claim x x cause ∷ []) ++ copying p x x) new (copied_view p x x (claimed_view p x x cause v))
     → out' ≡ out ++ record { object = x; target = x } ∷ []
     → Forwards p es v new x x cause (map (grey_of p) out) (map (grey_of p) out')

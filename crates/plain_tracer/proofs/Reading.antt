@@ -10,9 +10,9 @@ use Rattle.object_model.specs.Objects.{IsHeld, state_of, word_at, refs_at, nums_
 use Rattle.object_model.specs.Lawful.{IsReadable, HasObject}
 use Rattle.object_model.proofs.Marks as marks
 use Rattle.object_model.proofs.ObjectReads as reads
-use Rattle.trace_core.specs.Setups.{Setup, blocks, size, refs, may_move}
+use Rattle.trace_core.specs.Setups.{Setup, blocks, size, refs, may_be_moved}
 use Rattle.trace_core.specs.Machine.{Event}
-use Rattle.trace_core.specs.Traces.{IsTrace, machine_after, heap_after}
+use Rattle.trace_core.specs.Traces.{IsTracing, machine_after, heap_after}
 use Rattle.trace_core.specs.Views.{View, hits}
 use Rattle.plain_tracer.specs.Tracers.{Tracks}
 use Rattle.plain_tracer.specs.declared.plain_trace.PlainTrace.{PlainTrace}
@@ -20,7 +20,7 @@ use Rattle.trace_core.proofs.Law.{sound}
 use Rattle.trace_core.proofs.Clauses.{waits, starts-kept, pins, held-of}
 use Rattle.plain_tracer.proofs.Tracking.{row-extent, blocks-are, words-are}
 
-module _ (p : Setup) (es : List Event) (trace : IsTrace p es) (x : ℕ) (held : IsHeld p.before x) where
+module _ (p : Setup) (es : List Event) (trace : IsTracing p es) (x : ℕ) (held : IsHeld p.before x) where
   -- name and shape are as they were
   pub header-same : (o : ℕ) → o < 2 → word_at (heap_after p es) (x + o) ≡ word_at p.before (x + o)
   header-same o l = elim (waits p es trace x o held (omega arith) (λ e. omega arith)) as (λ _. word_at (heap_after p es) (x + o) ≡ word_at p.before (x + o)) [
@@ -104,15 +104,15 @@ module _ (p : Setup) (es : List Event) (t : PlainTrace) (v : View) (tracks : Tra
       some-bool e = ap value e
 
   -- whether the object may move, by the tests of a tracer in their order
-  pub may-move-from : (b : ℕ) (leaves : Bool) → b ≡ block_at t.row.layout.blocks x → leaves ≡ get_or t.run.from.items b leaves → leaves ≡ false → may_move p x ≡ false
+  pub may-move-from : (b : ℕ) (leaves : Bool) → b ≡ block_at t.row.layout.blocks x → leaves ≡ get_or t.run.from.items b leaves → leaves ≡ false → may_be_moved p x ≡ false
   may-move-from b leaves is read not-from = ap (λ z. z && not (is_pinned p.before x) && nat_le (size p x) 2048) (leaves-read b leaves is read ∙ not-from)
 
-  pub may-move-pinned : is_pinned (state_of t.row) x ≡ true → may_move p x ≡ false
+  pub may-move-pinned : is_pinned (state_of t.row) x ≡ true → may_be_moved p x ≡ false
   may-move-pinned pinned = ap (λ z. p.from (block_at (blocks p) x) && not z && nat_le (size p x) 2048) (sym pin-read ∙ pinned)
       ∙ ap (λ z. z && nat_le (size p x) 2048) (and_right (p.from (block_at (blocks p) x)) false refl)
 
   pub may-move-small : (b : ℕ) (leaves : Bool) → b ≡ block_at t.row.layout.blocks x → leaves ≡ get_or t.run.from.items b leaves → leaves ≡ true → is_pinned (state_of t.row) x ≡ false
-      → may_move p x ≡ nat_le (size p x) 2048
+      → may_be_moved p x ≡ nat_le (size p x) 2048
   may-move-small b leaves is read from loose = ap (λ z. z && not (is_pinned p.before x) && nat_le (size p x) 2048) (leaves-read b leaves is read ∙ from)
       ∙ ap (λ z. true && not z && nat_le (size p x) 2048) (sym pin-read ∙ loose)
 

@@ -7,7 +7,7 @@ use Rattle.heap_layout.specs.Zones.{row_words, IsAddress}
 use Rattle.object_model.specs.Objects.{word_at, global_at, ref_at, IsHeld, state_of, with_words}
 use Rattle.object_model.specs.Lawful.{IsRefField}
 use Rattle.object_model.proofs.Marks as marks
-use Rattle.trace_core.specs.Setups.{Setup, IsReady, blocks, refs}
+use Rattle.trace_core.specs.Setups.{Setup, TraceMayBegin, blocks, refs}
 use Rattle.trace_core.specs.Machine.{Scanning, target, Machine, put, scan_stage, Event, ByField, ByGlobal, Claim, Ask, Copy, Scan, SetGlobal, MarkLines, TakeBlock, IsSettled, forward, scan_place, scan_value}
 use Rattle.trace_core.specs.Traces.{IsAskedBy, machine_after, heap_after, stage_of}
 use Rattle.trace_core.specs.Views.{View, hits, times, scanned_view, set_view}
@@ -26,7 +26,7 @@ use Rattle.plain_tracer.proofs.Storing.{tracks-next}
 use Rattle.trace_core.proofs.ScanRights.{scanning-at, unset-at, holds-scanned, holds-set}
 
 -- a reference fits 32 bits
-pub low-reference : (p : Setup) → IsReady p → (n : ℕ) → IsRefField p.before n → n < 2 ^ 32
+pub low-reference : (p : Setup) → TraceMayBegin p → (n : ℕ) → IsRefField p.before n → n < 2 ^ 32
 low-reference p ready n lawful = elim (cases_eq n 0) as (λ _. n < 2 ^ 32) [
   | inl e ↦ omega arith
   | inr ne ↦ (let some : n ≢ 0 = ne in

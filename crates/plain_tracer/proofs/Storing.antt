@@ -7,21 +7,21 @@ use Rattle.heap_layout.specs.declared.layout.TheConstants.{BLOCK_WORDS}
 use Rattle.heap_layout.specs.declared.region.Region.{Region}
 use Rattle.object_model.specs.Objects.{with_words}
 use Rattle.trace_core.specs.Setups.{Setup, blocks}
-use Rattle.trace_core.specs.Machine.{Machine, target, Event, place, stored, stage_after, owner_after, taken_after, next, heap_in}
+use Rattle.trace_core.specs.Machine.{Machine, target, Event, word_changed_by, stored, stage_after, owner_after, taken_after, next, heap_in}
 use Rattle.trace_core.specs.Traces.{May, machine_after}
 use Rattle.trace_core.specs.Views.{View, Holds}
 use Rattle.plain_tracer.specs.Tracers.{Tracks, ChangesWords}
 use Rattle.trace_core.specs.Runs.{IsRunOf}
-use Rattle.trace_core.specs.Rooms.{IsFilled, IsRoom, AreLeft, StayForWantOfRoom}
+use Rattle.trace_core.specs.Rooms.{IsFilled, IsCopyRoom, AreLeft, StayForWantOfRoom}
 use Rattle.plain_tracer.specs.declared.plain_trace.PlainTrace.{PlainTrace}
 use Rattle.trace_core.proofs.Appending.{machine-next, trace-next}
-use Rattle.trace_core.proofs.Leaving.{left-stays}
+use Rattle.trace_core.proofs.BlocksLeft.{left-stays}
 
 module _ (p : Setup) (m m' : Machine) (owner : m'.owner ≡ m.owner) where
   filled-stays : (b offset : ℕ) → IsFilled p m b offset → IsFilled p m' b offset
   filled-stays b offset filled = subst (λ own. (o : ℕ) → o < offset → IsTrue (is_some (own (block_start (blocks p) b + o)))) (sym owner) filled
 
-  pub room-stays : (bs : List ℕ) (block : ℕ) (room : Region) → IsRoom p m bs block room → IsRoom p m' bs block room
+  pub room-stays : (bs : List ℕ) (block : ℕ) (room : Region) → IsCopyRoom p m bs block room → IsCopyRoom p m' bs block room
   room-stays [] block room is = is
   room-stays (b ∷ earlier) block room is = (
     is.0,
@@ -38,13 +38,13 @@ module _ (p : Setup) (es : List Event) (v v' : View) (old new : PlainTrace) (e :
   abbrev ds : List Event
   ds = es ++ e ∷ []
 
-  words-after : Tracks p es old v → at ≡ place p m e → value ≡ stored p m e (slice_index m.words (place p m e))
+  words-after : Tracks p es old v → at ≡ word_changed_by p m e → value ≡ stored p m e (slice_index m.words (word_changed_by p m e))
       → slice_set old.row.words.items at value ≡ (next p m e).words
   words-after tracks here stores = ap (λ s. slice_set s.words at value) tracks.row ∙ ap (λ i. slice_set m.words i value) here
-      ∙ ap (slice_set m.words (place p m e)) stores
+      ∙ ap (slice_set m.words (word_changed_by p m e)) stores
 
   pub tracks-next : Tracks p es old v → May p m e → owner_after p m e ≡ m.owner → taken_after m e ≡ m.taken → ((x : ℕ) → target (stage_after p m e x) ≡ target (m.stage x))
-      → at ≡ place p m e → value ≡ stored p m e (slice_index m.words (place p m e)) → ChangesWords old new (slice_set old.row.words.items at value)
+      → at ≡ word_changed_by p m e → value ≡ stored p m e (slice_index m.words (word_changed_by p m e)) → ChangesWords old new (slice_set old.row.words.items at value)
       → v'.blocks ≡ v.blocks → v'.sparse ≡ v.sparse → Holds p (next p m e) v' → Tracks p ds new v'
   tracks-next tracks may owner taken targets here stores changes same sparse holds =
       let now : machine_after p (es ++ e ∷ []) ≡ next p (machine_after p es) e = machine-next p es tracks.trace e in
@@ -56,9 +56,9 @@ module _ (p : Setup) (es : List Event) (v v' : View) (old new : PlainTrace) (e :
         row = changes.row ∙ ap (λ s. with_words s (slice_set old.row.words.items at value)) tracks.row
             ∙ ap (with_words p.before) (words-after tracks here stores) ∙ sym (ap (heap_in p) now);
         holds = subst (λ n. Holds p n v') (sym now) holds;
-        room = subst (λ bs. IsRoom p (machine_after p (es ++ e ∷ [])) bs new.block new.room) (sym same)
-            (subst (λ b. IsRoom p (machine_after p (es ++ e ∷ [])) v.blocks b new.room) (sym changes.block)
-            (subst (λ r. IsRoom p (machine_after p (es ++ e ∷ [])) v.blocks old.block r) (sym changes.room)
+        room = subst (λ bs. IsCopyRoom p (machine_after p (es ++ e ∷ [])) bs new.block new.room) (sym same)
+            (subst (λ b. IsCopyRoom p (machine_after p (es ++ e ∷ [])) v.blocks b new.room) (sym changes.block)
+            (subst (λ r. IsCopyRoom p (machine_after p (es ++ e ∷ [])) v.blocks old.block r) (sym changes.room)
             (room-stays p m (machine_after p ds) owners v.blocks old.block old.room tracks.room)));
         left = subst (λ bs. AreLeft p (machine_after p (es ++ e ∷ [])) v'.sparse bs) (sym same)
             (left-stays p m (machine_after p ds) owners v.sparse v'.sparse sparse v.blocks tracks.left);

@@ -10,22 +10,22 @@ use Rattle.heap_layout.proofs.BlockLemmas.{kind_of_code-kind_code, kind_code_mos
 use Rattle.object_model.specs.Objects.{HasKind, block_word, state_of, with_words}
 use Rattle.trace_core.specs.Setups.{Setup, blocks}
 use Rattle.trace_core.specs.Machine.{Machine, target, Event, TakeBlock, next, taken_word, heap_in}
-use Rattle.trace_core.specs.Traces.{May, IsTrace, NoneIsFree, machine_after, heap_after}
+use Rattle.trace_core.specs.Traces.{May, IsTracing, NoneIsFree, machine_after, heap_after}
 use Rattle.trace_core.specs.Views.{View, Holds, one_if, times, left_view}
-use Rattle.plain_tracer.specs.Tracers.{Tracks, IsTracing, TakesBlock, FindsNone}
+use Rattle.plain_tracer.specs.Tracers.{Tracks, TracerHolds, TakesCopyBlock, FindsNone}
 use Rattle.trace_core.specs.Runs.{IsRunOf}
-use Rattle.trace_core.specs.Rooms.{StayForWantOfRoom, IsRoom, AreLeft}
+use Rattle.trace_core.specs.Rooms.{StayForWantOfRoom, IsCopyRoom, AreLeft}
 use Rattle.plain_tracer.specs.declared.plain_trace.PlainTrace.{PlainTrace}
 use Rattle.trace_core.proofs.Puts.{put_here, put_else}
 use Rattle.trace_core.proofs.Law.{sound}
-use Rattle.trace_core.proofs.Leaving.{left-more}
+use Rattle.trace_core.proofs.BlocksLeft.{left-more}
 use Rattle.trace_core.proofs.Clauses.{untaken-word, taken-block-word, has-room}
 use Rattle.trace_core.proofs.Appending.{machine-next, trace-next}
 use Rattle.trace_core.proofs.Counting.{times-cons}
 use Rattle.trace_core.proofs.Idle.{one-if-from, one-if-true}
 use Rattle.plain_tracer.proofs.Tracking.{words-are, blocks-are}
 
-module _ (p : Setup) (es : List Event) (trace : IsTrace p es) where
+module _ (p : Setup) (es : List Event) (trace : IsTracing p es) where
   abbrev m : Machine
   m = machine_after p es
 
@@ -71,7 +71,7 @@ module _ (p : Setup) (es : List Event) (trace : IsTrace p es) where
           let same : block_at (blocks p) d.at ≡ b = omega (arith, from, below, base, within, l) in
           let taken : 0 < m.taken b = subst (λ c. 0 < m.taken c) same room.block in absurd (omega arith)
 
-module _ (p : Setup) (es : List Event) (old new : PlainTrace) (b : ℕ) (v : View) (tracks : Tracks p es old v) (takes : TakesBlock old new b) (copies : old.run.copy_kind ≢ kinds.Free) where
+module _ (p : Setup) (es : List Event) (old new : PlainTrace) (b : ℕ) (v : View) (tracks : Tracks p es old v) (takes : TakesCopyBlock old new b) (copies : old.run.copy_kind ≢ kinds.Free) where
   abbrev was : Machine
   was = machine_after p es
 
@@ -143,7 +143,7 @@ module _ (p : Setup) (es : List Event) (old new : PlainTrace) (b : ℕ) (v : Vie
         ]))
   ]
 
-  room-now : IsRoom p now (b ∷ v.blocks) new.block new.room
+  room-now : IsCopyRoom p now (b ∷ v.blocks) new.block new.room
   room-now = (
     takes.block,
     ap (λ r. r.end) takes.room,
@@ -188,7 +188,7 @@ module _ (p : Setup) (es : List Event) (old new : PlainTrace) (b : ℕ) (v : Vie
         run = subst (λ r. IsRunOf p r) (sym takes.run) tracks.run;
         row = row-now ∙ ap (heap_in p) (sym same);
         holds = subst (λ n. Holds p n (left_view b v)) (sym same) holds-now;
-        room = subst (λ n. IsRoom p n (b ∷ v.blocks) new.block new.room) (sym same) room-now;
+        room = subst (λ n. IsCopyRoom p n (b ∷ v.blocks) new.block new.room) (sym same) room-now;
         left = subst (λ n. AreLeft p n (take 1 v.blocks ++ v.sparse) (b ∷ v.blocks)) (sym same) left-now;
         stayed = λ x is young moves. absurd (let taken : 0 < was.taken b =
             (sound p es tracks.trace).reasons.stays x (ap (λ (n : Machine). target (n.stage x)) (sym same) ∙ is) young moves b free-here.0 in
@@ -214,7 +214,7 @@ module _ (p : Setup) (es : List Event) (old new : PlainTrace) (v : View) (tracks
     run = subst (λ r. IsRunOf p r) (sym finds.run) tracks.run;
     row = ap state_of finds.row ∙ tracks.row;
     holds = tracks.holds;
-    room = subst (λ r. IsRoom p (machine_after p es) v.blocks new.block r) (sym finds.room) (subst (λ n. IsRoom p (machine_after p es) v.blocks n old.room) (sym finds.block) tracks.room);
+    room = subst (λ r. IsCopyRoom p (machine_after p es) v.blocks new.block r) (sym finds.room) (subst (λ n. IsCopyRoom p (machine_after p es) v.blocks n old.room) (sym finds.block) tracks.room);
     left = tracks.left;
     stayed = subst (StayForWantOfRoom p (machine_after p es)) (sym finds.room) tracks.stayed;
     passed = λ c l free. none-free c free;
@@ -226,14 +226,14 @@ module _ (p : Setup) (es : List Event) (old new : PlainTrace) (v : View) (tracks
   }
 
 -- no block before the next one to try is Free
-pub passed-free : (t : PlainTrace) (Right : Setup → List Event → View → Type 0) → IsTracing t Right → (c : ℕ) → c < t.next_block → HasKind (state_of t.row) c kinds.Free → ⊥
+pub passed-free : (t : PlainTrace) (Right : Setup → List Event → View → Type 0) → TracerHolds t Right → (c : ℕ) → c < t.next_block → HasKind (state_of t.row) c kinds.Free → ⊥
 passed-free t Right is c low free =
     let was = free-was is.setup is.events is.tracks.trace c (subst (λ s. HasKind s c kinds.Free) is.tracks.row free) in
     let none : (machine_after is.setup is.events).taken c ≡ 0 = was.1 in
     let some : 0 < (machine_after is.setup is.events).taken c = is.tracks.passed c low was.0 in omega arith
 
 -- each lower block that is Free was passed over, so there is none
-pub lowest-taken : (p : Setup) (es : List Event) (old new : PlainTrace) (b : ℕ) (v : View) → Tracks p es old v → TakesBlock old new b → (c : ℕ) → c < b → HasKind (heap_after p es) c kinds.Free → ⊥
+pub lowest-taken : (p : Setup) (es : List Event) (old new : PlainTrace) (b : ℕ) (v : View) → Tracks p es old v → TakesCopyBlock old new b → (c : ℕ) → c < b → HasKind (heap_after p es) c kinds.Free → ⊥
 lowest-taken p es old new b v tracks takes c low free = elim (cases_lt c old.next_block) as (λ _. ⊥) [
   | inl before ↦ (let was = free-was p es tracks.trace c free in
       let none : (machine_after p es).taken c ≡ 0 = was.1 in
@@ -243,15 +243,15 @@ lowest-taken p es old new b v tracks takes c low free = elim (cases_lt c old.nex
 
 -- room with free words is in a block that the tracer took
 module _ (p : Setup) (es : List Event) (t : PlainTrace) (v : View) (tracks : Tracks p es t v) (some : t.room.next < t.room.end) where
-  by-blocks : (bs : List ℕ) → v.blocks ≡ bs → IsRoom p (machine_after p es) bs t.block t.room → (b : ℕ) × (rest : List ℕ) × (v.blocks ≡ b ∷ rest)
+  by-blocks : (bs : List ℕ) → v.blocks ≡ bs → IsCopyRoom p (machine_after p es) bs t.block t.room → (b : ℕ) × (rest : List ℕ) × (v.blocks ≡ b ∷ rest)
   by-blocks [] is room = absurd (let same : t.room.next ≡ t.room.end = room in omega arith)
   by-blocks (b ∷ rest) is room = (b, rest, is)
 
   pub last : (b : ℕ) × (rest : List ℕ) × (v.blocks ≡ b ∷ rest)
   last = by-blocks v.blocks refl tracks.room
 
-  pub room-there : IsRoom p (machine_after p es) (last.0 ∷ last.1) t.block t.room
-  room-there = subst (λ bs. IsRoom p (machine_after p es) bs t.block t.room) last.2 tracks.room
+  pub room-there : IsCopyRoom p (machine_after p es) (last.0 ∷ last.1) t.block t.room
+  room-there = subst (λ bs. IsCopyRoom p (machine_after p es) bs t.block t.room) last.2 tracks.room
 
   pub room-end : t.room.end ≡ 4096
   room-end = room-there.1
@@ -268,12 +268,12 @@ module _ (p : Setup) (es : List Event) (t : PlainTrace) (v : View) (tracks : Tra
       let there : t.block < blocks p = ltb-true t.block (blocks p) (and_parts (nat_lt t.block (blocks p)) (nat_eq (block_word p.before t.block % 256) 0) free).0 in
       let same : t.row.layout.blocks ≡ blocks p = blocks-are p es t v tracks in omega arith
 
-pub blocks-now : (p : Setup) (es : List Event) (old new : PlainTrace) (b : ℕ) (v : View) → Tracks p es old v → TakesBlock old new b → new.row.layout.blocks ≡ blocks p
+pub blocks-now : (p : Setup) (es : List Event) (old new : PlainTrace) (b : ℕ) (v : View) → Tracks p es old v → TakesCopyBlock old new b → new.row.layout.blocks ≡ blocks p
 blocks-now p es old new b v tracks takes = ap (λ s. s.blocks) takes.row ∙ blocks-are p es old v tracks
 
 pub room-order : (p : Setup) (es : List Event) (t : PlainTrace) (v : View) → Tracks p es t v → t.room.next ≤ t.room.end
 room-order p es t v tracks = by-blocks v.blocks tracks.room
   where
-    by-blocks : (bs : List ℕ) → IsRoom p (machine_after p es) bs t.block t.room → t.room.next ≤ t.room.end
+    by-blocks : (bs : List ℕ) → IsCopyRoom p (machine_after p es) bs t.block t.room → t.room.next ≤ t.room.end
     by-blocks [] is = let same : t.room.next ≡ t.room.end = is in omega arith
     by-blocks (b ∷ earlier) is = let end : t.room.end ≡ 4096 = is.1 in let next : t.room.next ≤ 4096 = is.2 in omega arith

@@ -4,10 +4,10 @@ use Rattle.std.proofs.lemmas.Bool.{cases_eq, cond-true, cond-false, eq-eqb, ne_e
 use Rattle.heap_layout.specs.Zones.{row_words}
 use Rattle.object_model.specs.Objects.{IsHeld}
 use Rattle.object_model.proofs.Marks as marks
-use Rattle.trace_core.specs.Setups.{Setup, blocks, size, is_old}
+use Rattle.trace_core.specs.Setups.{Setup, blocks, size, stays_old}
 use Rattle.trace_core.specs.Machine.{Stage, Unclaimed, Copying, Scanning, target, Machine, Event, Claim, Ask, Copy, Scan, SetGlobal, MarkLines, TakeBlock, put, copy_stage, scan_stage, next, first_machine}
-use Rattle.trace_core.specs.Traces.{May, after, AreNext, IsTrace, machine_after, stage_of, target_of}
-use Rattle.trace_core.specs.Views.{View, Holds, one_if, times, is_copied}
+use Rattle.trace_core.specs.Traces.{May, after, AreNext, IsTracing, machine_after, stage_of, target_of}
+use Rattle.trace_core.specs.Views.{View, Holds, one_if, times, is_stage_copied}
 use Rattle.plain_tracer.specs.TokenRights.{IsGrey}
 use Rattle.plain_tracer.specs.declared.tokens.Grey.{Grey}
 use Rattle.trace_core.proofs.Clauses.{held-of}
@@ -61,24 +61,24 @@ later : (p : Setup) (m : Machine) (es ds : List Event) → AreNext p m (es ++ ds
 later p m [] ds are z t is = onward p m ds are z t is
 later p m (e ∷ es) ds are z t is = later p (next p m e) es ds are.1 z t is
 
-pub target-grows : (p : Setup) (es ds : List Event) → IsTrace p (es ++ ds) → (z t : ℕ) → target_of p es z ≡ Some t → target_of p (es ++ ds) z ≡ Some t
+pub target-grows : (p : Setup) (es ds : List Event) → IsTracing p (es ++ ds) → (z t : ℕ) → target_of p es z ≡ Some t → target_of p (es ++ ds) z ≡ Some t
 target-grows p es ds trace z t is = later p (first_machine p) es ds trace.events z t is
 
-copied-stage : (st : Stage) → IsTrue (is_copied st) → (t : ℕ) × (target st ≡ Some t)
+copied-stage : (st : Stage) → IsTrue (is_stage_copied st) → (t : ℕ) × (target st ≡ Some t)
 copied-stage Unclaimed copied = absurd (let wrong : false ≡ true = copied in cc)
 copied-stage (Copying t k) copied = absurd (let wrong : false ≡ true = copied in cc)
 copied-stage (Scanning t k) copied = (t, refl)
 
-module _ (p : Setup) (es : List Event) (trace : IsTrace p es) (v : View) (holds : Holds p (machine_after p es) v) where
+module _ (p : Setup) (es : List Event) (trace : IsTracing p es) (v : View) (holds : Holds p (machine_after p es) v) where
   pub copied-target : (x : ℕ) → 0 < times x v.copied → (t : ℕ) × (target_of p es x ≡ Some t)
   copied-target x some = copied-stage (stage_of p es x)
-      (and_parts (not (is_old p x)) (is_copied (stage_of p es x)) (one-if-from (not (is_old p x) && is_copied (stage_of p es x)) (subst (λ n. 0 < n) (holds.copied x) some))).1
+      (and_parts (not (stays_old p x)) (is_stage_copied (stage_of p es x)) (one-if-from (not (stays_old p x) && is_stage_copied (stage_of p es x)) (subst (λ n. 0 < n) (holds.copied x) some))).1
 
   pub copied-held : (x : ℕ) → 0 < times x v.copied → IsHeld p.before x
   copied-held x some = let has = copied-target x some in marks.held p.before x (held-of p es trace x has.0 has.1)
 
   pub copied-once : (x : ℕ) → times x v.copied ≤ 1
-  copied-once x = subst (λ n. n ≤ 1) (sym (holds.copied x)) (one-if-few (not (is_old p x) && is_copied (stage_of p es x)))
+  copied-once x = subst (λ n. n ≤ 1) (sym (holds.copied x)) (one-if-few (not (stays_old p x) && is_stage_copied (stage_of p es x)))
 
   pub token-held : (grey : Grey) → IsGrey p v grey → IsHeld p.before grey.object
   token-held grey is = marks.held p.before grey.object (held-of p es trace grey.object grey.target (holds.known grey.object grey.target is.target))

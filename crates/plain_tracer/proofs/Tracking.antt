@@ -6,7 +6,7 @@ use Rattle.trace_core.specs.Setups.{Setup, blocks}
 use Rattle.trace_core.specs.Machine.{Event}
 use Rattle.trace_core.specs.Traces.{machine_after}
 use Rattle.trace_core.specs.Views.{View}
-use Rattle.plain_tracer.specs.Tracers.{Tracks, IsTracing}
+use Rattle.plain_tracer.specs.Tracers.{Tracks, TracerHolds}
 use Rattle.plain_tracer.specs.declared.plain_trace.PlainTrace.{PlainTrace}
 use Rattle.trace_core.proofs.Law.{sound}
 
@@ -20,7 +20,7 @@ module _ (p : Setup) (es : List Event) (t : PlainTrace) (v : View) (tracks : Tra
   pub row-extent : length t.row.words.items ≡ row_words t.row.layout.blocks
   row-extent = ap length words-are ∙ (sound p es tracks.trace).objects.long ∙ ap row_words (sym blocks-are)
 
-pub tracing-extent : (t : PlainTrace) (Right : Setup → List Event → View → Type 0) → IsTracing t Right → length t.row.words.items ≡ row_words t.row.layout.blocks
+pub tracing-extent : (t : PlainTrace) (Right : Setup → List Event → View → Type 0) → TracerHolds t Right → length t.row.words.items ≡ row_words t.row.layout.blocks
 tracing-extent t Right is = row-extent is.setup is.events t is.view is.tracks
 
 -- what follows from what is in an option, and from its being empty

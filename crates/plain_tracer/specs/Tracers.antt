@@ -5,9 +5,9 @@ use Rattle.heap_layout.specs.declared.layout.TheConstants.{BLOCK_WORDS}
 use Rattle.heap_layout.specs.Blocks.{code_of}
 use Rattle.object_model.specs.declared.shape.TheConstants.{MAX_MEDIUM_WORDS}
 use Rattle.object_model.specs.Objects.{HasKind, state_of, with_words}
-use Rattle.trace_core.specs.Setups.{Setup, blocks, size, refs, is_old}
-use Rattle.trace_core.specs.Machine.{Event, Cause, ByRoot, Claim, Ask, IsSettled, forward}
-use Rattle.trace_core.specs.Traces.{IsTrace, machine_after, heap_after, target_of, stage_of}
+use Rattle.trace_core.specs.Setups.{Setup, blocks, size, refs, stays_old}
+use Rattle.trace_core.specs.Machine.{Event, ClaimCause, ByRoot, Claim, Ask, IsSettled, forward}
+use Rattle.trace_core.specs.Traces.{IsTracing, machine_after, heap_after, target_of, stage_of}
 use Rattle.trace_core.specs.Views.{View, Holds, times, asked_view, claimed_view, scanned_view, set_view}
 use Rattle.trace_core.specs.declared.run.Traced.{Traced}
 use Rattle.plain_tracer.specs.declared.tokens.Won.{Won}
@@ -15,19 +15,19 @@ use Rattle.plain_tracer.specs.declared.tokens.Grey.{Grey}
 use Rattle.plain_tracer.specs.declared.plain_trace.PlainTrace.{PlainTrace}
 use Rattle.plain_tracer.specs.TokenRights.{Pushes, Scanned}
 use Rattle.trace_core.specs.Runs.{IsRunOf}
-use Rattle.trace_core.specs.Rooms.{IsFilled, IsRoom, AreLeft, StayForWantOfRoom}
-use Rattle.trace_core.specs.CallEvents.{takes, taken_in, left_in, Follows, Scans, Sets}
+use Rattle.trace_core.specs.Rooms.{IsFilled, IsCopyRoom, AreLeft, StayForWantOfRoom}
+use Rattle.trace_core.specs.CallEvents.{block_taken, taken_in, left_in_block, Follows, Scans, Sets}
 use Rattle.heap_layout.specs.declared.block.Kind.TheVariants as kinds
 use Rattle.plain_tracer.specs.declared.tokens.Claim as answers
 use Rattle.plain_tracer.specs.declared.tokens.Claim.TheVariants as answer
 
 -- The tracer made these events, which left its row, and has all rights of a view.
 pub record Tracks (p : Setup) (es : List Event) (t : PlainTrace) (v : View) : Type 0 where
-  pub trace : IsTrace p es
+  pub trace : IsTracing p es
   pub run : IsRunOf p t.run
   pub row : state_of t.row ≡ heap_after p es
   pub holds : Holds p (machine_after p es) v
-  pub room : IsRoom p (machine_after p es) v.blocks t.block t.room
+  pub room : IsCopyRoom p (machine_after p es) v.blocks t.block t.room
   pub left : AreLeft p (machine_after p es) v.sparse v.blocks
   pub stayed : StayForWantOfRoom p (machine_after p es) t.room
   -- of the blocks before the next one to try none is Free, and no later one was taken
@@ -35,7 +35,7 @@ pub record Tracks (p : Setup) (es : List Event) (t : PlainTrace) (v : View) : Ty
   pub ahead : (b : ℕ) → 0 < (machine_after p es).taken b → b < t.next_block
 
 -- The tracer traces some collection, and a view of it has the right to a call.
-pub record IsTracing (t : PlainTrace) (Right : Setup → List Event → View → Type 0) : Type 0 where
+pub record TracerHolds (t : PlainTrace) (Right : Setup → List Event → View → Type 0) : Type 0 where
   pub setup : Setup
   pub events : List Event
   pub view : View
@@ -43,7 +43,7 @@ pub record IsTracing (t : PlainTrace) (Right : Setup → List Event → View →
   pub right : Right setup events view
 
 -- The worker took block b, which was Free. It begins anew with its room.
-pub record TakesBlock (old new : PlainTrace) (b : ℕ) : Type 0 where
+pub record TakesCopyBlock (old new : PlainTrace) (b : ℕ) : Type 0 where
   pub row : state_of new.row ≡ with_words (state_of old.row) (slice_set old.row.words.items (first old.row.layout.blocks BlockWords + b) (code_of (record { kind = old.run.copy_kind; class = 0; owner = 17 })))
   pub run : new.run ≡ old.run
   pub globals : new.globals_taken ≡ old.globals_taken
@@ -73,7 +73,7 @@ pub record ChangesWords (old new : PlainTrace) (words : List ℕ) : Type 0 where
   pub next_block : new.next_block ≡ old.next_block
   pub globals : new.globals_taken ≡ old.globals_taken
 
--- what the tracer was told, and whether it gave the tokens of globals, is as it was
+-- what the tracer was given, and whether it gave the tokens of globals, is as it was
 pub record KeepsRun (old new : PlainTrace) : Type 0 where
   pub run : new.run ≡ old.run
   pub globals : new.globals_taken ≡ old.globals_taken
@@ -91,7 +91,7 @@ pub record IsFront (p : Setup) (old : PlainTrace) (taken : Option ℕ) (t : ℕ)
 -- The front of room for an object of this size. A block was taken first if the room was too small.
 pub record Fronts (p : Setup) (es : List Event) (v : View) (old new : PlainTrace) (size t : ℕ) : Type 0 where
   pub taken : Option ℕ
-  pub tracks : Tracks p (es ++ takes taken) new (left_in taken v)
+  pub tracks : Tracks p (es ++ block_taken taken) new (left_in_block taken v)
   pub room : new.room.next + size ≤ new.room.end
   pub front : t ≡ block_start (blocks p) new.block + new.room.next
   pub place : IsFront p old taken t
@@ -99,7 +99,8 @@ pub record Fronts (p : Setup) (es : List Event) (v : View) (old new : PlainTrace
 
 -- An object is claimed: the events, the view and the token. It stays where it is, or goes to the front of the worker's
 -- room. A block is taken first only if it does not fit there.
-pub record Wins (p : Setup) (es : List Event) (v : View) (old new : PlainTrace) (taken : Option ℕ) (x : ℕ) (cause : Cause)
+pub record Wins (p : Setup) (es : List Event) (v : View) (old new : PlainTrace) (taken : Option ℕ) (x : ℕ)
+    (cause : ClaimCause)
     (won : Won) : Type 0 where
   pub unclaimed : target_of p es x ≡ None
   pub place : ((won.target ≡ x) × (taken ≡ None)) ⊎ IsFront p old taken won.target
@@ -107,30 +108,35 @@ pub record Wins (p : Setup) (es : List Event) (v : View) (old new : PlainTrace) 
   pub object : won.object ≡ x
   pub size : won.size ≡ size p x
   pub refs : won.refs ≡ refs p x
-  pub tracks : Tracks p (es ++ (takes taken ++ Claim x won.target cause ∷ [])) new (claimed_view p x won.target cause (taken_in taken v))
+  pub tracks : Tracks p (es ++ (block_taken taken ++ Claim x won.target cause
+      ∷ [])) new (claimed_view p x won.target cause (taken_in taken v))
 
 -- the answer to a claim of the object at x, which something asks for
-abbrev pub Claims : Setup → List Event → View → PlainTrace → PlainTrace → ℕ → Cause → answers.Claim → Type 0
-Claims p es v old new x cause answer.Old = IsTrue (is_old p x) × Tracks p es new v
-Claims p es v old new x cause (answer.Seen t) = (is_old p x ≡ false) × (target_of p es x ≡ Some t) × Tracks p es new v
+abbrev pub Claims : Setup → List Event → View → PlainTrace → PlainTrace → ℕ → ClaimCause → answers.Claim → Type 0
+Claims p es v old new x cause answer.Old = IsTrue (stays_old p x) × Tracks p es new v
+Claims p es v old new x cause (answer.Seen t) = (stays_old p x ≡ false) × (target_of p es x ≡ Some t)
+    × Tracks p es new v
 Claims p es v old new x cause (answer.Won won) = (taken : Option ℕ) × Wins p es v old new taken x cause won
 
 -- the answer to a claim of the object at x by a root, which is set with it
 abbrev pub ClaimsRoot : Setup → List Event → View → PlainTrace → PlainTrace → ℕ → answers.Claim → Type 0
-ClaimsRoot p es v old new x answer.Old = IsTrue (is_old p x) × Tracks p (es ++ Ask x ∷ []) new (asked_view x x v)
-ClaimsRoot p es v old new x (answer.Seen t) = (is_old p x ≡ false) × (target_of p es x ≡ Some t) × Tracks p (es ++ Ask x ∷ []) new (asked_view x t v)
+ClaimsRoot p es v old new x answer.Old = IsTrue (stays_old p x) × Tracks p (es ++ Ask x ∷ []) new (asked_view x x v)
+ClaimsRoot p es v old new x (answer.Seen t) = (stays_old p x ≡ false) × (target_of p es x ≡ Some t) × Tracks p (es
+    ++ Ask x ∷ []) new (asked_view x t v)
 ClaimsRoot p es v old new x (answer.Won won) = (taken : Option ℕ) × Wins p es v old new taken x ByRoot won
 
 -- the tracer made more events, each of these kinds
-pub record Grows (p : Setup) (es : List Event) (new : PlainTrace) (v : View) (IsEvent : Event → Type 0) : Type 0 where
+pub record MakesEvents (p : Setup) (es : List Event) (new : PlainTrace) (v : View) (IsEvent : Event
+    → Type 0) : Type 0 where
   pub events : List Event
   pub all : All IsEvent events
   pub tracks : Tracks p (es ++ events) new v
 
 -- A reference was followed: its last value, the events, and the token that was pushed if its object was not claimed before.
-pub record Forwards (p : Setup) (es : List Event) (v : View) (new : PlainTrace) (reference value : ℕ) (cause : Cause) (before after : List Grey) : Type 0 where
+pub record Forwards (p : Setup) (es : List Event) (v : View) (new : PlainTrace) (reference value : ℕ)
+    (cause : ClaimCause) (before after : List Grey) : Type 0 where
   pub view : View
-  pub grows : Grows p es new view (Follows cause)
+  pub grows : MakesEvents p es new view (Follows cause)
   pub pushed : List Grey
   pub out : after ≡ before ++ pushed
   pub few : length pushed ≤ 1
@@ -141,7 +147,7 @@ pub record Forwards (p : Setup) (es : List Event) (v : View) (new : PlainTrace) 
 -- Field k of an object was scanned.
 pub record ScansField (p : Setup) (es : List Event) (v : View) (new : PlainTrace) (grey : Grey) (k : ℕ) (before after : List Grey) : Type 0 where
   pub view : View
-  pub grows : Grows p es new (scanned_view grey.object k view) (Scans false grey.object)
+  pub grows : MakesEvents p es new (scanned_view grey.object k view) (Scans false grey.object)
   pub pushed : List Grey
   pub out : after ≡ before ++ pushed
   pub few : length pushed ≤ 1
@@ -150,7 +156,7 @@ pub record ScansField (p : Setup) (es : List Event) (v : View) (new : PlainTrace
 -- The fields of an object were scanned, up to field k, and its lines may be marked.
 pub record ScansFields (p : Setup) (es : List Event) (v : View) (new : PlainTrace) (lines : Bool) (grey : Grey) (k : ℕ) (before after : List Grey) : Type 0 where
   pub view : View
-  pub grows : Grows p es new view (Scans lines grey.object)
+  pub grows : MakesEvents p es new view (Scans lines grey.object)
   pub pushed : List Grey
   pub out : after ≡ before ++ pushed
   pub few : length pushed ≤ k
@@ -159,7 +165,7 @@ pub record ScansFields (p : Setup) (es : List Event) (v : View) (new : PlainTrac
 -- A global was set.
 pub record SetsGlobal (p : Setup) (es : List Event) (v : View) (new : PlainTrace) (g : ℕ) (before after : List Grey) : Type 0 where
   pub view : View
-  pub grows : Grows p es new (set_view g view) (Sets g)
+  pub grows : MakesEvents p es new (set_view g view) (Sets g)
   pub pushed : List Grey
   pub out : after ≡ before ++ pushed
   pub few : length pushed ≤ 1
@@ -168,7 +174,7 @@ pub record SetsGlobal (p : Setup) (es : List Event) (v : View) (new : PlainTrace
 -- The row after a trace that made these events. Each block that was taken to copy into is the last one of a worker, is
 -- sparse, or has more than 2,048 words of targets. Each was the lowest Free one that was left.
 pub record IsTraced (p : Setup) (es : List Event) (v : View) (traced : Traced) : Type 0 where
-  pub trace : IsTrace p es
+  pub trace : IsTracing p es
   pub run : IsRunOf p traced.run
   pub row : state_of traced.row ≡ heap_after p es
   pub holds : Holds p (machine_after p es) v

@@ -9,11 +9,11 @@ ghost use Rattle.heap_layout.specs.Zones.{block_start};
 ghost use Rattle.heap_layout.specs.declared.block.Kind.TheVariants as kinds;
 ghost use Rattle.object_model.specs.declared.shape.TheConstants.{MAX_MEDIUM_WORDS};
 ghost use Rattle.object_model.specs.Objects.{IsHeld, size_of};
-ghost use Rattle.trace_core.specs.Setups.{Setup, blocks, may_move, size as size_before};
-ghost use Rattle.trace_core.specs.Machine.{Event, Cause, ByRoot, Claim as ClaimEvent};
+ghost use Rattle.trace_core.specs.Setups.{Setup, blocks, may_be_moved, size as size_before};
+ghost use Rattle.trace_core.specs.Machine.{Event, ClaimCause, ByRoot, Claim as ClaimEvent};
 ghost use Rattle.trace_core.specs.Traces.{IsAskedBy, NoneIsFree, machine_after, target_of};
 ghost use Rattle.trace_core.specs.Views.{View, claimed_view};
-ghost use Rattle.plain_tracer.specs.Tracers.{Tracks, IsTracing, ClaimsRoot, Claims, Fronts, Wins, KeepsRun};
+ghost use Rattle.plain_tracer.specs.Tracers.{Tracks, TracerHolds, ClaimsRoot, Claims, Fronts, Wins, KeepsRun};
 ghost use Rattle.trace_core.specs.Rights.{WasHeld, IsWaiting};
 
 use crate::plain_trace::PlainTrace;
@@ -30,7 +30,7 @@ impl PlainTrace {
     /// no block is Free. Else it is the front of the room (Immix's opportunistic evacuation). A
     /// block is taken only for an object that does not fit the room: the lowest Free one.
     pub fn claim(&mut self, x: u32) -> Claim
-        requires { IsTracing self.old (WasHeld x) }
+        requires { TracerHolds self.old (WasHeld x) }
         ensures claims { (p : Setup) (es : List Event) (v : View) → Tracks p es self.old v
             → IsHeld p.before x → ClaimsRoot p es v self.old self.new x
             result }
@@ -42,9 +42,9 @@ impl PlainTrace {
 
     /// Claims the object at `x`, which something asks for.
     pub(crate) fn claim_object(&mut self, layout: Layout, x: u32) -> Claim
-        requires tracing { IsTracing self.old (WasHeld x) }
+        requires tracing { TracerHolds self.old (WasHeld x) }
         requires layout { layout.blocks ≡ self.old.row.layout.blocks }
-        ensures claims { (p : Setup) (es : List Event) (v : View) (cause : Cause)
+        ensures claims { (p : Setup) (es : List Event) (v : View) (cause : ClaimCause)
             → Tracks p es self.old v → IsHeld p.before x
             → IsAskedBy p (machine_after p es) x cause → Claims p es v self.old self.new x cause
             result }
@@ -63,9 +63,9 @@ impl PlainTrace {
 
     /// Gives the object at `x` its target.
     fn win(&mut self, layout: Layout, x: u32, shape: &Shape) -> Won
-        requires tracing { IsTracing self.old (λ p es v. IsWaiting p es x shape.now) }
+        requires tracing { TracerHolds self.old (λ p es v. IsWaiting p es x shape.now) }
         requires layout { layout.blocks ≡ self.old.row.layout.blocks }
-        ensures wins { (p : Setup) (es : List Event) (v : View) (cause : Cause)
+        ensures wins { (p : Setup) (es : List Event) (v : View) (cause : ClaimCause)
             → Tracks p es self.old v → IsWaiting p es x shape.now
             → IsAskedBy p (machine_after p es) x cause
             → (taken : Option ℕ) × Wins p es v self.old self.new taken x cause result }
@@ -82,10 +82,10 @@ impl PlainTrace {
 
     /// Whether the object at `x`, of this size, may move.
     fn may_move(&self, layout: Layout, x: u32, size: u32) -> bool
-        requires tracing { IsTracing self.now (WasHeld x) }
+        requires tracing { TracerHolds self.now (WasHeld x) }
         requires layout { layout.blocks ≡ self.now.row.layout.blocks }
         ensures { (p : Setup) (es : List Event) (v : View) → Tracks p es self.now v
-            → IsHeld p.before x → size ≡ size_before p x → result ≡ may_move p x }
+            → IsHeld p.before x → size ≡ size_before p x → result ≡ may_be_moved p x }
     {
         let leaves = self.run.from[block_of(&layout, x) as usize];
         if !leaves {
@@ -102,7 +102,7 @@ impl PlainTrace {
     /// no block is Free.
     fn front(&mut self, layout: Layout, size: u32) -> Option<u32>
         requires layout { layout.blocks ≡ self.old.row.layout.blocks }
-        requires tracing { IsTracing self.old (λ p es v. p.copy ≢ kinds.Free) }
+        requires tracing { TracerHolds self.old (λ p es v. p.copy ≢ kinds.Free) }
         requires size { size ≤ MAX_MEDIUM_WORDS }
         requires some { 0 < size }
         ensures some { IfSome result (λ front. (p : Setup) (es : List Event) (v : View)
@@ -122,14 +122,14 @@ impl PlainTrace {
 
     /// Claims the object at `x`, which moves to the front of the room.
     fn win_moved(&mut self, x: u32, front: u32, shape: &Shape) -> Won
-        requires tracing { IsTracing self.old (λ p es v. IsWaiting p es x shape.now
-            × IsTrue (may_move p x) × (front ≡ block_start (blocks p) self.old.block
+        requires tracing { TracerHolds self.old (λ p es v. IsWaiting p es x shape.now
+            × IsTrue (may_be_moved p x) × (front ≡ block_start (blocks p) self.old.block
             + self.old.room.next)) }
         requires room { self.old.room.next + size_of shape.now.refs shape.now.nums
             ≤ self.old.room.end }
         ensures target { result.target ≡ front }
-        ensures wins { (p : Setup) (es : List Event) (v : View) (cause : Cause)
-            → Tracks p es self.old v → IsWaiting p es x shape.now → IsTrue (may_move p x)
+        ensures wins { (p : Setup) (es : List Event) (v : View) (cause : ClaimCause)
+            → Tracks p es self.old v → IsWaiting p es x shape.now → IsTrue (may_be_moved p x)
             → front ≡ block_start (blocks p) self.old.block + self.old.room.next
             → IsAskedBy p (machine_after p es) x cause
             → Wins p es v self.old self.new None x cause result }
@@ -148,11 +148,11 @@ impl PlainTrace {
 
     /// Claims the object at `x`, which stays in place.
     fn win_in_place(&mut self, x: u32, shape: &Shape) -> Won
-        requires { IsTracing self.old (λ p es v. IsWaiting p es x shape.now) }
+        requires { TracerHolds self.old (λ p es v. IsWaiting p es x shape.now) }
         ensures target { result.target ≡ x }
-        ensures wins { (p : Setup) (es : List Event) (v : View) (cause : Cause)
+        ensures wins { (p : Setup) (es : List Event) (v : View) (cause : ClaimCause)
             → Tracks p es self.old v → IsWaiting p es x shape.now
-            → (IsTrue (may_move p x) → NoneIsFree p (machine_after p es).taken
+            → (IsTrue (may_be_moved p x) → NoneIsFree p (machine_after p es).taken
             × (self.old.room.end < self.old.room.next + size_before p x))
             → IsAskedBy p (machine_after p es) x cause
             → Wins p es v self.old self.new None x cause result }
@@ -169,10 +169,10 @@ impl PlainTrace {
 
     /// Stores into the object at `x` that it was claimed and stays. None of its words is read.
     pub(crate) fn claim_in_place(&mut self, x: u32)
-        requires { IsTracing self.old (WasHeld x) }
-        ensures claims { (p : Setup) (es : List Event) (v : View) (cause : Cause)
+        requires { TracerHolds self.old (WasHeld x) }
+        ensures claims { (p : Setup) (es : List Event) (v : View) (cause : ClaimCause)
             → Tracks p es self.old v → IsHeld p.before x → target_of p es x ≡ None
-            → (IsTrue (may_move p x) → NoneIsFree p (machine_after p es).taken
+            → (IsTrue (may_be_moved p x) → NoneIsFree p (machine_after p es).taken
             × (self.old.room.end < self.old.room.next + size_before p x))
             → IsAskedBy p (machine_after p es) x cause
             → Tracks p (es ++ ClaimEvent x x cause ∷ []) self.new (claimed_view p x x cause v) }

@@ -6,14 +6,14 @@
 
 ghost use Rattle.std.specs.Prelude.{◌≡◌, ◌+◌, ◌*◌, ◌-◌, ◌/◌, ◌%◌, ◌^◌, ◌<◌, ◌≤◌, ◌++◌, ℕ, List, IsTrue, nat_eq, length, slice_index, slice_set};
 ghost use Rattle.std.specs.Int.{bit_at};
-ghost use Rattle.heap_layout.specs.Zones.{heap_of, IsAddress, LineWords, bit_of, row_words};
+ghost use Rattle.heap_layout.specs.Zones.{heap_of, IsAddress, LineWords, bit_of, IsRowOf};
 ghost use Rattle.side_meta.specs.BitWords.{with_bit};
 ghost use Rattle.object_model.specs.Lines.{TouchesLine};
 ghost use Rattle.trace_core.specs.Setups.{Setup, blocks};
 ghost use Rattle.trace_core.specs.Machine.{Event};
 ghost use Rattle.trace_core.specs.Views.{View, copied_view};
 ghost use Rattle.plain_tracer.specs.TokenRights.{IsWon, IsGrey};
-ghost use Rattle.plain_tracer.specs.Tracers.{Tracks, IsTracing, Grows, ChangesWords, KeepsRun};
+ghost use Rattle.plain_tracer.specs.Tracers.{Tracks, TracerHolds, MakesEvents, ChangesWords, KeepsRun};
 ghost use Rattle.trace_core.specs.CallEvents.{Marks, copying};
 ghost use Rattle.plain_tracer.specs.TokenRights.{IsMarking};
 ghost use Rattle.trace_core.specs.Rights.{IsMoving, IsCopiedHere};
@@ -26,7 +26,7 @@ impl PlainTrace {
     /// Copies a claimed object to its target, and sets the target's unlog bit and its start bit. In
     /// place it sets the unlog bit alone.
     pub fn copy(&mut self, won: Won) -> Grey
-        requires { IsTracing self.old (λ p es v. IsWon p v won) }
+        requires { TracerHolds self.old (λ p es v. IsWon p v won) }
         ensures object { result.object ≡ won.object }
         ensures target { result.target ≡ won.target }
         ensures tracks { (p : Setup) (es : List Event) (v : View) → Tracks p es self.old v
@@ -43,7 +43,7 @@ impl PlainTrace {
     /// Copies a claimed object. The layout is the row's.
     pub(crate) fn copy_with(&mut self, layout: Layout, won: Won) -> Grey
         requires layout { layout.blocks ≡ self.old.row.layout.blocks }
-        requires tracing { IsTracing self.old (λ p es v. IsWon p v won) }
+        requires tracing { TracerHolds self.old (λ p es v. IsWon p v won) }
         ensures object { result.object ≡ won.object }
         ensures target { result.target ≡ won.target }
         ensures tracks { (p : Setup) (es : List Event) (v : View) → Tracks p es self.old v
@@ -75,7 +75,7 @@ impl PlainTrace {
     /// Sets the unlog bit of a claimed object that stays: no more is left of its copying.
     pub(crate) fn copy_in_place(&mut self, layout: Layout, x: u32)
         requires layout { layout.blocks ≡ self.old.row.layout.blocks }
-        requires tracing { IsTracing self.old (IsCopiedHere x) }
+        requires tracing { TracerHolds self.old (IsCopiedHere x) }
         ensures copies { (p : Setup) (es : List Event) (v : View) → Tracks p es self.old v
             → IsCopiedHere x p es v
             → Tracks p (es ++ copying p x x) self.new (copied_view p x x v) }
@@ -86,7 +86,7 @@ impl PlainTrace {
 
     /// Copies the words of an object, and sets the unlog bit and the start bit of its copy.
     fn move_object(&mut self, layout: Layout, object: u32, target: u32, size: u32)
-        requires tracing { IsTracing self.old (IsMoving object target size) }
+        requires tracing { TracerHolds self.old (IsMoving object target size) }
         requires layout { layout.blocks ≡ self.old.row.layout.blocks }
         ensures moves { (p : Setup) (es : List Event) (v : View) → Tracks p es self.old v
             → IsMoving object target size p es v
@@ -104,7 +104,7 @@ impl PlainTrace {
     /// Whether the bit of an address is set, in a zone that has a bit for each word of the heap.
     pub(crate) fn has_bit(&self, layout: Layout, zone: u32, address: u32) -> bool
         requires layout { layout.blocks ≡ self.now.row.layout.blocks }
-        requires extent { length self.now.row.words.items ≡ row_words self.now.row.layout.blocks }
+        requires extent { IsRowOf self.now.row.layout self.now.row.words.items }
         requires address { IsAddress self.now.row.layout.blocks address }
         requires zone { zone ≤ 18 + 133 * self.now.row.layout.blocks }
         ensures { result ≡ nat_eq (bit_at (slice_index self.now.row.words.items
@@ -118,7 +118,7 @@ impl PlainTrace {
     /// Sets the bit of an address in a zone that has a bit for each word of the heap.
     fn set_bit(&mut self, layout: Layout, zone: u32, address: u32)
         requires layout { layout.blocks ≡ self.old.row.layout.blocks }
-        requires extent { length self.old.row.words.items ≡ row_words self.old.row.layout.blocks }
+        requires extent { IsRowOf self.old.row.layout self.old.row.words.items }
         requires address { IsAddress self.old.row.layout.blocks address }
         requires zone { zone ≤ 18 + 133 * self.old.row.layout.blocks }
         ensures { ChangesWords self.old self.new (slice_set self.old.row.words.items
@@ -133,9 +133,9 @@ impl PlainTrace {
 
     /// Marks the lines that an object touches after the collection.
     pub fn mark_lines(&mut self, grey: &Grey)
-        requires { IsTracing self.old (λ p es v. IsMarking p v grey.now) }
+        requires { TracerHolds self.old (λ p es v. IsMarking p v grey.now) }
         ensures grows { (p : Setup) (es : List Event) (v : View) → Tracks p es self.old v
-            → IsMarking p v grey.now → Grows p es self.new v (Marks grey.now.object) }
+            → IsMarking p v grey.now → MakesEvents p es self.new v (Marks grey.now.object) }
         ensures marked { (p : Setup) (es : List Event) (v : View) → Tracks p es self.old v
             → IsMarking p v grey.now → (k : ℕ)
             → TouchesLine (blocks p) grey.now.target grey.now.size k

@@ -5,7 +5,7 @@
 
 ghost use Rattle.std.specs.Prelude.{◌≡◌, ◌≢◌, ◌+◌, ◌<◌, ◌≤◌, ◌↔◌, ℕ, IsTrue, length, true, false, List, [], ◌∷◌, ◌++◌, map, take, if◌then◌else◌, IfOk, IfErr, IfSome, IfNone};
 ghost use Rattle.std.specs.List.{range_with_len};
-ghost use Rattle.heap_layout.specs.Zones.{row_words};
+ghost use Rattle.heap_layout.specs.Zones.{row_words, IsRowOf};
 ghost use Rattle.heap_layout.specs.declared.layout.TheConstants.{GLOBALS};
 ghost use Rattle.heap_layout.specs.declared.block.Kind.TheVariants as kinds;
 ghost use Rattle.object_model.specs.Heaps.{heap_state};
@@ -13,8 +13,8 @@ ghost use Rattle.object_model.specs.Objects.{HasKind, state_of};
 ghost use Rattle.trace_core.specs.Setups.{Setup};
 ghost use Rattle.trace_core.specs.Machine.{Event, TakeBlock};
 ghost use Rattle.trace_core.specs.Traces.{IsFinished, machine_after};
-ghost use Rattle.trace_core.specs.Views.{View, IsIdle, first_view, taken_view, left_view};
-ghost use Rattle.plain_tracer.specs.Tracers.{Tracks, IsTracing, IsTraced, TakesBlock, FindsNone, KeepsRun};
+ghost use Rattle.trace_core.specs.Views.{View, NothingIsLeft, first_view, taken_view, left_view};
+ghost use Rattle.plain_tracer.specs.Tracers.{Tracks, TracerHolds, IsTraced, TakesCopyBlock, FindsNone, KeepsRun};
 ghost use Rattle.trace_core.specs.Runs.{MayRun, setup_of, without_lines, without_unlogs};
 ghost use Rattle.trace_core.specs.Rooms.{NoneFree};
 
@@ -70,14 +70,14 @@ impl PlainTrace {
         })
     }
 
-    /// The row after the trace, and what `begin` was told. Blocks that `take_copy_block` made it
+    /// The row after the trace, and what `begin` was given. Blocks that `take_copy_block` made it
     /// leave may have few words of targets.
     pub fn close(self) -> Traced
         ensures run { result.run ≡ self.run }
         ensures traced { (p : Setup) (es : List Event) (v : View) → Tracks p es self v
             → IsTraced p es v result }
         ensures finished { (p : Setup) (es : List Event) (v : View) → Tracks p es self v
-            → IsIdle p v → IsFinished p (machine_after p es) }
+            → NothingIsLeft p v → IsFinished p (machine_after p es) }
     {
         Traced {
             row: self.row,
@@ -88,7 +88,7 @@ impl PlainTrace {
     /// Takes the lowest Free block to copy into, and gives up the rest of the last one. `None` if
     /// no block is Free.
     pub fn take_copy_block(&mut self) -> Option<u32>
-        requires tracing { IsTracing self.old (λ p es v. Unit {0}) }
+        requires tracing { TracerHolds self.old (λ p es v. Unit {0}) }
         requires copies { self.old.run.copy_kind ≢ kinds.Free }
         ensures free { IfSome result (λ b. HasKind (state_of self.old.row) b kinds.Free) }
         ensures lowest { IfSome result (λ b. (c : ℕ) → c < b
@@ -131,9 +131,9 @@ impl PlainTrace {
 
     /// Takes the first Free block from the next one on.
     pub(crate) fn take_block(&mut self) -> Option<u32>
-        requires tracing { IsTracing self.old (λ p es v. Unit {0}) }
+        requires tracing { TracerHolds self.old (λ p es v. Unit {0}) }
         requires copies { self.old.run.copy_kind ≢ kinds.Free }
-        ensures some { IfSome result (λ b. TakesBlock self.old self.new b) }
+        ensures some { IfSome result (λ b. TakesCopyBlock self.old self.new b) }
         ensures none { IfNone result (FindsNone self.old self.new) }
     {
         let Some(block) = self.next_free() else {
@@ -157,7 +157,7 @@ impl PlainTrace {
 
     /// The first Free block from the next one on.
     fn next_free(&self) -> Option<u32>
-        requires { IsTracing self.now (λ p es v. Unit {0}) }
+        requires { TracerHolds self.now (λ p es v. Unit {0}) }
         ensures some { IfSome result (λ b. (self.now.next_block ≤ b)
             × HasKind (state_of self.now.row) b kinds.Free
             × ((c : ℕ) → self.now.next_block ≤ c → c < b
@@ -175,7 +175,7 @@ impl PlainTrace {
 
     /// Whether a block is Free.
     fn is_free(&self, block: u32) -> bool
-        requires extent { length self.now.row.words.items ≡ row_words self.now.row.layout.blocks }
+        requires extent { IsRowOf self.now.row.layout self.now.row.words.items }
         requires block { block < self.now.row.layout.blocks }
         ensures { IsTrue result ↔ HasKind (state_of self.now.row) block kinds.Free }
     {

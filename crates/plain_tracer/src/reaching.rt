@@ -8,12 +8,12 @@ ghost use Rattle.std.specs.Prelude.{◌≡◌, ◌≢◌, ◌+◌, ◌<◌, ◌�
 ghost use Rattle.heap_layout.specs.Zones.{bit_of, LineWords};
 ghost use Rattle.object_model.specs.Objects.{IsHeld};
 ghost use Rattle.object_model.specs.Lines.{TouchesLine};
-ghost use Rattle.trace_core.specs.Setups.{Setup, blocks, may_move};
-ghost use Rattle.trace_core.specs.Machine.{Event, Cause};
+ghost use Rattle.trace_core.specs.Setups.{Setup, blocks, may_be_moved};
+ghost use Rattle.trace_core.specs.Machine.{Event, ClaimCause};
 ghost use Rattle.trace_core.specs.Traces.{IsAskedBy, machine_after};
 ghost use Rattle.trace_core.specs.Views.{View, times};
 ghost use Rattle.plain_tracer.specs.TokenRights.{IsGrey, IsReached, grey_of};
-ghost use Rattle.plain_tracer.specs.Tracers.{Tracks, IsTracing, Forwards, ScansField, ScansFields, SetsGlobal, KeepsRun};
+ghost use Rattle.plain_tracer.specs.Tracers.{Tracks, TracerHolds, Forwards, ScansField, ScansFields, SetsGlobal, KeepsRun};
 ghost use Rattle.trace_core.specs.Rights.{WasHeld, StaysHere, IsReferred};
 ghost use Rattle.trace_core.specs.CallEvents.{IsNoRoot};
 ghost use Rattle.plain_tracer.specs.TokenRights.{IsNextField};
@@ -26,7 +26,7 @@ use object_model::{Collect, HEADER_WORDS, size_words};
 impl PlainTrace {
     /// The token with the shape of its object.
     pub fn grey(&self, reached: Reached) -> Grey
-        requires { IsTracing self.now (λ p es v. IsReached p v reached) }
+        requires { TracerHolds self.now (λ p es v. IsReached p v reached) }
         ensures { (p : Setup) (es : List Event) (v : View) → Tracks p es self.now v
             → IsReached p v reached → result ≡ grey_of p reached }
     {
@@ -44,7 +44,7 @@ impl PlainTrace {
     ///
     /// It takes no memory: `out` has room for as many tokens as the object has references.
     pub fn reach_fields(&mut self, grey: Grey, out: &mut Vec<Reached>)
-        requires tracing { IsTracing self.old (λ p es v. IsGrey p v grey × (v.won ≡ [])) }
+        requires tracing { TracerHolds self.old (λ p es v. IsGrey p v grey × (v.won ≡ [])) }
         requires room { vec_len out.old + grey.refs ≤ vec_capacity out.old }
         ensures scans { (p : Setup) (es : List Event) (v : View) → Tracks p es self.old v
             → IsGrey p v grey → v.won ≡ []
@@ -66,7 +66,7 @@ impl PlainTrace {
 
     /// Scans the fields of an object.
     fn reach_each(&mut self, grey: &Grey, out: &mut Vec<Reached>)
-        requires tracing { IsTracing self.old (λ p es v. IsGrey p v grey.now × (v.won ≡ [])) }
+        requires tracing { TracerHolds self.old (λ p es v. IsGrey p v grey.now × (v.won ≡ [])) }
         requires room { vec_len out.old + grey.now.refs ≤ vec_capacity out.old }
         ensures scans { (p : Setup) (es : List Event) (v : View) → Tracks p es self.old v
             → IsGrey p v grey.now → v.won ≡ []
@@ -83,7 +83,7 @@ impl PlainTrace {
     /// Scans one field of an object, whose earlier fields are scanned. A field whose reference
     /// stays is not written, so its cache line stays clean.
     fn reach_field(&mut self, grey: &Grey, field: u32, out: &mut Vec<Reached>)
-        requires tracing { IsTracing self.old
+        requires tracing { TracerHolds self.old
             (λ p es v. IsNextField p v grey.now field × (v.won ≡ [])) }
         requires room { vec_len out.old < vec_capacity out.old }
         ensures scans { (p : Setup) (es : List Event) (v : View) → Tracks p es self.old v
@@ -106,7 +106,7 @@ impl PlainTrace {
     ///
     /// It takes no memory: `out` has room for one token.
     pub fn reach_global(&mut self, root: GlobalRoot, out: &mut Vec<Reached>)
-        requires tracing { IsTracing self.old
+        requires tracing { TracerHolds self.old
             (λ p es v. (0 < times root.global v.unset) × (v.won ≡ [])) }
         requires room { vec_len out.old < vec_capacity out.old }
         ensures sets { (p : Setup) (es : List Event) (v : View) → Tracks p es self.old v
@@ -127,10 +127,10 @@ impl PlainTrace {
     /// The last value of a field or global: the target of what it refers to, or nil. Claims and
     /// copies that object, and pushes its token if nothing claimed it before.
     fn reach(&mut self, reference: u32, out: &mut Vec<Reached>) -> u32
-        requires tracing { IsTracing self.old
+        requires tracing { TracerHolds self.old
             (λ p es v. IsReferred reference p es v × (v.won ≡ [])) }
         requires room { vec_len out.old < vec_capacity out.old }
-        ensures reaches { (p : Setup) (es : List Event) (v : View) (cause : Cause)
+        ensures reaches { (p : Setup) (es : List Event) (v : View) (cause : ClaimCause)
             → Tracks p es self.old v → IsReferred reference p es v → v.won ≡ []
             → IsNoRoot reference cause → IsAskedBy p (machine_after p es) reference cause
             → Forwards p es v self.new reference result cause (map (grey_of p) out.old.items)
@@ -163,7 +163,7 @@ impl PlainTrace {
     /// Whether the collection is a full one, and the object at `x` lies in a block whose objects
     /// stay.
     fn stays(&self, layout: Layout, x: u32) -> bool
-        requires tracing { IsTracing self.now (WasHeld x) }
+        requires tracing { TracerHolds self.now (WasHeld x) }
         requires layout { layout.blocks ≡ self.now.row.layout.blocks }
         ensures { IsTrue result → (p : Setup) (es : List Event) (v : View)
             → Tracks p es self.now v → IsHeld p.before x → v.won ≡ [] → StaysHere p v x }
@@ -178,10 +178,10 @@ impl PlainTrace {
     /// not read, so nothing waits for its cache line.
     fn reach_in_place(&mut self, layout: Layout, x: u32, out: &mut Vec<Reached>)
         requires layout { layout.blocks ≡ self.old.row.layout.blocks }
-        requires tracing { IsTracing self.old (λ p es v. StaysHere p v x) }
+        requires tracing { TracerHolds self.old (λ p es v. StaysHere p v x) }
         requires some { x ≢ 0 }
         requires room { vec_len out.old < vec_capacity out.old }
-        ensures reaches { (p : Setup) (es : List Event) (v : View) (cause : Cause)
+        ensures reaches { (p : Setup) (es : List Event) (v : View) (cause : ClaimCause)
             → Tracks p es self.old v → StaysHere p v x → IsNoRoot x cause
             → IsAskedBy p (machine_after p es) x cause
             → Forwards p es v self.new x x cause (map (grey_of p) out.old.items)

@@ -8,11 +8,11 @@ ghost use Rattle.std.specs.Prelude.{◌≡◌, ◌+◌, ◌<◌, ◌≤◌, ℕ,
 ghost use Rattle.heap_layout.specs.Zones.{bit_of, LineWords};
 ghost use Rattle.object_model.specs.Lines.{TouchesLine};
 ghost use Rattle.trace_core.specs.Setups.{Setup, blocks};
-ghost use Rattle.trace_core.specs.Machine.{Event, Cause};
+ghost use Rattle.trace_core.specs.Machine.{Event, ClaimCause};
 ghost use Rattle.trace_core.specs.Traces.{IsAskedBy, machine_after};
 ghost use Rattle.trace_core.specs.Views.{View, times};
 ghost use Rattle.plain_tracer.specs.TokenRights.{IsGrey};
-ghost use Rattle.plain_tracer.specs.Tracers.{Tracks, IsTracing, Forwards, ScansField, ScansFields, SetsGlobal, ChangesWords, KeepsRun};
+ghost use Rattle.plain_tracer.specs.Tracers.{Tracks, TracerHolds, Forwards, ScansField, ScansFields, SetsGlobal, ChangesWords, KeepsRun};
 ghost use Rattle.trace_core.specs.Rights.{IsReferred};
 ghost use Rattle.trace_core.specs.CallEvents.{IsNoRoot};
 ghost use Rattle.plain_tracer.specs.TokenRights.{IsNextField};
@@ -28,7 +28,7 @@ impl PlainTrace {
     ///
     /// It takes no memory: `out` has room for as many tokens as the object has references.
     pub fn scan_object(&mut self, grey: Grey, out: &mut Vec<Grey>)
-        requires tracing { IsTracing self.old (λ p es v. IsGrey p v grey) }
+        requires tracing { TracerHolds self.old (λ p es v. IsGrey p v grey) }
         requires room { vec_len out.old + grey.refs ≤ vec_capacity out.old }
         ensures scans { (p : Setup) (es : List Event) (v : View) → Tracks p es self.old v
             → IsGrey p v grey
@@ -50,7 +50,7 @@ impl PlainTrace {
 
     /// Scans the fields of an object.
     fn scan_fields(&mut self, grey: &Grey, out: &mut Vec<Grey>)
-        requires tracing { IsTracing self.old (λ p es v. IsGrey p v grey.now) }
+        requires tracing { TracerHolds self.old (λ p es v. IsGrey p v grey.now) }
         requires room { vec_len out.old + grey.now.refs ≤ vec_capacity out.old }
         ensures scans { (p : Setup) (es : List Event) (v : View) → Tracks p es self.old v
             → IsGrey p v grey.now
@@ -67,7 +67,7 @@ impl PlainTrace {
     /// Scans one field of an object, whose earlier fields are scanned. A field whose reference
     /// stays is not written, so its cache line stays clean.
     fn scan_field(&mut self, grey: &Grey, field: u32, out: &mut Vec<Grey>)
-        requires tracing { IsTracing self.old (λ p es v. IsNextField p v grey.now field) }
+        requires tracing { TracerHolds self.old (λ p es v. IsNextField p v grey.now field) }
         requires room { vec_len out.old < vec_capacity out.old }
         ensures scans { (p : Setup) (es : List Event) (v : View) → Tracks p es self.old v
             → IsNextField p v grey.now field
@@ -88,7 +88,7 @@ impl PlainTrace {
     ///
     /// It takes no memory: `out` has room for one token.
     pub fn trace_global(&mut self, root: GlobalRoot, out: &mut Vec<Grey>)
-        requires tracing { IsTracing self.old (λ p es v. 0 < times root.global v.unset) }
+        requires tracing { TracerHolds self.old (λ p es v. 0 < times root.global v.unset) }
         requires room { vec_len out.old < vec_capacity out.old }
         ensures sets { (p : Setup) (es : List Event) (v : View) → Tracks p es self.old v
             → 0 < times root.global v.unset
@@ -115,9 +115,9 @@ impl PlainTrace {
     /// The last value of a field or global: the target of what it refers to, or nil. Claims and
     /// copies that object, and pushes its token if it won.
     fn follow(&mut self, reference: u32, out: &mut Vec<Grey>) -> u32
-        requires tracing { IsTracing self.old (IsReferred reference) }
+        requires tracing { TracerHolds self.old (IsReferred reference) }
         requires room { vec_len out.old < vec_capacity out.old }
-        ensures follows { (p : Setup) (es : List Event) (v : View) (cause : Cause)
+        ensures follows { (p : Setup) (es : List Event) (v : View) (cause : ClaimCause)
             → Tracks p es self.old v → IsReferred reference p es v → IsNoRoot reference cause
             → IsAskedBy p (machine_after p es) reference cause
             → Forwards p es v self.new reference result cause out.old.items out.new.items }

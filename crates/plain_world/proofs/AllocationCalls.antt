@@ -11,7 +11,7 @@ use Rattle.mutator_calls.specs.declared.need.NeedCause.{NeedCause}
 use Rattle.mutator_calls.specs.declared.need.NeedCause.TheVariants.{Large, Budget}
 use Rattle.mutator_calls.specs.declared.need.Allocated.{Allocated}
 use Rattle.mutator_calls.specs.declared.need.Allocated.TheVariants.{Made, Stop}
-use Rattle.mutator_calls.proofs.Finding.{finds-later}
+use Rattle.mutator_calls.proofs.RoomFoundLater.{finds-later}
 use Rattle.mutator_calls.specs.Allocating.{Books, FindsRoom, IsCause, MatchAllocated}
 use Rattle.plain_row.specs.declared.plain_row.PlainRow.{PlainRow}
 use Rattle.local_allocators.specs.declared.local_seat.LocalSeat.{LocalSeat}
@@ -19,7 +19,7 @@ use Rattle.block_regions.specs.declared.block_notes.BlockNote.{BlockNote}
 use Rattle.block_regions.specs.declared.block_notes.BlockNote.TheVariants.{Unowned, Owned}
 use Rattle.plan_api.specs.declared.cursors.Cursors.{Cursors}
 use Rattle.plan_api.specs.Cursors.{TriesOverflow, PlacesInRegion}
-use Rattle.plain_row.specs.Rows.{number_of, births_of, registers_of, seat_at_turn, regions_at_turn, view_of}
+use Rattle.plain_row.specs.Rows.{mutator_number, births_of, registers_of, seat_at_turn, regions_at_turn, view_of}
 use Rattle.local_allocators.specs.Seats.{ticket_of, block_of}
 use Rattle.local_allocators.specs.MutatorRegions.{FillsLines, cursors_of, GoesOver, KeepsOthers, TriesBlock, LacksBlock, LacksRegions, MayLeaveClass}
 use Rattle.local_allocators.specs.NotedRegions.{regions_of}
@@ -27,7 +27,7 @@ use Rattle.local_allocators.specs.Placing.{IsPlacedIn}
 use Rattle.plain_row.proofs.Turns.{block-one}
 use Rattle.mutator_calls.specs.Effects.{nothing}
 use Rattle.plain_row.specs.Worlds.{Goes}
-use Rattle.plain_row.specs.Steps.{Lacks, HasBudget, books_of, IsOffer, Offers, LeavesClass, PlacesObject}
+use Rattle.plain_row.specs.Steps.{Lacks, HasBudget, books_of, IsOffer, Offers, LeavesClass, PlacesAtRegion}
 
 pub allocated-weaker : {P P' : Name → Type 0} {Q Q' : Need → Type 0} (r : Allocated) → ((n : Name) → P n → P' n) → ((need : Need) → Q need → Q' need)
     → MatchAllocated r P Q → MatchAllocated r P' Q'
@@ -41,10 +41,10 @@ allocated-both (Stop need) is = is
 
 -- the same, by the place of the mutator
 abbrev pub LacksAt : PlainRow → ℕ → ℕ → ℕ → Type 0
-LacksAt b m size k = LacksBlock b.fill (regions_of b.notes.items (slice_get b.seats.items m)) (state_of b.row) (number_of (slice_get b.mutators.items m)) size k
+LacksAt b m size k = LacksBlock b.fill (regions_of b.notes.items (slice_get b.seats.items m)) (state_of b.row) (mutator_number (slice_get b.mutators.items m)) size k
 
 abbrev pub FullAt : PlainRow → ℕ → ℕ → Type 0
-FullAt b m size = LacksRegions b.fill (regions_of b.notes.items (slice_get b.seats.items m)) (state_of b.row) (number_of (slice_get b.mutators.items m)) size
+FullAt b m size = LacksRegions b.fill (regions_of b.notes.items (slice_get b.seats.items m)) (state_of b.row) (mutator_number (slice_get b.mutators.items m)) size
 
 abbrev pub books_for : PlainRow → ℕ → Books
 books_for b m = record {
@@ -119,7 +119,7 @@ rest-kept fill then size before n0 s0 n1 s1 n2 s2 same are first next = record {
     outof is = (sym same ∙ is.lines, subst (λ c. TriesOverflow c size) (sym are) is.tried)
 
 -- where the new object lies
-pub placed-at : (a mid b : PlainRow) (m d size : ℕ) → b.turn ≡ m → b.fill ≡ a.fill → Offers (record a { turn = m }) mid size → PlacesObject mid b d size
+pub placed-at : (a mid b : PlainRow) (m d size : ℕ) → b.turn ≡ m → b.fill ≡ a.fill → Offers (record a { turn = m }) mid size → PlacesAtRegion mid b d size
     → IsPlacedIn (view_of a m) (view_of b m) (slice_index (registers_of (slice_get b.mutators.items m)) d) size
 placed-at a mid b m d size turn fill offers places =
     let block : offers.block ≡ places.block
@@ -130,12 +130,12 @@ placed-at a mid b m d size turn fill offers places =
       block = places.block;
       offset = places.region.next;
       place = ap (λ t. slice_index (registers_of (slice_get b.mutators.items t)) d) (sym turn) ∙ places.address;
-      owner = places.owner ∙ ap (λ t. number_of (slice_get b.mutators.items t)) turn;
+      owner = places.owner ∙ ap (λ t. mutator_number (slice_get b.mutators.items t)) turn;
       current = subst (λ t. TriesBlock b.fill (regions_of b.notes.items (slice_get b.seats.items t)) size places.block) turn places.current;
       cell = places.cell;
       spot = subst (λ k. IsOffer (record a { turn = m }) k places.region.next size) block
           (subst (λ r. IsOffer (record a { turn = m }) offers.block r.next size) region offers.offer);
-      class = elim offers.class as (λ _. MayLeaveClass a.fill (regions_of a.notes.items (slice_get a.seats.items m)) (state_of a.row) (number_of (slice_get a.mutators.items m))
+      class = elim offers.class as (λ _. MayLeaveClass a.fill (regions_of a.notes.items (slice_get a.seats.items m)) (state_of a.row) (mutator_number (slice_get a.mutators.items m))
           size places.block ⊎ (block_of (slice_get b.seats.items m) (class_for b.fill size) ≡ Some places.block)) [
             | inl leaves ↦ inl (subst (λ k. LeavesClass (record a { turn = m }) size k) block leaves)
             | inr is ↦ inr (ap (λ t. block_of (slice_get b.seats.items t) (class_for b.fill size)) (sym turn) ∙ places.blocks (class_for b.fill size)

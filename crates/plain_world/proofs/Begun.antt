@@ -16,7 +16,7 @@ use Rattle.plan_api.specs.Counting.{session_counts}
 use Rattle.plan_api.specs.Flags.{flags_of, has_cells}
 use Rattle.mutator_core.specs.Machine.{Epoch, first_local, first_local_of}
 use Rattle.heap_layout.specs.declared.block.Kind.TheVariants as kinds
-use Rattle.mutator_core.specs.Epochs.{IsReady, is_filled}
+use Rattle.mutator_core.specs.Epochs.{EpochMayBegin, is_filled}
 use Rattle.mutator_calls.specs.declared.need.Mutator.{Mutator}
 use Rattle.plain_row.specs.declared.plain_row.PlainRow.{PlainRow}
 use Rattle.local_allocators.specs.declared.local_seat.LocalSeat.{LocalSeat}
@@ -26,7 +26,7 @@ use Rattle.heap_users.specs.Users.{mutator_state}
 use Rattle.local_allocators.specs.Seats.{ticket_of}
 use Rattle.block_regions.specs.Notes.{FillsHoles, HasNotes, ListsOwned, AreUnowned, AreNotes}
 use Rattle.heap_users.specs.Beginnings.{MayUse, without_stop, epoch_of}
-use Rattle.plain_row.specs.Worlds.{HasState, HasCursors, HasLists, IsAt, IsAfter, IsIdle}
+use Rattle.plain_row.specs.Worlds.{HasState, HasCursors, HasLists, IsAt, IsAfter, RowIsBetweenCalls}
 use Rattle.block_regions.proofs.Lists.{get-map, get-copy}
 use Rattle.block_regions.proofs.NoteLemmas.{notes-after}
 use Rattle.local_allocators.proofs.OwnedLists.{lists-none}
@@ -106,7 +106,7 @@ module _ (r : Rules) (s : HeapState) (ms : List MutatorState) (w : PlainRow) (be
   abbrev p : Epoch
   p = epoch_of r s ms
 
-  ready : IsReady p
+  ready : EpochMayBegin p
   ready = record {
     lawful = cleared.lawful-cleared s lawful;
     remembers = cleared.remembers-cleared s lawful r remembers;
@@ -167,7 +167,7 @@ module _ (r : Rules) (s : HeapState) (ms : List MutatorState) (w : PlainRow) (be
   pub after-begun : (i : IdealHeap) → Represents s ms i → IsAfter p i [] w
   after-begun i stands = record { log = []; at = at-begun i stands; history = refl }
 
-  pub idle-begun : IsIdle w
+  pub idle-begun : RowIsBetweenCalls w
   idle-begun = record {
     some = record { epoch = p; ideal = (some-ideal s ms lawful may).0; log = []; at = at-begun (some-ideal s ms lawful may).0 (some-ideal s ms lawful may).1 };
     filled = λ k owner region is. absurd (begun.are.unowned k owner region (ap (λ v. slice_get v.items k) (sym begun.notes) ∙ is));

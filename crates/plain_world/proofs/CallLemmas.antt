@@ -19,7 +19,7 @@ use Rattle.mutator_calls.specs.Effects.{Effect}
 use Rattle.plain_row.specs.declared.plain_row.PlainRow.{PlainRow}
 use Rattle.local_allocators.specs.declared.local_seat.LocalSeat.{LocalSeat}
 use Rattle.block_regions.specs.declared.block_notes.BlockNote.{BlockNote}
-use Rattle.plain_row.specs.Rows.{address_at, number_of, births_of}
+use Rattle.plain_row.specs.Rows.{address_at, mutator_number, births_of}
 use Rattle.local_allocators.specs.Seats.{ticket_of, block_of}
 use Rattle.heap_users.specs.Users.{mutator_state}
 use Rattle.block_regions.specs.Notes.{IsRegionOf}
@@ -27,8 +27,8 @@ use Rattle.local_allocators.specs.MutatorRegions.{KeepsRegions}
 use Rattle.local_allocators.specs.NotedRegions.{region_of, region_noted, regions_of}
 use Rattle.block_regions.proofs.Lists.{get-some, get-below}
 use Rattle.plain_row.proofs.Turns as turns
-use Rattle.plain_row.specs.Steps.{IsBarred}
-use Rattle.plain_row.specs.Worlds.{IsAt, IsIdle, IsAfter, Goes, births_in}
+use Rattle.plain_row.specs.Steps.{MayStoreUnlogged}
+use Rattle.plain_row.specs.Worlds.{IsAt, RowIsBetweenCalls, IsAfter, Goes, births_in}
 use Rattle.mutator_core.proofs.Regions.{history-append}
 
 -- whose turn it is says nothing of the epoch
@@ -49,7 +49,7 @@ at-turn p i log a m at = record {
 }
 
 -- the mutators keep their places
-pub places-same : (a b : PlainRow) (m : ℕ) (e : Effect) → IsIdle a → Goes (record a { turn = m }) e b
+pub places-same : (a b : PlainRow) (m : ℕ) (e : Effect) → RowIsBetweenCalls a → Goes (record a { turn = m }) e b
     → (length b.mutators.items ≡ length a.mutators.items) × (map (λ x. x.number) b.mutators.items ≡ map (λ x. x.number) a.mutators.items)
 places-same a b m e idle goes =
     let now = goes.steps idle.some.epoch idle.some.ideal idle.some.log (at-turn idle.some.epoch idle.some.ideal idle.some.log a m idle.some.at) in
@@ -59,14 +59,14 @@ places-same a b m e idle goes =
     )
 
 -- and the plan its rules
-pub young-same : (a b : PlainRow) (m : ℕ) (e : Effect) → IsIdle a → Goes (record a { turn = m }) e b → b.young ≡ a.young
+pub young-same : (a b : PlainRow) (m : ℕ) (e : Effect) → RowIsBetweenCalls a → Goes (record a { turn = m }) e b → b.young ≡ a.young
 young-same a b m e idle goes =
     let now = goes.steps idle.some.epoch idle.some.ideal idle.some.log (at-turn idle.some.epoch idle.some.ideal idle.some.log a m idle.some.at) in
     now.at.young ∙ sym idle.some.at.young
 
 -- the history gains the entries of the effect
 pub history-gains : (a b : PlainRow) (m : ℕ) (e : Effect) → Goes (record a { turn = m }) e b → (p : Epoch) (i : IdealHeap) (part : List Entry) → IsAfter p i part a
-    → IsAfter p i (part ++ map (λ x. entry (number_of (slice_get a.mutators.items m)) x.command x.reply) e.entries) b
+    → IsAfter p i (part ++ map (λ x. entry (mutator_number (slice_get a.mutators.items m)) x.command x.reply) e.entries) b
 history-gains a b m e goes p i part is =
     let more = goes.steps p i is.log (at-turn p i is.log a m is.at) in record {
       log = is.log ++ more.more;
@@ -91,21 +91,21 @@ stop-cases w p i log at =
     ]
 
 -- so one that is not 0 is the number of a mutator
-pub stop-known : (b : PlainRow) (n : ℕ) → IsIdle b → word_at (state_of b.row) 0 ≡ n → n ≢ 0 → Contains (numbers_of (map mutator_state b.mutators.items)) n
+pub stop-known : (b : PlainRow) (n : ℕ) → RowIsBetweenCalls b → word_at (state_of b.row) 0 ≡ n → n ≢ 0 → Contains (numbers_of (map mutator_state b.mutators.items)) n
 stop-known b n idle is some = elim (stop-cases b idle.some.epoch idle.some.ideal idle.some.log idle.some.at) as (λ _. Contains (numbers_of (map mutator_state b.mutators.items)) n) [
   | inl none ↦ absurd (some (sym is ∙ none))
   | inr known ↦ subst (Contains (numbers_of (map mutator_state b.mutators.items))) is known
 ]
 
 -- what may be stored without logging is not old and unlogged
-pub unbarred : (w : PlainRow) (s : ℕ) → IsBarred w s → w.young ≡ true → is_old (state_of w.row) (address_at w s) ≡ true
+pub unbarred : (w : PlainRow) (s : ℕ) → MayStoreUnlogged w s → w.young ≡ true → is_old (state_of w.row) (address_at w s) ≡ true
     → is_unlogged (state_of w.row) (address_at w s) ≡ true → ⊥
 unbarred w s (inl none) young old unlogged = let wrong : true ≡ false = sym young ∙ none in cc
 unbarred w s (inr (inl none)) young old unlogged = let wrong : true ≡ false = sym old ∙ none in cc
 unbarred w s (inr (inr none)) young old unlogged = let wrong : true ≡ false = sym unlogged ∙ none in cc
 
 -- each object stays, with its header
-pub objects-after : (a b : PlainRow) (m : ℕ) (e : Effect) → IsIdle a → Goes (record a { turn = m }) e b → (x : ℕ) → IsHeld (state_of a.row) x
+pub objects-after : (a b : PlainRow) (m : ℕ) (e : Effect) → RowIsBetweenCalls a → Goes (record a { turn = m }) e b → (x : ℕ) → IsHeld (state_of a.row) x
     → IsHeld (state_of b.row) x × ((j : ℕ) → j < 3 → word_at (state_of b.row) (x + j) ≡ word_at (state_of a.row) (x + j))
 objects-after a b m e idle goes x holds =
     let now = idle.some in
@@ -137,7 +137,7 @@ region-stays notes later None same = refl
 region-stays notes later (Some d) same = ap region_noted (same d refl)
 
 -- of another mutator all stays: number, births and registers, its seat, and its regions
-module _ (a b : PlainRow) (m : ℕ) (e : Effect) (idle : IsIdle a) (place : m < length a.mutators.items) (goes : Goes (record a { turn = m }) e b) (k : ℕ) (other : k ≢ m) where
+module _ (a b : PlainRow) (m : ℕ) (e : Effect) (idle : RowIsBetweenCalls a) (place : m < length a.mutators.items) (goes : Goes (record a { turn = m }) e b) (k : ℕ) (other : k ≢ m) where
   -- a block that it owns keeps its note
   block-stays : (x : LocalSeat) → slice_get a.seats.items k ≡ Some x → (d : ℕ) → ((q : Mutator) → slice_get a.mutators.items k ≡ Some q → IsRegionOf a.notes.items q.number d)
       → slice_get b.notes.items d ≡ slice_get a.notes.items d
@@ -149,7 +149,7 @@ module _ (a b : PlainRow) (m : ℕ) (e : Effect) (idle : IsIdle a) (place : m < 
       let mine = get-some a.mutators.items m place in
       let has = owns theirs.0 theirs.1 in
       goes.foreign d theirs.0.number has.region
-      (λ same. other (turns.differ now.epoch now.ideal now.log a now.at k m theirs.0 mine.0 theirs.1 mine.1 (same ∙ ap number_of mine.1))) has.note ∙ sym has.note
+      (λ same. other (turns.differ now.epoch now.ideal now.log a now.at k m theirs.0 mine.0 theirs.1 mine.1 (same ∙ ap mutator_number mine.1))) has.note ∙ sym has.note
 
   seat-keeps : (o : Option LocalSeat) → slice_get a.seats.items k ≡ o → KeepsRegions (regions_of a.notes.items o) (regions_of b.notes.items o)
   seat-keeps None sits = record { classes = λ class. record { block = refl; region = refl }; over = record { block = refl; region = refl } }

@@ -30,7 +30,7 @@ use Rattle.mutator_core.specs.Machine.{Epoch, Machine, mutator_of}
 use Rattle.mutator_core.specs.Logs.{machine_after, heap_after, mutators_after, local_after_log, history_of, AreBetweenCalls}
 use Rattle.mutator_core.specs.Guards.{allowance}
 use Rattle.mutator_core.specs.Epochs.{IsOwned, IsMade}
-use Rattle.mutator_core.specs.Tickets.{AreCounted, tickets_in, tickets_below, taken_by, smaller}
+use Rattle.mutator_core.specs.Tickets.{TicketsAreCounted, tickets_in, tickets_below, taken_by, smaller}
 use Rattle.mutator_core.specs.Closing.{GivesBack}
 use Rattle.mutator_core.proofs.Sums.{free-most}
 use Rattle.mutator_core.proofs.Lists.{contains-cases, contains-none}
@@ -48,15 +48,15 @@ use Rattle.block_regions.specs.declared.block_notes.BlockNote.{BlockNote}
 use Rattle.block_regions.specs.declared.block_notes.BlockNote.TheVariants.{Unowned, Owned}
 use Rattle.heap_users.specs.Users.{mutator_state}
 use Rattle.local_allocators.specs.Seats.{ticket_of}
-use Rattle.block_regions.specs.Notes.{FillsHoles, IsNote, IsOwnedNote, AreFilled}
+use Rattle.block_regions.specs.Notes.{FillsHoles, IsBlockNote, IsOwnedNote, AreFilled}
 use Rattle.block_regions.specs.Regions.{IsRegionIn}
-use Rattle.plain_row.specs.Worlds.{HasState, IsAt, IsInEpoch}
+use Rattle.plain_row.specs.Worlds.{HasState, IsAt, IsInSomeEpoch}
 use Rattle.block_regions.proofs.LineRegions.{here-some}
 use Rattle.block_regions.proofs.Regions.{fills-cases, region-some}
 use Rattle.block_regions.proofs.Lists.{get-some, get-below}
 use Rattle.plain_row.proofs.Turns.{seat, note-right, owned-note, most-blocks, extent}
 use Rattle.block_regions.proofs.PlacedNotes.{filled-code}
-use Rattle.plain_row.proofs.Facts as facts
+use Rattle.plain_row.proofs.EpochFacts as facts
 
 -- the mutator with a number of the list
 pub member : (ms : List Mutator) (n : ℕ) → Contains (map (λ m. m.number) ms) n → (k : ℕ) × (m : Mutator) × (slice_get ms k ≡ Some m) × (m.number ≡ n)
@@ -155,7 +155,7 @@ module _ (p : Epoch) (i : IdealHeap) (log : List LogEntry) (w : PlainRow) (at : 
       of-note : (m : ℕ) (o : OwnedBlock) → HasKind p.before o.block kinds.Free → owner_at (heap_after p log) o.block ≡ m → 0 < m → (note : BlockNote) → slice_get w.notes.items o.block ≡ Some note
           → (x : Extent) × Contains (h.locals m).made x × (block_at p.before.blocks x.address ≡ o.block)
       of-note m o free own some (Unowned least) is = absurd (
-          let right : IsNote w.fill (heap_after p log) o.block (Unowned least) = subst (λ (t : HeapState). IsNote w.fill t o.block (Unowned least)) at.heap (note-right p i log w at o.block (Unowned least) is) in
+          let right : IsBlockNote w.fill (heap_after p log) o.block (Unowned least) = subst (λ (t : HeapState). IsBlockNote w.fill t o.block (Unowned least)) at.heap (note-right p i log w at o.block (Unowned least) is) in
           let none : owner_at (heap_after p log) o.block ≡ 0 = right.owner in omega arith)
       of-note m o free own some (Owned owner region) is =
           let right : IsOwnedNote w.fill (heap_after p log) o.block owner region = subst (λ (t : HeapState). IsOwnedNote w.fill t o.block owner region) at.heap (owned-note p i log w at o.block owner region is) in
@@ -171,7 +171,7 @@ module _ (p : Epoch) (i : IdealHeap) (log : List LogEntry) (w : PlainRow) (at : 
       let state : HasState k.1 found.0 (h.locals m) = subst (λ (n : ℕ). HasState k.1 found.0 (h.locals n)) k.3 (at.each k.0 k.1 found.0 k.2 found.1) in
       record { none = state.none; stored = state.stored; used = used filled m }
 
-  counted : AreCounted p (heap_after p log) (local_after_log p log)
+  counted : TicketsAreCounted p (heap_after p log) (local_after_log p log)
   counted = log-counted p i log at.epoch
 
   budget : word_at (heap_after p log) 1 ≡ word_at (state_of w.row) 1
@@ -249,7 +249,7 @@ are-few p i log w at =
     let now : free_of p.before + sum_by (λ x. tickets_in x.ticket) w.seats.items ≡ free_of (heap_after p log) + word_at (state_of w.row) 1 = tickets-now p i log w at in
     record { free = omega arith; seats = omega arith; unused = omega arith; drawn = omega arith }
 
-pub more-words : (w : PlainRow) → IsInEpoch w → 1 < length (state_of w.row).words
+pub more-words : (w : PlainRow) → IsInSomeEpoch w → 1 < length (state_of w.row).words
 more-words w some =
     let many : length (state_of w.row).words ≡ row_words w.row.layout.blocks = extent some.epoch some.ideal some.log w some.at in
     omega arith
@@ -307,7 +307,7 @@ some-ticket None t is = absurd (let wrong : None ≡ Some t = is in cc)
 some-ticket (Some x) t is = (x, refl, is)
 
 -- an unused ticket was drawn
-pub ticket-drawn : (w : PlainRow) → IsInEpoch w → (k t : ℕ) → ticket_of (slice_get w.seats.items k) ≡ Some t → t < word_at (state_of w.row) 1
+pub ticket-drawn : (w : PlainRow) → IsInSomeEpoch w → (k t : ℕ) → ticket_of (slice_get w.seats.items k) ≡ Some t → t < word_at (state_of w.row) 1
 ticket-drawn w some k t is =
     let at = some.at in
     let x = some-ticket (slice_get w.seats.items k) t is in

@@ -21,25 +21,25 @@ use Rattle.mutator_calls.specs.Allocating.{Books, births_with, Draws, FindsRoom}
 use Rattle.plain_world.specs.declared.plain_world.PlainWorld.{PlainWorld}
 use Rattle.local_allocators.specs.declared.local_seat.LocalSeat.{LocalSeat}
 use Rattle.block_regions.specs.declared.block_notes.BlockNote.{BlockNote}
-use Rattle.plain_row.specs.Rows.{number_of, births_of, registers_of, view_of}
+use Rattle.plain_row.specs.Rows.{mutator_number, births_of, registers_of, view_of}
 use Rattle.heap_users.specs.Users.{mutator_state}
 use Rattle.local_allocators.specs.Seats.{ticket_of}
 use Rattle.local_allocators.specs.MutatorRegions.{MutatorRegions, TriesBlock, Overflows, KeepsHole, KeepsRegions, LacksBlock, LacksRegions}
-use Rattle.plain_row.specs.Worlds.{IsAfter, IsIdle, has, births_in, stop_after}
+use Rattle.plain_row.specs.Worlds.{IsAfter, RowIsBetweenCalls, is_in_list, births_in, stop_after}
 use Rattle.local_allocators.specs.NotedRegions.{regions_of}
 use Rattle.local_allocators.specs.Placing.{LocalView, IsPlacedIn}
 
 -- the heap, as the mutators use it
-abbrev pub heap_of : {P : Type 0} → PlainWorld P → HeapState
-heap_of w = state_of w.row.row
+abbrev pub heap_of_world : {P : Type 0} → PlainWorld P → HeapState
+heap_of_world w = state_of w.row.row
 
 -- the mutators' numbers, births and registers
-abbrev pub mutators_of : {P : Type 0} → PlainWorld P → List MutatorState
-mutators_of w = map mutator_state w.row.mutators.items
+abbrev pub mutators_of_world : {P : Type 0} → PlainWorld P → List MutatorState
+mutators_of_world w = map mutator_state w.row.mutators.items
 
 -- the number and the births of the mutator at a place of the list, and its ticket
-abbrev pub number_at : {P : Type 0} → PlainWorld P → ℕ → ℕ
-number_at w m = number_of (slice_get w.row.mutators.items m)
+abbrev pub mutator_number_at : {P : Type 0} → PlainWorld P → ℕ → ℕ
+mutator_number_at w m = mutator_number (slice_get w.row.mutators.items m)
 
 abbrev pub births_at : {P : Type 0} → PlainWorld P → ℕ → ℕ
 births_at w m = births_of (slice_get w.row.mutators.items m)
@@ -60,7 +60,7 @@ HasPlace w m = m < places_of w
 
 -- The world is between two calls, and mutators fill blocks of the kind of these rules.
 pub record IsOpen {P : Type 0} (rules : Rules) (w : PlainWorld P) : Type 0 where
-  pub idle : IsIdle w.row
+  pub between_calls : RowIsBetweenCalls w.row
   pub fill : w.row.fill ≡ rules.fill
 
 -- the world is in the epoch p, which began with the ideal heap i, and the history since then is the part
@@ -74,7 +74,7 @@ AddsEntries old es new = (p : Epoch) (i : IdealHeap) (part : List Entry) → Has
 
 -- the history gets one entry, of the mutator at place m
 abbrev pub AddsEntry : {P : Type 0} → PlainWorld P → ℕ → Command → Reply → PlainWorld P → Type 0
-AddsEntry old m command reply new = AddsEntries old (entry (number_at old m) command reply ∷ []) new
+AddsEntry old m command reply new = AddsEntries old (entry (mutator_number_at old m) command reply ∷ []) new
 
 -- the same mutators, at the same places
 pub record SamePlaces {P : Type 0} (old new : PlainWorld P) : Type 0 where
@@ -87,18 +87,20 @@ is_generational w = w.row.young
 
 -- the unlog bits of these objects are clear now, and no other unlog bit changed
 abbrev pub Logs : {P : Type 0} → PlainWorld P → List ℕ → PlainWorld P → Type 0
-Logs old addresses new = (x : ℕ) → is_unlogged (heap_of new) x ≡ (is_unlogged (heap_of old) x && not (has addresses x))
+Logs old addresses new = (x : ℕ) → is_unlogged (heap_of_world new) x
+    ≡ (is_unlogged (heap_of_world old) x && not (is_in_list addresses x))
 
 -- the plan is generational, and the object at the address is old and not logged
 pub record IsOldUnlogged {P : Type 0} (w : PlainWorld P) (address : ℕ) : Type 0 where
   pub plan : is_generational w ≡ true
-  pub old : is_old (heap_of w) address ≡ true
-  pub unlogged : is_unlogged (heap_of w) address ≡ true
+  pub old : is_old (heap_of_world w) address ≡ true
+  pub unlogged : is_unlogged (heap_of_world w) address ≡ true
 
 -- these blocks were Free and are not, and no other block became or ceased to be Free
 pub record Grants {P : Type 0} (old : PlainWorld P) (blocks : List ℕ) (new : PlainWorld P) : Type 0 where
-  pub kind : (k : ℕ) → has_kind (heap_of new) k kinds.Free ≡ (has_kind (heap_of old) k kinds.Free && not (has blocks k))
-  pub free : (k : ℕ) → Contains blocks k → HasKind (heap_of old) k kinds.Free
+  pub kind : (k : ℕ) → has_kind (heap_of_world new) k kinds.Free
+      ≡ (has_kind (heap_of_world old) k kinds.Free && not (is_in_list blocks k))
+  pub free : (k : ℕ) → Contains blocks k → HasKind (heap_of_world old) k kinds.Free
 
 -- the accounts of the mutator at a place
 abbrev pub books_at : {P : Type 0} → PlainWorld P → ℕ → Books
@@ -126,11 +128,11 @@ regions_at w m = regions_of (notes_of w) (seat_at w m)
 
 -- block k has no room for an object of the size that the mutator at place m may fill
 abbrev pub HasNoRoom : {P : Type 0} → PlainWorld P → ℕ → ℕ → ℕ → Type 0
-HasNoRoom w m size k = LacksBlock w.row.fill (regions_at w m) (heap_of w) (number_at w m) size k
+HasNoRoom w m size k = LacksBlock w.row.fill (regions_at w m) (heap_of_world w) (mutator_number_at w m) size k
 
 -- no region that the mutator at place m tries for the size has room
 abbrev pub HasFullRegions : {P : Type 0} → PlainWorld P → ℕ → ℕ → Type 0
-HasFullRegions w m size = LacksRegions w.row.fill (regions_at w m) (heap_of w) (number_at w m) size
+HasFullRegions w m size = LacksRegions w.row.fill (regions_at w m) (heap_of_world w) (mutator_number_at w m) size
 
 -- an object of the size overflows the hole region of the mutator at place m
 abbrev pub OverflowsAt : {P : Type 0} → PlainWorld P → ℕ → ℕ → Type 0
@@ -146,41 +148,41 @@ KeepsRegionsAt old m new = KeepsRegions (regions_at old m) (regions_at new m)
 
 -- block k is not Free
 abbrev pub IsNotFree : {P : Type 0} → PlainWorld P → ℕ → Type 0
-IsNotFree w k = HasKind (heap_of w) k kinds.Free → ⊥
+IsNotFree w k = HasKind (heap_of_world w) k kinds.Free → ⊥
 
 -- the kind of the blocks that mutators fill, and the number of Free blocks that they may take in the epoch
 abbrev pub fill_of : {P : Type 0} → PlainWorld P → Kind
 fill_of w = w.row.fill
 
-abbrev pub allowance_of : {P : Type 0} → PlainWorld P → ℕ
-allowance_of w = w.row.allowance
+abbrev pub epoch_allowance : {P : Type 0} → PlainWorld P → ℕ
+epoch_allowance w = w.row.allowance
 
 -- the stop word and the budget word
 abbrev pub stop_word : {P : Type 0} → PlainWorld P → ℕ
-stop_word w = word_at (heap_of w) 0
+stop_word w = word_at (heap_of_world w) 0
 
 abbrev pub budget_word : {P : Type 0} → PlainWorld P → ℕ
-budget_word w = word_at (heap_of w) 1
+budget_word w = word_at (heap_of_world w) 1
 
 -- Steps of this effect, of the mutator at place m, change stop word, budget word, block words, births, tickets and regions
 -- so, and nothing of the other mutators. Each object stays where it is, with its three header words.
 pub record LeavesRest {P : Type 0} (old : PlainWorld P) (m : ℕ) (e : Effect) (new : PlainWorld P) : Type 0 where
-  pub stop : stop_word new ≡ stop_after e.raised (number_at old m) (stop_word old)
+  pub stop : stop_word new ≡ stop_after e.raised (mutator_number_at old m) (stop_word old)
   pub budget : budget_word new ≡ budget_word old + e.drawn
-  pub blocks : (k : ℕ) → k < (heap_of old).blocks → has e.taken k ≡ false
-      → block_word (heap_of new) k ≡ block_word (heap_of old) k
+  pub blocks : (k : ℕ) → k < (heap_of_world old).blocks → is_in_list e.taken k ≡ false
+      → block_word (heap_of_world new) k ≡ block_word (heap_of_world old) k
   pub births : births_at new m ≡ births_at old m + births_in e.entries
   pub ticket : e.drawn ≡ 0 → e.granted ≡ [] → ticket_at new m ≡ ticket_at old m
   pub regions : e.moved ≡ false → KeepsRegionsAt old m new
   pub others : (k : ℕ) → k ≢ m → (slice_get new.row.mutators.items k ≡ slice_get old.row.mutators.items k)
       × (seat_at new k ≡ seat_at old k) × KeepsRegionsAt old k new
-  pub objects : (x : ℕ) → IsHeld (heap_of old) x → IsHeld (heap_of new) x
-      × ((j : ℕ) → j < HEADER_WORDS → word_at (heap_of new) (x + j) ≡ word_at (heap_of old) (x + j))
+  pub objects : (x : ℕ) → IsHeld (heap_of_world old) x → IsHeld (heap_of_world new) x
+      × ((j : ℕ) → j < HEADER_WORDS → word_at (heap_of_world new) (x + j) ≡ word_at (heap_of_world old) (x + j))
 
 -- the heap, the mutators, their tickets and their regions are unchanged
 pub record IsUnchanged {P : Type 0} (old new : PlainWorld P) : Type 0 where
-  pub heap : heap_of new ≡ heap_of old
-  pub mutators : mutators_of new ≡ mutators_of old
+  pub heap : heap_of_world new ≡ heap_of_world old
+  pub mutators : mutators_of_world new ≡ mutators_of_world old
   pub tickets : (k : ℕ) → ticket_at new k ≡ ticket_at old k
   pub regions : (k : ℕ) → KeepsRegionsAt old k new
 
@@ -205,7 +207,7 @@ pub record Allocates {P : Type 0} (old : PlainWorld P) (m d r q : ℕ) (n : Name
       (AllocatesAt new m (size_of r q))
       (λ t. t ≡ budget_word old) (HasFullRegions old m (size_of r q)) (HasSpentBlocks old m (size_of r q)) (OverflowsAt old m (size_of r q))
       (KeepsHoleAt old m new)
-      (heap_of new).blocks (allowance_of new) (ticket_at old m) (ticket_at new m) taken granted drawn
+      (heap_of_world new).blocks (epoch_allowance new) (ticket_at old m) (ticket_at new m) taken granted drawn
   pub placed : IsPlacedIn (view_at old m) (view_at new m) (register_in new m d) (size_of r q)
 
 -- The mutator at place m allocates no object of this size, and keeps its regions. It draws a ticket or none; none if the

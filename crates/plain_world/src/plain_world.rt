@@ -17,7 +17,7 @@ ghost use Rattle.mutator_core.specs.Closing.{GivesBack};
 ghost use Rattle.object_model.specs.Graphs.{numbers_of};
 ghost use Rattle.heap_users.specs.Users.{mutator_state};
 ghost use Rattle.block_regions.specs.Notes.{AreNotes};
-ghost use Rattle.plain_world.specs.Calls.{heap_of, mutators_of, is_generational, fill_of, births_at, ticket_at, budget_word, places_of, HasPlace, IsOpen, HasHistory};
+ghost use Rattle.plain_world.specs.Calls.{heap_of_world, mutators_of_world, is_generational, fill_of, births_at, ticket_at, budget_word, places_of, HasPlace, IsOpen, HasHistory};
 ghost use Rattle.heap_users.specs.Beginnings.{MayUse, without_stop, epoch_of};
 ghost use Rattle.plain_world.specs.Endings.{GrantsWithTickets};
 
@@ -57,11 +57,12 @@ impl<P: Plan> PlainWorld<P> {
         requires users { MayUse (heap_state heap) (map mutator_state mutators.items) }
         requires remembers { Remembers P.rules (heap_state heap) }
         ensures open { IfOk result (λ w. IsOpen P.rules w) }
-        ensures mutators { IfOk result (λ w. mutators_of w ≡ map mutator_state mutators.items) }
+        ensures mutators { IfOk result (λ w. mutators_of_world w
+            ≡ map mutator_state mutators.items) }
         ensures places { IfOk result (λ w. places_of w ≡ length mutators.items) }
         ensures plan { IfOk result (λ w. is_generational w ≡ P.rules.young) }
         ensures fill { IfOk result (λ w. fill_of w ≡ P.rules.fill) }
-        ensures heap { IfOk result (λ w. heap_of w ≡ without_stop (heap_state heap)) }
+        ensures heap { IfOk result (λ w. heap_of_world w ≡ without_stop (heap_state heap)) }
         ensures tickets { IfOk result (λ w. (k : ℕ) → ticket_at w k ≡ None) }
         ensures begins { IfOk result (λ w. (i : IdealHeap)
             → Represents (heap_state heap) (map mutator_state mutators.items) i
@@ -87,11 +88,12 @@ impl<P: Plan> PlainWorld<P> {
         requires remembers { Remembers P.rules (heap_state heap) }
         requires notes { AreNotes P.rules.fill (heap_state heap) notes }
         ensures open { IfOk result (λ w. IsOpen P.rules w) }
-        ensures mutators { IfOk result (λ w. mutators_of w ≡ map mutator_state mutators.items) }
+        ensures mutators { IfOk result (λ w. mutators_of_world w
+            ≡ map mutator_state mutators.items) }
         ensures places { IfOk result (λ w. places_of w ≡ length mutators.items) }
         ensures plan { IfOk result (λ w. is_generational w ≡ P.rules.young) }
         ensures fill { IfOk result (λ w. fill_of w ≡ P.rules.fill) }
-        ensures heap { IfOk result (λ w. heap_of w ≡ without_stop (heap_state heap)) }
+        ensures heap { IfOk result (λ w. heap_of_world w ≡ without_stop (heap_state heap)) }
         ensures tickets { IfOk result (λ w. (k : ℕ) → ticket_at w k ≡ None) }
         ensures begins { IfOk result (λ w. (i : IdealHeap)
             → Represents (heap_state heap) (map mutator_state mutators.items) i
@@ -132,18 +134,18 @@ impl<P: Plan> PlainWorld<P> {
 
     /// The mutators, with their births and registers. A call takes a place in this list.
     pub fn mutators(&self) -> &Vec<Mutator>
-        ensures states { map mutator_state result.now.items ≡ mutators_of self.now }
+        ensures states { map mutator_state result.now.items ≡ mutators_of_world self.now }
         ensures places { length result.now.items ≡ places_of self.now }
     {
         &self.row.mutators
     }
 
-    /// The number of objects that the mutator at place `m` has allocated.
-    pub fn births(&self, m: u32) -> u32
-        requires { HasPlace self.now m }
-        ensures { result ≡ births_at self.now m }
+    /// The number of objects that the mutator at place `place` has allocated.
+    pub fn births(&self, place: u32) -> u32
+        requires { HasPlace self.now place }
+        ensures { result ≡ births_at self.now place }
     {
-        self.row.mutators[m as usize].births
+        self.row.mutators[place as usize].births
     }
 
     /// Ends the epoch: the mutators give back their blocks, which are relisted. Takes no memory,
@@ -154,12 +156,12 @@ impl<P: Plan> PlainWorld<P> {
             → HasHistory self p i part
             → Stopped p.rules (numbers_of p.mutators) p.before i part
             (heap_state result.0) (map mutator_state result.1.items) }
-        ensures mutators { map mutator_state result.1.items ≡ mutators_of self }
+        ensures mutators { map mutator_state result.1.items ≡ mutators_of_world self }
         ensures places { length result.1.items ≡ places_of self }
         ensures users { MayUse (heap_state result.0) (map mutator_state result.1.items) }
         ensures remembers { (rules : Rules) → rules.young ≡ is_generational self
             → Remembers rules (heap_state result.0) }
-        ensures gives { GivesBack (heap_of self) (heap_state result.0) }
+        ensures gives { GivesBack (heap_of_world self) (heap_state result.0) }
         ensures drawn { (k t : ℕ) → ticket_at self k ≡ Some t → t < budget_word self }
         ensures tickets { (p : Epoch) (i : IdealHeap) (part : List Entry)
             → HasHistory self p i part → GrantsWithTickets p self (heap_state result.0) }
@@ -175,12 +177,12 @@ impl<P: Plan> PlainWorld<P> {
             → HasHistory self p i part
             → Stopped p.rules (numbers_of p.mutators) p.before i part
             (heap_state result.0) (map mutator_state result.1.items) }
-        ensures mutators { map mutator_state result.1.items ≡ mutators_of self }
+        ensures mutators { map mutator_state result.1.items ≡ mutators_of_world self }
         ensures places { length result.1.items ≡ places_of self }
         ensures users { MayUse (heap_state result.0) (map mutator_state result.1.items) }
         ensures remembers { (rules : Rules) → rules.young ≡ is_generational self
             → Remembers rules (heap_state result.0) }
-        ensures gives { GivesBack (heap_of self) (heap_state result.0) }
+        ensures gives { GivesBack (heap_of_world self) (heap_state result.0) }
         ensures drawn { (k t : ℕ) → ticket_at self k ≡ Some t → t < budget_word self }
         ensures tickets { (p : Epoch) (i : IdealHeap) (part : List Entry)
             → HasHistory self p i part → GrantsWithTickets p self (heap_state result.0) }

@@ -13,7 +13,7 @@ ghost use Rattle.object_model.specs.Objects.{size_of};
 ghost use Rattle.mutator_calls.specs.Effects.{enters, raises};
 ghost use Rattle.mutator_calls.specs.Stopping.{stop_of};
 ghost use Rattle.mutator_calls.specs.Allocating.{IsCause, IsNeedOf, MatchAllocated};
-ghost use Rattle.plain_world.specs.Calls.{mutators_of, is_generational, births_at, register_in, books_at, HasPlace, IsOpen, AddsEntries, AddsEntry, SamePlaces, Logs, Grants, LeavesRest, IsUnchanged, IsOldUnlogged, Allocates, Refuses, HasNoRoom, stop_word};
+ghost use Rattle.plain_world.specs.Calls.{mutators_of_world, is_generational, births_at, register_in, books_at, HasPlace, IsOpen, AddsEntries, AddsEntry, SamePlaces, Logs, Grants, LeavesRest, IsUnchanged, IsOldUnlogged, Allocates, Refuses, HasNoRoom, stop_word};
 
 use crate::plain_world::PlainWorld;
 use ideal_heap::{GLOBALS, MAX_NUMS, MAX_REFS, REGISTERS, Reply};
@@ -24,9 +24,9 @@ use plan_api::Plan;
 
 impl<P: Plan> PlainWorld<P> {
     /// Whether a stop is raised, and by which mutator.
-    pub fn poll(&mut self, m: u32) -> Polled
+    pub fn poll(&mut self, place: u32) -> Polled
         requires open { IsOpen P.rules self.old }
-        requires place { HasPlace self.old m }
+        requires place { HasPlace self.old place }
         ensures open { IsOpen P.rules self.new }
         ensures places { SamePlaces self.old self.new }
         ensures plan { is_generational self.new ≡ is_generational self.old }
@@ -34,25 +34,25 @@ impl<P: Plan> PlainWorld<P> {
         ensures same { IsUnchanged self.old self.new }
         ensures stop { stop_word self.old ≡ stop_of result }
         ensures mutator { (n : ℕ) → result ≡ Polled.Raised n
-            → Contains (numbers_of (mutators_of self.old)) n }
+            → Contains (numbers_of (mutators_of_world self.old)) n }
     {
-        self.row.turn = m as usize;
+        self.row.turn = place as usize;
         calls::poll(&mut self.row)
     }
 
     /// Raises a stop, unless one is raised.
-    pub fn raise(&mut self, m: u32)
+    pub fn raise(&mut self, place: u32)
         requires open { IsOpen P.rules self.old }
-        requires place { HasPlace self.old m }
+        requires place { HasPlace self.old place }
         ensures open { IsOpen P.rules self.new }
         ensures places { SamePlaces self.old self.new }
         ensures plan { is_generational self.new ≡ is_generational self.old }
         ensures history { AddsEntries self.old [] self.new }
         ensures logged { Logs self.old [] self.new }
         ensures granted { Grants self.old [] self.new }
-        ensures rest { LeavesRest self.old m raises self.new }
+        ensures rest { LeavesRest self.old place raises self.new }
     {
-        self.row.turn = m as usize;
+        self.row.turn = place as usize;
         calls::raise(&mut self.row);
     }
 
@@ -64,241 +64,242 @@ impl<P: Plan> PlainWorld<P> {
     ///
     /// The answer is `Stop` if the object is large, or if there is no such room.
     #[inline(always)]
-    pub fn new_object(&mut self, m: u32, d: u32, refs: u32, nums: u32) -> Allocated
+    pub fn new_object(&mut self, place: u32, d: u32, refs: u32, nums: u32) -> Allocated
         requires open { IsOpen P.rules self.old }
-        requires place { HasPlace self.old m }
+        requires place { HasPlace self.old place }
         requires register { d < REGISTERS }
         requires refs { refs ≤ MAX_REFS }
         requires nums { nums ≤ MAX_NUMS }
-        requires births { births_at self.old m + 1 < 2 ^ 32 }
+        requires births { births_at self.old place + 1 < 2 ^ 32 }
         ensures open { IsOpen P.rules self.new }
         ensures places { SamePlaces self.old self.new }
         ensures plan { is_generational self.new ≡ is_generational self.old }
         ensures made { MatchAllocated result
-            (λ n. Allocates self.old m d refs nums n self.new)
-            (λ need. Refuses self.old m (size_of refs nums) self.new) }
+            (λ n. Allocates self.old place d refs nums n self.new)
+            (λ need. Refuses self.old place (size_of refs nums) self.new) }
         ensures logged { Logs self.old [] self.new }
         ensures small { MatchAllocated result
             (λ n. size_of refs nums ≤ MAX_MEDIUM_WORDS) (λ need. ⊤) }
         ensures need { MatchAllocated result (λ n. ⊤) (IsNeedOf d refs nums) }
-        ensures cause { MatchAllocated result (λ n. ⊤) (λ need. IsCause (books_at self.new m)
-            (HasNoRoom self.new m (size_of refs nums)) (size_of refs nums) need.cause) }
+        ensures cause { MatchAllocated result (λ n. ⊤) (λ need. IsCause (books_at self.new place)
+            (HasNoRoom self.new place (size_of refs nums)) (size_of refs nums) need.cause) }
     {
-        self.row.turn = m as usize;
+        self.row.turn = place as usize;
         calls::new_object(&mut self.row, d, refs, nums)
     }
 
     /// Loads reference field `i` of the object in register `s` into register `d`.
-    pub fn get(&mut self, m: u32, d: u32, s: u32, i: u32) -> Reply
+    pub fn get(&mut self, place: u32, d: u32, s: u32, i: u32) -> Reply
         requires open { IsOpen P.rules self.old }
-        requires place { HasPlace self.old m }
+        requires place { HasPlace self.old place }
         requires target { d < REGISTERS }
         requires source { s < REGISTERS }
         ensures open { IsOpen P.rules self.new }
         ensures places { SamePlaces self.old self.new }
         ensures plan { is_generational self.new ≡ is_generational self.old }
-        ensures history { AddsEntry self.old m (command.Get d s i) result self.new }
+        ensures history { AddsEntry self.old place (command.Get d s i) result self.new }
         ensures logged { Logs self.old [] self.new }
         ensures granted { Grants self.old [] self.new }
-        ensures rest { LeavesRest self.old m (enters (command.Get d s i) result) self.new }
+        ensures rest { LeavesRest self.old place (enters (command.Get d s i) result) self.new }
     {
-        self.row.turn = m as usize;
+        self.row.turn = place as usize;
         calls::get(&mut self.row, d, s, i)
     }
 
     /// Stores register `v` into reference field `i` of the object in register `s`. Under a
     /// generational plan an old object is logged first: MMTk's object-remembering barrier.
-    pub fn put(&mut self, m: u32, s: u32, i: u32, v: u32) -> Reply
+    pub fn put(&mut self, place: u32, s: u32, i: u32, v: u32) -> Reply
         requires open { IsOpen P.rules self.old }
-        requires place { HasPlace self.old m }
+        requires place { HasPlace self.old place }
         requires target { s < REGISTERS }
         requires source { v < REGISTERS }
         ensures open { IsOpen P.rules self.new }
         ensures places { SamePlaces self.old self.new }
         ensures plan { is_generational self.new ≡ is_generational self.old }
-        ensures history { AddsEntry self.old m (command.Put s i v) result self.new }
+        ensures history { AddsEntry self.old place (command.Put s i v) result self.new }
         ensures logged { (logged : List ℕ) × Logs self.old logged self.new
             × (((logged ≡ []) × (result ≡ reply.Done
-            → IsOldUnlogged self.old (register_in self.old m s) → ⊥))
-            ⊎ ((logged ≡ register_in self.old m s ∷ []) × (result ≡ reply.Done)
-            × IsOldUnlogged self.old (register_in self.old m s))) }
+            → IsOldUnlogged self.old (register_in self.old place s) → ⊥))
+            ⊎ ((logged ≡ register_in self.old place s ∷ []) × (result ≡ reply.Done)
+            × IsOldUnlogged self.old (register_in self.old place s))) }
         ensures granted { Grants self.old [] self.new }
-        ensures rest { LeavesRest self.old m (enters (command.Put s i v) result) self.new }
+        ensures rest { LeavesRest self.old place (enters (command.Put s i v) result) self.new }
     {
-        self.row.turn = m as usize;
+        self.row.turn = place as usize;
         calls::put(&mut self.row, s, i, v)
     }
 
     /// Loads number `j` of the object in register `s`.
-    pub fn read(&mut self, m: u32, s: u32, j: u32) -> Reply
+    pub fn read(&mut self, place: u32, s: u32, j: u32) -> Reply
         requires open { IsOpen P.rules self.old }
-        requires place { HasPlace self.old m }
+        requires place { HasPlace self.old place }
         requires register { s < REGISTERS }
         ensures open { IsOpen P.rules self.new }
         ensures places { SamePlaces self.old self.new }
         ensures plan { is_generational self.new ≡ is_generational self.old }
-        ensures history { AddsEntry self.old m (command.Read s j) result self.new }
+        ensures history { AddsEntry self.old place (command.Read s j) result self.new }
         ensures logged { Logs self.old [] self.new }
         ensures granted { Grants self.old [] self.new }
-        ensures rest { LeavesRest self.old m (enters (command.Read s j) result) self.new }
+        ensures rest { LeavesRest self.old place (enters (command.Read s j) result) self.new }
     {
-        self.row.turn = m as usize;
+        self.row.turn = place as usize;
         calls::read(&mut self.row, s, j)
     }
 
     /// Stores number `j` of the object in register `s`.
-    pub fn write(&mut self, m: u32, s: u32, j: u32, n: u64) -> Reply
+    pub fn write(&mut self, place: u32, s: u32, j: u32, n: u64) -> Reply
         requires open { IsOpen P.rules self.old }
-        requires place { HasPlace self.old m }
+        requires place { HasPlace self.old place }
         requires register { s < REGISTERS }
         ensures open { IsOpen P.rules self.new }
         ensures places { SamePlaces self.old self.new }
         ensures plan { is_generational self.new ≡ is_generational self.old }
-        ensures history { AddsEntry self.old m (command.Write s j n) result self.new }
+        ensures history { AddsEntry self.old place (command.Write s j n) result self.new }
         ensures logged { Logs self.old [] self.new }
         ensures granted { Grants self.old [] self.new }
-        ensures rest { LeavesRest self.old m (enters (command.Write s j n) result) self.new }
+        ensures rest { LeavesRest self.old place (enters (command.Write s j n) result) self.new }
     {
-        self.row.turn = m as usize;
+        self.row.turn = place as usize;
         calls::write(&mut self.row, s, j, n)
     }
 
     /// Adds to number `j` of the object in register `s`, modulo 2^64. Replies the number before.
-    pub fn add(&mut self, m: u32, s: u32, j: u32, n: u64) -> Reply
+    pub fn add(&mut self, place: u32, s: u32, j: u32, n: u64) -> Reply
         requires open { IsOpen P.rules self.old }
-        requires place { HasPlace self.old m }
+        requires place { HasPlace self.old place }
         requires register { s < REGISTERS }
         ensures open { IsOpen P.rules self.new }
         ensures places { SamePlaces self.old self.new }
         ensures plan { is_generational self.new ≡ is_generational self.old }
-        ensures history { AddsEntry self.old m (command.Add s j n) result self.new }
+        ensures history { AddsEntry self.old place (command.Add s j n) result self.new }
         ensures logged { Logs self.old [] self.new }
         ensures granted { Grants self.old [] self.new }
-        ensures rest { LeavesRest self.old m (enters (command.Add s j n) result) self.new }
+        ensures rest { LeavesRest self.old place (enters (command.Add s j n) result) self.new }
     {
-        self.row.turn = m as usize;
+        self.row.turn = place as usize;
         calls::add(&mut self.row, s, j, n)
     }
 
     /// Sets number `j` of the object in register `s` to `next` if it is `was`.
-    pub fn swap(&mut self, m: u32, s: u32, j: u32, was: u64, next: u64) -> Reply
+    pub fn swap(&mut self, place: u32, s: u32, j: u32, was: u64, next: u64) -> Reply
         requires open { IsOpen P.rules self.old }
-        requires place { HasPlace self.old m }
+        requires place { HasPlace self.old place }
         requires register { s < REGISTERS }
         ensures open { IsOpen P.rules self.new }
         ensures places { SamePlaces self.old self.new }
         ensures plan { is_generational self.new ≡ is_generational self.old }
-        ensures history { AddsEntry self.old m (command.Swap s j was next) result self.new }
+        ensures history { AddsEntry self.old place (command.Swap s j was next) result self.new }
         ensures logged { Logs self.old [] self.new }
         ensures granted { Grants self.old [] self.new }
-        ensures rest { LeavesRest self.old m (enters (command.Swap s j was next) result) self.new }
+        ensures rest { LeavesRest self.old place (enters
+            (command.Swap s j was next) result) self.new }
     {
-        self.row.turn = m as usize;
+        self.row.turn = place as usize;
         calls::swap(&mut self.row, s, j, was, next)
     }
 
     /// Copies register `s` to register `d`.
-    pub fn move_register(&mut self, m: u32, d: u32, s: u32) -> Reply
+    pub fn move_register(&mut self, place: u32, d: u32, s: u32) -> Reply
         requires open { IsOpen P.rules self.old }
-        requires place { HasPlace self.old m }
+        requires place { HasPlace self.old place }
         requires target { d < REGISTERS }
         requires source { s < REGISTERS }
         ensures open { IsOpen P.rules self.new }
         ensures places { SamePlaces self.old self.new }
         ensures plan { is_generational self.new ≡ is_generational self.old }
-        ensures history { AddsEntry self.old m (command.Move d s) result self.new }
+        ensures history { AddsEntry self.old place (command.Move d s) result self.new }
         ensures logged { Logs self.old [] self.new }
         ensures granted { Grants self.old [] self.new }
-        ensures rest { LeavesRest self.old m (enters (command.Move d s) result) self.new }
+        ensures rest { LeavesRest self.old place (enters (command.Move d s) result) self.new }
     {
-        self.row.turn = m as usize;
+        self.row.turn = place as usize;
         calls::move_register(&mut self.row, d, s)
     }
 
     /// Clears register `s`.
-    pub fn drop_register(&mut self, m: u32, s: u32) -> Reply
+    pub fn drop_register(&mut self, place: u32, s: u32) -> Reply
         requires open { IsOpen P.rules self.old }
-        requires place { HasPlace self.old m }
+        requires place { HasPlace self.old place }
         requires register { s < REGISTERS }
         ensures open { IsOpen P.rules self.new }
         ensures places { SamePlaces self.old self.new }
         ensures plan { is_generational self.new ≡ is_generational self.old }
-        ensures history { AddsEntry self.old m (command.DropReg s) result self.new }
+        ensures history { AddsEntry self.old place (command.DropReg s) result self.new }
         ensures logged { Logs self.old [] self.new }
         ensures granted { Grants self.old [] self.new }
-        ensures rest { LeavesRest self.old m (enters (command.DropReg s) result) self.new }
+        ensures rest { LeavesRest self.old place (enters (command.DropReg s) result) self.new }
     {
-        self.row.turn = m as usize;
+        self.row.turn = place as usize;
         calls::drop_register(&mut self.row, s)
     }
 
     /// Loads global `g` into register `d`.
-    pub fn load(&mut self, m: u32, d: u32, g: u32) -> Reply
+    pub fn load(&mut self, place: u32, d: u32, g: u32) -> Reply
         requires open { IsOpen P.rules self.old }
-        requires place { HasPlace self.old m }
+        requires place { HasPlace self.old place }
         requires register { d < REGISTERS }
         requires global { g < GLOBALS }
         ensures open { IsOpen P.rules self.new }
         ensures places { SamePlaces self.old self.new }
         ensures plan { is_generational self.new ≡ is_generational self.old }
-        ensures history { AddsEntry self.old m (command.Load d g) result self.new }
+        ensures history { AddsEntry self.old place (command.Load d g) result self.new }
         ensures logged { Logs self.old [] self.new }
         ensures granted { Grants self.old [] self.new }
-        ensures rest { LeavesRest self.old m (enters (command.Load d g) result) self.new }
+        ensures rest { LeavesRest self.old place (enters (command.Load d g) result) self.new }
     {
-        self.row.turn = m as usize;
+        self.row.turn = place as usize;
         calls::load(&mut self.row, d, g)
     }
 
     /// Stores register `s` into global `g`.
-    pub fn share(&mut self, m: u32, g: u32, s: u32) -> Reply
+    pub fn share(&mut self, place: u32, g: u32, s: u32) -> Reply
         requires open { IsOpen P.rules self.old }
-        requires place { HasPlace self.old m }
+        requires place { HasPlace self.old place }
         requires register { s < REGISTERS }
         requires global { g < GLOBALS }
         ensures open { IsOpen P.rules self.new }
         ensures places { SamePlaces self.old self.new }
         ensures plan { is_generational self.new ≡ is_generational self.old }
-        ensures history { AddsEntry self.old m (command.Share g s) result self.new }
+        ensures history { AddsEntry self.old place (command.Share g s) result self.new }
         ensures logged { Logs self.old [] self.new }
         ensures granted { Grants self.old [] self.new }
-        ensures rest { LeavesRest self.old m (enters (command.Share g s) result) self.new }
+        ensures rest { LeavesRest self.old place (enters (command.Share g s) result) self.new }
     {
-        self.row.turn = m as usize;
+        self.row.turn = place as usize;
         calls::share(&mut self.row, g, s)
     }
 
     /// Pins the object in register `s`: no collection moves it.
-    pub fn pin(&mut self, m: u32, s: u32) -> Reply
+    pub fn pin(&mut self, place: u32, s: u32) -> Reply
         requires open { IsOpen P.rules self.old }
-        requires place { HasPlace self.old m }
+        requires place { HasPlace self.old place }
         requires register { s < REGISTERS }
         ensures open { IsOpen P.rules self.new }
         ensures places { SamePlaces self.old self.new }
         ensures plan { is_generational self.new ≡ is_generational self.old }
-        ensures history { AddsEntry self.old m (command.Pin s) result self.new }
+        ensures history { AddsEntry self.old place (command.Pin s) result self.new }
         ensures logged { Logs self.old [] self.new }
         ensures granted { Grants self.old [] self.new }
-        ensures rest { LeavesRest self.old m (enters (command.Pin s) result) self.new }
+        ensures rest { LeavesRest self.old place (enters (command.Pin s) result) self.new }
     {
-        self.row.turn = m as usize;
+        self.row.turn = place as usize;
         calls::pin(&mut self.row, s)
     }
 
     /// Unpins the object in register `s`.
-    pub fn unpin(&mut self, m: u32, s: u32) -> Reply
+    pub fn unpin(&mut self, place: u32, s: u32) -> Reply
         requires open { IsOpen P.rules self.old }
-        requires place { HasPlace self.old m }
+        requires place { HasPlace self.old place }
         requires register { s < REGISTERS }
         ensures open { IsOpen P.rules self.new }
         ensures places { SamePlaces self.old self.new }
         ensures plan { is_generational self.new ≡ is_generational self.old }
-        ensures history { AddsEntry self.old m (command.Unpin s) result self.new }
+        ensures history { AddsEntry self.old place (command.Unpin s) result self.new }
         ensures logged { Logs self.old [] self.new }
         ensures granted { Grants self.old [] self.new }
-        ensures rest { LeavesRest self.old m (enters (command.Unpin s) result) self.new }
+        ensures rest { LeavesRest self.old place (enters (command.Unpin s) result) self.new }
     {
-        self.row.turn = m as usize;
+        self.row.turn = place as usize;
         calls::unpin(&mut self.row, s)
     }
 }

@@ -19,8 +19,8 @@ cell-anyway : (words : List ℕ) (l : Layout) (number base number' base' k at : 
 cell-anyway words l number base number' base' k at cell = record { index = cell.index; start = cell.start; inside = cell.inside; free = cell.free }
 
 -- a block of another class has no hole for the size
-pub class-told : (s : HeapState) (k from size : ℕ) → (class_of size ≡ Some (class_at s k) → ⊥) → IsFirstHole kinds.Cells s k from size None
-class-told s k from size other = λ next end hole. other hole.part.1.class
+pub class-shown : (s : HeapState) (k from size : ℕ) → (class_of size ≡ Some (class_at s k) → ⊥) → IsFirstHole kinds.Cells s k from size None
+class-shown s k from size other = λ next end hole. other hole.part.1.class
 
 module _ (words : List ℕ) (l : Layout) (number base k from size : ℕ) where
   pub next-part : HasKind (state_over words l 0 0) k kinds.Cells → class_of size ≡ Some (class_at (state_over words l 0 0) k) → (at : ℕ) → IsNextCell (state_over words l 0 0) k from at

@@ -4,7 +4,7 @@ use Rattle.std.proofs.Math.Nat.{le-div_iff_mul-le}
 use Rattle.std.proofs.lemmas.Bool.{cases_eq, true≢false}
 use Rattle.std.proofs.lemmas.Grind.{div_ceil_times}
 use Rattle.line_marks.specs.Bits.{bit_in}
-use Rattle.plan_api.specs.Cells.{IsClearCell, IsFirstCell, HasNoCell}
+use Rattle.plan_api.specs.Cells.{IsClearCell, IsFirstCell, HasNoClearCell}
 
 module _ (starts : List ℕ) (words from index : ℕ) (some : 0 < words)
     (searched : (x : ℕ) → from ≤ x → (cell : IsClearCell starts words x) → index ≤ cell.index) where
@@ -32,5 +32,5 @@ module _ (starts : List ℕ) (words from index : ℕ) (some : 0 < words)
     | inr other ↦ (let least : index ≤ cell.index = searched x later cell in omega arith)
   ]
 
-  pub no-cell : 4096 / words ≤ index → HasNoCell starts words from
+  pub no-cell : 4096 / words ≤ index → HasNoClearCell starts words from
   no-cell past x later cell = (let least : index ≤ cell.index = searched x later cell in let more = within x cell in omega arith)

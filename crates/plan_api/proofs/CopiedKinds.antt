@@ -11,8 +11,8 @@ use Rattle.object_model.specs.declared.collect.Collect.TheVariants.{Full}
 use Rattle.object_model.specs.Objects.{HeapState, has_kind, HasKind, block_word}
 use Rattle.object_model.proofs.OneKind.{kind-code}
 use Rattle.sessions.specs.Plans.{Rules}
-use Rattle.sessions.specs.Collecting.{is_copied}
-use Rattle.plan_api.specs.declared.evacuation.Fills.{Fills}
+use Rattle.sessions.specs.Collecting.{is_copied_out}
+use Rattle.plan_api.specs.declared.blocks_to_copy.Fills.{Fills}
 use Rattle.plan_api.specs.Evacuation.{HasFills}
 
 -- two kinds are the same if their numbers are
@@ -37,7 +37,7 @@ kind-is s k kind other is =
     ∙ ap (λ n. nat_eq n (kind_code other)) (kind-code s k kind is) ∙ sym (same-kind kind other)
 
 pub copied-full : (r : Rules) (f : Fills) (s : HeapState) (k : ℕ) (kind : Kind) → HasFills r f → HasKind s k kind
-    → is_copied r Full s k ≡ (sameb the_type kind f.fill || sameb the_type kind f.copy || sameb the_type kind kinds.Kept)
+    → is_copied_out r Full s k ≡ (sameb the_type kind f.fill || sameb the_type kind f.copy || sameb the_type kind kinds.Kept)
 copied-full r f s k kind has is =
     ap (λ x. has_kind s k x || has_kind s k r.copy || has_kind s k kinds.Kept) has.fill
     ∙ ap (λ x. has_kind s k f.fill || has_kind s k x || has_kind s k kinds.Kept) has.copy

@@ -5,7 +5,7 @@ use Rattle.std.proofs.lemmas.Bool.{cases_eq, true≢false}
 use Rattle.heap_layout.specs.declared.block.Kind.{Kind}
 use Rattle.heap_layout.specs.declared.block.BlockWord.{BlockWord}
 use Rattle.heap_layout.specs.declared.region.Region.{Region}
-use Rattle.heap_layout.specs.Blocks.{code_of, IsValid, kind_of_code}
+use Rattle.heap_layout.specs.Blocks.{code_of, IsValidWord, kind_of_code}
 use Rattle.heap_layout.proofs.BlockLemmas.{parts_of_code, kind_of_code-kind_code}
 use Rattle.object_model.specs.Objects.{HeapState, block_word, HasKind}
 use Rattle.object_model.proofs.OneKind.{kind-code}
@@ -23,16 +23,16 @@ pub hole-kind : (fill : Kind) (s : HeapState) (k size at : ℕ) → HasHole fill
 hole-kind fill s k size at hole = let whole = whole-part fill s k size at hole in part-kind fill s k 0 size at whole.0 whole.1.part
 
 -- the kind that a block has is the one in its word
-pub kind-word : (s : HeapState) (k : ℕ) (kind : Kind) (w : BlockWord) → IsValid w → code_of w ≡ block_word s k → HasKind s k kind → w.kind ≡ kind
+pub kind-word : (s : HeapState) (k : ℕ) (kind : Kind) (w : BlockWord) → IsValidWord w → code_of w ≡ block_word s k → HasKind s k kind → w.kind ≡ kind
 kind-word s k kind w valid code is =
     let e : Some w.kind ≡ Some kind = sym (parts_of_code w (block_word s k) valid code).0 ∙ ap kind_of_code (kind-code s k kind is) ∙ kind_of_code-kind_code kind in cc
 
-pub hole-word : (fill : Kind) (s : HeapState) (k size at : ℕ) (w : BlockWord) → IsValid w → code_of w ≡ block_word s k → HasHole fill s k at size → w.kind ≡ fill
+pub hole-word : (fill : Kind) (s : HeapState) (k size at : ℕ) (w : BlockWord) → IsValidWord w → code_of w ≡ block_word s k → HasHole fill s k at size → w.kind ≡ fill
 hole-word fill s k size at w valid code hole = kind-word s k fill w valid code (hole-kind fill s k size at hole)
 
 -- a block of another kind has no part of a hole
-pub kind-told : (fill : Kind) (s : HeapState) (k from size : ℕ) (w : BlockWord) → IsValid w → code_of w ≡ block_word s k → (w.kind ≡ fill → ⊥) → IsFirstHole fill s k from size None
-kind-told fill s k from size w valid code other = λ next end hole. other (kind-word s k fill w valid code (part-kind fill s k from size next end hole.part))
+pub kind-shown : (fill : Kind) (s : HeapState) (k from size : ℕ) (w : BlockWord) → IsValidWord w → code_of w ≡ block_word s k → (w.kind ≡ fill → ⊥) → IsFirstHole fill s k from size None
+kind-shown fill s k from size w valid code other = λ next end hole. other (kind-word s k fill w valid code (part-kind fill s k from size next end hole.part))
 
 -- one more block without a hole
 pub none-more : (fill : Kind) (s : HeapState) (b size : ℕ) → ((k at : ℕ) → k < b → HasHole fill s k at size → ⊥) → (((at : ℕ) × HasHole fill s b at size) → ⊥) → (k at : ℕ) → k < b + 1 → HasHole fill s k at size → ⊥

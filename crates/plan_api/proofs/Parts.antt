@@ -14,9 +14,9 @@ use Rattle.sessions.specs.Fitting.{IsTail, IsFreeCell, class_of}
 use Rattle.sessions.proofs.Tails.{tail-unique}
 use Rattle.sessions.proofs.Holes.{class-room}
 use Rattle.plan_api.specs.declared.block_view.BlockView.{BlockView}
-use Rattle.line_marks.specs.Bits.{bit_in, IsClearFrom, IsFirstRun, HasNoRun}
+use Rattle.line_marks.specs.Bits.{bit_in, IsClearFrom, IsFirstClearRun, HasNoClearRun}
 use Rattle.line_marks.proofs.HoleRuns.{run-hole, hole-clear}
-use Rattle.plan_api.specs.Cells.{IsClearCell, IsFirstCell, HasNoCell}
+use Rattle.plan_api.specs.Cells.{IsClearCell, IsFirstCell, HasNoClearCell}
 use Rattle.plan_api.specs.Views.{IsLastObject, IsViewOf}
 use Rattle.block_sweeps.specs.Sweeping.{AreApart}
 use Rattle.plan_api.specs.Holes.{IsTailPart, IsLinePart, IsHolePart, IsFirstHole}
@@ -27,10 +27,10 @@ abbrev pub FindsTail : BlockView → ℕ → ℕ → Option Region → Type 0
 FindsTail v from size o = MatchOption o (4096 < max v.end from + size) (λ r. (r.next ≡ max v.end from) × (r.end ≡ 4096) × (r.next + size ≤ 4096))
 
 abbrev pub FindsLines : List ℕ → ℕ → ℕ → Option Region → Type 0
-FindsLines lines from size o = MatchOption o (HasNoRun lines (lines_for from) (lines_for size)) (λ r. (x : ℕ) × (end : ℕ) × (r.next ≡ 16 * x) × (r.end ≡ 16 * end) × IsFirstRun lines (lines_for from) (lines_for size) x end)
+FindsLines lines from size o = MatchOption o (HasNoClearRun lines (lines_for from) (lines_for size)) (λ r. (x : ℕ) × (end : ℕ) × (r.next ≡ 16 * x) × (r.end ≡ 16 * end) × IsFirstClearRun lines (lines_for from) (lines_for size) x end)
 
 abbrev pub FindsCell : BlockView → ℕ → ℕ → Option Region → Type 0
-FindsCell v words from o = MatchOption o (HasNoCell v.starts words from) (λ r. IsFirstCell v.starts words from r.next × (r.end ≡ r.next + words))
+FindsCell v words from o = MatchOption o (HasNoClearCell v.starts words from) (λ r. IsFirstCell v.starts words from r.next × (r.end ≡ r.next + words))
 
 -- words in so many lines take so many
 fits-lines : (x e size : ℕ) → 16 * x + size ≤ 16 * e → x + (size + 15) / 16 ≤ e
@@ -39,7 +39,7 @@ fits-lines x e size room = omega arith
 -- these words have the line bits of block k
 module _ (s : HeapState) (k : ℕ) (lines : List ℕ) (read : (line : ℕ) → line < 256 → bit_in lines line ≡ line_marked s k line) where
   -- runs of clear lines
-  line-part : (from size x end : ℕ) → 1 ≤ size → IsFirstRun lines (lines_for from) (lines_for size) x end → IsLinePart s k from (16 * x) (16 * end)
+  line-part : (from size x end : ℕ) → 1 ≤ size → IsFirstClearRun lines (lines_for from) (lines_for size) x end → IsLinePart s k from (16 * x) (16 * end)
   line-part from size x end some run =
       let room = run.room in
       let hole = run-hole s k lines read (lines_for from) (lines_for size) x end (omega arith) run in

@@ -1,4 +1,4 @@
--- What a plan's flags tell of its rules.
+-- What a plan's flags say of its rules.
 use Rattle.std.proofs.Common.{◌≡◌, ℕ, refl, sym, ap, ◌∙◌, nat_eq, bit_and}
 use Rattle.sessions.specs.Plans.{Plan, Rules, NoGc, MarkSweep, SemiSpace, GenCopy, Immix, StickyImmix, rules_of}
 use Rattle.plan_api.specs.Flags.{flags_of}
@@ -11,5 +11,5 @@ moves-flag GenCopy = refl
 moves-flag Immix = refl
 moves-flag StickyImmix = refl
 
-pub moves-told : (q : Plan) (r : Rules) → r ≡ rules_of q → (flags : ℕ) → flags ≡ flags_of r → nat_eq (bit_and flags 1) 1 ≡ r.moves
-moves-told q r of flags are = ap (λ f. nat_eq (bit_and f 1) 1) (are ∙ ap flags_of of) ∙ moves-flag q ∙ sym (ap (λ (r : Rules). r.moves) of)
+pub moves-shown : (q : Plan) (r : Rules) → r ≡ rules_of q → (flags : ℕ) → flags ≡ flags_of r → nat_eq (bit_and flags 1) 1 ≡ r.moves
+moves-shown q r of flags are = ap (λ f. nat_eq (bit_and f 1) 1) (are ∙ ap flags_of of) ∙ moves-flag q ∙ sym (ap (λ (r : Rules). r.moves) of)

@@ -9,7 +9,7 @@ use Rattle.object_model.proofs.OneKind.{kind-code, kind-within}
 use Rattle.sessions.proofs.Placing.{one_if}
 use Rattle.sessions.specs.Grants.{BlockCounts, after_taking}
 use Rattle.sessions.specs.Fitting.{free_of, large_of, counts_of}
-use Rattle.plan_api.specs.Taking.{TakesBlock, TakesBlocks, none, one_more}
+use Rattle.plan_api.specs.Taking.{FreeBlockIsTaken, TakesBlocks, none, one_more}
 use Rattle.plan_api.specs.Holes.{has_holes}
 use Rattle.plan_api.proofs.Tallies.{count_below, count-next}
 
@@ -59,7 +59,7 @@ abbrev is_large : HeapState → ℕ → Bool
 is_large s k = has_kind s k kinds.LargeHead || has_kind s k kinds.LargeTail
 
 module _ (fill : Kind) (apart : kind_code fill ≢ 0) (no_head : kind_code fill ≢ 6) (no_tail : kind_code fill ≢ 7) where
-  module _ (old new : HeapState) (k : ℕ) (takes : TakesBlock fill old new k) where
+  module _ (old new : HeapState) (k : ℕ) (takes : FreeBlockIsTaken fill old new k) where
     there : k < old.blocks
     there = kind-within old k kinds.Free takes.free
 

@@ -6,7 +6,7 @@ use Rattle.std.proofs.lemmas.Bool.{lt-ltb}
 use Rattle.heap_layout.specs.declared.block.Kind.{Kind}
 use Rattle.heap_layout.specs.declared.block.Kind.TheVariants as kinds
 use Rattle.heap_layout.specs.declared.block.BlockWord.{BlockWord}
-use Rattle.heap_layout.specs.Blocks.{kind_code, code_of, IsValid}
+use Rattle.heap_layout.specs.Blocks.{kind_code, code_of, IsValidWord}
 use Rattle.heap_layout.proofs.BlockLemmas.{parts_of_code, kind_code_of}
 use Rattle.object_model.specs.Objects.{HeapState, block_word, has_kind}
 use Rattle.sessions.proofs.Placing.{one_if, count-cons}
@@ -31,7 +31,7 @@ count-next p n = (let e : count_below p (n + 1) ≡ count_below p (suc n) = ap (
     e ∙ count-more p 0 n ∙ ap (λ (q : ℕ). count_below p n + q) z)
 
 -- the kind in a block word
-module _ (s : HeapState) (k : ℕ) (w : BlockWord) (there : k < s.blocks) (valid : IsValid w) (code : code_of w ≡ block_word s k) where
+module _ (s : HeapState) (k : ℕ) (w : BlockWord) (there : k < s.blocks) (valid : IsValidWord w) (code : code_of w ≡ block_word s k) where
   pub kind-of-word : block_word s k % 256 ≡ kind_code w.kind
   kind-of-word = sym (kind_code_of (block_word s k % 256) w.kind (parts_of_code w (block_word s k) valid code).0)
 

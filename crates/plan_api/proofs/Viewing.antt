@@ -3,7 +3,7 @@ use Rattle.std.proofs.Common.{◌≡◌, sym, ◌∙◌, ap, ℕ, ◌+◌, ◌*�
 use Rattle.std.specs.Int.{bit_at}
 use Rattle.heap_layout.specs.Zones.{first, BlockWords, LineWords, StartBits, IsAddress, heap_of, block_at, offset_at, block_start, bit_of}
 use Rattle.heap_layout.specs.declared.layout.Layout.{Layout}
-use Rattle.heap_layout.specs.Blocks.{code_of, IsValid}
+use Rattle.heap_layout.specs.Blocks.{code_of, IsValidWord}
 use Rattle.heap_layout.proofs.MarkLemmas.{address_bit-at_address}
 use Rattle.object_model.specs.Objects.{HeapState, state_over, is_start, IsHeld, size_at}
 use Rattle.object_model.specs.Lawful.{HasObject, Lies, IsReadableBlock, IsWellFormed, IsLawful}
@@ -108,7 +108,7 @@ module _ (s : HeapState) (k : ℕ) (block : IsReadableBlock s k) (starts : List 
 
 -- the result of the read is the view
 pub view-of : (words : List ℕ) (l : Layout) (k : ℕ) (v : BlockView) → IsReadableBlock (state_over words l 0 0) k
-    → code_of v.word ≡ slice_index words (first l.blocks BlockWords + k) → IsValid v.word
+    → code_of v.word ≡ slice_index words (first l.blocks BlockWords + k) → IsValidWord v.word
     → ((n : ℕ) → n < 4 → slice_index v.lines n ≡ slice_index words (first l.blocks LineWords + 4 * k + n))
     → ((n : ℕ) → n < 64 → slice_index v.starts n ≡ slice_index words (first l.blocks StartBits + 64 * k + n))
     → IsObjectsEnd (state_over words l 0 0) k v.end

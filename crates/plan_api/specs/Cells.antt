@@ -17,5 +17,5 @@ pub record IsFirstCell (starts : List ℕ) (words from at : ℕ) : Type 0 where
   pub first : (x : ℕ) → from ≤ x → IsClearCell starts words x → at ≤ x
 
 -- no such cell begins at or after the offset `from`
-abbrev pub HasNoCell : List ℕ → ℕ → ℕ → Type 0
-HasNoCell starts words from = (x : ℕ) → from ≤ x → IsClearCell starts words x → ⊥
+abbrev pub HasNoClearCell : List ℕ → ℕ → ℕ → Type 0
+HasNoClearCell starts words from = (x : ℕ) → from ≤ x → IsClearCell starts words x → ⊥

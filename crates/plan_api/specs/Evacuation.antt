@@ -1,7 +1,7 @@
 -- The blocks to evacuate as a list, and the kinds that a plan's rules name.
 use Rattle.std.specs.Prelude.{◌≡◌, ℕ, Bool, false, List, slice_get, unwrap_or}
 use Rattle.sessions.specs.Plans.{Rules}
-use Rattle.plan_api.specs.declared.evacuation.Fills.{Fills}
+use Rattle.plan_api.specs.declared.blocks_to_copy.Fills.{Fills}
 
 -- block k is in the list, which has a flag for each block
 abbrev pub listed : List Bool → ℕ → Bool

@@ -2,7 +2,7 @@
 use Rattle.heap_layout.specs.declared.layout.TheConstants.{BLOCK_LINES, BLOCK_WORDS}
 use Rattle.std.specs.Prelude.{◌≡◌, ℕ, ◌+◌, ◌<◌, ◌≤◌, ◌⊎◌}
 use Rattle.heap_layout.specs.Zones.{block_at, offset_at, block_start}
-use Rattle.heap_layout.specs.Blocks.{code_of, IsValid}
+use Rattle.heap_layout.specs.Blocks.{code_of, IsValidWord}
 use Rattle.object_model.specs.Objects.{HeapState, block_word, line_marked, is_start, IsHeld, size_at}
 use Rattle.line_marks.specs.Bits.{bit_in}
 use Rattle.plan_api.specs.declared.block_view.BlockView.{BlockView}
@@ -26,7 +26,7 @@ IsObjectsEnd s k end = (HasNoObject s k × (end ≡ 0)) ⊎ ((a : ℕ) × IsLast
 pub record IsViewOf (s : HeapState) (k : ℕ) (v : BlockView) : Type 0 where
   pub block : k < s.blocks
   pub code : code_of v.word ≡ block_word s k
-  pub valid : IsValid v.word
+  pub valid : IsValidWord v.word
   pub lines : (line : ℕ) → line < BLOCK_LINES → bit_in v.lines line ≡ line_marked s k line
   pub starts : (w : ℕ) → w < BLOCK_WORDS → bit_in v.starts w ≡ is_start s (block_start s.blocks k + w)
   pub end : IsObjectsEnd s k v.end

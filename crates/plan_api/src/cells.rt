@@ -4,7 +4,7 @@ ghost use Rattle.std.specs.Prelude.{◌≡◌, ◌+◌, ◌*◌, ◌<◌, ◌≤
 ghost use Rattle.heap_layout.specs.declared.block.Kind.{Kind};
 ghost use Rattle.sessions.specs.Fitting.{class_for as class_for_size};
 ghost use Rattle.line_marks.specs.Bits.{bit_in};
-ghost use Rattle.plan_api.specs.Cells.{IsFirstCell, HasNoCell};
+ghost use Rattle.plan_api.specs.Cells.{IsFirstCell, HasNoClearCell};
 
 use cell_space::class_of;
 use heap_layout::{BLOCK_WORDS, Kind, Region};
@@ -33,7 +33,7 @@ pub(crate) fn free_cell(starts: &[u64], cell_size: u32, from: u32) -> Option<Reg
     requires bits { length starts.now ≡ 64 }
     requires least { 4 ≤ cell_size }
     requires most { cell_size ≤ MAX_MEDIUM_WORDS }
-    ensures { MatchOption result (HasNoCell starts.now cell_size from)
+    ensures { MatchOption result (HasNoClearCell starts.now cell_size from)
         (λ r. IsFirstCell starts.now cell_size from r.next × (r.end ≡ r.next + cell_size)) }
 {
     for index in from.div_ceil(cell_size)..BLOCK_WORDS / cell_size {

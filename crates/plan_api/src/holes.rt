@@ -2,7 +2,7 @@
 
 ghost use Rattle.std.specs.Prelude.{◌≡◌, ◌+◌, ◌*◌, ◌/◌, ◌<◌, ◌≤◌, ℕ, max, false, length, MatchOption};
 ghost use Rattle.object_model.specs.Objects.{HeapState, lines_for};
-ghost use Rattle.line_marks.specs.Bits.{IsFirstRun, HasNoRun};
+ghost use Rattle.line_marks.specs.Bits.{IsFirstClearRun, HasNoClearRun};
 ghost use Rattle.plan_api.specs.Views.{IsViewOf};
 ghost use Rattle.block_sweeps.specs.Sweeping.{AreApart};
 ghost use Rattle.plan_api.specs.Holes.{IsFirstHole};
@@ -76,10 +76,10 @@ pub(crate) fn clear_lines(lines: &[u64], from: u32, size: u32) -> Option<Region>
     requires words { length lines.now ≡ 4 }
     requires least { 3 ≤ size }
     requires most { size ≤ MAX_MEDIUM_WORDS }
-    ensures { MatchOption result (HasNoRun lines.now (lines_for from) (lines_for size))
+    ensures { MatchOption result (HasNoClearRun lines.now (lines_for from) (lines_for size))
         (λ r. (x : ℕ) × (end : ℕ) × (r.next ≡ LINE_WORDS * x)
         × (r.end ≡ LINE_WORDS * end)
-        × IsFirstRun lines.now (lines_for from) (lines_for size) x end) }
+        × IsFirstClearRun lines.now (lines_for from) (lines_for size) x end) }
 {
     let first = from.div_ceil(LINE_WORDS);
     let Some(run) = first_run(lines, first, size.div_ceil(LINE_WORDS)) else {

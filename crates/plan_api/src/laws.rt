@@ -6,7 +6,7 @@ ghost use Rattle.heap_layout.specs.Blocks.{all_kinds};
 ghost use Rattle.heap_layout.specs.declared.block.Kind.{Kind};
 ghost use Rattle.heap_layout.specs.declared.block.Kind.TheVariants as kinds;
 ghost use Rattle.heap_layout.specs.declared.layout.Layout.{Layout};
-ghost use Rattle.object_model.specs.Objects.{HeapState, state_over, HasKind, class_at, owner_at, IsHeld, IsInExtent};
+ghost use Rattle.object_model.specs.Objects.{HeapState, state_over, HasKind, class_at, owner_at, IsHeld, IsInExtent, shown};
 ghost use Rattle.object_model.specs.Lawful.{IsWellFormed, IsReadableBlock, IsTouched, LineBitsAreExact};
 ghost use Rattle.line_marks.specs.Bits.{bit_in};
 ghost use Rattle.sessions.specs.Plans as plans;
@@ -73,7 +73,7 @@ pub fn views_show_blocks()
     ensures apart { (s : HeapState) (k : ℕ) → IsWellFormed s → AreApart s k }
     ensures readable { (words : List ℕ) (l : Layout) (number base k : ℕ)
         → IsReadableBlock (state_over words l number base) k
-        → IsReadableBlock (state_over words l 0 0) k }
+        → IsReadableBlock (shown words l) k }
 {}
 
 /// If the reserve is there, it is still there after mutators took at most the allowance of Free

@@ -2,11 +2,11 @@
 #![tactic(auto)]
 
 mod block_view;
+mod blocks_to_copy;
 mod cells;
 mod counts;
 mod cursor_laws;
 mod cursors;
-mod evacuation;
 mod evacuation_laws;
 mod fit;
 mod flags;
@@ -20,11 +20,11 @@ mod relist_laws;
 mod worked_laws;
 
 pub use block_view::BlockView;
+pub use blocks_to_copy::{Fills, copied_blocks, may_leave, no_blocks};
 pub use cells::class_for;
 pub use counts::{BlockCounts, Reserve};
 pub use cursor_laws::placements_are_decided;
 pub use cursors::{Cursors, place_in};
-pub use evacuation::{Fills, copied_blocks, may_leave, no_blocks};
 pub use evacuation_laws::{evacuated_blocks, kept_blocks};
 pub use fit::{fits, fits_small, has_hole, has_run};
 pub use flags::PlanFlags;

@@ -2,9 +2,9 @@
 
 ghost use Rattle.std.specs.Prelude.{◌≡◌, ◌↔◌, ◌<◌, ◌≤◌, ◌&&◌, ◌||◌, ℕ, IsTrue, length, map, IfOk};
 ghost use Rattle.std.specs.List.{range_with_len};
-ghost use Rattle.heap_layout.specs.Zones.{block_at, offset_at, row_words};
+ghost use Rattle.heap_layout.specs.Zones.{block_at, offset_at, IsRowOf};
 ghost use Rattle.heap_layout.specs.declared.block.Kind.TheVariants as kinds;
-ghost use Rattle.object_model.specs.Objects.{HeapState, state_over, size_of, has_kind, IsHeld, IsInExtent};
+ghost use Rattle.object_model.specs.Objects.{HeapState, size_of, has_kind, IsHeld, IsInExtent, shown};
 ghost use Rattle.object_model.specs.declared.collect.Collect.{Collect};
 ghost use Rattle.object_model.specs.declared.collect.Collect.TheVariants.{Nursery};
 ghost use Rattle.object_model.specs.Preserving.{may_leave as may_leave_from};
@@ -26,9 +26,9 @@ ghost use Rattle.plan_api.specs.Releasing.{Releases};
 ghost use Rattle.plan_api.specs.Relisting.{Relists};
 
 use crate::block_view::BlockView;
+use crate::blocks_to_copy::may_leave;
 use crate::cells::class_for;
 use crate::counts::Reserve;
-use crate::evacuation::may_leave;
 use crate::fit::fits;
 use crate::flags::PlanFlags;
 use crate::grants::block_counts;
@@ -153,20 +153,20 @@ pub trait Plan {
         collect: Collect,
         base: u64,
     )
-        requires extent { length (W.words words.old) ≡ row_words layout.now.blocks }
+        requires extent { IsRowOf layout.now (W.words words.old) }
         requires block { block < layout.now.blocks }
         requires releasable { IsReleasable
-            (state_over (W.words words.old) layout.now 0 0) block }
-        ensures { Releases rules collect base (state_over (W.words words.old) layout.now 0 0)
-            (state_over (W.words words.new) layout.now 0 0) block };
+            (shown (W.words words.old) layout.now) block }
+        ensures { Releases rules collect base (shown (W.words words.old) layout.now)
+            (shown (W.words words.new) layout.now) block };
 
     /// After mutators filled a block: makes the line bits of an Immix block those of the lines that
     /// objects touch, if the plan fills lines. In every other case changes nothing.
     fn relist_block<W: Words>(words: &mut W, layout: &Layout, block: u32)
-        requires block { IsReadableBlock (state_over (W.words words.old) layout.now 0 0) block }
-        requires apart { AreApart (state_over (W.words words.old) layout.now 0 0) block }
-        ensures { Relists rules (state_over (W.words words.old) layout.now 0 0)
-            (state_over (W.words words.new) layout.now 0 0) block };
+        requires block { IsReadableBlock (shown (W.words words.old) layout.now) block }
+        requires apart { AreApart (shown (W.words words.old) layout.now) block }
+        ensures { Relists rules (shown (W.words words.old) layout.now)
+            (shown (W.words words.new) layout.now) block };
 
     // The rules are those of the plan, and the flags are those of the rules.
     ghost rules_are_of_plan: { rules ≡ rules_of plan };

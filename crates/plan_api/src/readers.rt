@@ -1,9 +1,9 @@
 //! The functions that read blocks of a heap's row. Plans decide by their results alone.
 
 ghost use Rattle.std.specs.Prelude.{◌≡◌, ◌+◌, ◌*◌, ◌<◌, ◌≤◌, ℕ, IsTrue, length, slice_index};
-ghost use Rattle.heap_layout.specs.Zones.{first, row_words, BlockWords, StartBits};
-ghost use Rattle.heap_layout.specs.Blocks.{code_of, is_block_code, IsValid};
-ghost use Rattle.object_model.specs.Objects.{state_over, block_word};
+ghost use Rattle.heap_layout.specs.Zones.{first, BlockWords, StartBits, IsRowOf};
+ghost use Rattle.heap_layout.specs.Blocks.{code_of, is_block_code, IsValidWord};
+ghost use Rattle.object_model.specs.Objects.{state_over, block_word, shown};
 ghost use Rattle.object_model.specs.Lawful.{IsReadableBlock};
 ghost use Rattle.object_model.specs.Heaps.{heap_state};
 ghost use Rattle.block_sweeps.specs.Sweeping.{AreApart};
@@ -30,7 +30,7 @@ pub fn view(heap: &Heap, block: u32) -> BlockView
 /// The view of a block of the row `words`. Reads the block word, the line words and the start
 /// words once each, and the shape word of the last object that begins in the block.
 pub fn view_in<W: Words>(words: &W, layout: &Layout, block: u32) -> BlockView
-    requires { IsReadableBlock (state_over (W.words words.now) layout.now 0 0) block }
+    requires { IsReadableBlock (shown (W.words words.now) layout.now) block }
     ensures { (number base : ℕ) → IsViewOf (state_over
         (W.words words.now) layout.now number base) block result }
 {
@@ -59,8 +59,8 @@ pub fn hole_in_block<W: Words>(
     from: u32,
     size: u32,
 ) -> Option<Region>
-    requires block { IsReadableBlock (state_over (W.words words.now) layout.now 0 0) block }
-    requires apart { AreApart (state_over (W.words words.now) layout.now 0 0) block }
+    requires block { IsReadableBlock (shown (W.words words.now) layout.now) block }
+    requires apart { AreApart (shown (W.words words.now) layout.now) block }
     requires least { 3 ≤ size }
     requires most { size ≤ MAX_MEDIUM_WORDS }
     ensures { (number base : ℕ) → IsFirstHole fill (state_over
@@ -89,20 +89,20 @@ pub fn hole_in_block<W: Words>(
 
 /// The kind, class and owner of a block of the row `words`, whose block word must be valid.
 pub fn block_word_in<W: Words>(words: &W, layout: &Layout, block: u32) -> BlockWord
-    requires extent { length (W.words words.now) ≡ row_words layout.now.blocks }
+    requires extent { IsRowOf layout.now (W.words words.now) }
     requires block { block < layout.now.blocks }
     requires code { IsTrue (is_block_code (block_word
-        (state_over (W.words words.now) layout.now 0 0) block)) }
+        (shown (W.words words.now) layout.now) block)) }
     ensures code { code_of result
         ≡ slice_index (W.words words.now) (first layout.now.blocks BlockWords + block) }
-    ensures valid { IsValid result }
+    ensures valid { IsValidWord result }
 {
     decode(words.get(layout.block_at(block))).unwrap()
 }
 
 /// The 64 words with the start bits of a block.
 fn start_words<W: Words>(words: &W, layout: &Layout, block: u32) -> [u64; 64]
-    requires extent { length (W.words words.now) ≡ row_words layout.now.blocks }
+    requires extent { IsRowOf layout.now (W.words words.now) }
     requires block { block < layout.now.blocks }
     ensures len { length result ≡ 64 }
     ensures words { (n : ℕ) → n < 64 → slice_index result n

@@ -1,7 +1,7 @@
 //! Candidates of heaps of blocks that are written by hand.
 
 ghost use Rattle.std.specs.Prelude.{◌≡◌, ◌<◌, ◌≤◌, length, IfOk};
-ghost use Rattle.heap_layout.specs.Zones.{row_words};
+ghost use Rattle.heap_layout.specs.Zones.{row_words, IsRowOf};
 
 use heap_layout::{Kind, Layout};
 use immix_space::candidates;
@@ -13,7 +13,7 @@ const ALL: u64 = u64::MAX;
 
 /// Makes a block an Immix block with these line words.
 fn set_lines(words: &mut Vec<u64>, layout: &Layout, block: u32, lines: &[u64; 4])
-    requires extent { length words.old.items ≡ row_words layout.now.blocks }
+    requires extent { IsRowOf layout.now words.old.items }
     requires block { block < layout.now.blocks }
     ensures { length words.new.items ≡ length words.old.items }
 {

@@ -175,7 +175,7 @@ fn check_plan<P: Plan>(
 // No block of an empty heap is held back under NoGC and MarkSweep. SemiSpace lets mutators take
 // half of the blocks, and Immix all but the headroom.
 #[test]
-fn plans_tell(rt: HostRuntime) -> Result<(), Fail> {
+fn plans_say_their_rules(rt: HostRuntime) -> Result<(), Fail> {
     let alloc = rt.alloc();
     let nogc = Profile {
         name: "nogc",

@@ -3,7 +3,7 @@
 //! blocks from 806. Block 1 begins at word 4902, and block 2 at word 8998.
 
 ghost use Rattle.std.specs.Prelude.{◌≡◌, ◌+◌, ◌<◌, ◌≤◌, length, IfOk};
-ghost use Rattle.heap_layout.specs.Zones.{row_words};
+ghost use Rattle.heap_layout.specs.Zones.{row_words, IsRowOf};
 ghost use Rattle.heap_layout.specs.declared.layout.TheConstants.{BLOCK_WORDS};
 
 use heap_layout::{Kind, Layout};
@@ -106,7 +106,7 @@ fn check_release<P: Plan>(
     own: &[(usize, u64)],
     rest: &[(usize, u64)],
 ) -> Result<(), AllocError>
-    requires extent { length words.items ≡ row_words layout.now.blocks }
+    requires extent { IsRowOf layout.now words.items }
     requires block { block < layout.now.blocks }
 {
     let before = words.as_slice().to_vec(alloc)?;

@@ -1,7 +1,7 @@
 //! Blocks that are relisted after mutators filled them, of rows that are written by hand.
 
 ghost use Rattle.std.specs.Prelude.{◌≡◌, length};
-ghost use Rattle.heap_layout.specs.Zones.{row_words};
+ghost use Rattle.heap_layout.specs.Zones.{IsRowOf};
 
 use crate::releases::{check_words, small_row};
 use heap_layout::{Kind, Layout};
@@ -20,7 +20,7 @@ fn check_relist<P: Plan>(
     mut words: Vec<u64>,
     after: &[(usize, u64)],
 ) -> Result<(), AllocError>
-    requires extent { length words.items ≡ row_words layout.now.blocks }
+    requires extent { IsRowOf layout.now words.items }
     requires blocks { layout.now.blocks ≡ 4 }
 {
     let before = words.as_slice().to_vec(alloc)?;

@@ -2,7 +2,7 @@
 use Rattle.std.proofs.Common.{◌≡◌, ◌≢◌, refl, sym, ap, ◌∙◌, subst, inl, inr, ℕ, zero, suc, ◌+◌, ◌/◌, ◌%◌, ◌<◌, ◌≤◌, Bool, true, IsTrue, List, length, slice_index, nat_eq, arith, Some}
 use Rattle.std.proofs.lemmas.Bool.{cases_Bool, cases_eq, and_parts, eqb-true}
 use Rattle.heap_layout.specs.Zones.{heap_of, row_words, block_start, block_at, offset_at, IsAddress}
-use Rattle.heap_layout.specs.Blocks.{kind_code, code_of, IsValid, is_block_code, is_valid_for, is_valid_for_some, kind_of_code}
+use Rattle.heap_layout.specs.Blocks.{kind_code, code_of, IsValidWord, is_block_code, is_valid_for, is_valid_for_some, kind_of_code}
 use Rattle.heap_layout.specs.declared.block.Kind.{Kind}
 use Rattle.heap_layout.specs.declared.block.Kind.TheVariants as kinds
 use Rattle.heap_layout.specs.declared.block.BlockWord.{BlockWord}
@@ -21,12 +21,12 @@ use Rattle.plan_api.proofs.Tallies.{count_below, count-next}
 use Rattle.plan_api.proofs.Viewing.{word-address, word-block, at-offset, offset-below}
 
 -- the kind that a block has is that of its word
-pub kind-told : (s : HeapState) (k : ℕ) (kind : Kind) (w : BlockWord) → IsValid w → code_of w ≡ block_word s k → HasKind s k kind → w.kind ≡ kind
-kind-told s k kind w valid code is =
+pub kind-shown : (s : HeapState) (k : ℕ) (kind : Kind) (w : BlockWord) → IsValidWord w → code_of w ≡ block_word s k → HasKind s k kind → w.kind ≡ kind
+kind-shown s k kind w valid code is =
     let e : Some w.kind ≡ Some kind = sym (parts_of_code w (block_word s k) valid code).0 ∙ ap kind_of_code (kind-code s k kind is) ∙ kind_of_code-kind_code kind in cc
 
 -- the code of a word without its owner
-pub unowned-code : (w : BlockWord) (v : ℕ) → IsValid w → code_of w ≡ v → code_of (record { kind = w.kind; class = w.class; owner = 0 }) ≡ v % 65536
+pub unowned-code : (w : BlockWord) (v : ℕ) → IsValidWord w → code_of w ≡ v → code_of (record { kind = w.kind; class = w.class; owner = 0 }) ≡ v % 65536
 unowned-code w v valid code =
     let class : v / 256 % 256 ≡ w.class = (parts_of_code w v valid code).1 in
     let kind : kind_code w.kind ≤ 8 = kind_code_most w.kind in

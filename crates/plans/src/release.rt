@@ -1,11 +1,11 @@
 //! The release of a block at the end of a collection, for every plan.
 
 ghost use Rattle.std.specs.Prelude.{◌≡◌, ◌<◌, ◌%◌, ◌||◌, ℕ, length, nat_eq, true, false, if◌then◌else◌};
-ghost use Rattle.heap_layout.specs.Zones.{row_words};
-ghost use Rattle.heap_layout.specs.Blocks.{code_of, kind_code, IsValid};
+ghost use Rattle.heap_layout.specs.Zones.{row_words, IsRowOf};
+ghost use Rattle.heap_layout.specs.Blocks.{code_of, kind_code, IsValidWord};
 ghost use Rattle.heap_layout.specs.declared.block.Kind.TheVariants as kinds;
 ghost use Rattle.object_model.specs.declared.collect.Collect.{Collect};
-ghost use Rattle.object_model.specs.Objects.{HeapState, state_over, block_word, HasKind};
+ghost use Rattle.object_model.specs.Objects.{HeapState, block_word, HasKind, shown};
 ghost use Rattle.object_model.specs.Lawful.{IsReadableBlock};
 ghost use Rattle.object_model.specs.Releasing.{IsReleasable};
 ghost use Rattle.sessions.specs.Plans.{Rules, Copies};
@@ -26,7 +26,7 @@ use side_meta::Words;
 /// blocks. A block with an owner has copies, and is none.
 pub(crate) fn is_kept(fills: &Fills, collect: Collect, word: &BlockWord) -> bool
     ensures { (r : Rules) (s : HeapState) (k : ℕ) → HasFills r fills.now
-        → r.reserve ≡ Copies → k < s.blocks → IsValid word.now
+        → r.reserve ≡ Copies → k < s.blocks → IsValidWord word.now
         → code_of word.now ≡ block_word s k
         → is_kept_after r collect s k ≡ result }
 {
@@ -49,13 +49,13 @@ fn may_be_kept(kind: Kind) -> bool
 
 /// Releases a block under a plan that makes no block Kept.
 pub(crate) fn release_in_place<W: Words>(words: &mut W, layout: &Layout, block: u32, base: u64)
-    requires extent { length (W.words words.old) ≡ row_words layout.now.blocks }
+    requires extent { IsRowOf layout.now (W.words words.old) }
     requires block { block < layout.now.blocks }
-    requires releasable { IsReleasable (state_over (W.words words.old) layout.now 0 0) block }
+    requires releasable { IsReleasable (shown (W.words words.old) layout.now) block }
     ensures { (r : Rules) (c : Collect)
-        → is_kept_after r c (state_over (W.words words.old) layout.now 0 0) block ≡ false
-        → Releases r c base (state_over (W.words words.old) layout.now 0 0)
-        (state_over (W.words words.new) layout.now 0 0) block }
+        → is_kept_after r c (shown (W.words words.old) layout.now) block ≡ false
+        → Releases r c base (shown (W.words words.old) layout.now)
+        (shown (W.words words.new) layout.now) block }
 {
     let word = block_word_in(words, layout, block);
     release(words, layout, block, &word, false, base);
@@ -71,17 +71,17 @@ pub(crate) fn release<W: Words>(
     kept: bool,
     base: u64,
 )
-    requires extent { length (W.words words.old) ≡ row_words layout.now.blocks }
+    requires extent { IsRowOf layout.now (W.words words.old) }
     requires block { block < layout.now.blocks }
-    requires releasable { IsReleasable (state_over (W.words words.old) layout.now 0 0) block }
-    requires valid { IsValid word.now }
+    requires releasable { IsReleasable (shown (W.words words.old) layout.now) block }
+    requires valid { IsValidWord word.now }
     requires code { code_of word.now
-        ≡ block_word (state_over (W.words words.old) layout.now 0 0) block }
+        ≡ block_word (shown (W.words words.old) layout.now) block }
     requires small { kept ≡ true → word.now.kind ≡ kinds.Immix → ⊥ }
     ensures { (r : Rules) (c : Collect)
-        → is_kept_after r c (state_over (W.words words.old) layout.now 0 0) block ≡ kept
-        → Releases r c base (state_over (W.words words.old) layout.now 0 0)
-        (state_over (W.words words.new) layout.now 0 0) block }
+        → is_kept_after r c (shown (W.words words.old) layout.now) block ≡ kept
+        → Releases r c base (shown (W.words words.old) layout.now)
+        (shown (W.words words.new) layout.now) block }
 {
     match word.kind {
         Kind::Free | Kind::LargeTail => {}
@@ -103,19 +103,19 @@ fn release_small<W: Words>(
     kept: bool,
     base: u64,
 )
-    requires extent { length (W.words words.old) ≡ row_words layout.now.blocks }
+    requires extent { IsRowOf layout.now (W.words words.old) }
     requires block { block < layout.now.blocks }
-    requires releasable { IsReleasable (state_over (W.words words.old) layout.now 0 0) block }
-    requires valid { IsValid word.now }
+    requires releasable { IsReleasable (shown (W.words words.old) layout.now) block }
+    requires valid { IsValidWord word.now }
     requires code { code_of word.now
-        ≡ block_word (state_over (W.words words.old) layout.now 0 0) block }
+        ≡ block_word (shown (W.words words.old) layout.now) block }
     requires small { kept ≡ true → word.now.kind ≡ kinds.Immix → ⊥ }
     requires head { word.now.kind ≡ kinds.LargeHead → ⊥ }
     requires tail { word.now.kind ≡ kinds.LargeTail → ⊥ }
     ensures { (r : Rules) (c : Collect)
-        → is_kept_after r c (state_over (W.words words.old) layout.now 0 0) block ≡ kept
-        → Releases r c base (state_over (W.words words.old) layout.now 0 0)
-        (state_over (W.words words.new) layout.now 0 0) block }
+        → is_kept_after r c (shown (W.words words.old) layout.now) block ≡ kept
+        → Releases r c base (shown (W.words words.old) layout.now)
+        (shown (W.words words.new) layout.now) block }
 {
     if sweep(words, layout, block, word, kept, base) == 0 {
         return;
@@ -127,15 +127,15 @@ fn release_small<W: Words>(
 /// Makes the line bits of a block of the kind `kind` those of the lines that objects in it touch,
 /// if it is an Immix block.
 pub(crate) fn mark_lines<W: Words>(words: &mut W, layout: &Layout, block: u32, kind: Kind)
-    requires extent { length (W.words words.old) ≡ row_words layout.now.blocks }
+    requires extent { IsRowOf layout.now (W.words words.old) }
     requires block { kind ≡ kinds.Immix
-        → IsReadableBlock (state_over (W.words words.old) layout.now 0 0) block }
-    requires apart { AreApart (state_over (W.words words.old) layout.now 0 0) block }
+        → IsReadableBlock (shown (W.words words.old) layout.now) block }
+    requires apart { AreApart (shown (W.words words.old) layout.now) block }
     requires kind { kind ≡ kinds.Immix
-        → HasKind (state_over (W.words words.old) layout.now 0 0) block kinds.Immix }
+        → HasKind (shown (W.words words.old) layout.now) block kinds.Immix }
     ensures immix { kind ≡ kinds.Immix
-        → MarksTouched (state_over (W.words words.old) layout.now 0 0)
-        (state_over (W.words words.new) layout.now 0 0) block }
+        → MarksTouched (shown (W.words words.old) layout.now)
+        (shown (W.words words.new) layout.now) block }
     ensures others { (kind ≡ kinds.Immix → ⊥) → W.words words.new ≡ W.words words.old }
     ensures extent { length (W.words words.new) ≡ row_words layout.now.blocks }
 {
@@ -154,18 +154,18 @@ fn sweep<W: Words>(
     kept: bool,
     base: u64,
 ) -> u32
-    requires extent { length (W.words words.old) ≡ row_words layout.now.blocks }
+    requires extent { IsRowOf layout.now (W.words words.old) }
     requires block { block < layout.now.blocks }
-    requires releasable { IsReleasable (state_over (W.words words.old) layout.now 0 0) block }
-    requires valid { IsValid word.now }
+    requires releasable { IsReleasable (shown (W.words words.old) layout.now) block }
+    requires valid { IsValidWord word.now }
     requires code { code_of word.now
-        ≡ block_word (state_over (W.words words.old) layout.now 0 0) block }
+        ≡ block_word (shown (W.words words.old) layout.now) block }
     ensures swept { Sweeps base (if kept then kind_code kinds.Kept
-        else block_word (state_over (W.words words.old) layout.now 0 0) block % OWNER_UNIT)
-        (state_over (W.words words.old) layout.now 0 0)
-        (state_over (W.words words.new) layout.now 0 0) block }
+        else block_word (shown (W.words words.old) layout.now) block % OWNER_UNIT)
+        (shown (W.words words.old) layout.now)
+        (shown (W.words words.new) layout.now) block }
     ensures count { result
-        ≡ object_count (state_over (W.words words.new) layout.now 0 0) block }
+        ≡ object_count (shown (W.words words.new) layout.now) block }
 {
     if kept {
         return release_block(words, layout, block, base);

@@ -27,7 +27,7 @@ pub trait Pool {
     fn note(&self, b: Bucket);
 
     /// Runs a bucket from its first packets on, with all that the workers push for it. At Ok it
-    /// hands back the workers, in order, and the packets for later buckets. For want of memory
+    /// hands back the workers, in order, and the packets for later buckets. Where memory runs out
     /// workers and packets are given up.
     final fn run_bucket<T: Send + Drop, W: PacketWorker<T>, G: Gate, R: Threads + Sync>(
         &self,

@@ -7,10 +7,10 @@ use Rattle.ideal_heap.specs.declared.name.Name.{Name}
 use Rattle.ideal_heap.specs.declared.command.Command.TheVariants as c
 use Rattle.ideal_heap.specs.declared.reply.Reply.TheVariants as r
 use Rattle.ideal_heap.specs.Names.{name}
-use Rattle.ideal_heap.specs.Ideal.{IdealHeap, Record, Field, Nil, Outcome, set_register, set_record, record_of, no_fields, field_of as field_to, put_field, put_number, name_in, field_reply, on_ref, on_num, born, with_object, at_number, step}
+use Rattle.ideal_heap.specs.Ideal.{IdealHeap, Record, Field, Nil, Outcome, set_register, set_record, record_of, no_fields, field_of as field_to, put_field, put_number, name_of_field, field_reply, on_ref, on_num, born, with_object, at_number, step}
 use Rattle.ideal_heap.proofs.UpdateLemmas.{at_name-same, at_number-same}
 use Rattle.ideal_heap.proofs.StepLemmas.{by_num, num-within, ref-within, getting, putting, reading, writing, adding, swapping}
-use Rattle.programs.specs.Contents.{number_in, field_in, number_of, field_of}
+use Rattle.programs.specs.Contents.{number_of_object, field_in, number_of, field_in_heap}
 
 -- lists after one element is set
 
@@ -38,7 +38,7 @@ none-past n i x past =
 
 -- who has a number or a reference is an object
 
-pub with-number : (h : IdealHeap) (o : Option Name) (j x : ℕ) → number_in h o j ≡ Some x → (n : Name) × (o ≡ Some n) × (slice_get (record_of h n).nums j ≡ Some x)
+pub with-number : (h : IdealHeap) (o : Option Name) (j x : ℕ) → number_of_object h o j ≡ Some x → (n : Name) × (o ≡ Some n) × (slice_get (record_of h n).nums j ≡ Some x)
 with-number h None j x is = absurd cc
 with-number h (Some n) j x is = (n, refl, is)
 
@@ -52,8 +52,8 @@ register-same h m d v = ap (λ f. f d) (at_number-same h.registers m (at_number 
 pub record-same : (h : IdealHeap) (n : Name) (x : Record) → record_of (set_record h n x) n ≡ x
 record-same h n x = ap (λ o. unwrap_or o no_fields) (at_name-same h.records n (Some x))
 
-number-set : (h : IdealHeap) (o : Option Name) (n : Name) (x : Record) (j v : ℕ) → o ≡ Some n → slice_get x.nums j ≡ Some v → number_in (set_record h n x) o j ≡ Some v
-number-set h o n x j v is has = ap (λ q. number_in (set_record h n x) q j) is ∙ ap (λ y. slice_get y.nums j) (record-same h n x) ∙ has
+number-set : (h : IdealHeap) (o : Option Name) (n : Name) (x : Record) (j v : ℕ) → o ≡ Some n → slice_get x.nums j ≡ Some v → number_of_object (set_record h n x) o j ≡ Some v
+number-set h o n x j v is has = ap (λ q. number_of_object (set_record h n x) q j) is ∙ ap (λ y. slice_get y.nums j) (record-same h n x) ∙ has
 
 field-set : (h : IdealHeap) (o : Option Name) (n : Name) (x : Record) (i : ℕ) (f : Field) → o ≡ Some n → slice_get x.refs i ≡ Some f → field_in (set_record h n x) o i ≡ Some f
 field-set h o n x i f is has = ap (λ q. field_in (set_record h n x) q i) is ∙ ap (λ y. slice_get y.refs i) (record-same h n x) ∙ has
@@ -82,10 +82,10 @@ read h m s j x is =
 
 pub told : (h : IdealHeap) (m s j x : ℕ) → (step h m (c.Read s j)).0 ≡ r.Num x → number_of h m s j ≡ Some x
 unfolding step
-told h m s j x = by_num (λ o. o.0 ≡ r.Num x → number_in h (h.registers m s) j ≡ Some x) h (h.registers m s) j (reading h j)
+told h m s j x = by_num (λ o. o.0 ≡ r.Num x → number_of_object h (h.registers m s) j ≡ Some x) h (h.registers m s) j (reading h j)
     (λ e. absurd cc) (λ e. absurd cc)
     (λ n is l e. let value : slice_index (record_of h n).nums j ≡ x = cc in
-    ap (λ q. number_in h q j) is ∙ slice_get-get_or (record_of h n).nums j 0 l ∙ ap (λ y. Some y) value)
+    ap (λ q. number_of_object h q j) is ∙ slice_get-get_or (record_of h n).nums j 0 l ∙ ap (λ y. Some y) value)
 
 pub read-same : (h : IdealHeap) (m s j : ℕ) → (step h m (c.Read s j)).1 ≡ h
 unfolding step
@@ -177,39 +177,39 @@ kept h m s j x was next is other =
 -- get and put
 
 abbrev getting-field : IdealHeap → ℕ → ℕ → Field → Outcome
-getting-field h m d f = (field_reply f, set_register h m d (name_in f))
+getting-field h m d f = (field_reply f, set_register h m d (name_of_field f))
 
-get-step : (h : IdealHeap) (m d s i : ℕ) (f : Field) → field_of h m s i ≡ Some f → step h m (c.Get d s i) ≡ getting-field h m d f
+get-step : (h : IdealHeap) (m d s i : ℕ) (f : Field) → field_in_heap h m s i ≡ Some f → step h m (c.Get d s i) ≡ getting-field h m d f
 unfolding step
 get-step h m d s i f is =
     let found : (n : Name) × (h.registers m s ≡ Some n) × (slice_get (record_of h n).refs i ≡ Some f) = with-field h (h.registers m s) i f is in
     ref-step h (h.registers m s) i f (getting h m d i) found.0 found.1 found.2 ∙ ap (λ o. getting-field h m d (unwrap_or o Nil)) found.2
 
-pub get : (h : IdealHeap) (m d s i : ℕ) (f : Field) → field_of h m s i ≡ Some f → (step h m (c.Get d s i)).0 ≡ field_reply f
+pub get : (h : IdealHeap) (m d s i : ℕ) (f : Field) → field_in_heap h m s i ≡ Some f → (step h m (c.Get d s i)).0 ≡ field_reply f
 get h m d s i f is = ap (λ o. o.0) (get-step h m d s i f is)
 
-pub got : (h : IdealHeap) (m d s i : ℕ) (f : Field) → field_of h m s i ≡ Some f → (step h m (c.Get d s i)).1.registers m d ≡ name_in f
-got h m d s i f is = ap (λ o. o.1.registers m d) (get-step h m d s i f is) ∙ register-same h m d (name_in f)
+pub got : (h : IdealHeap) (m d s i : ℕ) (f : Field) → field_in_heap h m s i ≡ Some f → (step h m (c.Get d s i)).1.registers m d ≡ name_of_field f
+got h m d s i f is = ap (λ o. o.1.registers m d) (get-step h m d s i f is) ∙ register-same h m d (name_of_field f)
 
-pub put : (h : IdealHeap) (m s i v : ℕ) (f : Field) → field_of h m s i ≡ Some f → (step h m (c.Put s i v)).0 ≡ r.Done
+pub put : (h : IdealHeap) (m s i v : ℕ) (f : Field) → field_in_heap h m s i ≡ Some f → (step h m (c.Put s i v)).0 ≡ r.Done
 unfolding step
 put h m s i v f is =
     let found : (n : Name) × (h.registers m s ≡ Some n) × (slice_get (record_of h n).refs i ≡ Some f) = with-field h (h.registers m s) i f is in
     ap (λ o. o.0) (ref-step h (h.registers m s) i f (putting h m i v) found.0 found.1 found.2)
 
-pub field-stored : (h : IdealHeap) (m s i v : ℕ) (f : Field) → field_of h m s i ≡ Some f → field_of (step h m (c.Put s i v)).1 m s i ≡ Some (field_to (h.registers m v))
+pub field-stored : (h : IdealHeap) (m s i v : ℕ) (f : Field) → field_in_heap h m s i ≡ Some f → field_in_heap (step h m (c.Put s i v)).1 m s i ≡ Some (field_to (h.registers m v))
 unfolding step
 field-stored h m s i v f is =
     let found : (n : Name) × (h.registers m s ≡ Some n) × (slice_get (record_of h n).refs i ≡ Some f) = with-field h (h.registers m s) i f is in
     let to : Field = field_to (h.registers m v) in
-    ap (λ o. field_of o.1 m s i) (ref-step h (h.registers m s) i f (putting h m i v) found.0 found.1 found.2)
+    ap (λ o. field_in_heap o.1 m s i) (ref-step h (h.registers m s) i f (putting h m i v) found.0 found.1 found.2)
     ∙ field-set h (h.registers m s) found.0 (put_field (record_of h found.0) i to) i to found.1 (set-same (record_of h found.0).refs i f to found.2)
 
-pub name-back : (o : Option Name) → name_in (field_to o) ≡ o
+pub name-back : (o : Option Name) → name_of_field (field_to o) ≡ o
 name-back None = refl
 name-back (Some n) = refl
 
-pub get-after-put : (h : IdealHeap) (m d s i v : ℕ) (f : Field) → field_of h m s i ≡ Some f
+pub get-after-put : (h : IdealHeap) (m d s i v : ℕ) (f : Field) → field_in_heap h m s i ≡ Some f
     → (step (step h m (c.Put s i v)).1 m (c.Get d s i)).1.registers m d ≡ h.registers m v
 get-after-put h m d s i v f is =
     got (step h m (c.Put s i v)).1 m d s i (field_to (h.registers m v)) (field-stored h m s i v f is) ∙ name-back (h.registers m v)
@@ -230,10 +230,10 @@ made-record h m d refs nums = at_name-same h.records (name m (h.births m + 1)) (
 
 made-number : (h : IdealHeap) (m d refs nums j : ℕ) → number_of (step h m (c.New d refs nums)).1 m d j ≡ slice_get (replicate nums 0) j
 made-number h m d refs nums j =
-    ap (λ q. number_in (step h m (c.New d refs nums)).1 q j) (made-register h m d refs nums)
+    ap (λ q. number_of_object (step h m (c.New d refs nums)).1 q j) (made-register h m d refs nums)
     ∙ ap (λ o. slice_get (unwrap_or o no_fields).nums j) (made-record h m d refs nums)
 
-made-field : (h : IdealHeap) (m d refs nums i : ℕ) → field_of (step h m (c.New d refs nums)).1 m d i ≡ slice_get (replicate refs Nil) i
+made-field : (h : IdealHeap) (m d refs nums i : ℕ) → field_in_heap (step h m (c.New d refs nums)).1 m d i ≡ slice_get (replicate refs Nil) i
 made-field h m d refs nums i =
     ap (λ q. field_in (step h m (c.New d refs nums)).1 q i) (made-register h m d refs nums)
     ∙ ap (λ o. slice_get (unwrap_or o no_fields).refs i) (made-record h m d refs nums)
@@ -244,8 +244,8 @@ made-zero h m d refs nums j within = made-number h m d refs nums j ∙ all-alike
 pub made-no-number : (h : IdealHeap) (m d refs nums j : ℕ) → nums ≤ j → number_of (step h m (c.New d refs nums)).1 m d j ≡ None
 made-no-number h m d refs nums j past = made-number h m d refs nums j ∙ none-past nums j 0 past
 
-pub made-nil : (h : IdealHeap) (m d refs nums i : ℕ) → i < refs → field_of (step h m (c.New d refs nums)).1 m d i ≡ Some Nil
+pub made-nil : (h : IdealHeap) (m d refs nums i : ℕ) → i < refs → field_in_heap (step h m (c.New d refs nums)).1 m d i ≡ Some Nil
 made-nil h m d refs nums i within = made-field h m d refs nums i ∙ all-alike refs i Nil within
 
-pub made-no-field : (h : IdealHeap) (m d refs nums i : ℕ) → refs ≤ i → field_of (step h m (c.New d refs nums)).1 m d i ≡ None
+pub made-no-field : (h : IdealHeap) (m d refs nums i : ℕ) → refs ≤ i → field_in_heap (step h m (c.New d refs nums)).1 m d i ≡ None
 made-no-field h m d refs nums i past = made-field h m d refs nums i ∙ none-past refs i Nil past

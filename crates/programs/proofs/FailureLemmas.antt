@@ -7,7 +7,7 @@ use Rattle.ideal_heap.specs.declared.command.Command.TheVariants as c
 use Rattle.ideal_heap.specs.declared.reply.Reply.TheVariants as r
 use Rattle.ideal_heap.specs.Ideal.{IdealHeap, Record, Field, Nil, At, Outcome, set_record, record_of, put_number, field_reply, on_ref, on_num, step}
 use Rattle.ideal_heap.proofs.StepLemmas.{by_num, by_ref, num-past, ref-past, object-null, getting, putting, reading, writing, adding, swapping, pinning, unpinning}
-use Rattle.programs.specs.Contents.{missing_reply, number_in, field_in, number_of, field_of}
+use Rattle.programs.specs.Contents.{missing_reply, number_of_object, field_in, number_of, field_in_heap}
 
 none-past : {X : Type 0} (xs : List X) (i : ℕ) → slice_get xs i ≡ None → length xs ≤ i
 none-past [] i is = omega arith
@@ -20,7 +20,7 @@ none-past (x ∷ xs) (suc i) is = (
 abbrev failing : IdealHeap → Option Name → Outcome
 failing h o = (missing_reply o, h)
 
-num-fails : (h : IdealHeap) (o : Option Name) (j : ℕ) (f : Name → Record → Outcome) → number_in h o j ≡ None → on_num h o j f ≡ failing h o
+num-fails : (h : IdealHeap) (o : Option Name) (j : ℕ) (f : Name → Record → Outcome) → number_of_object h o j ≡ None → on_num h o j f ≡ failing h o
 num-fails h None j f is = refl
 num-fails h (Some n) j f is = num-past h (Some n) j f n refl (none-past (record_of h n).nums j is)
 
@@ -44,11 +44,11 @@ pub swap-fails : (h : IdealHeap) (m s j was next : ℕ) → number_of h m s j �
 unfolding step
 swap-fails h m s j was next is = num-fails h (h.registers m s) j (swapping h j was next) is
 
-pub get-fails : (h : IdealHeap) (m d s i : ℕ) → field_of h m s i ≡ None → step h m (c.Get d s i) ≡ failing h (h.registers m s)
+pub get-fails : (h : IdealHeap) (m d s i : ℕ) → field_in_heap h m s i ≡ None → step h m (c.Get d s i) ≡ failing h (h.registers m s)
 unfolding step
 get-fails h m d s i is = ref-fails h (h.registers m s) i (getting h m d i) is
 
-pub put-fails : (h : IdealHeap) (m s i v : ℕ) → field_of h m s i ≡ None → step h m (c.Put s i v) ≡ failing h (h.registers m s)
+pub put-fails : (h : IdealHeap) (m s i v : ℕ) → field_in_heap h m s i ≡ None → step h m (c.Put s i v) ≡ failing h (h.registers m s)
 unfolding step
 put-fails h m s i v is = ref-fails h (h.registers m s) i (putting h m i v) is
 
@@ -70,17 +70,17 @@ has-field [] i within = absurd (omega (arith, within))
 has-field (x ∷ xs) zero within = refl
 has-field (x ∷ xs) (suc i) within = has-field xs i (let many : length (x ∷ xs) ≡ suc (length xs) = refl in omega arith)
 
-number-there : (h : IdealHeap) (o : Option Name) (n : Name) (j : ℕ) → o ≡ Some n → j < length (record_of h n).nums → number_in h o j ≡ Some (slice_index (record_of h n).nums j)
-number-there h o n j is within = ap (λ q. number_in h q j) is ∙ slice_get-get_or (record_of h n).nums j 0 within
+number-there : (h : IdealHeap) (o : Option Name) (n : Name) (j : ℕ) → o ≡ Some n → j < length (record_of h n).nums → number_of_object h o j ≡ Some (slice_index (record_of h n).nums j)
+number-there h o n j is within = ap (λ q. number_of_object h q j) is ∙ slice_get-get_or (record_of h n).nums j 0 within
 
 field-there : (h : IdealHeap) (o : Option Name) (n : Name) (i : ℕ) → o ≡ Some n → i < length (record_of h n).refs → field_in h o i ≡ Some (unwrap_or (slice_get (record_of h n).refs i) Nil)
 field-there h o n i is within = ap (λ q. field_in h q i) is ∙ has-field (record_of h n).refs i within
 
 abbrev SomeNumber : IdealHeap → Option Name → ℕ → Type 0
-SomeNumber h o j = (x : ℕ) × (number_in h o j ≡ Some x)
+SomeNumber h o j = (x : ℕ) × (number_of_object h o j ≡ Some x)
 
 abbrev OtherNumber : IdealHeap → Option Name → ℕ → ℕ → Type 0
-OtherNumber h o j was = (x : ℕ) × (number_in h o j ≡ Some x) × (x ≡ was → ⊥)
+OtherNumber h o j was = (x : ℕ) × (number_of_object h o j ≡ Some x) × (x ≡ was → ⊥)
 
 abbrev SomeField : IdealHeap → Option Name → ℕ → Type 0
 SomeField h o i = (f : Field) × (field_in h o i ≡ Some f)
@@ -97,7 +97,7 @@ put-told h m s i v = by_ref (λ o. o.0 ≡ r.Done → SomeField h (h.registers m
 
 pub add-told : (h : IdealHeap) (m s j v x : ℕ) → (step h m (c.Add s j v)).0 ≡ r.Num x → number_of h m s j ≡ Some x
 unfolding step
-add-told h m s j v x = by_num (λ o. o.0 ≡ r.Num x → number_in h (h.registers m s) j ≡ Some x) h (h.registers m s) j (adding h j v)
+add-told h m s j v x = by_num (λ o. o.0 ≡ r.Num x → number_of_object h (h.registers m s) j ≡ Some x) h (h.registers m s) j (adding h j v)
     (λ e. absurd cc) (λ e. absurd cc)
     (λ n is l e. let value : slice_index (record_of h n).nums j ≡ x = cc in number-there h (h.registers m s) n j is l ∙ ap (λ y. Some y) value)
 
@@ -109,9 +109,9 @@ refuses h = (r.No, h)
 
 pub swap-told : (h : IdealHeap) (m s j was next : ℕ) → (step h m (c.Swap s j was next)).0 ≡ r.Yes → number_of h m s j ≡ Some was
 unfolding step
-swap-told h m s j was next = by_num (λ o. o.0 ≡ r.Yes → number_in h (h.registers m s) j ≡ Some was) h (h.registers m s) j (swapping h j was next)
+swap-told h m s j was next = by_num (λ o. o.0 ≡ r.Yes → number_of_object h (h.registers m s) j ≡ Some was) h (h.registers m s) j (swapping h j was next)
     (λ e. absurd cc) (λ e. absurd cc)
-    (λ n is l e. elim (eqb_tells (slice_index (record_of h n).nums j) was) as (λ _. number_in h (h.registers m s) j ≡ Some was) [
+    (λ n is l e. elim (eqb_tells (slice_index (record_of h n).nums j) was) as (λ _. number_of_object h (h.registers m s) j ≡ Some was) [
       | inl same ↦ number-there h (h.registers m s) n j is l ∙ ap (λ y. Some y) same.1
       | inr not ↦ (
           let no : (swapping h j was next n (record_of h n)).0 ≡ r.No = ap (λ b. (if b then swaps h n j next else refuses h).0) not.0 in
@@ -139,13 +139,13 @@ reply-ref : (f : Field) (n : Name) → field_reply f ≡ r.Ref n → f ≡ At n
 reply-ref Nil n e = absurd cc
 reply-ref (At k) n e = cc
 
-pub get-nil : (h : IdealHeap) (m d s i : ℕ) → (step h m (c.Get d s i)).0 ≡ r.Nil → field_of h m s i ≡ Some Nil
+pub get-nil : (h : IdealHeap) (m d s i : ℕ) → (step h m (c.Get d s i)).0 ≡ r.Nil → field_in_heap h m s i ≡ Some Nil
 unfolding step
 get-nil h m d s i = by_ref (λ o. o.0 ≡ r.Nil → field_in h (h.registers m s) i ≡ Some Nil) h (h.registers m s) i (getting h m d i)
     (λ e. absurd cc) (λ e. absurd cc)
     (λ n is l e. field-there h (h.registers m s) n i is l ∙ ap (λ f. Some f) (reply-nil (unwrap_or (slice_get (record_of h n).refs i) Nil) e))
 
-pub get-ref : (h : IdealHeap) (m d s i : ℕ) (to : Name) → (step h m (c.Get d s i)).0 ≡ r.Ref to → field_of h m s i ≡ Some (At to)
+pub get-ref : (h : IdealHeap) (m d s i : ℕ) (to : Name) → (step h m (c.Get d s i)).0 ≡ r.Ref to → field_in_heap h m s i ≡ Some (At to)
 unfolding step
 get-ref h m d s i to = by_ref (λ o. o.0 ≡ r.Ref to → field_in h (h.registers m s) i ≡ Some (At to)) h (h.registers m s) i (getting h m d i)
     (λ e. absurd cc) (λ e. absurd cc)

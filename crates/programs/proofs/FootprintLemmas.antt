@@ -5,12 +5,12 @@ use Rattle.ideal_heap.specs.declared.command.Command.{Command}
 use Rattle.ideal_heap.specs.declared.command.Command.TheVariants as c
 use Rattle.ideal_heap.specs.declared.reply.Reply.TheVariants as r
 use Rattle.ideal_heap.specs.Names.{name}
-use Rattle.ideal_heap.specs.Ideal.{IdealHeap, Record, Field, Nil, At, Outcome, set_register, set_record, record_of, no_fields, field_of as field_to, put_field, put_number, name_in, field_at, born, with_object, step, HasRecord}
+use Rattle.ideal_heap.specs.Ideal.{IdealHeap, Record, Field, Nil, At, Outcome, set_register, set_record, record_of, no_fields, field_of as field_to, put_field, put_number, name_of_field, field_at, born, with_object, step, HasRecord}
 use Rattle.ideal_heap.proofs.UpdateLemmas.{at_name-cases, at_name-other, at_number-other, register-cases}
 use Rattle.ideal_heap.proofs.StepLemmas.{by_num, by_ref, by_object, getting, putting, reading, writing, adding, swapping, pinning, unpinning}
-use Rattle.programs.specs.Contents.{number_in, field_in, number_of, field_of}
+use Rattle.programs.specs.Contents.{number_of_object, field_in, number_of, field_in_heap}
 use Rattle.programs.specs.Growth.{IsGrown}
-use Rattle.programs.specs.Footprints.{changed_by, shared_by, Sets, Changes, HitsNumber, HitsField}
+use Rattle.programs.specs.Footprints.{changed_by, shared_by, SetsField, Changes, HitsNumber, HitsField}
 use Rattle.programs.proofs.AccessLemmas.{set-other, with-field}
 
 by_test : (P : Outcome → Type 0) (b : Bool) (x y : Outcome) → P x → P y → P (if b then x else y)
@@ -31,11 +31,11 @@ register-other h m d v k s other = elim (register-cases h m d v k s) [ inl set �
 apart : (m d k s : ℕ) → ((k ≡ m) × (Some d ≡ Some s) → ⊥) → k ≡ m → s ≡ d → ⊥
 apart m d k s not same place = not (same, ap (λ q. Some q) (sym place))
 
-pub registers-stay : (h : IdealHeap) (m : ℕ) (command : Command) (k s : ℕ) → (Sets m command k s → ⊥) → (step h m command).1.registers k s ≡ h.registers k s
+pub registers-stay : (h : IdealHeap) (m : ℕ) (command : Command) (k s : ℕ) → (SetsField m command k s → ⊥) → (step h m command).1.registers k s ≡ h.registers k s
 unfolding step
 registers-stay h m (c.New d refs nums) k s not = register-other (with_object h m (born refs nums)) m d (Some (name m (h.births m + 1))) k s (apart m d k s not)
 registers-stay h m (c.Get d t i) k s not = by_ref (λ o. o.1.registers k s ≡ h.registers k s) h (h.registers m t) i (getting h m d i) refl refl
-    (λ n is l. register-other h m d (name_in (field_at (record_of h n) i)) k s (apart m d k s not))
+    (λ n is l. register-other h m d (name_of_field (field_at (record_of h n) i)) k s (apart m d k s not))
 registers-stay h m (c.Put t i v) k s not = by_ref (λ o. o.1.registers k s ≡ h.registers k s) h (h.registers m t) i (putting h m i v) refl refl (λ n is l. refl)
 registers-stay h m (c.Read t j) k s not = by_num (λ o. o.1.registers k s ≡ h.registers k s) h (h.registers m t) j (reading h j) refl refl (λ n is l. refl)
 registers-stay h m (c.Write t j v) k s not = by_num (λ o. o.1.registers k s ≡ h.registers k s) h (h.registers m t) j (writing h j v) refl refl (λ n is l. refl)
@@ -169,7 +169,7 @@ named-fields-stay h m c.Gc n i not = refl
 named-fields-stay h m c.Meet n i not = refl
 
 pub numbers-stay : (h : IdealHeap) (m : ℕ) (command : Command) (o : Option Name) (j : ℕ) → (Changes h m command o → HitsNumber command j → ⊥)
-    → number_in (step h m command).1 o j ≡ number_in h o j
+    → number_of_object (step h m command).1 o j ≡ number_of_object h o j
 numbers-stay h m command None j not = refl
 numbers-stay h m command (Some n) j not = named-numbers-stay h m command n j (λ is hit. not (n, refl, is) hit)
 
@@ -178,12 +178,12 @@ pub fields-stay : (h : IdealHeap) (m : ℕ) (command : Command) (o : Option Name
 fields-stay h m command None i not = refl
 fields-stay h m command (Some n) i not = named-fields-stay h m command n i (λ is hit. not (n, refl, is) hit)
 
-pub number-stays : (h : IdealHeap) (m : ℕ) (command : Command) (k s j : ℕ) → (Sets m command k s → ⊥) → (Changes h m command (h.registers k s) → HitsNumber command j → ⊥)
+pub number-stays : (h : IdealHeap) (m : ℕ) (command : Command) (k s j : ℕ) → (SetsField m command k s → ⊥) → (Changes h m command (h.registers k s) → HitsNumber command j → ⊥)
     → number_of (step h m command).1 k s j ≡ number_of h k s j
-number-stays h m command k s j unset not = ap (λ o. number_in (step h m command).1 o j) (registers-stay h m command k s unset) ∙ numbers-stay h m command (h.registers k s) j not
+number-stays h m command k s j unset not = ap (λ o. number_of_object (step h m command).1 o j) (registers-stay h m command k s unset) ∙ numbers-stay h m command (h.registers k s) j not
 
-pub field-stays : (h : IdealHeap) (m : ℕ) (command : Command) (k s i : ℕ) → (Sets m command k s → ⊥) → (Changes h m command (h.registers k s) → HitsField command i → ⊥)
-    → field_of (step h m command).1 k s i ≡ field_of h k s i
+pub field-stays : (h : IdealHeap) (m : ℕ) (command : Command) (k s i : ℕ) → (SetsField m command k s → ⊥) → (Changes h m command (h.registers k s) → HitsField command i → ⊥)
+    → field_in_heap (step h m command).1 k s i ≡ field_in_heap h k s i
 field-stays h m command k s i unset not = ap (λ o. field_in (step h m command).1 o i) (registers-stay h m command k s unset) ∙ fields-stay h m command (h.registers k s) i not
 
 -- new names
@@ -205,12 +205,12 @@ field-fresh h m i o grown is =
     let found : (k : Name) × (o ≡ Some k) × (slice_get (record_of h k).refs i ≡ Some (At n)) = with-field h o i (At n) is in
     fresh h m grown (grown.closed.fields found.0 n i (ap (λ q. unwrap_or q Nil) found.2))
 
-pub new-leaves-number : (h : IdealHeap) (m d refs nums k s j : ℕ) → IsGrown h → (Sets m (c.New d refs nums) k s → ⊥)
+pub new-leaves-number : (h : IdealHeap) (m d refs nums k s j : ℕ) → IsGrown h → (SetsField m (c.New d refs nums) k s → ⊥)
     → number_of (step h m (c.New d refs nums)).1 k s j ≡ number_of h k s j
 new-leaves-number h m d refs nums k s j grown unset =
     number-stays h m (c.New d refs nums) k s j unset (λ changes hit. register-fresh h m k s grown (changes.1 ∙ sym changes.2))
 
-pub new-leaves-field : (h : IdealHeap) (m d refs nums k s i : ℕ) → IsGrown h → (Sets m (c.New d refs nums) k s → ⊥)
-    → field_of (step h m (c.New d refs nums)).1 k s i ≡ field_of h k s i
+pub new-leaves-field : (h : IdealHeap) (m d refs nums k s i : ℕ) → IsGrown h → (SetsField m (c.New d refs nums) k s → ⊥)
+    → field_in_heap (step h m (c.New d refs nums)).1 k s i ≡ field_in_heap h k s i
 new-leaves-field h m d refs nums k s i grown unset =
     field-stays h m (c.New d refs nums) k s i unset (λ changes hit. register-fresh h m k s grown (changes.1 ∙ sym changes.2))

@@ -4,7 +4,7 @@ use Rattle.ideal_heap.specs.declared.name.Name.{Name}
 use Rattle.ideal_heap.specs.declared.command.Command.{Command}
 use Rattle.ideal_heap.specs.Names.{name}
 use Rattle.ideal_heap.specs.Ideal.{IdealHeap, Record, at_number, born, empty, set_record, step, with_new, HasRecord, IsIdeal}
-use Rattle.ideal_heap.specs.Runs.{Entry, after, after_entry, is_full}
+use Rattle.ideal_heap.specs.Runs.{Entry, heap_after_run, after_entry, is_full}
 use Rattle.ideal_heap.proofs.UpdateLemmas.{at_name-cases, at_number-cases, at_number-same}
 use Rattle.ideal_heap.proofs.StepLemmas.{by_step}
 use Rattle.ideal_heap.proofs.KeptLemmas.{step-closed, empty-closed}
@@ -56,11 +56,11 @@ entry-grown h e grown = elim (is_full e.reply) as (λ b. IsGrown (if b then h el
   | false ↦ step-grown h e.mutator e.command grown
 ]
 
-entries-grown : (h : IdealHeap) (es : List Entry) → IsGrown h → IsGrown (after h es)
+entries-grown : (h : IdealHeap) (es : List Entry) → IsGrown h → IsGrown (heap_after_run h es)
 entries-grown h [] grown = grown
 entries-grown h (e ∷ es) grown = entries-grown (after_entry h e) es (entry-grown h e grown)
 
-pub after-grown : (es : List Entry) → IsGrown (after empty es)
+pub after-grown : (es : List Entry) → IsGrown (heap_after_run empty es)
 after-grown es = entries-grown empty es (record { closed = empty-closed empty refl; births = λ n is. absurd cc })
 
 pub ideal-grown : (ms : List ℕ) (h : IdealHeap) → IsIdeal ms h → IsGrown h

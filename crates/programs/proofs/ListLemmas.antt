@@ -6,23 +6,23 @@ use Rattle.ideal_heap.specs.declared.command.Command.{Command}
 use Rattle.ideal_heap.specs.declared.command.Command.TheVariants as c
 use Rattle.ideal_heap.specs.declared.reply.Reply.TheVariants as r
 use Rattle.ideal_heap.specs.Names.{name}
-use Rattle.ideal_heap.specs.Ideal.{IdealHeap, Field, Nil, record_of, no_fields, field_of as field_to, name_in, step, HasRecord}
+use Rattle.ideal_heap.specs.Ideal.{IdealHeap, Field, Nil, record_of, no_fields, field_of as field_to, name_of_field, step, HasRecord}
 use Rattle.ideal_heap.proofs.UpdateLemmas.{number-born, at_number-same}
-use Rattle.programs.specs.Contents.{number_in, field_in, number_of, field_of}
+use Rattle.programs.specs.Contents.{number_of_object, field_in, number_of, field_in_heap}
 use Rattle.programs.specs.Growth.{IsGrown}
-use Rattle.programs.specs.Footprints.{changed_by, Sets}
-use Rattle.programs.specs.Lists.{next_in, IsListFrom, IsList, IsGlobalList, HasElement, KeepsLists, heap_after, pushes, pops}
+use Rattle.programs.specs.Footprints.{changed_by, SetsField}
+use Rattle.programs.specs.Lists.{next_of_list, IsListFrom, IsList, IsGlobalList, HasElement, KeepsLists, heap_after, pushes, pops}
 use Rattle.programs.proofs.AccessLemmas.{with-number, register-same, read, read-same, written, field-stored, got, name-back, made-register, made-zero, made-nil}
 use Rattle.programs.proofs.FootprintLemmas.{registers-stay, objects-stay, number-stays, field-stays, fresh}
 
 pub determined : (h : IdealHeap) (o : Option Name) (xs ys : List ℕ) → IsListFrom h o xs → IsListFrom h o ys → xs ≡ ys
 determined h o [] [] one other = refl
-determined h o [] (y ∷ ys) one other = let wrong : None ≡ Some y = sym (ap (λ q. number_in h q 0) one) ∙ other.0 in absurd cc
-determined h o (x ∷ xs) [] one other = let wrong : None ≡ Some x = sym (ap (λ q. number_in h q 0) other) ∙ one.0 in absurd cc
+determined h o [] (y ∷ ys) one other = let wrong : None ≡ Some y = sym (ap (λ q. number_of_object h q 0) one) ∙ other.0 in absurd cc
+determined h o (x ∷ xs) [] one other = let wrong : None ≡ Some x = sym (ap (λ q. number_of_object h q 0) other) ∙ one.0 in absurd cc
 determined h o (x ∷ xs) (y ∷ ys) one other =
     let heads : Some x ≡ Some y = sym one.0 ∙ other.0 in
     let head : x ≡ y = cc in
-    ap (λ z. z ∷ xs) head ∙ ap (λ zs. y ∷ zs) (determined h (next_in h o) xs ys one.2 other.2)
+    ap (λ z. z ∷ xs) head ∙ ap (λ zs. y ∷ zs) (determined h (next_of_list h o) xs ys one.2 other.2)
 
 -- a list stays where the records of its elements stay
 lists-same : (h k : IdealHeap) (o : Option Name) (xs : List ℕ) → ((n : Name) → HasElement h o xs n → k.records n ≡ h.records n) → IsListFrom h o xs → IsListFrom k o xs
@@ -30,12 +30,12 @@ lists-same h k o [] same list = list
 lists-same h k o (x ∷ xs) same list =
     let found : (n : Name) × (o ≡ Some n) × (slice_get (record_of h n).nums 0 ≡ Some x) = with-number h o 0 x list.0 in
     let alike : k.records found.0 ≡ h.records found.0 = same found.0 (inl found.1) in
-    let number : number_in k o 0 ≡ number_in h o 0 = ap (λ q. number_in k q 0) found.1 ∙ ap (λ q. slice_get (unwrap_or q no_fields).nums 0) alike ∙ sym (ap (λ q. number_in h q 0) found.1) in
+    let number : number_of_object k o 0 ≡ number_of_object h o 0 = ap (λ q. number_of_object k q 0) found.1 ∙ ap (λ q. slice_get (unwrap_or q no_fields).nums 0) alike ∙ sym (ap (λ q. number_of_object h q 0) found.1) in
     let field : field_in k o 0 ≡ field_in h o 0 = ap (λ q. field_in k q 0) found.1 ∙ ap (λ q. slice_get (unwrap_or q no_fields).refs 0) alike ∙ sym (ap (λ q. field_in h q 0) found.1) in
-    let next : next_in k o ≡ next_in h o = ap (λ f. name_in (unwrap_or f Nil)) field in (
+    let next : next_of_list k o ≡ next_of_list h o = ap (λ f. name_of_field (unwrap_or f Nil)) field in (
       number ∙ list.0,
       subst (λ f. IsSome f) (sym field) list.1,
-      subst (λ q. IsListFrom k q xs) (sym next) (lists-same h k (next_in h o) xs (λ n element. same n (inr element)) list.2),
+      subst (λ q. IsListFrom k q xs) (sym next) (lists-same h k (next_of_list h o) xs (λ n element. same n (inr element)) list.2),
     )
 
 pub elsewhere : (h : IdealHeap) (m : ℕ) (command : Command) (o : Option Name) (xs : List ℕ) → ((n : Name) → HasElement h o xs n → changed_by h m command ≡ Some n → ⊥)
@@ -48,8 +48,8 @@ unchanged h m command none o xs list = elsewhere h m command o xs (λ n element 
 -- the elements of a list are objects
 element-born : (h : IdealHeap) (o : Option Name) (xs : List ℕ) (n : Name) → IsListFrom h o xs → HasElement h o xs n → HasRecord h n
 element-born h o [] n list element = absurd element
-element-born h o (x ∷ xs) n list (inl is) = number-born h n 0 (slice_get_within (record_of h n).nums 0 x (sym (ap (λ q. number_in h q 0) is) ∙ list.0))
-element-born h o (x ∷ xs) n list (inr element) = element-born h (next_in h o) xs n list.2 element
+element-born h o (x ∷ xs) n list (inl is) = number-born h n 0 (slice_get_within (record_of h n).nums 0 x (sym (ap (λ q. number_of_object h q 0) is) ∙ list.0))
+element-born h o (x ∷ xs) n list (inr element) = element-born h (next_of_list h o) xs n list.2 element
 
 element-old : (h : IdealHeap) (m : ℕ) (o : Option Name) (xs : List ℕ) (n : Name) → IsGrown h → IsListFrom h o xs → HasElement h o xs n → Some (name m (h.births m + 1)) ≡ Some n → ⊥
 element-old h m o xs n grown list element is =
@@ -59,7 +59,7 @@ element-old h m o xs n grown list element is =
 pub new-keeps : (h : IdealHeap) (m d refs nums : ℕ) → IsGrown h → KeepsLists h (step h m (c.New d refs nums)).1
 new-keeps h m d refs nums grown o xs list = elsewhere h m (c.New d refs nums) o xs (λ n element is. element-old h m o xs n grown list element is) list
 
-pub held : (h : IdealHeap) (m : ℕ) (command : Command) (k s : ℕ) (xs : List ℕ) → (Sets m command k s → ⊥) → KeepsLists h (step h m command).1 → IsList h k s xs
+pub held : (h : IdealHeap) (m : ℕ) (command : Command) (k s : ℕ) (xs : List ℕ) → (SetsField m command k s → ⊥) → KeepsLists h (step h m command).1 → IsList h k s xs
     → IsList (step h m command).1 k s xs
 held h m command k s xs unset keeps list = subst (λ q. IsListFrom (step h m command).1 q xs) (sym (registers-stay h m command k s unset)) (keeps (h.registers k s) xs list)
 
@@ -118,7 +118,7 @@ new-number h m d s x other =
     number-stays (filled h m d s x) m (c.Move s d) m d 0 (sets-other m m s d (λ _ is. other (sym is))) (λ changes hit. hit)
     ∙ written (linked h m d s) m d 0 0 x zero
 
-new-field : (h : IdealHeap) (m d s x : ℕ) → s ≢ d → field_of (pushed h m d s x) m d 0 ≡ Some (field_to (h.registers m s))
+new-field : (h : IdealHeap) (m d s x : ℕ) → s ≢ d → field_in_heap (pushed h m d s x) m d 0 ≡ Some (field_to (h.registers m s))
 new-field h m d s x other =
     field-stays (filled h m d s x) m (c.Move s d) m d 0 (sets-other m m s d (λ _ is. other (sym is))) (λ changes hit. hit)
     ∙ field-stays (linked h m d s) m (c.Write d 0 x) m d 0 (unset m m d) (λ changes hit. hit)
@@ -128,8 +128,8 @@ new-field h m d s x other =
 pub push : (h : IdealHeap) (m d s x : ℕ) (xs : List ℕ) → IsGrown h → s ≢ d → IsList h m s xs → IsList (heap_after h m (pushes d s x)) m s (x ∷ xs)
 push h m d s x xs grown other list =
     let k : IdealHeap = pushed h m d s x in
-    let field : field_of k m d 0 ≡ Some (field_to (h.registers m s)) = new-field h m d s x other in
-    let next : next_in k (k.registers m d) ≡ h.registers m s = ap (λ f. name_in (unwrap_or f Nil)) field ∙ name-back (h.registers m s) in
+    let field : field_in_heap k m d 0 ≡ Some (field_to (h.registers m s)) = new-field h m d s x other in
+    let next : next_of_list k (k.registers m d) ≡ h.registers m s = ap (λ f. name_of_field (unwrap_or f Nil)) field ∙ name-back (h.registers m s) in
     let element : IsListFrom k (k.registers m d) (x ∷ xs) = (
       new-number h m d s x other,
       subst (λ f. IsSome f) (sym field) refl,
@@ -155,9 +155,9 @@ some-field (Some f) is = (f, refl)
 taken-off : (h : IdealHeap) (m s x : ℕ) (xs : List ℕ) → IsList h m s (x ∷ xs) → IsList (step h m (c.Get s s 0)).1 m s xs
 taken-off h m s x xs list =
     let k : IdealHeap = (step h m (c.Get s s 0)).1 in
-    let field : (f : Field) × (field_of h m s 0 ≡ Some f) = some-field (field_of h m s 0) list.1 in
-    let next : next_in h (h.registers m s) ≡ k.registers m s = ap (λ f. name_in (unwrap_or f Nil)) field.1 ∙ sym (got h m s s 0 field.0 field.1) in
-    subst (λ q. IsListFrom k q xs) next (unchanged h m (c.Get s s 0) refl (next_in h (h.registers m s)) xs list.2)
+    let field : (f : Field) × (field_in_heap h m s 0 ≡ Some f) = some-field (field_in_heap h m s 0) list.1 in
+    let next : next_of_list h (h.registers m s) ≡ k.registers m s = ap (λ f. name_of_field (unwrap_or f Nil)) field.1 ∙ sym (got h m s s 0 field.0 field.1) in
+    subst (λ q. IsListFrom k q xs) next (unchanged h m (c.Get s s 0) refl (next_of_list h (h.registers m s)) xs list.2)
 
 pub pop : (h : IdealHeap) (m s x : ℕ) (xs : List ℕ) → IsList h m s (x ∷ xs) → (step h m (c.Read s 0)).0 ≡ r.Num x
 pop h m s x xs list = ap (λ o. o.0) (read h m s 0 x list.0)
@@ -193,11 +193,11 @@ pub link : (h : IdealHeap) (m s v x : ℕ) (xs ys : List ℕ) → IsList h m s (
     → ((n : Name) → h.registers m s ≡ Some n → HasElement h (h.registers m v) ys n → ⊥) → IsList (step h m (c.Put s 0 v)).1 m s (x ∷ ys)
 link h m s v x xs ys is behind apart =
     let k : IdealHeap = (step h m (c.Put s 0 v)).1 in
-    let unset : Sets m (c.Put s 0 v) m s → ⊥ = λ sets. (let wrong : None ≡ Some s = sets.1 in cc) in
-    let found : (f : Field) × (field_of h m s 0 ≡ Some f) = some-field (field_of h m s 0) is.1 in
+    let unset : SetsField m (c.Put s 0 v) m s → ⊥ = λ sets. (let wrong : None ≡ Some s = sets.1 in cc) in
+    let found : (f : Field) × (field_in_heap h m s 0 ≡ Some f) = some-field (field_in_heap h m s 0) is.1 in
     let number : number_of k m s 0 ≡ Some x = number-stays h m (c.Put s 0 v) m s 0 unset (λ changes hit. hit) ∙ is.0 in
-    let field : field_of k m s 0 ≡ Some (field_to (h.registers m v)) = field-stored h m s 0 v found.0 found.1 in
-    let next : next_in k (k.registers m s) ≡ h.registers m v = ap (λ o. name_in (unwrap_or o Nil)) field ∙ name-back (h.registers m v) in (
+    let field : field_in_heap k m s 0 ≡ Some (field_to (h.registers m v)) = field-stored h m s 0 v found.0 found.1 in
+    let next : next_of_list k (k.registers m s) ≡ h.registers m v = ap (λ o. name_of_field (unwrap_or o Nil)) field ∙ name-back (h.registers m v) in (
       number,
       subst (λ f. IsSome f) (sym field) refl,
       subst (λ (o : Option Name). IsListFrom k o ys) (sym next) (link-rest h m s 0 v (h.registers m v) ys behind apart),

@@ -36,8 +36,8 @@ pinned_by h m (c.Unpin s) = h.registers m s
 pinned_by h m _ = None
 
 -- the command sets register s of mutator k
-abbrev pub Sets : ℕ → Command → ℕ → ℕ → Type 0
-Sets m command k s = (k ≡ m) × (set_by command ≡ Some s)
+abbrev pub SetsField : ℕ → Command → ℕ → ℕ → Type 0
+SetsField m command k s = (k ≡ m) × (set_by command ≡ Some s)
 
 -- the command changes the object that o names
 abbrev pub Changes : IdealHeap → ℕ → Command → Option Name → Type 0

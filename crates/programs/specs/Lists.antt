@@ -4,17 +4,18 @@ use Rattle.std.specs.Prelude.{◌≡◌, ℕ, ◌⊎◌, List, [], ◌∷◌, Op
 use Rattle.ideal_heap.specs.declared.name.Name.{Name}
 use Rattle.ideal_heap.specs.declared.command.Command.{Command}
 use Rattle.ideal_heap.specs.declared.command.Command.TheVariants as c
-use Rattle.ideal_heap.specs.Ideal.{IdealHeap, Nil, name_in, step}
-use Rattle.programs.specs.Contents.{number_in, field_in}
+use Rattle.ideal_heap.specs.Ideal.{IdealHeap, Nil, name_of_field, step}
+use Rattle.programs.specs.Contents.{number_of_object, field_in}
 
 -- the name that reference 0 of the object that o names holds
-abbrev pub next_in : IdealHeap → Option Name → Option Name
-next_in h o = name_in (unwrap_or (field_in h o 0) Nil)
+abbrev pub next_of_list : IdealHeap → Option Name → Option Name
+next_of_list h o = name_of_field (unwrap_or (field_in h o 0) Nil)
 
 -- o names the first element of a list of these numbers, or is nil if there are none
 abbrev pub IsListFrom : IdealHeap → Option Name → List ℕ → Type 0
 IsListFrom h o [] = o ≡ None
-IsListFrom h o (x ∷ xs) = (number_in h o 0 ≡ Some x) × IsSome (field_in h o 0) × IsListFrom h (next_in h o) xs
+IsListFrom h o (x ∷ xs) = (number_of_object h o 0 ≡ Some x) × IsSome (field_in h o 0)
+    × IsListFrom h (next_of_list h o) xs
 
 -- register s of mutator m holds a list of these numbers
 abbrev pub IsList : IdealHeap → ℕ → ℕ → List ℕ → Type 0
@@ -27,7 +28,7 @@ IsGlobalList h g xs = IsListFrom h (h.globals g) xs
 -- n is an element of the list of these numbers that o names
 abbrev pub HasElement : IdealHeap → Option Name → List ℕ → Name → Type 0
 HasElement h o [] n = ⊥
-HasElement h o (x ∷ xs) n = (o ≡ Some n) ⊎ HasElement h (next_in h o) xs n
+HasElement h o (x ∷ xs) n = (o ≡ Some n) ⊎ HasElement h (next_of_list h o) xs n
 
 -- each list stays, whoever holds it
 abbrev pub KeepsLists : IdealHeap → IdealHeap → Type 0

@@ -4,8 +4,8 @@ ghost use Rattle.std.specs.Prelude.{◌≡◌, ◌+◌, ◌%◌, ◌^◌, ◌<�
 ghost use Rattle.ideal_heap.specs.declared.command.Command.TheVariants as command;
 ghost use Rattle.ideal_heap.specs.declared.reply.Reply.TheVariants as reply;
 ghost use Rattle.ideal_heap.specs.Names.{name};
-ghost use Rattle.ideal_heap.specs.Ideal.{IdealHeap, Field, Nil, name_in, field_reply, field_of as field_to, step};
-ghost use Rattle.programs.specs.Contents.{number_of, field_of};
+ghost use Rattle.ideal_heap.specs.Ideal.{IdealHeap, Field, Nil, name_of_field, field_reply, field_of as field_to, step};
+ghost use Rattle.programs.specs.Contents.{number_of, field_in_heap};
 
 /// `read` replies the number and changes nothing, and a number that it replies is the object's. If
 /// the register is nil, the reply is `Null`.
@@ -44,16 +44,16 @@ pub fn numbers_change()
 /// `get` sets its register to what the reference holds, and replies it. `put` sets a reference that
 /// the object has to what the register holds, and `get` gives it back then.
 pub fn gets_and_puts()
-    ensures get { (h : IdealHeap) (m d s i : ℕ) (f : Field) → field_of h m s i ≡ Some f
+    ensures get { (h : IdealHeap) (m d s i : ℕ) (f : Field) → field_in_heap h m s i ≡ Some f
         → (step h m (command.Get d s i)).0 ≡ field_reply f }
-    ensures got { (h : IdealHeap) (m d s i : ℕ) (f : Field) → field_of h m s i ≡ Some f
-        → (step h m (command.Get d s i)).1.registers m d ≡ name_in f }
-    ensures put { (h : IdealHeap) (m s i v : ℕ) (f : Field) → field_of h m s i ≡ Some f
+    ensures got { (h : IdealHeap) (m d s i : ℕ) (f : Field) → field_in_heap h m s i ≡ Some f
+        → (step h m (command.Get d s i)).1.registers m d ≡ name_of_field f }
+    ensures put { (h : IdealHeap) (m s i v : ℕ) (f : Field) → field_in_heap h m s i ≡ Some f
         → (step h m (command.Put s i v)).0 ≡ reply.Done }
-    ensures stored { (h : IdealHeap) (m s i v : ℕ) (f : Field) → field_of h m s i ≡ Some f
-        → field_of (step h m (command.Put s i v)).1 m s i ≡ Some (field_to (h.registers m v)) }
+    ensures stored { (h : IdealHeap) (m s i v : ℕ) (f : Field) → field_in_heap h m s i ≡ Some f
+        → field_in_heap (step h m (command.Put s i v)).1 m s i ≡ Some (field_to (h.registers m v)) }
     ensures get_after_put { (h : IdealHeap) (m d s i v : ℕ) (f : Field)
-        → field_of h m s i ≡ Some f
+        → field_in_heap h m s i ≡ Some f
         → (step (step h m (command.Put s i v)).1 m (command.Get d s i)).1.registers m d
         ≡ h.registers m v }
 {}
@@ -71,7 +71,7 @@ pub fn new_objects()
     ensures no_number { (h : IdealHeap) (m d refs nums j : ℕ) → nums ≤ j
         → number_of (step h m (command.New d refs nums)).1 m d j ≡ None }
     ensures fields { (h : IdealHeap) (m d refs nums i : ℕ) → i < refs
-        → field_of (step h m (command.New d refs nums)).1 m d i ≡ Some Nil }
+        → field_in_heap (step h m (command.New d refs nums)).1 m d i ≡ Some Nil }
     ensures no_field { (h : IdealHeap) (m d refs nums i : ℕ) → refs ≤ i
-        → field_of (step h m (command.New d refs nums)).1 m d i ≡ None }
+        → field_in_heap (step h m (command.New d refs nums)).1 m d i ≡ None }
 {}

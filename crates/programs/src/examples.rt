@@ -5,8 +5,8 @@ ghost use Rattle.ideal_heap.specs.declared.command.Command.TheVariants as comman
 ghost use Rattle.ideal_heap.specs.declared.reply.Reply.TheVariants as reply;
 ghost use Rattle.ideal_heap.specs.Names.{name};
 ghost use Rattle.ideal_heap.specs.Ideal.{empty, Nil, At};
-ghost use Rattle.ideal_heap.specs.Runs.{alone, after, entry};
-ghost use Rattle.programs.specs.Contents.{number_of, field_of};
+ghost use Rattle.ideal_heap.specs.Runs.{alone, heap_after_run, entry};
+ghost use Rattle.programs.specs.Contents.{number_of, field_in_heap};
 ghost use Rattle.programs.specs.Lists.{IsList, IsGlobalList, heap_after, pushes, pops};
 
 /// An object with two numbers: one is written, a sum wraps, a swap meets another number. The object
@@ -31,9 +31,9 @@ pub fn object_examples()
         ∷ command.New 2 0 1 ∷ command.Write 1 0 9 ∷ [])) 1 0 0 ≡ Some 9 }
     ensures apart { number_of (heap_after empty 1 (command.New 0 0 1 ∷ command.Move 1 0
         ∷ command.New 2 0 1 ∷ command.Write 1 0 9 ∷ [])) 1 2 0 ≡ Some 0 }
-    ensures nil { field_of (heap_after empty 1 (command.New 0 1 0 ∷ [])) 1 0 0 ≡ Some Nil }
-    ensures lacks { field_of (heap_after empty 1 (command.New 0 1 0 ∷ [])) 1 0 1 ≡ None }
-    ensures stored { field_of (heap_after empty 1 (command.New 0 1 0 ∷ command.New 1 0 0
+    ensures nil { field_in_heap (heap_after empty 1 (command.New 0 1 0 ∷ [])) 1 0 0 ≡ Some Nil }
+    ensures lacks { field_in_heap (heap_after empty 1 (command.New 0 1 0 ∷ [])) 1 0 1 ≡ None }
+    ensures stored { field_in_heap (heap_after empty 1 (command.New 0 1 0 ∷ command.New 1 0 0
         ∷ command.Put 0 0 1 ∷ [])) 1 0 0 ≡ Some (At (name 1 2)) }
     ensures got { (heap_after empty 1 (command.New 0 1 0 ∷ command.New 1 0 0
         ∷ command.Put 0 0 1 ∷ command.Get 5 0 0 ∷ [])).registers 1 5 ≡ Some (name 1 2) }
@@ -64,7 +64,7 @@ pub fn list_examples()
 
 /// A history with a refused allocation, which leaves the heap.
 pub fn history_examples()
-    ensures { number_of (after empty (entry 1 (command.New 0 0 1) (reply.New (name 1 1))
+    ensures { number_of (heap_after_run empty (entry 1 (command.New 0 0 1) (reply.New (name 1 1))
         ∷ entry 1 (command.Write 0 0 6) reply.Done ∷ entry 1 (command.New 0 0 1) reply.Full
         ∷ [])) 1 0 0 ≡ Some 6 }
 {}

@@ -5,7 +5,7 @@ ghost use Rattle.ideal_heap.specs.declared.command.Command.TheVariants as comman
 ghost use Rattle.ideal_heap.specs.declared.name.Name.{Name};
 ghost use Rattle.ideal_heap.specs.declared.reply.Reply.TheVariants as reply;
 ghost use Rattle.ideal_heap.specs.Ideal.{IdealHeap, Field, Nil, At, step};
-ghost use Rattle.programs.specs.Contents.{missing_reply, number_of, field_of};
+ghost use Rattle.programs.specs.Contents.{missing_reply, number_of, field_in_heap};
 
 /// A command on a number or a reference that is not there replies `Null` if the register is nil,
 /// and `Range` if its object has none. It changes nothing: `get` keeps its register.
@@ -18,9 +18,9 @@ pub fn accesses_fail()
         → step h m (command.Add s j v) ≡ (missing_reply (h.registers m s), h) }
     ensures swap { (h : IdealHeap) (m s j was next : ℕ) → number_of h m s j ≡ None
         → step h m (command.Swap s j was next) ≡ (missing_reply (h.registers m s), h) }
-    ensures get { (h : IdealHeap) (m d s i : ℕ) → field_of h m s i ≡ None
+    ensures get { (h : IdealHeap) (m d s i : ℕ) → field_in_heap h m s i ≡ None
         → step h m (command.Get d s i) ≡ (missing_reply (h.registers m s), h) }
-    ensures put { (h : IdealHeap) (m s i v : ℕ) → field_of h m s i ≡ None
+    ensures put { (h : IdealHeap) (m s i v : ℕ) → field_in_heap h m s i ≡ None
         → step h m (command.Put s i v) ≡ (missing_reply (h.registers m s), h) }
     ensures pin { (h : IdealHeap) (m s : ℕ) → h.registers m s ≡ None
         → step h m (command.Pin s) ≡ (reply.Null, h) }
@@ -42,10 +42,10 @@ pub fn replies_tell()
         → (step h m (command.Swap s j was next)).0 ≡ reply.No
         → (x : ℕ) × (number_of h m s j ≡ Some x) × (x ≡ was → ⊥) }
     ensures nil { (h : IdealHeap) (m d s i : ℕ)
-        → (step h m (command.Get d s i)).0 ≡ reply.Nil → field_of h m s i ≡ Some Nil }
+        → (step h m (command.Get d s i)).0 ≡ reply.Nil → field_in_heap h m s i ≡ Some Nil }
     ensures got { (h : IdealHeap) (m d s i : ℕ) (n : Name)
-        → (step h m (command.Get d s i)).0 ≡ reply.Ref n → field_of h m s i ≡ Some (At n) }
+        → (step h m (command.Get d s i)).0 ≡ reply.Ref n → field_in_heap h m s i ≡ Some (At n) }
     ensures put { (h : IdealHeap) (m s i v : ℕ)
         → (step h m (command.Put s i v)).0 ≡ reply.Done
-        → (f : Field) × (field_of h m s i ≡ Some f) }
+        → (f : Field) × (field_in_heap h m s i ≡ Some f) }
 {}

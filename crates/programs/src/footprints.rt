@@ -6,31 +6,31 @@ ghost use Rattle.ideal_heap.specs.declared.command.Command.{Command};
 ghost use Rattle.ideal_heap.specs.declared.command.Command.TheVariants as command;
 ghost use Rattle.ideal_heap.specs.Names.{name};
 ghost use Rattle.ideal_heap.specs.Ideal.{IdealHeap, At, step};
-ghost use Rattle.programs.specs.Contents.{number_in, number_of, field_in, field_of};
+ghost use Rattle.programs.specs.Contents.{number_of_object, number_of, field_in, field_in_heap};
 ghost use Rattle.programs.specs.Growth.{IsGrown};
-ghost use Rattle.programs.specs.Footprints.{changed_by, shared_by, Sets, Changes, HitsNumber, HitsField};
+ghost use Rattle.programs.specs.Footprints.{changed_by, shared_by, SetsField, Changes, HitsNumber, HitsField};
 
 /// A command leaves each register but the one that it sets, each global but the one that it shares,
 /// and each number and reference but the one that it changes.
 pub fn commands_leave_the_rest()
     ensures registers { (h : IdealHeap) (m : ℕ) (c : Command) (k s : ℕ)
-        → (Sets m c k s → ⊥) → (step h m c).1.registers k s ≡ h.registers k s }
+        → (SetsField m c k s → ⊥) → (step h m c).1.registers k s ≡ h.registers k s }
     ensures globals { (h : IdealHeap) (m : ℕ) (c : Command) (g : ℕ)
         → (shared_by c ≡ Some g → ⊥) → (step h m c).1.globals g ≡ h.globals g }
     ensures objects { (h : IdealHeap) (m : ℕ) (c : Command) (n : Name)
         → (changed_by h m c ≡ Some n → ⊥) → (step h m c).1.records n ≡ h.records n }
     ensures numbers { (h : IdealHeap) (m : ℕ) (c : Command) (o : Option Name) (j : ℕ)
         → (Changes h m c o → HitsNumber c j → ⊥)
-        → number_in (step h m c).1 o j ≡ number_in h o j }
+        → number_of_object (step h m c).1 o j ≡ number_of_object h o j }
     ensures fields { (h : IdealHeap) (m : ℕ) (c : Command) (o : Option Name) (i : ℕ)
         → (Changes h m c o → HitsField c i → ⊥)
         → field_in (step h m c).1 o i ≡ field_in h o i }
     ensures number { (h : IdealHeap) (m : ℕ) (c : Command) (k s j : ℕ)
-        → (Sets m c k s → ⊥) → (Changes h m c (h.registers k s) → HitsNumber c j → ⊥)
+        → (SetsField m c k s → ⊥) → (Changes h m c (h.registers k s) → HitsNumber c j → ⊥)
         → number_of (step h m c).1 k s j ≡ number_of h k s j }
-    ensures field { (h : IdealHeap) (m : ℕ) (c : Command) (k s i : ℕ) → (Sets m c k s → ⊥)
+    ensures field { (h : IdealHeap) (m : ℕ) (c : Command) (k s i : ℕ) → (SetsField m c k s → ⊥)
         → (Changes h m c (h.registers k s) → HitsField c i → ⊥)
-        → field_of (step h m c).1 k s i ≡ field_of h k s i }
+        → field_in_heap (step h m c).1 k s i ≡ field_in_heap h k s i }
 {}
 
 /// In a grown heap nothing has the name of a mutator's next object yet: no register, no global and
@@ -43,9 +43,9 @@ pub fn new_objects_are_new()
     ensures fields { (h : IdealHeap) (m i : ℕ) (o : Option Name) → IsGrown h
         → field_in h o i ≡ Some (At (name m (h.births m + 1))) → ⊥ }
     ensures number { (h : IdealHeap) (m d refs nums k s j : ℕ) → IsGrown h
-        → (Sets m (command.New d refs nums) k s → ⊥)
+        → (SetsField m (command.New d refs nums) k s → ⊥)
         → number_of (step h m (command.New d refs nums)).1 k s j ≡ number_of h k s j }
     ensures field { (h : IdealHeap) (m d refs nums k s i : ℕ) → IsGrown h
-        → (Sets m (command.New d refs nums) k s → ⊥)
-        → field_of (step h m (command.New d refs nums)).1 k s i ≡ field_of h k s i }
+        → (SetsField m (command.New d refs nums) k s → ⊥)
+        → field_in_heap (step h m (command.New d refs nums)).1 k s i ≡ field_in_heap h k s i }
 {}

@@ -5,17 +5,17 @@ ghost use Rattle.ideal_heap.specs.declared.command.Command.{Command};
 ghost use Rattle.ideal_heap.specs.declared.reply.Reply.{Reply};
 ghost use Rattle.ideal_heap.specs.declared.reply.Reply.TheVariants as reply;
 ghost use Rattle.ideal_heap.specs.Ideal.{IdealHeap, step};
-ghost use Rattle.ideal_heap.specs.Runs.{Entry, IsRun, after, entry, is_full};
+ghost use Rattle.ideal_heap.specs.Runs.{Entry, IsRun, heap_after_run, entry, is_full};
 
 /// The last entry of a run is a step of the heap after the entries before it: its reply is the
 /// step's, and the heap after it is the step's. An allocation that was refused leaves the heap.
 pub fn entries_are_steps()
     ensures reply { (h : IdealHeap) (es : List Entry) (m : ℕ) (c : Command) (r : Reply)
         → IsRun h (es ++ entry m c r ∷ []) → is_full r ≡ false
-        → r ≡ (step (after h es) m c).0 }
+        → r ≡ (step (heap_after_run h es) m c).0 }
     ensures heap { (h : IdealHeap) (es : List Entry) (m : ℕ) (c : Command) (r : Reply)
         → is_full r ≡ false
-        → after h (es ++ entry m c r ∷ []) ≡ (step (after h es) m c).1 }
+        → heap_after_run h (es ++ entry m c r ∷ []) ≡ (step (heap_after_run h es) m c).1 }
     ensures refused { (h : IdealHeap) (es : List Entry) (m : ℕ) (c : Command)
-        → after h (es ++ entry m c reply.Full ∷ []) ≡ after h es }
+        → heap_after_run h (es ++ entry m c reply.Full ∷ []) ≡ heap_after_run h es }
 {}

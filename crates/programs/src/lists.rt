@@ -7,7 +7,7 @@ ghost use Rattle.ideal_heap.specs.declared.command.Command.TheVariants as comman
 ghost use Rattle.ideal_heap.specs.declared.reply.Reply.TheVariants as reply;
 ghost use Rattle.ideal_heap.specs.Ideal.{IdealHeap, step};
 ghost use Rattle.programs.specs.Growth.{IsGrown};
-ghost use Rattle.programs.specs.Footprints.{changed_by, Sets};
+ghost use Rattle.programs.specs.Footprints.{changed_by, SetsField};
 ghost use Rattle.programs.specs.Lists.{IsListFrom, IsList, IsGlobalList, HasElement, KeepsLists, heap_after, pushes, pops};
 
 /// A list has one sequence of numbers. It stays over each command that changes none of its
@@ -23,7 +23,7 @@ pub fn lists_stay()
     ensures new { (h : IdealHeap) (m d refs nums : ℕ) → IsGrown h
         → KeepsLists h (step h m (command.New d refs nums)).1 }
     ensures held { (h : IdealHeap) (m : ℕ) (c : Command) (k s : ℕ) (xs : List ℕ)
-        → (Sets m c k s → ⊥) → KeepsLists h (step h m c).1 → IsList h k s xs
+        → (SetsField m c k s → ⊥) → KeepsLists h (step h m c).1 → IsList h k s xs
         → IsList (step h m c).1 k s xs }
 {}
 

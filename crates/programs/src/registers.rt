@@ -4,7 +4,7 @@ ghost use Rattle.std.specs.Prelude.{◌≡◌, ℕ, None};
 ghost use Rattle.ideal_heap.specs.declared.command.Command.TheVariants as command;
 ghost use Rattle.ideal_heap.specs.declared.reply.Reply.TheVariants as reply;
 ghost use Rattle.ideal_heap.specs.Ideal.{IdealHeap, global_reply, step};
-ghost use Rattle.programs.specs.Contents.{number_in, number_of, field_in, field_of};
+ghost use Rattle.programs.specs.Contents.{number_of_object, number_of, field_in, field_in_heap};
 
 /// `move_register` copies a register, `drop_register` makes it nil, `load` copies a global into a
 /// register, and `share` a register into a global.
@@ -32,15 +32,15 @@ pub fn objects_are_passed_on()
     ensures move_number { (h : IdealHeap) (m d s j : ℕ)
         → number_of (step h m (command.Move d s)).1 m d j ≡ number_of h m s j }
     ensures move_field { (h : IdealHeap) (m d s i : ℕ)
-        → field_of (step h m (command.Move d s)).1 m d i ≡ field_of h m s i }
+        → field_in_heap (step h m (command.Move d s)).1 m d i ≡ field_in_heap h m s i }
     ensures load_number { (h : IdealHeap) (m d g j : ℕ)
-        → number_of (step h m (command.Load d g)).1 m d j ≡ number_in h (h.globals g) j }
+        → number_of (step h m (command.Load d g)).1 m d j ≡ number_of_object h (h.globals g) j }
     ensures load_field { (h : IdealHeap) (m d g i : ℕ)
-        → field_of (step h m (command.Load d g)).1 m d i ≡ field_in h (h.globals g) i }
+        → field_in_heap (step h m (command.Load d g)).1 m d i ≡ field_in h (h.globals g) i }
     ensures share_number { (h : IdealHeap) (m g s j : ℕ)
-        → number_in (step h m (command.Share g s)).1
+        → number_of_object (step h m (command.Share g s)).1
         ((step h m (command.Share g s)).1.globals g) j ≡ number_of h m s j }
     ensures share_field { (h : IdealHeap) (m g s i : ℕ)
         → field_in (step h m (command.Share g s)).1
-        ((step h m (command.Share g s)).1.globals g) i ≡ field_of h m s i }
+        ((step h m (command.Share g s)).1.globals g) i ≡ field_in_heap h m s i }
 {}

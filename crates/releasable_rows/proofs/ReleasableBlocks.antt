@@ -5,7 +5,7 @@ use Rattle.heap_layout.specs.Zones.{block_at, offset_at, block_start, IsAddress,
 use Rattle.heap_layout.specs.declared.block.Kind.{Kind}
 use Rattle.heap_layout.specs.declared.block.Kind.TheVariants as kinds
 use Rattle.heap_layout.specs.declared.block.BlockWord.{BlockWord}
-use Rattle.heap_layout.specs.Blocks.{kind_code, code_of, IsValid, is_block_code}
+use Rattle.heap_layout.specs.Blocks.{kind_code, code_of, IsValidWord, is_block_code}
 use Rattle.heap_layout.proofs.BlockLemmas.{code_parts, kind_code_most, valid_most, is_block_code-code_of}
 use Rattle.heap_layout.proofs.MarkLemmas.{is-address_from_mark}
 use Rattle.object_model.specs.Objects.{HeapState, HasKind, IsHeld, block_word, class_at, is_start, is_pinned, is_unlogged, size_at, cell_words, blocks_for}
@@ -15,10 +15,10 @@ use Rattle.object_model.proofs.ObjectReads.{place_of_address}
 use Rattle.object_model.proofs.OneKind.{kind-from, one-kind, is_small_code, has_small-code}
 use Rattle.object_model.proofs.Marks.{held}
 use Rattle.block_sweeps.proofs.RunSpans as spans
-use Rattle.releasable_rows.specs.BlockTests.{word_of, HasNoMark, HasNoLine, HoldsSmall, AreInCells, HoldsLarge}
+use Rattle.releasable_rows.specs.BlockTests.{word_in_block, HasNoMark, HasNoLine, HoldsSmall, AreInCells, HoldsLarge}
 
 -- the kind and class of a block with this word
-module _ (s : HeapState) (k : ℕ) (there : k < s.blocks) (w : BlockWord) (valid : IsValid w) (is : code_of w ≡ block_word s k) where
+module _ (s : HeapState) (k : ℕ) (there : k < s.blocks) (w : BlockWord) (valid : IsValidWord w) (is : code_of w ≡ block_word s k) where
   pub word-code : IsTrue (is_block_code (block_word s k))
   word-code = is_block_code-code_of w (block_word s k) valid is
 
@@ -65,7 +65,7 @@ module _ (s : HeapState) (k : ℕ) (there : k < s.blocks) (no-head : HasKind s k
     | inr later ↦ absurd (no-head later.0)
   ]
 
-  span-at : (o : ℕ) → o < 4096 → InSpan s k (word_of s k o)
+  span-at : (o : ℕ) → o < 4096 → InSpan s k (word_in_block s k o)
   span-at o below = record { address = record { from = omega arith; below = omega arith }; block = inl (omega arith) }
 
   -- with no bit set
@@ -86,14 +86,14 @@ module _ (s : HeapState) (k : ℕ) (there : k < s.blocks) (no-head : HasKind s k
 
   -- with small and medium objects
   module _ (no-free : HasKind s k kinds.Free → ⊥) (smalls : has_small s k ≡ true) where
-    at-offset : (a : ℕ) → InSpan s k a → word_of s k (offset_at s.blocks a) ≡ a
+    at-offset : (a : ℕ) → InSpan s k a → word_in_block s k (offset_at s.blocks a) ≡ a
     at-offset a span = (let place = place_of_address s.blocks a span.address in let here = only-here a span in omega arith)
 
     offset-below : (a : ℕ) → InSpan s k a → offset_at s.blocks a < 4096
     offset-below a span = (place_of_address s.blocks a span.address).1
 
     module _ (holds : HoldsSmall s k 4096 4096) where
-      start-at : (a : ℕ) → InSpan s k a → IsHeld s a → IsTrue (is_start s (word_of s k (offset_at s.blocks a)))
+      start-at : (a : ℕ) → InSpan s k a → IsHeld s a → IsTrue (is_start s (word_in_block s k (offset_at s.blocks a)))
       start-at a span object = ap (is_start s) (at-offset a span) ∙ object.start
 
       -- it ends before each object that begins after it
@@ -102,7 +102,7 @@ module _ (s : HeapState) (k : ℕ) (there : k < s.blocks) (no-head : HasKind s k
           λ less.
           let here = at-offset a span in
           let there = at-offset x other in
-          let size : size_at s (word_of s k (offset_at s.blocks a)) ≡ size_at s a = ap (size_at s) here in
+          let size : size_at s (word_in_block s k (offset_at s.blocks a)) ≡ size_at s a = ap (size_at s) here in
           let apart = holds.apart (offset_at s.blocks a) (offset_at s.blocks x) (omega arith) (offset-below x other) (start-at a span object) (start-at x other next) in
           omega arith
 
@@ -113,7 +113,7 @@ module _ (s : HeapState) (k : ℕ) (there : k < s.blocks) (no-head : HasKind s k
             let o : ℕ = offset_at s.blocks a in
             let below = offset-below a span in
             let start = start-at a span object in
-            let size : size_at s (word_of s k o) ≡ size_at s a = ap (size_at s) (at-offset a span) in (
+            let size : size_at s (word_in_block s k o) ≡ size_at s a = ap (size_at s) (at-offset a span) in (
               subst (HasObject s) (at-offset a span) (holds.object o below start),
               record {
                 small = λ _. record {
@@ -155,12 +155,12 @@ module _ (s : HeapState) (k : ℕ) (there : k < s.blocks) (no-head : HasKind s k
       }
 
     module _ (can : IsReleasable s k) where
-      lies-at : (o : ℕ) → o < 4096 → IsTrue (is_start s (word_of s k o)) → HasObject s (word_of s k o) × Lies s (word_of s k o) (size_at s (word_of s k o))
-      lies-at o below start = can.objects (word_of s k o) (span-at o below) (held s (word_of s k o) start)
+      lies-at : (o : ℕ) → o < 4096 → IsTrue (is_start s (word_in_block s k o)) → HasObject s (word_in_block s k o) × Lies s (word_in_block s k o) (size_at s (word_in_block s k o))
+      lies-at o below start = can.objects (word_in_block s k o) (span-at o below) (held s (word_in_block s k o) start)
 
-      is-small : (o : ℕ) → o < 4096 → IsTrue (is_start s (word_of s k o)) → size_at s (word_of s k o) ≤ 2048
-      is-small o below start = elim (cases_lt 2048 (size_at s (word_of s k o))) as (λ _. size_at s (word_of s k o) ≤ 2048) [
-        | inl large ↦ absurd (no-head (let here : block_at s.blocks (word_of s k o) ≡ k = omega arith in subst (λ j. HasKind s j kinds.LargeHead) here ((lies-at o below start).1.large large).run.head))
+      is-small : (o : ℕ) → o < 4096 → IsTrue (is_start s (word_in_block s k o)) → size_at s (word_in_block s k o) ≤ 2048
+      is-small o below start = elim (cases_lt 2048 (size_at s (word_in_block s k o))) as (λ _. size_at s (word_in_block s k o) ≤ 2048) [
+        | inl large ↦ absurd (no-head (let here : block_at s.blocks (word_in_block s k o) ≡ k = omega arith in subst (λ j. HasKind s j kinds.LargeHead) here ((lies-at o below start).1.large large).run.head))
         | inr small ↦ small
       ]
 
@@ -169,22 +169,22 @@ module _ (s : HeapState) (k : ℕ) (there : k < s.blocks) (no-head : HasKind s k
         object = λ o below start. (lies-at o below start).0;
         small = is-small;
         ends = λ o below start. (let within = ((lies-at o below start).1.small (is-small o below start)).within in omega arith);
-        apart = λ o p less below first second. elim (cases_lt p (o + size_at s (word_of s k o))) as (λ _. o + size_at s (word_of s k o) ≤ p) [
+        apart = λ o p less below first second. elim (cases_lt p (o + size_at s (word_in_block s k o))) as (λ _. o + size_at s (word_in_block s k o) ≤ p) [
           | inl inside ↦
               let before : o < 4096 = omega arith in
-              let same : word_of s k o ≡ word_of s k p = can.apart (word_of s k o) (word_of s k p) (word_of s k p) (span-at o before) (span-at p below)
-              (held s (word_of s k o) first) (held s (word_of s k p) second)
+              let same : word_in_block s k o ≡ word_in_block s k p = can.apart (word_in_block s k o) (word_in_block s k p) (word_in_block s k p) (span-at o before) (span-at p below)
+              (held s (word_in_block s k o) first) (held s (word_in_block s k p) second)
               (record { from = omega arith; below = omega arith }) (record { from = omega arith; below = omega arith }) in
               omega arith
           | inr apart ↦ apart
         ];
-        marks = λ o below marked. (can.marks (word_of s k o) (span-at o below) marked).start;
+        marks = λ o below marked. (can.marks (word_in_block s k o) (span-at o below) marked).start;
         inside = omega arith;
       }
 
       pub releasable-cells : HasKind s k kinds.Cells → AreInCells s k (cell_words (class_at s k)) 4096
       releasable-cells cells o below start =
-          let a : ℕ = word_of s k o in
+          let a : ℕ = word_in_block s k o in
           let here : block_at s.blocks a ≡ k = omega arith in
           let at : offset_at s.blocks a ≡ o = omega arith in
           let same : cell_words (class_at s (block_at s.blocks a)) ≡ cell_words (class_at s k) = ap (λ j. cell_words (class_at s j)) here in
@@ -291,7 +291,7 @@ module _ (s : HeapState) (k n : ℕ) (there : k < s.blocks) (head : HasKind s k 
       }
 
 -- a block of a kind that holds small and medium objects, without cells
-module _ (s : HeapState) (k : ℕ) (there : k < s.blocks) (w : BlockWord) (valid : IsValid w) (is : code_of w ≡ block_word s k) where
+module _ (s : HeapState) (k : ℕ) (there : k < s.blocks) (w : BlockWord) (valid : IsValidWord w) (is : code_of w ≡ block_word s k) where
   pub plain-releasable : (kind : Kind) → is_small_code true (kind_code kind) ≡ true → kind_code kind ≢ 5 → w.kind ≡ kind → HoldsSmall s k 4096 4096 ↔ IsReleasable s k
   plain-releasable kind smalls no-cells of-kind =
       let has : HasKind s k kind = subst (HasKind s k) of-kind (word-kind s k there w valid is) in

@@ -1,14 +1,14 @@
 //! Whether a block may be released, as a test.
 
 ghost use Rattle.std.specs.Prelude.{◌≡◌, ◌↔◌, ℕ, ◌+◌, ◌*◌, ◌<◌, ◌≤◌, ◌^◌, IsTrue, IfSome, IfNone, length};
-ghost use Rattle.heap_layout.specs.Zones.{row_words, block_start, IsAddress};
-ghost use Rattle.heap_layout.specs.Blocks.{code_of, IsValid};
+ghost use Rattle.heap_layout.specs.Zones.{row_words, block_start, IsAddress, IsRowOf};
+ghost use Rattle.heap_layout.specs.Blocks.{code_of, IsValidWord};
 ghost use Rattle.heap_layout.specs.declared.layout.Layout.{Layout};
-ghost use Rattle.object_model.specs.Objects.{state_over, cell_words as words_of_class, is_start, is_pinned, is_unlogged, size_at, block_word};
+ghost use Rattle.object_model.specs.Objects.{cell_words as words_of_class, is_start, is_pinned, is_unlogged, size_at, block_word, shown};
 ghost use Rattle.ideal_heap.specs.Names.{IsName, name_of};
 ghost use Rattle.object_model.specs.Lawful.{HasObject};
 ghost use Rattle.object_model.specs.Releasing.{IsReleasable};
-ghost use Rattle.releasable_rows.specs.BlockTests.{HasNoMark, HasNoLine, AreTails, GoesOn, HoldsSmall, IsInCell, AreInCells, HoldsLarge};
+ghost use Rattle.releasable_rows.specs.BlockTests.{HasNoMark, HasNoLine, AreTails, ObjectsGoOn, HoldsSmall, IsInCell, AreInCells, HoldsLarge};
 
 use heap_layout::{BLOCK_WORDS, BlockWord, CLASS_UNIT, Kind, Layout, decode};
 use ideal_heap::MAX_MUTATORS;
@@ -33,9 +33,9 @@ struct Marks {
 
 /// Whether a block may be released: the condition of the sweeps, as a test.
 pub fn is_releasable<W: Words>(words: &W, layout: &Layout, block: u32) -> bool
-    requires extent { length (W.words words.now) ≡ row_words layout.now.blocks }
+    requires extent { IsRowOf layout.now (W.words words.now) }
     requires block { block < layout.now.blocks }
-    ensures { IsTrue result ↔ IsReleasable (state_over (W.words words.now) layout.now 0 0) block }
+    ensures { IsTrue result ↔ IsReleasable (shown (W.words words.now) layout.now) block }
 {
     let Some(word) = decode(words.get(layout.block_at(block))) else {
         return false;
@@ -45,12 +45,12 @@ pub fn is_releasable<W: Words>(words: &W, layout: &Layout, block: u32) -> bool
 
 /// Whether the objects in the block, and its bits, are those of a block with this word.
 fn has_its_objects<W: Words>(words: &W, layout: &Layout, block: u32, word: &BlockWord) -> bool
-    requires extent { length (W.words words.now) ≡ row_words layout.now.blocks }
+    requires extent { IsRowOf layout.now (W.words words.now) }
     requires block { block < layout.now.blocks }
-    requires valid { IsValid word.now }
+    requires valid { IsValidWord word.now }
     requires word { code_of word.now
-        ≡ block_word (state_over (W.words words.now) layout.now 0 0) block }
-    ensures { IsTrue result ↔ IsReleasable (state_over (W.words words.now) layout.now 0 0) block }
+        ≡ block_word (shown (W.words words.now) layout.now) block }
+    ensures { IsTrue result ↔ IsReleasable (shown (W.words words.now) layout.now) block }
 {
     match word.kind {
         Kind::Free => is_clear(words, layout, block),
@@ -65,11 +65,11 @@ fn has_its_objects<W: Words>(words: &W, layout: &Layout, block: u32, word: &Bloc
 
 /// Whether no bit of the block is set.
 fn is_clear<W: Words>(words: &W, layout: &Layout, block: u32) -> bool
-    requires extent { length (W.words words.now) ≡ row_words layout.now.blocks }
+    requires extent { IsRowOf layout.now (W.words words.now) }
     requires block { block < layout.now.blocks }
-    ensures { IsTrue result ↔ (HasNoMark (state_over (W.words words.now) layout.now 0 0)
+    ensures { IsTrue result ↔ (HasNoMark (shown (W.words words.now) layout.now)
         (block_start layout.now.blocks block) (block_start layout.now.blocks block + BLOCK_WORDS)
-        × HasNoLine (state_over (W.words words.now) layout.now 0 0) block) }
+        × HasNoLine (shown (W.words words.now) layout.now) block) }
 {
     if !has_no_line(words, layout, block) {
         return false;
@@ -79,9 +79,9 @@ fn is_clear<W: Words>(words: &W, layout: &Layout, block: u32) -> bool
 
 /// Whether no start, pin or unlog bit of the block is set.
 fn is_empty<W: Words>(words: &W, layout: &Layout, block: u32) -> bool
-    requires extent { length (W.words words.now) ≡ row_words layout.now.blocks }
+    requires extent { IsRowOf layout.now (W.words words.now) }
     requires block { block < layout.now.blocks }
-    ensures { IsTrue result ↔ HasNoMark (state_over (W.words words.now) layout.now 0 0)
+    ensures { IsTrue result ↔ HasNoMark (shown (W.words words.now) layout.now)
         (block_start layout.now.blocks block) (block_start layout.now.blocks block + BLOCK_WORDS) }
 {
     let first = layout.address(block, 0);
@@ -90,11 +90,11 @@ fn is_empty<W: Words>(words: &W, layout: &Layout, block: u32) -> bool
 
 /// Whether no address from `from` on, before `to`, has a start, pin or unlog bit.
 fn has_no_mark<W: Words>(words: &W, layout: &Layout, from: u32, to: u32) -> bool
-    requires extent { length (W.words words.now) ≡ row_words layout.now.blocks }
+    requires extent { IsRowOf layout.now (W.words words.now) }
     requires from { block_start layout.now.blocks 0 ≤ from }
     requires to { to ≤ row_words layout.now.blocks }
     ensures { IsTrue result
-        ↔ HasNoMark (state_over (W.words words.now) layout.now 0 0) from to }
+        ↔ HasNoMark (shown (W.words words.now) layout.now) from to }
 {
     for address in from..to {
         let marks = marks_at(words, layout, address);
@@ -107,9 +107,9 @@ fn has_no_mark<W: Words>(words: &W, layout: &Layout, from: u32, to: u32) -> bool
 
 /// Whether no line bit of the block is set.
 fn has_no_line<W: Words>(words: &W, layout: &Layout, block: u32) -> bool
-    requires extent { length (W.words words.now) ≡ row_words layout.now.blocks }
+    requires extent { IsRowOf layout.now (W.words words.now) }
     requires block { block < layout.now.blocks }
-    ensures { IsTrue result ↔ HasNoLine (state_over (W.words words.now) layout.now 0 0) block }
+    ensures { IsTrue result ↔ HasNoLine (shown (W.words words.now) layout.now) block }
 {
     let lines = layout.line_at(block);
     for index in lines..lines + 4 {
@@ -122,11 +122,11 @@ fn has_no_line<W: Words>(words: &W, layout: &Layout, block: u32) -> bool
 
 /// Whether the block and the `class - 1` blocks after it are a run that holds one large object.
 fn holds_large<W: Words>(words: &W, layout: &Layout, block: u32, class: u32) -> bool
-    requires extent { length (W.words words.now) ≡ row_words layout.now.blocks }
+    requires extent { IsRowOf layout.now (W.words words.now) }
     requires block { block < layout.now.blocks }
     requires class { class ≤ 15 }
     ensures { IsTrue result
-        ↔ HoldsLarge (state_over (W.words words.now) layout.now 0 0) block class }
+        ↔ HoldsLarge (shown (W.words words.now) layout.now) block class }
 {
     if block + class > layout.blocks() {
         return false;
@@ -149,9 +149,9 @@ fn holds_large<W: Words>(words: &W, layout: &Layout, block: u32, class: u32) -> 
 
 /// Whether the blocks from `from` on, before `to`, are later blocks of large runs.
 fn are_tails<W: Words>(words: &W, layout: &Layout, from: u32, to: u32) -> bool
-    requires extent { length (W.words words.now) ≡ row_words layout.now.blocks }
+    requires extent { IsRowOf layout.now (W.words words.now) }
     requires blocks { to ≤ layout.now.blocks }
-    ensures { IsTrue result ↔ AreTails (state_over (W.words words.now) layout.now 0 0) from to }
+    ensures { IsTrue result ↔ AreTails (shown (W.words words.now) layout.now) from to }
 {
     for block in from..to {
         if words.get(layout.block_at(block)) % CLASS_UNIT != Kind::LargeTail as u64 {
@@ -164,12 +164,12 @@ fn are_tails<W: Words>(words: &W, layout: &Layout, from: u32, to: u32) -> bool
 /// Whether the objects in the block are small or medium ones side by side, each with a cell of its
 /// own of this class.
 fn holds_cells<W: Words>(words: &W, layout: &Layout, block: u32, class: u32) -> bool
-    requires extent { length (W.words words.now) ≡ row_words layout.now.blocks }
+    requires extent { IsRowOf layout.now (W.words words.now) }
     requires block { block < layout.now.blocks }
     requires class { class ≤ 18 }
-    ensures { IsTrue result ↔ (HoldsSmall (state_over (W.words words.now) layout.now 0 0)
+    ensures { IsTrue result ↔ (HoldsSmall (shown (W.words words.now) layout.now)
         block BLOCK_WORDS BLOCK_WORDS
-        × AreInCells (state_over (W.words words.now) layout.now 0 0)
+        × AreInCells (shown (W.words words.now) layout.now)
         block (words_of_class class) BLOCK_WORDS) }
 {
     if !holds_small(words, layout, block) {
@@ -181,9 +181,9 @@ fn holds_cells<W: Words>(words: &W, layout: &Layout, block: u32, class: u32) -> 
 /// Whether the objects in the block are small or medium ones, side by side in it. Pin and unlog
 /// bits must be those of objects.
 fn holds_small<W: Words>(words: &W, layout: &Layout, block: u32) -> bool
-    requires extent { length (W.words words.now) ≡ row_words layout.now.blocks }
+    requires extent { IsRowOf layout.now (W.words words.now) }
     requires block { block < layout.now.blocks }
-    ensures { IsTrue result ↔ HoldsSmall (state_over (W.words words.now) layout.now 0 0)
+    ensures { IsTrue result ↔ HoldsSmall (shown (W.words words.now) layout.now)
         block BLOCK_WORDS BLOCK_WORDS }
 {
     let mut end = 0;
@@ -200,14 +200,14 @@ fn holds_small<W: Words>(words: &W, layout: &Layout, block: u32) -> bool
 /// object at the offset but another bit is set, or what begins there is no small or medium object
 /// that lies after `end`, in the block.
 fn end_after<W: Words>(words: &W, layout: &Layout, block: u32, offset: u32, end: u32) -> Option<u32>
-    requires extent { length (W.words words.now) ≡ row_words layout.now.blocks }
+    requires extent { IsRowOf layout.now (W.words words.now) }
     requires block { block < layout.now.blocks }
     requires offset { offset < BLOCK_WORDS }
     requires end { end ≤ BLOCK_WORDS }
     ensures some { IfSome result (λ next.
-        GoesOn (state_over (W.words words.now) layout.now 0 0) block offset end next) }
+        ObjectsGoOn (shown (W.words words.now) layout.now) block offset end next) }
     ensures none { IfNone result ((next : ℕ)
-        → GoesOn (state_over (W.words words.now) layout.now 0 0) block offset end next → ⊥) }
+        → ObjectsGoOn (shown (W.words words.now) layout.now) block offset end next → ⊥) }
 {
     let address = layout.address(block, offset);
     let marks = marks_at(words, layout, address);
@@ -231,13 +231,13 @@ fn end_after<W: Words>(words: &W, layout: &Layout, block: u32, offset: u32, end:
 
 /// Whether each object in the block has a cell of its own, of `cell` words.
 fn are_in_cells<W: Words>(words: &W, layout: &Layout, block: u32, cell: u32) -> bool
-    requires extent { length (W.words words.now) ≡ row_words layout.now.blocks }
+    requires extent { IsRowOf layout.now (W.words words.now) }
     requires block { block < layout.now.blocks }
     requires least { 4 ≤ cell }
     requires most { cell ≤ MAX_MEDIUM_WORDS }
-    requires objects { HoldsSmall (state_over (W.words words.now) layout.now 0 0)
+    requires objects { HoldsSmall (shown (W.words words.now) layout.now)
         block BLOCK_WORDS BLOCK_WORDS }
-    ensures { IsTrue result ↔ AreInCells (state_over (W.words words.now) layout.now 0 0)
+    ensures { IsTrue result ↔ AreInCells (shown (W.words words.now) layout.now)
         block cell BLOCK_WORDS }
 {
     for offset in 0..BLOCK_WORDS {
@@ -250,17 +250,17 @@ fn are_in_cells<W: Words>(words: &W, layout: &Layout, block: u32, cell: u32) -> 
 
 /// Whether no object begins at the offset, or one that has a cell of its own, of `cell` words.
 fn is_in_cell<W: Words>(words: &W, layout: &Layout, block: u32, cell: u32, offset: u32) -> bool
-    requires extent { length (W.words words.now) ≡ row_words layout.now.blocks }
+    requires extent { IsRowOf layout.now (W.words words.now) }
     requires block { block < layout.now.blocks }
     requires offset { offset < BLOCK_WORDS }
     requires least { 4 ≤ cell }
     requires most { cell ≤ MAX_MEDIUM_WORDS }
-    requires objects { HoldsSmall (state_over (W.words words.now) layout.now 0 0)
+    requires objects { HoldsSmall (shown (W.words words.now) layout.now)
         block BLOCK_WORDS BLOCK_WORDS }
     ensures { IsTrue result
-        ↔ (IsTrue (is_start (state_over (W.words words.now) layout.now 0 0)
+        ↔ (IsTrue (is_start (shown (W.words words.now) layout.now)
         (block_start layout.now.blocks block + offset)) → IsInCell cell offset
-        (size_at (state_over (W.words words.now) layout.now 0 0)
+        (size_at (shown (W.words words.now) layout.now)
         (block_start layout.now.blocks block + offset))) }
 {
     let address = layout.address(block, offset);
@@ -282,10 +282,10 @@ fn object_size<W: Words>(words: &W, address: u32) -> Option<u32>
     requires index { address + 1 < 2 ^ 32 }
     requires word { address + 1 < length (W.words words.now) }
     ensures some { (layout : Layout) → IfSome result (λ size.
-        HasObject (state_over (W.words words.now) layout 0 0) address
-        × (size ≡ size_at (state_over (W.words words.now) layout 0 0) address)) }
+        HasObject (shown (W.words words.now) layout) address
+        × (size ≡ size_at (shown (W.words words.now) layout) address)) }
     ensures none { (layout : Layout) → IfNone result
-        (HasObject (state_over (W.words words.now) layout 0 0) address → ⊥) }
+        (HasObject (shown (W.words words.now) layout) address → ⊥) }
 {
     if !is_name(words.get(address)) {
         return None;
@@ -310,14 +310,14 @@ fn is_name(word: u64) -> bool
 
 /// The bits of an address.
 fn marks_at<W: Words>(words: &W, layout: &Layout, address: u32) -> Marks
-    requires extent { length (W.words words.now) ≡ row_words layout.now.blocks }
+    requires extent { IsRowOf layout.now (W.words words.now) }
     requires address { IsAddress layout.now.blocks address }
     ensures start { result.start
-        ≡ is_start (state_over (W.words words.now) layout.now 0 0) address }
+        ≡ is_start (shown (W.words words.now) layout.now) address }
     ensures pin { result.pin
-        ≡ is_pinned (state_over (W.words words.now) layout.now 0 0) address }
+        ≡ is_pinned (shown (W.words words.now) layout.now) address }
     ensures unlog { result.unlog
-        ≡ is_unlogged (state_over (W.words words.now) layout.now 0 0) address }
+        ≡ is_unlogged (shown (W.words words.now) layout.now) address }
 {
     let bit = address - layout.heap_base();
     Marks {

@@ -1,7 +1,7 @@
 //! Rows of words that are written by hand, for tests of sweeps and of plans.
 
 ghost use Rattle.std.specs.Prelude.{◌≡◌, ◌+◌, ◌<◌, ◌≤◌, length, IfOk};
-ghost use Rattle.heap_layout.specs.Zones.{row_words, first, IsAddress};
+ghost use Rattle.heap_layout.specs.Zones.{row_words, first, IsAddress, IsRowOf};
 ghost use Rattle.heap_layout.specs.Zones.Zone.{UnlogBits};
 ghost use Rattle.heap_layout.specs.declared.layout.TheConstants.{BLOCK_WORDS};
 
@@ -56,7 +56,7 @@ pub fn empty_row(alloc: Global, layout: &Layout) -> Result<Vec<u64>, AllocError>
 
 /// Sets the word of a block without an owner.
 pub fn set_block(words: &mut Vec<u64>, layout: &Layout, block: u32, kind: Kind, class: u32)
-    requires extent { length words.old.items ≡ row_words layout.now.blocks }
+    requires extent { IsRowOf layout.now words.old.items }
     requires block { block < layout.now.blocks }
     ensures { length words.new.items ≡ length words.old.items }
 {
@@ -69,7 +69,7 @@ pub fn set_block(words: &mut Vec<u64>, layout: &Layout, block: u32, kind: Kind, 
 /// Writes the header of an object, and sets its start bit and those of its pin and unlog bits that
 /// are to be set.
 pub fn write_object(words: &mut Vec<u64>, layout: &Layout, block: u32, object: &Object)
-    requires extent { length words.old.items ≡ row_words layout.now.blocks }
+    requires extent { IsRowOf layout.now words.old.items }
     requires block { block < layout.now.blocks }
     ensures { length words.new.items ≡ length words.old.items }
 {
@@ -92,7 +92,7 @@ pub fn write_object(words: &mut Vec<u64>, layout: &Layout, block: u32, object: &
 
 /// Sets the bit of an address in the zone of bits that begins at word `zone`.
 pub fn set_bit_of(words: &mut Vec<u64>, layout: &Layout, zone: u32, address: u32)
-    requires extent { length words.old.items ≡ row_words layout.now.blocks }
+    requires extent { IsRowOf layout.now words.old.items }
     requires zone { zone ≤ first layout.now.blocks UnlogBits }
     requires address { IsAddress layout.now.blocks address }
     ensures { length words.new.items ≡ length words.old.items }

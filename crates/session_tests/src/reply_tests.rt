@@ -1,4 +1,4 @@
-//! Sessions of one mutator, against the ideal heap: which `new` is told `full`, and how often the
+//! Sessions of one mutator, against the ideal heap: which `new` gets `full`, and how often the
 //! heap is collected.
 
 ghost use Rattle.std.specs.Prelude.{◌≡◌};
@@ -29,7 +29,7 @@ fn check_reply(
     Ok(())
 }
 
-// The replies are those of the ideal heap, which skips each `new` that is told `full`. Returns how
+// The replies are those of the ideal heap, which skips each `new` that gets `full`. Returns how
 // many commands before it each of these has.
 fn check_replies(
     rt: &impl Abort,
@@ -53,7 +53,7 @@ fn check_replies(
 
 // Runs the commands in a heap of `blocks` blocks. Returns where `full` stands among the replies,
 // and the number of full collections.
-fn tell<R: Abort + Threads + Sync>(
+fn run_and_list<R: Abort + Threads + Sync>(
     rt: &R,
     alloc: Global,
     under: Under,
@@ -72,7 +72,7 @@ fn tell<R: Abort + Threads + Sync>(
 }
 
 // A random session: its plan, its seed, the blocks of the heap, how many commands it has, whether
-// their objects have any size, how many collections it has at least, and whether a `new` is told
+// their objects have any size, how many collections it has at least, and whether a `new` gets
 // `full`.
 type Random = (Under, u64, u32, usize, bool, u64, bool);
 
@@ -111,7 +111,7 @@ fn check_random<R: Abort + Threads + Sync>(
 ) -> Result<(), Fail> {
     for (under, seed, blocks, count, any_size, least, refuses) in table {
         let commands = random_commands(alloc, *seed, *count, *any_size)?;
-        let (refused, collections) = tell(rt, alloc, *under, *blocks, &commands)?;
+        let (refused, collections) = run_and_list(rt, alloc, *under, *blocks, &commands)?;
         let exact = *under != Under::NoGc || collections == refused.len() as u64;
         assert!(rt;
             exact && collections >= *least && refused.is_empty() != *refuses,
@@ -133,7 +133,7 @@ fn random_sessions_in_roomy_heaps(rt: HostRuntime) -> Result<(), Fail> {
 }
 
 // A worked session: its plan, the blocks of the heap, its commands as letters, which of them are
-// told `full`, and how many collections are made.
+// gets `full`, and how many collections are made.
 type Worked = (Under, u32, &'static [u8], &'static [usize], u64);
 
 // SemiSpace fills two of 4 blocks. A pinned object stays, and its block is not filled any more. A
@@ -181,9 +181,9 @@ fn worked_sessions(rt: HostRuntime) -> Result<(), Fail> {
     let alloc = rt.alloc();
     for (under, blocks, letters, refused, collections) in &WORKED {
         let commands = commands_of(alloc, letters)?;
-        let (told, made) = tell(&rt, alloc, *under, *blocks, &commands)?;
+        let (replied, made) = run_and_list(&rt, alloc, *under, *blocks, &commands)?;
         assert!(rt;
-            (told.as_slice(), made) == (*refused, *collections),
+            (replied.as_slice(), made) == (*refused, *collections),
             "{under:?} of {blocks} blocks"
         );
     }
@@ -199,7 +199,7 @@ fn worked_sessions(rt: HostRuntime) -> Result<(), Fail> {
 // lines fit behind it. The next collection evacuates the table's block, and 24 fit. The one after
 // it evacuates the 63, but not the pinned one, and 64 more fit.
 //
-// Whether it is pinned, the lines of an object, how many are added, whether the last one is told
+// Whether it is pinned, the lines of an object, how many are added, whether the last one gets
 // `full`, and how many collections are made.
 const REFILLED: [(bool, u32, u32, bool, u64); 5] = [
     (false, 2, 176, false, 1),
@@ -215,11 +215,11 @@ fn holes_of_lines(rt: HostRuntime) -> Result<(), Fail> {
     for (pins, lines, count, refuses, collections) in &REFILLED {
         let commands = refilled(alloc, *pins, *lines, *count)?;
         let last = commands.len().saturating_sub(2);
-        let told = tell(&rt, alloc, Under::Immix, 4, &commands)?;
+        let replied = run_and_list(&rt, alloc, Under::Immix, 4, &commands)?;
         let refused = if *refuses { Some(last) } else { None };
         assert!(rt;
-            told.1 == *collections && told.0.iter().copied().eq(refused),
-            "{count} of {lines} lines: {told:?}"
+            replied.1 == *collections && replied.0.iter().copied().eq(refused),
+            "{count} of {lines} lines: {replied:?}"
         );
     }
     Ok(())

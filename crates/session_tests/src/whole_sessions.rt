@@ -2,7 +2,7 @@
 
 ghost use Rattle.std.specs.Prelude.{◌≤◌, ℕ, All, IsTrue, length};
 ghost use Rattle.managed_heap.specs.Stopped.{IsManaged};
-ghost use Rattle.mm_runtime.specs.Managers.{IsReady, IsRunnable};
+ghost use Rattle.mm_runtime.specs.Managers.{ClosesSome, IsRunnableTrace};
 
 use heap_graph::{Place, graph};
 use heap_layout::Layout;
@@ -38,13 +38,13 @@ pub(crate) struct End {
 }
 
 fn is_runnable(trace: &[Command]) -> bool
-    ensures { IsTrue result → IsRunnable trace.now }
+    ensures { IsTrue result → IsRunnableTrace trace.now }
 {
     trace.len() <= 1_000_000 && trace.iter().all(|c| valid(c))
 }
 
 fn check_runnable(rt: &impl Abort, traces: &Vec<Vec<Command>>)
-    ensures { All (λ t. IsRunnable t.items) traces.now.items }
+    ensures { All (λ t. IsRunnableTrace t.items) traces.now.items }
 {
     for trace in traces {
         assert!(rt; is_runnable(trace));
@@ -69,7 +69,7 @@ fn end_of<P: Plan>(
     manager: Manager<P>,
     from: &[u32],
 ) -> Result<End, AllocError>
-    requires { IsReady P.rules manager }
+    requires { ClosesSome P.rules manager }
 {
     let mut replies = Vec::new(alloc);
     for m in 0..manager.mutators() {

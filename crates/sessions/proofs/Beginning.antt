@@ -12,7 +12,7 @@ use Rattle.object_model.proofs.Zeros as zeros
 use Rattle.sessions.specs.Plans.{Plan, rules_of, Reserve, Nothing, Copies, Headroom}
 use Rattle.sessions.specs.Fitting.{free_of, large_of, MayGrant, Fits, FitsSmall, FitsLarge}
 use Rattle.sessions.specs.Sessions as sessions
-use Rattle.sessions.specs.Sessions.{Setting, Moment, Places, Serves}
+use Rattle.sessions.specs.Sessions.{Setting, Moment, Places, ServesNeed}
 use Rattle.sessions.proofs.Placing.{one_if, count-cons, count-none}
 
 -- if each element passes, the count is the length
@@ -66,7 +66,7 @@ module _ (b : ℕ) where
 
 -- so a need on the empty heap is served at once
 pub served-at-once : (t : Setting) (p : Plan) (b m d refs nums : ℕ) (before now : Moment) → 4 ≤ b → t.rules ≡ rules_of p → before.heap ≡ empty_heap b → size_of refs nums ≤ 2048
-    → Serves t m d refs nums before now → Places t m d refs nums before now
+    → ServesNeed t m d refs nums before now → Places t m d refs nums before now
 served-at-once t p b m d refs nums before now least rules heap small serves =
     let fits : Fits t.rules before.heap (size_of refs nums) =
     subst (λ r. Fits r before.heap (size_of refs nums)) (sym rules) (subst (λ (x : HeapState). Fits (rules_of p) x (size_of refs nums)) (sym heap) (small-fits b least p (size_of refs nums) small)) in

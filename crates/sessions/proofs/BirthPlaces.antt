@@ -10,7 +10,7 @@ use Rattle.object_model.specs.Objects.{HeapState, HasKind, class_at, line_marked
 use Rattle.object_model.proofs.OneKind.{one-kind}
 use Rattle.sessions.specs.Plans.{Rules}
 use Rattle.sessions.specs.Fitting.{IsTail, HasHole, HasLineHole, LiesInTail, LiesInLineHole, LiesInHole, IsFreeCell, IsCellFor, class_of}
-use Rattle.sessions.specs.Sessions.{IsPacked, IsBirth}
+use Rattle.sessions.specs.Sessions.{LeavesNoGap, IsBirth}
 use Rattle.sessions.proofs.Tails.{tail-unique}
 use Rattle.sessions.proofs.Holes.{hole-start}
 
@@ -91,7 +91,7 @@ module _ (rules : Rules) (old : HeapState) (part : List Entry) (new : HeapState)
 abbrev pub Follows : HeapState → ℕ → Type 0
 Follows new a = (x : ℕ) × IsHeld new x × (block_at new.blocks x ≡ block_at new.blocks a) × (x + size_at new x ≡ a)
 
-module _ (fill : Kind) (old new : HeapState) (a : ℕ) (packed : IsPacked fill old new a) where
+module _ (fill : Kind) (old new : HeapState) (a : ℕ) (packed : LeavesNoGap fill old new a) where
   pub packed-tail : fill ≡ kinds.Bump → HasKind old (block_at new.blocks a) kinds.Bump → (at : ℕ) → IsTail old (block_at new.blocks a) at → (offset_at new.blocks a ≡ at) ⊎ Follows new a
   packed-tail is bump at tail = elim packed as (λ _. (offset_at new.blocks a ≡ at) ⊎ Follows new a) [
     | inl cells ↦ absurd (let e : kinds.Bump ≡ kinds.Cells = sym is ∙ cells in let wrong : 1 ≡ 5 = ap kind_code e in omega arith)

@@ -4,7 +4,7 @@ use Rattle.std.specs.List.{AllByRecursion}
 use Rattle.std.proofs.lemmas.Bool.{and_parts, cases_eq}
 use Rattle.std.proofs.lemmas.List.{length-map}
 use Rattle.ideal_heap.specs.Ideal.{IdealHeap, empty}
-use Rattle.ideal_heap.specs.Runs.{Entry, after}
+use Rattle.ideal_heap.specs.Runs.{Entry, heap_after_run}
 use Rattle.object_model.specs.declared.collect.Collect.{Collect}
 use Rattle.object_model.specs.Objects.{HeapState, word_at, IsHeld, is_unlogged, refs_at, ref_at, is_reference}
 use Rattle.object_model.specs.Ages.{is_old, RemembersYoung}
@@ -67,21 +67,21 @@ remembers-counted s remembers a i holds aged unlogged less some =
     let there = remembers a i (held-back s a holds) aged unlogged less some in
     (held-counted s (ref_at s a i) there.0, there.1)
 
-pub remembers-after : (b : Bool) (r : Rules) (workers : ℕ) (kind : Collect) (old new : HeapState) (roots after : List ℕ)
-    → CollectsIf b r workers kind old roots new after → IsLawful new → Remembers r old → Remembers r new
-remembers-after false r workers kind old new roots after counts lawful remembers young =
+pub remembers-after : (b : Bool) (r : Rules) (workers : ℕ) (kind : Collect) (old new : HeapState) (roots heap_after_run : List ℕ)
+    → CollectsIf b r workers kind old roots new heap_after_run → IsLawful new → Remembers r old → Remembers r new
+remembers-after false r workers kind old new roots heap_after_run counts lawful remembers young =
     subst RemembersYoung (sym counts.heap) (remembers-counted old (remembers young))
-remembers-after true r workers kind old new roots after made lawful remembers young = λ a i holds aged unlogged less some.
+remembers-after true r workers kind old new roots heap_after_run made lawful remembers young = λ a i holds aged unlogged less some.
     (let there : IsHeld new (ref_at new a i) = lawful.but_lines.order.objects.references a i holds less some in
     (there, (and_parts r.young (is_old new (ref_at new a i)) (made.ages (ref_at new a i) there young)).1))
 
-pub roots-after : (b : Bool) (r : Rules) (workers : ℕ) (kind : Collect) (old new : HeapState) (roots after : List ℕ)
-    → CollectsIf b r workers kind old roots new after → length after ≡ length roots
-roots-after false r workers kind old new roots after counts = ap length counts.registers
-roots-after true r workers kind old new roots after made = ap length made.kept.registers ∙ length-map roots made.target
+pub roots-after : (b : Bool) (r : Rules) (workers : ℕ) (kind : Collect) (old new : HeapState) (roots heap_after_run : List ℕ)
+    → CollectsIf b r workers kind old roots new heap_after_run → length heap_after_run ≡ length roots
+roots-after false r workers kind old new roots heap_after_run counts = ap length counts.registers
+roots-after true r workers kind old new roots heap_after_run made = ap length made.kept.registers ∙ length-map roots made.target
 
-pub roots-kept : (r : Rules) (workers : ℕ) (kind : Collect) (old new : HeapState) (roots after : List ℕ)
-    → IsCollection r workers kind old roots new after → length after ≡ length roots
+pub roots-kept : (r : Rules) (workers : ℕ) (kind : Collect) (old new : HeapState) (roots heap_after_run : List ℕ)
+    → IsCollection r workers kind old roots new heap_after_run → length heap_after_run ≡ length roots
 roots-kept r = roots-after r.collects r
 
 module _ (t : Setting) (kind : Collect) (before now : Moment) (sound : IsSound t before)
@@ -91,7 +91,7 @@ module _ (t : Setting) (kind : Collect) (before now : Moment) (sound : IsSound t
   sound-after = record {
     lawful = lawful;
     remembers = remembers-after t.rules.collects t.rules t.workers kind before.heap now.heap (roots_of before.mutators) (roots_of now.mutators) made lawful sound.remembers;
-    represents = subst (λ (es : List Entry). Represents now.heap now.mutators (after empty es)) (sym done)
+    represents = subst (λ (es : List Entry). Represents now.heap now.mutators (heap_after_run empty es)) (sym done)
         (represents-after t.rules.collects t.rules t.workers kind before.heap now.heap before.mutators now.mutators (ideal_at before) made sound.lawful lawful births registers sound.represents);
     listed = numbers-same now.mutators before.mutators births ∙ sound.listed;
   }

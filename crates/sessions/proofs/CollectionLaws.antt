@@ -16,7 +16,7 @@ use Rattle.sessions.specs.Collecting.{Collects, CollectsIf, IsCollection, base_a
 use Rattle.heap_layout.specs.Zones.{block_at}
 use Rattle.sessions.proofs.Counting.{counts-one}
 use Rattle.sessions.specs.Sessions as sessions
-use Rattle.sessions.specs.Sessions.{Setting, Moment, Replies, MakesCollection, CollectsFor, FirstTry, Serves, ServesAll, MeetsIf, InSession, IsEpoch, refusal}
+use Rattle.sessions.specs.Sessions.{Setting, Moment, OnlyReplies, MakesCollection, CollectsFor, FirstTry, ServesNeed, ServesAll, MeetsIf, InSession, IsEpoch, refused_entry}
 
 -- objects that stay
 
@@ -62,13 +62,13 @@ tried-done t size Nursery before mid makes = (makes.0.done, ap (λ p. p.1) makes
 abbrev allocation : ℕ → ℕ → ℕ → ℕ → Moment → ℕ → Entry
 allocation m d refs nums now place = record { mutator = m; command = c.New d refs nums; reply = r.New (name_at now.heap place) }
 
-pub refused-late : (t : Setting) (m d refs nums : ℕ) (before now : Moment) → Serves t m d refs nums before now → now.done ≡ before.done ++ refusal m d refs nums ∷ []
+pub refused-late : (t : Setting) (m d refs nums : ℕ) (before now : Moment) → ServesNeed t m d refs nums before now → now.done ≡ before.done ++ refused_entry m d refs nums ∷ []
     → (Fits t.rules now.heap (size_of refs nums) → ⊥) × (now.full ≡ before.full + 1)
-refused-late t m d refs nums before now (sessions.at_once places) e = not-full before.done (allocation m d refs nums now places.place) (refusal m d refs nums) _ refl refl (sym places.done ∙ e)
+refused-late t m d refs nums before now (sessions.at_once places) e = not-full before.done (allocation m d refs nums now places.place) (refused_entry m d refs nums) _ refl refl (sym places.done ∙ e)
 refused-late t m d refs nums before now (sessions.after_nursery mid no_fit first makes places) e =
-    not-full before.done (allocation m d refs nums now places.place) (refusal m d refs nums) _ refl refl (subst (λ (l : List Entry). l ++ allocation m d refs nums now places.place ∷ [] ≡ before.done ++ refusal m d refs nums ∷ []) makes.done (sym places.done ∙ e))
+    not-full before.done (allocation m d refs nums now places.place) (refused_entry m d refs nums) _ refl refl (subst (λ (l : List Entry). l ++ allocation m d refs nums now places.place ∷ [] ≡ before.done ++ refused_entry m d refs nums ∷ []) makes.done (sym places.done ∙ e))
 refused-late t m d refs nums before now (sessions.after_full mid late no_fit first makes places) e =
-    not-full before.done (allocation m d refs nums now places.place) (refusal m d refs nums) _ refl refl (subst (λ (l : List Entry). l ++ allocation m d refs nums now places.place ∷ [] ≡ before.done ++ refusal m d refs nums ∷ []) (makes.done ∙ (tried-done t _ _ before mid first).0) (sym places.done ∙ e))
+    not-full before.done (allocation m d refs nums now places.place) (refused_entry m d refs nums) _ refl refl (subst (λ (l : List Entry). l ++ allocation m d refs nums now places.place ∷ [] ≡ before.done ++ refused_entry m d refs nums ∷ []) (makes.done ∙ (tried-done t _ _ before mid first).0) (sym places.done ∙ e))
 refused-late t m d refs nums before now (sessions.refused mid late no_fit first makes no_fit_after replies) e = (
   subst (λ (x : Moment). Fits t.rules x.heap (size_of refs nums) → ⊥) (sym replies.rest) no_fit_after,
   ap (λ (x : Moment). x.full) replies.rest ∙ ap (λ p. p.1) makes.counts ∙ ap (λ n. n + 1) (tried-done t _ _ before mid first).1,
@@ -79,7 +79,7 @@ refused-late t m d refs nums before now (sessions.refused mid late no_fit first 
 abbrev Count : Moment → Type 0
 Count now = now.heap.number ≡ now.nursery + now.full
 
-replied : (es : List Entry) (before now : Moment) → Replies es before now → Count before → Count now
+replied : (es : List Entry) (before now : Moment) → OnlyReplies es before now → Count before → Count now
 replied es before now replies count = subst (λ (x : Moment). Count x) (sym replies.rest) count
 
 kept : (before now : Moment) → now.heap.number ≡ before.heap.number → now.nursery ≡ before.nursery → now.full ≡ before.full → Count before → Count now
@@ -108,7 +108,7 @@ tried : (t : Setting) (size : ℕ) (kind : Collect) (before now : Moment) → Fi
 tried t size Full before now nothing count = same before now nothing count
 tried t size Nursery before now makes count = collected t _ before now makes.0 count
 
-served : (t : Setting) (m d refs nums : ℕ) (before now : Moment) → Serves t m d refs nums before now → Count before → Count now
+served : (t : Setting) (m d refs nums : ℕ) (before now : Moment) → ServesNeed t m d refs nums before now → Count before → Count now
 served t m d refs nums before now (sessions.at_once places) count = kept before now places.layout.1 places.counts.0 places.counts.1 count
 served t m d refs nums before now (sessions.after_nursery mid no_fit first makes places) count = kept mid now places.layout.1 places.counts.0 places.counts.1 (collected t _ before mid makes count)
 served t m d refs nums before now (sessions.after_full mid late no_fit first makes places) count =

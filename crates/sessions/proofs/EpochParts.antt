@@ -14,7 +14,7 @@ use Rattle.ideal_heap.specs.declared.command.Command.TheVariants as c
 use Rattle.ideal_heap.specs.declared.reply.Reply.TheVariants as r
 use Rattle.ideal_heap.specs.Commands.{is_new, is_gc, is_meet}
 use Rattle.ideal_heap.specs.Ideal.{IdealHeap}
-use Rattle.ideal_heap.specs.Runs.{Entry, entry, IsMutator, after}
+use Rattle.ideal_heap.specs.Runs.{Entry, entry, IsMutator, heap_after_run}
 use Rattle.object_model.specs.Objects.{HeapState, word_at, block_word, HasKind, IsHeld, name_at, refs_at, nums_at, size_at, number_at, size_of, is_unlogged}
 use Rattle.object_model.specs.Ages.{is_old}
 use Rattle.object_model.proofs.OneKind.{kind-within, kind-code, kind-from, one-kind}
@@ -185,8 +185,8 @@ tail_of [] = []
 tail_of (e ∷ es) = es
 
 second-of : (h : IdealHeap) (first : Entry) (m s i v : ℕ) → ((s' i' v' : ℕ) → first.command ≢ c.Put s' i' v') → (n : Name) (prefix : List Entry) (e : Entry) (rest : List Entry)
-    → first ∷ entry m (c.Put s i v) r.Done ∷ [] ≡ prefix ++ e ∷ rest → (s' i' v' : ℕ) → e.command ≡ c.Put s' i' v' → (after h prefix).registers e.mutator s' ≡ Some n
-    → (after h (first ∷ [])).registers m s ≡ Some n
+    → first ∷ entry m (c.Put s i v) r.Done ∷ [] ≡ prefix ++ e ∷ rest → (s' i' v' : ℕ) → e.command ≡ c.Put s' i' v' → (heap_after_run h prefix).registers e.mutator s' ≡ Some n
+    → (heap_after_run h (first ∷ [])).registers m s ≡ Some n
 second-of h first m s i v other n [] e rest whole s' i' v' put into = absurd (other s' i' v' (ap (λ es. (head_or first es).command) whole ∙ put))
 second-of h first m s i v other n (x ∷ []) e rest whole s' i' v' put into =
     let same : first ≡ x = ap (head_or first) whole in
@@ -194,7 +194,7 @@ second-of h first m s i v other n (x ∷ []) e rest whole s' i' v' put into =
     let command : c.Put s i v ≡ c.Put s' i' v' = ap (λ (y : Entry). y.command) last ∙ put in
     let register : s ≡ s' = cc in
     let mutator : m ≡ e.mutator = ap (λ (y : Entry). y.mutator) last in
-    subst (λ (y : Entry). (after h (y ∷ [])).registers m s ≡ Some n) (sym same) (subst (λ (q : ℕ). (after h (x ∷ [])).registers m q ≡ Some n) (sym register) (subst (λ (q : ℕ). (after h (x ∷ [])).registers q s' ≡ Some n) (sym mutator) into))
+    subst (λ (y : Entry). (heap_after_run h (y ∷ [])).registers m s ≡ Some n) (sym same) (subst (λ (q : ℕ). (heap_after_run h (x ∷ [])).registers m q ≡ Some n) (sym register) (subst (λ (q : ℕ). (heap_after_run h (x ∷ [])).registers q s' ≡ Some n) (sym mutator) into))
 second-of h first m s i v other n (x ∷ y ∷ prefix) e rest whole s' i' v' put into =
     let many : 0 ≡ length (prefix ++ e ∷ rest) = ap (λ es. length (tail_of (tail_of es))) whole in
     let both : length (prefix ++ e ∷ rest) ≡ length prefix + length (e ∷ rest) = length-append prefix (e ∷ rest) in
@@ -289,13 +289,13 @@ module _ (rules : Rules) (numbers : List ℕ) (old : HeapState) (h : IdealHeap) 
 
   -- the second of two entries stores
   pub stored-second : (first : Entry) (m s i v : ℕ) → ((s' i' v' : ℕ) → first.command ≢ c.Put s' i' v') → Stopped rules numbers old h (first ∷ entry m (c.Put s i v) r.Done ∷ []) new ms
-      → (a : ℕ) → is_logged_under rules new a ≡ true → (is_logged_under rules old a ≡ true) ⊎ ((after h (first ∷ [])).registers m s ≡ Some (name_at new a))
-  stored-second first m s i v other stopped a logged = elim (stopped.logs a logged) as (λ _. (is_logged_under rules old a ≡ true) ⊎ ((after h (first ∷ [])).registers m s ≡ Some (name_at new a))) [
+      → (a : ℕ) → is_logged_under rules new a ≡ true → (is_logged_under rules old a ≡ true) ⊎ ((heap_after_run h (first ∷ [])).registers m s ≡ Some (name_at new a))
+  stored-second first m s i v other stopped a logged = elim (stopped.logs a logged) as (λ _. (is_logged_under rules old a ≡ true) ⊎ ((heap_after_run h (first ∷ [])).registers m s ≡ Some (name_at new a))) [
     | inl before ↦ inl before
     | inr stores ↦ inr (second-of h first m s i v other (name_at new a) stores.prefix stores.entry stores.rest stores.whole stores.s stores.i stores.v stores.command stores.into)
   ]
 
-pub stores-into : (h : IdealHeap) (prefix rest : List Entry) (m s i v : ℕ) (n : Name) → (after h prefix).registers m s ≡ Some n → StoresInto h (prefix ++ entry m (c.Put s i v) r.Done ∷ rest) n
+pub stores-into : (h : IdealHeap) (prefix rest : List Entry) (m s i v : ℕ) (n : Name) → (heap_after_run h prefix).registers m s ≡ Some n → StoresInto h (prefix ++ entry m (c.Put s i v) r.Done ∷ rest) n
 stores-into h prefix rest m s i v n into = record {
   prefix = prefix;
   entry = entry m (c.Put s i v) r.Done;

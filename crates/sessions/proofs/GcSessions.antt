@@ -8,7 +8,7 @@ use Rattle.ideal_heap.specs.declared.reply.Reply.TheVariants as r
 use Rattle.ideal_heap.specs.declared.name.Name.{Name}
 use Rattle.ideal_heap.specs.Ideal.{empty}
 use Rattle.ideal_heap.specs.Reach as reach
-use Rattle.ideal_heap.specs.Reach.{Reaches}
+use Rattle.ideal_heap.specs.Reach.{PathReaches}
 use Rattle.ideal_heap.specs.Runs.{Entry, entry, IsMutator, IsOrderPrefix, commands_of, of_mutator, trace_of, next_of, last_level, level_after}
 use Rattle.object_model.specs.declared.collect.Collect.TheVariants.{Full}
 use Rattle.object_model.specs.Objects.{HeapState, empty_heap, HasKind, IsHeld}
@@ -81,7 +81,7 @@ none-arrives a (graphs.from_root i e some) = (let nil : slice_index (replicate 1
 none-arrives a (graphs.from_global g few e some) = (let nil = zeros.zero_word 4 (2 + g) in omega arith)
 none-arrives a (graphs.from_field x i before within e some) = none-arrives x before
 
-nothing-reached : (n : Name) → Reaches empty n → ⊥
+nothing-reached : (n : Name) → PathReaches empty n → ⊥
 nothing-reached n (reach.from_register m d e) = cc
 nothing-reached n (reach.from_global g e) = cc
 nothing-reached n (reach.from_field k i before e) = nothing-reached k before

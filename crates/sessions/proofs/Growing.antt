@@ -7,7 +7,7 @@ use Rattle.ideal_heap.specs.declared.command.Command.{Command}
 use Rattle.ideal_heap.specs.declared.command.Command.TheVariants as c
 use Rattle.ideal_heap.specs.Runs.{Entry, IsMutator, next_of}
 use Rattle.sessions.specs.Sessions as sessions
-use Rattle.sessions.specs.Sessions.{Setting, Moment, Cause, Serves, mutators_of, next_in, is_at_gc, is_at_need, is_at_meet, is_waiting, all_done, CollectsFor, ServesAll, MeetsIf, EndsBy, IsEpoch}
+use Rattle.sessions.specs.Sessions.{Setting, Moment, Cause, ServesNeed, traced_mutators, next_in, is_at_gc, is_at_need, is_at_meet, is_waiting, all_done, CollectsFor, ServesAll, MeetsIf, EndsBy, IsEpoch}
 use Rattle.sessions.proofs.Orders as orders
 use Rattle.sessions.proofs.Orders.{AddsNoMeet}
 
@@ -42,7 +42,7 @@ gcs t (m ∷ ms) before now (mid, makes, replies) =
 one-more : (before late now : Moment) (e : Entry) → late.done ≡ before.done → now.done ≡ late.done ++ e ∷ [] → length before.done < length now.done
 one-more before late now e same done = longer before now e [] (done ∙ ap (λ es. es ++ e ∷ []) same)
 
-serves-grow : (t : Setting) (m d refs nums : ℕ) (before now : Moment) → Serves t m d refs nums before now → length before.done < length now.done
+serves-grow : (t : Setting) (m d refs nums : ℕ) (before now : Moment) → ServesNeed t m d refs nums before now → length before.done < length now.done
 serves-grow t m d refs nums before now (sessions.at_once places) = one-more before before now _ refl places.done
 serves-grow t m d refs nums before now (sessions.after_nursery mid no_fit first makes places) = one-more before mid now _ makes.done places.done
 serves-grow t m d refs nums before now (sessions.after_full mid late no_fit first makes places) =
@@ -80,11 +80,11 @@ all-pass p k zero each = refl
 all-pass p k (suc n) each = rw (each k (omega arith) (omega arith)) (all-pass p (k + 1) n (λ m low high. each m (omega arith) (omega arith)))
 
 module _ (t : Setting) where
-  of-none : (p : ℕ → Bool) → filter p (mutators_of t) ≡ [] → (m : ℕ) → IsMutator t.traces m → p m ≡ false
+  of-none : (p : ℕ → Bool) → filter p (traced_mutators t) ≡ [] → (m : ℕ) → IsMutator t.traces m → p m ≡ false
   of-none p none m is = none-passes p 1 (length t.traces) none m is.0 (let most : m ≤ length t.traces = is.1 in omega arith)
 
   -- a mutator waits if none is at `gc` or at a need
-  waits : (now : Moment) (ends : ℕ → Cause) → filter (λ m. is_at_gc (ends m)) (mutators_of t) ≡ [] → filter (λ m. is_at_need (ends m)) (mutators_of t) ≡ []
+  waits : (now : Moment) (ends : ℕ → Cause) → filter (λ m. is_at_gc (ends m)) (traced_mutators t) ≡ [] → filter (λ m. is_at_need (ends m)) (traced_mutators t) ≡ []
       → (m : ℕ) → IsMutator t.traces m → (cause : Cause) → ends m ≡ cause → EndsBy t now ends m cause → is_waiting (next_in t now m) ≡ true
   waits now ends gc need m is sessions.AtGc e by = absurd (false≢true (sym (of-none (λ k. is_at_gc (ends k)) gc m is) ∙ ap is_at_gc e))
   waits now ends gc need m is sessions.AtMeet e by = ap is_waiting by
@@ -101,7 +101,7 @@ module _ (t : Setting) where
   ended (Some command) waits not = absurd (false≢true (sym not ∙ waits))
 
   -- where all wait, a `meet` gets its reply, or all have ended
-  meets-grow : (before now : Moment) (ms : List ℕ) → filter (λ m. is_at_meet (next_in t before m)) (mutators_of t) ≡ ms
+  meets-grow : (before now : Moment) (ms : List ℕ) → filter (λ m. is_at_meet (next_in t before m)) (traced_mutators t) ≡ ms
       → ((m : ℕ) → IsMutator t.traces m → is_waiting (next_in t before m) ≡ true) → MeetsIf true ms before now
       → (length before.done < length now.done) ⊎ ((m : ℕ) → IsMutator t.traces m → next_in t now m ≡ None)
   meets-grow before now [] none waits replies =
@@ -114,15 +114,15 @@ module _ (t : Setting) where
   meets-add false ms before now nothing = let e : length now.done ≡ length before.done = ap (λ (x : Moment). length x.done) nothing in omega arith
 
   -- an epoch in which the first two steps of the stop have nothing to do
-  idle-epoch : (before now : Moment) (epoch : IsEpoch t before now) → filter (λ m. is_at_gc (epoch.ends m)) (mutators_of t) ≡ []
-      → filter (λ m. is_at_need (epoch.ends m)) (mutators_of t) ≡ [] → epoch.served.done ≡ epoch.stop.done
+  idle-epoch : (before now : Moment) (epoch : IsEpoch t before now) → filter (λ m. is_at_gc (epoch.ends m)) (traced_mutators t) ≡ []
+      → filter (λ m. is_at_need (epoch.ends m)) (traced_mutators t) ≡ [] → epoch.served.done ≡ epoch.stop.done
       → (length epoch.served.done < length now.done) ⊎ ((m : ℕ) → IsMutator t.traces m → next_in t now m ≡ None)
   idle-epoch before now epoch gc need same =
       let wait : (m : ℕ) → IsMutator t.traces m → is_waiting (next_in t epoch.served m) ≡ true =
       λ m is. ap (λ es. is_waiting (next_of t.traces es m)) same ∙ waits epoch.stop epoch.ends gc need m is (epoch.ends m) refl (epoch.part.causes m is) in
-      let all : list_all (λ m. is_waiting (next_in t epoch.served m)) (mutators_of t) ≡ true =
+      let all : list_all (λ m. is_waiting (next_in t epoch.served m)) (traced_mutators t) ≡ true =
       all-pass (λ m. is_waiting (next_in t epoch.served m)) 1 (length t.traces) (λ m low high. wait m (low, omega arith)) in
-      meets-grow epoch.served now _ refl wait (subst (λ b. MeetsIf b (filter (λ m. is_at_meet (next_in t epoch.served m)) (mutators_of t)) epoch.served now) all epoch.meet)
+      meets-grow epoch.served now _ refl wait (subst (λ b. MeetsIf b (filter (λ m. is_at_meet (next_in t epoch.served m)) (traced_mutators t)) epoch.served now) all epoch.meet)
 
   pub epoch-grows : (before now : Moment) → IsEpoch t before now → (length before.done < length now.done) ⊎ ((m : ℕ) → IsMutator t.traces m → next_in t now m ≡ None)
   epoch-grows before now epoch =

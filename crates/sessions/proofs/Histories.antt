@@ -9,14 +9,14 @@ use Rattle.ideal_heap.proofs.OrderLemmas.{alone-of}
 use Rattle.object_model.specs.declared.collect.Collect.{Collect}
 use Rattle.object_model.specs.declared.collect.Collect.TheVariants.{Nursery, Full}
 use Rattle.sessions.specs.Sessions as sessions
-use Rattle.sessions.specs.Sessions.{Setting, Moment, Replies, RunsPart, MakesCollection, CollectsFor, FirstTry, Serves, ServesAll, MeetsIf, InSession, IsEpoch, IsWhole}
+use Rattle.sessions.specs.Sessions.{Setting, Moment, OnlyReplies, RunsPart, MakesCollection, CollectsFor, FirstTry, ServesNeed, ServesAll, MeetsIf, InSession, IsEpoch, IsWhole}
 
 -- a run so far
 abbrev Run : Moment → Type 0
 Run now = IsRun empty now.done
 
 -- replies continue the run
-replied : (es : List Entry) (before now : Moment) → Replies es before now → Run before → Run now
+replied : (es : List Entry) (before now : Moment) → OnlyReplies es before now → Run before → Run now
 replied es before now replies run =
     subst (λ (x : Moment). Run x) (sym replies.rest) (longer empty before.done es run replies.runs)
 
@@ -39,7 +39,7 @@ tried : (t : Setting) (size : ℕ) (collect : Collect) (before now : Moment) →
 tried t size Full before now nothing run = same before now nothing run
 tried t size Nursery before now makes run = collected t _ before now makes.0 run
 
-served : (t : Setting) (m d refs nums : ℕ) (before now : Moment) → Serves t m d refs nums before now → Run before → Run now
+served : (t : Setting) (m d refs nums : ℕ) (before now : Moment) → ServesNeed t m d refs nums before now → Run before → Run now
 served t m d refs nums before now (sessions.at_once places) run = places.runs
 served t m d refs nums before now (sessions.after_nursery mid no_fit first makes places) run = places.runs
 served t m d refs nums before now (sessions.after_full mid late no_fit first makes places) run = places.runs

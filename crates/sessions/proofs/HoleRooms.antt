@@ -2,7 +2,7 @@
 use Rattle.std.proofs.Common.{◌≡◌, ◌≢◌, refl, sym, ◌∙◌, ap, subst, subst₂, ℕ, ◌+◌, ◌/◌, ◌%◌, ◌<◌, ◌≤◌, ◌⊎◌, inl, inr, arith, true, false, IsTrue}
 use Rattle.std.proofs.lemmas.Bool.{and_from, cases_lt, le-leb}
 use Rattle.heap_layout.specs.Zones.{block_at, offset_at, block_start, IsAddress}
-use Rattle.heap_layout.specs.Blocks.{IsValid, kind_code, code_of}
+use Rattle.heap_layout.specs.Blocks.{IsValidWord, kind_code, code_of}
 use Rattle.heap_layout.specs.declared.block.Kind.{Kind}
 use Rattle.heap_layout.specs.declared.block.Kind.TheVariants as kinds
 use Rattle.heap_layout.proofs.BlockLemmas.{code_parts, kind_code_most}
@@ -111,7 +111,7 @@ module _ (fill : Kind) (s : HeapState) (k at refs nums : ℕ) (n : Name) (order 
   }
 
 -- the word of a block that is taken for a size is valid
-pub valid-word : (fill : Kind) (size : ℕ) → IsTrue (is_holed (kind_code fill)) → size ≤ 2048 → IsValid (block_of_kind fill (class_for fill size))
+pub valid-word : (fill : Kind) (size : ℕ) → IsTrue (is_holed (kind_code fill)) → size ≤ 2048 → IsValidWord (block_of_kind fill (class_for fill size))
 valid-word kinds.Bump size holed small = refl
 valid-word kinds.Young size holed small = refl
 valid-word kinds.Immix size holed small = refl

@@ -9,7 +9,7 @@ use Rattle.object_model.specs.declared.collect.Collect.{Collect}
 use Rattle.object_model.specs.declared.collect.Collect.TheVariants.{Nursery, Full}
 use Rattle.object_model.proofs.Among.{all-to}
 use Rattle.sessions.specs.Sessions as sessions
-use Rattle.sessions.specs.Sessions.{Setting, Moment, Cause, mutators_of, next_in, is_at_gc, is_at_need, is_at_meet, is_waiting, all_done, IsOfPart, RunsPart, CollectsFor, FirstTry, Serves, ServesAll, MeetsIf, Meets, InSession, IsWhole}
+use Rattle.sessions.specs.Sessions.{Setting, Moment, Cause, traced_mutators, next_in, is_at_gc, is_at_need, is_at_meet, is_waiting, all_done, IsOfPart, RunsPart, CollectsFor, FirstTry, ServesNeed, ServesAll, MeetsIf, Meets, InSession, IsWhole}
 use Rattle.sessions.proofs.Levels as levels
 use Rattle.sessions.proofs.Levels.{IsInRound, AreWithin, all-left, all-right, all-append}
 use Rattle.sessions.proofs.Meeting.{next-round}
@@ -58,13 +58,13 @@ pub tried : (t : Setting) (size : ℕ) (collect : Collect) (before now : Moment)
 tried t size Full before now nothing = ap (λ (x : Moment). x.done) nothing
 tried t size Nursery before now makes = makes.0.done
 
-pub served : (t : Setting) (m d refs nums : ℕ) (before now : Moment) → Serves t m d refs nums before now → AddsNoMeet before now
+pub served : (t : Setting) (m d refs nums : ℕ) (before now : Moment) → ServesNeed t m d refs nums before now → AddsNoMeet before now
 served t m d refs nums before now (sessions.at_once places) = one-added before before now _ refl places.done refl
 served t m d refs nums before now (sessions.after_nursery mid no_fit first makes places) = one-added before mid now _ makes.done places.done refl
 served t m d refs nums before now (sessions.after_full mid late no_fit first makes places) =
     one-added before late now _ (makes.done ∙ tried t _ _ before mid first) places.done refl
 served t m d refs nums before now (sessions.refused mid late no_fit first makes no_fit_after replies) =
-    one-added before late now (sessions.refusal m d refs nums) (makes.done ∙ tried t _ _ before mid first) (ap (λ (x : Moment). x.done) replies.rest) refl
+    one-added before late now (sessions.refused_entry m d refs nums) (makes.done ∙ tried t _ _ before mid first) (ap (λ (x : Moment). x.done) replies.rest) refl
 
 pub served-all : (t : Setting) (ms : List ℕ) (before now : Moment) → ServesAll t ms before now → AddsNoMeet before now
 served-all t [] before now nothing = none-added before now (ap (λ (x : Moment). x.done) nothing)
@@ -73,7 +73,7 @@ served-all t (m ∷ ms) before now (d, refs, nums, mid, need, serves, rest) =
 
 -- an epoch but for its `meet`s
 until-meets : (t : Setting) (before stop collects serves : Moment) (ends : ℕ → Cause) → RunsPart t before ends stop
-    → CollectsFor t (filter (λ m. is_at_gc (ends m)) (mutators_of t)) stop collects → ServesAll t (filter (λ m. is_at_need (ends m)) (mutators_of t)) collects serves
+    → CollectsFor t (filter (λ m. is_at_gc (ends m)) (traced_mutators t)) stop collects → ServesAll t (filter (λ m. is_at_need (ends m)) (traced_mutators t)) collects serves
     → AddsNoMeet before serves
 until-meets t before stop collects serves ends part gc needs =
     both-added before stop serves (ran t before stop ends part)
@@ -95,11 +95,11 @@ record IsInSome (t : Setting) (now : Moment) : Type 0 where
   round : IsInRound t.traces now.done number
 
 -- the `meet`s of a stop, if all mutators wait, lead to the next round
-met : (t : Setting) (before now : Moment) (all : Bool) → list_all (λ m. is_waiting (next_in t before m)) (mutators_of t) ≡ all
-    → MeetsIf all (filter (λ m. is_at_meet (next_in t before m)) (mutators_of t)) before now
+met : (t : Setting) (before now : Moment) (all : Bool) → list_all (λ m. is_waiting (next_in t before m)) (traced_mutators t) ≡ all
+    → MeetsIf all (filter (λ m. is_at_meet (next_in t before m)) (traced_mutators t)) before now
     → (entries : List Entry) × (now.done ≡ before.done ++ entries) × ((j : ℕ) → IsInRound t.traces before.done j → IsInSome t now)
 met t before now true waits replies = (
-  all_done c.Meet (filter (λ m. is_at_meet (next_in t before m)) (mutators_of t)),
+  all_done c.Meet (filter (λ m. is_at_meet (next_in t before m)) (traced_mutators t)),
   ap (λ (x : Moment). x.done) replies.rest,
   λ j round. record {
     number = j + 1;
@@ -135,7 +135,7 @@ session-round t now (sessions.longer before session epoch) =
 
 -- an epoch keeps the order
 pub epoch-order : (t : Setting) (before stop collects serves now : Moment) (ends : ℕ → Cause) → InSession t before → RunsPart t before ends stop
-    → CollectsFor t (filter (λ m. is_at_gc (ends m)) (mutators_of t)) stop collects → ServesAll t (filter (λ m. is_at_need (ends m)) (mutators_of t)) collects serves
+    → CollectsFor t (filter (λ m. is_at_gc (ends m)) (traced_mutators t)) stop collects → ServesAll t (filter (λ m. is_at_need (ends m)) (traced_mutators t)) collects serves
     → Meets t serves now → AllByRecursion (λ e. IsMutator t.traces e.mutator) now.done
     → ((m : ℕ) → IsMutator t.traces m → commands_of m now.done ≡ take (length (of_mutator m now.done)) (trace_of t.traces m)) → IsOrderPrefix t.traces now.done
 epoch-order t before stop collects serves now ends session part gc needs meets mutators commands =

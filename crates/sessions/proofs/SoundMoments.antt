@@ -4,7 +4,7 @@ use Rattle.std.proofs.lemmas.Bool.{ne_eqb}
 use Rattle.std.proofs.lemmas.List.{length-map}
 use Rattle.std.proofs.lemmas.List.FromFn.{length-range_with_len}
 use Rattle.ideal_heap.specs.declared.name.Name.{Name}
-use Rattle.ideal_heap.specs.Reach.{Reaches}
+use Rattle.ideal_heap.specs.Reach.{PathReaches}
 use Rattle.object_model.specs.Objects.{IsHeld, name_at, refs_at, ref_at, is_reference, is_unlogged}
 use Rattle.object_model.specs.Ages.{is_old}
 use Rattle.object_model.specs.Graphs.{IsReachable, roots_of}
@@ -21,7 +21,7 @@ module _ (t : Setting) (now : Moment) (sound : IsSound t now) where
       → is_old now.heap (ref_at now.heap a i) ≡ true
   old-to-old young a i holds old unlogged less some = (sound.remembers young a i holds old unlogged less (some-reference _ some)).1
 
-  pub reached : (n : Name) → Reaches (ideal_at now) n → (a : ℕ) × IsReachable now.heap (roots_of now.mutators) a × (name_at now.heap a ≡ n)
+  pub reached : (n : Name) → PathReaches (ideal_at now) n → (a : ℕ) × IsReachable now.heap (roots_of now.mutators) a × (name_at now.heap a ≡ n)
   reached = sound.represents.all
 
   pub as-many : length now.mutators ≡ length t.traces

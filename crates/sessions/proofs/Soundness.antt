@@ -8,11 +8,11 @@ use Rattle.ideal_heap.specs.declared.command.Command.TheVariants as c
 use Rattle.ideal_heap.specs.declared.reply.Reply.TheVariants as r
 use Rattle.ideal_heap.specs.Ideal as ideal
 use Rattle.ideal_heap.specs.Ideal.{IdealHeap, step}
-use Rattle.ideal_heap.specs.Runs.{Entry, entry, Answers, IsRun, after, after_entry}
+use Rattle.ideal_heap.specs.Runs.{Entry, entry, Answers, IsRun, heap_after_run, after_entry}
 use Rattle.ideal_heap.proofs.RunLemmas.{after-append}
 use Rattle.object_model.specs.Graphs.{Represents, AreDifferent, numbers_of, new_mutator}
 use Rattle.sessions.specs.Sessions as sessions
-use Rattle.sessions.specs.Sessions.{Setting, Moment, IsSound, ideal_at, all_done, Replies, RunsPart, CollectsFor, Serves, ServesAll, MeetsIf, InSession, IsEpoch, first_moment, mutators_of}
+use Rattle.sessions.specs.Sessions.{Setting, Moment, IsSound, ideal_at, all_done, OnlyReplies, RunsPart, CollectsFor, ServesNeed, ServesAll, MeetsIf, InSession, IsEpoch, first_moment, traced_mutators}
 
 -- `gc` and `meet` leave the ideal heap unchanged
 gc-heap : (h : IdealHeap) (m : ℕ) → after_entry h (entry m c.Gc r.Done) ≡ h
@@ -23,13 +23,13 @@ meet-heap : (h : IdealHeap) (m : ℕ) → after_entry h (entry m c.Meet r.Done) 
 unfolding step
 meet-heap h m = refl
 
-pub all-gc : (h : IdealHeap) (ms : List ℕ) → after h (all_done c.Gc ms) ≡ h
+pub all-gc : (h : IdealHeap) (ms : List ℕ) → heap_after_run h (all_done c.Gc ms) ≡ h
 all-gc h [] = refl
-all-gc h (m ∷ ms) = ap (λ (x : IdealHeap). after x (all_done c.Gc ms)) (gc-heap h m) ∙ all-gc h ms
+all-gc h (m ∷ ms) = ap (λ (x : IdealHeap). heap_after_run x (all_done c.Gc ms)) (gc-heap h m) ∙ all-gc h ms
 
-pub all-meet : (h : IdealHeap) (ms : List ℕ) → after h (all_done c.Meet ms) ≡ h
+pub all-meet : (h : IdealHeap) (ms : List ℕ) → heap_after_run h (all_done c.Meet ms) ≡ h
 all-meet h [] = refl
-all-meet h (m ∷ ms) = ap (λ (x : IdealHeap). after x (all_done c.Meet ms)) (meet-heap h m) ∙ all-meet h ms
+all-meet h (m ∷ ms) = ap (λ (x : IdealHeap). heap_after_run x (all_done c.Meet ms)) (meet-heap h m) ∙ all-meet h ms
 
 -- and `ok` is their reply
 
@@ -53,7 +53,7 @@ meets-run h (m ∷ ms) = (meet-answers h m, subst (λ (x : IdealHeap). IsRun x (
 abbrev more : Moment → List Entry → Moment
 more before es = record before { done = before.done ++ es }
 
-still : (t : Setting) (es : List Entry) (before : Moment) → after (ideal_at before) es ≡ ideal_at before → IsSound t before → IsSound t (more before es)
+still : (t : Setting) (es : List Entry) (before : Moment) → heap_after_run (ideal_at before) es ≡ ideal_at before → IsSound t before → IsSound t (more before es)
 still t es before e sound = record {
   lawful = sound.lawful;
   remembers = sound.remembers;
@@ -61,12 +61,12 @@ still t es before e sound = record {
   listed = sound.listed;
 }
 
-pub replied : (t : Setting) (es : List Entry) (before now : Moment) → after (ideal_at before) es ≡ ideal_at before → Replies es before now → IsSound t before → IsSound t now
+pub replied : (t : Setting) (es : List Entry) (before now : Moment) → heap_after_run (ideal_at before) es ≡ ideal_at before → OnlyReplies es before now → IsSound t before → IsSound t now
 replied t es before now e replies sound = subst (λ (x : Moment). IsSound t x) (sym replies.rest) (still t es before e sound)
 
 ran : (t : Setting) (before now : Moment) (ends : ℕ → sessions.Cause) → RunsPart t before ends now → IsSound t now
 ran t before now ends part =
-    let e : ideal_at now ≡ after (ideal_at before) part.part = ap (after ideal.empty) part.done ∙ after-append ideal.empty before.done part.part in
+    let e : ideal_at now ≡ heap_after_run (ideal_at before) part.part = ap (heap_after_run ideal.empty) part.done ∙ after-append ideal.empty before.done part.part in
     record {
       lawful = part.stopped.lawful;
       remembers = part.stopped.remembers;
@@ -81,7 +81,7 @@ collects : (t : Setting) (ms : List ℕ) (before now : Moment) → CollectsFor t
 collects t [] before now nothing sound = same t before now nothing sound
 collects t (m ∷ ms) before now (mid, makes, replies) sound = replied t _ mid now (all-gc (ideal_at mid) (m ∷ ms)) replies makes.sound
 
-served : (t : Setting) (m d refs nums : ℕ) (before now : Moment) → Serves t m d refs nums before now → IsSound t now
+served : (t : Setting) (m d refs nums : ℕ) (before now : Moment) → ServesNeed t m d refs nums before now → IsSound t now
 served t m d refs nums before now (sessions.at_once places) = places.sound
 served t m d refs nums before now (sessions.after_nursery mid no_fit first makes places) = places.sound
 served t m d refs nums before now (sessions.after_full mid late no_fit first makes places) = places.sound
@@ -123,8 +123,8 @@ first-sound : (t : Setting) → 4 ≤ t.blocks → t.blocks ≤ 1024 → length 
 first-sound t least most few = record {
   lawful = zeros.lawful t.blocks least most;
   remembers = λ young a i held old. absurd (false≢true old);
-  represents = zeros.represents t.blocks (mutators_of t) (numbers-within 1 (length t.traces) (omega arith) (omega arith)) (numbers-differ 1 (length t.traces));
-  listed = numbers-new (mutators_of t);
+  represents = zeros.represents t.blocks (traced_mutators t) (numbers-within 1 (length t.traces) (omega arith) (omega arith)) (numbers-differ 1 (length t.traces));
+  listed = numbers-new (traced_mutators t);
 }
 
 pub session-sound : (t : Setting) (now : Moment) → 4 ≤ t.blocks → t.blocks ≤ 1024 → length t.traces ≤ 16 → InSession t now → IsSound t now

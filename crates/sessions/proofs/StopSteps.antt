@@ -16,7 +16,7 @@ use Rattle.sessions.specs.Plans.{Rules}
 use Rattle.sessions.specs.Fitting.{Fits}
 use Rattle.sessions.specs.Collecting.{Collects, CollectsIf, first_collection}
 use Rattle.sessions.specs.Sessions as sessions
-use Rattle.sessions.specs.Sessions.{Setting, Moment, Cause, mutators_of, next_in, is_at_gc, is_at_need, is_at_meet, is_waiting, all_done, birth_count, refusal, IsOfPart, MakesCollection, Replies, CollectsFor, Places, FirstTry, Serves, ServesAll, MeetsIf, Meets, IsEpoch, InSession, IsWhole}
+use Rattle.sessions.specs.Sessions.{Setting, Moment, Cause, traced_mutators, next_in, is_at_gc, is_at_need, is_at_meet, is_waiting, all_done, birth_count, refused_entry, IsOfPart, MakesCollection, OnlyReplies, CollectsFor, Places, FirstTry, ServesNeed, ServesAll, MeetsIf, Meets, IsEpoch, InSession, IsWhole}
 use Rattle.sessions.proofs.Counting.{counts-one}
 
 -- collections
@@ -73,7 +73,7 @@ gc-done : (t : Setting) (ms : List ℕ) (before now : Moment) → CollectsFor t 
 gc-done t [] before now nothing = (gc-nobody t before now nothing).1 ∙ sym (append-nil before.done)
 gc-done t (m ∷ ms) before now collects = (gc-for_all t m ms before now collects).0
 
-pub replies-keep : (es : List Entry) (before now : Moment) → Replies es before now
+pub replies-keep : (es : List Entry) (before now : Moment) → OnlyReplies es before now
     → (now.heap ≡ before.heap) × (now.mutators ≡ before.mutators) × (now.nursery ≡ before.nursery) × (now.full ≡ before.full)
 replies-keep es before now replies = (
   ap (λ (x : Moment). x.heap) replies.rest,
@@ -91,7 +91,7 @@ module _ (t : Setting) (m d refs nums : ℕ) (before now : Moment) where
   abbrev MisfitsBefore : Type 0
   MisfitsBefore = Fits t.rules before.heap size → ⊥
 
-  pub serves-fitting : Fits t.rules before.heap size → Serves t m d refs nums before now → Places t m d refs nums before now
+  pub serves-fitting : Fits t.rules before.heap size → ServesNeed t m d refs nums before now → Places t m d refs nums before now
   serves-fitting fits (sessions.at_once places) = places
   serves-fitting fits (sessions.after_nursery mid no_fit first makes places) = absurd (no_fit fits)
   serves-fitting fits (sessions.after_full mid late no_fit first makes places) = absurd (no_fit fits)
@@ -111,7 +111,7 @@ module _ (t : Setting) (m d refs nums : ℕ) (before now : Moment) where
   )
   full-tried Nursery mid late is try makes = clash is
 
-  pub serves-full_first : MisfitsBefore → first_collection t.rules before.heap ≡ Full → Serves t m d refs nums before now → AfterFull
+  pub serves-full_first : MisfitsBefore → first_collection t.rules before.heap ≡ Full → ServesNeed t m d refs nums before now → AfterFull
   serves-full_first misfits is (sessions.at_once places) = absurd (misfits places.fits)
   serves-full_first misfits is (sessions.after_nursery mid no_fit first makes places) = clash (sym first ∙ is)
   serves-full_first misfits is (sessions.after_full mid late no_fit first makes places) =
@@ -129,7 +129,7 @@ module _ (t : Setting) (m d refs nums : ℕ) (before now : Moment) where
   nursery-tried Nursery mid is try = try
   nursery-tried Full mid is try = clash (sym is)
 
-  pub serves-nursery_first : MisfitsBefore → first_collection t.rules before.heap ≡ Nursery → Serves t m d refs nums before now → AfterNursery
+  pub serves-nursery_first : MisfitsBefore → first_collection t.rules before.heap ≡ Nursery → ServesNeed t m d refs nums before now → AfterNursery
   serves-nursery_first misfits is (sessions.at_once places) = absurd (misfits places.fits)
   serves-nursery_first misfits is (sessions.after_nursery mid no_fit first makes places) = (mid, makes, inl places)
   serves-nursery_first misfits is (sessions.after_full mid late no_fit first makes places) =
@@ -152,12 +152,12 @@ module _ (t : Setting) (m d refs nums : ℕ) (before now : Moment) where
   tried-done Full mid same = ap (λ (x : Moment). x.done) same
   tried-done Nursery mid try = try.0.done
 
-  pub serves-one : Serves t m d refs nums before now → AddsOne
+  pub serves-one : ServesNeed t m d refs nums before now → AddsOne
   serves-one (sessions.at_once places) = one-after before _ refl places.done refl refl
   serves-one (sessions.after_nursery mid no_fit first makes places) = one-after mid _ makes.done places.done refl refl
   serves-one (sessions.after_full mid late no_fit first makes places) = one-after late _ (makes.done ∙ tried-done _ mid first) places.done refl refl
   serves-one (sessions.refused mid late no_fit first makes no_fit_after replies) =
-      one-after late (refusal m d refs nums) (makes.done ∙ tried-done _ mid first) (ap (λ (x : Moment). x.done) replies.rest) refl refl
+      one-after late (refused_entry m d refs nums) (makes.done ∙ tried-done _ mid first) (ap (λ (x : Moment). x.done) replies.rest) refl refl
 
   -- each way to serve a need
   full-try : (mid : Moment) → first_collection t.rules before.heap ≡ Full → mid ≡ before → FirstTry t size (first_collection t.rules before.heap) before mid
@@ -168,22 +168,22 @@ module _ (t : Setting) (m d refs nums : ℕ) (before now : Moment) where
   nursery-try mid is makes misfits = subst (λ kind. FirstTry t size kind before mid) (sym is) (makes, misfits)
 
   pub way-full : (late : Moment) → MisfitsBefore → first_collection t.rules before.heap ≡ Full → MakesCollection t Full before late
-      → Places t m d refs nums late now ⊎ ((Fits t.rules late.heap size → ⊥) × Replies (refusal m d refs nums ∷ []) late now) → Serves t m d refs nums before now
+      → Places t m d refs nums late now ⊎ ((Fits t.rules late.heap size → ⊥) × OnlyReplies (refused_entry m d refs nums ∷ []) late now) → ServesNeed t m d refs nums before now
   way-full late misfits is makes (inl places) = sessions.after_full before late misfits (full-try before is refl) makes places
   way-full late misfits is makes (inr refused) = sessions.refused before late misfits (full-try before is refl) makes refused.0 refused.1
 
-  pub way-nursery : (mid : Moment) → MisfitsBefore → first_collection t.rules before.heap ≡ Nursery → MakesCollection t Nursery before mid → Places t m d refs nums mid now → Serves t m d refs nums before now
+  pub way-nursery : (mid : Moment) → MisfitsBefore → first_collection t.rules before.heap ≡ Nursery → MakesCollection t Nursery before mid → Places t m d refs nums mid now → ServesNeed t m d refs nums before now
   way-nursery mid misfits is makes places = sessions.after_nursery mid misfits is makes places
 
   pub way-both : (mid late : Moment) → MisfitsBefore → first_collection t.rules before.heap ≡ Nursery → MakesCollection t Nursery before mid → (Fits t.rules mid.heap size → ⊥) → MakesCollection t Full mid late
-      → Places t m d refs nums late now ⊎ ((Fits t.rules late.heap size → ⊥) × Replies (refusal m d refs nums ∷ []) late now) → Serves t m d refs nums before now
+      → Places t m d refs nums late now ⊎ ((Fits t.rules late.heap size → ⊥) × OnlyReplies (refused_entry m d refs nums ∷ []) late now) → ServesNeed t m d refs nums before now
   way-both mid late misfits is nursery misfits_after makes (inl places) = sessions.after_full mid late misfits (nursery-try mid is nursery misfits_after) makes places
   way-both mid late misfits is nursery misfits_after makes (inr refused) = sessions.refused mid late misfits (nursery-try mid is nursery misfits_after) makes refused.0 refused.1
 
 -- all needs
 
 pub needs-first : (t : Setting) (m : ℕ) (ms : List ℕ) (before now : Moment) → ServesAll t (m ∷ ms) before now
-    → (d : ℕ) × (refs : ℕ) × (nums : ℕ) × (mid : Moment) × (next_in t before m ≡ Some (c.New d refs nums)) × Serves t m d refs nums before mid × ServesAll t ms mid now
+    → (d : ℕ) × (refs : ℕ) × (nums : ℕ) × (mid : Moment) × (next_in t before m ≡ Some (c.New d refs nums)) × ServesNeed t m d refs nums before mid × ServesAll t ms mid now
 needs-first t m ms before now serves = serves
 
 pub needs-order : (t : Setting) (ms : List ℕ) (before now : Moment) → ServesAll t ms before now
@@ -208,8 +208,8 @@ one-of-all p k (suc n) all m low high =
       | inr differ ↦ one-of-all p (k + 1) n both.1 m (omega arith) (omega arith)
     ]
 
-meets-if_not : (t : Setting) (m : ℕ) (before now : Moment) (all : Bool) → list_all (λ k. is_waiting (next_in t before k)) (mutators_of t) ≡ all → IsMutator t.traces m → is_waiting (next_in t before m) ≡ false
-    → MeetsIf all (filter (λ k. is_at_meet (next_in t before k)) (mutators_of t)) before now → now ≡ before
+meets-if_not : (t : Setting) (m : ℕ) (before now : Moment) (all : Bool) → list_all (λ k. is_waiting (next_in t before k)) (traced_mutators t) ≡ all → IsMutator t.traces m → is_waiting (next_in t before m) ≡ false
+    → MeetsIf all (filter (λ k. is_at_meet (next_in t before k)) (traced_mutators t)) before now → now ≡ before
 meets-if_not t m before now true waits is not meets =
     absurd (false≢true (sym not ∙ one-of-all (λ k. is_waiting (next_in t before k)) 1 (length t.traces) waits m is.0 (let most : m ≤ length t.traces = is.1 in omega arith)))
 meets-if_not t m before now false waits is not meets = meets
@@ -234,14 +234,14 @@ pub record AddsEntries (t : Setting) (before now : Moment) : Type 0 where
   pub part : List Entry
   pub needs : List Entry
   pub meets : List Entry
-  pub done : now.done ≡ before.done ++ (part ++ all_done c.Gc (filter (λ m. is_at_gc (ends m)) (mutators_of t)) ++ needs ++ meets)
+  pub done : now.done ≡ before.done ++ (part ++ all_done c.Gc (filter (λ m. is_at_gc (ends m)) (traced_mutators t)) ++ needs ++ meets)
   pub each : AllByRecursion IsOfPart part
-  pub served : map (λ e. e.mutator) needs ≡ filter (λ m. is_at_need (ends m)) (mutators_of t)
+  pub served : map (λ e. e.mutator) needs ≡ filter (λ m. is_at_need (ends m)) (traced_mutators t)
   pub met : AllByRecursion (λ e. is_meet e.command ≡ true) meets
 
 pub epoch-adds : (t : Setting) (before now : Moment) → IsEpoch t before now → AddsEntries t before now
 epoch-adds t before now epoch =
-    let gcs : List Entry = all_done c.Gc (filter (λ m. is_at_gc (epoch.ends m)) (mutators_of t)) in
+    let gcs : List Entry = all_done c.Gc (filter (λ m. is_at_gc (epoch.ends m)) (traced_mutators t)) in
     let needs = needs-order t _ epoch.collected epoch.served epoch.needs in
     let meets = meets-entries t _ _ epoch.served now epoch.meet in
     record {
@@ -277,7 +277,7 @@ keeps-same before now same = record { blocks = ap (λ (x : Moment). x.heap.block
 keeps-both : (before mid now : Moment) → Keeps before mid → Keeps mid now → Keeps before now
 keeps-both before mid now first then = record { blocks = then.blocks ∙ first.blocks; base = λ none. then.base (first.base none) }
 
-keeps-replied : (es : List Entry) (before now : Moment) → Replies es before now → Keeps before now
+keeps-replied : (es : List Entry) (before now : Moment) → OnlyReplies es before now → Keeps before now
 keeps-replied es before now replies = record { blocks = ap (λ (x : Moment). x.heap.blocks) replies.rest; base = λ none. subst HasNoBase (sym replies.rest) none }
 
 nursery-base : (collects : Bool) (rules : Rules) (workers : ℕ) (old new : HeapState) (roots roots' : List ℕ) → CollectsIf collects rules workers Nursery old roots new roots' → new.base ≡ old.base
@@ -309,7 +309,7 @@ keeps-tried : (t : Setting) (words : ℕ) (kind : Collect) (before mid : Moment)
 keeps-tried t words Full before mid same = keeps-same before mid same
 keeps-tried t words Nursery before mid try = keeps-collected t Nursery before mid try.0
 
-keeps-served : (t : Setting) (m d refs nums : ℕ) (before now : Moment) → Serves t m d refs nums before now → Keeps before now
+keeps-served : (t : Setting) (m d refs nums : ℕ) (before now : Moment) → ServesNeed t m d refs nums before now → Keeps before now
 keeps-served t m d refs nums before now (sessions.at_once places) = keeps-placed t m d refs nums before now places
 keeps-served t m d refs nums before now (sessions.after_nursery mid no_fit first makes places) =
     keeps-both before mid now (keeps-collected t Nursery before mid makes) (keeps-placed t m d refs nums mid now places)
@@ -385,7 +385,7 @@ makes-more a b x y before now most_a most_b makes =
 makes-same : (before now : Moment) → now ≡ before → Makes 0 0 before now
 makes-same before now same = makes-none before now (ap (λ (x : Moment). x.nursery) same) (ap (λ (x : Moment). x.full) same)
 
-makes-replied : (es : List Entry) (before now : Moment) → Replies es before now → Makes 0 0 before now
+makes-replied : (es : List Entry) (before now : Moment) → OnlyReplies es before now → Makes 0 0 before now
 makes-replied es before now replies = makes-none before now (ap (λ (x : Moment). x.nursery) replies.rest) (ap (λ (x : Moment). x.full) replies.rest)
 
 makes-full : (t : Setting) (before now : Moment) → MakesCollection t Full before now → Makes 0 1 before now
@@ -404,7 +404,7 @@ makes-tried : (t : Setting) (words : ℕ) (kind : Collect) (before mid : Moment)
 makes-tried t words Full before mid same = makes-more 0 0 1 0 before mid (omega arith) (omega arith) (makes-same before mid same)
 makes-tried t words Nursery before mid try = makes-nursery t before mid try.0
 
-makes-served : (t : Setting) (m d refs nums : ℕ) (before now : Moment) → Serves t m d refs nums before now → Makes 1 1 before now
+makes-served : (t : Setting) (m d refs nums : ℕ) (before now : Moment) → ServesNeed t m d refs nums before now → Makes 1 1 before now
 makes-served t m d refs nums before now (sessions.at_once places) = makes-more 0 0 1 1 before now (omega arith) (omega arith) (makes-none before now places.counts.0 places.counts.1)
 makes-served t m d refs nums before now (sessions.after_nursery mid no_fit first makes places) =
     makes-both 1 0 0 1 before mid now (makes-nursery t before mid makes) (makes-more 0 0 0 1 mid now (omega arith) (omega arith) (makes-none mid now places.counts.0 places.counts.1))
@@ -438,9 +438,9 @@ few-filtered p (m ∷ ms) = kept (p m) (few-filtered p ms)
 pub epoch-makes : (t : Setting) (before now : Moment) → IsEpoch t before now
     → (before.nursery ≤ now.nursery) × (now.nursery ≤ before.nursery + length t.traces) × (before.full ≤ now.full) × (now.full ≤ before.full + 1 + length t.traces)
 epoch-makes t before now epoch =
-    let needy : List ℕ = filter (λ m. is_at_need (epoch.ends m)) (mutators_of t) in
-    let few : length needy ≤ length (mutators_of t) = few-filtered (λ m. is_at_need (epoch.ends m)) (mutators_of t) in
-    let many : length (mutators_of t) ≡ length t.traces = length-range_with_len 1 (length t.traces) in
+    let needy : List ℕ = filter (λ m. is_at_need (epoch.ends m)) (traced_mutators t) in
+    let few : length needy ≤ length (traced_mutators t) = few-filtered (λ m. is_at_need (epoch.ends m)) (traced_mutators t) in
+    let many : length (traced_mutators t) ≡ length t.traces = length-range_with_len 1 (length t.traces) in
     let made = makes-both 0 0 (0 + (length needy + 0)) (1 + (length needy + 0)) before epoch.stop now (makes-none before epoch.stop epoch.part.counts.0 epoch.part.counts.1)
     (makes-both 0 1 (length needy + 0) (length needy + 0) epoch.stop epoch.collected now (makes-gcs t _ epoch.stop epoch.collected epoch.gc)
     (makes-both (length needy) (length needy) 0 0 epoch.collected epoch.served now (makes-needs t needy epoch.collected epoch.served epoch.needs) (makes-met t _ _ epoch.served now epoch.meet))) in

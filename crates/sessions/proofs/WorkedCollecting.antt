@@ -1,4 +1,4 @@
--- Tests that decide whether a heap is another one after a collection, where a list tells each kept object's target.
+-- Tests that decide whether a heap is another one after a collection, where a list has each kept object's target.
 use Rattle.std.proofs.Common.{◌≡◌, refl, sym, ◌∙◌, ap, subst, ℕ, zero, suc, ◌+◌, ◌*◌, ◌<◌, ◌≤◌, ◌≢◌, ◌⊎◌, inl, inr, arith, Bool, true, false, ◌&&◌, ◌||◌, not, IsTrue, nat_eq, nat_lt, nat_le, if◌then◌else◌, List, [], ◌∷◌, map, slice_index}
 use Rattle.std.specs.List.{range_with_len, list_all, AllByRecursion}
 use Rattle.std.proofs.lemmas.Bool.{and_parts, or_cases, true≢false, false≢true, eqb-true, ltb-true, ltb-false, leb-true, cases_Bool, lt-ltb, le-leb, eq-eqb, ne_eqb}

@@ -11,7 +11,7 @@ use Rattle.object_model.specs.Graphs.{IsReachable}
 use Rattle.sessions.specs.Plans.{MarkSweep, SemiSpace, GenCopy, Immix, StickyImmix, Rules, rules_of}
 use Rattle.sessions.specs.Collecting as collecting
 use Rattle.sessions.specs.Collecting.{Collects, IsNurseryReachable, IsEmptied, may_move}
-use Rattle.sessions.specs.WorkedCollections.{heap_before, heap_after, unlogged_after, roots_before, roots_moved, in_place, moved_out, first_one, second_one, pinned_one, lonely_one, old_one, remembered_ones, four_kinds, cells_left, run_heap}
+use Rattle.sessions.specs.WorkedCollections.{heap_before, heap_left, unlogged_after, roots_before, roots_moved, left_in_place, moved_out, first_one, second_one, pinned_one, lonely_one, old_one, remembered_ones, four_kinds, cells_left, run_heap}
 use Rattle.sessions.proofs.WorkedCollecting.{held-from, emptied-from, not-emptied}
 use Rattle.sessions.proofs.CollectionsOfPlans.{mark-sweep, nursery-sticky-immix}
 
@@ -38,7 +38,7 @@ immix = heap_before kinds.Immix kinds.Immix 0
 -- objects
 
 abbrev dead-kept-heap : HeapState
-dead-kept-heap = heap_after cells_left (in_place ++ lonely_one ∷ []) 818 4
+dead-kept-heap = heap_left cells_left (left_in_place ++ lonely_one ∷ []) 818 4
 
 pub dead-kept : Collects (rules_of MarkSweep) 1 Full cells roots_before dead-kept-heap roots_before → ⊥
 dead-kept k =
@@ -48,21 +48,21 @@ dead-kept k =
     false≢true (stands mark-sweep 824 (mark-sweep.kept.reached 824 live) refl)
 
 abbrev live-lost-heap : HeapState
-live-lost-heap = heap_after cells_left (first_one 0 (812 ∷ 818 ∷ []) 4 ∷ pinned_one ∷ []) 818 4
+live-lost-heap = heap_left cells_left (first_one 0 (812 ∷ 818 ∷ []) 4 ∷ pinned_one ∷ []) 818 4
 
 pub live-lost : Collects (rules_of MarkSweep) 1 Full cells roots_before live-lost-heap roots_before → ⊥
 live-lost k =
     false≢true (stands k 818 (k.kept.reached 818 (graphs.from_global 0 (lit< tt) refl (lit< tt))) refl)
 
 abbrev pinned-moved-heap : HeapState
-pinned-moved-heap = heap_after (four_kinds kinds.Free kinds.Free kinds.Bump kinds.Free) (first_one 2 (9010 ∷ 9004 ∷ []) 4 ∷ record pinned_one { block = 2; offset = 12 } ∷ second_one 2 6 8998 ∷ []) 9004 4
+pinned-moved-heap = heap_left (four_kinds kinds.Free kinds.Free kinds.Bump kinds.Free) (first_one 2 (9010 ∷ 9004 ∷ []) 4 ∷ record pinned_one { block = 2; offset = 12 } ∷ second_one 2 6 8998 ∷ []) 9004 4
 
 pub pinned-moved : Collects (rules_of SemiSpace) 1 Full bump roots_before pinned-moved-heap roots_moved → ⊥
 pinned-moved k =
     false≢true (stands k 812 (k.kept.reached 812 (graphs.from_field 806 0 (graphs.from_root 1 refl (lit< tt)) (lit< tt) refl refl)) refl)
 
 abbrev field-left-heap : HeapState
-field-left-heap = heap_after (four_kinds kinds.Kept kinds.Free kinds.Bump kinds.Free) (first_one 2 (812 ∷ 818 ∷ []) 4 ∷ pinned_one ∷ second_one 2 6 8998 ∷ []) 9004 4
+field-left-heap = heap_left (four_kinds kinds.Kept kinds.Free kinds.Bump kinds.Free) (first_one 2 (812 ∷ 818 ∷ []) 4 ∷ pinned_one ∷ second_one 2 6 8998 ∷ []) 9004 4
 
 pub field-left : Collects (rules_of SemiSpace) 1 Full bump roots_before field-left-heap roots_moved → ⊥
 field-left k =
@@ -73,7 +73,7 @@ field-left k =
     omega (arith, second, field)
 
 abbrev root-left-heap : HeapState
-root-left-heap = heap_after (four_kinds kinds.Kept kinds.Free kinds.Bump kinds.Free) moved_out 9004 4
+root-left-heap = heap_left (four_kinds kinds.Kept kinds.Free kinds.Bump kinds.Free) moved_out 9004 4
 
 pub root-left : Collects (rules_of SemiSpace) 1 Full bump roots_before root-left-heap roots_before → ⊥
 root-left k =
@@ -83,7 +83,7 @@ root-left k =
 -- objects in place
 
 abbrev one-worker-heap : HeapState
-one-worker-heap = heap_after (four_kinds kinds.Kept kinds.Free kinds.Free kinds.Free) in_place 818 4
+one-worker-heap = heap_left (four_kinds kinds.Kept kinds.Free kinds.Free kinds.Free) left_in_place 818 4
 
 pub one-worker : Collects (rules_of SemiSpace) 1 Full bump roots_before one-worker-heap roots_before → ⊥
 one-worker k =
@@ -92,7 +92,7 @@ one-worker k =
     omega (arith, few)
 
 abbrev young-in-place-heap : HeapState
-young-in-place-heap = heap_after (four_kinds kinds.Kept kinds.Mature kinds.Free kinds.Free) (in_place ++ remembered_ones 0 24 830) 818 2
+young-in-place-heap = heap_left (four_kinds kinds.Kept kinds.Mature kinds.Free kinds.Free) (left_in_place ++ remembered_ones 0 24 830) 818 2
 
 pub young-in-place : Collects (rules_of GenCopy) 1 Nursery young roots_before young-in-place-heap roots_before → ⊥
 young-in-place k =
@@ -101,7 +101,7 @@ young-in-place k =
     omega (arith, few)
 
 abbrev old-in-full-heap : HeapState
-old-in-full-heap = heap_after (four_kinds kinds.Kept kinds.Kept kinds.Mature kinds.Free) (moved_out ++ plain_object 2 12 5 [] 3 4 ∷ plain_object 1 0 6 (9010 ∷ 0 ∷ []) 1 4 ∷ []) 9004 4
+old-in-full-heap = heap_left (four_kinds kinds.Kept kinds.Kept kinds.Mature kinds.Free) (moved_out ++ plain_object 2 12 5 [] 3 4 ∷ plain_object 1 0 6 (9010 ∷ 0 ∷ []) 1 4 ∷ []) 9004 4
 
 pub old-in-full : Collects (rules_of GenCopy) 0 Full young (0 ∷ 4902 ∷ []) old-in-full-heap (0 ∷ 4902 ∷ []) → ⊥
 old-in-full k =
@@ -112,28 +112,28 @@ old-in-full k =
 -- blocks
 
 abbrev emptied-left-heap : HeapState
-emptied-left-heap = heap_after (four_kinds kinds.Kept kinds.Bump kinds.Bump kinds.Free) moved_out 9004 4
+emptied-left-heap = heap_left (four_kinds kinds.Kept kinds.Bump kinds.Bump kinds.Free) moved_out 9004 4
 
 pub emptied-left : Collects (rules_of SemiSpace) 1 Full bump roots_before emptied-left-heap roots_moved → ⊥
 emptied-left k =
     false≢true ((k.block 1 (lit< tt)).emptied (emptied-from emptied-left-heap 1 refl))
 
 abbrev taken-young-heap : HeapState
-taken-young-heap = heap_after (four_kinds kinds.Kept kinds.Free kinds.Young kinds.Free) moved_out 9004 4
+taken-young-heap = heap_left (four_kinds kinds.Kept kinds.Free kinds.Young kinds.Free) moved_out 9004 4
 
 pub taken-young : Collects (rules_of GenCopy) 1 Full young roots_before taken-young-heap roots_moved → ⊥
 taken-young k =
     false≢true ((k.block 2 (lit< tt)).taken (not-emptied taken-young-heap 2 8998 (held-from taken-young-heap 8998 refl) refl) refl)
 
 abbrev evacuated-left-heap : HeapState
-evacuated-left-heap = heap_after (four_kinds kinds.Bump kinds.Free kinds.Bump kinds.Free) moved_out 9004 4
+evacuated-left-heap = heap_left (four_kinds kinds.Bump kinds.Free kinds.Bump kinds.Free) moved_out 9004 4
 
 pub evacuated-left : Collects (rules_of SemiSpace) 1 Full bump roots_before evacuated-left-heap roots_moved → ⊥
 evacuated-left k =
     false≢true ((k.block 0 (lit< tt)).kept (not-emptied evacuated-left-heap 0 812 (held-from evacuated-left-heap 812 refl) refl) refl (λ is. false≢true is) (λ is. false≢true is))
 
 abbrev lines-kept-heap : HeapState
-lines-kept-heap = heap_after (four_kinds kinds.Kept kinds.Free kinds.Immix kinds.Free) moved_out 9004 4
+lines-kept-heap = heap_left (four_kinds kinds.Kept kinds.Free kinds.Immix kinds.Free) moved_out 9004 4
 
 pub lines-kept : Collects (rules_of Immix) 1 Full immix roots_before lines-kept-heap roots_moved → ⊥
 lines-kept k =
@@ -141,7 +141,7 @@ lines-kept k =
     omega (arith, same)
 
 abbrev class-changed-heap : HeapState
-class-changed-heap = heap_after (four_kinds kinds.Cells kinds.Free kinds.Free kinds.Free) in_place 818 4
+class-changed-heap = heap_left (four_kinds kinds.Cells kinds.Free kinds.Free kinds.Free) left_in_place 818 4
 
 pub class-changed : Collects (rules_of MarkSweep) 1 Full cells roots_before class-changed-heap roots_before → ⊥
 class-changed k =
@@ -158,7 +158,7 @@ not-crossed = emptied-from (run_heap 4096) 1 refl
 -- ages
 
 abbrev young-left-heap : HeapState
-young-left-heap = heap_after (four_kinds kinds.Kept kinds.Free kinds.Mature kinds.Free) (first_one 2 (812 ∷ 9004 ∷ []) 3 ∷ pinned_one ∷ second_one 2 6 8998 ∷ []) 9004 4
+young-left-heap = heap_left (four_kinds kinds.Kept kinds.Free kinds.Mature kinds.Free) (first_one 2 (812 ∷ 9004 ∷ []) 3 ∷ pinned_one ∷ second_one 2 6 8998 ∷ []) 9004 4
 
 pub young-left : Collects (rules_of GenCopy) 1 Full young roots_before young-left-heap roots_moved → ⊥
 young-left k =
@@ -179,7 +179,7 @@ bits-clear k =
     false≢true (k.unlogged 8998 (held-from bits-clear-heap 8998 refl))
 
 abbrev number-left-heap : HeapState
-number-left-heap = heap_after (four_kinds kinds.Kept kinds.Free kinds.Bump kinds.Free) (first_one 2 (812 ∷ 9004 ∷ []) 3 ∷ pinned_one ∷ second_one 2 6 8998 ∷ []) 9004 4
+number-left-heap = heap_left (four_kinds kinds.Kept kinds.Free kinds.Bump kinds.Free) (first_one 2 (812 ∷ 9004 ∷ []) 3 ∷ pinned_one ∷ second_one 2 6 8998 ∷ []) 9004 4
 
 pub number-left : Collects (rules_of SemiSpace) 1 Full bump roots_before number-left-heap roots_moved → ⊥
 number-left k =
@@ -189,21 +189,21 @@ number-left k =
 -- nursery collections
 
 abbrev old-lost-heap : HeapState
-old-lost-heap = heap_after (four_kinds kinds.Immix kinds.Free kinds.Free kinds.Free) in_place 818 2
+old-lost-heap = heap_left (four_kinds kinds.Immix kinds.Free kinds.Free kinds.Free) left_in_place 818 2
 
 pub old-lost : Collects (rules_of StickyImmix) 1 Nursery immix roots_before old-lost-heap roots_before → ⊥
 old-lost k =
     false≢true (stands k 4902 ((k.precise 4902).1 (collecting.was_old (held-from immix 4902 refl) refl)) refl)
 
 abbrev remembered-lost-heap : HeapState
-remembered-lost-heap = heap_after (four_kinds kinds.Immix kinds.Immix kinds.Free kinds.Free) (in_place ++ old_one 830 ∷ []) 818 2
+remembered-lost-heap = heap_left (four_kinds kinds.Immix kinds.Immix kinds.Free kinds.Free) (left_in_place ++ old_one 830 ∷ []) 818 2
 
 pub remembered-lost : Collects (rules_of StickyImmix) 1 Nursery immix roots_before remembered-lost-heap roots_before → ⊥
 remembered-lost k =
     false≢true (stands k 830 ((k.precise 830).1 (collecting.is_field 4902 0 (collecting.was_old (held-from immix 4902 refl) refl) (lit< tt) refl refl)) refl)
 
 abbrev young-kept-heap : HeapState
-young-kept-heap = heap_after (four_kinds kinds.Immix kinds.Immix kinds.Free kinds.Free) (in_place ++ lonely_one ∷ remembered_ones 0 24 830) 818 2
+young-kept-heap = heap_left (four_kinds kinds.Immix kinds.Immix kinds.Free kinds.Free) (left_in_place ++ lonely_one ∷ remembered_ones 0 24 830) 818 2
 
 pub young-kept : Collects (rules_of StickyImmix) 1 Nursery immix roots_before young-kept-heap roots_before → ⊥
 young-kept k =

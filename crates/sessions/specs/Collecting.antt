@@ -68,9 +68,9 @@ is_candidate s k = is_recyclable s k
     (BLOCK_LINES * free_of s)
 
 -- a copying plan evacuates the blocks that mutators fill; a full collection also Kept ones and those that workers fill
-abbrev pub is_copied : Rules → Collect → HeapState → ℕ → Bool
-is_copied r Full s k = has_kind s k r.fill || has_kind s k r.copy || has_kind s k kinds.Kept
-is_copied r Nursery s k = r.young && has_kind s k r.fill
+abbrev pub is_copied_out : Rules → Collect → HeapState → ℕ → Bool
+is_copied_out r Full s k = has_kind s k r.fill || has_kind s k r.copy || has_kind s k kinds.Kept
+is_copied_out r Nursery s k = r.young && has_kind s k r.fill
 
 -- a plan with lines evacuates the candidates, and only in a full collection
 abbrev pub is_recycled : Collect → HeapState → ℕ → Bool
@@ -80,7 +80,7 @@ is_recycled Nursery s k = false
 -- block k is to be evacuated under this reserve
 abbrev pub is_evacuated_by : Reserve → Rules → Collect → HeapState → ℕ → Bool
 is_evacuated_by Nothing r c s k = false
-is_evacuated_by Copies r c s k = is_copied r c s k
+is_evacuated_by Copies r c s k = is_copied_out r c s k
 is_evacuated_by Headroom r c s k = is_recycled c s k
 
 -- block k is to be evacuated under these rules

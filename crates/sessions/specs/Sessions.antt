@@ -12,7 +12,7 @@ use Rattle.ideal_heap.specs.declared.command.Command.TheVariants as c
 use Rattle.ideal_heap.specs.declared.reply.Reply.TheVariants as r
 use Rattle.ideal_heap.specs.Commands.{is_meet, is_gc, size_wanted}
 use Rattle.ideal_heap.specs.Ideal as ideal
-use Rattle.ideal_heap.specs.Runs.{Entry, is_full, IsRun, after, IsOrderPrefix, IsOrder, next_of, IsMutator}
+use Rattle.ideal_heap.specs.Runs.{Entry, is_full, IsRun, heap_after_run, IsOrderPrefix, IsOrder, next_of, IsMutator}
 use Rattle.object_model.specs.declared.collect.Collect.{Collect}
 use Rattle.object_model.specs.declared.collect.Collect.TheVariants.{Nursery, Full}
 use Rattle.object_model.specs.Objects.{HeapState, empty_heap, HasKind, block_word, is_pinned, is_unlogged, IsHeld, name_at, refs_at, nums_at, size_at, size_of, word_at, shape_code, blocks_for}
@@ -32,8 +32,8 @@ pub record Setting : Type 0 where
   pub traces : List (List Command)
 
 -- the mutators of the traces, counted from 1
-abbrev pub mutators_of : Setting → List ℕ
-mutators_of t = range_with_len 1 (length t.traces)
+abbrev pub traced_mutators : Setting → List ℕ
+traced_mutators t = range_with_len 1 (length t.traces)
 
 -- the state of a session between two epochs, or between two steps of a stop
 pub record Moment : Type 0 where
@@ -48,7 +48,7 @@ pub record Moment : Type 0 where
 abbrev pub first_moment : Setting → Moment
 first_moment t = record {
   heap = empty_heap t.blocks;
-  mutators = map new_mutator (mutators_of t);
+  mutators = map new_mutator (traced_mutators t);
   done = [];
   nursery = 0;
   full = 0;
@@ -56,7 +56,7 @@ first_moment t = record {
 
 -- the ideal heap of the run so far
 abbrev pub ideal_at : Moment → ideal.IdealHeap
-ideal_at now = after ideal.empty now.done
+ideal_at now = heap_after_run ideal.empty now.done
 
 -- the next command of mutator m, None at the end of its trace
 abbrev pub next_in : Setting → Moment → ℕ → Option Command
@@ -68,7 +68,7 @@ pub record IsSound (t : Setting) (now : Moment) : Type 0 where
   pub lawful : IsLawful now.heap
   pub remembers : Remembers t.rules now.heap
   pub represents : Represents now.heap now.mutators (ideal_at now)
-  pub listed : numbers_of now.mutators ≡ mutators_of t
+  pub listed : numbers_of now.mutators ≡ traced_mutators t
 
 -- Why a mutator's part of an epoch ends: it is at `gc`, at `meet`, at the end of its trace or at a need, or mutator m
 -- raised a stop (Raised m).
@@ -125,8 +125,8 @@ pub record IsBirthOf (n : Name) (refs nums : ℕ) (e : Entry) : Type 0 where
 
 -- An object at address a leaves no room before it unused: it begins at the start of a hole that was there, at the start
 -- of a block that was Free, or directly after another object of its block. In cells each object has its own.
-abbrev pub IsPacked : Kind → HeapState → HeapState → ℕ → Type 0
-IsPacked fill old new a = (fill ≡ kinds.Cells)
+abbrev pub LeavesNoGap : Kind → HeapState → HeapState → ℕ → Type 0
+LeavesNoGap fill old new a = (fill ≡ kinds.Cells)
     ⊎ HasHole fill old (block_at new.blocks a) (offset_at new.blocks a) (size_at new a)
     ⊎ (HasKind old (block_at new.blocks a) kinds.Free × (offset_at new.blocks a ≡ 0))
     ⊎ ((x : ℕ) × IsHeld new x × (block_at new.blocks x ≡ block_at new.blocks a) × (x + size_at new x ≡ a))
@@ -136,7 +136,7 @@ pub record IsBirth (rules : Rules) (old : HeapState) (part : List Entry) (new : 
   pub entry : Any (IsBirthOf (name_at new a) (refs_at new a) (nums_at new a)) part
   pub place : HasKind old (block_at new.blocks a) kinds.Free
       ⊎ LiesInHole rules.fill old (block_at new.blocks a) (offset_at new.blocks a) (size_at new a)
-  pub packed : IsPacked rules.fill old new a
+  pub packed : LeavesNoGap rules.fill old new a
   pub cell : HasCellFor rules.fill new (block_at new.blocks a) (offset_at new.blocks a) (size_at new a)
   pub unclaimed : word_at new (a + 2) ≡ 0
   pub unmarked : IsTrue (is_unlogged new a) → ⊥
@@ -152,7 +152,7 @@ pub record StoresInto (h : ideal.IdealHeap) (part : List Entry) (n : Name) : Typ
   pub whole : part ≡ prefix ++ entry ∷ rest
   pub command : entry.command ≡ c.Put s i v
   pub stored : entry.reply ≡ r.Done
-  pub into : (after h prefix).registers entry.mutator s ≡ Some n
+  pub into : (heap_after_run h prefix).registers entry.mutator s ≡ Some n
 
 -- The heap `new` and the mutators at the stop of an epoch. Before the epoch, the heap was `old` and represented h.
 -- The epoch ran the part.
@@ -161,7 +161,7 @@ pub record Stopped (rules : Rules) (numbers : List ℕ) (old : HeapState) (h : i
   pub listed : numbers_of ms ≡ numbers
   pub lawful : IsLawful new
   pub remembers : Remembers rules new
-  pub represents : Represents new ms (after h part)
+  pub represents : Represents new ms (heap_after_run h part)
   pub blocks : new.blocks ≡ old.blocks
   pub number : new.number ≡ old.number
   pub base : new.base ≡ old.base
@@ -192,7 +192,7 @@ pub record RunsPart (t : Setting) (before : Moment) (ends : ℕ → Cause) (now 
   pub runs : IsRun (ideal_at before) part
   pub each : AllByRecursion IsOfPart part
   pub causes : (m : ℕ) → IsMutator t.traces m → EndsBy t now ends m (ends m)
-  pub stopped : Stopped t.rules (mutators_of t) before.heap (ideal_at before) part now.heap now.mutators
+  pub stopped : Stopped t.rules (traced_mutators t) before.heap (ideal_at before) part now.heap now.mutators
   pub counts : (now.nursery ≡ before.nursery) × (now.full ≡ before.full)
   -- a small need ends a part only if the allowance is exhausted
   pub needs : (m d refs nums : ℕ) → IsMutator t.traces m → ends m ≡ AtNeed → Needs t now m d refs nums
@@ -217,7 +217,7 @@ pub record MakesCollection (t : Setting) (collect : Collect) (before now : Momen
   pub sound : IsSound t now
 
 -- replies that leave the heap unchanged
-pub record Replies (es : List Entry) (before now : Moment) : Type 0 where
+pub record OnlyReplies (es : List Entry) (before now : Moment) : Type 0 where
   pub rest : now ≡ record before { done = before.done ++ es }
   pub runs : IsRun (ideal_at before) es
 
@@ -229,7 +229,7 @@ all_done command ms = map (λ m. record { mutator = m; command = command; reply 
 abbrev pub CollectsFor : Setting → List ℕ → Moment → Moment → Type 0
 CollectsFor t [] before now = now ≡ before
 CollectsFor t (m ∷ ms) before now = (mid : Moment) × MakesCollection t Full before mid
-    × Replies (all_done c.Gc (m ∷ ms)) mid now
+    × OnlyReplies (all_done c.Gc (m ∷ ms)) mid now
 
 -- A small or medium object is placed in the first hole with room in the lowest block that has one. If there is none,
 -- it is placed at the start of the lowest Free block.
@@ -308,8 +308,8 @@ pub record Places (t : Setting) (m d refs nums : ℕ) (before now : Moment) : Ty
   pub sound : IsSound t now
 
 -- the entry of a refused `new`
-abbrev pub refusal : ℕ → ℕ → ℕ → ℕ → Entry
-refusal m d refs nums = record { mutator = m; command = c.New d refs nums; reply = r.Full }
+abbrev pub refused_entry : ℕ → ℕ → ℕ → ℕ → Entry
+refused_entry m d refs nums = record { mutator = m; command = c.New d refs nums; reply = r.Full }
 
 -- what precedes the full collection for a need: nothing, or a nursery collection after which the size does not fit
 abbrev pub FirstTry : Setting → ℕ → Collect → Moment → Moment → Type 0
@@ -318,25 +318,25 @@ FirstTry t size Nursery before now = MakesCollection t Nursery before now × (Fi
 
 -- A need is served at once if it fits. If not, the collection to try first is made, and then a full one if it still
 -- does not fit. It is refused only if it does not fit after the full collection made for it.
-pub data Serves (t : Setting) (m d refs nums : ℕ) (before now : Moment) : Type 0 where
-  at_once : Places t m d refs nums before now → Serves t m d refs nums before now
+pub data ServesNeed (t : Setting) (m d refs nums : ℕ) (before now : Moment) : Type 0 where
+  at_once : Places t m d refs nums before now → ServesNeed t m d refs nums before now
   after_nursery : (mid : Moment) → (Fits t.rules before.heap (size_of refs nums) → ⊥)
       → first_collection t.rules before.heap ≡ Nursery
-      → MakesCollection t Nursery before mid → Places t m d refs nums mid now → Serves t m d refs nums before now
+      → MakesCollection t Nursery before mid → Places t m d refs nums mid now → ServesNeed t m d refs nums before now
   after_full : (mid late : Moment) → (Fits t.rules before.heap (size_of refs nums) → ⊥)
       → FirstTry t (size_of refs nums) (first_collection t.rules before.heap) before mid
-      → MakesCollection t Full mid late → Places t m d refs nums late now → Serves t m d refs nums before now
+      → MakesCollection t Full mid late → Places t m d refs nums late now → ServesNeed t m d refs nums before now
   refused : (mid late : Moment) → (Fits t.rules before.heap (size_of refs nums) → ⊥)
       → FirstTry t (size_of refs nums) (first_collection t.rules before.heap) before mid
       → MakesCollection t Full mid late → (Fits t.rules late.heap (size_of refs nums) → ⊥)
-      → Replies (refusal m d refs nums ∷ []) late now → Serves t m d refs nums before now
+      → OnlyReplies (refused_entry m d refs nums ∷ []) late now → ServesNeed t m d refs nums before now
 
 -- the second step of a stop: each need is served, in ascending order of the mutators
 abbrev pub ServesAll : Setting → List ℕ → Moment → Moment → Type 0
 ServesAll t [] before now = now ≡ before
 ServesAll t (m ∷ ms) before now =
     (d : ℕ) × (refs : ℕ) × (nums : ℕ) × (mid : Moment) × Needs t before m d refs nums
-    × Serves t m d refs nums before mid × ServesAll t ms mid now
+    × ServesNeed t m d refs nums before mid × ServesAll t ms mid now
 
 abbrev pub is_at_meet : Option Command → Bool
 is_at_meet None = false
@@ -349,13 +349,13 @@ is_waiting (Some command) = is_meet command
 
 -- the last step of a stop: if each mutator is at `meet` or has ended, each `meet` gets its reply
 abbrev pub MeetsIf : Bool → List ℕ → Moment → Moment → Type 0
-MeetsIf true ms before now = Replies (all_done c.Meet ms) before now
+MeetsIf true ms before now = OnlyReplies (all_done c.Meet ms) before now
 MeetsIf false ms before now = now ≡ before
 
 abbrev pub Meets : Setting → Moment → Moment → Type 0
 Meets t before now =
-    MeetsIf (list_all (λ m. is_waiting (next_in t before m)) (mutators_of t))
-    (filter (λ m. is_at_meet (next_in t before m)) (mutators_of t)) before now
+    MeetsIf (list_all (λ m. is_waiting (next_in t before m)) (traced_mutators t))
+    (filter (λ m. is_at_meet (next_in t before m)) (traced_mutators t)) before now
 
 -- one more epoch: its part, and the three steps of its stop
 pub record IsEpoch (t : Setting) (before now : Moment) : Type 0 where
@@ -363,9 +363,9 @@ pub record IsEpoch (t : Setting) (before now : Moment) : Type 0 where
   pub stop : Moment
   pub part : RunsPart t before ends stop
   pub collected : Moment
-  pub gc : CollectsFor t (filter (λ m. is_at_gc (ends m)) (mutators_of t)) stop collected
+  pub gc : CollectsFor t (filter (λ m. is_at_gc (ends m)) (traced_mutators t)) stop collected
   pub served : Moment
-  pub needs : ServesAll t (filter (λ m. is_at_need (ends m)) (mutators_of t)) collected served
+  pub needs : ServesAll t (filter (λ m. is_at_need (ends m)) (traced_mutators t)) collected served
   pub meet : Meets t served now
   pub prefix : IsOrderPrefix t.traces now.done
 

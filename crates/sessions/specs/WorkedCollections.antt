@@ -12,8 +12,8 @@ use Rattle.sessions.specs.Plans.{Plan, rules_of}
 use Rattle.sessions.specs.Collecting.{is_evacuated}
 
 -- the heap with blocks of these kinds and these objects, nil globals, and this base, which is also the number
-abbrev pub kinds_heap : List Kind → List WorkedObject → ℕ → HeapState
-kinds_heap blocks objects base = build_heap (record {
+abbrev pub heap_of_kinds : List Kind → List WorkedObject → ℕ → HeapState
+heap_of_kinds blocks objects base = build_heap (record {
   blocks = map (λ kind. unowned kind 0) blocks;
   objects = objects;
   globals = replicate 16 0;
@@ -24,17 +24,17 @@ kinds_heap blocks objects base = build_heap (record {
 -- Block 0 has an old object and, in its last three words, an object with this number. The next block in use has an old
 -- one. Objects with numbers from 2 on are old if the base is 2.
 abbrev pub aged_heap : List Kind → ℕ → ℕ → HeapState
-aged_heap blocks number base = kinds_heap blocks
+aged_heap blocks number base = heap_of_kinds blocks
     (plain_object 0 0 1 [] 0 2 ∷ plain_object 0 4093 2 [] 0 number ∷ plain_object 1 0 3 [] 0 2 ∷ []) base
 
 -- Block 0 has a large object with this number, and the next block, if it is not Free, may have these objects.
 abbrev pub large_heap : List Kind → ℕ → List WorkedObject → HeapState
-large_heap blocks number objects = kinds_heap blocks (plain_object 0 0 1 [] 2046 number ∷ objects) 2
+large_heap blocks number objects = heap_of_kinds blocks (plain_object 0 0 1 [] 2046 number ∷ objects) 2
 
 -- Immix blocks: an empty one; one with lines 1 and 3 marked; a full one; with line 255 clear; with line 0 clear. Block 5
 -- is a Bump block.
 abbrev pub lined_heap : HeapState
-lined_heap = kinds_heap (replicate 5 kinds.Immix ++ kinds.Bump ∷ [])
+lined_heap = heap_of_kinds (replicate 5 kinds.Immix ++ kinds.Bump ∷ [])
     (plain_object 1 16 1 [] 0 0 ∷ plain_object 1 60 2 [] 0 0
     ∷ plain_object 2 0 3 [] 2045 0 ∷ plain_object 2 2048 4 [] 2045 0
     ∷ plain_object 3 0 5 [] 2045 0 ∷ plain_object 3 2048 6 [] 2029 0
@@ -44,7 +44,7 @@ lined_heap = kinds_heap (replicate 5 kinds.Immix ++ kinds.Bump ∷ [])
 -- Recyclable blocks: 0 with 2 holes and 128 marked lines, 1 with 3 holes and 128, 2 with 2 holes and 1. Block 3 has four
 -- holes and three marked lines, but is a Bump block. More objects and the kind of block 4 are given. Block 5 is Free.
 abbrev pub fragmented_heap : List WorkedObject → Kind → HeapState
-fragmented_heap more kind = with_block (kinds_heap
+fragmented_heap more kind = with_block (heap_of_kinds
     (kinds.Immix ∷ kinds.Immix ∷ kinds.Immix ∷ kinds.Immix ∷ kind ∷ kinds.Free ∷ [])
     (plain_object 0 16 1 [] 2045 0
     ∷ plain_object 1 16 2 [] 1597 0 ∷ plain_object 1 2400 3 [] 445 0
@@ -54,7 +54,7 @@ fragmented_heap more kind = with_block (kinds_heap
 
 -- a block of each kind, in the order of their numbers, with an object in the Immix block
 abbrev pub each_kind_heap : HeapState
-each_kind_heap = kinds_heap (kinds.Free ∷ kinds.Bump ∷ kinds.Young ∷ kinds.Mature ∷ kinds.Immix ∷ kinds.Cells
+each_kind_heap = heap_of_kinds (kinds.Free ∷ kinds.Bump ∷ kinds.Young ∷ kinds.Mature ∷ kinds.Immix ∷ kinds.Cells
     ∷ kinds.LargeHead ∷ kinds.LargeTail ∷ kinds.Kept ∷ []) (plain_object 4 0 1 [] 0 0 ∷ []) 0
 
 -- the blocks of that heap that a collection of a plan evacuates
@@ -64,7 +64,7 @@ evacuated_kinds c p = filter (is_evacuated (rules_of p) c each_kind_heap) (range
 -- Bump blocks with a small object and a pinned one, with an object of 2,048 words and with one of 2,049. Block 3 is a
 -- Cells block with an object.
 abbrev pub movable_heap : HeapState
-movable_heap = kinds_heap (kinds.Bump ∷ kinds.Bump ∷ kinds.Bump ∷ kinds.Cells ∷ kinds.Free ∷ [])
+movable_heap = heap_of_kinds (kinds.Bump ∷ kinds.Bump ∷ kinds.Bump ∷ kinds.Cells ∷ kinds.Free ∷ [])
     (plain_object 0 0 1 [] 0 0 ∷ record (plain_object 0 3 2 [] 0 0) { pinned = true }
     ∷ plain_object 1 0 3 [] 2045 0 ∷ plain_object 2 0 4 [] 2046 0 ∷ plain_object 3 0 5 [] 0 0 ∷ []) 0
 
@@ -108,8 +108,8 @@ unlogged_after set blocks objects global base = build_heap (record {
 })
 
 -- the unlog bit of each preserved object is set
-abbrev pub heap_after : List BlockWord → List WorkedObject → ℕ → ℕ → HeapState
-heap_after = unlogged_after true
+abbrev pub heap_left : List BlockWord → List WorkedObject → ℕ → ℕ → HeapState
+heap_left = unlogged_after true
 
 -- the pinned object after a collection
 abbrev pub pinned_one : WorkedObject
@@ -131,8 +131,8 @@ abbrev pub old_one : ℕ → WorkedObject
 old_one v = plain_object 1 0 6 (v ∷ 0 ∷ []) 1 2
 
 -- the reachable objects after a full collection: all in place; moved to block 2, but for the pinned one
-abbrev pub in_place : List WorkedObject
-in_place = first_one 0 (812 ∷ 818 ∷ []) 4 ∷ pinned_one ∷ second_one 0 12 806 ∷ []
+abbrev pub left_in_place : List WorkedObject
+left_in_place = first_one 0 (812 ∷ 818 ∷ []) 4 ∷ pinned_one ∷ second_one 0 12 806 ∷ []
 
 abbrev pub moved_out : List WorkedObject
 moved_out = first_one 2 (812 ∷ 9004 ∷ []) 4 ∷ pinned_one ∷ second_one 2 6 8998 ∷ []
@@ -151,5 +151,5 @@ cells_left = unowned kinds.Cells 1 ∷ unowned kinds.Free 0 ∷ unowned kinds.Fr
 
 -- an object of this many words in a run of two blocks
 abbrev pub run_heap : ℕ → HeapState
-run_heap size = kinds_heap (kinds.LargeHead ∷ kinds.LargeTail ∷ kinds.Free ∷ kinds.Free ∷ [])
+run_heap size = heap_of_kinds (kinds.LargeHead ∷ kinds.LargeTail ∷ kinds.Free ∷ kinds.Free ∷ [])
     (plain_object 0 0 1 [] (size - 3) 0 ∷ []) 0

@@ -12,7 +12,7 @@ ghost use Rattle.sessions.specs.Plans.{NoGc, MarkSweep, SemiSpace, GenCopy, Immi
 ghost use Rattle.sessions.specs.Grants.{all_plans};
 ghost use Rattle.sessions.specs.Fitting.{IsLineHole};
 ghost use Rattle.sessions.specs.Collecting.{first_collection, young_blocks, holes_in, marked_in, is_hole_start, is_recyclable, is_candidate, is_evacuated, may_move, still_free, IsEmptied, IsCollection};
-ghost use Rattle.sessions.specs.WorkedCollections.{aged_heap, large_heap, lined_heap, fragmented_heap, evacuated_kinds, movable_heap, heap_before, heap_after, roots_before, roots_moved, unlogged_after, in_place, moved_out, first_one, second_one, pinned_one, lonely_one, old_one, remembered_ones, four_kinds, cells_left, run_heap};
+ghost use Rattle.sessions.specs.WorkedCollections.{aged_heap, large_heap, lined_heap, fragmented_heap, evacuated_kinds, movable_heap, heap_before, heap_left, roots_before, roots_moved, unlogged_after, left_in_place, moved_out, first_one, second_one, pinned_one, lonely_one, old_one, remembered_ones, four_kinds, cells_left, run_heap};
 
 /// A nursery collection is tried first if the plan has young objects, a full collection was made,
 /// some object is young, and at least a quarter of the blocks in use have young objects: one of
@@ -104,22 +104,22 @@ pub fn full_collections()
         roots_before (record (heap_before kinds.Bump kinds.Bump 0) { number = 4 }) roots_before }
     ensures mark_sweep { IsCollection (rules_of MarkSweep) 1 Full
         (heap_before kinds.Cells kinds.Cells 1) roots_before
-        (heap_after cells_left in_place 818 4) roots_before }
+        (heap_left cells_left left_in_place 818 4) roots_before }
     ensures semi_space { IsCollection (rules_of SemiSpace) 1 Full
         (heap_before kinds.Bump kinds.Bump 0) roots_before
-        (heap_after (four_kinds kinds.Kept kinds.Free kinds.Bump kinds.Free) moved_out 9004 4)
+        (heap_left (four_kinds kinds.Kept kinds.Free kinds.Bump kinds.Free) moved_out 9004 4)
         roots_moved }
     ensures gen_copy { IsCollection (rules_of GenCopy) 1 Full
         (heap_before kinds.Young kinds.Mature 0) roots_before
-        (heap_after (four_kinds kinds.Kept kinds.Free kinds.Mature kinds.Free) moved_out 9004 4)
+        (heap_left (four_kinds kinds.Kept kinds.Free kinds.Mature kinds.Free) moved_out 9004 4)
         roots_moved }
     ensures immix { IsCollection (rules_of Immix) 1 Full
         (heap_before kinds.Immix kinds.Immix 0) roots_before
-        (heap_after (four_kinds kinds.Immix kinds.Free kinds.Immix kinds.Free) moved_out 9004 4)
+        (heap_left (four_kinds kinds.Immix kinds.Free kinds.Immix kinds.Free) moved_out 9004 4)
         roots_moved }
     ensures sticky_immix { IsCollection (rules_of StickyImmix) 1 Full
         (heap_before kinds.Immix kinds.Immix 0) roots_before
-        (heap_after (four_kinds kinds.Immix kinds.Free kinds.Immix kinds.Free) moved_out 9004 4)
+        (heap_left (four_kinds kinds.Immix kinds.Free kinds.Immix kinds.Free) moved_out 9004 4)
         roots_moved }
 {}
 
@@ -129,12 +129,12 @@ pub fn full_collections()
 pub fn nursery_collections()
     ensures gen_copy { IsCollection (rules_of GenCopy) 1 Nursery
         (heap_before kinds.Young kinds.Mature 0) roots_before
-        (heap_after (four_kinds kinds.Kept kinds.Mature kinds.Mature kinds.Free)
+        (heap_left (four_kinds kinds.Kept kinds.Mature kinds.Mature kinds.Free)
         (moved_out ++ remembered_ones 2 12 9010) 9004 2) roots_moved }
     ensures sticky_immix { IsCollection (rules_of StickyImmix) 1 Nursery
         (heap_before kinds.Immix kinds.Immix 0) roots_before
-        (heap_after (four_kinds kinds.Immix kinds.Immix kinds.Free kinds.Free)
-        (in_place ++ remembered_ones 0 24 830) 818 2) roots_before }
+        (heap_left (four_kinds kinds.Immix kinds.Immix kinds.Free kinds.Free)
+        (left_in_place ++ remembered_ones 0 24 830) 818 2) roots_before }
 {}
 
 /// Movable objects may stay in place if at most one block per worker was Free and still is: with
@@ -143,28 +143,29 @@ pub fn nursery_collections()
 pub fn objects_left_in_place()
     ensures two_workers { IsCollection (rules_of SemiSpace) 2 Full
         (heap_before kinds.Bump kinds.Bump 0) roots_before
-        (heap_after (four_kinds kinds.Kept kinds.Free kinds.Free kinds.Free) in_place 818 4)
+        (heap_left (four_kinds kinds.Kept kinds.Free kinds.Free kinds.Free) left_in_place 818 4)
         roots_before }
     ensures one_worker { IsCollection (rules_of SemiSpace) 1 Full
         (heap_before kinds.Bump kinds.Bump 0) roots_before
-        (heap_after (four_kinds kinds.Kept kinds.Free kinds.Free kinds.Free) in_place 818 4)
+        (heap_left (four_kinds kinds.Kept kinds.Free kinds.Free kinds.Free) left_in_place 818 4)
         roots_before → ⊥ }
     ensures nursery { IsCollection (rules_of GenCopy) 1 Nursery
         (heap_before kinds.Young kinds.Mature 0) roots_before
-        (heap_after (four_kinds kinds.Kept kinds.Mature kinds.Free kinds.Free)
-        (in_place ++ remembered_ones 0 24 830) 818 2) roots_before → ⊥ }
+        (heap_left (four_kinds kinds.Kept kinds.Mature kinds.Free kinds.Free)
+        (left_in_place ++ remembered_ones 0 24 830) 818 2) roots_before → ⊥ }
     ensures old { IsCollection (rules_of GenCopy) 0 Nursery
         (heap_before kinds.Young kinds.Young 0) roots_before
-        (heap_after (four_kinds kinds.Kept kinds.Kept kinds.Mature kinds.Free)
+        (heap_left (four_kinds kinds.Kept kinds.Kept kinds.Mature kinds.Free)
         (moved_out ++ remembered_ones 2 12 9010) 9004 2) roots_moved }
     ensures full { IsCollection (rules_of GenCopy) 0 Full
         (heap_before kinds.Young kinds.Mature 0) (0 ∷ 4902 ∷ [])
-        (heap_after (four_kinds kinds.Kept kinds.Kept kinds.Mature kinds.Free)
+        (heap_left (four_kinds kinds.Kept kinds.Kept kinds.Mature kinds.Free)
         (moved_out ++ plain_object 2 12 5 [] 3 4 ∷ plain_object 1 0 6 (9010 ∷ 0 ∷ []) 1 4
         ∷ [])
         9004 4) (0 ∷ 4902 ∷ []) → ⊥ }
     ensures free { still_free (heap_before kinds.Bump kinds.Bump 0)
-        (heap_after (four_kinds kinds.Kept kinds.Free kinds.Bump kinds.Free) in_place 818 4) ≡ 1 }
+        (heap_left (four_kinds kinds.Kept kinds.Free kinds.Bump kinds.Free) left_in_place 818 4)
+        ≡ 1 }
 {}
 
 /// A full collection keeps no dead object and loses no reachable one. It moves no pinned object,
@@ -172,24 +173,24 @@ pub fn objects_left_in_place()
 pub fn wrong_objects()
     ensures dead_kept { IsCollection (rules_of MarkSweep) 1 Full
         (heap_before kinds.Cells kinds.Cells 1) roots_before
-        (heap_after cells_left (in_place ++ lonely_one ∷ []) 818 4) roots_before → ⊥ }
+        (heap_left cells_left (left_in_place ++ lonely_one ∷ []) 818 4) roots_before → ⊥ }
     ensures live_lost { IsCollection (rules_of MarkSweep) 1 Full
         (heap_before kinds.Cells kinds.Cells 1) roots_before
-        (heap_after cells_left (first_one 0 (812 ∷ 818 ∷ []) 4 ∷ pinned_one ∷ []) 818 4)
+        (heap_left cells_left (first_one 0 (812 ∷ 818 ∷ []) 4 ∷ pinned_one ∷ []) 818 4)
         roots_before → ⊥ }
     ensures pinned_moved { IsCollection (rules_of SemiSpace) 1 Full
         (heap_before kinds.Bump kinds.Bump 0) roots_before
-        (heap_after (four_kinds kinds.Free kinds.Free kinds.Bump kinds.Free)
+        (heap_left (four_kinds kinds.Free kinds.Free kinds.Bump kinds.Free)
         (first_one 2 (9010 ∷ 9004 ∷ []) 4 ∷ record pinned_one { block = 2; offset = 12 }
         ∷ second_one 2 6 8998 ∷ []) 9004 4) roots_moved → ⊥ }
     ensures field_left { IsCollection (rules_of SemiSpace) 1 Full
         (heap_before kinds.Bump kinds.Bump 0) roots_before
-        (heap_after (four_kinds kinds.Kept kinds.Free kinds.Bump kinds.Free)
+        (heap_left (four_kinds kinds.Kept kinds.Free kinds.Bump kinds.Free)
         (first_one 2 (812 ∷ 818 ∷ []) 4 ∷ pinned_one ∷ second_one 2 6 8998 ∷ []) 9004 4)
         roots_moved → ⊥ }
     ensures root_left { IsCollection (rules_of SemiSpace) 1 Full
         (heap_before kinds.Bump kinds.Bump 0) roots_before
-        (heap_after (four_kinds kinds.Kept kinds.Free kinds.Bump kinds.Free) moved_out 9004 4)
+        (heap_left (four_kinds kinds.Kept kinds.Free kinds.Bump kinds.Free) moved_out 9004 4)
         roots_before → ⊥ }
 {}
 
@@ -199,23 +200,23 @@ pub fn wrong_objects()
 pub fn wrong_blocks()
     ensures emptied { IsCollection (rules_of SemiSpace) 1 Full
         (heap_before kinds.Bump kinds.Bump 0) roots_before
-        (heap_after (four_kinds kinds.Kept kinds.Bump kinds.Bump kinds.Free) moved_out 9004 4)
+        (heap_left (four_kinds kinds.Kept kinds.Bump kinds.Bump kinds.Free) moved_out 9004 4)
         roots_moved → ⊥ }
     ensures taken { IsCollection (rules_of GenCopy) 1 Full
         (heap_before kinds.Young kinds.Mature 0) roots_before
-        (heap_after (four_kinds kinds.Kept kinds.Free kinds.Young kinds.Free) moved_out 9004 4)
+        (heap_left (four_kinds kinds.Kept kinds.Free kinds.Young kinds.Free) moved_out 9004 4)
         roots_moved → ⊥ }
     ensures kept { IsCollection (rules_of SemiSpace) 1 Full
         (heap_before kinds.Bump kinds.Bump 0) roots_before
-        (heap_after (four_kinds kinds.Bump kinds.Free kinds.Bump kinds.Free) moved_out 9004 4)
+        (heap_left (four_kinds kinds.Bump kinds.Free kinds.Bump kinds.Free) moved_out 9004 4)
         roots_moved → ⊥ }
     ensures lines { IsCollection (rules_of Immix) 1 Full
         (heap_before kinds.Immix kinds.Immix 0) roots_before
-        (heap_after (four_kinds kinds.Kept kinds.Free kinds.Immix kinds.Free) moved_out 9004 4)
+        (heap_left (four_kinds kinds.Kept kinds.Free kinds.Immix kinds.Free) moved_out 9004 4)
         roots_moved → ⊥ }
     ensures others { IsCollection (rules_of MarkSweep) 1 Full
         (heap_before kinds.Cells kinds.Cells 1) roots_before
-        (heap_after (four_kinds kinds.Cells kinds.Free kinds.Free kinds.Free) in_place 818 4)
+        (heap_left (four_kinds kinds.Cells kinds.Free kinds.Free kinds.Free) left_in_place 818 4)
         roots_before → ⊥ }
     ensures crossed { IsEmptied (run_heap 4097) 1 → ⊥ }
     ensures not_crossed { IsEmptied (run_heap 4096) 1 }
@@ -226,7 +227,7 @@ pub fn wrong_blocks()
 pub fn wrong_ages()
     ensures young { IsCollection (rules_of GenCopy) 1 Full
         (heap_before kinds.Young kinds.Mature 0) roots_before
-        (heap_after (four_kinds kinds.Kept kinds.Free kinds.Mature kinds.Free)
+        (heap_left (four_kinds kinds.Kept kinds.Free kinds.Mature kinds.Free)
         (first_one 2 (812 ∷ 9004 ∷ []) 3 ∷ pinned_one ∷ second_one 2 6 8998 ∷ []) 9004 4)
         roots_moved → ⊥ }
     ensures logged { IsCollection (rules_of GenCopy) 1 Full
@@ -239,7 +240,7 @@ pub fn wrong_ages()
         9004 4) roots_moved → ⊥ }
     ensures number { IsCollection (rules_of SemiSpace) 1 Full
         (heap_before kinds.Bump kinds.Bump 0) roots_before
-        (heap_after (four_kinds kinds.Kept kinds.Free kinds.Bump kinds.Free)
+        (heap_left (four_kinds kinds.Kept kinds.Free kinds.Bump kinds.Free)
         (first_one 2 (812 ∷ 9004 ∷ []) 3 ∷ pinned_one ∷ second_one 2 6 8998 ∷ []) 9004 4)
         roots_moved → ⊥ }
 {}
@@ -249,14 +250,14 @@ pub fn wrong_ages()
 pub fn wrong_nurseries()
     ensures old_lost { IsCollection (rules_of StickyImmix) 1 Nursery
         (heap_before kinds.Immix kinds.Immix 0) roots_before
-        (heap_after (four_kinds kinds.Immix kinds.Free kinds.Free kinds.Free) in_place 818 2)
+        (heap_left (four_kinds kinds.Immix kinds.Free kinds.Free kinds.Free) left_in_place 818 2)
         roots_before → ⊥ }
     ensures remembered_lost { IsCollection (rules_of StickyImmix) 1 Nursery
         (heap_before kinds.Immix kinds.Immix 0) roots_before
-        (heap_after (four_kinds kinds.Immix kinds.Immix kinds.Free kinds.Free)
-        (in_place ++ old_one 830 ∷ []) 818 2) roots_before → ⊥ }
+        (heap_left (four_kinds kinds.Immix kinds.Immix kinds.Free kinds.Free)
+        (left_in_place ++ old_one 830 ∷ []) 818 2) roots_before → ⊥ }
     ensures young_kept { IsCollection (rules_of StickyImmix) 1 Nursery
         (heap_before kinds.Immix kinds.Immix 0) roots_before
-        (heap_after (four_kinds kinds.Immix kinds.Immix kinds.Free kinds.Free)
-        (in_place ++ lonely_one ∷ remembered_ones 0 24 830) 818 2) roots_before → ⊥ }
+        (heap_left (four_kinds kinds.Immix kinds.Immix kinds.Free kinds.Free)
+        (left_in_place ++ lonely_one ∷ remembered_ones 0 24 830) 818 2) roots_before → ⊥ }
 {}

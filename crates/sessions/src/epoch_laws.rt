@@ -11,19 +11,19 @@ ghost use Rattle.ideal_heap.specs.declared.command.Command.TheVariants as c;
 ghost use Rattle.ideal_heap.specs.declared.reply.Reply.TheVariants as r;
 ghost use Rattle.ideal_heap.specs.Commands.{is_new, is_gc, is_meet, size_wanted};
 ghost use Rattle.ideal_heap.specs.Ideal.{IdealHeap};
-ghost use Rattle.ideal_heap.specs.Runs.{Entry, entry, is_full, IsMutator, after};
+ghost use Rattle.ideal_heap.specs.Runs.{Entry, entry, is_full, IsMutator, heap_after_run};
 ghost use Rattle.object_model.specs.Objects.{HeapState, empty_heap, HasKind, block_word, class_at, line_marked, is_start, is_unlogged, IsHeld, name_at, refs_at, nums_at, size_at, number_at, size_of, cell_words};
 ghost use Rattle.object_model.specs.Ages.{is_old};
 ghost use Rattle.object_model.specs.Graphs.{MutatorState};
 ghost use Rattle.sessions.specs.Plans.{Rules, MarkSweep, SemiSpace, GenCopy, Immix, StickyImmix, rules_of, Copies, Headroom};
 ghost use Rattle.sessions.specs.Fitting.{IsTail, HasHole, free_of, used_of, headroom_of, allowance_of};
 ghost use Rattle.sessions.specs.Collecting.{is_logged_under};
-ghost use Rattle.sessions.specs.Sessions.{Setting, Moment, Cause, AtGc, AtMeet, AtEnd, AtNeed, Raised, is_at_gc, is_at_need, next_in, Needs, EndsBy, IsOfPart, IsPacked, IsBirth, StoresInto, Stopped, ExhaustsAllowance, RunsPart, IsSound};
+ghost use Rattle.sessions.specs.Sessions.{Setting, Moment, Cause, AtGc, AtMeet, AtEnd, AtNeed, Raised, is_at_gc, is_at_need, next_in, Needs, EndsBy, IsOfPart, LeavesNoGap, IsBirth, StoresInto, Stopped, ExhaustsAllowance, RunsPart, IsSound};
 ghost use Rattle.sessions.specs.WorkedSessions.{part_of_birth, heap_after_birth};
 
 use object_model::MAX_MEDIUM_WORDS;
 
-/// Where a part ends, a mutator's next command tells why it stopped there, but for a stop that was
+/// Where a part ends, a mutator's next command says why it stopped there, but for a stop that was
 /// raised: at `gc`, at `meet`, at the end of its trace, or at a `new`. Before any other command it
 /// stopped because some mutator raised a stop. That one is at `gc` or at a `new`, and either may
 /// raise a stop.
@@ -191,16 +191,16 @@ pub fn births_are_packed()
         → line_marked old (block_at new.blocks a) (offset_at new.blocks a / 16 - 1) ≡ true))
         ⊎ ((x : ℕ) × IsHeld new x × (block_at new.blocks x ≡ block_at new.blocks a)
         × (x + size_at new x ≡ a)) }
-    ensures cells { (old new : HeapState) (a : ℕ) → IsPacked kinds.Cells old new a }
+    ensures cells { (old new : HeapState) (a : ℕ) → LeavesNoGap kinds.Cells old new a }
     ensures hole { (fill : Kind) (old new : HeapState) (a : ℕ)
         → HasHole fill old (block_at new.blocks a) (offset_at new.blocks a) (size_at new a)
-        → IsPacked fill old new a }
+        → LeavesNoGap fill old new a }
     ensures start { (fill : Kind) (old new : HeapState) (a : ℕ)
         → HasKind old (block_at new.blocks a) kinds.Free → offset_at new.blocks a ≡ 0
-        → IsPacked fill old new a }
+        → LeavesNoGap fill old new a }
     ensures next { (fill : Kind) (old new : HeapState) (a x : ℕ) → IsHeld new x
         → block_at new.blocks x ≡ block_at new.blocks a → x + size_at new x ≡ a
-        → IsPacked fill old new a }
+        → LeavesNoGap fill old new a }
 {}
 
 /// A part without a `put`, or without a reply `ok`, logs no object. A `put` that gets `ok` logs the
@@ -222,9 +222,9 @@ pub fn stores_are_logged()
         → Stopped rules numbers old h (first ∷ entry m (c.Put s i v) r.Done ∷ []) new ms
         → (a : ℕ) → is_logged_under rules new a ≡ true
         → (is_logged_under rules old a ≡ true)
-        ⊎ ((after h (first ∷ [])).registers m s ≡ Some (name_at new a)) }
+        ⊎ ((heap_after_run h (first ∷ [])).registers m s ≡ Some (name_at new a)) }
     ensures stores { (h : IdealHeap) (prefix rest : List Entry) (m s i v : ℕ) (n : Name)
-        → (after h prefix).registers m s ≡ Some n
+        → (heap_after_run h prefix).registers m s ≡ Some n
         → StoresInto h (prefix ++ entry m (c.Put s i v) r.Done ∷ rest) n }
 {}
 

@@ -17,7 +17,7 @@ ghost use Rattle.sessions.specs.Plans.{Plan, Rules, Reserve, NoGc, rules_of, Not
 ghost use Rattle.sessions.specs.Grants.{BlockCounts, total_in, used_in, headroom_in, IsGrantable, IsRunGrantable, allowance_in, counts_with, allowances};
 ghost use Rattle.sessions.specs.Fitting.{Fits, HasHole, LiesInHole, MayGrant, allowance_of, headroom_of};
 ghost use Rattle.sessions.specs.Collecting.{IsCollection, Collects, Remembers, IsNurseryReachable, is_evacuated, is_old_under, is_logged_under};
-ghost use Rattle.sessions.specs.Sessions.{Setting, Moment, InSession, IsEpoch, IsWhole, IsSound, Places, Serves, first_moment, refusal};
+ghost use Rattle.sessions.specs.Sessions.{Setting, Moment, InSession, IsEpoch, IsWhole, IsSound, Places, ServesNeed, first_moment, refused_entry};
 
 use heap_layout::{MAX_BLOCKS, MIN_BLOCKS};
 use ideal_heap::MAX_MUTATORS;
@@ -63,7 +63,7 @@ pub fn empty_heap_has_room()
     ensures served { (t : Setting) (p : Plan) (b m d refs nums : ℕ) (old new : Moment)
         → MIN_BLOCKS ≤ b → t.rules ≡ rules_of p → old.heap ≡ empty_heap b
         → size_of refs nums ≤ MAX_MEDIUM_WORDS
-        → Serves t m d refs nums old new → Places t m d refs nums old new }
+        → ServesNeed t m d refs nums old new → Places t m d refs nums old new }
 {}
 
 /// No word of a held object is among those that a new object takes in a hole, be it a tail, a free
@@ -146,8 +146,8 @@ pub fn objects_stay()
 /// collection was made for it.
 pub fn refusals_follow_a_full_collection()
     ensures { (t : Setting) (m d refs nums : ℕ) (before now : Moment)
-        → Serves t m d refs nums before now
-        → now.done ≡ before.done ++ refusal m d refs nums ∷ []
+        → ServesNeed t m d refs nums before now
+        → now.done ≡ before.done ++ refused_entry m d refs nums ∷ []
         → (Fits t.rules now.heap (size_of refs nums) → ⊥) × (now.full ≡ before.full + 1) }
 {}
 

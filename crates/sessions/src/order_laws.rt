@@ -6,7 +6,7 @@ ghost use Rattle.ideal_heap.specs.Runs.{commands_of, of_mutator, trace_of};
 ghost use Rattle.ideal_heap.specs.Runs.{IsMutator, IsOrderPrefix};
 ghost use Rattle.sessions.specs.Sessions.{Setting, Moment, Cause, InSession, IsEpoch, IsWhole};
 ghost use Rattle.sessions.specs.Sessions.{RunsPart, CollectsFor, ServesAll, Meets};
-ghost use Rattle.sessions.specs.Sessions.{is_at_gc, is_at_need, mutators_of, next_in};
+ghost use Rattle.sessions.specs.Sessions.{is_at_gc, is_at_need, traced_mutators, next_in};
 
 /// Whatever the parts, collections and needs of an epoch, its entries keep an order that `meet`
 /// allows, if each mutator's are the first commands of its trace. A session in which every command
@@ -14,8 +14,8 @@ ghost use Rattle.sessions.specs.Sessions.{is_at_gc, is_at_need, mutators_of, nex
 pub fn epochs_keep_the_order()
     ensures order { (t : Setting) (before stop collected served now : Moment) (ends : ℕ → Cause)
         → InSession t before → RunsPart t before ends stop
-        → CollectsFor t (filter (λ m. is_at_gc (ends m)) (mutators_of t)) stop collected
-        → ServesAll t (filter (λ m. is_at_need (ends m)) (mutators_of t)) collected served
+        → CollectsFor t (filter (λ m. is_at_gc (ends m)) (traced_mutators t)) stop collected
+        → ServesAll t (filter (λ m. is_at_need (ends m)) (traced_mutators t)) collected served
         → Meets t served now
         → AllByRecursion (λ e. IsMutator t.traces e.mutator) now.done
         → ((m : ℕ) → IsMutator t.traces m → commands_of m now.done

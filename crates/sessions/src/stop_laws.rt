@@ -10,7 +10,7 @@ ghost use Rattle.ideal_heap.specs.declared.name.Name.{Name};
 ghost use Rattle.ideal_heap.specs.declared.command.Command.TheVariants as c;
 ghost use Rattle.ideal_heap.specs.declared.reply.Reply.TheVariants as r;
 ghost use Rattle.ideal_heap.specs.Commands.{is_meet};
-ghost use Rattle.ideal_heap.specs.Reach.{Reaches};
+ghost use Rattle.ideal_heap.specs.Reach.{PathReaches};
 ghost use Rattle.ideal_heap.specs.Runs.{Entry, entry, IsMutator, commands_of, of_mutator, trace_of};
 ghost use Rattle.object_model.specs.declared.collect.Collect.{Collect};
 ghost use Rattle.object_model.specs.declared.collect.Collect.TheVariants.{Full, Nursery};
@@ -20,7 +20,7 @@ ghost use Rattle.object_model.specs.Graphs.{new_mutator, numbers_of, roots_of, I
 ghost use Rattle.sessions.specs.Plans.{Plan, Rules, MarkSweep, GenCopy, rules_of};
 ghost use Rattle.sessions.specs.Fitting.{Fits, HasHole, HasSomeHole};
 ghost use Rattle.sessions.specs.Collecting.{Collects, first_collection};
-ghost use Rattle.sessions.specs.Sessions.{Setting, Moment, Cause, mutators_of, first_moment, next_in, ideal_at, is_at_gc, is_at_need, is_at_meet, is_waiting, all_done, refusal, IsOfPart, IsSound, MakesCollection, Replies, CollectsFor, PlacesSmall, PlacesLarge, UsesBlock, UsesRun, AddsObject, ChangesBlocks, Places, Serves, ServesAll, Meets, IsEpoch, InSession, IsWhole};
+ghost use Rattle.sessions.specs.Sessions.{Setting, Moment, Cause, traced_mutators, first_moment, next_in, ideal_at, is_at_gc, is_at_need, is_at_meet, is_waiting, all_done, refused_entry, IsOfPart, IsSound, MakesCollection, OnlyReplies, CollectsFor, PlacesSmall, PlacesLarge, UsesBlock, UsesRun, AddsObject, ChangesBlocks, Places, ServesNeed, ServesAll, Meets, IsEpoch, InSession, IsWhole};
 ghost use Rattle.sessions.specs.WorkedSessions.{worked_setting, worked_moment};
 
 use object_model::MAX_MEDIUM_WORDS;
@@ -51,7 +51,7 @@ pub fn stops_make_collections()
         → CollectsFor t (m ∷ ms) before now
         → (now.done ≡ before.done ++ all_done c.Gc (m ∷ ms)) × (now.full ≡ before.full + 1)
         × (now.nursery ≡ before.nursery) × (now.heap.number ≡ before.heap.number + 1) }
-    ensures replies { (es : List Entry) (before now : Moment) → Replies es before now
+    ensures replies { (es : List Entry) (before now : Moment) → OnlyReplies es before now
         → (now.heap ≡ before.heap) × (now.mutators ≡ before.mutators)
         × (now.nursery ≡ before.nursery) × (now.full ≡ before.full) }
     ensures done { all_done c.Gc (1 ∷ 3 ∷ [])
@@ -191,33 +191,34 @@ pub fn places_add_one_object()
 /// one entry, and needs are served in the order of the mutators.
 pub fn needs_are_served()
     ensures at_once { (t : Setting) (m d refs nums : ℕ) (before now : Moment)
-        → Fits t.rules before.heap (size_of refs nums) → Serves t m d refs nums before now
+        → Fits t.rules before.heap (size_of refs nums) → ServesNeed t m d refs nums before now
         → Places t m d refs nums before now }
     ensures full_first { (t : Setting) (m d refs nums : ℕ) (before now : Moment)
         → (Fits t.rules before.heap (size_of refs nums) → ⊥)
-        → first_collection t.rules before.heap ≡ Full → Serves t m d refs nums before now
+        → first_collection t.rules before.heap ≡ Full → ServesNeed t m d refs nums before now
         → (now.nursery ≡ before.nursery) × (now.full ≡ before.full + 1) }
     ensures nursery_first { (t : Setting) (m d refs nums : ℕ) (before now : Moment)
         → (Fits t.rules before.heap (size_of refs nums) → ⊥)
-        → first_collection t.rules before.heap ≡ Nursery → Serves t m d refs nums before now
+        → first_collection t.rules before.heap ≡ Nursery → ServesNeed t m d refs nums before now
         → (mid : Moment) × MakesCollection t Nursery before mid
         × (Places t m d refs nums mid now ⊎ ((Fits t.rules mid.heap (size_of refs nums) → ⊥)
         × (now.nursery ≡ mid.nursery) × (now.full ≡ mid.full + 1))) }
     ensures one_entry { (t : Setting) (m d refs nums : ℕ) (before now : Moment)
-        → Serves t m d refs nums before now
+        → ServesNeed t m d refs nums before now
         → (e : Entry) × (now.done ≡ before.done ++ e ∷ [])
         × (e.mutator ≡ m) × (e.command ≡ c.New d refs nums) }
     ensures after_nursery { (t : Setting) (m d refs nums : ℕ) (before now mid : Moment)
         → (Fits t.rules before.heap (size_of refs nums) → ⊥)
         → first_collection t.rules before.heap ≡ Nursery
         → MakesCollection t Nursery before mid
-        → Places t m d refs nums mid now → Serves t m d refs nums before now }
+        → Places t m d refs nums mid now → ServesNeed t m d refs nums before now }
     ensures after_full { (t : Setting) (m d refs nums : ℕ) (before now late : Moment)
         → (Fits t.rules before.heap (size_of refs nums) → ⊥)
         → first_collection t.rules before.heap ≡ Full → MakesCollection t Full before late
         → Places t m d refs nums late now ⊎ ((Fits t.rules late.heap (size_of refs nums)
         → ⊥)
-        × Replies (refusal m d refs nums ∷ []) late now) → Serves t m d refs nums before now }
+        × OnlyReplies (refused_entry m d refs nums ∷ []) late now)
+        → ServesNeed t m d refs nums before now }
     ensures after_both { (t : Setting) (m d refs nums : ℕ) (before now mid late : Moment)
         → (Fits t.rules before.heap (size_of refs nums) → ⊥)
         → first_collection t.rules before.heap ≡ Nursery
@@ -225,8 +226,9 @@ pub fn needs_are_served()
         → (Fits t.rules mid.heap (size_of refs nums) → ⊥) → MakesCollection t Full mid late
         → Places t m d refs nums late now ⊎ ((Fits t.rules late.heap (size_of refs nums)
         → ⊥)
-        × Replies (refusal m d refs nums ∷ []) late now) → Serves t m d refs nums before now }
-    ensures refused { refusal 2 0 1 3 ≡ entry 2 (c.New 0 1 3) r.Full }
+        × OnlyReplies (refused_entry m d refs nums ∷ []) late now)
+        → ServesNeed t m d refs nums before now }
+    ensures refused { refused_entry 2 0 1 3 ≡ entry 2 (c.New 0 1 3) r.Full }
     ensures order { (t : Setting) (ms : List ℕ) (before now : Moment)
         → ServesAll t ms before now
         → (es : List Entry) × (now.done ≡ before.done ++ es)
@@ -234,7 +236,7 @@ pub fn needs_are_served()
     ensures next { (t : Setting) (m : ℕ) (ms : List ℕ) (before now : Moment)
         → ServesAll t (m ∷ ms) before now
         → (d : ℕ) × (refs : ℕ) × (nums : ℕ) × (mid : Moment)
-        × (next_in t before m ≡ Some (c.New d refs nums)) × Serves t m d refs nums before mid
+        × (next_in t before m ≡ Some (c.New d refs nums)) × ServesNeed t m d refs nums before mid
         × ServesAll t ms mid now }
 {}
 
@@ -268,9 +270,9 @@ pub fn epochs_add_entries()
     ensures entries { (t : Setting) (before now : Moment) → IsEpoch t before now
         → (ends : ℕ → Cause) × (part : List Entry) × (needs : List Entry)
         × (meets : List Entry) × (now.done ≡ before.done ++ (part
-        ++ all_done c.Gc (filter (λ m. is_at_gc (ends m)) (mutators_of t)) ++ needs ++ meets))
+        ++ all_done c.Gc (filter (λ m. is_at_gc (ends m)) (traced_mutators t)) ++ needs ++ meets))
         × AllByRecursion IsOfPart part
-        × (map (λ e. e.mutator) needs ≡ filter (λ m. is_at_need (ends m)) (mutators_of t))
+        × (map (λ e. e.mutator) needs ≡ filter (λ m. is_at_need (ends m)) (traced_mutators t))
         × AllByRecursion (λ e. is_meet e.command ≡ true) meets }
     ensures commands { (t : Setting) (before now : Moment) (m : ℕ) → IsEpoch t before now
         → IsMutator t.traces m
@@ -300,7 +302,7 @@ pub fn sound_moments_have_no_loose_references()
         → is_unlogged now.heap a ≡ true → i < refs_at now.heap a → 0 < ref_at now.heap a i
         → is_old now.heap (ref_at now.heap a i) ≡ true }
     ensures reached { (t : Setting) (now : Moment) → IsSound t now → (n : Name)
-        → Reaches (ideal_at now) n
+        → PathReaches (ideal_at now) n
         → (a : ℕ) × IsReachable now.heap (roots_of now.mutators) a
         × (name_at now.heap a ≡ n) }
     ensures mutators { (t : Setting) (now : Moment) → IsSound t now
@@ -311,7 +313,7 @@ pub fn sound_moments_have_no_loose_references()
 /// traces, have nil registers, and are each at the first command of their trace.
 pub fn sessions_begin_empty()
     ensures numbers { (rules : Rules)
-        → mutators_of (worked_setting rules ((c.Gc ∷ []) ∷ [] ∷ (c.Meet ∷ []) ∷ []))
+        → traced_mutators (worked_setting rules ((c.Gc ∷ []) ∷ [] ∷ (c.Meet ∷ []) ∷ []))
         ≡ 1 ∷ 2 ∷ 3 ∷ [] }
     ensures mutators { (rules : Rules)
         → (worked_moment rules ((c.Gc ∷ []) ∷ [] ∷ (c.Meet ∷ []) ∷ [])).mutators

@@ -2,9 +2,9 @@
 //! cells.
 
 ghost use Rattle.std.specs.Prelude.{◌≡◌, ◌%◌, ◌/◌, ◌<◌, IsTrue, length};
-ghost use Rattle.heap_layout.specs.Zones.{row_words};
+ghost use Rattle.heap_layout.specs.Zones.{IsRowOf};
 ghost use Rattle.heap_layout.specs.declared.block.Kind.TheVariants as kinds;
-ghost use Rattle.object_model.specs.Objects.{state_over, HasKind, class_at};
+ghost use Rattle.object_model.specs.Objects.{HasKind, class_at, shown};
 
 use cell_space::{cell_size, class_of, next_cell, sweep_block};
 use heap_layout::{BLOCK_WORDS, CLASS_UNIT, Kind, Layout};
@@ -77,10 +77,10 @@ fn turn(words: &mut Vec<u64>, zone: u32, offset: u32) {
 
 /// Whether block 1 has cells of this class.
 fn has_cells(words: &Vec<u64>, layout: &Layout, class: u32) -> bool
-    requires extent { length words.now.items ≡ row_words layout.now.blocks }
-    ensures kind { IsTrue result → HasKind (state_over words.now.items layout.now 0 0) 1
+    requires extent { IsRowOf layout.now words.now.items }
+    ensures kind { IsTrue result → HasKind (shown words.now.items layout.now) 1
         kinds.Cells }
-    ensures class { IsTrue result → class_at (state_over words.now.items layout.now 0 0) 1
+    ensures class { IsTrue result → class_at (shown words.now.items layout.now) 1
         ≡ class }
 {
     let word = words[layout.block_at(1) as usize];

@@ -1,9 +1,9 @@
 //! Tests of the search for runs, of placing and of sweeps, on rows of 8 blocks and of 16.
 
 ghost use Rattle.std.specs.Prelude.{◌≡◌, ◌%◌, ◌<◌, IsTrue, length};
-ghost use Rattle.heap_layout.specs.Zones.{row_words};
+ghost use Rattle.heap_layout.specs.Zones.{IsRowOf};
 ghost use Rattle.heap_layout.specs.declared.block.Kind.TheVariants as kinds;
-ghost use Rattle.object_model.specs.Objects.{state_over, HasKind};
+ghost use Rattle.object_model.specs.Objects.{HasKind, shown};
 
 use heap_layout::{BLOCK_WORDS, CLASS_UNIT, Kind, Layout};
 use large_space::{blocks_for, find_run, place_large, sweep_large};
@@ -125,9 +125,9 @@ fn write_object(words: &mut Vec<u64>, layout: &Layout, block: u32, nums: u32, nu
 
 /// Whether a block begins a run.
 fn is_head(words: &Vec<u64>, layout: &Layout, block: u32) -> bool
-    requires extent { length words.now.items ≡ row_words layout.now.blocks }
+    requires extent { IsRowOf layout.now words.now.items }
     requires block { block < layout.now.blocks }
-    ensures { IsTrue result → HasKind (state_over words.now.items layout.now 0 0) block
+    ensures { IsTrue result → HasKind (shown words.now.items layout.now) block
         kinds.LargeHead }
 {
     words[layout.block_at(block) as usize] % CLASS_UNIT == Kind::LargeHead as u64

@@ -1,7 +1,7 @@
 //! Holes, counts and marks of block 1 of rows of 4 blocks, against a plain walk over its lines.
 
 ghost use Rattle.std.specs.Prelude.{◌≡◌, ◌≤◌, length, IfOk};
-ghost use Rattle.heap_layout.specs.Zones.{row_words};
+ghost use Rattle.heap_layout.specs.Zones.{row_words, IsRowOf};
 
 use heap_layout::Layout;
 use line_marks::{Hole, count_holes, mark, marked_lines, next_hole};
@@ -202,7 +202,7 @@ fn random_blocks(rt: HostRuntime) -> Result<(), Fail> {
 /// not lie in the heap.
 fn mark_at(words: &mut Vec<u64>, layout: &Layout, offset: u32, size: u32)
     requires blocks { layout.now.blocks ≡ 4 }
-    requires extent { length words.old.items ≡ row_words layout.now.blocks }
+    requires extent { IsRowOf layout.now words.old.items }
     ensures { length words.new.items ≡ length words.old.items }
 {
     if size == 0 || size > 16384 || offset > 16384 - size {
@@ -250,7 +250,7 @@ fn plain_lines(alloc: Global, offset: u32, size: u32) -> Result<Vec<bool>, Alloc
 }
 
 /// The first line of an empty heap of 4 blocks that is marked, or not, otherwise than the words of
-/// an object tell, after the object was marked. Line 1024 stands for the words beside the line
+/// an object say, after the object was marked. Line 1024 stands for the words beside the line
 /// words.
 fn wrong_line(
     alloc: Global,

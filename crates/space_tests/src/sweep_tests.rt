@@ -3,9 +3,9 @@
 //! 550, and the blocks from 806.
 
 ghost use Rattle.std.specs.Prelude.{◌≡◌, ◌<◌, IsTrue, length, IfOk};
-ghost use Rattle.heap_layout.specs.Zones.{row_words};
-ghost use Rattle.heap_layout.specs.Blocks.{IsValid};
-ghost use Rattle.object_model.specs.Objects.{state_over, HasKind};
+ghost use Rattle.heap_layout.specs.Zones.{row_words, IsRowOf};
+ghost use Rattle.heap_layout.specs.Blocks.{IsValidWord};
+ghost use Rattle.object_model.specs.Objects.{HasKind, shown};
 
 use block_sweeps::{free_block, mark_touched_lines, sweep_block, sweep_run, unlog_block};
 use heap_layout::{BlockWord, CLASS_UNIT, Kind, Layout};
@@ -100,7 +100,7 @@ fn unlogged_block(rt: HostRuntime) -> Result<(), Fail> {
 
 /// Whether the large run that begins in block 1 was freed. `None` if it may not be swept.
 fn run_swept(words: &mut Vec<u64>, layout: &Layout, base: u64) -> Option<bool>
-    requires extent { length words.old.items ≡ row_words layout.now.blocks }
+    requires extent { IsRowOf layout.now words.old.items }
 {
     if !is_of_kind(words, layout, 1, Kind::LargeHead) || !is_releasable(words, layout, 1) {
         return None;
@@ -146,9 +146,9 @@ fn runs(rt: HostRuntime) -> Result<(), Fail> {
 
 /// Whether a block has this kind.
 fn is_of_kind(words: &Vec<u64>, layout: &Layout, block: u32, kind: Kind) -> bool
-    requires extent { length words.now.items ≡ row_words layout.now.blocks }
+    requires extent { IsRowOf layout.now words.now.items }
     requires block { block < layout.now.blocks }
-    ensures { IsTrue result → HasKind (state_over words.now.items layout.now 0 0) block kind }
+    ensures { IsTrue result → HasKind (shown words.now.items layout.now) block kind }
 {
     words[layout.block_at(block) as usize] % CLASS_UNIT == kind as u64
 }
@@ -156,7 +156,7 @@ fn is_of_kind(words: &Vec<u64>, layout: &Layout, block: u32, kind: Kind) -> bool
 /// Marks the lines that objects in block 0 touch. False if it is no Immix block that may be
 /// released.
 fn touched_marked(words: &mut Vec<u64>, layout: &Layout) -> bool
-    requires extent { length words.old.items ≡ row_words layout.now.blocks }
+    requires extent { IsRowOf layout.now words.old.items }
 {
     if !is_of_kind(words, layout, 0, Kind::Immix) {
         return false;
@@ -212,8 +212,8 @@ fn touched_lines(rt: HostRuntime) -> Result<(), Fail> {
 
 /// How many objects of block 1 live after its sweep. `None` if it may not be swept.
 fn swept(words: &mut Vec<u64>, layout: &Layout, base: u64, living: &BlockWord) -> Option<u32>
-    requires extent { length words.old.items ≡ row_words layout.now.blocks }
-    requires word { IsValid living.now }
+    requires extent { IsRowOf layout.now words.old.items }
+    requires word { IsValidWord living.now }
 {
     if !is_releasable(words, layout, 1) {
         return None;

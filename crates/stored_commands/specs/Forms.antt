@@ -55,6 +55,6 @@ command_packed (Short form) = command_in [] form
 command_packed (Long command) = command
 
 -- a form that is packed needs no others
-abbrev pub IsPacked : Packed → Type 0
-IsPacked (Short form) = index_in form ≡ None
-IsPacked (Long command) = Unit {0}
+abbrev pub NeedsNoTables : Packed → Type 0
+NeedsNoTables (Short form) = index_in form ≡ None
+NeedsNoTables (Long command) = Unit {0}

@@ -32,13 +32,13 @@ pub struct PackedCommand {
 
 impl Model for PackedCommand {
     ghost use Rattle.ideal_heap.specs.declared.command.Command.{Command};
-    ghost use Rattle.stored_commands.specs.Forms.{command_packed, IsPacked};
+    ghost use Rattle.stored_commands.specs.Forms.{command_packed, NeedsNoTables};
 
     ghost Value = { Command };
 
     ghost view = { λ c. command_packed c.packed };
 
-    ghost invariant = { λ c. IsPacked c.packed };
+    ghost invariant = { λ c. NeedsNoTables c.packed };
 }
 
 impl PackedCommand {

@@ -9,15 +9,15 @@ use Rattle.ideal_heap.specs.declared.reply.Reply.{Reply}
 use Rattle.ideal_heap.specs.declared.reply.Reply.TheVariants as r
 use Rattle.stored_replies.specs.declared.reply_kind.ReplyKind.{ReplyKind}
 use Rattle.stored_replies.specs.declared.reply_kind.ReplyKind.TheVariants as k
-use Rattle.stored_replies.specs.Kinds.{kind_of, first_reply, names_in, numbers_in, unpacked, HasParts}
+use Rattle.stored_replies.specs.Kinds.{kind_of, first_reply, names_of_kind, numbers_in, unpacked, HasParts}
 
 -- as many replies as kinds
 pub length-unpacked : (kinds : List ReplyKind) (names : List Name) (numbers : List ℕ) → length (unpacked kinds names numbers) ≡ length kinds
 length-unpacked [] names numbers = refl
-length-unpacked (kind ∷ kinds) names numbers = ap suc (length-unpacked kinds (drop (names_in kind) names) (drop (numbers_in kind) numbers))
+length-unpacked (kind ∷ kinds) names numbers = ap suc (length-unpacked kinds (drop (names_of_kind kind) names) (drop (numbers_in kind) numbers))
 
 -- a reply has its own parts, whatever follows
-first-same : (kind : ReplyKind) (names more : List Name) (numbers others : List ℕ) → names_in kind ≤ length names → numbers_in kind ≤ length numbers
+first-same : (kind : ReplyKind) (names more : List Name) (numbers others : List ℕ) → names_of_kind kind ≤ length names → numbers_in kind ≤ length numbers
     → first_reply kind (names ++ more) (numbers ++ others) ≡ first_reply kind names numbers
 first-same k.New names more numbers others some few = ap r.New (get_or_append_left names more (name 0 0) 0 some)
 first-same k.Full names more numbers others some few = refl
@@ -32,14 +32,14 @@ first-same k.Range names more numbers others some few = refl
 
 -- the names and numbers that a first reply has are there, and those of the others are left
 rest-has : (kind : ReplyKind) (kinds : List ReplyKind) (names : List Name) (numbers : List ℕ) → HasParts (kind ∷ kinds) names numbers
-    → (names_in kind ≤ length names) × (numbers_in kind ≤ length numbers) × HasParts kinds (drop (names_in kind) names) (drop (numbers_in kind) numbers)
+    → (names_of_kind kind ≤ length names) × (numbers_in kind ≤ length numbers) × HasParts kinds (drop (names_of_kind kind) names) (drop (numbers_in kind) numbers)
 rest-has kind kinds names numbers has =
-    let n : names_in kind + sum_by names_in kinds ≡ length names = sym (sum_by-cons names_in kind kinds) ∙ has.name_count in
+    let n : names_of_kind kind + sum_by names_of_kind kinds ≡ length names = sym (sum_by-cons names_of_kind kind kinds) ∙ has.name_count in
     let m : numbers_in kind + sum_by numbers_in kinds ≡ length numbers = sym (sum_by-cons numbers_in kind kinds) ∙ has.number_count in (
       omega (arith, n),
       omega (arith, m),
       record {
-        name_count = (let left = length-drop (names_in kind) names in omega (arith, n, left));
+        name_count = (let left = length-drop (names_of_kind kind) names in omega (arith, n, left));
         number_count = (let left = length-drop (numbers_in kind) numbers in omega (arith, m, left));
       },
     )
@@ -52,8 +52,8 @@ unpacked-more [] (n ∷ names) more numbers others kind has = let wrong : 0 ≡ 
 unpacked-more [] [] more (x ∷ numbers) others kind has = let wrong : 0 ≡ length (x ∷ numbers) = has.number_count in absurd (omega (arith, wrong))
 unpacked-more (first ∷ kinds) names more numbers others kind has =
     let rest = rest-has first kinds names numbers has in
-    rw (first-same first names more numbers others rest.0 rest.1, drop-append-le (names_in first) names more rest.0, drop-append-le (numbers_in first) numbers others rest.1)
-    (ap (λ l. first_reply first names numbers ∷ l) (unpacked-more kinds (drop (names_in first) names) more (drop (numbers_in first) numbers) others kind rest.2))
+    rw (first-same first names more numbers others rest.0 rest.1, drop-append-le (names_of_kind first) names more rest.0, drop-append-le (numbers_in first) numbers others rest.1)
+    (ap (λ l. first_reply first names numbers ∷ l) (unpacked-more kinds (drop (names_of_kind first) names) more (drop (numbers_in first) numbers) others kind rest.2))
 
 -- one more reply with a name, with a number, or with neither
 pub name-pushed : (kinds : List ReplyKind) (names : List Name) (numbers : List ℕ) (reply : Reply) (n : Name)
@@ -105,7 +105,7 @@ sum-most f most (kind ∷ kinds) =
     let sum = sum_by-cons f kind kinds in
     omega (arith, one, rest, sum)
 
-name-most : (kind : ReplyKind) → names_in kind ≤ 1
+name-most : (kind : ReplyKind) → names_of_kind kind ≤ 1
 name-most k.New = omega arith
 name-most k.Full = omega arith
 name-most k.Ref = omega arith
@@ -134,6 +134,6 @@ pub parts-most : (kinds : List ReplyKind) (names : List Name) (numbers : List �
 parts-most kinds names numbers has =
     let n = has.name_count in
     let m = has.number_count in
-    let names_few = sum-most names_in name-most kinds in
+    let names_few = sum-most names_of_kind name-most kinds in
     let numbers_few = sum-most numbers_in number-most kinds in
     (omega (arith, n, names_few), omega (arith, m, numbers_few))

@@ -33,10 +33,10 @@ first_reply k.Null names numbers = r.Null
 first_reply k.Range names numbers = r.Range
 
 -- how many names a reply of a kind has
-abbrev pub names_in : ReplyKind → ℕ
-names_in k.New = 1
-names_in k.Ref = 1
-names_in _ = 0
+abbrev pub names_of_kind : ReplyKind → ℕ
+names_of_kind k.New = 1
+names_of_kind k.Ref = 1
+names_of_kind _ = 0
 
 -- how many numbers a reply of a kind has
 abbrev pub numbers_in : ReplyKind → ℕ
@@ -47,9 +47,9 @@ numbers_in _ = 0
 abbrev pub unpacked : List ReplyKind → List Name → List ℕ → List Reply
 unpacked [] names numbers = []
 unpacked (kind ∷ kinds) names numbers = first_reply kind names numbers
-    ∷ unpacked kinds (drop (names_in kind) names) (drop (numbers_in kind) numbers)
+    ∷ unpacked kinds (drop (names_of_kind kind) names) (drop (numbers_in kind) numbers)
 
 -- the names and numbers are as many as replies of these kinds have
 pub record HasParts (kinds : List ReplyKind) (names : List Name) (numbers : List ℕ) : Type 0 where
-  pub name_count : sum_by names_in kinds ≡ length names
+  pub name_count : sum_by names_of_kind kinds ≡ length names
   pub number_count : sum_by numbers_in kinds ≡ length numbers

@@ -4,44 +4,44 @@ use Rattle.std.proofs.lemmas.Bool.{cases_Bool, cond-true, cond-false, and_parts,
 use Rattle.object_model.specs.Objects.{word_at, ref_at, is_reference, is_unlogged}
 use Rattle.object_model.specs.Ages as ages
 use Rattle.object_model.proofs.Marks as marks
-use Rattle.trace_core.specs.Setups.{Setup, IsReady, held, refs, is_old, is_logged}
+use Rattle.trace_core.specs.Setups.{Setup, TraceMayBegin, held, refs, stays_old, was_logged}
 use Rattle.trace_core.specs.Machine.{Unclaimed, Scanning, target, first_machine, first_stage, copied_word, forward, IsSettled, address_or_nil}
 use Rattle.trace_core.proofs.Steps.{copied-plain, copied-collector}
 use Rattle.trace_core.proofs.Objects.{ScanningObject, ObjectIs, None-not-Some}
 use Rattle.trace_core.proofs.ObjectEvents.{Keeps}
 use Rattle.std.proofs.lemmas.Bool.{cases_eq}
 
-module _ (p : Setup) (ready : IsReady p) where
-  pub nursery-of : (x : ℕ) → IsTrue (is_old p x) → IsTrue p.nursery
+module _ (p : Setup) (ready : TraceMayBegin p) where
+  pub nursery-of : (x : ℕ) → IsTrue (stays_old p x) → IsTrue p.nursery
   nursery-of x aged = (and_parts p.nursery (held p x && ages.is_old p.before x) aged).0
 
-  pub held-of-old : (x : ℕ) → IsTrue (is_old p x) → IsTrue (held p x)
+  pub held-of-old : (x : ℕ) → IsTrue (stays_old p x) → IsTrue (held p x)
   held-of-old x aged = (and_parts (held p x) (ages.is_old p.before x) (and_parts p.nursery (held p x && ages.is_old p.before x) aged).1).0
 
-  pub age-of : (x : ℕ) → IsTrue (is_old p x) → IsTrue (ages.is_old p.before x)
+  pub age-of : (x : ℕ) → IsTrue (stays_old p x) → IsTrue (ages.is_old p.before x)
   age-of x aged = (and_parts (held p x) (ages.is_old p.before x) (and_parts p.nursery (held p x && ages.is_old p.before x) aged).1).1
 
-  pub first-old : (x : ℕ) → IsTrue (is_old p x) → first_stage p x ≡ Scanning x (if is_logged p x then 0 else refs p x)
-  first-old x aged = cond-true (is_old p x) (Scanning x (if is_logged p x then 0 else refs p x)) Unclaimed aged
+  pub first-old : (x : ℕ) → IsTrue (stays_old p x) → first_stage p x ≡ Scanning x (if was_logged p x then 0 else refs p x)
+  first-old x aged = cond-true (stays_old p x) (Scanning x (if was_logged p x then 0 else refs p x)) Unclaimed aged
 
-  pub first-young : (x : ℕ) → is_old p x ≡ false → first_stage p x ≡ Unclaimed
-  first-young x young = cond-false (is_old p x) (Scanning x (if is_logged p x then 0 else refs p x)) Unclaimed young
+  pub first-young : (x : ℕ) → stays_old p x ≡ false → first_stage p x ≡ Unclaimed
+  first-young x young = cond-false (stays_old p x) (Scanning x (if was_logged p x then 0 else refs p x)) Unclaimed young
 
   -- each reference of an old object that is not logged is to an old object
-  pub remembered : (x i : ℕ) → IsTrue (is_old p x) → is_logged p x ≡ false → i < refs p x → IsTrue (is_reference (ref_at p.before x i)) → IsTrue (is_old p (ref_at p.before x i))
+  pub remembered : (x i : ℕ) → IsTrue (stays_old p x) → was_logged p x ≡ false → i < refs p x → IsTrue (is_reference (ref_at p.before x i)) → IsTrue (stays_old p (ref_at p.before x i))
   remembered x i aged idle more reference =
       let unlogged : IsTrue (is_unlogged p.before x) = (elim (cases_Bool (is_unlogged p.before x)) as (λ _. IsTrue (is_unlogged p.before x)) [
         | inl set ↦ set
-        | inr clear ↦ absurd (true≢false (sym (and_from (is_old p x) (not (is_unlogged p.before x)) aged (not_from_false (is_unlogged p.before x) clear)) ∙ idle))
+        | inr clear ↦ absurd (true≢false (sym (and_from (stays_old p x) (not (is_unlogged p.before x)) aged (not_from_false (is_unlogged p.before x) clear)) ∙ idle))
       ]) in
       let met = ready.remembers (nursery-of x aged) x i (marks.held p.before x (held-of-old x aged)) (age-of x aged) unlogged more reference in
       and_from p.nursery (held p (ref_at p.before x i) && ages.is_old p.before (ref_at p.before x i)) (nursery-of x aged)
       (and_from (held p (ref_at p.before x i)) (ages.is_old p.before (ref_at p.before x i)) met.0.start met.1)
 
-  old-settled : (x i : ℕ) → IsTrue (is_old p x) → is_logged p x ≡ false → i < refs p x → IsSettled (first_stage p) (ref_at p.before x i)
+  old-settled : (x i : ℕ) → IsTrue (stays_old p x) → was_logged p x ≡ false → i < refs p x → IsSettled (first_stage p) (ref_at p.before x i)
   old-settled x i aged idle more reference = let v : ℕ = ref_at p.before x i in (v, ap target (first-old v (remembered x i aged idle more reference)))
 
-  old-forward : (x i : ℕ) → IsTrue (is_old p x) → is_logged p x ≡ false → i < refs p x → ref_at p.before x i ≡ forward (first_stage p) (ref_at p.before x i)
+  old-forward : (x i : ℕ) → IsTrue (stays_old p x) → was_logged p x ≡ false → i < refs p x → ref_at p.before x i ≡ forward (first_stage p) (ref_at p.before x i)
   old-forward x i aged idle more =
       let v : ℕ = ref_at p.before x i in
       elim (cases_Bool (is_reference v)) as (λ _. ref_at p.before x i ≡ forward (first_stage p) (ref_at p.before x i)) [
@@ -51,16 +51,16 @@ module _ (p : Setup) (ready : IsReady p) where
       ]
 
   -- an old object is in place, and its words are as they were
-  old-words : (x : ℕ) → IsTrue (is_old p x) → (o : ℕ) → word_at p.before (x + o) ≡ copied_word p x x o
+  old-words : (x : ℕ) → IsTrue (stays_old p x) → (o : ℕ) → word_at p.before (x + o) ≡ copied_word p x x o
   old-words x aged o = elim (cases_eq o 2) as (λ _. word_at p.before (x + o) ≡ copied_word p x x o) [
-    | inl e ↦ ap (λ z. word_at p.before (x + z)) e ∙ sym (cond-true (is_old p x) (word_at p.before (x + 2)) _ aged) ∙ sym (copied-collector p x x o e)
+    | inl e ↦ ap (λ z. word_at p.before (x + z)) e ∙ sym (cond-true (stays_old p x) (word_at p.before (x + 2)) _ aged) ∙ sym (copied-collector p x x o e)
     | inr ne ↦ sym (copied-plain p x x o ne)
   ]
 
-  first-scanning : (x k : ℕ) → IsTrue (is_old p x) → k ≤ refs p x → (0 < k → is_logged p x ≡ false)
+  first-scanning : (x k : ℕ) → IsTrue (stays_old p x) → k ≤ refs p x → (0 < k → was_logged p x ≡ false)
       → ScanningObject p (slice_index p.before.words) (first_stage p) (λ a. None) (λ b. 0) x x k
   first-scanning x k aged most idle = record {
-    collector = sym (cond-true (is_old p x) (word_at p.before (x + 2)) _ aged);
+    collector = sym (cond-true (stays_old p x) (word_at p.before (x + 2)) _ aged);
     placed = inl refl;
     old = λ same. refl;
     header = λ o l. refl;
@@ -72,12 +72,12 @@ module _ (p : Setup) (ready : IsReady p) where
   }
 
   first-object : (x : ℕ) → IsTrue (held p x) → ObjectIs p (slice_index p.before.words) (first_stage p) (λ a. None) (λ b. 0) x (first_stage p x)
-  first-object x here = elim (cases_Bool (is_old p x)) as (λ _. ObjectIs p (slice_index p.before.words) (first_stage p) (λ a. None) (λ b. 0) x (first_stage p x)) [
+  first-object x here = elim (cases_Bool (stays_old p x)) as (λ _. ObjectIs p (slice_index p.before.words) (first_stage p) (λ a. None) (λ b. 0) x (first_stage p x)) [
     | inl aged ↦ subst (ObjectIs p (slice_index p.before.words) (first_stage p) (λ a. None) (λ b. 0) x) (sym (first-old x aged))
-        (elim (cases_Bool (is_logged p x)) as (λ _. ScanningObject p (slice_index p.before.words) (first_stage p) (λ a. None) (λ b. 0) x x (if is_logged p x then 0 else refs p x)) [
-          | inl logged ↦ subst (ScanningObject p (slice_index p.before.words) (first_stage p) (λ a. None) (λ b. 0) x x) (sym (cond-true (is_logged p x) 0 (refs p x) logged))
+        (elim (cases_Bool (was_logged p x)) as (λ _. ScanningObject p (slice_index p.before.words) (first_stage p) (λ a. None) (λ b. 0) x x (if was_logged p x then 0 else refs p x)) [
+          | inl logged ↦ subst (ScanningObject p (slice_index p.before.words) (first_stage p) (λ a. None) (λ b. 0) x x) (sym (cond-true (was_logged p x) 0 (refs p x) logged))
               (first-scanning x 0 aged (omega arith) (λ some. absurd (omega arith)))
-          | inr idle ↦ subst (ScanningObject p (slice_index p.before.words) (first_stage p) (λ a. None) (λ b. 0) x x) (sym (cond-false (is_logged p x) 0 (refs p x) idle))
+          | inr idle ↦ subst (ScanningObject p (slice_index p.before.words) (first_stage p) (λ a. None) (λ b. 0) x x) (sym (cond-false (was_logged p x) 0 (refs p x) idle))
               (first-scanning x (refs p x) aged (omega arith) (λ some. idle))
         ])
     | inr young ↦ subst (ObjectIs p (slice_index p.before.words) (first_stage p) (λ a. None) (λ b. 0) x) (sym (first-young x young))
@@ -89,13 +89,13 @@ module _ (p : Setup) (ready : IsReady p) where
     long = ready.lawful.order.row.extent;
     objects = first-object;
     outside = λ x none. first-young x (and-held x none);
-    old = λ x aged. record { fields = if is_logged p x then 0 else refs p x; same = first-old x aged; idle = λ idle. cond-false (is_logged p x) 0 (refs p x) idle };
+    old = λ x aged. record { fields = if was_logged p x then 0 else refs p x; same = first-old x aged; not_logged = λ idle. cond-false (was_logged p x) 0 (refs p x) idle };
     owned = λ a x own. absurd (None-not-Some x own);
     free = λ b some. absurd (omega arith);
   }
     where
-      and-held : (x : ℕ) → held p x ≡ false → is_old p x ≡ false
-      and-held x none = elim (cases_Bool (is_old p x)) as (λ _. is_old p x ≡ false) [
+      and-held : (x : ℕ) → held p x ≡ false → stays_old p x ≡ false
+      and-held x none = elim (cases_Bool (stays_old p x)) as (λ _. stays_old p x ≡ false) [
         | inl aged ↦ absurd (true≢false (sym (held-of-old x aged) ∙ none))
         | inr young ↦ young
       ]

@@ -10,9 +10,9 @@ use Rattle.heap_layout.specs.Blocks.{kind_code, kind_of_code}
 use Rattle.heap_layout.proofs.BlockLemmas.{kind_of_code-kind_code, kind_code_most}
 use Rattle.object_model.specs.Objects.{word_at, block_word, HasKind, IsHeld, IsInExtent, IsInExtentOf, ref_at, is_reference, is_unlogged, is_pinned}
 use Rattle.object_model.proofs.Marks as marks
-use Rattle.trace_core.specs.Setups.{Setup, blocks, held, size, refs, is_old, is_logged, is_idle, may_move}
+use Rattle.trace_core.specs.Setups.{Setup, blocks, held, size, refs, stays_old, was_logged, keeps_its_words, may_be_moved}
 use Rattle.trace_core.specs.Machine.{Stage, Unclaimed, Copying, Scanning, target, Machine, Event, claimed_word, copied_word, step_of_offset, forward, IsSettled, taken_word, address_or_nil, first_stage, first_machine}
-use Rattle.trace_core.specs.Traces.{HasRoom, IsTrace, machine_after, heap_after, stage_of, target_of, fields_scanned, is_claim_of, is_scan_of}
+use Rattle.trace_core.specs.Traces.{HasCopyRoom, IsTracing, machine_after, heap_after, stage_of, target_of, fields_scanned, is_claim_of, is_scan_of}
 use Rattle.trace_core.proofs.Steps.{copied-plain}
 use Rattle.trace_core.proofs.Objects.{IsPlaced, CopyingObject, ScanningObject, ObjectIs, Some-injective, None-not-Some}
 use Rattle.trace_core.proofs.Places as places
@@ -22,7 +22,7 @@ use Rattle.object_model.proofs.Marks.{mark-same}
 use Rattle.trace_core.proofs.Sides.{StartsAt, UnlogsAt}
 use Rattle.trace_core.proofs.Law.{Sound, sound}
 
-module _ (p : Setup) (es : List Event) (trace : IsTrace p es) where
+module _ (p : Setup) (es : List Event) (trace : IsTracing p es) where
   abbrev m : Machine
   m = machine_after p es
 
@@ -83,7 +83,7 @@ module _ (p : Setup) (es : List Event) (trace : IsTrace p es) where
       let below : t + (i - t) < row_words (blocks p) = places.target-below p trace.ready m.words m.stage m.owner m.taken s.objects x t (i - t) (held-of x t is) (placed x t is) (omega arith) in
       record { from = omega arith; below = omega arith }
 
-  pub has-room : (x t : ℕ) → target_of p es x ≡ Some t → t ≢ x → HasRoom p m.taken x t
+  pub has-room : (x t : ℕ) → target_of p es x ≡ Some t → t ≢ x → HasCopyRoom p m.taken x t
   has-room x t is moved = places.room-of p trace.ready m.words m.stage m.owner m.taken s.objects x t (placed x t is) moved
 
   -- the words of an object at its old place
@@ -167,11 +167,11 @@ module _ (p : Setup) (es : List Event) (trace : IsTrace p es) where
   pub unlogs-kept : (a : ℕ) → IsTrue (is_unlogged p.before a) → IsTrue (is_unlogged (heap_after p es) a)
   unlogs-kept a was = s.sides.unlogs.kept a was
 
-  pub unlogs-done : (x t k : ℕ) → is_old p x ≡ false → stage_of p es x ≡ Scanning t k → IsTrue (is_unlogged (heap_after p es) t)
+  pub unlogs-done : (x t k : ℕ) → stays_old p x ≡ false → stage_of p es x ≡ Scanning t k → IsTrue (is_unlogged (heap_after p es) t)
   unlogs-done x t k young is = s.sides.unlogs.done t (x, subst (λ st. UnlogsAt p x st t) (sym is) (refl, young))
 
   abbrev Unlogged : ℕ → Type 0
-  Unlogged a = (x k : ℕ) × (is_old p x ≡ false) × ((stage_of p es x ≡ Scanning a k) ⊎ ((stage_of p es x ≡ Copying a k) × (size p x < k)))
+  Unlogged a = (x k : ℕ) × (stays_old p x ≡ false) × ((stage_of p es x ≡ Scanning a k) ⊎ ((stage_of p es x ≡ Copying a k) × (size p x < k)))
 
   unlog-stage : (x a : ℕ) (st : Stage) → m.stage x ≡ st → UnlogsAt p x st a → Unlogged a
   unlog-stage x a Unclaimed is now = absurd now
@@ -190,7 +190,7 @@ module _ (p : Setup) (es : List Event) (trace : IsTrace p es) where
       ap (λ w. nat_eq (bit_at w ((a - heap_of (blocks p)) % 64)) 1) (s.sides.rest.pins (first (blocks p) PinBits + (a - heap_of (blocks p)) / 64) (record { from = omega arith; below = omega arith })))
 
   -- blocks
-  pub none-is-free : (x : ℕ) → target_of p es x ≡ Some x → is_old p x ≡ false → IsTrue (may_move p x) → (b : ℕ) → HasKind (heap_after p es) b kinds.Free → ⊥
+  pub none-is-free : (x : ℕ) → target_of p es x ≡ Some x → stays_old p x ≡ false → IsTrue (may_be_moved p x) → (b : ℕ) → HasKind (heap_after p es) b kinds.Free → ⊥
   none-is-free x is young moves b free =
       let both = and_parts (nat_lt b (blocks p)) _ free in
       let there : b < blocks p = ltb-true b (blocks p) both.0 in
@@ -211,13 +211,13 @@ module _ (p : Setup) (es : List Event) (trace : IsTrace p es) where
       Some-kind e = ap (λ (o : Option Kind). (elim o as (λ _. Kind) [ None ↦ kinds.Free | Some k ↦ k ])) e
 
   -- old objects
-  pub old-target : (x : ℕ) → IsTrue (is_old p x) → target_of p es x ≡ Some x
+  pub old-target : (x : ℕ) → IsTrue (stays_old p x) → target_of p es x ≡ Some x
   old-target x aged = ap target (s.objects.old x aged).same
 
-  pub idle-stage : (x : ℕ) → IsTrue (is_old p x) → is_logged p x ≡ false → stage_of p es x ≡ Scanning x (refs p x)
-  idle-stage x aged idle = let d = s.objects.old x aged in d.same ∙ ap (Scanning x) (d.idle idle)
+  pub idle-stage : (x : ℕ) → IsTrue (stays_old p x) → was_logged p x ≡ false → stage_of p es x ≡ Scanning x (refs p x)
+  idle-stage x aged idle = let d = s.objects.old x aged in d.same ∙ ap (Scanning x) (d.not_logged idle)
 
-  pub idle-fields : (x i : ℕ) → IsTrue (is_old p x) → is_logged p x ≡ false → i < refs p x → ref_at (heap_after p es) x i ≡ ref_at p.before x i
+  pub idle-fields : (x i : ℕ) → IsTrue (stays_old p x) → was_logged p x ≡ false → i < refs p x → ref_at (heap_after p es) x i ≡ ref_at p.before x i
   idle-fields x i aged idle more =
       let v : ℕ = ref_at p.before x i in
       forwarded x x (refs p x) i (idle-stage x aged idle) more ∙ elim (cases_Bool (is_reference v)) as (λ _. forward (stage_of p es) (ref_at p.before x i) ≡ ref_at p.before x i) [
@@ -225,14 +225,14 @@ module _ (p : Setup) (es : List Event) (trace : IsTrace p es) where
         | inr plain ↦ cond-false (is_reference v) (address_or_nil (target (stage_of p es v))) v plain
       ]
 
-  logged-of : (x : ℕ) → IsTrue (is_idle p x) → IsTrue (is_old p x) × (is_logged p x ≡ false)
-  logged-of x idle = let both = and_parts (is_old p x) (is_unlogged p.before x) idle in
-      (both.0, and_right (is_old p x) (not (is_unlogged p.before x)) (not_from_true (is_unlogged p.before x) both.1))
+  logged-of : (x : ℕ) → IsTrue (keeps_its_words p x) → IsTrue (stays_old p x) × (was_logged p x ≡ false)
+  logged-of x idle = let both = and_parts (stays_old p x) (is_unlogged p.before x) idle in
+      (both.0, and_right (stays_old p x) (not (is_unlogged p.before x)) (not_from_true (is_unlogged p.before x) both.1))
 
-  pub idle-target : (x : ℕ) → IsTrue (is_idle p x) → stage_of p es x ≡ Scanning x (refs p x)
+  pub idle-target : (x : ℕ) → IsTrue (keeps_its_words p x) → stage_of p es x ≡ Scanning x (refs p x)
   idle-target x idle = let d = logged-of x idle in idle-stage x d.0 d.1
 
-  pub idle-refs : (x i : ℕ) → IsTrue (is_idle p x) → i < refs p x → ref_at (heap_after p es) x i ≡ ref_at p.before x i
+  pub idle-refs : (x i : ℕ) → IsTrue (keeps_its_words p x) → i < refs p x → ref_at (heap_after p es) x i ≡ ref_at p.before x i
   idle-refs x i idle = let d = logged-of x idle in idle-fields x i d.0 d.1
 
   -- block words and the first two words
@@ -246,24 +246,24 @@ module _ (p : Setup) (es : List Event) (trace : IsTrace p es) where
   stop-word i there = elim there as (λ _. word_at (heap_after p es) i ≡ word_at p.before i) [ inl a ↦ s.sides.rest.stop i a | inr a ↦ s.sides.rest.budget i a ]
 
   -- counts
-  pub claimed-once : (x : ℕ) → is_old p x ≡ false → count_by (is_claim_of x) es ≡ (if is_some (target_of p es x) then 1 else 0)
+  pub claimed-once : (x : ℕ) → stays_old p x ≡ false → count_by (is_claim_of x) es ≡ (if is_some (target_of p es x) then 1 else 0)
   claimed-once x young = let total : targets-in (m.stage x) ≡ targets-in (first_stage p x) + count_by (is_claim_of x) es = claims p x (first_machine p) es trace.events in
       let none : targets-in (first_stage p x) ≡ 0 = ap targets-in (first-young p trace.ready x young) in omega arith
 
-  pub old-unclaimed : (x : ℕ) → IsTrue (is_old p x) → count_by (is_claim_of x) es ≡ 0
+  pub old-unclaimed : (x : ℕ) → IsTrue (stays_old p x) → count_by (is_claim_of x) es ≡ 0
   old-unclaimed x aged = let total : targets-in (m.stage x) ≡ targets-in (first_stage p x) + count_by (is_claim_of x) es = claims p x (first_machine p) es trace.events in
       let one : targets-in (first_stage p x) ≡ 1 = ap targets-in (first-old p trace.ready x aged) in
       let now : targets-in (m.stage x) ≡ 1 = ap (λ o. one_if (is_some o)) (old-target x aged) in omega arith
 
-  pub scanned-once : (x : ℕ) → is_idle p x ≡ false → count_by (is_scan_of x) es ≡ fields_scanned (stage_of p es x)
+  pub scanned-once : (x : ℕ) → keeps_its_words p x ≡ false → count_by (is_scan_of x) es ≡ fields_scanned (stage_of p es x)
   scanned-once x busy = let total : fields_scanned (m.stage x) ≡ fields_scanned (first_stage p x) + count_by (is_scan_of x) es = scans p x (first_machine p) es trace.events in
-      let none : fields_scanned (first_stage p x) ≡ 0 = elim (cases_Bool (is_old p x)) as (λ _. fields_scanned (first_stage p x) ≡ 0) [
-        | inl aged ↦ ap fields_scanned (first-old p trace.ready x aged) ∙ cond-true (is_logged p x) 0 (refs p x)
-            (and_from (is_old p x) (not (is_unlogged p.before x)) aged (not_from_false (is_unlogged p.before x) (false_from_ne_true (is_unlogged p.before x) (λ set. true≢false (sym (and_from (is_old p x) (is_unlogged p.before x) aged set) ∙ busy)))))
+      let none : fields_scanned (first_stage p x) ≡ 0 = elim (cases_Bool (stays_old p x)) as (λ _. fields_scanned (first_stage p x) ≡ 0) [
+        | inl aged ↦ ap fields_scanned (first-old p trace.ready x aged) ∙ cond-true (was_logged p x) 0 (refs p x)
+            (and_from (stays_old p x) (not (is_unlogged p.before x)) aged (not_from_false (is_unlogged p.before x) (false_from_ne_true (is_unlogged p.before x) (λ set. true≢false (sym (and_from (stays_old p x) (is_unlogged p.before x) aged set) ∙ busy)))))
         | inr young ↦ ap fields_scanned (first-young p trace.ready x young)
       ] in omega arith
 
-  pub idle-unscanned : (x : ℕ) → IsTrue (is_idle p x) → count_by (is_scan_of x) es ≡ 0
+  pub idle-unscanned : (x : ℕ) → IsTrue (keeps_its_words p x) → count_by (is_scan_of x) es ≡ 0
   idle-unscanned x idle = let d = logged-of x idle in let total : fields_scanned (m.stage x) ≡ fields_scanned (first_stage p x) + count_by (is_scan_of x) es = scans p x (first_machine p) es trace.events in
-      let was : fields_scanned (first_stage p x) ≡ refs p x = ap fields_scanned (first-old p trace.ready x d.0) ∙ cond-false (is_logged p x) 0 (refs p x) d.1 in
+      let was : fields_scanned (first_stage p x) ≡ refs p x = ap fields_scanned (first-old p trace.ready x d.0) ∙ cond-false (was_logged p x) 0 (refs p x) d.1 in
       let now : fields_scanned (m.stage x) ≡ refs p x = ap fields_scanned (idle-target x idle) in omega arith

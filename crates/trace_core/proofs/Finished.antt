@@ -10,10 +10,10 @@ use Rattle.object_model.specs.Ages.{is_survivor, Lives}
 use Rattle.object_model.specs.Graphs.{IsReachable, from_root, from_global, from_field}
 use Rattle.object_model.specs.Preserving.{PreservesObjects, SameObject, field_after}
 use Rattle.object_model.proofs.Marks as marks
-use Rattle.trace_core.specs.Setups.{Setup, blocks, collection, held, size, refs, is_old, may_move}
+use Rattle.trace_core.specs.Setups.{Setup, blocks, collection, held, size, refs, stays_old, may_be_moved}
 use Rattle.trace_core.specs.Machine.{target, Event, claimed_word, copied_word, forward, IsSettled, address_or_nil}
-use Rattle.trace_core.specs.Traces.{IsTrace, IsFinished, Reaches, FromRoot, FromGlobal, FromOld, ByReference, machine_after, heap_after, stage_of, target_of}
-use Rattle.trace_core.specs.Outcomes.{base_after, image, HaveAsked, NoOthersAsked}
+use Rattle.trace_core.specs.Traces.{IsTracing, IsFinished, TraceKeeps, FromRoot, FromGlobal, FromOld, ByReference, machine_after, heap_after, stage_of, target_of}
+use Rattle.trace_core.specs.Outcomes.{base_after_trace, image, HaveAsked, NoOthersAsked}
 use Rattle.trace_core.proofs.Steps.{copied-plain, copied-collector}
 use Rattle.trace_core.proofs.Beginning.{held-of-old, age-of, nursery-of}
 use Rattle.trace_core.proofs.Objects.{Some-injective, None-not-Some}
@@ -33,7 +33,7 @@ some-by (Some t) some = refl
 pub parts-of : (n t w : ℕ) → t < 2 ^ 24 → w ≡ collector_word n t → (number_in w ≡ n) × (target_in w ≡ t)
 parts-of n t w small is = let e : w ≡ n * 16777216 + t = is in (omega arith, omega arith)
 
-module _ (p : Setup) (es : List Event) (trace : IsTrace p es) (finished : IsFinished p (machine_after p es)) where
+module _ (p : Setup) (es : List Event) (trace : IsTracing p es) (finished : IsFinished p (machine_after p es)) where
   abbrev after : HeapState
   after = heap_after p es
 
@@ -72,46 +72,46 @@ module _ (p : Setup) (es : List Event) (trace : IsTrace p es) (finished : IsFini
   small : (t : ℕ) → t < row_words (blocks p) → t < 2 ^ 24
   small t below = let most : p.before.blocks ≤ 1024 = trace.ready.lawful.order.row.most in omega arith
 
-  young-mark : (a t : ℕ) → is_old p a ≡ false → claimed_word p a t ≡ collector_word (collection p) t
-  young-mark a t young = cond-false (is_old p a) (word_at p.before (a + 2)) (collector_word (collection p) t) young
+  young-mark : (a t : ℕ) → stays_old p a ≡ false → claimed_word p a t ≡ collector_word (collection p) t
+  young-mark a t young = cond-false (stays_old p a) (word_at p.before (a + 2)) (collector_word (collection p) t) young
 
-  old-mark : (a t : ℕ) → IsTrue (is_old p a) → claimed_word p a t ≡ word_at p.before (a + 2)
-  old-mark a t aged = cond-true (is_old p a) (word_at p.before (a + 2)) (collector_word (collection p) t) aged
+  old-mark : (a t : ℕ) → IsTrue (stays_old p a) → claimed_word p a t ≡ word_at p.before (a + 2)
+  old-mark a t aged = cond-true (stays_old p a) (word_at p.before (a + 2)) (collector_word (collection p) t) aged
 
-  pub base-below : base_after p ≤ collection p
-  base-below = elim (cases_Bool p.nursery) as (λ _. base_after p ≤ collection p) [
+  pub base-below : base_after_trace p ≤ collection p
+  base-below = elim (cases_Bool p.nursery) as (λ _. base_after_trace p ≤ collection p) [
     | inl nursery ↦ subst (λ n. n ≤ collection p) (sym (cond-true p.nursery p.before.base (collection p) nursery)) (let less : p.before.base ≤ p.before.number = trace.ready.lawful.order.row.base in omega arith)
     | inr full ↦ subst (λ n. n ≤ collection p) (sym (cond-false p.nursery p.before.base (collection p) full)) (omega arith)
   ]
 
-  old-base : (a : ℕ) → IsTrue (is_old p a) → (base_after p ≤ number_at p.before a) × (0 < number_at p.before a)
+  old-base : (a : ℕ) → IsTrue (stays_old p a) → (base_after_trace p ≤ number_at p.before a) × (0 < number_at p.before a)
   old-base a aged =
       let both = and_parts (nat_lt 0 p.before.base) (nat_le p.before.base (number_at p.before a)) (age-of p trace.ready a aged) in
-      let base : base_after p ≡ p.before.base = cond-true p.nursery p.before.base (collection p) (nursery-of p trace.ready a aged) in
+      let base : base_after_trace p ≡ p.before.base = cond-true p.nursery p.before.base (collection p) (nursery-of p trace.ready a aged) in
       let some : 0 < p.before.base = trace.ready.base (nursery-of p trace.ready a aged) in
       let least : p.before.base ≤ number_at p.before a = leb-true p.before.base (number_at p.before a) both.1 in
       (omega arith, omega arith)
 
-  survivor-from : (x : ℕ) → base_after p ≤ number_at after x → target_at after x ≡ x → IsTrue (is_survivor after (base_after p) x)
-  survivor-from x least same = and_from (nat_le (base_after p) (number_at after x)) (nat_eq (target_at after x) x) (le-leb (base_after p) (number_at after x) least) (eq-eqb (target_at after x) x same)
+  survivor-from : (x : ℕ) → base_after_trace p ≤ number_at after x → target_at after x ≡ x → IsTrue (is_survivor after (base_after_trace p) x)
+  survivor-from x least same = and_from (nat_le (base_after_trace p) (number_at after x)) (nat_eq (target_at after x) x) (le-leb (base_after_trace p) (number_at after x) least) (eq-eqb (target_at after x) x same)
 
-  pub lives : (a t : ℕ) → target_of p es a ≡ Some t → Lives (base_after p) after t
+  pub lives : (a t : ℕ) → target_of p es a ≡ Some t → Lives (base_after_trace p) after t
   lives a t is = record {
     held = starts-done p es trace a t (refs p a) (finished.objects a t is);
-    survives = elim (cases_Bool (is_old p a)) as (λ _. IsTrue (is_survivor after (base_after p) t)) [
+    survives = elim (cases_Bool (stays_old p a)) as (λ _. IsTrue (is_survivor after (base_after_trace p) t)) [
       | inl aged ↦ (let same : t ≡ a = Some-injective t a (sym is ∙ old-target p es trace a aged) in
           let word : word_at after (t + 2) ≡ word_at p.before (a + 2) = mark-of a t is ∙ old-mark a t aged in
           let old = old-base a aged in
           let header = trace.ready.lawful.order.objects.headers a (marks.held p.before a (held-of-old p trace.ready a aged)) in
-          survivor-from t (subst (λ w. base_after p ≤ number_in w) (sym word) old.0) (ap target_in word ∙ header.target old.1 ∙ sym same))
+          survivor-from t (subst (λ w. base_after_trace p ≤ number_in w) (sym word) old.0) (ap target_in word ∙ header.target old.1 ∙ sym same))
       | inr young ↦ (let parts = parts-of (collection p) t (word_at after (t + 2)) (small t (target-from a t is).1) (mark-of a t is ∙ young-mark a t young) in
-          survivor-from t (subst (λ n. base_after p ≤ n) (sym parts.0) base-below) parts.1)
+          survivor-from t (subst (λ n. base_after_trace p ≤ n) (sym parts.0) base-below) parts.1)
     ];
   }
 
   -- its number is that of the collection, or of an earlier one if the object is old
   pub low-number : (a t : ℕ) → target_of p es a ≡ Some t → number_at after t ≤ collection p
-  low-number a t is = elim (cases_Bool (is_old p a)) as (λ _. number_at after t ≤ collection p) [
+  low-number a t is = elim (cases_Bool (stays_old p a)) as (λ _. number_at after t ≤ collection p) [
     | inl aged ↦ (let past : number_at p.before a ≤ p.before.number = (trace.ready.lawful.order.objects.headers a (marks.held p.before a (held-of-old p trace.ready a aged))).number in
         subst (λ w. number_in w ≤ collection p) (sym (mark-of a t is ∙ old-mark a t aged)) (omega arith))
     | inr young ↦ (let parts = parts-of (collection p) t (word_at after (t + 2)) (small t (target-from a t is).1) (mark-of a t is ∙ young-mark a t young) in
@@ -119,32 +119,32 @@ module _ (p : Setup) (es : List Event) (trace : IsTrace p es) (finished : IsFini
   ]
 
   -- an object that was not claimed does not survive
-  unclaimed-dies : (x : ℕ) → IsHeld p.before x → target_of p es x ≡ None → IsTrue (is_survivor after (base_after p) x) → ⊥
+  unclaimed-dies : (x : ℕ) → IsHeld p.before x → target_of p es x ≡ None → IsTrue (is_survivor after (base_after_trace p) x) → ⊥
   unclaimed-dies x there none survives =
-      let both = and_parts (nat_le (base_after p) (number_at after x)) (nat_eq (target_at after x) x) survives in
-      let least : base_after p ≤ number_at after x = leb-true (base_after p) (number_at after x) both.0 in
+      let both = and_parts (nat_le (base_after_trace p) (number_at after x)) (nat_eq (target_at after x) x) survives in
+      let least : base_after_trace p ≤ number_at after x = leb-true (base_after_trace p) (number_at after x) both.0 in
       let same : number_at after x ≡ number_at p.before x = ap number_in (unclaimed p es trace x there none) in
       let past : number_at p.before x ≤ p.before.number = (trace.ready.lawful.order.objects.headers x there).number in
       elim (cases_Bool p.nursery) as (λ _. ⊥) [
-        | inl nursery ↦ (let base : base_after p ≡ p.before.base = cond-true p.nursery p.before.base (collection p) nursery in
-            let young : is_old p x ≡ false = false_from_ne_true (is_old p x) (λ aged. None-not-Some x (sym none ∙ old-target p es trace x aged)) in
+        | inl nursery ↦ (let base : base_after_trace p ≡ p.before.base = cond-true p.nursery p.before.base (collection p) nursery in
+            let young : stays_old p x ≡ false = false_from_ne_true (stays_old p x) (λ aged. None-not-Some x (sym none ∙ old-target p es trace x aged)) in
             let some : 0 < p.before.base = trace.ready.base nursery in
             true≢false (sym (and_from p.nursery (held p x && ages.is_old p.before x) nursery (and_from (held p x) (ages.is_old p.before x) there.start
             (and_from (nat_lt 0 p.before.base) (nat_le p.before.base (number_at p.before x)) (lt-ltb 0 p.before.base some) (le-leb p.before.base (number_at p.before x) (omega arith))))) ∙ young))
-        | inr full ↦ (let base : base_after p ≡ collection p = cond-false p.nursery p.before.base (collection p) full in omega arith)
+        | inr full ↦ (let base : base_after_trace p ≡ collection p = cond-false p.nursery p.before.base (collection p) full in omega arith)
       ]
 
   -- what lives at the place of an object that was held is that object, in place
-  stays-there : (x t : ℕ) → target_of p es x ≡ Some t → IsTrue (is_survivor after (base_after p) x) → t ≡ x
+  stays-there : (x t : ℕ) → target_of p es x ≡ Some t → IsTrue (is_survivor after (base_after_trace p) x) → t ≡ x
   stays-there x t is survives =
-      let both = and_parts (nat_le (base_after p) (number_at after x)) (nat_eq (target_at after x) x) survives in
+      let both = and_parts (nat_le (base_after_trace p) (number_at after x)) (nat_eq (target_at after x) x) survives in
       let at : target_at after x ≡ x = eqb-true (target_at after x) x both.1 in
-      elim (cases_Bool (is_old p x)) as (λ _. t ≡ x) [
+      elim (cases_Bool (stays_old p x)) as (λ _. t ≡ x) [
         | inl aged ↦ Some-injective t x (sym is ∙ old-target p es trace x aged)
         | inr young ↦ (let parts = parts-of (collection p) t (word_at after (x + 2)) (small t (target-from x t is).1) (collector p es trace x t is ∙ young-mark x t young) in sym parts.1 ∙ at)
       ]
 
-  pub onto : (x : ℕ) → Lives (base_after p) after x → (a : ℕ) × (0 < F a) × (F a ≡ x)
+  pub onto : (x : ℕ) → Lives (base_after_trace p) after x → (a : ℕ) × (0 < F a) × (F a ≡ x)
   onto x live = elim (starts-from p es trace x live.held) as (λ _. (a : ℕ) × (0 < F a) × (F a ≡ x)) [
     | inl there ↦ elim (option-cases (target_of p es x)) as (λ _. (a : ℕ) × (0 < F a) × (F a ≡ x)) [
       | inl none ↦ absurd (unclaimed-dies x there none live.survives)
@@ -153,7 +153,7 @@ module _ (p : Setup) (es : List Event) (trace : IsTrace p es) (finished : IsFini
     | inr by ↦ (by.0, image-some by.0 x (ap target by.2), image-is by.0 x (ap target by.2))
   ]
 
-  not-pinned : (a : ℕ) → IsTrue (may_move p a) → is_pinned p.before a ≡ false
+  not-pinned : (a : ℕ) → IsTrue (may_be_moved p a) → is_pinned p.before a ≡ false
   not-pinned a moves = let left = and_parts (p.from (block_at (blocks p) a) && not (is_pinned p.before a)) _ moves in
       let middle = and_parts (p.from (block_at (blocks p) a)) (not (is_pinned p.before a)) left.0 in
       elim (cases_Bool (is_pinned p.before a)) as (λ _. is_pinned p.before a ≡ false) [
@@ -206,7 +206,7 @@ module _ (p : Setup) (es : List Event) (trace : IsTrace p es) (finished : IsFini
       ]
 
   -- what is reached has a target
-  kept : (a : ℕ) → Reaches p (machine_after p es).asked a → 0 < F a
+  kept : (a : ℕ) → TraceKeeps p (machine_after p es).asked a → 0 < F a
   kept _ (FromRoot a some) = let d = (sound p es trace).reasons.roots a some in image-some a d.0 d.1
   kept _ (FromGlobal g few reference) = settled-some (global_at p.before g) ((sound p es trace).sides.globals.settled g few (finished.globals g few)) reference
   kept _ (FromOld a aged) = image-some a a (old-target p es trace a aged)
@@ -214,19 +214,19 @@ module _ (p : Setup) (es : List Event) (trace : IsTrace p es) (finished : IsFini
       let t : ℕ = F y in let is : target_of p es y ≡ Some (F y) = has-target y (kept y from) in
       settled-some (ref_at p.before y i) (settled p es trace y (F y) (refs p y) i (finished.objects y (F y) is) few) reference
 
-  pub kept-exactly : (a : ℕ) → (0 < F a) ↔ Reaches p (machine_after p es).asked a
+  pub kept-exactly : (a : ℕ) → (0 < F a) ↔ TraceKeeps p (machine_after p es).asked a
   kept-exactly a = (λ some. (sound p es trace).reasons.reached a (F a) (has-target a some), kept a)
 
   reference-from : (v : ℕ) → 0 < v → IsTrue (is_reference v)
   reference-from v some = not_from_false (nat_eq v 0) (ne_eqb v 0 (λ e. omega arith))
 
   module _ (roots : List ℕ) (asked : HaveAsked roots (machine_after p es).asked) where
-    reached : (a : ℕ) → IsReachable p.before roots a → Reaches p (machine_after p es).asked a
-    reached a (from_root i is some) = subst (Reaches p (machine_after p es).asked) is (FromRoot (slice_index roots i) (asked i (subst (λ v. 0 < v) (sym is) some)))
-    reached a (from_global g few is some) = subst (Reaches p (machine_after p es).asked) is (FromGlobal g few (subst (λ v. IsTrue (is_reference v)) (sym is) (reference-from a some)))
-    reached a (from_field y i from few is reference) = subst (Reaches p (machine_after p es).asked) is (ByReference y i (reached y from) few (subst (λ v. IsTrue (is_reference v)) (sym is) reference))
+    reached : (a : ℕ) → IsReachable p.before roots a → TraceKeeps p (machine_after p es).asked a
+    reached a (from_root i is some) = subst (TraceKeeps p (machine_after p es).asked) is (FromRoot (slice_index roots i) (asked i (subst (λ v. 0 < v) (sym is) some)))
+    reached a (from_global g few is some) = subst (TraceKeeps p (machine_after p es).asked) is (FromGlobal g few (subst (λ v. IsTrue (is_reference v)) (sym is) (reference-from a some)))
+    reached a (from_field y i from few is reference) = subst (TraceKeeps p (machine_after p es).asked) is (ByReference y i (reached y from) few (subst (λ v. IsTrue (is_reference v)) (sym is) reference))
 
-    pub preserved : PreservesObjects (may_move p) p.before roots (Lives (base_after p) (heap_after p es)) (heap_after p es) (map (image (stage_of p es)) roots) (image (stage_of p es))
+    pub preserved : PreservesObjects (may_be_moved p) p.before roots (Lives (base_after_trace p) (heap_after p es)) (heap_after p es) (map (image (stage_of p es)) roots) (image (stage_of p es))
     preserved = record {
       nil = nil-stays;
       held = λ a some. marks.held p.before a (held-of p es trace a (F a) (has-target a some));
@@ -247,7 +247,7 @@ module _ (p : Setup) (es : List Event) (trace : IsTrace p es) (finished : IsFini
 
     -- in a full collection, what is kept is what roots and globals reach
     module _ (full : p.nursery ≡ false) (no-others : NoOthersAsked roots (machine_after p es).asked) where
-      reachable : (a : ℕ) → Reaches p (machine_after p es).asked a → IsReachable p.before roots a
+      reachable : (a : ℕ) → TraceKeeps p (machine_after p es).asked a → IsReachable p.before roots a
       reachable _ (FromRoot a some) = let d = no-others a some in from_root d.0 d.1 (let held : 0 < F a = kept a (FromRoot a some) in positive a held)
         where
           positive : (a : ℕ) → 0 < F a → 0 < a

@@ -4,9 +4,9 @@ use Rattle.std.specs.Prelude.{map, if◌then◌else◌}
 use Rattle.std.specs.List.{range_with_len}
 use Rattle.std.proofs.lemmas.Bool.{cases_Bool, cases_eq, cond-true, and_from, and_left, and_right, lt-ltb, le-ltb, not_from_false}
 use Rattle.object_model.specs.Objects.{is_unlogged}
-use Rattle.trace_core.specs.Setups.{Setup, IsReady, refs, is_old, is_idle, is_logged}
+use Rattle.trace_core.specs.Setups.{Setup, TraceMayBegin, refs, stays_old, keeps_its_words, was_logged}
 use Rattle.trace_core.specs.Machine.{Stage, Unclaimed, Scanning, target, first_machine, first_stage}
-use Rattle.trace_core.specs.Views.{Holds, one_if, hits, times, is_pair, is_copying, is_scanning, is_copied, first_view}
+use Rattle.trace_core.specs.Views.{Holds, one_if, hits, times, is_pair, is_copying, is_scanning, is_stage_copied, first_view}
 use Rattle.trace_core.specs.declared.run.TraceRun.{TraceRun}
 use Rattle.trace_core.proofs.Beginning.{first-old, first-young}
 use Rattle.trace_core.proofs.Counting.{hits-cons, hits-from, pair-parts, times-cons}
@@ -81,65 +81,65 @@ known-logged x t (y ∷ l) some =
       | inr more ↦ (let rest = known-logged x t l more in let there : 0 < times x l = rest.1 in (rest.0, omega arith))
     ]
 
-module _ (p : Setup) (ready : IsReady p) (run : TraceRun) (logged : (x : ℕ) → times x run.logged.items ≡ one_if (is_logged p x)) where
+module _ (p : Setup) (ready : TraceMayBegin p) (run : TraceRun) (logged : (x : ℕ) → times x run.logged.items ≡ one_if (was_logged p x)) where
   abbrev l : List ℕ
   l = run.logged.items
 
-  old-of : (x : ℕ) → IsTrue (is_logged p x) → IsTrue (is_old p x)
-  old-of x is = elim (cases_Bool (is_old p x)) as (λ _. IsTrue (is_old p x)) [
+  old-of : (x : ℕ) → IsTrue (was_logged p x) → IsTrue (stays_old p x)
+  old-of x is = elim (cases_Bool (stays_old p x)) as (λ _. IsTrue (stays_old p x)) [
     | inl aged ↦ aged
-    | inr young ↦ absurd (true≢false (sym is ∙ and_left (is_old p x) (not (is_unlogged p.before x)) young))
+    | inr young ↦ absurd (true≢false (sym is ∙ and_left (stays_old p x) (not (is_unlogged p.before x)) young))
   ]
 
   -- what is so of each young object, and of each old one, as the trace begins
-  by-age : (P : Stage → ℕ → Type 0) (x : ℕ) → (is_old p x ≡ false → times x l ≡ 0 → P Unclaimed 0)
-      → ((k : ℕ) → IsTrue (is_old p x) → P (Scanning x k) (times x l)) → P (first_stage p x) (times x l)
-  by-age P x young old = elim (cases_Bool (is_old p x)) as (λ _. P (first_stage p x) (times x l)) [
-    | inl aged ↦ subst (λ st. P st (times x l)) (sym (first-old p ready x aged)) (old (if is_logged p x then 0 else refs p x) aged)
-    | inr not-aged ↦ (let none : times x l ≡ 0 = logged x ∙ ap one_if (and_left (is_old p x) (not (is_unlogged p.before x)) not-aged) in
+  by-age : (P : Stage → ℕ → Type 0) (x : ℕ) → (stays_old p x ≡ false → times x l ≡ 0 → P Unclaimed 0)
+      → ((k : ℕ) → IsTrue (stays_old p x) → P (Scanning x k) (times x l)) → P (first_stage p x) (times x l)
+  by-age P x young old = elim (cases_Bool (stays_old p x)) as (λ _. P (first_stage p x) (times x l)) [
+    | inl aged ↦ subst (λ st. P st (times x l)) (sym (first-old p ready x aged)) (old (if was_logged p x then 0 else refs p x) aged)
+    | inr not-aged ↦ (let none : times x l ≡ 0 = logged x ∙ ap one_if (and_left (stays_old p x) (not (is_unlogged p.before x)) not-aged) in
         subst (λ st. P st (times x l)) (sym (first-young p ready x not-aged)) (subst (P Unclaimed) (sym none) (young not-aged none)))
   ]
 
   won : (x k : ℕ) → 0 ≡ one_if (is_copying k (first_stage p x))
   won x k = by-age (λ st n. 0 ≡ one_if (is_copying k st)) x (λ young none. refl) (λ j aged. refl)
 
-  copied : (x : ℕ) → 0 ≡ one_if (not (is_old p x) && is_copied (first_stage p x))
-  copied x = by-age (λ st n. 0 ≡ one_if (not (is_old p x) && is_copied st)) x
-      (λ young none. sym (ap one_if (and_right (not (is_old p x)) false refl)))
-      (λ j aged. sym (ap one_if (and_left (not (is_old p x)) true (ap not aged))))
+  copied : (x : ℕ) → 0 ≡ one_if (not (stays_old p x) && is_stage_copied (first_stage p x))
+  copied x = by-age (λ st n. 0 ≡ one_if (not (stays_old p x) && is_stage_copied st)) x
+      (λ young none. sym (ap one_if (and_right (not (stays_old p x)) false refl)))
+      (λ j aged. sym (ap one_if (and_left (not (stays_old p x)) true (ap not aged))))
 
   -- an old object that is not logged is idle
-  idle-old : (x : ℕ) → is_logged p x ≡ false → IsTrue (is_old p x) → IsTrue (is_unlogged p.before x)
+  idle-old : (x : ℕ) → was_logged p x ≡ false → IsTrue (stays_old p x) → IsTrue (is_unlogged p.before x)
   idle-old x other aged = elim (cases_Bool (is_unlogged p.before x)) as (λ _. IsTrue (is_unlogged p.before x)) [
     | inl unlogged ↦ unlogged
-    | inr clear ↦ absurd (true≢false (sym (and_from (is_old p x) (not (is_unlogged p.before x)) aged (not_from_false (is_unlogged p.before x) clear)) ∙ other))
+    | inr clear ↦ absurd (true≢false (sym (and_from (stays_old p x) (not (is_unlogged p.before x)) aged (not_from_false (is_unlogged p.before x) clear)) ∙ other))
   ]
 
-  grey-logged : (x k : ℕ) → IsTrue (is_logged p x) → hits x k (map (λ y. (y, 0)) l) ≡ one_if (not (is_idle p x) && is_scanning k (first_stage p x))
+  grey-logged : (x k : ℕ) → IsTrue (was_logged p x) → hits x k (map (λ y. (y, 0)) l) ≡ one_if (not (keeps_its_words p x) && is_scanning k (first_stage p x))
   grey-logged x k is =
       let aged = old-of x is in
-      let stage : first_stage p x ≡ Scanning x 0 = first-old p ready x aged ∙ ap (Scanning x) (cond-true (is_logged p x) 0 (refs p x) is) in
+      let stage : first_stage p x ≡ Scanning x 0 = first-old p ready x aged ∙ ap (Scanning x) (cond-true (was_logged p x) 0 (refs p x) is) in
       let clear : is_unlogged p.before x ≡ false = (elim (cases_Bool (is_unlogged p.before x)) as (λ _. is_unlogged p.before x ≡ false) [
-        | inl set ↦ absurd (true≢false (sym is ∙ and_right (is_old p x) (not (is_unlogged p.before x)) (ap not set)))
+        | inl set ↦ absurd (true≢false (sym is ∙ and_right (stays_old p x) (not (is_unlogged p.before x)) (ap not set)))
         | inr clear ↦ clear
       ]) in
-      let busy : IsTrue (not (is_idle p x)) = not_from_false (is_idle p x) (and_right (is_old p x) (is_unlogged p.before x) clear) in grey-from k
+      let busy : IsTrue (not (keeps_its_words p x)) = not_from_false (keeps_its_words p x) (and_right (stays_old p x) (is_unlogged p.before x) clear) in grey-from k
       (sym (ap (λ b. one_if (b && is_scanning k (first_stage p x))) busy ∙ ap (λ st. one_if (is_scanning k st)) stage))
     where
-      grey-from : (k : ℕ) → one_if (nat_eq 0 k) ≡ one_if (not (is_idle p x) && is_scanning k (first_stage p x))
-          → hits x k (map (λ y. (y, 0)) l) ≡ one_if (not (is_idle p x) && is_scanning k (first_stage p x))
-      grey-from zero same = hits-first x l ∙ logged x ∙ one-if-true (is_logged p x) is ∙ same
+      grey-from : (k : ℕ) → one_if (nat_eq 0 k) ≡ one_if (not (keeps_its_words p x) && is_scanning k (first_stage p x))
+          → hits x k (map (λ y. (y, 0)) l) ≡ one_if (not (keeps_its_words p x) && is_scanning k (first_stage p x))
+      grey-from zero same = hits-first x l ∙ logged x ∙ one-if-true (was_logged p x) is ∙ same
       grey-from (suc k) same = hits-later x (suc k) l (omega arith) ∙ sym (ap one_if (ne_eqb 0 (suc k) (λ e. omega arith))) ∙ same
 
-  no-grey : (x k : ℕ) → is_logged p x ≡ false → (not (is_idle p x) && is_scanning k (first_stage p x)) ≡ false
-  no-grey x k other = elim (cases_Bool (is_old p x)) as (λ _. (not (is_idle p x) && is_scanning k (first_stage p x)) ≡ false) [
-    | inl aged ↦ and_left (not (is_idle p x)) (is_scanning k (first_stage p x))
-        (ap not (and_from (is_old p x) (is_unlogged p.before x) aged (idle-old x other aged)))
-    | inr young ↦ and_right (not (is_idle p x)) (is_scanning k (first_stage p x)) (ap (is_scanning k) (first-young p ready x young))
+  no-grey : (x k : ℕ) → was_logged p x ≡ false → (not (keeps_its_words p x) && is_scanning k (first_stage p x)) ≡ false
+  no-grey x k other = elim (cases_Bool (stays_old p x)) as (λ _. (not (keeps_its_words p x) && is_scanning k (first_stage p x)) ≡ false) [
+    | inl aged ↦ and_left (not (keeps_its_words p x)) (is_scanning k (first_stage p x))
+        (ap not (and_from (stays_old p x) (is_unlogged p.before x) aged (idle-old x other aged)))
+    | inr young ↦ and_right (not (keeps_its_words p x)) (is_scanning k (first_stage p x)) (ap (is_scanning k) (first-young p ready x young))
   ]
 
-  grey : (x k : ℕ) → hits x k (map (λ y. (y, 0)) l) ≡ one_if (not (is_idle p x) && is_scanning k (first_stage p x))
-  grey x k = elim (cases_Bool (is_logged p x)) as (λ _. hits x k (map (λ y. (y, 0)) l) ≡ one_if (not (is_idle p x) && is_scanning k (first_stage p x))) [
+  grey : (x k : ℕ) → hits x k (map (λ y. (y, 0)) l) ≡ one_if (not (keeps_its_words p x) && is_scanning k (first_stage p x))
+  grey x k = elim (cases_Bool (was_logged p x)) as (λ _. hits x k (map (λ y. (y, 0)) l) ≡ one_if (not (keeps_its_words p x) && is_scanning k (first_stage p x))) [
     | inl is ↦ grey-logged x k is
     | inr other ↦ hits-none x k l (logged x ∙ ap one_if other) ∙ sym (ap one_if (no-grey x k other))
   ]
@@ -147,7 +147,7 @@ module _ (p : Setup) (ready : IsReady p) (run : TraceRun) (logged : (x : ℕ) �
   known : (x t : ℕ) → 0 < hits x t (map (λ y. (y, y)) l) → target (first_stage p x) ≡ Some t
   known x t some =
       let d = known-logged x t l some in
-      let is : IsTrue (is_logged p x) = one-if-from (is_logged p x) (subst (λ n. 0 < n) (logged x) d.1) in
+      let is : IsTrue (was_logged p x) = one-if-from (was_logged p x) (subst (λ n. 0 < n) (logged x) d.1) in
       ap target (first-old p ready x (old-of x is)) ∙ ap (λ z. Some z) d.0
 
   pub first-holds : Holds p (first_machine p) (first_view run)

@@ -11,7 +11,7 @@ mod SideLaw
 mod Reasons
 pub mod Law
 mod Once
-mod Staying
+mod TakenStay
 pub mod Clauses
 pub mod Finished
 pub mod Rows
@@ -19,7 +19,7 @@ pub mod Releasable
 pub mod Appending
 pub mod Counting
 pub mod Idle
-pub mod Leaving
+pub mod BlocksLeft
 pub mod CopyEvents
 pub mod WithoutLines
 pub mod FirstView

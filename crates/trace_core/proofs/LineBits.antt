@@ -7,9 +7,9 @@ use Rattle.std.proofs.lemmas.Nat.Bits.{bit_at_or, bit_at-lt}
 use Rattle.heap_layout.specs.Zones.{BlockWords, Globals, LineWords, StartBits, UnlogBits, HeapWords, first, row_words, heap_of, InZone, bit_of}
 use Rattle.object_model.specs.BitWords.{bit_word}
 use Rattle.object_model.specs.Lines.{TouchesLine}
-use Rattle.trace_core.specs.Setups.{Setup, IsReady, blocks, held, size, refs}
+use Rattle.trace_core.specs.Setups.{Setup, TraceMayBegin, blocks, held, size, refs}
 use Rattle.trace_core.specs.Machine.{Copying, Scanning, target, Machine, Event, Claim, Ask, Copy, Scan, SetGlobal, MarkLines, TakeBlock, copy_place, copy_value, offset_of_step, scan_place, next, first_machine, stored}
-use Rattle.trace_core.specs.Traces.{May, after, AreNext, IsTrace, heap_after, target_of}
+use Rattle.trace_core.specs.Traces.{May, after, AreNext, IsTracing, heap_after, target_of}
 use Rattle.trace_core.proofs.Steps.{step-inside}
 use Rattle.trace_core.proofs.Objects.{CopyingObject, ScanningObject, ObjectIs}
 use Rattle.trace_core.proofs.Places.{object-from, object-below, held-of, target-from, target-below}
@@ -17,7 +17,7 @@ use Rattle.trace_core.proofs.ObjectEvents.{Keeps}
 use Rattle.trace_core.proofs.Sides.{SameZone, other-zone}
 use Rattle.trace_core.proofs.Law.{Sound, sound, sound-event, first-sound}
 
-module _ (p : Setup) (ready : IsReady p) (m : Machine) (h : Keeps p m) where
+module _ (p : Setup) (ready : TraceMayBegin p) (m : Machine) (h : Keeps p m) where
   abbrev Stays : List ℕ → Type 0
   Stays words = (n : ℕ) → n < 256 * blocks p → IsTrue (bit_of (blocks p) LineWords m.words n) → IsTrue (bit_of (blocks p) LineWords words n)
 
@@ -114,7 +114,7 @@ module _ (p : Setup) (ready : IsReady p) (m : Machine) (h : Keeps p m) where
       let v : ℕ = stored p m (TakeBlock b w) (slice_index m.words i) in
       by-zone (slice_set m.words i v) (other-zone p m.words i v BlockWords LineWords there (omega arith))
 
-module _ (p : Setup) (ready : IsReady p) (n : ℕ) (l : n < 256 * blocks p) where
+module _ (p : Setup) (ready : TraceMayBegin p) (n : ℕ) (l : n < 256 * blocks p) where
   abbrev IsSet : Machine → Type 0
   IsSet m = IsTrue (bit_of (blocks p) LineWords m.words n)
 
@@ -126,11 +126,11 @@ module _ (p : Setup) (ready : IsReady p) (n : ℕ) (l : n < 256 * blocks p) wher
   later m [] ds sound are set = onward m ds sound are set
   later m (e ∷ es) ds sound are set = later (next p m e) es ds (sound-event p ready m sound e are.0) are.1 set
 
-pub line-stays : (p : Setup) (es ds : List Event) → IsTrace p (es ++ ds) → (n : ℕ) → n < 256 * blocks p
+pub line-stays : (p : Setup) (es ds : List Event) → IsTracing p (es ++ ds) → (n : ℕ) → n < 256 * blocks p
     → IsTrue (bit_of (blocks p) LineWords (heap_after p es).words n) → IsTrue (bit_of (blocks p) LineWords (heap_after p (es ++ ds)).words n)
 line-stays p es ds trace n l set = later p trace.ready n l (first_machine p) es ds (first-sound p trace.ready) trace.events set
 
 -- it was set, or a target touches the line
-pub line-from : (p : Setup) (es : List Event) → IsTrace p es → (n : ℕ) → n < 256 * blocks p → IsTrue (bit_of (blocks p) LineWords (heap_after p es).words n)
+pub line-from : (p : Setup) (es : List Event) → IsTracing p es → (n : ℕ) → n < 256 * blocks p → IsTrue (bit_of (blocks p) LineWords (heap_after p es).words n)
     → IsTrue (bit_of (blocks p) LineWords p.before.words n) ⊎ ((x t : ℕ) × (target_of p es x ≡ Some t) × TouchesLine (blocks p) t (size p x) n)
 line-from p es trace = (sound p es trace).sides.lines.from

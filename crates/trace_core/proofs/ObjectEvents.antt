@@ -5,9 +5,9 @@ use Rattle.forward_word.specs.CollectorWords.{collector_word}
 use Rattle.heap_layout.specs.Zones.{row_words, heap_of}
 use Rattle.heap_layout.specs.declared.block.Kind.TheVariants as kinds
 use Rattle.object_model.specs.Objects.{word_at, HasKind, ref_at}
-use Rattle.trace_core.specs.Setups.{Setup, IsReady, blocks, collection, held, size, refs, is_old}
+use Rattle.trace_core.specs.Setups.{Setup, TraceMayBegin, blocks, collection, held, size, refs, stays_old}
 use Rattle.trace_core.specs.Machine.{Stage, Unclaimed, Copying, Scanning, target, Machine, put, put_all, claimed_word, copied_word, step_of_offset, offset_of_step, forward, IsSettled}
-use Rattle.trace_core.specs.Traces.{HasRoom, Moves}
+use Rattle.trace_core.specs.Traces.{HasCopyRoom, MovesObject}
 use Rattle.trace_core.proofs.Puts.{put_here, all_here, all_else}
 use Rattle.trace_core.proofs.Steps.{step-inside, offset-inside, offset-of-step, offset-step, copied-plain, copied-collector}
 use Rattle.trace_core.proofs.Objects.{Intact, ObjectIs, OwnedWord, KeepsObjects, Some-injective, None-not-Some, Grows, settled_grows, forward_grows, grows_put, moved, beside}
@@ -20,7 +20,7 @@ fields-of _ = 0
 abbrev pub Keeps : Setup → Machine → Type 0
 Keeps p m = KeepsObjects p m.words m.stage m.owner m.taken
 
-module _ (p : Setup) (ready : IsReady p) (m : Machine) (h : Keeps p m) (x : ℕ) (here : IsTrue (held p x)) where
+module _ (p : Setup) (ready : TraceMayBegin p) (m : Machine) (h : Keeps p m) (x : ℕ) (here : IsTrue (held p x)) where
   abbrev Now : Stage → Type 0
   Now st = ObjectIs p (slice_index m.words) m.stage m.owner m.taken x st
 
@@ -38,14 +38,14 @@ module _ (p : Setup) (ready : IsReady p) (m : Machine) (h : Keeps p m) (x : ℕ)
     was : Now Unclaimed
     was = subst Now fresh (h.objects x here)
 
-    not-old : is_old p x ≡ false
-    not-old = false_from_ne_true (is_old p x) (λ aged. let d = h.old x aged in stage-not-old d.fields (m.stage x) d.same fresh)
+    not-old : stays_old p x ≡ false
+    not-old = false_from_ne_true (stays_old p x) (λ aged. let d = h.old x aged in stage-not-old d.fields (m.stage x) d.same fresh)
 
     no-target : (u : ℕ) → target (m.stage x) ≡ Some u → ⊥
     no-target u e = None-not-Some u (sym (ap target fresh) ∙ e)
 
     mark-is : claimed_word p x t ≡ mark
-    mark-is = cond-false (is_old p x) (word_at p.before (x + 2)) mark not-old
+    mark-is = cond-false (stays_old p x) (word_at p.before (x + 2)) mark not-old
 
     word-here : slice_index words (x + 2) ≡ claimed_word p x t
     word-here = get_or-set_same m.words (x + 2) mark 0
@@ -78,7 +78,7 @@ module _ (p : Setup) (ready : IsReady p) (m : Machine) (h : Keeps p m) (x : ℕ)
           ];
         })
 
-    pub claimed-to-move : Moves p m x t → (t ≢ x) × KeepsObjects p words (put m.stage x (Copying t 0)) (put_all m.owner t (size p x) (Some x)) m.taken
+    pub claimed-to-move : MovesObject p m x t → (t ≢ x) × KeepsObjects p words (put m.stage x (Copying t 0)) (put_all m.owner t (size p x) (Some x)) m.taken
     claimed-to-move may =
         let n : ℕ = size p x in
         let away : t ≢ x = λ e. room-clear p ready m.words m.stage m.owner m.taken h x t 0 x 0 may.room (omega arith) here (omega arith) (omega arith) in (
@@ -127,7 +127,7 @@ module _ (p : Setup) (ready : IsReady p) (m : Machine) (h : Keeps p m) (x : ℕ)
     keeps-target : (st : Stage) → target st ≡ Some t → (u : ℕ) → target (m.stage x) ≡ Some u → target st ≡ Some u
     keeps-target st is u e = is ∙ sym has-target ∙ e
 
-    never-old : IsTrue (is_old p x) → ⊥
+    never-old : IsTrue (stays_old p x) → ⊥
     never-old aged = true≢false (sym aged ∙ copying.young)
 
     pub copied-word : k < size p x → KeepsObjects p (slice_set m.words (t + offset_of_step (size p x) k) (copied_word p x t (offset_of_step (size p x) k)))
@@ -138,7 +138,7 @@ module _ (p : Setup) (ready : IsReady p) (m : Machine) (h : Keeps p m) (x : ℕ)
         let within : j < n = step-inside n (omega arith) k more in
         let v : ℕ = copied_word p x t j in
         let away : t ≢ x = λ e. (let full : k ≡ size p x = copying.in_place e in omega arith) in
-        let room : HasRoom p m.taken x t = room-of p ready m.words m.stage m.owner m.taken h x t copying.placed away in
+        let room : HasCopyRoom p m.taken x t = room-of p ready m.words m.stage m.owner m.taken h x t copying.placed away in
         let own : (o : ℕ) → o < n → x + o ≢ t + j = λ o l. room-clear p ready m.words m.stage m.owner m.taken h x t j x o room within here l in
         let other : (a : ℕ) → a ≢ t + j → slice_index (slice_set m.words (t + j) v) a ≡ slice_index m.words a = λ a ne. get_or-set_other m.words (t + j) a v 0 ne in
         let most : t + j < row_words (blocks p) = target-below p ready m.words m.stage m.owner m.taken h x t j here copying.placed within in
@@ -240,7 +240,7 @@ module _ (p : Setup) (ready : IsReady p) (m : Machine) (h : Keeps p m) (x : ℕ)
       (λ aged. record {
         fields = k + 1;
         same = put_here m.stage x (Scanning t (k + 1)) ∙ ap (λ z. Scanning z (k + 1)) (was.old aged);
-        idle = λ none. (let d = h.old x aged in let all : d.fields ≡ refs p x = d.idle none in let same : k ≡ d.fields = ap fields-of (sym now ∙ d.same) in absurd (omega arith));
+        not_logged = λ none. (let d = h.old x aged in let all : d.fields ≡ refs p x = d.not_logged none in let same : k ≡ d.fields = ap fields-of (sym now ∙ d.same) in absurd (omega arith));
       })
       (record {
         collector = other (x + 2) (apart 2 (omega arith)) ∙ was.collector;
@@ -272,7 +272,7 @@ module _ (p : Setup) (ready : IsReady p) (m : Machine) (h : Keeps p m) (x : ℕ)
       })
 
 -- an event that changes a word of the side metadata alone
-pub aside : (p : Setup) (ready : IsReady p) (m : Machine) → Keeps p m → (i v : ℕ) (taken' : ℕ → ℕ) → i < heap_of (blocks p)
+pub aside : (p : Setup) (ready : TraceMayBegin p) (m : Machine) → Keeps p m → (i v : ℕ) (taken' : ℕ → ℕ) → i < heap_of (blocks p)
     → ((b : ℕ) → 0 < m.taken b → 0 < taken' b) → ((b : ℕ) → 0 < taken' b → HasKind p.before b kinds.Free)
     → KeepsObjects p (slice_set m.words i v) m.stage m.owner taken'
 aside p ready m h i v taken' side more free = beside p m.words (slice_set m.words i v) m.stage m.owner m.taken taken' h (length-set m.words i v)

@@ -7,8 +7,8 @@ use Rattle.heap_layout.specs.Zones.{Globals, BlockWords, LineWords, StartBits, U
 use Rattle.heap_layout.specs.declared.block.Kind.TheVariants as kinds
 use Rattle.object_model.specs.Objects.{HasKind}
 use Rattle.object_model.specs.BitWords.{bit_word}
-use Rattle.trace_core.specs.Setups.{Setup, IsReady, blocks, collection, held, size}
-use Rattle.trace_core.specs.Machine.{Stage, Copying, Scanning, target, Machine, Event, Cause, Claim, Ask, Copy, Scan, SetGlobal, MarkLines, TakeBlock, put, put_all, copied_word, offset_of_step, copy_place, copy_value, copy_stage, scan_place, scan_value, scan_stage, next}
+use Rattle.trace_core.specs.Setups.{Setup, TraceMayBegin, blocks, collection, held, size}
+use Rattle.trace_core.specs.Machine.{Stage, Copying, Scanning, target, Machine, Event, ClaimCause, Claim, Ask, Copy, Scan, SetGlobal, MarkLines, TakeBlock, put, put_all, copied_word, offset_of_step, copy_place, copy_value, copy_stage, scan_place, scan_value, scan_stage, next}
 use Rattle.trace_core.specs.Traces.{May}
 use Rattle.trace_core.proofs.Puts.{put_here, put_else}
 use Rattle.trace_core.proofs.Objects.{CopyingObject, ObjectIs, KeepsObjects}
@@ -18,9 +18,9 @@ use Rattle.trace_core.proofs.ObjectEvents.{Keeps, claimed-in-place, claimed-to-m
 abbrev K : Setup → Machine → List ℕ → (ℕ → Stage) → Type 0
 K p m words stage = KeepsObjects p words stage m.owner m.taken
 
-module _ (p : Setup) (ready : IsReady p) (m : Machine) (h : Keeps p m) where
+module _ (p : Setup) (ready : TraceMayBegin p) (m : Machine) (h : Keeps p m) where
   -- an object in place, or in room that a worker took
-  after-claim : (x t : ℕ) (cause : Cause) → May p m (Claim x t cause) → Keeps p (next p m (Claim x t cause))
+  after-claim : (x t : ℕ) (cause : ClaimCause) → May p m (Claim x t cause) → Keeps p (next p m (Claim x t cause))
   after-claim x t cause may = elim may.3 as (λ _. Keeps p (next p m (Claim x t cause))) [
     | inl stays ↦ in-place (nat_eq t x) (eq-eqb t x stays.same) (claimed-in-place p ready m h x may.0 may.1 t stays.same)
     | inr moves ↦ let d = claimed-to-move p ready m h x may.0 may.1 t moves in away (nat_eq t x) (ne_eqb t x d.0) d.1

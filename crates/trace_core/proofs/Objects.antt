@@ -4,16 +4,16 @@ use Rattle.std.proofs.lemmas.Bool.{cases_eq}
 use Rattle.heap_layout.specs.Zones.{row_words, block_at}
 use Rattle.heap_layout.specs.declared.block.Kind.TheVariants as kinds
 use Rattle.object_model.specs.Objects.{word_at, HasKind, ref_at}
-use Rattle.trace_core.specs.Setups.{Setup, blocks, held, size, refs, is_old, is_logged}
+use Rattle.trace_core.specs.Setups.{Setup, blocks, held, size, refs, stays_old, was_logged}
 use Rattle.trace_core.specs.Machine.{Stage, Unclaimed, Copying, Scanning, target, put, claimed_word, copied_word, step_of_offset, forward, IsSettled, address_or_nil}
-use Rattle.trace_core.specs.Traces.{HasRoom}
+use Rattle.trace_core.specs.Traces.{HasCopyRoom}
 use Rattle.object_model.specs.Objects.{is_reference}
 use Rattle.trace_core.proofs.Puts.{put_here, put_else}
 
 module _ (p : Setup) (word : ℕ → ℕ) (stage : ℕ → Stage) (owner : ℕ → Option ℕ) (taken : ℕ → ℕ) (x : ℕ) where
   -- the target is x itself, or room that is x's alone
   abbrev pub IsPlaced : ℕ → Type 0
-  IsPlaced t = (t ≡ x) ⊎ (HasRoom p taken x t × ((o : ℕ) → o < size p x → owner (t + o) ≡ Some x))
+  IsPlaced t = (t ≡ x) ⊎ (HasCopyRoom p taken x t × ((o : ℕ) → o < size p x → owner (t + o) ≡ Some x))
 
   -- its words are as they were, but for the collector word
   abbrev pub Intact : Type 0
@@ -26,7 +26,7 @@ module _ (p : Setup) (word : ℕ → ℕ) (stage : ℕ → Stage) (owner : ℕ �
   pub record CopyingObject (t k : ℕ) : Type 0 where
     pub collector : word (x + 2) ≡ claimed_word p x t
     pub placed : IsPlaced t
-    pub young : is_old p x ≡ false
+    pub young : stays_old p x ≡ false
     pub steps : k ≤ size p x + 1
     pub in_place : t ≡ x → k ≡ size p x
     pub intact : Intact
@@ -35,7 +35,7 @@ module _ (p : Setup) (word : ℕ → ℕ) (stage : ℕ → Stage) (owner : ℕ �
   pub record ScanningObject (t k : ℕ) : Type 0 where
     pub collector : word (x + 2) ≡ claimed_word p x t
     pub placed : IsPlaced t
-    pub old : IsTrue (is_old p x) → t ≡ x
+    pub old : IsTrue (stays_old p x) → t ≡ x
     pub header : (o : ℕ) → o < 2 → word (x + o) ≡ word_at p.before (x + o)
     pub source : (t ≡ x) ⊎ Intact
     pub fields : k ≤ refs p x
@@ -52,7 +52,7 @@ module _ (p : Setup) (word : ℕ → ℕ) (stage : ℕ → Stage) (owner : ℕ �
 pub record OldObject (p : Setup) (stage : ℕ → Stage) (x : ℕ) : Type 0 where
   pub fields : ℕ
   pub same : stage x ≡ Scanning x fields
-  pub idle : is_logged p x ≡ false → fields ≡ refs p x
+  pub not_logged : was_logged p x ≡ false → fields ≡ refs p x
 
 -- word a is in the target of the moved object x
 pub record OwnedWord (p : Setup) (stage : ℕ → Stage) (x a : ℕ) : Type 0 where
@@ -66,7 +66,7 @@ pub record KeepsObjects (p : Setup) (words : List ℕ) (stage : ℕ → Stage) (
   pub long : length words ≡ row_words (blocks p)
   pub objects : (x : ℕ) → IsTrue (held p x) → ObjectIs p (slice_index words) stage owner taken x (stage x)
   pub outside : (x : ℕ) → held p x ≡ false → stage x ≡ Unclaimed
-  pub old : (x : ℕ) → IsTrue (is_old p x) → OldObject p stage x
+  pub old : (x : ℕ) → IsTrue (stays_old p x) → OldObject p stage x
   pub owned : (a x : ℕ) → owner a ≡ Some x → OwnedWord p stage x a
   pub free : (b : ℕ) → 0 < taken b → HasKind p.before b kinds.Free
 
@@ -165,7 +165,7 @@ module _ (p : Setup) (words : List ℕ) (stage : ℕ → Stage) (owner : ℕ →
       → ((y a : ℕ) → y ≢ x → owner a ≡ Some y → a ≢ i)
       → ((y a : ℕ) → y ≢ x → owner a ≡ Some y → owner' a ≡ Some y)
       → ((y a : ℕ) → owner' a ≡ Some y → (owner a ≡ Some y) ⊎ ((y ≡ x) × OwnedWord p stage' x a))
-      → (IsTrue (is_old p x) → OldObject p stage' x)
+      → (IsTrue (stays_old p x) → OldObject p stage' x)
       → ObjectIs p (slice_index words') stage' owner' taken x new
       → KeepsObjects p words' stage' owner' taken
   moved inside keep apart unowned owns explained ages mine =
@@ -183,8 +183,8 @@ module _ (p : Setup) (words : List ℕ) (stage : ℕ → Stage) (owner : ℕ →
         ];
         outside = λ y none. put_else stage x new y (λ e. true≢false (sym (sym none ∙ ap (held p) e ∙ inside))) ∙ h.outside y none;
         old = λ y aged. elim (cases_eq y x) as (λ _. OldObject p stage' y) [
-          | inl e ↦ subst (λ (z : ℕ). OldObject p stage' z) (sym e) (ages (subst (λ (z : ℕ). IsTrue (is_old p z)) e aged))
-          | inr ne ↦ let d = h.old y aged in record { fields = d.fields; same = put_else stage x new y ne ∙ d.same; idle = d.idle }
+          | inl e ↦ subst (λ (z : ℕ). OldObject p stage' z) (sym e) (ages (subst (λ (z : ℕ). IsTrue (stays_old p z)) e aged))
+          | inr ne ↦ let d = h.old y aged in record { fields = d.fields; same = put_else stage x new y ne ∙ d.same; not_logged = d.not_logged }
         ];
         owned = λ a y own. elim (explained y a own) as (λ _. OwnedWord p stage' y a) [
           | inl before ↦ let d = h.owned a y before in record { at = d.at; same = grows y d.at d.same; moved = d.moved; from = d.from; below = d.below }

@@ -6,12 +6,12 @@ use Rattle.heap_layout.specs.declared.block.Kind.TheVariants as kinds
 use Rattle.object_model.specs.Objects.{HasKind, IsHeld}
 use Rattle.object_model.proofs.Marks as marks
 use Rattle.object_model.proofs.ObjectReads.{in_row}
-use Rattle.trace_core.specs.Setups.{Setup, IsReady, blocks, held, size}
+use Rattle.trace_core.specs.Setups.{Setup, TraceMayBegin, blocks, held, size}
 use Rattle.trace_core.specs.Machine.{Stage, Unclaimed, Copying, Scanning, target}
-use Rattle.trace_core.specs.Traces.{HasRoom}
+use Rattle.trace_core.specs.Traces.{HasCopyRoom}
 use Rattle.trace_core.proofs.Objects.{IsPlaced, ObjectIs, KeepsObjects, Some-injective, None-not-Some}
 
-module _ (p : Setup) (ready : IsReady p) where
+module _ (p : Setup) (ready : TraceMayBegin p) where
   held-at : (x : ℕ) → IsTrue (held p x) → IsHeld p.before x
   held-at x inside = marks.held p.before x inside
 
@@ -35,7 +35,7 @@ module _ (p : Setup) (ready : IsReady p) where
       (ready.lawful.free (block_at (blocks p) t) free).empty y (y + j) (held-at y there) (record { from = omega arith; below = omega arith })
       (ap (block_at (blocks p)) e ∙ same)
 
-module _ (p : Setup) (ready : IsReady p) (words : List ℕ) (stage : ℕ → Stage) (owner : ℕ → Option ℕ) (taken : ℕ → ℕ) (h : KeepsObjects p words stage owner taken) where
+module _ (p : Setup) (ready : TraceMayBegin p) (words : List ℕ) (stage : ℕ → Stage) (owner : ℕ → Option ℕ) (taken : ℕ → ℕ) (h : KeepsObjects p words stage owner taken) where
   abbrev Placed : ℕ → ℕ → Type 0
   Placed x t = IsPlaced p (slice_index words) stage owner taken x t
 
@@ -51,11 +51,11 @@ module _ (p : Setup) (ready : IsReady p) (words : List ℕ) (stage : ℕ → Sta
   pub placed : (x t : ℕ) → target (stage x) ≡ Some t → Placed x t
   placed x t e = placed-at x t (stage x) (h.objects x (held-of x t e)) e
 
-  pub room-of : (x t : ℕ) → Placed x t → t ≢ x → HasRoom p taken x t
-  room-of x t at moved = elim at as (λ _. HasRoom p taken x t) [ inl e ↦ absurd (moved e) | inr room ↦ room.0 ]
+  pub room-of : (x t : ℕ) → Placed x t → t ≢ x → HasCopyRoom p taken x t
+  room-of x t at moved = elim at as (λ _. HasCopyRoom p taken x t) [ inl e ↦ absurd (moved e) | inr room ↦ room.0 ]
 
   -- no word of the room of a moved object is a word of a held object
-  pub room-clear : (x t o y j : ℕ) → HasRoom p taken x t → o < size p x → IsTrue (held p y) → j < size p y → y + j ≢ t + o
+  pub room-clear : (x t o y j : ℕ) → HasCopyRoom p taken x t → o < size p x → IsTrue (held p y) → j < size p y → y + j ≢ t + o
   room-clear x t o y j room l there m = room-apart p ready t (size p x) (h.free (block_at (blocks p) t) room.block) room.address room.within o y j l there m
 
   -- no owned word is a word of a held object

@@ -4,7 +4,7 @@ use Rattle.std.proofs.lemmas.Bool.{cases_eq, and_parts, or_cases, or_left, leb-t
 use Rattle.heap_layout.specs.Zones.{block_at, block_start}
 use Rattle.heap_layout.specs.declared.block.Kind.{Kind}
 use Rattle.heap_layout.specs.declared.block.Kind.TheVariants as kinds
-use Rattle.heap_layout.specs.Blocks.{kind_code, IsValid, is_block_code}
+use Rattle.heap_layout.specs.Blocks.{kind_code, IsValidWord, is_block_code}
 use Rattle.heap_layout.proofs.BlockLemmas.{is_block_code-code_of, kind_code_most}
 use Rattle.ideal_heap.specs.Names.{IsName}
 use Rattle.object_model.specs.Objects.{HeapState, block_word, HasKind, IsHeld, size_at, is_pinned, is_unlogged}
@@ -13,7 +13,7 @@ use Rattle.object_model.specs.Releasing.{IsReleasable}
 use Rattle.object_model.specs.Preserving.{SameObject}
 use Rattle.trace_core.specs.Setups.{Setup, blocks, size, is_copy_kind}
 use Rattle.trace_core.specs.Machine.{Event, taken_word}
-use Rattle.trace_core.specs.Traces.{IsTrace, IsFinished, HasRoom, machine_after, heap_after, target_of}
+use Rattle.trace_core.specs.Traces.{IsTracing, IsFinished, HasCopyRoom, machine_after, heap_after, target_of}
 use Rattle.trace_core.proofs.Law.{sound}
 use Rattle.trace_core.proofs.Clauses.{has-room, held-of}
 use Rattle.trace_core.proofs.Finished.{same-object}
@@ -24,7 +24,7 @@ use Rattle.trace_core.proofs.Clauses.{untaken-word, taken-block-word, starts-kep
 use Rattle.object_model.proofs.Marks as marks
 
 -- the word of a taken block is a code, of a kind that holds small objects
-taken-valid : (kind : Kind) (w : ℕ) → w ≤ 16 → (kind ≡ kinds.Free → ⊥) → IsTrue (is_copy_kind kind) → IsValid (record { kind = kind; class = 0; owner = 16 + w })
+taken-valid : (kind : Kind) (w : ℕ) → w ≤ 16 → (kind ≡ kinds.Free → ⊥) → IsTrue (is_copy_kind kind) → IsValidWord (record { kind = kind; class = 0; owner = 16 + w })
 taken-valid kinds.Free w few some copies = absurd (some refl)
 taken-valid kinds.Bump w few some copies = le-leb (16 + w) 32 (omega arith)
 taken-valid kinds.Young w few some copies = le-leb (16 + w) 32 (omega arith)
@@ -57,7 +57,7 @@ copy-low kinds.LargeHead copies = absurd (true≢false (sym copies))
 copy-low kinds.LargeTail copies = absurd (true≢false (sym copies))
 copy-low kinds.Kept copies = absurd (true≢false (sym copies))
 
-module _ (p : Setup) (es : List Event) (trace : IsTrace p es) (finished : IsFinished p (machine_after p es)) where
+module _ (p : Setup) (es : List Event) (trace : IsTracing p es) (finished : IsFinished p (machine_after p es)) where
   abbrev after : HeapState
   after = heap_after p es
 
@@ -84,7 +84,7 @@ module _ (p : Setup) (es : List Event) (trace : IsTrace p es) (finished : IsFini
   old-lies : (x : ℕ) → IsHeld p.before x → Lies after x (size_at after x)
   old-lies x there = subst (Lies after x) (sym (same-size p es trace finished x there)) (lies-kept p.before (machine_after p es).words kept-word x (size p x) (trace.ready.lawful.order.objects.lies x there))
 
-  new-lies : (a t : ℕ) → HasRoom p taken a t → Lies after t (size p a)
+  new-lies : (a t : ℕ) → HasCopyRoom p taken a t → Lies after t (size p a)
   new-lies a t room =
       let k : ℕ = block_at (blocks p) t in
       let kind : HasKind after (block_at (blocks p) t) p.copy = taken-kind k room.block in

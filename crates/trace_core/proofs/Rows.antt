@@ -12,16 +12,16 @@ use Rattle.object_model.specs.Lawful.{FreeBlockIsClear}
 use Rattle.object_model.specs.Ages.{Lives}
 use Rattle.object_model.proofs.Marks as marks
 use Rattle.object_model.specs.Lines.{TouchesLine}
-use Rattle.trace_core.specs.Setups.{collection, Setup, blocks, size, refs, is_old}
+use Rattle.trace_core.specs.Setups.{collection, Setup, blocks, size, refs, stays_old}
 use Rattle.trace_core.specs.Machine.{target, Event, taken_word}
-use Rattle.trace_core.specs.Traces.{IsTrace, IsFinished, HasRoom, machine_after, heap_after, stage_of, target_of}
-use Rattle.trace_core.specs.Outcomes.{base_after, image, FinishedRow}
+use Rattle.trace_core.specs.Traces.{IsTracing, IsFinished, HasCopyRoom, machine_after, heap_after, stage_of, target_of}
+use Rattle.trace_core.specs.Outcomes.{base_after_trace, image, FinishedRow}
 use Rattle.trace_core.proofs.Objects.{Some-injective}
 use Rattle.trace_core.proofs.Law.{sound}
 use Rattle.trace_core.proofs.Clauses.{held-of, targets-apart, extents-apart, has-room, waits, starts-from, starts-kept, starts-done, unlogs-from, unlogs-kept, unlogs-done, pins, none-is-free, old-target, untaken-word, taken-block-word}
 use Rattle.trace_core.proofs.Finished.{low-number, has-target, image-is, image-some, lives, onto, same-shape}
 
-module _ (p : Setup) (es : List Event) (trace : IsTrace p es) (finished : IsFinished p (machine_after p es)) where
+module _ (p : Setup) (es : List Event) (trace : IsTracing p es) (finished : IsFinished p (machine_after p es)) where
   abbrev after : HeapState
   after = heap_after p es
 
@@ -79,7 +79,7 @@ module _ (p : Setup) (es : List Event) (trace : IsTrace p es) (finished : IsFini
   ]
 
   -- a word that an object was copied to belongs to what lives there
-  pub owner-lives : (i a : ℕ) → (machine_after p es).owner i ≡ Some a → (x : ℕ) × Lives (base_after p) after x × IsInExtent after x i
+  pub owner-lives : (i a : ℕ) → (machine_after p es).owner i ≡ Some a → (x : ℕ) × Lives (base_after_trace p) after x × IsInExtent after x i
   owner-lives i a own = let d = (sound p es trace).objects.owned i a own in
       (d.at, lives p es trace finished a d.at d.same, record { from = d.from; below = subst (λ n. i < d.at + n) (sym (target-size a d.at d.same)) d.below })
 
@@ -185,11 +185,11 @@ module _ (p : Setup) (es : List Event) (trace : IsTrace p es) (finished : IsFini
         | inr new ↦ subst (IsHeld after) new.2 (starts-done p es trace new.0 (F new.0) (refs p new.0) (finished.objects new.0 (F new.0) (has-target p es trace finished new.0 new.1)))
       ]),
     );
-    lives = λ x. (onto p es trace finished x, λ new. subst (Lives (base_after p) after) new.2 (lives p es trace finished new.0 (F new.0) (has-target p es trace finished new.0 new.1)));
+    lives = λ x. (onto p es trace finished x, λ new. subst (Lives (base_after_trace p) after) new.2 (lives p es trace finished new.0 (F new.0) (has-target p es trace finished new.0 new.1)));
     names = name;
     shapes = λ x there. (ap (λ w. w % 65536) (shape x there), ap (λ w. w / 65536) (shape x there));
     apart = apart;
-    places = λ a some. elim (cases_eq (F a) a) as (λ _. (F a ≡ a) ⊎ HasRoom p taken a (F a)) [
+    places = λ a some. elim (cases_eq (F a) a) as (λ _. (F a ≡ a) ⊎ HasCopyRoom p taken a (F a)) [
       | inl same ↦ inl same
       | inr away ↦ inr (has-room p es trace a (F a) (has-target p es trace finished a some) away)
     ];
@@ -201,10 +201,10 @@ module _ (p : Setup) (es : List Event) (trace : IsTrace p es) (finished : IsFini
     pins = pins p es trace;
     unlogs = unlog-held;
     unlogged = λ a some idle. (let is : target_of p es a ≡ Some (F a) = has-target p es trace finished a some in
-        elim (cases_Bool (is_old p a)) as (λ _. IsTrue (is_unlogged after (F a))) [
+        elim (cases_Bool (stays_old p a)) as (λ _. IsTrue (is_unlogged after (F a))) [
           | inl aged ↦ (let same : F a ≡ a = Some-injective (F a) a (sym is ∙ old-target p es trace a aged) in
               subst (λ z. IsTrue (is_unlogged after z)) (sym same) (unlogs-kept p es trace a (true_from_ne_false (is_unlogged p.before a) (λ none.
-              true≢false (sym (and_from (is_old p a) (not (is_unlogged p.before a)) aged (not_from_false (is_unlogged p.before a) none)) ∙ idle)))))
+              true≢false (sym (and_from (stays_old p a) (not (is_unlogged p.before a)) aged (not_from_false (is_unlogged p.before a) none)) ∙ idle)))))
           | inr young ↦ unlogs-done p es trace a (F a) (refs p a) young (finished.objects a (F a) is)
         ]);
     moved = λ a b same some young moves free. none-is-free p es trace a (has-target p es trace finished a (subst (λ z. 0 < z) (sym same) some) ∙ ap Some same) young moves b free;

@@ -2,18 +2,18 @@
 use Rattle.std.proofs.Common.{◌≡◌, ◌≢◌, ℕ, ◌+◌, ◌<◌, inl, inr, Bool, true, false, ◌&&◌, not, IsTrue, nat_eq, nat_lt, ◌∷◌, refl, sym, ap, ◌∙◌, subst, arith, Some}
 use Rattle.std.proofs.lemmas.Bool.{cases_eq, and_parts, and_left, and_right, eqb-true, eq-eqb, ne_eqb, ltb-true, not-true, not_from_false}
 use Rattle.heap_layout.specs.declared.layout.TheConstants.{GLOBALS}
-use Rattle.trace_core.specs.Setups.{Setup, is_old, is_idle}
+use Rattle.trace_core.specs.Setups.{Setup, stays_old, keeps_its_words}
 use Rattle.trace_core.specs.Machine.{Stage, Unclaimed, Copying, Scanning, target, Machine, Scan, SetGlobal, next, put, scan_stage}
-use Rattle.trace_core.specs.Views.{View, Holds, one_if, without, is_pair, hits, times, is_copying, is_scanning, is_copied, scanned_view, set_view}
+use Rattle.trace_core.specs.Views.{View, Holds, one_if, without, is_pair, hits, times, is_copying, is_scanning, is_stage_copied, scanned_view, set_view}
 use Rattle.trace_core.proofs.Puts.{put_here, put_else}
 use Rattle.trace_core.proofs.Counting.{hits-cons, hits-without, times-cons, times-without}
 use Rattle.trace_core.proofs.Idle.{one-if-from, one-if-true}
 use Rattle.trace_core.proofs.Objects.{Some-injective, None-not-Some}
 
 -- an object with a right to scan is not idle
-pub busy : (p : Setup) (m : Machine) (v : View) → Holds p m v → (x k : ℕ) → 0 < hits x k v.grey → is_idle p x ≡ false
-busy p m v holds x k some = let right : IsTrue (not (is_idle p x) && is_scanning k (m.stage x)) = one-if-from _ (subst (λ n. 0 < n) (holds.grey x k) some) in
-    not-true (is_idle p x) (and_parts (not (is_idle p x)) (is_scanning k (m.stage x)) right).0
+pub busy : (p : Setup) (m : Machine) (v : View) → Holds p m v → (x k : ℕ) → 0 < hits x k v.grey → keeps_its_words p x ≡ false
+busy p m v holds x k some = let right : IsTrue (not (keeps_its_words p x) && is_scanning k (m.stage x)) = one-if-from _ (subst (λ n. 0 < n) (holds.grey x k) some) in
+    not-true (keeps_its_words p x) (and_parts (not (keeps_its_words p x)) (is_scanning k (m.stage x)) right).0
 
 scanning-by : (st : Stage) (t k : ℕ) → IsTrue (is_scanning k st) → target st ≡ Some t → st ≡ Scanning t k
 scanning-by Unclaimed t k is at = absurd (None-not-Some t at)
@@ -22,8 +22,8 @@ scanning-by (Scanning u n) t k is at = ap (λ z. Scanning z n) (Some-injective u
 
 pub scanning-at : (p : Setup) (m : Machine) (v : View) → Holds p m v → (x t k : ℕ) → 0 < hits x k v.grey → 0 < hits x t v.known → m.stage x ≡ Scanning t k
 scanning-at p m v holds x t k some known =
-    let right : IsTrue (not (is_idle p x) && is_scanning k (m.stage x)) = one-if-from _ (subst (λ n. 0 < n) (holds.grey x k) some) in
-    scanning-by (m.stage x) t k (and_parts (not (is_idle p x)) (is_scanning k (m.stage x)) right).1 (holds.known x t known)
+    let right : IsTrue (not (keeps_its_words p x) && is_scanning k (m.stage x)) = one-if-from _ (subst (λ n. 0 < n) (holds.grey x k) some) in
+    scanning-by (m.stage x) t k (and_parts (not (keeps_its_words p x)) (is_scanning k (m.stage x)) right).1 (holds.known x t known)
 
 pub unset-at : (p : Setup) (m : Machine) (v : View) → Holds p m v → (g : ℕ) → 0 < times g v.unset → (g < 16) × (m.set g ≡ false)
 unset-at p m v holds g some =
@@ -53,31 +53,31 @@ module _ (p : Setup) (m : Machine) (v : View) (holds : Holds p m v) (x t k : ℕ
   pair-else n y j ne = and_left (nat_eq x y) (nat_eq n j) (ne_eqb x y (λ e. ne (sym e)))
 
   abbrev right : ℕ → ℕ → Stage → ℕ
-  right j y st = one_if (not (is_idle p y) && is_scanning j st)
+  right j y st = one_if (not (keeps_its_words p y) && is_scanning j st)
 
   right-here : (n j : ℕ) → right j x (Scanning t n) ≡ one_if (nat_eq n j)
-  right-here n j = ap (λ b. one_if (b && nat_eq n j)) (not_from_false (is_idle p x) (busy p m v holds x k some))
+  right-here n j = ap (λ b. one_if (b && nat_eq n j)) (not_from_false (keeps_its_words p x) (busy p m v holds x k some))
 
   grey-after : (y j : ℕ) → hits y j (scanned_view x k v).grey ≡ right j y (stage' y)
   grey-after y j =
       let more : hits y j ((x, k + 1) ∷ without (is_pair x k) v.grey) ≡ one_if (is_pair y j (x, k + 1)) + hits y j (without (is_pair x k) v.grey) =
       hits-cons x (k + 1) (without (is_pair x k) v.grey) y j in
       let less : hits y j v.grey ≡ hits y j (without (is_pair x k) v.grey) + one_if (is_pair y j (x, k)) = hits-without x k v.grey some y j in
-      let was : hits y j v.grey ≡ one_if (not (is_idle p y) && is_scanning j (m.stage y)) = holds.grey y j in
+      let was : hits y j v.grey ≡ one_if (not (keeps_its_words p y) && is_scanning j (m.stage y)) = holds.grey y j in
       elim (cases_eq y x) as (λ _. hits y j (scanned_view x k v).grey ≡ right j y (stage' y)) [
         | inl e ↦ (
             let a : one_if (is_pair y j (x, k + 1)) ≡ one_if (nat_eq (k + 1) j) =
             ap (λ z. one_if (is_pair z j (x, k + 1))) e ∙ ap one_if (pair-here (k + 1) j) in
             let b : one_if (is_pair y j (x, k)) ≡ one_if (nat_eq k j) = ap (λ z. one_if (is_pair z j (x, k))) e ∙ ap one_if (pair-here k j) in
-            let c : one_if (not (is_idle p y) && is_scanning j (m.stage y)) ≡ one_if (nat_eq k j) =
+            let c : one_if (not (keeps_its_words p y) && is_scanning j (m.stage y)) ≡ one_if (nat_eq k j) =
             ap (λ (z : ℕ). right j z (m.stage z)) e ∙ ap (right j x) now ∙ right-here k j in
-            let d : one_if (not (is_idle p y) && is_scanning j (stage' y)) ≡ one_if (nat_eq (k + 1) j) =
+            let d : one_if (not (keeps_its_words p y) && is_scanning j (stage' y)) ≡ one_if (nat_eq (k + 1) j) =
             ap (λ (z : ℕ). right j z (stage' z)) e ∙ ap (right j x) here ∙ right-here (k + 1) j in
             omega arith)
         | inr ne ↦ (
             let a : one_if (is_pair y j (x, k + 1)) ≡ 0 = ap one_if (pair-else (k + 1) y j ne) in
             let b : one_if (is_pair y j (x, k)) ≡ 0 = ap one_if (pair-else k y j ne) in
-            let d : one_if (not (is_idle p y) && is_scanning j (stage' y)) ≡ one_if (not (is_idle p y) && is_scanning j (m.stage y)) =
+            let d : one_if (not (keeps_its_words p y) && is_scanning j (stage' y)) ≡ one_if (not (keeps_its_words p y) && is_scanning j (m.stage y)) =
             ap (right j y) (put_else m.stage x (scan_stage (m.stage x)) y ne) in
             omega arith)
       ]
@@ -86,7 +86,7 @@ module _ (p : Setup) (m : Machine) (v : View) (holds : Holds p m v) (x t k : ℕ
   holds-scanned = record {
     won = λ y j. holds.won y j ∙ stays (λ z st. one_if (is_copying j st)) refl y;
     grey = grey-after;
-    copied = λ y. holds.copied y ∙ stays (λ z st. one_if (not (is_old p z) && is_copied st)) refl y;
+    copied = λ y. holds.copied y ∙ stays (λ z st. one_if (not (stays_old p z) && is_stage_copied st)) refl y;
     unset = holds.unset;
     set = holds.set;
     asked = holds.asked;

@@ -5,8 +5,8 @@ use Rattle.forward_word.specs.CollectorWords.{collector_word}
 use Rattle.heap_layout.specs.Zones.{Zone, StopWord, BudgetWord, Globals, BlockWords, LineWords, StartBits, PinBits, UnlogBits, HeapWords, extent, row_words, heap_of, InZone, IsAddress, address_bit}
 use Rattle.side_meta.specs.BitWords.{with_bit}
 use Rattle.object_model.specs.BitWords.{bit_word, bit_place}
-use Rattle.trace_core.specs.Setups.{Setup, IsReady, blocks, collection, held, size, refs}
-use Rattle.trace_core.specs.Machine.{Stage, Unclaimed, Copying, Scanning, target, Machine, Cause, Claim, put, offset_of_step, next}
+use Rattle.trace_core.specs.Setups.{Setup, TraceMayBegin, blocks, collection, held, size, refs}
+use Rattle.trace_core.specs.Machine.{Stage, Unclaimed, Copying, Scanning, target, Machine, ClaimCause, Claim, put, offset_of_step, next}
 use Rattle.trace_core.specs.Traces.{May}
 use Rattle.trace_core.proofs.Puts.{put_here, put_else}
 use Rattle.trace_core.proofs.Steps.{step-inside}
@@ -18,7 +18,7 @@ use Rattle.trace_core.proofs.Sides.{SameZone, other-zone, StartsAt, UnlogsAt, So
 abbrev pub Sides : Setup → Machine → Type 0
 Sides p m = KeepsSides p m.words m.stage m.taken m.set
 
-module _ (p : Setup) (ready : IsReady p) (m : Machine) (h : Keeps p m) (s : Sides p m) where
+module _ (p : Setup) (ready : TraceMayBegin p) (m : Machine) (h : Keeps p m) (s : Sides p m) where
   -- a step of the object at x that stores in the heap, and sets no bit
   heap-event : (i v x : ℕ) (new : Stage) → heap_of (blocks p) ≤ i → i < row_words (blocks p)
       → ((t : ℕ) → target (m.stage x) ≡ Some t → target new ≡ Some t)
@@ -48,7 +48,7 @@ module _ (p : Setup) (ready : IsReady p) (m : Machine) (h : Keeps p m) (s : Side
   from-stage : {B : Type 0} → (f : Stage → B → Type 0) (x : ℕ) (st : Stage) → m.stage x ≡ st → (a : B) → f st a → f (m.stage x) a
   from-stage f x st is a now = subst (λ z. f z a) (sym is) now
 
-  pub claim-side : (x t : ℕ) (cause : Cause) → May p m (Claim x t cause) → Sides p (next p m (Claim x t cause))
+  pub claim-side : (x t : ℕ) (cause : ClaimCause) → May p m (Claim x t cause) → Sides p (next p m (Claim x t cause))
   claim-side x t cause may =
       let k : ℕ = if nat_eq t x then size p x else 0 in
       let few : k ≤ size p x = (elim (cases_Bool (nat_eq t x)) as (λ _. (if nat_eq t x then size p x else 0) ≤ size p x) [

@@ -9,7 +9,7 @@ use Rattle.object_model.specs.Objects.{global_at, block_word, ref_at}
 use Rattle.side_meta.specs.BitWords.{with_bit}
 use Rattle.object_model.specs.BitWords.{bit_word, bit_place}
 use Rattle.object_model.specs.Lines.{TouchesLine}
-use Rattle.trace_core.specs.Setups.{Setup, IsReady, blocks, held, size}
+use Rattle.trace_core.specs.Setups.{Setup, TraceMayBegin, blocks, held, size}
 use Rattle.trace_core.specs.Machine.{Stage, Copying, Scanning, target, Machine, Event, Claim, Ask, Copy, Scan, SetGlobal, MarkLines, TakeBlock, put, copied_word, offset_of_step, copy_place, copy_value, copy_stage, scan_place, scan_value, scan_stage, forward, IsSettled, taken_word, next}
 use Rattle.trace_core.specs.Traces.{May}
 use Rattle.trace_core.proofs.Puts.{put_here, put_else}
@@ -20,7 +20,7 @@ use Rattle.trace_core.proofs.SideEvents.{Sides, claim-side, scan-side, copy-word
 abbrev S : Setup → Machine → List ℕ → (ℕ → Stage) → Type 0
 S p m words stage = KeepsSides p words stage m.taken m.set
 
-module _ (p : Setup) (ready : IsReady p) (m : Machine) (h : Keeps p m) (s : Sides p m) where
+module _ (p : Setup) (ready : TraceMayBegin p) (m : Machine) (h : Keeps p m) (s : Sides p m) where
   copied-side : (x t k : ℕ) → m.stage x ≡ Copying t k → S p m
       (slice_set m.words (copy_place p x (Copying t k)) (copy_value p x (Copying t k) (slice_index m.words (copy_place p x (Copying t k)))))
       (put m.stage x (copy_stage p x (Copying t k)))

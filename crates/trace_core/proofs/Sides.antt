@@ -11,7 +11,7 @@ use Rattle.object_model.specs.BitWords.{bit_word, bit_place}
 use Rattle.object_model.proofs.Marks.{mark-same}
 use Rattle.side_meta.proofs.BitWords.{with-same, with-other}
 use Rattle.object_model.proofs.BitWords.{own-mark, other-mark}
-use Rattle.trace_core.specs.Setups.{Setup, blocks, size, is_old}
+use Rattle.trace_core.specs.Setups.{Setup, blocks, size, stays_old}
 use Rattle.trace_core.specs.Machine.{Stage, Unclaimed, Copying, Scanning, target, put, forward, IsSettled, taken_word}
 use Rattle.object_model.specs.Lines.{TouchesLine}
 use Rattle.trace_core.proofs.Puts.{put_here, put_else}
@@ -46,7 +46,7 @@ StartsAt p x (Scanning t k) a = t ≡ a
 abbrev pub UnlogsAt : Setup → ℕ → Stage → ℕ → Type 0
 UnlogsAt p x Unclaimed a = ⊥
 UnlogsAt p x (Copying t k) a = (t ≡ a) × (size p x < k)
-UnlogsAt p x (Scanning t k) a = (t ≡ a) × (is_old p x ≡ false)
+UnlogsAt p x (Scanning t k) a = (t ≡ a) × (stays_old p x ≡ false)
 
 abbrev pub Somewhere : (ℕ → Stage → ℕ → Type 0) → (ℕ → Stage) → ℕ → Type 0
 Somewhere at stage a = (x : ℕ) × at x (stage x) a

@@ -17,13 +17,13 @@ use Rattle.object_model.proofs.BuiltWords.{built-fits}
 use Rattle.std.specs.Prelude.{filter}
 use Rattle.heap_layout.specs.Zones.{heap_of}
 use Rattle.object_model.specs.Lines.{TouchesLine}
-use Rattle.trace_core.specs.Setups.{Setup, IsReady, refs}
+use Rattle.trace_core.specs.Setups.{Setup, TraceMayBegin, refs}
 use Rattle.trace_core.specs.Machine.{Stage, Unclaimed, Copying, Scanning, target, Event, first_machine, put}
 use Rattle.trace_core.specs.Outcomes.{HaveAsked, NoOthersAsked}
 use Rattle.trace_core.proofs.Objects.{Some-injective, None-not-Some}
 use Rattle.trace_core.proofs.Clauses.{held-of}
-use Rattle.trace_core.specs.Traces.{AreNext, IsTrace, IsFinished, machine_after, stage_of}
-use Rattle.trace_core.specs.WorkedTraces.{cycle_parts, cycle_setup, cycle_events, nursery_parts, nursery_setup, nursery_events, shared_parts, shared_setup, shared_events, full_parts, full_setup, full_events}
+use Rattle.trace_core.specs.Traces.{AreNext, IsTracing, IsFinished, machine_after, stage_of}
+use Rattle.trace_core.specs.WorkedTraces.{cycle_parts, cycle_setup, cycle_events, nursery_parts, nursery_setup, nursery_events, shared_parts, shared_setup, worked_share_events, full_parts, full_setup, full_events}
 
 pub cycle-lawful : IsLawful cycle_setup.before
 cycle-lawful = tests.lawful cycle_setup.before (806 ∷ 810 ∷ []) (record { held = refl; starts = refl; least = refl; most = refl; extent = refl; words = built-fits cycle_parts (lit< tt) refl refl; base = refl; named = refl; refs = refl; nums = refl; number = refl; target = refl; marks = refl; within = refl; kind = refl; cell = refl; run = refl; apart = refl; heads = refl; tails = refl; references = refl; globals = refl; names = refl; codes = refl; owners = refl; free_words = refl; free_lines = refl; free_marks = refl; lines = refl })
@@ -34,7 +34,7 @@ nursery-lawful = tests.lawful nursery_setup.before (806 ∷ 810 ∷ 814 ∷ []) 
 bump-not-free : kinds.Bump ≡ kinds.Free → ⊥
 bump-not-free e = true≢false (sym (ap (λ k. nat_eq (kind_code k) 0) e))
 
-pub cycle-ready : IsReady cycle_setup
+pub cycle-ready : TraceMayBegin cycle_setup
 cycle-ready = record {
   lawful = cycle-lawful.but_lines;
   number = lit< tt;
@@ -188,7 +188,7 @@ nursery-remembers a i held aged unlogged more reference =
 mature-not-free : kinds.Mature ≡ kinds.Free → ⊥
 mature-not-free e = true≢false (sym (ap (λ k. nat_eq (kind_code k) 0) e))
 
-pub nursery-ready : IsReady nursery_setup
+pub nursery-ready : TraceMayBegin nursery_setup
 nursery-ready = record {
   lawful = nursery-lawful.but_lines;
   number = lit< tt;
@@ -280,7 +280,7 @@ nursery-events = (
 shared-lawful : IsLawful shared_setup.before
 shared-lawful = tests.lawful shared_setup.before (806 ∷ 810 ∷ 814 ∷ []) (record { held = refl; starts = refl; least = refl; most = refl; extent = refl; words = built-fits shared_parts (lit< tt) refl refl; base = refl; named = refl; refs = refl; nums = refl; number = refl; target = refl; marks = refl; within = refl; kind = refl; cell = refl; run = refl; apart = refl; heads = refl; tails = refl; references = refl; globals = refl; names = refl; codes = refl; owners = refl; free_words = refl; free_lines = refl; free_marks = refl; lines = refl })
 
-pub shared-ready : IsReady shared_setup
+pub shared-ready : TraceMayBegin shared_setup
 shared-ready = record {
   lawful = shared-lawful.but_lines;
   number = lit< tt;
@@ -294,7 +294,7 @@ shared-ready = record {
   fixed = λ none. absurd (bump-not-free none);
 }
 
-pub shared-events : AreNext shared_setup (first_machine shared_setup) shared_events
+pub shared-events : AreNext shared_setup (first_machine shared_setup) worked_share_events
 shared-events = (
   (refl, refl, (omega arith), (omega arith), bump-not-free),
   (
@@ -416,7 +416,7 @@ last-free b is = let there : b < 4 = ltb-true b 4 (and_parts (nat_lt b 4) _ is).
       | inr at ↦ eqb-true b 3 at
     ]
 
-pub full-ready : IsReady full_setup
+pub full-ready : TraceMayBegin full_setup
 full-ready = record {
   lawful = full-lawful.but_lines;
   number = lit< tt;
@@ -503,7 +503,7 @@ done-stage p x t Unclaimed done is = absurd (None-not-Some t is)
 done-stage p x t (Copying u k) done is = absurd (true≢false (sym done))
 done-stage p x t (Scanning u k) done is = ap (λ z. Scanning z k) (Some-injective u t is) ∙ ap (Scanning t) (eqb-true k (refs p x) done)
 
-finished-by : (p : Setup) (es : List Event) (hs : List ℕ) → IsTrace p es → filter (is_start p.before) (range_with_len (heap_of p.before.blocks) (4096 * p.before.blocks)) ≡ hs
+finished-by : (p : Setup) (es : List Event) (hs : List ℕ) → IsTracing p es → filter (is_start p.before) (range_with_len (heap_of p.before.blocks) (4096 * p.before.blocks)) ≡ hs
     → list_all (λ x. is-done p x (stage_of p es x)) hs ≡ true → list_all (λ g. (machine_after p es).set g) (range_with_len 0 16) ≡ true → IsFinished p (machine_after p es)
 finished-by p es hs trace held all set = record {
   globals = λ g few. tests.below (λ g. (machine_after p es).set g) 16 set g few;
@@ -516,8 +516,8 @@ cycle-finished = finished-by cycle_setup cycle_events (806 ∷ 810 ∷ []) (reco
 pub nursery-finished : IsFinished nursery_setup (machine_after nursery_setup nursery_events)
 nursery-finished = finished-by nursery_setup nursery_events (806 ∷ 810 ∷ 814 ∷ []) (record { ready = nursery-ready; events = nursery-events }) refl refl refl
 
-pub shared-finished : IsFinished shared_setup (machine_after shared_setup shared_events)
-shared-finished = finished-by shared_setup shared_events (806 ∷ 810 ∷ 814 ∷ []) (record { ready = shared-ready; events = shared-events }) refl refl refl
+pub shared-finished : IsFinished shared_setup (machine_after shared_setup worked_share_events)
+shared-finished = finished-by shared_setup worked_share_events (806 ∷ 810 ∷ 814 ∷ []) (record { ready = shared-ready; events = shared-events }) refl refl refl
 
 pub full-finished : IsFinished full_setup (machine_after full_setup full_events)
 full-finished = finished-by full_setup full_events (806 ∷ 4902 ∷ 8998 ∷ []) (record { ready = full-ready; events = full-events }) refl refl refl

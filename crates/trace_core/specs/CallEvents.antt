@@ -1,29 +1,29 @@
 -- Which events a tracer's call makes.
 use Rattle.std.specs.Prelude.{◌≡◌, ℕ, ◌+◌, Bool, IsTrue, nat_eq, List, [], ◌∷◌, Option, Some, None, replicate, if◌then◌else◌}
 use Rattle.trace_core.specs.Setups.{Setup, size}
-use Rattle.trace_core.specs.Machine.{Event, Cause, ByGlobal, ByField, Claim, Ask, Copy, Scan, SetGlobal, MarkLines, TakeBlock}
-use Rattle.trace_core.specs.Views.{View, roots_of, taken_view, left_view}
+use Rattle.trace_core.specs.Machine.{Event, ClaimCause, ByGlobal, ByField, Claim, Ask, Copy, Scan, SetGlobal, MarkLines, TakeBlock}
+use Rattle.trace_core.specs.Views.{View, asked_roots, taken_view, left_view}
 
 -- the block that is taken, if one is
-abbrev pub takes : Option ℕ → List Event
-takes None = []
-takes (Some b) = TakeBlock b 1 ∷ []
+abbrev pub block_taken : Option ℕ → List Event
+block_taken None = []
+block_taken (Some b) = TakeBlock b 1 ∷ []
 
 abbrev pub taken_in : Option ℕ → View → View
 taken_in None v = v
 taken_in (Some b) v = taken_view b v
 
 -- the same while nothing is copied into the block yet
-abbrev pub left_in : Option ℕ → View → View
-left_in None v = v
-left_in (Some b) v = left_view b v
+abbrev pub left_in_block : Option ℕ → View → View
+left_in_block None v = v
+left_in_block (Some b) v = left_view b v
 
 -- the steps of the copying of an object that is claimed
 abbrev pub copying : Setup → ℕ → ℕ → List Event
 copying p x t = replicate (if nat_eq t x then 1 else size p x + 2) (Copy x)
 
 -- the event claims an object for this cause, copies one, or takes a block
-abbrev pub Follows : Cause → Event → Type 0
+abbrev pub Follows : ClaimCause → Event → Type 0
 Follows cause (Claim x t by) = by ≡ cause
 Follows cause (Copy x) = Unit {0}
 Follows cause (TakeBlock b w) = w ≡ 1
@@ -53,5 +53,5 @@ Sets g (SetGlobal h) = h ≡ g
 Sets g e = Follows (ByGlobal g) e
 
 -- the object is asked for by no root
-abbrev pub IsNoRoot : ℕ → Cause → Type 0
-IsNoRoot x cause = (asked : List ℕ) → roots_of x cause asked ≡ asked
+abbrev pub IsNoRoot : ℕ → ClaimCause → Type 0
+IsNoRoot x cause = (asked : List ℕ) → asked_roots x cause asked ≡ asked

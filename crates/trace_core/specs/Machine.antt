@@ -7,7 +7,7 @@ use Rattle.heap_layout.specs.Blocks.{code_of}
 use Rattle.object_model.specs.Objects.{HeapState, with_words, word_at, global_at, ref_at, is_reference}
 use Rattle.side_meta.specs.BitWords.{with_bit}
 use Rattle.object_model.specs.BitWords.{bit_word, bit_place}
-use Rattle.trace_core.specs.Setups.{Setup, blocks, collection, size, refs, is_old, is_logged}
+use Rattle.trace_core.specs.Setups.{Setup, blocks, collection, size, refs, stays_old, was_logged}
 
 -- How far an object has come. `target` is where it will be after the collection.
 pub data Stage : Type 0 where
@@ -37,14 +37,14 @@ pub record Machine : Type 0 where
   pub asked : ℕ → ℕ
 
 -- what asks for an object: a root that is no global, a global, or field i of the object at y
-pub data Cause : Type 0 where
-  ByRoot : Cause
-  ByGlobal : (g : ℕ) → Cause
-  ByField : (y i : ℕ) → Cause
+pub data ClaimCause : Type 0 where
+  ByRoot : ClaimCause
+  ByGlobal : (g : ℕ) → ClaimCause
+  ByField : (y i : ℕ) → ClaimCause
 
 pub data Event : Type 0 where
   -- a worker claims the object at x, which will be at t
-  Claim : (x t : ℕ) (cause : Cause) → Event
+  Claim : (x t : ℕ) (cause : ClaimCause) → Event
   -- a root asks for the object at x, which has its target
   Ask : (x : ℕ) → Event
   -- the next step of copying the object that was at x
@@ -67,7 +67,7 @@ put_all f x n v a = if nat_le x a && nat_lt a (x + n) then v else f a
 
 -- the collector word of the object that was at x, there and at its target
 abbrev pub claimed_word : Setup → ℕ → ℕ → ℕ
-claimed_word p x t = if is_old p x then word_at p.before (x + 2) else collector_word (collection p) t
+claimed_word p x t = if stays_old p x then word_at p.before (x + 2) else collector_word (collection p) t
 
 -- the word at this offset of the copy at t, before fields are scanned
 abbrev pub copied_word : Setup → ℕ → ℕ → ℕ → ℕ
@@ -128,14 +128,14 @@ abbrev pub taken_word : Setup → ℕ → ℕ
 taken_word p w = code_of (record { kind = p.copy; class = 0; owner = 16 + w })
 
 -- the index of the word that an event changes, and its value after the event if it was n; Ask changes none
-abbrev pub place : Setup → Machine → Event → ℕ
-place p m (Claim x t cause) = x + 2
-place p m (Ask x) = x + 2
-place p m (Copy x) = copy_place p x (m.stage x)
-place p m (Scan x) = scan_place (m.stage x)
-place p m (SetGlobal g) = first (blocks p) Globals + g
-place p m (MarkLines x word mask) = word
-place p m (TakeBlock b w) = first (blocks p) BlockWords + b
+abbrev pub word_changed_by : Setup → Machine → Event → ℕ
+word_changed_by p m (Claim x t cause) = x + 2
+word_changed_by p m (Ask x) = x + 2
+word_changed_by p m (Copy x) = copy_place p x (m.stage x)
+word_changed_by p m (Scan x) = scan_place (m.stage x)
+word_changed_by p m (SetGlobal g) = first (blocks p) Globals + g
+word_changed_by p m (MarkLines x word mask) = word
+word_changed_by p m (TakeBlock b w) = first (blocks p) BlockWords + b
 
 abbrev pub stored : Setup → Machine → Event → ℕ → ℕ
 stored p m (Claim x t cause) n = collector_word (collection p) t
@@ -164,26 +164,26 @@ abbrev pub set_after : Machine → Event → ℕ → Bool
 set_after m (SetGlobal g) = put m.set g true
 set_after m _ = m.set
 
-abbrev pub asked_after : Machine → Event → ℕ → ℕ
-asked_after m (Claim x t ByRoot) = put m.asked x (m.asked x + 1)
-asked_after m (Ask x) = put m.asked x (m.asked x + 1)
-asked_after m _ = m.asked
+abbrev pub asks_after : Machine → Event → ℕ → ℕ
+asks_after m (Claim x t ByRoot) = put m.asked x (m.asked x + 1)
+asks_after m (Ask x) = put m.asked x (m.asked x + 1)
+asks_after m _ = m.asked
 
 -- the machine after an event
 abbrev pub next : Setup → Machine → Event → Machine
 next p m e = record {
-  words = slice_set m.words (place p m e) (stored p m e (slice_index m.words (place p m e)));
+  words = slice_set m.words (word_changed_by p m e) (stored p m e (slice_index m.words (word_changed_by p m e)));
   stage = stage_after p m e;
   owner = owner_after p m e;
   taken = taken_after m e;
   set = set_after m e;
-  asked = asked_after m e;
+  asked = asks_after m e;
 }
 
 -- As the trace begins nothing is claimed. Old objects of a nursery collection stay in place: the fields of a logged one
 -- are to be scanned, those of the others are as if they were.
 abbrev pub first_stage : Setup → ℕ → Stage
-first_stage p x = if is_old p x then Scanning x (if is_logged p x then 0 else refs p x) else Unclaimed
+first_stage p x = if stays_old p x then Scanning x (if was_logged p x then 0 else refs p x) else Unclaimed
 
 abbrev pub first_machine : Setup → Machine
 first_machine p = record {

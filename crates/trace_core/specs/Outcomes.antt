@@ -5,13 +5,13 @@ use Rattle.heap_layout.specs.declared.block.Kind.TheVariants as kinds
 use Rattle.object_model.specs.Objects.{HeapState, HasKind, IsHeld, IsInExtent, word_at, block_word, number_at, name_at, refs_at, nums_at, is_pinned, is_unlogged}
 use Rattle.object_model.specs.Lawful.{FreeBlockIsClear}
 use Rattle.object_model.specs.Ages.{Lives}
-use Rattle.trace_core.specs.Setups.{Setup, blocks, collection, is_old, is_logged, may_move}
+use Rattle.trace_core.specs.Setups.{Setup, blocks, collection, stays_old, was_logged, may_be_moved}
 use Rattle.trace_core.specs.Machine.{Stage, target, address_or_nil, taken_word}
-use Rattle.trace_core.specs.Traces.{HasRoom}
+use Rattle.trace_core.specs.Traces.{HasCopyRoom}
 
 -- the base after the collection: its number if it is a full one
-abbrev pub base_after : Setup → ℕ
-base_after p = if p.nursery then p.before.base else collection p
+abbrev pub base_after_trace : Setup → ℕ
+base_after_trace p = if p.nursery then p.before.base else collection p
 
 -- the target of the object at x, 0 if it has none
 abbrev pub image : (ℕ → Stage) → ℕ → ℕ
@@ -26,14 +26,14 @@ pub record FinishedRow (p : Setup) (after : HeapState) (F taken : ℕ → ℕ) :
   pub budget : word_at after 1 ≡ word_at p.before 1
   -- what is held was held, or is a target; what lives is a target
   pub held : (x : ℕ) → IsHeld after x ↔ (IsHeld p.before x ⊎ ((a : ℕ) × (0 < F a) × (F a ≡ x)))
-  pub lives : (x : ℕ) → Lives (base_after p) after x ↔ ((a : ℕ) × (0 < F a) × (F a ≡ x))
-  pub number : (x : ℕ) → Lives (base_after p) after x → number_at after x ≤ collection p
+  pub lives : (x : ℕ) → Lives (base_after_trace p) after x ↔ ((a : ℕ) × (0 < F a) × (F a ≡ x))
+  pub number : (x : ℕ) → Lives (base_after_trace p) after x → number_at after x ≤ collection p
   -- an object that was held still has its name and shape
   pub names : (x : ℕ) → IsHeld p.before x → name_at after x ≡ name_at p.before x
   pub shapes : (x : ℕ) → IsHeld p.before x → (refs_at after x ≡ refs_at p.before x) × (nums_at after x ≡ nums_at p.before x)
   -- no word belongs to two objects, dead and moved ones included
   pub apart : (x y i : ℕ) → IsHeld after x → IsHeld after y → IsInExtent after x i → IsInExtent after y i → x ≡ y
-  pub places : (a : ℕ) → 0 < F a → (F a ≡ a) ⊎ HasRoom p taken a (F a)
+  pub places : (a : ℕ) → 0 < F a → (F a ≡ a) ⊎ HasCopyRoom p taken a (F a)
   -- blocks that workers took were Free, and have their words; the others have those that they had
   pub of_worker : (b : ℕ) → b < blocks p → 0 < taken b → block_word after b ≡ taken_word p (taken b)
   pub as_before : (b : ℕ) → b < blocks p → taken b ≡ 0 → block_word after b ≡ block_word p.before b
@@ -43,9 +43,10 @@ pub record FinishedRow (p : Setup) (after : HeapState) (F taken : ℕ → ℕ) :
   pub pins : (x : ℕ) → is_pinned after x ≡ is_pinned p.before x
   -- an unlog bit is set only at an object, and at each target but those of logged objects
   pub unlogs : (x : ℕ) → IsTrue (is_unlogged after x) → IsHeld after x
-  pub unlogged : (a : ℕ) → 0 < F a → is_logged p a ≡ false → IsTrue (is_unlogged after (F a))
+  pub unlogged : (a : ℕ) → 0 < F a → was_logged p a ≡ false → IsTrue (is_unlogged after (F a))
   -- an object that may move is in place only if no block is Free
-  pub moved : (a b : ℕ) → F a ≡ a → 0 < a → is_old p a ≡ false → IsTrue (may_move p a) → HasKind after b kinds.Free → ⊥
+  pub moved : (a b : ℕ) → F a ≡ a → 0 < a → stays_old p a ≡ false → IsTrue (may_be_moved p a)
+      → HasKind after b kinds.Free → ⊥
 
 -- each of these roots is nil or asked for its object
 abbrev pub HaveAsked : List ℕ → (ℕ → ℕ) → Type 0

@@ -2,7 +2,7 @@
 use Rattle.std.specs.Prelude.{◌≡◌, ◌≢◌, ℕ, ◌<◌, false, IsTrue, List, [], None}
 use Rattle.object_model.specs.Objects.{IsHeld, nums_at, is_reference}
 use Rattle.object_model.specs.declared.shape.Shape.{Shape}
-use Rattle.trace_core.specs.Setups.{Setup, size, refs, may_move}
+use Rattle.trace_core.specs.Setups.{Setup, size, refs, may_be_moved}
 use Rattle.trace_core.specs.Machine.{Event}
 use Rattle.trace_core.specs.Traces.{target_of}
 use Rattle.trace_core.specs.Views.{View, hits, steps_at_claim}
@@ -39,5 +39,5 @@ IsReferred reference p es v = IsTrue (is_reference reference) → IsHeld p.befor
 pub record StaysHere (p : Setup) (v : View) (x : ℕ) : Type 0 where
   pub held : IsHeld p.before x
   pub full : p.nursery ≡ false
-  pub fixed : may_move p x ≡ false
-  pub idle : v.won ≡ []
+  pub fixed : may_be_moved p x ≡ false
+  pub none_won : v.won ≡ []

@@ -4,7 +4,7 @@ use Rattle.heap_layout.specs.Zones.{block_start}
 use Rattle.heap_layout.specs.declared.layout.TheConstants.{BLOCK_WORDS}
 use Rattle.heap_layout.specs.declared.region.Region.{Region}
 use Rattle.object_model.specs.Objects.{HeapState, HasKind}
-use Rattle.trace_core.specs.Setups.{Setup, blocks, size, is_old, may_move}
+use Rattle.trace_core.specs.Setups.{Setup, blocks, size, stays_old, may_be_moved}
 use Rattle.trace_core.specs.Machine.{Machine, target}
 use Rattle.trace_core.specs.Views.{times}
 use Rattle.heap_layout.specs.declared.block.Kind.TheVariants as kinds
@@ -14,9 +14,10 @@ abbrev pub IsFilled : Setup → Machine → ℕ → ℕ → Type 0
 IsFilled p m b offset = (o : ℕ) → o < offset → IsTrue (is_some (m.owner (block_start (blocks p) b + o)))
 
 -- The room to copy into is the rest of the block that was taken last, behind its targets.
-abbrev pub IsRoom : Setup → Machine → List ℕ → ℕ → Region → Type 0
-IsRoom p m [] block room = room.next ≡ room.end
-IsRoom p m (b ∷ earlier) block room = (block ≡ b) × (room.end ≡ BLOCK_WORDS) × (room.next ≤ BLOCK_WORDS) × IsFilled p m b room.next
+abbrev pub IsCopyRoom : Setup → Machine → List ℕ → ℕ → Region → Type 0
+IsCopyRoom p m [] block room = room.next ≡ room.end
+IsCopyRoom p m (b ∷ earlier) block room = (block ≡ b) × (room.end ≡ BLOCK_WORDS) × (room.next ≤ BLOCK_WORDS)
+    × IsFilled p m b room.next
     × ((o : ℕ) → room.next ≤ o → o < BLOCK_WORDS → m.owner (block_start (blocks p) b + o) ≡ None)
 
 -- Block b was left for an object that did not fit behind the targets in it, and that came first in block `next`.
@@ -37,7 +38,8 @@ AreLeft p m sparse (next ∷ b ∷ earlier) = (b < next) × ((0 < times b sparse
 
 -- An object that may move and is in place had no room.
 abbrev pub StayForWantOfRoom : Setup → Machine → Region → Type 0
-StayForWantOfRoom p m room = (x : ℕ) → target (m.stage x) ≡ Some x → is_old p x ≡ false → IsTrue (may_move p x) → room.end < room.next + size p x
+StayForWantOfRoom p m room = (x : ℕ) → target (m.stage x) ≡ Some x → stays_old p x ≡ false
+    → IsTrue (may_be_moved p x) → room.end < room.next + size p x
 
 -- no block of the heap is Free
 abbrev pub NoneFree : HeapState → Type 0

@@ -1,4 +1,4 @@
--- What a tracer is told of a collection, and the collection that it begins so.
+-- A collection as a tracer gets it, and the collection that it begins so.
 use Rattle.std.specs.Prelude.{◌≡◌, ℕ, ◌+◌, ◌*◌, ◌^◌, ◌<◌, Bool, true, false, ◌||◌, IsTrue, List, [], ◌++◌, take, drop, length, slice_get, slice_index, Option, Some, None, replicate, if◌then◌else◌}
 use Rattle.heap_layout.specs.Zones.{LineWords, UnlogBits, first}
 use Rattle.object_model.specs.declared.collect.Collect.{Collect}
@@ -6,7 +6,7 @@ use Rattle.object_model.specs.declared.collect.Collect.TheVariants.{Nursery, Ful
 use Rattle.object_model.specs.Objects.{HeapState, has_kind, with_words, is_unlogged}
 use Rattle.object_model.specs.Ages.{RemembersYoung}
 use Rattle.trace_core.specs.Setups.{Setup, blocks, collection, is_copy_kind}
-use Rattle.trace_core.specs.Outcomes.{base_after}
+use Rattle.trace_core.specs.Outcomes.{base_after_trace}
 use Rattle.trace_core.specs.Views.{one_if, times}
 use Rattle.trace_core.specs.declared.run.TraceRun.{TraceRun}
 use Rattle.heap_layout.specs.declared.block.Kind.TheVariants as kinds
@@ -18,9 +18,9 @@ is_nursery Nursery = true
 is_nursery Full = false
 
 -- a flag of a list, false beyond its end
-abbrev pub is_set : Option Bool → Bool
-is_set None = false
-is_set (Some b) = b
+abbrev pub is_some_true : Option Bool → Bool
+is_some_true None = false
+is_some_true (Some b) = b
 
 -- the list with n elements from index a on replaced by zeros
 abbrev pub zeroed : List ℕ → ℕ → ℕ → List ℕ
@@ -33,8 +33,8 @@ without_lines s = with_words s (zeroed s.words (first s.blocks LineWords) (4 * s
 abbrev pub without_unlogs : HeapState → HeapState
 without_unlogs s = with_words s (zeroed s.words (first s.blocks UnlogBits) (64 * s.blocks))
 
--- The heap as its trace begins. A full collection begins by clearing the unlog bits, so that a set one tells that a target
--- is there. Under a plan with lines it clears the line bits too.
+-- The heap as its trace begins. A full collection begins by clearing the unlog bits, so that a set one means that a
+-- target is there. Under a plan with lines it clears the line bits too.
 abbrev pub begun : HeapState → TraceRun → HeapState
 begun s run = if is_nursery run.collect then s else without_unlogs (if run.lines then without_lines s else s)
 
@@ -43,7 +43,7 @@ abbrev pub setup_of : HeapState → TraceRun → ℕ → Setup
 setup_of s run workers = record {
   before = begun s run;
   nursery = is_nursery run.collect;
-  from = λ b. is_set (slice_get run.from.items b);
+  from = λ b. is_some_true (slice_get run.from.items b);
   copy = run.copy_kind;
   workers = workers;
 }
@@ -69,10 +69,10 @@ pub record MayRun (s : HeapState) (run : TraceRun) : Type 0 where
   pub small : (b : ℕ) → slice_get run.from.items b ≡ Some true → IsTrue (has_kind s b kinds.LargeHead || has_kind s b kinds.LargeTail) → ⊥
   pub fixed : run.copy_kind ≡ kinds.Free → (b : ℕ) → slice_get run.from.items b ≡ Some true → ⊥
 
--- what the tracer was told is so
+-- what the tracer got is so
 pub record IsRunOf (p : Setup) (run : TraceRun) : Type 0 where
   pub number : run.number ≡ collection p
-  pub base : run.base ≡ base_after p
+  pub base : run.base ≡ base_after_trace p
   pub from : (b : ℕ) → b < blocks p → slice_get run.from.items b ≡ Some (p.from b)
   pub kind : run.copy_kind ≡ p.copy
   -- a full collection began with no unlog bit set

@@ -35,20 +35,20 @@ abbrev pub refs : Setup → ℕ → ℕ
 refs p x = refs_at p.before x
 
 -- In a nursery collection old objects stay where they are and are not claimed.
-abbrev pub is_old : Setup → ℕ → Bool
-is_old p x = p.nursery && (held p x && ages.is_old p.before x)
+abbrev pub stays_old : Setup → ℕ → Bool
+stays_old p x = p.nursery && (held p x && ages.is_old p.before x)
 
 -- the old object was stored into since the last collection, so it may refer to young objects
-abbrev pub is_logged : Setup → ℕ → Bool
-is_logged p x = is_old p x && not (is_unlogged p.before x)
+abbrev pub was_logged : Setup → ℕ → Bool
+was_logged p x = stays_old p x && not (is_unlogged p.before x)
 
 -- a nursery collection leaves the words of the old object as they are
-abbrev pub is_idle : Setup → ℕ → Bool
-is_idle p x = is_old p x && is_unlogged p.before x
+abbrev pub keeps_its_words : Setup → ℕ → Bool
+keeps_its_words p x = stays_old p x && is_unlogged p.before x
 
 -- the object may be moved: it lies in a block to evacuate, and is neither pinned nor large
-abbrev pub may_move : Setup → ℕ → Bool
-may_move p x = may_leave p.from p.before x
+abbrev pub may_be_moved : Setup → ℕ → Bool
+may_be_moved p x = may_leave p.from p.before x
 
 -- the kinds of a block that objects are copied into, and Free where none are copied
 abbrev pub is_copy_kind : Kind → Bool
@@ -64,7 +64,7 @@ is_copy_kind kinds.Kept = false
 
 -- A trace may begin. The heap is lawful but for its line bits, which a full collection of a plan with lines clears
 -- first.
-pub record IsReady (p : Setup) : Type 0 where
+pub record TraceMayBegin (p : Setup) : Type 0 where
   pub lawful : IsLawfulButLines p.before
   -- the number fits a collector word
   pub number : collection p < 2 ^ 40

@@ -6,16 +6,16 @@ use Rattle.heap_layout.specs.declared.layout.TheConstants.{BLOCK_WORDS, GLOBALS}
 use Rattle.heap_layout.specs.declared.block.Kind.TheVariants as kinds
 use Rattle.object_model.specs.Objects.{HeapState, HasKind, global_at, ref_at, is_reference, IsInExtentOf}
 use Rattle.object_model.specs.Lines.{TouchesLine}
-use Rattle.trace_core.specs.Setups.{Setup, IsReady, blocks, held, size, refs, is_old, may_move}
-use Rattle.trace_core.specs.Machine.{Stage, Unclaimed, Copying, Scanning, target, Machine, Cause, ByRoot, ByGlobal, ByField, Event, Claim, Ask, Copy, Scan, SetGlobal, MarkLines, TakeBlock, IsSettled, next, first_machine, heap_in}
+use Rattle.trace_core.specs.Setups.{Setup, TraceMayBegin, blocks, held, size, refs, stays_old, may_be_moved}
+use Rattle.trace_core.specs.Machine.{Stage, Unclaimed, Copying, Scanning, target, Machine, ClaimCause, ByRoot, ByGlobal, ByField, Event, Claim, Ask, Copy, Scan, SetGlobal, MarkLines, TakeBlock, IsSettled, next, first_machine, heap_in}
 
 -- each block that was Free is taken
 abbrev pub NoneIsFree : Setup → (ℕ → ℕ) → Type 0
 NoneIsFree p taken = (b : ℕ) → HasKind p.before b kinds.Free → 0 < taken b
 
 -- t is the address of room for the object at x in one block that a worker took, and the object may move
-pub record HasRoom (p : Setup) (taken : ℕ → ℕ) (x t : ℕ) : Type 0 where
-  pub moves : IsTrue (may_move p x)
+pub record HasCopyRoom (p : Setup) (taken : ℕ → ℕ) (x t : ℕ) : Type 0 where
+  pub moves : IsTrue (may_be_moved p x)
   pub address : IsAddress (blocks p) t
   pub block : 0 < taken (block_at (blocks p) t)
   pub within : offset_at (blocks p) t + size p x ≤ BLOCK_WORDS
@@ -23,15 +23,15 @@ pub record HasRoom (p : Setup) (taken : ℕ → ℕ) (x t : ℕ) : Type 0 where
 -- The object at x stays in place: it may not move, or there is no Free block.
 pub record Stays (p : Setup) (taken : ℕ → ℕ) (x t : ℕ) : Type 0 where
   pub same : t ≡ x
-  pub reason : IsTrue (may_move p x) → NoneIsFree p taken
+  pub reason : IsTrue (may_be_moved p x) → NoneIsFree p taken
 
 -- The object at x goes to t, where no object is copied to.
-pub record Moves (p : Setup) (m : Machine) (x t : ℕ) : Type 0 where
-  pub room : HasRoom p m.taken x t
+pub record MovesObject (p : Setup) (m : Machine) (x t : ℕ) : Type 0 where
+  pub room : HasCopyRoom p m.taken x t
   pub unowned : (i : ℕ) → IsInExtentOf t (size p x) i → m.owner i ≡ None
 
 -- the object at x was asked for: as a root, by a global, or by a field of an object that has its target
-abbrev pub IsAskedBy : Setup → Machine → ℕ → Cause → Type 0
+abbrev pub IsAskedBy : Setup → Machine → ℕ → ClaimCause → Type 0
 IsAskedBy p m x ByRoot = Unit {0}
 IsAskedBy p m x (ByGlobal g) = (g < GLOBALS) × (global_at p.before g ≡ x)
 IsAskedBy p m x (ByField y i) = (i < refs p y) × (ref_at p.before y i ≡ x) × ((t : ℕ) × (target (m.stage y) ≡ Some t))
@@ -39,7 +39,7 @@ IsAskedBy p m x (ByField y i) = (i < refs p y) × (ref_at p.before y i ≡ x) ×
 -- The event may come next. What loses a race changes nothing, so it is no event.
 abbrev pub May : Setup → Machine → Event → Type 0
 May p m (Claim x t cause) = IsTrue (held p x) × (m.stage x ≡ Unclaimed) × IsAskedBy p m x cause
-    × (Stays p m.taken x t ⊎ Moves p m x t)
+    × (Stays p m.taken x t ⊎ MovesObject p m x t)
 May p m (Ask x) = (t : ℕ) × (target (m.stage x) ≡ Some t)
 May p m (Copy x) = (t k : ℕ) × (m.stage x ≡ Copying t k)
 May p m (Scan x) = (t k : ℕ) × (m.stage x ≡ Scanning t k) × (k < refs p x) × IsSettled m.stage (ref_at p.before x k)
@@ -71,16 +71,18 @@ abbrev pub target_of : Setup → List Event → ℕ → Option ℕ
 target_of p es x = target (stage_of p es x)
 
 -- the events are those of a trace, by any workers in any order, up to some moment
-pub record IsTrace (p : Setup) (es : List Event) : Type 0 where
-  pub ready : IsReady p
+pub record IsTracing (p : Setup) (es : List Event) : Type 0 where
+  pub ready : TraceMayBegin p
   pub events : AreNext p (first_machine p) es
 
 -- An object that a trace keeps: a root, a global or, in a nursery collection, an old object leads to it.
-pub data Reaches (p : Setup) (asked : ℕ → ℕ) : ℕ → Type 0 where
-  FromRoot : (x : ℕ) → 0 < asked x → Reaches p asked x
-  FromGlobal : (g : ℕ) → g < GLOBALS → IsTrue (is_reference (global_at p.before g)) → Reaches p asked (global_at p.before g)
-  FromOld : (x : ℕ) → IsTrue (is_old p x) → Reaches p asked x
-  ByReference : (y i : ℕ) → Reaches p asked y → i < refs p y → IsTrue (is_reference (ref_at p.before y i)) → Reaches p asked (ref_at p.before y i)
+pub data TraceKeeps (p : Setup) (asked : ℕ → ℕ) : ℕ → Type 0 where
+  FromRoot : (x : ℕ) → 0 < asked x → TraceKeeps p asked x
+  FromGlobal : (g : ℕ) → g < GLOBALS → IsTrue (is_reference (global_at p.before g))
+      → TraceKeeps p asked (global_at p.before g)
+  FromOld : (x : ℕ) → IsTrue (stays_old p x) → TraceKeeps p asked x
+  ByReference : (y i : ℕ) → TraceKeeps p asked y → i < refs p y → IsTrue (is_reference (ref_at p.before y i))
+      → TraceKeeps p asked (ref_at p.before y i)
 
 -- how many fields of an object at this stage are scanned
 abbrev pub fields_scanned : Stage → ℕ

@@ -1,8 +1,8 @@
 -- What a tracer has done and may do. Each right is held once, by the tracer or by a token that it gave.
 use Rattle.std.specs.Prelude.{◌≡◌, ℕ, ◌+◌, ◌<◌, Bool, true, false, nat_eq, List, [], ◌∷◌, ◌++◌, take, Some, if◌then◌else◌, ◌&&◌, not, nat_lt, map, count_by}
 use Rattle.heap_layout.specs.declared.layout.TheConstants.{GLOBALS}
-use Rattle.trace_core.specs.Setups.{Setup, size, refs, is_old, is_idle, is_logged}
-use Rattle.trace_core.specs.Machine.{Machine, target, Cause, ByRoot, Stage, Copying, Scanning}
+use Rattle.trace_core.specs.Setups.{Setup, size, refs, stays_old, keeps_its_words, was_logged}
+use Rattle.trace_core.specs.Machine.{Machine, target, ClaimCause, ByRoot, Stage, Copying, Scanning}
 use Rattle.trace_core.specs.declared.run.TraceRun.{TraceRun}
 use Rattle.std.specs.List.{range_with_len}
 
@@ -50,15 +50,15 @@ abbrev pub is_scanning : ℕ → Stage → Bool
 is_scanning k (Scanning t n) = nat_eq n k
 is_scanning k _ = false
 
-abbrev pub is_copied : Stage → Bool
-is_copied (Scanning t n) = true
-is_copied _ = false
+abbrev pub is_stage_copied : Stage → Bool
+is_stage_copied (Scanning t n) = true
+is_stage_copied _ = false
 
 -- The view has all rights of the machine, each once, and is true of it.
 pub record Holds (p : Setup) (m : Machine) (v : View) : Type 0 where
   pub won : (x k : ℕ) → hits x k v.won ≡ one_if (is_copying k (m.stage x))
-  pub grey : (x k : ℕ) → hits x k v.grey ≡ one_if (not (is_idle p x) && is_scanning k (m.stage x))
-  pub copied : (x : ℕ) → times x v.copied ≡ one_if (not (is_old p x) && is_copied (m.stage x))
+  pub grey : (x k : ℕ) → hits x k v.grey ≡ one_if (not (keeps_its_words p x) && is_scanning k (m.stage x))
+  pub copied : (x : ℕ) → times x v.copied ≡ one_if (not (stays_old p x) && is_stage_copied (m.stage x))
   pub unset : (g : ℕ) → times g v.unset ≡ one_if (nat_lt g GLOBALS && not (m.set g))
   pub set : (g : ℕ) → times g v.set ≡ one_if (m.set g)
   pub asked : (x : ℕ) → times x v.asked ≡ m.asked x
@@ -71,10 +71,10 @@ abbrev pub steps_at_claim : Setup → ℕ → ℕ → ℕ
 steps_at_claim p x t = if nat_eq t x then size p x else 0
 
 -- Nothing is left to do: nothing claimed waits to be copied, each copied or logged object is scanned, each global is set.
-pub record IsIdle (p : Setup) (v : View) : Type 0 where
+pub record NothingIsLeft (p : Setup) (v : View) : Type 0 where
   pub won : v.won ≡ []
   pub copied : (x : ℕ) → 0 < times x v.copied → 0 < hits x (refs p x) v.grey
-  pub logged : (x : ℕ) → is_logged p x ≡ true → 0 < hits x (refs p x) v.grey
+  pub logged : (x : ℕ) → was_logged p x ≡ true → 0 < hits x (refs p x) v.grey
   pub globals : (g : ℕ) → g < GLOBALS → 0 < times g v.set
 
 -- the view as a trace begins
@@ -96,14 +96,14 @@ abbrev pub asked_view : ℕ → ℕ → View → View
 asked_view x t v = record v { asked = x ∷ v.asked; known = (x, t) ∷ v.known }
 
 -- the object at x is claimed, and goes to t;
-abbrev pub roots_of : ℕ → Cause → List ℕ → List ℕ
-roots_of x ByRoot asked = x ∷ asked
-roots_of x _ asked = asked
+abbrev pub asked_roots : ℕ → ClaimCause → List ℕ → List ℕ
+asked_roots x ByRoot asked = x ∷ asked
+asked_roots x _ asked = asked
 
-abbrev pub claimed_view : Setup → ℕ → ℕ → Cause → View → View
+abbrev pub claimed_view : Setup → ℕ → ℕ → ClaimCause → View → View
 claimed_view p x t cause v = record v {
   won = (x, steps_at_claim p x t) ∷ v.won;
-  asked = roots_of x cause v.asked;
+  asked = asked_roots x cause v.asked;
   known = (x, t) ∷ v.known;
 }
 

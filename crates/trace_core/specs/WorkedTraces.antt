@@ -62,8 +62,9 @@ abbrev pub shared_setup : Setup
 shared_setup = record { before = build_heap shared_parts; nursery = false; from = λ b. nat_eq b 0; copy = kinds.Bump; workers = 1 }
 
 -- the pinned object is claimed in place, the others move
-abbrev pub shared_events : List Event
-shared_events = TakeBlock 1 1 ∷ Claim 806 806 (ByGlobal 0) ∷ Copy 806 ∷ Claim 810 4902 (ByGlobal 1) ∷ replicate 6 (Copy 810)
+abbrev pub worked_share_events : List Event
+worked_share_events = TakeBlock 1 1 ∷ Claim 806 806 (ByGlobal 0) ∷ Copy 806 ∷ Claim 810 4902 (ByGlobal 1)
+    ∷ replicate 6 (Copy 810)
     ++ Claim 814 4906 (ByField 806 0) ∷ replicate 5 (Copy 814) ++ Scan 806 ∷ Scan 810 ∷ map SetGlobal (range_with_len 0 16)
 
 -- block 3 is Free, and each other block has an object

@@ -3,16 +3,16 @@
 ghost use Rattle.std.specs.Prelude.{◌≡◌, ℕ, ◌+◌, ◌*◌, ◌^◌, true, false, List, [], ◌∷◌, map, replicate};
 ghost use Rattle.heap_layout.specs.declared.block.Kind.TheVariants as kinds;
 ghost use Rattle.object_model.specs.Objects.{word_at};
-ghost use Rattle.trace_core.specs.Setups.{Setup, IsReady, is_old, is_logged, is_idle, may_move};
+ghost use Rattle.trace_core.specs.Setups.{Setup, TraceMayBegin, stays_old, was_logged, keeps_its_words, may_be_moved};
 ghost use Rattle.trace_core.specs.Machine.{Unclaimed, Scanning, Claim, Copy, TakeBlock, ByGlobal, first_stage};
 ghost use Rattle.trace_core.specs.Outcomes.{image, HaveAsked, NoOthersAsked};
-ghost use Rattle.trace_core.specs.Traces.{IsTrace, IsFinished, machine_after, heap_after, stage_of};
-ghost use Rattle.trace_core.specs.WorkedTraces.{cycle_setup, cycle_events, nursery_setup, nursery_events, shared_setup, shared_events, full_setup, full_events};
+ghost use Rattle.trace_core.specs.Traces.{IsTracing, IsFinished, machine_after, heap_after, stage_of};
+ghost use Rattle.trace_core.specs.WorkedTraces.{cycle_setup, cycle_events, nursery_setup, nursery_events, shared_setup, worked_share_events, full_setup, full_events};
 
 /// Two objects that refer to each other move to block 1, and the global follows. Their old words
 /// have the collector word alone changed.
 pub fn cycle_moves()
-    ensures trace { IsTrace cycle_setup cycle_events }
+    ensures trace { IsTracing cycle_setup cycle_events }
     ensures finished { IsFinished cycle_setup (machine_after cycle_setup cycle_events) }
     ensures roots { HaveAsked (806 ∷ 0 ∷ [])
         (machine_after cycle_setup cycle_events).asked }
@@ -50,24 +50,24 @@ pub fn collector_word_is_copied_last()
 /// A pinned object stays in the block that is evacuated. The object that it and another one refer
 /// to moves once, and both fields follow.
 pub fn shared_object_moves_once()
-    ensures trace { IsTrace shared_setup shared_events }
-    ensures finished { IsFinished shared_setup (machine_after shared_setup shared_events) }
-    ensures stages { map (stage_of shared_setup shared_events) (806 ∷ 810 ∷ 814 ∷ [])
+    ensures trace { IsTracing shared_setup worked_share_events }
+    ensures finished { IsFinished shared_setup (machine_after shared_setup worked_share_events) }
+    ensures stages { map (stage_of shared_setup worked_share_events) (806 ∷ 810 ∷ 814 ∷ [])
         ≡ Scanning 806 1 ∷ Scanning 4902 1 ∷ Scanning 4906 0 ∷ [] }
     // the fields of the first two objects, the globals, the unlog bits
-    ensures words { map (word_at (heap_after shared_setup shared_events))
+    ensures words { map (word_at (heap_after shared_setup worked_share_events))
         (809 ∷ 4905 ∷ 2 ∷ 3 ∷ 550 ∷ 614 ∷ [])
         ≡ 4906 ∷ 4906 ∷ 806 ∷ 4902 ∷ 1 ∷ 17 ∷ [] }
-    ensures moves { map (may_move shared_setup) (806 ∷ 810 ∷ 814 ∷ [])
+    ensures moves { map (may_be_moved shared_setup) (806 ∷ 810 ∷ 814 ∷ [])
         ≡ false ∷ true ∷ true ∷ [] }
 {}
 
 /// When the last Free block is taken, an object that may move is claimed where it is.
 pub fn object_stays_in_a_full_heap()
-    ensures trace { IsTrace full_setup full_events }
+    ensures trace { IsTracing full_setup full_events }
     ensures finished { IsFinished full_setup (machine_after full_setup full_events) }
     ensures asked { (machine_after full_setup full_events).asked 806 ≡ 1 }
-    ensures moves { may_move full_setup 806 ≡ true }
+    ensures moves { may_be_moved full_setup 806 ≡ true }
     ensures stage { stage_of full_setup full_events 806 ≡ Scanning 806 0 }
     ensures words { map (word_at (heap_after full_setup full_events)) (2 ∷ 808 ∷ 550 ∷ [])
         ≡ 806 ∷ (2 ^ 24 + 806) ∷ 1 ∷ [] }
@@ -76,11 +76,11 @@ pub fn object_stays_in_a_full_heap()
 /// In a nursery collection old objects begin in place: the fields of a logged one are to be
 /// scanned, and those of another count as scanned. The young object moves, and the field follows.
 pub fn nursery_moves_young_objects()
-    ensures trace { IsTrace nursery_setup nursery_events }
+    ensures trace { IsTracing nursery_setup nursery_events }
     ensures finished { IsFinished nursery_setup (machine_after nursery_setup nursery_events) }
-    ensures old { map (is_old nursery_setup) (806 ∷ 810 ∷ 814 ∷ [])
+    ensures old { map (stays_old nursery_setup) (806 ∷ 810 ∷ 814 ∷ [])
         ≡ true ∷ true ∷ false ∷ [] }
-    ensures logged { map (is_logged nursery_setup) (806 ∷ 810 ∷ 814 ∷ [])
+    ensures logged { map (was_logged nursery_setup) (806 ∷ 810 ∷ 814 ∷ [])
         ≡ false ∷ true ∷ false ∷ [] }
     ensures first { map (first_stage nursery_setup) (806 ∷ 810 ∷ 814 ∷ [])
         ≡ Scanning 806 1 ∷ Scanning 810 0 ∷ Unclaimed ∷ [] }
@@ -97,13 +97,13 @@ pub fn nursery_moves_young_objects()
 /// kept in place to copy into, with objects that leave a block where none are copied, or as a
 /// nursery collection before a full one.
 pub fn setups_are_refused()
-    ensures ready { IsReady cycle_setup }
-    ensures none { IsReady (record cycle_setup { workers = 0 }) → ⊥ }
-    ensures many { IsReady (record cycle_setup { workers = 17 }) → ⊥ }
-    ensures cells { IsReady (record cycle_setup { copy = kinds.Cells }) → ⊥ }
-    ensures kept { IsReady (record cycle_setup { copy = kinds.Kept }) → ⊥ }
-    ensures fixed { IsReady (record cycle_setup { copy = kinds.Free }) → ⊥ }
-    ensures base { IsReady (record cycle_setup { nursery = true }) → ⊥ }
-    ensures moves { map (may_move cycle_setup) (806 ∷ 810 ∷ 4902 ∷ [])
+    ensures ready { TraceMayBegin cycle_setup }
+    ensures none { TraceMayBegin (record cycle_setup { workers = 0 }) → ⊥ }
+    ensures many { TraceMayBegin (record cycle_setup { workers = 17 }) → ⊥ }
+    ensures cells { TraceMayBegin (record cycle_setup { copy = kinds.Cells }) → ⊥ }
+    ensures kept { TraceMayBegin (record cycle_setup { copy = kinds.Kept }) → ⊥ }
+    ensures fixed { TraceMayBegin (record cycle_setup { copy = kinds.Free }) → ⊥ }
+    ensures base { TraceMayBegin (record cycle_setup { nursery = true }) → ⊥ }
+    ensures moves { map (may_be_moved cycle_setup) (806 ∷ 810 ∷ 4902 ∷ [])
         ≡ true ∷ true ∷ false ∷ [] }
 {}

@@ -8,7 +8,7 @@ ghost use Rattle.heap_layout.specs.declared.block.Kind.TheVariants as kinds;
 ghost use Rattle.object_model.specs.Lawful.{IsLawfulButLines};
 ghost use Rattle.object_model.specs.Lines.{TouchesLine};
 ghost use Rattle.object_model.specs.Objects.{HeapState, word_at, global_at, block_word, HasKind, IsHeld, line_marked, IsInExtent, IsInExtentOf, ref_at, is_pinned, is_unlogged, is_reference};
-ghost use Rattle.trace_core.specs.Setups.{Setup, blocks, collection, size, refs, is_old, is_logged, is_idle, may_move};
+ghost use Rattle.trace_core.specs.Setups.{Setup, blocks, collection, size, refs, stays_old, was_logged, keeps_its_words, may_be_moved};
 ghost use Rattle.trace_core.specs.Machine.{Machine, Event, next, Copying, Scanning, copied_word, step_of_offset, forward, IsSettled, taken_word};
 ghost use Rattle.object_model.specs.Graphs.{IsReachable};
 ghost use Rattle.object_model.specs.Ages.{Lives};
@@ -19,12 +19,12 @@ ghost use Rattle.trace_core.specs.Rights.{StaysHere};
 ghost use Rattle.trace_core.specs.Runs.{setup_of};
 ghost use Rattle.object_model.specs.declared.collect.Collect.TheVariants.{Nursery, Full};
 ghost use Rattle.trace_core.specs.declared.run.TraceRun.{TraceRun};
-ghost use Rattle.trace_core.specs.Outcomes.{FinishedRow, base_after, image, HaveAsked, NoOthersAsked};
-ghost use Rattle.trace_core.specs.Traces.{May, HasRoom, IsTrace, IsFinished, Reaches, machine_after, heap_after, stage_of, target_of, fields_scanned, is_claim_of, is_scan_of};
+ghost use Rattle.trace_core.specs.Outcomes.{FinishedRow, base_after_trace, image, HaveAsked, NoOthersAsked};
+ghost use Rattle.trace_core.specs.Traces.{May, HasCopyRoom, IsTracing, IsFinished, TraceKeeps, machine_after, heap_after, stage_of, target_of, fields_scanned, is_claim_of, is_scan_of};
 
 /// No two objects have the same target.
 pub fn targets_are_one_to_one()
-    ensures { (p : Setup) (es : List Event) → IsTrace p es → (x y t : ℕ)
+    ensures { (p : Setup) (es : List Event) → IsTracing p es → (x y t : ℕ)
         → target_of p es x ≡ Some t → target_of p es y ≡ Some t → x ≡ y }
 {}
 
@@ -32,17 +32,17 @@ pub fn targets_are_one_to_one()
 /// held as the collection began, unless they are that object's own and it stays in place. An object
 /// that moves may, and goes to room in a block that a worker took, which was Free.
 pub fn targets_are_apart()
-    ensures inside { (p : Setup) (es : List Event) → IsTrace p es → (x t i : ℕ)
+    ensures inside { (p : Setup) (es : List Event) → IsTracing p es → (x t i : ℕ)
         → target_of p es x ≡ Some t → IsInExtentOf t (size p x) i → IsAddress (blocks p) i }
-    ensures targets { (p : Setup) (es : List Event) → IsTrace p es → (x y t u i : ℕ)
+    ensures targets { (p : Setup) (es : List Event) → IsTracing p es → (x y t u i : ℕ)
         → x ≢ y → target_of p es x ≡ Some t → target_of p es y ≡ Some u
         → IsInExtentOf t (size p x) i → IsInExtentOf u (size p y) i → ⊥ }
-    ensures extents { (p : Setup) (es : List Event) → IsTrace p es → (x y t i : ℕ)
+    ensures extents { (p : Setup) (es : List Event) → IsTracing p es → (x y t i : ℕ)
         → target_of p es x ≡ Some t → IsHeld p.before y → IsInExtentOf t (size p x) i
         → IsInExtent p.before y i → (x ≡ y) × (t ≡ x) }
-    ensures room { (p : Setup) (es : List Event) → IsTrace p es → (x t : ℕ)
-        → target_of p es x ≡ Some t → t ≢ x → HasRoom p (machine_after p es).taken x t }
-    ensures free { (p : Setup) (es : List Event) → IsTrace p es → (b : ℕ)
+    ensures room { (p : Setup) (es : List Event) → IsTracing p es → (x t : ℕ)
+        → target_of p es x ≡ Some t → t ≢ x → HasCopyRoom p (machine_after p es).taken x t }
+    ensures free { (p : Setup) (es : List Event) → IsTracing p es → (b : ℕ)
         → 0 < (machine_after p es).taken b → HasKind p.before b kinds.Free }
 {}
 
@@ -50,55 +50,55 @@ pub fn targets_are_apart()
 /// collector word has the collection's number and the target if the object was claimed; it is as it
 /// was if the object was not claimed, or is old in a nursery collection.
 pub fn objects_wait_to_be_scanned()
-    ensures words { (p : Setup) (es : List Event) → IsTrace p es → (x o : ℕ)
+    ensures words { (p : Setup) (es : List Event) → IsTracing p es → (x o : ℕ)
         → IsHeld p.before x → o < size p x → o ≢ 2
         → (word_at (heap_after p es) (x + o) ≡ word_at p.before (x + o))
         ⊎ ((k : ℕ) × (stage_of p es x ≡ Scanning x k) × (3 ≤ o) × (o < 3 + k)) }
-    ensures claimed { (p : Setup) (es : List Event) → IsTrace p es → (x t : ℕ)
-        → target_of p es x ≡ Some t → is_old p x ≡ false
+    ensures claimed { (p : Setup) (es : List Event) → IsTracing p es → (x t : ℕ)
+        → target_of p es x ≡ Some t → stays_old p x ≡ false
         → word_at (heap_after p es) (x + 2) ≡ collector_word (collection p) t }
-    ensures unclaimed { (p : Setup) (es : List Event) → IsTrace p es → (x : ℕ)
+    ensures unclaimed { (p : Setup) (es : List Event) → IsTracing p es → (x : ℕ)
         → IsHeld p.before x → target_of p es x ≡ None
         → word_at (heap_after p es) (x + 2) ≡ word_at p.before (x + 2) }
-    ensures old { (p : Setup) (es : List Event) → IsTrace p es → (x : ℕ)
-        → IsTrue (is_old p x) → word_at (heap_after p es) (x + 2) ≡ word_at p.before (x + 2) }
+    ensures old { (p : Setup) (es : List Event) → IsTracing p es → (x : ℕ)
+        → IsTrue (stays_old p x) → word_at (heap_after p es) (x + 2) ≡ word_at p.before (x + 2) }
 {}
 
 /// The words of an object are copied in their order, the collector word last. A start bit is set
 /// where an object was held, and where one is copied whole: no word of it but its fields changes
 /// any more.
 pub fn copies_are_whole()
-    ensures copied { (p : Setup) (es : List Event) → IsTrace p es → (x t k o : ℕ)
+    ensures copied { (p : Setup) (es : List Event) → IsTracing p es → (x t k o : ℕ)
         → stage_of p es x ≡ Copying t k → o < size p x → step_of_offset (size p x) o < k
         → word_at (heap_after p es) (t + o) ≡ copied_word p x t o }
-    ensures whole { (p : Setup) (es : List Event) → IsTrace p es → (x t k o : ℕ)
+    ensures whole { (p : Setup) (es : List Event) → IsTracing p es → (x t k o : ℕ)
         → stage_of p es x ≡ Scanning t k → o < size p x → (o < 3) ⊎ (3 + k ≤ o)
         → word_at (heap_after p es) (t + o) ≡ copied_word p x t o }
-    ensures from { (p : Setup) (es : List Event) → IsTrace p es → (a : ℕ)
+    ensures from { (p : Setup) (es : List Event) → IsTracing p es → (a : ℕ)
         → IsHeld (heap_after p es) a
         → IsHeld p.before a ⊎ ((x k : ℕ) × (stage_of p es x ≡ Scanning a k)) }
-    ensures kept { (p : Setup) (es : List Event) → IsTrace p es → (a : ℕ)
+    ensures kept { (p : Setup) (es : List Event) → IsTracing p es → (a : ℕ)
         → IsHeld p.before a → IsHeld (heap_after p es) a }
-    ensures done { (p : Setup) (es : List Event) → IsTrace p es → (x t k : ℕ)
+    ensures done { (p : Setup) (es : List Event) → IsTracing p es → (x t k : ℕ)
         → stage_of p es x ≡ Scanning t k → IsHeld (heap_after p es) t }
 {}
 
 /// A scanned field, and a global that is set, has the target of what it referred to. Other globals
 /// are as they were.
 pub fn references_are_forwarded()
-    ensures known { (p : Setup) (es : List Event) → IsTrace p es → (x t k i : ℕ)
+    ensures known { (p : Setup) (es : List Event) → IsTracing p es → (x t k i : ℕ)
         → stage_of p es x ≡ Scanning t k → i < k
         → IsSettled (stage_of p es) (ref_at p.before x i) }
-    ensures field { (p : Setup) (es : List Event) → IsTrace p es → (x t k i : ℕ)
+    ensures field { (p : Setup) (es : List Event) → IsTracing p es → (x t k i : ℕ)
         → stage_of p es x ≡ Scanning t k → i < k
         → ref_at (heap_after p es) t i ≡ forward (stage_of p es) (ref_at p.before x i) }
-    ensures fields { (p : Setup) (es : List Event) → IsTrace p es → (x t k : ℕ)
+    ensures fields { (p : Setup) (es : List Event) → IsTracing p es → (x t k : ℕ)
         → stage_of p es x ≡ Scanning t k → k ≤ refs p x }
-    ensures global { (p : Setup) (es : List Event) → IsTrace p es → (g : ℕ) → g < 16
+    ensures global { (p : Setup) (es : List Event) → IsTracing p es → (g : ℕ) → g < 16
         → global_at (heap_after p es) g
         ≡ (if (machine_after p es).set g then forward (stage_of p es) (global_at p.before g)
         else global_at p.before g) }
-    ensures set { (p : Setup) (es : List Event) → IsTrace p es → (g : ℕ) → g < 16
+    ensures set { (p : Setup) (es : List Event) → IsTracing p es → (g : ℕ) → g < 16
         → IsTrue ((machine_after p es).set g)
         → IsSettled (stage_of p es) (global_at p.before g) }
 {}
@@ -106,47 +106,47 @@ pub fn references_are_forwarded()
 /// A root, a global or an old object leads to each object that has a target, which was held as the
 /// trace began. Each root that asked for an object has its target.
 pub fn claims_have_reasons()
-    ensures reached { (p : Setup) (es : List Event) → IsTrace p es → (x t : ℕ)
-        → target_of p es x ≡ Some t → Reaches p (machine_after p es).asked x }
-    ensures roots { (p : Setup) (es : List Event) → IsTrace p es → (x : ℕ)
+    ensures reached { (p : Setup) (es : List Event) → IsTracing p es → (x t : ℕ)
+        → target_of p es x ≡ Some t → TraceKeeps p (machine_after p es).asked x }
+    ensures roots { (p : Setup) (es : List Event) → IsTracing p es → (x : ℕ)
         → 0 < (machine_after p es).asked x → (t : ℕ) × (target_of p es x ≡ Some t) }
-    ensures held { (p : Setup) (es : List Event) → IsTrace p es → (x t : ℕ)
+    ensures held { (p : Setup) (es : List Event) → IsTracing p es → (x t : ℕ)
         → target_of p es x ≡ Some t → IsHeld p.before x }
 {}
 
 /// An object that may move is in place only if no block is Free.
 pub fn objects_stay_for_want_of_blocks()
-    ensures { (p : Setup) (es : List Event) → IsTrace p es → (x b : ℕ)
-        → target_of p es x ≡ Some x → is_old p x ≡ false → IsTrue (may_move p x)
+    ensures { (p : Setup) (es : List Event) → IsTracing p es → (x b : ℕ)
+        → target_of p es x ≡ Some x → stays_old p x ≡ false → IsTrue (may_be_moved p x)
         → HasKind (heap_after p es) b kinds.Free → ⊥ }
 {}
 
 /// An object is claimed once if it has a target and is not old, and each of its fields is scanned
 /// once. The fields of an old object are scanned only if it is logged.
 pub fn each_field_is_scanned_once()
-    ensures claims { (p : Setup) (es : List Event) → IsTrace p es → (x : ℕ)
-        → is_old p x ≡ false
+    ensures claims { (p : Setup) (es : List Event) → IsTracing p es → (x : ℕ)
+        → stays_old p x ≡ false
         → count_by (is_claim_of x) es ≡ (if is_some (target_of p es x) then 1 else 0) }
-    ensures scans { (p : Setup) (es : List Event) → IsTrace p es → (x : ℕ)
-        → is_idle p x ≡ false
+    ensures scans { (p : Setup) (es : List Event) → IsTracing p es → (x : ℕ)
+        → keeps_its_words p x ≡ false
         → count_by (is_scan_of x) es ≡ fields_scanned (stage_of p es x) }
-    ensures old { (p : Setup) (es : List Event) → IsTrace p es → (x : ℕ)
-        → IsTrue (is_old p x) → count_by (is_claim_of x) es ≡ 0 }
-    ensures idle { (p : Setup) (es : List Event) → IsTrace p es → (x : ℕ)
-        → IsTrue (is_idle p x) → count_by (is_scan_of x) es ≡ 0 }
+    ensures old { (p : Setup) (es : List Event) → IsTracing p es → (x : ℕ)
+        → IsTrue (stays_old p x) → count_by (is_claim_of x) es ≡ 0 }
+    ensures idle { (p : Setup) (es : List Event) → IsTracing p es → (x : ℕ)
+        → IsTrue (keeps_its_words p x) → count_by (is_scan_of x) es ≡ 0 }
 {}
 
 /// In a finished trace each field of a claimed or logged object was scanned once. Each field of an
 /// object that has a target, and each global, has the target of what it referred to.
 pub fn finished_traces_are_whole()
-    ensures scans { (p : Setup) (es : List Event) → IsTrace p es
+    ensures scans { (p : Setup) (es : List Event) → IsTracing p es
         → IsFinished p (machine_after p es) → (x t : ℕ) → target_of p es x ≡ Some t
-        → is_idle p x ≡ false → count_by (is_scan_of x) es ≡ refs p x }
-    ensures fields { (p : Setup) (es : List Event) → IsTrace p es
+        → keeps_its_words p x ≡ false → count_by (is_scan_of x) es ≡ refs p x }
+    ensures fields { (p : Setup) (es : List Event) → IsTracing p es
         → IsFinished p (machine_after p es) → (x t i : ℕ) → target_of p es x ≡ Some t
         → i < refs p x
         → ref_at (heap_after p es) t i ≡ forward (stage_of p es) (ref_at p.before x i) }
-    ensures globals { (p : Setup) (es : List Event) → IsTrace p es
+    ensures globals { (p : Setup) (es : List Event) → IsTracing p es
         → IsFinished p (machine_after p es) → (g : ℕ) → g < 16
         → global_at (heap_after p es) g ≡ forward (stage_of p es) (global_at p.before g) }
 {}
@@ -156,9 +156,10 @@ pub fn finished_traces_are_whole()
 /// they referred to; what may not move stays; and everything that roots and globals reach lives.
 /// Roots are the registers that asked.
 pub fn finished_traces_preserve_the_graph()
-    ensures { (p : Setup) (es : List Event) → IsTrace p es → IsFinished p (machine_after p es)
+    ensures { (p : Setup) (es : List Event) → IsTracing p es → IsFinished p (machine_after p es)
         → (roots : List ℕ) → HaveAsked roots (machine_after p es).asked
-        → PreservesObjects (may_move p) p.before roots (Lives (base_after p) (heap_after p es))
+        → PreservesObjects (may_be_moved p) p.before roots (Lives (base_after_trace p)
+        (heap_after p es))
         (heap_after p es) (map (image (stage_of p es)) roots) (image (stage_of p es)) }
 {}
 
@@ -166,10 +167,10 @@ pub fn finished_traces_preserve_the_graph()
 /// old object leads to. In a full collection in which the roots, and no others, asked, these are
 /// the reachable objects.
 pub fn finished_traces_are_precise()
-    ensures kept { (p : Setup) (es : List Event) → IsTrace p es
+    ensures kept { (p : Setup) (es : List Event) → IsTracing p es
         → IsFinished p (machine_after p es) → (a : ℕ)
-        → (0 < image (stage_of p es) a) ↔ Reaches p (machine_after p es).asked a }
-    ensures full { (p : Setup) (es : List Event) → IsTrace p es
+        → (0 < image (stage_of p es) a) ↔ TraceKeeps p (machine_after p es).asked a }
+    ensures full { (p : Setup) (es : List Event) → IsTracing p es
         → IsFinished p (machine_after p es) → (roots : List ℕ)
         → HaveAsked roots (machine_after p es).asked → p.nursery ≡ false
         → NoOthersAsked roots (machine_after p es).asked → (a : ℕ)
@@ -178,25 +179,25 @@ pub fn finished_traces_are_precise()
 
 /// What the row is after a finished trace, without stages: what release of its blocks begins with.
 pub fn finished_traces_leave_rows()
-    ensures { (p : Setup) (es : List Event) → IsTrace p es → IsFinished p (machine_after p es)
+    ensures { (p : Setup) (es : List Event) → IsTracing p es → IsFinished p (machine_after p es)
         → FinishedRow p (heap_after p es) (image (stage_of p es)) (machine_after p es).taken }
 {}
 
 /// After a finished trace each block may be released.
 pub fn finished_traces_may_be_released()
-    ensures { (p : Setup) (es : List Event) → IsTrace p es → IsFinished p (machine_after p es)
+    ensures { (p : Setup) (es : List Event) → IsTracing p es → IsFinished p (machine_after p es)
         → (k : ℕ) → k < blocks p → IsReleasable (heap_after p es) k }
 {}
 
 /// In a nursery collection an old object is its own target. If it is not logged, its fields are as
 /// they were.
 pub fn old_objects_stay()
-    ensures target { (p : Setup) (es : List Event) → IsTrace p es → (x : ℕ)
-        → IsTrue (is_old p x) → target_of p es x ≡ Some x }
-    ensures idle { (p : Setup) (es : List Event) → IsTrace p es → (x : ℕ)
-        → IsTrue (is_idle p x) → stage_of p es x ≡ Scanning x (refs p x) }
-    ensures fields { (p : Setup) (es : List Event) → IsTrace p es → (x i : ℕ)
-        → IsTrue (is_idle p x) → i < refs p x
+    ensures target { (p : Setup) (es : List Event) → IsTracing p es → (x : ℕ)
+        → IsTrue (stays_old p x) → target_of p es x ≡ Some x }
+    ensures idle { (p : Setup) (es : List Event) → IsTracing p es → (x : ℕ)
+        → IsTrue (keeps_its_words p x) → stage_of p es x ≡ Scanning x (refs p x) }
+    ensures fields { (p : Setup) (es : List Event) → IsTracing p es → (x i : ℕ)
+        → IsTrue (keeps_its_words p x) → i < refs p x
         → ref_at (heap_after p es) x i ≡ ref_at p.before x i }
 {}
 
@@ -209,23 +210,23 @@ pub fn taken_blocks_stay_taken()
 /// An unlog bit is set if it was set, or if all words of an object that is not old are copied
 /// there; it is set before the start bit. Pin bits are as they were.
 pub fn bits_of_objects_are_set()
-    ensures from { (p : Setup) (es : List Event) → IsTrace p es → (a : ℕ)
+    ensures from { (p : Setup) (es : List Event) → IsTracing p es → (a : ℕ)
         → IsTrue (is_unlogged (heap_after p es) a) → IsTrue (is_unlogged p.before a)
-        ⊎ ((x k : ℕ) × (is_old p x ≡ false) × ((stage_of p es x ≡ Scanning a k)
+        ⊎ ((x k : ℕ) × (stays_old p x ≡ false) × ((stage_of p es x ≡ Scanning a k)
         ⊎ ((stage_of p es x ≡ Copying a k) × (size p x < k)))) }
-    ensures kept { (p : Setup) (es : List Event) → IsTrace p es → (a : ℕ)
+    ensures kept { (p : Setup) (es : List Event) → IsTracing p es → (a : ℕ)
         → IsTrue (is_unlogged p.before a) → IsTrue (is_unlogged (heap_after p es) a) }
-    ensures done { (p : Setup) (es : List Event) → IsTrace p es → (x t k : ℕ)
-        → is_old p x ≡ false → stage_of p es x ≡ Scanning t k
+    ensures done { (p : Setup) (es : List Event) → IsTracing p es → (x t k : ℕ)
+        → stays_old p x ≡ false → stage_of p es x ≡ Scanning t k
         → IsTrue (is_unlogged (heap_after p es) t) }
-    ensures pins { (p : Setup) (es : List Event) → IsTrace p es → (a : ℕ)
+    ensures pins { (p : Setup) (es : List Event) → IsTracing p es → (a : ℕ)
         → is_pinned (heap_after p es) a ≡ is_pinned p.before a }
 {}
 
 /// In a full collection that began with no unlog bit set, an object that may not move is claimed if
 /// and only if its unlog bit is set, where nothing that is claimed waits to be copied.
-pub fn unlog_bits_tell_what_is_claimed()
-    ensures { (p : Setup) (es : List Event) (v : View) → IsTrace p es
+pub fn unlog_bits_show_what_is_claimed()
+    ensures { (p : Setup) (es : List Event) (v : View) → IsTracing p es
         → Holds p (machine_after p es) v → ((a : ℕ) → is_unlogged p.before a ≡ false)
         → (x : ℕ) → StaysHere p v x
         → IsTrue (is_unlogged (heap_after p es) x) ↔ (target_of p es x ≡ Some x) }
@@ -235,26 +236,26 @@ pub fn unlog_bits_tell_what_is_claimed()
 /// block words, the stop word and the budget word are as they were. A line bit is set if it was
 /// set, or if a target touches the line, and one that is set stays set.
 pub fn side_words_follow_events()
-    ensures block { (p : Setup) (es : List Event) → IsTrace p es → (b : ℕ) → b < blocks p
+    ensures block { (p : Setup) (es : List Event) → IsTracing p es → (b : ℕ) → b < blocks p
         → (machine_after p es).taken b ≡ 0
         → block_word (heap_after p es) b ≡ block_word p.before b }
-    ensures taken { (p : Setup) (es : List Event) → IsTrace p es → (b : ℕ) → b < blocks p
+    ensures taken { (p : Setup) (es : List Event) → IsTracing p es → (b : ℕ) → b < blocks p
         → 0 < (machine_after p es).taken b
         → block_word (heap_after p es) b ≡ taken_word p ((machine_after p es).taken b) }
-    ensures worker { (p : Setup) (es : List Event) → IsTrace p es → (b : ℕ)
+    ensures worker { (p : Setup) (es : List Event) → IsTracing p es → (b : ℕ)
         → (machine_after p es).taken b ≤ p.workers }
-    ensures stop { (p : Setup) (es : List Event) → IsTrace p es → (i : ℕ)
+    ensures stop { (p : Setup) (es : List Event) → IsTracing p es → (i : ℕ)
         → InZone (blocks p) StopWord i ⊎ InZone (blocks p) BudgetWord i
         → word_at (heap_after p es) i ≡ word_at p.before i }
-    ensures line { (p : Setup) (es : List Event) → IsTrace p es → (n : ℕ)
+    ensures line { (p : Setup) (es : List Event) → IsTracing p es → (n : ℕ)
         → n < 256 * blocks p → IsTrue (bit_of (blocks p) LineWords (heap_after p es).words n)
         → IsTrue (bit_of (blocks p) LineWords p.before.words n)
         ⊎ ((x t : ℕ) × (target_of p es x ≡ Some t)
         × TouchesLine (blocks p) t (size p x) n) }
-    ensures lines { (p : Setup) (es : List Event) → IsTrace p es → (n : ℕ)
+    ensures lines { (p : Setup) (es : List Event) → IsTracing p es → (n : ℕ)
         → n < 256 * blocks p → IsTrue (bit_of (blocks p) LineWords p.before.words n)
         → IsTrue (bit_of (blocks p) LineWords (heap_after p es).words n) }
-    ensures stays { (p : Setup) (es more : List Event) → IsTrace p (es ++ more) → (n : ℕ)
+    ensures stays { (p : Setup) (es more : List Event) → IsTracing p (es ++ more) → (n : ℕ)
         → n < 256 * blocks p → IsTrue (bit_of (blocks p) LineWords (heap_after p es).words n)
         → IsTrue (bit_of (blocks p) LineWords (heap_after p (es ++ more)).words n) }
 {}

@@ -3,7 +3,7 @@
 use heap_layout::Kind;
 use object_model::{Collect, Row};
 
-/// What a tracer is told of the collection.
+/// The collection, as a tracer gets it.
 #[derive(Debug, Drop)]
 pub struct TraceRun {
     /// The number of the collection, one more than that of the last one.
@@ -28,6 +28,6 @@ pub struct Traced {
     /// The row. The blocks that workers took to copy into are still theirs, and what died or moved
     /// away still has its start bit.
     pub row: Row,
-    /// What the tracer was told.
+    /// The collection, as the tracer got it.
     pub run: TraceRun,
 }

@@ -1,3 +1,3 @@
-mod Going
+mod TracersGoOn
 mod Starting
 mod NextBlocks

@@ -5,8 +5,8 @@ ghost use Rattle.object_model.specs.Lawful.{IsRoot, AreRoots};
 ghost use Rattle.trace_core.specs.Setups.{Setup};
 ghost use Rattle.trace_core.specs.Machine.{Event};
 ghost use Rattle.trace_core.specs.Views.{View};
-ghost use Rattle.plain_tracer.specs.Tracers.{Tracks, IsTracing};
-ghost use Rattle.trace_tests.specs.Tokens.{AreGrey, AreUnset, GoesOn};
+ghost use Rattle.plain_tracer.specs.Tracers.{Tracks, TracerHolds};
+ghost use Rattle.trace_tests.specs.Tokens.{AreGrey, AreUnset, TracerGoesOn};
 
 use plain_tracer::{Claim, GlobalRoot, Grey, PlainTrace};
 use std::alloc::{AllocError, Global};
@@ -18,11 +18,11 @@ pub(crate) fn trace_registers(
     registers: &[u32],
     stack: &mut Vec<Grey>,
 ) -> Result<Vec<u32>, AllocError>
-    requires { IsTracing tracer.old (λ p es v. AreGrey p v stack.old.items
+    requires { TracerHolds tracer.old (λ p es v. AreGrey p v stack.old.items
         × AreRoots p.before registers.now) }
     ensures { OnOk result ((p : Setup) (es : List Event) (v : View) → Tracks p es tracer.old v
         → AreGrey p v stack.old.items → AreRoots p.before registers.now
-        → GoesOn p v tracer.new stack.new.items) }
+        → TracerGoesOn p v tracer.new stack.new.items) }
 {
     let mut last = Vec::new(alloc);
     for register in registers {
@@ -37,11 +37,11 @@ fn trace_register(
     register: u32,
     stack: &mut Vec<Grey>,
 ) -> Result<u32, AllocError>
-    requires { IsTracing tracer.old (λ p es v. AreGrey p v stack.old.items
+    requires { TracerHolds tracer.old (λ p es v. AreGrey p v stack.old.items
         × IsRoot p.before register) }
     ensures { OnOk result ((p : Setup) (es : List Event) (v : View) → Tracks p es tracer.old v
         → AreGrey p v stack.old.items → IsRoot p.before register
-        → GoesOn p v tracer.new stack.new.items) }
+        → TracerGoesOn p v tracer.new stack.new.items) }
 {
     if register == 0 {
         return Ok(0);
@@ -64,9 +64,9 @@ pub(crate) fn trace_globals(
     globals: Vec<GlobalRoot>,
     stack: &mut Vec<Grey>,
 ) -> Result<(), AllocError>
-    requires { IsTracing tracer.old (λ p es v. AreGrey p v stack.old.items
+    requires { TracerHolds tracer.old (λ p es v. AreGrey p v stack.old.items
         × AreUnset v globals.items) }
-    ensures { OnOk result (IsTracing tracer.new (λ p es v. AreGrey p v stack.new.items)) }
+    ensures { OnOk result (TracerHolds tracer.new (λ p es v. AreGrey p v stack.new.items)) }
 {
     for global in globals {
         stack.reserve(1)?;

@@ -2,7 +2,7 @@
 
 ghost use Rattle.std.specs.Prelude.{◌≡◌, ◌<◌};
 ghost use Rattle.heap_layout.specs.declared.block.Kind.TheVariants as kinds;
-ghost use Rattle.plain_tracer.specs.Tracers.{IsTracing};
+ghost use Rattle.plain_tracer.specs.Tracers.{TracerHolds};
 
 use crate::heaps::{Built, build, full_run};
 use crate::tracing::{Outcome, trace};
@@ -347,9 +347,9 @@ fn marked_lines(rt: HostRuntime) -> Result<(), Fail> {
 
 // The block that the tracer takes to copy into.
 fn take(tracer: &mut PlainTrace) -> Option<u32>
-    requires tracing { IsTracing tracer.old (λ p es v. Unit {0}) }
+    requires tracing { TracerHolds tracer.old (λ p es v. Unit {0}) }
     requires copies { tracer.old.run.copy_kind ≡ kinds.Bump }
-    ensures tracing { IsTracing tracer.new (λ p es v. Unit {0}) }
+    ensures tracing { TracerHolds tracer.new (λ p es v. Unit {0}) }
     ensures copies { tracer.new.run.copy_kind ≡ kinds.Bump }
 {
     tracer.take_copy_block()
@@ -357,7 +357,7 @@ fn take(tracer: &mut PlainTrace) -> Option<u32>
 
 // A tracer of a heap of 4 blocks, of which the first `used` are in use, takes the others in order.
 fn check_blocks(rt: &impl Abort, tracer: &mut PlainTrace, used: u32)
-    requires tracing { IsTracing tracer.old (λ p es v. Unit {0}) }
+    requires tracing { TracerHolds tracer.old (λ p es v. Unit {0}) }
     requires copies { tracer.old.run.copy_kind ≡ kinds.Bump }
 {
     for block in used..4 {

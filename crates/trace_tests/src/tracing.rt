@@ -1,7 +1,7 @@
 //! The trace of a whole collection by one worker.
 
 ghost use Rattle.object_model.specs.Heaps.{heap_state};
-ghost use Rattle.plain_tracer.specs.Tracers.{IsTracing};
+ghost use Rattle.plain_tracer.specs.Tracers.{TracerHolds};
 ghost use Rattle.trace_core.specs.Runs.{MayRun};
 ghost use Rattle.trace_tests.specs.Tokens.{AreGrey};
 
@@ -49,7 +49,7 @@ fn scan_all(
     tracer: &mut PlainTrace,
     stack: &mut Vec<Grey>,
 ) -> Result<u32, AllocError>
-    requires { IsTracing tracer.old (λ p es v. AreGrey p v stack.old.items) }
+    requires { TracerHolds tracer.old (λ p es v. AreGrey p v stack.old.items) }
 {
     for scanned in 0..1_000_000 {
         let Some(grey) = stack.pop() else {

@@ -14,7 +14,7 @@ use Rattle.trace_text.specs.declared.limits.TheConstants.{MAX_COMMANDS}
 use Rattle.trace_text.specs.Words.{all_ops}
 use Rattle.trace_text.specs.Parts.{IsReadAs}
 use Rattle.trace_text.specs.Grammar.{line, lines_from, lines_of, with_header, trace, Gives, parts_at, without_empty_end}
-use Rattle.trace_text.specs.Readers.{with_prefix, end_of_lines, GoesOn, IsWhole, HasRead}
+use Rattle.trace_text.specs.Readers.{with_prefix, end_of_lines, ReadsLines, HasWholeLines, HasRead}
 use Rattle.trace_text.proofs.WholeLines.{cut_more, keeps_end, ended_parts, some_part}
 
 with_prefix-one : {C : Type 0} (prefix : List C) (c : C) (r : Result (List C) TraceFault) → with_prefix prefix (with_prefix (c ∷ []) r) ≡ with_prefix (prefix ++ c ∷ []) r
@@ -31,24 +31,24 @@ next_command prefix n l ls c early good = rw (early, good) (with_prefix-one pref
 
 -- one good line more
 pub one_more : (old new : LineReader) (rest remaining : List ℕ) (c : Command) → IsReadAs rest (Ok c) remaining → old.fault ≡ None → 1 < old.number → nat_lt (MAX_COMMANDS + 1) old.number ≡ false
-    → new.fault ≡ None → 1 < new.number → new.number ≡ old.number + 1 → new.commands ≡ old.commands ++ c ∷ [] → GoesOn old new (lines_of rest) (lines_of remaining)
+    → new.fault ≡ None → 1 < new.number → new.number ≡ old.number + 1 → new.commands ≡ old.commands ++ c ∷ [] → ReadsLines old new (lines_of rest) (lines_of remaining)
 one_more old new rest remaining c read none begun early still after number pushed more =
     end_is new (lines_of remaining ++ more) still after ∙ rw (number, pushed) (sym (next_command old.commands old.number read.0 (lines_of remaining ++ more) c early (sym read.2)))
     ∙ sym (end_is old (read.0 ∷ lines_of remaining ++ more) none begun) ∙ ap (λ ls. end_of_lines old (ls ++ more)) (sym read.1)
 
 -- the lines of a text of whole lines, and of a text after it
-pub lines_after : (whole more : List ℕ) → IsWhole whole → lines_of (whole ++ more) ≡ lines_of whole ++ lines_of more
+pub lines_after : (whole more : List ℕ) → HasWholeLines whole → lines_of (whole ++ more) ≡ lines_of whole ++ lines_of more
 lines_after whole more (inl none) = rw none refl
 lines_after whole more (inr some) =
     rw some.1 (ap lines_of (append_assoc some.0 (10 ∷ []) more) ∙ ap without_empty_end (cut_more some.0 more) ∙ keeps_end (parts_at 10 some.0) (parts_at 10 more) (some_part 10 more) ∙ sym (ap (λ ls. ls ++ lines_of more) (ended_parts some.0)))
 
-pub whole_more : (before text : List ℕ) → 0 < length text → IsWhole text → IsWhole (before ++ text)
+pub whole_more : (before text : List ℕ) → 0 < length text → HasWholeLines text → HasWholeLines (before ++ text)
 whole_more before text some (inl none) = absurd (let e : length text ≡ 0 = ap length none in omega (arith, e))
 whole_more before text some (inr ends) = inr (before ++ ends.0, ap (λ l. before ++ l) ends.1 ∙ sym (append_assoc before ends.0 (10 ∷ [])))
 
 -- the bytes begun, the first line and the whole lines after it are read, and `tail` is left
-pub read_on : (old new : TraceReader) (middle : LineReader) (text piece first whole tail : List ℕ) → piece ≡ first ++ (whole ++ tail) → IsWhole (old.begun.items ++ first) → IsWhole whole
-    → GoesOn old.lines middle (lines_of (old.begun.items ++ first)) [] → GoesOn middle new.lines (lines_of whole) [] → new.begun.items ≡ tail → HasRead old text → HasRead new (text ++ piece)
+pub read_on : (old new : TraceReader) (middle : LineReader) (text piece first whole tail : List ℕ) → piece ≡ first ++ (whole ++ tail) → HasWholeLines (old.begun.items ++ first) → HasWholeLines whole
+    → ReadsLines old.lines middle (lines_of (old.begun.items ++ first)) [] → ReadsLines middle new.lines (lines_of whole) [] → new.begun.items ≡ tail → HasRead old text → HasRead new (text ++ piece)
 read_on old new middle text piece first whole tail parts ends between one two left had more =
     let whole_text : old.begun.items ++ (piece ++ more) ≡ (old.begun.items ++ first) ++ (whole ++ (tail ++ more)) =
     ap (λ l. old.begun.items ++ (l ++ more)) parts ∙ ap (λ l. old.begun.items ++ l) (append_assoc first (whole ++ tail) more ∙ ap (λ l. first ++ l) (append_assoc whole tail more))
@@ -81,7 +81,7 @@ given (Err OutOfMemory) read is = tt
 
 -- the result at the end of the text
 pub ends : (r : TraceReader) (text : List ℕ) (result : Result (List Command) TraceFault) (done : LineReader) → HasRead r text
-    → GoesOn r.lines done (lines_of r.begun.items) [] → result ≡ end_of_lines done [] → Gives (λ v. v) result (trace text)
+    → ReadsLines r.lines done (lines_of r.begun.items) [] → result ≡ end_of_lines done [] → Gives (λ v. v) result (trace text)
 ends r text result done had read is =
     let whole : end_of_lines done [] ≡ trace text =
     read [] ∙ ap (end_of_lines r.lines) (append-nil (lines_of r.begun.items)) ∙ ap (λ l. end_of_lines r.lines (lines_of l)) (sym (append-nil r.begun.items)) ∙ sym (had []) ∙ ap trace (append-nil text) in

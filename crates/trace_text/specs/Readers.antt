@@ -25,13 +25,13 @@ abbrev pub end_of_lines : LineReader → List (List ℕ) → Result (List Comman
 end_of_lines r lines = result_after r.fault r.commands r.number lines
 
 -- the reader has read the first lines, and `after` are left
-abbrev pub GoesOn : LineReader → LineReader → List (List ℕ) → List (List ℕ) → Type 0
-GoesOn old new before after = (more : List (List ℕ))
+abbrev pub ReadsLines : LineReader → LineReader → List (List ℕ) → List (List ℕ) → Type 0
+ReadsLines old new before after = (more : List (List ℕ))
     → end_of_lines new (after ++ more) ≡ end_of_lines old (before ++ more)
 
 -- the text has no bytes after its last newline
-abbrev pub IsWhole : List ℕ → Type 0
-IsWhole text = (text ≡ []) ⊎ ((lines : List ℕ) × (text ≡ lines ++ 10 ∷ []))
+abbrev pub HasWholeLines : List ℕ → Type 0
+HasWholeLines text = (text ≡ []) ⊎ ((lines : List ℕ) × (text ≡ lines ++ 10 ∷ []))
 
 -- The reader has read the text: whatever follows, its result is that of the whole text.
 abbrev pub HasRead : TraceReader → List ℕ → Type 0

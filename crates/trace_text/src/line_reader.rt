@@ -2,7 +2,7 @@
 
 ghost use Rattle.std.specs.Prelude.{◌≡◌, ◌<◌, ◌≤◌, List, ℕ, [], None, length, IfOk, OnOk, MatchOption};
 ghost use Rattle.trace_text.specs.Grammar.{lines_of, with_header};
-ghost use Rattle.trace_text.specs.Readers.{end_of_lines, GoesOn};
+ghost use Rattle.trace_text.specs.Readers.{end_of_lines, ReadsLines};
 
 use crate::fault::{TraceFault, Why};
 use crate::good_lines::first_command;
@@ -59,8 +59,8 @@ impl LineReader {
     // Reads the header if it is the next line, and returns the text after it. `None` if there is
     // no more to read.
     fn after_header<'t>(&mut self, text: &'t [u8]) -> Option<&'t [u8]>
-        ensures end { MatchOption result (GoesOn self.old self.new (lines_of text.now) [])
-            (λ rest. GoesOn self.old self.new (lines_of text.now) (lines_of rest.now)) }
+        ensures end { MatchOption result (ReadsLines self.old self.new (lines_of text.now) [])
+            (λ rest. ReadsLines self.old self.new (lines_of text.now) (lines_of rest.now)) }
         ensures next { MatchOption result (Unit {0}) (λ rest. (self.new.fault ≡ None)
             × (1 < self.new.number)) }
     {
@@ -84,7 +84,7 @@ impl LineReader {
     fn read_short<'t>(&mut self, text: &'t [u8]) -> Result<&'t [u8], AllocError>
         requires none { self.old.fault ≡ None }
         requires begun { 1 < self.old.number }
-        ensures lines { IfOk result (λ rest. GoesOn self.old self.new
+        ensures lines { IfOk result (λ rest. ReadsLines self.old self.new
             (lines_of text.now) (lines_of rest.now)) }
         ensures none { IfOk result (λ rest. self.new.fault ≡ None) }
         ensures begun { IfOk result (λ rest. 1 < self.new.number) }
@@ -104,7 +104,7 @@ impl LineReader {
 
     /// Reads the lines of a text.
     pub(crate) fn read(&mut self, text: &[u8]) -> Result<(), AllocError>
-        ensures { OnOk result (GoesOn self.old self.new (lines_of text.now) []) }
+        ensures { OnOk result (ReadsLines self.old self.new (lines_of text.now) []) }
     {
         let Some(mut rest) = self.after_header(text) else {
             return Ok(());

@@ -3,7 +3,7 @@
 ghost use Rattle.std.specs.Prelude.{◌≡◌, ◌++◌, ◌≤◌, List, ℕ, [], length, take, All, OnOk, IfOk};
 ghost use Rattle.ideal_heap.specs.Commands.{IsValid};
 ghost use Rattle.trace_text.specs.Grammar.{Gives, trace};
-ghost use Rattle.trace_text.specs.Readers.{HasRead, IsWhole};
+ghost use Rattle.trace_text.specs.Readers.{HasRead, HasWholeLines};
 
 use crate::fault::TraceFault;
 use crate::limits::MAX_COMMANDS;
@@ -26,7 +26,7 @@ pub struct TraceReader {
 // The bytes up to the first newline and with it, 0 if there is none.
 fn first_line(text: &[u8]) -> usize
     ensures within { result ≤ length text.now }
-    ensures whole { IsWhole (take result text.now) }
+    ensures whole { HasWholeLines (take result text.now) }
 {
     match memchr(b'\n', text) {
         Some(place) => place + 1,
@@ -37,7 +37,7 @@ fn first_line(text: &[u8]) -> usize
 // The bytes up to the last newline and with it, 0 if there is none.
 fn whole_lines(text: &[u8]) -> usize
     ensures within { result ≤ length text.now }
-    ensures whole { IsWhole (take result text.now) }
+    ensures whole { HasWholeLines (take result text.now) }
 {
     match memrchr(b'\n', text) {
         Some(place) => place + 1,

@@ -6,7 +6,7 @@ use Rattle.std.proofs.lemmas.List.{map-append}
 use Rattle.std.proofs.lemmas.List.Elements.{All-cons, All-nil}
 use Rattle.std.proofs.lemmas.List.Sorted.{IsPermutation-trans, IsPermutation-append_right, IsPermutation-sym, IsPermutation-middle}
 use Rattle.std.specs.List.Sorted.{IsPermutation}
-use Rattle.work_packets.specs.Shares.{AreCounted}
+use Rattle.work_packets.specs.Shares.{AreNumberedFrom}
 use Rattle.work_packets.proofs.Pieces.{piece, join, rearranged}
 
 module _ {X Y : Type 0} where
@@ -26,7 +26,7 @@ AreDealt n zero (x ∷ xs) = (x ≡ n) × AreDealt n zero xs
 AreDealt n (suc i) (x ∷ xs) = (x ≡ n + 1) × AreDealt n i xs
 
 -- one number more
-counted-more : (a : ℕ) (ns : List ℕ) (n : ℕ) → AreCounted a ns → (a + length ns < 2 ^ 32 → n ≡ a + length ns) → AreCounted a (ns ++ n ∷ [])
+counted-more : (a : ℕ) (ns : List ℕ) (n : ℕ) → AreNumberedFrom a ns → (a + length ns < 2 ^ 32 → n ≡ a + length ns) → AreNumberedFrom a (ns ++ n ∷ [])
 counted-more a [] n h is = (λ lt. let e = is (omega arith) in omega arith, tt)
 counted-more a (m ∷ ns) n h is = (h.0, counted-more (a + 1) ns n h.1 (λ lt. let e = is (omega arith) in omega arith))
 
@@ -84,10 +84,10 @@ small-sum r n e le = e ∙ min-eq_left le
 
 module _ {X : Type 0} where
   -- one element more, with the next number
-  pub counted-push : (f : X → ℕ) (old new : List X) (x : X) → new ≡ old ++ x ∷ [] → AreCounted 1 (map f old) → (1 + length (map f old) < 2 ^ 32 → f x ≡ 1 + length (map f old)) → AreCounted 1 (map f new) × (length (map f new) ≡ length (map f old) + 1)
+  pub counted-push : (f : X → ℕ) (old new : List X) (x : X) → new ≡ old ++ x ∷ [] → AreNumberedFrom 1 (map f old) → (1 + length (map f old) < 2 ^ 32 → f x ≡ 1 + length (map f old)) → AreNumberedFrom 1 (map f new) × (length (map f new) ≡ length (map f old) + 1)
   counted-push f old new x e h is =
       let more : map f new ≡ map f old ++ f x ∷ [] = ap (map f) e ∙ map-append f old (x ∷ []) in
-      (subst (AreCounted 1) (sym more) (counted-more 1 (map f old) (f x) h is), ap length more ∙ length-push (map f old) (f x))
+      (subst (AreNumberedFrom 1) (sym more) (counted-more 1 (map f old) (f x) h is), ap length more ∙ length-push (map f old) (f x))
 
   -- one element is replaced by one whose size is greater by one
   pub given-one : (size : X → ℕ) (xs : List X) (i : ℕ) (x y : X) → i < length xs → x ≡ get_or xs i x → size y ≡ size x + 1 → map size (set xs i y) ≡ set (map size xs) i (get_or (map size xs) i 0 + 1)

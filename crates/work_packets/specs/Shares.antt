@@ -23,9 +23,9 @@ module _ {T W : Type 0} where
   AreEven shares = (n : ℕ) × All (λ size. (n ≤ size) × (size ≤ n + 1)) (sizes shares)
 
 -- these are the numbers from `a` on, as far as they are below 2 ^ 32
-abbrev pub AreCounted : ℕ → List ℕ → Type 0
-AreCounted a [] = Unit {0}
-AreCounted a (n ∷ ns) = (a < 2 ^ 32 → n ≡ a) × AreCounted (a + 1) ns
+abbrev pub AreNumberedFrom : ℕ → List ℕ → Type 0
+AreNumberedFrom a [] = Unit {0}
+AreNumberedFrom a (n ∷ ns) = (a < 2 ^ 32 → n ≡ a) × AreNumberedFrom (a + 1) ns
 
 module _ {T W H S : Type 0} (home : W → H) (takes : H → Packet T → Type 0) (awaits : S → W → List (Packet T) → Type 0) (b : Bucket) where
   -- its packets are of this bucket, and its worker may run and awaits them

@@ -2,7 +2,7 @@
 
 ghost use Rattle.std.specs.Prelude.{◌≡◌, ◌⊎◌, ◌+◌, ◌<◌, ◌∷◌, [], length, get_or, set, map, IfOk};
 ghost use Rattle.std.specs.List.Sorted.{IsPermutation};
-ghost use Rattle.work_packets.specs.Shares.{packets_in, sizes, AreCounted, AreEven};
+ghost use Rattle.work_packets.specs.Shares.{packets_in, sizes, AreNumberedFrom, AreEven};
 
 use crate::packet::Packet;
 use std::alloc::AllocError;
@@ -23,7 +23,7 @@ fn empty_shares<T: Drop, W: Drop>(workers: Vec<W>) -> Result<Vec<Share<T, W>>, A
     ensures sizes { IfOk result
         (λ shares. sizes shares.items ≡ map (λ w. 0) workers.items) }
     ensures numbers { IfOk result
-        (λ shares. AreCounted 1 (map (λ s. s.number) shares.items)) }
+        (λ shares. AreNumberedFrom 1 (map (λ s. s.number) shares.items)) }
 {
     let alloc = *workers.allocator();
     let mut shares = Vec::new(alloc);
@@ -80,7 +80,7 @@ pub fn deal<T: Drop, W: Drop>(
     ensures packets { IfOk result (λ shares. IsPermutation first.items (packets_in shares.items)) }
     ensures even { IfOk result (λ shares. AreEven shares.items) }
     ensures numbers { IfOk result
-        (λ shares. AreCounted 1 (map (λ s. s.number) shares.items)) }
+        (λ shares. AreNumberedFrom 1 (map (λ s. s.number) shares.items)) }
 {
     let mut shares = empty_shares(workers)?;
     let mut i = 0;

@@ -11,7 +11,7 @@ ghost use Rattle.heap_graph.specs.Places.{IsGraphOf};
 ghost use Rattle.object_model.specs.Graphs.{IsMutatorState, AreMutators, Represents, new_mutator};
 ghost use Rattle.object_model.specs.Changes.{ClearsUnlog};
 ghost use Rattle.object_model.specs.Agreement.{AgreesOn};
-ghost use Rattle.object_model.specs.Births.{MarksLines, MakesRun};
+ghost use Rattle.object_model.specs.Births.{MarksLinesOfBirth, MakesRun};
 ghost use Rattle.object_model.specs.Lawful.{IsLawful};
 ghost use Rattle.object_model.specs.WorkedHeaps.{unowned, plain_object};
 ghost use Rattle.worked_heaps.specs.WorkedKinds.{kinds_heap, kinds_held, kinds_mutators, kinds_ideal, worked_object, three_free, small_heap, bump_with, with_word};
@@ -203,7 +203,7 @@ pub fn heaps_disagree_on_sets()
 /// Changes whose result is there already leave the heap of five kinds as it is: marked lines, a
 /// large run, and a clear unlog bit.
 pub fn changes_of_nothing()
-    ensures lines { MarksLines kinds_heap kinds_heap 1212 6 }
+    ensures lines { MarksLinesOfBirth kinds_heap kinds_heap 1212 6 }
     ensures run { MakesRun kinds_heap kinds_heap 2 2 }
     ensures log { ClearsUnlog kinds_heap kinds_heap 9392 }
 {}

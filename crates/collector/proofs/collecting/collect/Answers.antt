@@ -3,9 +3,9 @@ use Rattle.object_model.specs.Heaps.{heap_state}
 use Rattle.sessions.specs.Collecting.{Collects}
 use Rattle.trace_core.specs.Runs.{is_nursery}
 use Rattle.collector.specs.Collected.{IsRunUnder, FillsInTurn}
-use Rattle.collector.specs.Working.{IsFullTrace}
+use Rattle.collector.specs.Working.{IsFullTracer}
 use Rattle.collector.specs.Tallies.{IsNote}
-use Rattle.collector.specs.declared.worker.TraceStart.{TraceStart}
+use Rattle.collector.specs.declared.worker.TracingStart.{TracingStart}
 use Rattle.collector.proofs.Offered.{offered-full}
 use Rattle.collector.proofs.WholeNotes.{collects-all, root-buckets}
 use Rattle.collector.proofs.collecting.collect.Goals as goal
@@ -21,12 +21,12 @@ begin-requires-clause-full g c = ap is_nursery (c.in_ok-run.ensures.under.collec
 
 pub run_packets-requires-clause-awaits : goal.run_packets-requires-clause-awaits
 run_packets-requires-clause-awaits g c κs within =
-    let start : TraceStart = record { heap = c.args.heap; run = c.in_ok-run.run'; roots = c.args.roots } in
+    let start : TracingStart = record { heap = c.args.heap; run = c.in_ok-run.run'; roots = c.args.roots } in
     (start, record { awaited = c.in_ok-trace.ensures.awaits; buckets = root-buckets c.in_ok-trace.first.items c.in_ok-trace.ensures.packets })
 
 pub finish-requires : goal.finish-requires
 finish-requires g c =
-    let start : TraceStart = record { heap = c.args.heap; run = c.in_ok-run.run'; roots = c.args.roots } in (
+    let start : TracingStart = record { heap = c.args.heap; run = c.in_ok-run.run'; roots = c.args.roots } in (
       start,
       record {
         may = c.in_ok-run.ensures.may;
@@ -37,8 +37,8 @@ finish-requires g c =
 
 pub returns : goal.returns
 returns g c =
-    let start : TraceStart = record { heap = c.args.heap; run = c.in_ok-run.run'; roots = c.args.roots } in
-    let full : IsFullTrace start c.in_ok-trace-2.trace = record {
+    let start : TracingStart = record { heap = c.args.heap; run = c.in_ok-run.run'; roots = c.args.roots } in
+    let full : IsFullTracer start c.in_ok-trace-2.trace = record {
       may = c.in_ok-run.ensures.may;
       full = c.in_ok-run.ensures.under.collect ∙ offered-full g.P.Plan.rules c.args.collect c.requires.offered;
       awaited = (c.in_ok-trace-2.ensures start (record { awaited = c.in_ok-trace.ensures.awaits; buckets = root-buckets c.in_ok-trace.first.items c.in_ok-trace.ensures.packets })).awaited;

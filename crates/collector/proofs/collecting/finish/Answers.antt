@@ -29,6 +29,6 @@ release_by-heap-requires g c =
     )
 
 pub returns : goal.returns
-returns g c start full reclaims told = whole.finishes g.P.Plan.plan g.P.Plan.rules g.met.P.Plan.rules_are_of_plan start c.args.trace full told c.close-traced.result
+returns g c start full reclaims shown = whole.finishes g.P.Plan.plan g.P.Plan.rules g.met.P.Plan.rules_are_of_plan start c.args.trace full shown c.close-traced.result
     c.close-traced.ensures.run (c.close-traced.ensures.traced _ _ _ full.awaited.tracks) (c.close-traced.ensures.finished _ _ _ full.awaited.tracks (whole.idle start c.args.trace full))
     c.release_by-heap.result c.release_by-heap.ensures.0 c.release_by-heap.ensures.1 c.release_by-heap.ensures.2 _ refl refl refl c.saturating_sub.ensures refl (ap (λ (n : BlockCounts). n.free) c.block_counts-free_blocks.ensures)

@@ -2,7 +2,7 @@ use Rattle.std.proofs.Common.{◌≡◌, ◌∙◌, refl, ap, arith, ◌+◌}
 use Rattle.object_model.specs.declared.collect.Collect.TheVariants.{Full}
 use Rattle.object_model.specs.Heaps.{heap_state}
 use Rattle.plan_api.specs.declared.flags.PlanFlags.{PlanFlags}
-use Rattle.collector.proofs.Prepared.{may-trace, traces-under, lines-told}
+use Rattle.collector.proofs.Prepared.{may-trace, traces-under, lines-shown}
 use Rattle.collector.proofs.collecting.prepare.Goals as goal
 
 pub returns-clause-may : goal.returns-clause-may
@@ -14,4 +14,4 @@ returns-clause-may g c =
 pub returns-clause-under : goal.returns-clause-under
 returns-clause-under g c =
     traces-under g.P.Plan.plan g.P.Plan.rules g.met.P.Plan.rules_are_of_plan c.args.collect c.requires.full (heap_state c.args.heap.now) _ refl c.in_ok-from.ensures c.copy_kind.ensures
-    (c.contains.ensures tt ∙ lines-told g.P.Plan.plan g.P.Plan.rules g.met.P.Plan.rules_are_of_plan c.FLAGS.result.0 (ap (λ (f : PlanFlags). f.0) c.FLAGS.ensures ∙ g.met.P.Plan.flags_are_of_rules))
+    (c.contains.ensures tt ∙ lines-shown g.P.Plan.plan g.P.Plan.rules g.met.P.Plan.rules_are_of_plan c.FLAGS.result.0 (ap (λ (f : PlanFlags). f.0) c.FLAGS.ensures ∙ g.met.P.Plan.flags_are_of_rules))

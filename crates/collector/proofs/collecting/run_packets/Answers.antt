@@ -1,7 +1,7 @@
 use Rattle.std.proofs.Common.{length, inl}
 use Rattle.std.proofs.lemmas.List.Sorted.{IsPermutation-refl}
 use Rattle.work_packets.specs.Steps.{pushed_by_all}
-use Rattle.collector.specs.declared.worker.TraceWorker.{TraceWorker}
+use Rattle.collector.specs.declared.worker.TracingWorker.{TracingWorker}
 use Rattle.collector.proofs.TwoBuckets.{awaits-all, takes-awaited, scans-left, only-one, one-home, nothing-awaited}
 use Rattle.collector.proofs.collecting.run_packets.Goals as goal
 
@@ -10,7 +10,7 @@ run_bucket-requires-clause-takes g c κs within =
     let one = only-one _ _ _ c.in_ok-workers.ensures.items c.push_reserved.ensures.items in
     let start = c.requires.awaits.0 in (
       length c.args.trace.roots.items,
-      one-home (λ (w : TraceWorker g.row.G.Denot). w.trace) c.push_reserved.new.self.items _ one,
+      one-home (λ (w : TracingWorker g.row.G.Denot). w.trace) c.push_reserved.new.self.items _ one,
       takes-awaited start c.args.trace c.args.first.items c.requires.awaits.1,
     )
 
@@ -32,7 +32,7 @@ pub run_bucket-requires-2-clause-takes : goal.run_bucket-requires-2-clause-takes
 run_bucket-requires-2-clause-takes g c κs within =
     let one = only-one _ _ _ c.in_ok-workers.ensures.items c.push_reserved.ensures.items in
     let h = length c.args.trace.roots.items in
-    let home = one-home (λ (w : TraceWorker g.row.G.Denot). w.trace) c.push_reserved.new.self.items _ one in
+    let home = one-home (λ (w : TracingWorker g.row.G.Denot). w.trace) c.push_reserved.new.self.items _ one in
     (h, c.in_ok-workers-2.ensures.home h home, c.in_ok-workers-2.ensures.takes h home)
 
 pub run_bucket-requires-2-clause-awaits : goal.run_bucket-requires-2-clause-awaits
@@ -48,4 +48,4 @@ returns g c = λ start aw.
     let next = c.in_ok-workers-2.ensures.awaits start _ one (awaits-all start c.args.trace c.args.first.items aw) in
     let last = c.in_ok-workers-3.ensures.awaits start next.0 next.1 next.2 in
     let once = c.in_ok-workers-3.ensures.once in
-    nothing-awaited (λ (w : TraceWorker g.row.G.Denot). w.trace) start _ _ last.0 c.in-Some.worker (pushed_by_all once.0) _ last.1 c.in-Some.ensures.items last.2 once.1.left
+    nothing-awaited (λ (w : TracingWorker g.row.G.Denot). w.trace) start _ _ last.0 c.in-Some.worker (pushed_by_all once.0) _ last.1 c.in-Some.ensures.items last.2 once.1.left

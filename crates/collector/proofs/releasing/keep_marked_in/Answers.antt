@@ -7,7 +7,7 @@ use Rattle.collector.proofs.MarkedBlocks.{word-stays, word-falls}
 use Rattle.collector.proofs.releasing.keep_marked_in.Goals as goal
 
 pub returns-then-living-starts : goal.returns-then-living-starts
-returns-then-living-starts g c = λ base tells.
+returns-then-living-starts g c = λ base shows.
     let words : List ℕ = g.W.Words.words c.args.words.now in
     let s : HeapState = state_over words c.args.layout.now 0 0 in
     let i : ℕ = c.args.index in
@@ -22,13 +22,13 @@ returns-then-living-starts g c = λ base tells.
     subst (λ (v : ℕ). Stores ws ws' (first s.blocks PinBits + i) (bit_and (slice_index ws (first s.blocks PinBits + i)) v)) marks
     (subst (λ (v : ℕ). Stores ws ws' (first s.blocks PinBits + i) (bit_and v living)) pins
     (subst (λ (p : ℕ). Stores ws ws' (p + i) (bit_and c.get-pins.result living)) c.pin_base-then-living-starts.ensures c.store-then-living-starts.ensures)) in
-    word-falls base i s c.requires tells ws ws' start pin
+    word-falls base i s c.requires shows ws ws' start pin
 
 pub returns-else-living-starts : goal.returns-else-living-starts
-returns-else-living-starts g c = λ base tells.
+returns-else-living-starts g c = λ base shows.
     let words : List ℕ = g.W.Words.words c.args.words.now in
     let s : HeapState = state_over words c.args.layout.now 0 0 in
     let i : ℕ = c.args.index in
     let marks : c.get-living.result ≡ unlog_word s i = c.get-living.ensures ∙ ap (λ (p : ℕ). slice_index words (p + i)) c.unlog_base.ensures in
     let read : c.get-starts.result ≡ start_word s i = c.get-starts.ensures ∙ ap (λ (p : ℕ). slice_index words (p + i)) c.start_base.ensures in
-    word-stays base i s c.requires tells (sym marks ∙ c.if-living-starts.false ∙ read)
+    word-stays base i s c.requires shows (sym marks ∙ c.if-living-starts.false ∙ read)

@@ -1,6 +1,6 @@
 use Rattle.std.proofs.Common.{◌≡◌, ◌∙◌, ap, subst, ℕ, ◌<◌, ◌^◌, arith, false, List, slice_index}
 use Rattle.object_model.specs.Objects.{state_over}
-use Rattle.collector.proofs.ReleaseLoop.{going-first, going-on, extent, releasable, told, lawful-after, at-end}
+use Rattle.collector.proofs.ReleaseLoop.{going-first, going-on, extent, releasable, shown, lawful-after, at-end}
 use Rattle.collector.proofs.releasing.release_by.Goals as goal
 
 pub loop-block-init : goal.loop-block-init
@@ -16,10 +16,10 @@ release_next-requires-clause-releasable g c =
     let t = c.args.traced in let is = c.requires in
     releasable g.P.Plan.rules t.run.collect t.run.base t.row is.0 is.1 is.2 is.3 is.4 is.5.base c.loop-block.words.items c.loop-block.block c.loop-block.invariant (subst (λ n. c.loop-block.block < n) c.blocks-block-end.ensures c.loop-block-test.true)
 
-pub release_next-requires-clause-tells : goal.release_next-requires-clause-tells
-release_next-requires-clause-tells g c =
+pub release_next-requires-clause-shows : goal.release_next-requires-clause-shows
+release_next-requires-clause-shows g c =
     let t = c.args.traced in let is = c.requires in
-    told g.P.Plan.rules t.run.collect t.run.base t.row is.0 is.1 is.2 is.3 is.4 is.5.base c.loop-block.words.items c.loop-block.block c.loop-block.invariant c.args.known is.6 is.5.unlogs (subst (λ n. c.loop-block.block < n) c.blocks-block-end.ensures c.loop-block-test.true)
+    shown g.P.Plan.rules t.run.collect t.run.base t.row is.0 is.1 is.2 is.3 is.4 is.5.base c.loop-block.words.items c.loop-block.block c.loop-block.invariant c.args.known is.6 is.5.unlogs (subst (λ n. c.loop-block.block < n) c.blocks-block-end.ensures c.loop-block-test.true)
 
 pub loop-block-preserved : goal.loop-block-preserved
 loop-block-preserved g c =

@@ -5,33 +5,33 @@ use Rattle.collector.proofs.MarkedBlocks.{freed, kept}
 use Rattle.collector.proofs.releasing.release_by_bits.Goals as goal
 
 pub has_object-requires-clause-extent : goal.has_object-requires-clause-extent
-has_object-requires-clause-extent g c = let known = c.requires.tells in (c.keep_marked.ensures known.0 known.1).rest.extent ∙ c.requires.extent
+has_object-requires-clause-extent g c = let known = c.requires.shows in (c.keep_marked.ensures known.0 known.1).rest.extent ∙ c.requires.extent
 
 pub store-requires : goal.store-requires
 store-requires g c =
-    let known = c.requires.tells in
+    let known = c.requires.shows in
     let long = c.requires.extent in
     let same = (c.keep_marked.ensures known.0 known.1).rest.extent in
     let there = c.requires.block in
     omega (arith, c.block_at.ensures)
 
 pub free_block-requires-clause-extent : goal.free_block-requires-clause-extent
-free_block-requires-clause-extent g c = let known = c.requires.tells in (c.keep_marked.ensures known.0 known.1).rest.extent ∙ c.requires.extent
+free_block-requires-clause-extent g c = let known = c.requires.shows in (c.keep_marked.ensures known.0 known.1).rest.extent ∙ c.requires.extent
 
 pub returns-then-has_object : goal.returns-then-has_object
-returns-then-has_object g c = λ r collect base tells lines.
+returns-then-has_object g c = λ r collect base shows lines.
     let l = c.args.layout.now in
     let w = c.args.word.now in
     let mid : List ℕ = g.W.Words.words c.keep_marked.new.words in
     let new : List ℕ = g.W.Words.words c.store.new.words in
     let code : ℕ = code_of (record { kind = w.kind; class = w.class; owner = 0 }) in
     let some = c.has_object.ensures.some c.if-has_object.true in
-    kept r collect l base c.args.block (g.W.Words.words c.args.words.now) mid new w c.requires.block c.requires.valid c.requires.code c.requires.kind tells lines (c.keep_marked.ensures base tells)
+    kept r collect l base c.args.block (g.W.Words.words c.args.words.now) mid new w c.requires.block c.requires.valid c.requires.code c.requires.kind shows lines (c.keep_marked.ensures base shows)
     some.0 some.1 some.2
     (subst (λ (i : ℕ). Stores mid new i code) c.block_at.ensures (subst (λ (v : ℕ). Stores mid new c.block_at.result v) c.encode.ensures c.store.ensures))
 
 pub returns-else-has_object : goal.returns-else-has_object
-returns-else-has_object g c = λ r collect base tells lines.
+returns-else-has_object g c = λ r collect base shows lines.
     freed r collect c.args.layout.now base c.args.block (g.W.Words.words c.args.words.now) (g.W.Words.words c.keep_marked.new.words) (g.W.Words.words c.free_block.new.words)
-    c.args.word.now c.requires.block c.requires.valid c.requires.code c.requires.kind tells lines (c.keep_marked.ensures base tells)
+    c.args.word.now c.requires.block c.requires.valid c.requires.code c.requires.kind shows lines (c.keep_marked.ensures base shows)
     (c.has_object.ensures.none c.if-has_object.false) c.free_block.ensures

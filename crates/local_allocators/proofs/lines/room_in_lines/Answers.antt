@@ -7,7 +7,7 @@ use Rattle.object_model.specs.Objects.{state_of}
 use Rattle.local_allocators.proofs.BlockReads.{option-read}
 use Rattle.local_allocators.proofs.lines.room_in_lines.Goals as goal
 
--- what a test of an option against a block tells
+-- what a test of an option against a block says
 same-option : (o : Option ℕ) (k : ℕ) → option_eq nat_eq o (Some k) ≡ true → o ≡ Some k
 same-option None k is = absurd (let wrong : false ≡ true = is in cc)
 same-option (Some j) k is = ap (λ (n : ℕ). Some n) (eqb-true j k is)

@@ -1,7 +1,7 @@
 use Rattle.std.proofs.Common.{refl, []}
 use Rattle.ideal_heap.specs.declared.reply.Reply.TheVariants as reply
 use Rattle.ideal_heap.specs.Ideal.{empty}
-use Rattle.ideal_heap.specs.Runs.{after}
+use Rattle.ideal_heap.specs.Runs.{heap_after_run}
 use Rattle.managed_value.proofs.Programs as programs
 use Rattle.managed_value.proofs.laws.ideal_heaps_go_on.Goals as goal
 
@@ -24,7 +24,7 @@ pub returns-clause-kept : goal.returns-clause-kept
 returns-clause-kept g c = λ rules old new i keeps stands. programs.stands-still rules old new i keeps stands
 
 pub returns-clause-some : goal.returns-clause-some
-returns-clause-some g c = λ rules heap usable. (after empty usable.entries, programs.stands-after rules heap usable.entries usable.has)
+returns-clause-some g c = λ rules heap usable. (heap_after_run empty usable.entries, programs.stands-after rules heap usable.entries usable.has)
 
 pub returns-clause-grown : goal.returns-clause-grown
 returns-clause-grown g c = λ rules heap i stands. programs.stands-grown rules heap i stands

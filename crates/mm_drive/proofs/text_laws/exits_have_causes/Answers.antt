@@ -4,18 +4,18 @@ use Rattle.std.proofs.lemmas.Option.{none-some}
 use Rattle.std.proofs.Math.Seq.{take-length}
 use Rattle.mm_drive.specs.declared.status.Status.{Status}
 use Rattle.mm_drive.specs.declared.status.Status.TheVariants as status
-use Rattle.mm_drive.specs.Statuses.{number_of}
+use Rattle.mm_drive.specs.Statuses.{status_number}
 use Rattle.mm_drive.specs.Printed.{job_files}
 use Rattle.mm_drive.proofs.Joining.{names-asked}
 use Rattle.mm_drive.proofs.text_laws.exits_have_causes.Goals as goal
 
 pub returns-clause-no_job : goal.returns-clause-no_job
 returns-clause-no_job c n exit = elim (exit.2.usage refl) as (λ _. (n ≡ 2) ⊎ (n ≡ 7)) [
-  | inl e ↦ inl (exit.1 ∙ ap number_of e)
-  | inr e ↦ inr (exit.1 ∙ ap number_of e)
+  | inl e ↦ inl (exit.1 ∙ ap status_number e)
+  | inr e ↦ inr (exit.1 ∙ ap status_number e)
 ]
 
-usage-from : (s : Status) → number_of s ≡ 2 → s ≡ status.Usage
+usage-from : (s : Status) → status_number s ≡ 2 → s ≡ status.Usage
 usage-from status.Ok e = absurd (omega (arith, e))
 usage-from status.Usage e = refl
 usage-from status.ReadFault e = absurd (omega (arith, e))

@@ -5,7 +5,7 @@ use Rattle.std.proofs.lemmas.List.Elements.{All-push}
 use Rattle.std.proofs.lemmas.Option.{slice_get-map, slice_get-get_or}
 use Rattle.ideal_heap.specs.declared.command.Command.{Command}
 use Rattle.command_line.specs.Orders.{texts}
-use Rattle.mm_runtime.specs.Managers.{IsRunnable}
+use Rattle.mm_runtime.specs.Managers.{IsRunnableTrace}
 use Rattle.mm_drive.proofs.Joining.{halts, more-traces, one-more, asks-more, asks-prefix}
 use Rattle.mm_drive.proofs.traces.traces_of_files.Goals as goal
 
@@ -44,7 +44,7 @@ loop-place-preserved g c =
       read = rw (add-one k, one-more (texts files) k name is, more)
           (more-traces (s.state c.args.sources.now).content (take k (texts files)) c.loop-place.traces.items name c.in-Ok.commands c.loop-place.invariant.read (rw c.loop-place.invariant.same at c.in-Ok.ensures.ok));
       asked = rw (add-one k) (asks-more (texts files) k name _ (s.state c.args.sources.now).asked (s.state c.loop-place.sources).asked (s.state c.trace_of_file.new.sources).asked is c.loop-place.invariant.asked c.in-Ok.ensures.asked);
-      fit = rw more (All-push IsRunnable c.loop-place.traces.items c.in-Ok.commands c.loop-place.invariant.fit c.in-Ok.ensures.fit);
+      fit = rw more (All-push IsRunnableTrace c.loop-place.traces.items c.in-Ok.commands c.loop-place.invariant.fit c.in-Ok.ensures.fit);
       count = search rules;
       room = search rules;
       later = search rules;

@@ -1,9 +1,9 @@
 -- One part after another.
 use Rattle.std.proofs.Common.{◌≡◌, ◌+◌, ◌<◌, [], ◌∷◌, ◌++◌, length, arith}
 use Rattle.std.specs.Prelude.{slice_set}
-use Rattle.plain_world.specs.Calls.{number_at}
+use Rattle.plain_world.specs.Calls.{mutator_number_at}
 use Rattle.block_regions.proofs.Elements.{read-some}
-use Rattle.mm_runtime.proofs.Gathering.{parts-none, parts-more, parts-ends}
+use Rattle.mm_runtime.proofs.PartsInTurn.{parts-none, parts-more, parts-ends}
 use Rattle.mm_runtime.proofs.epoch.run_parts.Goals as goal
 
 pub loop-m-init : goal.loop-m-init
@@ -34,7 +34,7 @@ loop-m-preserved g c =
     (let test = c.loop-m-test.true in let many = c.len-m-end.ensures in let items = c.args.progress.now.ok.0 in let count = c.loop-m.invariant.runs.count in omega arith) in
     let there = read-some c.loop-m.progress.items c.loop-m.m c.index_mut.result.now below c.index_mut.ensures.value in
     let part = c.run_part.ensures in
-    let number : number_at c.args.world.now c.loop-m.m ≡ c.loop-m.m + 1 =
+    let number : mutator_number_at c.args.world.now c.loop-m.m ≡ c.loop-m.m + 1 =
     c.requires.numbers c.loop-m.m (let places = c.requires.places in let count = c.loop-m.invariant.runs.count in omega arith) in record {
       runs = parts-ends c.args.world.now c.run_part.new.world c.args.progress.now.items (slice_set c.loop-m.progress.items c.loop-m.m c.run_part.new.progress) (c.loop-m.m + 1)
           (c.loop-m.ends.items ++ c.run_part.result ∷ []) c.push_reserved.new.self.items c.push_reserved.ensures.items

@@ -7,26 +7,26 @@ use Rattle.mutator_calls.proofs.access.put.Goals as goal
 pub returns-then-must_log-clause-goes : goal.returns-then-must_log-clause-goes
 returns-then-must_log-clause-goes g c =
     let first = c.in-Ok.ensures.goes.0 in
-    let looks = g.met.S.Seat.looks_again _ _ _ first c.must_log.ensures.looks in
-    let address = g.S.Seat.address c.must_log.new.seat c.args.s in
+    let looks = g.met.S.MutatorSteps.looks_again _ _ _ first c.must_log.ensures.looks in
+    let address = g.S.MutatorSteps.address c.must_log.new.seat c.args.s in
     let needed = c.must_log.ensures.needed c.if-must_log.true in (
       address ∷ [],
-      g.met.S.Seat.one_after_another _ _ _ nothing (logs (address ∷ []) (command.Put c.args.s c.args.i c.args.v) reply.Done)
-          (g.met.S.Seat.loads_do_nothing _ _ looks) c.log_and_store_field.ensures.goes,
+      g.met.S.MutatorSteps.one_after_another _ _ _ nothing (logs (address ∷ []) (command.Put c.args.s c.args.i c.args.v) reply.Done)
+          (g.met.S.MutatorSteps.loads_do_nothing _ _ looks) c.log_and_store_field.ensures.goes,
       inr (
-        ap (λ a. a ∷ []) (g.met.S.Seat.registers_stay _ _ c.args.s looks),
+        ap (λ a. a ∷ []) (g.met.S.MutatorSteps.registers_stay _ _ c.args.s looks),
         refl,
-        g.met.S.Seat.plans_stay _ _ first needed.0,
-        g.met.S.Seat.ages_stay _ _ c.args.s first needed.1,
-        g.met.S.Seat.marks_stay _ _ c.args.s first needed.2,
+        g.met.S.MutatorSteps.plans_stay _ _ first needed.0,
+        g.met.S.MutatorSteps.ages_stay _ _ c.args.s first needed.1,
+        g.met.S.MutatorSteps.marks_stay _ _ c.args.s first needed.2,
       ),
     )
 
 pub returns-else-must_log-clause-goes : goal.returns-else-must_log-clause-goes
 returns-else-must_log-clause-goes g c =
-    let looks = g.met.S.Seat.looks_again _ _ _ c.in-Ok.ensures.goes.0 c.must_log.ensures.looks in (
+    let looks = g.met.S.MutatorSteps.looks_again _ _ _ c.in-Ok.ensures.goes.0 c.must_log.ensures.looks in (
       [],
-      g.met.S.Seat.one_after_another _ _ _ nothing (enters (command.Put c.args.s c.args.i c.args.v) reply.Done)
-          (g.met.S.Seat.loads_do_nothing _ _ looks) c.store_field.ensures.goes,
+      g.met.S.MutatorSteps.one_after_another _ _ _ nothing (enters (command.Put c.args.s c.args.i c.args.v) reply.Done)
+          (g.met.S.MutatorSteps.loads_do_nothing _ _ looks) c.store_field.ensures.goes,
       inl (refl, λ done. (c.must_log.new.seat, looks, c.must_log.ensures.barred c.if-must_log.false)),
     )

@@ -24,17 +24,17 @@ returns-then-take_own_hole-clause-finds g c = λ _.
     let drew = c.in-Err.ensures.goes refl in
     let own = c.if-take_own_hole.ensures.region refl in
     let same = c.if-take_own_hole.ensures.books in
-    let short : IsShort (g.S.Seat.books c.take_own_hole.new.self) c.in-Err.ticket = subst (λ b. IsShort b c.in-Err.ticket) (sym same) c.in-Err.ensures.short in
-    let stayed = g.met.S.Seat.regions_stay _ _ (draws drew.0) drew.1 refl in (
+    let short : IsShort (g.S.MutatorSteps.books c.take_own_hole.new.self) c.in-Err.ticket = subst (λ b. IsShort b c.in-Err.ticket) (sym same) c.in-Err.ensures.short in
+    let stayed = g.met.S.MutatorSteps.regions_stay _ _ (draws drew.0) drew.1 refl in (
       [],
       [],
       drew.0,
-      subst (λ n. g.S.Seat.goes c.args.seat.now (searches [] [] n) c.take_own_hole.new.self) (add-zero drew.0)
-          (g.met.S.Seat.one_after_another _ _ _ (draws drew.0) (takes []) drew.1 c.if-take_own_hole.ensures.goes),
+      subst (λ n. g.S.MutatorSteps.makes_steps c.args.seat.now (searches [] [] n) c.take_own_hole.new.self) (add-zero drew.0)
+          (g.met.S.MutatorSteps.one_after_another _ _ _ (draws drew.0) (takes []) drew.1 c.if-take_own_hole.ensures.goes),
       FindsRoom.in_hole own.0 own.2 (inl refl) refl c.requires.full
-          (ComesToHoles.in_vain c.in-Err.ticket c.requires.overflow (subst (λ o. Draws (g.S.Seat.has_budget c.args.seat.now)
-          (g.S.Seat.books c.args.seat.now).ticket o drew.0) c.in-Err.ensures.short.ticket drew.2) short.ticket short.few)
-          (inl ((g.met.S.Seat.tried_blocks_stay _ _ c.args.size own.0 stayed).1 own.1)),
+          (ComesToHoles.in_vain c.in-Err.ticket c.requires.overflow (subst (λ o. Draws (g.S.MutatorSteps.has_budget c.args.seat.now)
+          (g.S.MutatorSteps.books c.args.seat.now).ticket o drew.0) c.in-Err.ensures.short.ticket drew.2) short.ticket short.few)
+          (inl ((g.met.S.MutatorSteps.tried_blocks_stay _ _ c.args.size own.0 stayed).1 own.1)),
     )
 
 pub returns-then-take_some_hole-clause-offered : goal.returns-then-take_some_hole-clause-offered
@@ -47,20 +47,20 @@ returns-then-take_some_hole-clause-finds g c = λ _.
     let drew = c.in-Err.ensures.goes refl in
     let took = c.if-take_some_hole.ensures.taken refl in
     let same = c.if-take_some_hole.ensures.books ∙ c.if-take_own_hole.ensures.books in
-    let short : IsShort (g.S.Seat.books c.take_some_hole.new.seat) c.in-Err.ticket = subst (λ b. IsShort b c.in-Err.ticket) (sym same) c.in-Err.ensures.short in
-    let stayed = g.met.S.Seat.regions_stay _ _ (draws drew.0) drew.1 refl in (
+    let short : IsShort (g.S.MutatorSteps.books c.take_some_hole.new.seat) c.in-Err.ticket = subst (λ b. IsShort b c.in-Err.ticket) (sym same) c.in-Err.ensures.short in
+    let stayed = g.met.S.MutatorSteps.regions_stay _ _ (draws drew.0) drew.1 refl in (
       took.1,
       [],
       drew.0,
-      subst (λ n. g.S.Seat.goes c.args.seat.now (searches took.1 [] n) c.take_some_hole.new.seat) (add-zero drew.0)
-          (g.met.S.Seat.one_after_another _ _ _ (draws drew.0) (takes took.1) drew.1
-          (g.met.S.Seat.one_after_another _ _ _ nothing (takes took.1) c.if-take_own_hole.ensures.goes took.3)),
+      subst (λ n. g.S.MutatorSteps.makes_steps c.args.seat.now (searches took.1 [] n) c.take_some_hole.new.seat) (add-zero drew.0)
+          (g.met.S.MutatorSteps.one_after_another _ _ _ (draws drew.0) (takes took.1) drew.1
+          (g.met.S.MutatorSteps.one_after_another _ _ _ nothing (takes took.1) c.if-take_own_hole.ensures.goes took.3)),
       FindsRoom.in_hole took.0 took.5 took.2 refl c.requires.full
-          (ComesToHoles.in_vain c.in-Err.ticket c.requires.overflow (subst (λ o. Draws (g.S.Seat.has_budget c.args.seat.now)
-          (g.S.Seat.books c.args.seat.now).ticket o drew.0) c.in-Err.ensures.short.ticket drew.2) short.ticket short.few)
+          (ComesToHoles.in_vain c.in-Err.ticket c.requires.overflow (subst (λ o. Draws (g.S.MutatorSteps.has_budget c.args.seat.now)
+          (g.S.MutatorSteps.books c.args.seat.now).ticket o drew.0) c.in-Err.ensures.short.ticket drew.2) short.ticket short.few)
           (inr (
             (λ j tried. c.in-Err.ensures.lacked j refl tried
-                (c.if-take_own_hole.ensures.lacks refl j ((g.met.S.Seat.tried_blocks_stay _ _ c.args.size j stayed).0 tried))),
+                (c.if-take_own_hole.ensures.lacks refl j ((g.met.S.MutatorSteps.tried_blocks_stay _ _ c.args.size j stayed).0 tried))),
             took.4,
           )),
     )
@@ -69,24 +69,24 @@ pub returns-clause-goes : goal.returns-clause-goes
 returns-clause-goes g c = λ _.
     let drew = c.in-Err.ensures.goes refl in (
       drew.0,
-      subst (λ n. g.S.Seat.goes c.args.seat.now (draws n) c.take_some_hole.new.seat) (add-zero drew.0)
-          (g.met.S.Seat.one_after_another _ _ _ (draws drew.0) nothing drew.1
-          (g.met.S.Seat.one_after_another _ _ _ nothing nothing c.if-take_own_hole.ensures.goes (c.if-take_some_hole.ensures.goes refl))),
-      subst (λ o. Draws (g.S.Seat.has_budget c.args.seat.now) (g.S.Seat.books c.args.seat.now).ticket o drew.0)
+      subst (λ n. g.S.MutatorSteps.makes_steps c.args.seat.now (draws n) c.take_some_hole.new.seat) (add-zero drew.0)
+          (g.met.S.MutatorSteps.one_after_another _ _ _ (draws drew.0) nothing drew.1
+          (g.met.S.MutatorSteps.one_after_another _ _ _ nothing nothing c.if-take_own_hole.ensures.goes (c.if-take_some_hole.ensures.goes refl))),
+      subst (λ o. Draws (g.S.MutatorSteps.has_budget c.args.seat.now) (g.S.MutatorSteps.books c.args.seat.now).ticket o drew.0)
           (sym (ap (λ b. b.ticket) (c.if-take_some_hole.ensures.books ∙ c.if-take_own_hole.ensures.books))) drew.2,
     )
 
 pub returns-clause-spent : goal.returns-clause-spent
 returns-clause-spent g c = λ _ j tried.
     let drew = c.in-Err.ensures.goes refl in
-    let stayed = g.met.S.Seat.regions_stay _ _ (draws drew.0) drew.1 refl in
+    let stayed = g.met.S.MutatorSteps.regions_stay _ _ (draws drew.0) drew.1 refl in
     c.in-Err.ensures.lacked j refl tried
-    (c.if-take_own_hole.ensures.lacks refl j ((g.met.S.Seat.tried_blocks_stay _ _ c.args.size j stayed).0 tried))
+    (c.if-take_own_hole.ensures.lacks refl j ((g.met.S.MutatorSteps.tried_blocks_stay _ _ c.args.size j stayed).0 tried))
 
 pub returns-clause-cause : goal.returns-clause-cause
 returns-clause-cause g c =
     let same = c.if-take_some_hole.ensures.books ∙ c.if-take_own_hole.ensures.books in
-    let short : IsShort (g.S.Seat.books c.take_some_hole.new.seat) c.in-Err.ticket = subst (λ b. IsShort b c.in-Err.ticket) (sym same) c.in-Err.ensures.short in (
+    let short : IsShort (g.S.MutatorSteps.books c.take_some_hole.new.seat) c.in-Err.ticket = subst (λ b. IsShort b c.in-Err.ticket) (sym same) c.in-Err.ensures.short in (
       c.requires.most,
       (λ k below. c.if-take_some_hole.ensures.lacks k refl below),
       short.ticket,

@@ -19,9 +19,9 @@ returns-clause-made g c =
     let size = size_of c.args.refs c.args.nums in
     let after = c.allocate_elsewhere.new.seat in
     subst (λ s. MatchAllocated c.allocate_elsewhere.result
-    (λ name. (taken : List ℕ) × (granted : List ℕ) × (drawn : ℕ) × g.S.Seat.goes s (births_with c.args.d c.args.refs c.args.nums name taken granted drawn) after
-    × FindsRoom (g.S.Seat.lacks after size) (g.S.Seat.is_used after) (g.S.Seat.allocates_in s size) (g.S.Seat.allocates_in after size)
-    (IsNextTicket g.S.Seat.goes g.S.Seat.has_budget s) (g.S.Seat.is_full s size) (IsSpent g.S.Seat.allocates_in g.S.Seat.lacks s size)
-    (g.S.Seat.is_overflow s size) (g.S.Seat.keeps_hole s after) (g.S.Seat.books after).blocks (g.S.Seat.books after).allowance
-    (g.S.Seat.books s).ticket (g.S.Seat.books after).ticket taken granted drawn) (λ need. ⊤))
+    (λ name. (taken : List ℕ) × (granted : List ℕ) × (drawn : ℕ) × g.S.MutatorSteps.makes_steps s (births_with c.args.d c.args.refs c.args.nums name taken granted drawn) after
+    × FindsRoom (g.S.MutatorSteps.has_no_room after size) (g.S.MutatorSteps.is_used after) (g.S.MutatorSteps.allocates_in s size) (g.S.MutatorSteps.allocates_in after size)
+    (IsNextTicket g.S.MutatorSteps.makes_steps g.S.MutatorSteps.has_budget s) (g.S.MutatorSteps.is_full s size) (IsSpent g.S.MutatorSteps.allocates_in g.S.MutatorSteps.has_no_room s size)
+    (g.S.MutatorSteps.is_overflow s size) (g.S.MutatorSteps.keeps_hole s after) (g.S.MutatorSteps.books after).blocks (g.S.MutatorSteps.books after).allowance
+    (g.S.MutatorSteps.books s).ticket (g.S.MutatorSteps.books after).ticket taken granted drawn) (λ need. ⊤))
     c.in_default.ensures.same c.allocate_elsewhere.ensures.made

@@ -11,7 +11,7 @@ returns-then-take_hole-clause-taken g c = λ _. let took = c.if-take_hole.ensure
   c.loop-block.block,
   took.0,
   took.1,
-  g.met.S.Seat.one_after_another _ _ _ nothing (takes took.0) c.loop-block.invariant.2 took.2,
+  g.met.S.MutatorSteps.one_after_another _ _ _ nothing (takes took.0) c.loop-block.invariant.2 took.2,
   (λ j below. c.if-take_hole.ensures.others c.args.size j (λ same. let less : j < c.loop-block.block = below in omega arith)
       (c.loop-block.invariant.3 j below)),
   c.if-take_hole.ensures.region refl,
@@ -31,8 +31,8 @@ pub loop-block-preserved : goal.loop-block-preserved
 loop-block-preserved g c = (
   c.if-take_hole.ensures.ready refl,
   c.loop-block.invariant.1,
-  g.met.S.Seat.one_after_another _ _ _ nothing nothing c.loop-block.invariant.2 (c.if-take_hole.ensures.goes refl),
-  below_more (λ k. g.S.Seat.lacks c.take_hole.new.self c.args.size k) c.loop-block.block
+  g.met.S.MutatorSteps.one_after_another _ _ _ nothing nothing c.loop-block.invariant.2 (c.if-take_hole.ensures.goes refl),
+  below_more (λ k. g.S.MutatorSteps.has_no_room c.take_hole.new.self c.args.size k) c.loop-block.block
       (λ k below. c.if-take_hole.ensures.stays c.args.size k refl (c.loop-block.invariant.3 k below))
       (c.if-take_hole.ensures.lacks refl),
   c.if-take_hole.ensures.books ∙ c.loop-block.invariant.4,

@@ -1,11 +1,11 @@
 use Rattle.std.proofs.Common.{◌≡◌, ◌⊎◌, inl, inr}
 use Rattle.object_model.specs.Objects.{word_at}
-use Rattle.mutator_core.specs.Logs.{heap_after, HasRaised}
+use Rattle.mutator_core.specs.Logs.{heap_after, HasRaisedStop}
 use Rattle.mutator_core.proofs.Ending.{log-seen}
 use Rattle.mutator_core.proofs.laws.seen_words_stay.Goals as goal
 
 pub returns-clause-stop : goal.returns-clause-stop
-returns-clause-stop c p i log is = elim (log-seen p i log is).stop as (λ _. (word_at (heap_after p log) 0 ≡ 0) ⊎ HasRaised p log (word_at (heap_after p log) 0)) [
+returns-clause-stop c p i log is = elim (log-seen p i log is).stop as (λ _. (word_at (heap_after p log) 0 ≡ 0) ⊎ HasRaisedStop p log (word_at (heap_after p log) 0)) [
   | inl none ↦ inl none
   | inr some ↦ inr (record { known = some.0; raised = some.1 })
 ]

@@ -1,6 +1,6 @@
 use Rattle.std.proofs.Common.{sym, subst}
 use Rattle.sessions.specs.Collecting.{Remembers}
-use Rattle.plain_row.proofs.Facts as facts
+use Rattle.plain_row.proofs.EpochFacts as facts
 use Rattle.plain_world.proofs.CallLemmas.{stop-cases}
 use Rattle.plain_world.proofs.laws.worlds_stay_in_order.Goals as goal
 

@@ -9,17 +9,17 @@ use Rattle.object_model.proofs.OneKind.{kind-from}
 use Rattle.sessions.specs.Fitting.{class_of}
 use Rattle.plan_api.specs.Holes.{IsFirstPart, IsFirstHole}
 use Rattle.plan_api.proofs.Tallies.{kind-of-word}
-use Rattle.plan_api.proofs.HoleTests.{kind-told}
+use Rattle.plan_api.proofs.HoleTests.{kind-shown}
 use Rattle.plan_api.proofs.Parts.{first-lines}
 use Rattle.line_marks.proofs.HoleRuns.{lines-read}
-use Rattle.plan_api.proofs.CellParts.{apart-anyway, class-told, next-part, no-part}
+use Rattle.plan_api.proofs.CellParts.{apart-anyway, class-shown, next-part, no-part}
 use Rattle.plan_api.proofs.readers.hole_in_block.Goals as goal
 
 pub returns-then-ne : goal.returns-then-ne
 returns-then-ne g c = λ number base.
     let s = state_over (g.W.Words.words c.args.words.now) c.args.layout.now number base in
     let word = c.block_word_in-word in
-    kind-told c.args.fill s c.args.block c.args.from c.args.size word.result word.ensures.valid word.ensures.code (differs_true the_type word.result.kind c.args.fill (sym c.if-ne.ensures))
+    kind-shown c.args.fill s c.args.block c.args.from c.args.size word.result word.ensures.valid word.ensures.code (differs_true the_type word.result.kind c.args.fill (sym c.if-ne.ensures))
 
 pub returns-then-eq : goal.returns-then-eq
 returns-then-eq g c = λ number base.
@@ -50,7 +50,7 @@ returns-then-class-word g c = λ number base.
     let cells : c.args.fill ≡ kinds.Cells = differs_false the_type (search rules) c.args.fill kinds.Cells (sym c.if-ne-2.ensures) in
     let class : class_at s k ≡ word.result.class = (parts_of_code word.result (block_word s k) word.ensures.valid word.ensures.code).1 in
     subst (λ (kind : Kind). IsFirstHole kind s k c.args.from c.args.size None) (sym cells)
-    (class-told s k c.args.from c.args.size (λ same. let e : ◌≡◌ {A = Option ℕ} (Some c.in_ok-class.class) (Some word.result.class) = c.in_ok-class.ensures.class ∙ same ∙ ap (λ (n : ℕ). Some n) class in c.if-class-word.true (cc)))
+    (class-shown s k c.args.from c.args.size (λ same. let e : ◌≡◌ {A = Option ℕ} (Some c.in_ok-class.class) (Some word.result.class) = c.in_ok-class.ensures.class ∙ same ∙ ap (λ (n : ℕ). Some n) class in c.if-class-word.true (cc)))
 
 pub returns-in_err-next : goal.returns-in_err-next
 returns-in_err-next g c = λ number base.

@@ -2,8 +2,8 @@ use Rattle.std.proofs.Common.{ℕ, ◌<◌}
 use Rattle.std.specs.Prelude.{Vec, slice_index_or}
 use Rattle.std.specs.declared.alloc.Global.{Global}
 use Rattle.ideal_heap.specs.declared.command.Command.{Command}
-use Rattle.mm_runtime.specs.Managers.{IsRunnable}
+use Rattle.mm_runtime.specs.Managers.{IsRunnableTrace}
 use Rattle.session_tests.proofs.whole_sessions.check_runnable.Given as goal
 
 abbrev pub invariant-loop-trace : goal.invariant-loop-trace
-invariant-loop-trace g l = (k : ℕ) (d : Vec Command Global) → k < l.trace-index → IsRunnable (slice_index_or l.traces.items k d).items
+invariant-loop-trace g l = (k : ℕ) (d : Vec Command Global) → k < l.trace-index → IsRunnableTrace (slice_index_or l.traces.items k d).items

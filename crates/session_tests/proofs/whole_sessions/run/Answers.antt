@@ -1,6 +1,6 @@
 use Rattle.std.proofs.lemmas.List.Elements.{All-map}
-use Rattle.mm_runtime.specs.Managers.{IsRunnable}
+use Rattle.mm_runtime.specs.Managers.{IsRunnableTrace}
 use Rattle.session_tests.proofs.whole_sessions.run.Goals as goal
 
 pub begin-requires-clause-runnable : goal.begin-requires-clause-runnable
-begin-requires-clause-runnable g c = All-map IsRunnable (λ v. v.items) c.args.traces.items c.check_runnable.ensures
+begin-requires-clause-runnable g c = All-map IsRunnableTrace (λ v. v.items) c.args.traces.items c.check_runnable.ensures

@@ -1,8 +1,8 @@
-use Rattle.mm_runtime.specs.Managers.{left, IsReady}
+use Rattle.mm_runtime.specs.Managers.{left, ClosesSome}
 use Rattle.session_tests.proofs.whole_sessions.run.Given as goal
 
 abbrev pub invariant-epochs : goal.invariant-epochs
-invariant-epochs g l = IsReady g.P.Plan.rules l.manager
+invariant-epochs g l = ClosesSome g.P.Plan.rules l.manager
 
 abbrev pub decreases-epochs : goal.decreases-epochs
 decreases-epochs g l = left l.manager.progress.items

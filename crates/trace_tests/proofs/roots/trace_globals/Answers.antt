@@ -1,7 +1,7 @@
 use Rattle.std.proofs.Common.{◌++◌, sym, ap, ◌∙◌, subst}
 use Rattle.trace_core.specs.Views.{set_view}
 use Rattle.trace_tests.specs.Tokens.{AreGrey, AreUnset}
-use Rattle.trace_tests.proofs.Going.{more-grey, first-unset, set-grey, rest-unset}
+use Rattle.trace_tests.proofs.TracersGoOn.{more-grey, first-unset, set-grey, rest-unset}
 use Rattle.trace_tests.proofs.roots.trace_globals.Goals as goal
 
 pub loop-global-init : goal.loop-global-init

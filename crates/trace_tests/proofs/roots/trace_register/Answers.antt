@@ -5,7 +5,7 @@ use Rattle.plain_tracer.specs.Tracers.{ClaimsRoot}
 use Rattle.trace_core.specs.CallEvents.{taken_in}
 use Rattle.trace_core.proofs.Counting.{hits-more}
 use Rattle.plain_tracer.proofs.Following.{won-token}
-use Rattle.trace_tests.proofs.Going.{same-grey, won-goes}
+use Rattle.trace_tests.proofs.TracersGoOn.{same-grey, won-goes}
 use Rattle.trace_tests.proofs.roots.trace_register.Goals as goal
 
 pub copy-grey-requires : goal.copy-grey-requires

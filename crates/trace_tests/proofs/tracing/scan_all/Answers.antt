@@ -1,6 +1,6 @@
 use Rattle.std.proofs.Common.{◌++◌, sym, ap, ◌∙◌, subst}
 use Rattle.trace_tests.specs.Tokens.{AreGrey}
-use Rattle.trace_tests.proofs.Going.{last-grey, scanned-grey}
+use Rattle.trace_tests.proofs.TracersGoOn.{last-grey, scanned-grey}
 use Rattle.trace_tests.proofs.tracing.scan_all.Goals as goal
 
 pub scan_object-requires-clause-tracing : goal.scan_object-requires-clause-tracing

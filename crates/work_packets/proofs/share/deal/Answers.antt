@@ -2,7 +2,7 @@ use Rattle.std.proofs.Common.{rules, ◌≡◌, ◌⊎◌, ◌<◌, ◌+◌, ◌
 use Rattle.std.specs.List.Sorted.{IsPermutation}
 use Rattle.std.proofs.lemmas.List.{length-map}
 use Rattle.std.proofs.lemmas.List.Sorted.{IsPermutation-refl, IsPermutation-push_more}
-use Rattle.work_packets.specs.Shares.{packets_in, sizes, AreCounted}
+use Rattle.work_packets.specs.Shares.{packets_in, sizes, AreNumberedFrom}
 use Rattle.work_packets.proofs.Dealing.{AreDealt, none-dealt, next-dealt, then-even}
 use Rattle.work_packets.proofs.share.deal.Goals as goal
 
@@ -44,4 +44,4 @@ pub returns-clause-even : goal.returns-clause-even
 returns-clause-even g c = let h = c.loop-p.invariant.dealt in (h.0, then-even h.0 c.loop-p.i _ h.1)
 
 pub returns-clause-numbers : goal.returns-clause-numbers
-returns-clause-numbers g c = subst (AreCounted 1) (sym c.loop-p.invariant.numbers) c.in_ok-shares.ensures.numbers
+returns-clause-numbers g c = subst (AreNumberedFrom 1) (sym c.loop-p.invariant.numbers) c.in_ok-shares.ensures.numbers

@@ -4,7 +4,7 @@ use Rattle.heap_layout.specs.Zones.{row_words}
 use Rattle.heap_graph.specs.declared.walk.Walk.{Walk}
 use Rattle.object_model.specs.Objects.{HeapState, IsHeld}
 use Rattle.object_model.specs.Heaps.{heap_state}
-use Rattle.heap_graph.specs.Walks.{met, Closes}
+use Rattle.heap_graph.specs.Walks.{met, ClosesFields}
 use Rattle.heap_graph.proofs.WalkLemmas.{met-length, met-most, met-at, more-met, closes-nothing, closes-next}
 use Rattle.heap_graph.proofs.walk.Walk.follow.Goals as goal
 
@@ -45,4 +45,4 @@ pub returns-clause-closes : goal.returns-clause-closes
 returns-clause-closes c =
     let w : Walk = c.loop-next.self in
     let all : c.loop-next.next ≡ length (met w) = omega (arith, met-length w, c.len.ensures, w.places.ok) in
-    subst (λ n. Closes (heap_state c.args.heap.now) n (met c.args.self.now) (met w)) all c.loop-next.invariant.closes
+    subst (λ n. ClosesFields (heap_state c.args.heap.now) n (met c.args.self.now) (met w)) all c.loop-next.invariant.closes

@@ -1,7 +1,7 @@
 use Rattle.std.proofs.Common.{◌≤◌, ◌-◌, length}
 use Rattle.heap_layout.specs.Zones.{row_words}
 use Rattle.object_model.specs.Heaps.{heap_state}
-use Rattle.heap_graph.specs.Walks.{met, IsWalk, Closes}
+use Rattle.heap_graph.specs.Walks.{met, IsWalk, ClosesFields}
 use Rattle.heap_graph.proofs.walk.Walk.follow.Given as goal
 
 abbrev pub decreases-loop-next : goal.decreases-loop-next
@@ -11,5 +11,5 @@ abbrev pub invariant-loop-next : goal.invariant-loop-next
 invariant-loop-next l = record {
   walk : IsWalk (heap_state l.heap) l.self;
   inside : l.next ≤ length (met l.self);
-  closes : Closes (heap_state l.heap) l.next (met l.initial.self) (met l.self);
+  closes : ClosesFields (heap_state l.heap) l.next (met l.initial.self) (met l.self);
 }

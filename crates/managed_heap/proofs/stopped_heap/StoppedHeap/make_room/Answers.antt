@@ -8,7 +8,7 @@ use Rattle.object_model.specs.Heaps.{heap_state}
 use Rattle.collector.specs.Collected.{IsOffered}
 use Rattle.managed_heap.specs.Stopped.{collections_of}
 use Rattle.managed_heap.proofs.Collected as collected
-use Rattle.managed_heap.proofs.Serving as serving
+use Rattle.managed_heap.proofs.ServedNeeds as serving
 use Rattle.managed_heap.proofs.stopped_heap.StoppedHeap.make_room.Goals as goal
 
 pub collect-requires-clause-offered : goal.collect-requires-clause-offered

@@ -2,10 +2,10 @@ use Rattle.std.proofs.Common.{◌≡◌, ap, ◌∙◌, arith, ◌+◌, ◌<◌,
 use Rattle.object_model.specs.Objects.{size_of}
 use Rattle.managed_heap.specs.declared.place.Placed.TheVariants as answer
 use Rattle.managed_heap.specs.Stopped.{collections_of}
-use Rattle.managed_heap.proofs.Putting as putting
+use Rattle.managed_heap.proofs.NeedsWritten as putting
 use Rattle.managed_heap.proofs.BirthCounts.{may-kept}
 use Rattle.managed_heap.proofs.Noted as noted
-use Rattle.managed_heap.proofs.Serving as serving
+use Rattle.managed_heap.proofs.ServedNeeds as serving
 use Rattle.managed_heap.proofs.stopped_heap.StoppedHeap.place_or_collect.Goals as goal
 
 pub size_words-size-requires-clause-refs : goal.size_words-size-requires-clause-refs
@@ -20,84 +20,84 @@ size_words-size-requires-clause-nums g c =
     let same : c.shape_of.result.nums ≡ c.args.need.nums = c.shape_of.ensures.nums in
     omega arith
 
-pub find-requires-clause-most : goal.find-requires-clause-most
-find-requires-clause-most g c =
-    putting.most-words c.args.self c.args.m c.args.need c.requires.may c.size_words-size.result c.shape_of.result.refs c.shape_of.result.nums
+pub find_place-requires-clause-most : goal.find_place-requires-clause-most
+find_place-requires-clause-most g c =
+    putting.most-words c.args.self c.args.number c.args.need c.requires.may c.size_words-size.result c.shape_of.result.refs c.shape_of.result.nums
     c.size_words-size.ensures c.shape_of.ensures.refs c.shape_of.ensures.nums
 
-pub place-stopped-requires-clause-stopped : goal.place-stopped-requires-clause-stopped
-place-stopped-requires-clause-stopped g c = noted.stopped-found g.P.Plan.rules c.args.self c.find.new.self c.find.ensures.rest c.find.ensures.notes c.requires.stopped
+pub place_need-stopped-requires-clause-stopped : goal.place_need-stopped-requires-clause-stopped
+place_need-stopped-requires-clause-stopped g c = noted.stopped-found g.P.Plan.rules c.args.self c.find_place.new.self c.find_place.ensures.rest c.find_place.ensures.notes c.requires.stopped
 
-pub place-stopped-requires-clause-may : goal.place-stopped-requires-clause-may
-place-stopped-requires-clause-may g c = noted.may-found g.P.Plan.rules c.args.self c.find.new.self c.find.ensures.rest c.find.ensures.notes c.args.m c.args.need c.requires.may
+pub place_need-stopped-requires-clause-may : goal.place_need-stopped-requires-clause-may
+place_need-stopped-requires-clause-may g c = noted.may-found g.P.Plan.rules c.args.self c.find_place.new.self c.find_place.ensures.rest c.find_place.ensures.notes c.args.number c.args.need c.requires.may
 
-pub place-stopped-requires-clause-spot : goal.place-stopped-requires-clause-spot
-place-stopped-requires-clause-spot g c =
-    noted.spot-found g.P.Plan.rules c.args.self c.find.new.self c.find.ensures.rest c.find.ensures.notes c.size_words-size.result (size_of c.args.need.refs c.args.need.nums) c.in-Some.spot
+pub place_need-stopped-requires-clause-spot : goal.place_need-stopped-requires-clause-spot
+place_need-stopped-requires-clause-spot g c =
+    noted.spot-found g.P.Plan.rules c.args.self c.find_place.new.self c.find_place.ensures.rest c.find_place.ensures.notes c.size_words-size.result (size_of c.args.need.refs c.args.need.nums) c.in-Some.spot
     (c.size_words-size.ensures ∙ ap (λ r. size_of r c.shape_of.result.nums) c.shape_of.ensures.refs ∙ ap (λ q. size_of c.args.need.refs q) c.shape_of.ensures.nums) c.in-Some.ensures.spot
 
 pub returns-in-Some-clause-stopped : goal.returns-in-Some-clause-stopped
 returns-in-Some-clause-stopped g c =
-    serving.stopped-served g.P.Plan.rules c.args.self c.place-stopped.result.0 c.args.m c.args.need (answer.Placed c.place-stopped.result.1) c.requires.stopped c.place-stopped.ensures.order
-    (serving.serves-at-once g.P.Plan.rules c.args.self c.find.new.self c.place-stopped.result.0 c.args.m c.args.need (answer.Placed c.place-stopped.result.1) c.find.ensures.rest c.find.ensures.notes c.place-stopped.ensures.places)
+    serving.stopped-served g.P.Plan.rules c.args.self c.place_need-stopped.result.0 c.args.number c.args.need (answer.Placed c.place_need-stopped.result.1) c.requires.stopped c.place_need-stopped.ensures.order
+    (serving.serves-at-once g.P.Plan.rules c.args.self c.find_place.new.self c.place_need-stopped.result.0 c.args.number c.args.need (answer.Placed c.place_need-stopped.result.1) c.find_place.ensures.rest c.find_place.ensures.notes c.place_need-stopped.ensures.places)
 
 pub returns-in-Some-clause-serves : goal.returns-in-Some-clause-serves
 returns-in-Some-clause-serves g c =
-    serving.serves-at-once g.P.Plan.rules c.args.self c.find.new.self c.place-stopped.result.0 c.args.m c.args.need (answer.Placed c.place-stopped.result.1) c.find.ensures.rest c.find.ensures.notes c.place-stopped.ensures.places
+    serving.serves-at-once g.P.Plan.rules c.args.self c.find_place.new.self c.place_need-stopped.result.0 c.args.number c.args.need (answer.Placed c.place_need-stopped.result.1) c.find_place.ensures.rest c.find_place.ensures.notes c.place_need-stopped.ensures.places
 
 pub returns-in-Some-clause-births : goal.returns-in-Some-clause-births
-returns-in-Some-clause-births g c = serving.births-found c.args.self c.find.new.self c.place-stopped.result.0 c.args.m c.find.ensures.rest 1 c.place-stopped.ensures.births
+returns-in-Some-clause-births g c = serving.births-found c.args.self c.find_place.new.self c.place_need-stopped.result.0 c.args.number c.find_place.ensures.rest 1 c.place_need-stopped.ensures.births
 
 pub returns-in-Some-clause-counts : goal.returns-in-Some-clause-counts
 returns-in-Some-clause-counts g c =
-    let same = serving.counts-found c.args.self c.find.new.self c.place-stopped.result.0 c.args.m c.find.ensures.rest c.place-stopped.ensures.counts in omega (arith, same)
+    let same = serving.counts-found c.args.self c.find_place.new.self c.place_need-stopped.result.0 c.args.number c.find_place.ensures.rest c.place_need-stopped.ensures.counts in omega (arith, same)
 
 pub make_room-requires-clause-stopped : goal.make_room-requires-clause-stopped
-make_room-requires-clause-stopped g c κs within = noted.stopped-found g.P.Plan.rules c.args.self c.find.new.self c.find.ensures.rest c.find.ensures.notes c.requires.stopped
+make_room-requires-clause-stopped g c κs within = noted.stopped-found g.P.Plan.rules c.args.self c.find_place.new.self c.find_place.ensures.rest c.find_place.ensures.notes c.requires.stopped
 
 pub make_room-requires-clause-collections : goal.make_room-requires-clause-collections
 make_room-requires-clause-collections g c κs within =
-    let same : collections_of c.find.new.self ≡ collections_of c.args.self = noted.counts-found c.args.self c.find.new.self c.find.ensures.rest in
+    let same : collections_of c.find_place.new.self ≡ collections_of c.args.self = noted.counts-found c.args.self c.find_place.new.self c.find_place.ensures.rest in
     let few : collections_of c.args.self + 2 < 1099511627776 = c.requires.collections in
     omega arith
 
 pub make_room-requires-clause-most : goal.make_room-requires-clause-most
 make_room-requires-clause-most g c κs within =
-    putting.most-words c.args.self c.args.m c.args.need c.requires.may c.size_words-size.result c.shape_of.result.refs c.shape_of.result.nums
+    putting.most-words c.args.self c.args.number c.args.need c.requires.may c.size_words-size.result c.shape_of.result.refs c.shape_of.result.nums
     c.size_words-size.ensures c.shape_of.ensures.refs c.shape_of.ensures.nums
 
-pub settle-stopped-requires-clause-stopped : goal.settle-stopped-requires-clause-stopped
-settle-stopped-requires-clause-stopped g c =
-    serving.stopped-made g.P.Plan.rules c.args.self c.find.new.self c.in_ok-stopped.stopped c.in_ok-stopped.stopped c.args.m c.args.need (answer.HeapFull 0) c.size_words-size.result c.find.ensures.rest c.find.ensures.notes (c.size_words-size.ensures ∙ ap (λ r. size_of r c.shape_of.result.nums) c.shape_of.ensures.refs ∙ ap (λ q. size_of c.args.need.refs q) c.shape_of.ensures.nums)
-    c.in_ok-stopped.ensures.order (noted.stopped-found g.P.Plan.rules c.args.self c.find.new.self c.find.ensures.rest c.find.ensures.notes c.requires.stopped) c.in_ok-stopped.ensures.room
+pub place_or_refuse-stopped-requires-clause-stopped : goal.place_or_refuse-stopped-requires-clause-stopped
+place_or_refuse-stopped-requires-clause-stopped g c =
+    serving.stopped-made g.P.Plan.rules c.args.self c.find_place.new.self c.in_ok-stopped.stopped c.in_ok-stopped.stopped c.args.number c.args.need (answer.HeapFull 0) c.size_words-size.result c.find_place.ensures.rest c.find_place.ensures.notes (c.size_words-size.ensures ∙ ap (λ r. size_of r c.shape_of.result.nums) c.shape_of.ensures.refs ∙ ap (λ q. size_of c.args.need.refs q) c.shape_of.ensures.nums)
+    c.in_ok-stopped.ensures.order (noted.stopped-found g.P.Plan.rules c.args.self c.find_place.new.self c.find_place.ensures.rest c.find_place.ensures.notes c.requires.stopped) c.in_ok-stopped.ensures.room
 
-pub settle-stopped-requires-clause-may : goal.settle-stopped-requires-clause-may
-settle-stopped-requires-clause-may g c =
-    may-kept c.find.new.self c.in_ok-stopped.stopped c.args.m c.args.need (c.in_ok-stopped.ensures.births c.args.m)
-    (noted.may-found g.P.Plan.rules c.args.self c.find.new.self c.find.ensures.rest c.find.ensures.notes c.args.m c.args.need c.requires.may)
+pub place_or_refuse-stopped-requires-clause-may : goal.place_or_refuse-stopped-requires-clause-may
+place_or_refuse-stopped-requires-clause-may g c =
+    may-kept c.find_place.new.self c.in_ok-stopped.stopped c.args.number c.args.need (c.in_ok-stopped.ensures.births c.args.number)
+    (noted.may-found g.P.Plan.rules c.args.self c.find_place.new.self c.find_place.ensures.rest c.find_place.ensures.notes c.args.number c.args.need c.requires.may)
 
 pub returns-clause-stopped : goal.returns-clause-stopped
 returns-clause-stopped g c =
-    serving.stopped-served g.P.Plan.rules c.args.self c.settle-stopped.result.0 c.args.m c.args.need c.settle-stopped.result.1 c.requires.stopped c.settle-stopped.ensures.order
-    (serving.serves-after g.P.Plan.rules c.args.self c.find.new.self c.in_ok-stopped.stopped c.settle-stopped.result.0 c.args.m c.args.need c.settle-stopped.result.1 c.size_words-size.result c.find.ensures.rest c.find.ensures.notes (c.size_words-size.ensures ∙ ap (λ r. size_of r c.shape_of.result.nums) c.shape_of.ensures.refs ∙ ap (λ q. size_of c.args.need.refs q) c.shape_of.ensures.nums) c.in_default.ensures.none c.in_ok-stopped.ensures.room c.settle-stopped.ensures.settles)
+    serving.stopped-served g.P.Plan.rules c.args.self c.place_or_refuse-stopped.result.0 c.args.number c.args.need c.place_or_refuse-stopped.result.1 c.requires.stopped c.place_or_refuse-stopped.ensures.order
+    (serving.serves-after g.P.Plan.rules c.args.self c.find_place.new.self c.in_ok-stopped.stopped c.place_or_refuse-stopped.result.0 c.args.number c.args.need c.place_or_refuse-stopped.result.1 c.size_words-size.result c.find_place.ensures.rest c.find_place.ensures.notes (c.size_words-size.ensures ∙ ap (λ r. size_of r c.shape_of.result.nums) c.shape_of.ensures.refs ∙ ap (λ q. size_of c.args.need.refs q) c.shape_of.ensures.nums) c.in_default.ensures.none c.in_ok-stopped.ensures.room c.place_or_refuse-stopped.ensures.settles)
 
 pub returns-clause-serves : goal.returns-clause-serves
 returns-clause-serves g c =
-    serving.serves-after g.P.Plan.rules c.args.self c.find.new.self c.in_ok-stopped.stopped c.settle-stopped.result.0 c.args.m c.args.need c.settle-stopped.result.1 c.size_words-size.result c.find.ensures.rest c.find.ensures.notes (c.size_words-size.ensures ∙ ap (λ r. size_of r c.shape_of.result.nums) c.shape_of.ensures.refs ∙ ap (λ q. size_of c.args.need.refs q) c.shape_of.ensures.nums) c.in_default.ensures.none c.in_ok-stopped.ensures.room c.settle-stopped.ensures.settles
+    serving.serves-after g.P.Plan.rules c.args.self c.find_place.new.self c.in_ok-stopped.stopped c.place_or_refuse-stopped.result.0 c.args.number c.args.need c.place_or_refuse-stopped.result.1 c.size_words-size.result c.find_place.ensures.rest c.find_place.ensures.notes (c.size_words-size.ensures ∙ ap (λ r. size_of r c.shape_of.result.nums) c.shape_of.ensures.refs ∙ ap (λ q. size_of c.args.need.refs q) c.shape_of.ensures.nums) c.in_default.ensures.none c.in_ok-stopped.ensures.room c.place_or_refuse-stopped.ensures.settles
 
 pub returns-clause-births : goal.returns-clause-births
-returns-clause-births g c = serving.births-after g.P.Plan.rules c.args.self c.find.new.self c.in_ok-stopped.stopped c.settle-stopped.result.0 c.args.m c.args.need c.settle-stopped.result.1 c.size_words-size.result c.find.ensures.rest c.find.ensures.notes (c.size_words-size.ensures ∙ ap (λ r. size_of r c.shape_of.result.nums) c.shape_of.ensures.refs ∙ ap (λ q. size_of c.args.need.refs q) c.shape_of.ensures.nums) (c.in_ok-stopped.ensures.births c.args.m) c.settle-stopped.ensures.births
+returns-clause-births g c = serving.births-after g.P.Plan.rules c.args.self c.find_place.new.self c.in_ok-stopped.stopped c.place_or_refuse-stopped.result.0 c.args.number c.args.need c.place_or_refuse-stopped.result.1 c.size_words-size.result c.find_place.ensures.rest c.find_place.ensures.notes (c.size_words-size.ensures ∙ ap (λ r. size_of r c.shape_of.result.nums) c.shape_of.ensures.refs ∙ ap (λ q. size_of c.args.need.refs q) c.shape_of.ensures.nums) (c.in_ok-stopped.ensures.births c.args.number) c.place_or_refuse-stopped.ensures.births
 
 pub returns-clause-counts : goal.returns-clause-counts
-returns-clause-counts g c = serving.counts-after g.P.Plan.rules c.args.self c.find.new.self c.in_ok-stopped.stopped c.settle-stopped.result.0 c.args.m c.args.need c.settle-stopped.result.1 c.size_words-size.result c.find.ensures.rest c.find.ensures.notes (c.size_words-size.ensures ∙ ap (λ r. size_of r c.shape_of.result.nums) c.shape_of.ensures.refs ∙ ap (λ q. size_of c.args.need.refs q) c.shape_of.ensures.nums) c.in_ok-stopped.ensures.counts c.settle-stopped.ensures.counts
+returns-clause-counts g c = serving.counts-after g.P.Plan.rules c.args.self c.find_place.new.self c.in_ok-stopped.stopped c.place_or_refuse-stopped.result.0 c.args.number c.args.need c.place_or_refuse-stopped.result.1 c.size_words-size.result c.find_place.ensures.rest c.find_place.ensures.notes (c.size_words-size.ensures ∙ ap (λ r. size_of r c.shape_of.result.nums) c.shape_of.ensures.refs ∙ ap (λ q. size_of c.args.need.refs q) c.shape_of.ensures.nums) c.in_ok-stopped.ensures.counts c.place_or_refuse-stopped.ensures.counts
 
 pub returns-clause-refused : goal.returns-clause-refused
 returns-clause-refused g c =
-    serving.refused-after g.P.Plan.rules c.args.self c.find.new.self c.in_ok-stopped.stopped c.settle-stopped.result.0 c.args.need c.settle-stopped.result.1 c.size_words-size.result c.find.ensures.rest (c.size_words-size.ensures ∙ ap (λ r. size_of r c.shape_of.result.nums) c.shape_of.ensures.refs ∙ ap (λ q. size_of c.args.need.refs q) c.shape_of.ensures.nums)
-    c.in_ok-stopped.ensures.full c.settle-stopped.ensures.refused
+    serving.refused-after g.P.Plan.rules c.args.self c.find_place.new.self c.in_ok-stopped.stopped c.place_or_refuse-stopped.result.0 c.args.need c.place_or_refuse-stopped.result.1 c.size_words-size.result c.find_place.ensures.rest (c.size_words-size.ensures ∙ ap (λ r. size_of r c.shape_of.result.nums) c.shape_of.ensures.refs ∙ ap (λ q. size_of c.args.need.refs q) c.shape_of.ensures.nums)
+    c.in_ok-stopped.ensures.full c.place_or_refuse-stopped.ensures.refused
 
 pub returns-in-Some-clause-noted : goal.returns-in-Some-clause-noted
-returns-in-Some-clause-noted g c = serving.counts-found c.args.self c.find.new.self c.place-stopped.result.0 c.args.m c.find.ensures.rest c.place-stopped.ensures.counts
+returns-in-Some-clause-noted g c = serving.counts-found c.args.self c.find_place.new.self c.place_need-stopped.result.0 c.args.number c.find_place.ensures.rest c.place_need-stopped.ensures.counts
 
 pub returns-clause-noted : goal.returns-clause-noted
 returns-clause-noted g c =
@@ -105,12 +105,12 @@ returns-clause-noted g c =
       kind = told.kind;
       before = told.before;
       after = told.after;
-      stands = λ t now stands. told.stands t now (noted.stands-found g.P.Plan.rules c.args.self c.find.new.self c.find.ensures.rest c.find.ensures.notes t now stands);
+      stands = λ t now stands. told.stands t now (noted.stands-found g.P.Plan.rules c.args.self c.find_place.new.self c.find_place.ensures.rest c.find_place.ensures.notes t now stands);
       collected = told.collected;
-      count = c.settle-stopped.ensures.counts ∙ told.count;
+      count = c.place_or_refuse-stopped.ensures.counts ∙ told.count;
       more = (
-          let more : collections_of c.find.new.self < collections_of c.in_ok-stopped.stopped = told.more in
-          let found : collections_of c.find.new.self ≡ collections_of c.args.self = noted.counts-found c.args.self c.find.new.self c.find.ensures.rest in
-          let settled : collections_of c.settle-stopped.result.0 ≡ collections_of c.in_ok-stopped.stopped = c.settle-stopped.ensures.counts in
+          let more : collections_of c.find_place.new.self < collections_of c.in_ok-stopped.stopped = told.more in
+          let found : collections_of c.find_place.new.self ≡ collections_of c.args.self = noted.counts-found c.args.self c.find_place.new.self c.find_place.ensures.rest in
+          let settled : collections_of c.place_or_refuse-stopped.result.0 ≡ collections_of c.in_ok-stopped.stopped = c.place_or_refuse-stopped.ensures.counts in
           omega arith);
     }

@@ -1,7 +1,7 @@
 -- A full collection between two epochs.
 use Rattle.std.proofs.Common.{◌≡◌, ◌+◌, ◌<◌, ap, inr, arith}
 use Rattle.std.proofs.lemmas.Result.{err_from_is_err_and}
-use Rattle.managed_value.specs.Histories.{collections_of}
+use Rattle.managed_value.specs.Histories.{collections_made}
 use Rattle.managed_value.specs.declared.managed.ManagedHeap.{ManagedHeap}
 use Rattle.managed_value.proofs.Served as served
 use Rattle.managed_value.proofs.managed.ManagedHeap.collect_with.Goals as goal
@@ -14,7 +14,7 @@ collect-requires-clause-stopped g c κs within = c.in-Some.ensures.ends.stopped
 
 pub collect-requires-clause-collections : goal.collect-requires-clause-collections
 collect-requires-clause-collections g c κs within =
-    let few : collections_of c.args.self.now + 1 < 1099511627776 = c.requires.collections in
+    let few : collections_made c.args.self.now + 1 < 1099511627776 = c.requires.collections in
     let nursery : c.in-Some.stopped.nursery ≡ c.args.self.now.nursery = c.in-Some.ensures.ends.nursery in
     let full : c.in-Some.stopped.full ≡ c.args.self.now.full = c.in-Some.ensures.ends.full in
     omega arith

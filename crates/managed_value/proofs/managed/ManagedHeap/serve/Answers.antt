@@ -2,7 +2,7 @@
 use Rattle.std.proofs.Common.{◌≡◌, ◌+◌, ◌<◌, ◌≤◌, ◌∙◌, ap, ℕ, arith}
 use Rattle.std.proofs.lemmas.Result.{err_from_is_err_and}
 use Rattle.object_model.specs.Objects.{size_of}
-use Rattle.managed_value.specs.Histories.{collections_of, mutator_count}
+use Rattle.managed_value.specs.Histories.{collections_made, mutators_of_heap}
 use Rattle.managed_value.specs.Allocations.{kept_by, used_with}
 use Rattle.managed_value.specs.declared.managed.ManagedHeap.{ManagedHeap}
 use Rattle.managed_value.proofs.Places as places
@@ -11,8 +11,8 @@ use Rattle.managed_value.proofs.managed.ManagedHeap.serve.Goals as goal
 
 pub overflow_add-m : goal.overflow_add-m
 overflow_add-m g c =
-    let below : c.args.m < mutator_count c.args.self.now = c.requires.place in
-    let few : mutator_count c.args.self.now ≤ 16 = places.few-there g.P.Plan.rules c.args.self.now c.requires.usable in
+    let below : c.args.m < mutators_of_heap c.args.self.now = c.requires.place in
+    let few : mutators_of_heap c.args.self.now ≤ 16 = places.few-there g.P.Plan.rules c.args.self.now c.requires.usable in
     omega arith
 
 pub place_or_collect-requires-clause-stopped : goal.place_or_collect-requires-clause-stopped
@@ -25,7 +25,7 @@ place_or_collect-requires-clause-may g c κs within =
 
 pub place_or_collect-requires-clause-collections : goal.place_or_collect-requires-clause-collections
 place_or_collect-requires-clause-collections g c κs within =
-    let few : collections_of c.args.self.now + 2 < 1099511627776 = c.requires.may.collections in
+    let few : collections_made c.args.self.now + 2 < 1099511627776 = c.requires.may.collections in
     let nursery : c.in-Some.stopped.nursery ≡ c.args.self.now.nursery = c.in-Some.ensures.ends.nursery in
     let full : c.in-Some.stopped.full ≡ c.args.self.now.full = c.in-Some.ensures.ends.full in
     omega arith

@@ -9,7 +9,7 @@ use Rattle.mutator_core.specs.Machine.{Epoch}
 use Rattle.block_regions.specs.Notes.{AreNotes}
 use Rattle.heap_users.specs.Users.{mutator_state}
 use Rattle.mutator_core.specs.Closing.{GivesBack}
-use Rattle.plain_world.specs.Calls.{heap_of, mutators_of, HasHistory}
+use Rattle.plain_world.specs.Calls.{heap_of_world, mutators_of_world, HasHistory}
 use Rattle.managed_heap.specs.declared.stopped_heap.Parts.{Parts}
 use Rattle.managed_value.proofs.Places as places
 use Rattle.managed_value.proofs.Stops as stops
@@ -29,6 +29,6 @@ returns-clause-ends g c =
     (ap (λ (x : Parts). x.nursery) c.from_parts.ensures) (ap (λ (x : Parts). x.full) c.from_parts.ensures)
     (subst (λ (x : Parts). (p : Epoch) (i : IdealHeap) (part : List Entry) → HasHistory w p i part
     → Stopped p.rules (numbers_of p.mutators) p.before i part (heap_state x.heap) (map mutator_state x.mutators.items)) q close.stopped)
-    (subst (λ (x : Parts). map mutator_state x.mutators.items ≡ mutators_of w) q close.mutators)
+    (subst (λ (x : Parts). map mutator_state x.mutators.items ≡ mutators_of_world w) q close.mutators)
     (subst (λ (x : Parts). (p : Epoch) (i : IdealHeap) (part : List Entry) → HasHistory w p i part → AreNotes p.rules.fill (heap_state x.heap) x.notes) q close.notes)
-    (subst (λ (x : Parts). GivesBack (heap_of w) (heap_state x.heap)) q close.gives)
+    (subst (λ (x : Parts). GivesBack (heap_of_world w) (heap_state x.heap)) q close.gives)

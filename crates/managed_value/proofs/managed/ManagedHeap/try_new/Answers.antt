@@ -2,7 +2,7 @@
 use Rattle.std.proofs.Common.{◌+◌, ◌<◌, refl, sym, ◌∙◌, ap, subst, ℕ, Some}
 use Rattle.object_model.specs.Objects.{size_of}
 use Rattle.managed_heap.specs.declared.place.Placed.TheVariants as placed
-use Rattle.managed_value.specs.Histories.{births_at}
+use Rattle.managed_value.specs.Histories.{heap_births_at}
 use Rattle.managed_value.specs.Allocations.{used_with}
 use Rattle.managed_value.specs.declared.managed.ManagedHeap.{ManagedHeap}
 use Rattle.managed_value.proofs.Places as places
@@ -20,7 +20,7 @@ new_object-requires-clause-place g c = places.place-here g.P.Plan.rules c.args.s
 
 pub new_object-requires-clause-births : goal.new_object-requires-clause-births
 new_object-requires-clause-births g c =
-    let few : births_at c.args.self.now c.args.m + 1 < 4294967296 = c.requires.births in
+    let few : heap_births_at c.args.self.now c.args.m + 1 < 4294967296 = c.requires.births in
     subst (λ (n : ℕ). n + 1 < 4294967296) (sym (places.births-of-world g.P.Plan.rules c.args.self.now c.in-Some.world c.in-Some.is c.args.m)) few
 
 pub returns-in-Made-clause-made : goal.returns-in-Made-clause-made

@@ -6,7 +6,7 @@ use Rattle.mm_runtime.specs.Managers.{replied}
 use Rattle.mm_runtime.specs.Parts.{AreGcs, AreNeeds}
 use Rattle.mm_runtime.proofs.Advancing as advancing
 use Rattle.mm_runtime.proofs.MeetStops.{as-many}
-use Rattle.mm_runtime.proofs.Lasting.{fewer, whole}
+use Rattle.mm_runtime.proofs.Remaining.{fewer, whole}
 use Rattle.mm_runtime.proofs.manager.Manager.advance.Goals as goal
 
 pub collect_at-requires-clause-stop : goal.collect_at-requires-clause-stop
@@ -19,23 +19,23 @@ pub collect_at-requires-clause-gcs : goal.collect_at-requires-clause-gcs
 collect_at-requires-clause-gcs g c κs within =
     subst (λ (es : List End). AreGcs c.in_ok-manager.manager.progress.items es) (sym c.deref.ensures.value) c.in_ok-manager.ensures.gcs
 
-pub serve-requires-clause-stop : goal.serve-requires-clause-stop
-serve-requires-clause-stop g c κs within =
+pub serve_needs-requires-clause-stop : goal.serve_needs-requires-clause-stop
+serve_needs-requires-clause-stop g c κs within =
     let ready = c.requires.ready in
     let part = c.in_ok-manager.ensures.part ready.setting ready.now ready.closes in
     let first = c.in_ok-manager-2.ensures.gc ready.setting part.0 part.2 in
     record { order = c.in_ok-manager-2.ensures.order; setting = ready.setting; now = first.0; stands = first.2 }
 
-pub serve-requires-clause-count : goal.serve-requires-clause-count
-serve-requires-clause-count g c κs within =
+pub serve_needs-requires-clause-count : goal.serve_needs-requires-clause-count
+serve_needs-requires-clause-count g c κs within =
     let ready = c.requires.ready in
     let part = c.in_ok-manager.ensures.part ready.setting ready.now ready.closes in
     let first = c.in_ok-manager-2.ensures.gc ready.setting part.0 part.2 in
     ap length c.deref-2.ensures.value ∙ c.in_ok-manager.ensures.count
     ∙ sym (as-many g.P.Plan.rules c.in_ok-manager.manager ready.setting part.0 part.2) ∙ as-many g.P.Plan.rules c.in_ok-manager-2.manager ready.setting first.0 first.2
 
-pub serve-requires-clause-needs : goal.serve-requires-clause-needs
-serve-requires-clause-needs g c κs within =
+pub serve_needs-requires-clause-needs : goal.serve_needs-requires-clause-needs
+serve_needs-requires-clause-needs g c κs within =
     subst (λ (es : List End). AreNeeds c.in_ok-manager-2.manager.progress.items es) (sym c.deref-2.ensures.value)
     (subst (λ (es : List End). AreNeeds c.in_ok-manager-2.manager.progress.items es) c.deref.ensures.value
     (advancing.needs-kept c.in_ok-manager.manager.progress.items c.in_ok-manager-2.manager.progress.items c.deref.result.now c.in_ok-manager-2.ensures.others

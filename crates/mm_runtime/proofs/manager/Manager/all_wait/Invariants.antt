@@ -2,8 +2,8 @@ use Rattle.std.proofs.Common.{◌≡◌, ◌<◌, ℕ}
 use Rattle.std.specs.Prelude.{Some, IsTrue, slice_get}
 use Rattle.sessions.specs.Sessions.{is_waiting}
 use Rattle.mm_runtime.specs.declared.progress.Progress.{Progress}
-use Rattle.mm_runtime.specs.Managers.{next_of}
+use Rattle.mm_runtime.specs.Managers.{next_in_trace}
 use Rattle.mm_runtime.proofs.manager.Manager.all_wait.Given as goal
 
 abbrev pub invariant-loop-progress : goal.invariant-loop-progress
-invariant-loop-progress g l = (k : ℕ) (p : Progress) → k < l.progress-index → slice_get l.self.progress.items k ≡ Some p → IsTrue (is_waiting (next_of p))
+invariant-loop-progress g l = (k : ℕ) (p : Progress) → k < l.progress-index → slice_get l.self.progress.items k ≡ Some p → IsTrue (is_waiting (next_in_trace p))

@@ -12,7 +12,7 @@ pub place_or_collect-requires-clause-stopped : goal.place_or_collect-requires-cl
 place_or_collect-requires-clause-stopped g c κs within = stopped-of g.P.Plan.rules 0 c.args.self c.requires.stop
 
 pub place_or_collect-requires-clause-may : goal.place_or_collect-requires-clause-may
-place_or_collect-requires-clause-may g c κs within = ordered.may-allocate g.P.Plan.rules c.args.self c.args.m c.args.need c.requires.stop.order c.requires.next
+place_or_collect-requires-clause-may g c κs within = ordered.may-allocate g.P.Plan.rules c.args.self c.args.number c.args.need c.requires.stop.order c.requires.next
 
 pub place_or_collect-requires-clause-collections : goal.place_or_collect-requires-clause-collections
 place_or_collect-requires-clause-collections g c κs within =
@@ -23,25 +23,25 @@ pub reply_to-requires-clause-least : goal.reply_to-requires-clause-least
 reply_to-requires-clause-least g c = c.requires.next.0
 
 pub reply_to-requires-clause-most : goal.reply_to-requires-clause-most
-reply_to-requires-clause-most g c = ordered.most g.P.Plan.rules c.args.self c.args.m c.args.need c.requires.stop.order c.requires.next
+reply_to-requires-clause-most g c = ordered.most g.P.Plan.rules c.args.self c.args.number c.args.need c.requires.stop.order c.requires.next
 
 pub reply_to-requires-clause-room : goal.reply_to-requires-clause-room
-reply_to-requires-clause-room g c = ordered.room-left g.P.Plan.rules c.args.self c.args.m c.args.need c.requires.stop.order c.requires.next
+reply_to-requires-clause-room g c = ordered.room-left g.P.Plan.rules c.args.self c.args.number c.args.need c.requires.stop.order c.requires.next
 
 pub returns-clause-order : goal.returns-clause-order
 returns-clause-order g c =
-    ordered.order-after g.P.Plan.rules c.args.self _ c.args.m c.args.need c.in_ok-heap.placed c.requires.stop.order c.requires.next
-    (subst (λ (x : Reply). (k : ℕ) → k + 1 ≡ c.args.m → RepliesAt c.args.self.progress.items c.reply_to.new.progress.items k x) c.reply_for.ensures c.reply_to.ensures)
+    ordered.order-after g.P.Plan.rules c.args.self _ c.args.number c.args.need c.in_ok-heap.placed c.requires.stop.order c.requires.next
+    (subst (λ (x : Reply). (k : ℕ) → k + 1 ≡ c.args.number → RepliesAt c.args.self.progress.items c.reply_to.new.progress.items k x) c.reply_for.ensures c.reply_to.ensures)
     c.in_ok-heap.ensures.births c.in_ok-heap.ensures.stopped.order c.in_ok-heap.ensures.counts
 
 pub returns-clause-serves : goal.returns-clause-serves
 returns-clause-serves g c =
-    ordered.serves g.P.Plan.rules c.args.self _ c.args.m c.args.need c.in_ok-heap.placed c.requires.stop.order c.requires.next
-    (subst (λ (x : Reply). (k : ℕ) → k + 1 ≡ c.args.m → RepliesAt c.args.self.progress.items c.reply_to.new.progress.items k x) c.reply_for.ensures c.reply_to.ensures)
+    ordered.serves g.P.Plan.rules c.args.self _ c.args.number c.args.need c.in_ok-heap.placed c.requires.stop.order c.requires.next
+    (subst (λ (x : Reply). (k : ℕ) → k + 1 ≡ c.args.number → RepliesAt c.args.self.progress.items c.reply_to.new.progress.items k x) c.reply_for.ensures c.reply_to.ensures)
     c.in_ok-heap.ensures.serves
 
 pub returns-clause-placed : goal.returns-clause-placed
 returns-clause-placed g c =
-    ordered.placed-after g.P.Plan.rules c.args.self (record { alloc = c.args.self.alloc; heap = c.in_ok-heap.heap; progress = c.reply_to.new.progress }) c.args.m c.args.need c.in_ok-heap.placed
-    (subst (λ (x : Reply). (k : ℕ) → k + 1 ≡ c.args.m → RepliesAt c.args.self.progress.items c.reply_to.new.progress.items k x) c.reply_for.ensures c.reply_to.ensures)
+    ordered.placed-after g.P.Plan.rules c.args.self (record { alloc = c.args.self.alloc; heap = c.in_ok-heap.heap; progress = c.reply_to.new.progress }) c.args.number c.args.need c.in_ok-heap.placed
+    (subst (λ (x : Reply). (k : ℕ) → k + 1 ≡ c.args.number → RepliesAt c.args.self.progress.items c.reply_to.new.progress.items k x) c.reply_for.ensures c.reply_to.ensures)
     c.in_ok-heap.ensures.refused

@@ -11,7 +11,7 @@ use Rattle.mutator_core.specs.Machine.{Epoch}
 use Rattle.mutator_core.specs.Closing.{GivesBack}
 use Rattle.heap_users.specs.Beginnings.{MayUse, epoch_of}
 use Rattle.block_regions.specs.Notes.{AreNotes}
-use Rattle.plain_world.specs.Calls.{heap_of, mutators_of, HasHistory}
+use Rattle.plain_world.specs.Calls.{heap_of_world, mutators_of_world, HasHistory}
 use Rattle.plain_world.specs.Endings.{GrantsWithTickets}
 use Rattle.managed_heap.specs.declared.stopped_heap.Parts.{Parts}
 use Rattle.heap_users.specs.Users.{mutator_state}
@@ -20,8 +20,8 @@ use Rattle.sessions.specs.Plans.{Rules}
 use Rattle.mm_runtime.specs.declared.progress.End.{End}
 use Rattle.mm_runtime.specs.declared.progress.End.TheVariants as end
 use Rattle.mm_runtime.specs.declared.manager.Manager.{Manager}
-use Rattle.mm_runtime.proofs.Standing as standing
-use Rattle.mm_runtime.proofs.Standing.{RunsEpoch}
+use Rattle.mm_runtime.proofs.ManagersStand as standing
+use Rattle.mm_runtime.proofs.ManagersStand.{RunsEpoch}
 use Rattle.mm_runtime.proofs.EpochParts as parts
 use Rattle.mm_runtime.proofs.manager.Manager.run_epoch.Goals as goal
 
@@ -80,8 +80,8 @@ returns g c =
       runs = c.in_ok-ends.ensures;
       stopped = subst (λ (q : Parts). (p : Epoch) (i : IdealHeap) (part : List Entry) → HasHistory last p i part
           → Stopped p.rules (numbers_of p.mutators) p.before i part (heap_state q.heap) (map mutator_state q.mutators.items)) parts_are close.stopped;
-      mutators = subst (λ (q : Parts). map mutator_state q.mutators.items ≡ mutators_of last) parts_are close.mutators;
-      gives = subst (λ (q : Parts). GivesBack (heap_of last) (heap_state q.heap)) parts_are close.gives;
+      mutators = subst (λ (q : Parts). map mutator_state q.mutators.items ≡ mutators_of_world last) parts_are close.mutators;
+      gives = subst (λ (q : Parts). GivesBack (heap_of_world last) (heap_state q.heap)) parts_are close.gives;
       drawn = close.drawn;
       tickets = subst (λ (q : Parts). (p : Epoch) (i : IdealHeap) (part : List Entry) → HasHistory last p i part → GrantsWithTickets p last (heap_state q.heap)) parts_are close.tickets;
       notes = subst (λ (q : Parts). (p : Epoch) (i : IdealHeap) (part : List Entry) → HasHistory last p i part → AreNotes p.rules.fill (heap_state q.heap) q.notes) parts_are close.notes;

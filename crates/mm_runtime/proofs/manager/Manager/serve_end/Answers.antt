@@ -11,8 +11,8 @@ place_or_collect-requires-clause-next g c κs within = c.requires.next c.in-Need
 
 pub returns-clause-serves : goal.returns-clause-serves
 returns-clause-serves g c = λ t now stands.
-    subst (λ (e : End). (x : Moment) × ServesEnd t c.args.m e now x × StandsAt g.P.Plan.rules c.in_ok-manager.manager t x) (sym c.in-Need.is) (c.in_ok-manager.ensures.serves t now stands)
+    subst (λ (e : End). (x : Moment) × ServesEnd t c.args.number e now x × StandsAt g.P.Plan.rules c.in_ok-manager.manager t x) (sym c.in-Need.is) (c.in_ok-manager.ensures.serves t now stands)
 
 pub returns-clause-replies : goal.returns-clause-replies
 returns-clause-replies g c =
-    adds-reply g.P.Plan.rules c.args.self c.in_ok-manager.manager c.args.m c.in-Need.need.refs c.in-Need.need.nums c.in_ok-manager._placed c.requires.least c.in_ok-manager.ensures.placed
+    adds-reply g.P.Plan.rules c.args.self c.in_ok-manager.manager c.args.number c.in-Need.need.refs c.in-Need.need.nums c.in_ok-manager._placed c.requires.least c.in_ok-manager.ensures.placed

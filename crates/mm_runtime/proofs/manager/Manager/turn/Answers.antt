@@ -1,7 +1,7 @@
 -- A trace with as many replies as commands has ended.
 use Rattle.std.proofs.Common.{◌≡◌, refl, arith, None}
 use Rattle.mm_runtime.specs.declared.manager.Turn.TheVariants as turn
-use Rattle.mm_runtime.specs.Managers.{next_of}
+use Rattle.mm_runtime.specs.Managers.{next_in_trace}
 use Rattle.mm_runtime.proofs.Waits as waits
 use Rattle.mm_runtime.proofs.manager.Manager.turn.Goals as goal
 
@@ -13,7 +13,7 @@ returns-then-len g c = (
 )
 
 pub loop-progress-preserved : goal.loop-progress-preserved
-loop-progress-preserved g c = waits.next-too (λ p. next_of p ≡ None) c.args.self.now.progress.items c.loop-progress.progress-index c.progress-item.result
+loop-progress-preserved g c = waits.next-too (λ p. next_in_trace p ≡ None) c.args.self.now.progress.items c.loop-progress.progress-index c.progress-item.result
     (waits.item c.args.self.now.progress.items c.deref-progress-items.result.now c.loop-progress.progress-index c.progress-item.result c.deref-progress-items.ensures.value c.loop-progress-test.true c.progress-item.is)
     (waits.has-ended c.progress-item.result (omega arith)) c.loop-progress.invariant
 

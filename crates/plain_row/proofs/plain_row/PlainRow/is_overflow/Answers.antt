@@ -17,7 +17,7 @@ overflows-requires-clause-seat c =
 pub overflows-requires-clause-hole : goal.overflows-requires-clause-hole
 overflows-requires-clause-hole c = λ lines.
     let w = c.args.self.now in
-    let now = c.requires.idle.some in
+    let now = c.requires.between_calls.some in
     subst (λ (ns : List BlockNote). (cursors_of (regions_in ns c.index.result.now)).hole.next ≤ (cursors_of (regions_in ns c.index.result.now)).hole.end) (sym c.deref.ensures.value)
     (reads.hole-ordered w (reads.readable w c.requires) c.index.result.now c.index.ensures (turns.hole-order now.epoch now.ideal now.log w now.at c.requires.turn))
 

@@ -4,15 +4,15 @@ use Rattle.block_regions.specs.declared.block_notes.BlockNote.{BlockNote}
 use Rattle.block_regions.specs.declared.block_notes.BlockNote.TheVariants.{Owned, Unowned}
 use Rattle.plain_row.specs.declared.plain_row.PlainRow.{PlainRow}
 use Rattle.plain_row.specs.Changes as changes
-use Rattle.plain_row.specs.Worlds.{IsReady}
+use Rattle.plain_row.specs.Worlds.{MayCall}
 use Rattle.block_regions.proofs.Elements.{read-some}
 use Rattle.plain_row.proofs.Turns as turns
 use Rattle.plain_row.proofs.plain_row.PlainRow.take_hole_in.Goals as goal
 
 -- the note that is read of a block
-note-read : (w : PlainRow) → IsReady w → (k : ℕ) (n m : BlockNote) → k < w.row.layout.blocks → n ≡ get_or w.notes.items k n → n ≡ m → slice_get w.notes.items k ≡ Some m
+note-read : (w : PlainRow) → MayCall w → (k : ℕ) (n m : BlockNote) → k < w.row.layout.blocks → n ≡ get_or w.notes.items k n → n ≡ m → slice_get w.notes.items k ≡ Some m
 note-read w ready k n m there read is =
-    let now = ready.idle.some in
+    let now = ready.between_calls.some in
     read-some w.notes.items k n (turns.noted now.epoch now.ideal now.log w now.at k there) read ∙ ap (λ (y : BlockNote). Some y) is
 
 pub returns-then-size-least-clause-found : goal.returns-then-size-least-clause-found

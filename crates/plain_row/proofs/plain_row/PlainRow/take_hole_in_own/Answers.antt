@@ -3,7 +3,7 @@ use Rattle.std.specs.Prelude.{Some, None}
 use Rattle.local_allocators.specs.Seats.{block_of}
 use Rattle.plain_row.specs.Rows.{seat_at_turn}
 use Rattle.plain_row.specs.Changes.{LacksHole}
-use Rattle.plain_row.proofs.Finding.{own-left}
+use Rattle.plain_row.proofs.HolesFound.{own-left}
 use Rattle.block_regions.proofs.Lists.{one-element}
 use Rattle.plain_row.proofs.SeatRead as reads
 use Rattle.plain_row.proofs.Turns as turns
@@ -12,7 +12,7 @@ use Rattle.plain_row.proofs.plain_row.PlainRow.take_hole_in_own.Goals as goal
 pub take_hole_in-requires-clause-block : goal.take_hole_in-requires-clause-block
 take_hole_in-requires-clause-block c =
     let w = c.args.self.now in
-    let now = c.requires.ready.idle.some in
+    let now = c.requires.ready.between_calls.some in
     let hole = rw c.in-Some.is at c.hole_block.ensures.some in
     let mine = (turns.own-region now.epoch now.ideal now.log w now.at c.requires.ready.turn 0 c.in-Some.block
     (reads.block-read w (reads.readable w c.requires.ready) c.index.result.now c.index.ensures 0 ∙ hole.1)).0 in

@@ -5,37 +5,37 @@ use Rattle.local_allocators.specs.MutatorRegions.{FillsLines}
 use Rattle.plain_row.specs.Rows.{number_at_turn}
 use Rattle.plain_row.specs.Changes as changes
 use Rattle.plain_row.specs.Changes.{LacksHole}
-use Rattle.plain_row.proofs.Lacking.{own-lines, hole-full}
-use Rattle.plain_row.proofs.Facts as facts
+use Rattle.plain_row.proofs.RegionsWithoutRoom.{own-lines, hole-full}
+use Rattle.plain_row.proofs.EpochFacts as facts
 use Rattle.plain_row.proofs.SeatRead as reads
 use Rattle.plain_row.proofs.Turns as turns
 use Rattle.plain_row.proofs.plain_row.PlainRow.take_in_own.Goals as goal
 
 pub own_room-requires-clause-order : goal.own_room-requires-clause-order
-own_room-requires-clause-order c = let now = c.requires.ready.idle.some in facts.order now.epoch now.ideal now.log c.args.self.now now.at
+own_room-requires-clause-order c = let now = c.requires.ready.between_calls.some in facts.order now.epoch now.ideal now.log c.args.self.now now.at
 
 pub own_room-requires-clause-block : goal.own_room-requires-clause-block
 own_room-requires-clause-block c =
-    let now = c.requires.ready.idle.some in
+    let now = c.requires.ready.between_calls.some in
     facts.readable-block now.epoch now.ideal now.log c.args.self.now now.at c.args.block c.requires.block
 
 pub own_room-requires-clause-kind : goal.own_room-requires-clause-kind
 own_room-requires-clause-kind c =
     let w = c.args.self.now in
-    let now = c.requires.ready.idle.some in
+    let now = c.requires.ready.between_calls.some in
     (turns.owned-note now.epoch now.ideal now.log w now.at c.args.block (number_at_turn w) c.args.region c.requires.note).kind
 
 pub own_room-requires-clause-left : goal.own_room-requires-clause-left
 own_room-requires-clause-left c =
     let w = c.args.self.now in
-    let now = c.requires.ready.idle.some in
+    let now = c.requires.ready.between_calls.some in
     (turns.note-inside now.epoch now.ideal now.log w now.at c.args.block (number_at_turn w) c.args.region c.requires.note).0
 
 pub returns-in-Nothing-clause-none : goal.returns-in-Nothing-clause-none
 returns-in-Nothing-clause-none c = λ no.
     let w = c.args.self.now in
     let lack = rw c.in-Nothing.is at c.own_room.ensures in
-    elim (fills-cases w.fill c.requires.ready.idle.some.at.fills) as (λ _. LacksHole w w c.args.block c.args.size) [
+    elim (fills-cases w.fill c.requires.ready.between_calls.some.at.fills) as (λ _. LacksHole w w c.args.block c.args.size) [
       | inl fills ↦ (
           let no_lines : FillsLines w.fill → ⊥ = λ lines. no-lines (subst FillsTailsOrCells lines fills) in
           changes.foreign (number_at_turn w) c.args.region c.requires.note (inr (no_lines, lack.1 no_lines)) refl)
@@ -53,7 +53,7 @@ returns-in-Rest-clause-found c = λ took.
 
 pub move_to-requires-clause-block : goal.move_to-requires-clause-block
 move_to-requires-clause-block c =
-    let now = c.requires.ready.idle.some in
+    let now = c.requires.ready.between_calls.some in
     turns.noted now.epoch now.ideal now.log c.args.self.now now.at c.args.block c.requires.block
 
 pub returns-in-Hole-clause-found : goal.returns-in-Hole-clause-found

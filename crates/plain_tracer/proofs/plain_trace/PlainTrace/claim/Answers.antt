@@ -1,6 +1,6 @@
 use Rattle.trace_core.specs.Machine.{ByRoot}
 use Rattle.trace_core.proofs.Clauses.{old-target}
-use Rattle.plain_tracer.proofs.Asking.{claims-root}
+use Rattle.plain_tracer.proofs.AskedTargets.{claims-root}
 use Rattle.plain_tracer.proofs.plain_trace.PlainTrace.claim.Goals as goal
 
 pub returns-clause-claims : goal.returns-clause-claims

@@ -1,6 +1,6 @@
 use Rattle.std.proofs.Common.{◌≡◌, ◌≢◌, ◌+◌, ◌<◌, Some, sym, ap, ◌∙◌, arith, length, vec_len}
 use Rattle.forward_word.specs.CollectorWords.{number_in, target_in, is_old_word}
-use Rattle.trace_core.specs.Outcomes.{base_after}
+use Rattle.trace_core.specs.Outcomes.{base_after_trace}
 use Rattle.trace_core.proofs.Deciding.{seen, aged, waits-for-claim}
 use Rattle.plain_tracer.proofs.Reading.{readable, refs-read, nums-read, word-within, collector-read}
 use Rattle.plain_tracer.proofs.plain_trace.PlainTrace.claim_object.Goals as goal
@@ -23,7 +23,7 @@ returns-then-is_old-clause-claims c = λ p es v cause tracks there asked.
     let read = collector-read p es c.args.self.now v tracks c.args.x there c.index-word.result.now c.index-word.ensures in
     let other : number_in c.index-word.result.now ≢ c.args.self.now.run.number = c.in_default.ensures.none in (
       aged p es tracks.trace c.args.x there (λ e. other (ap number_in read ∙ e ∙ sym tracks.run.number))
-          (ap (is_old_word (base_after p)) (sym read) ∙ ap (λ n. is_old_word n c.index-word.result.now) (sym tracks.run.base) ∙ sym c.is_old.ensures ∙ c.if-is_old.true),
+          (ap (is_old_word (base_after_trace p)) (sym read) ∙ ap (λ n. is_old_word n c.index-word.result.now) (sym tracks.run.base) ∙ sym c.is_old.ensures ∙ c.if-is_old.true),
       tracks,
     )
 
@@ -42,7 +42,7 @@ win-requires-clause-tracing c = let r = c.requires.tracing in
       right = record {
         held = r.right;
         unclaimed = waits-for-claim r.setup r.events r.tracks.trace c.args.x r.right (λ e. other (ap number_in read ∙ e ∙ sym r.tracks.run.number))
-            (ap (is_old_word (base_after r.setup)) (sym read) ∙ ap (λ n. is_old_word n c.index-word.result.now) (sym r.tracks.run.base) ∙ sym c.is_old.ensures ∙ c.if-is_old.false);
+            (ap (is_old_word (base_after_trace r.setup)) (sym read) ∙ ap (λ n. is_old_word n c.index-word.result.now) (sym r.tracks.run.base) ∙ sym c.is_old.ensures ∙ c.if-is_old.false);
         refs = c.shape_at-shape.ensures.refs ∙ refs-read r.setup r.events c.args.self.now r.view r.tracks c.args.x r.right;
         nums = c.shape_at-shape.ensures.nums ∙ nums-read r.setup r.events c.args.self.now r.view r.tracks c.args.x r.right;
       };
@@ -55,7 +55,7 @@ returns-clause-claims c = λ p es v cause tracks there asked.
     c.win.ensures.wins p es v cause tracks (record {
       held = there;
       unclaimed = waits-for-claim p es tracks.trace c.args.x there (λ e. other (ap number_in read ∙ e ∙ sym tracks.run.number))
-          (ap (is_old_word (base_after p)) (sym read) ∙ ap (λ n. is_old_word n c.index-word.result.now) (sym tracks.run.base) ∙ sym c.is_old.ensures ∙ c.if-is_old.false);
+          (ap (is_old_word (base_after_trace p)) (sym read) ∙ ap (λ n. is_old_word n c.index-word.result.now) (sym tracks.run.base) ∙ sym c.is_old.ensures ∙ c.if-is_old.false);
       refs = c.shape_at-shape.ensures.refs ∙ refs-read p es c.args.self.now v tracks c.args.x there;
       nums = c.shape_at-shape.ensures.nums ∙ nums-read p es c.args.self.now v tracks c.args.x there;
     }) asked

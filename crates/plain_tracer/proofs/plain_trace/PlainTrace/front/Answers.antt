@@ -1,7 +1,7 @@
 use Rattle.std.proofs.Common.{◌≡◌, ◌+◌, ◌-◌, ◌<◌, ◌≤◌, Some, sym, ap, ◌∙◌, subst, arith}
 use Rattle.heap_layout.specs.Zones.{block_start}
 use Rattle.trace_core.specs.Setups.{blocks}
-use Rattle.plain_tracer.specs.Tracers.{TakesBlock, FindsNone}
+use Rattle.plain_tracer.specs.Tracers.{TakesCopyBlock, FindsNone}
 use Rattle.plain_tracer.proofs.Tracking.{none-from}
 use Rattle.plain_tracer.proofs.TakenRoom.{room-block, tracks-left, tracks-same, none-free, blocks-now, room-order, lowest-taken}
 use Rattle.trace_core.proofs.Objects.{Some-injective, None-not-Some}
@@ -26,7 +26,7 @@ returns-in_err-block-clause-none c = none-from c.from_residual.result (λ p es v
 
 pub returns-clause-some : goal.returns-clause-some
 returns-clause-some c = λ p es v tracks.
-    let takes : TakesBlock c.args.self.now c.take_block.new.self c.in_ok-block.block = c.in_ok-block.ensures.some in
+    let takes : TakesCopyBlock c.args.self.now c.take_block.new.self c.in_ok-block.block = c.in_ok-block.ensures.some in
     let most : c.args.size ≤ 2048 = c.requires.size in
     let less : c.args.self.now.room.end - c.args.self.now.room.next < c.args.size = omega (arith, c.if-self-size.false) in
     let order : c.args.self.now.room.next ≤ c.args.self.now.room.end = room-order p es c.args.self.now v tracks in

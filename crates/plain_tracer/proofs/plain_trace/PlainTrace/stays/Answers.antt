@@ -18,5 +18,5 @@ returns c = λ kept p es v tracks held idle.
       full = tracks.run.nursery ∙ straight (is_nursery t.run.collect) (is-full t.run.collect true (sym (turned _ (sym c.ne.ensures ∙ c.if-ne.false))));
       fixed = may-move-from p es t v tracks c.args.x held c.block_of.result c.index.result.now
           (subst (λ b. c.block_of.result ≡ block_at b c.args.x) c.requires.layout c.block_of.ensures.block) c.index.ensures (straight c.index.result.now kept);
-      idle = idle;
+      none_won = idle;
     }

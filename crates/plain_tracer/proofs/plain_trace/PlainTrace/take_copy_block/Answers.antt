@@ -1,19 +1,19 @@
 use Rattle.std.proofs.Common.{inl, inr}
 use Rattle.std.proofs.lemmas.Bool.{cases_lt}
-use Rattle.plain_tracer.specs.Tracers.{TakesBlock, FindsNone}
+use Rattle.plain_tracer.specs.Tracers.{TakesCopyBlock, FindsNone}
 use Rattle.plain_tracer.proofs.Tracking.{if-some, if-none}
 use Rattle.plain_tracer.proofs.TakenRoom.{passed-free, tracks-left, tracks-same}
 use Rattle.plain_tracer.proofs.plain_trace.PlainTrace.take_copy_block.Goals as goal
 
 pub returns-clause-lowest : goal.returns-clause-lowest
-returns-clause-lowest c = if-some (TakesBlock c.args.self.now c.take_block.new.self) _ c.take_block.result (λ b takes d below free.
+returns-clause-lowest c = if-some (TakesCopyBlock c.args.self.now c.take_block.new.self) _ c.take_block.result (λ b takes d below free.
     elim (cases_lt d c.args.self.now.next_block) as (λ _. ⊥) [
       | inl low ↦ passed-free c.args.self.now _ c.requires.tracing d low free
       | inr high ↦ takes.lower d high below free
     ]) c.take_block.ensures.some
 
 pub returns-clause-some : goal.returns-clause-some
-returns-clause-some c = if-some (TakesBlock c.args.self.now c.take_block.new.self) _ c.take_block.result (λ b takes p es v tracks.
+returns-clause-some c = if-some (TakesCopyBlock c.args.self.now c.take_block.new.self) _ c.take_block.result (λ b takes p es v tracks.
     tracks-left p es c.args.self.now c.take_block.new.self b v tracks takes c.requires.copies) c.take_block.ensures.some
 
 pub returns-clause-none : goal.returns-clause-none

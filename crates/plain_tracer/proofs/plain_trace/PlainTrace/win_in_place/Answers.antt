@@ -1,7 +1,7 @@
 use Rattle.std.proofs.Common.{inl, refl, ◌∙◌}
 use Rattle.trace_core.specs.Setups.{size}
 use Rattle.plain_tracer.proofs.ClaimedObjects.{waiting-size}
-use Rattle.plain_tracer.proofs.Winning.{none-needed}
+use Rattle.plain_tracer.proofs.Claimed.{none-needed}
 use Rattle.plain_tracer.proofs.plain_trace.PlainTrace.win_in_place.Goals as goal
 
 pub claim_in_place-requires : goal.claim_in_place-requires

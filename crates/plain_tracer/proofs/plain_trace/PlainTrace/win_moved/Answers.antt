@@ -5,7 +5,7 @@ use Rattle.trace_core.specs.Machine.{ByRoot}
 use Rattle.trace_core.proofs.Objects.{None-not-Some}
 use Rattle.plain_tracer.proofs.Reading.{word-within}
 use Rattle.plain_tracer.proofs.ClaimedObjects.{front-below, tracks-to-front, waiting-size}
-use Rattle.plain_tracer.proofs.Winning.{none-needed}
+use Rattle.plain_tracer.proofs.Claimed.{none-needed}
 use Rattle.plain_tracer.proofs.plain_trace.PlainTrace.win_moved.Goals as goal
 
 pub encode-requires-clause-target : goal.encode-requires-clause-target

@@ -13,7 +13,7 @@ use Rattle.plain_world.proofs.plain_world.PlainWorld.begin_with.Goals as goal
 
 pub returns-clause-open : goal.returns-clause-open
 returns-clause-open g c = record {
-  idle = begun.idle-begun g.P.Plan.rules (heap_state c.args.heap) (map mutator_state c.args.mutators.items) _ (record {
+  between_calls = begun.idle-begun g.P.Plan.rules (heap_state c.args.heap) (map mutator_state c.args.mutators.items) _ (record {
     heap = ap without_stop c.into_row-row.ensures.state;
     mutators = refl;
     seats = c.in_ok-seats.ensures ∙ ap (λ n. replicate n no_seat) (let many : c.len.result ≡ length c.args.mutators.items = omega arith in many);

@@ -2,7 +2,7 @@ use Rattle.std.proofs.Common.{◌≡◌, ◌≤◌, ◌<◌, ◌+◌, sym, ap, s
 use Rattle.std.specs.Prelude.{vec_capacity}
 use Rattle.std.proofs.lemmas.List.{get_or_default}
 use Rattle.heap_layout.specs.declared.block.Kind.{Kind}
-use Rattle.ideal_heap.specs.Runs.{Entry, after}
+use Rattle.ideal_heap.specs.Runs.{Entry, heap_after_run}
 use Rattle.object_model.specs.Ages.{RemembersYoung}
 use Rattle.object_model.specs.Objects.{HeapState, state_of, word_at}
 use Rattle.object_model.specs.Heaps.{heap_state}
@@ -14,14 +14,14 @@ use Rattle.mutator_core.specs.Tickets.{tickets_in}
 use Rattle.heap_users.specs.Users.{mutator_state}
 use Rattle.heap_users.specs.Beginnings.{MayUse}
 use Rattle.block_regions.specs.Notes.{HasNotes}
-use Rattle.plain_row.proofs.Facts as facts
+use Rattle.plain_row.proofs.EpochFacts as facts
 use Rattle.block_regions.proofs.KeptNotes.{notes-for}
 use Rattle.plain_world.proofs.Closed.{AreFew, are-few, more-words, counts-after, ended, may-use, ticket-drawn, tickets-allowed, tickets-drawn}
 use Rattle.plain_world.proofs.plain_world.PlainWorld.close_with.Goals as goal
 
 pub overflow_add-counts : goal.overflow_add-counts
 overflow_add-counts g c =
-    let is = c.requires.open.idle.some in
+    let is = c.requires.open.between_calls.some in
     let w = c.args.self.row in
     let few : AreFew w = are-few is.epoch is.ideal is.log w is.at in
     let unused : c.unused_tickets.result ≡ sum_by (λ x. tickets_in x.ticket) w.seats.items = c.unused_tickets.ensures ∙ ap (sum_by (λ x. tickets_in x.ticket)) c.deref.ensures.value in
@@ -32,12 +32,12 @@ overflow_add-counts g c =
 pub index-requires : goal.index-requires
 index-requires g c =
     let w = c.args.self.row in
-    let words : 1 < length (state_of w.row).words = more-words w c.requires.open.idle.some in
+    let words : 1 < length (state_of w.row).words = more-words w c.requires.open.between_calls.some in
     omega (arith, w.row.words.ok.0)
 
 pub overflow_cast-counts : goal.overflow_cast-counts
 overflow_cast-counts g c =
-    let is = c.requires.open.idle.some in
+    let is = c.requires.open.between_calls.some in
     let w = c.args.self.row in
     let few : AreFew w = are-few is.epoch is.ideal is.log w is.at in
     let unused : c.unused_tickets.result ≡ sum_by (λ x. tickets_in x.ticket) w.seats.items = c.unused_tickets.ensures ∙ ap (sum_by (λ x. tickets_in x.ticket)) c.deref.ensures.value in
@@ -50,7 +50,7 @@ overflow_cast-counts g c =
 
 pub overflow_sub-counts : goal.overflow_sub-counts
 overflow_sub-counts g c =
-    let is = c.requires.open.idle.some in
+    let is = c.requires.open.between_calls.some in
     let w = c.args.self.row in
     let few : AreFew w = are-few is.epoch is.ideal is.log w is.at in
     let unused : c.unused_tickets.result ≡ sum_by (λ x. tickets_in x.ticket) w.seats.items = c.unused_tickets.ensures ∙ ap (sum_by (λ x. tickets_in x.ticket)) c.deref.ensures.value in
@@ -62,18 +62,18 @@ overflow_sub-counts g c =
     omega arith
 
 pub give_back-requires-clause-order : goal.give_back-requires-clause-order
-give_back-requires-clause-order g c = let is = c.requires.open.idle.some in facts.order is.epoch is.ideal is.log c.args.self.row is.at
+give_back-requires-clause-order g c = let is = c.requires.open.between_calls.some in facts.order is.epoch is.ideal is.log c.args.self.row is.at
 
 pub give_back-requires-clause-notes : goal.give_back-requires-clause-notes
 give_back-requires-clause-notes g c = let w = c.args.self.row in
-    subst (λ (f : Kind). HasNotes f (state_of w.row) w.notes.items) c.requires.open.fill c.requires.open.idle.some.at.notes
+    subst (λ (f : Kind). HasNotes f (state_of w.row) w.notes.items) c.requires.open.fill c.requires.open.between_calls.some.at.notes
 
 pub give_back-requires-clause-codes : goal.give_back-requires-clause-codes
-give_back-requires-clause-codes g c = let is = c.requires.open.idle.some in facts.code is.epoch is.ideal is.log c.args.self.row is.at
+give_back-requires-clause-codes g c = let is = c.requires.open.between_calls.some in facts.code is.epoch is.ideal is.log c.args.self.row is.at
 
 pub from_row-requires : goal.from_row-requires
-from_row-requires g c = let is = c.requires.open.idle.some in
-    (ended is.epoch is.ideal is.log c.args.self.row is.at (state_of c.give_back.new.row) c.give_back.ensures.gives c.requires.open.idle.filled).lawful
+from_row-requires g c = let is = c.requires.open.between_calls.some in
+    (ended is.epoch is.ideal is.log c.args.self.row is.at (state_of c.give_back.new.row) c.give_back.ensures.gives c.requires.open.between_calls.filled).lawful
 
 pub returns-clause-stopped : goal.returns-clause-stopped
 returns-clause-stopped g c = λ p i part is.
@@ -81,7 +81,7 @@ returns-clause-stopped g c = λ p i part is.
     let ms = map mutator_state w.mutators.items in
     subst (λ (es : List Entry). Stopped p.rules (numbers_of p.mutators) p.before i es (heap_state c.from_row.result) ms) is.history
     (subst (λ (t : HeapState). Stopped p.rules (numbers_of p.mutators) p.before i (history_of p is.log) t ms) (sym c.from_row.ensures)
-    (ended p i is.log w is.at (state_of c.give_back.new.row) c.give_back.ensures.gives c.requires.open.idle.filled))
+    (ended p i is.log w is.at (state_of c.give_back.new.row) c.give_back.ensures.gives c.requires.open.between_calls.filled))
 
 pub returns-clause-tickets : goal.returns-clause-tickets
 returns-clause-tickets g c = λ p i part is.
@@ -94,30 +94,30 @@ returns-clause-tickets g c = λ p i part is.
 
 pub returns-clause-users : goal.returns-clause-users
 returns-clause-users g c =
-    let is = c.requires.open.idle.some in
+    let is = c.requires.open.between_calls.some in
     let w = c.args.self.row in
     let ms = map mutator_state w.mutators.items in
     subst (λ (t : HeapState). MayUse t ms) (sym c.from_row.ensures)
-    (may-use (state_of c.give_back.new.row) ms (after is.ideal (history_of is.epoch is.log))
-    (ended is.epoch is.ideal is.log w is.at (state_of c.give_back.new.row) c.give_back.ensures.gives c.requires.open.idle.filled).represents)
+    (may-use (state_of c.give_back.new.row) ms (heap_after_run is.ideal (history_of is.epoch is.log))
+    (ended is.epoch is.ideal is.log w is.at (state_of c.give_back.new.row) c.give_back.ensures.gives c.requires.open.between_calls.filled).represents)
 
 pub returns-clause-remembers : goal.returns-clause-remembers
 returns-clause-remembers g c = λ rules same.
-    let is = c.requires.open.idle.some in
+    let is = c.requires.open.between_calls.some in
     let w = c.args.self.row in
     subst (λ (b : Bool). IsTrue b → RemembersYoung (heap_state c.from_row.result)) (sym (same ∙ is.at.young))
     (subst (λ (t : HeapState). IsTrue is.epoch.rules.young → RemembersYoung t) (sym c.from_row.ensures)
-    (ended is.epoch is.ideal is.log w is.at (state_of c.give_back.new.row) c.give_back.ensures.gives c.requires.open.idle.filled).remembers)
+    (ended is.epoch is.ideal is.log w is.at (state_of c.give_back.new.row) c.give_back.ensures.gives c.requires.open.between_calls.filled).remembers)
 
 pub returns-clause-gives : goal.returns-clause-gives
 returns-clause-gives g c = subst (GivesBack (state_of c.args.self.row.row)) (sym c.from_row.ensures) c.give_back.ensures.gives
 
 pub returns-clause-drawn : goal.returns-clause-drawn
-returns-clause-drawn g c = ticket-drawn c.args.self.row c.requires.open.idle.some
+returns-clause-drawn g c = ticket-drawn c.args.self.row c.requires.open.between_calls.some
 
 pub returns-clause-known : goal.returns-clause-known
 returns-clause-known g c =
-    let is = c.requires.open.idle.some in
+    let is = c.requires.open.between_calls.some in
     let w = c.args.self.row in
     let few : AreFew w = are-few is.epoch is.ideal is.log w is.at in
     let unused : c.unused_tickets.result ≡ sum_by (λ x. tickets_in x.ticket) w.seats.items = c.unused_tickets.ensures ∙ ap (sum_by (λ x. tickets_in x.ticket)) c.deref.ensures.value in
@@ -129,7 +129,7 @@ returns-clause-known g c =
     let new : HeapState = heap_state c.from_row.result in
     let gives : GivesBack (state_of w.row) new = subst (GivesBack (state_of w.row)) (sym c.from_row.ensures) c.give_back.ensures.gives in
     record {
-      counts = counts-after is.epoch is.ideal is.log w is.at new gives c.requires.open.idle.filled _ (omega arith);
+      counts = counts-after is.epoch is.ideal is.log w is.at new gives c.requires.open.between_calls.filled _ (omega arith);
       notes = subst (λ (t : HeapState). HasNotes w.fill t c.give_back.new.notes.items) (sym c.from_row.ensures) (subst (λ (f : Kind). HasNotes f (state_of c.give_back.new.row) c.give_back.new.notes.items) (sym c.requires.open.fill) c.give_back.ensures.notes);
       unowned = c.give_back.ensures.unowned;
       owned = c.clear.ensures.items;

@@ -5,20 +5,20 @@ use Rattle.plain_world.proofs.CallLemmas.{places-same, young-same, history-gains
 use Rattle.plain_world.proofs.plain_world.PlainWorld.pin.Goals as goal
 
 pub returns-clause-open : goal.returns-clause-open
-returns-clause-open g c = record { idle = c.pin.ensures.ready.idle; fill = c.pin.ensures.goes.fill ∙ c.requires.open.fill }
+returns-clause-open g c = record { between_calls = c.pin.ensures.ready.between_calls; fill = c.pin.ensures.goes.fill ∙ c.requires.open.fill }
 
 pub returns-clause-places : goal.returns-clause-places
 returns-clause-places g c =
-    let same = places-same c.args.self.now.row c.pin.new.seat c.args.m (enters (command.Pin c.args.s) c.pin.result) c.requires.open.idle c.pin.ensures.goes in
+    let same = places-same c.args.self.now.row c.pin.new.seat c.args.place (enters (command.Pin c.args.s) c.pin.result) c.requires.open.between_calls c.pin.ensures.goes in
     record { count = same.0; numbers = same.1 }
 
 pub returns-clause-plan : goal.returns-clause-plan
 returns-clause-plan g c =
-    young-same c.args.self.now.row c.pin.new.seat c.args.m (enters (command.Pin c.args.s) c.pin.result) c.requires.open.idle c.pin.ensures.goes
+    young-same c.args.self.now.row c.pin.new.seat c.args.place (enters (command.Pin c.args.s) c.pin.result) c.requires.open.between_calls c.pin.ensures.goes
 
 pub returns-clause-history : goal.returns-clause-history
 returns-clause-history g c =
-    history-gains c.args.self.now.row c.pin.new.seat c.args.m (enters (command.Pin c.args.s) c.pin.result) c.pin.ensures.goes
+    history-gains c.args.self.now.row c.pin.new.seat c.args.place (enters (command.Pin c.args.s) c.pin.result) c.pin.ensures.goes
 
 pub returns-clause-rest : goal.returns-clause-rest
 returns-clause-rest g c =
@@ -29,9 +29,9 @@ returns-clause-rest g c =
       stop = did.stop;
       budget = did.budget;
       blocks = did.blocks;
-      births = births-after old new c.args.m effect did;
-      ticket = ticket-after old new c.args.m effect did;
-      regions = regions-after old new c.args.m effect did;
-      others = others-after old new c.args.m effect c.requires.open.idle c.requires.place did;
-      objects = objects-after old new c.args.m effect c.requires.open.idle did;
+      births = births-after old new c.args.place effect did;
+      ticket = ticket-after old new c.args.place effect did;
+      regions = regions-after old new c.args.place effect did;
+      others = others-after old new c.args.place effect c.requires.open.between_calls c.requires.place did;
+      objects = objects-after old new c.args.place effect c.requires.open.between_calls did;
     }

@@ -13,20 +13,20 @@ use Rattle.plain_world.proofs.CallLemmas.{places-same, history-gains, stop-known
 use Rattle.plain_world.proofs.plain_world.PlainWorld.poll.Goals as goal
 
 pub returns-clause-open : goal.returns-clause-open
-returns-clause-open g c = record { idle = c.poll.ensures.ready.idle; fill = ap (λ (w : PlainRow). w.fill) c.poll.ensures.looks ∙ c.requires.open.fill }
+returns-clause-open g c = record { between_calls = c.poll.ensures.ready.between_calls; fill = ap (λ (w : PlainRow). w.fill) c.poll.ensures.looks ∙ c.requires.open.fill }
 
 pub returns-clause-places : goal.returns-clause-places
 returns-clause-places g c =
-    let did = goes-nothing (record c.args.self.now.row { turn = c.args.m }) c.poll.new.seat c.poll.ensures.looks in
-    let same = places-same c.args.self.now.row c.poll.new.seat c.args.m nothing c.requires.open.idle did in
+    let did = goes-nothing (record c.args.self.now.row { turn = c.args.place }) c.poll.new.seat c.poll.ensures.looks in
+    let same = places-same c.args.self.now.row c.poll.new.seat c.args.place nothing c.requires.open.between_calls did in
     record { count = same.0; numbers = same.1 }
 
 pub returns-clause-plan : goal.returns-clause-plan
 returns-clause-plan g c = ap (λ w. w.young) c.poll.ensures.looks
 
 pub returns-clause-history : goal.returns-clause-history
-returns-clause-history g c = history-gains c.args.self.now.row c.poll.new.seat c.args.m nothing
-    (goes-nothing (record c.args.self.now.row { turn = c.args.m }) c.poll.new.seat c.poll.ensures.looks)
+returns-clause-history g c = history-gains c.args.self.now.row c.poll.new.seat c.args.place nothing
+    (goes-nothing (record c.args.self.now.row { turn = c.args.place }) c.poll.new.seat c.poll.ensures.looks)
 
 pub returns-clause-same : goal.returns-clause-same
 returns-clause-same g c = record {
@@ -39,4 +39,4 @@ returns-clause-same g c = record {
 }
 
 pub returns-clause-mutator : goal.returns-clause-mutator
-returns-clause-mutator g c = λ n is. stop-known c.args.self.now.row n c.requires.open.idle (c.poll.ensures.stop ∙ ap stop_of is) (c.poll.ensures.raised n is)
+returns-clause-mutator g c = λ n is. stop-known c.args.self.now.row n c.requires.open.between_calls (c.poll.ensures.stop ∙ ap stop_of is) (c.poll.ensures.raised n is)

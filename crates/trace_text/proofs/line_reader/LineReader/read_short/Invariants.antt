@@ -1,6 +1,6 @@
 use Rattle.std.proofs.Common.{◌≡◌, ◌<◌, ◌≤◌, None, length}
 use Rattle.trace_text.specs.Grammar.{lines_of}
-use Rattle.trace_text.specs.Readers.{GoesOn}
+use Rattle.trace_text.specs.Readers.{ReadsLines}
 use Rattle.trace_text.proofs.line_reader.LineReader.read_short.Given as goal
 
 -- the lines so far are read, and none was bad
@@ -8,7 +8,7 @@ abbrev pub invariant-loop-command : goal.invariant-loop-command
 invariant-loop-command l = record {
   none : l.self.fault ≡ None;
   begun : 1 < l.self.number;
-  so_far : GoesOn l.fn.self l.self (lines_of l.text) (lines_of l.rest);
+  so_far : ReadsLines l.fn.self l.self (lines_of l.text) (lines_of l.rest);
   fewer : length l.rest ≤ length l.text;
 }
 

@@ -2,7 +2,7 @@ use Rattle.std.proofs.Common.{arith, ◌≡◌, ◌<◌, ◌-◌, ◌++◌, ◌�
 use Rattle.std.proofs.lemmas.List.{length-take-le}
 use Rattle.trace_text.specs.declared.trace_reader.TraceReader.{TraceReader}
 use Rattle.trace_text.specs.Grammar.{lines_of}
-use Rattle.trace_text.specs.Readers.{end_of_lines, IsWhole}
+use Rattle.trace_text.specs.Readers.{end_of_lines, HasWholeLines}
 use Rattle.trace_text.proofs.ReaderLemmas.{read_on, read_begun, whole_more, on_ok, in_three}
 use Rattle.trace_text.proofs.trace_reader.TraceReader.read.Goals as goal
 
@@ -21,7 +21,7 @@ returns c =
     let first : List ℕ = take n piece in
     let rest : List ℕ = take (length piece - n) (drop n piece) in
     let some : 0 < length first = rw (length-take-le n piece c.first_line-first.ensures.within) (grind arith) in
-    let ends : IsWhole (old.begun.items ++ first) = whole_more old.begun.items first some c.first_line-first.ensures.whole in
+    let ends : HasWholeLines (old.begun.items ++ first) = whole_more old.begun.items first some c.first_line-first.ensures.whole in
     let tail : List ℕ = take (length rest - m) (drop m rest) in
     let begun : c.deref.result.now ≡ old.begun.items ++ first = c.deref.ensures.value ∙ c.in_ok-extend_from_slice.ensures.items in
     on_ok c.extend_from_slice-3.result _ _ _ c.extend_from_slice-3.ensures.items (λ e text. read_on old new c.read.new.self text piece first (take m rest) tail (in_three piece n m rest refl) ends c.whole_lines-end.ensures.whole

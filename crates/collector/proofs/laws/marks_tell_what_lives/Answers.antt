@@ -1,5 +1,0 @@
-use Rattle.collector.proofs.UnlogBits.{marks}
-use Rattle.collector.proofs.laws.marks_tell_what_lives.Goals as goal
-
-pub returns : goal.returns
-returns c = λ p es k trace finished full clear. marks p es trace finished full clear k

@@ -1,7 +1,0 @@
-use Rattle.std.proofs.Common.{◌≢◌, ◌<◌, ℕ}
-use Rattle.std.specs.Prelude.{Some, slice_get}
-use Rattle.mm_runtime.specs.declared.progress.End.TheVariants as end
-use Rattle.mm_runtime.proofs.gc.some_gc.Given as goal
-
-abbrev pub invariant-loop-end : goal.invariant-loop-end
-invariant-loop-end l = (k : ℕ) → k < l.end-index → slice_get l.ends k ≢ Some end.Gc

@@ -1,0 +1,16 @@
+use Rattle.std.proofs.Common.{sym, ◌∙◌, inl, inr, IsTrue}
+use Rattle.std.proofs.lemmas.Bool.{cases_Bool}
+use Rattle.object_model.specs.Objects.{is_unlogged}
+use Rattle.trace_core.specs.Traces.{heap_after}
+use Rattle.trace_core.proofs.Objects.{None-not-Some}
+use Rattle.trace_core.proofs.Deciding.{marked, unmarked}
+use Rattle.trace_core.proofs.laws.unlog_bits_show_what_is_claimed.Goals as goal
+
+pub returns : goal.returns
+returns c p es v trace holds clear x stays = (
+  (λ set. (marked p es trace x stays.held (clear x) set).1),
+  (λ claimed. elim (cases_Bool (is_unlogged (heap_after p es) x)) as (λ _. IsTrue (is_unlogged (heap_after p es) x)) [
+    | inl set ↦ set
+    | inr bare ↦ absurd (None-not-Some x (sym (unmarked p es trace v holds x stays bare) ∙ claimed))
+  ]),
+)
