@@ -9,7 +9,7 @@ use Rattle.object_model.specs.Graphs.{MutatorState, roots_of}
 use Rattle.sessions.specs.Plans.{Rules}
 use Rattle.sessions.specs.Collecting.{IsCollection}
 use Rattle.sessions.specs.Sessions.{Setting, Moment, MakesCollection, birth_count, counts_after}
-use Rattle.sessions.proofs.Counting.{counts-one}
+use Rattle.sessions.proofs.CountedCollections.{counts-one}
 use Rattle.sessions.proofs.CollectedMoments as moments
 use Rattle.sessions.proofs.SameStates.{HaveRegisters}
 use Rattle.collector.specs.Tallies.{NotesIf}
@@ -61,6 +61,8 @@ module _ {P : Type 0} (rules : Rules) (kind : Collect) (old new : StoppedHeap P)
     stands = record {
       rules_are = at.rules_are;
       workers = at.workers;
+      blocks = at.blocks ∙ ap (λ (s : HeapState). s.blocks) (sym at.heap)
+          ∙ sym (counts-one rules 1 kind (heap_state old.heap) (heap_state new.heap) (registers_of_heap old) (registers_of_heap new) made.collection).1;
       heap = refl;
       mutators = refl;
       nursery = refl;

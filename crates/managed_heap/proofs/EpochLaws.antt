@@ -32,6 +32,7 @@ module _ {P : Type 0} (rules : Rules) (old new : StoppedHeap P) (t : Setting) (n
   stands-after = record {
     rules_are = stands.rules_are;
     workers = stands.workers;
+    blocks = stands.blocks ∙ sym ends.stopped.blocks;
     heap = refl;
     mutators = refl;
     nursery = refl;

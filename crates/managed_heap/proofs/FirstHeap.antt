@@ -33,6 +33,7 @@ module _ {P : Type 0} (rules : Rules) (h : StoppedHeap P) (blocks count : ℕ)
       record {
         rules_are = rules_are;
         workers = one;
+        blocks = refl;
         heap = heap ∙ ap empty_heap (sym blocks_are);
         mutators = mutators ∙ ap (λ n. map new_mutator (range_with_len 1 n)) (sym traces);
         nursery = nursery;

@@ -22,7 +22,7 @@ use Rattle.block_sweeps.specs.Sweeping.{AreApart}
 use Rattle.sessions.specs.Plans.{Rules}
 use Rattle.sessions.specs.Fitting.{IsFreeRun}
 use Rattle.sessions.specs.Sessions.{PlacesLarge, AddsObject}
-use Rattle.sessions.proofs.LargePlacing as placing
+use Rattle.sessions.proofs.PlacedLargeObjects as placing
 use Rattle.large_space.specs.FreeRuns.{IsFirstRun}
 use Rattle.managed_heap.specs.declared.spot.Spot.{Spot}
 use Rattle.plan_api.specs.Relisting.{Relists}

@@ -133,6 +133,7 @@ module _ {P : Type 0} (rules : Rules) (old new : StoppedHeap P) (m : ℕ) (need 
     stands-after = record {
       rules_are = stands.rules_are;
       workers = stands.workers;
+      blocks = stands.blocks ∙ ap (λ (s : HeapState). s.blocks) (sym stands.heap) ∙ sym born.layout.0;
       heap = refl;
       mutators = refl;
       nursery = puts.nursery ∙ stands.nursery;

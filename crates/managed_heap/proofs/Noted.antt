@@ -27,6 +27,7 @@ module _ {P : Type 0} (rules : Rules) (h : StoppedHeap P) (notes : BlockNotes) w
   stands-noted t now stands = record {
     rules_are = stands.rules_are;
     workers = stands.workers;
+    blocks = stands.blocks;
     heap = stands.heap;
     mutators = stands.mutators;
     nursery = stands.nursery;

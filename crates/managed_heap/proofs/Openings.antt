@@ -28,7 +28,7 @@ use Rattle.object_model.proofs.TakenBlocks as taken
 use Rattle.sessions.specs.Plans.{Rules}
 use Rattle.sessions.specs.Fitting.{HasHole, class_for}
 use Rattle.sessions.specs.Sessions.{UsesBlock, ChangesBlocks, AddsObject, block_of_kind}
-use Rattle.sessions.proofs.Placing as placing
+use Rattle.sessions.proofs.PlacedSmallObjects as placing
 use Rattle.sessions.proofs.HoleRooms.{hole-kind, hole-not-free, hole-within, hole-small, hole-room, taken-hole, valid-word}
 use Rattle.plan_api.specs.Relisting.{Relists}
 use Rattle.block_regions.specs.Notes.{FillsHoles}

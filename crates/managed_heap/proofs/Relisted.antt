@@ -18,7 +18,7 @@ use Rattle.sessions.specs.Plans.{Rules}
 use Rattle.sessions.specs.Sessions.{AddsObject, UsesBlock, ChangesBlocks}
 use Rattle.block_sweeps.specs.Sweeping.{AreApart}
 use Rattle.plan_api.specs.Relisting.{RelistsIf, Relists}
-use Rattle.plan_api.proofs.Viewing.{orderly-apart}
+use Rattle.plan_api.proofs.BlockViews.{orderly-apart}
 use Rattle.block_regions.proofs.BlockSides.{ChangesSides, order-kept, exact-kept}
 use Rattle.block_regions.proofs.Relisted.{IsRelisted}
 

@@ -20,7 +20,7 @@ use Rattle.managed_heap.specs.declared.stopped_heap.StoppedHeap.{StoppedHeap}
 use Rattle.managed_heap.specs.declared.place.Placed.{Placed}
 use Rattle.managed_heap.specs.declared.place.Placed.TheVariants as answer
 use Rattle.managed_heap.specs.Stopped.{collections_of, IsHeapInOrder, IsStopped, HeapStandsAt, HasCollected}
-use Rattle.managed_heap.specs.Needs.{MakesRoom, Settles, AddsNeed, AddsBirths, IfRefused, born_in}
+use Rattle.managed_heap.specs.Needs.{MakesRoomAtStop, Settles, AddsNeed, AddsBirths, IfRefused, born_in}
 use Rattle.managed_heap.proofs.Noted as noted
 use Rattle.managed_heap.proofs.Noted.{IsFound}
 use Rattle.managed_heap.proofs.Collected as collected
@@ -41,7 +41,7 @@ SettlesFrom rules old m need what new = (t : Setting) (now : Moment) → HeapSta
 
 abbrev pub RoomFrom : {P : Type 0} → Rules → StoppedHeap P → ℕ → StoppedHeap P → Type 0
 RoomFrom rules old size new = (t : Setting) (now : Moment) → HeapStandsAt rules old t now
-    → (late : Moment) × MakesRoom t size now late × HeapStandsAt rules new t late
+    → (late : Moment) × MakesRoomAtStop t size now late × HeapStandsAt rules new t late
 
 pub serves-at-once : {P : Type 0} (rules : Rules) (old new last : StoppedHeap P) (m : ℕ) (need : Need) (what : Placed) → IsFound old new → AreNotes rules.fill (heap_state new.heap) new.notes
     → PlacesFrom rules new m need what last → ServesFrom rules old m need what last
@@ -145,6 +145,7 @@ refused-at rules h m d refs nums t now stands =
       record {
         rules_are = stands.rules_are;
         workers = stands.workers;
+        blocks = stands.blocks;
         heap = stands.heap;
         mutators = stands.mutators;
         nursery = stands.nursery;
@@ -189,7 +190,7 @@ module _ {P : Type 0} (rules : Rules) (old found : StoppedHeap P) (m : ℕ) (nee
 
 -- room was made, and the need is settled
 
-serves-settled : (t : Setting) (m : ℕ) (need : Need) (what : Placed) (now late next : Moment) → (Fits t.rules now.heap (size_of need.refs need.nums) → ⊥) → MakesRoom t (size_of need.refs need.nums) now late
+serves-settled : (t : Setting) (m : ℕ) (need : Need) (what : Placed) (now late next : Moment) → (Fits t.rules now.heap (size_of need.refs need.nums) → ⊥) → MakesRoomAtStop t (size_of need.refs need.nums) now late
     → Settles t m need what late next → ServesNeed t m need.register need.refs need.nums now next
 serves-settled t m need (answer.Placed n) now late next none (inl part) places = after_nursery late none part.0 part.1 places
 serves-settled t m need (answer.HeapFull size) now late next none (inl part) refuses = absurd (refuses.0 part.2)
@@ -201,7 +202,7 @@ first-done : (t : Setting) (size : ℕ) (kind : Collect) (now mid : Moment) → 
 first-done t size Full now mid same = ap (λ (x : Moment). x.done) same
 first-done t size Nursery now mid made = made.0.done
 
-room-done : (t : Setting) (size : ℕ) (now late : Moment) → MakesRoom t size now late → late.done ≡ now.done
+room-done : (t : Setting) (size : ℕ) (now late : Moment) → MakesRoomAtStop t size now late → late.done ≡ now.done
 room-done t size now late (inl part) = part.1.done
 room-done t size now late (inr whole) = whole.2.done ∙ first-done t size (first_collection t.rules now.heap) now whole.0 whole.1
 
@@ -214,7 +215,7 @@ module _ {P : Type 0} (rules : Rules) (old found made last : StoppedHeap P) (m :
         then.0,
         serves-settled t m need what now first.0 then.0
             (λ fits. none (subst (Fits rules (heap_state old.heap)) (sym is) (fits-back rules old t now (size_of need.refs need.nums) stands fits)))
-            (subst (λ (n : ℕ). MakesRoom t n now first.0) is first.1) then.1,
+            (subst (λ (n : ℕ). MakesRoomAtStop t n now first.0) is first.1) then.1,
         subst (λ (es : List Entry). AddsNeed m need what (record first.0 { done = es }) then.0) (room-done t size now first.0 first.1) then.2,
         then.3,
       )

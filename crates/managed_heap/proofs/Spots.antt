@@ -10,10 +10,10 @@ use Rattle.object_model.proofs.OneKind.{kind-within}
 use Rattle.sessions.specs.Plans.{Rules, Reserve}
 use Rattle.sessions.specs.Grants.{BlockCounts, IsGrantable, IsRunGrantable, reserve_in, reserve_per_block}
 use Rattle.sessions.specs.Fitting.{Fits, HasSomeHole, MayGrant, MayGrantRun, IsFreeRun, counts_of, free_of}
-use Rattle.sessions.proofs.Placing.{free-none}
+use Rattle.sessions.proofs.PlacedSmallObjects.{free-none}
 use Rattle.sessions.proofs.WorkedFits.{from-small, to-small, from-large, to-large}
 use Rattle.large_space.specs.FreeRuns.{IsFirstRun, HasNoRun}
-use Rattle.plan_api.proofs.Viewing.{state-same}
+use Rattle.plan_api.proofs.BlockViews.{state-same}
 use Rattle.block_regions.specs.Notes.{IsLowestHole}
 use Rattle.managed_heap.specs.Spots.{IsPlaceIn, IsRunAt, IsSpot}
 use Rattle.sessions.proofs.HoleRooms.{hole-kind, hole-not-free}

@@ -21,7 +21,8 @@ use Rattle.block_regions.specs.Notes.{AreNotes, FillsHoles}
 use Rattle.managed_heap.specs.declared.stopped_heap.StoppedHeap.{StoppedHeap}
 use Rattle.managed_heap.specs.declared.stopped_heap.Parts.{Parts}
 
--- The plans that can be managed: mutators fill holes of blocks, and the collections are made that allocations ask for.
+-- The plans that can be managed: mutators fill holes of blocks, and the collections are made that
+-- allocations ask for.
 pub record IsManaged (r : Rules) : Type 0 where
   pub fill : FillsHoles r.fill
   pub first : (s : HeapState) → IsOffered r (first_collection r s)
@@ -29,7 +30,14 @@ pub record IsManaged (r : Rules) : Type 0 where
 
 -- its parts
 abbrev pub parts_of : {P : Type 0} → StoppedHeap P → Parts
-parts_of h = record { heap = h.heap; mutators = h.mutators; notes = h.notes; nursery = h.nursery; full = h.full }
+parts_of h = record {
+  heap = h.heap;
+  mutators = h.mutators;
+  notes = h.notes;
+  roots = h.roots;
+  nursery = h.nursery;
+  full = h.full;
+}
 
 -- the number of mutators
 abbrev pub count_of_mutators : {P : Type 0} → StoppedHeap P → ℕ
@@ -39,17 +47,20 @@ count_of_mutators h = length h.mutators.items
 abbrev pub collections_of : {P : Type 0} → StoppedHeap P → ℕ
 collections_of h = h.nursery + h.full
 
--- What a stopped heap keeps in order: the mutators are few, the notes are those of its blocks, and each collection is counted.
+-- What a stopped heap keeps in order: the mutators are few, the notes are those of its blocks, and
+-- the counts of collections add up to the collection number.
 pub record IsHeapInOrder {P : Type 0} (rules : Rules) (h : StoppedHeap P) : Type 0 where
   pub few : count_of_mutators h ≤ MAX_MUTATORS
   pub notes : AreNotes rules.fill (heap_state h.heap) h.notes
   pub number : (heap_state h.heap).number ≡ collections_of h
 
--- Heap, mutators and counts of collections are those of this moment, and the plan is that of the setting. One worker traces.
--- Of the traces of the setting only their number matters.
-pub record HeapStandsAt {P : Type 0} (rules : Rules) (h : StoppedHeap P) (t : Setting) (now : Moment) : Type 0 where
+-- Heap, mutators and counts of collections are those of this moment, and the plan is that of the
+-- setting. One worker traces. Of the traces of the setting only their number matters.
+pub record HeapStandsAt {P : Type 0} (rules : Rules) (h : StoppedHeap P) (t : Setting)
+    (now : Moment) : Type 0 where
   pub rules_are : t.rules ≡ rules
   pub workers : t.workers ≡ 1
+  pub blocks : t.blocks ≡ now.heap.blocks
   pub heap : heap_state h.heap ≡ now.heap
   pub mutators : map mutator_state h.mutators.items ≡ now.mutators
   pub nursery : h.nursery ≡ now.nursery
@@ -67,16 +78,19 @@ moment_of h done = record {
   full = h.full;
 }
 
--- The epoch that began with `old` at this moment ran these entries and ended with `new`. No collection was made.
-pub record EndsEpoch {P : Type 0} (rules : Rules) (old : StoppedHeap P) (now : Moment) (part : List Entry)
+-- The epoch that began with `old` at this moment ran these entries and ended with `new`. No
+-- collection was made.
+pub record EndsEpoch {P : Type 0} (rules : Rules) (old : StoppedHeap P) (now : Moment)
+    (part : List Entry)
     (new : StoppedHeap P) : Type 0 where
   pub run : IsRun (ideal_at now) part
-  pub stopped : EndsPart rules (numbers_of now.mutators) (without_stop now.heap) (ideal_at now) part (heap_state new.heap)
+  pub stopped : EndsPart rules (numbers_of now.mutators) (without_stop now.heap) (ideal_at now) part
+      (heap_state new.heap)
       (map mutator_state new.mutators.items)
   pub nursery : new.nursery ≡ old.nursery
   pub full : new.full ≡ old.full
 
--- it stands at some moment of some setting
+-- It stands at some sound moment of some setting, not always one that a session reaches.
 pub record IsStopped {P : Type 0} (rules : Rules) (h : StoppedHeap P) : Type 0 where
   pub order : IsHeapInOrder rules h
   pub setting : Setting
@@ -92,15 +106,19 @@ counted Full nursery full = (nursery, full + 1)
 abbrev pub registers_of_heap : {P : Type 0} → StoppedHeap P → List ℕ
 registers_of_heap h = roots_of (map mutator_state h.mutators.items)
 
--- A collection was made and counted, and the note tells of it. The registers are those that it left, and the notes on blocks
--- those of its heap. Mutators keep their numbers and births.
-pub record HasCollected {P : Type 0} (rules : Rules) (kind : Collect) (old new : StoppedHeap P) (note : Note) : Type 0 where
-  pub collection : IsCollection rules 1 kind (heap_state old.heap) (registers_of_heap old) (heap_state new.heap)
+-- A collection was made and counted, and the note is of it. The registers are those that it left,
+-- and the notes on blocks those of its heap. Mutators keep their numbers and births.
+pub record HasCollected {P : Type 0} (rules : Rules) (kind : Collect) (old new : StoppedHeap P)
+    (note : Note) : Type 0 where
+  pub collection : IsCollection rules 1 kind (heap_state old.heap) (registers_of_heap old)
+      (heap_state new.heap)
       (registers_of_heap new)
-  pub noted : NotesIf rules.collects rules 1 kind (heap_state old.heap) (registers_of_heap old) (heap_state new.heap)
+  pub noted : NotesIf rules.collects rules 1 kind (heap_state old.heap) (registers_of_heap old)
+      (heap_state new.heap)
       (registers_of_heap new)
       collection note
-  pub births : map birth_count (map mutator_state new.mutators.items) ≡ map birth_count (map mutator_state old.mutators.items)
+  pub births : map birth_count (map mutator_state new.mutators.items)
+      ≡ map birth_count (map mutator_state old.mutators.items)
   pub registers : AllByRecursion (λ u. length u.registers ≡ 16) new.mutators.items
   pub counts : (new.nursery, new.full) ≡ counted kind old.nursery old.full
   pub notes : AreNotes rules.fill (heap_state new.heap) new.notes

@@ -3,8 +3,11 @@
 //! `collect` writes heap, registers, notes and one of the counts, which change together: registers
 //! are addresses of the new heap, and notes speak of its blocks. Never writes births.
 
-ghost use Rattle.std.specs.Prelude.{◌≡◌, ◌+◌, ◌*◌, ◌^◌, ◌<◌, map, length, IfOk};
+ghost use Rattle.std.specs.Prelude.{◌≡◌, ◌+◌, ◌*◌, ◌^◌, ◌<◌, ◌≤◌, [], map, length, vec_capacity, IfOk};
 ghost use Rattle.std.specs.List.{AllByRecursion};
+ghost use Rattle.heap_layout.specs.declared.block.Kind.{Kind};
+ghost use Rattle.object_model.specs.Heaps.{heap_state};
+ghost use Rattle.block_regions.specs.Notes.{AreNotes};
 ghost use Rattle.object_model.specs.Graphs.{roots_of};
 ghost use Rattle.sessions.specs.Sessions.{Setting, Moment, MakesCollection, birth_count};
 ghost use Rattle.heap_users.specs.Users.{mutator_state};
@@ -12,26 +15,52 @@ ghost use Rattle.collector.specs.Collected.{IsOffered};
 ghost use Rattle.managed_heap.specs.Stopped.{collections_of, counted, HasCollected, IsStopped, HeapStandsAt};
 
 use crate::stopped_heap::StoppedHeap;
+use block_regions::{BlockNote, BlockNotes};
 use collector::Note;
+use heap_layout::BLOCK_WORDS;
 use ideal_heap::REGISTERS;
 use mutator_calls::Mutator;
-use object_model::Collect;
-use plain_world::BlockNotes;
-use plan_api::Plan;
+use object_model::{Collect, Heap};
+use plan_api::{Plan, block_counts};
 use pools::Pool;
 use std::alloc::{AllocError, Global};
 use std::thread::Threads;
 use work_packets::Gate;
+
+/// Makes a list that of the registers of some mutators, one mutator after another.
+///
+/// Fails if the list has no room for them and memory runs out.
+fn list_registers(roots: &mut Vec<u32>, mutators: &[Mutator]) -> Result<(), AllocError>
+    ensures { IfOk result (λ _. roots.new.items ≡ roots_of (map mutator_state mutators.now)) }
+{
+    roots.clear();
+    for mutator in mutators {
+        roots.extend_from_slice(&mutator.registers)?;
+    }
+    Ok(())
+}
 
 /// The registers of some mutators, one mutator after another.
 pub fn all_registers(alloc: Global, mutators: &[Mutator]) -> Result<Vec<u32>, AllocError>
     ensures { IfOk result (λ v. v.items ≡ roots_of (map mutator_state mutators.now)) }
 {
     let mut roots = Vec::new(alloc);
-    for mutator in mutators {
-        roots.extend_from_slice(&mutator.registers)?;
-    }
+    list_registers(&mut roots, mutators)?;
     Ok(roots)
+}
+
+/// Counts the blocks of a heap that has as many as the notes. Nothing else is known of them then.
+/// Takes no memory, and reads each block word once.
+fn renew_notes(notes: &mut BlockNotes, heap: &Heap)
+    requires blocks { length notes.old.notes.items ≡ (heap_state heap.now).blocks }
+    requires owned { notes.old.owned.items ≡ [] }
+    requires room { (heap_state heap.now).blocks ≤ vec_capacity notes.old.owned }
+    ensures { (fill : Kind) → AreNotes fill (heap_state heap.now) notes.new }
+{
+    notes.counts = block_counts(heap);
+    notes.notes.fill(BlockNote::Unowned {
+        least: BLOCK_WORDS + 1,
+    });
 }
 
 /// Gives each mutator its registers: 16 of `roots` each, one mutator after another.
@@ -62,8 +91,9 @@ fn count_one(kind: Collect, nursery: u64, full: u64) -> (u64, u64)
 }
 
 impl<P: Plan> StoppedHeap<P> {
-    /// Makes a collection of this kind and tells what it kept. Its roots are the registers of all
-    /// mutators and the globals; one worker runs its packets in `pool`.
+    /// Makes a collection of this kind and returns what it kept. Its roots are the registers of all
+    /// mutators and the globals; one worker runs its packets in `pool`. Memory is taken for the
+    /// tracer, and for the roots only if their list has no room.
     ///
     /// Fails if memory runs out. The heap is lost then.
     pub fn collect<Q: Pool, G: Gate, R: Threads + Sync>(
@@ -86,21 +116,23 @@ impl<P: Plan> StoppedHeap<P> {
             alloc,
             heap,
             mut mutators,
+            mut notes,
+            mut roots,
             nursery,
             full,
             plan,
-            ..
         } = self;
-        let roots = all_registers(alloc, &mutators)?;
+        list_registers(&mut roots, &mutators)?;
         let after = collector::collect::<P, Q, G, R>(rt, alloc, heap, roots, kind, 1, pool, gate)?;
         set_registers(&mut mutators, &after.roots);
-        let notes = BlockNotes::new(alloc, &after.heap)?;
+        renew_notes(&mut notes, &after.heap);
         let (nursery, full) = count_one(kind, nursery, full);
         let stopped = StoppedHeap {
             alloc,
             heap: after.heap,
             mutators,
             notes,
+            roots: after.roots,
             nursery,
             full,
             plan,

@@ -4,7 +4,7 @@
 //! births and register, and the notes: these change together. A refused need writes nothing.
 //! Collections are made by `collect.rt`.
 
-ghost use Rattle.std.specs.Prelude.{◌≡◌, ◌+◌, ◌≤◌, ◌<◌, ◌^◌, ℕ, length, slice_get, IfSome, IfNone, IfOk};
+ghost use Rattle.std.specs.Prelude.{◌≡◌, ◌+◌, ◌≤◌, ◌<◌, ◌^◌, ℕ, length, slice_get, IfSome, IfNone, IfOk, OnErr};
 ghost use Rattle.object_model.specs.Heaps.{heap_state};
 ghost use Rattle.object_model.specs.Objects.{size_of};
 ghost use Rattle.plan_api.specs.Counting.{session_counts};
@@ -15,7 +15,7 @@ ghost use Rattle.block_regions.specs.Notes.{AreNotes};
 ghost use Rattle.managed_heap.specs.declared.place.Placed.TheVariants as placed;
 ghost use Rattle.managed_heap.specs.Stopped.{collections_of, IsManaged, IsHeapInOrder, IsStopped, HeapStandsAt};
 ghost use Rattle.managed_heap.specs.Spots.{IsSpot};
-ghost use Rattle.managed_heap.specs.Needs.{born_in, AddsBirths, AddsNeed, MutatorAllocatesAt, IfRefused, MakesRoom, MayAllocate, NotesLast, WritesNeed, Settles, TellsOfLast};
+ghost use Rattle.managed_heap.specs.Needs.{born_in, AddsBirths, AddsNeed, MutatorAllocatesAt, IfRefused, MakesRoomAtStop, MayAllocate, NotesLast, WritesNeed, Settles, IsNoteOfLast};
 
 use crate::spot::{Spot, note_placed, relist_spot, take_spot};
 use crate::stopped_heap::StoppedHeap;
@@ -145,6 +145,7 @@ impl<P: Plan> StoppedHeap<P> {
             heap,
             mut mutators,
             mut notes,
+            roots,
             nursery,
             full,
             plan,
@@ -162,6 +163,7 @@ impl<P: Plan> StoppedHeap<P> {
             heap,
             mutators,
             notes,
+            roots,
             nursery,
             full,
             plan,
@@ -189,7 +191,7 @@ impl<P: Plan> StoppedHeap<P> {
     }
 
     /// The collections for an object of `size` words that does not fit: the one to try first, and a
-    /// full one if that was a nursery one and the object still does not fit. The note tells of the
+    /// full one if that was a nursery one and the object still does not fit. The note is of the
     /// last one.
     ///
     /// Fails if memory runs out. The heap is lost then.
@@ -207,14 +209,14 @@ impl<P: Plan> StoppedHeap<P> {
         requires most { size ≤ size_of MAX_REFS MAX_NUMS }
         ensures order { IfOk result (λ r. IsHeapInOrder P.rules r.0) }
         ensures room { (t : Setting) (now : Moment) → HeapStandsAt P.rules self t now
-            → IfOk result (λ r. (late : Moment) × MakesRoom t size now late
+            → IfOk result (λ r. (late : Moment) × MakesRoomAtStop t size now late
             × HeapStandsAt P.rules r.0 t late) }
         ensures full { IfOk result (λ r. (Fits P.rules (heap_state r.0.heap) size → ⊥)
             → r.0.full ≡ self.full + 1) }
         ensures births { IfOk result (λ r. (m : ℕ)
             → AddsBirths self.mutators.items m 0 r.0.mutators.items) }
         ensures counts { IfOk result (λ r. collections_of r.0 ≤ collections_of self + 2) }
-        ensures noted { IfOk result (λ r. TellsOfLast P.rules self r.0 r.1) }
+        ensures noted { IfOk result (λ r. IsNoteOfLast P.rules self r.0 r.1) }
     {
         let first = P::kind(&self.heap);
         let (stopped, note) = self.collect(rt, first, pool, gate)?;
@@ -255,10 +257,10 @@ impl<P: Plan> StoppedHeap<P> {
 
     /// Serves a need of mutator `number`. If the object does not fit, the collection to try first
     /// is made, and a full one if that was a nursery one and the object still does not fit. It is
-    /// placed if it fits then. The note tells of the last collection, if one was made. Writes no
+    /// placed if it fits then. The note is of the last collection, if one was made. Writes no
     /// reply.
     ///
-    /// Fails if memory runs out. The heap is lost then.
+    /// Fails if memory runs out in a collection. The heap is lost then.
     pub fn place_or_collect<Q: Pool, G: Gate, R: Threads + Sync>(
         self,
         rt: &R,
@@ -283,6 +285,8 @@ impl<P: Plan> StoppedHeap<P> {
             (size ≡ size_of need.refs need.nums) × (r.0.full ≡ self.full + 1)
             × (Fits P.rules (heap_state r.0.heap) size → ⊥))) }
         ensures noted { IfOk result (λ r. NotesLast P.rules self r.0 r.2) }
+        ensures lost { OnErr result (Fits P.rules (heap_state self.heap)
+            (size_of need.refs need.nums) → ⊥) }
     {
         let size = size_words(&shape_of(&need));
         let mut stopped = self;

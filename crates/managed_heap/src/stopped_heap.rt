@@ -7,7 +7,7 @@ ghost use Rattle.heap_users.specs.Users.{mutator_state};
 ghost use Rattle.managed_heap.specs.Stopped.{parts_of, IsStopped, HeapStandsAt};
 
 use heap_layout::Layout;
-use ideal_heap::MAX_MUTATORS;
+use ideal_heap::{MAX_MUTATORS, REGISTERS};
 use mutator_calls::Mutator;
 use object_model::Heap;
 use plain_world::{BlockNotes, new_mutators};
@@ -24,6 +24,8 @@ pub struct StoppedHeap<P> {
     pub(crate) mutators: Vec<Mutator>,
     // What is known of the blocks.
     pub(crate) notes: BlockNotes,
+    // The list that collections use for their roots.
+    pub(crate) roots: Vec<u32>,
     // The numbers of nursery and full collections.
     pub(crate) nursery: u64,
     pub(crate) full: u64,
@@ -37,6 +39,9 @@ pub struct Parts {
     pub heap: Heap,
     pub mutators: Vec<Mutator>,
     pub notes: BlockNotes,
+    /// The list that collections use for their roots, with anything in it. While it has room for
+    /// all registers, they take no memory for it.
+    pub roots: Vec<u32>,
     /// The numbers of nursery and full collections.
     pub nursery: u64,
     pub full: u64,
@@ -58,12 +63,14 @@ impl<P: Plan> StoppedHeap<P> {
     {
         let heap = Heap::new(alloc, layout)?;
         let notes = BlockNotes::new(alloc, &heap)?;
+        let roots = Vec::with_capacity(alloc, mutators as usize * REGISTERS)?;
         let mutators = new_mutators(alloc, mutators)?;
         Ok(StoppedHeap {
             alloc,
             heap,
             mutators,
             notes,
+            roots,
             nursery: 0,
             full: 0,
             plan: PhantomData,
@@ -79,6 +86,7 @@ impl<P: Plan> StoppedHeap<P> {
             heap: parts.heap,
             mutators: parts.mutators,
             notes: parts.notes,
+            roots: parts.roots,
             nursery: parts.nursery,
             full: parts.full,
             plan: PhantomData,
@@ -93,6 +101,7 @@ impl<P: Plan> StoppedHeap<P> {
             heap: self.heap,
             mutators: self.mutators,
             notes: self.notes,
+            roots: self.roots,
             nursery: self.nursery,
             full: self.full,
         }

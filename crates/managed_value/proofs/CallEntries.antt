@@ -9,12 +9,12 @@ use Rattle.mutator_calls.specs.Effects.{Effect}
 use Rattle.plain_row.specs.Rows.{births_of}
 use Rattle.plain_row.specs.Worlds.{births_in}
 use Rattle.plain_world.specs.declared.plain_world.PlainWorld.{PlainWorld}
-use Rattle.plain_world.specs.Calls.{places_of, mutator_number_at, IsOpen, LeavesRest, SamePlaces, AddsEntries as AddMoreToWorld, AddsEntry as AddsToWorld}
+use Rattle.plain_world.specs.Calls.{places_of, mutator_number_at, IsOpen, StaysOpen, LeavesRest, SamePlaces, AddsEntries as AddMoreToWorld, AddsEntry as AddsToWorld}
 use Rattle.heap_users.specs.Beginnings.{epoch_of}
 use Rattle.sessions.specs.Plans.{Rules}
 use Rattle.sessions.specs.Sessions.{ideal_at}
 use Rattle.managed_value.specs.declared.managed.ManagedHeap.{ManagedHeap}
-use Rattle.managed_value.specs.Histories.{IsUsable, HasEntries, AddsHeapEntry, AddsHeapEntries, KeepsEntries, IsSince, GoesOn, StaysInEpoch, mutators_of_heap, heap_births_at, words_used, places_in, born_to}
+use Rattle.managed_value.specs.Histories.{IsUsable, HasEntries, AddsHeapEntry, AddsHeapEntries, KeepsEntries, IsSince, GoesOn, StaysInEpoch, EntersCall, mutators_of_heap, heap_births_at, words_used, places_in, born_to}
 use Rattle.managed_value.proofs.Places.{since-here, number-here}
 
 module _ {P : Type 0} (rules : Rules) (old new : ManagedHeap P) (v w : PlainWorld P) (here : old.world ≡ Some v) (there : new.world ≡ Some w)
@@ -31,6 +31,7 @@ module _ {P : Type 0} (rules : Rules) (old new : ManagedHeap P) (v w : PlainWorl
           setting = since.setting;
           rules_are = since.rules_are;
           workers = since.workers;
+          blocks = since.blocks;
           sound = since.sound;
           run = since.run;
           nursery = nursery ∙ since.nursery;
@@ -92,6 +93,15 @@ module _ {P : Type 0} (rules : Rules) (old new : ManagedHeap P) (v w : PlainWorl
     nursery = nursery;
     full = full;
     used = used;
+  }
+
+  pub call-entered : (m : ℕ) (command : Command) (reply : Reply) (e : Effect) → m < places_of v → IsUsable rules old → StaysOpen rules v w
+      → AddsToWorld v m command reply w → LeavesRest v m e w → births_in e.entries ≡ 0 → words_used new ≡ words_used old
+      → EntersCall rules old m command reply new
+  call-entered m command reply e place usable stays adds rest none used = record {
+    usable = call-usable m command reply place adds usable stays.is_open stays.places;
+    history = call-adds m command reply place adds;
+    rest = call-rest m command reply e adds stays.places rest none used;
   }
 
   -- a call that adds no entry

@@ -1,5 +1,5 @@
 -- An allocation in the epoch, and a search for room that finds none.
-use Rattle.std.proofs.Common.{◌≡◌, refl, sym, subst, ℕ, ◌+◌, ◌<◌, ◌≤◌, arith, Some, []}
+use Rattle.std.proofs.Common.{◌≡◌, refl, sym, ◌∙◌, subst, ℕ, ◌+◌, ◌<◌, ◌≤◌, arith, Some, []}
 use Rattle.ideal_heap.specs.declared.command.Command.TheVariants as c
 use Rattle.ideal_heap.specs.declared.reply.Reply.TheVariants as r
 use Rattle.ideal_heap.specs.declared.name.Name.{Name}
@@ -66,6 +66,29 @@ module _ {P : Type 0} (rules : Rules) (old new : ManagedHeap P) (v w : PlainWorl
       used = used;
     };
   }
+
+-- a heap is as it was, and so is one that is as that was
+pub as-before-still : {P : Type 0} (rules : Rules) (h : ManagedHeap P) → IsUsable rules h → IsAsBefore rules h h
+as-before-still rules h usable = record {
+  usable = usable;
+  history = λ es has. has;
+  places = refl;
+  births = λ k. refl;
+  nursery = refl;
+  full = refl;
+  used = refl;
+}
+
+pub as-before-twice : {P : Type 0} (rules : Rules) (old mid new : ManagedHeap P) → IsAsBefore rules old mid → IsAsBefore rules mid new → IsAsBefore rules old new
+as-before-twice rules old mid new first second = record {
+  usable = second.usable;
+  history = λ es has. second.history es (first.history es has);
+  places = second.places ∙ first.places;
+  births = λ k. second.births k ∙ first.births k;
+  nursery = second.nursery ∙ first.nursery;
+  full = second.full ∙ first.full;
+  used = second.used ∙ first.used;
+}
 
 -- the mutator may allocate as before
 module _ {P : Type 0} (rules : Rules) (old new : ManagedHeap P) (m : ℕ) (is : IsAsBefore rules old new) where

@@ -34,9 +34,10 @@ use Rattle.managed_heap.proofs.BirthCounts.{as-many}
 use Rattle.managed_value.specs.declared.managed.ManagedHeap.{ManagedHeap}
 use Rattle.managed_value.specs.declared.allocate.Refused.{Refused}
 use Rattle.managed_value.specs.declared.allocate.Refused.TheVariants as refused
-use Rattle.managed_value.specs.Histories.{IsAsBefore, IsAsBeforeOrLost, IsLost, IsUsable, HasEntries, AddsHeapEntry, HeapHasPlace, mutators_of_heap, heap_births_at, words_used, collections_made}
-use Rattle.managed_value.specs.Allocations.{HeapMayAllocate, AllocatesInEpoch, CollectsAtStop, FindsNoRoom, Makes, RepliesFull, MatchAnswer, MatchRefused, CollectsAll, RunsOut, ServesAtStop, StopsFor, kept_by, used_for, used_with}
+use Rattle.managed_value.specs.Histories.{IsAsBefore, IsAsBeforeOrLost, IsUsable, HasEntries, AddsHeapEntry, HeapHasPlace, mutators_of_heap, heap_births_at, words_used, collections_made}
+use Rattle.managed_value.specs.Allocations.{HeapMayAllocate, AllocatesInEpoch, CollectsAtStop, FindsNoRoom, Makes, RepliesFull, MatchAnswer, MatchRefused, CollectsAll, RunsOut, RunsOutAtStop, ServesAtStop, StopsFor, kept_by, used_for, used_with}
 use Rattle.managed_value.specs.Epochs.{EndsWith, BeginsWith}
+use Rattle.managed_value.proofs.Searched.{as-before-twice}
 use Rattle.managed_value.proofs.Places.{births-own, births-others, births-kept, some-there}
 
 -- What fits when stop word and budget word are cleared fitted before.
@@ -225,7 +226,7 @@ module _ {P : Type 0} (rules : Rules) (old mid new : ManagedHeap P) (is : IsAsBe
 
   -- an allocation after a search, by the numbers of its call
   pub answered : (need : Need) → IsNeedOf d refs nums need → (result : Result Name Refused)
-      → MatchResult result (λ n. Makes rules mid m need.register need.refs need.nums n new) (MatchRefused (RepliesFull rules mid m need.register need.refs need.nums new) (IsLost new))
+      → MatchResult result (λ n. Makes rules mid m need.register need.refs need.nums n new) (MatchRefused (RepliesFull rules mid m need.register need.refs need.nums new) (RunsOutAtStop rules mid (size_of need.refs need.nums) new))
       → MatchResult result (λ n. Makes rules old m d refs nums n new) (MatchRefused (RepliesFull rules old m d refs nums new) (IsAsBeforeOrLost rules old new))
   answered need of (Ok n) makes = makes-from n
       (subst (λ (x : ℕ). Makes rules mid m x refs nums n new) of.register
@@ -235,7 +236,8 @@ module _ {P : Type 0} (rules : Rules) (old mid new : ManagedHeap P) (is : IsAsBe
       (subst (λ (x : ℕ). RepliesFull rules mid m x refs nums new) of.register
       (subst (λ (x : ℕ). RepliesFull rules mid m need.register x nums new) of.refs
       (subst (λ (x : ℕ). RepliesFull rules mid m need.register need.refs x new) of.nums whole)))
-  answered need of (Err refused.OutOfMemory) lost = inr lost
+  answered need of (Err refused.OutOfMemory) (inl same) = inl (as-before-twice rules old mid new is same)
+  answered need of (Err refused.OutOfMemory) (inr gone) = inr gone.lost
 
   -- and how: a search in the epoch, then a stop
   module _ (search : FindsNoRoom rules old m (size_of refs nums) mid) where
@@ -252,18 +254,33 @@ module _ {P : Type 0} (rules : Rules) (old mid new : ManagedHeap P) (is : IsAsBe
 
     pub stopped-for : (need : Need) → IsNeedOf d refs nums need → (result : Result Name Refused)
         → MatchResult result (λ n. ServesAtStop rules mid m need.register need.refs need.nums (reply.New n) new) (MatchRefused (ServesAtStop rules mid m need.register need.refs need.nums reply.Full new) ⊤)
-        → MatchResult result (λ n. Makes rules mid m need.register need.refs need.nums n new) (MatchRefused (RepliesFull rules mid m need.register need.refs need.nums new) (IsLost new))
+        → MatchResult result (λ n. Makes rules mid m need.register need.refs need.nums n new) (MatchRefused (RepliesFull rules mid m need.register need.refs need.nums new) (RunsOutAtStop rules mid (size_of need.refs need.nums) new))
         → MatchResult result (λ n. AllocatesInEpoch old m d refs nums n new ⊎ StopsFor rules old m d refs nums (reply.New n) new)
         (MatchRefused (StopsFor rules old m d refs nums reply.Full new) (RunsOut rules old m refs nums new))
     stopped-for need of (Ok n) serves makes = inr (stops-with need (reply.New n) of serves)
     stopped-for need of (Err refused.Full) serves whole = stops-with need reply.Full of serves
-    stopped-for need of (Err refused.OutOfMemory) serves lost = record { searched = mid; search = search; left = inr lost }
+    stopped-for need of (Err refused.OutOfMemory) serves left = record {
+      searched = mid;
+      search = search;
+      left =
+          subst (λ (x : ℕ). RunsOutAtStop rules mid (size_of x nums) new) of.refs
+          (subst (λ (x : ℕ). RunsOutAtStop rules mid (size_of need.refs x) new) of.nums left);
+    }
 
--- the mutators of a heap after a need, and after a collection, are those of before
+-- there are as many mutators after a need, and after a collection
+pub as-many-served : {P : Type 0} (rules : Rules) (old : ManagedHeap P) (s r : StoppedHeap P) (m more : ℕ) → EndsWith rules old s
+    → AddsBirths s.mutators.items m more r.mutators.items → length r.mutators.items ≡ mutators_of_heap old
+as-many-served rules old s r m more ends adds = adds.count ∙ ends.places
+
+pub as-many-collected : {P : Type 0} (rules : Rules) (old : ManagedHeap P) (s r : StoppedHeap P) (note : Note) → EndsWith rules old s
+    → HasCollected rules Full s r note → length r.mutators.items ≡ mutators_of_heap old
+as-many-collected rules old s r note ends made = as-many r.mutators.items s.mutators.items made.births ∙ ends.places
+
+-- so there are some
 pub some-served : {P : Type 0} (rules : Rules) (old : ManagedHeap P) (s r : StoppedHeap P) (m more : ℕ) → IsUsable rules old → EndsWith rules old s
     → AddsBirths s.mutators.items m more r.mutators.items → 1 ≤ length r.mutators.items
-some-served rules old s r m more usable ends adds = subst (λ (n : ℕ). 1 ≤ n) (sym (adds.count ∙ ends.places)) (some-there rules old usable)
+some-served rules old s r m more usable ends adds = subst (λ (n : ℕ). 1 ≤ n) (sym (as-many-served rules old s r m more ends adds)) (some-there rules old usable)
 
 pub some-collected : {P : Type 0} (rules : Rules) (old : ManagedHeap P) (s r : StoppedHeap P) (note : Note) → IsUsable rules old → EndsWith rules old s
     → HasCollected rules Full s r note → 1 ≤ length r.mutators.items
-some-collected rules old s r note usable ends made = subst (λ (n : ℕ). 1 ≤ n) (sym (as-many r.mutators.items s.mutators.items made.births ∙ ends.places)) (some-there rules old usable)
+some-collected rules old s r note usable ends made = subst (λ (n : ℕ). 1 ≤ n) (sym (as-many-collected rules old s r note ends made)) (some-there rules old usable)

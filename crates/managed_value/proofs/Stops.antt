@@ -23,7 +23,7 @@ use Rattle.managed_heap.specs.Stopped.{HeapStandsAt, IsHeapInOrder, IsStopped}
 use Rattle.managed_heap.proofs.NeedsWritten.{stands-represents}
 use Rattle.managed_value.specs.declared.managed.ManagedHeap.{ManagedHeap}
 use Rattle.managed_value.specs.Histories.{HasEntries, IsSince, IsUsable, places_in, born_to}
-use Rattle.managed_value.specs.Epochs.{Closes, EndsWith, BeginsWith}
+use Rattle.managed_value.specs.Epochs.{ClosesWorld, EndsWith, BeginsWith}
 use Rattle.managed_value.proofs.Runs.{history-runs}
 use Rattle.managed_value.proofs.Places.{since-here, births-same, long-same}
 
@@ -43,6 +43,7 @@ pub stopped-stands : {P : Type 0} (rules : Rules) (h : ManagedHeap P) (w : Plain
 stopped-stands rules h w s now part since stopped = record {
   rules_are = since.rules_are;
   workers = since.workers;
+  blocks = since.blocks ∙ sym stopped.blocks;
   heap = refl;
   mutators = refl;
   nursery = refl;
@@ -99,11 +100,11 @@ module _ {P : Type 0} (rules : Rules) (h : ManagedHeap P) (w : PlainWorld P) (s 
         number = number ∙ since.number ∙ ap (λ (n : ℕ). n + h.full) (sym nursery) ∙ ap (λ (n : ℕ). s.nursery + n) (sym full);
       }
 
-  closes-here : (v : PlainWorld P) → h.world ≡ Some v → Closes v s
+  closes-here : (v : PlainWorld P) → h.world ≡ Some v → ClosesWorld v s
   closes-here v there =
       let both : Some v ≡ Some w = sym there ∙ here in
       let same : w ≡ v = cc in
-      subst (λ (x : PlainWorld P). Closes x s) same (record { stopped = stops; gives = gives; registers = states })
+      subst (λ (x : PlainWorld P). ClosesWorld x s) same (record { stopped = stops; gives = gives; registers = states })
 
   pub ends-with : EndsWith rules h s
   ends-with =
@@ -134,6 +135,7 @@ module _ {P : Type 0} (rules : Rules) (s : StoppedHeap P) (h : ManagedHeap P) (w
       setting = t;
       rules_are = stands.rules_are;
       workers = stands.workers;
+      blocks = stands.blocks;
       sound = stands.sound;
       run = stands.run;
       nursery = nursery ∙ stands.nursery;

@@ -1,10 +1,11 @@
 -- What allocations and collections do to a managed heap.
-use Rattle.std.specs.Prelude.{◌≡◌, ◌≢◌, ℕ, ◌+◌, ◌-◌, ◌<◌, ◌≤◌, ◌^◌, Option, None, Some, [], ◌∷◌, ◌++◌}
+use Rattle.std.specs.Prelude.{◌≡◌, ◌≢◌, ℕ, ◌+◌, ◌-◌, ◌<◌, ◌≤◌, ◌^◌, ◌⊎◌, Option, None, Some, [], ◌∷◌, ◌++◌}
 use Rattle.ideal_heap.specs.declared.command.Command.TheVariants as c
 use Rattle.ideal_heap.specs.declared.reply.Reply.{Reply}
 use Rattle.ideal_heap.specs.declared.reply.Reply.TheVariants as r
 use Rattle.ideal_heap.specs.declared.name.Name.{Name}
 use Rattle.ideal_heap.specs.Runs.{entry}
+use Rattle.object_model.specs.Heaps.{heap_state}
 use Rattle.object_model.specs.Objects.{size_of, empty_heap}
 use Rattle.object_model.specs.declared.collect.Collect.TheVariants.{Full as FullCollection}
 use Rattle.sessions.specs.Plans.{Rules}
@@ -23,7 +24,7 @@ use Rattle.managed_heap.specs.declared.place.Placed.TheVariants as placed
 use Rattle.managed_value.specs.declared.managed.ManagedHeap.{ManagedHeap}
 use Rattle.managed_value.specs.declared.allocate.Refused.{Refused}
 use Rattle.managed_value.specs.declared.allocate.Refused.TheVariants.{Full, OutOfMemory}
-use Rattle.managed_value.specs.Histories.{IsUsable, AddsHeapEntry, KeepsEntries, IsAsBefore, IsAsBeforeOrLost, mutators_of_heap, heap_births_at, words_used, collections_made}
+use Rattle.managed_value.specs.Histories.{IsUsable, IsLost, AddsHeapEntry, KeepsEntries, IsAsBefore, mutators_of_heap, heap_births_at, words_used, collections_made}
 use Rattle.managed_value.specs.Epochs.{EndsWith, BeginsWith}
 
 -- The mutator at place m has a name left for an object, and two collections may be made for it.
@@ -67,7 +68,8 @@ pub record AllocatesInEpoch {P : Type 0} (old : ManagedHeap P) (m d refs nums : 
   pub nursery : new.nursery ≡ old.nursery
   pub full : new.full ≡ old.full
 
--- The epoch has no room for an object of this size of the mutator at place m. The heap is as before.
+-- The epoch has no room for an object of this size of the mutator at place m. The heap is as
+-- before.
 pub record FindsNoRoom {P : Type 0} (rules : Rules) (old : ManagedHeap P) (m size : ℕ)
     (new : ManagedHeap P) : Type 0 where
   pub before : PlainWorld P
@@ -112,14 +114,26 @@ pub record StopsFor {P : Type 0} (rules : Rules) (old : ManagedHeap P) (m d refs
   pub search : FindsNoRoom rules old m (size_of refs nums) searched
   pub serves : ServesAtStop rules searched m d refs nums reply new
 
--- Memory ran out at a stop, to which the allocation came since the epoch had no room.
+-- The heap was lost in a collection: a stop made one, since an object of this size did not fit.
+pub record IsLostInCollection {P : Type 0} (rules : Rules) (old : ManagedHeap P) (size : ℕ)
+    (new : ManagedHeap P) : Type 0 where
+  pub before : StoppedHeap P
+  pub ends : EndsWith rules old before
+  pub room : Fits rules (heap_state before.heap) size → ⊥
+  pub lost : IsLost new
+
+-- Memory ran out at a stop for an object of this size. Without a collection the heap is as it was.
+abbrev pub RunsOutAtStop : {P : Type 0} → Rules → ManagedHeap P → ℕ → ManagedHeap P → Type 0
+RunsOutAtStop rules old size new = IsAsBefore rules old new ⊎ IsLostInCollection rules old size new
+
+-- The epoch had no room, so the allocation came to a stop, and memory ran out there.
 pub record RunsOut {P : Type 0} (rules : Rules) (old : ManagedHeap P) (m refs nums : ℕ)
     (new : ManagedHeap P) : Type 0 where
   pub searched : ManagedHeap P
   pub search : FindsNoRoom rules old m (size_of refs nums) searched
-  pub left : IsAsBeforeOrLost rules old new
+  pub left : RunsOutAtStop rules searched (size_of refs nums) new
 
--- one fact for a full heap, the other for want of memory
+-- one fact for a full heap, the other if memory ran out
 abbrev pub MatchRefused : Type 0 → Type 0 → Refused → Type 0
 MatchRefused P Q Full = P
 MatchRefused P Q OutOfMemory = Q
@@ -146,7 +160,7 @@ abbrev pub used_with : Placed → ℕ → ℕ → ℕ
 used_with (placed.Placed n) size used = capped (2 ^ 64 - 1) (used + size)
 used_with (placed.HeapFull words) size used = used
 
--- The epoch ended, a full collection was made, of which this note tells, and the next epoch began
+-- The epoch ended, a full collection was made, of which this is the note, and the next epoch began
 -- with what it left.
 pub record CollectsAtStop {P : Type 0} (rules : Rules) (old : ManagedHeap P) (note : Note)
     (new : ManagedHeap P) : Type 0 where
@@ -155,7 +169,8 @@ pub record CollectsAtStop {P : Type 0} (rules : Rules) (old : ManagedHeap P) (no
   pub after : StoppedHeap P
   pub collected : HasCollected rules FullCollection before after note
   pub makes : (t : Setting) (now : Moment) → HeapStandsAt rules before t now
-      → (late : Moment) × MakesCollection t FullCollection now late × HeapStandsAt rules after t late
+      → (late : Moment) × MakesCollection t FullCollection now late
+      × HeapStandsAt rules after t late
   pub begins : BeginsWith rules after new
 
 -- The heap is empty, and has this many blocks.

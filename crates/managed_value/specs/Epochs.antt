@@ -24,7 +24,7 @@ stopped_births s m = births_of (slice_get s.mutators.items m)
 
 -- The epoch of a world ended with this stopped heap: the mutators gave back their blocks. Each
 -- object is where it was, and each register holds what it held.
-pub record Closes {P : Type 0} (w : PlainWorld P) (s : StoppedHeap P) : Type 0 where
+pub record ClosesWorld {P : Type 0} (w : PlainWorld P) (s : StoppedHeap P) : Type 0 where
   pub stopped : (p : Epoch) (i : IdealHeap) (part : List Entry) → HasHistory w p i part
       → Stopped p.rules (numbers_of p.mutators) p.before i part (heap_state s.heap)
       (map mutator_state s.mutators.items)
@@ -36,7 +36,7 @@ pub record Closes {P : Type 0} (w : PlainWorld P) (s : StoppedHeap P) : Type 0 w
 pub record EndsWith {P : Type 0} (rules : Rules) (old : ManagedHeap P) (s : StoppedHeap P)
     : Type 0 where
   pub stopped : IsStopped rules s
-  pub closes : (w : PlainWorld P) → old.world ≡ Some w → Closes w s
+  pub closes : (w : PlainWorld P) → old.world ≡ Some w → ClosesWorld w s
   pub stands : (es : List Entry) → HasEntries rules old es
       → (t : Setting) × (now : Moment) × (now.done ≡ es) × HeapStandsAt rules s t now
   pub places : stopped_count s ≡ mutators_of_heap old
@@ -54,6 +54,7 @@ pub record BeginsWith {P : Type 0} (rules : Rules) (s : StoppedHeap P) (new : Ma
   pub births : (m : ℕ) → heap_births_at new m ≡ stopped_births s m
   pub nursery : new.nursery ≡ s.nursery
   pub full : new.full ≡ s.full
-  pub heap : (w : PlainWorld P) → new.world ≡ Some w → heap_of_world w ≡ without_stop (heap_state s.heap)
+  pub heap : (w : PlainWorld P) → new.world ≡ Some w
+      → heap_of_world w ≡ without_stop (heap_state s.heap)
   pub registers : (w : PlainWorld P) → new.world ≡ Some w
       → mutators_of_world w ≡ map mutator_state s.mutators.items

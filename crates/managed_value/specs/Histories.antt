@@ -1,10 +1,12 @@
 -- A managed heap, and the entries of all its calls since it was new.
-use Rattle.std.specs.Prelude.{◌≡◌, ℕ, ◌+◌, ◌<◌, ◌≤◌, Option, None, Some, List, [], ◌∷◌, ◌++◌, ◌⊎◌}
+use Rattle.std.specs.Prelude.{◌≡◌, ℕ, ◌+◌, ◌<◌, ◌≤◌, Option, None, Some, List, [], ◌∷◌, ◌++◌, ◌⊎◌, length}
 use Rattle.ideal_heap.specs.declared.command.Command.{Command}
 use Rattle.ideal_heap.specs.declared.command.TheConstants.{MAX_MUTATORS}
 use Rattle.ideal_heap.specs.declared.reply.Reply.{Reply}
-use Rattle.ideal_heap.specs.Ideal.{IdealHeap, empty}
+use Rattle.ideal_heap.specs.declared.name.Name.{Name}
+use Rattle.ideal_heap.specs.Ideal.{IdealHeap, empty, record_of}
 use Rattle.ideal_heap.specs.Runs.{Entry, IsRun, heap_after_run, entry}
+use Rattle.object_model.specs.declared.shape.Shape.{Shape}
 use Rattle.sessions.specs.Plans.{Rules}
 use Rattle.sessions.specs.Sessions.{Setting, Moment, IsSound, ideal_at}
 use Rattle.heap_users.specs.Beginnings.{epoch_of}
@@ -52,6 +54,7 @@ pub record IsSince {P : Type 0} (rules : Rules) (h : ManagedHeap P) (w : PlainWo
   pub setting : Setting
   pub rules_are : setting.rules ≡ rules
   pub workers : setting.workers ≡ 1
+  pub blocks : setting.blocks ≡ now.heap.blocks
   pub sound : IsSound setting now
   pub run : IsRun empty now.done
   pub nursery : h.nursery ≡ now.nursery
@@ -75,19 +78,21 @@ pub record HasEntries {P : Type 0} (rules : Rules) (h : ManagedHeap P) (es : Lis
 pub record IsUsable {P : Type 0} (rules : Rules) (h : ManagedHeap P) : Type 0 where
   pub world : PlainWorld P
   pub here : h.world ≡ Some world
-  pub idle : IsOpen rules world
+  pub between_calls : IsOpen rules world
   pub some : 1 ≤ places_of world
   pub few : places_of world ≤ MAX_MUTATORS
   pub entries : List Entry
   pub has : HasEntries rules h entries
 
 -- the entries get these ones
-abbrev pub AddsHeapEntries : {P : Type 0} → Rules → ManagedHeap P → List Entry → ManagedHeap P → Type 0
+abbrev pub AddsHeapEntries : {P : Type 0} → Rules → ManagedHeap P → List Entry
+    → ManagedHeap P → Type 0
 AddsHeapEntries rules old more new =
     (es : List Entry) → HasEntries rules old es → HasEntries rules new (es ++ more)
 
 -- the entries get one more, of the mutator at place m
-abbrev pub AddsHeapEntry : {P : Type 0} → Rules → ManagedHeap P → ℕ → Command → Reply → ManagedHeap P
+abbrev pub AddsHeapEntry : {P : Type 0} → Rules → ManagedHeap P → ℕ → Command → Reply
+    → ManagedHeap P
     → Type 0
 AddsHeapEntry rules old m command reply new =
     AddsHeapEntries rules old (entry (m + 1) command reply ∷ []) new
@@ -110,6 +115,13 @@ pub record StaysInEpoch {P : Type 0} (old new : ManagedHeap P) : Type 0 where
   pub full : new.full ≡ old.full
   pub used : words_used new ≡ words_used old
 
+-- A call of the mutator at place m entered the command with this reply, within the epoch.
+pub record EntersCall {P : Type 0} (rules : Rules) (old : ManagedHeap P) (m : ℕ) (command : Command)
+    (reply : Reply) (new : ManagedHeap P) : Type 0 where
+  pub usable : IsUsable rules new
+  pub history : AddsHeapEntry rules old m command reply new
+  pub rest : StaysInEpoch old new
+
 -- The heap is as it was, for all that a program can ask of it.
 pub record IsAsBefore {P : Type 0} (rules : Rules) (old new : ManagedHeap P) : Type 0 where
   pub usable : IsUsable rules new
@@ -129,6 +141,14 @@ pub record StandsFor {P : Type 0} (rules : Rules) (h : ManagedHeap P) (i : Ideal
   pub entries : List Entry
   pub has : HasEntries rules h entries
   pub ideal : i ≡ heap_after_run empty entries
+
+-- how many references and numbers the object that o names has
+abbrev pub shape_of_object : IdealHeap → Option Name → Option Shape
+shape_of_object i None = None
+shape_of_object i (Some n) = Some (record {
+  refs = length (record_of i n).refs;
+  nums = length (record_of i n).nums;
+})
 
 -- Q holds of an ideal heap that the heap stands for: what a program knows of its registers
 pub record HoldsOfIdeal {P : Type 0} (rules : Rules) (h : ManagedHeap P) (Q : IdealHeap → Type 0)

@@ -1,14 +1,14 @@
 //! Allocation of objects of every size.
 
-ghost use Rattle.std.specs.Prelude.{◌≡◌, ◌+◌, ◌-◌, ◌≤◌, ◌<◌, ◌^◌, ◌⊎◌, ⊤, IfOk, IfSome, IfNone, MatchResult};
+ghost use Rattle.std.specs.Prelude.{◌≡◌, ◌↔◌, ◌+◌, ◌-◌, ◌≤◌, ◌<◌, ◌^◌, ◌⊎◌, ⊤, IsTrue, IfOk, IfSome, IfNone, MatchResult};
 ghost use Rattle.ideal_heap.specs.declared.reply.Reply.TheVariants as reply;
 ghost use Rattle.object_model.specs.Objects.{size_of};
 ghost use Rattle.mutator_calls.specs.Allocating.{IsNeedOf, MatchAllocated};
 ghost use Rattle.collector.specs.Tallies.{capped};
 ghost use Rattle.managed_heap.specs.Stopped.{IsManaged};
 ghost use Rattle.managed_heap.specs.Needs.{reply_of};
-ghost use Rattle.managed_value.specs.Histories.{HeapHasPlace, IsAsBeforeOrLost, IsLost, IsUsable, heap_births_at};
-ghost use Rattle.managed_value.specs.Allocations.{AllocatesInEpoch, FindsNoRoom, RepliesFull, Makes, MatchAnswer, MatchRefused, HeapMayAllocate, RunsOut, ServesAtStop, StopsFor, kept_by, used_with};
+ghost use Rattle.managed_value.specs.Histories.{HeapHasPlace, IsAsBeforeOrLost, IsUsable, heap_births_at};
+ghost use Rattle.managed_value.specs.Allocations.{AllocatesInEpoch, FindsNoRoom, RepliesFull, Makes, MatchAnswer, MatchRefused, HeapMayAllocate, RunsOut, RunsOutAtStop, ServesAtStop, StopsFor, kept_by, used_with};
 
 use crate::managed::ManagedHeap;
 use collector::Note;
@@ -22,13 +22,26 @@ use std::alloc::AllocError;
 use std::thread::Threads;
 use work_packets::{Gate, OpenGate};
 
+/// The most collections of a heap, so that an allocation may make two more.
+const MAX_COLLECTIONS: u64 = (1 << 40) - 3;
+
 /// Why an object was not allocated.
 #[derive(Clone, Copy, Debug, PartialEq, Eq)]
 pub enum Refused {
     /// After a full collection in this call there is no room for the object.
     Full,
-    /// The host's memory ran out at a stop. The heap is as it was, or lost.
+    /// The host's memory ran out at a stop. The heap is as it was, or lost in a collection.
     OutOfMemory,
+}
+
+/// Whether two collections may follow so many nursery and full ones.
+fn may_collect_twice(nursery: u64, full: u64) -> bool
+    ensures { IsTrue result ↔ nursery + full + 2 < 2 ^ 40 }
+{
+    if nursery > MAX_COLLECTIONS {
+        return false;
+    }
+    full <= MAX_COLLECTIONS - nursery
 }
 
 /// The words in use with an object of `size` words more, if they are not too many to be counted.
@@ -59,6 +72,31 @@ fn count_words(words: u64, placed: &Placed, size: u32) -> u64
 }
 
 impl<P: Plan> ManagedHeap<P> {
+    /// The number of objects that the mutator at place `m` has allocated.
+    pub fn births(&self, m: u32) -> u32
+        requires usable { IsUsable P.rules self.now }
+        requires place { HeapHasPlace self.now m }
+        ensures { result ≡ heap_births_at self.now m }
+    {
+        match &self.world {
+            Some(world) => world.births(m),
+            None => 0,
+        }
+    }
+
+    /// Whether the mutator at place `m` may allocate: it has fewer than 4,294,967,295 births, and
+    /// the heap has had few enough collections for two more.
+    pub fn may_allocate(&self, m: u32) -> bool
+        requires usable { IsUsable P.rules self.now }
+        requires place { HeapHasPlace self.now m }
+        ensures { IsTrue result ↔ HeapMayAllocate self.now m }
+    {
+        if !may_collect_twice(self.nursery, self.full) {
+            return false;
+        }
+        self.births(m) < u32::MAX
+    }
+
     /// Allocates an object of `refs` nil references and `nums` zeros, into register `d` of the
     /// mutator at place `m`, if the epoch has room for it. Makes no collection, takes no memory.
     ///
@@ -80,7 +118,7 @@ impl<P: Plan> ManagedHeap<P> {
         }
     }
 
-    /// Allocates an object if the epoch has room for it, else tells what a stop is to serve.
+    /// Allocates an object if the epoch has room for it, else says what a stop is to serve.
     #[inline(always)]
     fn try_new(&mut self, m: u32, d: u32, refs: u32, nums: u32) -> Allocated
         requires usable { IsUsable P.rules self.old }
@@ -201,7 +239,7 @@ impl<P: Plan> ManagedHeap<P> {
             (λ n. Makes P.rules self.old m need.register need.refs need.nums n self.new)
             (MatchRefused
             (RepliesFull P.rules self.old m need.register need.refs need.nums self.new)
-            (IsLost self.new)) }
+            (RunsOutAtStop P.rules self.old (size_of need.refs need.nums) self.new)) }
         ensures stop { MatchResult result (λ n. ServesAtStop P.rules self.old m need.register
             need.refs need.nums (reply.New n) self.new)
             (MatchRefused (ServesAtStop P.rules self.old m need.register need.refs need.nums
@@ -216,7 +254,7 @@ impl<P: Plan> ManagedHeap<P> {
 
     /// Ends the epoch, serves a need of the mutator at place `m`, and begins the next epoch.
     ///
-    /// Fails if memory runs out. The heap is lost then.
+    /// Fails if memory runs out. The heap is as it was then, or lost in a collection.
     fn serve<Q: Pool, G: Gate, R: Threads + Sync>(
         &mut self,
         rt: &R,
@@ -235,7 +273,7 @@ impl<P: Plan> ManagedHeap<P> {
         ensures made { MatchResult result (MatchAnswer
             (λ n. Makes P.rules self.old m need.register need.refs need.nums n self.new)
             (RepliesFull P.rules self.old m need.register need.refs need.nums self.new))
-            (λ _. IsLost self.new) }
+            (λ _. RunsOutAtStop P.rules self.old (size_of need.refs need.nums) self.new) }
         ensures stop { IfOk result (λ what. ServesAtStop P.rules self.old m need.register need.refs
             need.nums (reply_of what) self.new) }
     {
@@ -243,12 +281,13 @@ impl<P: Plan> ManagedHeap<P> {
             refs: need.refs,
             nums: need.nums,
         });
+        let seats = self.next_seats()?;
         let Some(stopped) = self.stop() else {
             return Err(AllocError);
         };
         let (stopped, placed, note) = stopped.place_or_collect(rt, m + 1, need, pool, gate)?;
         self.words = count_words(kept_words(self.words, &note), &placed, size);
-        self.go_on(stopped)?;
+        self.go_on(stopped, seats);
         Ok(placed)
     }
 }

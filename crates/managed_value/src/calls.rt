@@ -2,7 +2,7 @@
 
 ghost use Rattle.std.specs.Prelude.{◌<◌};
 ghost use Rattle.ideal_heap.specs.declared.command.Command.TheVariants as command;
-ghost use Rattle.managed_value.specs.Histories.{IsUsable, HeapHasPlace, AddsHeapEntry, StaysInEpoch};
+ghost use Rattle.managed_value.specs.Histories.{IsUsable, HeapHasPlace, EntersCall};
 
 use crate::managed::ManagedHeap;
 use ideal_heap::{GLOBALS, REGISTERS, Reply};
@@ -15,9 +15,7 @@ impl<P: Plan> ManagedHeap<P> {
         requires place { HeapHasPlace self.old m }
         requires target { d < REGISTERS }
         requires source { s < REGISTERS }
-        ensures usable { IsUsable P.rules self.new }
-        ensures history { AddsHeapEntry P.rules self.old m (command.Get d s i) result self.new }
-        ensures rest { StaysInEpoch self.old self.new }
+        ensures { EntersCall P.rules self.old m (command.Get d s i) result self.new }
     {
         match &mut self.world {
             Some(world) => world.get(m, d, s, i),
@@ -31,9 +29,7 @@ impl<P: Plan> ManagedHeap<P> {
         requires place { HeapHasPlace self.old m }
         requires target { s < REGISTERS }
         requires source { v < REGISTERS }
-        ensures usable { IsUsable P.rules self.new }
-        ensures history { AddsHeapEntry P.rules self.old m (command.Put s i v) result self.new }
-        ensures rest { StaysInEpoch self.old self.new }
+        ensures { EntersCall P.rules self.old m (command.Put s i v) result self.new }
     {
         match &mut self.world {
             Some(world) => world.put(m, s, i, v),
@@ -46,9 +42,7 @@ impl<P: Plan> ManagedHeap<P> {
         requires usable { IsUsable P.rules self.old }
         requires place { HeapHasPlace self.old m }
         requires register { s < REGISTERS }
-        ensures usable { IsUsable P.rules self.new }
-        ensures history { AddsHeapEntry P.rules self.old m (command.Read s j) result self.new }
-        ensures rest { StaysInEpoch self.old self.new }
+        ensures { EntersCall P.rules self.old m (command.Read s j) result self.new }
     {
         match &mut self.world {
             Some(world) => world.read(m, s, j),
@@ -61,9 +55,7 @@ impl<P: Plan> ManagedHeap<P> {
         requires usable { IsUsable P.rules self.old }
         requires place { HeapHasPlace self.old m }
         requires register { s < REGISTERS }
-        ensures usable { IsUsable P.rules self.new }
-        ensures history { AddsHeapEntry P.rules self.old m (command.Write s j n) result self.new }
-        ensures rest { StaysInEpoch self.old self.new }
+        ensures { EntersCall P.rules self.old m (command.Write s j n) result self.new }
     {
         match &mut self.world {
             Some(world) => world.write(m, s, j, n),
@@ -76,9 +68,7 @@ impl<P: Plan> ManagedHeap<P> {
         requires usable { IsUsable P.rules self.old }
         requires place { HeapHasPlace self.old m }
         requires register { s < REGISTERS }
-        ensures usable { IsUsable P.rules self.new }
-        ensures history { AddsHeapEntry P.rules self.old m (command.Add s j n) result self.new }
-        ensures rest { StaysInEpoch self.old self.new }
+        ensures { EntersCall P.rules self.old m (command.Add s j n) result self.new }
     {
         match &mut self.world {
             Some(world) => world.add(m, s, j, n),
@@ -91,10 +81,7 @@ impl<P: Plan> ManagedHeap<P> {
         requires usable { IsUsable P.rules self.old }
         requires place { HeapHasPlace self.old m }
         requires register { s < REGISTERS }
-        ensures usable { IsUsable P.rules self.new }
-        ensures history { AddsHeapEntry P.rules self.old m
-            (command.Swap s j was next) result self.new }
-        ensures rest { StaysInEpoch self.old self.new }
+        ensures { EntersCall P.rules self.old m (command.Swap s j was next) result self.new }
     {
         match &mut self.world {
             Some(world) => world.swap(m, s, j, was, next),
@@ -108,9 +95,7 @@ impl<P: Plan> ManagedHeap<P> {
         requires place { HeapHasPlace self.old m }
         requires target { d < REGISTERS }
         requires source { s < REGISTERS }
-        ensures usable { IsUsable P.rules self.new }
-        ensures history { AddsHeapEntry P.rules self.old m (command.Move d s) result self.new }
-        ensures rest { StaysInEpoch self.old self.new }
+        ensures { EntersCall P.rules self.old m (command.Move d s) result self.new }
     {
         match &mut self.world {
             Some(world) => world.move_register(m, d, s),
@@ -123,9 +108,7 @@ impl<P: Plan> ManagedHeap<P> {
         requires usable { IsUsable P.rules self.old }
         requires place { HeapHasPlace self.old m }
         requires register { s < REGISTERS }
-        ensures usable { IsUsable P.rules self.new }
-        ensures history { AddsHeapEntry P.rules self.old m (command.DropReg s) result self.new }
-        ensures rest { StaysInEpoch self.old self.new }
+        ensures { EntersCall P.rules self.old m (command.DropReg s) result self.new }
     {
         match &mut self.world {
             Some(world) => world.drop_register(m, s),
@@ -139,9 +122,7 @@ impl<P: Plan> ManagedHeap<P> {
         requires place { HeapHasPlace self.old m }
         requires register { d < REGISTERS }
         requires global { g < GLOBALS }
-        ensures usable { IsUsable P.rules self.new }
-        ensures history { AddsHeapEntry P.rules self.old m (command.Load d g) result self.new }
-        ensures rest { StaysInEpoch self.old self.new }
+        ensures { EntersCall P.rules self.old m (command.Load d g) result self.new }
     {
         match &mut self.world {
             Some(world) => world.load(m, d, g),
@@ -155,9 +136,7 @@ impl<P: Plan> ManagedHeap<P> {
         requires place { HeapHasPlace self.old m }
         requires register { s < REGISTERS }
         requires global { g < GLOBALS }
-        ensures usable { IsUsable P.rules self.new }
-        ensures history { AddsHeapEntry P.rules self.old m (command.Share g s) result self.new }
-        ensures rest { StaysInEpoch self.old self.new }
+        ensures { EntersCall P.rules self.old m (command.Share g s) result self.new }
     {
         match &mut self.world {
             Some(world) => world.share(m, g, s),
@@ -170,9 +149,7 @@ impl<P: Plan> ManagedHeap<P> {
         requires usable { IsUsable P.rules self.old }
         requires place { HeapHasPlace self.old m }
         requires register { s < REGISTERS }
-        ensures usable { IsUsable P.rules self.new }
-        ensures history { AddsHeapEntry P.rules self.old m (command.Pin s) result self.new }
-        ensures rest { StaysInEpoch self.old self.new }
+        ensures { EntersCall P.rules self.old m (command.Pin s) result self.new }
     {
         match &mut self.world {
             Some(world) => world.pin(m, s),
@@ -185,9 +162,7 @@ impl<P: Plan> ManagedHeap<P> {
         requires usable { IsUsable P.rules self.old }
         requires place { HeapHasPlace self.old m }
         requires register { s < REGISTERS }
-        ensures usable { IsUsable P.rules self.new }
-        ensures history { AddsHeapEntry P.rules self.old m (command.Unpin s) result self.new }
-        ensures rest { StaysInEpoch self.old self.new }
+        ensures { EntersCall P.rules self.old m (command.Unpin s) result self.new }
     {
         match &mut self.world {
             Some(world) => world.unpin(m, s),

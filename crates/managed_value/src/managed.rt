@@ -1,22 +1,24 @@
 //! The managed heap, and what can be asked of it between two calls.
 
-ghost use Rattle.std.specs.Prelude.{◌≡◌, ◌↔◌, ◌+◌, ◌≤◌, ◌<◌, ◌^◌, ℕ, IfOk, IsTrue, [], Some, length, slice_get, slice_index};
+ghost use Rattle.std.specs.Prelude.{◌≡◌, ◌↔◌, ◌+◌, ◌≤◌, ◌<◌, ℕ, IfOk, IsTrue, [], Some, length, slice_get, slice_index};
+ghost use Rattle.heap_layout.specs.declared.layout.TheConstants.{MIN_BLOCKS, MAX_BLOCKS};
 ghost use Rattle.ideal_heap.specs.declared.command.TheConstants.{MAX_MUTATORS, REGISTERS};
 ghost use Rattle.ideal_heap.specs.Ideal.{IdealHeap};
 ghost use Rattle.mutator_calls.specs.declared.need.Mutator.{Mutator as User};
+ghost use Rattle.sessions.specs.Fitting.{free_of};
+ghost use Rattle.plain_world.specs.declared.plain_world.PlainWorld.{PlainWorld as World};
+ghost use Rattle.plain_world.specs.Calls.{heap_of_world};
 ghost use Rattle.managed_heap.specs.Stopped.{IsManaged};
-ghost use Rattle.managed_value.specs.Histories.{IsLost, IsUsable, HasEntries, HeapHasPlace, StandsFor, mutators_of_heap, heap_births_at, collections_made, words_used};
-ghost use Rattle.managed_value.specs.Allocations.{IsEmpty, HeapMayAllocate};
+ghost use Rattle.managed_value.specs.Histories.{IsLost, IsUsable, HasEntries, HeapHasPlace, StandsFor, mutators_of_heap, heap_births_at, collections_made, shape_of_object, words_used};
+ghost use Rattle.managed_value.specs.Allocations.{IsEmpty};
 
 use heap_layout::Layout;
 use managed_heap::StoppedHeap;
 use mutator_calls::Mutator;
-use plain_world::PlainWorld;
+use object_model::Shape;
+use plain_world::{PlainWorld, new_seats};
 use plan_api::Plan;
 use std::alloc::{AllocError, Global};
-
-/// The most collections of a heap, so that an allocation may make two more.
-const MAX_COLLECTIONS: u64 = (1 << 40) - 3;
 
 /// A heap with its mutators, which use it in turns. The mutator at place `m` of their list has the
 /// number `m + 1`.
@@ -28,21 +30,13 @@ pub struct ManagedHeap<P> {
     pub(crate) alloc: Global,
     // None if heap and mutators are lost.
     pub(crate) world: Option<PlainWorld<P>>,
+    // The list that collections use for their roots.
+    pub(crate) roots: Vec<u32>,
     // The numbers of nursery and full collections.
     pub(crate) nursery: u64,
     pub(crate) full: u64,
     // The words of the objects that the last collection kept, and of those allocated since.
     pub(crate) words: u64,
-}
-
-/// Whether two collections may follow so many nursery and full ones.
-fn may_collect_twice(nursery: u64, full: u64) -> bool
-    ensures { IsTrue result ↔ nursery + full + 2 < 2 ^ 40 }
-{
-    if nursery > MAX_COLLECTIONS {
-        return false;
-    }
-    full <= MAX_COLLECTIONS - nursery
 }
 
 /// Whether two registers of the mutator at place `m` hold one address, or both are nil.
@@ -58,12 +52,14 @@ fn hold_one_address(mutators: &Vec<Mutator>, m: u32, s: u32, v: u32) -> bool
 }
 
 impl<P: Plan> ManagedHeap<P> {
-    /// An empty heap of this layout, of blocks of 32 KB each, with mutators 1 to `mutators`, whose
+    /// An empty heap of `blocks` blocks of 32 KB each, with mutators 1 to `mutators`, whose
     /// registers are nil.
     ///
     /// Fails if memory runs out.
-    pub fn new(alloc: Global, layout: Layout, mutators: u32) -> Result<ManagedHeap<P>, AllocError>
+    pub fn new(alloc: Global, blocks: u32, mutators: u32) -> Result<ManagedHeap<P>, AllocError>
         requires plan { IsManaged P.rules }
+        requires least { MIN_BLOCKS ≤ blocks }
+        requires most { blocks ≤ MAX_BLOCKS }
         requires some { 1 ≤ mutators }
         requires few { mutators ≤ MAX_MUTATORS }
         ensures usable { IfOk result (λ h. IsUsable P.rules h) }
@@ -72,50 +68,28 @@ impl<P: Plan> ManagedHeap<P> {
         ensures entries { IfOk result (λ h. HasEntries P.rules h []) }
         ensures collections { IfOk result (λ h. collections_made h ≡ 0) }
         ensures used { IfOk result (λ h. words_used h ≡ 0) }
-        ensures empty { IfOk result (λ h. IsEmpty h layout.blocks) }
+        ensures empty { IfOk result (λ h. IsEmpty h blocks) }
     {
+        let layout = Layout::new(blocks).unwrap();
         let mut heap = ManagedHeap {
             alloc,
             world: None,
+            roots: Vec::new(alloc),
             nursery: 0,
             full: 0,
             words: 0,
         };
+        let seats = new_seats(alloc, mutators as usize)?;
         let stopped = StoppedHeap::new(alloc, layout, mutators)?;
-        heap.go_on(stopped)?;
+        heap.go_on(stopped, seats);
         Ok(heap)
     }
 
-    /// Whether heap and mutators are lost, for want of memory.
+    /// Whether heap and mutators are lost since memory ran out.
     pub fn is_lost(&self) -> bool
         ensures { IsTrue result ↔ IsLost self.now }
     {
         self.world.is_none()
-    }
-
-    /// The number of objects that the mutator at place `m` has allocated.
-    pub fn births(&self, m: u32) -> u32
-        requires usable { IsUsable P.rules self.now }
-        requires place { HeapHasPlace self.now m }
-        ensures { result ≡ heap_births_at self.now m }
-    {
-        match &self.world {
-            Some(world) => world.births(m),
-            None => 0,
-        }
-    }
-
-    /// Whether the mutator at place `m` may allocate: it has fewer than 4,294,967,295 births, and
-    /// the heap has had few enough collections for two more.
-    pub fn may_allocate(&self, m: u32) -> bool
-        requires usable { IsUsable P.rules self.now }
-        requires place { HeapHasPlace self.now m }
-        ensures { IsTrue result ↔ HeapMayAllocate self.now m }
-    {
-        if !may_collect_twice(self.nursery, self.full) {
-            return false;
-        }
-        self.births(m) < u32::MAX
     }
 
     /// The numbers of nursery and full collections so far.
@@ -131,6 +105,32 @@ impl<P: Plan> ManagedHeap<P> {
         ensures { result ≡ words_used self.now }
     {
         self.words
+    }
+
+    /// The number of Free blocks. No block is read.
+    pub fn free_blocks(&self) -> u32
+        requires { IsUsable P.rules self.now }
+        ensures { (w : World P) → self.now.world ≡ Some w → result ≡ free_of (heap_of_world w) }
+    {
+        match &self.world {
+            Some(world) => world.free_blocks(),
+            None => 0,
+        }
+    }
+
+    /// How many references and numbers the object in register `s` of the mutator at place `m` has,
+    /// or `None` if the register is nil.
+    pub fn shape(&self, m: u32, s: u32) -> Option<Shape>
+        requires usable { IsUsable P.rules self.now }
+        requires place { HeapHasPlace self.now m }
+        requires register { s < REGISTERS }
+        ensures { (i : IdealHeap) → StandsFor P.rules self.now i
+            → result ≡ shape_of_object i (i.registers (m + 1) s) }
+    {
+        match &self.world {
+            Some(world) => world.shape(m, s),
+            None => None,
+        }
     }
 
     /// Whether two registers of the mutator at place `m` hold one object, or both are nil.

@@ -66,23 +66,23 @@ num-step h o j x f n is has = num-within h o j f n is (slice_get_within (record_
 ref-step : (h : IdealHeap) (o : Option Name) (i : ℕ) (x : Field) (f : Name → Record → Outcome) (n : Name) → o ≡ Some n → slice_get (record_of h n).refs i ≡ Some x → on_ref h o i f ≡ f n (record_of h n)
 ref-step h o i x f n is has = ref-within h o i f n is (slice_get_within (record_of h n).refs i x has)
 
-abbrev telling : IdealHeap → ℕ → Outcome
-telling h x = (r.Num x, h)
+abbrev replying : IdealHeap → ℕ → Outcome
+replying h x = (r.Num x, h)
 
 number-is : (h : IdealHeap) (n : Name) (j x : ℕ) → slice_get (record_of h n).nums j ≡ Some x → slice_index (record_of h n).nums j ≡ x
 number-is h n j x has = get_or_from_slice_get (record_of h n).nums j x 0 has
 
 -- read
 
-pub read : (h : IdealHeap) (m s j x : ℕ) → number_of h m s j ≡ Some x → step h m (c.Read s j) ≡ telling h x
+pub read : (h : IdealHeap) (m s j x : ℕ) → number_of h m s j ≡ Some x → step h m (c.Read s j) ≡ replying h x
 unfolding step
 read h m s j x is =
     let found : (n : Name) × (h.registers m s ≡ Some n) × (slice_get (record_of h n).nums j ≡ Some x) = with-number h (h.registers m s) j x is in
-    num-step h (h.registers m s) j x (reading h j) found.0 found.1 found.2 ∙ ap (λ y. telling h y) (number-is h found.0 j x found.2)
+    num-step h (h.registers m s) j x (reading h j) found.0 found.1 found.2 ∙ ap (λ y. replying h y) (number-is h found.0 j x found.2)
 
-pub told : (h : IdealHeap) (m s j x : ℕ) → (step h m (c.Read s j)).0 ≡ r.Num x → number_of h m s j ≡ Some x
+pub replied : (h : IdealHeap) (m s j x : ℕ) → (step h m (c.Read s j)).0 ≡ r.Num x → number_of h m s j ≡ Some x
 unfolding step
-told h m s j x = by_num (λ o. o.0 ≡ r.Num x → number_of_object h (h.registers m s) j ≡ Some x) h (h.registers m s) j (reading h j)
+replied h m s j x = by_num (λ o. o.0 ≡ r.Num x → number_of_object h (h.registers m s) j ≡ Some x) h (h.registers m s) j (reading h j)
     (λ e. absurd cc) (λ e. absurd cc)
     (λ n is l e. let value : slice_index (record_of h n).nums j ≡ x = cc in
     ap (λ q. number_of_object h q j) is ∙ slice_get-get_or (record_of h n).nums j 0 l ∙ ap (λ y. Some y) value)

@@ -1,4 +1,4 @@
--- Accesses of what is not there, and what replies tell.
+-- Accesses of what is not there, and what replies show.
 use Rattle.std.proofs.Common.{ap, arith, ◌≡◌, ℕ, ◌<◌, ◌≤◌, refl, sym, ◌∙◌, inl, inr, Option, Some, None, List, [], ◌∷◌, length, slice_get, slice_index, if◌then◌else◌, unwrap_or, suc, zero}
 use Rattle.std.proofs.lemmas.Bool.Decides.{eqb_tells}
 use Rattle.std.proofs.lemmas.Option.{slice_get-get_or}
@@ -85,19 +85,19 @@ OtherNumber h o j was = (x : ℕ) × (number_of_object h o j ≡ Some x) × (x �
 abbrev SomeField : IdealHeap → Option Name → ℕ → Type 0
 SomeField h o i = (f : Field) × (field_in h o i ≡ Some f)
 
-pub write-told : (h : IdealHeap) (m s j v : ℕ) → (step h m (c.Write s j v)).0 ≡ r.Done → SomeNumber h (h.registers m s) j
+pub write-done : (h : IdealHeap) (m s j v : ℕ) → (step h m (c.Write s j v)).0 ≡ r.Done → SomeNumber h (h.registers m s) j
 unfolding step
-write-told h m s j v = by_num (λ o. o.0 ≡ r.Done → SomeNumber h (h.registers m s) j) h (h.registers m s) j (writing h j v)
+write-done h m s j v = by_num (λ o. o.0 ≡ r.Done → SomeNumber h (h.registers m s) j) h (h.registers m s) j (writing h j v)
     (λ e. absurd cc) (λ e. absurd cc) (λ n is l e. (slice_index (record_of h n).nums j, number-there h (h.registers m s) n j is l))
 
-pub put-told : (h : IdealHeap) (m s i v : ℕ) → (step h m (c.Put s i v)).0 ≡ r.Done → SomeField h (h.registers m s) i
+pub put-done : (h : IdealHeap) (m s i v : ℕ) → (step h m (c.Put s i v)).0 ≡ r.Done → SomeField h (h.registers m s) i
 unfolding step
-put-told h m s i v = by_ref (λ o. o.0 ≡ r.Done → SomeField h (h.registers m s) i) h (h.registers m s) i (putting h m i v)
+put-done h m s i v = by_ref (λ o. o.0 ≡ r.Done → SomeField h (h.registers m s) i) h (h.registers m s) i (putting h m i v)
     (λ e. absurd cc) (λ e. absurd cc) (λ n is l e. (unwrap_or (slice_get (record_of h n).refs i) Nil, field-there h (h.registers m s) n i is l))
 
-pub add-told : (h : IdealHeap) (m s j v x : ℕ) → (step h m (c.Add s j v)).0 ≡ r.Num x → number_of h m s j ≡ Some x
+pub add-num : (h : IdealHeap) (m s j v x : ℕ) → (step h m (c.Add s j v)).0 ≡ r.Num x → number_of h m s j ≡ Some x
 unfolding step
-add-told h m s j v x = by_num (λ o. o.0 ≡ r.Num x → number_of_object h (h.registers m s) j ≡ Some x) h (h.registers m s) j (adding h j v)
+add-num h m s j v x = by_num (λ o. o.0 ≡ r.Num x → number_of_object h (h.registers m s) j ≡ Some x) h (h.registers m s) j (adding h j v)
     (λ e. absurd cc) (λ e. absurd cc)
     (λ n is l e. let value : slice_index (record_of h n).nums j ≡ x = cc in number-there h (h.registers m s) n j is l ∙ ap (λ y. Some y) value)
 
@@ -107,9 +107,9 @@ swaps h n j v = (r.Yes, set_record h n (put_number (record_of h n) j v))
 abbrev refuses : IdealHeap → Outcome
 refuses h = (r.No, h)
 
-pub swap-told : (h : IdealHeap) (m s j was next : ℕ) → (step h m (c.Swap s j was next)).0 ≡ r.Yes → number_of h m s j ≡ Some was
+pub swap-yes : (h : IdealHeap) (m s j was next : ℕ) → (step h m (c.Swap s j was next)).0 ≡ r.Yes → number_of h m s j ≡ Some was
 unfolding step
-swap-told h m s j was next = by_num (λ o. o.0 ≡ r.Yes → number_of_object h (h.registers m s) j ≡ Some was) h (h.registers m s) j (swapping h j was next)
+swap-yes h m s j was next = by_num (λ o. o.0 ≡ r.Yes → number_of_object h (h.registers m s) j ≡ Some was) h (h.registers m s) j (swapping h j was next)
     (λ e. absurd cc) (λ e. absurd cc)
     (λ n is l e. elim (eqb_tells (slice_index (record_of h n).nums j) was) as (λ _. number_of_object h (h.registers m s) j ≡ Some was) [
       | inl same ↦ number-there h (h.registers m s) n j is l ∙ ap (λ y. Some y) same.1

@@ -13,7 +13,8 @@ use Rattle.programs.specs.Growth.{IsGrown}
 use Rattle.programs.specs.Footprints.{changed_by, SetsField}
 use Rattle.programs.specs.Lists.{next_of_list, IsListFrom, IsList, IsGlobalList, HasElement, KeepsLists, heap_after, pushes, pops}
 use Rattle.programs.proofs.AccessLemmas.{with-number, register-same, read, read-same, written, field-stored, got, name-back, made-register, made-zero, made-nil}
-use Rattle.programs.proofs.FootprintLemmas.{registers-stay, objects-stay, number-stays, field-stays, fresh}
+use Rattle.programs.proofs.FailureLemmas.{get-fails}
+use Rattle.programs.proofs.FootprintLemmas.{registers-stay, objects-stay, number-stays, field-stays, fresh, register-fresh}
 
 pub determined : (h : IdealHeap) (o : Option Name) (xs ys : List ℕ) → IsListFrom h o xs → IsListFrom h o ys → xs ≡ ys
 determined h o [] [] one other = refl
@@ -95,6 +96,10 @@ pushed-objects h m d s x n other =
     ∙ objects-stay (made h m d) m (c.Put d 0 s) n (λ is. other (sym (made-register h m d 1 1) ∙ is))
     ∙ objects-stay h m (c.New d 1 1) n other
 
+old-numbers : (h : IdealHeap) (m d s x j : ℕ) (o : Option Name) → (o ≡ Some (name m (h.births m + 1)) → ⊥) → number_of_object (pushed h m d s x) o j ≡ number_of_object h o j
+old-numbers h m d s x j None old = refl
+old-numbers h m d s x j (Some n) old = ap (λ q. slice_get (unwrap_or q no_fields).nums j) (pushed-objects h m d s x n (λ is. old (sym is)))
+
 pub push-keeps : (h : IdealHeap) (m d s x : ℕ) → IsGrown h → KeepsLists h (heap_after h m (pushes d s x))
 push-keeps h m d s x grown o xs list = lists-same h (pushed h m d s x) o xs (λ n element. pushed-objects h m d s x n (λ is. element-old h m o xs n grown list element is)) list
 
@@ -104,6 +109,13 @@ push-leaves h m d s x k t not-new not-list =
     ∙ registers-stay (linked h m d s) m (c.Write d 0 x) k t (unset k m t)
     ∙ registers-stay (made h m d) m (c.Put d 0 s) k t (unset k m t)
     ∙ registers-stay h m (c.New d 1 1) k t (sets-other k m d t not-new)
+
+-- what another register holds keeps its numbers
+pub push-numbers : (h : IdealHeap) (m d s x k t j : ℕ) → IsGrown h → (k ≡ m → t ≡ d → ⊥) → (k ≡ m → t ≡ s → ⊥)
+    → number_of (heap_after h m (pushes d s x)) k t j ≡ number_of h k t j
+push-numbers h m d s x k t j grown not-new not-list =
+    ap (λ o. number_of_object (pushed h m d s x) o j) (push-leaves h m d s x k t not-new not-list)
+    ∙ old-numbers h m d s x j (h.registers k t) (λ is. register-fresh h m k t grown is)
 
 copied : (h : IdealHeap) (m d s : ℕ) → (step h m (c.Move d s)).1.registers m d ≡ h.registers m s
 unfolding step
@@ -148,6 +160,11 @@ pub pop-leaves : (h : IdealHeap) (m s k t : ℕ) → (k ≡ m → t ≡ s → �
 pop-leaves h m s k t other = registers-stay (step h m (c.Read s 0)).1 m (c.Get s s 0) k t (sets-other k m s t other)
     ∙ registers-stay h m (c.Read s 0) k t (unset k m t)
 
+pub pop-numbers : (h : IdealHeap) (m s k t j : ℕ) → (k ≡ m → t ≡ s → ⊥) → number_of (heap_after h m (pops s)) k t j ≡ number_of h k t j
+pop-numbers h m s k t j other =
+    number-stays (step h m (c.Read s 0)).1 m (c.Get s s 0) k t j (sets-other k m s t other) (λ changes hit. hit)
+    ∙ number-stays h m (c.Read s 0) k t j (unset k m t) (λ changes hit. hit)
+
 some-field : (o : Option Field) → IsSome o → (f : Field) × (o ≡ Some f)
 some-field None none = absurd cc
 some-field (Some f) is = (f, refl)
@@ -164,6 +181,12 @@ pop h m s x xs list = ap (λ o. o.0) (read h m s 0 x list.0)
 
 pub popped : (h : IdealHeap) (m s x : ℕ) (xs : List ℕ) → IsList h m s (x ∷ xs) → IsList (heap_after h m (pops s)) m s xs
 popped h m s x xs list = subst (λ k. IsList (step k m (c.Get s s 0)).1 m s xs) (sym (read-same h m s 0)) (taken-off h m s x xs list)
+
+-- an empty list stays empty, and nothing changes
+pub pop-empty : (h : IdealHeap) (m s : ℕ) → IsList h m s [] → heap_after h m (pops s) ≡ h
+pop-empty h m s list =
+    ap (λ k. (step k m (c.Get s s 0)).1) (read-same h m s 0)
+    ∙ ap (λ o. o.1) (get-fails h m s s 0 (ap (λ q. field_in h q 0) list))
 
 -- passing on
 

@@ -1,5 +1,5 @@
--- What a program sees of an ideal heap: the numbers and the references of the objects that it can name. Mutators are
--- given by their numbers, counted from 1.
+-- What a program sees of an ideal heap: the numbers and the references of the objects that it can
+-- name. Mutators are given by their numbers, counted from 1.
 use Rattle.std.specs.Prelude.{ℕ, Option, None, Some, slice_get}
 use Rattle.ideal_heap.specs.declared.name.Name.{Name}
 use Rattle.ideal_heap.specs.declared.reply.Reply.{Reply}
@@ -11,7 +11,8 @@ abbrev pub number_of_object : IdealHeap → Option Name → ℕ → Option ℕ
 number_of_object h None j = None
 number_of_object h (Some n) j = slice_get (record_of h n).nums j
 
--- what reference i of the object that o names holds; None if o is nil or the object has no reference i
+-- what reference i of the object that o names holds; None if o is nil or the object has no
+-- reference i
 abbrev pub field_in : IdealHeap → Option Name → ℕ → Option Field
 field_in h None i = None
 field_in h (Some n) i = slice_get (record_of h n).refs i
@@ -24,7 +25,8 @@ number_of h m s j = number_of_object h (h.registers m s) j
 abbrev pub field_in_heap : IdealHeap → ℕ → ℕ → ℕ → Option Field
 field_in_heap h m s i = field_in h (h.registers m s) i
 
--- the reply to an access of a number or a reference that is not there: the register is nil, or its object has none
+-- the reply to an access of a number or a reference that is not there: the register is nil, or its
+-- object has none
 abbrev pub missing_reply : Option Name → Reply
 missing_reply None = r.Null
 missing_reply (Some n) = r.Range

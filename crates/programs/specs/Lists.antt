@@ -1,5 +1,5 @@
--- Linked lists of numbers. An element is an object: its number 0 is the element's number, its reference 0 leads to the
--- next element, and is nil in the last one.
+-- Linked lists of numbers. An element is an object: its number 0 is the element's number, its
+-- reference 0 leads to the next element, and is nil in the last one.
 use Rattle.std.specs.Prelude.{◌≡◌, ℕ, ◌⊎◌, List, [], ◌∷◌, Option, None, Some, unwrap_or, IsSome}
 use Rattle.ideal_heap.specs.declared.name.Name.{Name}
 use Rattle.ideal_heap.specs.declared.command.Command.{Command}

@@ -1,18 +1,16 @@
 //! What the accesses of an object do to its numbers and references.
 
 ghost use Rattle.std.specs.Prelude.{◌≡◌, ◌+◌, ◌%◌, ◌^◌, ◌<◌, ◌≤◌, ℕ, Option, Some, None};
-ghost use Rattle.ideal_heap.specs.declared.command.Command.TheVariants as command;
-ghost use Rattle.ideal_heap.specs.declared.reply.Reply.TheVariants as reply;
-ghost use Rattle.ideal_heap.specs.Names.{name};
-ghost use Rattle.ideal_heap.specs.Ideal.{IdealHeap, Field, Nil, name_of_field, field_reply, field_of as field_to, step};
-ghost use Rattle.programs.specs.Contents.{number_of, field_in_heap};
+ghost use Rattle.programs.specs.Prelude.{name, IdealHeap, Field, Nil, name_of_field, field_reply, field_to, step, number_of, field_in_heap};
+ghost use Rattle.programs.specs.Prelude.command;
+ghost use Rattle.programs.specs.Prelude.reply;
 
 /// `read` replies the number and changes nothing, and a number that it replies is the object's. If
 /// the register is nil, the reply is `Null`.
 pub fn reads()
     ensures number { (h : IdealHeap) (m s j x : ℕ) → number_of h m s j ≡ Some x
         → step h m (command.Read s j) ≡ (reply.Num x, h) }
-    ensures told { (h : IdealHeap) (m s j x : ℕ)
+    ensures replied { (h : IdealHeap) (m s j x : ℕ)
         → (step h m (command.Read s j)).0 ≡ reply.Num x → number_of h m s j ≡ Some x }
     ensures same { (h : IdealHeap) (m s j : ℕ) → (step h m (command.Read s j)).1 ≡ h }
     ensures nil { (h : IdealHeap) (m s j : ℕ) → h.registers m s ≡ None

@@ -1,13 +1,9 @@
 //! Births and pins.
 
 ghost use Rattle.std.specs.Prelude.{◌≡◌, ◌+◌, ℕ, Some, true, false};
-ghost use Rattle.ideal_heap.specs.declared.command.Command.{Command};
-ghost use Rattle.ideal_heap.specs.declared.command.Command.TheVariants as command;
-ghost use Rattle.ideal_heap.specs.declared.name.Name.{Name};
-ghost use Rattle.ideal_heap.specs.declared.reply.Reply.TheVariants as reply;
-ghost use Rattle.ideal_heap.specs.Commands.{is_new};
-ghost use Rattle.ideal_heap.specs.Ideal.{IdealHeap, step};
-ghost use Rattle.programs.specs.Footprints.{pinned_by};
+ghost use Rattle.programs.specs.Prelude.{Command, Name, is_new, IdealHeap, step, pinned_by};
+ghost use Rattle.programs.specs.Prelude.command;
+ghost use Rattle.programs.specs.Prelude.reply;
 
 /// Only the `new` of a mutator changes its number of births: by one.
 pub fn births_are_counted()

@@ -1,13 +1,9 @@
 //! Small programs, computed by hand.
 
 ghost use Rattle.std.specs.Prelude.{◌≡◌, ◌++◌, ℕ, ◌∷◌, [], List, Some, None};
-ghost use Rattle.ideal_heap.specs.declared.command.Command.TheVariants as command;
-ghost use Rattle.ideal_heap.specs.declared.reply.Reply.TheVariants as reply;
-ghost use Rattle.ideal_heap.specs.Names.{name};
-ghost use Rattle.ideal_heap.specs.Ideal.{empty, Nil, At};
-ghost use Rattle.ideal_heap.specs.Runs.{alone, heap_after_run, entry};
-ghost use Rattle.programs.specs.Contents.{number_of, field_in_heap};
-ghost use Rattle.programs.specs.Lists.{IsList, IsGlobalList, heap_after, pushes, pops};
+ghost use Rattle.programs.specs.Prelude.{name, empty, Nil, At, alone, heap_after_run, entry, number_of, field_in_heap, IsList, IsGlobalList, heap_after, pushes, pops};
+ghost use Rattle.programs.specs.Prelude.command;
+ghost use Rattle.programs.specs.Prelude.reply;
 
 /// An object with two numbers: one is written, a sum wraps, a swap meets another number. The object
 /// has no third number, and a nil register has none.

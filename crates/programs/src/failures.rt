@@ -1,11 +1,9 @@
-//! Accesses of what is not there, and what a reply tells.
+//! Accesses of what is not there, and what a reply shows.
 
 ghost use Rattle.std.specs.Prelude.{◌≡◌, ℕ, None, Some};
-ghost use Rattle.ideal_heap.specs.declared.command.Command.TheVariants as command;
-ghost use Rattle.ideal_heap.specs.declared.name.Name.{Name};
-ghost use Rattle.ideal_heap.specs.declared.reply.Reply.TheVariants as reply;
-ghost use Rattle.ideal_heap.specs.Ideal.{IdealHeap, Field, Nil, At, step};
-ghost use Rattle.programs.specs.Contents.{missing_reply, number_of, field_in_heap};
+ghost use Rattle.programs.specs.Prelude.{Name, IdealHeap, Field, Nil, At, step, missing_reply, number_of, field_in_heap};
+ghost use Rattle.programs.specs.Prelude.command;
+ghost use Rattle.programs.specs.Prelude.reply;
 
 /// A command on a number or a reference that is not there replies `Null` if the register is nil,
 /// and `Range` if its object has none. It changes nothing: `get` keeps its register.
@@ -28,8 +26,8 @@ pub fn accesses_fail()
         → step h m (command.Unpin s) ≡ (reply.Null, h) }
 {}
 
-/// What a command replies tells what was there.
-pub fn replies_tell()
+/// What a command replies shows what was there.
+pub fn replies_show()
     ensures write { (h : IdealHeap) (m s j v : ℕ)
         → (step h m (command.Write s j v)).0 ≡ reply.Done
         → (x : ℕ) × (number_of h m s j ≡ Some x) }

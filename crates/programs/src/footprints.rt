@@ -1,14 +1,8 @@
 //! What a command leaves as it was.
 
 ghost use Rattle.std.specs.Prelude.{◌≡◌, ◌+◌, ℕ, Option, Some, None};
-ghost use Rattle.ideal_heap.specs.declared.name.Name.{Name};
-ghost use Rattle.ideal_heap.specs.declared.command.Command.{Command};
-ghost use Rattle.ideal_heap.specs.declared.command.Command.TheVariants as command;
-ghost use Rattle.ideal_heap.specs.Names.{name};
-ghost use Rattle.ideal_heap.specs.Ideal.{IdealHeap, At, step};
-ghost use Rattle.programs.specs.Contents.{number_of_object, number_of, field_in, field_in_heap};
-ghost use Rattle.programs.specs.Growth.{IsGrown};
-ghost use Rattle.programs.specs.Footprints.{changed_by, shared_by, SetsField, Changes, HitsNumber, HitsField};
+ghost use Rattle.programs.specs.Prelude.{Name, Command, name, IdealHeap, At, step, number_of_object, number_of, field_in, field_in_heap, IsGrown, changed_by, shared_by, SetsField, Changes, HitsNumber, HitsField};
+ghost use Rattle.programs.specs.Prelude.command;
 
 /// A command leaves each register but the one that it sets, each global but the one that it shares,
 /// and each number and reference but the one that it changes.

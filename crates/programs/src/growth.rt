@@ -1,10 +1,7 @@
 //! The heaps that programs come to.
 
 ghost use Rattle.std.specs.Prelude.{ℕ, List};
-ghost use Rattle.ideal_heap.specs.declared.command.Command.{Command};
-ghost use Rattle.ideal_heap.specs.Ideal.{IdealHeap, IsIdeal, empty, step};
-ghost use Rattle.ideal_heap.specs.Runs.{Entry, heap_after_run};
-ghost use Rattle.programs.specs.Growth.{IsGrown};
+ghost use Rattle.programs.specs.Prelude.{Command, IdealHeap, IsIdeal, empty, step, Entry, heap_after_run, IsGrown};
 
 /// Each heap that entries, whatever they are, make from the empty one is grown, and so is the heap
 /// after one more command. So a program needs no proof of it.

@@ -1,11 +1,8 @@
 //! From the history of a heap to the steps of its commands.
 
 ghost use Rattle.std.specs.Prelude.{◌≡◌, ◌++◌, ◌∷◌, [], ℕ, List, false};
-ghost use Rattle.ideal_heap.specs.declared.command.Command.{Command};
-ghost use Rattle.ideal_heap.specs.declared.reply.Reply.{Reply};
-ghost use Rattle.ideal_heap.specs.declared.reply.Reply.TheVariants as reply;
-ghost use Rattle.ideal_heap.specs.Ideal.{IdealHeap, step};
-ghost use Rattle.ideal_heap.specs.Runs.{Entry, IsRun, heap_after_run, entry, is_full};
+ghost use Rattle.programs.specs.Prelude.{Command, Reply, IdealHeap, step, Entry, IsRun, heap_after_run, entry, is_full};
+ghost use Rattle.programs.specs.Prelude.reply;
 
 /// The last entry of a run is a step of the heap after the entries before it: its reply is the
 /// step's, and the heap after it is the step's. An allocation that was refused leaves the heap.

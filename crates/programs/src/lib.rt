@@ -18,7 +18,7 @@ mod registers;
 pub use accesses::{gets_and_puts, new_objects, numbers_change, reads};
 pub use counts::{births_are_counted, pins_are_kept};
 pub use examples::{history_examples, list_examples, number_examples, object_examples};
-pub use failures::{accesses_fail, replies_tell};
+pub use failures::{accesses_fail, replies_show};
 pub use footprints::{commands_leave_the_rest, new_objects_are_new};
 pub use growth::heaps_grow;
 pub use histories::entries_are_steps;

@@ -1,14 +1,9 @@
 //! What commands do to lists.
 
 ghost use Rattle.std.specs.Prelude.{◌≡◌, ◌≢◌, ℕ, List, [], ◌∷◌, Option, None, Some};
-ghost use Rattle.ideal_heap.specs.declared.name.Name.{Name};
-ghost use Rattle.ideal_heap.specs.declared.command.Command.{Command};
-ghost use Rattle.ideal_heap.specs.declared.command.Command.TheVariants as command;
-ghost use Rattle.ideal_heap.specs.declared.reply.Reply.TheVariants as reply;
-ghost use Rattle.ideal_heap.specs.Ideal.{IdealHeap, step};
-ghost use Rattle.programs.specs.Growth.{IsGrown};
-ghost use Rattle.programs.specs.Footprints.{changed_by, SetsField};
-ghost use Rattle.programs.specs.Lists.{IsListFrom, IsList, IsGlobalList, HasElement, KeepsLists, heap_after, pushes, pops};
+ghost use Rattle.programs.specs.Prelude.{Name, Command, IdealHeap, step, IsGrown, changed_by, SetsField, IsListFrom, IsList, IsGlobalList, HasElement, KeepsLists, heap_after, pushes, pops, number_of};
+ghost use Rattle.programs.specs.Prelude.command;
+ghost use Rattle.programs.specs.Prelude.reply;
 
 /// A list has one sequence of numbers. It stays over each command that changes none of its
 /// elements: one that changes no object, one on another object, and `new`.
@@ -28,7 +23,7 @@ pub fn lists_stay()
 {}
 
 /// `push` puts a number at the front of a list, and `pop` takes it off: it replies the number, or
-/// `Null` if the list is empty. Both keep each list, and `push` changes no register but its two.
+/// `Null` if the list is empty. Both keep each list, and the other registers with their numbers.
 pub fn pops_and_pushes()
     ensures push { (h : IdealHeap) (m d s x : ℕ) (xs : List ℕ) → IsGrown h
         → s ≢ d → IsList h m s xs → IsList (heap_after h m (pushes d s x)) m s (x ∷ xs) }
@@ -37,6 +32,9 @@ pub fn pops_and_pushes()
     ensures push_leaves { (h : IdealHeap) (m d s x k r : ℕ) → (k ≡ m → r ≡ d → ⊥)
         → (k ≡ m → r ≡ s → ⊥)
         → (heap_after h m (pushes d s x)).registers k r ≡ h.registers k r }
+    ensures push_numbers { (h : IdealHeap) (m d s x k r j : ℕ) → IsGrown h
+        → (k ≡ m → r ≡ d → ⊥) → (k ≡ m → r ≡ s → ⊥)
+        → number_of (heap_after h m (pushes d s x)) k r j ≡ number_of h k r j }
     ensures pop { (h : IdealHeap) (m s x : ℕ) (xs : List ℕ) → IsList h m s (x ∷ xs)
         → (step h m (command.Read s 0)).0 ≡ reply.Num x }
     ensures popped { (h : IdealHeap) (m s x : ℕ) (xs : List ℕ) → IsList h m s (x ∷ xs)
@@ -44,8 +42,12 @@ pub fn pops_and_pushes()
     ensures pop_keeps { (h : IdealHeap) (m s : ℕ) → KeepsLists h (heap_after h m (pops s)) }
     ensures pop_leaves { (h : IdealHeap) (m s k r : ℕ) → (k ≡ m → r ≡ s → ⊥)
         → (heap_after h m (pops s)).registers k r ≡ h.registers k r }
+    ensures pop_numbers { (h : IdealHeap) (m s k r j : ℕ) → (k ≡ m → r ≡ s → ⊥)
+        → number_of (heap_after h m (pops s)) k r j ≡ number_of h k r j }
     ensures empty { (h : IdealHeap) (m s : ℕ) → IsList h m s []
         → step h m (command.Read s 0) ≡ (reply.Null, h) }
+    ensures pop_empty { (h : IdealHeap) (m s : ℕ) → IsList h m s []
+        → heap_after h m (pops s) ≡ h }
 {}
 
 /// A list is passed on by a global, and by a copy of its register.

@@ -1,10 +1,9 @@
 //! What copies of registers and globals hand on.
 
 ghost use Rattle.std.specs.Prelude.{◌≡◌, ℕ, None};
-ghost use Rattle.ideal_heap.specs.declared.command.Command.TheVariants as command;
-ghost use Rattle.ideal_heap.specs.declared.reply.Reply.TheVariants as reply;
-ghost use Rattle.ideal_heap.specs.Ideal.{IdealHeap, global_reply, step};
-ghost use Rattle.programs.specs.Contents.{number_of_object, number_of, field_in, field_in_heap};
+ghost use Rattle.programs.specs.Prelude.{IdealHeap, global_reply, step, number_of_object, number_of, field_in, field_in_heap};
+ghost use Rattle.programs.specs.Prelude.command;
+ghost use Rattle.programs.specs.Prelude.reply;
 
 /// `move_register` copies a register, `drop_register` makes it nil, `load` copies a global into a
 /// register, and `share` a register into a global.

@@ -3,7 +3,7 @@ use Rattle.std.specs.Prelude.{MatchBool}
 use Rattle.std.proofs.lemmas.Bool.{eq-eqb}
 use Rattle.object_model.specs.Objects.{HeapState, state_of, state_over}
 use Rattle.plan_api.specs.Relisting.{Relists}
-use Rattle.plan_api.proofs.Viewing.{block-anyway}
+use Rattle.plan_api.proofs.BlockViews.{block-anyway}
 use Rattle.plan_api.proofs.CellParts.{apart-anyway}
 use Rattle.block_regions.proofs.Relisted.{relists-anyway}
 use Rattle.managed_heap.proofs.spot.relist_spot.Goals as goal

@@ -5,8 +5,8 @@ use Rattle.programs.proofs.accesses.reads.Goals as goal
 pub returns-clause-number : goal.returns-clause-number
 returns-clause-number c = accesses.read
 
-pub returns-clause-told : goal.returns-clause-told
-returns-clause-told c = accesses.told
+pub returns-clause-replied : goal.returns-clause-replied
+returns-clause-replied c = accesses.replied
 
 pub returns-clause-same : goal.returns-clause-same
 returns-clause-same c = accesses.read-same

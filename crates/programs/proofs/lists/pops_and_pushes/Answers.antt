@@ -25,3 +25,12 @@ returns-clause-pop_leaves c = lists.pop-leaves
 
 pub returns-clause-empty : goal.returns-clause-empty
 returns-clause-empty c h m s list = accesses.read-nil h m s 0 list
+
+pub returns-clause-push_numbers : goal.returns-clause-push_numbers
+returns-clause-push_numbers c = lists.push-numbers
+
+pub returns-clause-pop_numbers : goal.returns-clause-pop_numbers
+returns-clause-pop_numbers c = lists.pop-numbers
+
+pub returns-clause-pop_empty : goal.returns-clause-pop_empty
+returns-clause-pop_empty c = lists.pop-empty

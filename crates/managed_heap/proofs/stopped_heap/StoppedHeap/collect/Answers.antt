@@ -1,9 +1,11 @@
 -- The roots are those of a stop, and the collection is counted.
 use Rattle.std.proofs.Common.{◌≡◌, sym, ◌∙◌, ap, subst, ℕ, ◌+◌, ◌*◌, ◌<◌, ◌≤◌, arith, List, length, map}
+use Rattle.std.specs.Prelude.{vec_capacity}
 use Rattle.object_model.specs.Heaps.{heap_state}
 use Rattle.object_model.specs.Lawful.{AreRoots}
 use Rattle.object_model.specs.Graphs.{roots_of}
 use Rattle.sessions.proofs.CollectedMoments.{roots-kept}
+use Rattle.sessions.proofs.CountedCollections.{counts-one}
 use Rattle.mutator_calls.specs.declared.need.Mutator.{Mutator}
 use Rattle.heap_users.specs.Users.{mutator_state}
 use Rattle.managed_heap.proofs.Collected as collected
@@ -12,11 +14,11 @@ use Rattle.managed_heap.proofs.stopped_heap.StoppedHeap.collect.Goals as goal
 
 pub collect-requires-clause-few : goal.collect-requires-clause-few
 collect-requires-clause-few g c κs within =
-    subst (λ (l : List ℕ). length l ≤ 1000000) (sym (c.in_ok-roots.ensures ∙ ap (λ (us : List Mutator). roots_of (map mutator_state us)) c.deref.ensures.value)) (roots.roots-few g.P.Plan.rules c.args.self c.requires.stopped)
+    subst (λ (l : List ℕ). length l ≤ 1000000) (sym (c.in_ok-list_registers.ensures ∙ ap (λ (us : List Mutator). roots_of (map mutator_state us)) c.deref.ensures.value)) (roots.roots-few g.P.Plan.rules c.args.self c.requires.stopped)
 
 pub collect-requires-clause-held : goal.collect-requires-clause-held
 collect-requires-clause-held g c κs within =
-    subst (λ (l : List ℕ). AreRoots (heap_state c.args.self.heap) l) (sym (c.in_ok-roots.ensures ∙ ap (λ (us : List Mutator). roots_of (map mutator_state us)) c.deref.ensures.value)) (roots.roots-held g.P.Plan.rules c.args.self c.requires.stopped)
+    subst (λ (l : List ℕ). AreRoots (heap_state c.args.self.heap) l) (sym (c.in_ok-list_registers.ensures ∙ ap (λ (us : List Mutator). roots_of (map mutator_state us)) c.deref.ensures.value)) (roots.roots-held g.P.Plan.rules c.args.self c.requires.stopped)
 
 pub collect-requires-clause-number : goal.collect-requires-clause-number
 collect-requires-clause-number g c κs within =
@@ -29,11 +31,24 @@ count_one-nursery-requires g c =
     let few : c.args.self.nursery + c.args.self.full + 1 < 1099511627776 = c.requires.collections in
     omega arith
 
+pub renew_notes-requires-clause-blocks : goal.renew_notes-requires-clause-blocks
+renew_notes-requires-clause-blocks g c =
+    c.requires.stopped.order.notes.notes.len
+    ∙ sym (counts-one g.P.Plan.rules 1 c.args.kind (heap_state c.args.self.heap) (heap_state c.in_ok-after.after.heap) c.list_registers.new.roots.items c.in_ok-after.after.roots.items c.in_ok-after.ensures.0).1
+
+pub renew_notes-requires-clause-owned : goal.renew_notes-requires-clause-owned
+renew_notes-requires-clause-owned g c = c.requires.stopped.order.notes.owned
+
+pub renew_notes-requires-clause-room : goal.renew_notes-requires-clause-room
+renew_notes-requires-clause-room g c = subst (λ (n : ℕ). n ≤ vec_capacity c.args.self.notes.owned)
+    (sym (counts-one g.P.Plan.rules 1 c.args.kind (heap_state c.args.self.heap) (heap_state c.in_ok-after.after.heap) c.list_registers.new.roots.items c.in_ok-after.after.roots.items c.in_ok-after.ensures.0).1)
+    c.requires.stopped.order.notes.room
+
 pub set_registers-requires : goal.set_registers-requires
 set_registers-requires g c =
-    let kept : length c.in_ok-after.after.roots.items ≡ length c.in_ok-roots.roots.items =
-    roots-kept g.P.Plan.rules 1 c.args.kind (heap_state c.args.self.heap) (heap_state c.in_ok-after.after.heap) c.in_ok-roots.roots.items c.in_ok-after.after.roots.items c.in_ok-after.ensures.0 in
-    let read : length c.in_ok-roots.roots.items ≡ length (roots_of (map mutator_state c.args.self.mutators.items)) = ap length (c.in_ok-roots.ensures ∙ ap (λ (us : List Mutator). roots_of (map mutator_state us)) c.deref.ensures.value) in
+    let kept : length c.in_ok-after.after.roots.items ≡ length c.list_registers.new.roots.items =
+    roots-kept g.P.Plan.rules 1 c.args.kind (heap_state c.args.self.heap) (heap_state c.in_ok-after.after.heap) c.list_registers.new.roots.items c.in_ok-after.after.roots.items c.in_ok-after.ensures.0 in
+    let read : length c.list_registers.new.roots.items ≡ length (roots_of (map mutator_state c.args.self.mutators.items)) = ap length (c.in_ok-list_registers.ensures ∙ ap (λ (us : List Mutator). roots_of (map mutator_state us)) c.deref.ensures.value) in
     let many : length (roots_of (map mutator_state c.args.self.mutators.items)) ≡ 16 * length c.args.self.mutators.items = roots.roots-many g.P.Plan.rules c.args.self c.requires.stopped in
     let same : length c.deref-2.result.now ≡ length c.in_ok-after.after.roots.items = ap length c.deref-2.ensures.value in
     omega arith
@@ -41,19 +56,19 @@ set_registers-requires g c =
 pub returns-clause-stopped : goal.returns-clause-stopped
 returns-clause-stopped g c =
     collected.stopped-made g.P.Plan.rules c.args.kind c.args.self _ c.in_ok-after.after.note
-    (collected.has-collected g.P.Plan.rules c.args.kind c.args.self _ c.in_ok-after.after.note c.in_ok-roots.roots.items c.in_ok-after.after.roots.items
-    (c.in_ok-roots.ensures ∙ ap (λ (us : List Mutator). roots_of (map mutator_state us)) c.deref.ensures.value) (sym (c.set_registers.ensures.roots ∙ c.deref-2.ensures.value))
-    (c.in_ok-after.ensures.0, c.in_ok-after.ensures.1) c.set_registers.ensures.births c.set_registers.ensures.registers c.count_one-nursery.ensures (c.in_ok-notes.ensures g.P.Plan.rules.fill)) c.requires.stopped
+    (collected.has-collected g.P.Plan.rules c.args.kind c.args.self _ c.in_ok-after.after.note c.list_registers.new.roots.items c.in_ok-after.after.roots.items
+    (c.in_ok-list_registers.ensures ∙ ap (λ (us : List Mutator). roots_of (map mutator_state us)) c.deref.ensures.value) (sym (c.set_registers.ensures.roots ∙ c.deref-2.ensures.value))
+    (c.in_ok-after.ensures.0, c.in_ok-after.ensures.1) c.set_registers.ensures.births c.set_registers.ensures.registers c.count_one-nursery.ensures (c.renew_notes.ensures g.P.Plan.rules.fill)) c.requires.stopped
 
 pub returns-clause-collected : goal.returns-clause-collected
 returns-clause-collected g c =
-    collected.has-collected g.P.Plan.rules c.args.kind c.args.self _ c.in_ok-after.after.note c.in_ok-roots.roots.items c.in_ok-after.after.roots.items
-    (c.in_ok-roots.ensures ∙ ap (λ (us : List Mutator). roots_of (map mutator_state us)) c.deref.ensures.value) (sym (c.set_registers.ensures.roots ∙ c.deref-2.ensures.value))
-    (c.in_ok-after.ensures.0, c.in_ok-after.ensures.1) c.set_registers.ensures.births c.set_registers.ensures.registers c.count_one-nursery.ensures (c.in_ok-notes.ensures g.P.Plan.rules.fill)
+    collected.has-collected g.P.Plan.rules c.args.kind c.args.self _ c.in_ok-after.after.note c.list_registers.new.roots.items c.in_ok-after.after.roots.items
+    (c.in_ok-list_registers.ensures ∙ ap (λ (us : List Mutator). roots_of (map mutator_state us)) c.deref.ensures.value) (sym (c.set_registers.ensures.roots ∙ c.deref-2.ensures.value))
+    (c.in_ok-after.ensures.0, c.in_ok-after.ensures.1) c.set_registers.ensures.births c.set_registers.ensures.registers c.count_one-nursery.ensures (c.renew_notes.ensures g.P.Plan.rules.fill)
 
 pub returns-clause-makes : goal.returns-clause-makes
 returns-clause-makes g c =
     collected.makes-from g.P.Plan.rules c.args.kind c.args.self _ c.in_ok-after.after.note
-    (collected.has-collected g.P.Plan.rules c.args.kind c.args.self _ c.in_ok-after.after.note c.in_ok-roots.roots.items c.in_ok-after.after.roots.items
-    (c.in_ok-roots.ensures ∙ ap (λ (us : List Mutator). roots_of (map mutator_state us)) c.deref.ensures.value) (sym (c.set_registers.ensures.roots ∙ c.deref-2.ensures.value))
-    (c.in_ok-after.ensures.0, c.in_ok-after.ensures.1) c.set_registers.ensures.births c.set_registers.ensures.registers c.count_one-nursery.ensures (c.in_ok-notes.ensures g.P.Plan.rules.fill))
+    (collected.has-collected g.P.Plan.rules c.args.kind c.args.self _ c.in_ok-after.after.note c.list_registers.new.roots.items c.in_ok-after.after.roots.items
+    (c.in_ok-list_registers.ensures ∙ ap (λ (us : List Mutator). roots_of (map mutator_state us)) c.deref.ensures.value) (sym (c.set_registers.ensures.roots ∙ c.deref-2.ensures.value))
+    (c.in_ok-after.ensures.0, c.in_ok-after.ensures.1) c.set_registers.ensures.births c.set_registers.ensures.registers c.count_one-nursery.ensures (c.renew_notes.ensures g.P.Plan.rules.fill))

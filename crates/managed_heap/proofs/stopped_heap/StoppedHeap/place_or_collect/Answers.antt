@@ -1,5 +1,8 @@
-use Rattle.std.proofs.Common.{◌≡◌, ap, ◌∙◌, arith, ◌+◌, ◌<◌, ◌≤◌}
+use Rattle.std.proofs.Common.{◌≡◌, sym, ap, subst, ◌∙◌, arith, ℕ, ◌+◌, ◌<◌, ◌≤◌}
+use Rattle.std.proofs.lemmas.Result.{err_from_is_err_and}
+use Rattle.object_model.specs.Heaps.{heap_state}
 use Rattle.object_model.specs.Objects.{size_of}
+use Rattle.sessions.specs.Fitting.{Fits}
 use Rattle.managed_heap.specs.declared.place.Placed.TheVariants as answer
 use Rattle.managed_heap.specs.Stopped.{collections_of}
 use Rattle.managed_heap.proofs.NeedsWritten as putting
@@ -101,16 +104,23 @@ returns-in-Some-clause-noted g c = serving.counts-found c.args.self c.find_place
 
 pub returns-clause-noted : goal.returns-clause-noted
 returns-clause-noted g c =
-    let told = c.in_ok-stopped.ensures.noted in record {
-      kind = told.kind;
-      before = told.before;
-      after = told.after;
-      stands = λ t now stands. told.stands t now (noted.stands-found g.P.Plan.rules c.args.self c.find_place.new.self c.find_place.ensures.rest c.find_place.ensures.notes t now stands);
-      collected = told.collected;
-      count = c.place_or_refuse-stopped.ensures.counts ∙ told.count;
+    let last = c.in_ok-stopped.ensures.noted in record {
+      kind = last.kind;
+      before = last.before;
+      after = last.after;
+      stands = λ t now stands. last.stands t now (noted.stands-found g.P.Plan.rules c.args.self c.find_place.new.self c.find_place.ensures.rest c.find_place.ensures.notes t now stands);
+      collected = last.collected;
+      count = c.place_or_refuse-stopped.ensures.counts ∙ last.count;
       more = (
-          let more : collections_of c.find_place.new.self < collections_of c.in_ok-stopped.stopped = told.more in
+          let more : collections_of c.find_place.new.self < collections_of c.in_ok-stopped.stopped = last.more in
           let found : collections_of c.find_place.new.self ≡ collections_of c.args.self = noted.counts-found c.args.self c.find_place.new.self c.find_place.ensures.rest in
           let settled : collections_of c.place_or_refuse-stopped.result.0 ≡ collections_of c.in_ok-stopped.stopped = c.place_or_refuse-stopped.ensures.counts in
           omega arith);
     }
+
+pub returns-in_err-stopped-clause-lost : goal.returns-in_err-stopped-clause-lost
+returns-in_err-stopped-clause-lost g c =
+    let p = err_from_is_err_and c.from_residual.result c.from_residual.ensures.1 in
+    let size : c.size_words-size.result ≡ size_of c.args.need.refs c.args.need.nums =
+    c.size_words-size.ensures ∙ ap (λ r. size_of r c.shape_of.result.nums) c.shape_of.ensures.refs ∙ ap (λ q. size_of c.args.need.refs q) c.shape_of.ensures.nums in
+    rw (p.1) (λ fit. c.in_default.ensures.none (subst (λ (n : ℕ). Fits g.P.Plan.rules (heap_state c.args.self.heap) n) (sym size) fit))

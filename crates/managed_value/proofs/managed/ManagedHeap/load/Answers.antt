@@ -11,26 +11,12 @@ load-requires-clause-open g c = places.open-here g.P.Plan.rules c.args.self.now 
 pub load-requires-clause-place : goal.load-requires-clause-place
 load-requires-clause-place g c = places.place-here g.P.Plan.rules c.args.self.now c.in-Some.world c.in-Some.is c.args.m c.requires.place
 
-pub returns-in-Some-clause-usable : goal.returns-in-Some-clause-usable
-returns-in-Some-clause-usable g c =
-    calls.call-usable g.P.Plan.rules c.args.self.now _ c.in-Some.world c.load.new.self c.in-Some.is refl refl refl c.args.m (command.Load c.args.d c.args.g) c.load.result
-    (places.place-here g.P.Plan.rules c.args.self.now c.in-Some.world c.in-Some.is c.args.m c.requires.place) c.load.ensures.history c.requires.usable c.load.ensures.open c.load.ensures.places
+pub returns-in-Some : goal.returns-in-Some
+returns-in-Some g c =
+    let call = c.load.ensures in
+    calls.call-entered g.P.Plan.rules c.args.self.now _ c.in-Some.world c.load.new.self c.in-Some.is refl refl refl c.args.m (command.Load c.args.d c.args.g) c.load.result
+    (enters (command.Load c.args.d c.args.g) c.load.result) (places.place-here g.P.Plan.rules c.args.self.now c.in-Some.world c.in-Some.is c.args.m c.requires.place)
+    c.requires.usable call.stays call.history call.rest refl refl
 
-pub returns-in-Some-clause-history : goal.returns-in-Some-clause-history
-returns-in-Some-clause-history g c =
-    calls.call-adds g.P.Plan.rules c.args.self.now _ c.in-Some.world c.load.new.self c.in-Some.is refl refl refl c.args.m (command.Load c.args.d c.args.g) c.load.result
-    (places.place-here g.P.Plan.rules c.args.self.now c.in-Some.world c.in-Some.is c.args.m c.requires.place) c.load.ensures.history
-
-pub returns-in-Some-clause-rest : goal.returns-in-Some-clause-rest
-returns-in-Some-clause-rest g c =
-    calls.call-rest g.P.Plan.rules c.args.self.now _ c.in-Some.world c.load.new.self c.in-Some.is refl refl refl c.args.m (command.Load c.args.d c.args.g) c.load.result (enters (command.Load c.args.d c.args.g) c.load.result)
-    c.load.ensures.history c.load.ensures.places c.load.ensures.rest refl refl
-
-pub returns-in-None-clause-usable : goal.returns-in-None-clause-usable
-returns-in-None-clause-usable g c = absurd (places.not-lost g.P.Plan.rules c.args.self.now c.requires.usable c.in-None.is)
-
-pub returns-in-None-clause-history : goal.returns-in-None-clause-history
-returns-in-None-clause-history g c = absurd (places.not-lost g.P.Plan.rules c.args.self.now c.requires.usable c.in-None.is)
-
-pub returns-in-None-clause-rest : goal.returns-in-None-clause-rest
-returns-in-None-clause-rest g c = absurd (places.not-lost g.P.Plan.rules c.args.self.now c.requires.usable c.in-None.is)
+pub returns-in-None : goal.returns-in-None
+returns-in-None g c = absurd (places.not-lost g.P.Plan.rules c.args.self.now c.requires.usable c.in-None.is)

@@ -1,6 +1,6 @@
 use Rattle.std.proofs.Common.{refl}
 use Rattle.ideal_heap.specs.declared.command.Command.TheVariants as command
-use Rattle.mutator_calls.specs.Effects.{enters}
+use Rattle.mutator_calls.specs.Effects.{logs}
 use Rattle.managed_value.proofs.CallEntries as calls
 use Rattle.managed_value.proofs.Places as places
 use Rattle.managed_value.proofs.managed.ManagedHeap.put.Goals as goal
@@ -11,26 +11,12 @@ put-requires-clause-open g c = places.open-here g.P.Plan.rules c.args.self.now c
 pub put-requires-clause-place : goal.put-requires-clause-place
 put-requires-clause-place g c = places.place-here g.P.Plan.rules c.args.self.now c.in-Some.world c.in-Some.is c.args.m c.requires.place
 
-pub returns-in-Some-clause-usable : goal.returns-in-Some-clause-usable
-returns-in-Some-clause-usable g c =
-    calls.call-usable g.P.Plan.rules c.args.self.now _ c.in-Some.world c.put.new.self c.in-Some.is refl refl refl c.args.m (command.Put c.args.s c.args.i c.args.v) c.put.result
-    (places.place-here g.P.Plan.rules c.args.self.now c.in-Some.world c.in-Some.is c.args.m c.requires.place) c.put.ensures.history c.requires.usable c.put.ensures.open c.put.ensures.places
+pub returns-in-Some : goal.returns-in-Some
+returns-in-Some g c =
+    let call = c.put.ensures.call in
+    calls.call-entered g.P.Plan.rules c.args.self.now _ c.in-Some.world c.put.new.self c.in-Some.is refl refl refl c.args.m (command.Put c.args.s c.args.i c.args.v) c.put.result
+    (logs c.put.ensures.logged (command.Put c.args.s c.args.i c.args.v) c.put.result) (places.place-here g.P.Plan.rules c.args.self.now c.in-Some.world c.in-Some.is c.args.m c.requires.place)
+    c.requires.usable call.stays call.history call.rest refl refl
 
-pub returns-in-Some-clause-history : goal.returns-in-Some-clause-history
-returns-in-Some-clause-history g c =
-    calls.call-adds g.P.Plan.rules c.args.self.now _ c.in-Some.world c.put.new.self c.in-Some.is refl refl refl c.args.m (command.Put c.args.s c.args.i c.args.v) c.put.result
-    (places.place-here g.P.Plan.rules c.args.self.now c.in-Some.world c.in-Some.is c.args.m c.requires.place) c.put.ensures.history
-
-pub returns-in-Some-clause-rest : goal.returns-in-Some-clause-rest
-returns-in-Some-clause-rest g c =
-    calls.call-rest g.P.Plan.rules c.args.self.now _ c.in-Some.world c.put.new.self c.in-Some.is refl refl refl c.args.m (command.Put c.args.s c.args.i c.args.v) c.put.result (enters (command.Put c.args.s c.args.i c.args.v) c.put.result)
-    c.put.ensures.history c.put.ensures.places c.put.ensures.rest refl refl
-
-pub returns-in-None-clause-usable : goal.returns-in-None-clause-usable
-returns-in-None-clause-usable g c = absurd (places.not-lost g.P.Plan.rules c.args.self.now c.requires.usable c.in-None.is)
-
-pub returns-in-None-clause-history : goal.returns-in-None-clause-history
-returns-in-None-clause-history g c = absurd (places.not-lost g.P.Plan.rules c.args.self.now c.requires.usable c.in-None.is)
-
-pub returns-in-None-clause-rest : goal.returns-in-None-clause-rest
-returns-in-None-clause-rest g c = absurd (places.not-lost g.P.Plan.rules c.args.self.now c.requires.usable c.in-None.is)
+pub returns-in-None : goal.returns-in-None
+returns-in-None g c = absurd (places.not-lost g.P.Plan.rules c.args.self.now c.requires.usable c.in-None.is)

@@ -28,7 +28,7 @@ returns-in-Made-clause-made g c =
     let old : ManagedHeap g.row.P.Denot = c.args.self.now in
     let new : ManagedHeap g.row.P.Denot = record old { world = Some c.new_object.new.self; words = c.add_words-self.result } in
     searched.made g.P.Plan.rules old new c.in-Some.world c.new_object.new.self c.in-Some.is refl refl refl c.args.m c.requires.place c.requires.usable
-    c.new_object.ensures.open c.new_object.ensures.places c.args.d c.args.refs c.args.nums c.in-Made.name c.in-Made.ensures.made
+    c.new_object.ensures.stays.is_open c.new_object.ensures.stays.places c.args.d c.args.refs c.args.nums c.in-Made.name c.in-Made.ensures.made
     (c.add_words-self.ensures ∙ ap (λ (n : ℕ). used_with (placed.Placed c.in-Made.name) n old.words) c.size_words-size.ensures)
 
 pub returns-in-Made-clause-epoch : goal.returns-in-Made-clause-epoch
@@ -36,11 +36,11 @@ returns-in-Made-clause-epoch g c =
     let old : ManagedHeap g.row.P.Denot = c.args.self.now in
     let new : ManagedHeap g.row.P.Denot = record old { world = Some c.new_object.new.self; words = c.add_words-self.result } in
     searched.allocated g.P.Plan.rules old new c.in-Some.world c.new_object.new.self c.in-Some.is refl refl refl c.args.m c.requires.place c.requires.usable
-    c.new_object.ensures.open c.new_object.ensures.places c.args.d c.args.refs c.args.nums c.in-Made.name c.in-Made.ensures.made
+    c.new_object.ensures.stays.is_open c.new_object.ensures.stays.places c.args.d c.args.refs c.args.nums c.in-Made.name c.in-Made.ensures.made
 
 pub returns-in-Stop-clause-made : goal.returns-in-Stop-clause-made
 returns-in-Stop-clause-made g c =
     let old : ManagedHeap g.row.P.Denot = c.args.self.now in
     let new : ManagedHeap g.row.P.Denot = record old { world = Some c.new_object.new.self } in
     searched.searched g.P.Plan.rules old new c.in-Some.world c.new_object.new.self c.in-Some.is refl refl refl c.args.m c.requires.place c.requires.usable
-    c.new_object.ensures.open c.new_object.ensures.places (size_of c.args.refs c.args.nums) c.in-Stop.ensures.made refl
+    c.new_object.ensures.stays.is_open c.new_object.ensures.stays.places (size_of c.args.refs c.args.nums) c.in-Stop.ensures.made refl
