@@ -6,6 +6,7 @@ ghost use Rattle.heap_layout.specs.Zones.{IsRowOf};
 ghost use Rattle.heap_layout.specs.declared.block.Kind.TheVariants as kinds;
 ghost use Rattle.object_model.specs.Objects.{HasKind, class_at, shown};
 
+use crate::rows::put;
 use cell_space::{cell_size, class_of, next_cell, sweep_block};
 use heap_layout::{BLOCK_WORDS, CLASS_UNIT, Kind, Layout};
 use releasable_rows::is_releasable;
@@ -18,34 +19,35 @@ fn are_of_class(least: u32, most: u32, class: u32) -> bool {
     cells == Some(most) && (least..=most).all(|size| class_of(size) == Some(class))
 }
 
-// the cells of each class, and the least size that does not fit a cell of the class below
+/// Each class, with the least and the largest size of its objects, which is that of its cells.
+const CLASSES: [(u32, u32, u32); 19] = [
+    (0, 0, 4),
+    (1, 5, 6),
+    (2, 7, 8),
+    (3, 9, 12),
+    (4, 13, 16),
+    (5, 17, 24),
+    (6, 25, 32),
+    (7, 33, 48),
+    (8, 49, 64),
+    (9, 65, 96),
+    (10, 97, 128),
+    (11, 129, 192),
+    (12, 193, 256),
+    (13, 257, 384),
+    (14, 385, 512),
+    (15, 513, 768),
+    (16, 769, 1024),
+    (17, 1025, 1536),
+    (18, 1537, 2048),
+];
+
 #[test]
-fn classes_of_sizes(rt: HostRuntime) -> Result<(), Fail> {
-    for (class, least, most) in [
-        (0, 0, 4),
-        (1, 5, 6),
-        (2, 7, 8),
-        (3, 9, 12),
-        (4, 13, 16),
-        (5, 17, 24),
-        (6, 25, 32),
-        (7, 33, 48),
-        (8, 49, 64),
-        (9, 65, 96),
-        (10, 97, 128),
-        (11, 129, 192),
-        (12, 193, 256),
-        (13, 257, 384),
-        (14, 385, 512),
-        (15, 513, 768),
-        (16, 769, 1024),
-        (17, 1025, 1536),
-        (18, 1537, 2048),
-    ] {
-        assert_eq!(rt; are_of_class(least, most, class), true, "{class}");
+fn classes_of_sizes(rt: HostRuntime) {
+    for (class, least, most) in CLASSES {
+        assert!(rt; are_of_class(least, most, class), "{class}");
     }
-    assert_eq!(rt; [2049, u32::MAX].map(|size| class_of(size)), [None, None]);
-    Ok(())
+    assert!(rt; class_of(2049).is_none() && class_of(u32::MAX).is_none());
 }
 
 /// A row of zeros, but for the word of block 1: it has cells of this class.
@@ -59,13 +61,6 @@ fn row_of_cells(alloc: Global, layout: &Layout, class: u32) -> Result<Vec<u64>, 
         Kind::Cells as u64 + CLASS_UNIT * class as u64,
     );
     Ok(words)
-}
-
-/// Sets a word of the row, if there is such a word.
-fn put(words: &mut Vec<u64>, index: u32, value: u64) {
-    if let Some(word) = words.get_mut(index as usize) {
-        *word = value;
-    }
 }
 
 /// Turns a bit of block 1 round, among those that begin at word `zone` of the row.
@@ -120,75 +115,84 @@ fn found(
     let mut words = row_of_cells(alloc, layout, class)?;
     take_all(&mut words, layout, size);
     turn(&mut words, layout.start_base(), offset);
-    Ok([0, offset, offset.saturating_add(1)].map(|from| next_from(&words, layout, class, from)))
+    Ok([
+        next_from(&words, layout, class, 0),
+        next_from(&words, layout, class, offset),
+        next_from(&words, layout, class, offset.saturating_add(1)),
+    ])
 }
 
-// of sizes that divide a block, and of sizes that don't: the first, a middle and the last cell
+/// Classes, the sizes of their cells, and the offset of a cell: the first, one between or the last,
+/// of sizes that divide a block and of sizes that don't.
+const FREE_CELLS: [(u32, u32, u32); 31] = [
+    (0, 4, 0),
+    (0, 4, 2056),
+    (0, 4, 4092),
+    (1, 6, 0),
+    (1, 6, 66),
+    (1, 6, 4086),
+    (2, 8, 4088),
+    (3, 12, 60),
+    (3, 12, 72),
+    (3, 12, 4080),
+    (4, 16, 4080),
+    (5, 24, 72),
+    (5, 24, 4056),
+    (6, 32, 4064),
+    (7, 48, 48),
+    (7, 48, 96),
+    (7, 48, 4032),
+    (8, 64, 64),
+    (8, 64, 4032),
+    (9, 96, 96),
+    (9, 96, 3936),
+    (10, 128, 3968),
+    (11, 192, 3840),
+    (12, 256, 3840),
+    (13, 384, 3456),
+    (14, 512, 3584),
+    (15, 768, 3072),
+    (16, 1024, 3072),
+    (17, 1536, 1536),
+    (18, 2048, 0),
+    (18, 2048, 2048),
+];
+
 #[test]
 fn one_free_cell(rt: HostRuntime) -> Result<(), Fail> {
     let layout = Layout::new(4)?;
-    for (class, size, offset) in [
-        (0, 4, 0),
-        (0, 4, 2056),
-        (0, 4, 4092),
-        (1, 6, 0),
-        (1, 6, 66),
-        (1, 6, 4086),
-        (2, 8, 4088),
-        (3, 12, 60),
-        (3, 12, 72),
-        (3, 12, 4080),
-        (4, 16, 4080),
-        (5, 24, 72),
-        (5, 24, 4056),
-        (6, 32, 4064),
-        (7, 48, 48),
-        (7, 48, 96),
-        (7, 48, 4032),
-        (8, 64, 64),
-        (8, 64, 4032),
-        (9, 96, 96),
-        (9, 96, 3936),
-        (10, 128, 3968),
-        (11, 192, 3840),
-        (12, 256, 3840),
-        (13, 384, 3456),
-        (14, 512, 3584),
-        (15, 768, 3072),
-        (16, 1024, 3072),
-        (17, 1536, 1536),
-        (18, 2048, 0),
-        (18, 2048, 2048),
-    ] {
+    for (class, size, offset) in FREE_CELLS {
         let found = found(rt.alloc(), &layout, class, size, offset)?;
-        let want = [Some(offset), Some(offset), None];
-        assert_eq!(rt; found, want, "{offset} of {class}");
+        assert!(rt;
+            found == [Some(offset), Some(offset), None],
+            "{offset} of {class}"
+        );
     }
     Ok(())
 }
 
-// a search from the end of a block, and from beyond it, in a block that is empty
+/// Classes, where the search begins in an empty block, and what it finds. It begins at the end of a
+/// block, and beyond it, too.
+const SEARCHES: [(u32, u32, Option<u32>); 10] = [
+    (0, 0, Some(0)),
+    (0, 1, Some(4)),
+    (0, 4092, Some(4092)),
+    (0, 4093, None),
+    (1, 4081, Some(4086)),
+    (1, 4087, None),
+    (18, 1, Some(2048)),
+    (18, 2049, None),
+    (17, 1537, None),
+    (3, u32::MAX, None),
+];
+
 #[test]
 fn empty_blocks(rt: HostRuntime) -> Result<(), Fail> {
     let layout = Layout::new(4)?;
-    for (class, from, want) in [
-        (0, 0, Some(0)),
-        (0, 1, Some(4)),
-        (0, 4092, Some(4092)),
-        (0, 4093, None),
-        (1, 4081, Some(4086)),
-        (1, 4087, None),
-        (18, 1, Some(2048)),
-        (18, 2049, None),
-        (17, 1537, None),
-        (3, u32::MAX, None),
-    ] {
+    for (class, from, want) in SEARCHES {
         let words = row_of_cells(rt.alloc(), &layout, class)?;
-        assert_eq!(rt;
-            next_from(&words, &layout, class, from),
-            want,
-            "{class} from {from}"
-        );
+        let found = next_from(&words, &layout, class, from);
+        assert!(rt; found == want, "{class} from {from}");
     }
     Ok(())
 }
@@ -196,7 +200,7 @@ fn empty_blocks(rt: HostRuntime) -> Result<(), Fail> {
 /// Writes an object of 5 words at an offset of block 1, which collection `number` claimed. Its
 /// start, pin and unlog bits are set.
 fn write_object(words: &mut Vec<u64>, layout: &Layout, offset: u32, number: u32) {
-    let address = layout.heap_base() + BLOCK_WORDS + offset.min(BLOCK_WORDS - 8);
+    let address = (layout.heap_base() + BLOCK_WORDS + offset.min(BLOCK_WORDS - 8)) as usize;
     put(words, address, 33 + 32 * offset as u64);
     put(words, address + 1, 65_536 * 2);
     put(words, address + 2, ((number as u64) << 24) + address as u64);
@@ -229,31 +233,47 @@ fn first_wrong(words: &[u64], from: usize, wanted: &[(usize, u64)]) -> Option<us
     None
 }
 
-// Of objects in cells of this class, at these offsets, those that collection 2 claimed live. A
-// block in which nothing lives becomes Free.
+/// Offsets of objects, with the collections that claimed them.
+type Objects = &'static [(u32, u32)];
+
+const FIVE: Objects = &[(0, 1), (6, 2), (60, 2), (66, 1), (4080, 2)];
+
+const TWO: Objects = &[(8, 1), (4088, 0)];
+
+/// Words among the 64 bit words of a block, by their indexes.
+type Bits = &'static [(usize, u64)];
+
+const THREE_LIVE: Bits = &[(0, (1 << 60) + (1 << 6)), (63, 1 << 48)];
+
+const NONE_LIVES: Bits = &[];
+
+// Of objects in cells of this class those that collection 2 claimed live: how many, the block word,
+// and the bits. A block in which nothing lives becomes Free.
+const SWEEPS: [(u32, Objects, u32, u64, Bits); 2] = [
+    (1, FIVE, 3, 261, THREE_LIVE),
+    (2, TWO, 0, 0, NONE_LIVES),
+];
+
+/// Whether blocks 0, 2 and 3 are Free and block 1 has this word, and its start, pin and unlog bits
+/// are these.
+fn is_swept(words: &[u64], word: u64, bits: &[(usize, u64)]) -> bool {
+    words.get(18..22) == Some([0, word, 0, 0].as_slice())
+        && first_wrong(words, 102, bits).is_none()
+        && first_wrong(words, 358, bits).is_none()
+        && first_wrong(words, 614, bits).is_none()
+}
+
 #[test]
 fn swept_blocks(rt: HostRuntime) -> Result<(), Fail> {
     let layout = Layout::new(4)?;
-    for (class, objects, count, word, bits) in [
-        (
-            1,
-            [(0, 1), (6, 2), (60, 2), (66, 1), (4080, 2)].as_slice(),
-            3,
-            261,
-            [(0, (1 << 60) + (1 << 6)), (63, 1 << 48)].as_slice(),
-        ),
-        (2, [(8, 1), (4088, 0)].as_slice(), 0, 0, [].as_slice()),
-    ] {
+    for (class, objects, count, word, bits) in SWEEPS {
         let mut words = row_of_cells(rt.alloc(), &layout, class)?;
         for (offset, number) in objects {
             write_object(&mut words, &layout, *offset, *number);
         }
         let swept = sweep(&mut words, &layout, 2);
-        let blocks = words.get(18..22) == Some([0, word, 0, 0].as_slice());
-        assert_eq!(rt; (swept, blocks), (Some(count), true), "of class {class}");
-        // start, pin and unlog bits of block 1
-        let wrong = [102, 358, 614].map(|from| first_wrong(&words, from, bits));
-        assert_eq!(rt; wrong, [None, None, None], "of class {class}");
+        let is_wanted = is_swept(&words, word, bits);
+        assert!(rt; swept == Some(count) && is_wanted, "of class {class}");
     }
     Ok(())
 }

@@ -11,4 +11,6 @@ mod line_tests;
 #[cfg(test)]
 mod releasable_tests;
 #[cfg(test)]
+mod rows;
+#[cfg(test)]
 mod sweep_tests;

@@ -99,23 +99,27 @@ fn plain(lines: &[u64; 4], from: u32, needed: u32) -> (u32, u32, Option<Hole>)
     (marked, holes, plain_hole(lines, from, needed))
 }
 
+const ALL: u64 = u64::MAX;
+
+/// The line words of a block, how many lines are marked, and how many holes there are.
+const COUNTS: [([u64; 4], u32, u32); 5] = [
+    ([5, 0, 0, 1 << 63], 3, 2),
+    ([0, 0, 0, 0], 0, 1),
+    ([ALL, ALL, ALL, ALL], 256, 0),
+    ([1 << 63, 1, 0, 0], 2, 2),
+    ([ALL, ALL, ALL, ALL >> 1], 255, 1),
+];
+
 #[test]
 fn holes_and_counts(rt: HostRuntime) -> Result<(), Fail> {
     let layout = Layout::new(4)?;
-    let all = u64::MAX;
-    for (lines, marked, holes) in [
-        ([5, 0, 0, 1 << 63], 3, 2),
-        ([0, 0, 0, 0], 0, 1),
-        ([all, all, all, all], 256, 0),
-        ([1 << 63, 1, 0, 0], 2, 2),
-        ([all, all, all, all >> 1], 255, 1),
-    ] {
+    for (lines, marked, holes) in COUNTS {
         let words = row_with(rt.alloc(), &layout, &lines)?;
-        let counts = (
+        let seen = (
             marked_lines(&words, &layout, 1),
             count_holes(&words, &layout, 1),
         );
-        assert_eq!(rt; counts, (marked, holes));
+        assert!(rt; seen == (marked, holes), "{marked}");
     }
     Ok(())
 }
@@ -171,7 +175,7 @@ fn each_line(rt: HostRuntime) -> Result<(), Fail> {
         let needed = if turn % 3 == 2 { 1 + line / 2 } else { 1 };
         let wanted = plain(&lines, from, needed);
         let found = found(rt.alloc(), &layout, &lines, from, needed)?;
-        assert_eq!(rt; found, wanted, "turn {turn}");
+        assert!(rt; found == wanted, "turn {turn}");
     }
     Ok(())
 }
@@ -193,7 +197,7 @@ fn random_blocks(rt: HostRuntime) -> Result<(), Fail> {
         ];
         let wanted = plain(&lines, turn % 257, 1 + turn % 80);
         let found = found(rt.alloc(), &layout, &lines, turn % 257, 1 + turn % 80)?;
-        assert_eq!(rt; found, wanted, "turn {turn}");
+        assert!(rt; found == wanted, "turn {turn}");
     }
     Ok(())
 }
@@ -211,28 +215,30 @@ fn mark_at(words: &mut Vec<u64>, layout: &Layout, offset: u32, size: u32)
     mark(words, layout, layout.heap_base() + offset, size);
 }
 
+const EDGE: u64 = 13 + (1 << 63);
+
+/// The offset and size of an object, and line words from that before block 1 on, after it and those
+/// before it are marked.
+const MARKS: [(u32, u32, [u64; 6]); 6] = [
+    (4096, 16, [0, 1, 0, 0, 0, 0]),
+    (4143, 17, [0, 0b1101, 0, 0, 0, 0]),
+    (5119, 2, [0, EDGE, 1, 0, 0, 0]),
+    (8176, 16, [0, EDGE, 1, 0, 1 << 63, 0]),
+    (5119, 2018, [0, EDGE, ALL, ALL >> 1, 1 << 63, 0]),
+    (4096, 4096, [0, ALL, ALL, ALL, ALL, 0]),
+];
+
 // Marks of an object of one line, of others over a line's and a word's edge, and of a whole block,
 // one after another in block 1. The blocks beside it keep their bits.
 #[test]
 fn marks(rt: HostRuntime) -> Result<(), Fail> {
     let layout = Layout::new(4)?;
     let mut words = empty_row(rt.alloc(), &layout)?;
-    let edge = 13 + (1 << 63);
-    let all = u64::MAX;
-    for (offset, size, wanted) in [
-        (4096, 16, [0, 1, 0, 0, 0, 0]),
-        (4143, 17, [0, 0b1101, 0, 0, 0, 0]),
-        (5119, 2, [0, edge, 1, 0, 0, 0]),
-        (8176, 16, [0, edge, 1, 0, 1 << 63, 0]),
-        (5119, 2018, [0, edge, all, all >> 1, 1 << 63, 0]),
-        (4096, 4096, [0, all, all, all, all, 0]),
-    ] {
+    for (offset, size, wanted) in MARKS {
         mark_at(&mut words, &layout, offset, size);
-        let lines = words.get(25..31);
-        assert_eq!(rt;
-            lines,
-            Some(wanted.as_slice()),
-            "{size} words from {offset}"
+        assert!(rt;
+            words.get(25..31) == Some(wanted.as_slice()),
+            "{size} from {offset}"
         );
     }
     Ok(())
@@ -278,29 +284,28 @@ fn wrong_line(
     })
 }
 
+const EDGES: &[(u32, u32)] = &[
+    (4095, 2),
+    (4080, 16),
+    (4000, 5000),
+    (4096, 8192),
+    (0, 16384),
+    (16383, 1),
+];
+
 // Objects at the edges of blocks, of whole blocks, and 200 others of up to 4 blocks.
 #[test]
 fn marks_over_blocks(rt: HostRuntime) -> Result<(), Fail> {
     let layout = Layout::new(4)?;
-    let edges = [
-        (4095, 2),
-        (4080, 16),
-        (4000, 5000),
-        (4096, 8192),
-        (0, 16384),
-        (16383, 1),
-    ];
     let mut random = 88_172_645_463_325_252;
     for turn in 0..206 {
         random = next_random(random);
         let offset = (random % 16384) as u32;
         let most = 1 + (random >> 32) as u32 % 16384;
-        let (offset, size) = edges
-            .get(turn)
-            .copied()
-            .unwrap_or((offset, most.min(16384 - offset)));
+        let other = (offset, most.min(16384 - offset));
+        let (offset, size) = EDGES.get(turn).copied().unwrap_or(other);
         let wrong = wrong_line(rt.alloc(), &layout, offset, size)?;
-        assert_eq!(rt; wrong, None, "{size} words from {offset}");
+        assert!(rt; wrong.is_none(), "{size} words from {offset}");
     }
     Ok(())
 }

@@ -1,12 +1,18 @@
 //! Blocks written by hand that may be released, and ones that may not.
 
-use heap_layout::{Kind, Layout};
-use object_model::Shape;
+ghost use Rattle.std.specs.Prelude.{◌≡◌, length};
+ghost use Rattle.heap_layout.specs.Zones.{IsRowOf};
+
+use heap_layout::{BLOCK_WORDS, Kind, Layout};
+use object_model::{HEADER_WORDS, Shape};
 use releasable_rows::{
     Object, empty_row, is_releasable, plain_object, set_bit_of, set_block, write_object,
 };
 use std::alloc::{AllocError, Global};
 use std::test::Fail;
+
+/// The offset of an object, its references and numbers, and whether its pin and unlog bits are set.
+type Placed = (u32, u32, u32, bool);
 
 /// Whether block 1 of a heap of four blocks may be released if it has this word and these objects,
 /// as many of the blocks after it as `tails` are later blocks of a run, and the others are Free.
@@ -16,7 +22,7 @@ fn is_released(
     kind: Kind,
     class: u32,
     tails: u32,
-    objects: &[Object],
+    objects: &[Placed],
 ) -> Result<bool, AllocError> {
     let mut words = empty_row(alloc, layout)?;
     set_block(&mut words, layout, 1, kind, class);
@@ -26,89 +32,118 @@ fn is_released(
         }
     }
     for object in objects {
-        write_object(&mut words, layout, 1, object);
+        place(&mut words, layout, *object);
     }
     Ok(is_releasable(&words, layout, 1))
 }
 
+/// Writes an object into block 1, if its offset is one of the block's.
+fn place(words: &mut Vec<u64>, layout: &Layout, object: Placed)
+    requires { IsRowOf layout.now words.old.items }
+    ensures { length words.new.items ≡ length words.old.items }
+{
+    let (offset, refs, nums, marked) = object;
+    if offset > BLOCK_WORDS - HEADER_WORDS {
+        return;
+    }
+    write_object(
+        words,
+        layout,
+        1,
+        &Object {
+            offset,
+            birth: offset + 1,
+            shape: Shape { refs, nums },
+            collector: 0,
+            pinned: marked,
+            unlogged: marked,
+        },
+    );
+}
+
+const FIRST: Placed = (0, 0, 5, false);
+
+const WITHIN: Placed = (4, 0, 5, false);
+
+const NEXT: Placed = (8, 0, 2040, false);
+
+const LAST: Placed = (4090, 0, 3, false);
+
+const PAST: Placed = (4090, 0, 4, false);
+
+const PINNED: Placed = (2048, 1, 0, true);
+
+/// The kind and class of a block, its objects, and whether it may be released.
+const BLOCKS: [(Kind, u32, &[Placed], bool); 15] = [
+    (Kind::Free, 0, &[], true),
+    (Kind::Free, 0, &[FIRST], false),
+    (Kind::Bump, 0, &[FIRST, NEXT], true),
+    (Kind::Bump, 0, &[FIRST, WITHIN], false),
+    (Kind::Immix, 0, &[NEXT, LAST], true),
+    (Kind::Immix, 0, &[NEXT, PAST], false),
+    (Kind::Kept, 0, &[PINNED], true),
+    (Kind::Kept, 1, &[PINNED], false),
+    (Kind::Cells, 2, &[NEXT], false),
+    (Kind::Cells, 2, &[FIRST], true),
+    (Kind::Cells, 1, &[FIRST], false),
+    (Kind::Cells, 2, &[WITHIN], false),
+    (Kind::LargeTail, 0, &[], true),
+    (Kind::LargeTail, 0, &[FIRST], false),
+    (Kind::LargeHead, 1, &[FIRST], false),
+];
+
 #[test]
 fn objects(rt: HostRuntime) -> Result<(), Fail> {
     let layout = Layout::new(4)?;
-    let first = plain_object(0, 5);
-    let within = plain_object(4, 5);
-    let next = plain_object(8, 2040);
-    let last = plain_object(4090, 3);
-    let past = plain_object(4090, 4);
-    let pinned = Object {
-        offset: 2048,
-        birth: 7,
-        shape: Shape { refs: 1, nums: 0 },
-        collector: 0,
-        pinned: true,
-        unlogged: true,
-    };
-    for (kind, class, objects, want) in [
-        (Kind::Free, 0, [].as_slice(), true),
-        (Kind::Free, 0, [first].as_slice(), false),
-        (Kind::Bump, 0, [first, next].as_slice(), true),
-        (Kind::Bump, 0, [first, within].as_slice(), false),
-        (Kind::Immix, 0, [next, last].as_slice(), true),
-        (Kind::Immix, 0, [next, past].as_slice(), false),
-        (Kind::Kept, 0, [pinned].as_slice(), true),
-        (Kind::Kept, 1, [pinned].as_slice(), false),
-        (Kind::Cells, 2, [next].as_slice(), false),
-        (Kind::Cells, 2, [first].as_slice(), true),
-        (Kind::Cells, 1, [first].as_slice(), false),
-        (Kind::Cells, 2, [within].as_slice(), false),
-        (Kind::LargeTail, 0, [].as_slice(), true),
-        (Kind::LargeTail, 0, [first].as_slice(), false),
-        (Kind::LargeHead, 1, [first].as_slice(), false),
-    ] {
+    for (kind, class, objects, want) in BLOCKS {
         let is = is_released(rt.alloc(), &layout, kind, class, 0, objects)?;
-        assert_eq!(rt;
-            is,
-            want,
-            "{kind:?} of class {class}, {} objects",
-            objects.len()
-        );
+        assert!(rt; is == want, "{kind:?} of class {class}");
     }
     Ok(())
 }
 
+/// The class of the first block of a large object, how many later blocks of it follow, its numbers,
+/// and whether the block may be released.
+const RUNS: [(u32, u32, u32, bool); 9] = [
+    (1, 0, 2045, false),
+    (1, 0, 2046, true),
+    (1, 0, 4093, true),
+    (1, 0, 4094, false),
+    (2, 1, 4093, false),
+    (2, 0, 4094, false),
+    (2, 1, 4094, true),
+    (3, 2, 8190, true),
+    (4, 2, 12286, false),
+];
+
 #[test]
 fn runs(rt: HostRuntime) -> Result<(), Fail> {
     let layout = Layout::new(4)?;
-    for (class, tails, nums, want) in [
-        (1, 0, 2045, false),
-        (1, 0, 2046, true),
-        (1, 0, 4093, true),
-        (1, 0, 4094, false),
-        (2, 1, 4093, false),
-        (2, 0, 4094, false),
-        (2, 1, 4094, true),
-        (3, 2, 8190, true),
-        (4, 2, 12286, false),
-    ] {
-        let object = plain_object(0, nums);
-        let is = is_released(
-            rt.alloc(),
-            &layout,
-            Kind::LargeHead,
-            class,
-            tails,
-            &[object],
-        )?;
-        assert_eq!(rt; is, want, "class {class}, {tails} tails, {nums} numbers");
+    for (class, tails, nums, want) in RUNS {
+        let objects = [(0, 0, nums, false)];
+        let is = is_released(rt.alloc(), &layout, Kind::LargeHead, class, tails, &objects)?;
+        assert!(rt; is == want, "class {class}, {tails} tails, {nums} numbers");
     }
-    let mut words = empty_row(rt.alloc(), &layout)?;
-    set_block(&mut words, &layout, 1, Kind::LargeHead, 2);
-    set_block(&mut words, &layout, 2, Kind::LargeTail, 0);
-    write_object(&mut words, &layout, 1, &plain_object(0, 4094));
-    let whole = is_releasable(&words, &layout, 1);
+    Ok(())
+}
+
+/// Whether a large object of two blocks may be released, and whether it may with a pin bit in the
+/// second.
+fn with_pinned_tail(alloc: Global, layout: &Layout) -> Result<(bool, bool), AllocError> {
+    let mut words = empty_row(alloc, layout)?;
+    set_block(&mut words, layout, 1, Kind::LargeHead, 2);
+    set_block(&mut words, layout, 2, Kind::LargeTail, 0);
+    write_object(&mut words, layout, 1, &plain_object(0, 4094));
+    let whole = is_releasable(&words, layout, 1);
     let last = layout.address(2, 4095);
-    set_bit_of(&mut words, &layout, layout.pin_base(), last);
-    let stray = is_releasable(&words, &layout, 1);
-    assert_eq!(rt; (whole, stray), (true, false), "a pin bit in a tail");
+    set_bit_of(&mut words, layout, layout.pin_base(), last);
+    Ok((whole, is_releasable(&words, layout, 1)))
+}
+
+#[test]
+fn pin_bit_in_a_tail(rt: HostRuntime) -> Result<(), Fail> {
+    let layout = Layout::new(4)?;
+    assert!(rt; with_pinned_tail(rt.alloc(), &layout)? == (true, false));
     Ok(())
 }
 
@@ -142,20 +177,22 @@ fn with_stray(
     Ok((own, is_releasable(&words, layout, 2)))
 }
 
+const STRAYS: [(Kind, Stray, bool); 6] = [
+    (Kind::Free, Stray::Pin, false),
+    (Kind::Bump, Stray::Pin, false),
+    (Kind::Mature, Stray::Unlog, false),
+    (Kind::Young, Stray::Start, false),
+    (Kind::Free, Stray::Line, false),
+    (Kind::Immix, Stray::Line, true),
+];
+
 // A bit without an object, and the Free block beside it.
 #[test]
 fn stray_bits(rt: HostRuntime) -> Result<(), Fail> {
     let layout = Layout::new(4)?;
-    for (kind, stray, want) in [
-        (Kind::Free, Stray::Pin, false),
-        (Kind::Bump, Stray::Pin, false),
-        (Kind::Mature, Stray::Unlog, false),
-        (Kind::Young, Stray::Start, false),
-        (Kind::Free, Stray::Line, false),
-        (Kind::Immix, Stray::Line, true),
-    ] {
+    for (kind, stray, want) in STRAYS {
         let found = with_stray(rt.alloc(), &layout, kind, stray)?;
-        assert_eq!(rt; found, (want, true), "{kind:?} with a bit of {stray:?}");
+        assert!(rt; found == (want, true), "{kind:?} with a bit of {stray:?}");
     }
     Ok(())
 }
