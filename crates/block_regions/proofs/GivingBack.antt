@@ -17,7 +17,7 @@ use Rattle.object_model.proofs.OneKind.{kind-code}
 use Rattle.sessions.specs.Plans.{Rules}
 use Rattle.block_sweeps.specs.Sweeping.{AreApart, IsLineWord}
 use Rattle.plan_api.specs.Relisting.{Relists}
-use Rattle.plan_api.proofs.Viewing.{orderly-apart}
+use Rattle.plan_api.proofs.BlockViews.{orderly-apart}
 use Rattle.block_regions.specs.declared.block_notes.BlockNote.{BlockNote}
 use Rattle.block_regions.specs.declared.block_notes.BlockNote.TheVariants.{Unowned, Owned}
 use Rattle.block_regions.specs.Elements.{ChangesAt}

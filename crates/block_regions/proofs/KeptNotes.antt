@@ -9,7 +9,7 @@ use Rattle.heap_layout.specs.declared.region.Region.{Region}
 use Rattle.object_model.specs.Objects.{HeapState, HasKind, class_at}
 use Rattle.object_model.specs.Lawful.{IsLawful}
 use Rattle.sessions.specs.Fitting.{HasHole, class_for, free_of}
-use Rattle.sessions.proofs.Placing.{free-some}
+use Rattle.sessions.proofs.PlacedSmallObjects.{free-some}
 use Rattle.plan_api.specs.Holes.{IsFirstPart, IsFirstHole}
 use Rattle.block_regions.specs.declared.block_notes.BlockNotes.{BlockNotes}
 use Rattle.block_regions.specs.declared.block_notes.BlockNote.{BlockNote}

@@ -10,7 +10,7 @@ use Rattle.object_model.specs.Lawful.{Lies, IsTouched, LineBitsAreExact, AllLie}
 use Rattle.block_sweeps.specs.Sweeping.{IsLineWord, IsTouchedHere}
 use Rattle.sessions.specs.Plans.{Plan, NoGc, MarkSweep, SemiSpace, GenCopy, Immix, StickyImmix, Rules, rules_of}
 use Rattle.plan_api.specs.Relisting.{RelistsLines, RelistsIf, Relists}
-use Rattle.plan_api.proofs.Viewing.{held-anyway}
+use Rattle.plan_api.proofs.BlockViews.{held-anyway}
 
 module _ (words : List ℕ) (l : Layout) (n b n' b' : ℕ) where
   abbrev s : HeapState

@@ -15,17 +15,22 @@ pub record IsTailLeft (s : HeapState) (k : ℕ) (region : Region) : Type 0 where
   pub inside : region.next ≤ region.end
   pub end : region.end ≡ BLOCK_WORDS
 
--- The region is the first free cell of block k that begins at or after the offset `from`, or has no words if none does.
+-- The region is the first free cell of block k that begins at or after the offset `from`, or has no
+-- words if none does.
 pub data IsCellLeft (s : HeapState) (k from : ℕ) (region : Region) : Type 0 where
-  free : IsNextCell s k from region.next → region.end ≡ region.next + cell_words (class_at s k) → IsCellLeft s k from region
-  full : HasNoCell s k from → region.next ≡ BLOCK_WORDS → region.end ≡ BLOCK_WORDS → IsCellLeft s k from region
+  free : IsNextCell s k from region.next → region.end ≡ region.next + cell_words (class_at s k)
+      → IsCellLeft s k from region
+  full : HasNoCell s k from → region.next ≡ BLOCK_WORDS → region.end ≡ BLOCK_WORDS
+      → IsCellLeft s k from region
 
 -- an object of block k ends at this offset
 abbrev pub HasObjectEndingAt : HeapState → ℕ → ℕ → Type 0
-HasObjectEndingAt s k at = (a : ℕ) × IsHeld s a × (block_at s.blocks a ≡ k) × (offset_at s.blocks a + size_at s a ≡ at)
+HasObjectEndingAt s k at = (a : ℕ) × IsHeld s a × (block_at s.blocks a ≡ k)
+    × (offset_at s.blocks a + size_at s a ≡ at)
 
--- The region is what is left of a hole of clear lines of block k: it begins with the hole, or where an object ends, and
--- ends with the hole. No object of the block has a word in it, and none touches a clear line after it.
+-- The region is what is left of a hole of clear lines of block k: it begins with the hole, or where
+-- an object ends, and ends with the hole. No object of the block has a word in it, and none touches
+-- a clear line after it.
 pub record IsLinesLeft (s : HeapState) (k : ℕ) (region : Region) : Type 0 where
   pub line : ℕ
   pub len : ℕ
@@ -34,12 +39,16 @@ pub record IsLinesLeft (s : HeapState) (k : ℕ) (region : Region) : Type 0 wher
       × HasObjectEndingAt s k region.next)
   pub inside : region.next ≤ region.end
   pub end : region.end ≡ LINE_WORDS * (line + len)
-  pub clear : (a i : ℕ) → IsHeld s a → block_at s.blocks a ≡ k → IsInExtent s a i → block_at s.blocks i ≡ k
+  pub clear : (a i : ℕ) → IsHeld s a → block_at s.blocks a ≡ k → IsInExtent s a i
+      → block_at s.blocks i ≡ k
       → region.next ≤ offset_at s.blocks i → offset_at s.blocks i < region.end → ⊥
-  pub rest : (a i : ℕ) → IsHeld s a → block_at s.blocks a ≡ k → IsInExtent s a i → block_at s.blocks i ≡ k
-      → region.end ≤ offset_at s.blocks i → IsTrue (line_marked s k (offset_at s.blocks i / LINE_WORDS))
+  pub rest : (a i : ℕ) → IsHeld s a → block_at s.blocks a ≡ k → IsInExtent s a i
+      → block_at s.blocks i ≡ k
+      → region.end ≤ offset_at s.blocks i
+      → IsTrue (line_marked s k (offset_at s.blocks i / LINE_WORDS))
 
--- The region is what is left of block k, which has this kind: its tail, its first free cell, or what is left of a hole.
+-- The region is what is left of block k, which has this kind: its tail, its first free cell, or
+-- what is left of a hole.
 abbrev pub IsRegionIn : Kind → HeapState → ℕ → Region → Type 0
 IsRegionIn kinds.Bump s k region = IsTailLeft s k region
 IsRegionIn kinds.Young s k region = IsTailLeft s k region
@@ -56,7 +65,8 @@ pub record BeginsHole (fill : Kind) (s : HeapState) (k at size : ℕ) : Type 0 w
   pub hole : HasHole fill s k at size
   pub first : (from : ℕ) → HasHole fill s k from size → at ≤ from
 
--- where the region of a clear block of this kind and class ends: with its first cell, or with the block
+-- where the region of a clear block of this kind and class ends: with its first cell, or with the
+-- block
 abbrev pub first_region_end : Kind → ℕ → ℕ
 first_region_end kinds.Cells class = cell_words class
 first_region_end _ class = BLOCK_WORDS

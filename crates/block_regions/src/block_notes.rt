@@ -14,7 +14,7 @@ ghost use Rattle.block_regions.specs.Notes.{FillsHoles, AreNotes, IsLowestHole, 
 
 use crate::vectors::copies;
 use heap_layout::{BLOCK_WORDS, Kind, Region};
-use object_model::{Heap, MAX_MEDIUM_WORDS};
+use object_model::{HEADER_WORDS, Heap, MAX_MEDIUM_WORDS};
 use plan_api::{BlockCounts, block_counts, class_for, hole_in_block};
 use std::alloc::{AllocError, Global};
 
@@ -51,7 +51,7 @@ fn nothing_known() -> BlockNote
 /// The first hole of a block with room for `size` words, if mutators fill blocks of its kind.
 fn hole_of(heap: &Heap, fill: Kind, block: u32, size: u32) -> Option<Region>
     requires block { block < (heap_state heap.now).blocks }
-    requires least { 3 ≤ size }
+    requires least { HEADER_WORDS ≤ size }
     requires most { size ≤ MAX_MEDIUM_WORDS }
     ensures { IsFirstHole fill (heap_state heap.now) block 0 size result }
 {
@@ -98,7 +98,7 @@ impl BlockNotes {
         requires fills { FillsHoles fill }
         requires notes { AreNotes fill (heap_state heap.now) self.old }
         requires block { block < (heap_state heap.now).blocks }
-        requires least { 3 ≤ size }
+        requires least { HEADER_WORDS ≤ size }
         requires most { size ≤ MAX_MEDIUM_WORDS }
         ensures notes { AreNotes fill (heap_state heap.now) self.new }
         ensures none { IfNone result (LacksHoles fill (heap_state heap.now) block size) }
@@ -128,7 +128,7 @@ impl BlockNotes {
     pub fn lowest_hole(&mut self, heap: &Heap, fill: Kind, size: u32) -> Option<(u32, u32)>
         requires fills { FillsHoles fill }
         requires notes { AreNotes fill (heap_state heap.now) self.old }
-        requires least { 3 ≤ size }
+        requires least { HEADER_WORDS ≤ size }
         requires most { size ≤ MAX_MEDIUM_WORDS }
         ensures notes { AreNotes fill (heap_state heap.now) self.new }
         ensures none { IfNone result (HasSomeHole fill (heap_state heap.now) size → ⊥) }

@@ -8,7 +8,7 @@ use Rattle.object_model.proofs.Marks.{mark-same}
 use Rattle.object_model.proofs.ObjectReads.{place_of_address}
 use Rattle.block_sweeps.specs.Sweeping.{InBlock, IsFreed, HasNoLiving, ChangesOnly, IsObjectBitWord, IsBlockOrLineWord, IsMetadata, KeepsLiving, Sweeps, object_count}
 use Rattle.block_sweeps.specs.Stores.{Stores}
-use Rattle.block_sweeps.proofs.Changing.{changes-more, changes-both}
+use Rattle.block_sweeps.proofs.ChangedWords.{changes-more, changes-both}
 use Rattle.block_sweeps.proofs.BitCounts.{count-same, none-passes, none-counted}
 
 at-offset : (b k a : ℕ) → IsAddress b a → block_at b a ≡ k → block_start b k + (0 + offset_at b a) ≡ a

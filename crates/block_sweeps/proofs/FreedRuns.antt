@@ -7,7 +7,7 @@ use Rattle.heap_layout.specs.declared.layout.Layout.{Layout}
 use Rattle.object_model.specs.Objects.{HeapState, state_over, line_marked}
 use Rattle.block_sweeps.specs.RunSweeps.{FreesAll, IsWordAmong}
 use Rattle.block_sweeps.specs.Sweeping.{Frees, IsFreed, IsBlockOrLineWord}
-use Rattle.block_sweeps.proofs.Changing.{changes-more, changes-both}
+use Rattle.block_sweeps.proofs.ChangedWords.{changes-more, changes-both}
 
 pub frees-none : (words : List ℕ) (l : Layout) (from : ℕ) → FreesAll (state_over words l 0 0) (state_over words l 0 0) from from
 frees-none words l from = record {

@@ -1,4 +1,4 @@
-pub mod Changing
+pub mod ChangedWords
 pub mod FreedRuns
 pub mod RunSpans
 pub mod SweptRuns

@@ -12,7 +12,7 @@ use Rattle.object_model.specs.Releasing.{IsReleasable, InSpan}
 use Rattle.object_model.specs.Ages.{Lives, is_survivor}
 use Rattle.block_sweeps.specs.RunSweeps.{IsHeadWord, ClearsHead, FreesAll, IsWordAmong}
 use Rattle.block_sweeps.specs.Sweeping.{SweepsRun, IsFreed, IsOfSpan, IsMetadata}
-use Rattle.block_sweeps.proofs.Changing.{changes-more, changes-both}
+use Rattle.block_sweeps.proofs.ChangedWords.{changes-more, changes-both}
 use Rattle.block_sweeps.proofs.RunSpans as spans
 
 -- the object lives

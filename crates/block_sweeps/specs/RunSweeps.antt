@@ -1,12 +1,14 @@
 -- Parts of the sweep of a large run.
 use Rattle.std.specs.Prelude.{◌≡◌, ℕ, ◌+◌, ◌*◌, ◌<◌, ◌≤◌, ◌⊎◌}
+use Rattle.heap_layout.specs.declared.layout.TheConstants.{BLOCK_BIT_WORDS}
 use Rattle.heap_layout.specs.Zones.{first, StartBits, PinBits, UnlogBits}
 use Rattle.object_model.specs.Objects.{HeapState, word_at}
 use Rattle.block_sweeps.specs.Sweeping.{IsFreed, IsBlockOrLineWord, ChangesOnly}
 
 -- word i has the start, the pin or the unlog bit of word 0 of block k
 abbrev pub IsHeadWord : ℕ → ℕ → ℕ → Type 0
-IsHeadWord b k i = (i ≡ first b StartBits + 64 * k) ⊎ (i ≡ first b PinBits + 64 * k) ⊎ (i ≡ first b UnlogBits + 64 * k)
+IsHeadWord b k i = (i ≡ first b StartBits + BLOCK_BIT_WORDS * k)
+    ⊎ (i ≡ first b PinBits + BLOCK_BIT_WORDS * k) ⊎ (i ≡ first b UnlogBits + BLOCK_BIT_WORDS * k)
 
 -- those words of block k became 0, and nothing else changed
 pub record ClearsHead (s s' : HeapState) (k : ℕ) : Type 0 where

@@ -1,5 +1,5 @@
 -- Sweeps: what stays of a block once the objects in it that do not live are no longer held.
-use Rattle.heap_layout.specs.declared.layout.TheConstants.{BLOCK_LINES, BLOCK_WORDS}
+use Rattle.heap_layout.specs.declared.layout.TheConstants.{BLOCK_LINES, BLOCK_WORDS, BLOCK_BIT_WORDS, BLOCK_LINE_BIT_WORDS}
 use Rattle.std.specs.Prelude.{◌≡◌, ℕ, ◌+◌, ◌*◌, ◌<◌, ◌≤◌, ◌^◌, ◌⊎◌, ◌↔◌, ◌&&◌, IsTrue, false, length, count_by}
 use Rattle.std.specs.List.{range_with_len}
 use Rattle.heap_layout.specs.Zones.{block_at, block_start, first, IsAddress, BlockWords, LineWords, StartBits, PinBits, UnlogBits}
@@ -17,7 +17,8 @@ pub record InBlock (s : HeapState) (k a : ℕ) : Type 0 where
 
 -- two objects that begin in block k share no word
 abbrev pub AreApart : HeapState → ℕ → Type 0
-AreApart s k = (a x i : ℕ) → IsHeld s a → IsHeld s x → block_at s.blocks a ≡ k → block_at s.blocks x ≡ k
+AreApart s k = (a x i : ℕ) → IsHeld s a → IsHeld s x → block_at s.blocks a ≡ k
+    → block_at s.blocks x ≡ k
     → IsInExtent s a i → IsInExtent s x i → a ≡ x
 
 -- block j is block k, or a later block of the large run that begins in block k
@@ -29,15 +30,17 @@ pub record IsAmong (from count i : ℕ) : Type 0 where
   pub after : from ≤ i
   pub below : i < from + count
 
--- word i has the line bits of block k; the unlog bits of its addresses; their start, pin or unlog bits
+-- word i has the line bits of block k; the unlog bits of its addresses; their start, pin or unlog
+-- bits
 abbrev pub IsLineWord : ℕ → ℕ → ℕ → Type 0
-IsLineWord b k i = IsAmong (first b LineWords + 4 * k) 4 i
+IsLineWord b k i = IsAmong (first b LineWords + BLOCK_LINE_BIT_WORDS * k) BLOCK_LINE_BIT_WORDS i
 
 abbrev pub IsUnlogWord : ℕ → ℕ → ℕ → Type 0
-IsUnlogWord b k i = IsAmong (first b UnlogBits + 64 * k) 64 i
+IsUnlogWord b k i = IsAmong (first b UnlogBits + BLOCK_BIT_WORDS * k) BLOCK_BIT_WORDS i
 
 abbrev pub IsObjectBitWord : ℕ → ℕ → ℕ → Type 0
-IsObjectBitWord b k i = IsAmong (first b StartBits + 64 * k) 64 i ⊎ IsAmong (first b PinBits + 64 * k) 64 i ⊎ IsUnlogWord b k i
+IsObjectBitWord b k i = IsAmong (first b StartBits + BLOCK_BIT_WORDS * k) BLOCK_BIT_WORDS i
+    ⊎ IsAmong (first b PinBits + BLOCK_BIT_WORDS * k) BLOCK_BIT_WORDS i ⊎ IsUnlogWord b k i
 
 -- word i is the block word of block k, or has its line bits
 abbrev pub IsBlockOrLineWord : ℕ → ℕ → ℕ → Type 0
@@ -47,7 +50,8 @@ IsBlockOrLineWord b k i = (i ≡ first b BlockWords + k) ⊎ IsLineWord b k i
 abbrev pub IsMetadata : ℕ → ℕ → ℕ → Type 0
 IsMetadata b k i = IsBlockOrLineWord b k i ⊎ IsObjectBitWord b k i
 
--- Of a row only words that `Changing` allows were changed, and each word has 64 bits if it had before.
+-- Of a row only words that `Changing` allows were changed, and each word has 64 bits if it had
+-- before.
 pub record ChangesOnly (Changing : ℕ → Type 0) (s s' : HeapState) : Type 0 where
   pub blocks : s'.blocks ≡ s.blocks
   pub extent : length s'.words ≡ length s.words
@@ -63,7 +67,8 @@ pub record IsFreed (s : HeapState) (k : ℕ) : Type 0 where
 abbrev pub HasNoLiving : ℕ → HeapState → (ℕ → Type 0) → Type 0
 HasNoLiving base s In = (a : ℕ) → In a → Lives base s a → ⊥
 
--- Of the objects at these addresses exactly those that live are held after, and only they keep their pin and unlog bits.
+-- Of the objects at these addresses exactly those that live are held after, and only they keep
+-- their pin and unlog bits.
 pub record KeepsLiving (base : ℕ) (In : ℕ → Type 0) (s s' : HeapState) : Type 0 where
   pub held : (a : ℕ) → In a → IsHeld s' a ↔ Lives base s a
   pub pins : (a : ℕ) → In a → is_pinned s' a ≡ (is_pinned s a && is_start s' a)
@@ -71,18 +76,21 @@ pub record KeepsLiving (base : ℕ) (In : ℕ → Type 0) (s s' : HeapState) : T
 
 -- the number of objects that begin in block k
 abbrev pub object_count : HeapState → ℕ → ℕ
-object_count s k = count_by (λ w. is_start s (block_start s.blocks k + w)) (range_with_len 0 BLOCK_WORDS)
+object_count s k =
+    count_by (λ w. is_start s (block_start s.blocks k + w)) (range_with_len 0 BLOCK_WORDS)
 
--- Block k was swept. If nothing lives in it, it is Free; else its block word is `after`, and its line bits are as before.
+-- Block k was swept. If nothing lives in it, it is Free; else its block word is `after`, and its
+-- line bits are as before.
 pub record Sweeps (base after : ℕ) (s s' : HeapState) (k : ℕ) : Type 0 where
   pub objects : KeepsLiving base (InBlock s k) s s'
   pub empty : HasNoLiving base s (InBlock s k) → IsFreed s' k
   pub word : (a : ℕ) → InBlock s k a → Lives base s a → block_word s' k ≡ after
-  pub lines : (a line : ℕ) → InBlock s k a → Lives base s a → line < BLOCK_LINES → line_marked s' k line ≡ line_marked s k line
+  pub lines : (a line : ℕ) → InBlock s k a → Lives base s a → line < BLOCK_LINES
+      → line_marked s' k line ≡ line_marked s k line
   pub rest : ChangesOnly (IsMetadata s.blocks k) s s'
 
--- The large run that begins in block k was swept. If its object does not live, each of its blocks is Free; else nothing
--- changes.
+-- The large run that begins in block k was swept. If its object does not live, each of its blocks
+-- is Free; else nothing changes.
 pub record SweepsRun (base : ℕ) (s s' : HeapState) (k : ℕ) : Type 0 where
   pub objects : KeepsLiving base (InSpan s k) s s'
   pub empty : HasNoLiving base s (InSpan s k) → (j : ℕ) → IsOfSpan s k j → IsFreed s' j
@@ -94,9 +102,11 @@ pub record IsTouchedHere (s : HeapState) (k line : ℕ) : Type 0 where
   pub touched : IsTouched s k line
   pub here : block_at s.blocks touched.object ≡ k
 
--- The line bits of block k became exactly those of the lines that objects in it touch, and nothing else changed.
+-- The line bits of block k became exactly those of the lines that objects in it touch, and nothing
+-- else changed.
 pub record MarksTouched (s s' : HeapState) (k : ℕ) : Type 0 where
-  pub lines : (line : ℕ) → line < BLOCK_LINES → IsTrue (line_marked s' k line) ↔ ∥ IsTouchedHere s k line ∥₁
+  pub lines : (line : ℕ) → line < BLOCK_LINES → IsTrue (line_marked s' k line)
+      ↔ ∥ IsTouchedHere s k line ∥₁
   pub rest : ChangesOnly (IsLineWord s.blocks k) s s'
 
 -- The unlog bits of the addresses of block k became its start bits, and nothing else changed.

@@ -23,7 +23,8 @@ abbrev pub TouchesAt : HeapState → ℕ → ℕ → ℕ → Type 0
 TouchesAt s k offset line = TouchesLine s.blocks (block_start s.blocks k + offset)
     (size_at s (block_start s.blocks k + offset)) (BLOCK_LINES * k + line)
 
--- an object that begins at an offset of block k from `from` on, before `to`, touches this line of the block
+-- an object that begins at an offset of block k from `from` on, before `to`, touches this line of
+-- the block
 pub record IsTouchedFrom (s : HeapState) (k from to line : ℕ) : Type 0 where
   pub offset : ℕ
   pub after : from ≤ offset
@@ -40,21 +41,26 @@ pub record BeginsIn (s : HeapState) (k line : ℕ) : Type 0 where
 
 -- these are the start bits of the 64 addresses of block k from offset 64 * index on
 pub record AreStarts (s : HeapState) (k index bits : ℕ) : Type 0 where
-  pub set : (i : ℕ) → i < 64 → bit_at bits i ≡ 1 → IsTrue (is_start s (block_start s.blocks k + (64 * index + i)))
-  pub all : (i : ℕ) → i < 64 → IsTrue (is_start s (block_start s.blocks k + (64 * index + i))) → bit_at bits i ≡ 1
+  pub set : (i : ℕ) → i < 64 → bit_at bits i ≡ 1
+      → IsTrue (is_start s (block_start s.blocks k + (64 * index + i)))
+  pub all : (i : ℕ) → i < 64 → IsTrue (is_start s (block_start s.blocks k + (64 * index + i)))
+      → bit_at bits i ≡ 1
 
 -- these are the bits of line 0, 1, 2 or 3 of a word, in their places
 pub record AreBitsOf (line word bits : ℕ) : Type 0 where
-  pub set : (i : ℕ) → bit_at bits i ≡ 1 → IsFromTo (16 * line) (16 * line + 15) i × (bit_at word i ≡ 1)
-  pub all : (i : ℕ) → IsFromTo (16 * line) (16 * line + 15) i → bit_at word i ≡ 1 → bit_at bits i ≡ 1
+  pub set : (i : ℕ) → bit_at bits i ≡ 1 → IsFromTo (16 * line) (16 * line + 15) i
+      × (bit_at word i ≡ 1)
+  pub all : (i : ℕ) → IsFromTo (16 * line) (16 * line + 15) i → bit_at word i ≡ 1
+      → bit_at bits i ≡ 1
 
--- the lines were added that objects touch which begin at an offset from `from` on, before `to`, and maybe some that other
--- objects of the block touch
+-- the lines were added that objects touch which begin at an offset from `from` on, before `to`, and
+-- maybe some that other objects of the block touch
 pub record MarksFrom (s : HeapState) (k from to : ℕ) (old new : List ℕ) : Type 0 where
   pub extent : length new ≡ length old
   pub kept : (n : ℕ) → IsTrue (has_line old n) → IsTrue (has_line new n)
   pub added : (n : ℕ) → IsTouchedFrom s k from to n → IsTrue (has_line new n)
-  pub only : (n : ℕ) → IsTrue (has_line new n) → IsTrue (has_line old n) ⊎ IsTouchedFrom s k 0 BLOCK_WORDS n
+  pub only : (n : ℕ) → IsTrue (has_line new n)
+      → IsTrue (has_line old n) ⊎ IsTouchedFrom s k 0 BLOCK_WORDS n
 
 -- an object begins in this line of block k, which is one from `from` on, before `to`
 pub record BeginsFrom (s : HeapState) (k from to line : ℕ) : Type 0 where
@@ -69,13 +75,15 @@ pub record AreBegun (s : HeapState) (k word bits : ℕ) : Type 0 where
 
 -- the lines that objects touch which begin in this line of block k are among these
 abbrev pub HasLinesOf : HeapState → ℕ → ℕ → List ℕ → Type 0
-HasLinesOf s k line lines = (n : ℕ) → IsTouchedFrom s k (16 * line) (16 * line + 16) n → IsTrue (has_line lines n)
+HasLinesOf s k line lines = (n : ℕ) → IsTouchedFrom s k (16 * line) (16 * line + 16) n
+    → IsTrue (has_line lines n)
 
--- Of the objects that begin in a line from `from` on, before `to`, the lines were added, unless others begin in the next
--- line; and maybe some lines that other objects of the block touch.
+-- Of the objects that begin in a line from `from` on, before `to`, the lines were added, unless
+-- others begin in the next line; and maybe some lines that other objects of the block touch.
 pub record AddsEnds (s : HeapState) (k from to : ℕ) (old new : List ℕ) : Type 0 where
   pub extent : length new ≡ length old
   pub kept : (n : ℕ) → IsTrue (has_line old n) → IsTrue (has_line new n)
   pub ends : (line : ℕ) → from ≤ line → line < to → BeginsIn s k line
       → BeginsFrom s k 0 BLOCK_LINES (line + 1) ⊎ HasLinesOf s k line new
-  pub only : (n : ℕ) → IsTrue (has_line new n) → IsTrue (has_line old n) ⊎ IsTouchedFrom s k 0 BLOCK_WORDS n
+  pub only : (n : ℕ) → IsTrue (has_line new n)
+      → IsTrue (has_line old n) ⊎ IsTouchedFrom s k 0 BLOCK_WORDS n

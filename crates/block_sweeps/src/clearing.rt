@@ -6,7 +6,7 @@ ghost use Rattle.object_model.specs.Objects.{shown};
 ghost use Rattle.block_sweeps.specs.Stores.{Stores};
 ghost use Rattle.block_sweeps.specs.Sweeping.{Frees, Unlogs};
 
-use heap_layout::{Kind, Layout};
+use heap_layout::{BLOCK_BIT_WORDS, Kind, Layout};
 use side_meta::Words;
 
 /// Sets a word of the row if it differs.
@@ -41,7 +41,7 @@ pub fn unlog_block<W: Words>(words: &mut W, layout: &Layout, block: u32)
     ensures { Unlogs (shown (W.words words.old) layout.now)
         (shown (W.words words.new) layout.now) block }
 {
-    for index in 64 * block..64 * block + 64 {
+    for index in BLOCK_BIT_WORDS * block..BLOCK_BIT_WORDS * block + BLOCK_BIT_WORDS {
         let starts = words.get(layout.start_base() + index);
         store(words, layout.unlog_base() + index, starts);
     }

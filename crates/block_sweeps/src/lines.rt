@@ -13,7 +13,9 @@ ghost use Rattle.block_sweeps.specs.Sweeping.{AreApart, MarksTouched, IsTouchedH
 
 use crate::clearing::store;
 use crate::objects::object_size;
-use heap_layout::{BLOCK_LINES, BLOCK_WORDS, LINE_WORDS, Layout};
+use heap_layout::{
+    BLOCK_BIT_WORDS, BLOCK_LINE_BIT_WORDS, BLOCK_LINES, BLOCK_WORDS, LINE_WORDS, Layout,
+};
 use line_bits::run_mask;
 use side_meta::Words;
 
@@ -37,9 +39,10 @@ fn store_lines<W: Words>(words: &mut W, layout: &Layout, block: u32, lines: &[u6
     requires block { block < layout.now.blocks }
     requires len { length lines.now ≡ 4 }
     ensures { Fills (W.words words.old) (W.words words.new)
-        (first layout.now.blocks LineWords + 4 * block)
-        (first layout.now.blocks LineWords + 4 * block + 4)
-        (λ i. slice_index lines.now (i - (first layout.now.blocks LineWords + 4 * block))) }
+        (first layout.now.blocks LineWords + BLOCK_LINE_BIT_WORDS * block)
+        (first layout.now.blocks LineWords + BLOCK_LINE_BIT_WORDS * block + BLOCK_LINE_BIT_WORDS)
+        (λ i. slice_index lines.now
+        (i - (first layout.now.blocks LineWords + BLOCK_LINE_BIT_WORDS * block))) }
 {
     let at = layout.line_at(block);
     for index in 0..4 {
@@ -167,7 +170,7 @@ fn start_word<W: Words>(words: &W, layout: &Layout, block: u32, index: u32) -> u
     requires index { index < 64 }
     ensures { AreStarts (shown (W.words words.now) layout.now) block index result }
 {
-    words.get(layout.start_base() + 64 * block + index)
+    words.get(layout.start_base() + BLOCK_BIT_WORDS * block + index)
 }
 
 /// The bits of one of the four lines of a word, where they are.

@@ -1,6 +1,6 @@
 //! The sweep of a large run.
 
-ghost use Rattle.std.specs.Prelude.{◌≡◌, ◌↔◌, ◌+◌, ◌<◌, ◌≤◌, ◌^◌, IsTrue, length};
+ghost use Rattle.std.specs.Prelude.{◌≡◌, ◌↔◌, ◌+◌, ◌<◌, ◌≤◌, ◌^◌, IsTrue};
 ghost use Rattle.heap_layout.specs.Zones.{block_start, IsRowOf};
 ghost use Rattle.heap_layout.specs.declared.block.Kind.TheVariants as kinds;
 ghost use Rattle.object_model.specs.Objects.{HasKind, shown};
@@ -11,7 +11,7 @@ ghost use Rattle.block_sweeps.specs.Sweeping.{SweepsRun};
 
 use crate::clearing::{free_block, store};
 use crate::objects::lives;
-use heap_layout::{CLASS_UNIT, Layout};
+use heap_layout::{BLOCK_BIT_WORDS, CLASS_UNIT, Layout};
 use side_meta::Words;
 
 /// Frees a large run, with its metadata cleared, if its object does not live. Answers whether it
@@ -42,9 +42,9 @@ fn clear_head<W: Words>(words: &mut W, layout: &Layout, block: u32)
     ensures { ClearsHead (shown (W.words words.old) layout.now)
         (shown (W.words words.new) layout.now) block }
 {
-    store(words, layout.start_base() + 64 * block, 0);
-    store(words, layout.pin_base() + 64 * block, 0);
-    store(words, layout.unlog_base() + 64 * block, 0);
+    store(words, layout.start_base() + BLOCK_BIT_WORDS * block, 0);
+    store(words, layout.pin_base() + BLOCK_BIT_WORDS * block, 0);
+    store(words, layout.unlog_base() + BLOCK_BIT_WORDS * block, 0);
 }
 
 /// Makes the blocks from `from` on, before `to`, Free, and clears their line bits.

@@ -12,7 +12,7 @@ ghost use Rattle.block_sweeps.specs.WordSweeps.{survives, start_word, MaySweep, 
 
 use crate::clearing::{free_block, store};
 use crate::objects::lives;
-use heap_layout::{BlockWord, Layout, encode};
+use heap_layout::{BLOCK_BIT_WORDS, BlockWord, Layout, encode};
 use side_meta::Words;
 
 /// Sweeps a block: objects in it that do not live are held no more. A block in which nothing lives
@@ -62,7 +62,7 @@ fn sweep_objects<W: Words>(words: &mut W, layout: &Layout, block: u32, base: u64
         ≡ object_count (shown (W.words words.new) layout.now) block }
 {
     let mut count = 0;
-    for index in 64 * block..64 * block + 64 {
+    for index in BLOCK_BIT_WORDS * block..BLOCK_BIT_WORDS * block + BLOCK_BIT_WORDS {
         count += sweep_word(words, layout, index, base);
     }
     count

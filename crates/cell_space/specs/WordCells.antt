@@ -20,8 +20,8 @@ pub record IsFirstClear (starts size bit n : ℕ) : Type 0 where
 abbrev pub HasNoneClear : ℕ → ℕ → ℕ → Type 0
 HasNoneClear starts size bit = (n : ℕ) → IsClearStart starts size bit n → ⊥
 
--- No object begins at offset x of block k, whose start bit is in one word with that of offset `at`. A cell of `size` words
--- begins at x, if one begins at `at`.
+-- No object begins at offset x of block k, whose start bit is in one word with that of offset `at`.
+-- A cell of `size` words begins at x, if one begins at `at`.
 pub record IsBeside (s : HeapState) (k size at x : ℕ) : Type 0 where
   pub index : ℕ
   pub start : x ≡ at + index * size

@@ -5,15 +5,16 @@ ghost use Rattle.std.specs.Int.{bit_at};
 ghost use Rattle.object_model.specs.Objects.{cell_words};
 ghost use Rattle.sessions.specs.Fitting.{class_of as class_of_size};
 
+use heap_layout::CLASSES;
 use object_model::MAX_MEDIUM_WORDS;
 
 /// The size in words of a cell of each class.
-const CELL_WORDS: [u32; 19] = [
+const CELL_WORDS: [u32; CLASSES] = [
     4, 6, 8, 12, 16, 24, 32, 48, 64, 96, 128, 192, 256, 384, 512, 768, 1024, 1536, 2048,
 ];
 
 /// The bits of a word where cells of each class begin, if one begins at bit 0.
-const CELL_STARTS: [u64; 19] = [
+const CELL_STARTS: [u64; CLASSES] = [
     0x1111_1111_1111_1111,
     0x1041_0410_4104_1041,
     0x0101_0101_0101_0101,

@@ -1,6 +1,6 @@
 //! The search for a free cell, a word of start bits at a time.
 
-ghost use Rattle.std.specs.Prelude.{◌≡◌, ◌+◌, ◌*◌, ◌<◌, ◌≤◌, ◌^◌, length, IfSome, MatchOption};
+ghost use Rattle.std.specs.Prelude.{◌≡◌, ◌+◌, ◌*◌, ◌<◌, ◌≤◌, ◌^◌, IfSome, MatchOption};
 ghost use Rattle.object_model.specs.Lawful.{AllLie, MeetsNoObject};
 ghost use Rattle.heap_layout.specs.Zones.{block_start, IsRowOf};
 ghost use Rattle.heap_layout.specs.declared.block.Kind.TheVariants as kinds;
@@ -9,7 +9,7 @@ ghost use Rattle.cell_space.specs.FreeCells.{IsNextCell, HasNoCell};
 ghost use Rattle.cell_space.specs.WordCells.{IsFirstBeside, HasNoneBeside, IsFirstClear, HasNoneClear};
 
 use crate::classes::{cell_size, cell_starts};
-use heap_layout::{BLOCK_WORDS, Layout};
+use heap_layout::{BLOCK_BIT_WORDS, BLOCK_WORDS, Layout};
 use side_meta::Words;
 
 /// The offset of the first free cell of a Cells block that begins at or after the offset `from`.
@@ -74,7 +74,7 @@ fn free_beside<W: Words>(words: &W, layout: &Layout, block: u32, class: u32, at:
         block (cell_words class) at x) }
     ensures inside { IfSome result (λ x. x < BLOCK_WORDS) }
 {
-    let starts = words.get(layout.start_base() + 64 * block + at / 64);
+    let starts = words.get(layout.start_base() + BLOCK_BIT_WORDS * block + at / 64);
     let bit = clear_cell(starts, class, at % 64)?;
     Some(64 * (at / 64) + bit)
 }

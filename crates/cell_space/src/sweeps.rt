@@ -1,6 +1,6 @@
 //! The sweep of a block of cells.
 
-ghost use Rattle.std.specs.Prelude.{◌≡◌, ◌<◌, length};
+ghost use Rattle.std.specs.Prelude.{◌≡◌, ◌<◌};
 ghost use Rattle.heap_layout.specs.Zones.{IsRowOf};
 ghost use Rattle.object_model.specs.Objects.{block_word, shown};
 ghost use Rattle.object_model.specs.Releasing.{IsReleasable};

@@ -7,7 +7,7 @@ use Rattle.heap_layout.specs.Zones.{LineWords, row_words, bit_of}
 use Rattle.object_model.specs.Lines.{TouchesLine}
 use Rattle.object_model.proofs.Marks as marks
 use Rattle.object_model.specs.Heaps.{heap_state}
-use Rattle.object_model.specs.Objects.{HeapState, state_of, size_at, is_unlogged}
+use Rattle.object_model.specs.Objects.{HeapState, state_of, size_at, is_unlogged, block_count, has_kind}
 use Rattle.object_model.specs.Ages as ages
 use Rattle.object_model.specs.declared.shape.TheConstants.{MAX_MEDIUM_WORDS}
 use Rattle.sessions.specs.Plans.{Rules, Plan, rules_of}
@@ -27,16 +27,14 @@ use Rattle.trace_core.proofs.Finished.{image-some}
 use Rattle.collector.specs.Collected.{FillsBlocks, IsRunUnder, FillsInTurn}
 use Rattle.collector.specs.Serving.{IsTargetOf}
 use Rattle.collector.specs.Working.{IsFullTracer}
-use Rattle.collector.specs.Tallies.{total}
+use Rattle.collector.specs.Tallies.{total, IsNote}
 use Rattle.collector.specs.declared.packet_tracer.PacketTracer.{PacketTracer}
 use Rattle.collector.specs.declared.worker.TracingStart.{TracingStart}
 use Rattle.trace_core.proofs.Rows.{row}
 use Rattle.object_model.specs.declared.heap.Heap.{Heap}
-use Rattle.object_model.specs.Objects.{block_count, has_kind}
 use Rattle.heap_layout.specs.declared.block.Kind.TheVariants as kinds
 use Rattle.sessions.specs.Collecting.{Collects}
 use Rattle.collector.specs.Released.{ReleasesBelow, with_numbers, MoveAll, LinesOfTargetsAreMarked}
-use Rattle.collector.specs.Tallies.{IsNote}
 use Rattle.collector.specs.declared.outcome.Note.{Note}
 use Rattle.collector.proofs.WholeCollections.{CollectsBy, makes, numbered, turns}
 use Rattle.collector.proofs.TallySums.{total-same, total-both, total-part}

@@ -16,7 +16,7 @@ use Rattle.plain_tracer.specs.Tracers.{Tracks}
 use Rattle.trace_core.specs.Runs.{setup_of}
 use Rattle.trace_core.specs.declared.run.TraceRun.{TraceRun}
 use Rattle.plain_tracer.specs.declared.tokens.GlobalRoot.{GlobalRoot}
-use Rattle.trace_core.proofs.Counting.{count-cons, count-append, times-cons}
+use Rattle.trace_core.proofs.CountedRights.{count-cons, count-append, times-cons}
 use Rattle.trace_core.proofs.Begun.{held-begun}
 use Rattle.collector.specs.declared.item.Item.{Item}
 use Rattle.collector.specs.declared.item.Item.TheVariants.{Register, Global}

@@ -16,7 +16,7 @@ use Rattle.plain_tracer.specs.Tracers.{Tracks}
 use Rattle.plain_tracer.specs.declared.plain_trace.PlainTrace.{PlainTrace}
 use Rattle.plain_tracer.specs.declared.tokens.Grey.{Grey}
 use Rattle.plain_tracer.specs.declared.tokens.Reached.{Reached}
-use Rattle.trace_core.proofs.Counting.{count-append}
+use Rattle.trace_core.proofs.CountedRights.{count-append}
 use Rattle.work_packets.specs.declared.packet.Packet.{Packet}
 use Rattle.collector.specs.declared.item.Item.{Item}
 use Rattle.collector.specs.declared.item.Item.TheVariants.{Register, Global, Object}

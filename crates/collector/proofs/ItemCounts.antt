@@ -11,7 +11,7 @@ use Rattle.trace_core.specs.Setups.{Setup}
 use Rattle.trace_core.specs.Views.{View, one_if, hits, times}
 use Rattle.plain_tracer.specs.TokenRights.{IsGrey, copied_in, to_scan_in}
 use Rattle.plain_tracer.specs.declared.tokens.Grey.{Grey}
-use Rattle.trace_core.proofs.Counting.{count-cons, count-append, hits-cons, times-cons}
+use Rattle.trace_core.proofs.CountedRights.{count-cons, count-append, hits-cons, times-cons}
 use Rattle.collector.specs.declared.item.Item.{Item}
 use Rattle.collector.specs.declared.item.Item.TheVariants.{Register, Global, Object}
 use Rattle.collector.specs.Items.{is_register, is_global, is_object, registers, globals, objects, items_of, tokens_of, IsObject}

@@ -15,7 +15,7 @@ use Rattle.plain_tracer.specs.Tracers.{SetsGlobal, ScansFields}
 use Rattle.plain_tracer.specs.declared.plain_trace.PlainTrace.{PlainTrace}
 use Rattle.plain_tracer.specs.declared.tokens.Grey.{Grey}
 use Rattle.plain_tracer.specs.declared.tokens.GlobalRoot.{GlobalRoot}
-use Rattle.trace_core.proofs.Counting.{count-cons, times-cons, times-without}
+use Rattle.trace_core.proofs.CountedRights.{count-cons, times-cons, times-without}
 use Rattle.collector.specs.declared.item.Item.TheVariants.{Global, Object}
 use Rattle.collector.specs.Items.{is_global, is_object, globals, objects}
 use Rattle.collector.specs.Serving.{HasRights, HasItsLines, ServesItems}

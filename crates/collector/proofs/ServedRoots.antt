@@ -14,7 +14,7 @@ use Rattle.trace_core.specs.CallEvents.{block_taken, taken_in, copying}
 use Rattle.plain_tracer.specs.declared.plain_trace.PlainTrace.{PlainTrace}
 use Rattle.plain_tracer.specs.declared.tokens.Won.{Won}
 use Rattle.plain_tracer.specs.declared.tokens.Grey.{Grey}
-use Rattle.trace_core.proofs.Counting.{count-cons, times-cons, hits-cons, hits-here, hits-more}
+use Rattle.trace_core.proofs.CountedRights.{count-cons, times-cons, hits-cons, hits-here, hits-more}
 use Rattle.collector.specs.declared.item.Item.TheVariants.{Register}
 use Rattle.collector.specs.Items.{is_register, registers, objects}
 use Rattle.collector.specs.Serving.{HasRights, ServesItems, IsTargetOf}

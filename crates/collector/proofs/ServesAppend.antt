@@ -13,7 +13,7 @@ use Rattle.plain_tracer.specs.Tracers.{Tracks}
 use Rattle.trace_core.specs.declared.run.TraceRun.{TraceRun}
 use Rattle.plain_tracer.specs.declared.plain_trace.PlainTrace.{PlainTrace}
 use Rattle.plain_tracer.specs.declared.tokens.Grey.{Grey}
-use Rattle.trace_core.proofs.Counting.{count-append, hits-here, hits-more}
+use Rattle.trace_core.proofs.CountedRights.{count-append, hits-here, hits-more}
 use Rattle.collector.specs.declared.item.Item.{Item}
 use Rattle.collector.specs.Items.{registers, globals, objects, tokens_of}
 use Rattle.collector.specs.Serving.{HasRights, IsTargetOf, HasItsLines, ServesItems}

@@ -21,7 +21,7 @@ use Rattle.trace_core.specs.Outcomes.{base_after_trace, image}
 use Rattle.trace_core.specs.Views.{one_if, times, without}
 use Rattle.trace_core.specs.Runs.{is_nursery}
 use Rattle.trace_core.specs.Rooms.{IsFilled}
-use Rattle.trace_core.proofs.Counting.{count-cons, times-without}
+use Rattle.trace_core.proofs.CountedRights.{count-cons, times-without}
 use Rattle.trace_core.proofs.Finished.{option-cases, preserved}
 use Rattle.trace_core.proofs.Rows.{row, owner-lives}
 use Rattle.collector.proofs.Given.{IsSetupUnder, old-given, moves-given}

@@ -10,7 +10,7 @@ use Rattle.heap_layout.specs.Zones.{row_words}
 use Rattle.trace_core.specs.Views.{one_if, times}
 use Rattle.plain_tracer.specs.TokenRights.{copied_in}
 use Rattle.plain_tracer.specs.declared.tokens.Grey.{Grey}
-use Rattle.trace_core.proofs.Counting.{times-cons}
+use Rattle.trace_core.proofs.CountedRights.{times-cons}
 use Rattle.collector.specs.Tallies.{total, capped}
 
 -- sums over the addresses from a on

@@ -16,24 +16,35 @@ use Rattle.collector.specs.Items.{registers, globals, objects}
 use Rattle.collector.specs.Serving.{HasRights, IsTargetOf, HasItsLines}
 use Rattle.collector.specs.Tallies.{IsTally}
 
--- A trace of this heap from these roots has made some events, and is finished once these items, and no others, are
--- served: all else that is copied is scanned, and its lines are marked if the run marks lines, the other globals are
--- set, and the other roots are replaced by their targets. What is copied is counted.
+-- A trace of this heap from these roots is finished once these items, and no others, are served.
 pub record IsAwaited (s : HeapState) (run : TraceRun) (roots : List ℕ) (w : PacketTracer)
     (items : List Item) : Type 0 where
+  -- the worker's tracer, in this run, has made some events, and has all rights of a view
   pub events : List Event
   pub view : View
   pub tracks : Tracks (setup_of s run 1) events w.tracer view
   pub runs : w.tracer.run ≡ run
+  -- among them is the right to serve each item
   pub rights : HasRights (setup_of s run 1) view w.roots.items items
+  -- no copy is under way, and no block is left sparse
   pub none : w.won.items ≡ []
   pub sparse : view.sparse ≡ []
-  pub scanned : (x : ℕ) → 0 < times x view.copied → (0 < objects x items) ⊎ (0 < hits x (refs (setup_of s run 1) x) view.grey)
-  pub lines : IsTrue run.lines → (x : ℕ) → 0 < times x view.copied → (0 < objects x items) ⊎ HasItsLines (setup_of s run 1) events x
+  -- an object that is copied is an item, or is scanned up to its last field
+  pub scanned : (x : ℕ) → 0 < times x view.copied
+      → (0 < objects x items) ⊎ (0 < hits x (refs (setup_of s run 1) x) view.grey)
+  -- and if the run marks lines, it is an item, or its lines are marked
+  pub lines : IsTrue run.lines → (x : ℕ) → 0 < times x view.copied
+      → (0 < objects x items) ⊎ HasItsLines (setup_of s run 1) events x
+  -- a global is an item, or is set
   pub settled : (g : ℕ) → g < GLOBALS → (0 < globals g items) ⊎ (0 < times g view.set)
+  -- a root is an item and as it was, or is replaced by its target
   pub as_many : length w.roots.items ≡ length roots
   pub waiting : (i : ℕ) → 0 < registers i items → slice_index w.roots.items i ≡ slice_index roots i
-  pub served : (i : ℕ) → i < length roots → registers i items ≡ 0 → IsTargetOf view (slice_index roots i) (slice_index w.roots.items i)
-  pub asked : (i : ℕ) → registers i items ≡ 0 → 0 < slice_index roots i → 0 < times (slice_index roots i) view.asked
+  pub served : (i : ℕ) → i < length roots → registers i items ≡ 0
+      → IsTargetOf view (slice_index roots i) (slice_index w.roots.items i)
+  -- each root that was served has asked for its object, and nothing else has asked
+  pub asked : (i : ℕ) → registers i items ≡ 0 → 0 < slice_index roots i
+      → 0 < times (slice_index roots i) view.asked
   pub by_roots : (x : ℕ) → 0 < times x view.asked → (i : ℕ) × (slice_index roots i ≡ x)
+  -- what is copied is counted
   pub tally : IsTally s (image (stage_of (setup_of s run 1) events)) view.copied w.tally

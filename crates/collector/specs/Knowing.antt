@@ -19,4 +19,5 @@ abbrev pub ShowsWhatLives : Known → ℕ → HeapState → ℕ → Type 0
 ShowsWhatLives known.Nothing base s k = Unit {0}
 ShowsWhatLives known.AllMoved base s k = OwnerShowsWhatLives base s k
 ShowsWhatLives known.Full base s k = UnlogBitsMarkSurvivors base s k
-ShowsWhatLives known.FullWithLines base s k = UnlogBitsMarkSurvivors base s k × LineBitsMarkSurvivors base s k
+ShowsWhatLives known.FullWithLines base s k = UnlogBitsMarkSurvivors base s k
+    × LineBitsMarkSurvivors base s k

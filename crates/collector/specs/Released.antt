@@ -17,38 +17,48 @@ use Rattle.trace_core.specs.Traces.{heap_after, target_of}
 use Rattle.plan_api.specs.Releasing.{Releases, IsReleased}
 
 -- The blocks below n were released, in order: the row was s and is now the last state.
-pub data ReleasesBelow (r : Rules) (c : Collect) (base : ℕ) (s : HeapState) : HeapState → ℕ → Type 0 where
+pub data ReleasesBelow (r : Rules) (c : Collect) (base : ℕ) (s : HeapState) : HeapState → ℕ
+    → Type 0 where
   none : ReleasesBelow r c base s s 0
-  one_more : {mid new : HeapState} {n : ℕ} → ReleasesBelow r c base s mid n → n < s.blocks → Releases r c base mid new n
-      → ReleasesBelow r c base s new (n + 1)
+  one_more : {mid new : HeapState} {n : ℕ} → ReleasesBelow r c base s mid n → n < s.blocks
+      → Releases r c base mid new n → ReleasesBelow r c base s new (n + 1)
 
--- The blocks of s below n are released in s', and no word but metadata of blocks changed. A tail of a large run is
--- released with the run's first block.
-pub record AreReleased (r : Rules) (c : Collect) (base : ℕ) (s s' : HeapState) (n : ℕ) : Type 0 where
+-- The blocks of s below n are released in s', and no word but metadata of blocks changed. A tail of
+-- a large run is released with the run's first block.
+pub record AreReleased (r : Rules) (c : Collect) (base : ℕ) (s s' : HeapState) (n : ℕ)
+    : Type 0 where
   pub blocks : s'.blocks ≡ s.blocks
   pub extent : length s'.words ≡ length s.words
-  pub each : (k : ℕ) → k < n → k < s.blocks → (HasKind s k kinds.LargeTail → ⊥) → IsReleased r c base s s' k
-  pub others : (i : ℕ) → ((k : ℕ) → k < s.blocks → IsMetadata s.blocks k i → ⊥) → word_at s' i ≡ word_at s i
+  pub each : (k : ℕ) → k < n → k < s.blocks → (HasKind s k kinds.LargeTail → ⊥)
+      → IsReleased r c base s s' k
+  pub others : (i : ℕ) → ((k : ℕ) → k < s.blocks → IsMetadata s.blocks k i → ⊥)
+      → word_at s' i ≡ word_at s i
   pub fit : ((i : ℕ) → word_at s i < 2 ^ 64) → (i : ℕ) → word_at s' i < 2 ^ 64
 
 -- the heap with this row after a collection with these numbers
 abbrev pub with_numbers : HeapState → ℕ → ℕ → HeapState
-with_numbers s number base = record { words = s.words; blocks = s.blocks; number = number; base = base }
+with_numbers s number base = record {
+  words = s.words;
+  blocks = s.blocks;
+  number = number;
+  base = base;
+}
 
 -- each object that the trace keeps has a target other than its own place
 abbrev pub MoveAll : Setup → List Event → Type 0
 MoveAll p es = (x t : ℕ) → target_of p es x ≡ Some t → t ≢ x
 
--- The owner of block k shows what lives in it: all objects that begin in it if it has an owner, as the workers of a
--- trace are of the blocks that they copy into, and none if it has no owner.
+-- The owner of block k shows what lives in it: all objects that begin in it if it has an owner, as
+-- the workers of a trace are of the blocks that they copy into, and none if it has no owner.
 pub record OwnerShowsWhatLives (base : ℕ) (s : HeapState) (k : ℕ) : Type 0 where
   pub owned : 0 < owner_at s k → (a : ℕ) → InBlock s k a → IsHeld s a → Lives base s a
   pub unowned : owner_at s k ≡ 0 → HasNoLiving base s (InBlock s k)
 
--- The unlog bits of block k show what lives in it: an object that is held there lives if and only if its unlog bit is
--- set.
+-- The unlog bits of block k show what lives in it: an object that is held there lives if and only
+-- if its unlog bit is set.
 abbrev pub UnlogBitsMarkSurvivors : ℕ → HeapState → ℕ → Type 0
-UnlogBitsMarkSurvivors base s k = (a : ℕ) → InBlock s k a → IsHeld s a → Lives base s a ↔ IsTrue (is_unlogged s a)
+UnlogBitsMarkSurvivors base s k = (a : ℕ) → InBlock s k a → IsHeld s a → Lives base s a
+    ↔ IsTrue (is_unlogged s a)
 
 -- so does word i of unlog bits: of its bits exactly those of objects that live are set
 abbrev pub UnlogWordMarksSurvivors : ℕ → HeapState → ℕ → Type 0
@@ -58,7 +68,8 @@ UnlogWordMarksSurvivors base s i = (j : ℕ) → j < 64 → has_bit (unlog_word 
 -- The trace began with no line bit set, and marked each line that a target touches.
 pub record LinesOfTargetsAreMarked (p : Setup) (es : List Event) : Type 0 where
   pub clear : (k line : ℕ) → k < blocks p → line < BLOCK_LINES → line_marked p.before k line ≡ false
-  pub all : (x t n : ℕ) → target_of p es x ≡ Some t → n < BLOCK_LINES * blocks p → TouchesLine (blocks p) t (size p x) n
+  pub all : (x t n : ℕ) → target_of p es x ≡ Some t → n < BLOCK_LINES * blocks p
+      → TouchesLine (blocks p) t (size p x) n
       → IsTrue (bit_of (blocks p) LineWords (heap_after p es).words n)
 
 -- an object that lives begins in block k and touches this line of it
@@ -68,7 +79,8 @@ pub record LivesOnLine (base : ℕ) (s : HeapState) (k line : ℕ) : Type 0 wher
   pub here : block_at s.blocks object ≡ k
   pub touches : TouchesLine s.blocks object (size_at s object) (BLOCK_LINES * k + line)
 
--- The line bits of block k, if it is an Immix block, are those of the lines that what lives in it touches.
+-- The line bits of block k, if it is an Immix block, are those of the lines that what lives in it
+-- touches.
 abbrev pub LineBitsMarkSurvivors : ℕ → HeapState → ℕ → Type 0
 LineBitsMarkSurvivors base s k = HasKind s k kinds.Immix → (line : ℕ) → line < BLOCK_LINES
     → IsTrue (line_marked s k line) ↔ LivesOnLine base s k line

@@ -38,23 +38,30 @@ pub record IsTally (s : HeapState) (F : ℕ → ℕ) (copied : List ℕ) (tally 
 
 -- the number of objects that are held and were not claimed by the collection of this number
 abbrev pub unclaimed : HeapState → ℕ → ℕ
-unclaimed s number = total s.blocks (λ a. one_if (is_start s a && not (nat_eq (number_at s a) number)))
+unclaimed s number =
+    total s.blocks (λ a. one_if (is_start s a && not (nat_eq (number_at s a) number)))
 
--- The note of a full collection which preserves the objects that have a target, and where each target is.
-pub record IsNote (c : Collect) (s : HeapState) (target : ℕ → ℕ) (new : HeapState) (note : Note) : Type 0 where
+-- The note of a full collection which preserves the objects that have a target, and where each
+-- target is.
+pub record IsNote (c : Collect) (s : HeapState) (target : ℕ → ℕ) (new : HeapState) (note : Note)
+    : Type 0 where
   pub collect : note.collect ≡ c
   pub kept : note.kept ≡ total s.blocks (λ a. one_if (nat_lt 0 (target a)))
-  pub moved : note.moved ≡ total s.blocks (λ a. one_if (nat_lt 0 (target a) && not (nat_eq (target a) a)))
-  pub in_place : note.in_place ≡ total s.blocks (λ a. one_if (nat_lt 0 (target a) && nat_eq (target a) a))
+  pub moved : note.moved
+      ≡ total s.blocks (λ a. one_if (nat_lt 0 (target a) && not (nat_eq (target a) a)))
+  pub in_place : note.in_place ≡ total s.blocks
+      (λ a. one_if (nat_lt 0 (target a) && nat_eq (target a) a))
   pub words : note.kept_words ≡ total s.blocks (λ a. one_if (nat_lt 0 (target a)) * size_at s a)
   pub free : note.free_blocks ≡ block_count new (λ k. has_kind new k kinds.Free)
 
--- the target of each object where it is: a collection that reclaims nothing preserves all that is held
+-- the target of each object where it is: a collection that reclaims nothing preserves all that is
+-- held
 abbrev pub stays_in_place : HeapState → ℕ → ℕ
 stays_in_place s a = if is_start s a then a else 0
 
 -- the note of a collection, whose counts are those of its map
-abbrev pub NotesIf : (collects : Bool) (r : Rules) (w : ℕ) (c : Collect) (s : HeapState) (roots : List ℕ) (new : HeapState)
+abbrev pub NotesIf : (collects : Bool) (r : Rules) (w : ℕ) (c : Collect) (s : HeapState)
+    (roots : List ℕ) (new : HeapState)
     (roots' : List ℕ) → CollectsIf collects r w c s roots new roots' → Note → Type 0
 NotesIf true r w c s roots new roots' made note = IsNote c s made.target new note
 NotesIf false r w c s roots new roots' made note = IsNote c s (stays_in_place s) new note

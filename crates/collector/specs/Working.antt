@@ -1,4 +1,5 @@
--- What the worker of a collection is, by its trace: the packets it may run, its steps, and what it awaits.
+-- What the worker of a collection is, by its trace: the packets it may run, its steps, and what it
+-- awaits.
 use Rattle.std.specs.Prelude.{◌≡◌, ℕ, ◌<◌, ◌⊎◌, List, [], All}
 use Rattle.std.specs.List.Sorted.{IsPermutation}
 use Rattle.work_packets.specs.declared.packet.Packet.{Packet}
@@ -24,9 +25,10 @@ use Rattle.collector.specs.Tallies.{Counts, unclaimed}
 abbrev pub TakesPlaces : ℕ → Packet Item → Type 0
 TakesPlaces h p = (i : ℕ) → 0 < registers i p.items.items → i < h
 
--- The trace ran a packet and pushed these: whatever collection it traces, it served the items of the packet and pushed
--- the objects that it copied meanwhile, which it counted.
-pub record RunsPacket (w : PacketTracer) (p : Packet Item) (q : List (Packet Item)) (v : PacketTracer) : Type 0 where
+-- The trace ran a packet and pushed these: whatever collection it traces, it served the items of
+-- the packet and pushed the objects that it copied meanwhile, which it counted.
+pub record RunsPacket (w : PacketTracer) (p : Packet Item) (q : List (Packet Item))
+    (v : PacketTracer) : Type 0 where
   pub won : List Grey
   pub pushed : IsPermutation won (tokens_of (items_of q))
   pub closure : All (λ packet. packet.bucket ≡ buckets.Closure) q
@@ -44,7 +46,8 @@ abbrev pub IsOfTrace : Packet Item → Type 0
 IsOfTrace p = (p.bucket ≡ buckets.Roots) ⊎ (p.bucket ≡ buckets.Closure)
 
 -- The trace began so, and these packets are left.
-pub record AwaitsPackets (start : TracingStart) (w : PacketTracer) (ps : List (Packet Item)) : Type 0 where
+pub record AwaitsPackets (start : TracingStart) (w : PacketTracer) (ps : List (Packet Item))
+    : Type 0 where
   pub awaited : IsAwaited (heap_state start.heap) start.run start.roots.items w (items_of ps)
   pub buckets : All IsOfTrace ps
 

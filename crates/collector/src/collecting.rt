@@ -20,10 +20,11 @@ use crate::item::Item;
 use crate::outcome::{Collected, Note};
 use crate::packet_tracer::PacketTracer;
 use crate::releasing::{known_after, release_by};
-use crate::roots::root_packets;
+use crate::roots::{MAX_ROOTS, root_packets};
 use crate::tally::Tally;
 use crate::worker::TracingWorker;
 use bitflags::Flags;
+use forward_word::NUMBER_BITS;
 use object_model::{Collect, Heap};
 use plain_tracer::PlainTrace;
 use plan_api::{Plan, PlanFlags, block_counts};
@@ -54,9 +55,9 @@ pub fn collect<P: Plan, Q: Pool, G: Gate, R: Threads + Sync>(
 ) -> Result<Collected, AllocError>
     requires offered { IsOffered P.rules collect }
     requires one { workers ≡ 1 }
-    requires few { length roots.items ≤ 1000000 }
+    requires few { length roots.items ≤ MAX_ROOTS }
     requires held { AreRoots (heap_state heap) roots.items }
-    requires number { (heap_state heap).number + 1 < 2 ^ 40 }
+    requires number { (heap_state heap).number + 1 < 2 ^ NUMBER_BITS }
     ensures { IfOk result (λ c. (made : IsCollection P.rules workers collect (heap_state heap)
         roots.items (heap_state c.heap) c.roots.items)
         × NotesIf P.rules.collects P.rules workers collect (heap_state heap) roots.items
@@ -77,7 +78,7 @@ pub fn collect<P: Plan, Q: Pool, G: Gate, R: Threads + Sync>(
 /// A collection that reclaims nothing: all objects are kept in place.
 fn count_only(heap: Heap, roots: Vec<u32>, collect: Collect) -> Collected
     requires full { collect ≡ Full }
-    requires number { (heap_state heap).number + 1 < 2 ^ 40 }
+    requires number { (heap_state heap).number + 1 < 2 ^ NUMBER_BITS }
     ensures heap { OnlyCounts collect (heap_state heap) roots.items (heap_state result.heap)
         result.roots.items }
     ensures note { IsNote collect (heap_state heap) (stays_in_place (heap_state heap))
@@ -104,7 +105,7 @@ fn count_only(heap: Heap, roots: Vec<u32>, collect: Collect) -> Collected
 /// What the tracer gets as the description of a full collection under the plan.
 fn prepare<P: Plan>(alloc: Global, heap: &Heap, collect: Collect) -> Result<TraceRun, AllocError>
     requires full { collect ≡ Full }
-    requires number { (heap_state heap.now).number + 1 < 2 ^ 40 }
+    requires number { (heap_state heap.now).number + 1 < 2 ^ NUMBER_BITS }
     ensures may { IfOk result (λ run. MayRun (heap_state heap.now) run) }
     ensures under { IfOk result (λ run. IsRunUnder P.rules collect (heap_state heap.now) run) }
 {
@@ -130,7 +131,7 @@ fn begin(
 ) -> Result<(PacketTracer, Vec<Packet<Item>>), AllocError>
     requires may { MayRun (heap_state heap) run }
     requires full { is_nursery run.collect ≡ false }
-    requires few { length roots.items ≤ 1000000 }
+    requires few { length roots.items ≤ MAX_ROOTS }
     requires held { AreRoots (heap_state heap) roots.items }
     ensures awaits { IfOk result (λ r. IsAwaited (heap_state heap) run roots.items r.0
         (items_of r.1.items)) }

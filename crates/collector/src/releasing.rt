@@ -22,7 +22,7 @@ ghost use Rattle.collector.specs.Released.{ReleasesBelow, with_numbers, MoveAll,
 ghost use Rattle.collector.specs.Knowing.{IsKnown, ShowsWhatLives};
 
 use block_sweeps::{free_block, store, unlog_block};
-use heap_layout::{BlockWord, Kind, Layout, encode};
+use heap_layout::{BLOCK_BIT_WORDS, BlockWord, Kind, Layout, encode};
 use object_model::{Collect, Heap, Row};
 use plan_api::{Plan, block_word_in};
 use side_meta::Words;
@@ -214,19 +214,19 @@ fn free_left<W: Words>(words: &mut W, layout: &Layout, block: u32)
         → Sweeps base after (shown (W.words words.old) layout.now)
         (shown (W.words words.new) layout.now) block }
 {
-    clear_words(words, layout.start_base() + 64 * block);
-    clear_words(words, layout.pin_base() + 64 * block);
-    clear_words(words, layout.unlog_base() + 64 * block);
+    clear_words(words, layout.start_base() + BLOCK_BIT_WORDS * block);
+    clear_words(words, layout.pin_base() + BLOCK_BIT_WORDS * block);
+    clear_words(words, layout.unlog_base() + BLOCK_BIT_WORDS * block);
     free_block(words, layout, block);
 }
 
 /// Clears the 64 words from index `from` on. Writes only words that change.
 fn clear_words<W: Words>(words: &mut W, from: u32)
-    requires small { from + 64 < 2 ^ 32 }
-    requires extent { from + 64 ≤ length (W.words words.old) }
-    ensures { Fills (W.words words.old) (W.words words.new) from (from + 64) (λ _. 0) }
+    requires small { from + BLOCK_BIT_WORDS < 2 ^ 32 }
+    requires extent { from + BLOCK_BIT_WORDS ≤ length (W.words words.old) }
+    ensures { Fills (W.words words.old) (W.words words.new) from (from + BLOCK_BIT_WORDS) (λ _. 0) }
 {
-    for index in from..from + 64 {
+    for index in from..from + BLOCK_BIT_WORDS {
         store(words, index, 0);
     }
 }
@@ -272,10 +272,11 @@ fn keep_marked<W: Words>(words: &mut W, layout: &Layout, block: u32)
         × UnlogBitsMarkSurvivors base (shown (W.words words.old) layout.now) block }
     ensures { (base : ℕ)
         → UnlogBitsMarkSurvivors base (shown (W.words words.old) layout.now) block
-        → SweepsWords base (64 * block) 64 (shown (W.words words.old) layout.now)
+        → SweepsWords base (BLOCK_BIT_WORDS * block) BLOCK_BIT_WORDS
+        (shown (W.words words.old) layout.now)
         (shown (W.words words.new) layout.now) }
 {
-    for index in 64 * block..64 * block + 64 {
+    for index in BLOCK_BIT_WORDS * block..BLOCK_BIT_WORDS * block + BLOCK_BIT_WORDS {
         keep_marked_in(words, layout, index);
     }
 }
@@ -309,8 +310,8 @@ fn has_object<W: Words>(words: &W, layout: &Layout, block: u32) -> bool
         → InBlock (shown (W.words words.now) layout.now) block a
         → IsHeld (shown (W.words words.now) layout.now) a → ⊥ }
 {
-    let starts = layout.start_base() + 64 * block;
-    for index in 0..64 {
+    let starts = layout.start_base() + BLOCK_BIT_WORDS * block;
+    for index in 0..BLOCK_BIT_WORDS {
         let word = words.get(starts + index);
         if word != 0 {
             return true;

@@ -11,8 +11,11 @@ use plain_tracer::GlobalRoot;
 use std::alloc::{AllocError, Global};
 use work_packets::{Bucket, MAX_ITEMS, Packet};
 
-/// The packets of `count` roots, in order, and of the globals after them. Each but the last has 64
-/// items.
+/// The maximum number of roots of a collection, more than the registers of all mutators.
+pub const MAX_ROOTS: usize = 1_000_000;
+
+/// The packets of `count` roots, in order, and of the globals after them. Each but the last has
+/// `MAX_ITEMS` items.
 ///
 /// Fails if memory runs out.
 pub(crate) fn root_packets(

@@ -2,5 +2,5 @@ mod Settings
 mod Walks
 mod Options
 mod Matches
-mod Taking
+mod TakenWords
 mod Spelled

@@ -21,7 +21,8 @@ files_rule = record (new_rule (codes "files")) {
 
 -- the command without arguments
 abbrev pub bare : App
-bare = on_top (λ s. record s { no_binary_name = true; disable_help_flag = true }) (new_app (codes "mm_drive"))
+bare = on_top (λ s. record s { no_binary_name = true; disable_help_flag = true })
+    (new_app (codes "mm_drive"))
 
 -- the command with the options that have a value
 abbrev pub with_option_rules : App → App

@@ -27,5 +27,6 @@ Spells s words = IsFlag s words ⊎ (IsJoined s words ⊎ IsApart s words)
 -- the words spell the settings in their order, and after them the files
 abbrev pub SpellsLine : List GivenOption → List (List ℕ) → List (List ℕ) → Type 0
 SpellsLine [] files words = (words ≡ files) × (list_all is_file files ≡ true)
-SpellsLine (s ∷ ss) files words = (first : List (List ℕ)) × (rest : List (List ℕ)) × (Spells s first)
+SpellsLine (s ∷ ss) files words = (first : List (List ℕ)) × (rest : List (List ℕ))
+    × (Spells s first)
     × (SpellsLine ss files rest) × (words ≡ first ++ rest)

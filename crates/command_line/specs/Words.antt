@@ -8,7 +8,8 @@ use Rattle.command_line.specs.declared.order.TheConstants.{MAX_FILES, MAX_WORKER
 use Rattle.sessions.specs.Plans.{Plan, plan_word, NoGc, MarkSweep, SemiSpace, GenCopy, Immix, StickyImmix}
 use Rattle.heap_layout.specs.declared.layout.TheConstants.{MAX_BLOCKS, MIN_BLOCKS}
 
--- what to run: traces from files, one for each mutator, or a made trace with this number of commands
+-- what to run: traces from files, one for each mutator, or a made trace with this number of
+-- commands
 pub data Work : Type 0 where
   Files : List (List ℕ) → Work
   Made : ℕ → Work
@@ -42,7 +43,8 @@ is_file word = nat_lt 0 (length word) && not (has_dash word)
 
 -- the options that take a value
 abbrev pub takes_value : List ℕ → Bool
-takes_value name = bytes_eq name (codes "--plan") || bytes_eq name (codes "--heap") || bytes_eq name (codes "--workers")
+takes_value name = bytes_eq name (codes "--plan") || bytes_eq name (codes "--heap")
+    || bytes_eq name (codes "--workers")
     || bytes_eq name (codes "--make")
 
 -- the byte `=`
@@ -52,7 +54,10 @@ is_equals b = nat_eq b 61
 -- the parts of the word before and after its first `=`
 abbrev pub at_equals : List ℕ → Option GivenOption
 at_equals word = if nat_lt (position_or_len is_equals word) (length word)
-    then Some (record { name = before_first is_equals word; value = after_first is_equals word }) else None
+    then Some (record {
+      name = before_first is_equals word;
+      value = after_first is_equals word;
+    }) else None
 
 -- the setting, if its option takes a value
 abbrev pub if_takes_value : GivenOption → Option GivenOption
@@ -72,7 +77,8 @@ in_two_words name value = if takes_value name && not (has_dash value) then Some 
 
 -- a command line without settings
 abbrev pub only_files : List (List ℕ) → Option Line
-only_files words = if list_all is_file words then Some (record { settings = []; files = words }) else None
+only_files words =
+    if list_all is_file words then Some (record { settings = []; files = words }) else None
 
 -- the command line with one more setting in front
 abbrev pub with_setting : GivenOption → Line → Line
@@ -158,7 +164,8 @@ job_with has_map _ _ _ _ = None
 -- the job of these values and files; `--plan` and `--heap` are required
 abbrev pub job_for : Values → List (List ℕ) → Option Job
 job_for v files =
-    job_with v.has_map (option_and_then plan_of v.plan) (option_and_then (bounded_numeral MIN_BLOCKS MAX_BLOCKS) v.heap)
+    job_with v.has_map (option_and_then plan_of v.plan)
+    (option_and_then (bounded_numeral MIN_BLOCKS MAX_BLOCKS) v.heap)
     (workers_of v.workers) (work_of v.make v.has_map files)
 
 -- the job of a command line
@@ -190,9 +197,11 @@ abbrev pub has_files : Work → Bool
 has_files (Files files) = true
 has_files (Made n) = false
 
--- the jobs that are implemented: traces from files under NoGC, MarkSweep, SemiSpace or Immix, with one worker and no map
+-- the jobs that are implemented: traces from files under NoGC, MarkSweep, SemiSpace or Immix, with
+-- one worker and no map
 abbrev pub is_supported : Job → Bool
-is_supported job = is_implemented job.plan && nat_eq job.workers 1 && not job.map && has_files job.work
+is_supported job = is_implemented job.plan && nat_eq job.workers 1 && not job.map
+    && has_files job.work
 
 -- the job, if it is implemented
 abbrev pub if_supported : Job → Option Job

@@ -16,4 +16,5 @@ pub record IsLast (s : HeapState) (k offset : ℕ) : Type 0 where
 
 -- no held object has a word in block k at this offset or after it
 abbrev pub HasNoWordFrom : HeapState → ℕ → ℕ → Type 0
-HasNoWordFrom s k at = (a i : ℕ) → IsHeld s a → IsInExtent s a i → block_at s.blocks i ≡ k → offset_at s.blocks i < at
+HasNoWordFrom s k at = (a i : ℕ) → IsHeld s a → IsInExtent s a i → block_at s.blocks i ≡ k
+    → offset_at s.blocks i < at

@@ -1,6 +1,6 @@
 //! The free words at the end of a block.
 
-ghost use Rattle.std.specs.Prelude.{◌≡◌, ◌<◌, ◌≤◌, ℕ, length, MatchOption};
+ghost use Rattle.std.specs.Prelude.{◌≡◌, ◌<◌, ◌≤◌, ℕ, MatchOption};
 ghost use Rattle.heap_layout.specs.Zones.{IsRowOf};
 ghost use Rattle.heap_layout.specs.declared.block.Kind.TheVariants as kinds;
 ghost use Rattle.object_model.specs.Objects.{HasKind, IsHeld, size_at, shown};
@@ -10,7 +10,7 @@ ghost use Rattle.block_sweeps.specs.Sweeping.{AreApart};
 ghost use Rattle.copy_space.specs.LastOffsets.{HasNone, IsLast, HasNoWordFrom};
 
 use block_sweeps::object_size;
-use heap_layout::{BLOCK_WORDS, Layout, Region};
+use heap_layout::{BLOCK_BIT_WORDS, BLOCK_WORDS, Layout, Region};
 use side_meta::Words;
 
 /// The tail of a block: the words after its last object, or all words if no object begins in it.
@@ -63,7 +63,7 @@ fn last_object<W: Words>(words: &W, layout: &Layout, block: u32) -> Option<u32>
         (λ offset. IsLast (shown (W.words words.now) layout.now) block offset) }
 {
     for index in (0..64).rev() {
-        let starts = words.get(layout.start_base() + 64 * block + index);
+        let starts = words.get(layout.start_base() + BLOCK_BIT_WORDS * block + index);
         if starts != 0 {
             return Some(64 * index + (63 - starts.leading_zeros()));
         }

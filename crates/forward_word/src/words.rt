@@ -47,7 +47,8 @@ pub fn claimed(word: u64, number: u64) -> Option<u32>
     }
 }
 
-/// Whether the object is old, in a heap whose last full collection was `base`, 0 for none.
+/// Whether the object is old, in a heap whose last full collection that reclaimed was `base`, 0
+/// for none.
 #[inline(always)]
 pub fn is_old(word: u64, base: u64) -> bool
     ensures { result ≡ is_old_word base word }

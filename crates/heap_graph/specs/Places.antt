@@ -14,7 +14,8 @@ pub record IsPlaceOfObject (s : HeapState) (p : Place) : Type 0 where
   pub name : p.name ≡ name_at s p.at
   pub size : p.size ≡ size_at s p.at
 
--- The places are those of all reachable objects and of no others, each once, in rising order of names.
+-- The places are those of all reachable objects and of no others, each once, in rising order of
+-- names.
 pub record IsGraphOf (s : HeapState) (roots : List ℕ) (places : List Place) : Type 0 where
   pub reached : (a : ℕ) → IsReachable s roots a ↔ Contains (addresses_of places) a
   pub each : All (IsPlaceOfObject s) places

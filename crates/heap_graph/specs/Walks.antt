@@ -23,8 +23,8 @@ pub record IsWalk (s : HeapState) (w : Walk) : Type 0 where
   pub each : All (IsPlaceOfObject s) w.places.items
   pub apart : IsDistinct nat_eq (met w)
 
--- Addresses are appended, each of them one of f 0 to f (n - 1) and not nil. Of f 0 to f (n - 1), all but nil are in the
--- new list.
+-- Addresses are appended, each of them one of f 0 to f (n - 1) and not nil. Of f 0 to f (n - 1),
+-- all but nil are in the new list.
 pub record Adds (f : ℕ → ℕ) (n : ℕ) (old new : List ℕ) : Type 0 where
   pub more : List ℕ
   pub is : new ≡ old ++ more
@@ -33,9 +33,11 @@ pub record Adds (f : ℕ → ℕ) (n : ℕ) (old new : List ℕ) : Type 0 where
 
 -- each object that the one at a refers to is in the list
 abbrev pub HasFields : HeapState → List ℕ → ℕ → Type 0
-HasFields s xs a = (i : ℕ) → i < refs_at s a → ref_at s a i ≢ 0 → IsTrue (is_among xs (ref_at s a i))
+HasFields s xs a = (i : ℕ) → i < refs_at s a → ref_at s a i ≢ 0
+    → IsTrue (is_among xs (ref_at s a i))
 
--- Addresses that fields lead to are added, at least all that the fields of the first n objects of the new list hold.
+-- Addresses that fields lead to are added, at least all that the fields of the first n objects of
+-- the new list hold.
 pub record ClosesFields (s : HeapState) (n : ℕ) (old new : List ℕ) : Type 0 where
   pub kept : (a : ℕ) → IsTrue (is_among old a) → IsTrue (is_among new a)
   pub closed : (k : ℕ) → k < n → HasFields s new (slice_index new k)

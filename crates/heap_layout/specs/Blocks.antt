@@ -1,5 +1,7 @@
 -- Block words, and the numbers that encode them.
-use Rattle.std.specs.Prelude.{ℕ, ◌+◌, ◌*◌, ◌/◌, ◌%◌, Bool, false, ◌&&◌, nat_eq, nat_le, IsTrue, List, [], ◌∷◌, Option, Some, None, slice_get}
+use Rattle.std.specs.Prelude.{ℕ, ◌+◌, ◌-◌, ◌*◌, ◌/◌, ◌%◌, Bool, false, ◌&&◌, nat_eq, nat_le, IsTrue, List, [], ◌∷◌, Option, Some, None, slice_get}
+use Rattle.heap_layout.specs.declared.block.TheConstants.{CLASSES, LAST_OWNER}
+use Rattle.heap_layout.specs.declared.block_codes.TheConstants.{CLASS_UNIT, OWNER_UNIT}
 use Rattle.heap_layout.specs.declared.block.Kind.{Kind}
 use Rattle.heap_layout.specs.declared.block.Kind.TheVariants.{Free, Bump, Young, Mature, Immix, Cells, LargeHead, LargeTail, Kept}
 use Rattle.heap_layout.specs.declared.block.BlockWord.{BlockWord}
@@ -26,16 +28,16 @@ kind_of_code n = slice_get all_kinds n
 
 -- the number that encodes a block word
 abbrev pub code_of : BlockWord → ℕ
-code_of w = kind_code w.kind + 256 * w.class + 65536 * w.owner
+code_of w = kind_code w.kind + CLASS_UNIT * w.class + OWNER_UNIT * w.owner
 
 -- The kind allows this class and this owner. BlockWord in src/block.rt lists their values.
 abbrev pub is_valid_for : Kind → ℕ → ℕ → Bool
 is_valid_for Free class owner = nat_eq class 0 && nat_eq owner 0
-is_valid_for Bump class owner = nat_eq class 0 && nat_le owner 32
-is_valid_for Young class owner = nat_eq class 0 && nat_le owner 32
-is_valid_for Mature class owner = nat_eq class 0 && nat_le owner 32
-is_valid_for Immix class owner = nat_eq class 0 && nat_le owner 32
-is_valid_for Cells class owner = nat_le class 18 && nat_le owner 32
+is_valid_for Bump class owner = nat_eq class 0 && nat_le owner LAST_OWNER
+is_valid_for Young class owner = nat_eq class 0 && nat_le owner LAST_OWNER
+is_valid_for Mature class owner = nat_eq class 0 && nat_le owner LAST_OWNER
+is_valid_for Immix class owner = nat_eq class 0 && nat_le owner LAST_OWNER
+is_valid_for Cells class owner = nat_le class (CLASSES - 1) && nat_le owner LAST_OWNER
 is_valid_for LargeHead class owner = nat_le 1 class && nat_le class 15 && nat_eq owner 0
 is_valid_for LargeTail class owner = nat_eq class 0 && nat_eq owner 0
 is_valid_for Kept class owner = nat_eq class 0 && nat_eq owner 0
@@ -50,4 +52,5 @@ is_valid_for_some (Some kind) class owner = is_valid_for kind class owner
 
 -- v encodes a valid block word
 abbrev pub is_block_code : ℕ → Bool
-is_block_code v = is_valid_for_some (kind_of_code (v % 256)) (v / 256 % 256) (v / 65536)
+is_block_code v =
+    is_valid_for_some (kind_of_code (v % CLASS_UNIT)) (v / CLASS_UNIT % 256) (v / OWNER_UNIT)

@@ -2,7 +2,7 @@
 use Rattle.std.specs.Prelude.{ℕ, ◌≡◌, length, ◌+◌, ◌*◌, ◌-◌, ◌/◌, ◌%◌, ◌<◌, ◌≤◌, List, slice_index, nat_eq, nat_le, nat_lt, ◌&&◌, Bool}
 use Rattle.std.specs.Int.{bit_at}
 use Rattle.heap_layout.specs.declared.layout.Layout.{Layout}
-use Rattle.heap_layout.specs.declared.layout.TheConstants.{BLOCK_WORDS, LINE_WORDS, GLOBALS}
+use Rattle.heap_layout.specs.declared.layout.TheConstants.{STOP_WORD, BUDGET_WORD, BLOCK_BIT_WORDS, BLOCK_LINE_BIT_WORDS, BLOCK_WORDS, LINE_WORDS, GLOBALS}
 
 -- the parts of the row, in order
 pub data Zone : Type 0 where
@@ -18,8 +18,8 @@ pub data Zone : Type 0 where
 
 -- the first index of a zone
 abbrev pub first : ℕ → Zone → ℕ
-first b StopWord = 0
-first b BudgetWord = 1
+first b StopWord = STOP_WORD
+first b BudgetWord = BUDGET_WORD
 first b Globals = 2
 first b BlockWords = 18
 first b LineWords = 18 + b
@@ -34,10 +34,10 @@ extent b StopWord = 1
 extent b BudgetWord = 1
 extent b Globals = GLOBALS
 extent b BlockWords = b
-extent b LineWords = 4 * b
-extent b StartBits = 64 * b
-extent b PinBits = 64 * b
-extent b UnlogBits = 64 * b
+extent b LineWords = BLOCK_LINE_BIT_WORDS * b
+extent b StartBits = BLOCK_BIT_WORDS * b
+extent b PinBits = BLOCK_BIT_WORDS * b
+extent b UnlogBits = BLOCK_BIT_WORDS * b
 extent b HeapWords = BLOCK_WORDS * b
 
 -- the number of words of the row
@@ -62,7 +62,8 @@ pub record IsAddress (b a : ℕ) : Type 0 where
   pub from : heap_of b ≤ a
   pub below : a < row_words b
 
--- the block of an address, its offset in the block, and its line, counted from the first line of the heap
+-- the block of an address, its offset in the block, and its line, counted from the first line of
+-- the heap
 abbrev pub block_at : ℕ → ℕ → ℕ
 block_at b a = (a - heap_of b) / BLOCK_WORDS
 
@@ -80,6 +81,7 @@ block_start b k = heap_of b + BLOCK_WORDS * k
 abbrev pub bit_of : ℕ → Zone → List ℕ → ℕ → Bool
 bit_of b z w n = nat_eq (bit_at (slice_index w (first b z + n / 64)) (n % 64)) 1
 
--- the bit of an address in a zone with a bit for each word of the heap; false if the index is no address
+-- the bit of an address in a zone with a bit for each word of the heap; false if the index is no
+-- address
 abbrev pub address_bit : ℕ → Zone → List ℕ → ℕ → Bool
 address_bit b z w a = nat_le (heap_of b) a && nat_lt a (row_words b) && bit_of b z w (a - heap_of b)

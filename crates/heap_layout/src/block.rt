@@ -1,5 +1,14 @@
 //! Block words: the use of each block.
 
+/// The number of size classes of cells, which are counted from 0.
+pub const CLASSES: usize = 19;
+
+/// The owner number of the first tracing worker. Those below it are of mutators.
+pub const FIRST_WORKER_OWNER: u32 = 17;
+
+/// The highest owner number, that of the last tracing worker.
+pub const LAST_OWNER: u32 = 32;
+
 /// The use of a block.
 #[derive(Clone, Copy, Debug, PartialEq, Eq)]
 pub enum Kind {
@@ -28,9 +37,9 @@ pub enum Kind {
 pub struct BlockWord {
     /// The use of the block.
     pub kind: Kind,
-    /// Of `Cells` the size class, 0 to 18. Of `LargeHead` the number of blocks of the large object,
+    /// Of `Cells` the size class. Of `LargeHead` the number of blocks of the large object,
     /// 1 to 15. Else 0.
     pub class: u32,
-    /// 0 is nobody, 1 to 16 a mutator, 17 to 32 a tracing worker.
+    /// 0 is nobody, 1 to 16 a mutator, from `FIRST_WORKER_OWNER` on a tracing worker.
     pub owner: u32,
 }

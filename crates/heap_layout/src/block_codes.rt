@@ -4,13 +4,13 @@ ghost use Rattle.std.specs.Prelude.{◌↔◌, IsTrue, IsSome, ◌≡◌, ◌≢
 ghost use Rattle.heap_layout.specs.Blocks.{code_of, kind_code, kind_of_code, is_block_code, IsValidWord};
 ghost use Rattle.heap_layout.specs.declared.block.BlockWord.{BlockWord};
 
-use crate::block::{BlockWord, Kind};
+use crate::block::{BlockWord, CLASSES, Kind, LAST_OWNER};
 
 /// The factor of a block's class in its block word. The kind is below it.
 pub const CLASS_UNIT: u64 = 256;
 
 /// The number of classes that a block word has room for.
-const CLASSES: u64 = 256;
+const CLASS_CODES: u64 = 256;
 
 /// The factor of a block's owner in its block word. Kind and class are below it.
 pub const OWNER_UNIT: u64 = 65_536;
@@ -24,8 +24,9 @@ impl BlockWord {
         let owner = self.owner;
         match self.kind {
             Kind::Free | Kind::LargeTail | Kind::Kept => class == 0 && owner == 0,
-            Kind::Bump | Kind::Young | Kind::Mature | Kind::Immix => class == 0 && owner <= 32,
-            Kind::Cells => class <= 18 && owner <= 32,
+            Kind::Bump | Kind::Young | Kind::Mature | Kind::Immix => class == 0
+                && owner <= LAST_OWNER,
+            Kind::Cells => class < CLASSES as u32 && owner <= LAST_OWNER,
             Kind::LargeHead => 1 <= class && class <= 15 && owner == 0,
         }
     }
@@ -49,7 +50,7 @@ pub fn decode(code: u64) -> Option<BlockWord>
 {
     let word = BlockWord {
         kind: kind_at(code % CLASS_UNIT)?,
-        class: (code / CLASS_UNIT % CLASSES) as u32,
+        class: (code / CLASS_UNIT % CLASS_CODES) as u32,
         owner: u32::try_from(code / OWNER_UNIT).ok()?,
     };
     if !word.is_valid() {

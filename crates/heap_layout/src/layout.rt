@@ -5,6 +5,12 @@ ghost use Rattle.heap_layout.specs.declared.layout.TheConstants.{MIN_BLOCKS, MAX
 
 use thiserror::Error;
 
+/// The index of the stop word in the row.
+pub const STOP_WORD: usize = 0;
+
+/// The index of the budget word in the row.
+pub const BUDGET_WORD: usize = 1;
+
 /// The number of words of a line: 128 bytes, as in Immix.
 pub const LINE_WORDS: u32 = 16;
 
@@ -13,6 +19,13 @@ pub const BLOCK_LINES: u32 = 256;
 
 /// The number of words of a block: 32 KB, as in Immix.
 pub const BLOCK_WORDS: u32 = 4096;
+
+/// The number of words of start bits that a block has: one bit for each word. It has as many words
+/// of pin bits, and of unlog bits.
+pub const BLOCK_BIT_WORDS: u32 = 64;
+
+/// The number of words of line bits that a block has: one bit for each line.
+pub const BLOCK_LINE_BIT_WORDS: u32 = 4;
 
 /// The number of blocks of a chunk: 4 MB, as in MMTk.
 pub const CHUNK_BLOCKS: u32 = 128;
@@ -94,9 +107,9 @@ impl Layout {
     /// The index of the first of the four line words of a block.
     pub fn line_at(&self, block: u32) -> u32
         requires { block < self.now.blocks }
-        ensures { result ≡ first self.now.blocks LineWords + 4 * block }
+        ensures { result ≡ first self.now.blocks LineWords + BLOCK_LINE_BIT_WORDS * block }
     {
-        18 + self.blocks + 4 * block
+        18 + self.blocks + BLOCK_LINE_BIT_WORDS * block
     }
 
     /// The index of the first word of start bits. There is one bit for each word of the heap.

@@ -1,4 +1,5 @@
--- The ideal heap: a map from names to records, without addresses or collections. No record is ever removed.
+-- The ideal heap: a map from names to records, without addresses or collections. No record is ever
+-- removed.
 use Rattle.std.specs.Prelude.{◌≡◌, ℕ, ◌+◌, ◌%◌, ◌^◌, Bool, true, false, List, length, Option, None, Some, nat_eq, nat_lt, if◌then◌else◌, slice_index, slice_get, slice_set, replicate, unwrap_or, ◌≤◌, ◌<◌, IsSome, IsTrue, Contains}
 use Rattle.ideal_heap.specs.declared.name.Name.{Name}
 use Rattle.ideal_heap.specs.declared.command.Command.{Command}
@@ -17,8 +18,9 @@ pub record Record : Type 0 where
   pub refs : List Field
   pub nums : List ℕ
 
--- Maps are functions, so that an update has one law for its key and one for all other keys.
--- A register is given by mutator and number. births counts the objects that each mutator has allocated.
+-- Maps are functions, so that an update has one law for its key and one for all other keys. A
+-- register is given by mutator and number. births counts the objects that each mutator has
+-- allocated.
 pub record IdealHeap : Type 0 where
   pub records : Name → Option Record
   pub pinned : Name → Bool
@@ -43,7 +45,8 @@ abbrev pub at_name : {X : Type 0} → (Name → X) → Name → X → Name → X
 at_name f k x q = if same_name q k then x else f q
 
 abbrev pub set_register : IdealHeap → ℕ → ℕ → Option Name → IdealHeap
-set_register h m d v = record h { registers = at_number h.registers m (at_number (h.registers m) d v) }
+set_register h m d v =
+    record h { registers = at_number h.registers m (at_number (h.registers m) d v) }
 
 abbrev pub set_global : IdealHeap → ℕ → Option Name → IdealHeap
 set_global h g v = record h { globals = at_number h.globals g v }
@@ -93,10 +96,12 @@ abbrev pub in_range : IdealHeap → ℕ → ℕ → Outcome → Outcome
 in_range h i len o = if nat_lt i len then o else (r.Range, h)
 
 abbrev pub on_ref : IdealHeap → Option Name → ℕ → (Name → Record → Outcome) → Outcome
-on_ref h o i f = on_object h o (λ n. in_range h i (length (record_of h n).refs) (f n (record_of h n)))
+on_ref h o i f =
+    on_object h o (λ n. in_range h i (length (record_of h n).refs) (f n (record_of h n)))
 
 abbrev pub on_num : IdealHeap → Option Name → ℕ → (Name → Record → Outcome) → Outcome
-on_num h o j f = on_object h o (λ n. in_range h j (length (record_of h n).nums) (f n (record_of h n)))
+on_num h o j f =
+    on_object h o (λ n. in_range h j (length (record_of h n).nums) (f n (record_of h n)))
 
 -- what field i holds, nil if there is none
 abbrev pub field_at : Record → ℕ → Field
@@ -114,11 +119,14 @@ born refs nums = record { refs = replicate refs Nil; nums = replicate nums 0 }
 
 -- the heap with one more object of mutator m, which has the record x
 abbrev pub with_object : IdealHeap → ℕ → Record → IdealHeap
-with_object h m x = record (set_record h (name m (h.births m + 1)) x) { births = at_number h.births m (h.births m + 1) }
+with_object h m x =
+    record (set_record h (name m (h.births m + 1)) x)
+    { births = at_number h.births m (h.births m + 1) }
 
 -- the heap with a new object of mutator m, which register d names
 abbrev pub with_new : IdealHeap → ℕ → ℕ → ℕ → ℕ → IdealHeap
-with_new h m d refs nums = set_register (with_object h m (born refs nums)) m d (Some (name m (h.births m + 1)))
+with_new h m d refs nums =
+    set_register (with_object h m (born refs nums)) m d (Some (name m (h.births m + 1)))
 
 -- the step of mutator m's command: the reply, and the heap after it
 unfoldable pub step : IdealHeap → ℕ → Command → Outcome
@@ -128,17 +136,25 @@ step h m (c.Get d s i) = on_ref h (h.registers m s) i (λ n x.
 step h m (c.Put s i v) = on_ref h (h.registers m s) i (λ n x.
     (r.Done, set_record h n (put_field x i (field_of (h.registers m v)))))
 step h m (c.Read s j) = on_num h (h.registers m s) j (λ n x. (r.Num (slice_index x.nums j), h))
-step h m (c.Write s j v) = on_num h (h.registers m s) j (λ n x. (r.Done, set_record h n (put_number x j v)))
-step h m (c.Add s j v) = on_num h (h.registers m s) j (λ n x.
-    (r.Num (slice_index x.nums j), set_record h n (put_number x j ((slice_index x.nums j + v) % 2 ^ 64))))
+step h m (c.Write s j v) =
+    on_num h (h.registers m s) j (λ n x. (r.Done, set_record h n (put_number x j v)))
+step h m (c.Add s j v) = on_num h (h.registers m s) j (λ n x. (
+  r.Num (slice_index x.nums j),
+  set_record h n
+      (put_number x j ((slice_index x.nums j + v) % 2 ^ 64)),
+))
 step h m (c.Swap s j u v) = on_num h (h.registers m s) j
-    (λ n x. if nat_eq (slice_index x.nums j) u then (r.Yes, set_record h n (put_number x j v)) else (r.No, h))
+    (λ n x. if nat_eq (slice_index x.nums j) u then (r.Yes, set_record h n (put_number x j v))
+    else (r.No, h))
 step h m (c.Move d s) = (r.Done, set_register h m d (h.registers m s))
 step h m (c.DropReg s) = (r.Done, set_register h m s None)
 step h m (c.Load d g) = (global_reply (h.globals g), set_register h m d (h.globals g))
 step h m (c.Share g s) = (r.Done, set_global h g (h.registers m s))
-step h m (c.Pin s) = on_object h (h.registers m s) (λ n. ((if h.pinned n then r.No else r.Yes), set_pinned h n true))
-step h m (c.Unpin s) = on_object h (h.registers m s) (λ n. ((if h.pinned n then r.Yes else r.No), set_pinned h n false))
+step h m (c.Pin s) =
+    on_object h (h.registers m s) (λ n. ((if h.pinned n then r.No else r.Yes), set_pinned h n true))
+step h m (c.Unpin s) =
+    on_object h (h.registers m s)
+    (λ n. ((if h.pinned n then r.Yes else r.No), set_pinned h n false))
 step h m c.Gc = (r.Done, h)
 step h m c.Meet = (r.Done, h)
 

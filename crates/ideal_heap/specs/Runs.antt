@@ -25,7 +25,8 @@ after_entry h e = if is_full e.reply then h else (step h e.mutator e.command).1
 
 -- the reply is that of the step, or a `new` is refused
 abbrev pub Answers : IdealHeap → Entry → Type 0
-Answers h e = (e.reply ≡ (step h e.mutator e.command).0) ⊎ ((e.reply ≡ r.Full) × IsTrue (is_new e.command))
+Answers h e = (e.reply ≡ (step h e.mutator e.command).0)
+    ⊎ ((e.reply ≡ r.Full) × IsTrue (is_new e.command))
 
 -- the heap after the entries
 abbrev pub heap_after_run : IdealHeap → List Entry → IdealHeap
@@ -52,7 +53,8 @@ abbrev pub meets : List Command → ℕ
 meets [] = 0
 meets (c ∷ cs) = if is_meet c then 1 + meets cs else meets cs
 
--- The level of a command after j `meet`s of its trace: 2j + 1 for a `meet`, 2j for any other command.
+-- The level of a command after j `meet`s of its trace: 2j + 1 for a `meet`, 2j for any other
+-- command.
 abbrev pub level_of : ℕ → Command → ℕ
 level_of j c = if is_meet c then 2 * j + 1 else 2 * j
 
@@ -60,7 +62,8 @@ level_of j c = if is_meet c then 2 * j + 1 else 2 * j
 abbrev pub level_after : List Entry → ℕ → Command → ℕ
 level_after done m c = level_of (meets (commands_of m done)) c
 
--- The levels of the entries, which come after the entries done, never fall and are at least `least`.
+-- The levels of the entries, which come after the entries done, never fall and are at least
+-- `least`.
 abbrev pub RisesFrom : ℕ → List Entry → List Entry → Type 0
 RisesFrom least done [] = Unit {0}
 RisesFrom least done (e ∷ es) =
@@ -70,7 +73,8 @@ RisesFrom least done (e ∷ es) =
 -- the level of the last entry, `least` if there is none; the highest level if levels never fall
 abbrev pub last_level : ℕ → List Entry → List Entry → ℕ
 last_level least done [] = least
-last_level least done (e ∷ es) = last_level (level_after done e.mutator e.command) (done ++ e ∷ []) es
+last_level least done (e ∷ es) =
+    last_level (level_after done e.mutator e.command) (done ++ e ∷ []) es
 
 -- the trace of a mutator, counted from 1
 abbrev pub trace_of : List (List Command) → ℕ → List Command
@@ -87,10 +91,12 @@ next_of traces es m = slice_get (trace_of traces m) (length (of_mutator m es))
 -- the entries are the first commands of each trace, in an order that every `meet` allows
 pub record IsOrderPrefix (traces : List (List Command)) (es : List Entry) : Type 0 where
   pub mutators : AllByRecursion (λ e. IsMutator traces e.mutator) es
-  pub commands : (m : ℕ) → IsMutator traces m → commands_of m es ≡ take (length (of_mutator m es)) (trace_of traces m)
+  pub commands : (m : ℕ) → IsMutator traces m
+      → commands_of m es ≡ take (length (of_mutator m es)) (trace_of traces m)
   pub rises : RisesFrom 0 [] es
   -- no command that is still to come has a lower level than an entry
-  pub waits : (m : ℕ) → IsMutator traces m → IfSome (next_of traces es m) (λ c. last_level 0 [] es ≤ level_after es m c)
+  pub waits : (m : ℕ) → IsMutator traces m
+      → IfSome (next_of traces es m) (λ c. last_level 0 [] es ≤ level_after es m c)
 
 -- the entries are all commands of the traces, in an order that every `meet` allows
 pub record IsOrder (traces : List (List Command)) (es : List Entry) : Type 0 where

@@ -16,7 +16,8 @@ abbrev pub record_in : Object → Record
 record_in x = record { refs = map field_of x.refs.items; nums = x.nums.items }
 
 abbrev pub object_at : List Mutator → Name → Option Object
-object_at ms n = option_and_then (λ x. nth_from_one x.objects.items n.birth) (nth_from_one ms n.mutator)
+object_at ms n =
+    option_and_then (λ x. nth_from_one x.objects.items n.birth) (nth_from_one ms n.mutator)
 
 -- register or global i, nil past the end of the list
 abbrev pub held_at : List (Option Name) → ℕ → Option Name

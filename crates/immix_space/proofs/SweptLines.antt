@@ -12,7 +12,7 @@ use Rattle.object_model.specs.Lines.{TouchesLine}
 use Rattle.object_model.specs.Lawful.{IsTouched, LineBitsAreExact}
 use Rattle.object_model.specs.Ages.{Lives}
 use Rattle.block_sweeps.specs.Sweeping.{InBlock, HasNoLiving, Sweeps, MarksTouched, IsTouchedHere, IsLineWord, IsMetadata, object_count}
-use Rattle.block_sweeps.proofs.Changing.{changes-more, changes-both}
+use Rattle.block_sweeps.proofs.ChangedWords.{changes-more, changes-both}
 use Rattle.block_sweeps.proofs.BitCounts.{count-same}
 use Rattle.immix_space.specs.LineSweeps.{SweepsLines, IsTouchedFromWithin}
 

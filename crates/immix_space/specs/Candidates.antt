@@ -11,7 +11,10 @@ no_counts = record { holes = 0; marked = 0 }
 
 -- the holes and marked lines of block k if it is recyclable, else zeros
 abbrev pub counts_at : HeapState → ℕ → LineCounts
-counts_at s k = if is_recyclable s k then record { holes = holes_in s k; marked = marked_in s k } else no_counts
+counts_at s k = if is_recyclable s k then record {
+  holes = holes_in s k;
+  marked = marked_in s k;
+} else no_counts
 
 -- there are no more holes, and no more marked lines, than a block has lines
 pub record HasFewLines (c : LineCounts) : Type 0 where
@@ -25,8 +28,8 @@ marked_with n counts = sum_by (λ c. if nat_eq n c.holes then c.marked else 0) c
 abbrev pub marked_above : ℕ → List LineCounts → ℕ
 marked_above n counts = sum_by (λ c. if nat_lt n c.holes then c.marked else 0) counts
 
--- Block i is taken: it has a marked line, and it, the blocks with more holes and the lower blocks with as many have
--- together at most `room` marked lines.
+-- Block i is taken: it has a marked line, and it, the blocks with more holes and the lower blocks
+-- with as many have together at most `room` marked lines.
 abbrev pub is_chosen : List LineCounts → ℕ → ℕ → Bool
 is_chosen counts room i =
     nat_lt 0 (slice_index_or counts i no_counts).marked

@@ -1,6 +1,6 @@
 //! The search for a run of Free blocks.
 
-ghost use Rattle.std.specs.Prelude.{◌≡◌, ◌+◌, ◌*◌, ◌<◌, ◌≤◌, ℕ, IfSome, MatchOption, length};
+ghost use Rattle.std.specs.Prelude.{◌≡◌, ◌+◌, ◌*◌, ◌<◌, ◌≤◌, ℕ, IfSome, MatchOption};
 ghost use Rattle.heap_layout.specs.Zones.{block_start, IsRowOf};
 ghost use Rattle.object_model.specs.Objects.{blocks_for as blocks_for_size, shown};
 ghost use Rattle.object_model.specs.Lawful.{FreeBlockIsClear, IsClear, AllLie, MeetsNoObject};

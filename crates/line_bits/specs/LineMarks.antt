@@ -15,8 +15,8 @@ pub record HasTouched (b a size i : ℕ) : Type 0 where
 abbrev pub LineIsMarked : HeapState → ℕ → Type 0
 LineIsMarked s n = IsTrue (bit_of s.blocks LineWords s.words n)
 
--- The lines that an object of this size at address a touches were marked, and nothing else changed. Only words with bits
--- of these lines were changed, and each word has 64 bits if it had before.
+-- The lines that an object of this size at address a touches were marked, and nothing else changed.
+-- Only words with bits of these lines were changed, and each word has 64 bits if it had before.
 pub record MarksLines (s s' : HeapState) (a size : ℕ) : Type 0 where
   pub marked : (n : ℕ) → TouchesLine s.blocks a size n → LineIsMarked s' n
   pub kept : (n : ℕ) → LineIsMarked s n → LineIsMarked s' n
@@ -35,7 +35,9 @@ pub record IsFromTo (from to n : ℕ) : Type 0 where
 pub record SetsRun (old new : List ℕ) (index low high : ℕ) : Type 0 where
   pub extent : length new ≡ length old
   pub added : (k : ℕ) → IsFromTo low high k → IsTrue (has_bit (slice_index new index) k)
-  pub kept : (k : ℕ) → IsTrue (has_bit (slice_index old index) k) → IsTrue (has_bit (slice_index new index) k)
-  pub only : (k : ℕ) → IsTrue (has_bit (slice_index new index) k) → IsTrue (has_bit (slice_index old index) k) ⊎ IsFromTo low high k
+  pub kept : (k : ℕ) → IsTrue (has_bit (slice_index old index) k)
+      → IsTrue (has_bit (slice_index new index) k)
+  pub only : (k : ℕ) → IsTrue (has_bit (slice_index new index) k)
+      → IsTrue (has_bit (slice_index old index) k) ⊎ IsFromTo low high k
   pub others : (i : ℕ) → (i ≡ index → ⊥) → slice_index new i ≡ slice_index old i
   pub fit : ((i : ℕ) → slice_index old i < 2 ^ 64) → (i : ℕ) → slice_index new i < 2 ^ 64

@@ -35,7 +35,8 @@ pub record IsLastBit (words : List ℕ) (n : ℕ) : Type 0 where
   pub set : bit_in words n ≡ true
   pub others : (m : ℕ) → m < 64 * length words → bit_in words m ≡ true → m ≤ n
 
--- in words with a bit for each line of a block, the run of clear bits that contains bit x ends before bit `end`
+-- in words with a bit for each line of a block, the run of clear bits that contains bit x ends
+-- before bit `end`
 pub record IsRunEnd (words : List ℕ) (x end : ℕ) : Type 0 where
   pub after : x < end
   pub inside : end ≤ BLOCK_LINES
@@ -47,7 +48,8 @@ pub record IsClearFrom (words : List ℕ) (x needed : ℕ) : Type 0 where
   pub inside : x + needed ≤ BLOCK_LINES
   pub clear : (m : ℕ) → x ≤ m → m < x + needed → bit_in words m ≡ false
 
--- The bits from x up to `end` are the first run of at least `needed` clear bits, among the bits at or after `from`.
+-- The bits from x up to `end` are the first run of at least `needed` clear bits, among the bits at
+-- or after `from`.
 pub record IsFirstClearRun (words : List ℕ) (from needed x end : ℕ) : Type 0 where
   pub after : from ≤ x
   pub room : x + needed ≤ end

@@ -11,7 +11,7 @@ ghost use Rattle.sessions.specs.Collecting.{holes_in, marked_in};
 ghost use Rattle.line_marks.specs.LineHoles.{IsNextHole, HasNoHole};
 
 use crate::runs::first_run;
-use heap_layout::{LINE_WORDS, Layout};
+use heap_layout::{BLOCK_LINE_BIT_WORDS, LINE_WORDS, Layout};
 use side_meta::Words;
 
 /// A run of clear lines, or the part of it from a line on.
@@ -38,7 +38,8 @@ pub fn line_words<W: Words>(words: &W, layout: &Layout, block: u32) -> [u64; 4]
     requires block { block < layout.now.blocks }
     ensures len { length result ≡ 4 }
     ensures words { (n : ℕ) → n < 4 → slice_index result n
-        ≡ slice_index (W.words words.now) (first layout.now.blocks LineWords + 4 * block + n) }
+        ≡ slice_index (W.words words.now)
+        (first layout.now.blocks LineWords + BLOCK_LINE_BIT_WORDS * block + n) }
 {
     let at = layout.line_at(block);
     [
@@ -96,7 +97,7 @@ pub fn line_counts<W: Words>(words: &W, layout: &Layout, block: u32) -> LineCoun
     let mut holes = 0;
     let mut marked = 0;
     let mut before = 1;
-    for index in 4 * block..4 * block + 4 {
+    for index in BLOCK_LINE_BIT_WORDS * block..BLOCK_LINE_BIT_WORDS * (block + 1) {
         let word = words.get(layout.line_at(0) + index);
         holes += hole_starts(word, before).count_ones();
         marked += word.count_ones();

@@ -3,7 +3,7 @@ pub mod KeptRegions
 pub mod SeatRegions
 pub mod LineLacks
 pub mod OwnedLists
-pub mod Publishing
+pub mod PublishedObjects
 pub mod WrittenWords
 pub mod Rooms
 pub mod LineRooms

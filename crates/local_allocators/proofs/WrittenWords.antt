@@ -12,7 +12,7 @@ use Rattle.object_model.specs.Changes.{WritesObject}
 use Rattle.mutator_core.specs.Machine.{birth_word}
 use Rattle.object_model.specs.BitWords.{bit_word, bit_place}
 use Rattle.side_meta.proofs.BitWords as single
-use Rattle.local_allocators.proofs.Publishing.{Stores}
+use Rattle.local_allocators.proofs.PublishedObjects.{Stores}
 
 same-bit : (x y : ℕ) → x < 2 → y < 2 → nat_eq x 1 ≡ nat_eq y 1 → x ≡ y
 same-bit x y low small same = elim (cases_eq x 1) as (λ _. x ≡ y) [

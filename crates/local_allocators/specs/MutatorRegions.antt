@@ -16,6 +16,10 @@ use Rattle.block_regions.specs.Regions.{BeginsHole}
 abbrev pub FillsLines : Kind → Type 0
 FillsLines fill = fill ≡ kinds.Immix
 
+-- the words of a block from an offset up to an end
+abbrev pub part : ℕ → ℕ → Region
+part next end = record { next = next; end = end }
+
 -- A mutator's regions: by class, the block that it allocates objects of the class in; the block of
 -- its overflow region; and what is left of a block for its owner, or no words if there is no block.
 -- Without cells each object has class 0. Under a plan with lines the block of class 0 is that of
@@ -110,27 +114,38 @@ pub record LacksRegions (fill : Kind) (r : MutatorRegions) (s : HeapState) (numb
       → LacksBlock fill r s number size k
   pub lines : FillsLines fill → LacksRoom (cursors_of r) size
 
--- Under a plan with lines the words from this offset of block k on are the mutator's: the region
--- that takes an object of this size begins there; or, if no region that is tried has room, in the
--- block of the hole region the first hole with room from the region's end on.
+-- Where in a block of the mutator's room for the size begins under a plan with lines.
+pub data BeginsInLines (fill : Kind) (r : MutatorRegions) (s : HeapState) (k offset size : ℕ)
+    : Type 0 where
+  -- at the start of the region that takes an object of the size
+  at_region : IsBlockFor fill r size k → offset ≡ (r.left (Some k)).next
+      → RegionHasRoom (r.left (Some k)) size → BeginsInLines fill r s k offset size
+  -- if no region that is tried has room: in the block of the hole region, at the first hole with
+  -- room from the region's end on
+  at_later_hole : r.blocks 0 ≡ Some k → LacksRoom (cursors_of r) size → (end : ℕ)
+      → IsFirstPart kinds.Immix s k (r.left (Some k)).end size (part offset end)
+      → BeginsInLines fill r s k offset size
+
+-- Under a plan with lines the words from this offset of block k on are the mutator's.
 pub record OffersLines (fill : Kind) (r : MutatorRegions) (s : HeapState)
     (number k offset size : ℕ) : Type 0 where
   pub lines : FillsLines fill
   pub owner : owner_at s k ≡ number
-  pub from : (IsBlockFor fill r size k × (offset ≡ (r.left (Some k)).next)
-      × RegionHasRoom (r.left (Some k)) size)
-      ⊎ ((r.blocks 0 ≡ Some k) × LacksRoom (cursors_of r) size
-      × ((end : ℕ) × IsFirstPart kinds.Immix s k (r.left (Some k)).end size
-      (record { next = offset; end = end })))
+  pub from : BeginsInLines fill r s k offset size
 
--- The first hole of block k with room for the size begins at the offset, and the block has no owner
--- or, under a plan without lines, is the mutator's; or the block is Free and the offset is 0; or
--- the words are the mutator's under lines.
-abbrev pub OffersRoom : Kind → MutatorRegions → HeapState → ℕ → ℕ → ℕ → ℕ → Type 0
-OffersRoom fill r s number k offset size = (BeginsHole fill s k offset size
-    × ((owner_at s k ≡ 0) ⊎ ((FillsLines fill → ⊥) × (owner_at s k ≡ number))))
-    ⊎ (HasKind s k kinds.Free × (offset ≡ 0))
-    ⊎ OffersLines fill r s number k offset size
+-- Room for the size begins at the offset of block k.
+pub data OffersRoom (fill : Kind) (r : MutatorRegions) (s : HeapState)
+    (number k offset size : ℕ) : Type 0 where
+  -- the first hole with room, in a block that nobody owns
+  unowned_hole : BeginsHole fill s k offset size → owner_at s k ≡ 0
+      → OffersRoom fill r s number k offset size
+  -- the first hole with room, in a block of the mutator's, under a plan without lines
+  own_hole : BeginsHole fill s k offset size → (FillsLines fill → ⊥) → owner_at s k ≡ number
+      → OffersRoom fill r s number k offset size
+  -- the start of a Free block
+  free_block : HasKind s k kinds.Free → offset ≡ 0 → OffersRoom fill r s number k offset size
+  -- words of the mutator's under a plan with lines
+  own_lines : OffersLines fill r s number k offset size → OffersRoom fill r s number k offset size
 
 -- An object of this size may be placed in block k in another region than that for the size's class:
 -- the mutator owned the block, or it was Free, in overflow allocation.

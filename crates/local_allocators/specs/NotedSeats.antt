@@ -3,7 +3,7 @@ use Rattle.std.specs.Prelude.{◌≡◌, ℕ, ◌<◌, Some, List, length, slice
 use Rattle.heap_layout.specs.declared.block.Kind.{Kind}
 use Rattle.block_regions.specs.declared.block_notes.BlockNote.{BlockNote}
 use Rattle.local_allocators.specs.declared.local_seat.LocalSeat.{LocalSeat}
-use Rattle.local_allocators.specs.declared.local_seat.TheConstants.{CLASSES}
+use Rattle.heap_layout.specs.declared.block.TheConstants.{CLASSES}
 use Rattle.local_allocators.specs.MutatorRegions.{MutatorRegions, FillsLines}
 use Rattle.local_allocators.specs.NotedRegions.{regions_of}
 

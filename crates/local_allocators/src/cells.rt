@@ -2,7 +2,7 @@
 //!
 //! Called for plans with cells. Reads block words and start words, and writes nothing.
 
-ghost use Rattle.std.specs.Prelude.{◌≡◌, ◌≢◌, ◌+◌, ◌*◌, ◌<◌, ◌⊎◌, ℕ, true, false, length};
+ghost use Rattle.std.specs.Prelude.{◌≡◌, ◌≢◌, ◌+◌, ◌*◌, ◌<◌, ◌⊎◌, ℕ, true, false};
 ghost use Rattle.heap_layout.specs.Zones.{block_start, IsRowOf};
 ghost use Rattle.heap_layout.specs.declared.block.Kind.TheVariants as kinds;
 ghost use Rattle.object_model.specs.Objects.{state_of, class_at, cell_words, is_start, HasKind};
@@ -10,10 +10,9 @@ ghost use Rattle.object_model.specs.Lawful.{IsReadableBlock};
 ghost use Rattle.sessions.specs.Fitting.{class_for as class_for_size};
 ghost use Rattle.block_regions.specs.Regions.{IsCellLeft};
 
-use crate::local_seat::CLASSES;
 use crate::regions::class_of;
 use cell_space::{cell_size, next_cell};
-use heap_layout::{BLOCK_WORDS, Kind, Region};
+use heap_layout::{BLOCK_BIT_WORDS, BLOCK_WORDS, CLASSES, Kind, Region};
 use object_model::Row;
 use side_meta::test_bit;
 
@@ -25,7 +24,7 @@ fn is_taken(row: &Row, block: u32, offset: u32) -> bool
     ensures { result ≡ is_start (state_of row.now)
         (block_start row.now.layout.blocks block + offset) }
 {
-    let word = row.layout.start_base() + 64 * block + offset / 64;
+    let word = row.layout.start_base() + BLOCK_BIT_WORDS * block + offset / 64;
     test_bit(&row.words, word, offset % 64)
 }
 

@@ -10,7 +10,7 @@ mod regions;
 mod tails;
 
 pub use cells::{free_cell, has_other_class};
-pub use local_seat::{CLASSES, LocalSeat};
+pub use local_seat::LocalSeat;
 pub use own_block::OwnRoom;
 pub use regions::{
     block_for, class_of, first_hole, first_region, hole_block, is_free, overflows, own_room,

@@ -17,7 +17,7 @@ use crate::local_seat::LocalSeat;
 use crate::own_block::OwnRoom;
 use block_regions::BlockNote;
 use heap_layout::{Kind, LINE_WORDS, Region};
-use object_model::{MAX_MEDIUM_WORDS, Row};
+use object_model::{HEADER_WORDS, MAX_MEDIUM_WORDS, Row};
 use plan_api::{Cursors, hole_in_block, place_in};
 
 /// What is left of a block of the mutator, or no words if there is no block.
@@ -54,7 +54,7 @@ fn cursors(notes: &[BlockNote], seat: &LocalSeat) -> Cursors
 /// regions are read.
 fn block_of_regions(notes: &[BlockNote], seat: &LocalSeat, size: u32) -> Option<u32>
     requires seat { HasNotedBlocks kinds.Immix notes.now seat.now }
-    requires least { 3 ≤ size }
+    requires least { HEADER_WORDS ≤ size }
     requires hole { (cursors_of (regions_in notes.now seat.now)).hole.next
         ≤ (cursors_of (regions_in notes.now seat.now)).hole.end }
     requires over { (cursors_of (regions_in notes.now seat.now)).over.next
@@ -74,7 +74,7 @@ fn block_of_regions(notes: &[BlockNote], seat: &LocalSeat, size: u32) -> Option<
 #[inline(always)]
 pub(crate) fn block_of_lines(notes: &[BlockNote], seat: &LocalSeat, size: u32) -> Option<u32>
     requires seat { HasNotedBlocks kinds.Immix notes.now seat.now }
-    requires least { 3 ≤ size }
+    requires least { HEADER_WORDS ≤ size }
     requires hole { (cursors_of (regions_in notes.now seat.now)).hole.next
         ≤ (cursors_of (regions_in notes.now seat.now)).hole.end }
     requires over { (cursors_of (regions_in notes.now seat.now)).over.next
@@ -121,7 +121,7 @@ pub(crate) fn room_in_lines(
 ) -> OwnRoom
     requires order { IsWellFormed (state_of row.now) }
     requires block { IsReadableBlock (state_of row.now) block }
-    requires least { 3 ≤ size }
+    requires least { HEADER_WORDS ≤ size }
     requires most { size ≤ MAX_MEDIUM_WORDS }
     ensures { IsOwnRoom kinds.Immix (state_of row.now) (block_of (Some seat.now) 0) block
         region.now size result }

@@ -1,7 +1,6 @@
 //! What a mutator has for allocation.
 
-/// The number of size classes of cells.
-pub const CLASSES: usize = 19;
+use heap_layout::CLASSES;
 
 /// What a mutator has for allocation in an epoch.
 #[derive(Clone, Copy, Debug)]

@@ -4,7 +4,7 @@
 //! Called by the search of a world. Asks for the kind, and leaves the rest to `tails`, `cells` and
 //! `lines`. Writes nothing.
 
-ghost use Rattle.std.specs.Prelude.{◌≡◌, ◌↔◌, ◌+◌, ◌<◌, ◌≤◌, ℕ, Some, None, IfSome, IfNone, true, false, IsTrue, length};
+ghost use Rattle.std.specs.Prelude.{◌≡◌, ◌↔◌, ◌+◌, ◌<◌, ◌≤◌, ℕ, Some, None, IfSome, IfNone, true, false, IsTrue};
 ghost use Rattle.heap_layout.specs.Zones.{IsRowOf};
 ghost use Rattle.heap_layout.specs.declared.block.Kind.TheVariants as kinds;
 ghost use Rattle.object_model.specs.Objects.{state_of, class_at, HasKind};
@@ -22,13 +22,13 @@ ghost use Rattle.local_allocators.specs.NotedSeats.{HasNotedBlocks, regions_in};
 
 use crate::cells::{free_cell, has_other_class};
 use crate::lines::{block_of_lines, overflows_hole, room_in_lines};
-use crate::local_seat::{CLASSES, LocalSeat};
+use crate::local_seat::LocalSeat;
 use crate::own_block::OwnRoom;
 use crate::tails::rest_of;
 use block_regions::BlockNote;
 use cell_space::cell_size;
-use heap_layout::{BLOCK_WORDS, CLASS_UNIT, Kind, Region};
-use object_model::{MAX_MEDIUM_WORDS, Row};
+use heap_layout::{BLOCK_WORDS, CLASS_UNIT, CLASSES, Kind, Region};
+use object_model::{HEADER_WORDS, MAX_MEDIUM_WORDS, Row};
 use plan_api::{class_for, hole_in_block};
 
 /// The class of an object of `size` words: the size class of its cell, or 0 if blocks have no
@@ -67,7 +67,7 @@ pub fn is_free(row: &Row, block: u32) -> bool
 pub fn first_hole(row: &Row, fill: Kind, block: u32, from: u32, size: u32) -> Option<Region>
     requires order { IsWellFormed (state_of row.now) }
     requires block { IsReadableBlock (state_of row.now) block }
-    requires least { 3 ≤ size }
+    requires least { HEADER_WORDS ≤ size }
     requires most { size ≤ MAX_MEDIUM_WORDS }
     ensures { IsFirstHole fill (state_of row.now) block from size result }
 {
@@ -99,7 +99,7 @@ pub fn rest_after(row: &Row, fill: Kind, block: u32, region: &Region, size: u32)
 #[inline(always)]
 pub fn block_for(notes: &[BlockNote], seat: &LocalSeat, fill: Kind, size: u32) -> Option<u32>
     requires seat { HasNotedBlocks fill notes.now seat.now }
-    requires least { 3 ≤ size }
+    requires least { HEADER_WORDS ≤ size }
     requires hole { FillsLines fill → (cursors_of (regions_in notes.now seat.now)).hole.next
         ≤ (cursors_of (regions_in notes.now seat.now)).hole.end }
     requires over { FillsLines fill → (cursors_of (regions_in notes.now seat.now)).over.next
@@ -160,7 +160,7 @@ pub fn own_room(
     requires block { IsReadableBlock (state_of row.now) block }
     requires kind { HasKind (state_of row.now) block fill }
     requires left { region.now.next ≤ region.now.end }
-    requires least { 3 ≤ size }
+    requires least { HEADER_WORDS ≤ size }
     requires most { size ≤ MAX_MEDIUM_WORDS }
     ensures { IsOwnRoom fill (state_of row.now) (block_of (Some seat.now) 0) block
         region.now size result }

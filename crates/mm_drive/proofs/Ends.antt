@@ -21,7 +21,7 @@ use Rattle.mm_drive.specs.Statuses.{status_number}
 use Rattle.mm_drive.specs.Printed.{job_files, HasTraces, EndsAtKnown, IsLong, IsNoTrace, HasFault, Unread, IsTooLong, IsBad, fault_of_flaw, unread_line, long_line, fault_line, memory_line, WritesFaultLine}
 use Rattle.mm_drive.specs.Exits.{OpensOnly, Ran, IsReported}
 use Rattle.mm_drive.specs.Reading.{Halts, IsOneOf, text_fault, status_of, file_name_in, fault_line_of}
-use Rattle.mm_drive.proofs.Joining.{asks-none, risen-since, long-off, bad-off, fault-off, long-bad, fault-long, reported-clash, ends-clash}
+use Rattle.mm_drive.proofs.JoinedFiles.{asks-none, risen-since, long-off, bad-off, fault-off, long-bad, fault-long, reported-clash, ends-clash}
 use Rattle.mm_drive.proofs.Outcomes.{within-files, to-files}
 
 -- the flaw of a file whose text was read

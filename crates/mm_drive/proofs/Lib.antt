@@ -1,8 +1,8 @@
-mod Printing
+mod MutatorReplies
 mod LiveLists
 mod WorkedLives
 mod OneTrace
 pub mod Jobs
 pub mod Outcomes
-pub mod Joining
+pub mod JoinedFiles
 pub mod Ends

@@ -42,7 +42,9 @@ abbrev pub an_add : Drawing
 an_add = draw_below 16 (λ s. draw_below 32 (λ j. draw (λ n. give (Add s j n))))
 
 abbrev pub a_swap : Drawing
-a_swap = draw_below 16 (λ s. draw_below 32 (λ j. draw_below 4 (λ was. draw_below 4 (λ next. give (Swap s j was next)))))
+a_swap = draw_below 16
+    (λ s. draw_below 32
+    (λ j. draw_below 4 (λ was. draw_below 4 (λ next. give (Swap s j was next)))))
 
 abbrev pub a_move : Drawing
 a_move = draw_below 16 (λ d. draw_below 16 (λ s. give (Move d s)))
@@ -71,9 +73,9 @@ in_row row =
     else if nat_eq row 14 then a_share
     else a_pin
 
--- Command k, from 0 on. At the start of every 1,024 commands, each register is dropped, and then each global is cleared
--- by sharing register 0, which is nil. At the start of every 65,536, a `gc` follows. All other commands are of a random
--- row.
+-- Command k, from 0 on. At the start of every 1,024 commands, each register is dropped, and then
+-- each global is cleared by sharing register 0, which is nil. At the start of every 65,536, a `gc`
+-- follows. All other commands are of a random row.
 abbrev pub command_at : ℕ → Drawing
 command_at k =
     if nat_lt (k % 1024) 16 then give (DropReg (k % 1024))

@@ -41,12 +41,14 @@ pub record AreReplies (t : Setting) (text : List ℕ) : Type 0 where
   pub whole : IsWhole t last
   pub printed : text ≡ replies_part (length t.traces) last
 
--- the text of a session of n mutators: replies, report and map for files, and a summary for a made trace
+-- the text of a session of n mutators: replies, report and map for files, and a summary for a made
+-- trace
 abbrev pub IsTextOf : Job → Work → ℕ → Moment → List ℕ → Type 0
 IsTextOf job (Files files) n last text = IsSessionText job.plan n job.map last text
 IsTextOf job (Made count) n last text = IsSummary count last text
 
--- The text of a whole session of the job and these traces: replies, report and map, or the summary of a made trace.
+-- The text of a whole session of the job and these traces: replies, report and map, or the summary
+-- of a made trace.
 pub record IsWholeText (job : Job) (traces : List (List Command)) (text : List ℕ) : Type 0 where
   pub last : Moment
   pub whole : IsWhole (setting_of job traces) last
@@ -62,12 +64,14 @@ Content = List ℕ → Option (List ℕ)
 
 -- the content, if known, encodes this trace
 abbrev pub IsTraceIn : Option (List ℕ) → List Command → Type 0
-IsTraceIn content t = IfSome content (λ bytes. (length bytes ≤ MAX_FILE_BYTES) × (trace bytes ≡ Ok t))
+IsTraceIn content t =
+    IfSome content (λ bytes. (length bytes ≤ MAX_FILE_BYTES) × (trace bytes ≡ Ok t))
 
 -- the contents of the files, if known, encode these traces, one each
 abbrev pub AreTraces : Content → List (List ℕ) → List (List Command) → Type 0
 AreTraces content [] [] = Unit {0}
-AreTraces content (file ∷ files) (t ∷ traces) = IsTraceIn (content file) t × AreTraces content files traces
+AreTraces content (file ∷ files) (t ∷ traces) = IsTraceIn (content file) t
+    × AreTraces content files traces
 AreTraces content [] (t ∷ traces) = ⊥
 AreTraces content (file ∷ files) [] = ⊥
 
@@ -78,7 +82,8 @@ AreTracesOf content (Made n) traces = traces ≡ made_trace n ∷ []
 
 -- the contents of all files are known
 abbrev pub AreKnown : Content → List (List ℕ) → Type 0
-AreKnown content files = AllByRecursion (λ file. (bytes : List ℕ) × (content file ≡ Some bytes)) files
+AreKnown content files =
+    AllByRecursion (λ file. (bytes : List ℕ) × (content file ≡ Some bytes)) files
 
 -- the contents of a job's files are known, and encode traces
 pub record HasTraces (content : Content) (job : Job) : Type 0 where
@@ -103,7 +108,8 @@ pub record PrintsPrefix (content : Content) (job : Job) (before after : SinkStat
   pub written : AppendsPrefix before.written after.written text
   pub risen : HasRisen before.faults after.faults
 
--- Between the two states the first n of these files were asked for, in their order, once each, and no other name.
+-- Between the two states the first n of these files were asked for, in their order, once each, and
+-- no other name.
 pub record AsksFirst (n : ℕ) (files : List (List ℕ)) (before after : Asked) : Type 0 where
   pub since : Asked
   pub all : after ≡ before ++ since
@@ -113,8 +119,10 @@ pub record AsksFirst (n : ℕ) (files : List (List ℕ)) (before after : Asked) 
 abbrev pub AsksPrefix : List (List ℕ) → Asked → Asked → Type 0
 AsksPrefix files before after = (n : ℕ) × AsksFirst n files before after
 
--- Reading ends at file k, from 0 on: the files before it have traces, and P holds of its content, if known.
-pub record EndsAtFile (content : Content) (files : List (List ℕ)) (k : ℕ) (P : List ℕ → Type 0) : Type 0 where
+-- Reading ends at file k, from 0 on: the files before it have traces, and P holds of its content,
+-- if known.
+pub record EndsAtFile (content : Content) (files : List (List ℕ)) (k : ℕ) (P : List ℕ → Type 0)
+    : Type 0 where
   pub file : List ℕ
   pub is : slice_get files k ≡ Some file
   pub traces : List (List Command)
@@ -123,7 +131,8 @@ pub record EndsAtFile (content : Content) (files : List (List ℕ)) (k : ℕ) (P
 
 -- reading ends at some file, and the contents up to it are known
 abbrev pub EndsAtKnown : Content → List (List ℕ) → (List ℕ → Type 0) → Type 0
-EndsAtKnown content files P = (k : ℕ) × EndsAtFile content files k P × AreKnown content (take (suc k) files)
+EndsAtKnown content files P = (k : ℕ) × EndsAtFile content files k P
+    × AreKnown content (take (suc k) files)
 
 abbrev pub IsLong : List ℕ → Type 0
 IsLong bytes = MAX_FILE_BYTES < length bytes
@@ -167,11 +176,13 @@ why_word why.Range = codes "range"
 
 -- the line for a bad header or command, from the texts of its line number and its fault
 abbrev pub line_fault : List ℕ → List ℕ → List ℕ → List ℕ
-line_fault file line word = file_line file (codes ": line " ++ (line ++ (codes ": " ++ (word ++ codes "\n"))))
+line_fault file line word =
+    file_line file (codes ": line " ++ (line ++ (codes ": " ++ (word ++ codes "\n"))))
 
 -- the end of the line for a file that is not a trace
 abbrev pub fault_end : Flaw → List ℕ
-fault_end (flaws.Line n w) = codes "line " ++ (decimal n ++ (codes ": " ++ (why_word w ++ codes "\n")))
+fault_end (flaws.Line n w) =
+    codes "line " ++ (decimal n ++ (codes ": " ++ (why_word w ++ codes "\n")))
 fault_end flaws.TooMany = codes "more than 1000000 commands\n"
 
 abbrev pub fault_line : List ℕ → Flaw → List ℕ
@@ -189,16 +200,18 @@ pub record WritesFaultLine (before after : SinkState) (line : List ℕ) : Type 0
       ⊎ (HasRisen before.faults after.faults × AppendsPrefix before.written after.written line)
   pub later : before.faults ≤ after.faults
 
--- The arguments do not match the usage, or ask for a feature that is not implemented yet: no file is asked for, and the
--- line is the usage.
-pub record IsUsage (job : Option Job) (before after : SourceState) (Writes : List ℕ → Type 0) : Type 0 where
+-- The arguments do not match the usage, or ask for a feature that is not implemented yet: no file
+-- is asked for, and the line is the usage.
+pub record IsUsage (job : Option Job) (before after : SourceState) (Writes : List ℕ → Type 0)
+    : Type 0 where
   pub none : job ≡ None
   pub unread : after ≡ before
   pub line : Writes usage_line
 
--- File `place`, from 0 on, could not be read: it was asked for last, when the count of faults was `count`, no less than
--- at the start, and the count has risen since. The line names the file.
-pub record Unread (files : List (List ℕ)) (before after : SourceState) (Writes : List ℕ → Type 0) : Type 0 where
+-- File `place`, from 0 on, could not be read: it was asked for last, when the count of faults was
+-- `count`, no less than at the start, and the count has risen since. The line names the file.
+pub record Unread (files : List (List ℕ)) (before after : SourceState) (Writes : List ℕ → Type 0)
+    : Type 0 where
   pub place : ℕ
   pub at : EndsAtFile before.content files place IsAny
   pub earlier : Asked
@@ -210,14 +223,16 @@ pub record Unread (files : List (List ℕ)) (before after : SourceState) (Writes
   pub line : Writes (unread_line at.file)
 
 -- A file is too long. It was asked for last, and the line names it.
-pub record IsTooLong (files : List (List ℕ)) (before after : SourceState) (Writes : List ℕ → Type 0) : Type 0 where
+pub record IsTooLong (files : List (List ℕ)) (before after : SourceState) (Writes : List ℕ → Type 0)
+    : Type 0 where
   pub place : ℕ
   pub at : EndsAtFile before.content files place IsLong
   pub asked : AsksFirst (suc place) files before.asked after.asked
   pub line : Writes (long_line at.file)
 
 -- A file is not a trace. It was asked for last, and the line names it and its first fault.
-pub record IsBad (files : List (List ℕ)) (before after : SourceState) (Writes : List ℕ → Type 0) : Type 0 where
+pub record IsBad (files : List (List ℕ)) (before after : SourceState) (Writes : List ℕ → Type 0)
+    : Type 0 where
   pub flaw : Flaw
   pub place : ℕ
   pub at : EndsAtFile before.content files place (HasFault flaw)

@@ -34,16 +34,23 @@ fault_at place (file.Bad f) = files.Bad place f
 fault_at place file.OutOfMemory = files.OutOfMemory
 
 -- This name is asked for, after all earlier ones. If memory ran out, it may not have been.
-abbrev pub AsksName : {X : Type 0} → Result X FileFault → List ℕ → SourceState → SourceState → Type 0
+abbrev pub AsksName : {X : Type 0} → Result X FileFault → List ℕ → SourceState
+    → SourceState → Type 0
 AsksName (Ok x) name before after = after.asked ≡ before.asked ++ (name, before.faults) ∷ []
-AsksName (Err file.Unread) name before after = after.asked ≡ before.asked ++ (name, before.faults) ∷ []
-AsksName (Err file.TooLong) name before after = after.asked ≡ before.asked ++ (name, before.faults) ∷ []
-AsksName (Err (file.Bad f)) name before after = after.asked ≡ before.asked ++ (name, before.faults) ∷ []
-AsksName (Err file.OutOfMemory) name before after = (after.asked ≡ before.asked ++ (name, before.faults) ∷ [])
+AsksName (Err file.Unread) name before after =
+    after.asked ≡ before.asked ++ (name, before.faults) ∷ []
+AsksName (Err file.TooLong) name before after =
+    after.asked ≡ before.asked ++ (name, before.faults) ∷ []
+AsksName (Err (file.Bad f)) name before after =
+    after.asked ≡ before.asked ++ (name, before.faults) ∷ []
+AsksName (Err file.OutOfMemory) name before after =
+    (after.asked ≡ before.asked ++ (name, before.faults) ∷ [])
     ⊎ (after.asked ≡ before.asked)
 
--- File k, of this name, could not be read: it was asked for last, and the count of faults has risen since.
-pub record IsUnread (names : List (List ℕ)) (k : ℕ) (name : List ℕ) (before after : SourceState) : Type 0 where
+-- File k, of this name, could not be read: it was asked for last, and the count of faults has risen
+-- since.
+pub record IsUnread (names : List (List ℕ)) (k : ℕ) (name : List ℕ) (before after : SourceState)
+    : Type 0 where
   pub earlier : Asked
   pub prefix : AsksFirst k names before.asked earlier
   pub count : ℕ
@@ -51,8 +58,8 @@ pub record IsUnread (names : List (List ℕ)) (k : ℕ) (name : List ℕ) (befor
   pub since : before.faults ≤ count
   pub risen : HasRisen count after.faults
 
--- Reading ends at the file that the fault names. It was asked for last, and its content has the fault. Nothing is said
--- of where memory runs out.
+-- Reading ends at the file that the fault names. It was asked for last, and its content has the
+-- fault. Nothing is said of where memory runs out.
 abbrev pub Halts : List (List ℕ) → SourceState → SourceState → FilesFault → Type 0
 Halts names before after (files.Unread k) = (at : EndsAtFile before.content names k IsAny)
     × IsUnread names k at.file before after

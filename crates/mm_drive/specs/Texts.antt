@@ -51,9 +51,12 @@ held_line s = ended (codes "held objects " ++ decimal (length (held_in s))
 abbrev pub kinds_line : HeapState → List ℕ
 kinds_line s = ended (codes "kinds free " ++ decimal (kind_count s kinds.Free)
     ++ codes " bump " ++ decimal (kind_count s kinds.Bump)
-    ++ codes " young " ++ decimal (kind_count s kinds.Young) ++ codes " mature " ++ decimal (kind_count s kinds.Mature)
-    ++ codes " immix " ++ decimal (kind_count s kinds.Immix) ++ codes " cells " ++ decimal (kind_count s kinds.Cells)
-    ++ codes " large " ++ decimal (large_of s) ++ codes " kept " ++ decimal (kind_count s kinds.Kept))
+    ++ codes " young " ++ decimal (kind_count s kinds.Young) ++ codes " mature "
+    ++ decimal (kind_count s kinds.Mature)
+    ++ codes " immix " ++ decimal (kind_count s kinds.Immix) ++ codes " cells "
+    ++ decimal (kind_count s kinds.Cells)
+    ++ codes " large " ++ decimal (large_of s) ++ codes " kept "
+    ++ decimal (kind_count s kinds.Kept))
 
 -- nine lines on a session of n mutators, whose last heap has these live objects
 abbrev pub report_part : Plan → ℕ → Moment → List ℕ → List ℕ
@@ -63,21 +66,25 @@ report_part plan n last live =
     ++ ended (codes "mutators " ++ decimal n)
     ++ ended (codes "commands " ++ decimal (length last.done))
     ++ ended (codes "full " ++ decimal (count_by (λ e. is_full e.reply) last.done))
-    ++ ended (codes "collections nursery " ++ decimal last.nursery ++ codes " full " ++ decimal last.full)
+    ++ ended (codes "collections nursery " ++ decimal last.nursery ++ codes " full "
+    ++ decimal last.full)
     ++ live_line last.heap live
     ++ held_line last.heap
     ++ kinds_line last.heap
 
 -- the map line of an object: its name, where it lies, and its size in words
 abbrev pub map_line : HeapState → ℕ → List ℕ
-map_line s a = ended (codes "map " ++ name_text (name_at s a) ++ codes " block " ++ decimal (block_at s.blocks a)
+map_line s a =
+    ended (codes "map " ++ name_text (name_at s a) ++ codes " block "
+    ++ decimal (block_at s.blocks a)
     ++ codes " word " ++ decimal (offset_at s.blocks a) ++ codes " size " ++ decimal (size_at s a))
 
 abbrev pub map_part : Moment → List ℕ → List ℕ
 map_part last live = flat_map (map_line last.heap) live
 
 -- the whole text of a session with files; the map only if it is asked for
-pub record IsSessionText (plan : Plan) (n : ℕ) (has_map : Bool) (last : Moment) (text : List ℕ) : Type 0 where
+pub record IsSessionText (plan : Plan) (n : ℕ) (has_map : Bool) (last : Moment) (text : List ℕ)
+    : Type 0 where
   pub live : List ℕ
   pub are : AreLive last live
   pub printed : text ≡ replies_part n last ++ report_part plan n last live

@@ -1,4 +1,5 @@
--- A worked end of a session of two mutators: a heap of five blocks with three live objects and two dead ones.
+-- A worked end of a session of two mutators: a heap of five blocks with three live objects and two
+-- dead ones.
 use Rattle.std.specs.Prelude.{ℕ, List, [], ◌∷◌, ◌++◌, replicate}
 use Rattle.heap_layout.specs.declared.block.Kind.TheVariants as kinds
 use Rattle.ideal_heap.specs.declared.command.Command.TheVariants as command
@@ -14,13 +15,15 @@ use Rattle.sessions.specs.Sessions.{Moment}
 abbrev pub of_second : WorkedObject → ℕ → WorkedObject
 of_second o birth = record o { name = name 2 birth }
 
--- A Bump block, a large object and an Immix block. The first object of each small block is dead or refers to the large
--- one; a global refers to 1.3.
+-- A Bump block, a large object and an Immix block. The first object of each small block is dead or
+-- refers to the large one; a global refers to 1.3.
 abbrev pub worked_heap : HeapState
 worked_heap = build_heap (record {
-  blocks = unowned kinds.Bump 0 ∷ unowned kinds.Free 0 ∷ unowned kinds.LargeHead 1 ∷ unowned kinds.Immix 0
+  blocks = unowned kinds.Bump 0 ∷ unowned kinds.Free 0 ∷ unowned kinds.LargeHead 1
+      ∷ unowned kinds.Immix 0
       ∷ unowned kinds.Free 0 ∷ [];
-  objects = plain_object 0 0 1 [] 2 0 ∷ of_second (plain_object 0 5 0 (9195 ∷ []) 0 0) 1 ∷ plain_object 2 0 2 [] 2046 0
+  objects = plain_object 0 0 1 [] 2 0 ∷ of_second (plain_object 0 5 0 (9195 ∷ []) 0 0) 1
+      ∷ plain_object 2 0 2 [] 2046 0
       ∷ plain_object 3 16 3 (0 ∷ []) 3 0 ∷ of_second (plain_object 3 48 0 (13307 ∷ []) 0 0) 2 ∷ [];
   globals = replicate 5 0 ++ 13307 ∷ replicate 10 0;
   number = 7;
@@ -29,7 +32,8 @@ worked_heap = build_heap (record {
 
 abbrev pub worked_entries : List Entry
 worked_entries =
-    entry 2 (command.New 3 1 0) (reply.New (name 2 1)) ∷ entry 1 (command.New 0 0 2) (reply.New (name 1 1))
+    entry 2 (command.New 3 1 0) (reply.New (name 2 1))
+    ∷ entry 1 (command.New 0 0 2) (reply.New (name 1 1))
     ∷ entry 1 (command.New 0 0 60000) reply.Full ∷ entry 2 (command.Read 3 0) reply.Range
     ∷ entry 1 command.Gc reply.Done ∷ entry 2 (command.Get 3 3 0) (reply.Ref (name 1 2)) ∷ []
 

@@ -30,8 +30,12 @@ const TWO_LARGEST: &str = "new r0 1024 60000;new r1 1024 60000";
 
 const PIN_LARGEST: &str = "new r0 1024 60000;pin r0";
 
+// `data/lists.trace`: two lists of two objects, of which one is dropped.
+const LISTS: &str = "new r0 1 1;new r1 1 1;put r1 0 r0;drop r0;new r2 1 1;new r3 1 1;put r3 0 r2;\
+    pin r1;drop r2;drop r3;gc;get r0 r1 0;new r4 0 9000;new r4 0 4000";
+
 // Plans, blocks, and the commands and replies of each mutator.
-const SESSIONS: [(&[&str], u32, &str, &str); 31] = [
+const SESSIONS: [(&[&str], u32, &str, &str); 33] = [
     (ALL, 4, FIRST, "new 1.1;ok;num 7;nil"),
     (ALL, 4, "", ""),
     (
@@ -103,6 +107,20 @@ const SESSIONS: [(&[&str], u32, &str, &str); 31] = [
         4,
         "new r0 0 2046;new r0 0 60000;new r0 0 0;new r0 0 2045",
         "new 1.1;full;new 1.2;new 1.3",
+    ),
+    // The pinned object keeps its block, and what it refers to moves to a second one. So two blocks
+    // are Free.
+    (
+        IMMIX,
+        4,
+        LISTS,
+        "new 1.1;new 1.2;ok;ok;new 1.3;new 1.4;ok;yes;ok;ok;ok;ref 1.1;full;new 1.5",
+    ),
+    (
+        SEMISPACE,
+        4,
+        LISTS,
+        "new 1.1;new 1.2;ok;ok;new 1.3;new 1.4;ok;yes;ok;ok;ok;ref 1.1;full;full",
     ),
     // A young object that an old one alone reaches, and garbage.
     (

@@ -7,7 +7,7 @@ use Rattle.sessions.specs.Plans.{Rules}
 use Rattle.sessions.specs.Sessions as sessions
 use Rattle.sessions.specs.Sessions.{Setting, Moment, RunsPart, CollectsFor, ServesAll, Meets, IsEpoch, is_at_gc, is_at_need, next_in, traced_mutators}
 use Rattle.sessions.proofs.Orders as orders
-use Rattle.sessions.proofs.Growing as growing
+use Rattle.sessions.proofs.GrowingHistories as growing
 use Rattle.block_regions.proofs.Lists.{get-some, get-below}
 use Rattle.mm_runtime.specs.declared.progress.Progress.{Progress}
 use Rattle.mm_runtime.specs.declared.progress.End.{End}

@@ -16,7 +16,7 @@ use Rattle.sessions.specs.Fitting.{free_of, allowance_of}
 use Rattle.sessions.specs.Sessions.{Setting, Moment, IsOfPart, ExhaustsAllowance, RunsPart, Stopped, ideal_at, traced_mutators as numbers_in}
 use Rattle.mutator_core.specs.Machine.{Epoch}
 use Rattle.mutator_core.specs.Guards.{allowance}
-use Rattle.mutator_core.proofs.Ending.{log-recorded}
+use Rattle.mutator_core.proofs.EpochEnds.{log-recorded}
 use Rattle.heap_users.specs.Beginnings.{epoch_of}
 use Rattle.plain_row.specs.Rows.{births_of}
 use Rattle.heap_users.specs.Users.{mutator_state}
@@ -121,6 +121,7 @@ module _ {P : Type 0} (rules : Rules) (old new : Manager P) (ends : List End) (r
     heap = record {
       rules_are = stands.heap.rules_are;
       workers = stands.heap.workers;
+      blocks = stands.heap.blocks ∙ sym stopped.blocks;
       heap = refl;
       mutators = refl;
       nursery = r.nursery ∙ stands.heap.nursery;

@@ -119,6 +119,7 @@ module _ {P : Type 0} (rules : Rules) (m : Manager P) (v : Vec Progress Global) 
             heap = record {
               rules_are = at.heap.rules_are;
               workers = at.heap.workers;
+              blocks = at.heap.blocks;
               heap = at.heap.heap;
               mutators = at.heap.mutators;
               nursery = at.heap.nursery;

@@ -7,13 +7,13 @@ use Rattle.ideal_heap.specs.declared.reply.Reply.{Reply}
 use Rattle.ideal_heap.specs.Runs.{entry}
 use Rattle.object_model.specs.Objects.{HeapState, has_kind}
 use Rattle.mutator_core.specs.Logs.{history_of}
-use Rattle.mutator_calls.specs.Effects.{Effect, enters}
+use Rattle.mutator_calls.specs.Effects.{Effect}
 use Rattle.sessions.specs.Plans.{Rules}
 use Rattle.plain_world.specs.declared.plain_world.PlainWorld.{PlainWorld}
 use Rattle.plain_row.specs.Rows.{births_of}
 use Rattle.local_allocators.specs.Seats.{ticket_of}
 use Rattle.plain_row.specs.Worlds.{is_in_list}
-use Rattle.plain_world.specs.Calls.{heap_of_world, mutator_number_at, epoch_allowance, IsOpen, SamePlaces, AddsEntries, AddsEntry, Grants, LeavesRest}
+use Rattle.plain_world.specs.Calls.{heap_of_world, mutator_number_at, epoch_allowance, IsOpen, SamePlaces, AddsEntries, Grants, LeavesRest, HasEffect}
 use Rattle.mm_runtime.specs.Parts.{AnswersMutator}
 
 -- the heap has as many blocks as the epoch's first one, and the allowance is the epoch's
@@ -51,9 +51,10 @@ answers-effect old new m e granted is_old is_new places history grants rest = re
 }
 
 -- one call that allocates nothing
-pub answers-enter : {P : Type 0} {rules : Rules} (old new : PlainWorld P) (m : ℕ) (command given : Command) (reply : Reply) → command ≡ given → IsOpen rules old → IsOpen rules new
-    → SamePlaces old new → AddsEntry old m given reply new → Grants old [] new → LeavesRest old m (enters given reply) new
+pub answers-enter : {P : Type 0} {rules : Rules} (old new : PlainWorld P) (m : ℕ) (command given : Command) (reply : Reply) (e : Effect) → command ≡ given
+    → e.entries ≡ record { command = given; reply = reply } ∷ [] → IsOpen rules old → HasEffect rules old m e new
     → AnswersMutator rules old m (record { command = command; reply = reply } ∷ []) new
-answers-enter {P} {rules} old new m command given reply same is_old is_new places history grants rest =
+answers-enter {P} {rules} old new m command given reply e same entries is_old call =
     subst (λ (x : Command). AnswersMutator rules old m (record { command = x; reply = reply } ∷ []) new) (sym same)
-    (answers-effect old new m (enters given reply) [] is_old is_new places history grants rest)
+    (subst (λ es. AnswersMutator rules old m es new) entries
+    (answers-effect old new m e e.granted is_old call.stays.is_open call.stays.places call.history call.granted call.rest))

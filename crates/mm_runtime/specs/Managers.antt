@@ -32,7 +32,8 @@ replied ps = sum_by (λ p. length p.replies.items) ps
 abbrev pub left : List Progress → ℕ
 left ps = sum_by (λ p. length p.trace - length p.replies.items) ps
 
--- a trace of valid commands, which has at most as many replies as commands, and room for a reply to each
+-- a trace of valid commands, which has at most as many replies as commands, and room for a reply to
+-- each
 pub record IsProgress (p : Progress) : Type 0 where
   pub valid : All IsValid p.trace
   pub few : length p.trace ≤ MAX_COMMANDS
@@ -60,10 +61,11 @@ pub record HasReplies (ps : List Progress) (done : List Entry) : Type 0 where
   pub mutators : AllByRecursion (λ e. IsMutator (traces_of ps) e.mutator) done
   pub commands : (k : ℕ) (p : Progress) → slice_get ps k ≡ Some p
       → commands_of (k + 1) done ≡ take (length p.replies.items) p.trace
-  pub replies : (k : ℕ) (p : Progress) → slice_get ps k ≡ Some p → replies_of (k + 1) done ≡ p.replies.items
+  pub replies : (k : ℕ) (p : Progress) → slice_get ps k ≡ Some p
+      → replies_of (k + 1) done ≡ p.replies.items
 
--- What a manager keeps in order, whatever its session. A command causes at most two collections; `more` of those made are
--- for a command that has no reply yet.
+-- What a manager keeps in order, whatever its session. A command causes at most two collections;
+-- `more` of those made are for a command that has no reply yet.
 pub record IsInOrder {P : Type 0} (rules : Rules) (more : ℕ) (m : Manager P) : Type 0 where
   pub heap : stopped.IsHeapInOrder rules m.heap
   pub some : 1 ≤ length m.progress.items
@@ -74,14 +76,17 @@ pub record IsInOrder {P : Type 0} (rules : Rules) (more : ℕ) (m : Manager P) :
       → slice_get m.progress.items k ≡ Some p → u.births ≤ length p.replies.items
   pub collections : collections_of m.heap ≤ 2 * replied m.progress.items + more
 
--- The manager's heap stands at this moment, its replies are those of the moment, and its traces those of the setting.
-pub record StandsAt {P : Type 0} (rules : Rules) (m : Manager P) (t : Setting) (now : Moment) : Type 0 where
+-- The manager's heap stands at this moment, its replies are those of the moment, and its traces
+-- those of the setting.
+pub record StandsAt {P : Type 0} (rules : Rules) (m : Manager P) (t : Setting) (now : Moment)
+    : Type 0 where
   pub heap : stopped.HeapStandsAt rules m.heap t now
   pub traces : t.traces ≡ traces_of m.progress.items
   pub replies : HasReplies m.progress.items now.done
 
 -- the manager closes a session of this setting, at its last moment
-pub record Closes {P : Type 0} (rules : Rules) (m : Manager P) (t : Setting) (now : Moment) : Type 0 where
+pub record Closes {P : Type 0} (rules : Rules) (m : Manager P) (t : Setting) (now : Moment)
+    : Type 0 where
   pub session : InSession t now
   pub stands : StandsAt rules m t now
 

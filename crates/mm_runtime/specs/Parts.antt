@@ -26,17 +26,21 @@ use Rattle.mm_runtime.specs.Managers.{next_in_trace, IsProgress}
 abbrev pub is_quiet : Command → Bool
 is_quiet command = not (is_new command || is_gc command || is_meet command)
 
--- The mutator at place m got these replies to its commands. Nothing else is in the history, the tickets and births of the
--- other mutators are unchanged, and no block became Free.
-pub record AnswersMutator {P : Type 0} (rules : Rules) (old : PlainWorld P) (m : ℕ) (es : List Answered)
+-- The mutator at place m got these replies to its commands. Nothing else is in the history, the
+-- tickets and births of the other mutators are unchanged, and no block became Free.
+pub record AnswersMutator {P : Type 0} (rules : Rules) (old : PlainWorld P) (m : ℕ)
+    (es : List Answered)
     (new : PlainWorld P) : Type 0 where
   pub is_open : IsOpen rules new
   pub places : SamePlaces old new
-  pub history : AddsEntries old (map (λ e. entry (mutator_number_at old m) e.command e.reply) es) new
+  pub history : AddsEntries old
+      (map (λ e. entry (mutator_number_at old m) e.command e.reply) es) new
   pub births : births_at new m ≡ births_at old m + births_in es
-  pub others : (k : ℕ) → k ≢ m → (ticket_at new k ≡ ticket_at old k) × (births_at new k ≡ births_at old k)
+  pub others : (k : ℕ) → k ≢ m → (ticket_at new k ≡ ticket_at old k)
+      × (births_at new k ≡ births_at old k)
   pub blocks : (heap_of_world new).blocks ≡ (heap_of_world old).blocks
-  pub free : (k : ℕ) → has_kind (heap_of_world new) k kinds.Free ≡ true → has_kind (heap_of_world old) k kinds.Free
+  pub free : (k : ℕ) → has_kind (heap_of_world new) k kinds.Free ≡ true
+      → has_kind (heap_of_world old) k kinds.Free
       ≡ true
   pub allowance : epoch_allowance new ≡ epoch_allowance old
 
@@ -44,18 +48,21 @@ pub record AnswersMutator {P : Type 0} (rules : Rules) (old : PlainWorld P) (m :
 abbrev pub IsExhausted : {P : Type 0} → PlainWorld P → ℕ → Type 0
 IsExhausted w m = (t : ℕ) × (ticket_at w m ≡ Some t) × (epoch_allowance w ≤ t)
 
--- Why a part ends whose mutator, at place m, has this next command. The stop word was `before` and is that of the world
--- now.
+-- Why a part ends whose mutator, at place m, has this next command. The stop word was `before` and
+-- is that of the world now.
 abbrev pub EndsFor : {P : Type 0} → ℕ → PlainWorld P → ℕ → Option Command → End → Type 0
 EndsFor before w m next end.Gc = (next ≡ Some c.Gc) × (stop_word w ≡ mutator_number_at w m)
 EndsFor before w m next end.Meet = (next ≡ Some c.Meet) × (stop_word w ≡ before)
 EndsFor before w m next end.Trace = (next ≡ None) × (stop_word w ≡ before)
 EndsFor before w m next (end.Need need) = (next ≡ Some (c.New need.register need.refs need.nums))
-    × (stop_word w ≡ mutator_number_at w m) × (size_of need.refs need.nums ≤ MAX_MEDIUM_WORDS → IsExhausted w m)
-EndsFor before w m next (end.Raised by) = (next ≢ None) × (0 < by) × (before ≡ by) × (stop_word w ≡ by)
+    × (stop_word w ≡ mutator_number_at w m)
+    × (size_of need.refs need.nums ≤ MAX_MEDIUM_WORDS → IsExhausted w m)
+EndsFor before w m next (end.Raised by) = (next ≢ None) × (0 < by) × (before ≡ by)
+    × (stop_word w ≡ by)
 
 -- the mutator at place m got one reply to this command, which goes to the end of its replies
-pub record GetsReply {P : Type 0} (rules : Rules) (old : PlainWorld P) (m : ℕ) (command : Command) (before : Replies)
+pub record GetsReply {P : Type 0} (rules : Rules) (old : PlainWorld P) (m : ℕ) (command : Command)
+    (before : Replies)
     (new : PlainWorld P) (after : Replies) : Type 0 where
   pub reply : Reply
   pub answers : AnswersMutator rules old m (record { command = command; reply = reply } ∷ []) new
@@ -64,14 +71,17 @@ pub record GetsReply {P : Type 0} (rules : Rules) (old : PlainWorld P) (m : ℕ)
   pub stop : stop_word new ≡ stop_word old
 
 -- the part of the mutator at place m ends at this command, and it gets no reply
-pub record EndsPart {P : Type 0} (rules : Rules) (old : PlainWorld P) (m : ℕ) (command : Command) (before : Replies)
+pub record EndsPart {P : Type 0} (rules : Rules) (old : PlainWorld P) (m : ℕ) (command : Command)
+    (before : Replies)
     (new : PlainWorld P) (after : Replies) (end : End) : Type 0 where
   pub answers : AnswersMutator rules old m [] new
   pub replies : after ≡ before
   pub cause : EndsFor (stop_word old) new m (Some command) end
 
--- The part of the mutator at place m from one world to the other: its replies go to those of its trace.
-pub record RunsTrace {P : Type 0} (rules : Rules) (old : PlainWorld P) (m : ℕ) (before : Progress) (new : PlainWorld P)
+-- The part of the mutator at place m from one world to the other: its replies go to those of its
+-- trace.
+pub record RunsTrace {P : Type 0} (rules : Rules) (old : PlainWorld P) (m : ℕ) (before : Progress)
+    (new : PlainWorld P)
     (after : Progress) : Type 0 where
   pub answered : List Answered
   pub answers : AnswersMutator rules old m answered new
@@ -103,8 +113,8 @@ pub record EndRaisesStop (ends : List End) (number : ℕ) : Type 0 where
   pub raises : raises_stop end ≡ true
   pub number_is : number ≡ place + 1
 
--- Why the part of the mutator at place m ended, whose next command is this, if the parts of the mutators ended so. It
--- holds in the world after all these parts.
+-- Why the part of the mutator at place m ended, whose next command is this, if the parts of the
+-- mutators ended so. It holds in the world after all these parts.
 abbrev pub EndedFor : {P : Type 0} → PlainWorld P → List End → ℕ → Option Command → End → Type 0
 EndedFor w ends m next end.Gc = next ≡ Some c.Gc
 EndedFor w ends m next end.Meet = next ≡ Some c.Meet
@@ -114,7 +124,8 @@ EndedFor w ends m next (end.Need need) = (next ≡ Some (c.New need.register nee
 EndedFor w ends m next (end.Raised by) = (next ≢ None) × EndRaisesStop ends by
 
 -- The parts of the first n mutators, whose numbers are their places counted from 1.
-pub record RunsParts {P : Type 0} (rules : Rules) (old : PlainWorld P) (before : List Progress) (n : ℕ) (ends : List End) (new : PlainWorld P)
+pub record RunsParts {P : Type 0} (rules : Rules) (old : PlainWorld P) (before : List Progress)
+    (n : ℕ) (ends : List End) (new : PlainWorld P)
     (after : List Progress) : Type 0 where
   pub is_open : IsOpen rules new
   pub places : SamePlaces old new
@@ -126,8 +137,10 @@ pub record RunsParts {P : Type 0} (rules : Rules) (old : PlainWorld P) (before :
   pub grows : (k : ℕ) (p q : Progress) → slice_get before k ≡ Some p → slice_get after k ≡ Some q
       → RepliesGrow (k + 1) part p q
   pub each : (k : ℕ) (q : Progress) → slice_get after k ≡ Some q → IsProgress q
-  pub births : (k : ℕ) (q : Progress) → slice_get after k ≡ Some q → births_at new k ≤ length q.replies.items
-  pub causes : (k : ℕ) (q : Progress) (e : End) → slice_get after k ≡ Some q → slice_get ends k ≡ Some e
+  pub births : (k : ℕ) (q : Progress) → slice_get after k ≡ Some q
+      → births_at new k ≤ length q.replies.items
+  pub causes : (k : ℕ) (q : Progress) (e : End) → slice_get after k ≡ Some q
+      → slice_get ends k ≡ Some e
       → EndedFor new ends k (next_in_trace q) e
   pub stop : (stop_word new ≡ 0) ⊎ EndRaisesStop ends (stop_word new)
 
@@ -152,4 +165,5 @@ AreGcs ps ends = (k : ℕ) (p : Progress) → slice_get ps k ≡ Some p → slic
 
 abbrev pub AreNeeds : List Progress → List End → Type 0
 AreNeeds ps ends = (k : ℕ) (p : Progress) (need : Need) → slice_get ps k ≡ Some p
-    → slice_get ends k ≡ Some (end.Need need) → next_in_trace p ≡ Some (c.New need.register need.refs need.nums)
+    → slice_get ends k ≡ Some (end.Need need)
+    → next_in_trace p ≡ Some (c.New need.register need.refs need.nums)

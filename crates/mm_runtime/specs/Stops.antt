@@ -31,12 +31,14 @@ pub record RepliesAt (old new : List Progress) (k : ℕ) (reply : Reply) : Type 
 
 -- mutator m, counted from 1, has this `new` next
 abbrev pub NeedsNext : {P : Type 0} → Manager P → ℕ → Need → Type 0
-NeedsNext manager m need = (1 ≤ m) × ((k : ℕ) → k + 1 ≡ m → (p : Progress) × (slice_get manager.progress.items k ≡ Some p)
+NeedsNext manager m need = (1 ≤ m)
+    × ((k : ℕ) → k + 1 ≡ m → (p : Progress) × (slice_get manager.progress.items k ≡ Some p)
     × (next_in_trace p ≡ Some (c.New need.register need.refs need.nums)))
 
 -- mutator m, counted from 1, gets one more reply, the others none
 abbrev pub RepliesTo : {P : Type 0} → Manager P → ℕ → Reply → Manager P → Type 0
-RepliesTo old m reply new = (k : ℕ) → k + 1 ≡ m → RepliesAt old.progress.items new.progress.items k reply
+RepliesTo old m reply new = (k : ℕ) → k + 1 ≡ m
+    → RepliesAt old.progress.items new.progress.items k reply
 
 -- one fact for an object placed, the other for a full heap
 abbrev pub MatchPlaced : Placed → (Name → Type 0) → (ℕ → Type 0) → Type 0
@@ -45,13 +47,15 @@ MatchPlaced (placed.HeapFull size) P Q = Q size
 
 -- the end of the part of mutator m is served, if it is a need
 abbrev pub ServesEnd : Setting → ℕ → End → Moment → Moment → Type 0
-ServesEnd t m (end.Need need) before now = ServesNeed t m need.register need.refs need.nums before now
+ServesEnd t m (end.Need need) before now =
+    ServesNeed t m need.register need.refs need.nums before now
 ServesEnd t m end.Gc before now = now ≡ before
 ServesEnd t m end.Meet before now = now ≡ before
 ServesEnd t m end.Trace before now = now ≡ before
 ServesEnd t m (end.Raised by) before now = now ≡ before
 
--- Mutator m, counted from 1, may have other replies, in all no fewer than before. The others have the same.
+-- Mutator m, counted from 1, may have other replies, in all no fewer than before. The others have
+-- the same.
 pub record AddsReply {P : Type 0} (old : Manager P) (m : ℕ) (new : Manager P) : Type 0 where
   pub count : length new.progress.items ≡ length old.progress.items
   pub others : (j : ℕ) → j + 1 ≢ m → slice_get new.progress.items j ≡ slice_get old.progress.items j

@@ -80,6 +80,7 @@ impl<P: Plan> Manager<P> {
             heap,
             mutators,
             notes,
+            roots: parts.roots,
             nursery: parts.nursery,
             full: parts.full,
         };

@@ -1,4 +1,5 @@
--- Commands that read or change an object, and when the object lacks the field or number that they name.
+-- Commands that read or change an object, and when the object lacks the field or number that they
+-- name.
 use Rattle.std.specs.Prelude.{◌≤◌, ◌<◌}
 use Rattle.ideal_heap.specs.declared.command.Command.{Command}
 use Rattle.ideal_heap.specs.declared.command.Command.TheVariants as c

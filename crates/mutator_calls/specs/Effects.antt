@@ -1,5 +1,6 @@
--- What the steps of a call do: the entries that they make in the history, the objects that they log, the blocks that
--- they take, the tickets that they draw, the stop that they raise, and whether they change the mutator's regions.
+-- What the steps of a call do: the entries that they make in the history, the objects that they
+-- log, the blocks that they take, the tickets that they draw, the stop that they raise, and whether
+-- they change the mutator's regions.
 use Rattle.std.specs.Prelude.{◌≡◌, ℕ, ◌+◌, Bool, true, false, ◌||◌, List, [], ◌∷◌, ◌++◌, MatchBool, nat_eq}
 use Rattle.ideal_heap.specs.declared.command.Command.{Command}
 use Rattle.ideal_heap.specs.declared.reply.Reply.{Reply}
@@ -28,11 +29,20 @@ pub record Effect : Type 0 where
 
 -- no entry, no object logged, no block taken, no ticket drawn, no stop raised, no region changed
 abbrev pub nothing : Effect
-nothing = record { entries = []; logged = []; taken = []; granted = []; drawn = 0; raised = false; moved = false }
+nothing = record {
+  entries = [];
+  logged = [];
+  taken = [];
+  granted = [];
+  drawn = 0;
+  raised = false;
+  moved = false;
+}
 
 -- one entry
 abbrev pub enters : Command → Reply → Effect
-enters command reply = record nothing { entries = (record { command = command; reply = reply }) ∷ [] }
+enters command reply =
+    record nothing { entries = (record { command = command; reply = reply }) ∷ [] }
 
 -- these objects are logged, and then there is one entry
 abbrev pub logs : List ℕ → Command → Reply → Effect
@@ -68,4 +78,5 @@ and_then e f = record {
 
 -- The reply is that to a load that found v: nil, or the name of the object at v.
 abbrev pub IsFound : (ℕ → Name → Type 0) → ℕ → Reply → Type 0
-IsFound named v reply = MatchBool (nat_eq v 0) (reply ≡ r.Nil) ((n : Name) → named v n → reply ≡ r.Ref n)
+IsFound named v reply =
+    MatchBool (nat_eq v 0) (reply ≡ r.Nil) ((n : Name) → named v n → reply ≡ r.Ref n)

@@ -3,18 +3,18 @@
 ghost use Rattle.std.specs.Prelude.{◌≡◌, ◌≢◌, ◌+◌, ◌<◌, ◌≤◌, ◌^◌, ◌⊎◌, ℕ, List, [], ◌∷◌, Some, None, true, false, if◌then◌else◌, IsOk, IsErr, IfErr, ⊤};
 ghost use Rattle.object_model.specs.Objects.{size_of};
 ghost use Rattle.mutator_calls.specs.Effects.{nothing, takes, grants, draws};
-ghost use Rattle.mutator_calls.specs.Allocating.{births_with, searches, IsNextTicket, IsSpent, Draws, FindsRoom, TakesFree, IsShort, IsCause, IsNeedOf, MatchAllocated};
+ghost use Rattle.mutator_calls.specs.Allocating.{searches, allocation_reads, IsNextTicket, IsSpent, Draws, MakesRoom, TakesFree, IsShort, IsCause, AnswersAllocation};
 
 use crate::mutator_steps::MutatorSteps;
 use crate::need::{Allocated, Need, NeedCause};
 use ideal_heap::{MAX_NUMS, MAX_REFS, REGISTERS};
-use object_model::{MAX_MEDIUM_WORDS, Shape, size_words};
+use object_model::{HEADER_WORDS, MAX_MEDIUM_WORDS, Shape, size_words};
 
 /// Makes the first hole with room for `size` words, in ascending order of blocks, the seat's
 /// region. Returns whether there was one.
 fn take_some_hole<S: MutatorSteps>(seat: &mut S, size: u32) -> bool
     requires ready { S.is_ready seat.old }
-    requires least { 3 ≤ size }
+    requires least { HEADER_WORDS ≤ size }
     requires most { size ≤ MAX_MEDIUM_WORDS }
     requires full { S.is_full seat.old size }
     ensures found { result ≡ true → S.has_room seat.new size }
@@ -63,7 +63,7 @@ fn hold_ticket<S: MutatorSteps>(seat: &mut S) -> u32
 /// the allowance.
 fn take_some_free<S: MutatorSteps>(seat: &mut S, size: u32)
     requires ready { S.is_ready seat.old }
-    requires least { 3 ≤ size }
+    requires least { HEADER_WORDS ≤ size }
     requires most { size ≤ MAX_MEDIUM_WORDS }
     requires ticket { (t : ℕ) × ((S.books seat.old).ticket ≡ Some t)
         × (t < (S.books seat.old).allowance) }
@@ -88,7 +88,7 @@ fn take_some_free<S: MutatorSteps>(seat: &mut S, size: u32)
 /// is a ticket that is not below the allowance.
 fn take_free_block<S: MutatorSteps>(seat: &mut S, size: u32) -> Result<(), u32>
     requires ready { S.is_ready seat.old }
-    requires least { 3 ≤ size }
+    requires least { HEADER_WORDS ≤ size }
     requires most { size ≤ MAX_MEDIUM_WORDS }
     ensures room { IsOk result → S.has_room seat.new size }
     ensures offered { IsOk result → S.offers_room seat.old seat.new size }
@@ -126,28 +126,22 @@ fn take_free_block<S: MutatorSteps>(seat: &mut S, size: u32) -> Result<(), u32>
 /// a Free block, else a hole, first one in the block of the hole region.
 fn find_overflow<S: MutatorSteps>(seat: &mut S, size: u32) -> Result<(), u32>
     requires ready { S.is_ready seat.old }
-    requires least { 3 ≤ size }
+    requires least { HEADER_WORDS ≤ size }
     requires most { size ≤ MAX_MEDIUM_WORDS }
     requires overflow { S.is_overflow seat.old size }
     requires full { S.is_full seat.old size }
     ensures room { IsOk result → S.has_room seat.new size }
     ensures offered { IsOk result → S.offers_room seat.old seat.new size }
-    ensures finds { IsOk result → (taken : List ℕ) × (granted : List ℕ) × (drawn : ℕ)
-        × S.makes_steps seat.old (searches taken granted drawn) seat.new
-        × FindsRoom (S.has_no_room seat.new size) (S.is_used seat.new)
-        (S.allocates_in seat.old size)
-        (S.allocates_in seat.new size) (S.has_budget seat.old) (S.is_full seat.old size)
-        (IsSpent S.allocates_in S.has_no_room seat.old size)
-        (S.is_overflow seat.old size) (S.keeps_hole seat.old seat.new
-        × S.is_overflow seat.new size) (S.books seat.new).blocks (S.books seat.new).allowance
-        (S.books seat.old).ticket (S.books seat.new).ticket taken granted drawn }
+    ensures finds { IsOk result → MakesRoom (allocation_reads S.makes_steps S.has_no_room S.is_used
+        S.allocates_in S.is_full S.is_overflow S.keeps_hole S.offers_room S.places S.has_budget
+        S.books) (S.has_budget seat.old) seat.old size seat.new }
     ensures births { (S.books seat.new).births ≡ (S.books seat.old).births }
     ensures ready { IsErr result → S.is_ready seat.new }
     ensures goes { IsErr result → (drawn : ℕ) × S.makes_steps seat.old (draws drawn) seat.new
         × Draws (S.has_budget seat.old)
         (S.books seat.old).ticket (S.books seat.new).ticket drawn }
     ensures spent { IsErr result
-        → IsSpent S.allocates_in S.has_no_room seat.old size }
+        → IsSpent (S.allocates_in seat.old size) (S.has_no_room seat.old size) }
     ensures cause { IfErr result (λ t. IsCause (S.books seat.new) (S.has_no_room seat.new size)
         size (NeedCause.Budget t)) }
 {
@@ -169,28 +163,21 @@ fn find_overflow<S: MutatorSteps>(seat: &mut S, size: u32) -> Result<(), u32>
 #[inline(never)]
 fn find_room<S: MutatorSteps>(seat: &mut S, size: u32) -> Result<(), u32>
     requires ready { S.is_ready seat.old }
-    requires least { 3 ≤ size }
+    requires least { HEADER_WORDS ≤ size }
     requires most { size ≤ MAX_MEDIUM_WORDS }
     requires full { S.is_full seat.old size }
     ensures room { IsOk result → S.has_room seat.new size }
     ensures offered { IsOk result → S.offers_room seat.old seat.new size }
-    ensures finds { IsOk result → (taken : List ℕ) × (granted : List ℕ) × (drawn : ℕ)
-        × S.makes_steps seat.old (searches taken granted drawn) seat.new
-        × FindsRoom (S.has_no_room seat.new size) (S.is_used seat.new)
-        (S.allocates_in seat.old size)
-        (S.allocates_in seat.new size) (IsNextTicket S.makes_steps S.has_budget seat.old)
-        (S.is_full seat.old size)
-        (IsSpent S.allocates_in S.has_no_room seat.old size)
-        (S.is_overflow seat.old size) (S.keeps_hole seat.old seat.new
-        × S.is_overflow seat.new size) (S.books seat.new).blocks (S.books seat.new).allowance
-        (S.books seat.old).ticket (S.books seat.new).ticket taken granted drawn }
+    ensures finds { IsOk result → MakesRoom (allocation_reads S.makes_steps S.has_no_room S.is_used
+        S.allocates_in S.is_full S.is_overflow S.keeps_hole S.offers_room S.places S.has_budget
+        S.books) (IsNextTicket S.makes_steps S.has_budget seat.old) seat.old size seat.new }
     ensures births { (S.books seat.new).births ≡ (S.books seat.old).births }
     ensures ready { IsErr result → S.is_ready seat.new }
     ensures goes { IsErr result → (drawn : ℕ) × S.makes_steps seat.old (draws drawn) seat.new
         × Draws (IsNextTicket S.makes_steps S.has_budget seat.old)
         (S.books seat.old).ticket (S.books seat.new).ticket drawn }
     ensures spent { IsErr result
-        → IsSpent S.allocates_in S.has_no_room seat.old size }
+        → IsSpent (S.allocates_in seat.old size) (S.has_no_room seat.old size) }
     ensures cause { IfErr result (λ t. IsCause (S.books seat.new) (S.has_no_room seat.new size)
         size (NeedCause.Budget t)) }
 {
@@ -218,35 +205,9 @@ fn allocate_elsewhere<S: MutatorSteps>(seat: &mut S, d: u32, refs: u32, nums: u3
     requires full { S.is_full seat.old (size_of refs nums) }
     requires births { (S.books seat.old).births + 1 < 2 ^ 32 }
     ensures ready { S.is_ready seat.new }
-    ensures made { MatchAllocated result
-        (λ name. (taken : List ℕ) × (granted : List ℕ) × (drawn : ℕ)
-        × S.makes_steps seat.old (births_with d refs nums name taken granted drawn) seat.new
-        × FindsRoom (S.has_no_room seat.new (size_of refs nums)) (S.is_used seat.new)
-        (S.allocates_in seat.old (size_of refs nums))
-        (S.allocates_in seat.new (size_of refs nums))
-        (IsNextTicket S.makes_steps S.has_budget seat.old)
-        (S.is_full seat.old (size_of refs nums))
-        (IsSpent S.allocates_in S.has_no_room seat.old (size_of refs nums))
-        (S.is_overflow seat.old (size_of refs nums))
-        (S.keeps_hole seat.old seat.new) (S.books seat.new).blocks (S.books seat.new).allowance
-        (S.books seat.old).ticket (S.books seat.new).ticket
-        taken granted drawn) (λ need. ⊤) }
-    ensures placed { MatchAllocated result (λ name. (mid : S)
-        × S.offers_room seat.old mid (size_of refs nums)
-        × S.places mid seat.new d (size_of refs nums)) (λ need. ⊤) }
-    ensures small { MatchAllocated result (λ name. size_of refs nums ≤ MAX_MEDIUM_WORDS)
-        (λ need. ⊤) }
-    ensures stopped { MatchAllocated result (λ name. ⊤)
-        (λ need. (drawn : ℕ) × S.makes_steps seat.old (draws drawn) seat.new
-        × Draws (IsNextTicket S.makes_steps S.has_budget seat.old)
-        (S.books seat.old).ticket (S.books seat.new).ticket drawn
-        × (MAX_MEDIUM_WORDS < size_of refs nums → drawn ≡ 0)) }
-    ensures spent { MatchAllocated result (λ name. ⊤) (λ need.
-        size_of refs nums ≤ MAX_MEDIUM_WORDS
-        → IsSpent S.allocates_in S.has_no_room seat.old (size_of refs nums)) }
-    ensures need { MatchAllocated result (λ name. ⊤) (IsNeedOf d refs nums) }
-    ensures cause { MatchAllocated result (λ name. ⊤) (λ need. IsCause (S.books seat.new)
-        (S.has_no_room seat.new (size_of refs nums)) (size_of refs nums) need.cause) }
+    ensures answer { AnswersAllocation (allocation_reads S.makes_steps S.has_no_room S.is_used
+        S.allocates_in S.is_full S.is_overflow S.keeps_hole S.offers_room S.places S.has_budget
+        S.books) seat.old d refs nums result seat.new }
 {
     let shape = Shape { refs, nums };
     match find_room(seat, size_words(&shape)) {
@@ -269,37 +230,9 @@ pub fn new_object<S: MutatorSteps>(seat: &mut S, d: u32, refs: u32, nums: u32) -
     requires nums { nums ≤ MAX_NUMS }
     requires births { (S.books seat.old).births + 1 < 2 ^ 32 }
     ensures ready { S.is_ready seat.new }
-    ensures made { MatchAllocated result
-        (λ name. (taken : List ℕ) × (granted : List ℕ) × (drawn : ℕ)
-        × S.makes_steps seat.old (births_with d refs nums name taken granted drawn) seat.new
-        × FindsRoom (S.has_no_room seat.new (size_of refs nums)) (S.is_used seat.new)
-        (S.allocates_in seat.old (size_of refs nums))
-        (S.allocates_in seat.new (size_of refs nums))
-        (IsNextTicket S.makes_steps S.has_budget seat.old)
-        (S.is_full seat.old (size_of refs nums))
-        (IsSpent S.allocates_in S.has_no_room seat.old (size_of refs nums))
-        (S.is_overflow seat.old (size_of refs nums))
-        (S.keeps_hole seat.old seat.new) (S.books seat.new).blocks (S.books seat.new).allowance
-        (S.books seat.old).ticket (S.books seat.new).ticket
-        taken granted drawn) (λ need. ⊤) }
-    ensures placed { MatchAllocated result (λ name. (mid : S)
-        × S.offers_room seat.old mid (size_of refs nums)
-        × S.places mid seat.new d (size_of refs nums)) (λ need. ⊤) }
-    ensures small { MatchAllocated result (λ name. size_of refs nums ≤ MAX_MEDIUM_WORDS)
-        (λ need. ⊤) }
-    ensures stopped { MatchAllocated result (λ name. ⊤)
-        (λ need. (drawn : ℕ) × S.makes_steps seat.old (draws drawn) seat.new
-        × Draws (IsNextTicket S.makes_steps S.has_budget seat.old)
-        (S.books seat.old).ticket (S.books seat.new).ticket drawn
-        × (MAX_MEDIUM_WORDS < size_of refs nums → drawn ≡ 0)) }
-    ensures full { MatchAllocated result (λ name. ⊤) (λ need.
-        size_of refs nums ≤ MAX_MEDIUM_WORDS → S.is_full seat.old (size_of refs nums)) }
-    ensures spent { MatchAllocated result (λ name. ⊤) (λ need.
-        size_of refs nums ≤ MAX_MEDIUM_WORDS
-        → IsSpent S.allocates_in S.has_no_room seat.old (size_of refs nums)) }
-    ensures need { MatchAllocated result (λ name. ⊤) (IsNeedOf d refs nums) }
-    ensures cause { MatchAllocated result (λ name. ⊤) (λ need. IsCause (S.books seat.new)
-        (S.has_no_room seat.new (size_of refs nums)) (size_of refs nums) need.cause) }
+    ensures answer { AnswersAllocation (allocation_reads S.makes_steps S.has_no_room S.is_used
+        S.allocates_in S.is_full S.is_overflow S.keeps_hole S.offers_room S.places S.has_budget
+        S.books) seat.old d refs nums result seat.new }
 {
     let shape = Shape { refs, nums };
     let size = size_words(&shape);

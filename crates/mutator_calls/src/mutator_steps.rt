@@ -14,7 +14,7 @@ ghost use Rattle.mutator_calls.specs.Accesses.{IsAccess, LacksIndex};
 ghost use Rattle.mutator_calls.specs.Allocating.{Books, births};
 
 use ideal_heap::{Command, GLOBALS, MAX_NUMS, MAX_REFS, Name, REGISTERS};
-use object_model::{MAX_MEDIUM_WORDS, Shape};
+use object_model::{HEADER_WORDS, MAX_MEDIUM_WORDS, Shape};
 
 /// The steps of a mutator at a heap, with its registers and its room for new objects.
 ///
@@ -350,7 +350,7 @@ pub trait MutatorSteps {
     fn take_hole(&mut self, block: u32, size: u32) -> bool
         requires ready { is_ready self.old }
         requires block { block < (books self.old).blocks }
-        requires least { 3 ≤ size }
+        requires least { HEADER_WORDS ≤ size }
         requires most { size ≤ MAX_MEDIUM_WORDS }
         requires full { is_full self.old size }
         ensures found { result ≡ true → has_room self.new size }
@@ -377,7 +377,7 @@ pub trait MutatorSteps {
     /// there is one.
     fn take_own_hole(&mut self, size: u32) -> bool
         requires ready { is_ready self.old }
-        requires least { 3 ≤ size }
+        requires least { HEADER_WORDS ≤ size }
         requires most { size ≤ MAX_MEDIUM_WORDS }
         requires full { is_full self.old size }
         ensures found { result ≡ true → has_room self.new size }
@@ -416,7 +416,7 @@ pub trait MutatorSteps {
     fn take_free(&mut self, block: u32, size: u32) -> bool
         requires ready { is_ready self.old }
         requires block { block < (books self.old).blocks }
-        requires least { 3 ≤ size }
+        requires least { HEADER_WORDS ≤ size }
         requires most { size ≤ MAX_MEDIUM_WORDS }
         requires ticket { (t : ℕ) × ((books self.old).ticket ≡ Some t)
             × (t < (books self.old).allowance) }

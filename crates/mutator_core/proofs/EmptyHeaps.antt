@@ -4,10 +4,10 @@ use Rattle.std.proofs.lemmas.List.{length-map}
 use Rattle.object_model.specs.Objects.{empty_heap}
 use Rattle.object_model.specs.Graphs.{new_mutator}
 use Rattle.object_model.proofs.Zeros as zeros
-use Rattle.sessions.specs.Plans.{Plan, NoGc, MarkSweep, SemiSpace, GenCopy, Immix, StickyImmix, rules_of}
-use Rattle.mutator_core.specs.Epochs.{EpochMayBegin, is_filled}
+use Rattle.sessions.specs.Plans.{Plan, NoGc, MarkSweep, SemiSpace, GenCopy, Immix, StickyImmix, rules_of, has_holes}
+use Rattle.mutator_core.specs.Epochs.{EpochMayBegin}
 
-fills : (plan : Plan) → IsTrue (is_filled (rules_of plan).fill)
+fills : (plan : Plan) → IsTrue (has_holes (rules_of plan).fill)
 fills NoGc = refl
 fills MarkSweep = refl
 fills SemiSpace = refl

@@ -9,10 +9,11 @@ use Rattle.object_model.specs.Lawful.{has_small}
 use Rattle.object_model.proofs.OneKind.{is_small_code, has_small-code, one-kind, kind-from}
 use Rattle.mutator_core.specs.declared.state.OwnedBlock.{OwnedBlock}
 use Rattle.mutator_core.specs.Machine.{Epoch}
-use Rattle.mutator_core.specs.Epochs.{is_filled, IsOwned}
+use Rattle.mutator_core.specs.Epochs.{IsOwned}
+use Rattle.sessions.specs.Plans.{has_holes}
 
 -- such blocks have small objects, and are not Free
-pub fills-small : (kind : Kind) → IsTrue (is_filled kind) → IsTrue (is_small_code true (kind_code kind))
+pub fills-small : (kind : Kind) → IsTrue (has_holes kind) → IsTrue (is_small_code true (kind_code kind))
 fills-small kinds.Bump is = refl
 fills-small kinds.Young is = refl
 fills-small kinds.Immix is = refl
@@ -23,7 +24,7 @@ fills-small kinds.LargeHead is = absurd (let wrong : false ≡ true = is in cc)
 fills-small kinds.LargeTail is = absurd (let wrong : false ≡ true = is in cc)
 fills-small kinds.Kept is = absurd (let wrong : false ≡ true = is in cc)
 
-pub fills-some : (kind : Kind) → IsTrue (is_filled kind) → kind_code kind ≢ 0
+pub fills-some : (kind : Kind) → IsTrue (has_holes kind) → kind_code kind ≢ 0
 fills-some kinds.Bump is e = omega arith
 fills-some kinds.Young is e = omega arith
 fills-some kinds.Immix is e = omega arith
@@ -46,10 +47,10 @@ fills-cells kinds.LargeHead e = absurd (omega arith)
 fills-cells kinds.LargeTail e = absurd (omega arith)
 fills-cells kinds.Kept e = absurd (omega arith)
 
-pub fill-small : (s : HeapState) (k : ℕ) (kind : Kind) → IsTrue (is_filled kind) → HasKind s k kind → IsTrue (has_small s k)
+pub fill-small : (s : HeapState) (k : ℕ) (kind : Kind) → IsTrue (has_holes kind) → HasKind s k kind → IsTrue (has_small s k)
 fill-small s k kind fills is = has_small-code s k kind is ∙ fills-small kind fills
 
-pub fill-not-free : (s : HeapState) (k : ℕ) (kind : Kind) → IsTrue (is_filled kind) → HasKind s k kind → HasKind s k kinds.Free → ⊥
+pub fill-not-free : (s : HeapState) (k : ℕ) (kind : Kind) → IsTrue (has_holes kind) → HasKind s k kind → HasKind s k kinds.Free → ⊥
 fill-not-free s k kind fills is free = fills-some kind fills (one-kind s k kind kinds.Free is free)
 
 -- the fields of an owned block's word

@@ -26,7 +26,7 @@ use Rattle.mutator_core.proofs.Lists.{any-cases}
 use Rattle.mutator_core.proofs.Kept.{Leaves, grown}
 use Rattle.mutator_core.proofs.Commands as commands
 use Rattle.mutator_core.proofs.Published as published
-use Rattle.mutator_core.proofs.Writing as writing
+use Rattle.mutator_core.proofs.BirthWords as writing
 use Rattle.mutator_core.proofs.Quiet as quiet
 use Rattle.mutator_core.proofs.Taken as taken
 use Rattle.mutator_core.proofs.Moments.{Holds, Moved, Replies}

@@ -21,7 +21,7 @@ use Rattle.mutator_core.specs.Seen.{HasSeenUsed}
 use Rattle.mutator_core.proofs.Lists.{contains-cases, contains-none}
 use Rattle.mutator_core.proofs.Beginnings.{first-states, stranger}
 use Rattle.mutator_core.proofs.Counted.{smaller-most}
-use Rattle.mutator_core.proofs.Ending.{log-counted, log-seen}
+use Rattle.mutator_core.proofs.EpochEnds.{log-counted, log-seen}
 
 -- sums of two, and of one summand
 sum-both : (f g : ℕ → ℕ) (ks : List ℕ) → sum_by (λ k. f k + g k) ks ≡ sum_by f ks + sum_by g ks

@@ -5,7 +5,7 @@ pub mod Moments
 pub mod Commands
 pub mod Quiet
 pub mod Fills
-pub mod Writing
+pub mod BirthWords
 pub mod Published
 pub mod Taken
 pub mod Law
@@ -17,7 +17,7 @@ pub mod Entries
 pub mod Sums
 pub mod Counted
 pub mod EmptyHeaps
-pub mod Ending
+pub mod EpochEnds
 pub mod SeenWords
 pub mod LoadedWords
 pub mod Left

@@ -20,7 +20,7 @@ use Rattle.mutator_core.specs.Epochs.{EpochMayBegin}
 use Rattle.mutator_core.proofs.Moments.{Holds, same-words}
 use Rattle.mutator_core.proofs.Quiet.{in-register}
 use Rattle.mutator_core.proofs.Published as published
-use Rattle.mutator_core.proofs.Writing as writing
+use Rattle.mutator_core.proofs.BirthWords as writing
 use Rattle.mutator_core.proofs.Law.{is_publication}
 
 abbrev pub clears_unlog : Event → Bool

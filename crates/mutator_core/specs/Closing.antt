@@ -12,17 +12,19 @@ use Rattle.mutator_core.specs.declared.state.OwnedBlock.{OwnedBlock}
 use Rattle.mutator_core.specs.declared.state.Extent.{Extent}
 use Rattle.mutator_core.specs.Machine.{Epoch, nothing_unpublished}
 
--- The mutator is between two calls: it has no unpublished object, it has stored into the object whose unlog bit it last
--- cleared, and each block that it took when Free holds an object that it allocated.
+-- The mutator is between two calls: it has no unpublished object, it has stored into the object
+-- whose unlog bit it last cleared, and each block that it took when Free holds an object that it
+-- allocated.
 pub record IsBetweenCalls (p : Epoch) (l : Local) : Type 0 where
   pub none : l.unpublished ≡ nothing_unpublished
   pub stored : l.pending ≡ 0
   pub used : (o : OwnedBlock) → Contains l.owned o → HasKind p.before o.block kinds.Free
       → (x : Extent) × Contains l.made x × (block_at p.before.blocks x.address ≡ o.block)
 
--- Each block keeps its kind and class and has no owner. The line bits of an Immix block that had an owner become those
--- of the lines that objects touch. The line bits of a block without an owner stay, and so do the globals and all words
--- from the start words on. The stop word, the budget word, and the line bits of other blocks may become anything.
+-- Each block keeps its kind and class and has no owner. The line bits of an Immix block that had an
+-- owner become those of the lines that objects touch. The line bits of a block without an owner
+-- stay, and so do the globals and all words from the start words on. The stop word, the budget
+-- word, and the line bits of other blocks may become anything.
 pub record GivesBack (old new : HeapState) : Type 0 where
   pub blocks : new.blocks ≡ old.blocks
   pub number : new.number ≡ old.number

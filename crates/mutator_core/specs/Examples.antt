@@ -10,7 +10,8 @@ use Rattle.mutator_core.specs.declared.state.Event.TheVariants as e
 use Rattle.mutator_core.specs.declared.state.LogEntry.{LogEntry}
 use Rattle.mutator_core.specs.Machine.{Epoch, Machine, next, answer_at, first_machine}
 
--- Two mutators that have allocated nothing, and a row of zeros for one block. The row ends after the words in use.
+-- Two mutators that have allocated nothing, and a row of zeros for one block. The row ends after
+-- the words in use.
 abbrev pub small_epoch : Plan → Epoch
 small_epoch plan = record {
   rules = rules_of plan;
@@ -35,12 +36,14 @@ birth_events m =
 -- the allocation by mutator 1, and then the commands of both mutators on the object
 abbrev pub share_events : List (ℕ × Event)
 share_events =
-    birth_events 1 ++ (1, e.Perform (c.New 0 1 1)) ∷ (1, e.LoadShape 0) ∷ (1, e.Perform (c.Write 0 0 5))
+    birth_events 1 ++ (1, e.Perform (c.New 0 1 1)) ∷ (1, e.LoadShape 0)
+    ∷ (1, e.Perform (c.Write 0 0 5))
     ∷ (1, e.Perform (c.Share 9 0)) ∷ (2, e.Perform (c.Load 3 9)) ∷ (2, e.LoadShape 3)
     ∷ (2, e.Perform (c.Add 3 0 4)) ∷ (1, e.Perform (c.Read 0 0)) ∷ (2, e.Perform (c.Swap 3 0 9 7))
     ∷ (1, e.Perform (c.Swap 0 0 9 8)) ∷ (1, e.Perform (c.Get 2 0 0)) ∷ (1, e.Perform (c.Put 0 0 0))
     ∷ (2, e.Perform (c.Get 4 3 0))
-    ∷ (1, e.Perform (c.Pin 0)) ∷ (2, e.Perform (c.Pin 4)) ∷ (2, e.Perform (c.Unpin 3)) ∷ (1, e.Perform (c.Move 1 0))
+    ∷ (1, e.Perform (c.Pin 0)) ∷ (2, e.Perform (c.Pin 4)) ∷ (2, e.Perform (c.Unpin 3))
+    ∷ (1, e.Perform (c.Move 1 0))
     ∷ (1, e.Perform (c.DropReg 0)) ∷ (1, e.Miss (c.Get 2 0 0)) ∷ (1, e.Miss (c.Read 1 1))
     ∷ (1, e.Perform (c.Read 1 0))
     ∷ []
@@ -48,25 +51,29 @@ share_events =
 -- the same object, used by one mutator and then by the other
 abbrev pub separate_events : List (ℕ × Event)
 separate_events =
-    birth_events 1 ++ (1, e.Perform (c.New 0 1 1)) ∷ (1, e.LoadShape 0) ∷ (1, e.Perform (c.Write 0 0 5))
+    birth_events 1 ++ (1, e.Perform (c.New 0 1 1)) ∷ (1, e.LoadShape 0)
+    ∷ (1, e.Perform (c.Write 0 0 5))
     ∷ (1, e.Perform (c.Add 0 0 4)) ∷ (1, e.Perform (c.Read 0 0)) ∷ (1, e.Perform (c.Swap 0 0 9 7))
     ∷ (1, e.Perform (c.Put 0 0 0)) ∷ (1, e.Perform (c.Get 1 0 0)) ∷ (1, e.Perform (c.Share 9 0))
     ∷ (1, e.Perform (c.Pin 0)) ∷ (1, e.Perform (c.Unpin 0)) ∷ (1, e.Perform (c.Move 2 0))
     ∷ (1, e.Perform (c.DropReg 2)) ∷ (1, e.Perform (c.Load 3 9))
     ∷ (2, e.Perform (c.Load 0 9)) ∷ (2, e.LoadShape 0) ∷ (2, e.Perform (c.Read 0 0))
-    ∷ (2, e.Perform (c.Write 0 0 1)) ∷ (2, e.Perform (c.Add 0 0 2)) ∷ (2, e.Perform (c.Swap 0 0 5 8))
+    ∷ (2, e.Perform (c.Write 0 0 1)) ∷ (2, e.Perform (c.Add 0 0 2))
+    ∷ (2, e.Perform (c.Swap 0 0 5 8))
     ∷ (2, e.Perform (c.Get 1 0 0)) ∷ (2, e.Perform (c.Put 0 0 5))
     ∷ (2, e.Perform (c.Get 1 0 0)) ∷ (2, e.Perform (c.Share 9 5)) ∷ (2, e.Perform (c.Pin 0))
     ∷ (2, e.Perform (c.Unpin 0)) ∷ (2, e.Perform (c.Move 2 0)) ∷ (2, e.Perform (c.DropReg 0))
     ∷ (2, e.Perform (c.Load 3 9)) ∷ (2, e.Miss (c.Pin 0))
     ∷ []
 
--- an epoch with an old object at the heap's first address: its unlog bit is set, and the mutator's register 0 holds it
+-- an epoch with an old object at the heap's first address: its unlog bit is set, and the mutator's
+-- register 0 holds it
 abbrev pub old_object_epoch : Epoch
 old_object_epoch = record {
   rules = rules_of GenCopy;
   before = record {
-    words = replicate 23 0 ++ 1 ∷ replicate 127 0 ++ 1 ∷ replicate 63 0 ++ 33 ∷ 1 ∷ 16777431 ∷ 0 ∷ [];
+    words = replicate 23 0 ++ 1 ∷ replicate 127 0 ++ 1 ∷ replicate 63 0 ++ 33 ∷ 1
+        ∷ 16777431 ∷ 0 ∷ [];
     blocks = 1;
     number = 1;
     base = 1;
@@ -76,21 +83,29 @@ old_object_epoch = record {
 
 -- the loads before the barrier, and the barrier
 abbrev pub barrier_events : List (ℕ × Event)
-barrier_events = (1, e.LoadShape 0) ∷ (1, e.LoadCollector 0) ∷ (1, e.LoadUnlog 0) ∷ (1, e.ClearUnlog 0) ∷ []
+barrier_events = (1, e.LoadShape 0) ∷ (1, e.LoadCollector 0) ∷ (1, e.LoadUnlog 0)
+    ∷ (1, e.ClearUnlog 0) ∷ []
 
 -- four blocks of an empty heap, and two mutators that have allocated nothing
 abbrev pub empty_epoch : Epoch
-empty_epoch = record { rules = rules_of NoGc; before = empty_heap 4; mutators = map new_mutator (1 ∷ 2 ∷ []) }
+empty_epoch = record {
+  rules = rules_of NoGc;
+  before = empty_heap 4;
+  mutators = map new_mutator (1 ∷ 2 ∷ []);
+}
 
--- Two allocations, step by step in turns. Mutator 2 finds block 0 taken and takes block 1 with the same ticket. Then
--- mutator 1 raises a stop and stores a reference to the object of mutator 2 into its own.
+-- Two allocations, step by step in turns. Mutator 2 finds block 0 taken and takes block 1 with the
+-- same ticket. Then mutator 1 raises a stop and stores a reference to the object of mutator 2 into
+-- its own.
 abbrev pub mixed_events : List (ℕ × Event)
 mixed_events =
     (1, e.DrawTicket) ∷ (2, e.DrawTicket) ∷ (1, e.TakeBlock 0 0 true) ∷ (2, e.TakeBlock 0 0 true)
     ∷ (1, e.Initialize 806 1 0 0) ∷ (2, e.TakeBlock 1 0 true) ∷ (2, e.Initialize 4902 0 1 0)
-    ∷ (1, e.Initialize 806 1 0 1) ∷ (2, e.Initialize 4902 0 1 1) ∷ (2, e.Poll) ∷ (2, e.Initialize 4902 0 1 2)
+    ∷ (1, e.Initialize 806 1 0 1) ∷ (2, e.Initialize 4902 0 1 1) ∷ (2, e.Poll)
+    ∷ (2, e.Initialize 4902 0 1 2)
     ∷ (1, e.Initialize 806 1 0 2) ∷ (1, e.Initialize 806 1 0 3) ∷ (2, e.Initialize 4902 0 1 3)
-    ∷ (2, e.Perform (c.New 0 0 1)) ∷ (1, e.Raise) ∷ (1, e.Perform (c.New 0 1 0)) ∷ (2, e.Perform (c.Share 3 0))
+    ∷ (2, e.Perform (c.New 0 0 1)) ∷ (1, e.Raise) ∷ (1, e.Perform (c.New 0 1 0))
+    ∷ (2, e.Perform (c.Share 3 0))
     ∷ (1, e.Perform (c.Load 1 3)) ∷ (1, e.LoadShape 0) ∷ (1, e.Perform (c.Put 0 0 1)) ∷ (2, e.Poll)
     ∷ (1, e.Perform (c.Get 2 0 0))
     ∷ []

@@ -1,5 +1,5 @@
--- When a mutator may make a step. A guard depends only on the epoch's beginning and on the mutator's own state, so it
--- can be proved before the step.
+-- When a mutator may make a step. A guard depends only on the epoch's beginning and on the
+-- mutator's own state, so it can be proved before the step.
 use Rattle.heap_layout.specs.declared.layout.TheConstants.{BLOCK_WORDS}
 use Rattle.ideal_heap.specs.declared.command.TheConstants.{REGISTERS, GLOBALS, MAX_REFS, MAX_NUMS}
 use Rattle.object_model.specs.declared.shape.TheConstants.{MAX_MEDIUM_WORDS}
@@ -36,10 +36,12 @@ HasNumber l s j = HasLoadedShape l s × (j < nums_in l.shape.word)
 
 -- register s is nil, or its object has no field i, or no number j
 abbrev pub LacksField : Local → ℕ → ℕ → Type 0
-LacksField l s i = (s < REGISTERS) × ((address_in l s ≡ 0) ⊎ (HasLoadedShape l s × (refs_in l.shape.word ≤ i)))
+LacksField l s i = (s < REGISTERS)
+    × ((address_in l s ≡ 0) ⊎ (HasLoadedShape l s × (refs_in l.shape.word ≤ i)))
 
 abbrev pub LacksNumber : Local → ℕ → ℕ → Type 0
-LacksNumber l s j = (s < REGISTERS) × ((address_in l s ≡ 0) ⊎ (HasLoadedShape l s × (nums_in l.shape.word ≤ j)))
+LacksNumber l s j = (s < REGISTERS)
+    × ((address_in l s ≡ 0) ⊎ (HasLoadedShape l s × (nums_in l.shape.word ≤ j)))
 
 -- register s is nil
 abbrev pub LacksObject : Local → ℕ → Type 0
@@ -65,8 +67,8 @@ is_old_word_under p word = p.rules.young && is_old_word p.before.base word
 abbrev pub IsNotOld : Epoch → Local → ℕ → Type 0
 IsNotOld p l s = (l.collector.at ≡ address_in l s) × (is_old_word_under p l.collector.word ≡ false)
 
--- A reference may be stored into the object in register s: the plan is not generational, the object is not old, or its
--- unlog bit is known to be clear.
+-- A reference may be stored into the object in register s: the plan is not generational, the object
+-- is not old, or its unlog bit is known to be clear.
 abbrev pub MayStoreReference : Epoch → Local → ℕ → Type 0
 MayStoreReference p l s = (p.rules.young ≡ false) ⊎ IsNotOld p l s ⊎ (l.logged ≡ address_in l s)
 
@@ -77,8 +79,8 @@ pub record IsCell (a size blocks class : ℕ) : Type 0 where
   pub start : offset_at blocks a ≡ index * cell_words class
   pub inside : offset_at blocks a + cell_words class ≤ BLOCK_WORDS
 
--- A mutator that owns these blocks may have an object of this size at address a: in an owned block that was Free as the
--- epoch began, or that had a hole there.
+-- A mutator that owns these blocks may have an object of this size at address a: in an owned block
+-- that was Free as the epoch began, or that had a hole there.
 pub record IsPlaceOfMutator (p : Epoch) (blocks : List OwnedBlock) (a size : ℕ) : Type 0 where
   pub address : IsAddress p.before.blocks a
   pub inside : offset_at p.before.blocks a + size ≤ BLOCK_WORDS
@@ -86,29 +88,39 @@ pub record IsPlaceOfMutator (p : Epoch) (blocks : List OwnedBlock) (a size : ℕ
   pub among : Contains blocks owned
   pub here : owned.block ≡ block_at p.before.blocks a
   pub hole : HasKind p.before (block_at p.before.blocks a) kinds.Free
-      ⊎ LiesInHole p.rules.fill p.before (block_at p.before.blocks a) (offset_at p.before.blocks a) size
+      ⊎ LiesInHole p.rules.fill p.before (block_at p.before.blocks a)
+      (offset_at p.before.blocks a) size
   pub cell : p.rules.fill ≡ kinds.Cells → IsCell a size p.before.blocks owned.class
 
 -- the mutator may write such an object there: it overlaps none that the mutator allocated
-pub record IsAvailable (p : Epoch) (blocks : List OwnedBlock) (made : List Extent) (a size : ℕ) : Type 0 where
+pub record IsAvailable (p : Epoch) (blocks : List OwnedBlock) (made : List Extent) (a size : ℕ)
+    : Type 0 where
   pub place : IsPlaceOfMutator p blocks a size
   pub beside : (x : Extent) → Contains made x → (x.address + x.size ≤ a) ⊎ (a + size ≤ x.address)
 
--- An object of this size at address a begins at the start of a hole of the epoch's beginning, at the start of a block
--- that was Free, or directly after an object that the mutator allocated in the block. In cells each object has its own.
+-- An object of this size at address a begins at the start of a hole of the epoch's beginning, at
+-- the start of a block that was Free, or directly after an object that the mutator allocated in the
+-- block. In cells each object has its own.
 abbrev pub BeginsRegion : Epoch → List Extent → ℕ → ℕ → Type 0
 BeginsRegion p made a size = (p.rules.fill ≡ kinds.Cells)
     ⊎ HasHole p.rules.fill p.before (block_at p.before.blocks a) (offset_at p.before.blocks a) size
     ⊎ (HasKind p.before (block_at p.before.blocks a) kinds.Free × (offset_at p.before.blocks a ≡ 0))
-    ⊎ ((x : Extent) × Contains made x × (block_at p.before.blocks x.address ≡ block_at p.before.blocks a)
+    ⊎ ((x : Extent) × Contains made x
+    × (block_at p.before.blocks x.address ≡ block_at p.before.blocks a)
     × (x.address + x.size ≡ a))
 
 -- the unpublished object is at address a, and its first `written` words are stored
 abbrev pub IsWriting : Local → ℕ → ℕ → ℕ → ℕ → Type 0
-IsWriting l a refs nums written = l.unpublished ≡ record { address = a; refs = refs; nums = nums; written = written }
+IsWriting l a refs nums written = l.unpublished ≡ record {
+  address = a;
+  refs = refs;
+  nums = nums;
+  written = written;
+}
 
--- The first word of an object may be stored at address a: no other object is unpublished, the name is in range, the
--- object is small, it may lie there, and it begins a region or follows an object there.
+-- The first word of an object may be stored at address a: no other object is unpublished, the name
+-- is in range, the object is small, it may lie there, and it begins a region or follows an object
+-- there.
 pub record MayBegin (p : Epoch) (l : Local) (a refs nums : ℕ) : Type 0 where
   pub none : l.unpublished ≡ nothing_unpublished
   pub few_births : l.births + 1 < 2 ^ 32
@@ -118,7 +130,8 @@ pub record MayBegin (p : Epoch) (l : Local) (a refs nums : ℕ) : Type 0 where
   pub available : IsAvailable p l.owned l.made a (size_of refs nums)
   pub region : BeginsRegion p l.made a (size_of refs nums)
 
--- the next word of an unpublished object may be stored: its first word, or the word after those stored so far
+-- the next word of an unpublished object may be stored: its first word, or the word after those
+-- stored so far
 abbrev pub MayInitialize : Epoch → Local → ℕ → ℕ → ℕ → ℕ → Type 0
 MayInitialize p l a refs nums offset =
     (offset < size_of refs nums) × (((offset ≡ 0) × MayBegin p l a refs nums)
@@ -132,15 +145,18 @@ allowance p = allowance_of p.rules.reserve p.before
 abbrev pub HasTicket : Epoch → Local → Type 0
 HasTicket p l = (t : ℕ) × (l.ticket ≡ Some t) × (t < allowance p)
 
--- The mutator may try to take block k. The class is one that blocks of the kind have. A Free block requires a ticket.
+-- The mutator may try to take block k. The class is one that blocks of the kind have. A Free block
+-- requires a ticket.
 abbrev pub MayTake : Epoch → Local → ℕ → ℕ → Bool → Type 0
 MayTake p l k class free =
-    (k < p.before.blocks) × IsValidWord (record { kind = p.rules.fill; class = class; owner = l.number })
+    (k < p.before.blocks)
+    × IsValidWord (record { kind = p.rules.fill; class = class; owner = l.number })
     × (IsTrue free → HasTicket p l)
 
 -- the mutator loaded a start word with the bit of address a set
 abbrev pub HasSeenStart : Epoch → Local → ℕ → Type 0
-HasSeenStart p l a = (x : Loaded) × Contains l.loaded x × (x.at ≡ bit_word p.before.blocks StartBits a)
+HasSeenStart p l a = (x : Loaded) × Contains l.loaded x
+    × (x.at ≡ bit_word p.before.blocks StartBits a)
     × (bit_at x.word (bit_place p.before.blocks a) ≡ 1)
 
 -- The mutator may make the entry of the command. `gc` and `meet` have no entry in an epoch.

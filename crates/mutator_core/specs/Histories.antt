@@ -20,10 +20,12 @@ abbrev pub after : Epoch → Machine → List LogEntry → Machine
 after p h [] = h
 after p h (x ∷ xs) = after p (next p h x.mutator x.event) xs
 
--- each step is made by one of the epoch's mutators, which may make it, and its answer is the machine's
+-- each step is made by one of the epoch's mutators, which may make it, and its answer is the
+-- machine's
 abbrev pub IsLog : Epoch → Machine → List LogEntry → Type 0
 IsLog p h [] = Unit {0}
-IsLog p h (x ∷ xs) = Contains (numbers_of p.mutators) x.mutator × MayStep p (h.locals x.mutator) x.event
+IsLog p h (x ∷ xs) = Contains (numbers_of p.mutators) x.mutator
+    × MayStep p (h.locals x.mutator) x.event
     × (x.answer ≡ answer_at p h x.mutator x.event)
     × IsLog p (next p h x.mutator x.event) xs
 

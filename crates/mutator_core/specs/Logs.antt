@@ -34,7 +34,8 @@ local_after_log p log m = (machine_after p log).locals m
 abbrev pub history_of : Epoch → List LogEntry → List Entry
 history_of p log = history p (first_machine p) log
 
--- The log is one of an epoch that may begin, whose heap with its mutators represents the ideal heap i.
+-- The log is one of an epoch that may begin, whose heap with its mutators represents the ideal heap
+-- i.
 pub record IsEpochLog (p : Epoch) (i : IdealHeap) (log : List LogEntry) : Type 0 where
   pub ready : EpochMayBegin p
   pub represents : Represents p.before p.mutators i
@@ -47,21 +48,29 @@ pub record IsUnpublishedWord (l : Local) (w : ℕ) : Type 0 where
 
 -- the mutator may write its unpublished object where it lies
 abbrev pub HasAvailable : Epoch → Local → Type 0
-HasAvailable p l = IsAvailable p l.owned l.made l.unpublished.address (size_of l.unpublished.refs l.unpublished.nums)
+HasAvailable p l =
+    IsAvailable p l.owned l.made l.unpublished.address
+    (size_of l.unpublished.refs l.unpublished.nums)
 
 -- the block has no owner, and its block word is as the epoch began
 pub record IsUntaken (p : Epoch) (s : HeapState) (k : ℕ) : Type 0 where
   pub unowned : IsUnowned s k
   pub same : block_word s k ≡ block_word p.before k
 
--- A mutator of the epoch owns the block. The block has the kind that mutators fill, and a valid block word.
+-- A mutator of the epoch owns the block. The block has the kind that mutators fill, and a valid
+-- block word.
 pub record IsTaken (p : Epoch) (s : HeapState) (k : ℕ) : Type 0 where
   pub owner : Contains (numbers_of p.mutators) (owner_at s k)
   pub some : 0 < owner_at s k
   pub kind : HasKind s k p.rules.fill
-  pub valid : IsValidWord (record { kind = p.rules.fill; class = class_at s k; owner = owner_at s k })
+  pub valid : IsValidWord (record {
+    kind = p.rules.fill;
+    class = class_at s k;
+    owner = owner_at s k;
+  })
 
--- the block that mutator m took has m as owner, the kind that mutators fill, and the class that it was taken for
+-- the block that mutator m took has m as owner, the kind that mutators fill, and the class that it
+-- was taken for
 pub record IsOwnedBy (p : Epoch) (s : HeapState) (m : ℕ) (o : OwnedBlock) : Type 0 where
   pub member : Contains (numbers_of p.mutators) m
   pub inside : o.block < p.before.blocks
@@ -86,7 +95,8 @@ pub record HasRaisedStop (p : Epoch) (log : List LogEntry) (m : ℕ) : Type 0 wh
 
 -- each mutator of the epoch is between two calls
 abbrev pub AreBetweenCalls : Epoch → List LogEntry → Type 0
-AreBetweenCalls p log = (m : ℕ) → Contains (numbers_of p.mutators) m → IsBetweenCalls p (local_after_log p log m)
+AreBetweenCalls p log = (m : ℕ) → Contains (numbers_of p.mutators) m
+    → IsBetweenCalls p (local_after_log p log m)
 
 -- the heap is a stopped heap, for the heap as the epoch began and the history
 abbrev pub IsStoppedAfter : Epoch → IdealHeap → List LogEntry → HeapState → Type 0

@@ -1,6 +1,7 @@
--- The mutator machine. A step reads the mutator's own state and one word of the row. The definitions give the index of
--- that word, the word after the step, the answer, and the mutator's state after the step.
-use Rattle.object_model.specs.declared.shape.TheConstants.{NUMS_UNIT}
+-- The mutator machine. A step reads the mutator's own state and one word of the row. The
+-- definitions give the index of that word, the word after the step, the answer, and the mutator's
+-- state after the step.
+use Rattle.object_model.specs.declared.shape.TheConstants.{NUMS_UNIT, COLLECTOR_OFFSET, HEADER_WORDS, SHAPE_OFFSET}
 use Rattle.std.specs.Prelude.{ℕ, zero, suc, ◌+◌, ◌/◌, ◌%◌, ◌^◌, Bool, true, false, if◌then◌else◌, nat_eq, Some, None, List, [], ◌∷◌, map, slice_index, slice_set}
 use Rattle.std.specs.Int.{bit_at}
 use Rattle.heap_layout.specs.Zones.{StopWord, BudgetWord, Globals, BlockWords, StartBits, PinBits, UnlogBits, first}
@@ -63,7 +64,7 @@ bit_of_object p l s word = bit_at word (bit_place p.before.blocks (address_in l 
 
 -- the address of number j of the object in register s, whose shape was loaded
 abbrev pub number_word : Local → ℕ → ℕ → ℕ
-number_word l s j = address_in l s + 3 + refs_in l.shape.word + j
+number_word l s j = address_in l s + HEADER_WORDS + refs_in l.shape.word + j
 
 -- the name of the mutator's next object
 abbrev pub next_name : Local → Name
@@ -86,8 +87,8 @@ owned_code p l class = code_of (record { kind = p.rules.fill; class = class; own
 -- the index of the word that the entry of a command reads or changes
 abbrev pub place_of_command : Epoch → Local → Command → ℕ
 place_of_command p l (c.New d refs nums) = bit_word p.before.blocks StartBits l.unpublished.address
-place_of_command p l (c.Get d s i) = address_in l s + 3 + i
-place_of_command p l (c.Put s i v) = address_in l s + 3 + i
+place_of_command p l (c.Get d s i) = address_in l s + HEADER_WORDS + i
+place_of_command p l (c.Put s i v) = address_in l s + HEADER_WORDS + i
 place_of_command p l (c.Read s j) = number_word l s j
 place_of_command p l (c.Write s j n) = number_word l s j
 place_of_command p l (c.Add s j n) = number_word l s j
@@ -107,9 +108,9 @@ word_of_event p l (e.Perform command) = place_of_command p l command
 word_of_event p l (e.Miss command) = first p.before.blocks StopWord
 word_of_event p l e.Poll = first p.before.blocks StopWord
 word_of_event p l (e.LoadName s) = address_in l s
-word_of_event p l (e.LoadShape s) = address_in l s + 1
-word_of_event p l (e.LoadCollector s) = address_in l s + 2
-word_of_event p l (e.LoadShapeAt a) = a + 1
+word_of_event p l (e.LoadShape s) = address_in l s + SHAPE_OFFSET
+word_of_event p l (e.LoadCollector s) = address_in l s + COLLECTOR_OFFSET
+word_of_event p l (e.LoadShapeAt a) = a + SHAPE_OFFSET
 word_of_event p l (e.LoadBlock k) = first p.before.blocks BlockWords + k
 word_of_event p l (e.LoadSide i) = i
 word_of_event p l (e.LoadUnlog s) = bit_word p.before.blocks UnlogBits (address_in l s)
@@ -121,7 +122,8 @@ word_of_event p l (e.TakeBlock k class free) = first p.before.blocks BlockWords 
 
 -- that word after the entry of a command, from the word n found
 abbrev pub store_of_command : Epoch → Local → Command → ℕ → ℕ
-store_of_command p l (c.New d refs nums) n = with_bit n (bit_place p.before.blocks l.unpublished.address)
+store_of_command p l (c.New d refs nums) n =
+    with_bit n (bit_place p.before.blocks l.unpublished.address)
 store_of_command p l (c.Get d s i) n = n
 store_of_command p l (c.Put s i v) n = address_in l v
 store_of_command p l (c.Read s j) n = n
@@ -153,7 +155,8 @@ stored p l e.Raise n = if nat_eq n 0 then l.number else n
 stored p l (e.ClearUnlog s) n = without_bit n (bit_place p.before.blocks (address_in l s))
 stored p l (e.Initialize a refs nums offset) n = birth_word (next_name l) refs nums offset
 stored p l e.DrawTicket n = (n + 1) % 2 ^ 64
-stored p l (e.TakeBlock k class free) n = if nat_eq n (found_code p class free) then owned_code p l class else n
+stored p l (e.TakeBlock k class free) n =
+    if nat_eq n (found_code p class free) then owned_code p l class else n
 
 -- the answer to a command, from the word n found
 abbrev pub answer_of_command : Epoch → Local → Command → ℕ → Answer
@@ -169,7 +172,8 @@ answer_of_command p l (c.DropReg s) n = Plain r.Done
 answer_of_command p l (c.Load d g) n = Reference n
 answer_of_command p l (c.Share g s) n = Plain r.Done
 answer_of_command p l (c.Pin s) n = Plain (if nat_eq (bit_of_object p l s n) 1 then r.No else r.Yes)
-answer_of_command p l (c.Unpin s) n = Plain (if nat_eq (bit_of_object p l s n) 1 then r.Yes else r.No)
+answer_of_command p l (c.Unpin s) n =
+    Plain (if nat_eq (bit_of_object p l s n) 1 then r.Yes else r.No)
 answer_of_command p l c.Gc n = Plain r.Done
 answer_of_command p l c.Meet n = Plain r.Done
 
@@ -185,10 +189,12 @@ source (c.Pin s) = s
 source (c.Unpin s) = s
 source _ = 0
 
--- the answer to an event, from the word n found; an event without an entry has the answer Done, which is not used
+-- the answer to an event, from the word n found; an event without an entry has the answer Done,
+-- which is not used
 abbrev pub answer : Epoch → Local → Event → ℕ → Answer
 answer p l (e.Perform command) n = answer_of_command p l command n
-answer p l (e.Miss command) n = Plain (if nat_eq (address_in l (source command)) 0 then r.Null else r.Range)
+answer p l (e.Miss command) n =
+    Plain (if nat_eq (address_in l (source command)) 0 then r.Null else r.Range)
 answer p l _ n = Plain r.Done
 
 -- no unpublished object
@@ -199,7 +205,8 @@ nothing_unpublished = record { address = 0; refs = 0; nums = 0; written = 0 }
 abbrev pub with_address : Local → ℕ → ℕ → Local
 with_address l d v = record l { registers = slice_set l.registers d v }
 
--- the state after the object is published: register d holds it, and the mutator has allocated one object more
+-- the state after the object is published: register d holds it, and the mutator has allocated one
+-- object more
 abbrev pub published : Local → ℕ → ℕ → ℕ → Local
 published l d refs nums =
     record l {
@@ -245,10 +252,13 @@ abbrev pub local_after : Epoch → Local → Event → ℕ → Local
 local_after p l (e.Perform command) n = local_after_command l command n
 local_after p l (e.Miss command) n = l
 local_after p l e.Poll n = record l { stop = n }
-local_after p l (e.LoadName s) n = record l { loaded = (record { at = address_in l s; word = n }) ∷ l.loaded }
+local_after p l (e.LoadName s) n =
+    record l { loaded = (record { at = address_in l s; word = n }) ∷ l.loaded }
 local_after p l (e.LoadShape s) n = record l { shape = record { at = address_in l s; word = n } }
-local_after p l (e.LoadCollector s) n = record l { collector = record { at = address_in l s; word = n } }
-local_after p l (e.LoadShapeAt a) n = record l { loaded = (record { at = a + 1; word = n }) ∷ l.loaded }
+local_after p l (e.LoadCollector s) n =
+    record l { collector = record { at = address_in l s; word = n } }
+local_after p l (e.LoadShapeAt a) n =
+    record l { loaded = (record { at = a + SHAPE_OFFSET; word = n }) ∷ l.loaded }
 local_after p l (e.LoadBlock k) n = record l { blocks = (record { at = k; word = n }) ∷ l.blocks }
 local_after p l (e.LoadSide i) n = record l { loaded = (record { at = i; word = n }) ∷ l.loaded }
 local_after p l (e.LoadUnlog s) n = record l {
@@ -277,7 +287,8 @@ found p h m x = slice_index h.words (word_of_event p (h.locals m) x)
 -- the machine after one event of mutator m
 abbrev pub next : Epoch → Machine → ℕ → Event → Machine
 next p h m x = record {
-  words = slice_set h.words (word_of_event p (h.locals m) x) (stored p (h.locals m) x (found p h m x));
+  words = slice_set h.words (word_of_event p (h.locals m) x)
+      (stored p (h.locals m) x (found p h m x));
   locals = λ k. if nat_eq k m then local_after p (h.locals m) x (found p h m x) else h.locals k;
 }
 

@@ -32,9 +32,9 @@ ghost use Rattle.mutator_core.specs.Tickets.{tickets_below, taken_by, drawn_by, 
 ghost use Rattle.mutator_core.specs.Closing.{GivesBack};
 ghost use Rattle.mutator_core.specs.Logs.{IsEpochLog, machine_after, heap_after, mutators_after, local_after_log, history_of, IsUnpublishedWord, HasAvailable, IsUntaken, IsTaken, IsOwnedBy, IsListed, sum_after, HasRaisedStop, AreBetweenCalls, IsStoppedAfter};
 
-use heap_layout::GLOBALS;
+use heap_layout::{BUDGET_WORD, GLOBALS, STOP_WORD};
 use ideal_heap::REGISTERS;
-use object_model::HEADER_WORDS;
+use object_model::{HEADER_WORDS, SHAPE_OFFSET};
 
 /// The step of a command makes one entry, of that command, whether the command has an effect or
 /// not. Every other step makes none.
@@ -244,7 +244,7 @@ pub fn histories_are_runs()
 pub fn loaded_headers_stay()
     ensures shape { (p : Epoch) (i : IdealHeap) (log : List LogEntry) → IsEpochLog p i log
         → (m : ℕ) → 0 < (local_after_log p log m).shape.at
-        → word_at (heap_after p log) ((local_after_log p log m).shape.at + 1)
+        → word_at (heap_after p log) ((local_after_log p log m).shape.at + SHAPE_OFFSET)
         ≡ (local_after_log p log m).shape.word }
     ensures collector { (p : Epoch) (i : IdealHeap) (log : List LogEntry) → IsEpochLog p i log
         → (m : ℕ) → 0 < (local_after_log p log m).collector.at
@@ -260,11 +260,11 @@ pub fn loaded_headers_stay()
 /// block is not Free, and a block whose loaded word has an owner has one.
 pub fn seen_words_stay()
     ensures stop { (p : Epoch) (i : IdealHeap) (log : List LogEntry) → IsEpochLog p i log
-        → (word_at (heap_after p log) 0 ≡ 0)
-        ⊎ HasRaisedStop p log (word_at (heap_after p log) 0) }
+        → (word_at (heap_after p log) STOP_WORD ≡ 0)
+        ⊎ HasRaisedStop p log (word_at (heap_after p log) STOP_WORD) }
     ensures polled { (p : Epoch) (i : IdealHeap) (log : List LogEntry) → IsEpochLog p i log
         → (m : ℕ) → 0 < (local_after_log p log m).stop
-        → word_at (heap_after p log) 0 ≡ (local_after_log p log m).stop }
+        → word_at (heap_after p log) STOP_WORD ≡ (local_after_log p log m).stop }
     ensures blocks { (p : Epoch) (i : IdealHeap) (log : List LogEntry) → IsEpochLog p i log
         → (m : ℕ) (x : Loaded) → Contains (local_after_log p log m).blocks x
         → (x.at < p.before.blocks) × IsSeen (heap_after p log) x }
@@ -293,15 +293,15 @@ pub fn loaded_words_stay()
 /// unused ticket is below the budget word, and no two mutators have the same one.
 pub fn tickets_are_counted()
     ensures budget { (p : Epoch) (i : IdealHeap) (log : List LogEntry) → IsEpochLog p i log
-        → sum_after drawn_by p log ≡ word_at (heap_after p log) 1 }
+        → sum_after drawn_by p log ≡ word_at (heap_after p log) BUDGET_WORD }
     ensures allowed { (p : Epoch) (i : IdealHeap) (log : List LogEntry) → IsEpochLog p i log
         → sum_after (allowed_to (allowance p)) p log
-        ≡ smaller (word_at (heap_after p log) 1) (allowance p) }
+        ≡ smaller (word_at (heap_after p log) BUDGET_WORD) (allowance p) }
     ensures free { (p : Epoch) (i : IdealHeap) (log : List LogEntry) → IsEpochLog p i log
         → free_of p.before ≡ free_of (heap_after p log) + sum_after taken_by p log }
     ensures drawn { (p : Epoch) (i : IdealHeap) (log : List LogEntry) → IsEpochLog p i log
         → (m t : ℕ) → (local_after_log p log m).ticket ≡ Some t
-        → t < word_at (heap_after p log) 1 }
+        → t < word_at (heap_after p log) BUDGET_WORD }
     ensures distinct { (p : Epoch) (i : IdealHeap) (log : List LogEntry) → IsEpochLog p i log
         → (m n t : ℕ) → (local_after_log p log m).ticket ≡ Some t
         → (local_after_log p log n).ticket ≡ Some t → m ≡ n }

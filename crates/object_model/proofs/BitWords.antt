@@ -10,7 +10,7 @@ use Rattle.object_model.specs.Lawful.{IsWellFormed}
 use Rattle.object_model.specs.Changes.{SetsPin, ClearsUnlog}
 use Rattle.object_model.proofs.Marks.{mark-same}
 use Rattle.side_meta.proofs.BitWords.{without-same, without-other, without-fits}
-use Rattle.side_meta.specs.BitWords.{with_bit, without_bit}
+use Rattle.side_meta.specs.BitWords.{without_bit}
 use Rattle.object_model.specs.BitWords.{bit_word, bit_place}
 
 -- the row with another word v where the bit of address a lies, which has the other bits of that word

@@ -2,9 +2,9 @@ pub mod References
 pub mod Zeros
 pub mod Marks
 pub mod Representation
-pub mod Staying
+pub mod NothingMoves
 pub mod Preserved
-pub mod Logging
+pub mod LoggedObjects
 pub mod TwoSteps
 pub mod Frames
 pub mod Stores

@@ -14,7 +14,8 @@ use Rattle.object_model.specs.Changes.{WritesObject}
 use Rattle.ideal_heap.specs.declared.command.TheConstants.{MAX_REFS, MAX_NUMS}
 use Rattle.object_model.specs.declared.shape.TheConstants.{MAX_MEDIUM_WORDS}
 
--- The words from a on are free for an object of this name and shape: no held object has one of them, or has the name.
+-- The words from a on are free for an object of this name and shape: no held object has one of
+-- them, or has the name.
 pub record IsVacant (s : HeapState) (a : ℕ) (n : Name) (refs nums : ℕ) : Type 0 where
   pub address : IsAddress s.blocks a
   pub named : IsName n
@@ -29,8 +30,8 @@ pub record IsRoom (s : HeapState) (a : ℕ) (n : Name) (refs nums : ℕ) : Type 
   pub small : size_of refs nums ≤ MAX_MEDIUM_WORDS
   pub place : LiesInBlock s a (size_of refs nums)
 
--- A new large object of this name and shape may be written at the start of block k: the blocks that it needs are Free
--- and clear, and no held object has the name.
+-- A new large object of this name and shape may be written at the start of block k: the blocks that
+-- it needs are Free and clear, and no held object has the name.
 pub record IsLargeRoom (s : HeapState) (k : ℕ) (n : Name) (refs nums : ℕ) : Type 0 where
   pub named : IsName n
   pub few_refs : refs ≤ MAX_REFS
@@ -43,9 +44,11 @@ pub record IsLargeRoom (s : HeapState) (k : ℕ) (n : Name) (refs nums : ℕ) : 
 
 -- the heap with this word for block k
 abbrev pub with_block : HeapState → ℕ → BlockWord → HeapState
-with_block s k word = with_words s (slice_set s.words (first s.blocks BlockWords + k) (code_of word))
+with_block s k word =
+    with_words s (slice_set s.words (first s.blocks BlockWords + k) (code_of word))
 
--- The line bit of each line that an object of `size` words at a touches is set. All else is unchanged.
+-- The line bit of each line that an object of `size` words at a touches is set. All else is
+-- unchanged.
 pub record MarksLinesOfBirth (old new : HeapState) (a size : ℕ) : Type 0 where
   pub blocks : new.blocks ≡ old.blocks
   pub number : new.number ≡ old.number
@@ -54,7 +57,8 @@ pub record MarksLinesOfBirth (old new : HeapState) (a size : ℕ) : Type 0 where
   pub words : (i : ℕ) → word_at new i < 2 ^ 64
   pub marked : (line : ℕ) → TouchesLine old.blocks a size line
       → IsTrue (bit_of old.blocks LineWords new.words line)
-  pub others : (line : ℕ) → line < BLOCK_LINES * old.blocks → (TouchesLine old.blocks a size line → ⊥)
+  pub others : (line : ℕ) → line < BLOCK_LINES * old.blocks
+      → (TouchesLine old.blocks a size line → ⊥)
       → bit_of old.blocks LineWords new.words line ≡ bit_of old.blocks LineWords old.words line
   pub rest : (i : ℕ) → (i < first old.blocks LineWords) ⊎ (first old.blocks StartBits ≤ i)
       → word_at new i ≡ word_at old i
@@ -68,10 +72,12 @@ pub record MakesRun (old new : HeapState) (k n : ℕ) : Type 0 where
   pub head : block_word new k ≡ code_of (record { kind = kinds.LargeHead; class = n; owner = 0 })
   pub tails : (j : ℕ) → 0 < j → j < n
       → block_word new (k + j) ≡ code_of (record { kind = kinds.LargeTail; class = 0; owner = 0 })
-  pub others : (i : ℕ) → (i < first old.blocks BlockWords + k) ⊎ (first old.blocks BlockWords + k + n ≤ i)
+  pub others : (i : ℕ) → (i < first old.blocks BlockWords + k)
+      ⊎ (first old.blocks BlockWords + k + n ≤ i)
       → word_at new i ≡ word_at old i
 
--- The blocks that the object needs, from k on, become a large run. Then the object is written at its start.
+-- The blocks that the object needs, from k on, become a large run. Then the object is written at
+-- its start.
 pub record WritesLargeObject (old new : HeapState) (k : ℕ) (n : Name) (refs nums : ℕ) : Type 0 where
   pub between : HeapState
   pub run : MakesRun old between k (blocks_for (size_of refs nums))

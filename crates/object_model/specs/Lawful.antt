@@ -6,14 +6,15 @@ use Rattle.heap_layout.specs.declared.block.Kind.TheVariants as kinds
 use Rattle.heap_layout.specs.Blocks.{is_block_code}
 use Rattle.ideal_heap.specs.Names.{IsName}
 use Rattle.object_model.specs.Objects.{HeapState, word_at, global_at, block_word, has_kind, HasKind, class_at, owner_at, line_marked, is_start, is_pinned, is_unlogged, IsHeld, name_at, refs_at, nums_at, size_at, number_at, target_at, ref_at, is_reference, IsInExtent, IsInExtentOf, cell_words, blocks_for}
-use Rattle.heap_layout.specs.declared.layout.TheConstants.{BLOCK_LINES, BLOCK_WORDS, MAX_BLOCKS}
+use Rattle.heap_layout.specs.declared.layout.TheConstants.{BLOCK_LINES, BLOCK_WORDS, MAX_BLOCKS, GLOBALS, MIN_BLOCKS}
 use Rattle.ideal_heap.specs.declared.command.TheConstants.{MAX_REFS, MAX_NUMS}
 use Rattle.object_model.specs.Lines.{TouchesLine}
 use Rattle.object_model.specs.declared.shape.TheConstants.{MAX_MEDIUM_WORDS}
 
--- The row has as many words as its layout, each of 64 bits, and the last full collection is no later than the last one.
+-- The row has as many words as its layout, each of 64 bits, and the last full collection is no
+-- later than the last one.
 pub record IsRow (s : HeapState) : Type 0 where
-  pub least : 4 ≤ s.blocks
+  pub least : MIN_BLOCKS ≤ s.blocks
   pub most : s.blocks ≤ MAX_BLOCKS
   pub extent : length s.words ≡ row_words s.blocks
   pub words : (i : ℕ) → word_at s i < 2 ^ 64
@@ -25,8 +26,8 @@ pub record HasObject (s : HeapState) (a : ℕ) : Type 0 where
   pub refs : refs_at s a ≤ MAX_REFS
   pub nums : nums_at s a ≤ MAX_NUMS
 
--- The first three words at a are an object's header. The collector word has the number of a past collection, and then
--- the address a, or the number 0.
+-- The first three words at a are an object's header. The collector word has the number of a past
+-- collection, and then the address a, or the number 0.
 pub record HasHeader (s : HeapState) (a : ℕ) : Type 0 where
   pub object : HasObject s a
   pub number : number_at s a ≤ s.number
@@ -43,7 +44,8 @@ pub record LiesInCell (s : HeapState) (a size : ℕ) : Type 0 where
   pub room : size ≤ cell_words (class_at s (block_at s.blocks a))
   pub within : offset_at s.blocks a + cell_words (class_at s (block_at s.blocks a)) ≤ BLOCK_WORDS
 
--- A small or medium object of this size at a lies within one block, of a kind that holds such objects.
+-- A small or medium object of this size at a lies within one block, of a kind that holds such
+-- objects.
 pub record LiesInBlock (s : HeapState) (a size : ℕ) : Type 0 where
   pub address : IsAddress s.blocks a  -- not a word of the side metadata
   pub within : offset_at s.blocks a + size ≤ BLOCK_WORDS
@@ -68,8 +70,8 @@ pub record Lies (s : HeapState) (a size : ℕ) : Type 0 where
   pub small : size ≤ MAX_MEDIUM_WORDS → LiesInBlock s a size
   pub large : MAX_MEDIUM_WORDS < size → LiesInRun s a size
 
--- The object at a can be read: it is held, has a name and a shape, and ends within the row. The rest of the row is left
--- open.
+-- The object at a can be read: it is held, has a name and a shape, and ends within the row. The
+-- rest of the row is left open.
 pub record IsReadable (s : HeapState) (a : ℕ) : Type 0 where
   pub extent : length s.words ≡ row_words s.blocks
   pub held : IsHeld s a
@@ -81,7 +83,8 @@ pub record IsReadableBlock (s : HeapState) (k : ℕ) : Type 0 where
   pub extent : length s.words ≡ row_words s.blocks
   pub block : k < s.blocks
   pub code : IsTrue (is_block_code (block_word s k))
-  pub objects : (a : ℕ) → IsHeld s a → block_at s.blocks a ≡ k → HasObject s a × Lies s a (size_at s a)
+  pub objects : (a : ℕ) → IsHeld s a → block_at s.blocks a ≡ k
+      → HasObject s a × Lies s a (size_at s a)
 
 -- a reference field may hold v: nil, or the address of a held object
 abbrev pub IsRefField : HeapState → ℕ → Type 0
@@ -97,7 +100,8 @@ AreRoots s roots = EachIndex roots (λ i. IsRoot s (slice_index roots i))
 
 -- block k is in a run that begins before it
 abbrev pub is_in_run : HeapState → ℕ → Bool
-is_in_run s k = list_any (λ h. has_kind s h kinds.LargeHead && nat_lt k (h + class_at s h)) (range_with_len 0 k)
+is_in_run s k =
+    list_any (λ h. has_kind s h kinds.LargeHead && nat_lt k (h + class_at s h)) (range_with_len 0 k)
 
 -- the heap invariant for objects, references and names
 pub record HasLawfulObjects (s : HeapState) : Type 0 where
@@ -111,14 +115,16 @@ pub record HasLawfulObjects (s : HeapState) : Type 0 where
       × (MAX_MEDIUM_WORDS < size_at s (block_start s.blocks k))
   pub tails : (k : ℕ) → HasKind s k kinds.LargeTail → IsTrue (is_in_run s k)
   pub references : (a i : ℕ) → IsHeld s a → i < refs_at s a → IsRefField s (ref_at s a i)
-  pub globals : (g : ℕ) → g < 16 → IsRoot s (global_at s g)
+  pub globals : (g : ℕ) → g < GLOBALS → IsRoot s (global_at s g)
   pub names : (a x : ℕ) → IsHeld s a → IsHeld s x → name_at s a ≡ name_at s x → a ≡ x
 
--- Block k is clear: no held object has a word in it, and none of its line, start, pin and unlog bits is set.
+-- Block k is clear: no held object has a word in it, and none of its line, start, pin and unlog
+-- bits is set.
 pub record IsClear (s : HeapState) (k : ℕ) : Type 0 where
   pub empty : (a i : ℕ) → IsHeld s a → IsInExtent s a i → block_at s.blocks i ≢ k
-  pub lines : (line : ℕ) → line < 256 → IsTrue (line_marked s k line) → ⊥
-  pub marks : (a : ℕ) → block_at s.blocks a ≡ k → IsTrue (is_start s a || is_pinned s a || is_unlogged s a) → ⊥
+  pub lines : (line : ℕ) → line < BLOCK_LINES → IsTrue (line_marked s k line) → ⊥
+  pub marks : (a : ℕ) → block_at s.blocks a ≡ k
+      → IsTrue (is_start s a || is_pinned s a || is_unlogged s a) → ⊥
 
 abbrev pub FreeBlockIsClear : HeapState → ℕ → Type 0
 FreeBlockIsClear s k = HasKind s k kinds.Free → IsClear s k
@@ -131,12 +137,14 @@ pub record IsTouched (s : HeapState) (k line : ℕ) : Type 0 where
 
 -- A line bit of an Immix block is set if and only if a held object touches the line.
 pub record LineBitsAreExact (s : HeapState) (k : ℕ) : Type 0 where
-  pub marked : (line : ℕ) → HasKind s k kinds.Immix → line < 256 → IsTrue (line_marked s k line)
+  pub marked : (line : ℕ) → HasKind s k kinds.Immix → line < BLOCK_LINES
+      → IsTrue (line_marked s k line)
       → ∥ IsTouched s k line ∥₁
-  pub touched : (line : ℕ) → HasKind s k kinds.Immix → line < 256 → IsTouched s k line → IsTrue (line_marked s k line)
+  pub touched : (line : ℕ) → HasKind s k kinds.Immix → line < BLOCK_LINES → IsTouched s k line
+      → IsTrue (line_marked s k line)
 
--- The row, and its objects, references and names, are well formed. Owners, line bits and the codes of block words are
--- left open, so this also holds while mutators fill blocks that they own.
+-- The row, and its objects, references and names, are well formed. Owners, line bits and the codes
+-- of block words are left open, so this also holds while mutators fill blocks that they own.
 pub record IsWellFormed (s : HeapState) : Type 0 where
   pub row : IsRow s
   pub objects : HasLawfulObjects s

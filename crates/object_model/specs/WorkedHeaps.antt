@@ -1,4 +1,5 @@
--- Worked heaps: four blocks with one object at the first address, and heaps that are built from blocks and objects.
+-- Worked heaps: four blocks with one object at the first address, and heaps that are built from
+-- blocks and objects.
 use Rattle.std.specs.Prelude.{ℕ, ◌+◌, ◌*◌, ◌-◌, ◌/◌, ◌%◌, ◌^◌, Bool, true, false, ◌&&◌, if◌then◌else◌, nat_eq, nat_le, nat_lt, List, ◌∷◌, ◌++◌, length, map, replicate, sum_by, slice_index, slice_set}
 use Rattle.std.specs.List.{range_with_len, list_any}
 use Rattle.forward_word.specs.CollectorWords.{collector_word}
@@ -23,12 +24,14 @@ one_block kind class = with_block (empty_heap 4) 0 (unowned kind class)
 abbrev pub with_lines : HeapState → ℕ → HeapState
 with_lines s bits = with_words s (slice_set s.words 22 bits)
 
--- the heap with mutator 1's first object, of `nums` numbers and no references: its start bit, name and shape
+-- the heap with mutator 1's first object, of `nums` numbers and no references: its start bit, name
+-- and shape
 abbrev pub with_first_object : HeapState → ℕ → HeapState
-with_first_object s nums = with_words s (slice_set (slice_set (slice_set s.words 38 1) 806 33) 807 (65536 * nums))
+with_first_object s nums =
+    with_words s (slice_set (slice_set (slice_set s.words 38 1) 806 33) 807 (65536 * nums))
 
--- An object of a built heap: its block and its offset in it, its name, the words of its fields, the number of the
--- collection that last met it (0 for none), and its pin and unlog bits.
+-- An object of a built heap: its block and its offset in it, its name, the words of its fields, the
+-- number of the collection that last met it (0 for none), and its pin and unlog bits.
 pub record WorkedObject : Type 0 where
   pub block : ℕ
   pub offset : ℕ
@@ -80,31 +83,37 @@ object_word start objects i = sum_by
     (i - words_before o) else 0)
     objects
 
--- word i of a zone with a bit for each word of the heap, set where an object that passes the test begins
+-- word i of a zone with a bit for each word of the heap, set where an object that passes the test
+-- begins
 abbrev pub mark_word : (WorkedObject → Bool) → List WorkedObject → ℕ → ℕ
 mark_word test objects i = sum_by
     (λ o. if test o && nat_eq (words_before o / 64) i then 2 ^ (words_before o % 64) else 0) objects
 
 -- the object has a word in this line, counted from the first line of the heap
 abbrev pub touches_line : ℕ → WorkedObject → Bool
-touches_line line o = nat_lt (words_before o) (16 * (line + 1)) && nat_lt (16 * line) (words_before o + worked_size o)
+touches_line line o = nat_lt (words_before o) (16 * (line + 1))
+    && nat_lt (16 * line) (words_before o + worked_size o)
 
 -- word i of the line bits: set where an object of an Immix block has a word in the line
 abbrev pub line_word : List BlockWord → List WorkedObject → ℕ → ℕ
 line_word blocks objects i =
     if nat_eq (slice_index (map code_of blocks) (i / 4) % 256) 4 then
-    sum_by (λ l. if list_any (touches_line (64 * i + l)) objects then 2 ^ l else 0) (range_with_len 0 64) else 0
+    sum_by (λ l. if list_any (touches_line (64 * i + l)) objects then 2 ^ l else 0)
+    (range_with_len 0 64) else 0
 
 -- word i of the row, of b blocks
 abbrev pub built_word : WorkedHeap → ℕ → ℕ → ℕ
 built_word h b i =
     if nat_lt i (first b Globals) then 0
     else if nat_lt i (first b BlockWords) then slice_index h.globals (i - first b Globals)
-    else if nat_lt i (first b LineWords) then slice_index (map code_of h.blocks) (i - first b BlockWords)
+    else if nat_lt i (first b LineWords) then slice_index (map code_of h.blocks)
+    (i - first b BlockWords)
     else if nat_lt i (first b StartBits) then line_word h.blocks h.objects (i - first b LineWords)
     else if nat_lt i (first b PinBits) then mark_word (λ o. true) h.objects (i - first b StartBits)
-    else if nat_lt i (first b UnlogBits) then mark_word (λ o. o.pinned) h.objects (i - first b PinBits)
-    else if nat_lt i (first b HeapWords) then mark_word (λ o. o.unlogged) h.objects (i - first b UnlogBits)
+    else if nat_lt i (first b UnlogBits) then mark_word (λ o. o.pinned) h.objects
+    (i - first b PinBits)
+    else if nat_lt i (first b HeapWords) then mark_word (λ o. o.unlogged) h.objects
+    (i - first b UnlogBits)
     else object_word (first b HeapWords) h.objects (i - first b HeapWords)
 
 -- the heap that is built from blocks and objects

@@ -1,6 +1,6 @@
 //! Side metadata with one bit for each address.
 
-ghost use Rattle.std.specs.Prelude.{◌≡◌, ◌↔◌, ℕ, IsTrue, length};
+ghost use Rattle.std.specs.Prelude.{◌≡◌, ◌↔◌, ℕ, IsTrue};
 ghost use Rattle.heap_layout.specs.Zones.{heap_of, IsAddress, IsRowOf};
 ghost use Rattle.object_model.specs.Objects.{state_over, IsHeld};
 

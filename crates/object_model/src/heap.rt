@@ -74,7 +74,7 @@ impl Heap {
         self.row.number
     }
 
-    /// The number of the last full collection, 0 before the first.
+    /// The number of the last full collection that reclaimed, 0 before the first.
     pub fn base(&self) -> u64
         ensures { result ≡ (heap_state self.now).base }
     {

@@ -20,9 +20,11 @@ ghost use Rattle.object_model.specs.Ages.{is_old, is_logged, is_survivor, Rememb
 ghost use Rattle.object_model.specs.Preserving.{may_leave, PreservesObjects, field_after};
 ghost use Rattle.object_model.specs.Graphs.{AreDifferent, Represents, new_mutator};
 
-use crate::shape::MAX_MEDIUM_WORDS;
+use crate::shape::{COLLECTOR_OFFSET, MAX_MEDIUM_WORDS};
 use forward_word::TARGET_BITS;
-use heap_layout::{BLOCK_LINES, BLOCK_WORDS, CLASS_UNIT, MAX_BLOCKS, MIN_BLOCKS, OWNER_UNIT};
+use heap_layout::{
+    BLOCK_LINE_BIT_WORDS, BLOCK_LINES, BLOCK_WORDS, CLASS_UNIT, MAX_BLOCKS, MIN_BLOCKS, OWNER_UNIT,
+};
 use ideal_heap::{MAX_MUTATORS, MAX_NUMS, MAX_REFS};
 
 /// A row of zeros is a lawful heap. With mutators that have allocated nothing, it represents the
@@ -136,7 +138,7 @@ pub fn block_words_read()
 /// A collector word has room for an address of every heap: number and address are read back.
 pub fn collector_words_read()
     ensures { (s : HeapState) (a n t : ℕ) → s.blocks ≤ MAX_BLOCKS → IsAddress s.blocks t
-        → word_at s (a + 2) ≡ collector_word n t
+        → word_at s (a + COLLECTOR_OFFSET) ≡ collector_word n t
         → (number_at s a ≡ n) × (target_at s a ≡ t) }
 {}
 
@@ -144,7 +146,8 @@ pub fn collector_words_read()
 pub fn lines_have_words()
     ensures { (s : HeapState) (k line : ℕ) → line < BLOCK_LINES
         → line_marked s k line ≡ nat_eq (bit_at
-        (word_at s (first s.blocks LineWords + 4 * k + line / 64)) (line % 64)) 1 }
+        (word_at s (first s.blocks LineWords + BLOCK_LINE_BIT_WORDS * k + line / 64))
+        (line % 64)) 1 }
 {}
 
 /// An object touches the lines in which it has a word.
@@ -215,8 +218,8 @@ pub fn lawful_words()
 /// the word of a past collection and the object's address.
 pub fn headers_are_read()
     ensures from { (s : HeapState) (a n : ℕ) → HasObject s a → a < 2 ^ TARGET_BITS
-        → n ≤ s.number → word_at s (a + 2) ≡ collector_word n a → HasHeader s a }
+        → n ≤ s.number → word_at s (a + COLLECTOR_OFFSET) ≡ collector_word n a → HasHeader s a }
     ensures into { (s : HeapState) (a : ℕ) → HasHeader s a
-        → (word_at s (a + 2) < 2 ^ TARGET_BITS) ⊎ ((n : ℕ) × (n ≤ s.number)
-        × (word_at s (a + 2) ≡ collector_word n a)) }
+        → (word_at s (a + COLLECTOR_OFFSET) < 2 ^ TARGET_BITS) ⊎ ((n : ℕ) × (n ≤ s.number)
+        × (word_at s (a + COLLECTOR_OFFSET) ≡ collector_word n a)) }
 {}

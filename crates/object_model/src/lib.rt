@@ -28,7 +28,8 @@ pub use laws::{
 pub use roots::are_roots;
 pub use row::Row;
 pub use shape::{
-    HEADER_WORDS, MAX_MEDIUM_WORDS, NUMS_UNIT, Shape, decode_shape, encode_shape, size_words,
+    COLLECTOR_OFFSET, HEADER_WORDS, MAX_MEDIUM_WORDS, NUMS_UNIT, SHAPE_OFFSET, Shape, decode_shape,
+    encode_shape, size_words,
 };
 pub use step_laws::{
     cleared_bits_log, heaps_represent_on_sets, preserved_heaps_represent, steps_follow_steps,

@@ -4,7 +4,7 @@ ghost use Rattle.std.specs.Prelude.{◌≡◌, ℕ, ◌+◌, ◌<◌, ◌≤◌,
 ghost use Rattle.ideal_heap.specs.Names.{IsName, name_code};
 ghost use Rattle.object_model.specs.Objects.{size_of, shape_code};
 
-use crate::shape::{Shape, encode_shape, size_words};
+use crate::shape::{COLLECTOR_OFFSET, SHAPE_OFFSET, Shape, encode_shape, size_words};
 use ideal_heap::{MAX_NUMS, MAX_REFS, Name};
 use std::alloc::{AllocError, Global};
 
@@ -44,9 +44,9 @@ pub(crate) fn write_words(words: &mut Vec<u64>, address: u32, name: &Name, shape
     requires name { IsName name.now }
     ensures len { length words.new.items ≡ length words.old.items }
     ensures name { slice_index words.new.items address ≡ name_code name.now }
-    ensures shape { slice_index words.new.items (address + 1)
+    ensures shape { slice_index words.new.items (address + SHAPE_OFFSET)
         ≡ shape_code shape.now.refs shape.now.nums }
-    ensures blank { (i : ℕ) → 2 ≤ i → i < size_of shape.now.refs shape.now.nums
+    ensures blank { (i : ℕ) → COLLECTOR_OFFSET ≤ i → i < size_of shape.now.refs shape.now.nums
         → slice_index words.new.items (address + i) ≡ 0 }
     ensures others { (i : ℕ)
         → (i < address) ⊎ (address + size_of shape.now.refs shape.now.nums ≤ i)
@@ -55,6 +55,6 @@ pub(crate) fn write_words(words: &mut Vec<u64>, address: u32, name: &Name, shape
     let at = address as usize;
     let end = at + size_words(shape) as usize;
     words[at] = encode_name(name);
-    words[at + 1] = encode_shape(shape);
-    words[at + 2..end].fill(0);
+    words[at + SHAPE_OFFSET as usize] = encode_shape(shape);
+    words[at + COLLECTOR_OFFSET as usize..end].fill(0);
 }

@@ -21,7 +21,7 @@ pub struct Row {
     pub layout: Layout,
     /// The number of the last collection, 0 before the first.
     pub number: u64,
-    /// The number of the last full collection, 0 before the first.
+    /// The number of the last full collection that reclaimed, 0 before the first.
     pub base: u64,
 }
 

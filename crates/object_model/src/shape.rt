@@ -12,6 +12,12 @@ pub const MAX_MEDIUM_WORDS: u32 = 2048;
 /// The words of an object's header: its name, its shape and its collector word.
 pub const HEADER_WORDS: u32 = 3;
 
+/// How many words after its address the shape word of an object is.
+pub const SHAPE_OFFSET: u32 = 1;
+
+/// How many words after its address the collector word of an object is.
+pub const COLLECTOR_OFFSET: u32 = 2;
+
 /// The factor of the numbers in a shape word. The references are below it.
 pub const NUMS_UNIT: u64 = 65_536;
 

@@ -15,15 +15,16 @@ HasRisen before now = (before < now) ⊎ (LAST ≤ now)
 abbrev pub Asked : Type 0
 Asked = List (List ℕ × ℕ)
 
--- a source: the content of each name, the bytes left of the open file, the names asked for, and the count of faults;
--- content and bytes are None if they are not known to the contract
+-- a source: the content of each name, the bytes left of the open file, the names asked for, and the
+-- count of faults; content and bytes are None if they are not known to the contract
 pub record SourceState : Type 0 where
   pub content : List ℕ → Option (List ℕ)
   pub left : Option (List ℕ)
   pub asked : Asked
   pub faults : ℕ
 
--- a sink: the bytes written, which are None if they are not known to the contract, and the count of faults
+-- a sink: the bytes written, which are None if they are not known to the contract, and the count of
+-- faults
 pub record SinkState : Type 0 where
   pub written : Option (List ℕ)
   pub faults : ℕ
@@ -40,7 +41,8 @@ asked_after (Err fault.Failed) name count before = before ++ (name, count) ∷ [
 asked_after (Err fault.OutOfMemory) name count before = before
 
 -- the first n bytes of `left` move to the beginning of the buffer
-pub record MovesBytes (n : ℕ) (left : List ℕ) (buf : List ℕ) (left' : Option (List ℕ)) : Type 0 where
+pub record MovesBytes (n : ℕ) (left : List ℕ) (buf : List ℕ) (left' : Option (List ℕ))
+    : Type 0 where
   pub most : n ≤ length left
   pub bytes : take n buf ≡ take n left
   pub rest : left' ≡ Some (drop n left)

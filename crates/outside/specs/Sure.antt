@@ -22,4 +22,9 @@ abbrev pub asked_of : SureSources → Asked
 asked_of s = names_in s.asked.items
 
 abbrev pub sources_state : SureSources → SourceState
-sources_state s = record { content = content_of s; left = Some (left_of s); asked = asked_of s; faults = 0 }
+sources_state s = record {
+  content = content_of s;
+  left = Some (left_of s);
+  asked = asked_of s;
+  faults = 0;
+}

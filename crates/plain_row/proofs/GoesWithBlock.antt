@@ -25,7 +25,6 @@ use Rattle.block_regions.proofs.RegionFrames.{region-as}
 use Rattle.mutator_core.specs.declared.state.LogEntry.{LogEntry}
 use Rattle.mutator_core.specs.declared.state.Event.TheVariants as e
 use Rattle.mutator_core.specs.Machine.{Epoch}
-use Rattle.mutator_core.specs.Epochs.{is_filled}
 use Rattle.mutator_core.specs.Logs.{machine_after}
 use Rattle.mutator_core.proofs.Fills.{fill-not-free}
 use Rattle.mutator_core.proofs.Lists.{contains-cases, contains-none}
@@ -38,7 +37,7 @@ use Rattle.block_regions.specs.declared.block_notes.BlockNote.TheVariants.{Unown
 use Rattle.plain_row.specs.Rows.{IsTurn, mutator_number, births_of, number_at_turn, mutator_at_turn, seat_at_turn, regions_at_turn}
 use Rattle.local_allocators.specs.Seats.{ticket_of, blocks_of, block_of, over_of}
 use Rattle.block_regions.specs.Notes.{FillsHoles, IsRegionOf}
-use Rattle.local_allocators.specs.MutatorRegions.{FillsLines, cursors_of, GoesOver, IsBlockFor, KeepsClass, KeepsRegions}
+use Rattle.local_allocators.specs.MutatorRegions.{FillsLines, cursors_of, GoesOver, IsBlockFor, KeepsClass, KeepsRegions, OffersRoom}
 use Rattle.local_allocators.specs.NotedRegions.{region_of, region_noted, regions_of}
 use Rattle.plan_api.specs.Cursors.{RegionHasRoom}
 use Rattle.plain_row.specs.Changes.{OwnsBlock, KeepsPlan, seat_with}
@@ -57,6 +56,7 @@ use Rattle.plain_row.proofs.BlocksOwned as taking
 use Rattle.plain_row.proofs.BlocksOwned.{Gains, ticket_left, unowned-code}
 use Rattle.plain_row.proofs.RoomOffered.{still-over, still-overflows}
 use Rattle.block_regions.proofs.FilledKinds.{valid-parts}
+use Rattle.sessions.specs.Plans.{has_holes}
 
 and-true : (b : Bool) → b ≡ (b && not false)
 and-true true = refl
@@ -294,8 +294,8 @@ module _ (a b : PlainRow) (ready : MayCall a) (block size : ℕ) (region : Regio
   now-filled : HasKind (state_of b.row) block a.fill
   now-filled = let now = ready.between_calls.some in subst (λ (t : HeapState). HasKind t block a.fill) (sym gains.takes.words) (taking.kind-now now.epoch now.ideal now.log a b now.at ready.turn block class region free gains)
 
-  fills : IsTrue (is_filled a.fill)
-  fills = subst (λ (k : Kind). IsTrue (is_filled k)) (sym ready.between_calls.some.at.fill) ready.between_calls.some.at.epoch.ready.fills
+  fills : IsTrue (has_holes a.fill)
+  fills = subst (λ (k : Kind). IsTrue (has_holes k)) (sym ready.between_calls.some.at.fill) ready.between_calls.some.at.epoch.ready.fills
 
   not-free : has_kind (state_of b.row) block kinds.Free ≡ false
   not-free = not-true (has_kind (state_of b.row) block kinds.Free) (fill-not-free (state_of b.row) block a.fill fills now-filled)
@@ -441,7 +441,7 @@ module _ (a b : PlainRow) (ready : MayCall a) (block size : ℕ) (there : block 
       left = subst (λ (t : HeapState). IsRegionIn a.fill t block (first_region a.fill (class-in a size))) (sym takes.words)
           (subst (λ (c : ℕ). IsRegionIn a.fill then block (first_region a.fill c)) class-then (filled_kinds.clear-whole a.fill ready.between_calls.some.at.fills then block clear-then));
       unowned = λ owner r note. let now = ready.between_calls.some in
-          fill-not-free (state_of a.row) block a.fill (subst (λ (k : Kind). IsTrue (is_filled k)) (sym now.at.fill) now.at.epoch.ready.fills)
+          fill-not-free (state_of a.row) block a.fill (subst (λ (k : Kind). IsTrue (has_holes k)) (sym now.at.fill) now.at.epoch.ready.fills)
           (turns.owned-note now.epoch now.ideal now.log a now.at block owner r note).kind is;
     }
 
@@ -467,7 +467,7 @@ module _ (a b : PlainRow) (ready : MayCall a) (block size : ℕ) (there : block 
       block = block;
       region = first_region a.fill (class-in a size);
       now = free-region small;
-      offer = inr (inl (is, refl));
+      offer = OffersRoom.free_block is refl;
       class = free-class over refl;
       others = rest-kept a b ready block size (first_region a.fill (class-in a size)) true gains over refl overflow.0 (fits small);
     }

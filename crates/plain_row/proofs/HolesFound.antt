@@ -25,7 +25,7 @@ use Rattle.block_regions.specs.declared.block_notes.BlockNote.TheVariants.{Unown
 use Rattle.plain_row.specs.Rows.{mutator_number, number_at_turn, seat_at_turn, regions_at_turn}
 use Rattle.local_allocators.specs.Seats.{ticket_of, blocks_of, block_of, over_of}
 use Rattle.block_regions.specs.Notes.{FillsTailsOrCells, FillsHoles, IsBlockNote, IsUnownedNote, IsOwnedNote, HasNotes, IsRegionOf}
-use Rattle.local_allocators.specs.MutatorRegions.{FillsLines, cursors_of, GoesOver, KeepsRegions, LacksLines}
+use Rattle.local_allocators.specs.MutatorRegions.{FillsLines, cursors_of, GoesOver, KeepsRegions, LacksLines, OffersRoom, BeginsInLines}
 use Rattle.local_allocators.specs.NotedRegions.{region_of, region_noted}
 use Rattle.plan_api.specs.declared.cursors.Cursors.{Cursors}
 use Rattle.plan_api.specs.Cursors.{RegionHasRoom, LacksRoom}
@@ -421,19 +421,13 @@ module _ (a b : PlainRow) (block size : ℕ) (region hole : Region) (note : slic
     block = block;
     region = hole;
     now = moved-region;
-    offer = inr (inr (record {
+    offer = OffersRoom.own_lines (record {
       lines = lines;
       owner = (turns.owned-note now.epoch now.ideal now.log a now.at block (number_at_turn a) region note).owner;
-      from = inr (
-        current,
-        full.lines lines,
-        (
-          hole.end,
-          subst (λ (from : ℕ). IsFirstPart kinds.Immix (state_of a.row) block from size hole) (ap (λ (r : Region). r.end) (sym (ap region_noted note)))
-              (subst (λ (f : Kind). IsFirstPart f (state_of a.row) block region.end size hole) lines next),
-        ),
-      );
-    }));
+      from = BeginsInLines.at_later_hole current (full.lines lines) hole.end
+          (subst (λ (from : ℕ). IsFirstPart kinds.Immix (state_of a.row) block from size hole) (ap (λ (r : Region). r.end) (sym (ap region_noted note)))
+          (subst (λ (f : Kind). IsFirstPart f (state_of a.row) block region.end size hole) lines next));
+    });
     class = inl (inl (
       turns.note-block now.epoch now.ideal now.log a now.at block (Owned (number_at_turn a) region) note,
       (turns.owned-note now.epoch now.ideal now.log a now.at block (number_at_turn a) region note).owner,
@@ -467,13 +461,10 @@ enters-offers a b block size some small ready none (taken least region note hole
       block = block;
       region = region;
       now = taken-region a b ready block least size region note hole takes;
-      offer = inl (
-        record {
-          hole = first-hole a.fill (state_of a.row) block size region hole;
-          first = λ from there. first-before a.fill (state_of a.row) block size region hole from there;
-        },
-        inl (turns.unowned-note now.epoch now.ideal now.log a now.at block least note).owner,
-      );
+      offer = OffersRoom.unowned_hole (record {
+        hole = first-hole a.fill (state_of a.row) block size region hole;
+        first = λ from there. first-before a.fill (state_of a.row) block size region hole from there;
+      }) (turns.unowned-note now.epoch now.ideal now.log a now.at block least note).owner;
       class = inr (taken-class a b ready block least size region note hole takes);
       others = taken-rest a b ready block least size region note hole takes;
     }

@@ -56,8 +56,8 @@ use Rattle.local_allocators.proofs.OwnedLists.{listed-moved}
 use Rattle.plain_row.proofs.EpochFacts as facts
 use Rattle.plain_row.proofs.Turns as turns
 use Rattle.plain_row.proofs.LogStep as stepping
-use Rattle.local_allocators.proofs.Publishing as publishing
-use Rattle.local_allocators.proofs.Publishing.{Stores, Publishes}
+use Rattle.local_allocators.proofs.PublishedObjects as publishing
+use Rattle.local_allocators.proofs.PublishedObjects.{Stores, Publishes}
 use Rattle.local_allocators.proofs.WrittenWords.{words-written}
 use Rattle.local_allocators.proofs.CellRooms as rooms
 use Rattle.block_regions.proofs.NewNotes as notes

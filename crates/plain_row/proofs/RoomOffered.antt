@@ -14,7 +14,7 @@ use Rattle.plan_api.specs.Holes.{IsFirstPart}
 use Rattle.plain_row.specs.Rows.{number_at_turn, seat_at_turn, regions_at_turn}
 use Rattle.local_allocators.specs.Seats.{block_of, over_of}
 use Rattle.block_regions.specs.Notes.{FillsTailsOrCells, IsRegionOf}
-use Rattle.local_allocators.specs.MutatorRegions.{FillsLines, cursors_of, GoesOver, IsBlockFor, KeepsRegions, LacksLines, OffersLines}
+use Rattle.local_allocators.specs.MutatorRegions.{FillsLines, GoesOver, IsBlockFor, KeepsRegions, LacksLines, part, BeginsInLines, OffersLines, OffersRoom}
 use Rattle.local_allocators.specs.NotedRegions.{region_of, region_noted}
 use Rattle.plain_row.specs.Worlds.{IsInSomeEpoch, MayCall, RegionHasRoomFor}
 use Rattle.block_regions.specs.Regions.{BeginsHole}
@@ -53,7 +53,7 @@ own-offer a b now fills block size region note suits some small fits here rest =
       block = block;
       region = region;
       now = here;
-      offer = inl (begins.0, inr ((λ lines. no-lines (subst FillsTailsOrCells lines fills)), begins.1));
+      offer = OffersRoom.own_hole begins.0 (λ lines. no-lines (subst FillsTailsOrCells lines fills)) begins.1;
       class = inl (inl (turns.note-block now.epoch now.ideal now.log a now.at block (Owned (number_at_turn a) region) note, begins.1));
       others = rest;
     }
@@ -72,11 +72,11 @@ rest-offer a now lines block size region here fits =
       block = block;
       region = region;
       now = here;
-      offer = inr (inr (record {
+      offer = OffersRoom.own_lines (record {
         lines = lines;
         owner = right.owner;
-        from = inl (here.current, ap (λ (r : Region). r.next) (sym same), subst (λ (r : Region). RegionHasRoom r size) (sym same) fits);
-      }));
+        from = BeginsInLines.at_region here.current (ap (λ (r : Region). r.next) (sym same)) (subst (λ (r : Region). RegionHasRoom r size) (sym same) fits);
+      });
       class = inl (inl (turns.note-block now.epoch now.ideal now.log a now.at block (Owned (number_at_turn a) region) here.note, right.owner));
       others = rest-same a size;
     }
@@ -128,11 +128,21 @@ still-overflows a b fill keeps size is = record {
 pub overflowed : (a b : PlainRow) → b.fill ≡ a.fill → KeepsRegion a b → (size : ℕ) → IsOverflow b size → IsOverflow a size
 overflowed a b fill keeps size is = still-overflows b a (sym fill) (record { block = sym keeps.block; region = sym keeps.region }) size is
 
--- what a heap offers to mutator m
-abbrev OfferIn : ℕ → ℕ → ℕ → Kind → HeapState → ℕ → Type 0
-OfferIn k offset size fill s m = (BeginsHole fill s k offset size × ((owner_at s k ≡ 0) ⊎ ((FillsLines fill → ⊥) × (owner_at s k ≡ m))))
-
 -- a world with the same heap offers the same, if it does so of lines
+offer-back : (a b : PlainRow) (k offset n : ℕ) → state_of b.row ≡ state_of a.row → b.fill ≡ a.fill → number_at_turn b ≡ number_at_turn a
+    → (OffersLines b.fill (regions_at_turn b) (state_of b.row) (number_at_turn b) k offset n
+    → OffersLines a.fill (regions_at_turn a) (state_of a.row) (number_at_turn a) k offset n)
+    → IsOffer b k offset n → IsOffer a k offset n
+offer-back a b k offset n heap fill number lines (OffersRoom.unowned_hole begins none) = OffersRoom.unowned_hole
+    (subst (λ (f : Kind). BeginsHole f (state_of a.row) k offset n) fill (subst (λ (s : HeapState). BeginsHole b.fill s k offset n) heap begins))
+    (subst (λ (s : HeapState). owner_at s k ≡ 0) heap none)
+offer-back a b k offset n heap fill number lines (OffersRoom.own_hole begins not own) = OffersRoom.own_hole
+    (subst (λ (f : Kind). BeginsHole f (state_of a.row) k offset n) fill (subst (λ (s : HeapState). BeginsHole b.fill s k offset n) heap begins))
+    (λ is. not (fill ∙ is)) (subst (λ (s : HeapState). owner_at s k ≡ number_at_turn b) heap own ∙ number)
+offer-back a b k offset n heap fill number lines (OffersRoom.free_block free start) =
+    OffersRoom.free_block (subst (λ (s : HeapState). HasKind s k kinds.Free) heap free) start
+offer-back a b k offset n heap fill number lines (OffersRoom.own_lines own) = OffersRoom.own_lines (lines own)
+
 pub offers-back : (a b c : PlainRow) (n : ℕ) → state_of b.row ≡ state_of a.row → b.fill ≡ a.fill → number_at_turn b ≡ number_at_turn a
     → ((k offset : ℕ) → OffersLines b.fill (regions_at_turn b) (state_of b.row) (number_at_turn b) k offset n
     → OffersLines a.fill (regions_at_turn a) (state_of a.row) (number_at_turn a) k offset n)
@@ -141,13 +151,7 @@ offers-back a b c n heap fill number lines keeps offers = record {
   block = offers.block;
   region = offers.region;
   now = offers.now;
-  offer = elim offers.offer as (λ _. IsOffer a offers.block offers.region.next n) [
-    | inl hole ↦ inl (subst (λ m. OfferIn offers.block offers.region.next n a.fill (state_of a.row) m) number
-        (subst (λ (f : Kind). OfferIn offers.block offers.region.next n f (state_of a.row) (number_at_turn b)) fill
-        (subst (λ (s : HeapState). OfferIn offers.block offers.region.next n b.fill s (number_at_turn b)) heap hole)))
-    | inr (inl free) ↦ inr (inl (subst (λ (s : HeapState). HasKind s offers.block kinds.Free) heap free.0, free.1))
-    | inr (inr own) ↦ inr (inr (lines offers.block offers.region.next own))
-  ];
+  offer = offer-back a b offers.block offers.region.next n heap fill number (lines offers.block offers.region.next) offers.offer;
   class = elim offers.class as (λ _. LeavesClass a n offers.block ⊎ (block_of (seat_at_turn c) (class_for c.fill n) ≡ Some offers.block)) [
     | inl (inl own) ↦ inl (inl (subst (λ m. (offers.block < (state_of a.row).blocks) × (owner_at (state_of a.row) offers.block ≡ m)) number
         (subst (λ (s : HeapState). (offers.block < s.blocks) × (owner_at s offers.block ≡ number_at_turn b)) heap own)))
@@ -211,31 +215,29 @@ module _ (a b : PlainRow) (keeps : KeepsSeat a b) (ready : MayCall a) where
     )
     block-for size k (inr is) = inr (goes-over size is.0, sym keeps.over ∙ is.1)
 
+    -- the block in which lines offer room is the mutator's
+    begins-owned : (k offset size : ℕ) → BeginsInLines b.fill (regions_at_turn b) (state_of b.row) k offset size → IsRegionOf a.notes.items (number_at_turn a) k
+    begins-owned k offset size (BeginsInLines.at_region here starts room) = let now = ready.between_calls.some in
+        (turns.own-block now.epoch now.ideal now.log a now.at ready.turn size k (block-for size k here)).0
+    begins-owned k offset size (BeginsInLines.at_later_hole here lacks end first) = own-hole k here
+
+    begins-back : (k offset size : ℕ) → IsRegionOf a.notes.items (number_at_turn a) k → BeginsInLines b.fill (regions_at_turn b) (state_of b.row) k offset size
+        → BeginsInLines a.fill (regions_at_turn a) (state_of a.row) k offset size
+    begins-back k offset size mine (BeginsInLines.at_region here starts room) = BeginsInLines.at_region (block-for size k here)
+        (starts ∙ ap (λ (r : Region). r.next) (regions k)) (subst (λ (r : Region). RegionHasRoom r size) (regions k) room)
+    begins-back k offset size mine (BeginsInLines.at_later_hole here lacks end first) = BeginsInLines.at_later_hole (sym (keeps.block 0) ∙ here)
+        (subst (λ (c : Cursors). LacksRoom c size) (cursors-same (regions_at_turn a) (regions_at_turn b) seat-regions) lacks) end
+        (first-back (state_of a.row) (state_of b.row) k (region_of a.notes.items (Some k)).end size (part offset end)
+        (kind-then k) (λ kind. keeps.kind k ∙ kind) (keeps.lines k mine)
+        (subst (λ (r : Region). IsFirstPart kinds.Immix (state_of b.row) k r.end size (part offset end)) (regions k) first))
+
     -- what lines offer they offered
     pub offered-lines : (k offset size : ℕ) → OffersLines b.fill (regions_at_turn b) (state_of b.row) (number_at_turn b) k offset size
         → OffersLines a.fill (regions_at_turn a) (state_of a.row) (number_at_turn a) k offset size
     offered-lines k offset size is =
         let now = ready.between_calls.some in
-        let mine : IsRegionOf a.notes.items (number_at_turn a) k = elim is.from as (λ _. IsRegionOf a.notes.items (number_at_turn a) k) [
-          | inl rest ↦ (turns.own-block now.epoch now.ideal now.log a now.at ready.turn size k (block-for size k rest.0)).0
-          | inr later ↦ own-hole k later.0
-        ] in
-        record {
+        let mine = begins-owned k offset size is.from in record {
           lines = sym keeps.fill ∙ is.lines;
           owner = (turns.owned-note now.epoch now.ideal now.log a now.at k (number_at_turn a) mine.region mine.note).owner;
-          from = elim is.from as (λ _. (IsBlockFor a.fill (regions_at_turn a) size k × (offset ≡ (region_of a.notes.items (Some k)).next)
-              × RegionHasRoom (region_of a.notes.items (Some k)) size) ⊎ ((block_of (seat_at_turn a) 0 ≡ Some k)
-              × LacksRoom (cursors_of (regions_at_turn a)) size × ((end : ℕ) × IsFirstPart kinds.Immix (state_of a.row) k (region_of a.notes.items (Some k)).end size (record { next = offset; end = end })))) [
-                | inl rest ↦ inl (block-for size k rest.0, rest.1 ∙ ap (λ (r : Region). r.next) (regions k), subst (λ (r : Region). RegionHasRoom r size) (regions k) rest.2)
-                | inr later ↦ inr (
-                  sym (keeps.block 0) ∙ later.0,
-                  subst (λ (c : Cursors). LacksRoom c size) (cursors-same (regions_at_turn a) (regions_at_turn b) seat-regions) later.1,
-                  (
-                    later.2.0,
-                    first-back (state_of a.row) (state_of b.row) k (region_of a.notes.items (Some k)).end size (record { next = offset; end = later.2.0 })
-                        (kind-then k) (λ kind. keeps.kind k ∙ kind) (keeps.lines k mine)
-                        (subst (λ (r : Region). IsFirstPart kinds.Immix (state_of b.row) k r.end size (record { next = offset; end = later.2.0 })) (regions k) later.2.1),
-                  ),
-                )
-              ];
+          from = begins-back k offset size mine is.from;
         }

@@ -9,7 +9,7 @@ use Rattle.mutator_core.specs.declared.state.LogEntry.{LogEntry}
 use Rattle.mutator_core.specs.declared.state.Event.TheVariants as e
 use Rattle.mutator_core.specs.Machine.{Epoch}
 use Rattle.mutator_core.specs.Logs.{machine_after, heap_after, local_after_log}
-use Rattle.mutator_core.proofs.Ending.{log-seen}
+use Rattle.mutator_core.proofs.EpochEnds.{log-seen}
 use Rattle.mutator_calls.specs.Effects.{raises}
 use Rattle.plain_row.specs.declared.plain_row.PlainRow.{PlainRow}
 use Rattle.plain_row.specs.Rows.{number_at_turn}

@@ -16,7 +16,7 @@ use Rattle.mutator_core.specs.Machine.{Epoch, next}
 use Rattle.mutator_core.specs.Tickets.{taken_by, drawn_by, tickets_in}
 use Rattle.mutator_core.specs.Logs.{machine_after, heap_after, local_after_log}
 use Rattle.mutator_core.proofs.Sums.{sum-more, free-most}
-use Rattle.mutator_core.proofs.Ending.{log-counted}
+use Rattle.mutator_core.proofs.EpochEnds.{log-counted}
 use Rattle.mutator_calls.specs.Effects.{draws as draw_effect}
 use Rattle.plain_row.specs.declared.plain_row.PlainRow.{PlainRow}
 use Rattle.plain_row.specs.Rows.{number_at_turn, seat_at_turn, mutator_at_turn, births_of, regions_at_turn}
@@ -25,12 +25,13 @@ use Rattle.block_regions.specs.Elements.{ChangesAt}
 use Rattle.local_allocators.specs.declared.local_seat.LocalSeat.{LocalSeat}
 use Rattle.block_regions.specs.declared.block_notes.BlockNote.TheVariants.{Owned}
 use Rattle.block_regions.specs.Notes.{IsRegionOf}
-use Rattle.local_allocators.specs.MutatorRegions.{FillsLines, GoesOver, LacksLines, OffersLines, KeepsRegions}
+use Rattle.local_allocators.specs.MutatorRegions.{FillsLines, GoesOver, LacksLines, OffersLines, OffersRoom, KeepsRegions}
 use Rattle.local_allocators.specs.NotedRegions.{region_of}
 use Rattle.block_regions.proofs.BlockFrames.{SameLines}
 use Rattle.local_allocators.proofs.LineLacks.{lines-lack-still, same-shrinks}
 use Rattle.plain_row.proofs.RoomOffered.{KeepsSeat, still-lacks, offered-lines, overflowed}
 use Rattle.plain_row.specs.Worlds.{IsAt, IsInSomeEpoch, MayCall, Goes}
+use Rattle.block_regions.specs.Regions.{BeginsHole}
 use Rattle.plain_row.specs.Steps.{Lacks, IsFull, Offers, LeavesClass, IsOffer, books_of}
 use Rattle.local_allocators.proofs.SeatRegions.{same-keeps}
 use Rattle.local_allocators.proofs.KeptRegions.{others-after, cursors-same}
@@ -96,24 +97,25 @@ offer-before : (a b : PlainRow) (k offset n : ℕ) → b.fill ≡ a.fill → num
     → (OffersLines b.fill (regions_at_turn b) (state_of b.row) (number_at_turn b) k offset n
     → OffersLines a.fill (regions_at_turn a) (state_of a.row) (number_at_turn a) k offset n)
     → IsOffer b k offset n → IsOffer a k offset n
-offer-before a b k offset n fill number word hole back kind lines offer = elim offer as (λ _. IsOffer a k offset n) [
-  | inl there ↦ (
-      let then : HasHole a.fill (state_of b.row) k offset n = subst (λ (f : Kind). HasHole f (state_of b.row) k offset n) fill there.0.hole in
-      let same : owner_at (state_of b.row) k ≡ owner_at (state_of a.row) k =
-      ap (λ v. v / 65536) (word (kind-within (state_of b.row) k a.fill (hole-kind a.fill (state_of b.row) k offset n then))) in
-      inl (
-        record {
-          hole = hole offset n then;
-          first = λ from was. there.0.first from (subst (λ (f : Kind). HasHole f (state_of b.row) k from n) (sym fill) (back from n was));
-        },
-        elim there.1 as (λ _. (owner_at (state_of a.row) k ≡ 0) ⊎ ((FillsLines a.fill → ⊥) × (owner_at (state_of a.row) k ≡ number_at_turn a))) [
-          | inl none ↦ inl (sym same ∙ none)
-          | inr own ↦ inr ((λ is. own.0 (fill ∙ is)), sym same ∙ own.1 ∙ number)
-        ],
-      ))
-  | inr (inl free) ↦ inr (inl (sym kind ∙ free.0, free.1))
-  | inr (inr own) ↦ inr (inr (lines own))
-]
+offer-before a b k offset n fill number word hole back kind lines offer = from offer
+  where
+    then : HasHole b.fill (state_of b.row) k offset n → HasHole a.fill (state_of b.row) k offset n
+    then there = subst (λ (f : Kind). HasHole f (state_of b.row) k offset n) fill there
+
+    same : HasHole b.fill (state_of b.row) k offset n → owner_at (state_of b.row) k ≡ owner_at (state_of a.row) k
+    same there = ap (λ v. v / 65536) (word (kind-within (state_of b.row) k a.fill (hole-kind a.fill (state_of b.row) k offset n (then there))))
+
+    begins : BeginsHole b.fill (state_of b.row) k offset n → BeginsHole a.fill (state_of a.row) k offset n
+    begins there = record {
+      hole = hole offset n (then there.hole);
+      first = λ at was. there.first at (subst (λ (f : Kind). HasHole f (state_of b.row) k at n) (sym fill) (back at n was));
+    }
+
+    from : IsOffer b k offset n → IsOffer a k offset n
+    from (OffersRoom.unowned_hole there none) = OffersRoom.unowned_hole (begins there) (sym (same there.hole) ∙ none)
+    from (OffersRoom.own_hole there not own) = OffersRoom.own_hole (begins there) (λ is. not (fill ∙ is)) (sym (same there.hole) ∙ own ∙ number)
+    from (OffersRoom.free_block free start) = OffersRoom.free_block (sym kind ∙ free) start
+    from (OffersRoom.own_lines own) = OffersRoom.own_lines (lines own)
 
 -- the budget word rises by 1, and the mutator has the ticket
 pub record DrawsTicket (a b : PlainRow) : Type 0 where

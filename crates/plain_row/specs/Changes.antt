@@ -23,7 +23,8 @@ use Rattle.local_allocators.specs.MutatorRegions.{FillsLines, IsBlockFor, LacksL
 -- the word at this index becomes v; all else stays
 pub record StoresWord (old new : PlainRow) (at v : ℕ) : Type 0 where
   pub rest : new ≡ record old { row = new.row }
-  pub words : state_of new.row ≡ with_words (state_of old.row) (slice_set (state_of old.row).words at v)
+  pub words : state_of new.row ≡ with_words (state_of old.row)
+      (slice_set (state_of old.row).words at v)
 
 -- whose turn it is, the plan's kind and ages, the allowance and the counts stay
 pub record KeepsPlan (old new : PlainRow) : Type 0 where
@@ -33,18 +34,19 @@ pub record KeepsPlan (old new : PlainRow) : Type 0 where
   pub allowance : new.allowance ≡ old.allowance
   pub counts : new.counts ≡ old.counts
 
--- The seat with this ticket, whose mutator allocates objects of the class in the block; or, in overflow allocation, has its
--- overflow region there.
+-- The seat with this ticket, whose mutator allocates objects of the class in the block; or, in
+-- overflow allocation, has its overflow region there.
 abbrev pub seat_with : Bool → Option LocalSeat → ℕ → ℕ → Option ℕ → LocalSeat
 seat_with false seat class block ticket = record {
   ticket = ticket;
   blocks = slice_set (blocks_of seat) class (Some block);
   over = over_of seat;
 }
-seat_with true seat class block ticket = record { ticket = ticket; blocks = blocks_of seat; over = Some block }
+seat_with true seat class block ticket =
+    record { ticket = ticket; blocks = blocks_of seat; over = Some block }
 
--- The mutator takes the block for objects of the class, or for its overflow region: it becomes its owner and allocates
--- them in the region of the block. It has this ticket then.
+-- The mutator takes the block for objects of the class, or for its overflow region: it becomes its
+-- owner and allocates them in the region of the block. It has this ticket then.
 pub record OwnsBlock (old new : PlainRow) (over : Bool) (block class : ℕ) (region : Region)
     (ticket : Option ℕ) : Type 0 where
   pub plan : KeepsPlan old new
@@ -55,7 +57,8 @@ pub record OwnsBlock (old new : PlainRow) (over : Bool) (block class : ℕ) (reg
   pub notes : ChangesAt old.notes.items new.notes.items block (Owned (number_at_turn old) region)
   pub owned : new.owned.items ≡ old.owned.items ++ block ∷ []
   pub room : vec_capacity new.owned ≡ vec_capacity old.owned
-  pub seats : ChangesAt old.seats.items new.seats.items old.turn (seat_with over (seat_at_turn old) class block ticket)
+  pub seats : ChangesAt old.seats.items new.seats.items old.turn
+      (seat_with over (seat_at_turn old) class block ticket)
 
 -- the note of the block becomes this one; all else stays
 pub record NotesBlock (old new : PlainRow) (block : ℕ) (note : BlockNote) : Type 0 where
@@ -80,40 +83,55 @@ pub record ReturnsTo (old new : PlainRow) (block class : ℕ) : Type 0 where
         over = over_of (seat_at_turn old);
       })
 
--- The block has room for the size that the mutator may fill, and becomes the one that it allocates in. The block is its
--- own already, or nobody owned it. Under a plan with lines an own block is that of the hole region: a later hole of it
--- becomes this region.
+-- The block has room for the size that the mutator may fill, and becomes the one that it allocates
+-- in. The block is its own already, or nobody owned it. Under a plan with lines an own block is
+-- that of the hole region: a later hole of it becomes this region.
 pub data FindsHole (old new : PlainRow) (block size : ℕ) : Type 0 where
-  own : (region : Region) → slice_get old.notes.items block ≡ Some (Owned (number_at_turn old) region)
-      → (FillsLines old.fill → ⊥) → class_at (state_of old.row) block ≡ class_for old.fill size → region.next + size ≤ region.end
+  own : (region : Region)
+      → slice_get old.notes.items block ≡ Some (Owned (number_at_turn old) region)
+      → (FillsLines old.fill → ⊥) → class_at (state_of old.row) block ≡ class_for old.fill size
+      → region.next + size ≤ region.end
       → ReturnsTo old new block (class_for old.fill size) → FindsHole old new block size
-  next_hole : (region hole : Region) → slice_get old.notes.items block ≡ Some (Owned (number_at_turn old) region) → FillsLines old.fill
+  next_hole : (region hole : Region)
+      → slice_get old.notes.items block ≡ Some (Owned (number_at_turn old) region)
+      → FillsLines old.fill
       → block_of (seat_at_turn old) 0 ≡ Some block → region.end < region.next + size
       → IsFirstHole old.fill (state_of old.row) block region.end size (Some hole)
       → NotesBlock old new block (Owned (number_at_turn old) hole) → FindsHole old new block size
   taken : (least : ℕ) (region : Region) → slice_get old.notes.items block ≡ Some (Unowned least)
       → IsFirstHole old.fill (state_of old.row) block 0 size (Some region)
-      → OwnsBlock old new false block (class_for old.fill size) region (ticket_of (seat_at_turn old))
+      → OwnsBlock old new false block (class_for old.fill size) region
+      (ticket_of (seat_at_turn old))
       → FindsHole old new block size
 
--- The block has no such room. At most its note changes, if it lacks holes for all greater sizes too.
+-- The block has no such room. At most its note changes, if it lacks holes for all greater sizes
+-- too.
 pub data LacksHole (old new : PlainRow) (block size : ℕ) : Type 0 where
-  known : (least : ℕ) → slice_get old.notes.items block ≡ Some (Unowned least) → least ≤ size → new ≡ old
+  known : (least : ℕ) → slice_get old.notes.items block ≡ Some (Unowned least) → least ≤ size
+      → new ≡ old
       → LacksHole old new block size
   seen : (least : ℕ) → slice_get old.notes.items block ≡ Some (Unowned least)
       → IsFirstHole old.fill (state_of old.row) block 0 size None
-      → (HasKind (state_of old.row) block old.fill → class_at (state_of old.row) block ≡ class_for old.fill size)
+      → (HasKind (state_of old.row) block old.fill
+      → class_at (state_of old.row) block ≡ class_for old.fill size)
       → NotesBlock old new block (Unowned size) → LacksHole old new block size
   unsuited : (least : ℕ) → slice_get old.notes.items block ≡ Some (Unowned least)
-      → class_at (state_of old.row) block ≢ class_for old.fill size → new ≡ old → LacksHole old new block size
-  foreign : (owner : ℕ) (region : Region) → slice_get old.notes.items block ≡ Some (Owned owner region)
-      → (owner ≢ number_at_turn old) ⊎ ((FillsLines old.fill → ⊥) × ((region.end < region.next + size)
-      ⊎ (class_at (state_of old.row) block ≢ class_for old.fill size))) → new ≡ old → LacksHole old new block size
-  lacks_lines : (region : Region) → slice_get old.notes.items block ≡ Some (Owned (number_at_turn old) region) → FillsLines old.fill
-      → LacksLines (regions_at_turn old) (state_of old.row) size block → new ≡ old → LacksHole old new block size
+      → class_at (state_of old.row) block ≢ class_for old.fill size → new ≡ old
+      → LacksHole old new block size
+  foreign : (owner : ℕ) (region : Region)
+      → slice_get old.notes.items block ≡ Some (Owned owner region)
+      → (owner ≢ number_at_turn old)
+      ⊎ ((FillsLines old.fill → ⊥) × ((region.end < region.next + size)
+      ⊎ (class_at (state_of old.row) block ≢ class_for old.fill size))) → new ≡ old
+      → LacksHole old new block size
+  lacks_lines : (region : Region)
+      → slice_get old.notes.items block ≡ Some (Owned (number_at_turn old) region)
+      → FillsLines old.fill
+      → LacksLines (regions_at_turn old) (state_of old.row) size block → new ≡ old
+      → LacksHole old new block size
 
--- The mutator's region for objects of this size, in this block, becomes what such an object at its start leaves. It began
--- at the offset. All else stays.
+-- The mutator's region for objects of this size, in this block, becomes what such an object at its
+-- start leaves. It began at the offset. All else stays.
 pub record Advances (old new : PlainRow) (size block offset : ℕ) : Type 0 where
   pub plan : KeepsPlan old new
   pub mutators : new.mutators ≡ old.mutators
@@ -151,7 +169,8 @@ pub record AllocatesInRow (old new : PlainRow) (d : ℕ) (n : Name) (refs nums :
   pub advanced : PlainRow
   pub counted : PlainRow
   pub region : Advances old advanced (size_of refs nums) block offset
-  pub count : CountsObject advanced counted d (block_start (state_of old.row).blocks block + offset) n
+  pub count : CountsObject advanced counted d (block_start (state_of old.row).blocks block + offset)
+      n
   pub rest : new ≡ record counted { row = new.row }
   pub object : WritesObject (state_of counted.row) (state_of new.row)
       (block_start (state_of old.row).blocks block + offset) n refs nums

@@ -1,5 +1,6 @@
 -- What the seat of a world of mutators in turns knows, and what its steps do.
 use Rattle.std.specs.Prelude.{◌≡◌, ◌≢◌, ℕ, ◌+◌, ◌⊎◌, true, false, Some, slice_get}
+use Rattle.heap_layout.specs.declared.layout.TheConstants.{BUDGET_WORD, STOP_WORD}
 use Rattle.heap_layout.specs.declared.block.Kind.TheVariants as kinds
 use Rattle.ideal_heap.specs.declared.name.Name.{Name}
 use Rattle.object_model.specs.Objects.{state_of, word_at, HasKind, owner_at, refs_at, nums_at, name_at, is_unlogged}
@@ -35,8 +36,8 @@ pub record HasShape (w : PlainRow) (s : ℕ) (shape : Shape) : Type 0 where
 abbrev pub HasName : PlainRow → ℕ → Name → Type 0
 HasName w a n = n ≡ name_at (state_of w.row) a
 
--- a reference may be stored into the object in register s: the plan is not generational, or the object is not old, or
--- it is logged
+-- a reference may be stored into the object in register s: the plan is not generational, or the
+-- object is not old, or it is logged
 abbrev pub MayStoreUnlogged : PlainRow → ℕ → Type 0
 MayStoreUnlogged w s = (w.young ≡ false) ⊎ (is_old (state_of w.row) (address_at w s) ≡ false)
     ⊎ (is_unlogged (state_of w.row) (address_at w s) ≡ false)
@@ -61,9 +62,11 @@ KeepsAll a b = (b.fill ≡ a.fill) × KeepsRegions (regions_at_turn a) (regions_
 abbrev pub KeepsRegion : PlainRow → PlainRow → Type 0
 KeepsRegion a b = KeepsHole (regions_at_turn a) (regions_at_turn b)
 
--- The mutator whose turn it is keeps from `a` to `b` all regions but the one that takes an object of this size in `in_w`.
+-- The mutator whose turn it is keeps from `a` to `b` all regions but the one that takes an object
+-- of this size in `in_w`.
 abbrev pub KeepsRest : PlainRow → ℕ → PlainRow → PlainRow → Type 0
-KeepsRest in_w size a b = KeepsOthers in_w.fill size (GoesOver in_w.fill (regions_at_turn in_w) size)
+KeepsRest in_w size a b =
+    KeepsOthers in_w.fill size (GoesOver in_w.fill (regions_at_turn in_w) size)
     (regions_at_turn a) (regions_at_turn b)
 
 -- block k is not Free
@@ -72,11 +75,11 @@ IsUsed w k = HasKind (state_of w.row) k kinds.Free → ⊥
 
 -- the budget word
 abbrev pub HasBudget : PlainRow → ℕ → Type 0
-HasBudget w n = word_at (state_of w.row) 1 ≡ n
+HasBudget w n = word_at (state_of w.row) BUDGET_WORD ≡ n
 
 -- the stop word
 abbrev pub HasStop : PlainRow → ℕ → Type 0
-HasStop w n = word_at (state_of w.row) 0 ≡ n
+HasStop w n = word_at (state_of w.row) STOP_WORD ≡ n
 
 -- the plan is generational; the object in register s is old; its unlog bit is set
 abbrev pub HasAges : PlainRow → Type 0
@@ -90,11 +93,13 @@ HasUnlogBit w s = is_unlogged (state_of w.row) (address_at w s) ≡ true
 
 -- the world `a` offers the words from this offset of block k on to an object of the size
 abbrev pub IsOffer : PlainRow → ℕ → ℕ → ℕ → Type 0
-IsOffer a k offset size = OffersRoom a.fill (regions_at_turn a) (state_of a.row) (number_at_turn a) k offset size
+IsOffer a k offset size =
+    OffersRoom a.fill (regions_at_turn a) (state_of a.row) (number_at_turn a) k offset size
 
 -- an object of the size may be placed in block k in another region than that for the size's class
 abbrev pub LeavesClass : PlainRow → ℕ → ℕ → Type 0
-LeavesClass w size k = MayLeaveClass w.fill (regions_at_turn w) (state_of w.row) (number_at_turn w) size k
+LeavesClass w size k =
+    MayLeaveClass w.fill (regions_at_turn w) (state_of w.row) (number_at_turn w) size k
 
 -- the mutator whose turn it is tries a region in block k for objects of this size
 abbrev pub AllocatesIn : PlainRow → ℕ → ℕ → Type 0
@@ -105,19 +110,22 @@ pub record IsRegion (w : PlainRow) (size k : ℕ) (region : Region) : Type 0 whe
   pub current : IsBlockFor w.fill (regions_at_turn w) size k
   pub note : slice_get w.notes.items k ≡ Some (Owned (number_at_turn w) region)
 
--- The mutator's region for objects of this size in `b` is room that `a` offers. Its other regions are those of `a`. A block
--- that it found is the one for the size's class, but a Free one in overflow allocation.
+-- The mutator's region for objects of this size in `b` is room that `a` offers. Its other regions
+-- are those of `a`. A block that it found is the one for the size's class, but a Free one in
+-- overflow allocation.
 pub record Offers (a b : PlainRow) (size : ℕ) : Type 0 where
   pub block : ℕ
   pub region : Region
   pub now : IsRegion b size block region
   pub offer : IsOffer a block region.next size
-  pub class : LeavesClass a size block ⊎ (block_of (seat_at_turn b) (class_for b.fill size) ≡ Some block)
+  pub class : LeavesClass a size block
+      ⊎ (block_of (seat_at_turn b) (class_for b.fill size) ≡ Some block)
   pub others : KeepsRest b size a b
 
--- The object in register d of `c` was placed at the start of the region in `b`, in a block that the mutator owns and
--- allocates objects of this size in. In cells it has one of the class for the size. Under lines it is in the one of two
--- regions that takes it, which then begins after it. The mutator's other regions stay.
+-- The object in register d of `c` was placed at the start of the region in `b`, in a block that the
+-- mutator owns and allocates objects of this size in. In cells it has one of the class for the
+-- size. Under lines it is in the one of two regions that takes it, which then begins after it. The
+-- mutator's other regions stay.
 pub record PlacesAtRegion (b c : PlainRow) (d size : ℕ) : Type 0 where
   pub fill : c.fill ≡ b.fill
   pub block : ℕ

@@ -1,6 +1,7 @@
 -- A world of mutators in turns, after steps of the mutator machine.
 use Rattle.std.specs.Prelude.{◌≡◌, ◌≢◌, ℕ, ◌+◌, ◌<◌, ◌≤◌, Bool, true, false, ◌&&◌, not, nat_eq, if◌then◌else◌, Some, List, [], ◌++◌, map, length, sum_by, slice_get, vec_capacity}
 use Rattle.std.specs.List.{Contains, AllByRecursion, list_any}
+use Rattle.heap_layout.specs.declared.layout.TheConstants.{BUDGET_WORD, STOP_WORD}
 use Rattle.heap_layout.specs.declared.block.Kind.{Kind}
 use Rattle.heap_layout.specs.declared.block.Kind.TheVariants as kinds
 use Rattle.ideal_heap.specs.Commands.{is_new}
@@ -23,14 +24,14 @@ use Rattle.local_allocators.specs.declared.local_seat.LocalSeat.{LocalSeat}
 use Rattle.block_regions.specs.declared.block_notes.BlockNote.{BlockNote}
 use Rattle.block_regions.specs.declared.block_notes.BlockNote.TheVariants.{Owned}
 use Rattle.heap_layout.specs.declared.region.Region.{Region}
-use Rattle.local_allocators.specs.declared.local_seat.TheConstants.{CLASSES}
+use Rattle.heap_layout.specs.declared.block.TheConstants.{CLASSES}
 use Rattle.plain_row.specs.Rows.{IsTurn, mutator_at_turn, number_at_turn, seat_at_turn, births_of, regions_at_turn}
 use Rattle.local_allocators.specs.Seats.{ticket_of, blocks_of, over_of}
 use Rattle.local_allocators.specs.MutatorRegions.{FillsLines, IsBlockFor, KeepsRegions}
 use Rattle.block_regions.specs.Notes.{FillsHoles, HasNotes, ListsOwned, IsRegionOf, AreFilled, IsRoomIn}
 
--- The mutator and its seat have the machine's state of the mutator, which has no unpublished object, and no unlog bit
--- cleared for a store to come.
+-- The mutator and its seat have the machine's state of the mutator, which has no unpublished
+-- object, and no unlog bit cleared for a store to come.
 pub record HasState (m : Mutator) (x : LocalSeat) (l : Local) : Type 0 where
   pub births : l.births ≡ m.births
   pub registers : l.registers ≡ m.registers
@@ -38,23 +39,28 @@ pub record HasState (m : Mutator) (x : LocalSeat) (l : Local) : Type 0 where
   pub none : l.unpublished ≡ nothing_unpublished
   pub stored : l.pending ≡ 0
 
--- The mutator of the seat owns each block in which it allocates objects of a class, and the block has this class. Only under
--- a plan with lines has it an overflow region (`lined`), whose block it owns, and which is not that of the hole region.
-pub record HasCursors (fill : Kind) (notes : List BlockNote) (s : HeapState) (number : ℕ) (x : LocalSeat) : Type 0 where
+-- The mutator of the seat owns each block in which it allocates objects of a class, and the block
+-- has this class. Only under a plan with lines has it an overflow region (`lined`), whose block it
+-- owns, and which is not that of the hole region.
+pub record HasCursors (fill : Kind) (notes : List BlockNote) (s : HeapState) (number : ℕ)
+    (x : LocalSeat) : Type 0 where
   pub classes : length x.blocks ≡ CLASSES
   pub each : (class block : ℕ) → slice_get x.blocks class ≡ Some (Some block)
       → IsRegionOf notes number block × (class_at s block ≡ class)
   pub lined : (block : ℕ) → x.over ≡ Some block → FillsLines fill
   pub over : FillsLines fill → (block : ℕ) → x.over ≡ Some block → IsRegionOf notes number block
-  pub apart : FillsLines fill → (block : ℕ) → x.over ≡ Some block → slice_get x.blocks 0 ≡ Some (Some block) → ⊥
+  pub apart : FillsLines fill → (block : ℕ) → x.over ≡ Some block
+      → slice_get x.blocks 0 ≡ Some (Some block) → ⊥
 
--- The list has the blocks that mutators own, with room for all blocks. The counts are those of the epoch's beginning.
+-- The list has the blocks that mutators own, with room for all blocks. The counts are those of the
+-- epoch's beginning.
 pub record HasLists (p : Epoch) (w : PlainRow) : Type 0 where
   pub owned : ListsOwned w.notes.items w.owned.items
   pub room : w.row.layout.blocks ≤ vec_capacity w.owned
   pub counts : session_counts w.counts ≡ counts_of p.before
 
--- The world is in the epoch p, which began with a heap that represented i, after the steps of the log.
+-- The world is in the epoch p, which began with a heap that represented i, after the steps of the
+-- log.
 pub record IsAt (p : Epoch) (i : IdealHeap) (log : List LogEntry) (w : PlainRow) : Type 0 where
   pub epoch : IsEpochLog p i log
   pub heap : state_of w.row ≡ heap_after p log
@@ -63,7 +69,8 @@ pub record IsAt (p : Epoch) (i : IdealHeap) (log : List LogEntry) (w : PlainRow)
   pub each : (k : ℕ) (m : Mutator) (x : LocalSeat) → slice_get w.mutators.items k ≡ Some m
       → slice_get w.seats.items k ≡ Some x → HasState m x (local_after_log p log m.number)
   pub cursors : (k : ℕ) (m : Mutator) (x : LocalSeat) → slice_get w.mutators.items k ≡ Some m
-      → slice_get w.seats.items k ≡ Some x → HasCursors w.fill w.notes.items (state_of w.row) m.number x
+      → slice_get w.seats.items k ≡ Some x
+      → HasCursors w.fill w.notes.items (state_of w.row) m.number x
   pub notes : HasNotes w.fill (state_of w.row) w.notes.items
   pub fill : w.fill ≡ p.rules.fill
   pub fills : FillsHoles w.fill
@@ -75,8 +82,10 @@ pub record IsAt (p : Epoch) (i : IdealHeap) (log : List LogEntry) (w : PlainRow)
 pub record IsReadableSeat (w : PlainRow) : Type 0 where
   pub turn : IsTurn w
   pub classes : length (blocks_of (seat_at_turn w)) ≡ CLASSES
-  pub blocks : (class k : ℕ) → slice_get (blocks_of (seat_at_turn w)) class ≡ Some (Some k) → k < length w.notes.items
-  pub over : (k : ℕ) → FillsLines w.fill → over_of (seat_at_turn w) ≡ Some k → k < length w.notes.items
+  pub blocks : (class k : ℕ) → slice_get (blocks_of (seat_at_turn w)) class ≡ Some (Some k)
+      → k < length w.notes.items
+  pub over : (k : ℕ) → FillsLines w.fill → over_of (seat_at_turn w) ≡ Some k
+      → k < length w.notes.items
 
 -- the world is in some epoch
 pub record IsInSomeEpoch (w : PlainRow) : Type 0 where
@@ -108,11 +117,13 @@ abbrev pub is_in_list : List ℕ → ℕ → Bool
 is_in_list xs x = list_any (nat_eq x) xs
 
 -- From the log on, mutator m made steps that make the entries of this effect.
-pub record Continues (p : Epoch) (i : IdealHeap) (log : List LogEntry) (m : ℕ) (e : Effect) (w : PlainRow) : Type 0 where
+pub record Continues (p : Epoch) (i : IdealHeap) (log : List LogEntry) (m : ℕ) (e : Effect)
+    (w : PlainRow) : Type 0 where
   pub more : List LogEntry
   pub own : AllByRecursion (λ x. x.mutator ≡ m) more
   pub at : IsAt p i (log ++ more) w
-  pub entries : history p (machine_after p log) more ≡ map (λ x. entry m x.command x.reply) e.entries
+  pub entries : history p (machine_after p log) more
+      ≡ map (λ x. entry m x.command x.reply) e.entries
 
 -- the stop word after a mutator tried to raise a stop, or did not
 abbrev pub stop_after : Bool → ℕ → ℕ → ℕ
@@ -125,29 +136,44 @@ births_in es = sum_by (λ x. if is_new x.command then 1 else 0) es
 
 -- The mutator whose turn it is made steps of this effect.
 pub record Goes (a : PlainRow) (e : Effect) (b : PlainRow) : Type 0 where
+  -- it is its turn still
   pub turn : b.turn ≡ a.turn
   pub number : number_at_turn b ≡ number_at_turn a
+  -- from each log that leads to the first state, its steps go on, and make the effect's entries
   pub steps : (p : Epoch) (i : IdealHeap) (log : List LogEntry) → IsAt p i log a
       → Continues p i log (number_at_turn a) e b
+  -- the unlog bits of the objects that are logged are clear, and no other unlog bit changed
   pub logged : (x : ℕ) → is_unlogged (state_of b.row) x
       ≡ (is_unlogged (state_of a.row) x && not (is_in_list e.logged x))
+  -- the blocks that are granted were Free and are not, and no other block became Free or ceased to
+  -- be Free
   pub granted : (k : ℕ) → has_kind (state_of b.row) k kinds.Free
       ≡ (has_kind (state_of a.row) k kinds.Free && not (is_in_list e.granted k))
   pub free : (k : ℕ) → Contains e.granted k → HasKind (state_of a.row) k kinds.Free
+  -- the heap has as many blocks, and mutators fill those of the same kind
   pub size : b.row.layout.blocks ≡ a.row.layout.blocks
   pub fill : b.fill ≡ a.fill
+  -- the words of blocks stay but for those that are taken
   pub blocks : (k : ℕ) → k < a.row.layout.blocks → is_in_list e.taken k ≡ false
       → block_word (state_of b.row) k ≡ block_word (state_of a.row) k
-  pub budget : word_at (state_of b.row) 1 ≡ word_at (state_of a.row) 1 + e.drawn
-  pub stop : word_at (state_of b.row) 0 ≡ stop_after e.raised (number_at_turn a) (word_at (state_of a.row) 0)
+  -- the budget word counts the tickets that are drawn
+  pub budget : word_at (state_of b.row) BUDGET_WORD ≡ word_at (state_of a.row) BUDGET_WORD + e.drawn
+  -- the stop word is the mutator's number if it raised a stop and none was raised
+  pub stop : word_at (state_of b.row) STOP_WORD
+      ≡ stop_after e.raised (number_at_turn a) (word_at (state_of a.row) STOP_WORD)
+  -- each entry of an allocation is a birth
   pub births : births_of (mutator_at_turn b) ≡ births_of (mutator_at_turn a) + births_in e.entries
-  pub ticket : e.drawn ≡ 0 → e.granted ≡ [] → ticket_of (seat_at_turn b) ≡ ticket_of (seat_at_turn a)
+  -- the mutator's ticket stays if none is drawn, and none used for a block
+  pub ticket : e.drawn ≡ 0 → e.granted ≡ []
+      → ticket_of (seat_at_turn b) ≡ ticket_of (seat_at_turn a)
+  -- the mutator's regions stay if the effect changes none
   pub regions : e.moved ≡ false → KeepsRegions (regions_at_turn a) (regions_at_turn b)
+  -- the other mutators, their seats and the regions in their blocks stay
   pub others : (k : ℕ) → k ≢ a.turn → (slice_get b.mutators.items k ≡ slice_get a.mutators.items k)
       × (slice_get b.seats.items k ≡ slice_get a.seats.items k)
-  -- a block of another mutator keeps its region
   pub foreign : (k owner : ℕ) (region : Region) → owner ≢ number_at_turn a
-      → slice_get a.notes.items k ≡ Some (Owned owner region) → slice_get b.notes.items k ≡ Some (Owned owner region)
+      → slice_get a.notes.items k ≡ Some (Owned owner region)
+      → slice_get b.notes.items k ≡ Some (Owned owner region)
 
 -- the world is in the epoch p, and its history since then is the part
 pub record IsAfter (p : Epoch) (i : IdealHeap) (part : List Entry) (w : PlainRow) : Type 0 where

@@ -12,9 +12,10 @@ ghost use Rattle.plain_row.specs.SeatLaws.{goes-after, goes-nothing, shape-some,
 ghost use Rattle.std.proofs.Common.{refl, sym, ◌∙◌, ap, subst};
 
 use crate::plain_row::PlainRow;
+use heap_layout::{BUDGET_WORD, STOP_WORD};
 use ideal_heap::{Command, Name};
 use mutator_calls::MutatorSteps;
-use object_model::Shape;
+use object_model::{COLLECTOR_OFFSET, Shape};
 use side_meta::test_bit;
 
 impl MutatorSteps for PlainRow {
@@ -119,7 +120,7 @@ impl MutatorSteps for PlainRow {
     }
 
     fn is_old(&mut self, register: u32) -> bool {
-        let word = self.row.words[self.register(register) as usize + 2];
+        let word = self.row.words[self.register(register) as usize + COLLECTOR_OFFSET as usize];
         forward_word::is_old(word, self.row.base)
     }
 
@@ -244,7 +245,7 @@ impl MutatorSteps for PlainRow {
     }
 
     fn draw_ticket(&mut self) -> u32 {
-        let ticket = self.row.words[1];
+        let ticket = self.row.words[BUDGET_WORD];
         self.store(1, ticket + 1);
         let ticket = ticket as u32;
         let seat = &mut self.seats[self.turn];
@@ -262,11 +263,11 @@ impl MutatorSteps for PlainRow {
     }
 
     fn load_stop(&mut self) -> u32 {
-        self.row.words[0] as u32
+        self.row.words[STOP_WORD] as u32
     }
 
     fn raise_stop(&mut self) {
-        let stop = self.row.words[0];
+        let stop = self.row.words[STOP_WORD];
         if stop == 0 {
             let number = self.number();
             self.store(0, number as u64);

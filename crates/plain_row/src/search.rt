@@ -25,13 +25,13 @@ ghost use Rattle.local_allocators.specs.NotedRegions.{region_of};
 
 use crate::plain_row::PlainRow;
 use block_regions::BlockNote;
-use heap_layout::{BlockWord, Region};
+use heap_layout::{BlockWord, CLASSES, Region};
 use ideal_heap::{MAX_NUMS, MAX_REFS, Name, REGISTERS};
 use local_allocators::{
-    CLASSES, OwnRoom, block_for, class_of, first_hole, first_region, has_other_class, hole_block,
-    is_free, overflows, own_room, rest_after,
+    OwnRoom, block_for, class_of, first_hole, first_region, has_other_class, hole_block, is_free,
+    overflows, own_room, rest_after,
 };
-use object_model::{MAX_MEDIUM_WORDS, Shape, size_words};
+use object_model::{HEADER_WORDS, MAX_MEDIUM_WORDS, Shape, size_words};
 
 impl PlainRow {
     /// The block of the region that takes an object of `size` words. Under a plan with lines there
@@ -39,7 +39,7 @@ impl PlainRow {
     #[inline(always)]
     fn block_for(&self, size: u32) -> Option<u32>
         requires seat { IsReadableSeat self.now }
-        requires least { 3 ≤ size }
+        requires least { HEADER_WORDS ≤ size }
         requires hole { FillsLines self.now.fill
             → (cursors_of (regions_at_turn self.now)).hole.next
             ≤ (cursors_of (regions_at_turn self.now)).hole.end }
@@ -118,7 +118,7 @@ impl PlainRow {
         requires block { block < self.old.row.layout.blocks }
         requires note { (least : ℕ)
             × (slice_get self.old.notes.items block ≡ Some (Unowned least)) }
-        requires least { 3 ≤ size }
+        requires least { HEADER_WORDS ≤ size }
         requires most { size ≤ MAX_MEDIUM_WORDS }
         ensures found { result ≡ true → (region : Region)
             × IsFirstHole self.old.fill (state_of self.old.row) block 0 size (Some region)
@@ -164,7 +164,7 @@ impl PlainRow {
         requires block { block < self.old.row.layout.blocks }
         requires note { slice_get self.old.notes.items block
             ≡ Some (Owned (number_at_turn self.old) region) }
-        requires least { 3 ≤ size }
+        requires least { HEADER_WORDS ≤ size }
         requires most { size ≤ MAX_MEDIUM_WORDS }
         requires full { IsFull self.old size }
         ensures found { result ≡ true → FindsHole self.old self.new block size }
@@ -196,7 +196,7 @@ impl PlainRow {
     pub(crate) fn take_hole_in(&mut self, block: u32, size: u32) -> bool
         requires ready { MayCall self.old }
         requires block { block < self.old.row.layout.blocks }
-        requires least { 3 ≤ size }
+        requires least { HEADER_WORDS ≤ size }
         requires most { size ≤ MAX_MEDIUM_WORDS }
         requires full { IsFull self.old size }
         ensures found { result ≡ true → FindsHole self.old self.new block size }
@@ -214,7 +214,7 @@ impl PlainRow {
     /// words, from the region's end on, the hole region, under a plan with lines, if there is one.
     pub(crate) fn take_hole_in_own(&mut self, size: u32) -> bool
         requires ready { MayCall self.old }
-        requires least { 3 ≤ size }
+        requires least { HEADER_WORDS ≤ size }
         requires most { size ≤ MAX_MEDIUM_WORDS }
         requires full { IsFull self.old size }
         ensures found { result ≡ true → FillsLines self.old.fill × ((block : ℕ)

@@ -59,7 +59,7 @@ impl PlainRow {
     pub(crate) fn field(&self, s: u32, i: u32) -> usize
         requires turn { IsTurn self.now }
         requires register { s < REGISTERS }
-        ensures { result ≡ address_at self.now s + 3 + i }
+        ensures { result ≡ address_at self.now s + HEADER_WORDS + i }
     {
         self.register(s) as usize + HEADER_WORDS as usize + i as usize
     }
@@ -68,7 +68,7 @@ impl PlainRow {
     pub(crate) fn number_word(&self, s: u32, j: u32, shape: &Shape) -> usize
         requires turn { IsTurn self.now }
         requires register { s < REGISTERS }
-        ensures { result ≡ address_at self.now s + 3 + shape.now.refs + j }
+        ensures { result ≡ address_at self.now s + HEADER_WORDS + shape.now.refs + j }
     {
         let address = self.register(s);
         address as usize + HEADER_WORDS as usize + shape.refs as usize + j as usize

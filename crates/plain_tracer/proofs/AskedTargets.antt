@@ -7,14 +7,14 @@ use Rattle.trace_core.specs.Machine.{Machine, Event, ByRoot, Ask, target, next, 
 use Rattle.trace_core.specs.Traces.{machine_after, target_of}
 use Rattle.trace_core.specs.Views.{View, Holds, one_if, times, asked_view}
 use Rattle.plain_tracer.specs.Tracers.{Tracks, Claims, ClaimsRoot}
-use Rattle.trace_core.specs.Rooms.{IsCopyRoom, StayForWantOfRoom}
+use Rattle.trace_core.specs.Rooms.{IsCopyRoom, StayWithoutRoom}
 use Rattle.plain_tracer.specs.declared.plain_trace.PlainTrace.{PlainTrace}
 use Rattle.plain_tracer.specs.declared.tokens.Claim as answers
 use Rattle.plain_tracer.specs.declared.tokens.Claim.TheVariants as answer
 use Rattle.trace_core.proofs.Puts.{put_here, put_else}
-use Rattle.trace_core.proofs.Appending.{machine-next, trace-next}
+use Rattle.trace_core.proofs.AppendedEvents.{machine-next, trace-next}
 use Rattle.trace_core.proofs.BlocksLeft.{left-stays}
-use Rattle.trace_core.proofs.Counting.{hits-from, pair-parts, times-cons}
+use Rattle.trace_core.proofs.CountedRights.{hits-from, pair-parts, times-cons}
 use Rattle.trace_core.proofs.Idle.{one-if-true}
 
 module _ (p : Setup) (es : List Event) (t : PlainTrace) (v : View) (tracks : Tracks p es t v) (x u : ℕ) (is : target_of p es x ≡ Some u) where
@@ -64,7 +64,7 @@ module _ (p : Setup) (es : List Event) (t : PlainTrace) (v : View) (tracks : Tra
         holds = subst (λ n. Holds p n (asked_view x u v)) (sym same) holds-now;
         room = subst (λ n. IsCopyRoom p n v.blocks t.block t.room) (sym same) tracks.room;
         left = left-stays p was (machine_after p (es ++ Ask x ∷ [])) (ap (λ (n : Machine). n.owner) same) v.sparse v.sparse refl v.blocks tracks.left;
-        stayed = subst (λ n. StayForWantOfRoom p n t.room) (sym same) tracks.stayed;
+        stayed = subst (λ n. StayWithoutRoom p n t.room) (sym same) tracks.stayed;
         passed = λ c l free. subst (λ n. 0 < n.taken c) (sym same) (tracks.passed c l free);
         ahead = λ c some. tracks.ahead c (subst (λ n. 0 < n.taken c) same some);
       }

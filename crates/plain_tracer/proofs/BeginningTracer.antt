@@ -19,7 +19,7 @@ use Rattle.trace_core.specs.Views.{one_if, times, first_view}
 use Rattle.trace_core.specs.Runs.{is_nursery, is_some_true, without_lines, without_unlogs, setup_of, MayRun, IsRunOf}
 use Rattle.plain_tracer.specs.Tracers.{Tracks}
 use Rattle.trace_core.proofs.Objects.{None-not-Some}
-use Rattle.trace_core.proofs.Beginning.{first-young}
+use Rattle.trace_core.proofs.FirstInvariant.{first-young}
 use Rattle.trace_core.specs.Machine.{target}
 use Rattle.trace_core.specs.declared.run.TraceRun.{TraceRun}
 use Rattle.plain_tracer.specs.declared.plain_trace.PlainTrace.{PlainTrace}

@@ -17,8 +17,8 @@ use Rattle.trace_core.specs.CallEvents.{block_taken, taken_in, left_in_block}
 use Rattle.plain_tracer.specs.declared.plain_trace.PlainTrace.{PlainTrace}
 use Rattle.plain_tracer.specs.declared.tokens.Won.{Won}
 use Rattle.trace_core.proofs.Objects.{None-not-Some}
-use Rattle.trace_core.proofs.Counting.{hits-here}
-use Rattle.trace_core.proofs.Appending.{machine-next, trace-last}
+use Rattle.trace_core.proofs.CountedRights.{hits-here}
+use Rattle.trace_core.proofs.AppendedEvents.{machine-next, trace-last}
 use Rattle.trace_core.proofs.BlocksLeft.{filled-more, left-more}
 use Rattle.trace_core.proofs.Clauses.{placed}
 use Rattle.plain_tracer.proofs.ClaimedObjects.{claim-keeps}

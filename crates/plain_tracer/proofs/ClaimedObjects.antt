@@ -13,17 +13,17 @@ use Rattle.trace_core.specs.Traces.{May, NoneIsFree, IsAskedBy, machine_after, s
 use Rattle.trace_core.specs.Views.{View, Holds, one_if, hits, times, is_copying, is_scanning, is_stage_copied, steps_at_claim, asked_roots, claimed_view}
 use Rattle.plain_tracer.specs.Tracers.{Tracks}
 use Rattle.trace_core.specs.Runs.{IsRunOf}
-use Rattle.trace_core.specs.Rooms.{IsCopyRoom, AreLeft, StayForWantOfRoom}
+use Rattle.trace_core.specs.Rooms.{IsCopyRoom, AreLeft, StayWithoutRoom}
 use Rattle.trace_core.specs.Rights.{IsWaiting}
 use Rattle.plain_tracer.specs.declared.plain_trace.PlainTrace.{PlainTrace}
 use Rattle.trace_core.proofs.Puts.{put_here, put_else, all_here, all_else}
 use Rattle.trace_core.proofs.Objects.{Some-injective, None-not-Some}
-use Rattle.trace_core.proofs.Appending.{machine-next, trace-next}
-use Rattle.trace_core.proofs.Counting.{hits-cons, hits-from, pair-parts, times-cons}
+use Rattle.trace_core.proofs.AppendedEvents.{machine-next, trace-next}
+use Rattle.trace_core.proofs.CountedRights.{hits-cons, hits-from, pair-parts, times-cons}
 use Rattle.trace_core.proofs.Idle.{one-if-true}
 use Rattle.trace_core.proofs.Law.{sound}
 use Rattle.trace_core.proofs.BlocksLeft.{left-more}
-use Rattle.plain_tracer.proofs.Tracking.{words-are, blocks-are}
+use Rattle.plain_tracer.proofs.TracedRows.{words-are, blocks-are}
 use Rattle.plain_tracer.proofs.TakenRoom.{last, room-there, room-end, room-taken, room-block}
 
 pub unclaimed-stage : (st : Stage) → target st ≡ None → st ≡ Unclaimed
@@ -132,7 +132,7 @@ module _ (p : Setup) (es : List Event) (old new : PlainTrace) (v : View) (tracks
   left-now : AreLeft p now v.sparse v.blocks
   left-now = left-more p was now (claim-keeps p was x u cause may) v.sparse v.sparse (λ b few. few) v.blocks tracks.left
 
-  pub tracks-claimed : IsCopyRoom p now v.blocks new.block new.room → StayForWantOfRoom p now new.room → Tracks p (es ++ Claim x u cause ∷ []) new (claimed_view p x u cause v)
+  pub tracks-claimed : IsCopyRoom p now v.blocks new.block new.room → StayWithoutRoom p now new.room → Tracks p (es ++ Claim x u cause ∷ []) new (claimed_view p x u cause v)
   tracks-claimed room stayed =
       let same : machine_after p (es ++ Claim x u cause ∷ []) ≡ now = machine-next p es tracks.trace (Claim x u cause) in
       record {
@@ -142,7 +142,7 @@ module _ (p : Setup) (es : List Event) (old new : PlainTrace) (v : View) (tracks
         holds = subst (λ n. Holds p n (claimed_view p x u cause v)) (sym same) (holds-claimed p was v tracks.holds x u cause may.1);
         room = subst (λ n. IsCopyRoom p n v.blocks new.block new.room) (sym same) room;
         left = subst (λ n. AreLeft p n v.sparse v.blocks) (sym same) left-now;
-        stayed = subst (λ n. StayForWantOfRoom p n new.room) (sym same) stayed;
+        stayed = subst (λ n. StayWithoutRoom p n new.room) (sym same) stayed;
         passed = λ c l free. subst (λ n. 0 < n.taken c) (sym same) (tracks.passed c (subst (λ n. c < n) next_block l) free);
         ahead = λ c some. subst (λ n. c < n) (sym next_block) (tracks.ahead c (subst (λ n. 0 < n.taken c) same some));
       }
@@ -151,7 +151,7 @@ module _ (p : Setup) (es : List Event) (old new : PlainTrace) (v : View) (tracks
   pub tracks-in-place : u ≡ x → new.room ≡ old.room → (IsTrue (may_be_moved p x) → old.room.end < old.room.next + size p x) → Tracks p (es ++ Claim x u cause ∷ []) new (claimed_view p x u cause v)
   tracks-in-place e room tight = tracks-claimed (subst (λ (r : Region). IsCopyRoom p now v.blocks new.block r) (sym room)
       (subst (λ n. IsCopyRoom p now v.blocks n old.room) (sym block) (by-blocks v.blocks tracks.room)))
-      (subst (StayForWantOfRoom p now) (sym room) (λ y is young moves. elim (cases_eq y x) as (λ _. old.room.end < old.room.next + size p y) [
+      (subst (StayWithoutRoom p now) (sym room) (λ y is young moves. elim (cases_eq y x) as (λ _. old.room.end < old.room.next + size p y) [
         | inl same-object ↦ subst (λ z. old.room.end < old.room.next + size p z) (sym same-object) (tight (subst (λ z. IsTrue (may_be_moved p z)) same-object moves))
         | inr ne ↦ tracks.stayed y (ap target (sym (put_else was.stage x _ y ne)) ∙ is) young moves
       ]))

@@ -16,7 +16,7 @@ use Rattle.trace_core.specs.Views.{View, Holds, one_if, hits, times, is_pair, is
 use Rattle.plain_tracer.specs.TokenRights.{IsWon}
 use Rattle.plain_tracer.specs.Tracers.{Tracks}
 use Rattle.trace_core.specs.Runs.{IsRunOf}
-use Rattle.trace_core.specs.Rooms.{IsCopyRoom, AreLeft, StayForWantOfRoom}
+use Rattle.trace_core.specs.Rooms.{IsCopyRoom, AreLeft, StayWithoutRoom}
 use Rattle.trace_core.specs.Rights.{IsMoving, IsCopiedHere}
 use Rattle.trace_core.specs.CallEvents.{copying as copying-events}
 use Rattle.plain_tracer.specs.declared.plain_trace.PlainTrace.{PlainTrace}
@@ -25,13 +25,13 @@ use Rattle.trace_core.proofs.Puts.{put_here, put_else}
 use Rattle.trace_core.proofs.Objects.{Some-injective}
 use Rattle.trace_core.proofs.Steps.{offset-inside, copied-plain, copied-collector}
 use Rattle.trace_core.proofs.Law.{sound}
-use Rattle.plain_tracer.proofs.Tracking.{words-are, blocks-are, row-extent}
+use Rattle.plain_tracer.proofs.TracedRows.{words-are, blocks-are, row-extent}
 use Rattle.trace_core.proofs.Places.{object-below}
 use Rattle.trace_core.proofs.Clauses.{copying, targets-inside, held-of}
-use Rattle.trace_core.proofs.Appending.{machine-more, trace-more, after-append, next-append}
-use Rattle.trace_core.proofs.Counting.{hits-cons, hits-without, times-cons}
+use Rattle.trace_core.proofs.AppendedEvents.{machine-more, trace-more, after-append, next-append}
+use Rattle.trace_core.proofs.CountedRights.{hits-cons, hits-without, times-cons}
 use Rattle.trace_core.proofs.Idle.{one-if-from, one-if-true}
-use Rattle.plain_tracer.proofs.Storing.{room-stays}
+use Rattle.plain_tracer.proofs.StoredWords.{room-stays}
 use Rattle.trace_core.proofs.BlocksLeft.{left-stays}
 use Rattle.trace_core.proofs.CopyEvents.{Reaches, Copies, copies, unlogged-moved, unlogged-in-place, started, reaches-on}
 
@@ -140,7 +140,7 @@ module _ (p : Setup) (es : List Event) (old new : PlainTrace) (v : View) (tracks
         room = subst (λ n. IsCopyRoom p n v.blocks new.block new.room) (sym same) (subst (λ r. IsCopyRoom p (after p was ds) v.blocks new.block r) (sym room)
             (subst (λ b. IsCopyRoom p (after p was ds) v.blocks b old.room) (sym block) (room-stays p was (after p was ds) owner v.blocks old.block old.room tracks.room)));
         left = subst (λ n. AreLeft p n v.sparse v.blocks) (sym same) (left-stays p was (after p was ds) owner v.sparse v.sparse refl v.blocks tracks.left);
-        stayed = subst (λ n. StayForWantOfRoom p n new.room) (sym same) (subst (StayForWantOfRoom p (after p was ds)) (sym room)
+        stayed = subst (λ n. StayWithoutRoom p n new.room) (sym same) (subst (StayWithoutRoom p (after p was ds)) (sym room)
             (λ y is aged moves. tracks.stayed y (same-target y ∙ is) aged moves));
         passed = λ c l free. subst (λ n. 0 < n.taken c) (sym same) (subst (λ (f : ℕ → ℕ). 0 < f c) (sym reaches.taken) (tracks.passed c (subst (λ n. c < n) next_block l) free));
         ahead = λ c some. subst (λ n. c < n) (sym next_block) (tracks.ahead c (subst (λ (f : ℕ → ℕ). 0 < f c) reaches.taken (subst (λ n. 0 < n.taken c) same some)));

@@ -13,7 +13,7 @@ use Rattle.plain_tracer.specs.TokenRights.{IsMarking, IsNextField}
 use Rattle.trace_core.specs.CallEvents.{Marks, Scans}
 use Rattle.plain_tracer.specs.declared.plain_trace.PlainTrace.{PlainTrace}
 use Rattle.plain_tracer.specs.declared.tokens.Grey.{Grey}
-use Rattle.trace_core.proofs.Counting.{count-append, hits-cons, hits-here, hits-more, hits-without, pair-parts}
+use Rattle.trace_core.proofs.CountedRights.{count-append, hits-cons, hits-here, hits-more, hits-without, pair-parts}
 
 -- no field yet
 pub none-scanned : (p : Setup) (es : List Event) (v : View) (t : PlainTrace) (grey : Grey) (out : List Grey) → Tracks p es t v

@@ -10,7 +10,7 @@ use Rattle.trace_core.specs.Views.{View, one_if, times}
 use Rattle.plain_tracer.specs.Tracers.{Tracks, IsTraced}
 use Rattle.trace_core.specs.Rooms.{IsFilled, IsLeftFor, AreLeft}
 use Rattle.plain_tracer.specs.declared.plain_trace.PlainTrace.{PlainTrace}
-use Rattle.trace_core.proofs.Counting.{times-cons}
+use Rattle.trace_core.proofs.CountedRights.{times-cons}
 use Rattle.trace_core.proofs.Idle.{one-if-true}
 use Rattle.trace_core.proofs.Law.{sound}
 use Rattle.trace_core.proofs.Clauses.{has-room}

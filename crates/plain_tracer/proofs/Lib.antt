@@ -1,7 +1,7 @@
 mod LastBlocks
-mod Tracking
+mod TracedRows
 mod TakenRoom
-mod Reading
+mod ObjectsRead
 mod ClaimedObjects
 mod Claimed
 mod AskedTargets
@@ -10,8 +10,8 @@ mod CopiedObjects
 mod MarkedWords
 mod LineMarks
 mod BeginningTracer
-pub mod Following
-mod Storing
+pub mod FollowedReferences
+mod StoredWords
 pub mod ReachedTokens
 mod ScanSteps
 mod FieldScans

@@ -16,16 +16,16 @@ use Rattle.trace_core.specs.Traces.{May, IsTracing, machine_after, target_of}
 use Rattle.trace_core.specs.Views.{View, Holds}
 use Rattle.plain_tracer.specs.Tracers.{Tracks, MakesEvents, ChangesWords}
 use Rattle.trace_core.specs.Runs.{IsRunOf}
-use Rattle.trace_core.specs.Rooms.{IsCopyRoom, StayForWantOfRoom}
+use Rattle.trace_core.specs.Rooms.{IsCopyRoom, StayWithoutRoom}
 use Rattle.trace_core.specs.CallEvents.{Marks}
 use Rattle.plain_tracer.specs.TokenRights.{IsMarking}
 use Rattle.plain_tracer.specs.declared.plain_trace.PlainTrace.{PlainTrace}
 use Rattle.plain_tracer.specs.declared.tokens.Grey.{Grey}
 use Rattle.trace_core.proofs.Law.{sound}
 use Rattle.trace_core.proofs.Clauses.{targets-inside}
-use Rattle.plain_tracer.proofs.Tracking.{words-are, blocks-are}
-use Rattle.trace_core.proofs.Appending.{machine-next, trace-next}
-use Rattle.plain_tracer.proofs.Storing.{room-stays}
+use Rattle.plain_tracer.proofs.TracedRows.{words-are, blocks-are}
+use Rattle.trace_core.proofs.AppendedEvents.{machine-next, trace-next}
+use Rattle.plain_tracer.proofs.StoredWords.{room-stays}
 use Rattle.trace_core.proofs.BlocksLeft.{left-stays}
 use Rattle.plain_tracer.proofs.MarkedWords.{Marked, gained, gained-touches, with-gained, other-word}
 
@@ -207,7 +207,7 @@ module _ (p : Setup) (es : List Event) (t : PlainTrace) (v : View) (tracks : Tra
                 (subst (λ r. IsCopyRoom p (machine_after p ds) v.blocks t.block r) (sym changes.room)
                 (room-stays p m (machine_after p ds) owners v.blocks t.block t.room tracks.room));
             left = left-stays p m (machine_after p ds) owners v.sparse v.sparse refl v.blocks tracks.left;
-            stayed = subst (StayForWantOfRoom p (machine_after p ds)) (sym changes.room)
+            stayed = subst (StayWithoutRoom p (machine_after p ds)) (sym changes.room)
                 (λ x is young moves. tracks.stayed x (sym (ap (λ (k : Machine). target (k.stage x)) machine-is) ∙ is) young moves);
             passed = λ b before free. subst (λ take. 0 < take b) (sym takes) (tracks.passed b (subst (λ n. b < n) changes.next_block before) free);
             ahead = λ b some. subst (λ n. b < n) (sym changes.next_block) (tracks.ahead b (subst (λ take. 0 < take b) takes some));

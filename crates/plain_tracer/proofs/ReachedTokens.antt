@@ -16,10 +16,10 @@ use Rattle.plain_tracer.specs.declared.plain_trace.PlainTrace.{PlainTrace}
 use Rattle.plain_tracer.specs.declared.tokens.Grey.{Grey}
 use Rattle.plain_tracer.specs.declared.tokens.Reached.{Reached}
 use Rattle.plain_tracer.proofs.BitStores.{bit-read}
-use Rattle.trace_core.proofs.Counting.{hits-here}
-use Rattle.trace_core.proofs.Deciding.{marked, unmarked}
-use Rattle.plain_tracer.proofs.Following.{settled-at, forward-at, at-once, by-claim}
-use Rattle.plain_tracer.proofs.Tracking.{blocks-are}
+use Rattle.trace_core.proofs.CountedRights.{hits-here}
+use Rattle.trace_core.proofs.DecidingBits.{marked, unmarked}
+use Rattle.plain_tracer.proofs.FollowedReferences.{settled-at, forward-at, at-once, by-claim}
+use Rattle.plain_tracer.proofs.TracedRows.{blocks-are}
 
 -- a token with its shape again
 pub grey-again : (p : Setup) (v : View) (grey : Grey) (r : Reached) → IsGrey p v grey → r.object ≡ grey.object → r.target ≡ grey.target → grey_of p r ≡ grey

@@ -21,8 +21,8 @@ use Rattle.trace_core.proofs.Puts.{put_here, put_else}
 use Rattle.trace_core.proofs.Steps.{copied-plain}
 use Rattle.trace_core.proofs.Law.{sound}
 use Rattle.trace_core.proofs.Clauses.{held-of, targets-inside, whole}
-use Rattle.plain_tracer.proofs.Following.{reference-of}
-use Rattle.plain_tracer.proofs.Storing.{tracks-next}
+use Rattle.plain_tracer.proofs.FollowedReferences.{reference-of}
+use Rattle.plain_tracer.proofs.StoredWords.{tracks-next}
 use Rattle.trace_core.proofs.ScanRights.{scanning-at, unset-at, holds-scanned, holds-set}
 
 -- a reference fits 32 bits

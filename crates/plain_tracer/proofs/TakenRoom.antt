@@ -14,16 +14,16 @@ use Rattle.trace_core.specs.Traces.{May, IsTracing, NoneIsFree, machine_after, h
 use Rattle.trace_core.specs.Views.{View, Holds, one_if, times, left_view}
 use Rattle.plain_tracer.specs.Tracers.{Tracks, TracerHolds, TakesCopyBlock, FindsNone}
 use Rattle.trace_core.specs.Runs.{IsRunOf}
-use Rattle.trace_core.specs.Rooms.{StayForWantOfRoom, IsCopyRoom, AreLeft}
+use Rattle.trace_core.specs.Rooms.{StayWithoutRoom, IsCopyRoom, AreLeft}
 use Rattle.plain_tracer.specs.declared.plain_trace.PlainTrace.{PlainTrace}
 use Rattle.trace_core.proofs.Puts.{put_here, put_else}
 use Rattle.trace_core.proofs.Law.{sound}
 use Rattle.trace_core.proofs.BlocksLeft.{left-more}
 use Rattle.trace_core.proofs.Clauses.{untaken-word, taken-block-word, has-room}
-use Rattle.trace_core.proofs.Appending.{machine-next, trace-next}
-use Rattle.trace_core.proofs.Counting.{times-cons}
+use Rattle.trace_core.proofs.AppendedEvents.{machine-next, trace-next}
+use Rattle.trace_core.proofs.CountedRights.{times-cons}
 use Rattle.trace_core.proofs.Idle.{one-if-from, one-if-true}
-use Rattle.plain_tracer.proofs.Tracking.{words-are, blocks-are}
+use Rattle.plain_tracer.proofs.TracedRows.{words-are, blocks-are}
 
 module _ (p : Setup) (es : List Event) (trace : IsTracing p es) where
   abbrev m : Machine
@@ -216,7 +216,7 @@ module _ (p : Setup) (es : List Event) (old new : PlainTrace) (v : View) (tracks
     holds = tracks.holds;
     room = subst (λ r. IsCopyRoom p (machine_after p es) v.blocks new.block r) (sym finds.room) (subst (λ n. IsCopyRoom p (machine_after p es) v.blocks n old.room) (sym finds.block) tracks.room);
     left = tracks.left;
-    stayed = subst (StayForWantOfRoom p (machine_after p es)) (sym finds.room) tracks.stayed;
+    stayed = subst (StayWithoutRoom p (machine_after p es)) (sym finds.room) tracks.stayed;
     passed = λ c l free. none-free c free;
     ahead = λ c some.
         let free = (sound p es tracks.trace).objects.free c some in

@@ -22,14 +22,19 @@ pub record IsGrey (p : Setup) (v : View) (grey : Grey) : Type 0 where
 
 -- the token with the shape that its object had as the trace began
 abbrev pub grey_of : Setup → Reached → Grey
-grey_of p r = record { object = r.object; target = r.target; size = size p r.object; refs = refs p r.object }
+grey_of p r = record {
+  object = r.object;
+  target = r.target;
+  size = size p r.object;
+  refs = refs p r.object;
+}
 
 -- the token is the right to scan an object, whose shape is not read yet
 abbrev pub IsReached : Setup → View → Reached → Type 0
 IsReached p v r = IsGrey p v (grey_of p r)
 
--- Tokens were pushed: the objects of the list were copied, and wait to be scanned. All else is as it was, but that more
--- may be known and more blocks may be taken.
+-- Tokens were pushed: the objects of the list were copied, and wait to be scanned. All else is as
+-- it was, but that more may be known and more blocks may be taken.
 abbrev pub copied_in : List Grey → List ℕ
 copied_in pushed = map (λ g. g.object) pushed
 
@@ -47,10 +52,16 @@ pub record Pushes (p : Setup) (v v' : View) (pushed : List Grey) : Type 0 where
   pub sparse : v'.sparse ≡ v.sparse
   pub tokens : All (IsGrey p v') pushed
 
+-- The right to scan an object from a field on moved to another field of it: with the one that it
+-- had, the rights after are those before with the one that it has, and those of the tokens pushed.
+abbrev pub MovesRight : ℕ → ℕ → ℕ → List Grey → View → View → Type 0
+MovesRight x from to pushed v v' = (y j : ℕ) → hits y j v'.grey + one_if (is_pair y j (x, from))
+    ≡ hits y j (to_scan_in pushed) + hits y j v.grey + one_if (is_pair y j (x, to))
+
 -- The object at x was scanned from its first field up to field k, and tokens were pushed.
 pub record Scanned (p : Setup) (x k : ℕ) (v v' : View) (pushed : List Grey) : Type 0 where
   pub won : v'.won ≡ v.won
-  pub grey : (y j : ℕ) → hits y j v'.grey + one_if (is_pair y j (x, 0)) ≡ hits y j (to_scan_in pushed) + hits y j v.grey + one_if (is_pair y j (x, k))
+  pub grey : MovesRight x 0 k pushed v v'
   pub copied : (y : ℕ) → times y v'.copied ≡ times y (copied_in pushed) + times y v.copied
   pub unset : v'.unset ≡ v.unset
   pub set : v'.set ≡ v.set

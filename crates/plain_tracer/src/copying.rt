@@ -4,7 +4,7 @@
 //! Unlog bit and start bit of a copy change together, after its words (`move_object`).
 //! Never writes a word of an object that moves where it was.
 
-ghost use Rattle.std.specs.Prelude.{◌≡◌, ◌+◌, ◌*◌, ◌-◌, ◌/◌, ◌%◌, ◌^◌, ◌<◌, ◌≤◌, ◌++◌, ℕ, List, IsTrue, nat_eq, length, slice_index, slice_set};
+ghost use Rattle.std.specs.Prelude.{◌≡◌, ◌+◌, ◌*◌, ◌-◌, ◌/◌, ◌%◌, ◌^◌, ◌<◌, ◌≤◌, ◌++◌, ℕ, List, IsTrue, nat_eq, slice_index, slice_set};
 ghost use Rattle.std.specs.Int.{bit_at};
 ghost use Rattle.heap_layout.specs.Zones.{heap_of, IsAddress, LineWords, bit_of, IsRowOf};
 ghost use Rattle.side_meta.specs.BitWords.{with_bit};

@@ -19,13 +19,10 @@ ghost use Rattle.trace_core.specs.Runs.{MayRun, setup_of, without_lines, without
 ghost use Rattle.trace_core.specs.Rooms.{NoneFree};
 
 use crate::tokens::GlobalRoot;
-use heap_layout::{BLOCK_WORDS, BlockWord, CLASS_UNIT, GLOBALS, Kind, Region};
+use heap_layout::{BLOCK_WORDS, BlockWord, CLASS_UNIT, FIRST_WORKER_OWNER, GLOBALS, Kind, Region};
 use object_model::{Collect, Heap, Row};
 use std::alloc::{AllocError, Global};
 use trace_core::{TraceRun, Traced};
-
-// The owner of the blocks that the worker takes to copy into.
-const WORKER_OWNER: u32 = 17;
 
 /// The tracer for one worker. It finds what is reachable and moves it, and makes the events of the
 /// trace machine.
@@ -143,7 +140,7 @@ impl PlainTrace {
         let word = BlockWord {
             kind: self.run.copy_kind,
             class: 0,
-            owner: WORKER_OWNER,
+            owner: FIRST_WORKER_OWNER,
         };
         self.row.set_block(block, &word);
         self.block = block;

@@ -11,8 +11,7 @@ use Rattle.mutator_calls.specs.declared.need.NeedCause.{NeedCause}
 use Rattle.mutator_calls.specs.declared.need.NeedCause.TheVariants.{Large, Budget}
 use Rattle.mutator_calls.specs.declared.need.Allocated.{Allocated}
 use Rattle.mutator_calls.specs.declared.need.Allocated.TheVariants.{Made, Stop}
-use Rattle.mutator_calls.proofs.RoomFoundLater.{finds-later}
-use Rattle.mutator_calls.specs.Allocating.{Books, FindsRoom, IsCause, MatchAllocated}
+use Rattle.mutator_calls.specs.Allocating.{Books, IsNextTicket, IsCause, MatchAllocated}
 use Rattle.plain_row.specs.declared.plain_row.PlainRow.{PlainRow}
 use Rattle.local_allocators.specs.declared.local_seat.LocalSeat.{LocalSeat}
 use Rattle.block_regions.specs.declared.block_notes.BlockNote.{BlockNote}
@@ -25,7 +24,6 @@ use Rattle.local_allocators.specs.MutatorRegions.{FillsLines, cursors_of, GoesOv
 use Rattle.local_allocators.specs.NotedRegions.{regions_of}
 use Rattle.local_allocators.specs.Placing.{IsPlacedIn}
 use Rattle.plain_row.proofs.Turns.{block-one}
-use Rattle.mutator_calls.specs.Effects.{nothing}
 use Rattle.plain_row.specs.Worlds.{Goes}
 use Rattle.plain_row.specs.Steps.{Lacks, HasBudget, books_of, IsOffer, Offers, LeavesClass, PlacesAtRegion}
 
@@ -42,9 +40,6 @@ allocated-both (Stop need) is = is
 -- the same, by the place of the mutator
 abbrev pub LacksAt : PlainRow → ℕ → ℕ → ℕ → Type 0
 LacksAt b m size k = LacksBlock b.fill (regions_of b.notes.items (slice_get b.seats.items m)) (state_of b.row) (mutator_number (slice_get b.mutators.items m)) size k
-
-abbrev pub FullAt : PlainRow → ℕ → ℕ → Type 0
-FullAt b m size = LacksRegions b.fill (regions_of b.notes.items (slice_get b.seats.items m)) (state_of b.row) (mutator_number (slice_get b.mutators.items m)) size
 
 abbrev pub books_for : PlainRow → ℕ → Books
 books_for b m = record {
@@ -66,23 +61,11 @@ books-at b m turn =
       ticket = ticket_of (slice_get b.seats.items t);
     } in ap accounts turn
 
-pub allocated-and : (P P' : Name → Type 0) (Q Q' : Need → Type 0) (r : Allocated) → MatchAllocated r P Q → MatchAllocated r P' Q'
-    → MatchAllocated r (λ n. P n × P' n) (λ need. Q need × Q' need)
-allocated-and P P' Q Q' (Made n) is also = (is, also)
-allocated-and P P' Q Q' (Stop need) is also = (is, also)
-
 -- the budget word is as before after steps of no effect
-pub next-ticket : (a : PlainRow) (t : ℕ) → (mid : PlainRow) × Goes a nothing mid × HasBudget mid t → t ≡ word_at (state_of a.row) 1
-next-ticket a t seen = let same : word_at (state_of seen.0.row) 1 ≡ word_at (state_of a.row) 1 + 0 = seen.1.budget in
-    let is : word_at (state_of seen.0.row) 1 ≡ t = seen.2 in
+pub next-ticket : (a : PlainRow) (t : ℕ) → IsNextTicket Goes HasBudget a t → t ≡ word_at (state_of a.row) 1
+next-ticket a t seen = let same : word_at (state_of seen.later.row) 1 ≡ word_at (state_of a.row) 1 + 0 = seen.steps.budget in
+    let is : word_at (state_of seen.later.row) 1 ≡ t = seen.budget in
     omega arith
-
-pub finds-weaker : (lacks lacks' used before now now' next next' : ℕ → Type 0) (full spent overflow kept kept' : Type 0) (blocks allowance : ℕ) (old new : Option ℕ)
-    (taken granted : List ℕ) (drawn : ℕ) → ((k : ℕ) → lacks k → lacks' k) → ((k : ℕ) → now k → now' k) → ((t : ℕ) → next t → next' t) → (kept → kept')
-    → FindsRoom lacks used before now next full spent overflow kept blocks allowance old new taken granted drawn
-    → FindsRoom lacks' used before now' next' full spent overflow kept' blocks allowance old new taken granted drawn
-finds-weaker lacks lacks' used before now now' next next' full spent overflow kept kept' blocks allowance old new taken granted drawn weaker here follows keeps found =
-    finds-later lacks used lacks' used before now now' next next' full spent overflow kept kept' blocks allowance old new new taken granted drawn weaker (λ k is. is) here follows keeps refl found
 
 pub cause-weaker : (books : Books) (P Q : ℕ → Type 0) (size : ℕ) (cause : NeedCause) → ((k : ℕ) → P k → Q k) → IsCause books P size cause → IsCause books Q size cause
 cause-weaker books P Q size Large weaker is = is

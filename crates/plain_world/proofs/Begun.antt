@@ -1,10 +1,9 @@
 -- The world as an epoch begins.
 use Rattle.ideal_heap.specs.declared.command.TheConstants.{MAX_MUTATORS}
-use Rattle.std.proofs.Common.{◌≡◌, refl, sym, ◌∙◌, ap, subst, ℕ, zero, suc, ◌+◌, ◌<◌, ◌≤◌, arith, Bool, true, false, ◌==◌, IsTrue, List, [], ◌∷◌, length, map, replicate, bit_and}
+use Rattle.std.proofs.Common.{◌≡◌, refl, sym, ◌∙◌, ap, subst, ℕ, zero, suc, ◌+◌, ◌<◌, ◌≤◌, arith, Bool, true, false, ◌==◌, List, [], ◌∷◌, length, map, replicate, bit_and}
 use Rattle.std.specs.Prelude.{Some, None, slice_get, if◌then◌else◌, vec_capacity}
 use Rattle.std.specs.List.{Contains}
 use Rattle.std.proofs.lemmas.List.{length-map, length-replicate}
-use Rattle.heap_layout.specs.declared.block.Kind.{Kind}
 use Rattle.ideal_heap.specs.Ideal.{IdealHeap}
 use Rattle.object_model.specs.Objects.{HeapState, state_of}
 use Rattle.object_model.specs.Lawful.{IsLawful}
@@ -15,12 +14,11 @@ use Rattle.sessions.specs.Fitting.{allowance_of}
 use Rattle.plan_api.specs.Counting.{session_counts}
 use Rattle.plan_api.specs.Flags.{flags_of, has_cells}
 use Rattle.mutator_core.specs.Machine.{Epoch, first_local, first_local_of}
-use Rattle.heap_layout.specs.declared.block.Kind.TheVariants as kinds
-use Rattle.mutator_core.specs.Epochs.{EpochMayBegin, is_filled}
+use Rattle.mutator_core.specs.Epochs.{EpochMayBegin}
 use Rattle.mutator_calls.specs.declared.need.Mutator.{Mutator}
 use Rattle.plain_row.specs.declared.plain_row.PlainRow.{PlainRow}
 use Rattle.local_allocators.specs.declared.local_seat.LocalSeat.{LocalSeat}
-use Rattle.local_allocators.specs.declared.local_seat.TheConstants.{CLASSES}
+use Rattle.heap_layout.specs.declared.block.TheConstants.{CLASSES}
 use Rattle.block_regions.specs.declared.block_notes.BlockNotes.{BlockNotes}
 use Rattle.heap_users.specs.Users.{mutator_state}
 use Rattle.local_allocators.specs.Seats.{ticket_of}
@@ -31,6 +29,7 @@ use Rattle.block_regions.proofs.Lists.{get-map, get-copy}
 use Rattle.block_regions.proofs.NoteLemmas.{notes-after}
 use Rattle.local_allocators.proofs.OwnedLists.{lists-none}
 use Rattle.plain_world.proofs.CallLemmas.{numbers-mapped}
+use Rattle.plain_world.specs.EmptySeats.{empty_seat}
 use Rattle.heap_users.proofs.Cleared as cleared
 use Rattle.heap_users.proofs.SomeIdeal.{own-local, some-ideal}
 
@@ -56,12 +55,8 @@ young-of false false false false = refl
 pub young-flag : (r : Rules) → (bit_and (flags_of r) 2 == 2) ≡ r.young
 young-flag r = young-of r.moves r.young r.lines (has_cells r.fill)
 
--- a seat without a ticket and blocks
-abbrev pub no_seat : LocalSeat
-no_seat = record { ticket = None; blocks = replicate CLASSES None; over = None }
-
 -- and none of its copies has a ticket
-pub no-ticket : (n k : ℕ) → ticket_of (slice_get (replicate n no_seat) k) ≡ None
+pub no-ticket : (n k : ℕ) → ticket_of (slice_get (replicate n empty_seat) k) ≡ None
 no-ticket zero k = refl
 no-ticket (suc n) zero = refl
 no-ticket (suc n) (suc k) = no-ticket n k
@@ -75,23 +70,11 @@ get-among (y ∷ ys) (suc k) x is = let rest = get-among ys k x is in (suc rest.
 pub same-blocks : {s t : HeapState} → s ≡ t → s.blocks ≡ t.blocks
 same-blocks same = ap (λ (x : HeapState). x.blocks) same
 
--- the plan's kind is one that mutators fill
-kind-filled : (fill : Kind) → FillsHoles fill → IsTrue (is_filled fill)
-kind-filled kinds.Bump fills = refl
-kind-filled kinds.Young fills = refl
-kind-filled kinds.Cells fills = refl
-kind-filled kinds.Immix fills = refl
-kind-filled kinds.Free fills = fills
-kind-filled kinds.Mature fills = fills
-kind-filled kinds.LargeHead fills = fills
-kind-filled kinds.LargeTail fills = fills
-kind-filled kinds.Kept fills = fills
-
 -- the parts of a world as an epoch begins
 pub record IsBegun (r : Rules) (s : HeapState) (ms : List MutatorState) (w : PlainRow) : Type 0 where
   pub heap : state_of w.row ≡ without_stop s
   pub mutators : map mutator_state w.mutators.items ≡ ms
-  pub seats : w.seats.items ≡ replicate (length w.mutators.items) no_seat
+  pub seats : w.seats.items ≡ replicate (length w.mutators.items) empty_seat
   pub known : BlockNotes
   pub are : AreNotes r.fill s known
   pub notes : w.notes ≡ known.notes
@@ -110,7 +93,7 @@ module _ (r : Rules) (s : HeapState) (ms : List MutatorState) (w : PlainRow) (be
   ready = record {
     lawful = cleared.lawful-cleared s lawful;
     remembers = cleared.remembers-cleared s lawful r remembers;
-    fills = kind-filled r.fill fills;
+    fills = fills;
     stop = cleared.stop s lawful;
     tickets = cleared.tickets s lawful;
     few = subst (λ n. n ≤ MAX_MUTATORS) (sym (length-map w.mutators.items mutator_state) ∙ ap length begun.mutators) few;
@@ -128,11 +111,11 @@ module _ (r : Rules) (s : HeapState) (ms : List MutatorState) (w : PlainRow) (be
     counts = ap (λ c. session_counts c) begun.counts ∙ begun.are.counts ∙ sym (cleared.counts-cleared s lawful);
   }
 
-  no-seat : (k : ℕ) (x : LocalSeat) → slice_get w.seats.items k ≡ Some x → x ≡ no_seat
-  no-seat k x some = get-copy (length w.mutators.items) no_seat x k (ap (λ xs. slice_get xs k) (sym begun.seats) ∙ some)
+  no-seat : (k : ℕ) (x : LocalSeat) → slice_get w.seats.items k ≡ Some x → x ≡ empty_seat
+  no-seat k x some = get-copy (length w.mutators.items) empty_seat x k (ap (λ xs. slice_get xs k) (sym begun.seats) ∙ some)
 
   -- no mutator allocates in a block
-  no-cursors : (number : ℕ) → HasCursors w.fill w.notes.items (state_of w.row) number no_seat
+  no-cursors : (number : ℕ) → HasCursors w.fill w.notes.items (state_of w.row) number empty_seat
   no-cursors number = record {
     classes = refl;
     each = λ class block is. absurd (let wrong : Some block ≡ None = get-copy CLASSES None (Some block) class is in cc);
@@ -153,7 +136,7 @@ module _ (r : Rules) (s : HeapState) (ms : List MutatorState) (w : PlainRow) (be
     epoch = record { ready = ready; represents = cleared.represents-cleared s lawful ms i stands; steps = tt };
     heap = begun.heap;
     numbers = sym (numbers-mapped w.mutators.items) ∙ ap numbers_of begun.mutators;
-    seats = ap length begun.seats ∙ length-replicate (length w.mutators.items) no_seat;
+    seats = ap length begun.seats ∙ length-replicate (length w.mutators.items) empty_seat;
     each = state-begun;
     cursors = λ k m x some seat. subst (HasCursors w.fill w.notes.items (state_of w.row) m.number) (sym (no-seat k x seat)) (no-cursors m.number);
     notes = subst (λ f. HasNotes f (state_of w.row) w.notes.items) (sym begun.fill) (subst (λ t. HasNotes r.fill t w.notes.items) (sym begun.heap) notes-begun);

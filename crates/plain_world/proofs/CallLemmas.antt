@@ -5,7 +5,7 @@ use Rattle.std.proofs.lemmas.List.{length-map}
 use Rattle.object_model.specs.Objects.{HeapState, state_of, word_at, IsHeld, is_unlogged}
 use Rattle.object_model.specs.Graphs.{numbers_of}
 use Rattle.object_model.specs.Ages.{is_old}
-use Rattle.mutator_core.proofs.Ending.{log-seen}
+use Rattle.mutator_core.proofs.EpochEnds.{log-seen}
 use Rattle.mutator_core.proofs.Regions.{stays-later}
 use Rattle.std.specs.Prelude.{Option, Some, None, slice_get}
 use Rattle.ideal_heap.specs.Ideal.{IdealHeap}
@@ -28,7 +28,10 @@ use Rattle.local_allocators.specs.NotedRegions.{region_of, region_noted, regions
 use Rattle.block_regions.proofs.Lists.{get-some, get-below}
 use Rattle.plain_row.proofs.Turns as turns
 use Rattle.plain_row.specs.Steps.{MayStoreUnlogged}
-use Rattle.plain_row.specs.Worlds.{IsAt, RowIsBetweenCalls, IsAfter, Goes, births_in}
+use Rattle.plain_row.specs.Worlds.{IsAt, RowIsBetweenCalls, MayCall, IsAfter, Goes, births_in}
+use Rattle.sessions.specs.Plans.{Rules}
+use Rattle.plain_world.specs.declared.plain_world.PlainWorld.{PlainWorld}
+use Rattle.plain_world.specs.Calls.{IsOpen, HasPlace, LeavesRest, StaysOpen, HasEffect}
 use Rattle.mutator_core.proofs.Regions.{history-append}
 
 -- whose turn it is says nothing of the epoch
@@ -173,3 +176,36 @@ module _ (a b : PlainRow) (m : ℕ) (e : Effect) (idle : RowIsBetweenCalls a) (p
     same.1,
     subst (λ o. KeepsRegions (regions_of a.notes.items (slice_get a.seats.items k)) (regions_of b.notes.items o)) (sym same.1) (seat-keeps (slice_get a.seats.items k) refl),
   )
+
+-- what steps of this effect leave as it was
+pub rest-after : {P : Type 0} (rules : Rules) (old new : PlainWorld P) (m : ℕ) (e : Effect) → IsOpen rules old → HasPlace old m
+    → Goes (record old.row { turn = m }) e new.row → LeavesRest old m e new
+rest-after rules old new m e is_open place goes = record {
+  stop = goes.stop;
+  budget = goes.budget;
+  blocks = goes.blocks;
+  births = births-after old.row new.row m e goes;
+  ticket = ticket-after old.row new.row m e goes;
+  regions = regions-after old.row new.row m e goes;
+  others = others-after old.row new.row m e is_open.between_calls place goes;
+  objects = objects-after old.row new.row m e is_open.between_calls goes;
+}
+
+pub stays-open : {P : Type 0} (rules : Rules) (old new : PlainWorld P) (m : ℕ) (e : Effect) → IsOpen rules old → RowIsBetweenCalls new.row
+    → Goes (record old.row { turn = m }) e new.row → StaysOpen rules old new
+stays-open rules old new m e is_open idle goes =
+    let same = places-same old.row new.row m e is_open.between_calls goes in record {
+      is_open = record { between_calls = idle; fill = goes.fill ∙ is_open.fill };
+      places = record { count = same.0; numbers = same.1 };
+      plan = young-same old.row new.row m e is_open.between_calls goes;
+    }
+
+pub has-effect : {P : Type 0} (rules : Rules) (old new : PlainWorld P) (m : ℕ) (e : Effect) → IsOpen rules old → HasPlace old m → MayCall new.row
+    → Goes (record old.row { turn = m }) e new.row → HasEffect rules old m e new
+has-effect rules old new m e is_open place ready goes = record {
+  stays = stays-open rules old new m e is_open ready.between_calls goes;
+  history = history-gains old.row new.row m e goes;
+  logged = goes.logged;
+  granted = record { kind = goes.granted; free = goes.free };
+  rest = rest-after rules old new m e is_open place goes;
+}

@@ -36,7 +36,7 @@ use Rattle.mutator_core.proofs.Sums.{free-most}
 use Rattle.mutator_core.proofs.Lists.{contains-cases, contains-none}
 use Rattle.mutator_core.proofs.Fills.{owned-owner}
 use Rattle.mutator_core.proofs.Places.{place-owner}
-use Rattle.mutator_core.proofs.Ending.{log-stopped, log-counted}
+use Rattle.mutator_core.proofs.EpochEnds.{log-stopped, log-counted}
 use Rattle.mutator_core.proofs.GivenBack as back
 use Rattle.mutator_calls.specs.declared.need.Mutator.{Mutator}
 use Rattle.object_model.proofs.Among.{all-to}

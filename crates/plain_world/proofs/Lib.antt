@@ -3,3 +3,4 @@ pub mod CallLemmas
 pub mod AllocationCalls
 pub mod Begun
 pub mod Closed
+pub mod HeldRegisters

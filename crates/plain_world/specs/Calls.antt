@@ -1,11 +1,12 @@
 -- What the calls of a world promise.
 use Rattle.std.specs.Prelude.{◌≡◌, ◌≢◌, ℕ, ◌+◌, ◌<◌, ◌≤◌, Bool, true, false, ◌&&◌, not, Option, List, [], ◌∷◌, ◌++◌, map, length, slice_get, slice_index}
 use Rattle.std.specs.List.{Contains}
+use Rattle.heap_layout.specs.declared.layout.TheConstants.{BUDGET_WORD, STOP_WORD}
 use Rattle.heap_layout.specs.declared.block.Kind.{Kind}
 use Rattle.heap_layout.specs.declared.block.Kind.TheVariants as kinds
 use Rattle.ideal_heap.specs.declared.command.Command.{Command}
 use Rattle.ideal_heap.specs.declared.command.Command.TheVariants as command
-use Rattle.ideal_heap.specs.declared.reply.Reply.TheVariants as reply
+use Rattle.ideal_heap.specs.declared.reply.Reply.TheVariants as replies
 use Rattle.ideal_heap.specs.declared.name.Name.{Name}
 use Rattle.ideal_heap.specs.declared.reply.Reply.{Reply}
 use Rattle.ideal_heap.specs.Ideal.{IdealHeap}
@@ -16,8 +17,8 @@ use Rattle.object_model.specs.Graphs.{MutatorState}
 use Rattle.object_model.specs.Ages.{is_old}
 use Rattle.sessions.specs.Plans.{Rules}
 use Rattle.mutator_core.specs.Machine.{Epoch}
-use Rattle.mutator_calls.specs.Effects.{Effect, draws}
-use Rattle.mutator_calls.specs.Allocating.{Books, births_with, Draws, FindsRoom}
+use Rattle.mutator_calls.specs.Effects.{Effect, Answered, enters, logs, draws}
+use Rattle.mutator_calls.specs.Allocating.{Books, births_with, Draws, IsSpent, Search, FindsRoom}
 use Rattle.plain_world.specs.declared.plain_world.PlainWorld.{PlainWorld}
 use Rattle.local_allocators.specs.declared.local_seat.LocalSeat.{LocalSeat}
 use Rattle.block_regions.specs.declared.block_notes.BlockNote.{BlockNote}
@@ -63,7 +64,8 @@ pub record IsOpen {P : Type 0} (rules : Rules) (w : PlainWorld P) : Type 0 where
   pub between_calls : RowIsBetweenCalls w.row
   pub fill : w.row.fill ≡ rules.fill
 
--- the world is in the epoch p, which began with the ideal heap i, and the history since then is the part
+-- the world is in the epoch p, which began with the ideal heap i, and the history since then is the
+-- part
 abbrev pub HasHistory : {P : Type 0} → PlainWorld P → Epoch → IdealHeap → List Entry → Type 0
 HasHistory w p i part = IsAfter p i part w.row
 
@@ -72,14 +74,20 @@ abbrev pub AddsEntries : {P : Type 0} → PlainWorld P → List Entry → PlainW
 AddsEntries old es new = (p : Epoch) (i : IdealHeap) (part : List Entry) → HasHistory old p i part
     → HasHistory new p i (part ++ es)
 
+-- the entries of the mutator with this number, each a command with its reply
+abbrev pub numbered_entries : ℕ → List Answered → List Entry
+numbered_entries number es = map (λ x. entry number x.command x.reply) es
+
 -- the history gets one entry, of the mutator at place m
 abbrev pub AddsEntry : {P : Type 0} → PlainWorld P → ℕ → Command → Reply → PlainWorld P → Type 0
-AddsEntry old m command reply new = AddsEntries old (entry (mutator_number_at old m) command reply ∷ []) new
+AddsEntry old m command reply new =
+    AddsEntries old (entry (mutator_number_at old m) command reply ∷ []) new
 
 -- the same mutators, at the same places
 pub record SamePlaces {P : Type 0} (old new : PlainWorld P) : Type 0 where
   pub count : places_of new ≡ places_of old
-  pub numbers : map (λ m. m.number) new.row.mutators.items ≡ map (λ m. m.number) old.row.mutators.items
+  pub numbers : map (λ m. m.number) new.row.mutators.items
+      ≡ map (λ m. m.number) old.row.mutators.items
 
 -- the plan is generational
 abbrev pub is_generational : {P : Type 0} → PlainWorld P → Bool
@@ -97,10 +105,11 @@ pub record IsOldUnlogged {P : Type 0} (w : PlainWorld P) (address : ℕ) : Type 
   pub unlogged : is_unlogged (heap_of_world w) address ≡ true
 
 -- these blocks were Free and are not, and no other block became or ceased to be Free
-pub record Grants {P : Type 0} (old : PlainWorld P) (blocks : List ℕ) (new : PlainWorld P) : Type 0 where
-  pub kind : (k : ℕ) → has_kind (heap_of_world new) k kinds.Free
-      ≡ (has_kind (heap_of_world old) k kinds.Free && not (is_in_list blocks k))
-  pub free : (k : ℕ) → Contains blocks k → HasKind (heap_of_world old) k kinds.Free
+pub record Grants {P : Type 0} (old : PlainWorld P) (blocks : List ℕ) (new : PlainWorld P) : Type 0
+  where
+    pub kind : (k : ℕ) → has_kind (heap_of_world new) k kinds.Free
+        ≡ (has_kind (heap_of_world old) k kinds.Free && not (is_in_list blocks k))
+    pub free : (k : ℕ) → Contains blocks k → HasKind (heap_of_world old) k kinds.Free
 
 -- the accounts of the mutator at a place
 abbrev pub books_at : {P : Type 0} → PlainWorld P → ℕ → Books
@@ -128,11 +137,13 @@ regions_at w m = regions_of (notes_of w) (seat_at w m)
 
 -- block k has no room for an object of the size that the mutator at place m may fill
 abbrev pub HasNoRoom : {P : Type 0} → PlainWorld P → ℕ → ℕ → ℕ → Type 0
-HasNoRoom w m size k = LacksBlock w.row.fill (regions_at w m) (heap_of_world w) (mutator_number_at w m) size k
+HasNoRoom w m size k =
+    LacksBlock w.row.fill (regions_at w m) (heap_of_world w) (mutator_number_at w m) size k
 
 -- no region that the mutator at place m tries for the size has room
 abbrev pub HasFullRegions : {P : Type 0} → PlainWorld P → ℕ → ℕ → Type 0
-HasFullRegions w m size = LacksRegions w.row.fill (regions_at w m) (heap_of_world w) (mutator_number_at w m) size
+HasFullRegions w m size =
+    LacksRegions w.row.fill (regions_at w m) (heap_of_world w) (mutator_number_at w m) size
 
 -- an object of the size overflows the hole region of the mutator at place m
 abbrev pub OverflowsAt : {P : Type 0} → PlainWorld P → ℕ → ℕ → Type 0
@@ -150,7 +161,8 @@ KeepsRegionsAt old m new = KeepsRegions (regions_at old m) (regions_at new m)
 abbrev pub IsNotFree : {P : Type 0} → PlainWorld P → ℕ → Type 0
 IsNotFree w k = HasKind (heap_of_world w) k kinds.Free → ⊥
 
--- the kind of the blocks that mutators fill, and the number of Free blocks that they may take in the epoch
+-- the kind of the blocks that mutators fill, and the number of Free blocks that they may take in
+-- the epoch
 abbrev pub fill_of : {P : Type 0} → PlainWorld P → Kind
 fill_of w = w.row.fill
 
@@ -159,14 +171,16 @@ epoch_allowance w = w.row.allowance
 
 -- the stop word and the budget word
 abbrev pub stop_word : {P : Type 0} → PlainWorld P → ℕ
-stop_word w = word_at (heap_of_world w) 0
+stop_word w = word_at (heap_of_world w) STOP_WORD
 
 abbrev pub budget_word : {P : Type 0} → PlainWorld P → ℕ
-budget_word w = word_at (heap_of_world w) 1
+budget_word w = word_at (heap_of_world w) BUDGET_WORD
 
--- Steps of this effect, of the mutator at place m, change stop word, budget word, block words, births, tickets and regions
--- so, and nothing of the other mutators. Each object stays where it is, with its three header words.
-pub record LeavesRest {P : Type 0} (old : PlainWorld P) (m : ℕ) (e : Effect) (new : PlainWorld P) : Type 0 where
+-- Steps of this effect, of the mutator at place m, change stop word, budget word, block words,
+-- births, tickets and regions so, and nothing of the other mutators. Each object stays where it is,
+-- with its three header words.
+pub record LeavesRest {P : Type 0} (old : PlainWorld P) (m : ℕ) (e : Effect)
+    (new : PlainWorld P) : Type 0 where
   pub stop : stop_word new ≡ stop_after e.raised (mutator_number_at old m) (stop_word old)
   pub budget : budget_word new ≡ budget_word old + e.drawn
   pub blocks : (k : ℕ) → k < (heap_of_world old).blocks → is_in_list e.taken k ≡ false
@@ -174,10 +188,56 @@ pub record LeavesRest {P : Type 0} (old : PlainWorld P) (m : ℕ) (e : Effect) (
   pub births : births_at new m ≡ births_at old m + births_in e.entries
   pub ticket : e.drawn ≡ 0 → e.granted ≡ [] → ticket_at new m ≡ ticket_at old m
   pub regions : e.moved ≡ false → KeepsRegionsAt old m new
-  pub others : (k : ℕ) → k ≢ m → (slice_get new.row.mutators.items k ≡ slice_get old.row.mutators.items k)
+  pub others : (k : ℕ) → k ≢ m
+      → (slice_get new.row.mutators.items k ≡ slice_get old.row.mutators.items k)
       × (seat_at new k ≡ seat_at old k) × KeepsRegionsAt old k new
   pub objects : (x : ℕ) → IsHeld (heap_of_world old) x → IsHeld (heap_of_world new) x
-      × ((j : ℕ) → j < HEADER_WORDS → word_at (heap_of_world new) (x + j) ≡ word_at (heap_of_world old) (x + j))
+      × ((j : ℕ) → j < HEADER_WORDS
+      → word_at (heap_of_world new) (x + j) ≡ word_at (heap_of_world old) (x + j))
+
+-- The world is between two calls again, with the same mutators at the same places, under the same
+-- plan.
+pub record StaysOpen {P : Type 0} (rules : Rules) (old new : PlainWorld P) : Type 0 where
+  pub is_open : IsOpen rules new
+  pub places : SamePlaces old new
+  pub plan : is_generational new ≡ is_generational old
+
+-- A call of the mutator at a place had this effect.
+pub record HasEffect {P : Type 0} (rules : Rules) (old : PlainWorld P) (place : ℕ) (e : Effect)
+    (new : PlainWorld P) : Type 0 where
+  pub stays : StaysOpen rules old new
+  -- the history has the entries of the effect more
+  pub history : AddsEntries old (numbered_entries (mutator_number_at old place) e.entries) new
+  -- the objects of the effect are logged, and no others
+  pub logged : Logs old e.logged new
+  -- the Free blocks of the effect are taken, and no others
+  pub granted : Grants old e.granted new
+  -- nothing else changes but what such an effect changes
+  pub rest : LeavesRest old place e new
+
+-- A call of the mutator at a place entered the command with this reply, and changed nothing else.
+abbrev pub EntersCommand : {P : Type 0} → Rules → PlainWorld P → ℕ → Command → Reply → PlainWorld P
+    → Type 0
+EntersCommand rules old place command reply new =
+    HasEffect rules old place (enters command reply) new
+
+-- The object-remembering barrier of a store with this reply into the object at the address.
+pub data LogsStore {P : Type 0} (old : PlainWorld P) (address : ℕ) (reply : Reply) (logged : List ℕ)
+    : Type 0 where
+  -- logs nothing, if the store is not made, or the object is not old, or it is logged already
+  nothing_logged : logged ≡ [] → (reply ≡ replies.Done → IsOldUnlogged old address → ⊥)
+      → LogsStore old address reply logged
+  -- logs the object
+  object_logged : logged ≡ address ∷ [] → reply ≡ replies.Done → IsOldUnlogged old address
+      → LogsStore old address reply logged
+
+-- A call of the mutator at a place entered a store of register v into reference i of the object in
+-- register s with this reply, and logged the object if the barrier demands it.
+pub record EntersStore {P : Type 0} (rules : Rules) (old : PlainWorld P) (place s i v : ℕ)
+    (reply : Reply) (new : PlainWorld P) : Type 0 where
+  pub logged : List ℕ
+  pub call : HasEffect rules old place (logs logged (command.Put s i v) reply) new
+  pub barrier : LogsStore old (register_in old place s) reply logged
 
 -- the heap, the mutators, their tickets and their regions are unchanged
 pub record IsUnchanged {P : Type 0} (old new : PlainWorld P) : Type 0 where
@@ -192,32 +252,49 @@ AllocatesAt w m size k = TriesBlock w.row.fill (regions_at w m) size k
 
 -- no block in which the mutator at place m tries a region for the size has room for it
 abbrev pub HasSpentBlocks : {P : Type 0} → PlainWorld P → ℕ → ℕ → Type 0
-HasSpentBlocks w m size = (k : ℕ) → AllocatesAt w m size k → HasNoRoom w m size k
+HasSpentBlocks w m size = IsSpent (AllocatesAt w m size) (HasNoRoom w m size)
 
--- The mutator at place m allocates an object of this name: it takes these blocks, of which these were Free, and draws so
--- many tickets.
-pub record Allocates {P : Type 0} (old : PlainWorld P) (m d r q : ℕ) (n : Name) (new : PlainWorld P) : Type 0 where
+-- what the search of the mutator at place m reads for room of a size
+abbrev pub search_at : {P : Type 0} → PlainWorld P → ℕ → ℕ → PlainWorld P → Search
+search_at old m size new = record {
+  lacks = HasNoRoom new m size;
+  used = IsNotFree new;
+  before = AllocatesAt old m size;
+  now = AllocatesAt new m size;
+  next = λ t. t ≡ budget_word old;
+  full = HasFullRegions old m size;
+  spent = HasSpentBlocks old m size;
+  overflow = OverflowsAt old m size;
+  kept = KeepsHoleAt old m new;
+  blocks = (heap_of_world new).blocks;
+  allowance = epoch_allowance new;
+  old = ticket_at old m;
+  new = ticket_at new m;
+}
+
+-- The mutator at place m allocates an object of this name: it takes these blocks, of which these
+-- were Free, and draws so many tickets.
+pub record Allocates {P : Type 0} (old : PlainWorld P) (m d r q : ℕ) (n : Name)
+    (new : PlainWorld P) : Type 0 where
   pub taken : List ℕ
   pub granted : List ℕ
   pub drawn : ℕ
-  pub history : AddsEntry old m (command.New d r q) (reply.New n) new
+  pub history : AddsEntry old m (command.New d r q) (replies.New n) new
   pub grants : Grants old granted new
   pub rest : LeavesRest old m (births_with d r q n taken granted drawn) new
-  pub finds : FindsRoom (HasNoRoom new m (size_of r q)) (IsNotFree new) (AllocatesAt old m (size_of r q))
-      (AllocatesAt new m (size_of r q))
-      (λ t. t ≡ budget_word old) (HasFullRegions old m (size_of r q)) (HasSpentBlocks old m (size_of r q)) (OverflowsAt old m (size_of r q))
-      (KeepsHoleAt old m new)
-      (heap_of_world new).blocks (epoch_allowance new) (ticket_at old m) (ticket_at new m) taken granted drawn
+  pub finds : FindsRoom (search_at old m (size_of r q) new) taken granted drawn
   pub placed : IsPlacedIn (view_at old m) (view_at new m) (register_in new m d) (size_of r q)
 
--- The mutator at place m allocates no object of this size, and keeps its regions. It draws a ticket or none; none if the
--- object is large. Else no region that it tries has room, nor has a block with such a region.
-pub record Refuses {P : Type 0} (old : PlainWorld P) (m size : ℕ) (new : PlainWorld P) : Type 0 where
-  pub drawn : ℕ
-  pub history : AddsEntries old [] new
-  pub grants : Grants old [] new
-  pub rest : LeavesRest old m (draws drawn) new
-  pub tickets : Draws (λ t. t ≡ budget_word old) (ticket_at old m) (ticket_at new m) drawn
-  pub large : MAX_MEDIUM_WORDS < size → drawn ≡ 0
-  pub full : size ≤ MAX_MEDIUM_WORDS → HasFullRegions old m size
-  pub spent : size ≤ MAX_MEDIUM_WORDS → HasSpentBlocks old m size
+-- The mutator at place m allocates no object of this size, and keeps its regions. It draws a ticket
+-- or none; none if the object is large. Else no region that it tries has room, nor has a block with
+-- such a region.
+pub record Refuses {P : Type 0} (old : PlainWorld P) (m size : ℕ) (new : PlainWorld P) : Type 0
+  where
+    pub drawn : ℕ
+    pub history : AddsEntries old [] new
+    pub grants : Grants old [] new
+    pub rest : LeavesRest old m (draws drawn) new
+    pub tickets : Draws (λ t. t ≡ budget_word old) (ticket_at old m) (ticket_at new m) drawn
+    pub large : MAX_MEDIUM_WORDS < size → drawn ≡ 0
+    pub full : size ≤ MAX_MEDIUM_WORDS → HasFullRegions old m size
+    pub spent : size ≤ MAX_MEDIUM_WORDS → HasSpentBlocks old m size

@@ -4,7 +4,7 @@
 //! notes; `close` takes them apart. The stop word and the budget word are 0 at the beginning; at
 //! the end no block has an owner, and notes and counts are right for the heap that is handed on.
 
-ghost use Rattle.std.specs.Prelude.{◌≡◌, ◌+◌, ◌<◌, ◌≤◌, ℕ, List, [], ◌∷◌, Some, None, length, map, IfOk};
+ghost use Rattle.std.specs.Prelude.{◌≡◌, ◌+◌, ◌<◌, ◌≤◌, ℕ, List, [], ◌∷◌, Some, None, length, map, replicate, IfOk};
 ghost use Rattle.ideal_heap.specs.Ideal.{IdealHeap};
 ghost use Rattle.ideal_heap.specs.Runs.{Entry};
 ghost use Rattle.object_model.specs.Graphs.{Represents};
@@ -19,13 +19,15 @@ ghost use Rattle.heap_users.specs.Users.{mutator_state};
 ghost use Rattle.block_regions.specs.Notes.{AreNotes};
 ghost use Rattle.plain_world.specs.Calls.{heap_of_world, mutators_of_world, is_generational, fill_of, births_at, ticket_at, budget_word, places_of, HasPlace, IsOpen, HasHistory};
 ghost use Rattle.heap_users.specs.Beginnings.{MayUse, without_stop, epoch_of};
+ghost use Rattle.plain_world.specs.EmptySeats.{empty_seat};
 ghost use Rattle.plain_world.specs.Endings.{GrantsWithTickets};
 
 use crate::closing::{give_back, unused_tickets};
 use bitflags::Flags;
 use block_regions::{BlockNotes, copies};
+use heap_layout::{BUDGET_WORD, CLASSES, STOP_WORD};
 use ideal_heap::MAX_MUTATORS;
-use local_allocators::{CLASSES, LocalSeat};
+use local_allocators::LocalSeat;
 use mutator_calls::Mutator;
 use object_model::Heap;
 use plain_row::PlainRow;
@@ -41,6 +43,20 @@ use std::marker::PhantomData;
 pub struct PlainWorld<P> {
     pub(crate) row: PlainRow,
     plan: PhantomData<P>,
+}
+
+/// What `count` mutators have as an epoch begins: no ticket, and no block.
+///
+/// Fails if memory runs out.
+pub fn new_seats(alloc: Global, count: usize) -> Result<Vec<LocalSeat>, AllocError>
+    ensures { IfOk result (λ v. v.items ≡ replicate count empty_seat) }
+{
+    let seat = LocalSeat {
+        ticket: None,
+        blocks: [None; CLASSES],
+        over: None,
+    };
+    copies(alloc, seat, count)
 }
 
 impl<P: Plan> PlainWorld<P> {
@@ -100,15 +116,38 @@ impl<P: Plan> PlainWorld<P> {
             → HasHistory w (epoch_of P.rules (heap_state heap) (map mutator_state mutators.items))
             i []) }
     {
-        let seat = LocalSeat {
-            ticket: None,
-            blocks: [None; CLASSES],
-            over: None,
-        };
-        let seats = copies(alloc, seat, mutators.len())?;
+        let seats = new_seats(alloc, mutators.len())?;
+        Ok(PlainWorld::begin_seated(heap, mutators, notes, seats))
+    }
+
+    /// Begins an epoch as `begin_with` does, with seats that `new_seats` made for the mutators.
+    /// Takes no memory.
+    pub fn begin_seated(
+        heap: Heap,
+        mutators: Vec<Mutator>,
+        notes: BlockNotes,
+        seats: Vec<LocalSeat>,
+    ) -> PlainWorld<P>
+        requires few { length mutators.items ≤ MAX_MUTATORS }
+        requires users { MayUse (heap_state heap) (map mutator_state mutators.items) }
+        requires remembers { Remembers P.rules (heap_state heap) }
+        requires notes { AreNotes P.rules.fill (heap_state heap) notes }
+        requires seats { seats.items ≡ replicate (length mutators.items) empty_seat }
+        ensures open { IsOpen P.rules result }
+        ensures mutators { mutators_of_world result ≡ map mutator_state mutators.items }
+        ensures places { places_of result ≡ length mutators.items }
+        ensures plan { is_generational result ≡ P.rules.young }
+        ensures fill { fill_of result ≡ P.rules.fill }
+        ensures heap { heap_of_world result ≡ without_stop (heap_state heap) }
+        ensures tickets { (k : ℕ) → ticket_at result k ≡ None }
+        ensures begins { (i : IdealHeap)
+            → Represents (heap_state heap) (map mutator_state mutators.items) i
+            → HasHistory result
+            (epoch_of P.rules (heap_state heap) (map mutator_state mutators.items)) i [] }
+    {
         let mut row = heap.into_row();
-        row.words[0] = 0;
-        row.words[1] = 0;
+        row.words[STOP_WORD] = 0;
+        row.words[BUDGET_WORD] = 0;
         let BlockNotes {
             counts,
             notes,
@@ -126,10 +165,10 @@ impl<P: Plan> PlainWorld<P> {
             young: P::FLAGS.contains(PlanFlags::YOUNG),
             allowance: counts.allowance(P::reserve()),
         };
-        Ok(PlainWorld {
+        PlainWorld {
             row,
             plan: PhantomData,
-        })
+        }
     }
 
     /// The mutators, with their births and registers. A call takes a place in this list.
@@ -200,7 +239,7 @@ impl<P: Plan> PlainWorld<P> {
             ..
         } = self.row;
         // The Free blocks taken are the tickets drawn but for the unused ones.
-        counts.free = counts.free + unused_tickets(&seats) - row.words[1] as u32;
+        counts.free = counts.free + unused_tickets(&seats) - row.words[BUDGET_WORD] as u32;
         give_back::<P>(&mut row, &mut notes, &owned);
         owned.clear();
         let notes = BlockNotes {

@@ -10,10 +10,10 @@ ghost use Rattle.ideal_heap.specs.declared.command.Command.TheVariants as comman
 ghost use Rattle.ideal_heap.specs.declared.reply.Reply.TheVariants as reply;
 ghost use Rattle.object_model.specs.Graphs.{numbers_of};
 ghost use Rattle.object_model.specs.Objects.{size_of};
-ghost use Rattle.mutator_calls.specs.Effects.{enters, raises};
+ghost use Rattle.mutator_calls.specs.Effects.{raises};
 ghost use Rattle.mutator_calls.specs.Stopping.{stop_of};
 ghost use Rattle.mutator_calls.specs.Allocating.{IsCause, IsNeedOf, MatchAllocated};
-ghost use Rattle.plain_world.specs.Calls.{mutators_of_world, is_generational, births_at, register_in, books_at, HasPlace, IsOpen, AddsEntries, AddsEntry, SamePlaces, Logs, Grants, LeavesRest, IsUnchanged, IsOldUnlogged, Allocates, Refuses, HasNoRoom, stop_word};
+ghost use Rattle.plain_world.specs.Calls.{mutators_of_world, births_at, books_at, HasPlace, IsOpen, AddsEntries, StaysOpen, HasEffect, EntersCommand, EntersStore, Logs, IsUnchanged, Allocates, Refuses, HasNoRoom, stop_word};
 
 use crate::plain_world::PlainWorld;
 use ideal_heap::{GLOBALS, MAX_NUMS, MAX_REFS, REGISTERS, Reply};
@@ -27,9 +27,7 @@ impl<P: Plan> PlainWorld<P> {
     pub fn poll(&mut self, place: u32) -> Polled
         requires open { IsOpen P.rules self.old }
         requires place { HasPlace self.old place }
-        ensures open { IsOpen P.rules self.new }
-        ensures places { SamePlaces self.old self.new }
-        ensures plan { is_generational self.new ≡ is_generational self.old }
+        ensures stays { StaysOpen P.rules self.old self.new }
         ensures history { AddsEntries self.old [] self.new }
         ensures same { IsUnchanged self.old self.new }
         ensures stop { stop_word self.old ≡ stop_of result }
@@ -44,13 +42,7 @@ impl<P: Plan> PlainWorld<P> {
     pub fn raise(&mut self, place: u32)
         requires open { IsOpen P.rules self.old }
         requires place { HasPlace self.old place }
-        ensures open { IsOpen P.rules self.new }
-        ensures places { SamePlaces self.old self.new }
-        ensures plan { is_generational self.new ≡ is_generational self.old }
-        ensures history { AddsEntries self.old [] self.new }
-        ensures logged { Logs self.old [] self.new }
-        ensures granted { Grants self.old [] self.new }
-        ensures rest { LeavesRest self.old place raises self.new }
+        ensures { HasEffect P.rules self.old place raises self.new }
     {
         self.row.turn = place as usize;
         calls::raise(&mut self.row);
@@ -71,9 +63,7 @@ impl<P: Plan> PlainWorld<P> {
         requires refs { refs ≤ MAX_REFS }
         requires nums { nums ≤ MAX_NUMS }
         requires births { births_at self.old place + 1 < 2 ^ 32 }
-        ensures open { IsOpen P.rules self.new }
-        ensures places { SamePlaces self.old self.new }
-        ensures plan { is_generational self.new ≡ is_generational self.old }
+        ensures stays { StaysOpen P.rules self.old self.new }
         ensures made { MatchAllocated result
             (λ n. Allocates self.old place d refs nums n self.new)
             (λ need. Refuses self.old place (size_of refs nums) self.new) }
@@ -94,13 +84,7 @@ impl<P: Plan> PlainWorld<P> {
         requires place { HasPlace self.old place }
         requires target { d < REGISTERS }
         requires source { s < REGISTERS }
-        ensures open { IsOpen P.rules self.new }
-        ensures places { SamePlaces self.old self.new }
-        ensures plan { is_generational self.new ≡ is_generational self.old }
-        ensures history { AddsEntry self.old place (command.Get d s i) result self.new }
-        ensures logged { Logs self.old [] self.new }
-        ensures granted { Grants self.old [] self.new }
-        ensures rest { LeavesRest self.old place (enters (command.Get d s i) result) self.new }
+        ensures { EntersCommand P.rules self.old place (command.Get d s i) result self.new }
     {
         self.row.turn = place as usize;
         calls::get(&mut self.row, d, s, i)
@@ -113,17 +97,7 @@ impl<P: Plan> PlainWorld<P> {
         requires place { HasPlace self.old place }
         requires target { s < REGISTERS }
         requires source { v < REGISTERS }
-        ensures open { IsOpen P.rules self.new }
-        ensures places { SamePlaces self.old self.new }
-        ensures plan { is_generational self.new ≡ is_generational self.old }
-        ensures history { AddsEntry self.old place (command.Put s i v) result self.new }
-        ensures logged { (logged : List ℕ) × Logs self.old logged self.new
-            × (((logged ≡ []) × (result ≡ reply.Done
-            → IsOldUnlogged self.old (register_in self.old place s) → ⊥))
-            ⊎ ((logged ≡ register_in self.old place s ∷ []) × (result ≡ reply.Done)
-            × IsOldUnlogged self.old (register_in self.old place s))) }
-        ensures granted { Grants self.old [] self.new }
-        ensures rest { LeavesRest self.old place (enters (command.Put s i v) result) self.new }
+        ensures { EntersStore P.rules self.old place s i v result self.new }
     {
         self.row.turn = place as usize;
         calls::put(&mut self.row, s, i, v)
@@ -134,13 +108,7 @@ impl<P: Plan> PlainWorld<P> {
         requires open { IsOpen P.rules self.old }
         requires place { HasPlace self.old place }
         requires register { s < REGISTERS }
-        ensures open { IsOpen P.rules self.new }
-        ensures places { SamePlaces self.old self.new }
-        ensures plan { is_generational self.new ≡ is_generational self.old }
-        ensures history { AddsEntry self.old place (command.Read s j) result self.new }
-        ensures logged { Logs self.old [] self.new }
-        ensures granted { Grants self.old [] self.new }
-        ensures rest { LeavesRest self.old place (enters (command.Read s j) result) self.new }
+        ensures { EntersCommand P.rules self.old place (command.Read s j) result self.new }
     {
         self.row.turn = place as usize;
         calls::read(&mut self.row, s, j)
@@ -151,13 +119,7 @@ impl<P: Plan> PlainWorld<P> {
         requires open { IsOpen P.rules self.old }
         requires place { HasPlace self.old place }
         requires register { s < REGISTERS }
-        ensures open { IsOpen P.rules self.new }
-        ensures places { SamePlaces self.old self.new }
-        ensures plan { is_generational self.new ≡ is_generational self.old }
-        ensures history { AddsEntry self.old place (command.Write s j n) result self.new }
-        ensures logged { Logs self.old [] self.new }
-        ensures granted { Grants self.old [] self.new }
-        ensures rest { LeavesRest self.old place (enters (command.Write s j n) result) self.new }
+        ensures { EntersCommand P.rules self.old place (command.Write s j n) result self.new }
     {
         self.row.turn = place as usize;
         calls::write(&mut self.row, s, j, n)
@@ -168,13 +130,7 @@ impl<P: Plan> PlainWorld<P> {
         requires open { IsOpen P.rules self.old }
         requires place { HasPlace self.old place }
         requires register { s < REGISTERS }
-        ensures open { IsOpen P.rules self.new }
-        ensures places { SamePlaces self.old self.new }
-        ensures plan { is_generational self.new ≡ is_generational self.old }
-        ensures history { AddsEntry self.old place (command.Add s j n) result self.new }
-        ensures logged { Logs self.old [] self.new }
-        ensures granted { Grants self.old [] self.new }
-        ensures rest { LeavesRest self.old place (enters (command.Add s j n) result) self.new }
+        ensures { EntersCommand P.rules self.old place (command.Add s j n) result self.new }
     {
         self.row.turn = place as usize;
         calls::add(&mut self.row, s, j, n)
@@ -185,14 +141,8 @@ impl<P: Plan> PlainWorld<P> {
         requires open { IsOpen P.rules self.old }
         requires place { HasPlace self.old place }
         requires register { s < REGISTERS }
-        ensures open { IsOpen P.rules self.new }
-        ensures places { SamePlaces self.old self.new }
-        ensures plan { is_generational self.new ≡ is_generational self.old }
-        ensures history { AddsEntry self.old place (command.Swap s j was next) result self.new }
-        ensures logged { Logs self.old [] self.new }
-        ensures granted { Grants self.old [] self.new }
-        ensures rest { LeavesRest self.old place (enters
-            (command.Swap s j was next) result) self.new }
+        ensures { EntersCommand P.rules self.old place
+            (command.Swap s j was next) result self.new }
     {
         self.row.turn = place as usize;
         calls::swap(&mut self.row, s, j, was, next)
@@ -204,13 +154,7 @@ impl<P: Plan> PlainWorld<P> {
         requires place { HasPlace self.old place }
         requires target { d < REGISTERS }
         requires source { s < REGISTERS }
-        ensures open { IsOpen P.rules self.new }
-        ensures places { SamePlaces self.old self.new }
-        ensures plan { is_generational self.new ≡ is_generational self.old }
-        ensures history { AddsEntry self.old place (command.Move d s) result self.new }
-        ensures logged { Logs self.old [] self.new }
-        ensures granted { Grants self.old [] self.new }
-        ensures rest { LeavesRest self.old place (enters (command.Move d s) result) self.new }
+        ensures { EntersCommand P.rules self.old place (command.Move d s) result self.new }
     {
         self.row.turn = place as usize;
         calls::move_register(&mut self.row, d, s)
@@ -221,13 +165,7 @@ impl<P: Plan> PlainWorld<P> {
         requires open { IsOpen P.rules self.old }
         requires place { HasPlace self.old place }
         requires register { s < REGISTERS }
-        ensures open { IsOpen P.rules self.new }
-        ensures places { SamePlaces self.old self.new }
-        ensures plan { is_generational self.new ≡ is_generational self.old }
-        ensures history { AddsEntry self.old place (command.DropReg s) result self.new }
-        ensures logged { Logs self.old [] self.new }
-        ensures granted { Grants self.old [] self.new }
-        ensures rest { LeavesRest self.old place (enters (command.DropReg s) result) self.new }
+        ensures { EntersCommand P.rules self.old place (command.DropReg s) result self.new }
     {
         self.row.turn = place as usize;
         calls::drop_register(&mut self.row, s)
@@ -239,13 +177,7 @@ impl<P: Plan> PlainWorld<P> {
         requires place { HasPlace self.old place }
         requires register { d < REGISTERS }
         requires global { g < GLOBALS }
-        ensures open { IsOpen P.rules self.new }
-        ensures places { SamePlaces self.old self.new }
-        ensures plan { is_generational self.new ≡ is_generational self.old }
-        ensures history { AddsEntry self.old place (command.Load d g) result self.new }
-        ensures logged { Logs self.old [] self.new }
-        ensures granted { Grants self.old [] self.new }
-        ensures rest { LeavesRest self.old place (enters (command.Load d g) result) self.new }
+        ensures { EntersCommand P.rules self.old place (command.Load d g) result self.new }
     {
         self.row.turn = place as usize;
         calls::load(&mut self.row, d, g)
@@ -257,13 +189,7 @@ impl<P: Plan> PlainWorld<P> {
         requires place { HasPlace self.old place }
         requires register { s < REGISTERS }
         requires global { g < GLOBALS }
-        ensures open { IsOpen P.rules self.new }
-        ensures places { SamePlaces self.old self.new }
-        ensures plan { is_generational self.new ≡ is_generational self.old }
-        ensures history { AddsEntry self.old place (command.Share g s) result self.new }
-        ensures logged { Logs self.old [] self.new }
-        ensures granted { Grants self.old [] self.new }
-        ensures rest { LeavesRest self.old place (enters (command.Share g s) result) self.new }
+        ensures { EntersCommand P.rules self.old place (command.Share g s) result self.new }
     {
         self.row.turn = place as usize;
         calls::share(&mut self.row, g, s)
@@ -274,13 +200,7 @@ impl<P: Plan> PlainWorld<P> {
         requires open { IsOpen P.rules self.old }
         requires place { HasPlace self.old place }
         requires register { s < REGISTERS }
-        ensures open { IsOpen P.rules self.new }
-        ensures places { SamePlaces self.old self.new }
-        ensures plan { is_generational self.new ≡ is_generational self.old }
-        ensures history { AddsEntry self.old place (command.Pin s) result self.new }
-        ensures logged { Logs self.old [] self.new }
-        ensures granted { Grants self.old [] self.new }
-        ensures rest { LeavesRest self.old place (enters (command.Pin s) result) self.new }
+        ensures { EntersCommand P.rules self.old place (command.Pin s) result self.new }
     {
         self.row.turn = place as usize;
         calls::pin(&mut self.row, s)
@@ -291,13 +211,7 @@ impl<P: Plan> PlainWorld<P> {
         requires open { IsOpen P.rules self.old }
         requires place { HasPlace self.old place }
         requires register { s < REGISTERS }
-        ensures open { IsOpen P.rules self.new }
-        ensures places { SamePlaces self.old self.new }
-        ensures plan { is_generational self.new ≡ is_generational self.old }
-        ensures history { AddsEntry self.old place (command.Unpin s) result self.new }
-        ensures logged { Logs self.old [] self.new }
-        ensures granted { Grants self.old [] self.new }
-        ensures rest { LeavesRest self.old place (enters (command.Unpin s) result) self.new }
+        ensures { EntersCommand P.rules self.old place (command.Unpin s) result self.new }
     {
         self.row.turn = place as usize;
         calls::unpin(&mut self.row, s)

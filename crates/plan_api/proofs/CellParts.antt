@@ -8,7 +8,7 @@ use Rattle.sessions.proofs.Holes.{class-room}
 use Rattle.cell_space.specs.FreeCells.{IsNextCell, HasNoCell}
 use Rattle.block_sweeps.specs.Sweeping.{AreApart}
 use Rattle.plan_api.specs.Holes.{IsFirstPart, IsFirstHole}
-use Rattle.plan_api.proofs.Viewing.{held-anyway}
+use Rattle.plan_api.proofs.BlockViews.{held-anyway}
 
 -- whether objects overlap, and which cells are free, does not depend on the collection numbers
 pub apart-anyway : (words : List ℕ) (l : Layout) (number base number' base' k : ℕ) → AreApart (state_over words l number base) k → AreApart (state_over words l number' base') k

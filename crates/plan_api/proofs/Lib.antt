@@ -6,7 +6,7 @@ pub mod Parts
 pub mod ReserveLaws
 pub mod Takings
 pub mod Tallies
-pub mod Viewing
+pub mod BlockViews
 pub mod CopiedKinds
 pub mod EvacuationLaws
 pub mod ReleasedBlocks

@@ -20,7 +20,7 @@ use Rattle.plan_api.specs.Cells.{IsClearCell, IsFirstCell, HasNoClearCell}
 use Rattle.plan_api.specs.Views.{IsLastObject, IsViewOf}
 use Rattle.block_sweeps.specs.Sweeping.{AreApart}
 use Rattle.plan_api.specs.Holes.{IsTailPart, IsLinePart, IsHolePart, IsFirstHole}
-use Rattle.plan_api.proofs.Viewing.{at-offset}
+use Rattle.plan_api.proofs.BlockViews.{at-offset}
 
 -- the results of the searches for a tail, for a run of clear lines and for a cell
 abbrev pub FindsTail : BlockView → ℕ → ℕ → Option Region → Type 0

@@ -19,7 +19,7 @@ use Rattle.object_model.specs.Releasing.{IsReleasable, InSpan}
 use Rattle.object_model.specs.Ages.{Lives}
 use Rattle.sessions.specs.Plans.{Rules}
 use Rattle.block_sweeps.specs.Sweeping.{InBlock, IsOfSpan, IsLineWord, IsUnlogWord, IsMetadata, ChangesOnly, IsFreed, HasNoLiving, Sweeps, SweepsRun, MarksTouched, Unlogs, IsTouchedHere}
-use Rattle.block_sweeps.proofs.Changing.{changes-more, changes-both}
+use Rattle.block_sweeps.proofs.ChangedWords.{changes-more, changes-both}
 use Rattle.plan_api.specs.Releasing.{is_kept_after, word_after, IsReleased, ReleasesIf, Releases}
 
 -- bits of one word of a zone

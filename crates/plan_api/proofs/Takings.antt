@@ -6,12 +6,12 @@ use Rattle.heap_layout.specs.declared.block.Kind.TheVariants as kinds
 use Rattle.heap_layout.specs.Blocks.{kind_code}
 use Rattle.object_model.specs.Objects.{HeapState, block_word, has_kind, HasKind}
 use Rattle.object_model.proofs.OneKind.{kind-code, kind-within}
-use Rattle.sessions.proofs.Placing.{one_if}
+use Rattle.sessions.proofs.PlacedSmallObjects.{one_if}
 use Rattle.sessions.specs.Grants.{BlockCounts, after_taking}
 use Rattle.sessions.specs.Fitting.{free_of, large_of, counts_of}
 use Rattle.plan_api.specs.Taking.{FreeBlockIsTaken, TakesBlocks, none, one_more}
-use Rattle.plan_api.specs.Holes.{has_holes}
 use Rattle.plan_api.proofs.Tallies.{count_below, count-next}
+use Rattle.sessions.specs.Plans.{has_holes}
 
 -- tests that agree below n have the same count there
 pub same-below : (p q : ℕ → Bool) (n : ℕ) → ((j : ℕ) → j < n → p j ≡ q j) → count_below p n ≡ count_below q n

@@ -9,7 +9,7 @@ use Rattle.heap_layout.specs.declared.block.BlockWord.{BlockWord}
 use Rattle.heap_layout.specs.Blocks.{kind_code, code_of, IsValidWord}
 use Rattle.heap_layout.proofs.BlockLemmas.{parts_of_code, kind_code_of}
 use Rattle.object_model.specs.Objects.{HeapState, block_word, has_kind}
-use Rattle.sessions.proofs.Placing.{one_if, count-cons}
+use Rattle.sessions.proofs.PlacedSmallObjects.{one_if, count-cons}
 
 -- a range with one more number
 pub count-more : (p : ℕ → Bool) (a n : ℕ) → count_by p (range_with_len a (suc n)) ≡ count_by p (range_with_len a n) + one_if (p (a + n))

@@ -24,7 +24,8 @@ pub record PlacesInHole (old new : Cursors) (size k at : ℕ) : Type 0 where
   pub offset : at ≡ old.hole.next
   pub after : new ≡ record old { hole = region_after old.hole size }
 
--- The object is at offset `at` of block k: the first words of the overflow region, which is tried and has room.
+-- The object is at offset `at` of block k: the first words of the overflow region, which is tried
+-- and has room.
 pub record PlacesInOverflow (old new : Cursors) (size k at : ℕ) : Type 0 where
   pub tried : TriesOverflow old size
   pub room : RegionHasRoom old.over size
@@ -34,7 +35,8 @@ pub record PlacesInOverflow (old new : Cursors) (size k at : ℕ) : Type 0 where
 
 -- the object is placed in one of the two regions, and the other one stays as it is
 abbrev pub PlacesInRegion : Cursors → Cursors → ℕ → ℕ → ℕ → Type 0
-PlacesInRegion old new size k at = PlacesInHole old new size k at ⊎ PlacesInOverflow old new size k at
+PlacesInRegion old new size k at = PlacesInHole old new size k at
+    ⊎ PlacesInOverflow old new size k at
 
 -- no region that is tried has room
 pub record LacksRoom (cursors : Cursors) (size : ℕ) : Type 0 where

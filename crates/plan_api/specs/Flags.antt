@@ -16,7 +16,8 @@ has_cells kinds.LargeHead = false
 has_cells kinds.LargeTail = false
 has_cells kinds.Kept = false
 
--- the sum of 1 if objects move, 2 if they are young or old, 4 if clear lines are filled, and 8 if cells are
+-- the sum of 1 if objects move, 2 if they are young or old, 4 if clear lines are filled, and 8 if
+-- cells are
 abbrev pub flags_of : Rules → ℕ
 flags_of r = (if r.moves then 1 else 0) + (if r.young then 2 else 0)
     + (if r.lines then 4 else 0) + (if has_cells r.fill then 8 else 0)

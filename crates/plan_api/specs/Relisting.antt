@@ -6,8 +6,9 @@ use Rattle.object_model.specs.Lawful.{LineBitsAreExact, AllLie}
 use Rattle.block_sweeps.specs.Sweeping.{MarksTouched}
 use Rattle.sessions.specs.Plans.{Rules}
 
--- The line bits of block k became those of the lines that objects in it touch, and nothing else changed. Where all objects
--- lie as they may, none reaches in from another block, so the line bits are exact.
+-- The line bits of block k became those of the lines that objects in it touch, and nothing else
+-- changed. Where all objects lie as they may, none reaches in from another block, so the line bits
+-- are exact.
 pub record RelistsLines (s s' : HeapState) (k : ℕ) : Type 0 where
   pub marked : MarksTouched s s' k
   pub exact : AllLie s → LineBitsAreExact s' k

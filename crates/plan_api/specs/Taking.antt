@@ -14,6 +14,8 @@ pub record FreeBlockIsTaken (fill : Kind) (old new : HeapState) (k : ℕ) : Type
 -- n Free blocks were taken, one after another
 pub data TakesBlocks (fill : Kind) (old : HeapState) : HeapState → ℕ → Type 0 where
   none : {new : HeapState} → new.blocks ≡ old.blocks
-      → ((j : ℕ) → j < old.blocks → block_word new j ≡ block_word old j) → TakesBlocks fill old new 0
-  one_more : {mid new : HeapState} {n : ℕ} (k : ℕ) → TakesBlocks fill old mid n → FreeBlockIsTaken fill mid new k
+      → ((j : ℕ) → j < old.blocks → block_word new j ≡ block_word old j)
+      → TakesBlocks fill old new 0
+  one_more : {mid new : HeapState} {n : ℕ} (k : ℕ) → TakesBlocks fill old mid n
+      → FreeBlockIsTaken fill mid new k
       → TakesBlocks fill old new (n + 1)

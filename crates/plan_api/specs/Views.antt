@@ -22,11 +22,13 @@ HasNoObject s k = (x : ℕ) → IsHeld s x → block_at s.blocks x ≡ k → ⊥
 abbrev pub IsObjectsEnd : HeapState → ℕ → ℕ → Type 0
 IsObjectsEnd s k end = (HasNoObject s k × (end ≡ 0)) ⊎ ((a : ℕ) × IsLastObject s k end a)
 
--- v is the view of block k: its block word, its line bits, its start bits, and the end of its last object
+-- v is the view of block k: its block word, its line bits, its start bits, and the end of its last
+-- object
 pub record IsViewOf (s : HeapState) (k : ℕ) (v : BlockView) : Type 0 where
   pub block : k < s.blocks
   pub code : code_of v.word ≡ block_word s k
   pub valid : IsValidWord v.word
   pub lines : (line : ℕ) → line < BLOCK_LINES → bit_in v.lines line ≡ line_marked s k line
-  pub starts : (w : ℕ) → w < BLOCK_WORDS → bit_in v.starts w ≡ is_start s (block_start s.blocks k + w)
+  pub starts : (w : ℕ) → w < BLOCK_WORDS
+      → bit_in v.starts w ≡ is_start s (block_start s.blocks k + w)
   pub end : IsObjectsEnd s k v.end

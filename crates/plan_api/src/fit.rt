@@ -14,12 +14,12 @@ use crate::readers::view;
 use heap_layout::Kind;
 use ideal_heap::{MAX_NUMS, MAX_REFS};
 use large_space::{blocks_for, find_run};
-use object_model::{Heap, MAX_MEDIUM_WORDS};
+use object_model::{HEADER_WORDS, Heap, MAX_MEDIUM_WORDS};
 
 /// Whether the block has a hole with room for `size` words.
 fn has_hole_in(heap: &Heap, block: u32, fill: Kind, size: u32) -> bool
     requires block { block < (heap_state heap.now).blocks }
-    requires least { 3 ≤ size }
+    requires least { HEADER_WORDS ≤ size }
     requires most { size ≤ MAX_MEDIUM_WORDS }
     ensures { IsTrue result ↔ ((at : ℕ) × HasHole fill (heap_state heap.now) block at size) }
 {
@@ -29,7 +29,7 @@ fn has_hole_in(heap: &Heap, block: u32, fill: Kind, size: u32) -> bool
 /// Whether some block of the kind `fill` has a hole with room for `size` words. Stops at the first
 /// such block, and views only blocks of that kind.
 pub fn has_hole(heap: &Heap, fill: Kind, size: u32) -> bool
-    requires least { 3 ≤ size }
+    requires least { HEADER_WORDS ≤ size }
     requires most { size ≤ MAX_MEDIUM_WORDS }
     ensures { IsTrue result ↔ HasSomeHole fill (heap_state heap.now) size }
 {
@@ -44,7 +44,7 @@ pub fn has_hole(heap: &Heap, fill: Kind, size: u32) -> bool
 /// Whether an object of `size` words, at most `MAX_MEDIUM_WORDS`, fits: a Free block may be
 /// granted, or a hole has room.
 pub fn fits_small(heap: &Heap, fill: Kind, reserve: Reserve, size: u32) -> bool
-    requires least { 3 ≤ size }
+    requires least { HEADER_WORDS ≤ size }
     requires most { size ≤ MAX_MEDIUM_WORDS }
     ensures { IsTrue result ↔ (HasSomeHole fill (heap_state heap.now) size
         ⊎ MayGrant (session_reserve reserve) (heap_state heap.now)) }
@@ -69,7 +69,7 @@ pub fn has_run(heap: &Heap, reserve: Reserve, size: u32) -> bool
 /// Whether an object of `size` words fits: up to `MAX_MEDIUM_WORDS` in a hole or a Free block,
 /// above in a run of Free blocks.
 pub fn fits(heap: &Heap, fill: Kind, reserve: Reserve, size: u32) -> bool
-    requires least { 3 ≤ size }
+    requires least { HEADER_WORDS ≤ size }
     requires most { size ≤ size_of MAX_REFS MAX_NUMS }
     ensures { (r : Rules) → r.fill ≡ fill → r.reserve ≡ session_reserve reserve
         → IsTrue result ↔ Fits r (heap_state heap.now) size }

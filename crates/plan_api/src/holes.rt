@@ -12,14 +12,14 @@ use crate::cells::free_cell;
 use cell_space::{cell_size, class_of};
 use heap_layout::{BLOCK_WORDS, Kind, LINE_WORDS, Region};
 use line_marks::first_run;
-use object_model::MAX_MEDIUM_WORDS;
+use object_model::{HEADER_WORDS, MAX_MEDIUM_WORDS};
 
 /// The first part of a hole of the block that has room for `size` words and begins at or after the
 /// offset `from`, in words. `None` if there is none, or if the block is not of the kind `fill`,
 /// which mutators fill. A free cell is always returned whole. Runs of clear lines are filled as in
 /// Immix.
 pub fn first_hole(fill: Kind, view: &BlockView, from: u32, size: u32) -> Option<Region>
-    requires least { 3 ≤ size }
+    requires least { HEADER_WORDS ≤ size }
     requires most { size ≤ MAX_MEDIUM_WORDS }
     ensures { (s : HeapState) (k : ℕ) → IsViewOf s k view.now → AreApart s k
         → IsFirstHole fill s k from size result }
@@ -39,7 +39,7 @@ pub fn first_hole(fill: Kind, view: &BlockView, from: u32, size: u32) -> Option<
 /// The first free cell at or after the offset `from`, if cells of the block's class suit `size`
 /// words.
 fn cell_part(view: &BlockView, from: u32, size: u32) -> Option<Region>
-    requires least { 3 ≤ size }
+    requires least { HEADER_WORDS ≤ size }
     requires most { size ≤ MAX_MEDIUM_WORDS }
     ensures { (s : HeapState) (k : ℕ) → IsViewOf s k view.now
         → view.now.word.kind ≡ Kind.Cells
@@ -74,7 +74,7 @@ fn tail_part(end: u32, from: u32, size: u32) -> Option<Region>
 /// the offset `from`.
 pub(crate) fn clear_lines(lines: &[u64], from: u32, size: u32) -> Option<Region>
     requires words { length lines.now ≡ 4 }
-    requires least { 3 ≤ size }
+    requires least { HEADER_WORDS ≤ size }
     requires most { size ≤ MAX_MEDIUM_WORDS }
     ensures { MatchOption result (HasNoClearRun lines.now (lines_for from) (lines_for size))
         (λ r. (x : ℕ) × (end : ℕ) × (r.next ≡ LINE_WORDS * x)

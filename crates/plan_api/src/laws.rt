@@ -10,7 +10,7 @@ ghost use Rattle.object_model.specs.Objects.{HeapState, state_over, HasKind, cla
 ghost use Rattle.object_model.specs.Lawful.{IsWellFormed, IsReadableBlock, IsTouched, LineBitsAreExact};
 ghost use Rattle.line_marks.specs.Bits.{bit_in};
 ghost use Rattle.sessions.specs.Plans as plans;
-ghost use Rattle.sessions.specs.Plans.{rules_of, Nothing, Copies, Headroom};
+ghost use Rattle.sessions.specs.Plans.{rules_of, Nothing, Copies, Headroom, has_holes};
 ghost use Rattle.sessions.specs.Grants.{BlockCounts, HoldsReserve, allowance_in, after_taking};
 ghost use Rattle.sessions.specs.Fitting.{IsTail, HasHole, LiesInHole, free_of, counts_of, allowance_of};
 ghost use Rattle.plan_api.specs.Flags.{flags_of, has_cells};
@@ -19,7 +19,7 @@ ghost use Rattle.plan_api.specs.declared.block_view.BlockView.{BlockView};
 ghost use Rattle.plan_api.specs.Views.{IsViewOf};
 ghost use Rattle.block_sweeps.specs.Sweeping.{AreApart};
 ghost use Rattle.heap_layout.specs.declared.region.Region.{Region};
-ghost use Rattle.plan_api.specs.Holes.{IsHolePart, HasRoomFrom, IsFirstPart, IsFirstHole, has_holes};
+ghost use Rattle.plan_api.specs.Holes.{IsHolePart, HasRoomFrom, IsFirstPart, IsFirstHole};
 
 use crate::plan::Plan;
 use heap_layout::{BLOCK_LINES, BLOCK_WORDS};

@@ -11,7 +11,7 @@ ghost use Rattle.object_model.specs.Preserving.{may_leave as may_leave_from};
 ghost use Rattle.object_model.specs.Releasing.{IsReleasable};
 ghost use Rattle.object_model.specs.Lawful.{IsWellFormed, IsReadableBlock, LineBitsAreExact};
 ghost use Rattle.object_model.specs.Heaps.{heap_state};
-ghost use Rattle.sessions.specs.Plans.{Rules, Plan as PlanName, rules_of, plan_word};
+ghost use Rattle.sessions.specs.Plans.{Rules, Plan as PlanName, rules_of, plan_word, has_holes};
 ghost use Rattle.sessions.specs.Grants.{BlockCounts as Counts, HoldsReserve, allowance_in, after_taking};
 ghost use Rattle.sessions.specs.Fitting.{Fits, allowance_of, class_for as class_for_size};
 ghost use Rattle.sessions.specs.Collecting.{first_collection, is_evacuated};
@@ -20,7 +20,7 @@ ghost use Rattle.plan_api.specs.Flags.{flags_of};
 ghost use Rattle.plan_api.specs.Counting.{session_reserve};
 ghost use Rattle.plan_api.specs.Views.{IsViewOf};
 ghost use Rattle.block_sweeps.specs.Sweeping.{AreApart};
-ghost use Rattle.plan_api.specs.Holes.{IsFirstHole, IsHolePart, has_holes};
+ghost use Rattle.plan_api.specs.Holes.{IsFirstHole, IsHolePart};
 ghost use Rattle.plan_api.specs.Evacuation.{listed};
 ghost use Rattle.plan_api.specs.Releasing.{Releases};
 ghost use Rattle.plan_api.specs.Relisting.{Relists};
@@ -36,7 +36,7 @@ use crate::holes::first_hole;
 use bitflags::Flags;
 use heap_layout::{Kind, Layout, Region};
 use ideal_heap::{MAX_NUMS, MAX_REFS};
-use object_model::{Collect, Heap, MAX_MEDIUM_WORDS};
+use object_model::{Collect, HEADER_WORDS, Heap, MAX_MEDIUM_WORDS};
 use side_meta::Words;
 use std::alloc::{AllocError, Global};
 
@@ -81,7 +81,7 @@ pub trait Plan {
 
     /// The class of a Free block that a mutator takes for an object of `size` words.
     fn class_for(size: u32) -> u32
-        requires least { 3 ≤ size }
+        requires least { HEADER_WORDS ≤ size }
         requires most { size ≤ MAX_MEDIUM_WORDS }
         ensures { result ≡ class_for_size rules.fill size }
     {
@@ -94,7 +94,7 @@ pub trait Plan {
     /// For callers that hold a view, as tests do: mutators search the words of a block, by
     /// `hole_in_block`.
     fn hole_in(view: &BlockView, from: u32, size: u32) -> Option<Region>
-        requires least { 3 ≤ size }
+        requires least { HEADER_WORDS ≤ size }
         requires most { size ≤ MAX_MEDIUM_WORDS }
         ensures { (s : HeapState) (k : ℕ) → IsViewOf s k view.now → AreApart s k
             → IsFirstHole rules.fill s k from size result }
@@ -104,7 +104,7 @@ pub trait Plan {
 
     /// Whether an object of `size` words fits the heap without a collection.
     fn fits(heap: &Heap, size: u32) -> bool
-        requires least { 3 ≤ size }
+        requires least { HEADER_WORDS ≤ size }
         requires most { size ≤ size_of MAX_REFS MAX_NUMS }
         ensures { IsTrue result ↔ Fits rules (heap_state heap.now) size }
     {

@@ -14,9 +14,9 @@ use crate::block_view::BlockView;
 use crate::holes::{clear_lines, first_hole};
 use block_sweeps::object_size;
 use cell_space::{cell_size, class_of, next_cell};
-use heap_layout::{BlockWord, Kind, Layout, Region, decode};
+use heap_layout::{BLOCK_BIT_WORDS, BlockWord, Kind, Layout, Region, decode};
 use line_marks::{last_bit, line_words};
-use object_model::{Heap, MAX_MEDIUM_WORDS};
+use object_model::{HEADER_WORDS, Heap, MAX_MEDIUM_WORDS};
 use side_meta::Words;
 
 /// The view of a block of a heap.
@@ -61,7 +61,7 @@ pub fn hole_in_block<W: Words>(
 ) -> Option<Region>
     requires block { IsReadableBlock (shown (W.words words.now) layout.now) block }
     requires apart { AreApart (shown (W.words words.now) layout.now) block }
-    requires least { 3 ≤ size }
+    requires least { HEADER_WORDS ≤ size }
     requires most { size ≤ MAX_MEDIUM_WORDS }
     ensures { (number base : ℕ) → IsFirstHole fill (state_over
         (W.words words.now) layout.now number base) block from size result }
@@ -106,9 +106,10 @@ fn start_words<W: Words>(words: &W, layout: &Layout, block: u32) -> [u64; 64]
     requires block { block < layout.now.blocks }
     ensures len { length result ≡ 64 }
     ensures words { (n : ℕ) → n < 64 → slice_index result n
-        ≡ slice_index (W.words words.now) (first layout.now.blocks StartBits + 64 * block + n) }
+        ≡ slice_index (W.words words.now)
+        (first layout.now.blocks StartBits + BLOCK_BIT_WORDS * block + n) }
 {
-    let at = layout.start_base() + 64 * block;
+    let at = layout.start_base() + BLOCK_BIT_WORDS * block;
     let mut starts = [0; 64];
     for index in 0..64 {
         starts[index as usize] = words.get(at + index);

@@ -1,6 +1,6 @@
 //! Blocks that are relisted after mutators filled them, of rows that are written by hand.
 
-ghost use Rattle.std.specs.Prelude.{◌≡◌, length};
+ghost use Rattle.std.specs.Prelude.{◌≡◌};
 ghost use Rattle.heap_layout.specs.Zones.{IsRowOf};
 
 use crate::releases::{check_words, small_row};

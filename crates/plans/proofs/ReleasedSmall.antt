@@ -13,12 +13,12 @@ use Rattle.object_model.specs.Lawful.{HasObject, Lies, IsReadableBlock, has_smal
 use Rattle.object_model.specs.Releasing.{IsReleasable, InSpan}
 use Rattle.object_model.specs.Ages.{Lives}
 use Rattle.object_model.proofs.OneKind.{kind-code, kind-from, has_small-code}
-use Rattle.sessions.proofs.Placing.{one_if}
+use Rattle.sessions.proofs.PlacedSmallObjects.{one_if}
 use Rattle.block_sweeps.specs.Sweeping.{InBlock, HasNoLiving, Sweeps, object_count}
 use Rattle.ideal_heap.specs.Names.{IsName, name_of}
 use Rattle.plan_api.proofs.EvacuationLaws.{kind-kept}
 use Rattle.plan_api.proofs.Tallies.{count_below, count-next}
-use Rattle.plan_api.proofs.Viewing.{word-address, word-block, at-offset, offset-below}
+use Rattle.plan_api.proofs.BlockViews.{word-address, word-block, at-offset, offset-below}
 
 -- the kind that a block has is that of its word
 pub kind-shown : (s : HeapState) (k : ℕ) (kind : Kind) (w : BlockWord) → IsValidWord w → code_of w ≡ block_word s k → HasKind s k kind → w.kind ≡ kind

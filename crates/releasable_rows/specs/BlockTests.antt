@@ -13,7 +13,8 @@ word_in_block s k o = block_start s.blocks k + o
 
 -- no address from `from` on, before `to`, has a start, pin or unlog bit
 abbrev pub HasNoMark : HeapState → ℕ → ℕ → Type 0
-HasNoMark s from to = (a : ℕ) → from ≤ a → a < to → IsTrue (is_start s a || is_pinned s a || is_unlogged s a) → ⊥
+HasNoMark s from to = (a : ℕ) → from ≤ a → a < to
+    → IsTrue (is_start s a || is_pinned s a || is_unlogged s a) → ⊥
 
 -- no line of block k is marked
 abbrev pub HasNoLine : HeapState → ℕ → Type 0
@@ -23,14 +24,16 @@ HasNoLine s k = (line : ℕ) → line < 256 → IsTrue (line_marked s k line) �
 abbrev pub AreTails : HeapState → ℕ → ℕ → Type 0
 AreTails s from to = (j : ℕ) → from ≤ j → j < to → HasKind s j kinds.LargeTail
 
--- An object of this size at offset o of block k has a name and a shape, is no large one, and lies after `end`.
+-- An object of this size at offset o of block k has a name and a shape, is no large one, and lies
+-- after `end`.
 pub record IsNext (s : HeapState) (k o end next : ℕ) : Type 0 where
   pub object : HasObject s (word_in_block s k o)
   pub small : size_at s (word_in_block s k o) ≤ MAX_MEDIUM_WORDS
   pub after : end ≤ o
   pub ends : next ≡ o + size_at s (word_in_block s k o)
 
--- The objects of block k before offset o end at `end`, those up to it at `next`. A pin or unlog bit at o is an object's.
+-- The objects of block k before offset o end at `end`, those up to it at `next`. A pin or unlog bit
+-- at o is an object's.
 pub record ObjectsGoOn (s : HeapState) (k o end next : ℕ) : Type 0 where
   pub object : IsTrue (is_start s (word_in_block s k o)) → IsNext s k o end next
   pub none : is_start s (word_in_block s k o) ≡ false → next ≡ end
@@ -38,16 +41,20 @@ pub record ObjectsGoOn (s : HeapState) (k o end next : ℕ) : Type 0 where
   pub marks : IsTrue (is_pinned s (word_in_block s k o) || is_unlogged s (word_in_block s k o))
       → IsTrue (is_start s (word_in_block s k o))
 
--- The objects of block k that begin before offset `to` have names and shapes, are no large ones, share no word, and end
--- at `end` at most, in the block. Pin and unlog bits before `to` are those of objects.
+-- The objects of block k that begin before offset `to` have names and shapes, are no large ones,
+-- share no word, and end at `end` at most, in the block. Pin and unlog bits before `to` are those
+-- of objects.
 pub record HoldsSmall (s : HeapState) (k to end : ℕ) : Type 0 where
-  pub object : (o : ℕ) → o < to → IsTrue (is_start s (word_in_block s k o)) → HasObject s (word_in_block s k o)
+  pub object : (o : ℕ) → o < to → IsTrue (is_start s (word_in_block s k o))
+      → HasObject s (word_in_block s k o)
   pub small : (o : ℕ) → o < to → IsTrue (is_start s (word_in_block s k o))
       → size_at s (word_in_block s k o) ≤ MAX_MEDIUM_WORDS
-  pub ends : (o : ℕ) → o < to → IsTrue (is_start s (word_in_block s k o)) → o + size_at s (word_in_block s k o) ≤ end
+  pub ends : (o : ℕ) → o < to → IsTrue (is_start s (word_in_block s k o))
+      → o + size_at s (word_in_block s k o) ≤ end
   pub apart : (o p : ℕ) → o < p → p < to → IsTrue (is_start s (word_in_block s k o))
       → IsTrue (is_start s (word_in_block s k p)) → o + size_at s (word_in_block s k o) ≤ p
-  pub marks : (o : ℕ) → o < to → IsTrue (is_pinned s (word_in_block s k o) || is_unlogged s (word_in_block s k o))
+  pub marks : (o : ℕ) → o < to
+      → IsTrue (is_pinned s (word_in_block s k o) || is_unlogged s (word_in_block s k o))
       → IsTrue (is_start s (word_in_block s k o))
   pub inside : end ≤ BLOCK_WORDS
 

@@ -10,13 +10,13 @@ ghost use Rattle.object_model.specs.Lawful.{HasObject};
 ghost use Rattle.object_model.specs.Releasing.{IsReleasable};
 ghost use Rattle.releasable_rows.specs.BlockTests.{HasNoMark, HasNoLine, AreTails, ObjectsGoOn, HoldsSmall, IsInCell, AreInCells, HoldsLarge};
 
-use heap_layout::{BLOCK_WORDS, BlockWord, CLASS_UNIT, Kind, Layout, decode};
+use heap_layout::{BLOCK_WORDS, BlockWord, CLASS_UNIT, CLASSES, Kind, Layout, decode};
 use ideal_heap::MAX_MUTATORS;
-use object_model::{HEADER_WORDS, MAX_MEDIUM_WORDS, decode_shape, size_words};
+use object_model::{HEADER_WORDS, MAX_MEDIUM_WORDS, SHAPE_OFFSET, decode_shape, size_words};
 use side_meta::{Words, test_bit};
 
 /// The size in words of a cell of each class.
-const CELL_WORDS: [u32; 19] = [
+const CELL_WORDS: [u32; CLASSES] = [
     4, 6, 8, 12, 16, 24, 32, 48, 64, 96, 128, 192, 256, 384, 512, 768, 1024, 1536, 2048,
 ];
 
@@ -279,8 +279,8 @@ fn is_in_cell<W: Words>(words: &W, layout: &Layout, block: u32, cell: u32, offse
 /// The size in words of the object at the address. `None` if its first two words are no name and
 /// no shape.
 fn object_size<W: Words>(words: &W, address: u32) -> Option<u32>
-    requires index { address + 1 < 2 ^ 32 }
-    requires word { address + 1 < length (W.words words.now) }
+    requires index { address + SHAPE_OFFSET < 2 ^ 32 }
+    requires word { address + SHAPE_OFFSET < length (W.words words.now) }
     ensures some { (layout : Layout) → IfSome result (λ size.
         HasObject (shown (W.words words.now) layout) address
         × (size ≡ size_at (shown (W.words words.now) layout) address)) }
@@ -290,7 +290,7 @@ fn object_size<W: Words>(words: &W, address: u32) -> Option<u32>
     if !is_name(words.get(address)) {
         return None;
     }
-    let Some(shape) = decode_shape(words.get(address + 1)) else {
+    let Some(shape) = decode_shape(words.get(address + SHAPE_OFFSET)) else {
         return None;
     };
     Some(size_words(&shape))

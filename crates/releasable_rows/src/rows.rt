@@ -4,9 +4,10 @@ ghost use Rattle.std.specs.Prelude.{◌≡◌, ◌+◌, ◌<◌, ◌≤◌, leng
 ghost use Rattle.heap_layout.specs.Zones.{row_words, first, IsAddress, IsRowOf};
 ghost use Rattle.heap_layout.specs.Zones.Zone.{UnlogBits};
 ghost use Rattle.heap_layout.specs.declared.layout.TheConstants.{BLOCK_WORDS};
+ghost use Rattle.object_model.specs.declared.shape.TheConstants.{HEADER_WORDS};
 
 use heap_layout::{BLOCK_WORDS, CLASS_UNIT, Kind, Layout};
-use object_model::{NUMS_UNIT, Shape};
+use object_model::{COLLECTOR_OFFSET, HEADER_WORDS, NUMS_UNIT, SHAPE_OFFSET, Shape};
 use side_meta::{Words, set_bit};
 use std::alloc::{AllocError, Global};
 
@@ -25,13 +26,13 @@ pub struct Object {
     pub pinned: bool,
     /// Whether its unlog bit is set.
     pub unlogged: bool,
-    pub ghost inside: { offset + 3 ≤ BLOCK_WORDS },
+    pub ghost inside: { offset + HEADER_WORDS ≤ BLOCK_WORDS },
 }
 
 /// An object without references that no collection has claimed, with no pin and no unlog bit. Its
 /// number of birth is its offset and 1.
 pub fn plain_object(offset: u32, nums: u32) -> Object
-    requires { offset + 3 ≤ BLOCK_WORDS }
+    requires { offset + HEADER_WORDS ≤ BLOCK_WORDS }
     ensures { result.offset ≡ offset }
 {
     Object {
@@ -77,10 +78,10 @@ pub fn write_object(words: &mut Vec<u64>, layout: &Layout, block: u32, object: &
     words.set(address, 32 * object.birth as u64 + 1);
     let shape = object.shape;
     words.set(
-        address + 1,
+        address + SHAPE_OFFSET,
         shape.refs as u64 + NUMS_UNIT * shape.nums as u64,
     );
-    words.set(address + 2, object.collector);
+    words.set(address + COLLECTOR_OFFSET, object.collector);
     set_bit_of(words, layout, layout.start_base(), address);
     if object.pinned {
         set_bit_of(words, layout, layout.pin_base(), address);

@@ -14,7 +14,7 @@ use Rattle.std.proofs.Math.Nat.{le-div_iff_mul-le}
 use Rattle.sessions.specs.Fitting.{Fits, MayGrant, allowance_of, free_of, counts_of, headroom_of}
 use Rattle.sessions.specs.Collecting.{Collects, CollectsIf, IsCollection, base_after, is_evacuated}
 use Rattle.heap_layout.specs.Zones.{block_at}
-use Rattle.sessions.proofs.Counting.{counts-one}
+use Rattle.sessions.proofs.CountedCollections.{counts-one}
 use Rattle.sessions.specs.Sessions as sessions
 use Rattle.sessions.specs.Sessions.{Setting, Moment, OnlyReplies, MakesCollection, CollectsFor, FirstTry, ServesNeed, ServesAll, MeetsIf, InSession, IsEpoch, refused_entry}
 

@@ -21,8 +21,8 @@ use Rattle.sessions.specs.Plans.{Plan, rules_of}
 use Rattle.sessions.specs.Sessions as sessions
 use Rattle.sessions.specs.Sessions.{Setting, Moment, Cause, EndsBy, IsSound, MakesCollection, RunsPart, IsEpoch, IsWhole}
 use Rattle.sessions.specs.WorkedSessions.{worked_setting, worked_moment}
-use Rattle.sessions.proofs.Beginning.{is-free}
-use Rattle.sessions.proofs.Counting.{collected-empty}
+use Rattle.sessions.proofs.EmptyHeapFits.{is-free}
+use Rattle.sessions.proofs.CountedCollections.{collected-empty}
 use Rattle.sessions.proofs.Soundness.{session-sound, gcs-run}
 use Rattle.sessions.proofs.EpochParts.{empty-part}
 

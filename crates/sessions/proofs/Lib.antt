@@ -1,9 +1,9 @@
 pub mod Tails
-pub mod Placing
+pub mod PlacedSmallObjects
 pub mod Histories
-pub mod Beginning
+pub mod EmptyHeapFits
 pub mod Holes
-pub mod Counting
+pub mod CountedCollections
 pub mod HoleKinds
 pub mod HoleStarts
 pub mod HoleRooms
@@ -11,11 +11,11 @@ pub mod WorkedFits
 mod Nurseries
 pub mod Soundness
 pub mod CollectionLaws
-pub mod LargePlacing
+pub mod PlacedLargeObjects
 mod Levels
-mod Meeting
+mod MeetRounds
 pub mod Orders
-pub mod Growing
+pub mod GrowingHistories
 pub mod WorkedCollecting
 pub mod CollectionsOfPlans
 pub mod WrongCollections

@@ -12,7 +12,7 @@ use Rattle.sessions.specs.Sessions as sessions
 use Rattle.sessions.specs.Sessions.{Setting, Moment, Cause, traced_mutators, next_in, is_at_gc, is_at_need, is_at_meet, is_waiting, all_done, IsOfPart, RunsPart, CollectsFor, FirstTry, ServesNeed, ServesAll, MeetsIf, Meets, InSession, IsWhole}
 use Rattle.sessions.proofs.Levels as levels
 use Rattle.sessions.proofs.Levels.{IsInRound, AreWithin, all-left, all-right, all-append}
-use Rattle.sessions.proofs.Meeting.{next-round}
+use Rattle.sessions.proofs.MeetRounds.{next-round}
 
 -- the step adds entries that are no `meet`s
 pub record AddsNoMeet (before now : Moment) : Type 0 where

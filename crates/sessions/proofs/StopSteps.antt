@@ -17,7 +17,7 @@ use Rattle.sessions.specs.Fitting.{Fits}
 use Rattle.sessions.specs.Collecting.{Collects, CollectsIf, first_collection}
 use Rattle.sessions.specs.Sessions as sessions
 use Rattle.sessions.specs.Sessions.{Setting, Moment, Cause, traced_mutators, next_in, is_at_gc, is_at_need, is_at_meet, is_waiting, all_done, birth_count, refused_entry, IsOfPart, MakesCollection, OnlyReplies, CollectsFor, Places, FirstTry, ServesNeed, ServesAll, MeetsIf, Meets, IsEpoch, InSession, IsWhole}
-use Rattle.sessions.proofs.Counting.{counts-one}
+use Rattle.sessions.proofs.CountedCollections.{counts-one}
 
 -- collections
 

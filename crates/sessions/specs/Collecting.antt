@@ -33,8 +33,9 @@ has_young r s k = list_any (λ w. is_start s (block_start s.blocks k + w)
 abbrev pub young_blocks : Rules → HeapState → ℕ
 young_blocks r s = block_count s (λ k. has_young r s k && not (has_kind s k kinds.LargeHead))
 
--- The collection to try first: a nursery collection if and only if the plan has young objects, a full collection was
--- made, some object is young, and at least a quarter of the blocks in use have young objects.
+-- The collection to try first: a nursery collection if and only if the plan has young objects, a
+-- full collection was made, some object is young, and at least a quarter of the blocks in use have
+-- young objects.
 abbrev pub first_collection : Rules → HeapState → Collect
 first_collection r s =
     if r.young && nat_lt 0 s.base && list_any (has_young r s) (range_with_len 0 s.blocks)
@@ -54,20 +55,25 @@ marked_in s k = count_by (line_marked s k) (range_with_len 0 BLOCK_LINES)
 
 -- an Immix block with a marked line and a clear one
 abbrev pub is_recyclable : HeapState → ℕ → Bool
-is_recyclable s k = has_kind s k kinds.Immix && nat_lt 0 (marked_in s k) && nat_lt (marked_in s k) BLOCK_LINES
+is_recyclable s k = has_kind s k kinds.Immix && nat_lt 0 (marked_in s k)
+    && nat_lt (marked_in s k) BLOCK_LINES
 
 -- block j is k or is evacuated before k: it has more holes, or as many and no higher number
 abbrev pub is_by : HeapState → ℕ → ℕ → Bool
-is_by s k j = nat_lt (holes_in s k) (holes_in s j) || (nat_eq (holes_in s k) (holes_in s j) && nat_le j k)
+is_by s k j = nat_lt (holes_in s k) (holes_in s j)
+    || (nat_eq (holes_in s k) (holes_in s j) && nat_le j k)
 
--- A recyclable block is a candidate if it and the recyclable blocks before it in that order have, together, no more
--- marked lines than the Free blocks have lines (defragmentation of Immix).
+-- A recyclable block is a candidate if it and the recyclable blocks before it in that order have,
+-- together, no more marked lines than the Free blocks have lines (defragmentation of Immix).
 abbrev pub is_candidate : HeapState → ℕ → Bool
 is_candidate s k = is_recyclable s k
-    && nat_le (sum_by (λ j. if is_recyclable s j && is_by s k j then marked_in s j else 0) (range_with_len 0 s.blocks))
+    && nat_le
+    (sum_by (λ j. if is_recyclable s j && is_by s k j then marked_in s j else 0)
+    (range_with_len 0 s.blocks))
     (BLOCK_LINES * free_of s)
 
--- a copying plan evacuates the blocks that mutators fill; a full collection also Kept ones and those that workers fill
+-- a copying plan evacuates the blocks that mutators fill; a full collection also Kept ones and
+-- those that workers fill
 abbrev pub is_copied_out : Rules → Collect → HeapState → ℕ → Bool
 is_copied_out r Full s k = has_kind s k r.fill || has_kind s k r.copy || has_kind s k kinds.Kept
 is_copied_out r Nursery s k = r.young && has_kind s k r.fill
@@ -91,21 +97,23 @@ is_evacuated r c s k = is_evacuated_by r.reserve r c s k
 abbrev pub may_move : Rules → Collect → HeapState → ℕ → Bool
 may_move r c s a = r.moves && may_leave (is_evacuated r c s) s a
 
--- the objects that a nursery collection preserves: all old ones, and all reachable from a root, a global or an old one
+-- the objects that a nursery collection preserves: all old ones, and all reachable from a root, a
+-- global or an old one
 pub data IsNurseryReachable (r : Rules) (s : HeapState) (roots : List ℕ) : ℕ → Type 0 where
   is_root : (i : ℕ) {a : ℕ} → slice_index roots i ≡ a → 0 < a → IsNurseryReachable r s roots a
-  is_global : (g : ℕ) {a : ℕ} → g < GLOBALS → global_at s g ≡ a → 0 < a → IsNurseryReachable r s roots a
+  is_global : (g : ℕ) {a : ℕ} → g < GLOBALS → global_at s g ≡ a → 0 < a
+      → IsNurseryReachable r s roots a
   was_old : {a : ℕ} → IsHeld s a → IsTrue (is_old_under r s a) → IsNurseryReachable r s roots a
   is_field : (x i : ℕ) {a : ℕ} → IsNurseryReachable r s roots x → i < refs_at s x
       → ref_at s x i ≡ a → IsTrue (is_reference a) → IsNurseryReachable r s roots a
 
--- A full collection preserves exactly the reachable objects, a nursery collection exactly those of IsNurseryReachable.
--- target gives the new address of each preserved object, and 0 for all others.
+-- A full collection preserves exactly the reachable objects, a nursery collection exactly those of
+-- IsNurseryReachable. target gives the new address of each preserved object, and 0 for all others.
 abbrev pub IsPrecise : Rules → Collect → HeapState → List ℕ → (ℕ → ℕ) → Type 0
 IsPrecise r Full old roots target = (a : ℕ) → (0 < target a) ↔ IsReachable old roots a
 IsPrecise r Nursery old roots target = (a : ℕ) → (0 < target a) ↔ IsNurseryReachable r old roots a
 
--- the base: the number of the last full collection
+-- the base: the number of the last full collection that reclaimed
 abbrev pub base_after : Collect → ℕ → ℕ → ℕ
 base_after Full number base = number
 base_after Nursery number base = base
@@ -114,12 +122,14 @@ base_after Nursery number base = base
 abbrev pub IsEmptied : HeapState → ℕ → Type 0
 IsEmptied s k = (a i : ℕ) → IsHeld s a → IsInExtent s a i → block_at s.blocks i ≢ k
 
--- Block k after a collection. A block without held objects is Free. Of the others, one that was Free has the kind
--- that workers fill, an evacuated one without lines is Kept, and the block words of the rest are unchanged.
+-- Block k after a collection. A block without held objects is Free. Of the others, one that was
+-- Free has the kind that workers fill, an evacuated one that is not of kind Immix is Kept, and the
+-- block words of the rest are unchanged.
 pub record BlockAfter (r : Rules) (c : Collect) (old new : HeapState) (k : ℕ) : Type 0 where
   pub emptied : IsEmptied new k → HasKind new k kinds.Free
   pub taken : (IsEmptied new k → ⊥) → HasKind old k kinds.Free → HasKind new k r.copy
-  pub kept : (IsEmptied new k → ⊥) → IsTrue (is_evacuated r c old k) → (HasKind old k kinds.Immix → ⊥)
+  pub kept : (IsEmptied new k → ⊥) → IsTrue (is_evacuated r c old k)
+      → (HasKind old k kinds.Immix → ⊥)
       → (HasKind old k kinds.Free → ⊥) → HasKind new k kinds.Kept
   pub others : (IsEmptied new k → ⊥) → (HasKind old k kinds.Free → ⊥)
       → (IsTrue (is_evacuated r c old k) → HasKind old k kinds.Immix)
@@ -130,7 +140,8 @@ abbrev pub still_free : HeapState → HeapState → ℕ
 still_free old new = block_count old (λ k. has_kind old k kinds.Free && has_kind new k kinds.Free)
 
 -- a collection under a plan that reclaims
-pub record Collects (r : Rules) (workers : ℕ) (c : Collect) (old : HeapState) (roots : List ℕ) (new : HeapState)
+pub record Collects (r : Rules) (workers : ℕ) (c : Collect) (old : HeapState) (roots : List ℕ)
+    (new : HeapState)
     (roots' : List ℕ) : Type 0 where
   pub target : ℕ → ℕ
   pub kept : PreservesObjects (may_move r c old) old roots (IsHeld new) new roots' target
@@ -138,19 +149,22 @@ pub record Collects (r : Rules) (workers : ℕ) (c : Collect) (old : HeapState) 
   pub ages : (a : ℕ) → IsHeld new a → IsTrue r.young → IsTrue (is_old_under r new a)
   pub block : (k : ℕ) → k < old.blocks → BlockAfter r c old new k
   pub logged : (a : ℕ) → IsTrue (is_logged_under r new a) → ⊥
-  -- Each object's unlog bit is set, under any plan. A full collection claims each object that it keeps, and so leaves its
-  -- number in it. A nursery collection leaves an old object the number that it had.
+  -- Each object's unlog bit is set, under any plan. A full collection claims each object that it
+  -- keeps, and so leaves its number in it. A nursery collection leaves an old object the number
+  -- that it had.
   pub unlogged : (a : ℕ) → IsHeld new a → IsTrue (is_unlogged new a)
   pub numbers : c ≡ Full → (a : ℕ) → IsHeld new a → number_at new a ≡ new.number
   pub number : new.number ≡ old.number + 1
   pub base : new.base ≡ base_after c new.number old.base
   pub layout : new.blocks ≡ old.blocks
-  -- In a full collection a movable object, and in a nursery collection a movable young one, stays in place only if at
-  -- most one Free block per worker is left.
-  pub moved : (a : ℕ) → 0 < target a → (c ≡ Full) ⊎ (is_old_under r old a ≡ false) → IsTrue (may_move r c old a)
+  -- In a full collection a movable object, and in a nursery collection a movable young one, stays
+  -- in place only if no more blocks than there are workers are Free before and after.
+  pub moved : (a : ℕ) → 0 < target a → (c ≡ Full) ⊎ (is_old_under r old a ≡ false)
+      → IsTrue (may_move r c old a)
       → target a ≡ a → still_free old new ≤ workers
 
--- under a plan that does not reclaim, a full collection increments the collection number and does nothing else
+-- under a plan that does not reclaim, a full collection increments the collection number and does
+-- nothing else
 pub record OnlyCounts (c : Collect) (old : HeapState) (roots : List ℕ) (new : HeapState)
     (roots' : List ℕ) : Type 0 where
   pub full : c ≡ Full
@@ -158,7 +172,8 @@ pub record OnlyCounts (c : Collect) (old : HeapState) (roots : List ℕ) (new : 
   pub registers : roots' ≡ roots
 
 -- what a collection does, by whether the plan reclaims
-abbrev pub CollectsIf : Bool → Rules → ℕ → Collect → HeapState → List ℕ → HeapState → List ℕ → Type 0
+abbrev pub CollectsIf : Bool → Rules → ℕ → Collect → HeapState → List ℕ → HeapState
+    → List ℕ → Type 0
 CollectsIf true r workers c old roots new roots' = Collects r workers c old roots new roots'
 CollectsIf false r workers c old roots new roots' = OnlyCounts c old roots new roots'
 

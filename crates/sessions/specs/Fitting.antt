@@ -51,10 +51,14 @@ pub record IsFreeRun (s : HeapState) (k n : ℕ) : Type 0 where
   pub inside : k + n ≤ s.blocks
   pub free : (j : ℕ) → j < n → HasKind s (k + j) kinds.Free
 
--- The tail of block k begins at offset `at`: no object of the block ends after it, and it is 0 or the end of one.
+-- The tail of block k begins at offset `at`: no object of the block ends after it, and it is 0 or
+-- the end of one.
 pub record IsTail (s : HeapState) (k at : ℕ) : Type 0 where
-  pub after : (a : ℕ) → IsHeld s a → block_at s.blocks a ≡ k → offset_at s.blocks a + size_at s a ≤ at
-  pub least : (at ≡ 0) ⊎ ((a : ℕ) × IsHeld s a × (block_at s.blocks a ≡ k) × (offset_at s.blocks a + size_at s a ≡ at))
+  pub after : (a : ℕ) → IsHeld s a → block_at s.blocks a ≡ k
+      → offset_at s.blocks a + size_at s a ≤ at
+  pub least : (at ≡ 0)
+      ⊎ ((a : ℕ) × IsHeld s a × (block_at s.blocks a ≡ k)
+      × (offset_at s.blocks a + size_at s a ≡ at))
 
 -- the size class for a size in words: the least whose cells have room
 abbrev pub class_of : ℕ → Option ℕ
@@ -72,7 +76,8 @@ class_for kinds.LargeHead size = 0
 class_for kinds.LargeTail size = 0
 class_for kinds.Kept size = 0
 
--- lines `from` to `from + len - 1` of block k are a hole: they are clear, and no line beside them is
+-- lines `from` to `from + len - 1` of block k are a hole: they are clear, and no line beside them
+-- is
 pub record IsLineHole (s : HeapState) (k from len : ℕ) : Type 0 where
   pub some : 1 ≤ len
   pub inside : from + len ≤ BLOCK_LINES
@@ -95,11 +100,14 @@ pub record HasLineHole (s : HeapState) (k at size : ℕ) : Type 0 where
   pub hole : IsLineHole s k line len
   pub room : lines_for size ≤ len
 
--- A hole of block k begins at offset `at` and has room for the size. The block has the kind that mutators fill.
+-- A hole of block k begins at offset `at` and has room for the size. The block has the kind that
+-- mutators fill.
 abbrev pub HasHole : Kind → HeapState → ℕ → ℕ → ℕ → Type 0
 HasHole kinds.Bump s k at size = HasKind s k kinds.Bump × IsTail s k at × (at + size ≤ BLOCK_WORDS)
-HasHole kinds.Young s k at size = HasKind s k kinds.Young × IsTail s k at × (at + size ≤ BLOCK_WORDS)
-HasHole kinds.Cells s k at size = HasKind s k kinds.Cells × IsFreeCell s k at × (class_of size ≡ Some (class_at s k))
+HasHole kinds.Young s k at size = HasKind s k kinds.Young × IsTail s k at
+    × (at + size ≤ BLOCK_WORDS)
+HasHole kinds.Cells s k at size = HasKind s k kinds.Cells × IsFreeCell s k at
+    × (class_of size ≡ Some (class_at s k))
 HasHole kinds.Immix s k at size = HasKind s k kinds.Immix × HasLineHole s k at size
 HasHole kinds.Free s k at size = ⊥
 HasHole kinds.Mature s k at size = ⊥
@@ -122,7 +130,8 @@ pub record LiesInLineHole (s : HeapState) (k from size : ℕ) : Type 0 where
   pub after : LINE_WORDS * line ≤ from
   pub inside : from + size ≤ LINE_WORDS * (line + len)
 
--- `size` words from offset `from` on lie in a hole of block k, which has the kind that mutators fill
+-- `size` words from offset `from` on lie in a hole of block k, which has the kind that mutators
+-- fill
 abbrev pub LiesInHole : Kind → HeapState → ℕ → ℕ → ℕ → Type 0
 LiesInHole kinds.Bump s k from size = HasKind s k kinds.Bump × LiesInTail s k from size
 LiesInHole kinds.Young s k from size = HasKind s k kinds.Young × LiesInTail s k from size
@@ -164,4 +173,5 @@ pub record FitsLarge (r : Rules) (s : HeapState) (n : ℕ) : Type 0 where
 
 -- an object of this size in words may be placed
 abbrev pub Fits : Rules → HeapState → ℕ → Type 0
-Fits r s size = MatchBool (nat_le size MAX_MEDIUM_WORDS) (FitsSmall r s size) (FitsLarge r s (blocks_for size))
+Fits r s size =
+    MatchBool (nat_le size MAX_MEDIUM_WORDS) (FitsSmall r s size) (FitsLarge r s (blocks_for size))

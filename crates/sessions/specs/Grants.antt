@@ -1,4 +1,5 @@
--- How many Free blocks a plan holds back, and so which may be granted: by the counts of a heap's blocks.
+-- How many Free blocks a plan holds back, and so which may be granted: by the counts of a heap's
+-- blocks.
 use Rattle.std.specs.Prelude.{ℕ, ◌+◌, ◌-◌, ◌/◌, ◌<◌, ◌≤◌, List, [], ◌∷◌, map}
 use Rattle.sessions.specs.Plans.{Plan, NoGc, MarkSweep, SemiSpace, GenCopy, Immix, StickyImmix, Reserve, Nothing, Copies, Headroom, rules_of}
 

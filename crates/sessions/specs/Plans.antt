@@ -20,7 +20,20 @@ plan_word GenCopy = codes "gencopy"
 plan_word Immix = codes "immix"
 plan_word StickyImmix = codes "stickyimmix"
 
--- What is held back of the blocks when one is granted: nothing, room for a copy of all that is used, or a headroom.
+-- mutators fill blocks of this kind under some plan, so these blocks have holes
+abbrev pub has_holes : Kind → Bool
+has_holes kinds.Bump = true
+has_holes kinds.Young = true
+has_holes kinds.Cells = true
+has_holes kinds.Immix = true
+has_holes kinds.Free = false
+has_holes kinds.Mature = false
+has_holes kinds.LargeHead = false
+has_holes kinds.LargeTail = false
+has_holes kinds.Kept = false
+
+-- What is held back of the blocks when one is granted: nothing, room for a copy of all that is
+-- used, or a headroom.
 pub data Reserve : Type 0 where
   Nothing : Reserve
   Copies : Reserve
@@ -35,7 +48,8 @@ pub record Rules : Type 0 where
   pub young : Bool
   -- whether blocks are filled through the clear lines between objects
   pub lines : Bool
-  -- the kinds of the blocks that mutators and tracing workers fill; copy is Free if workers fill none
+  -- the kinds of the blocks that mutators and tracing workers fill; copy is Free if workers fill
+  -- none
   pub fill : Kind
   pub copy : Kind
   pub reserve : Reserve

@@ -1,4 +1,5 @@
--- Sessions: a run of the ideal heap in epochs, each with a stop at its end, and the heaps at the stops.
+-- Sessions: a run of the ideal heap in epochs, each with a stop at its end, and the heaps at the
+-- stops.
 use Rattle.std.specs.Prelude.{◌≡◌, ◌≢◌, ℕ, ◌+◌, ◌<◌, ◌≤◌, ◌⊎◌, ◌↔◌, Bool, true, false, IsTrue, Option, Some, None, List, [], ◌∷◌, ◌++◌, map, filter, length}
 use Rattle.std.specs.List.{range_with_len, AllByRecursion, Any, list_all}
 use Rattle.heap_layout.specs.Zones.{BlockWords, first, block_at, offset_at, IsAddress}
@@ -21,7 +22,7 @@ use Rattle.object_model.specs.Lawful.{IsLawful}
 use Rattle.sessions.specs.Plans.{Rules}
 use Rattle.sessions.specs.Fitting.{Fits, HasHole, HasSomeHole, LiesInHole, HasCellFor, IsFreeRun, class_for, free_of, allowance_of}
 use Rattle.sessions.specs.Collecting.{IsCollection, first_collection, Remembers, is_logged_under}
-use Rattle.object_model.specs.declared.shape.TheConstants.{MAX_MEDIUM_WORDS}
+use Rattle.object_model.specs.declared.shape.TheConstants.{MAX_MEDIUM_WORDS, COLLECTOR_OFFSET, SHAPE_OFFSET}
 
 -- the parameters of a session
 pub record Setting : Type 0 where
@@ -62,16 +63,16 @@ ideal_at now = heap_after_run ideal.empty now.done
 abbrev pub next_in : Setting → Moment → ℕ → Option Command
 next_in t now m = next_of t.traces now.done m
 
--- The heap is lawful and remembers its young references. With the mutators, which are those of the traces,
--- it represents the ideal heap of the run.
+-- The heap is lawful and remembers its young references. With the mutators, which are those of the
+-- traces, it represents the ideal heap of the run.
 pub record IsSound (t : Setting) (now : Moment) : Type 0 where
   pub lawful : IsLawful now.heap
   pub remembers : Remembers t.rules now.heap
   pub represents : Represents now.heap now.mutators (ideal_at now)
   pub listed : numbers_of now.mutators ≡ traced_mutators t
 
--- Why a mutator's part of an epoch ends: it is at `gc`, at `meet`, at the end of its trace or at a need, or mutator m
--- raised a stop (Raised m).
+-- Why a mutator's part of an epoch ends: it is at `gc`, at `meet`, at the end of its trace or at a
+-- need, or mutator m raised a stop (Raised m).
 pub data Cause : Type 0 where
   AtGc : Cause
   AtMeet : Cause
@@ -97,7 +98,8 @@ is_at_need (Raised m) = false
 abbrev pub Needs : Setting → Moment → ℕ → ℕ → ℕ → ℕ → Type 0
 Needs t now m d refs nums = next_in t now m ≡ Some (c.New d refs nums)
 
--- the mutator's next command agrees with the cause; only a mutator at `gc` or at a need raises a stop
+-- the mutator's next command agrees with the cause; only a mutator at `gc` or at a need raises a
+-- stop
 abbrev pub EndsBy : Setting → Moment → (ℕ → Cause) → ℕ → Cause → Type 0
 EndsBy t now ends m AtGc = next_in t now m ≡ Some c.Gc
 EndsBy t now ends m AtMeet = next_in t now m ≡ Some c.Meet
@@ -106,7 +108,8 @@ EndsBy t now ends m AtNeed = (d : ℕ) × (refs : ℕ) × (nums : ℕ) × Needs 
 EndsBy t now ends m (Raised by) = (next_in t now m ≢ None) × IsMutator t.traces by
     × ((is_at_gc (ends by) ≡ true) ⊎ (is_at_need (ends by) ≡ true))
 
--- an entry that a part may have: no `gc`, no `meet`, no reply `full`, and no `new` of a large object
+-- an entry that a part may have: no `gc`, no `meet`, no reply `full`, and no `new` of a large
+-- object
 pub record IsOfPart (e : Entry) : Type 0 where
   pub gc : is_gc e.command ≡ false
   pub meet : is_meet e.command ≡ false
@@ -123,22 +126,27 @@ pub record IsBirthOf (n : Name) (refs nums : ℕ) (e : Entry) : Type 0 where
   pub command : e.command ≡ c.New register refs nums
   pub reply : e.reply ≡ r.New n
 
--- An object at address a leaves no room before it unused: it begins at the start of a hole that was there, at the start
--- of a block that was Free, or directly after another object of its block. In cells each object has its own.
+-- An object at address a leaves no room before it unused: it begins at the start of a hole that was
+-- there, at the start of a block that was Free, or directly after another object of its block. In
+-- cells each object has its own.
 abbrev pub LeavesNoGap : Kind → HeapState → HeapState → ℕ → Type 0
 LeavesNoGap fill old new a = (fill ≡ kinds.Cells)
     ⊎ HasHole fill old (block_at new.blocks a) (offset_at new.blocks a) (size_at new a)
     ⊎ (HasKind old (block_at new.blocks a) kinds.Free × (offset_at new.blocks a ≡ 0))
-    ⊎ ((x : ℕ) × IsHeld new x × (block_at new.blocks x ≡ block_at new.blocks a) × (x + size_at new x ≡ a))
+    ⊎ ((x : ℕ) × IsHeld new x × (block_at new.blocks x ≡ block_at new.blocks a)
+    × (x + size_at new x ≡ a))
 
--- an object allocated in a part; it lies in a hole of the heap at the start of the epoch, or in a block that was Free
-pub record IsBirth (rules : Rules) (old : HeapState) (part : List Entry) (new : HeapState) (a : ℕ) : Type 0 where
+-- an object allocated in a part; it lies in a hole of the heap at the start of the epoch, or in a
+-- block that was Free
+pub record IsBirth (rules : Rules) (old : HeapState) (part : List Entry) (new : HeapState) (a : ℕ)
+    : Type 0 where
   pub entry : Any (IsBirthOf (name_at new a) (refs_at new a) (nums_at new a)) part
   pub place : HasKind old (block_at new.blocks a) kinds.Free
       ⊎ LiesInHole rules.fill old (block_at new.blocks a) (offset_at new.blocks a) (size_at new a)
   pub packed : LeavesNoGap rules.fill old new a
-  pub cell : HasCellFor rules.fill new (block_at new.blocks a) (offset_at new.blocks a) (size_at new a)
-  pub unclaimed : word_at new (a + 2) ≡ 0
+  pub cell : HasCellFor rules.fill new (block_at new.blocks a) (offset_at new.blocks a)
+      (size_at new a)
+  pub unclaimed : word_at new (a + COLLECTOR_OFFSET) ≡ 0
   pub unmarked : IsTrue (is_unlogged new a) → ⊥
 
 -- a `put` of the part stored into the object of this name
@@ -154,9 +162,10 @@ pub record StoresInto (h : ideal.IdealHeap) (part : List Entry) (n : Name) : Typ
   pub stored : entry.reply ≡ r.Done
   pub into : (heap_after_run h prefix).registers entry.mutator s ≡ Some n
 
--- The heap `new` and the mutators at the stop of an epoch. Before the epoch, the heap was `old` and represented h.
--- The epoch ran the part.
-pub record Stopped (rules : Rules) (numbers : List ℕ) (old : HeapState) (h : ideal.IdealHeap) (part : List Entry)
+-- The heap `new` and the mutators at the stop of an epoch. Before the epoch, the heap was `old` and
+-- represented h. The epoch ran the part.
+pub record Stopped (rules : Rules) (numbers : List ℕ) (old : HeapState) (h : ideal.IdealHeap)
+    (part : List Entry)
     (new : HeapState) (ms : List MutatorState) : Type 0 where
   pub listed : numbers_of ms ≡ numbers
   pub lawful : IsLawful new
@@ -166,7 +175,8 @@ pub record Stopped (rules : Rules) (numbers : List ℕ) (old : HeapState) (h : i
   pub number : new.number ≡ old.number
   pub base : new.base ≡ old.base
   -- each object held before is still held, with its name, shape and collector word
-  pub stays : (a : ℕ) → IsHeld old a → IsHeld new a × ((i : ℕ) → i < 3 → word_at new (a + i) ≡ word_at old (a + i))
+  pub stays : (a : ℕ) → IsHeld old a → IsHeld new a
+      × ((i : ℕ) → i < 3 → word_at new (a + i) ≡ word_at old (a + i))
   -- the other held objects are exactly those that the part allocated
   pub births : (a : ℕ) → IsHeld new a → IsHeld old a ⊎ IsBirth rules old part new a
   pub all_held : (n : Name) → HasBirth part n → (a : ℕ) × IsHeld new a × (name_at new a ≡ n)
@@ -175,7 +185,8 @@ pub record Stopped (rules : Rules) (numbers : List ℕ) (old : HeapState) (h : i
   pub taken : free_of old ≤ free_of new + allowance_of rules.reserve old
   -- a block that was Free may get the kind that mutators fill; the other block words are unchanged
   pub in_block : (k : ℕ) → k < old.blocks
-      → (HasKind old k kinds.Free × HasKind new k rules.fill) ⊎ (block_word new k ≡ block_word old k)
+      → (HasKind old k kinds.Free × HasKind new k rules.fill)
+      ⊎ (block_word new k ≡ block_word old k)
   -- a block that was Free and is not contains an object
   pub used : (k : ℕ) → HasKind old k kinds.Free → (HasKind new k kinds.Free → ⊥)
       → (a : ℕ) × IsHeld new a × (block_at new.blocks a ≡ k)
@@ -192,10 +203,12 @@ pub record RunsPart (t : Setting) (before : Moment) (ends : ℕ → Cause) (now 
   pub runs : IsRun (ideal_at before) part
   pub each : AllByRecursion IsOfPart part
   pub causes : (m : ℕ) → IsMutator t.traces m → EndsBy t now ends m (ends m)
-  pub stopped : Stopped t.rules (traced_mutators t) before.heap (ideal_at before) part now.heap now.mutators
+  pub stopped : Stopped t.rules (traced_mutators t) before.heap (ideal_at before) part now.heap
+      now.mutators
   pub counts : (now.nursery ≡ before.nursery) × (now.full ≡ before.full)
   -- a small need ends a part only if the allowance is exhausted
-  pub needs : (m d refs nums : ℕ) → IsMutator t.traces m → ends m ≡ AtNeed → Needs t now m d refs nums
+  pub needs : (m d refs nums : ℕ) → IsMutator t.traces m → ends m ≡ AtNeed
+      → Needs t now m d refs nums
       → size_of refs nums ≤ MAX_MEDIUM_WORDS → ExhaustsAllowance t before.heap now.heap
 
 -- the numbers of nursery and full collections after one more collection
@@ -209,7 +222,8 @@ birth_count m = (m.number, m.births)
 
 -- one collection, which adds no entry
 pub record MakesCollection (t : Setting) (collect : Collect) (before now : Moment) : Type 0 where
-  pub collection : IsCollection t.rules t.workers collect before.heap (roots_of before.mutators) now.heap
+  pub collection : IsCollection t.rules t.workers collect before.heap
+      (roots_of before.mutators) now.heap
       (roots_of now.mutators)
   pub mutators : map birth_count now.mutators ≡ map birth_count before.mutators
   pub done : now.done ≡ before.done
@@ -231,15 +245,17 @@ CollectsFor t [] before now = now ≡ before
 CollectsFor t (m ∷ ms) before now = (mid : Moment) × MakesCollection t Full before mid
     × OnlyReplies (all_done c.Gc (m ∷ ms)) mid now
 
--- A small or medium object is placed in the first hole with room in the lowest block that has one. If there is none,
--- it is placed at the start of the lowest Free block.
+-- A small or medium object is placed in the first hole with room in the lowest block that has one.
+-- If there is none, it is placed at the start of the lowest Free block.
 pub record PlacesSmall (rules : Rules) (old : HeapState) (a size : ℕ) : Type 0 where
   pub spot : HasHole rules.fill old (block_at old.blocks a) (offset_at old.blocks a) size
       ⊎ (HasKind old (block_at old.blocks a) kinds.Free × (offset_at old.blocks a ≡ 0)
       × (HasSomeHole rules.fill old size → ⊥))
   pub lowest : (k from : ℕ) → HasHole rules.fill old k from size
-      → (block_at old.blocks a < k) ⊎ ((block_at old.blocks a ≡ k) × (offset_at old.blocks a ≤ from))
-  pub lowest_free : HasKind old (block_at old.blocks a) kinds.Free → (k : ℕ) → HasKind old k kinds.Free
+      → (block_at old.blocks a < k)
+      ⊎ ((block_at old.blocks a ≡ k) × (offset_at old.blocks a ≤ from))
+  pub lowest_free : HasKind old (block_at old.blocks a) kinds.Free → (k : ℕ)
+      → HasKind old k kinds.Free
       → block_at old.blocks a ≤ k
 
 -- a large object is placed in the lowest run of Free blocks
@@ -264,25 +280,31 @@ pub record UsesBlock (rules : Rules) (old new : HeapState) (used size : ℕ) : T
 -- All other block words are unchanged.
 pub record UsesRun (old new : HeapState) (used n : ℕ) : Type 0 where
   pub head : block_word new used ≡ code_of (block_of_kind kinds.LargeHead n)
-  pub tails : (j : ℕ) → 0 < j → j < n → block_word new (used + j) ≡ code_of (block_of_kind kinds.LargeTail 0)
-  pub others : (k : ℕ) → k < old.blocks → (k < used) ⊎ (used + n ≤ k) → block_word new k ≡ block_word old k
+  pub tails : (j : ℕ) → 0 < j → j < n
+      → block_word new (used + j) ≡ code_of (block_of_kind kinds.LargeTail 0)
+  pub others : (k : ℕ) → k < old.blocks → (k < used) ⊎ (used + n ≤ k)
+      → block_word new k ≡ block_word old k
 
--- A new object at address a: its references are nil, its numbers 0, and of its bits only the start bit is set.
--- The objects held before keep their words and bits.
+-- A new object at address a: its references are nil, its numbers 0, and of its bits only the start
+-- bit is set. The objects held before keep their words and bits.
 pub record AddsObject (old new : HeapState) (a refs nums : ℕ) : Type 0 where
   pub held : IsHeld new a
   pub fresh : IsHeld old a → ⊥
   pub others : (x : ℕ) → x ≢ a → IsHeld old x ↔ IsHeld new x
-  pub shape : word_at new (a + 1) ≡ shape_code refs nums
+  pub shape : word_at new (a + SHAPE_OFFSET) ≡ shape_code refs nums
   pub blank : (i : ℕ) → 2 ≤ i → i < size_of refs nums → word_at new (a + i) ≡ 0
   pub unmarked : (IsTrue (is_pinned new a) → ⊥) × (IsTrue (is_unlogged new a) → ⊥)
-  pub words : (x i : ℕ) → IsHeld old x → i < size_at old x → word_at new (x + i) ≡ word_at old (x + i)
-  pub bits : (x : ℕ) → IsHeld old x → (is_pinned new x ≡ is_pinned old x) × (is_unlogged new x ≡ is_unlogged old x)
+  pub words : (x i : ℕ) → IsHeld old x → i < size_at old x
+      → word_at new (x + i) ≡ word_at old (x + i)
+  pub bits : (x : ℕ) → IsHeld old x → (is_pinned new x ≡ is_pinned old x)
+      × (is_unlogged new x ≡ is_unlogged old x)
 
--- no word before the block words changes, and of the heap only words of the n blocks from `used` on change
+-- no word before the block words changes, and of the heap only words of the n blocks from `used` on
+-- change
 pub record ChangesBlocks (old new : HeapState) (used n : ℕ) : Type 0 where
   pub front : (i : ℕ) → i < first old.blocks BlockWords → word_at new i ≡ word_at old i
-  pub elsewhere : (i : ℕ) → IsAddress old.blocks i → (block_at old.blocks i < used) ⊎ (used + n ≤ block_at old.blocks i)
+  pub elsewhere : (i : ℕ) → IsAddress old.blocks i
+      → (block_at old.blocks i < used) ⊎ (used + n ≤ block_at old.blocks i)
       → word_at new i ≡ word_at old i
 
 -- a `new` that is placed at a stop
@@ -290,12 +312,17 @@ pub record Places (t : Setting) (m d refs nums : ℕ) (before now : Moment) : Ty
   pub fits : Fits t.rules before.heap (size_of refs nums)
   pub place : ℕ
   pub object : AddsObject before.heap now.heap place refs nums
-  pub small : size_of refs nums ≤ MAX_MEDIUM_WORDS → PlacesSmall t.rules before.heap place (size_of refs nums)
-      × UsesBlock t.rules before.heap now.heap (block_at before.heap.blocks place) (size_of refs nums)
+  pub small : size_of refs nums ≤ MAX_MEDIUM_WORDS
+      → PlacesSmall t.rules before.heap place (size_of refs nums)
+      × UsesBlock t.rules before.heap now.heap (block_at before.heap.blocks place)
+      (size_of refs nums)
       × ChangesBlocks before.heap now.heap (block_at before.heap.blocks place) 1
-  pub large : MAX_MEDIUM_WORDS < size_of refs nums → PlacesLarge before.heap place (size_of refs nums)
-      × UsesRun before.heap now.heap (block_at before.heap.blocks place) (blocks_for (size_of refs nums))
-      × ChangesBlocks before.heap now.heap (block_at before.heap.blocks place) (blocks_for (size_of refs nums))
+  pub large : MAX_MEDIUM_WORDS < size_of refs nums
+      → PlacesLarge before.heap place (size_of refs nums)
+      × UsesRun before.heap now.heap (block_at before.heap.blocks place)
+      (blocks_for (size_of refs nums))
+      × ChangesBlocks before.heap now.heap (block_at before.heap.blocks place)
+      (blocks_for (size_of refs nums))
   pub layout : (now.heap.blocks ≡ before.heap.blocks) × (now.heap.number ≡ before.heap.number)
       × (now.heap.base ≡ before.heap.base)
   pub counts : (now.nursery ≡ before.nursery) × (now.full ≡ before.full)
@@ -311,25 +338,31 @@ pub record Places (t : Setting) (m d refs nums : ℕ) (before now : Moment) : Ty
 abbrev pub refused_entry : ℕ → ℕ → ℕ → ℕ → Entry
 refused_entry m d refs nums = record { mutator = m; command = c.New d refs nums; reply = r.Full }
 
--- what precedes the full collection for a need: nothing, or a nursery collection after which the size does not fit
+-- what precedes the full collection for a need: nothing, or a nursery collection after which the
+-- size does not fit
 abbrev pub FirstTry : Setting → ℕ → Collect → Moment → Moment → Type 0
 FirstTry t size Full before now = now ≡ before
-FirstTry t size Nursery before now = MakesCollection t Nursery before now × (Fits t.rules now.heap size → ⊥)
+FirstTry t size Nursery before now = MakesCollection t Nursery before now
+    × (Fits t.rules now.heap size → ⊥)
 
--- A need is served at once if it fits. If not, the collection to try first is made, and then a full one if it still
--- does not fit. It is refused only if it does not fit after the full collection made for it.
+-- A need is served at once if it fits. If not, the collection to try first is made, and then a full
+-- one if it still does not fit. It is refused only if it does not fit after the full collection
+-- made for it.
 pub data ServesNeed (t : Setting) (m d refs nums : ℕ) (before now : Moment) : Type 0 where
   at_once : Places t m d refs nums before now → ServesNeed t m d refs nums before now
   after_nursery : (mid : Moment) → (Fits t.rules before.heap (size_of refs nums) → ⊥)
       → first_collection t.rules before.heap ≡ Nursery
-      → MakesCollection t Nursery before mid → Places t m d refs nums mid now → ServesNeed t m d refs nums before now
+      → MakesCollection t Nursery before mid → Places t m d refs nums mid now
+      → ServesNeed t m d refs nums before now
   after_full : (mid late : Moment) → (Fits t.rules before.heap (size_of refs nums) → ⊥)
       → FirstTry t (size_of refs nums) (first_collection t.rules before.heap) before mid
-      → MakesCollection t Full mid late → Places t m d refs nums late now → ServesNeed t m d refs nums before now
+      → MakesCollection t Full mid late → Places t m d refs nums late now
+      → ServesNeed t m d refs nums before now
   refused : (mid late : Moment) → (Fits t.rules before.heap (size_of refs nums) → ⊥)
       → FirstTry t (size_of refs nums) (first_collection t.rules before.heap) before mid
       → MakesCollection t Full mid late → (Fits t.rules late.heap (size_of refs nums) → ⊥)
-      → OnlyReplies (refused_entry m d refs nums ∷ []) late now → ServesNeed t m d refs nums before now
+      → OnlyReplies (refused_entry m d refs nums ∷ []) late now
+      → ServesNeed t m d refs nums before now
 
 -- the second step of a stop: each need is served, in ascending order of the mutators
 abbrev pub ServesAll : Setting → List ℕ → Moment → Moment → Type 0
@@ -372,7 +405,8 @@ pub record IsEpoch (t : Setting) (before now : Moment) : Type 0 where
 -- the states that sessions of a setting reach after some number of epochs
 pub data InSession (t : Setting) : Moment → Type 0 where
   begun : InSession t (first_moment t)
-  longer : (before : Moment) {now : Moment} → InSession t before → IsEpoch t before now → InSession t now
+  longer : (before : Moment) {now : Moment} → InSession t before → IsEpoch t before now
+      → InSession t now
 
 -- the last state of a session in which every command of the traces has its reply
 pub record IsWhole (t : Setting) (last : Moment) : Type 0 where

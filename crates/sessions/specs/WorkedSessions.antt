@@ -20,10 +20,12 @@ worked_setting rules traces = record { rules = rules; blocks = 4; workers = 1; t
 abbrev pub worked_moment : Rules → List (List Command) → Moment
 worked_moment rules traces = first_moment (worked_setting rules traces)
 
--- the heap after mutator 1 allocated an object of one reference and one number, in block 0 of this kind and class
+-- the heap after mutator 1 allocated an object of one reference and one number, in block 0 of this
+-- kind and class
 abbrev pub heap_after_birth : Kind → ℕ → HeapState
 heap_after_birth kind class = build_heap (record {
-  blocks = unowned kind class ∷ unowned kinds.Free 0 ∷ unowned kinds.Free 0 ∷ unowned kinds.Free 0 ∷ [];
+  blocks = unowned kind class ∷ unowned kinds.Free 0 ∷ unowned kinds.Free 0
+      ∷ unowned kinds.Free 0 ∷ [];
   objects = plain_object 0 0 1 (0 ∷ []) 1 0 ∷ [];
   globals = replicate 16 0;
   number = 0;

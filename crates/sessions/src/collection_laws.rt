@@ -10,6 +10,8 @@ ghost use Rattle.sessions.specs.Plans.{Rules};
 ghost use Rattle.sessions.specs.Collecting.{IsCollection, Remembers};
 ghost use Rattle.sessions.specs.Sessions.{Setting, Moment, IsSound, MakesCollection, AddsObject, birth_count, counts_after};
 
+use ideal_heap::REGISTERS;
+
 /// A collection of a sound moment's heap leaves a sound moment, if the heap after it is lawful, no
 /// entry is added, and each mutator has its number, its births and the sixteen registers that the
 /// collection left. If it is counted too, it is a collection of the session. A collection gives as
@@ -19,13 +21,13 @@ pub fn collections_keep_moments_sound()
         → IsCollection t.rules t.workers kind before.heap (roots_of before.mutators) now.heap
         (roots_of now.mutators) → IsLawful now.heap
         → map birth_count now.mutators ≡ map birth_count before.mutators
-        → AllByRecursion (λ m. length m.registers ≡ 16) now.mutators
+        → AllByRecursion (λ m. length m.registers ≡ REGISTERS) now.mutators
         → now.done ≡ before.done → IsSound t now }
     ensures makes { (t : Setting) (kind : Collect) (before now : Moment) → IsSound t before
         → IsCollection t.rules t.workers kind before.heap (roots_of before.mutators) now.heap
         (roots_of now.mutators) → IsLawful now.heap
         → map birth_count now.mutators ≡ map birth_count before.mutators
-        → AllByRecursion (λ m. length m.registers ≡ 16) now.mutators
+        → AllByRecursion (λ m. length m.registers ≡ REGISTERS) now.mutators
         → now.done ≡ before.done → (now.nursery, now.full) ≡ counts_after kind before
         → MakesCollection t kind before now }
     ensures roots { (r : Rules) (workers : ℕ) (kind : Collect) (old new : HeapState)

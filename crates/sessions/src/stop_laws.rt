@@ -23,6 +23,7 @@ ghost use Rattle.sessions.specs.Collecting.{Collects, first_collection};
 ghost use Rattle.sessions.specs.Sessions.{Setting, Moment, Cause, traced_mutators, first_moment, next_in, ideal_at, is_at_gc, is_at_need, is_at_meet, is_waiting, all_done, refused_entry, IsOfPart, IsSound, MakesCollection, OnlyReplies, CollectsFor, PlacesSmall, PlacesLarge, UsesBlock, UsesRun, AddsObject, ChangesBlocks, Places, ServesNeed, ServesAll, Meets, IsEpoch, InSession, IsWhole};
 ghost use Rattle.sessions.specs.WorkedSessions.{worked_setting, worked_moment};
 
+use heap_layout::GLOBALS;
 use object_model::MAX_MEDIUM_WORDS;
 
 /// A collection is counted, adds no entry, and keeps how many objects each mutator has allocated.
@@ -135,7 +136,7 @@ pub fn used_blocks_get_their_kinds()
         → k + 3 < old.blocks → (block_word new k ≡ block_word old k)
         × (block_word new (k + 3) ≡ block_word old (k + 3)) }
     ensures globals { (old new : HeapState) (used n g : ℕ) → ChangesBlocks old new used n
-        → new.blocks ≡ old.blocks → g < 16 → global_at new g ≡ global_at old g }
+        → new.blocks ≡ old.blocks → g < GLOBALS → global_at new g ≡ global_at old g }
     ensures words { (old new : HeapState) (k n i : ℕ) → ChangesBlocks old new (k + 1) n
         → IsAddress old.blocks i
         → (block_at old.blocks i ≡ k) ⊎ (block_at old.blocks i ≡ k + 1 + n)
@@ -159,7 +160,7 @@ pub fn places_add_one_object()
         → (Fits t.rules before.heap (size_of refs nums) → ⊥)
         → Places t m d refs nums before now → ⊥ }
     ensures globals { (t : Setting) (m d refs nums : ℕ) (before now : Moment)
-        → Places t m d refs nums before now → (g : ℕ) → g < 16
+        → Places t m d refs nums before now → (g : ℕ) → g < GLOBALS
         → global_at now.heap g ≡ global_at before.heap g }
     ensures small_kind { (t : Setting) (m d refs nums : ℕ) (before now : Moment)
         → (p : Places t m d refs nums before now) → size_of refs nums ≤ MAX_MEDIUM_WORDS

@@ -11,7 +11,8 @@ field_bits s = 2 ^ s.log_bits
 abbrev pub field_index : Spec → ℕ → ℕ
 field_index s a = (a - s.heap) / 2 ^ s.log_region
 
--- the index of the word that contains the field of an address, and the index of its lowest bit in that word
+-- the index of the word that contains the field of an address, and the index of its lowest bit in
+-- that word
 abbrev pub place_word : Spec → ℕ → ℕ
 place_word s a = s.zone + field_index s a * field_bits s / 64
 
@@ -22,7 +23,8 @@ place_shift s a = field_index s a * field_bits s % 64
 abbrev pub field_value : List ℕ → Spec → ℕ → ℕ
 field_value w s a = slice_index w (place_word s a) / 2 ^ place_shift s a % 2 ^ field_bits s
 
--- whether the lowest bit of an address's field is 1; if the field has one bit, this is the whole field
+-- whether the lowest bit of an address's field is 1; if the field has one bit, this is the whole
+-- field
 abbrev pub is_set : List ℕ → Spec → ℕ → Bool
 is_set w s a = nat_eq (bit_at (slice_index w (place_word s a)) (place_shift s a)) 1
 
@@ -34,4 +36,5 @@ pub record ChangesField (old new : List ℕ) (s : Spec) (a : ℕ) : Type 0 where
   pub bits : (k : ℕ) → k < 64 → (k < place_shift s a) ⊎ (place_shift s a + field_bits s ≤ k)
       → bit_at (slice_index new (place_word s a)) k ≡ bit_at (slice_index old (place_word s a)) k
   -- hence the fields of other regions are unchanged
-  pub fields : (x : ℕ) → field_index s x ≢ field_index s a → field_value new s x ≡ field_value old s x
+  pub fields : (x : ℕ) → field_index s x ≢ field_index s a
+      → field_value new s x ≡ field_value old s x

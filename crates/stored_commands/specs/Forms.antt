@@ -7,7 +7,8 @@ use Rattle.stored_commands.specs.declared.form.Form.TheVariants.{New, Get, Put, 
 use Rattle.stored_commands.specs.declared.packed_command.Packed.{Packed}
 use Rattle.stored_commands.specs.declared.packed_command.Packed.TheVariants.{Short, Long}
 
--- the command that a form stands for, beside these commands that are not short (`gc` past their end)
+-- the command that a form stands for, beside these commands that are not short (`gc` past their
+-- end)
 abbrev pub command_in : List Command → Form → Command
 command_in others (New d refs nums) = commands.New d refs nums
 command_in others (Get d s i) = commands.Get d s i

@@ -16,7 +16,7 @@ use Rattle.trace_core.specs.Traces.{HasCopyRoom, IsTracing, machine_after, heap_
 use Rattle.trace_core.proofs.Steps.{copied-plain}
 use Rattle.trace_core.proofs.Objects.{IsPlaced, CopyingObject, ScanningObject, ObjectIs, Some-injective, None-not-Some}
 use Rattle.trace_core.proofs.Places as places
-use Rattle.trace_core.proofs.Beginning.{remembered, first-old, first-young}
+use Rattle.trace_core.proofs.FirstInvariant.{remembered, first-old, first-young}
 use Rattle.trace_core.proofs.Once.{one_if, targets-in, claims, scans}
 use Rattle.object_model.proofs.Marks.{mark-same}
 use Rattle.trace_core.proofs.Sides.{StartsAt, UnlogsAt}

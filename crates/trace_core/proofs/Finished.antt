@@ -15,7 +15,7 @@ use Rattle.trace_core.specs.Machine.{target, Event, claimed_word, copied_word, f
 use Rattle.trace_core.specs.Traces.{IsTracing, IsFinished, TraceKeeps, FromRoot, FromGlobal, FromOld, ByReference, machine_after, heap_after, stage_of, target_of}
 use Rattle.trace_core.specs.Outcomes.{base_after_trace, image, HaveAsked, NoOthersAsked}
 use Rattle.trace_core.proofs.Steps.{copied-plain, copied-collector}
-use Rattle.trace_core.proofs.Beginning.{held-of-old, age-of, nursery-of}
+use Rattle.trace_core.proofs.FirstInvariant.{held-of-old, age-of, nursery-of}
 use Rattle.trace_core.proofs.Objects.{Some-injective, None-not-Some}
 use Rattle.trace_core.proofs.Places as places
 use Rattle.trace_core.proofs.Law.{sound}

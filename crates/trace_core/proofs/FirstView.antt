@@ -8,8 +8,8 @@ use Rattle.trace_core.specs.Setups.{Setup, TraceMayBegin, refs, stays_old, keeps
 use Rattle.trace_core.specs.Machine.{Stage, Unclaimed, Scanning, target, first_machine, first_stage}
 use Rattle.trace_core.specs.Views.{Holds, one_if, hits, times, is_pair, is_copying, is_scanning, is_stage_copied, first_view}
 use Rattle.trace_core.specs.declared.run.TraceRun.{TraceRun}
-use Rattle.trace_core.proofs.Beginning.{first-old, first-young}
-use Rattle.trace_core.proofs.Counting.{hits-cons, hits-from, pair-parts, times-cons}
+use Rattle.trace_core.proofs.FirstInvariant.{first-old, first-young}
+use Rattle.trace_core.proofs.CountedRights.{hits-cons, hits-from, pair-parts, times-cons}
 use Rattle.trace_core.proofs.Idle.{one-if-from, one-if-true}
 
 -- a range with one number more

@@ -7,7 +7,7 @@ use Rattle.trace_core.specs.Machine.{Stage, Unclaimed, Scanning, Machine, Event,
 use Rattle.trace_core.specs.Traces.{May, after, AreNext, IsTracing, machine_after}
 use Rattle.trace_core.proofs.ObjectEvents.{Keeps}
 use Rattle.trace_core.proofs.ObjectLaw.{object-event}
-use Rattle.trace_core.proofs.Beginning.{first-keeps, first-old, first-young, held-of-old}
+use Rattle.trace_core.proofs.FirstInvariant.{first-keeps, first-old, first-young, held-of-old}
 use Rattle.trace_core.proofs.Sides.{StartsAt, UnlogsAt}
 use Rattle.trace_core.proofs.SideEvents.{Sides}
 use Rattle.trace_core.proofs.SideLaw.{side-event}

@@ -3,7 +3,7 @@ pub mod Objects
 pub mod Places
 pub mod Steps
 mod ObjectEvents
-pub mod Beginning
+pub mod FirstInvariant
 mod ObjectLaw
 mod Sides
 mod SideEvents
@@ -16,8 +16,8 @@ pub mod Clauses
 pub mod Finished
 pub mod Rows
 pub mod Releasable
-pub mod Appending
-pub mod Counting
+pub mod AppendedEvents
+pub mod CountedRights
 pub mod Idle
 pub mod BlocksLeft
 pub mod CopyEvents
@@ -27,5 +27,5 @@ pub mod ScanRights
 mod WorkedTraces
 pub mod Begun
 pub mod LineBits
-pub mod Deciding
+pub mod DecidingBits
 pub mod SameObjects

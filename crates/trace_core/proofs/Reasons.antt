@@ -11,7 +11,7 @@ use Rattle.trace_core.proofs.Puts.{put_here, put_else}
 use Rattle.trace_core.proofs.Objects.{Some-injective, None-not-Some, Grows, grows_put}
 use Rattle.trace_core.proofs.Places.{object-from}
 use Rattle.trace_core.proofs.ObjectEvents.{Keeps, claimed-to-move}
-use Rattle.trace_core.proofs.Beginning.{first-young}
+use Rattle.trace_core.proofs.FirstInvariant.{first-young}
 
 pub record KeepsReasons (p : Setup) (stage : ℕ → Stage) (taken asked : ℕ → ℕ) : Type 0 where
   pub roots : (x : ℕ) → 0 < asked x → (t : ℕ) × (target (stage x) ≡ Some t)

@@ -6,7 +6,7 @@ use Rattle.trace_core.specs.Setups.{Setup, stays_old, keeps_its_words}
 use Rattle.trace_core.specs.Machine.{Stage, Unclaimed, Copying, Scanning, target, Machine, Scan, SetGlobal, next, put, scan_stage}
 use Rattle.trace_core.specs.Views.{View, Holds, one_if, without, is_pair, hits, times, is_copying, is_scanning, is_stage_copied, scanned_view, set_view}
 use Rattle.trace_core.proofs.Puts.{put_here, put_else}
-use Rattle.trace_core.proofs.Counting.{hits-cons, hits-without, times-cons, times-without}
+use Rattle.trace_core.proofs.CountedRights.{hits-cons, hits-without, times-cons, times-without}
 use Rattle.trace_core.proofs.Idle.{one-if-from, one-if-true}
 use Rattle.trace_core.proofs.Objects.{Some-injective, None-not-Some}
 

@@ -37,7 +37,8 @@ abbrev pub Marks : ℕ → Event → Type 0
 Marks x (MarkLines y word mask) = y ≡ x
 Marks x _ = ⊥
 
--- the event scans a field of the object that was at x, follows one, or marks the object's lines if the run marks lines
+-- the event scans a field of the object that was at x, follows one, or marks the object's lines if
+-- the run marks lines
 abbrev pub Scans : Bool → ℕ → Event → Type 0
 Scans lines x (Scan y) = y ≡ x
 Scans lines x (MarkLines y word mask) = (y ≡ x) × IsTrue lines

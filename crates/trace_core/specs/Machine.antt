@@ -1,6 +1,9 @@
--- The trace machine: what any number of workers do to the row, one step at a time, while mutators are stopped. A step
--- changes one word at most, and what is known of objects, addresses, blocks, globals and roots.
+-- The trace machine: what any number of workers do to the row, one step at a time, while mutators
+-- are stopped. A step changes one word at most, and what is known of objects, addresses, blocks,
+-- globals and roots.
 use Rattle.std.specs.Prelude.{◌≡◌, ℕ, ◌+◌, ◌-◌, Bool, true, false, ◌&&◌, not, IsTrue, if◌then◌else◌, nat_eq, nat_lt, nat_le, Option, Some, None, List, slice_index, slice_set, bit_or}
+use Rattle.heap_layout.specs.declared.block.TheConstants.{FIRST_WORKER_OWNER}
+use Rattle.object_model.specs.declared.shape.TheConstants.{COLLECTOR_OFFSET, HEADER_WORDS}
 use Rattle.forward_word.specs.CollectorWords.{collector_word}
 use Rattle.heap_layout.specs.Zones.{Globals, BlockWords, StartBits, UnlogBits, first}
 use Rattle.heap_layout.specs.Blocks.{code_of}
@@ -67,29 +70,35 @@ put_all f x n v a = if nat_le x a && nat_lt a (x + n) then v else f a
 
 -- the collector word of the object that was at x, there and at its target
 abbrev pub claimed_word : Setup → ℕ → ℕ → ℕ
-claimed_word p x t = if stays_old p x then word_at p.before (x + 2) else collector_word (collection p) t
+claimed_word p x t = if stays_old p x then word_at p.before (x + COLLECTOR_OFFSET)
+    else collector_word (collection p) t
 
 -- the word at this offset of the copy at t, before fields are scanned
 abbrev pub copied_word : Setup → ℕ → ℕ → ℕ → ℕ
-copied_word p x t offset = if nat_eq offset 2 then claimed_word p x t else word_at p.before (x + offset)
+copied_word p x t offset =
+    if nat_eq offset 2 then claimed_word p x t else word_at p.before (x + offset)
 
--- The words of an object are copied in order, but for the collector word, which comes last: the offset of the word that
--- step k copies, and the step that copies the word at an offset.
+-- The words of an object are copied in order, but for the collector word, which comes last: the
+-- offset of the word that step k copies, and the step that copies the word at an offset.
 abbrev pub offset_of_step : ℕ → ℕ → ℕ
 offset_of_step n k = if nat_lt k 2 then k else (if nat_lt (k + 1) n then k + 1 else 2)
 
 abbrev pub step_of_offset : ℕ → ℕ → ℕ
-step_of_offset n offset = if nat_lt offset 2 then offset else (if nat_eq offset 2 then n - 1 else offset - 1)
+step_of_offset n offset =
+    if nat_lt offset 2 then offset else (if nat_eq offset 2 then n - 1 else offset - 1)
 
--- Step k of copying the object at x to t: first its words, then the unlog bit, then the start bit. In place only the
--- unlog bit is left to set. The index of the word, its value after the step if it was n, and the object's stage.
+-- Step k of copying the object at x to t: first its words, then the unlog bit, then the start bit.
+-- In place only the unlog bit is left to set. The index of the word, its value after the step if it
+-- was n, and the object's stage.
 abbrev pub copy_place : Setup → ℕ → Stage → ℕ
 copy_place p x (Copying t k) = if nat_lt k (size p x) then t + offset_of_step (size p x) k
-    else (if nat_eq k (size p x) then bit_word (blocks p) UnlogBits t else bit_word (blocks p) StartBits t)
+    else (if nat_eq k (size p x) then bit_word (blocks p) UnlogBits t else bit_word (blocks p)
+    StartBits t)
 copy_place p x _ = 0
 
 abbrev pub copy_value : Setup → ℕ → Stage → ℕ → ℕ
-copy_value p x (Copying t k) n = if nat_lt k (size p x) then copied_word p x t (offset_of_step (size p x) k)
+copy_value p x (Copying t k) n =
+    if nat_lt k (size p x) then copied_word p x t (offset_of_step (size p x) k)
     else with_bit n (bit_place (blocks p) t)
 copy_value p x _ n = n
 
@@ -98,7 +107,8 @@ copy_stage p x (Copying t k) = if nat_lt k (size p x) then Copying t (k + 1)
     else (if nat_eq k (size p x) && not (nat_eq t x) then Copying t (k + 1) else Scanning t 0)
 copy_stage p x stage = stage
 
--- the last value of a field or global that was v: nil stays nil, and a reference is that to the target
+-- the last value of a field or global that was v: nil stays nil, and a reference is that to the
+-- target
 abbrev pub address_or_nil : Option ℕ → ℕ
 address_or_nil None = 0
 address_or_nil (Some t) = t
@@ -112,7 +122,7 @@ IsSettled stage v = IsTrue (is_reference v) → (t : ℕ) × (target (stage v) �
 
 -- the next field is scanned: the same three
 abbrev pub scan_place : Stage → ℕ
-scan_place (Scanning t k) = t + 3 + k
+scan_place (Scanning t k) = t + HEADER_WORDS + k
 scan_place _ = 0
 
 abbrev pub scan_value : Setup → (ℕ → Stage) → ℕ → Stage → ℕ → ℕ
@@ -123,14 +133,15 @@ abbrev pub scan_stage : Stage → Stage
 scan_stage (Scanning t k) = Scanning t (k + 1)
 scan_stage stage = stage
 
--- the word of a block that worker w takes; owners 17 to 32 are workers
+-- the word of a block that worker w, counted from 1, takes
 abbrev pub taken_word : Setup → ℕ → ℕ
-taken_word p w = code_of (record { kind = p.copy; class = 0; owner = 16 + w })
+taken_word p w = code_of (record { kind = p.copy; class = 0; owner = FIRST_WORKER_OWNER - 1 + w })
 
--- the index of the word that an event changes, and its value after the event if it was n; Ask changes none
+-- the index of the word that an event changes, and its value after the event if it was n; Ask
+-- changes none
 abbrev pub word_changed_by : Setup → Machine → Event → ℕ
-word_changed_by p m (Claim x t cause) = x + 2
-word_changed_by p m (Ask x) = x + 2
+word_changed_by p m (Claim x t cause) = x + COLLECTOR_OFFSET
+word_changed_by p m (Ask x) = x + COLLECTOR_OFFSET
 word_changed_by p m (Copy x) = copy_place p x (m.stage x)
 word_changed_by p m (Scan x) = scan_place (m.stage x)
 word_changed_by p m (SetGlobal g) = first (blocks p) Globals + g
@@ -153,7 +164,8 @@ stage_after p m (Scan x) = put m.stage x (scan_stage (m.stage x))
 stage_after p m _ = m.stage
 
 abbrev pub owner_after : Setup → Machine → Event → ℕ → Option ℕ
-owner_after p m (Claim x t cause) = if nat_eq t x then m.owner else put_all m.owner t (size p x) (Some x)
+owner_after p m (Claim x t cause) =
+    if nat_eq t x then m.owner else put_all m.owner t (size p x) (Some x)
 owner_after p m _ = m.owner
 
 abbrev pub taken_after : Machine → Event → ℕ → ℕ
@@ -172,7 +184,8 @@ asks_after m _ = m.asked
 -- the machine after an event
 abbrev pub next : Setup → Machine → Event → Machine
 next p m e = record {
-  words = slice_set m.words (word_changed_by p m e) (stored p m e (slice_index m.words (word_changed_by p m e)));
+  words = slice_set m.words (word_changed_by p m e)
+      (stored p m e (slice_index m.words (word_changed_by p m e)));
   stage = stage_after p m e;
   owner = owner_after p m e;
   taken = taken_after m e;
@@ -180,10 +193,11 @@ next p m e = record {
   asked = asks_after m e;
 }
 
--- As the trace begins nothing is claimed. Old objects of a nursery collection stay in place: the fields of a logged one
--- are to be scanned, those of the others are as if they were.
+-- As the trace begins nothing is claimed. Old objects of a nursery collection stay in place: the
+-- fields of a logged one are to be scanned, those of the others are as if they were.
 abbrev pub first_stage : Setup → ℕ → Stage
-first_stage p x = if stays_old p x then Scanning x (if was_logged p x then 0 else refs p x) else Unclaimed
+first_stage p x =
+    if stays_old p x then Scanning x (if was_logged p x then 0 else refs p x) else Unclaimed
 
 abbrev pub first_machine : Setup → Machine
 first_machine p = record {

@@ -1,5 +1,6 @@
 -- What a finished trace leaves: which objects live, and where.
 use Rattle.std.specs.Prelude.{◌≡◌, ℕ, ◌<◌, ◌≤◌, ◌⊎◌, ◌↔◌, false, IsTrue, if◌then◌else◌, List, length, slice_index}
+use Rattle.heap_layout.specs.declared.layout.TheConstants.{BUDGET_WORD, STOP_WORD}
 use Rattle.heap_layout.specs.Zones.{row_words}
 use Rattle.heap_layout.specs.declared.block.Kind.TheVariants as kinds
 use Rattle.object_model.specs.Objects.{HeapState, HasKind, IsHeld, IsInExtent, word_at, block_word, number_at, name_at, refs_at, nums_at, is_pinned, is_unlogged}
@@ -17,22 +18,24 @@ base_after_trace p = if p.nursery then p.before.base else collection p
 abbrev pub image : (ℕ → Stage) → ℕ → ℕ
 image stage x = address_or_nil (target (stage x))
 
--- The row after a finished trace, where F gives targets and `taken` the workers that took blocks. It is no lawful heap: a
--- moved object and its copy have one name, and dead objects are still held.
+-- The row after a finished trace, where F gives targets and `taken` the workers that took blocks.
+-- It is no lawful heap: a moved object and its copy have one name, and dead objects are still held.
 pub record FinishedRow (p : Setup) (after : HeapState) (F taken : ℕ → ℕ) : Type 0 where
   pub extent : length after.words ≡ row_words (blocks p)
   pub layout : after.blocks ≡ blocks p
-  pub stop : word_at after 0 ≡ word_at p.before 0
-  pub budget : word_at after 1 ≡ word_at p.before 1
+  pub stop : word_at after STOP_WORD ≡ word_at p.before STOP_WORD
+  pub budget : word_at after BUDGET_WORD ≡ word_at p.before BUDGET_WORD
   -- what is held was held, or is a target; what lives is a target
   pub held : (x : ℕ) → IsHeld after x ↔ (IsHeld p.before x ⊎ ((a : ℕ) × (0 < F a) × (F a ≡ x)))
   pub lives : (x : ℕ) → Lives (base_after_trace p) after x ↔ ((a : ℕ) × (0 < F a) × (F a ≡ x))
   pub number : (x : ℕ) → Lives (base_after_trace p) after x → number_at after x ≤ collection p
   -- an object that was held still has its name and shape
   pub names : (x : ℕ) → IsHeld p.before x → name_at after x ≡ name_at p.before x
-  pub shapes : (x : ℕ) → IsHeld p.before x → (refs_at after x ≡ refs_at p.before x) × (nums_at after x ≡ nums_at p.before x)
+  pub shapes : (x : ℕ) → IsHeld p.before x → (refs_at after x ≡ refs_at p.before x)
+      × (nums_at after x ≡ nums_at p.before x)
   -- no word belongs to two objects, dead and moved ones included
-  pub apart : (x y i : ℕ) → IsHeld after x → IsHeld after y → IsInExtent after x i → IsInExtent after y i → x ≡ y
+  pub apart : (x y i : ℕ) → IsHeld after x → IsHeld after y → IsInExtent after x i
+      → IsInExtent after y i → x ≡ y
   pub places : (a : ℕ) → 0 < F a → (F a ≡ a) ⊎ HasCopyRoom p taken a (F a)
   -- blocks that workers took were Free, and have their words; the others have those that they had
   pub of_worker : (b : ℕ) → b < blocks p → 0 < taken b → block_word after b ≡ taken_word p (taken b)

@@ -34,8 +34,8 @@ pub record IsCopiedHere (x : ℕ) (p : Setup) (es : List Event) (v : View) : Typ
 abbrev pub IsReferred : ℕ → Setup → List Event → View → Type 0
 IsReferred reference p es v = IsTrue (is_reference reference) → IsHeld p.before reference
 
--- The object at x is not old and may not move, and no claimed object waits to be copied. So nothing claimed it if its
--- unlog bit is clear.
+-- The object at x is not old and may not move, and no claimed object waits to be copied. So nothing
+-- claimed it if its unlog bit is clear.
 pub record StaysHere (p : Setup) (v : View) (x : ℕ) : Type 0 where
   pub held : IsHeld p.before x
   pub full : p.nursery ≡ false

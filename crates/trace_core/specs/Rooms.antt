@@ -11,16 +11,19 @@ use Rattle.heap_layout.specs.declared.block.Kind.TheVariants as kinds
 
 -- the first words of the block, up to this offset, are words of targets
 abbrev pub IsFilled : Setup → Machine → ℕ → ℕ → Type 0
-IsFilled p m b offset = (o : ℕ) → o < offset → IsTrue (is_some (m.owner (block_start (blocks p) b + o)))
+IsFilled p m b offset = (o : ℕ) → o < offset
+    → IsTrue (is_some (m.owner (block_start (blocks p) b + o)))
 
 -- The room to copy into is the rest of the block that was taken last, behind its targets.
 abbrev pub IsCopyRoom : Setup → Machine → List ℕ → ℕ → Region → Type 0
 IsCopyRoom p m [] block room = room.next ≡ room.end
-IsCopyRoom p m (b ∷ earlier) block room = (block ≡ b) × (room.end ≡ BLOCK_WORDS) × (room.next ≤ BLOCK_WORDS)
+IsCopyRoom p m (b ∷ earlier) block room = (block ≡ b) × (room.end ≡ BLOCK_WORDS)
+    × (room.next ≤ BLOCK_WORDS)
     × IsFilled p m b room.next
     × ((o : ℕ) → room.next ≤ o → o < BLOCK_WORDS → m.owner (block_start (blocks p) b + o) ≡ None)
 
--- Block b was left for an object that did not fit behind the targets in it, and that came first in block `next`.
+-- Block b was left for an object that did not fit behind the targets in it, and that came first in
+-- block `next`.
 pub record IsLeftFor (p : Setup) (m : Machine) (b next : ℕ) : Type 0 where
   pub words : ℕ
   pub filled : IsFilled p m b words
@@ -28,8 +31,8 @@ pub record IsLeftFor (p : Setup) (m : Machine) (b next : ℕ) : Type 0 where
   pub first : m.owner (block_start (blocks p) next) ≡ Some object
   pub no_room : BLOCK_WORDS < words + size p object
 
--- These blocks, the last one first, were taken in rising order. Each but the last is one of the sparse ones, or was left
--- for the first object of the next one.
+-- These blocks, the last one first, were taken in rising order. Each but the last is one of the
+-- sparse ones, or was left for the first object of the next one.
 abbrev pub AreLeft : Setup → Machine → List ℕ → List ℕ → Type 0
 AreLeft p m sparse [] = Unit {0}
 AreLeft p m sparse (b ∷ []) = Unit {0}
@@ -37,8 +40,8 @@ AreLeft p m sparse (next ∷ b ∷ earlier) = (b < next) × ((0 < times b sparse
     × AreLeft p m sparse (b ∷ earlier)
 
 -- An object that may move and is in place had no room.
-abbrev pub StayForWantOfRoom : Setup → Machine → Region → Type 0
-StayForWantOfRoom p m room = (x : ℕ) → target (m.stage x) ≡ Some x → stays_old p x ≡ false
+abbrev pub StayWithoutRoom : Setup → Machine → Region → Type 0
+StayWithoutRoom p m room = (x : ℕ) → target (m.stage x) ≡ Some x → stays_old p x ≡ false
     → IsTrue (may_be_moved p x) → room.end < room.next + size p x
 
 -- no block of the heap is Free

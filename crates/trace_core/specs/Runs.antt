@@ -1,5 +1,6 @@
 -- A collection as a tracer gets it, and the collection that it begins so.
 use Rattle.std.specs.Prelude.{◌≡◌, ℕ, ◌+◌, ◌*◌, ◌^◌, ◌<◌, Bool, true, false, ◌||◌, IsTrue, List, [], ◌++◌, take, drop, length, slice_get, slice_index, Option, Some, None, replicate, if◌then◌else◌}
+use Rattle.forward_word.specs.declared.words.TheConstants.{NUMBER_BITS}
 use Rattle.heap_layout.specs.Zones.{LineWords, UnlogBits, first}
 use Rattle.object_model.specs.declared.collect.Collect.{Collect}
 use Rattle.object_model.specs.declared.collect.Collect.TheVariants.{Nursery, Full}
@@ -33,10 +34,11 @@ without_lines s = with_words s (zeroed s.words (first s.blocks LineWords) (4 * s
 abbrev pub without_unlogs : HeapState → HeapState
 without_unlogs s = with_words s (zeroed s.words (first s.blocks UnlogBits) (64 * s.blocks))
 
--- The heap as its trace begins. A full collection begins by clearing the unlog bits, so that a set one means that a
--- target is there. Under a plan with lines it clears the line bits too.
+-- The heap as its trace begins. A full collection begins by clearing the unlog bits, so that a set
+-- one means that a target is there. Under a plan with lines it clears the line bits too.
 abbrev pub begun : HeapState → TraceRun → HeapState
-begun s run = if is_nursery run.collect then s else without_unlogs (if run.lines then without_lines s else s)
+begun s run =
+    if is_nursery run.collect then s else without_unlogs (if run.lines then without_lines s else s)
 
 -- the collection as its trace begins
 abbrev pub setup_of : HeapState → TraceRun → ℕ → Setup
@@ -56,9 +58,10 @@ pub record ListsLogged (s : HeapState) (logged : List ℕ) : Type 0 where
 -- A trace of this heap may begin so.
 pub record MayRun (s : HeapState) (run : TraceRun) : Type 0 where
   pub number : run.number ≡ s.number + 1
-  pub limit : run.number < 2 ^ 40
+  pub limit : run.number < 2 ^ NUMBER_BITS
   pub base : run.base ≡ (if is_nursery run.collect then s.base else run.number)
-  -- a nursery collection comes after a full one, and finds each reference from an old object to a young one logged
+  -- a nursery collection comes after a full one, and finds each reference from an old object to a
+  -- young one logged
   pub full : IsTrue (is_nursery run.collect) → 0 < s.base
   pub remembers : IsTrue (is_nursery run.collect) → RemembersYoung s
   pub nursery : IsTrue (is_nursery run.collect) → ListsLogged s run.logged.items
@@ -66,7 +69,8 @@ pub record MayRun (s : HeapState) (run : TraceRun) : Type 0 where
   pub kind : IsTrue (is_copy_kind run.copy_kind)
   -- no object leaves a large block, and none leaves any block where none are copied
   pub from : length run.from.items ≡ s.blocks
-  pub small : (b : ℕ) → slice_get run.from.items b ≡ Some true → IsTrue (has_kind s b kinds.LargeHead || has_kind s b kinds.LargeTail) → ⊥
+  pub small : (b : ℕ) → slice_get run.from.items b ≡ Some true
+      → IsTrue (has_kind s b kinds.LargeHead || has_kind s b kinds.LargeTail) → ⊥
   pub fixed : run.copy_kind ≡ kinds.Free → (b : ℕ) → slice_get run.from.items b ≡ Some true → ⊥
 
 -- what the tracer got is so

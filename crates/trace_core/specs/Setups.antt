@@ -1,5 +1,6 @@
 -- A collection as its trace begins, and what is read from the heap as it was then.
 use Rattle.std.specs.Prelude.{◌≡◌, ℕ, ◌+◌, ◌<◌, ◌≤◌, ◌^◌, Bool, true, false, ◌&&◌, ◌||◌, not, IsTrue}
+use Rattle.forward_word.specs.declared.words.TheConstants.{NUMBER_BITS}
 use Rattle.heap_layout.specs.declared.block.Kind.{Kind}
 use Rattle.heap_layout.specs.declared.block.Kind.TheVariants as kinds
 use Rattle.object_model.specs.Objects.{HeapState, has_kind, is_start, is_unlogged, refs_at, size_at}
@@ -8,8 +9,9 @@ use Rattle.object_model.specs.Ages.{RemembersYoung}
 use Rattle.object_model.specs.Lawful.{IsLawfulButLines}
 use Rattle.object_model.specs.Preserving.{may_leave}
 
--- A collection as its trace begins: the heap, whether it is a nursery collection, the blocks to evacuate, the kind of
--- the blocks that objects are copied into (Free if none are copied), and how many workers trace.
+-- A collection as its trace begins: the heap, whether it is a nursery collection, the blocks to
+-- evacuate, the kind of the blocks that objects are copied into (Free if none are copied), and how
+-- many workers trace.
 pub record Setup : Type 0 where
   pub before : HeapState
   pub nursery : Bool
@@ -62,18 +64,20 @@ is_copy_kind kinds.LargeHead = false
 is_copy_kind kinds.LargeTail = false
 is_copy_kind kinds.Kept = false
 
--- A trace may begin. The heap is lawful but for its line bits, which a full collection of a plan with lines clears
--- first.
+-- A trace may begin. The heap is lawful but for its line bits, which a full collection of a plan
+-- with lines clears first.
 pub record TraceMayBegin (p : Setup) : Type 0 where
   pub lawful : IsLawfulButLines p.before
   -- the number fits a collector word
-  pub number : collection p < 2 ^ 40
+  pub number : collection p < 2 ^ NUMBER_BITS
   pub some : 1 ≤ p.workers
   pub few : p.workers ≤ 16
-  -- a nursery collection comes after a full one, and finds each reference from an old object to a young one logged
+  -- a nursery collection comes after a full one, and finds each reference from an old object to a
+  -- young one logged
   pub base : IsTrue p.nursery → 0 < p.before.base
   pub remembers : IsTrue p.nursery → RemembersYoung p.before
   pub kind : IsTrue (is_copy_kind p.copy)
   -- no object leaves a large block, and none leaves any block where none are copied
-  pub small : (b : ℕ) → IsTrue (p.from b) → IsTrue (has_kind p.before b kinds.LargeHead || has_kind p.before b kinds.LargeTail) → ⊥
+  pub small : (b : ℕ) → IsTrue (p.from b)
+      → IsTrue (has_kind p.before b kinds.LargeHead || has_kind p.before b kinds.LargeTail) → ⊥
   pub fixed : p.copy ≡ kinds.Free → (b : ℕ) → p.from b ≡ false

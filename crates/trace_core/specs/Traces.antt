@@ -13,7 +13,8 @@ use Rattle.trace_core.specs.Machine.{Stage, Unclaimed, Copying, Scanning, target
 abbrev pub NoneIsFree : Setup → (ℕ → ℕ) → Type 0
 NoneIsFree p taken = (b : ℕ) → HasKind p.before b kinds.Free → 0 < taken b
 
--- t is the address of room for the object at x in one block that a worker took, and the object may move
+-- t is the address of room for the object at x in one block that a worker took, and the object may
+-- move
 pub record HasCopyRoom (p : Setup) (taken : ℕ → ℕ) (x t : ℕ) : Type 0 where
   pub moves : IsTrue (may_be_moved p x)
   pub address : IsAddress (blocks p) t
@@ -30,11 +31,13 @@ pub record MovesObject (p : Setup) (m : Machine) (x t : ℕ) : Type 0 where
   pub room : HasCopyRoom p m.taken x t
   pub unowned : (i : ℕ) → IsInExtentOf t (size p x) i → m.owner i ≡ None
 
--- the object at x was asked for: as a root, by a global, or by a field of an object that has its target
+-- the object at x was asked for: as a root, by a global, or by a field of an object that has its
+-- target
 abbrev pub IsAskedBy : Setup → Machine → ℕ → ClaimCause → Type 0
 IsAskedBy p m x ByRoot = Unit {0}
 IsAskedBy p m x (ByGlobal g) = (g < GLOBALS) × (global_at p.before g ≡ x)
-IsAskedBy p m x (ByField y i) = (i < refs p y) × (ref_at p.before y i ≡ x) × ((t : ℕ) × (target (m.stage y) ≡ Some t))
+IsAskedBy p m x (ByField y i) = (i < refs p y) × (ref_at p.before y i ≡ x)
+    × ((t : ℕ) × (target (m.stage y) ≡ Some t))
 
 -- The event may come next. What loses a race changes nothing, so it is no event.
 abbrev pub May : Setup → Machine → Event → Type 0
@@ -42,11 +45,16 @@ May p m (Claim x t cause) = IsTrue (held p x) × (m.stage x ≡ Unclaimed) × Is
     × (Stays p m.taken x t ⊎ MovesObject p m x t)
 May p m (Ask x) = (t : ℕ) × (target (m.stage x) ≡ Some t)
 May p m (Copy x) = (t k : ℕ) × (m.stage x ≡ Copying t k)
-May p m (Scan x) = (t k : ℕ) × (m.stage x ≡ Scanning t k) × (k < refs p x) × IsSettled m.stage (ref_at p.before x k)
+May p m (Scan x) = (t k : ℕ) × (m.stage x ≡ Scanning t k) × (k < refs p x)
+    × IsSettled m.stage (ref_at p.before x k)
 May p m (SetGlobal g) = (g < GLOBALS) × (m.set g ≡ false) × IsSettled m.stage (global_at p.before g)
-May p m (MarkLines x word mask) = InZone (blocks p) LineWords word × ((t : ℕ) × (target (m.stage x) ≡ Some t)
-    × ((k : ℕ) → bit_at mask k ≡ 1 → (k < 64) × TouchesLine (blocks p) t (size p x) (64 * (word - first (blocks p) LineWords) + k)))
-May p m (TakeBlock b w) = HasKind p.before b kinds.Free × (m.taken b ≡ 0) × (0 < w) × (w ≤ p.workers) × (p.copy ≢ kinds.Free)
+May p m (MarkLines x word mask) = InZone (blocks p) LineWords word
+    × ((t : ℕ) × (target (m.stage x) ≡ Some t)
+    × ((k : ℕ) → bit_at mask k ≡ 1
+    → (k < 64)
+    × TouchesLine (blocks p) t (size p x) (64 * (word - first (blocks p) LineWords) + k)))
+May p m (TakeBlock b w) = HasKind p.before b kinds.Free × (m.taken b ≡ 0) × (0 < w)
+    × (w ≤ p.workers) × (p.copy ≢ kinds.Free)
 
 -- the machine after a list of events, in order, from the machine m on
 abbrev pub after : Setup → Machine → List Event → Machine
@@ -57,7 +65,8 @@ abbrev pub AreNext : Setup → Machine → List Event → Type 0
 AreNext p m [] = Unit {0}
 AreNext p m (e ∷ es) = May p m e × AreNext p (next p m e) es
 
--- the machine after a list of events from the beginning, its heap, and where the object at x will be
+-- the machine after a list of events from the beginning, its heap, and where the object at x will
+-- be
 abbrev pub machine_after : Setup → List Event → Machine
 machine_after p es = after p (first_machine p) es
 
@@ -75,13 +84,15 @@ pub record IsTracing (p : Setup) (es : List Event) : Type 0 where
   pub ready : TraceMayBegin p
   pub events : AreNext p (first_machine p) es
 
--- An object that a trace keeps: a root, a global or, in a nursery collection, an old object leads to it.
+-- An object that a trace keeps: a root, a global or, in a nursery collection, an old object leads
+-- to it.
 pub data TraceKeeps (p : Setup) (asked : ℕ → ℕ) : ℕ → Type 0 where
   FromRoot : (x : ℕ) → 0 < asked x → TraceKeeps p asked x
   FromGlobal : (g : ℕ) → g < GLOBALS → IsTrue (is_reference (global_at p.before g))
       → TraceKeeps p asked (global_at p.before g)
   FromOld : (x : ℕ) → IsTrue (stays_old p x) → TraceKeeps p asked x
-  ByReference : (y i : ℕ) → TraceKeeps p asked y → i < refs p y → IsTrue (is_reference (ref_at p.before y i))
+  ByReference : (y i : ℕ) → TraceKeeps p asked y → i < refs p y
+      → IsTrue (is_reference (ref_at p.before y i))
       → TraceKeeps p asked (ref_at p.before y i)
 
 -- how many fields of an object at this stage are scanned
@@ -89,8 +100,8 @@ abbrev pub fields_scanned : Stage → ℕ
 fields_scanned (Scanning t k) = k
 fields_scanned _ = 0
 
--- The trace is finished: each global has its last value, and each claimed or old object is copied and has its fields
--- scanned. A root that is no global is set as soon as it asked.
+-- The trace is finished: each global has its last value, and each claimed or old object is copied
+-- and has its fields scanned. A root that is no global is set as soon as it asked.
 pub record IsFinished (p : Setup) (m : Machine) : Type 0 where
   pub globals : (g : ℕ) → g < GLOBALS → IsTrue (m.set g)
   pub objects : (x t : ℕ) → target (m.stage x) ≡ Some t → m.stage x ≡ Scanning t (refs p x)

@@ -1,4 +1,5 @@
--- What a tracer has done and may do. Each right is held once, by the tracer or by a token that it gave.
+-- What a tracer has done and may do. Each right is held once, by the tracer or by a token that it
+-- gave.
 use Rattle.std.specs.Prelude.{◌≡◌, ℕ, ◌+◌, ◌<◌, Bool, true, false, nat_eq, List, [], ◌∷◌, ◌++◌, take, Some, if◌then◌else◌, ◌&&◌, not, nat_lt, map, count_by}
 use Rattle.heap_layout.specs.declared.layout.TheConstants.{GLOBALS}
 use Rattle.trace_core.specs.Setups.{Setup, size, refs, stays_old, keeps_its_words, was_logged}
@@ -57,20 +58,23 @@ is_stage_copied _ = false
 -- The view has all rights of the machine, each once, and is true of it.
 pub record Holds (p : Setup) (m : Machine) (v : View) : Type 0 where
   pub won : (x k : ℕ) → hits x k v.won ≡ one_if (is_copying k (m.stage x))
-  pub grey : (x k : ℕ) → hits x k v.grey ≡ one_if (not (keeps_its_words p x) && is_scanning k (m.stage x))
-  pub copied : (x : ℕ) → times x v.copied ≡ one_if (not (stays_old p x) && is_stage_copied (m.stage x))
+  pub grey : (x k : ℕ)
+      → hits x k v.grey ≡ one_if (not (keeps_its_words p x) && is_scanning k (m.stage x))
+  pub copied : (x : ℕ)
+      → times x v.copied ≡ one_if (not (stays_old p x) && is_stage_copied (m.stage x))
   pub unset : (g : ℕ) → times g v.unset ≡ one_if (nat_lt g GLOBALS && not (m.set g))
   pub set : (g : ℕ) → times g v.set ≡ one_if (m.set g)
   pub asked : (x : ℕ) → times x v.asked ≡ m.asked x
   pub known : (x t : ℕ) → 0 < hits x t v.known → target (m.stage x) ≡ Some t
   pub blocks : (b : ℕ) → times b v.blocks ≡ one_if (nat_lt 0 (m.taken b))
 
--- the steps of the copying of the object at x to t that its claim leaves: all but for an object in place, whose words
--- are there
+-- the steps of the copying of the object at x to t that its claim leaves: all but for an object in
+-- place, whose words are there
 abbrev pub steps_at_claim : Setup → ℕ → ℕ → ℕ
 steps_at_claim p x t = if nat_eq t x then size p x else 0
 
--- Nothing is left to do: nothing claimed waits to be copied, each copied or logged object is scanned, each global is set.
+-- Nothing is left to do: nothing claimed waits to be copied, each copied or logged object is
+-- scanned, each global is set.
 pub record NothingIsLeft (p : Setup) (v : View) : Type 0 where
   pub won : v.won ≡ []
   pub copied : (x : ℕ) → 0 < times x v.copied → 0 < hits x (refs p x) v.grey

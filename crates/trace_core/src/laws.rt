@@ -22,6 +22,9 @@ ghost use Rattle.trace_core.specs.declared.run.TraceRun.{TraceRun};
 ghost use Rattle.trace_core.specs.Outcomes.{FinishedRow, base_after_trace, image, HaveAsked, NoOthersAsked};
 ghost use Rattle.trace_core.specs.Traces.{May, HasCopyRoom, IsTracing, IsFinished, TraceKeeps, machine_after, heap_after, stage_of, target_of, fields_scanned, is_claim_of, is_scan_of};
 
+use heap_layout::GLOBALS;
+use object_model::COLLECTOR_OFFSET;
+
 /// No two objects have the same target.
 pub fn targets_are_one_to_one()
     ensures { (p : Setup) (es : List Event) → IsTracing p es → (x y t : ℕ)
@@ -56,12 +59,14 @@ pub fn objects_wait_to_be_scanned()
         ⊎ ((k : ℕ) × (stage_of p es x ≡ Scanning x k) × (3 ≤ o) × (o < 3 + k)) }
     ensures claimed { (p : Setup) (es : List Event) → IsTracing p es → (x t : ℕ)
         → target_of p es x ≡ Some t → stays_old p x ≡ false
-        → word_at (heap_after p es) (x + 2) ≡ collector_word (collection p) t }
+        → word_at (heap_after p es) (x + COLLECTOR_OFFSET) ≡ collector_word (collection p) t }
     ensures unclaimed { (p : Setup) (es : List Event) → IsTracing p es → (x : ℕ)
         → IsHeld p.before x → target_of p es x ≡ None
-        → word_at (heap_after p es) (x + 2) ≡ word_at p.before (x + 2) }
+        → word_at (heap_after p es) (x + COLLECTOR_OFFSET)
+        ≡ word_at p.before (x + COLLECTOR_OFFSET) }
     ensures old { (p : Setup) (es : List Event) → IsTracing p es → (x : ℕ)
-        → IsTrue (stays_old p x) → word_at (heap_after p es) (x + 2) ≡ word_at p.before (x + 2) }
+        → IsTrue (stays_old p x) → word_at (heap_after p es) (x + COLLECTOR_OFFSET)
+        ≡ word_at p.before (x + COLLECTOR_OFFSET) }
 {}
 
 /// The words of an object are copied in their order, the collector word last. A start bit is set
@@ -94,11 +99,11 @@ pub fn references_are_forwarded()
         → ref_at (heap_after p es) t i ≡ forward (stage_of p es) (ref_at p.before x i) }
     ensures fields { (p : Setup) (es : List Event) → IsTracing p es → (x t k : ℕ)
         → stage_of p es x ≡ Scanning t k → k ≤ refs p x }
-    ensures global { (p : Setup) (es : List Event) → IsTracing p es → (g : ℕ) → g < 16
+    ensures global { (p : Setup) (es : List Event) → IsTracing p es → (g : ℕ) → g < GLOBALS
         → global_at (heap_after p es) g
         ≡ (if (machine_after p es).set g then forward (stage_of p es) (global_at p.before g)
         else global_at p.before g) }
-    ensures set { (p : Setup) (es : List Event) → IsTracing p es → (g : ℕ) → g < 16
+    ensures set { (p : Setup) (es : List Event) → IsTracing p es → (g : ℕ) → g < GLOBALS
         → IsTrue ((machine_after p es).set g)
         → IsSettled (stage_of p es) (global_at p.before g) }
 {}
@@ -147,7 +152,7 @@ pub fn finished_traces_are_whole()
         → i < refs p x
         → ref_at (heap_after p es) t i ≡ forward (stage_of p es) (ref_at p.before x i) }
     ensures globals { (p : Setup) (es : List Event) → IsTracing p es
-        → IsFinished p (machine_after p es) → (g : ℕ) → g < 16
+        → IsFinished p (machine_after p es) → (g : ℕ) → g < GLOBALS
         → global_at (heap_after p es) g ≡ forward (stage_of p es) (global_at p.before g) }
 {}
 

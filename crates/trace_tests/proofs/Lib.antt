@@ -1,3 +1,3 @@
 mod TracersGoOn
-mod Starting
+mod TraceStarts
 mod NextBlocks

@@ -13,7 +13,7 @@ use Rattle.plain_tracer.specs.declared.plain_trace.PlainTrace.{PlainTrace}
 use Rattle.plain_tracer.specs.declared.tokens.Grey.{Grey}
 use Rattle.plain_tracer.specs.declared.tokens.GlobalRoot.{GlobalRoot}
 use Rattle.plain_tracer.specs.declared.tokens.Won.{Won}
-use Rattle.trace_core.proofs.Counting.{count-append, hits-cons, hits-here, hits-more, times-cons, times-without}
+use Rattle.trace_core.proofs.CountedRights.{count-append, hits-cons, hits-here, hits-more, times-cons, times-without}
 use Rattle.trace_tests.specs.Tokens.{IsOf, AreGrey, AreUnset, TracerGoesOn}
 
 scan-append : (x k : ℕ) (gs hs : List Grey) → hits x k (to_scan_in (gs ++ hs)) ≡ hits x k (to_scan_in gs) + hits x k (to_scan_in hs)

@@ -26,7 +26,8 @@ abbrev pub AreUnset : View → List GlobalRoot → Type 0
 AreUnset v tokens = (g : ℕ) → times g (map (λ t. t.global) tokens) ≤ times g v.unset
 
 -- The tracer went on. The same globals are to be set, and the tokens are rights to scan objects.
-pub record TracerGoesOn (p : Setup) (v : View) (new : PlainTrace) (tokens : List Grey) : Type 0 where
+pub record TracerGoesOn (p : Setup) (v : View) (new : PlainTrace) (tokens : List Grey)
+    : Type 0 where
   pub events : List Event
   pub view : View
   pub tracks : Tracks p events new view

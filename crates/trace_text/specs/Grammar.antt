@@ -1,4 +1,5 @@
--- The grammar of a trace, and its faults: the first bad line, and the first fault in it from the left.
+-- The grammar of a trace, and its faults: the first bad line, and the first fault in it from the
+-- left.
 use Rattle.std.specs.Prelude.{◌≡◌, ℕ, ◌+◌, Bool, ◌&&◌, ◌||◌, not, List, [], ◌∷◌, length, Option, None, Some, Result, Ok, Err, nat_eq, nat_lt, nat_le, if◌then◌else◌, slice_index, codes, find}
 use Rattle.std.specs.List.{list_all, slice_split}
 use Rattle.std.specs.Char.{is_ascii_digit}
@@ -103,7 +104,8 @@ at_line n (Ok c) = Ok c
 at_line n (Err w) = Err (Line n w)
 
 -- the commands of these lines, the first of which has number n
-abbrev pub lines_from : {C : Type 0} → (List ℕ → Result C Why) → ℕ → List (List ℕ) → Result (List C) TraceFault
+abbrev pub lines_from : {C : Type 0} → (List ℕ → Result C Why) → ℕ → List (List ℕ)
+    → Result (List C) TraceFault
 lines_from read n [] = Ok []
 lines_from read n (l ∷ ls) =
     if nat_lt (MAX_COMMANDS + 1) n then Err TooMany else

@@ -33,11 +33,13 @@ spaced_argument sort n = 32 ∷ letter_of sort ++ decimal n
 
 -- the text begins with the line of c, which is valid, and the next line begins at offset `end`
 abbrev pub IsFirstLine : Command → List ℕ → ℕ → Type 0
-IsFirstLine c text end = IsValid c × (end ≤ length text) × (text ≡ command_text c ++ 10 ∷ drop end text)
+IsFirstLine c text end = IsValid c × (end ≤ length text)
+    × (text ≡ command_text c ++ 10 ∷ drop end text)
 
 -- the result of reading the first line of the text is `read`, and `rest` has the other lines
 abbrev pub IsReadAs : List ℕ → Result Command Why → List ℕ → Type 0
-IsReadAs text read rest = (first : List ℕ) × (lines_of text ≡ first ∷ lines_of rest) × (read ≡ line all_ops first)
+IsReadAs text read rest = (first : List ℕ) × (lines_of text ≡ first ∷ lines_of rest)
+    × (read ≡ line all_ops first)
 
 -- the option holds n if n is at most `most`, and is None otherwise
 abbrev pub IsUpTo : ℕ → ℕ → Option ℕ → Type 0

@@ -8,15 +8,18 @@ use Rattle.trace_text.specs.Words.{all_ops}
 use Rattle.trace_text.specs.Grammar.{◌>>=◌, line, lines_from, lines_of, with_header, trace}
 
 -- the commands so far, followed by those of the rest
-abbrev pub with_prefix : {C : Type 0} → List C → Result (List C) TraceFault → Result (List C) TraceFault
+abbrev pub with_prefix : {C : Type 0} → List C → Result (List C) TraceFault
+    → Result (List C) TraceFault
 with_prefix prefix rest = rest >>= λ cs. Ok (prefix ++ cs)
 
 -- the result for lines of which the first has this number
 abbrev pub result_of : ℕ → List (List ℕ) → Result (List Command) TraceFault
-result_of number lines = if nat_lt 1 number then lines_from (line all_ops) number lines else with_header lines
+result_of number lines =
+    if nat_lt 1 number then lines_from (line all_ops) number lines else with_header lines
 
 -- the result for the lines that follow, unless a line before them was bad
-abbrev pub result_after : Option TraceFault → List Command → ℕ → List (List ℕ) → Result (List Command) TraceFault
+abbrev pub result_after : Option TraceFault → List Command → ℕ → List (List ℕ)
+    → Result (List Command) TraceFault
 result_after (Some fault) commands number lines = Err fault
 result_after None commands number lines = with_prefix commands (result_of number lines)
 
@@ -35,4 +38,5 @@ HasWholeLines text = (text ≡ []) ⊎ ((lines : List ℕ) × (text ≡ lines ++
 
 -- The reader has read the text: whatever follows, its result is that of the whole text.
 abbrev pub HasRead : TraceReader → List ℕ → Type 0
-HasRead r text = (more : List ℕ) → trace (text ++ more) ≡ end_of_lines r.lines (lines_of (r.begun.items ++ more))
+HasRead r text = (more : List ℕ)
+    → trace (text ++ more) ≡ end_of_lines r.lines (lines_of (r.begun.items ++ more))

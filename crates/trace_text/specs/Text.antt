@@ -56,7 +56,8 @@ replies_text rs = flat_map (λ x. ended (reply_text x)) rs
 abbrev pub mutator_text : ℕ → List Reply → List ℕ
 mutator_text m rs = ended (codes "mutator " ++ decimal m) ++ replies_text rs
 
--- each number in the reply has 64 bits, as it has in the code: a printed number has at most 64 digits
+-- each number in the reply has 64 bits, as it has in the code: a printed number has at most 64
+-- digits
 abbrev pub IsPrintable : Reply → Type 0
 IsPrintable (r.New n) = (n.mutator < 2 ^ 64) × (n.birth < 2 ^ 64)
 IsPrintable (r.Ref n) = (n.mutator < 2 ^ 64) × (n.birth < 2 ^ 64)

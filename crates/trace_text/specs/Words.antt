@@ -56,7 +56,8 @@ word_of Meet = codes "meet"
 
 -- all operations
 abbrev pub all_ops : List Op
-all_ops = New ∷ Get ∷ Put ∷ Read ∷ Write ∷ Add ∷ Swap ∷ Move ∷ DropReg ∷ Load ∷ Share ∷ Pin ∷ Unpin ∷ Gc ∷ Meet ∷ []
+all_ops = New ∷ Get ∷ Put ∷ Read ∷ Write ∷ Add ∷ Swap ∷ Move ∷ DropReg ∷ Load ∷ Share ∷ Pin ∷ Unpin
+    ∷ Gc ∷ Meet ∷ []
 
 -- the sorts of an operation's arguments, in their order
 abbrev pub sorts_of : Op → List Sort
@@ -84,7 +85,8 @@ command_of Put xs = c.Put (slice_index xs 0) (slice_index xs 1) (slice_index xs 
 command_of Read xs = c.Read (slice_index xs 0) (slice_index xs 1)
 command_of Write xs = c.Write (slice_index xs 0) (slice_index xs 1) (slice_index xs 2)
 command_of Add xs = c.Add (slice_index xs 0) (slice_index xs 1) (slice_index xs 2)
-command_of Swap xs = c.Swap (slice_index xs 0) (slice_index xs 1) (slice_index xs 2) (slice_index xs 3)
+command_of Swap xs =
+    c.Swap (slice_index xs 0) (slice_index xs 1) (slice_index xs 2) (slice_index xs 3)
 command_of Move xs = c.Move (slice_index xs 0) (slice_index xs 1)
 command_of DropReg xs = c.DropReg (slice_index xs 0)
 command_of Load xs = c.Load (slice_index xs 0) (slice_index xs 1)

@@ -1,7 +1,7 @@
 pub mod Pieces
 pub mod BucketOrder
 pub mod Logs
-pub mod Waiting
-pub mod Dealing
+pub mod AwaitedPackets
+pub mod DealtPackets
 pub mod Ends
 pub mod Reached

@@ -27,7 +27,8 @@ abbrev pub AreNumberedFrom : ℕ → List ℕ → Type 0
 AreNumberedFrom a [] = Unit {0}
 AreNumberedFrom a (n ∷ ns) = (a < 2 ^ 32 → n ≡ a) × AreNumberedFrom (a + 1) ns
 
-module _ {T W H S : Type 0} (home : W → H) (takes : H → Packet T → Type 0) (awaits : S → W → List (Packet T) → Type 0) (b : Bucket) where
+module _ {T W H S : Type 0} (home : W → H) (takes : H → Packet T → Type 0) (awaits : S → W
+    → List (Packet T) → Type 0) (b : Bucket) where
   -- its packets are of this bucket, and its worker may run and awaits them
   pub record IsRunnable (share : Share T W) : Type 0 where
     pub in_bucket : All (λ p. p.bucket ≡ b) share.packets.items
@@ -35,12 +36,14 @@ module _ {T W H S : Type 0} (home : W → H) (takes : H → Packet T → Type 0)
     pub taken : All (takes (home share.worker)) share.packets.items
     pub awaited : (start : S) × AwaitsAll awaits start share.worker share.packets.items
 
-  -- its worker has run its packets and all that it pushed for this bucket; what it pushed for later ones is left, and it
-  -- awaits that alone
-  pub record Finishes (steps : W → Packet T → List (Packet T) → W → Type 0) (share : Share T W) (f : Finished T W) : Type 0 where
+  -- its worker has run its packets and all that it pushed for this bucket; what it pushed for later
+  -- ones is left, and it awaits that alone
+  pub record Finishes (steps : W → Packet T → List (Packet T) → W
+      → Type 0) (share : Share T W) (f : Finished T W) : Type 0 where
     pub same_home : home f.worker ≡ home share.worker
     pub sized : All HasItems f.later.items
     pub taken : All (takes (home share.worker)) f.later.items
     pub log : List (Step W T)
     pub runs : RunsShare steps b share.worker share.packets.items log f.worker [] f.later.items
-    pub awaits_later : (start : S) → AwaitsAll awaits start share.worker share.packets.items → AwaitsAll awaits start f.worker f.later.items
+    pub awaits_later : (start : S) → AwaitsAll awaits start share.worker share.packets.items
+        → AwaitsAll awaits start f.worker f.later.items

@@ -15,12 +15,14 @@ pub record Step (W T : Type 0) : Type 0 where
 
 module _ {W T : Type 0} where
   -- by these steps, one after another, the first worker becomes the second
-  abbrev pub Reaches : (W → Packet T → List (Packet T) → W → Type 0) → W → List (Step W T) → W → Type 0
+  abbrev pub Reaches : (W → Packet T → List (Packet T) → W → Type 0) → W → List (Step W T)
+      → W → Type 0
   Reaches steps w [] v = v ≡ w
   Reaches steps w (s ∷ log) v = steps w s.packet s.pushed s.worker × Reaches steps s.worker log v
 
   -- each worker becomes the one at its place by the steps at its place
-  abbrev pub AllReach : (W → Packet T → List (Packet T) → W → Type 0) → List W → List (List (Step W T)) → List W → Type 0
+  abbrev pub AllReach : (W → Packet T → List (Packet T) → W → Type 0) → List W
+      → List (List (Step W T)) → List W → Type 0
   AllReach steps [] [] [] = Unit {0}
   AllReach steps (w ∷ ws) (log ∷ logs) (v ∷ vs) = Reaches steps w log v × AllReach steps ws logs vs
   AllReach steps _ _ _ = ⊥
@@ -39,18 +41,27 @@ module _ {W T : Type 0} where
   abbrev pub pushed_by_all : List (List (Step W T)) → List (Packet T)
   pushed_by_all logs = flat_map (λ log. pushed log) logs
 
-  -- By these steps the workers ran a bucket: each became the one at its place; the packets that all of them ran are the
-  -- first ones and those that they pushed for this bucket, each once; those that they pushed for later buckets are left,
-  -- each once; and they pushed for no other bucket.
-  pub record RunsBucket (steps : W → Packet T → List (Packet T) → W → Type 0) (b : Bucket) (before : List W) (first : List (Packet T)) (logs : List (List (Step W T))) (after : List W) (later : List (Packet T)) : Type 0 where
+  -- The workers ran bucket b, with the `first` packets in it, by the steps of these logs.
+  pub record RunsBucket (steps : W → Packet T → List (Packet T) → W → Type 0) (b : Bucket)
+      (before : List W) (first : List (Packet T)) (logs : List (List (Step W T)))
+      (after : List W) (later : List (Packet T)) : Type 0 where
+    -- each worker became the one at its place
     pub reached : AllReach steps before logs after
+    -- what they ran are the first packets and those that they pushed for this bucket, each once
     pub once : IsPermutation (first ++ packets_of b (pushed_by_all logs)) (ran_by_all logs)
+    -- what they pushed for later buckets is left, each packet once
     pub left : IsPermutation (packets_after b (pushed_by_all logs)) later
+    -- they pushed nothing for an earlier bucket
     pub order : All (λ p. IsSameOrLater b p.bucket) (pushed_by_all logs)
 
-  -- The same of one worker that has yet to run the packets `todo`.
-  pub record RunsShare (steps : W → Packet T → List (Packet T) → W → Type 0) (b : Bucket) (before : W) (first : List (Packet T)) (log : List (Step W T)) (after : W) (todo later : List (Packet T)) : Type 0 where
+  -- A worker ran a part of its share of bucket b, and has yet to run the packets `todo`.
+  pub record RunsShare (steps : W → Packet T → List (Packet T) → W → Type 0) (b : Bucket)
+      (before : W) (first : List (Packet T)) (log : List (Step W T)) (after : W)
+      (todo later : List (Packet T)) : Type 0 where
     pub reached : Reaches steps before log after
+    -- what it ran and has to run are its first packets and those that it pushed for this bucket
     pub once : IsPermutation (first ++ packets_of b (pushed log)) (ran log ++ todo)
+    -- what it pushed for later buckets is left
     pub left : IsPermutation (packets_after b (pushed log)) later
+    -- it pushed nothing for an earlier bucket
     pub order : All (λ p. IsSameOrLater b p.bucket) (pushed log)

@@ -4,7 +4,7 @@ use Rattle.object_model.specs.Lawful.{IsReadableBlock}
 use Rattle.object_model.specs.Heaps.{heap_state}
 use Rattle.block_sweeps.specs.Sweeping.{AreApart}
 use Rattle.plan_api.specs.Holes.{IsFirstHole}
-use Rattle.plan_api.proofs.Viewing as viewing
+use Rattle.plan_api.proofs.BlockViews as viewing
 use Rattle.block_regions.proofs.block_notes.hole_of.Goals as goal
 
 pub hole_in_block-requires-clause-block : goal.hole_in_block-requires-clause-block

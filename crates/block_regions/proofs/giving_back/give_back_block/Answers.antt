@@ -8,7 +8,7 @@ use Rattle.object_model.specs.Lawful.{IsReadableBlock}
 use Rattle.std.proofs.lemmas.List.{get_or_default}
 use Rattle.plan_api.specs.Relisting.{Relists}
 use Rattle.block_sweeps.specs.Sweeping.{AreApart}
-use Rattle.plan_api.proofs.Viewing.{block-anyway}
+use Rattle.plan_api.proofs.BlockViews.{block-anyway}
 use Rattle.plan_api.proofs.CellParts.{apart-anyway}
 use Rattle.block_regions.specs.Notes.{nobody, given, IsOwnedNote, IsLeastLeft, without_owner}
 use Rattle.block_regions.proofs.Regions.{region-inside}

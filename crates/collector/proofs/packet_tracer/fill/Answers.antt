@@ -6,7 +6,7 @@ use Rattle.std.proofs.lemmas.List.Sums.{sum_by-cons}
 use Rattle.std.specs.List.Sorted.{IsPermutation}
 use Rattle.trace_core.specs.Views.{one_if}
 use Rattle.plain_tracer.specs.declared.tokens.Grey.{Grey}
-use Rattle.trace_core.proofs.Counting.{count-cons}
+use Rattle.trace_core.proofs.CountedRights.{count-cons}
 use Rattle.collector.specs.declared.item.Item.TheVariants.{Object}
 use Rattle.collector.specs.Items.{tokens_of, IsObject}
 use Rattle.collector.specs.Tallies.{has_moved}

@@ -10,7 +10,7 @@ use Rattle.command_line.specs.Orders.{texts}
 use Rattle.command_line.specs.Reader.{reader}
 use Rattle.command_line.proofs.Settings.{line_parts}
 use Rattle.command_line.proofs.Walks.{simple}
-use Rattle.command_line.proofs.Taking.{taken}
+use Rattle.command_line.proofs.TakenWords.{taken}
 use Rattle.command_line.proofs.Matches.{finds, truth}
 use Rattle.command_line.proofs.clap_values.read_values.Goals as goal
 

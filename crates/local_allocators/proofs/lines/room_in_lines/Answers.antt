@@ -2,7 +2,7 @@ use Rattle.std.proofs.Common.{◌≡◌, refl, sym, ◌∙◌, ap, subst, ℕ, t
 use Rattle.std.specs.Prelude.{Option, Some, None, Bool, not}
 use Rattle.std.specs.Option.{option_eq}
 use Rattle.plan_api.proofs.CellParts.{apart-anyway}
-use Rattle.plan_api.proofs.Viewing.{block-anyway, orderly-apart}
+use Rattle.plan_api.proofs.BlockViews.{block-anyway, orderly-apart}
 use Rattle.object_model.specs.Objects.{state_of}
 use Rattle.local_allocators.proofs.BlockReads.{option-read}
 use Rattle.local_allocators.proofs.lines.room_in_lines.Goals as goal

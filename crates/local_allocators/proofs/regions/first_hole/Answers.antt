@@ -1,5 +1,5 @@
 use Rattle.plan_api.proofs.CellParts.{apart-anyway}
-use Rattle.plan_api.proofs.Viewing.{block-anyway, orderly-apart}
+use Rattle.plan_api.proofs.BlockViews.{block-anyway, orderly-apart}
 use Rattle.object_model.specs.Objects.{state_of}
 use Rattle.local_allocators.proofs.regions.first_hole.Goals as goal
 

@@ -5,7 +5,7 @@ use Rattle.mm_drive.specs.declared.status.Status.TheVariants as status
 use Rattle.mm_drive.specs.Printed.{job_files, WritesFaultLine}
 use Rattle.mm_drive.proofs.Ends.{one-of, not-ok, not-usage, not-unwritten, unread-end, long-end, bad-end, memory-end, long-status, bad-status, good-status}
 use Rattle.mm_drive.proofs.Jobs.{job-supported, job-blocks, job-files, supported-work}
-use Rattle.mm_drive.proofs.Joining.{long-off, bad-off, traces-clash}
+use Rattle.mm_drive.proofs.JoinedFiles.{long-off, bad-off, traces-clash}
 use Rattle.mm_drive.proofs.Outcomes.{of-job, named-job, traces-count, prints, prints-prefix}
 use Rattle.mm_drive.proofs.run.run.Goals as goal
 

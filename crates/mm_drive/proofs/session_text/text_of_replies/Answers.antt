@@ -1,7 +1,7 @@
 use Rattle.std.proofs.Common.{sym, ◌∙◌, ap, ◌+◌, ◌++◌}
 use Rattle.ideal_heap.specs.Runs.{replies_of}
 use Rattle.trace_text.specs.Text.{mutator_text}
-use Rattle.mm_drive.proofs.Printing.{replies-more}
+use Rattle.mm_drive.proofs.MutatorReplies.{replies-more}
 use Rattle.mm_drive.proofs.session_text.text_of_replies.Goals as goal
 
 pub loop-m-preserved : goal.loop-m-preserved

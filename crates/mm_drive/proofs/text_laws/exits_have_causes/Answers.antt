@@ -6,7 +6,7 @@ use Rattle.mm_drive.specs.declared.status.Status.{Status}
 use Rattle.mm_drive.specs.declared.status.Status.TheVariants as status
 use Rattle.mm_drive.specs.Statuses.{status_number}
 use Rattle.mm_drive.specs.Printed.{job_files}
-use Rattle.mm_drive.proofs.Joining.{names-asked}
+use Rattle.mm_drive.proofs.JoinedFiles.{names-asked}
 use Rattle.mm_drive.proofs.text_laws.exits_have_causes.Goals as goal
 
 pub returns-clause-no_job : goal.returns-clause-no_job

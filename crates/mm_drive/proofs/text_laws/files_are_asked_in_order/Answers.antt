@@ -1,5 +1,5 @@
 use Rattle.std.proofs.Common.{sym}
-use Rattle.mm_drive.proofs.Joining.{asks-more, names-asked, risen-since}
+use Rattle.mm_drive.proofs.JoinedFiles.{asks-more, names-asked, risen-since}
 use Rattle.mm_drive.proofs.text_laws.files_are_asked_in_order.Goals as goal
 
 pub returns-clause-first : goal.returns-clause-first

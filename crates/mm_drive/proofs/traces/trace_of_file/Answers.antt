@@ -4,7 +4,7 @@ use Rattle.trace_text.specs.declared.fault.TraceFault.{TraceFault}
 use Rattle.trace_text.specs.Grammar.{Gives, trace}
 use Rattle.mm_drive.specs.declared.traces.FileFault.TheVariants as file
 use Rattle.mm_drive.specs.Reading.{text_fault}
-use Rattle.mm_drive.proofs.Joining.{trace-in, fault-in}
+use Rattle.mm_drive.proofs.JoinedFiles.{trace-in, fault-in}
 use Rattle.mm_drive.proofs.Ends.{bad-from, bad-text}
 use Rattle.mm_drive.proofs.traces.trace_of_file.Goals as goal
 

@@ -6,7 +6,7 @@ use Rattle.std.proofs.lemmas.Option.{slice_get-map, slice_get-get_or}
 use Rattle.ideal_heap.specs.declared.command.Command.{Command}
 use Rattle.command_line.specs.Orders.{texts}
 use Rattle.mm_runtime.specs.Managers.{IsRunnableTrace}
-use Rattle.mm_drive.proofs.Joining.{halts, more-traces, one-more, asks-more, asks-prefix}
+use Rattle.mm_drive.proofs.JoinedFiles.{halts, more-traces, one-more, asks-more, asks-prefix}
 use Rattle.mm_drive.proofs.traces.traces_of_files.Goals as goal
 
 -- the name at an index, as text

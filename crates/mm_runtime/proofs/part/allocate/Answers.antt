@@ -13,7 +13,7 @@ returns-in-Made g c =
     let call = c.in-Made.ensures in record {
       reply = _;
       answers = answers-effect c.args.world.now c.new_object.new.self c.args.place (births_with c.args.d c.args.refs c.args.nums c.in-Made.name call.made.taken call.made.granted call.made.drawn) call.made.granted
-          c.requires.open call.open call.places call.made.history call.made.grants call.made.rest;
+          c.requires.open call.stays.is_open call.stays.places call.made.history call.made.grants call.made.rest;
       items = c.push_reserved.ensures.items;
       capacity = c.push_reserved.ensures.capacity;
       stop = call.made.rest.stop;
@@ -28,14 +28,14 @@ returns-in-Stop g c =
     let refs : need.refs ≡ c.args.refs = call.need.refs in
     let nums : need.nums ≡ c.args.nums = call.need.nums in record {
       answers = answers-append c.args.world.now c.new_object.new.self c.raise.new.self c.args.place [] []
-          (answers-effect c.args.world.now c.new_object.new.self c.args.place (draws call.made.drawn) [] c.requires.open call.open call.places call.made.history call.made.grants call.made.rest)
-          (answers-effect c.new_object.new.self c.raise.new.self c.args.place raises [] call.open raise.open raise.places raise.history raise.granted raise.rest);
+          (answers-effect c.args.world.now c.new_object.new.self c.args.place (draws call.made.drawn) [] c.requires.open call.stays.is_open call.stays.places call.made.history call.made.grants call.made.rest)
+          (answers-effect c.new_object.new.self c.raise.new.self c.args.place raises [] call.stays.is_open raise.stays.is_open raise.stays.places raise.history raise.granted raise.rest);
       replies = refl;
       cause = (
         cc,
-        raised-word c.new_object.new.self c.raise.new.self c.args.place raise.places raise.rest (refused-word c.args.world.now c.new_object.new.self c.args.place call.made.drawn call.made.rest c.requires.calm),
+        raised-word c.new_object.new.self c.raise.new.self c.args.place raise.stays.places raise.rest (refused-word c.args.world.now c.new_object.new.self c.args.place call.made.drawn call.made.rest c.requires.calm),
         λ small. exhausted c.new_object.new.self c.raise.new.self c.args.place (size_of c.args.refs c.args.nums) need.cause
-            (answers-effect c.new_object.new.self c.raise.new.self c.args.place raises [] call.open raise.open raise.places raise.history raise.granted raise.rest)
+            (answers-effect c.new_object.new.self c.raise.new.self c.args.place raises [] call.stays.is_open raise.stays.is_open raise.stays.places raise.history raise.granted raise.rest)
             (raise.rest.ticket refl refl) call.cause (let few : size_of need.refs need.nums ≤ MAX_MEDIUM_WORDS = small in omega arith),
       );
     }

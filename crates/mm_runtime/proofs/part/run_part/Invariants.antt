@@ -9,11 +9,11 @@ use Rattle.mm_runtime.proofs.part.run_part.Given as goal
 abbrev pub invariant-loop-stored : goal.invariant-loop-stored
 invariant-loop-stored g l = record {
   is_open : IsOpen g.P.Plan.rules l.world;
-  place : HasPlace l.world l.m;
+  place : HasPlace l.world l.place;
   few : places_of l.world ≤ MAX_MUTATORS;
-  runs : RunsTrace g.P.Plan.rules l.fn.world l.m l.fn.progress l.world l.progress;
+  runs : RunsTrace g.P.Plan.rules l.fn.world l.place l.fn.progress l.world l.progress;
   in_order : IsProgress l.progress;
-  births : births_at l.world l.m ≤ length l.progress.replies.items;
+  births : births_at l.world l.place ≤ length l.progress.replies.items;
   stop : stop_word l.world ≡ stop_word l.fn.world;
 }
 

@@ -1,51 +1,49 @@
-use Rattle.std.proofs.Common.{ℕ, refl, sym, ap, subst, List, [], ◌++◌, add-zero}
+use Rattle.std.proofs.Common.{ℕ, refl, ap, subst, List, [], ◌++◌, add-zero}
 use Rattle.object_model.specs.Objects.{size_of}
-use Rattle.mutator_calls.specs.Effects.{nothing}
-use Rattle.mutator_calls.specs.Allocating.{births, births_with, searches, IsSpent, FindsRoom}
+use Rattle.mutator_calls.specs.Allocating.{births, births_with, searches, allocation_reads, IsNextTicket, MakesRoom}
 use Rattle.std.proofs.lemmas.List.{append-nil}
 use Rattle.mutator_calls.proofs.RoomFoundLater.{finds-later}
 use Rattle.mutator_calls.proofs.allocation.allocate_elsewhere.Goals as goal
 
-pub returns-in-Ok-clause-made : goal.returns-in-Ok-clause-made
-returns-in-Ok-clause-made g c =
+pub returns-in-Ok-clause-answer : goal.returns-in-Ok-clause-answer
+returns-in-Ok-clause-answer g c =
+    let steps = g.S.MutatorSteps in
     let size = size_of c.args.refs c.args.nums in
-    let found = c.in-Ok.ensures.finds refl in
-    let taken = found.0 in
-    let granted = found.1 in
-    let drawn = found.2 in
+    let old = c.args.seat.now in
+    let offer = c.find_room.new.seat in
+    let new = c.publish.new.self in
+    let found : MakesRoom (allocation_reads steps.makes_steps steps.has_no_room steps.is_used steps.allocates_in steps.is_full steps.is_overflow steps.keeps_hole steps.offers_room
+    steps.places steps.has_budget steps.books) (IsNextTicket steps.makes_steps steps.has_budget old) old size offer = subst
+    (λ n. MakesRoom (allocation_reads steps.makes_steps steps.has_no_room steps.is_used steps.allocates_in steps.is_full steps.is_overflow steps.keeps_hole steps.offers_room
+    steps.places steps.has_budget steps.books) (IsNextTicket steps.makes_steps steps.has_budget old) old n offer) c.size_words.ensures (c.in-Ok.ensures.finds refl) in
     let entry = births c.args.d c.args.refs c.args.nums c.publish.result in
-    let next : ℕ → Type 0 = λ t. (mid : _) × g.S.MutatorSteps.makes_steps c.args.seat.now nothing mid × g.S.MutatorSteps.has_budget mid t in
-    let spent : ℕ → Type 0 = λ n. IsSpent g.S.MutatorSteps.allocates_in g.S.MutatorSteps.has_no_room c.args.seat.now n in
-    let finds : ℕ → ℕ → Type 0 = λ blocks allowance. FindsRoom (g.S.MutatorSteps.has_no_room c.publish.new.self size)
-    (g.S.MutatorSteps.is_used c.publish.new.self) (g.S.MutatorSteps.allocates_in c.args.seat.now size) (g.S.MutatorSteps.allocates_in c.publish.new.self size)
-    next (g.S.MutatorSteps.is_full c.args.seat.now size) (spent size) (g.S.MutatorSteps.is_overflow c.args.seat.now size) (g.S.MutatorSteps.keeps_hole c.args.seat.now c.publish.new.self) blocks allowance
-    (g.S.MutatorSteps.books c.args.seat.now).ticket (g.S.MutatorSteps.books c.publish.new.self).ticket taken granted drawn in
-    let to : List ℕ → List ℕ → ℕ → Type 0 = λ t r n. g.S.MutatorSteps.makes_steps c.args.seat.now
-    (births_with c.args.d c.args.refs c.args.nums c.publish.result t r n) c.publish.new.self in (
-      taken,
-      granted,
-      drawn,
-      subst (λ t. to t granted drawn) (append-nil taken) (subst (λ r. to (taken ++ []) r drawn) (append-nil granted)
-          (subst (λ n. to (taken ++ []) (granted ++ []) n) (add-zero drawn)
-          (g.met.S.MutatorSteps.one_after_another _ _ _ (searches taken granted drawn) entry found.3 c.publish.ensures.goes))),
-      subst (λ x. finds x.blocks x.allowance) (sym c.publish.ensures.books)
-          (finds-later (g.S.MutatorSteps.has_no_room c.find_room.new.seat size) (g.S.MutatorSteps.is_used c.find_room.new.seat)
-          (g.S.MutatorSteps.has_no_room c.publish.new.self size) (g.S.MutatorSteps.is_used c.publish.new.self) (g.S.MutatorSteps.allocates_in c.args.seat.now size)
-          (g.S.MutatorSteps.allocates_in c.find_room.new.seat size) (g.S.MutatorSteps.allocates_in c.publish.new.self size) next next
-          (g.S.MutatorSteps.is_full c.args.seat.now size) (spent size) (g.S.MutatorSteps.is_overflow c.args.seat.now size)
-          (g.S.MutatorSteps.keeps_hole c.args.seat.now c.find_room.new.seat × g.S.MutatorSteps.is_overflow c.find_room.new.seat size)
-          (g.S.MutatorSteps.keeps_hole c.args.seat.now c.publish.new.self)
-          (g.S.MutatorSteps.books c.find_room.new.seat).blocks (g.S.MutatorSteps.books c.find_room.new.seat).allowance
-          (g.S.MutatorSteps.books c.args.seat.now).ticket (g.S.MutatorSteps.books c.find_room.new.seat).ticket
-          (g.S.MutatorSteps.books c.publish.new.self).ticket taken granted drawn
-          (λ k lacks. c.publish.ensures.stays size k lacks) c.publish.ensures.still c.publish.ensures.region (λ t is. is)
-          (λ both. g.met.S.MutatorSteps.hole_stays_kept _ _ _ both.0 (c.publish.ensures.keeps both.1))
-          (ap (λ b. b.ticket) c.publish.ensures.books)
-          (subst (λ n. FindsRoom (g.S.MutatorSteps.has_no_room c.find_room.new.seat n) (g.S.MutatorSteps.is_used c.find_room.new.seat)
-          (g.S.MutatorSteps.allocates_in c.args.seat.now n) (g.S.MutatorSteps.allocates_in c.find_room.new.seat n) next
-          (g.S.MutatorSteps.is_full c.args.seat.now n) (spent n) (g.S.MutatorSteps.is_overflow c.args.seat.now n)
-          (g.S.MutatorSteps.keeps_hole c.args.seat.now c.find_room.new.seat × g.S.MutatorSteps.is_overflow c.find_room.new.seat n)
-          (g.S.MutatorSteps.books c.find_room.new.seat).blocks (g.S.MutatorSteps.books c.find_room.new.seat).allowance
-          (g.S.MutatorSteps.books c.args.seat.now).ticket (g.S.MutatorSteps.books c.find_room.new.seat).ticket taken granted drawn)
-          c.size_words.ensures found.4)),
-    )
+    let to : List ℕ → List ℕ → ℕ → Type 0 = λ t r n. steps.makes_steps old
+    (births_with c.args.d c.args.refs c.args.nums c.publish.result t r n) new in record {
+      taken = found.taken;
+      granted = found.granted;
+      drawn = found.drawn;
+      effect = subst (λ t. to t found.granted found.drawn) (append-nil found.taken) (subst (λ r. to (found.taken ++ []) r found.drawn) (append-nil found.granted)
+          (subst (λ n. to (found.taken ++ []) (found.granted ++ []) n) (add-zero found.drawn)
+          (g.met.S.MutatorSteps.one_after_another _ _ _ (searches found.taken found.granted found.drawn) entry found.effect c.publish.ensures.goes)));
+      finds = finds-later _ _ (record {
+        lacks = λ k lacks. c.publish.ensures.stays size k lacks;
+        used = c.publish.ensures.still;
+        before = λ k is. is;
+        now = c.publish.ensures.region;
+        next = λ t is. is;
+        full = λ is. is;
+        was_full = λ is. is;
+        spent = λ is. is;
+        overflow = λ is. is;
+        was_overflow = λ is. is;
+        kept = λ both. g.met.S.MutatorSteps.hole_stays_kept _ _ _ both.0 (c.publish.ensures.keeps both.1);
+        blocks = ap (λ b. b.blocks) c.publish.ensures.books;
+        allowance = ap (λ b. b.allowance) c.publish.ensures.books;
+        old = refl;
+        new = ap (λ b. b.ticket) c.publish.ensures.books;
+      }) found.taken found.granted found.drawn found.finds;
+      offer = offer;
+      offered = subst (λ n. steps.offers_room old offer n) c.size_words.ensures (c.in-Ok.ensures.offered refl);
+      placed = c.publish.ensures.placed;
+      small = c.requires.small;
+    }

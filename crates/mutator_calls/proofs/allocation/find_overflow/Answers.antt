@@ -6,14 +6,25 @@ use Rattle.mutator_calls.proofs.allocation.find_overflow.Goals as goal
 pub returns-in_default-clause-finds : goal.returns-in_default-clause-finds
 returns-in_default-clause-finds g c = λ _.
     let took = c.in_default.ensures.takes refl in
-    let free = took.3 in (
-      took.0 ∷ [],
-      took.0 ∷ [],
-      took.1,
-      took.2,
-      FindsRoom.in_free_block took.0 free.ticket free.here refl refl c.requires.full free.draws free.few free.none free.lower
-          (inl (c.requires.overflow, (c.in_default.ensures.keeps c.requires.overflow, c.in_default.ensures.overflow c.requires.overflow))),
-    )
+    let free = took.3 in record {
+      taken = took.0 ∷ [];
+      granted = took.0 ∷ [];
+      drawn = took.1;
+      effect = took.2;
+      finds = FindsRoom.in_free_block (record {
+        block = took.0;
+        now = free.here;
+        takes = refl;
+        grants = refl;
+        full = c.requires.full;
+        ticket = free.ticket;
+        draws = free.draws;
+        good = free.few;
+        used_up = free.none;
+        lowest = free.lower;
+        last_resort = inl (c.requires.overflow, (c.in_default.ensures.keeps c.requires.overflow, c.in_default.ensures.overflow c.requires.overflow));
+      });
+    }
 
 pub returns-then-take_own_hole-clause-offered : goal.returns-then-take_own_hole-clause-offered
 returns-then-take_own_hole-clause-offered g c = λ _.
@@ -25,17 +36,23 @@ returns-then-take_own_hole-clause-finds g c = λ _.
     let own = c.if-take_own_hole.ensures.region refl in
     let same = c.if-take_own_hole.ensures.books in
     let short : IsShort (g.S.MutatorSteps.books c.take_own_hole.new.self) c.in-Err.ticket = subst (λ b. IsShort b c.in-Err.ticket) (sym same) c.in-Err.ensures.short in
-    let stayed = g.met.S.MutatorSteps.regions_stay _ _ (draws drew.0) drew.1 refl in (
-      [],
-      [],
-      drew.0,
-      subst (λ n. g.S.MutatorSteps.makes_steps c.args.seat.now (searches [] [] n) c.take_own_hole.new.self) (add-zero drew.0)
-          (g.met.S.MutatorSteps.one_after_another _ _ _ (draws drew.0) (takes []) drew.1 c.if-take_own_hole.ensures.goes),
-      FindsRoom.in_hole own.0 own.2 (inl refl) refl c.requires.full
-          (ComesToHoles.in_vain c.in-Err.ticket c.requires.overflow (subst (λ o. Draws (g.S.MutatorSteps.has_budget c.args.seat.now)
-          (g.S.MutatorSteps.books c.args.seat.now).ticket o drew.0) c.in-Err.ensures.short.ticket drew.2) short.ticket short.few)
-          (inl ((g.met.S.MutatorSteps.tried_blocks_stay _ _ c.args.size own.0 stayed).1 own.1)),
-    )
+    let stayed = g.met.S.MutatorSteps.regions_stay _ _ (draws drew.0) drew.1 refl in record {
+      taken = [];
+      granted = [];
+      drawn = drew.0;
+      effect = subst (λ n. g.S.MutatorSteps.makes_steps c.args.seat.now (searches [] [] n) c.take_own_hole.new.self) (add-zero drew.0)
+          (g.met.S.MutatorSteps.one_after_another _ _ _ (draws drew.0) (takes []) drew.1 c.if-take_own_hole.ensures.goes);
+      finds = FindsRoom.in_hole (record {
+        block = own.0;
+        now = own.2;
+        takes = inl refl;
+        none_granted = refl;
+        full = c.requires.full;
+        comes = ComesToHoles.in_vain c.in-Err.ticket c.requires.overflow (subst (λ o. Draws (g.S.MutatorSteps.has_budget c.args.seat.now)
+            (g.S.MutatorSteps.books c.args.seat.now).ticket o drew.0) c.in-Err.ensures.short.ticket drew.2) short.ticket short.few;
+        first = inl ((g.met.S.MutatorSteps.tried_blocks_stay _ _ c.args.size own.0 stayed).1 own.1);
+      });
+    }
 
 pub returns-then-take_some_hole-clause-offered : goal.returns-then-take_some_hole-clause-offered
 returns-then-take_some_hole-clause-offered g c = λ _.
@@ -48,22 +65,28 @@ returns-then-take_some_hole-clause-finds g c = λ _.
     let took = c.if-take_some_hole.ensures.taken refl in
     let same = c.if-take_some_hole.ensures.books ∙ c.if-take_own_hole.ensures.books in
     let short : IsShort (g.S.MutatorSteps.books c.take_some_hole.new.seat) c.in-Err.ticket = subst (λ b. IsShort b c.in-Err.ticket) (sym same) c.in-Err.ensures.short in
-    let stayed = g.met.S.MutatorSteps.regions_stay _ _ (draws drew.0) drew.1 refl in (
-      took.1,
-      [],
-      drew.0,
-      subst (λ n. g.S.MutatorSteps.makes_steps c.args.seat.now (searches took.1 [] n) c.take_some_hole.new.seat) (add-zero drew.0)
+    let stayed = g.met.S.MutatorSteps.regions_stay _ _ (draws drew.0) drew.1 refl in record {
+      taken = took.1;
+      granted = [];
+      drawn = drew.0;
+      effect = subst (λ n. g.S.MutatorSteps.makes_steps c.args.seat.now (searches took.1 [] n) c.take_some_hole.new.seat) (add-zero drew.0)
           (g.met.S.MutatorSteps.one_after_another _ _ _ (draws drew.0) (takes took.1) drew.1
-          (g.met.S.MutatorSteps.one_after_another _ _ _ nothing (takes took.1) c.if-take_own_hole.ensures.goes took.3)),
-      FindsRoom.in_hole took.0 took.5 took.2 refl c.requires.full
-          (ComesToHoles.in_vain c.in-Err.ticket c.requires.overflow (subst (λ o. Draws (g.S.MutatorSteps.has_budget c.args.seat.now)
-          (g.S.MutatorSteps.books c.args.seat.now).ticket o drew.0) c.in-Err.ensures.short.ticket drew.2) short.ticket short.few)
-          (inr (
-            (λ j tried. c.in-Err.ensures.lacked j refl tried
-                (c.if-take_own_hole.ensures.lacks refl j ((g.met.S.MutatorSteps.tried_blocks_stay _ _ c.args.size j stayed).0 tried))),
-            took.4,
-          )),
-    )
+          (g.met.S.MutatorSteps.one_after_another _ _ _ nothing (takes took.1) c.if-take_own_hole.ensures.goes took.3));
+      finds = FindsRoom.in_hole (record {
+        block = took.0;
+        now = took.5;
+        takes = took.2;
+        none_granted = refl;
+        full = c.requires.full;
+        comes = ComesToHoles.in_vain c.in-Err.ticket c.requires.overflow (subst (λ o. Draws (g.S.MutatorSteps.has_budget c.args.seat.now)
+            (g.S.MutatorSteps.books c.args.seat.now).ticket o drew.0) c.in-Err.ensures.short.ticket drew.2) short.ticket short.few;
+        first = inr (
+          (λ j tried. c.in-Err.ensures.lacked j refl tried
+              (c.if-take_own_hole.ensures.lacks refl j ((g.met.S.MutatorSteps.tried_blocks_stay _ _ c.args.size j stayed).0 tried))),
+          took.4,
+        );
+      });
+    }
 
 pub returns-clause-goes : goal.returns-clause-goes
 returns-clause-goes g c = λ _.

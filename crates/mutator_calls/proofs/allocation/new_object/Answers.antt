@@ -1,27 +1,35 @@
-use Rattle.std.proofs.Common.{ℕ, List, refl, ap, subst, []}
-use Rattle.std.specs.Prelude.{⊤}
-use Rattle.object_model.specs.Objects.{size_of}
-use Rattle.mutator_calls.specs.Allocating.{births_with, IsNextTicket, IsSpent, FindsRoom, MatchAllocated}
+use Rattle.std.proofs.Common.{◌≤◌, refl, ap, subst, []}
+use Rattle.object_model.specs.declared.shape.TheConstants.{MAX_MEDIUM_WORDS}
+use Rattle.mutator_calls.specs.Allocating.{allocation_reads, AnswersAllocation, FindsRoom}
 use Rattle.mutator_calls.proofs.allocation.new_object.Goals as goal
 
-pub returns-in-Some-clause-made : goal.returns-in-Some-clause-made
-returns-in-Some-clause-made g c =
-    let here = c.in-Some.ensures.region in (
-      [],
-      [],
-      0,
-      c.in-Some.ensures.goes,
-      FindsRoom.in_region here.0 here.1 here.2 c.in-Some.ensures.some c.in-Some.ensures.keeps refl refl refl (ap (λ b. b.ticket) c.in-Some.ensures.books),
-    )
+pub returns-in-Some-clause-answer : goal.returns-in-Some-clause-answer
+returns-in-Some-clause-answer g c =
+    let here = c.in-Some.ensures.region in record {
+      taken = [];
+      granted = [];
+      drawn = 0;
+      effect = c.in-Some.ensures.goes;
+      finds = FindsRoom.in_region (record {
+        block = here.0;
+        before = here.1;
+        now = here.2;
+        room = c.in-Some.ensures.some;
+        kept = c.in-Some.ensures.keeps;
+        none_taken = refl;
+        none_granted = refl;
+        none_drawn = refl;
+        ticket = ap (λ b. b.ticket) c.in-Some.ensures.books;
+      });
+      offer = c.args.seat.now;
+      offered = c.in-Some.ensures.offered;
+      placed = c.in-Some.ensures.placed;
+      small = subst (λ n. n ≤ MAX_MEDIUM_WORDS) c.size_words-size.ensures c.if-size-gt-MAX_MEDIUM_WORDS.false;
+    }
 
-pub returns-clause-made : goal.returns-clause-made
-returns-clause-made g c =
-    let size = size_of c.args.refs c.args.nums in
-    let after = c.allocate_elsewhere.new.seat in
-    subst (λ s. MatchAllocated c.allocate_elsewhere.result
-    (λ name. (taken : List ℕ) × (granted : List ℕ) × (drawn : ℕ) × g.S.MutatorSteps.makes_steps s (births_with c.args.d c.args.refs c.args.nums name taken granted drawn) after
-    × FindsRoom (g.S.MutatorSteps.has_no_room after size) (g.S.MutatorSteps.is_used after) (g.S.MutatorSteps.allocates_in s size) (g.S.MutatorSteps.allocates_in after size)
-    (IsNextTicket g.S.MutatorSteps.makes_steps g.S.MutatorSteps.has_budget s) (g.S.MutatorSteps.is_full s size) (IsSpent g.S.MutatorSteps.allocates_in g.S.MutatorSteps.has_no_room s size)
-    (g.S.MutatorSteps.is_overflow s size) (g.S.MutatorSteps.keeps_hole s after) (g.S.MutatorSteps.books after).blocks (g.S.MutatorSteps.books after).allowance
-    (g.S.MutatorSteps.books s).ticket (g.S.MutatorSteps.books after).ticket taken granted drawn) (λ need. ⊤))
-    c.in_default.ensures.same c.allocate_elsewhere.ensures.made
+pub returns-clause-answer : goal.returns-clause-answer
+returns-clause-answer g c =
+    let steps = g.S.MutatorSteps in
+    subst (λ s. AnswersAllocation (allocation_reads steps.makes_steps steps.has_no_room steps.is_used steps.allocates_in steps.is_full steps.is_overflow steps.keeps_hole
+    steps.offers_room steps.places steps.has_budget steps.books) s c.args.d c.args.refs c.args.nums c.allocate_elsewhere.result c.allocate_elsewhere.new.seat)
+    c.in_default.ensures.same c.allocate_elsewhere.ensures.answer

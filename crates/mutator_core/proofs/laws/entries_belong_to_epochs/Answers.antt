@@ -1,4 +1,4 @@
-use Rattle.mutator_core.proofs.Ending.{log-recorded}
+use Rattle.mutator_core.proofs.EpochEnds.{log-recorded}
 use Rattle.mutator_core.proofs.laws.entries_belong_to_epochs.Goals as goal
 
 pub returns : goal.returns

@@ -1,6 +1,6 @@
 use Rattle.mutator_core.specs.Logs.{machine_after, heap_after}
 use Rattle.mutator_core.proofs.Beginnings.{log-ends}
-use Rattle.mutator_core.proofs.Ending.{log-loaded}
+use Rattle.mutator_core.proofs.EpochEnds.{log-loaded}
 use Rattle.mutator_core.proofs.LoadedWords.{unowned-word}
 use Rattle.mutator_core.proofs.Regions.{unowned-starts}
 use Rattle.mutator_core.proofs.laws.loaded_words_stay.Goals as goal

@@ -1,7 +1,7 @@
 use Rattle.std.proofs.Common.{◌≡◌, ◌⊎◌, inl, inr}
 use Rattle.object_model.specs.Objects.{word_at}
 use Rattle.mutator_core.specs.Logs.{heap_after, HasRaisedStop}
-use Rattle.mutator_core.proofs.Ending.{log-seen}
+use Rattle.mutator_core.proofs.EpochEnds.{log-seen}
 use Rattle.mutator_core.proofs.laws.seen_words_stay.Goals as goal
 
 pub returns-clause-stop : goal.returns-clause-stop

@@ -1,4 +1,4 @@
-use Rattle.mutator_core.proofs.Ending.{log-counted}
+use Rattle.mutator_core.proofs.EpochEnds.{log-counted}
 use Rattle.mutator_core.proofs.laws.tickets_are_counted.Goals as goal
 
 pub returns-clause-budget : goal.returns-clause-budget

@@ -1,4 +1,4 @@
-use Rattle.object_model.proofs.Staying.{still}
+use Rattle.object_model.proofs.NothingMoves.{still}
 use Rattle.object_model.proofs.laws.objects_are_preserved.Goals as goal
 
 pub returns-clause-still : goal.returns-clause-still

@@ -1,4 +1,4 @@
-use Rattle.object_model.proofs.Logging.{logs-one, logs-no-other, still-remembers}
+use Rattle.object_model.proofs.LoggedObjects.{logs-one, logs-no-other, still-remembers}
 use Rattle.object_model.proofs.step_laws.cleared_bits_log.Goals as goal
 
 pub returns-clause-logged : goal.returns-clause-logged

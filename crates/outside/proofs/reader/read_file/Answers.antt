@@ -1,7 +1,7 @@
 use Rattle.std.proofs.Common.{◌≡◌, ◌+◌, ◌<◌, length, drop, List, ℕ}
 use Rattle.std.specs.Prelude.{Some}
 use Rattle.outside.specs.declared.reader.TheConstants.{MAX_FILE_BYTES}
-use Rattle.outside.proofs.Taking.{of_content, takes_content}
+use Rattle.outside.proofs.TakenPieces.{of_content, takes_content}
 use Rattle.outside.proofs.reader.read_file.Goals as goal
 
 pub returns-clause-taken : goal.returns-clause-taken

@@ -1,5 +1,5 @@
 use Rattle.std.proofs.Common.{rules, arith}
-use Rattle.outside.proofs.Taking.{moved_more, takes_more, takes_all, left_after}
+use Rattle.outside.proofs.TakenPieces.{moved_more, takes_more, takes_all, left_after}
 use Rattle.outside.proofs.reader.read_rest.Goals as goal
 
 pub returns-then-n-eq0-clause-taken : goal.returns-then-n-eq0-clause-taken

@@ -1,7 +1,7 @@
 use Rattle.std.proofs.Common.{◌≡◌, ◌≤◌, ◌+◌, ◌-◌}
 use Rattle.outside.specs.declared.reader.TheConstants.{MAX_FILE_BYTES}
 use Rattle.outside.specs.Reading.{TakesMore}
-use Rattle.outside.proofs.Taking.{HasMoved}
+use Rattle.outside.proofs.TakenPieces.{HasMoved}
 use Rattle.outside.proofs.reader.read_rest.Given as goal
 
 abbrev pub invariant-loop-total : goal.invariant-loop-total

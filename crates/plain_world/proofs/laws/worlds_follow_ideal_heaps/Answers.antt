@@ -5,7 +5,7 @@ use Rattle.object_model.specs.Objects.{state_of}
 use Rattle.object_model.specs.Graphs.{Represents}
 use Rattle.object_model.proofs.Representation as standing
 use Rattle.sessions.specs.Sessions.{IsOfPart}
-use Rattle.mutator_core.proofs.Ending.{log-recorded}
+use Rattle.mutator_core.proofs.EpochEnds.{log-recorded}
 use Rattle.mutator_core.specs.Logs.{heap_after, mutators_after, history_of}
 use Rattle.heap_users.specs.Users.{mutator_state}
 use Rattle.plain_row.proofs.EpochFacts as facts

@@ -4,7 +4,7 @@ use denote.Enum.Bare.{same_false}
 use Rattle.heap_layout.specs.contracts.block.Kind.{the_type}
 use Rattle.object_model.specs.Objects.{HeapState}
 use Rattle.object_model.specs.Heaps.{heap_state}
-use Rattle.plan_api.proofs.Viewing.{orderly-apart}
+use Rattle.plan_api.proofs.BlockViews.{orderly-apart}
 use Rattle.plan_api.proofs.HoleTests.{hole-room, hole-word}
 use Rattle.plan_api.proofs.fit.has_hole_in.Goals as goal
 

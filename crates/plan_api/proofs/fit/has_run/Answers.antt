@@ -6,7 +6,7 @@ use Rattle.sessions.specs.Grants.{BlockCounts, IsRunGrantable}
 use Rattle.sessions.specs.Fitting.{MayGrantRun, IsFreeRun}
 use Rattle.large_space.specs.FreeRuns.{IsFirstRun, HasNoRun}
 use Rattle.plan_api.specs.Counting.{session_counts, session_reserve}
-use Rattle.plan_api.proofs.Viewing.{state-same}
+use Rattle.plan_api.proofs.BlockViews.{state-same}
 use Rattle.plan_api.proofs.FreeRuns.{some-run}
 use Rattle.plan_api.proofs.fit.has_run.Goals as goal
 

@@ -3,7 +3,7 @@ use Rattle.heap_layout.specs.declared.block.Kind.TheVariants as kinds
 use Rattle.heap_layout.specs.Blocks.{kind_code}
 use Rattle.object_model.specs.Objects.{HeapState, has_kind}
 use Rattle.object_model.specs.Heaps.{heap_state}
-use Rattle.sessions.proofs.Placing.{one_if}
+use Rattle.sessions.proofs.PlacedSmallObjects.{one_if}
 use Rattle.plan_api.proofs.Tallies.{count_below, count-next, free-one, large-one, one-most}
 use Rattle.plan_api.proofs.grants.block_counts.Goals as goal
 

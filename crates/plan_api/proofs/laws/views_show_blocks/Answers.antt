@@ -3,7 +3,7 @@ use Rattle.std.proofs.lemmas.Bool.{cases_Bool, true≢false}
 use Rattle.object_model.specs.Objects.{line_marked}
 use Rattle.std.proofs.Math.Logic.{∥∥₁_elim}
 use Rattle.plan_api.proofs.Parts.{kind-viewed, class-viewed, owner-viewed, tail-viewed}
-use Rattle.plan_api.proofs.Viewing.{orderly-apart, block-anyway}
+use Rattle.plan_api.proofs.BlockViews.{orderly-apart, block-anyway}
 use Rattle.plan_api.proofs.laws.views_show_blocks.Goals as goal
 
 pub returns-clause-kind : goal.returns-clause-kind

@@ -3,7 +3,7 @@ use Rattle.object_model.specs.Objects.{HeapState, state_over}
 use Rattle.object_model.specs.Lawful.{IsReadableBlock}
 use Rattle.object_model.specs.Heaps.{heap_state}
 use Rattle.plan_api.specs.Views.{IsViewOf}
-use Rattle.plan_api.proofs.Viewing as viewing
+use Rattle.plan_api.proofs.BlockViews as viewing
 use Rattle.plan_api.proofs.readers.view.Goals as goal
 
 pub view_in-requires : goal.view_in-requires

@@ -2,7 +2,7 @@ use Rattle.std.proofs.Common.{◌≡◌, ◌+◌, ◌≤◌, ℕ, arith, inl, in
 use Rattle.heap_layout.specs.Zones.{block_start}
 use Rattle.object_model.specs.Objects.{HeapState, state_over, size_at}
 use Rattle.plan_api.specs.Views.{IsObjectsEnd}
-use Rattle.plan_api.proofs.Viewing as viewing
+use Rattle.plan_api.proofs.BlockViews as viewing
 use Rattle.plan_api.proofs.readers.view_in.Goals as goal
 use Rattle.plan_api.proofs.readers.view_in.Goals.{in-Some, in-None}
 

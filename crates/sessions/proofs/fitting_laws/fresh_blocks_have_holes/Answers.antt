@@ -1,5 +1,5 @@
 use Rattle.std.proofs.Common.{◌+◌, arith}
-use Rattle.sessions.proofs.Beginning.{is-free}
+use Rattle.sessions.proofs.EmptyHeapFits.{is-free}
 use Rattle.sessions.specs.Plans.{rules_of}
 use Rattle.sessions.proofs.HoleKinds.{clear-hole, plan-holed}
 use Rattle.sessions.proofs.HoleRooms.{taken-hole}

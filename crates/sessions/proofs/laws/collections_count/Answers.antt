@@ -1,6 +1,6 @@
 use Rattle.std.proofs.Common.{ap}
 use Rattle.object_model.specs.Objects.{HeapState}
-use Rattle.sessions.proofs.Counting.{counts-one}
+use Rattle.sessions.proofs.CountedCollections.{counts-one}
 use Rattle.sessions.proofs.laws.collections_count.Goals as goal
 
 pub returns-clause-one : goal.returns-clause-one

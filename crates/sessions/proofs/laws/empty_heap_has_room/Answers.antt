@@ -1,4 +1,4 @@
-use Rattle.sessions.proofs.Beginning as beginning
+use Rattle.sessions.proofs.EmptyHeapFits as beginning
 use Rattle.sessions.proofs.laws.empty_heap_has_room.Goals as goal
 
 pub returns-clause-fits : goal.returns-clause-fits

@@ -1,4 +1,4 @@
-use Rattle.sessions.proofs.Counting.{collected-empty}
+use Rattle.sessions.proofs.CountedCollections.{collected-empty}
 use Rattle.sessions.proofs.laws.empty_heap_may_be_collected.Goals as goal
 
 pub returns : goal.returns

@@ -1,4 +1,4 @@
-use Rattle.sessions.proofs.Growing as growing
+use Rattle.sessions.proofs.GrowingHistories as growing
 use Rattle.sessions.proofs.order_laws.epochs_go_on.Goals as goal
 
 pub returns : goal.returns

@@ -2,7 +2,7 @@ use Rattle.std.proofs.Common.{◌≡◌, sym, subst, ℕ, ◌≤◌, arith}
 use Rattle.heap_layout.specs.Zones.{block_at, block_start}
 use Rattle.object_model.specs.Objects.{size_of, blocks_for}
 use Rattle.sessions.specs.Fitting.{IsFreeRun}
-use Rattle.sessions.proofs.LargePlacing as placing
+use Rattle.sessions.proofs.PlacedLargeObjects as placing
 use Rattle.sessions.proofs.placement_laws.large_objects_are_placed.Goals as goal
 
 pub returns-clause-place : goal.returns-clause-place

@@ -3,7 +3,7 @@ use Rattle.std.proofs.lemmas.Bool.{cases_Bool}
 use Rattle.object_model.specs.Objects.{is_unlogged}
 use Rattle.trace_core.specs.Traces.{heap_after}
 use Rattle.trace_core.proofs.Objects.{None-not-Some}
-use Rattle.trace_core.proofs.Deciding.{marked, unmarked}
+use Rattle.trace_core.proofs.DecidingBits.{marked, unmarked}
 use Rattle.trace_core.proofs.laws.unlog_bits_show_what_is_claimed.Goals as goal
 
 pub returns : goal.returns

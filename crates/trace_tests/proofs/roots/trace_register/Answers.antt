@@ -3,8 +3,8 @@ use Rattle.trace_core.specs.Machine.{ByRoot}
 use Rattle.trace_core.specs.Views.{asked_view, claimed_view}
 use Rattle.plain_tracer.specs.Tracers.{ClaimsRoot}
 use Rattle.trace_core.specs.CallEvents.{taken_in}
-use Rattle.trace_core.proofs.Counting.{hits-more}
-use Rattle.plain_tracer.proofs.Following.{won-token}
+use Rattle.trace_core.proofs.CountedRights.{hits-more}
+use Rattle.plain_tracer.proofs.FollowedReferences.{won-token}
 use Rattle.trace_tests.proofs.TracersGoOn.{same-grey, won-goes}
 use Rattle.trace_tests.proofs.roots.trace_register.Goals as goal
 

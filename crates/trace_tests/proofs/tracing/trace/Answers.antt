@@ -2,7 +2,7 @@ use Rattle.std.proofs.Common.{[]}
 use Rattle.object_model.specs.Heaps.{heap_state}
 use Rattle.trace_core.specs.Views.{first_view}
 use Rattle.trace_core.specs.Runs.{setup_of}
-use Rattle.trace_tests.proofs.Starting.{none-grey, all-unset, roots-begin}
+use Rattle.trace_tests.proofs.TraceStarts.{none-grey, all-unset, roots-begin}
 use Rattle.trace_tests.proofs.tracing.trace.Goals as goal
 
 pub trace_registers-requires : goal.trace_registers-requires

@@ -8,7 +8,7 @@ use Rattle.work_packets.specs.Shares.{IsRunnable, Finishes}
 use Rattle.std.specs.List.Sorted.{IsPermutation}
 use Rattle.work_packets.specs.Steps.{AllReach, pushed_by_all}
 use Rattle.work_packets.proofs.Ends.{runnable, bucket-runs, homes-stay, later-taken, later-sized, zipped, if-ok, Gathers, all-finish}
-use Rattle.work_packets.proofs.Waiting.{dealt-awaited, each-awaits, one-awaits, reordered}
+use Rattle.work_packets.proofs.AwaitedPackets.{dealt-awaited, each-awaits, one-awaits, reordered}
 use Rattle.work_packets.proofs.plain_split.run_plain_split.Goals as goal
 
 pub map_vec-requires-after_bounds : goal.map_vec-requires-after_bounds

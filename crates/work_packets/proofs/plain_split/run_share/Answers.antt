@@ -8,7 +8,7 @@ use Rattle.work_packets.specs.Buckets.{IsSameOrLater}
 use Rattle.work_packets.specs.Packets.{HasItems, packets_of, packets_after}
 use Rattle.work_packets.specs.Steps.{Step, RunsShare}
 use Rattle.work_packets.proofs.Logs.{share-begins, share-goes-on, in-bucket}
-use Rattle.work_packets.proofs.Waiting.{next-first, sorted-out}
+use Rattle.work_packets.proofs.AwaitedPackets.{next-first, sorted-out}
 use Rattle.work_packets.proofs.plain_split.run_share.Goals as goal
 
 pub loop-p-init : goal.loop-p-init

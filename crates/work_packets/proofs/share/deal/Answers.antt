@@ -3,7 +3,7 @@ use Rattle.std.specs.List.Sorted.{IsPermutation}
 use Rattle.std.proofs.lemmas.List.{length-map}
 use Rattle.std.proofs.lemmas.List.Sorted.{IsPermutation-refl, IsPermutation-push_more}
 use Rattle.work_packets.specs.Shares.{packets_in, sizes, AreNumberedFrom}
-use Rattle.work_packets.proofs.Dealing.{AreDealt, none-dealt, next-dealt, then-even}
+use Rattle.work_packets.proofs.DealtPackets.{AreDealt, none-dealt, next-dealt, then-even}
 use Rattle.work_packets.proofs.share.deal.Goals as goal
 
 pub loop-p-init : goal.loop-p-init

@@ -1,7 +1,7 @@
 use Rattle.std.proofs.Common.{◌≡◌, ◌<◌, ℕ, map, length}
 use Rattle.std.specs.List.Sorted.{IsPermutation}
 use Rattle.work_packets.specs.Shares.{packets_in, sizes}
-use Rattle.work_packets.proofs.Dealing.{AreDealt}
+use Rattle.work_packets.proofs.DealtPackets.{AreDealt}
 use Rattle.work_packets.proofs.share.deal.Given as goal
 
 abbrev pub invariant-loop-p : goal.invariant-loop-p

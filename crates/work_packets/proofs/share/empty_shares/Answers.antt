@@ -1,7 +1,7 @@
 use Rattle.std.proofs.Common.{arith}
 use Rattle.std.proofs.lemmas.Grind.{common_steps}
 use Rattle.work_packets.specs.declared.share.Share.{Share}
-use Rattle.work_packets.proofs.Dealing.{counted-push, small-sum}
+use Rattle.work_packets.proofs.DealtPackets.{counted-push, small-sum}
 use Rattle.work_packets.proofs.share.empty_shares.Goals as goal
 
 pub loop-worker-preserved : goal.loop-worker-preserved

@@ -1,6 +1,6 @@
 use Rattle.std.proofs.Common.{ap, ◌∙◌, length}
 use Rattle.std.proofs.Math.Seq.{map-set_same}
-use Rattle.work_packets.proofs.Dealing.{joins, given-one, length-push}
+use Rattle.work_packets.proofs.DealtPackets.{joins, given-one, length-push}
 use Rattle.work_packets.proofs.share.give.Goals as goal
 
 pub returns-clause-workers : goal.returns-clause-workers

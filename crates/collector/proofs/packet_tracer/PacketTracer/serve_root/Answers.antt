@@ -5,7 +5,7 @@ use Rattle.plain_tracer.specs.TokenRights.{grey_of}
 use Rattle.trace_core.specs.Views.{asked_view, claimed_view}
 use Rattle.plain_tracer.specs.Tracers.{ClaimsRoot}
 use Rattle.trace_core.specs.CallEvents.{taken_in}
-use Rattle.plain_tracer.proofs.Following.{won-token}
+use Rattle.plain_tracer.proofs.FollowedReferences.{won-token}
 use Rattle.plain_tracer.proofs.ReachedTokens.{grey-again, one-pushed}
 use Rattle.collector.proofs.ServedRoots.{Replaces, set-replaces, same-replaces, place-inside, root-held, serves-nil, serves-root, asks-known, serves-won}
 use Rattle.collector.proofs.packet_tracer.PacketTracer.serve_root.Goals as goal

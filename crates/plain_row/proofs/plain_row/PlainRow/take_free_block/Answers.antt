@@ -3,7 +3,6 @@ use Rattle.std.specs.Prelude.{Some, slice_get}
 use Rattle.object_model.specs.Objects.{state_of}
 use Rattle.heap_layout.specs.Blocks.{IsValidWord}
 use Rattle.heap_layout.specs.declared.block.Kind.{Kind}
-use Rattle.mutator_core.specs.Epochs.{is_filled}
 use Rattle.mutator_core.proofs.Fills.{fill-not-free}
 use Rattle.block_regions.specs.declared.block_notes.BlockNote.{BlockNote}
 use Rattle.block_regions.specs.declared.block_notes.BlockNote.TheVariants.{Unowned, Owned}
@@ -13,6 +12,7 @@ use Rattle.block_regions.proofs.Lists.{one-element}
 use Rattle.plain_row.proofs.OwnedLists.{world-room}
 use Rattle.plain_row.proofs.Turns as turns
 use Rattle.plain_row.proofs.plain_row.PlainRow.take_free_block.Goals as goal
+use Rattle.sessions.specs.Plans.{has_holes}
 
 pub is_free-requires-clause-extent : goal.is_free-requires-clause-extent
 is_free-requires-clause-extent c = let now = c.requires.ready.between_calls.some in turns.extent now.epoch now.ideal now.log c.args.self.now now.at
@@ -34,7 +34,7 @@ returns-in-Owned-clause-none c = λ _.
     let note : slice_get w.notes.items c.args.block ≡ Some (Owned c.in-Owned.owner c.in-Owned.region)
     = read-some w.notes.items c.args.block c.index.result.now there c.index.ensures ∙ ap (λ (n : BlockNote). Some n) c.in-Owned.is in
     let owned = turns.owned-note now.epoch now.ideal now.log w now.at c.args.block c.in-Owned.owner c.in-Owned.region note in
-    let fills : IsTrue (is_filled w.fill) = subst (λ (k : Kind). IsTrue (is_filled k)) (sym now.at.fill) now.at.epoch.ready.fills in
+    let fills : IsTrue (has_holes w.fill) = subst (λ (k : Kind). IsTrue (has_holes k)) (sym now.at.fill) now.at.epoch.ready.fills in
     ((λ free. fill-not-free (state_of w.row) c.args.block w.fill fills owned.kind free), refl)
 
 pub take-requires-clause-room : goal.take-requires-clause-room

@@ -1,6 +1,6 @@
 use Rattle.std.proofs.Common.{◌≡◌, ◌+◌, ◌<◌, refl, ap, arith, length, slice_set, vec_len}
 use Rattle.object_model.specs.Objects.{with_words, state_of}
-use Rattle.plain_tracer.proofs.Reading.{word-within}
+use Rattle.plain_tracer.proofs.ObjectsRead.{word-within}
 use Rattle.plain_tracer.proofs.ClaimedObjects.{may-stay, tracks-in-place}
 use Rattle.plain_tracer.proofs.plain_trace.PlainTrace.claim_in_place.Goals as goal
 

@@ -1,8 +1,8 @@
 use Rattle.std.proofs.Common.{◌≡◌, ◌≢◌, ◌+◌, ◌<◌, Some, sym, ap, ◌∙◌, arith, length, vec_len}
 use Rattle.forward_word.specs.CollectorWords.{number_in, target_in, is_old_word}
 use Rattle.trace_core.specs.Outcomes.{base_after_trace}
-use Rattle.trace_core.proofs.Deciding.{seen, aged, waits-for-claim}
-use Rattle.plain_tracer.proofs.Reading.{readable, refs-read, nums-read, word-within, collector-read}
+use Rattle.trace_core.proofs.DecidingBits.{seen, aged, waits-for-claim}
+use Rattle.plain_tracer.proofs.ObjectsRead.{readable, refs-read, nums-read, word-within, collector-read}
 use Rattle.plain_tracer.proofs.plain_trace.PlainTrace.claim_object.Goals as goal
 
 pub index-word-requires : goal.index-word-requires

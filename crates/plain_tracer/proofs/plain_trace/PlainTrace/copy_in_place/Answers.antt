@@ -1,6 +1,6 @@
 use Rattle.std.proofs.Common.{◌≡◌, refl, subst}
 use Rattle.heap_layout.specs.Zones.{UnlogBits, first}
-use Rattle.plain_tracer.proofs.Tracking.{row-extent}
+use Rattle.plain_tracer.proofs.TracedRows.{row-extent}
 use Rattle.plain_tracer.proofs.BitStores.{set-row}
 use Rattle.plain_tracer.proofs.CopiedObjects.{wins-stage, target-address, tracks-in-place}
 use Rattle.plain_tracer.proofs.plain_trace.PlainTrace.copy_in_place.Goals as goal

@@ -5,8 +5,8 @@ use Rattle.trace_core.specs.Views.{claimed_view}
 use Rattle.plain_tracer.specs.Tracers.{Claims}
 use Rattle.trace_core.specs.CallEvents.{taken_in}
 use Rattle.trace_core.proofs.Clauses.{old-target}
-use Rattle.plain_tracer.proofs.Following.{reference-of, settled-at, forward-at, settled-nil, forward-nil, at-once, won-token, by-claim}
-use Rattle.plain_tracer.proofs.Tracking.{blocks-are}
+use Rattle.plain_tracer.proofs.FollowedReferences.{reference-of, settled-at, forward-at, settled-nil, forward-nil, at-once, won-token, by-claim}
+use Rattle.plain_tracer.proofs.TracedRows.{blocks-are}
 use Rattle.plain_tracer.proofs.plain_trace.PlainTrace.follow.Goals as goal
 
 pub returns-then-reference-eq0-clause-follows : goal.returns-then-reference-eq0-clause-follows

@@ -2,7 +2,7 @@ use Rattle.std.proofs.Common.{◌≡◌, ◌+◌, ◌-◌, ◌<◌, ◌≤◌, S
 use Rattle.heap_layout.specs.Zones.{block_start}
 use Rattle.trace_core.specs.Setups.{blocks}
 use Rattle.plain_tracer.specs.Tracers.{TakesCopyBlock, FindsNone}
-use Rattle.plain_tracer.proofs.Tracking.{none-from}
+use Rattle.plain_tracer.proofs.TracedRows.{none-from}
 use Rattle.plain_tracer.proofs.TakenRoom.{room-block, tracks-left, tracks-same, none-free, blocks-now, room-order, lowest-taken}
 use Rattle.trace_core.proofs.Objects.{Some-injective, None-not-Some}
 use Rattle.plain_tracer.proofs.plain_trace.PlainTrace.front.Goals as goal

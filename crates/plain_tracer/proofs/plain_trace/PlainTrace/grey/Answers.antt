@@ -1,6 +1,6 @@
 use Rattle.std.proofs.Common.{◌≡◌, ◌+◌, ap, ◌∙◌}
 use Rattle.trace_core.specs.Setups.{size, refs}
-use Rattle.plain_tracer.proofs.Reading.{readable, refs-read, nums-read, known-held}
+use Rattle.plain_tracer.proofs.ObjectsRead.{readable, refs-read, nums-read, known-held}
 use Rattle.plain_tracer.proofs.plain_trace.PlainTrace.grey.Goals as goal
 
 pub shape_at-shape-requires : goal.shape_at-shape-requires

@@ -1,5 +1,5 @@
 use Rattle.std.proofs.Common.{◌<◌, ◌^◌, slice_index, refl, subst}
-use Rattle.plain_tracer.proofs.Tracking.{tracing-extent}
+use Rattle.plain_tracer.proofs.TracedRows.{tracing-extent}
 use Rattle.plain_tracer.proofs.LineMarks as marks
 use Rattle.plain_tracer.proofs.plain_trace.PlainTrace.mark_lines.Goals as goal
 

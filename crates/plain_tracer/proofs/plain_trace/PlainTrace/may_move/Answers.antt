@@ -1,8 +1,8 @@
 use Rattle.std.proofs.Common.{◌≡◌, ◌<◌, nat_le, sym, ap, ◌∙◌, subst, arith, length, vec_len}
 use Rattle.heap_layout.specs.Zones.{block_at, first, PinBits, IsAddress}
 use Rattle.plain_tracer.proofs.BitStores.{bit-read}
-use Rattle.plain_tracer.proofs.Tracking.{blocks-are, row-extent}
-use Rattle.plain_tracer.proofs.Reading.{from-within, may-move-from, may-move-pinned, may-move-small}
+use Rattle.plain_tracer.proofs.TracedRows.{blocks-are, row-extent}
+use Rattle.plain_tracer.proofs.ObjectsRead.{from-within, may-move-from, may-move-pinned, may-move-small}
 use Rattle.plain_tracer.proofs.plain_trace.PlainTrace.may_move.Goals as goal
 
 pub index-leaves-requires : goal.index-leaves-requires

@@ -2,7 +2,7 @@ use Rattle.std.proofs.Common.{◌≡◌, ◌+◌, ◌≤◌, length, sym, ap, �
 use Rattle.heap_layout.specs.Zones.{StartBits, UnlogBits, IsAddress, first}
 use Rattle.object_model.specs.Objects.{with_words}
 use Rattle.trace_core.specs.Setups.{size}
-use Rattle.plain_tracer.proofs.Tracking.{row-extent}
+use Rattle.plain_tracer.proofs.TracedRows.{row-extent}
 use Rattle.plain_tracer.proofs.BitStores.{set-row, set-blocks, set-extent}
 use Rattle.plain_tracer.proofs.CopiedObjects.{moving-stage, object-end, target-end, target-address, tracks-moved}
 use Rattle.plain_tracer.proofs.plain_trace.PlainTrace.move_object.Goals as goal

@@ -4,7 +4,7 @@ use Rattle.trace_core.specs.Machine.{ByRoot, Claim}
 use Rattle.plain_tracer.specs.TokenRights.{grey_of}
 use Rattle.trace_core.specs.Views.{claimed_view}
 use Rattle.plain_tracer.proofs.ReachedTokens.{claimed-before, not-claimed, claimed-here, reached-here}
-use Rattle.plain_tracer.proofs.Tracking.{row-extent}
+use Rattle.plain_tracer.proofs.TracedRows.{row-extent}
 use Rattle.plain_tracer.proofs.plain_trace.PlainTrace.reach_in_place.Goals as goal
 
 pub has_bit-claimed-requires-clause-extent : goal.has_bit-claimed-requires-clause-extent

@@ -2,7 +2,7 @@ use Rattle.std.proofs.Common.{◌≡◌, ◌<◌, true, sym, ◌∙◌, subst, a
 use Rattle.heap_layout.specs.Zones.{block_at}
 use Rattle.trace_core.specs.Runs.{is_nursery}
 use Rattle.plain_tracer.proofs.BeginningTracer.{is-full, straight, turned}
-use Rattle.plain_tracer.proofs.Reading.{from-within, may-move-from}
+use Rattle.plain_tracer.proofs.ObjectsRead.{from-within, may-move-from}
 use Rattle.plain_tracer.proofs.plain_trace.PlainTrace.stays.Goals as goal
 
 pub index-requires : goal.index-requires

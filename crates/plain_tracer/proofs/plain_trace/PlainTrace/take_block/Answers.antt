@@ -1,4 +1,4 @@
-use Rattle.plain_tracer.proofs.Tracking.{tracing-extent}
+use Rattle.plain_tracer.proofs.TracedRows.{tracing-extent}
 use Rattle.plain_tracer.proofs.plain_trace.PlainTrace.take_block.Goals as goal
 
 pub set_block-requires-clause-extent : goal.set_block-requires-clause-extent

@@ -1,7 +1,7 @@
 use Rattle.std.proofs.Common.{inl, inr}
 use Rattle.std.proofs.lemmas.Bool.{cases_lt}
 use Rattle.plain_tracer.specs.Tracers.{TakesCopyBlock, FindsNone}
-use Rattle.plain_tracer.proofs.Tracking.{if-some, if-none}
+use Rattle.plain_tracer.proofs.TracedRows.{if-some, if-none}
 use Rattle.plain_tracer.proofs.TakenRoom.{passed-free, tracks-left, tracks-same}
 use Rattle.plain_tracer.proofs.plain_trace.PlainTrace.take_copy_block.Goals as goal
 

@@ -3,7 +3,7 @@ use Rattle.object_model.specs.Objects.{with_words, state_of}
 use Rattle.trace_core.specs.Setups.{size}
 use Rattle.trace_core.specs.Machine.{ByRoot}
 use Rattle.trace_core.proofs.Objects.{None-not-Some}
-use Rattle.plain_tracer.proofs.Reading.{word-within}
+use Rattle.plain_tracer.proofs.ObjectsRead.{word-within}
 use Rattle.plain_tracer.proofs.ClaimedObjects.{front-below, tracks-to-front, waiting-size}
 use Rattle.plain_tracer.proofs.Claimed.{none-needed}
 use Rattle.plain_tracer.proofs.plain_trace.PlainTrace.win_moved.Goals as goal

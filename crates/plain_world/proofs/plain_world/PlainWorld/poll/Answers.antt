@@ -9,20 +9,12 @@ use Rattle.local_allocators.specs.Seats.{ticket_of}
 use Rattle.local_allocators.specs.MutatorRegions.{KeepsRegions}
 use Rattle.local_allocators.specs.NotedRegions.{regions_of}
 use Rattle.plain_row.specs.SeatLaws.{goes-nothing}
-use Rattle.plain_world.proofs.CallLemmas.{places-same, history-gains, stop-known, regions-same}
+use Rattle.plain_world.proofs.CallLemmas.{stays-open, history-gains, stop-known, regions-same}
 use Rattle.plain_world.proofs.plain_world.PlainWorld.poll.Goals as goal
 
-pub returns-clause-open : goal.returns-clause-open
-returns-clause-open g c = record { between_calls = c.poll.ensures.ready.between_calls; fill = ap (λ (w : PlainRow). w.fill) c.poll.ensures.looks ∙ c.requires.open.fill }
-
-pub returns-clause-places : goal.returns-clause-places
-returns-clause-places g c =
-    let did = goes-nothing (record c.args.self.now.row { turn = c.args.place }) c.poll.new.seat c.poll.ensures.looks in
-    let same = places-same c.args.self.now.row c.poll.new.seat c.args.place nothing c.requires.open.between_calls did in
-    record { count = same.0; numbers = same.1 }
-
-pub returns-clause-plan : goal.returns-clause-plan
-returns-clause-plan g c = ap (λ w. w.young) c.poll.ensures.looks
+pub returns-clause-stays : goal.returns-clause-stays
+returns-clause-stays g c = stays-open g.P.Plan.rules c.args.self.now _ c.args.place nothing c.requires.open c.poll.ensures.ready.between_calls
+    (goes-nothing (record c.args.self.now.row { turn = c.args.place }) c.poll.new.seat c.poll.ensures.looks)
 
 pub returns-clause-history : goal.returns-clause-history
 returns-clause-history g c = history-gains c.args.self.now.row c.poll.new.seat c.args.place nothing

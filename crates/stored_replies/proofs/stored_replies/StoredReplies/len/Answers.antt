@@ -1,5 +1,5 @@
 use Rattle.std.proofs.Common.{arith}
-use Rattle.stored_replies.proofs.Packing.{length-unpacked}
+use Rattle.stored_replies.proofs.PackedReplies.{length-unpacked}
 use Rattle.stored_replies.proofs.stored_replies.StoredReplies.len.Goals as goal
 
 pub returns : goal.returns

@@ -1,5 +1,5 @@
 use Rattle.std.proofs.Common.{◌∙◌, ap, arith, ◌++◌, ◌∷◌, []}
-use Rattle.stored_replies.proofs.Packing.{length-unpacked, parts-most, name-pushed, number-pushed, plain-pushed}
+use Rattle.stored_replies.proofs.PackedReplies.{length-unpacked, parts-most, name-pushed, number-pushed, plain-pushed}
 use Rattle.stored_replies.proofs.stored_replies.StoredReplies.push_reserved.Goals as goal
 
 pub push_reserved-requires : goal.push_reserved-requires

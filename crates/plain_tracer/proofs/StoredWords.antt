@@ -12,9 +12,9 @@ use Rattle.trace_core.specs.Traces.{May, machine_after}
 use Rattle.trace_core.specs.Views.{View, Holds}
 use Rattle.plain_tracer.specs.Tracers.{Tracks, ChangesWords}
 use Rattle.trace_core.specs.Runs.{IsRunOf}
-use Rattle.trace_core.specs.Rooms.{IsFilled, IsCopyRoom, AreLeft, StayForWantOfRoom}
+use Rattle.trace_core.specs.Rooms.{IsFilled, IsCopyRoom, AreLeft, StayWithoutRoom}
 use Rattle.plain_tracer.specs.declared.plain_trace.PlainTrace.{PlainTrace}
-use Rattle.trace_core.proofs.Appending.{machine-next, trace-next}
+use Rattle.trace_core.proofs.AppendedEvents.{machine-next, trace-next}
 use Rattle.trace_core.proofs.BlocksLeft.{left-stays}
 
 module _ (p : Setup) (m m' : Machine) (owner : m'.owner ≡ m.owner) where
@@ -62,7 +62,7 @@ module _ (p : Setup) (es : List Event) (v v' : View) (old new : PlainTrace) (e :
             (room-stays p m (machine_after p ds) owners v.blocks old.block old.room tracks.room)));
         left = subst (λ bs. AreLeft p (machine_after p (es ++ e ∷ [])) v'.sparse bs) (sym same)
             (left-stays p m (machine_after p ds) owners v.sparse v'.sparse sparse v.blocks tracks.left);
-        stayed = subst (StayForWantOfRoom p (machine_after p (es ++ e ∷ []))) (sym changes.room)
+        stayed = subst (StayWithoutRoom p (machine_after p (es ++ e ∷ []))) (sym changes.room)
             (λ x is young moves. tracks.stayed x (sym (targets x) ∙ ap (λ (n : Machine). target (n.stage x)) (sym now) ∙ is) young moves);
         passed = λ b before free. subst (λ take. 0 < take b) (sym takes) (tracks.passed b (subst (λ n. b < n) changes.next_block before) free);
         ahead = λ b some. subst (λ n. b < n) (sym changes.next_block) (tracks.ahead b (subst (λ take. 0 < take b) takes some));

@@ -11,7 +11,7 @@ use Rattle.trace_core.specs.Traces.{IsTracing, machine_after, heap_after, stage_
 use Rattle.trace_core.specs.Outcomes.{base_after_trace}
 use Rattle.trace_core.specs.Views.{View, Holds, hits, one_if, is_copying}
 use Rattle.trace_core.specs.Rights.{StaysHere}
-use Rattle.trace_core.proofs.Beginning.{nursery-of, age-of}
+use Rattle.trace_core.proofs.FirstInvariant.{nursery-of, age-of}
 use Rattle.trace_core.proofs.Clauses.{collector, unclaimed, targets-inside, extents-apart, has-room, unlogs-from, unlogs-done}
 use Rattle.trace_core.proofs.Finished.{parts-of, option-cases}
 

@@ -15,7 +15,7 @@ use Rattle.trace_core.specs.CallEvents.{block_taken, taken_in, copying, Follows,
 use Rattle.plain_tracer.specs.declared.plain_trace.PlainTrace.{PlainTrace}
 use Rattle.plain_tracer.specs.declared.tokens.Won.{Won}
 use Rattle.plain_tracer.specs.declared.tokens.Grey.{Grey}
-use Rattle.trace_core.proofs.Counting.{times-cons, hits-cons, hits-here, hits-more}
+use Rattle.trace_core.proofs.CountedRights.{times-cons, hits-cons, hits-here, hits-more}
 
 -- a reference to an object, which is no nil
 pub reference-of : (x : ℕ) → x ≢ 0 → IsTrue (is_reference x)

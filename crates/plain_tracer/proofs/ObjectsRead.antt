@@ -18,7 +18,7 @@ use Rattle.plain_tracer.specs.Tracers.{Tracks}
 use Rattle.plain_tracer.specs.declared.plain_trace.PlainTrace.{PlainTrace}
 use Rattle.trace_core.proofs.Law.{sound}
 use Rattle.trace_core.proofs.Clauses.{waits, starts-kept, pins, held-of}
-use Rattle.plain_tracer.proofs.Tracking.{row-extent, blocks-are, words-are}
+use Rattle.plain_tracer.proofs.TracedRows.{row-extent, blocks-are, words-are}
 
 module _ (p : Setup) (es : List Event) (trace : IsTracing p es) (x : ℕ) (held : IsHeld p.before x) where
   -- name and shape are as they were

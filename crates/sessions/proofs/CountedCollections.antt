@@ -12,7 +12,7 @@ use Rattle.object_model.specs.Ages.{is_old, is_logged}
 use Rattle.object_model.proofs.Zeros as zeros
 use Rattle.sessions.specs.Plans.{Plan, Rules, rules_of}
 use Rattle.sessions.specs.Collecting.{Collects, CollectsIf, IsCollection, IsEmptied, is_logged_under}
-use Rattle.sessions.proofs.Beginning.{is-free}
+use Rattle.sessions.proofs.EmptyHeapFits.{is-free}
 
 counts_after : (collects : Bool) (r : Rules) (workers : ℕ) (c : Collect) (old new : HeapState) (roots after : List ℕ) → CollectsIf collects r workers c old roots new after
     → (new.number ≡ old.number + 1) × (new.blocks ≡ old.blocks)

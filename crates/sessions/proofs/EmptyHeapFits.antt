@@ -13,7 +13,7 @@ use Rattle.sessions.specs.Plans.{Plan, rules_of, Reserve, Nothing, Copies, Headr
 use Rattle.sessions.specs.Fitting.{free_of, large_of, MayGrant, Fits, FitsSmall, FitsLarge}
 use Rattle.sessions.specs.Sessions as sessions
 use Rattle.sessions.specs.Sessions.{Setting, Moment, Places, ServesNeed}
-use Rattle.sessions.proofs.Placing.{one_if, count-cons, count-none}
+use Rattle.sessions.proofs.PlacedSmallObjects.{one_if, count-cons, count-none}
 
 -- if each element passes, the count is the length
 count-all : (p : ℕ → Bool) (xs : List ℕ) → ((i : ℕ) → i < length xs → p (slice_index xs i) ≡ true) → count_by p xs ≡ length xs
