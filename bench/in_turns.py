@@ -26,7 +26,7 @@ def held_memory():
 
 def milliseconds(words):
     """Processor time of one run. The program that the product is compared with reads first, and
-    runs on atomic words, if it is told so."""
+    runs on atomic words, if it is set so."""
     env = dict(os.environ, PEER_ATOMIC="1", PEER_SPLIT="1")
     child = subprocess.Popen(words, stdout=subprocess.DEVNULL, stderr=subprocess.DEVNULL, env=env)
     _, status, use = os.wait4(child.pid, 0)
