@@ -13,3 +13,4 @@ pub mod TouchedWords
 pub mod LineEnds
 pub mod LineStarts
 pub mod SweptApart
+pub mod LargeRuns

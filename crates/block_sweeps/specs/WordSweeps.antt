@@ -1,9 +1,10 @@
 -- Sweeps of words of start bits: what becomes of each bit of a word.
 use Rattle.std.specs.Prelude.{◌≡◌, ℕ, ◌+◌, ◌*◌, ◌<◌, ◌⊎◌, ◌&&◌, Bool, IsTrue, List, length}
 use Rattle.side_meta.specs.BitWords.{has_bit}
-use Rattle.heap_layout.specs.Zones.{row_words, heap_of, first, StartBits, PinBits, UnlogBits}
+use Rattle.heap_layout.specs.Zones.{row_words, first, StartBits, PinBits, UnlogBits}
 use Rattle.object_model.specs.Objects.{HeapState, word_at}
 use Rattle.object_model.specs.Ages.{is_survivor}
+pub use Rattle.object_model.specs.BitWords.{address_of}
 use Rattle.block_sweeps.specs.Sweeping.{IsAmong, ChangesOnly}
 
 -- the object at a survived collection `base` or a later one, by the words alone
@@ -20,10 +21,6 @@ pin_word s i = word_at s (first s.blocks PinBits + i)
 
 abbrev pub unlog_word : HeapState → ℕ → ℕ
 unlog_word s i = word_at s (first s.blocks UnlogBits + i)
-
--- bit j of word i of these is that of the address
-abbrev pub address_of : HeapState → ℕ → ℕ → ℕ
-address_of s i j = heap_of s.blocks + 64 * i + j
 
 -- word n has start, pin or unlog bits, of those from index `from` on
 abbrev pub IsMarkAmong : ℕ → ℕ → ℕ → ℕ → Type 0

@@ -17,7 +17,7 @@ use heap_layout::{
     BLOCK_BIT_WORDS, BLOCK_LINE_BIT_WORDS, BLOCK_LINES, BLOCK_WORDS, LINE_WORDS, Layout,
 };
 use line_bits::run_mask;
-use side_meta::Words;
+use side_meta::{BITS_PER_WORD, Words};
 
 /// Makes the line bits of an Immix block those of the lines that objects in it touch. Reads the
 /// start bits, and the shape word of an object only if it is the last that begins in its line and
@@ -78,7 +78,7 @@ fn begun_lines<W: Words>(words: &W, layout: &Layout, block: u32) -> [u64; 4]
         (slice_index result word) }
 {
     let mut lines = [0; 4];
-    for index in 0..64 {
+    for index in 0..BLOCK_BIT_WORDS {
         add_begun(start_word(words, layout, block, index), index, &mut lines);
     }
     lines
@@ -142,7 +142,7 @@ fn add_ends<W: Words>(
     while rest != 0 {
         let bit = rest.trailing_zeros();
         rest &= !(1u64 << bit);
-        add_last(words, layout, block, 64 * word + bit, lines);
+        add_last(words, layout, block, BITS_PER_WORD * word + bit, lines);
     }
 }
 
@@ -160,7 +160,13 @@ fn add_last<W: Words>(words: &W, layout: &Layout, block: u32, line: u32, lines: 
 {
     let bits = line_bits(start_word(words, layout, block, line / 4), line % 4);
     let last = 63 - bits.leading_zeros();
-    add_object(words, layout, block, 64 * (line / 4) + last, lines);
+    add_object(
+        words,
+        layout,
+        block,
+        BITS_PER_WORD * (line / 4) + last,
+        lines,
+    );
 }
 
 /// The start bits of 64 addresses of the block, from offset `64 * index` on.
@@ -222,13 +228,14 @@ fn set_run(lines: &mut [u64; 4], from: u32, to: u32)
     ensures { AddsLines (IsFromTo from to) lines.old lines.new }
 {
     // Nearly all objects are small, so one word has all their lines.
-    if from / 64 == to / 64 {
-        lines[(from / 64) as usize] |= run_mask(from % 64, to % 64);
+    if from / BITS_PER_WORD == to / BITS_PER_WORD {
+        let (low, high) = (from % BITS_PER_WORD, to % BITS_PER_WORD);
+        lines[(from / BITS_PER_WORD) as usize] |= run_mask(low, high);
         return;
     }
-    for word in from / 64..to / 64 + 1 {
-        let low = from.saturating_sub(64 * word);
-        let high = (to - 64 * word).min(63);
+    for word in from / BITS_PER_WORD..to / BITS_PER_WORD + 1 {
+        let low = from.saturating_sub(BITS_PER_WORD * word);
+        let high = (to - BITS_PER_WORD * word).min(BITS_PER_WORD - 1);
         lines[word as usize] |= run_mask(low, high);
     }
 }

@@ -13,7 +13,7 @@ ghost use Rattle.block_sweeps.specs.WordSweeps.{survives, start_word, MaySweep, 
 use crate::clearing::{free_block, store};
 use crate::objects::lives;
 use heap_layout::{BLOCK_BIT_WORDS, BlockWord, Layout, encode};
-use side_meta::Words;
+use side_meta::{BITS_PER_WORD, Words};
 
 /// Sweeps a block: objects in it that do not live are held no more. A block in which nothing lives
 /// becomes Free; another gets the block word `living`. Answers how many objects live.
@@ -83,7 +83,12 @@ fn sweep_word<W: Words>(words: &mut W, layout: &Layout, index: u32, base: u64) -
     if starts == 0 {
         return 0;
     }
-    let living = living_bits(words, starts, layout.heap_base() + 64 * index, base);
+    let living = living_bits(
+        words,
+        starts,
+        layout.heap_base() + BITS_PER_WORD * index,
+        base,
+    );
     if living != starts {
         store(words, layout.start_base() + index, living);
         mask(words, layout.pin_base() + index, living);

@@ -10,7 +10,7 @@ ghost use Rattle.cell_space.specs.WordCells.{IsFirstBeside, HasNoneBeside, IsFir
 
 use crate::classes::{cell_size, cell_starts};
 use heap_layout::{BLOCK_BIT_WORDS, BLOCK_WORDS, Layout};
-use side_meta::Words;
+use side_meta::{BITS_PER_WORD, Words};
 
 /// The offset of the first free cell of a Cells block that begins at or after the offset `from`.
 ///
@@ -42,7 +42,7 @@ pub fn next_cell<W: Words>(
         if let Some(found) = free_beside(words, layout, block, class, at) {
             return fitting(found, size);
         }
-        at = (64 * (at / 64 + 1)).div_ceil(size) * size;
+        at = (BITS_PER_WORD * (at / BITS_PER_WORD + 1)).div_ceil(size) * size;
     }
     None
 }
@@ -74,9 +74,10 @@ fn free_beside<W: Words>(words: &W, layout: &Layout, block: u32, class: u32, at:
         block (cell_words class) at x) }
     ensures inside { IfSome result (λ x. x < BLOCK_WORDS) }
 {
-    let starts = words.get(layout.start_base() + BLOCK_BIT_WORDS * block + at / 64);
-    let bit = clear_cell(starts, class, at % 64)?;
-    Some(64 * (at / 64) + bit)
+    let word = at / BITS_PER_WORD;
+    let starts = words.get(layout.start_base() + BLOCK_BIT_WORDS * block + word);
+    let bit = clear_cell(starts, class, at % BITS_PER_WORD)?;
+    Some(BITS_PER_WORD * word + bit)
 }
 
 /// The first clear bit among those where cells begin, if one begins at `bit`.

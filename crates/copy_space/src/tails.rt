@@ -11,7 +11,7 @@ ghost use Rattle.copy_space.specs.LastOffsets.{HasNone, IsLast, HasNoWordFrom};
 
 use block_sweeps::object_size;
 use heap_layout::{BLOCK_BIT_WORDS, BLOCK_WORDS, Layout, Region};
-use side_meta::Words;
+use side_meta::{BITS_PER_WORD, Words};
 
 /// The tail of a block: the words after its last object, or all words if no object begins in it.
 ///
@@ -62,10 +62,10 @@ fn last_object<W: Words>(words: &W, layout: &Layout, block: u32) -> Option<u32>
         (HasNone (shown (W.words words.now) layout.now) block)
         (λ offset. IsLast (shown (W.words words.now) layout.now) block offset) }
 {
-    for index in (0..64).rev() {
+    for index in (0..BLOCK_BIT_WORDS).rev() {
         let starts = words.get(layout.start_base() + BLOCK_BIT_WORDS * block + index);
         if starts != 0 {
-            return Some(64 * index + (63 - starts.leading_zeros()));
+            return Some(BITS_PER_WORD * index + (63 - starts.leading_zeros()));
         }
     }
     None

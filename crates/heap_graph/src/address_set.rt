@@ -2,7 +2,7 @@
 
 ghost use Rattle.std.specs.Prelude.{◌≡◌, ◌*◌, length};
 
-use heap_layout::Layout;
+use heap_layout::{BLOCK_BIT_WORDS, Layout};
 use object_model::bit_spec;
 use side_meta::{set, test};
 use std::alloc::{AllocError, Global};
@@ -25,7 +25,7 @@ impl AddressSet {
         ensures blocks { IfOk result (λ s. s.layout.blocks ≡ layout.now.blocks) }
         ensures empty { IfOk result (λ s. (a : ℕ) → has_address s a ≡ false) }
     {
-        let words = vec![in alloc; 0; 64 * layout.blocks() as usize]?;
+        let words = vec![in alloc; 0; (BLOCK_BIT_WORDS * layout.blocks()) as usize]?;
         Ok(AddressSet {
             words,
             layout: *layout,

@@ -3,6 +3,10 @@
 ghost use Rattle.std.specs.Prelude.{◌≡◌, ◌+◌, ◌*◌, ◌<◌, ◌≤◌, ◌↔◌, IsOk, IfOk, IfErr};
 ghost use Rattle.heap_layout.specs.declared.layout.TheConstants.{MIN_BLOCKS, MAX_BLOCKS};
 
+use crate::row_parts::{
+    FIRST_BLOCK_WORD, FIRST_GLOBAL, METADATA_WORDS, ROW_WORDS, WORDS_BEFORE_PINS,
+    WORDS_BEFORE_STARTS, WORDS_BEFORE_UNLOGS,
+};
 use thiserror::Error;
 
 /// The index of the stop word in the row.
@@ -85,7 +89,7 @@ impl Layout {
     pub fn words(&self) -> u32
         ensures { result ≡ row_words self.now.blocks }
     {
-        18 + 4293 * self.blocks
+        FIRST_BLOCK_WORD + ROW_WORDS * self.blocks
     }
 
     /// The index of the word of a global.
@@ -93,7 +97,7 @@ impl Layout {
         requires { global < GLOBALS }
         ensures { result ≡ first self.now.blocks Globals + global }
     {
-        2 + global
+        FIRST_GLOBAL + global
     }
 
     /// The index of the block word of a block.
@@ -101,7 +105,7 @@ impl Layout {
         requires { block < self.now.blocks }
         ensures { result ≡ first self.now.blocks BlockWords + block }
     {
-        18 + block
+        FIRST_BLOCK_WORD + block
     }
 
     /// The index of the first of the four line words of a block.
@@ -109,35 +113,35 @@ impl Layout {
         requires { block < self.now.blocks }
         ensures { result ≡ first self.now.blocks LineWords + BLOCK_LINE_BIT_WORDS * block }
     {
-        18 + self.blocks + BLOCK_LINE_BIT_WORDS * block
+        FIRST_BLOCK_WORD + self.blocks + BLOCK_LINE_BIT_WORDS * block
     }
 
     /// The index of the first word of start bits. There is one bit for each word of the heap.
     pub fn start_base(&self) -> u32
         ensures { result ≡ first self.now.blocks StartBits }
     {
-        18 + 5 * self.blocks
+        FIRST_BLOCK_WORD + WORDS_BEFORE_STARTS * self.blocks
     }
 
     /// The index of the first word of pin bits. There is one bit for each word of the heap.
     pub fn pin_base(&self) -> u32
         ensures { result ≡ first self.now.blocks PinBits }
     {
-        18 + 69 * self.blocks
+        FIRST_BLOCK_WORD + WORDS_BEFORE_PINS * self.blocks
     }
 
     /// The index of the first word of unlog bits. There is one bit for each word of the heap.
     pub fn unlog_base(&self) -> u32
         ensures { result ≡ first self.now.blocks UnlogBits }
     {
-        18 + 133 * self.blocks
+        FIRST_BLOCK_WORD + WORDS_BEFORE_UNLOGS * self.blocks
     }
 
     /// The first address of the heap.
     pub fn heap_base(&self) -> u32
         ensures { result ≡ heap_of self.now.blocks }
     {
-        18 + 197 * self.blocks
+        FIRST_BLOCK_WORD + METADATA_WORDS * self.blocks
     }
 
     /// The address of the word of a block that is `offset` words after its first.

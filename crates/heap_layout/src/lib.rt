@@ -6,6 +6,7 @@ mod block;
 mod block_codes;
 mod layout;
 mod region;
+mod row_parts;
 mod zones;
 
 pub use address::{block_of, chunk_of, line_of};

@@ -7,7 +7,7 @@ ghost use Rattle.line_bits.specs.LineMarks.{MarksLines, SetsRun};
 
 use crate::masks::run_mask;
 use heap_layout::{Layout, line_of};
-use side_meta::Words;
+use side_meta::{BITS_PER_WORD, Words};
 
 /// Marks the lines that an object of `size` words at the address touches, in one block or several.
 /// Writes only words that change.
@@ -23,13 +23,14 @@ pub fn mark<W: Words>(words: &mut W, layout: &Layout, address: u32, size: u32)
     let last = line_of(layout, address + size - 1);
     let base = layout.line_at(0);
     // Nearly all objects are small, so one word has all their lines.
-    if first / 64 == last / 64 {
-        set_run(words, base + first / 64, first % 64, last % 64);
+    if first / BITS_PER_WORD == last / BITS_PER_WORD {
+        let (low, high) = (first % BITS_PER_WORD, last % BITS_PER_WORD);
+        set_run(words, base + first / BITS_PER_WORD, low, high);
         return;
     }
-    for word in first / 64..last / 64 + 1 {
-        let low = first.saturating_sub(64 * word);
-        let high = (last - 64 * word).min(63);
+    for word in first / BITS_PER_WORD..last / BITS_PER_WORD + 1 {
+        let low = first.saturating_sub(BITS_PER_WORD * word);
+        let high = (last - BITS_PER_WORD * word).min(BITS_PER_WORD - 1);
         set_run(words, base + word, low, high);
     }
 }

@@ -4,6 +4,8 @@ ghost use Rattle.std.specs.Prelude.{◌≡◌, ◌↔◌, ℕ, ◌*◌, ◌<◌,
 ghost use Rattle.std.specs.Int.{bit_at};
 ghost use Rattle.line_marks.specs.Bits.{IsFirstSet, HasNoneSet, IsFirstBit, HasNoBit, IsLastBit};
 
+use side_meta::BITS_PER_WORD;
+
 /// The lowest set bit of `word` at or after bit `from`.
 fn first_set(word: u64, from: u32) -> Option<u32>
     requires { from < 64 }
@@ -30,10 +32,10 @@ pub fn first_bit(words: &[u64], value: bool, from: u32) -> Option<u32>
     ensures { MatchOption result (HasNoBit words.now value from)
         (λ n. IsFirstBit words.now value from n) }
 {
-    let mut bit = from % 64;
-    for i in from as usize / 64..words.len() {
+    let mut bit = from % BITS_PER_WORD;
+    for i in (from / BITS_PER_WORD) as usize..words.len() {
         if let Some(found) = first_set(bits_with(words[i], value), bit) {
-            return Some(64 * i as u32 + found);
+            return Some(BITS_PER_WORD * i as u32 + found);
         }
         bit = 0;
     }
@@ -47,7 +49,7 @@ pub fn last_bit(words: &[u64]) -> Option<u32>
 {
     for i in (0..words.len()).rev() {
         if words[i] != 0 {
-            return Some(64 * i as u32 + (63 - words[i].leading_zeros()));
+            return Some(BITS_PER_WORD * i as u32 + (63 - words[i].leading_zeros()));
         }
     }
     None

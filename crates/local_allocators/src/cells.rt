@@ -14,7 +14,7 @@ use crate::regions::class_of;
 use cell_space::{cell_size, next_cell};
 use heap_layout::{BLOCK_BIT_WORDS, BLOCK_WORDS, CLASSES, Kind, Region};
 use object_model::Row;
-use side_meta::test_bit;
+use side_meta::{BITS_PER_WORD, test_bit};
 
 /// Whether an object begins at the offset of the block.
 fn is_taken(row: &Row, block: u32, offset: u32) -> bool
@@ -24,8 +24,8 @@ fn is_taken(row: &Row, block: u32, offset: u32) -> bool
     ensures { result ≡ is_start (state_of row.now)
         (block_start row.now.layout.blocks block + offset) }
 {
-    let word = row.layout.start_base() + BLOCK_BIT_WORDS * block + offset / 64;
-    test_bit(&row.words, word, offset % 64)
+    let word = row.layout.start_base() + BLOCK_BIT_WORDS * block + offset / BITS_PER_WORD;
+    test_bit(&row.words, word, offset % BITS_PER_WORD)
 }
 
 /// The first free cell of the block that begins at or after the offset `from`, where a cell

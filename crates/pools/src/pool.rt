@@ -49,7 +49,14 @@ pub trait Pool {
         ensures takes { IfOk result (λ r. (h : W.Home) → HaveHome W.home h workers.items
             → All (W.takes h) r.1.items) }
         ensures once { IfOk result (λ r. (logs : List (List (Step W T)))
-            × RunsBucket W.steps b workers.items first.items logs r.0.items r.1.items) }
+            × RunsBucket W.steps (record {
+              bucket = b;
+              before = workers.items;
+              first = first.items;
+              logs = logs;
+              after = r.0.items;
+              later = r.1.items;
+            })) }
         ensures awaits { IfOk result (λ r. (start : W.Start) (w : W) → workers.items ≡ w ∷ []
             → AwaitsAll W.awaits start w first.items
             → (v : W) × (r.0.items ≡ v ∷ []) × AwaitsAll W.awaits start v r.1.items) }

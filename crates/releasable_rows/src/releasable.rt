@@ -13,7 +13,7 @@ ghost use Rattle.releasable_rows.specs.BlockTests.{HasNoMark, HasNoLine, AreTail
 use heap_layout::{BLOCK_WORDS, BlockWord, CLASS_UNIT, CLASSES, Kind, Layout, decode};
 use ideal_heap::MAX_MUTATORS;
 use object_model::{HEADER_WORDS, MAX_MEDIUM_WORDS, SHAPE_OFFSET, decode_shape, size_words};
-use side_meta::{Words, test_bit};
+use side_meta::{BITS_PER_WORD, Words, test_bit};
 
 /// The size in words of a cell of each class.
 const CELL_WORDS: [u32; CLASSES] = [
@@ -319,10 +319,11 @@ fn marks_at<W: Words>(words: &W, layout: &Layout, address: u32) -> Marks
     ensures unlog { result.unlog
         ≡ is_unlogged (shown (W.words words.now) layout.now) address }
 {
-    let bit = address - layout.heap_base();
+    let index = address - layout.heap_base();
+    let (word, bit) = (index / BITS_PER_WORD, index % BITS_PER_WORD);
     Marks {
-        start: test_bit(words, layout.start_base() + bit / 64, bit % 64),
-        pin: test_bit(words, layout.pin_base() + bit / 64, bit % 64),
-        unlog: test_bit(words, layout.unlog_base() + bit / 64, bit % 64),
+        start: test_bit(words, layout.start_base() + word, bit),
+        pin: test_bit(words, layout.pin_base() + word, bit),
+        unlog: test_bit(words, layout.unlog_base() + word, bit),
     }
 }

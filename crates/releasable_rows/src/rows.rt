@@ -8,7 +8,7 @@ ghost use Rattle.object_model.specs.declared.shape.TheConstants.{HEADER_WORDS};
 
 use heap_layout::{BLOCK_WORDS, CLASS_UNIT, Kind, Layout};
 use object_model::{COLLECTOR_OFFSET, HEADER_WORDS, NUMS_UNIT, SHAPE_OFFSET, Shape};
-use side_meta::{Words, set_bit};
+use side_meta::{BITS_PER_WORD, Words, set_bit};
 use std::alloc::{AllocError, Global};
 
 /// An object of mutator 1 as it lies in a block.
@@ -99,5 +99,5 @@ pub fn set_bit_of(words: &mut Vec<u64>, layout: &Layout, zone: u32, address: u32
     ensures { length words.new.items ≡ length words.old.items }
 {
     let bit = address - layout.heap_base();
-    set_bit(words, zone + bit / 64, bit % 64);
+    set_bit(words, zone + bit / BITS_PER_WORD, bit % BITS_PER_WORD);
 }

@@ -6,6 +6,7 @@ ghost use Rattle.side_meta.specs.Fields.{place_word, field_bits, field_value, Ch
 use crate::places::place;
 use crate::row::Words;
 use crate::spec::Spec;
+use crate::word::BITS_PER_WORD;
 
 /// The value of the field of an address.
 pub fn field<W: Words>(words: &W, spec: &Spec, address: u32) -> u64
@@ -37,5 +38,5 @@ pub fn set_field<W: Words>(words: &mut W, spec: &Spec, address: u32, value: u64)
 fn ones(spec: &Spec) -> u64
     ensures { result ≡ 2 ^ field_bits spec.now - 1 }
 {
-    u64::MAX >> (64 - (1u32 << spec.log_bits))
+    u64::MAX >> (BITS_PER_WORD - (1u32 << spec.log_bits))
 }

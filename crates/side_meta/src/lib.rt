@@ -7,6 +7,7 @@ mod places;
 mod row;
 mod single_bits;
 mod spec;
+mod word;
 
 pub use bits::{clear, set, test};
 pub use fields::{field, set_field};
@@ -14,6 +15,7 @@ pub use places::place;
 pub use row::Words;
 pub use single_bits::{clear_bit, set_bit, test_bit};
 pub use spec::Spec;
+pub use word::BITS_PER_WORD;
 
 #[cfg(test)]
 mod tests;

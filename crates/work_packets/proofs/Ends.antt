@@ -45,7 +45,7 @@ module _ {T W H S : Type 0} (home : W → H) (takes : H → Packet T → Type 0)
 
 module _ {T W H S : Type 0} (home : W → H) (takes : H → Packet T → Type 0) (awaits : S → W → List (Packet T) → Type 0) (b : Bucket) (steps : W → Packet T → List (Packet T) → W → Type 0) where
   pub bucket-runs : (shares : List (Share T W)) (fs : List (Finished T W)) → AllZip (Finishes home takes awaits b steps) shares fs
-      → (logs : List (List (Step W T))) × RunsBucket steps b (map (λ s. s.worker) shares) (packets_in shares) logs (map (λ f. f.worker) fs) (flat_map (λ f. f.later.items) fs)
+      → (logs : List (List (Step W T))) × RunsBucket steps (record { bucket = b; before = map (λ s. s.worker) shares; first = packets_in shares; logs = logs; after = map (λ f. f.worker) fs; later = flat_map (λ f. f.later.items) fs })
   bucket-runs [] [] z = ([], record { reached = tt; once = IsPermutation-refl []; left = IsPermutation-refl []; order = All-nil _ })
   bucket-runs [] (f ∷ fs) z = absurd z
   bucket-runs (s ∷ shares) [] z = absurd z

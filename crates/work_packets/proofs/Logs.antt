@@ -10,7 +10,7 @@ use Rattle.work_packets.specs.declared.packet.Bucket.{Bucket}
 use Rattle.work_packets.specs.declared.packet.Packet.{Packet}
 use Rattle.work_packets.specs.Buckets.{is_same, IsSameOrLater}
 use Rattle.work_packets.specs.Packets.{packets_of, packets_after}
-use Rattle.work_packets.specs.Steps.{Step, Reaches, AllReach, ran, pushed, RunsShare}
+use Rattle.work_packets.specs.Steps.{Step, ShareWork, Reaches, AllReach, ran, pushed, RunsShare}
 use Rattle.work_packets.proofs.BucketOrder.{one-bucket}
 use Rattle.work_packets.proofs.Pieces.{piece, join, rearranged}
 
@@ -36,7 +36,11 @@ module _ {X : Type 0} where
       (IsPermutation-append_right (ran ++ p) _ _ k)))
 
 module _ {W T : Type 0} where
-  pub share-begins : (steps : W → Packet T → List (Packet T) → W → Type 0) (b : Bucket) (w : W) (first : List (Packet T)) → RunsShare steps b w first [] w first []
+  -- what a worker did, by its members
+  abbrev pub did : Bucket → W → List (Packet T) → List (Step W T) → W → List (Packet T) → List (Packet T) → ShareWork W T
+  did b w first log u todo later = record { bucket = b; before = w; first = first; log = log; after = u; todo = todo; later = later }
+
+  pub share-begins : (steps : W → Packet T → List (Packet T) → W → Type 0) (b : Bucket) (w : W) (first : List (Packet T)) → RunsShare steps (did b w first [] w first [])
   share-begins steps b w first = record {
     reached = refl;
     once = subst (λ l. IsPermutation l first) (sym (append-nil first)) (IsPermutation-refl first);
@@ -45,8 +49,8 @@ module _ {W T : Type 0} where
   }
 
   pub share-goes-on : (steps : W → Packet T → List (Packet T) → W → Type 0) (b : Bucket) (w : W) (first : List (Packet T)) (log : List (Step W T)) (u : W) (s : Step W T) (todo todo' later later' : List (Packet T))
-      → RunsShare steps b w first log u (todo ++ s.packet ∷ []) later → steps u s.packet s.pushed s.worker → IsPermutation (todo ++ packets_of b s.pushed) todo' → IsPermutation (later ++ packets_after b s.pushed) later' → All (λ p. IsSameOrLater b p.bucket) s.pushed
-      → RunsShare steps b w first (log ++ s ∷ []) s.worker todo' later'
+      → RunsShare steps (did b w first log u (todo ++ s.packet ∷ []) later) → steps u s.packet s.pushed s.worker → IsPermutation (todo ++ packets_of b s.pushed) todo' → IsPermutation (later ++ packets_after b s.pushed) later' → All (λ p. IsSameOrLater b p.bucket) s.pushed
+      → RunsShare steps (did b w first (log ++ s ∷ []) s.worker todo' later')
   share-goes-on steps b w first log u s todo todo' later later' h step now after order =
       let of : packets_of b (pushed (log ++ s ∷ [])) ≡ packets_of b (pushed log) ++ packets_of b s.pushed = ap (packets_of b) (pushed-more log s) ∙ filter-append _ (pushed log) s.pushed in
       let rest : packets_after b (pushed (log ++ s ∷ [])) ≡ packets_after b (pushed log) ++ packets_after b s.pushed = ap (packets_after b) (pushed-more log s) ∙ filter-append _ (pushed log) s.pushed in

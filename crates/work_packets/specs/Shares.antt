@@ -44,6 +44,14 @@ module _ {T W H S : Type 0} (home : W → H) (takes : H → Packet T → Type 0)
     pub sized : All HasItems f.later.items
     pub taken : All (takes (home share.worker)) f.later.items
     pub log : List (Step W T)
-    pub runs : RunsShare steps b share.worker share.packets.items log f.worker [] f.later.items
+    pub runs : RunsShare steps (record {
+      bucket = b;
+      before = share.worker;
+      first = share.packets.items;
+      log = log;
+      after = f.worker;
+      todo = [];
+      later = f.later.items;
+    })
     pub awaits_later : (start : S) → AwaitsAll awaits start share.worker share.packets.items
         → AwaitsAll awaits start f.worker f.later.items

@@ -13,6 +13,36 @@ pub record Step (W T : Type 0) : Type 0 where
   pub pushed : List (Packet T)
   pub worker : W
 
+-- what workers did with a bucket
+pub record BucketWork (W T : Type 0) : Type 0 where
+  pub bucket : Bucket
+  -- the workers before it
+  pub before : List W
+  -- the packets of the bucket that there were at first
+  pub first : List (Packet T)
+  -- the steps of each worker, at its place
+  pub logs : List (List (Step W T))
+  -- the workers after it
+  pub after : List W
+  -- the packets that are left for later buckets
+  pub later : List (Packet T)
+
+-- what a worker did with a part of its share of a bucket
+pub record ShareWork (W T : Type 0) : Type 0 where
+  pub bucket : Bucket
+  -- the worker before it
+  pub before : W
+  -- the packets of the share
+  pub first : List (Packet T)
+  -- the worker's steps
+  pub log : List (Step W T)
+  -- the worker after it
+  pub after : W
+  -- the packets of the bucket that it has yet to run
+  pub todo : List (Packet T)
+  -- the packets that are left for later buckets
+  pub later : List (Packet T)
+
 module _ {W T : Type 0} where
   -- by these steps, one after another, the first worker becomes the second
   abbrev pub Reaches : (W → Packet T → List (Packet T) → W → Type 0) → W → List (Step W T)
@@ -41,27 +71,29 @@ module _ {W T : Type 0} where
   abbrev pub pushed_by_all : List (List (Step W T)) → List (Packet T)
   pushed_by_all logs = flat_map (λ log. pushed log) logs
 
-  -- The workers ran bucket b, with the `first` packets in it, by the steps of these logs.
-  pub record RunsBucket (steps : W → Packet T → List (Packet T) → W → Type 0) (b : Bucket)
-      (before : List W) (first : List (Packet T)) (logs : List (List (Step W T)))
-      (after : List W) (later : List (Packet T)) : Type 0 where
+  -- The workers ran the packets of the bucket by these steps.
+  pub record RunsBucket (steps : W → Packet T → List (Packet T) → W → Type 0)
+      (work : BucketWork W T) : Type 0 where
     -- each worker became the one at its place
-    pub reached : AllReach steps before logs after
+    pub reached : AllReach steps work.before work.logs work.after
     -- what they ran are the first packets and those that they pushed for this bucket, each once
-    pub once : IsPermutation (first ++ packets_of b (pushed_by_all logs)) (ran_by_all logs)
+    pub once : IsPermutation (work.first ++ packets_of work.bucket (pushed_by_all work.logs))
+        (ran_by_all work.logs)
     -- what they pushed for later buckets is left, each packet once
-    pub left : IsPermutation (packets_after b (pushed_by_all logs)) later
+    pub left : IsPermutation (packets_after work.bucket (pushed_by_all work.logs)) work.later
     -- they pushed nothing for an earlier bucket
-    pub order : All (λ p. IsSameOrLater b p.bucket) (pushed_by_all logs)
+    pub order : All (λ p. IsSameOrLater work.bucket p.bucket) (pushed_by_all work.logs)
 
-  -- A worker ran a part of its share of bucket b, and has yet to run the packets `todo`.
-  pub record RunsShare (steps : W → Packet T → List (Packet T) → W → Type 0) (b : Bucket)
-      (before : W) (first : List (Packet T)) (log : List (Step W T)) (after : W)
-      (todo later : List (Packet T)) : Type 0 where
-    pub reached : Reaches steps before log after
-    -- what it ran and has to run are its first packets and those that it pushed for this bucket
-    pub once : IsPermutation (first ++ packets_of b (pushed log)) (ran log ++ todo)
-    -- what it pushed for later buckets is left
-    pub left : IsPermutation (packets_after b (pushed log)) later
+  -- The worker ran a part of its share by these steps.
+  pub record RunsShare (steps : W → Packet T → List (Packet T) → W → Type 0)
+      (work : ShareWork W T) : Type 0 where
+    -- the worker became the one after
+    pub reached : Reaches steps work.before work.log work.after
+    -- what it ran and has yet to run are its first packets and those that it pushed for this
+    -- bucket, each once
+    pub once : IsPermutation (work.first ++ packets_of work.bucket (pushed work.log))
+        (ran work.log ++ work.todo)
+    -- what it pushed for later buckets is left, each packet once
+    pub left : IsPermutation (packets_after work.bucket (pushed work.log)) work.later
     -- it pushed nothing for an earlier bucket
-    pub order : All (λ p. IsSameOrLater b p.bucket) (pushed log)
+    pub order : All (λ p. IsSameOrLater work.bucket p.bucket) (pushed work.log)

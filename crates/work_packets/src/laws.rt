@@ -4,7 +4,7 @@ ghost use Rattle.std.specs.Prelude.{◌≡◌, ℕ, ◌+◌, ◌≤◌, ◌↔�
 ghost use Rattle.std.specs.List.{filter, sum_by};
 ghost use Rattle.work_packets.specs.Buckets.{is_before, is_same};
 ghost use Rattle.work_packets.specs.Packets.{HasItems, packets_of, packets_after};
-ghost use Rattle.work_packets.specs.Steps.{Step, RunsBucket, ran_by_all, pushed_by_all};
+ghost use Rattle.work_packets.specs.Steps.{BucketWork, RunsBucket, ran_by_all, pushed_by_all};
 ghost use Rattle.work_packets.specs.declared.packet.Bucket.{Bucket};
 ghost use Rattle.work_packets.specs.declared.packet.Bucket.TheVariants.{Prepare, Roots, Closure, Release};
 ghost use Rattle.work_packets.specs.declared.packet.Packet.{Packet};
@@ -31,19 +31,17 @@ pub fn packets_are_small<T>()
 /// A run of a bucket loses no packet and no worker: every packet that was there or was pushed is
 /// run or left.
 pub fn runs_lose_nothing<T, W: PacketWorker<T>>()
-    ensures workers { (b : Bucket) (ws vs : List W) (first later : List (Packet T))
-        (logs : List (List (Step W T))) → RunsBucket W.steps b ws first logs vs later
-        → length vs ≡ length ws }
-    ensures run { (b : Bucket) (ws vs : List W) (first later : List (Packet T))
-        (logs : List (List (Step W T))) → RunsBucket W.steps b ws first logs vs later
-        → length (ran_by_all logs) ≡ length first + length (packets_of b (pushed_by_all logs)) }
-    ensures left { (b : Bucket) (ws vs : List W) (first later : List (Packet T))
-        (logs : List (List (Step W T))) → RunsBucket W.steps b ws first logs vs later
-        → length later ≡ length (packets_after b (pushed_by_all logs)) }
-    ensures all { (b : Bucket) (ws vs : List W) (first later : List (Packet T))
-        (logs : List (List (Step W T))) → RunsBucket W.steps b ws first logs vs later
-        → length (ran_by_all logs) + length later
-        ≡ length first + length (pushed_by_all logs) }
+    ensures workers { (work : BucketWork W T) → RunsBucket W.steps work
+        → length work.after ≡ length work.before }
+    ensures run { (work : BucketWork W T) → RunsBucket W.steps work
+        → length (ran_by_all work.logs)
+        ≡ length work.first + length (packets_of work.bucket (pushed_by_all work.logs)) }
+    ensures left { (work : BucketWork W T) → RunsBucket W.steps work
+        → length work.later
+        ≡ length (packets_after work.bucket (pushed_by_all work.logs)) }
+    ensures all { (work : BucketWork W T) → RunsBucket W.steps work
+        → length (ran_by_all work.logs) + length work.later
+        ≡ length work.first + length (pushed_by_all work.logs) }
 {}
 
 /// Each worker is the one at its place after all of its steps: what no step changes stays, place by
@@ -51,12 +49,11 @@ pub fn runs_lose_nothing<T, W: PacketWorker<T>>()
 pub fn workers_are_reached<T, W: PacketWorker<T>>()
     ensures stays { (f : W → ℕ) → ((w v : W) (p : Packet T) (q : List (Packet T))
         → W.steps w p q v → f v ≡ f w)
-        → (b : Bucket) (ws vs : List W) (first later : List (Packet T))
-        (logs : List (List (Step W T))) → RunsBucket W.steps b ws first logs vs later
-        → map f vs ≡ map f ws }
+        → (work : BucketWork W T) → RunsBucket W.steps work
+        → map f work.after ≡ map f work.before }
     ensures rises { (f : W → ℕ) → ((w v : W) (p : Packet T) (q : List (Packet T))
         → W.steps w p q v → f v ≡ f w + 1)
-        → (b : Bucket) (ws vs : List W) (first later : List (Packet T))
-        (logs : List (List (Step W T))) → RunsBucket W.steps b ws first logs vs later
-        → sum_by f vs ≡ sum_by f ws + length (ran_by_all logs) }
+        → (work : BucketWork W T) → RunsBucket W.steps work
+        → sum_by f work.after
+        ≡ sum_by f work.before + length (ran_by_all work.logs) }
 {}

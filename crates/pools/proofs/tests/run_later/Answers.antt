@@ -9,4 +9,4 @@ pub run_bucket-requires-clause-awaits : goal.run_bucket-requires-clause-awaits
 run_bucket-requires-clause-awaits g c κs within = inr (λ w ps. (tt, λ qs e. tt))
 
 pub returns : goal.returns
-returns g c = c.workers_are_reached.ensures.stays (λ w. w.number) (λ w v p q h. h.1) _ _ _ _ _ _ c.in_ok-ran.ensures.once.1
+returns g c = c.workers_are_reached.ensures.stays (λ w. w.number) (λ w v p q h. h.1) _ c.in_ok-ran.ensures.once.1

@@ -7,7 +7,7 @@ use Rattle.work_packets.specs.Awaiting.{AwaitsAll}
 use Rattle.work_packets.specs.Buckets.{IsSameOrLater}
 use Rattle.work_packets.specs.Packets.{HasItems, packets_of, packets_after}
 use Rattle.work_packets.specs.Steps.{Step, RunsShare}
-use Rattle.work_packets.proofs.Logs.{share-begins, share-goes-on, in-bucket}
+use Rattle.work_packets.proofs.Logs.{did, share-begins, share-goes-on, in-bucket}
 use Rattle.work_packets.proofs.AwaitedPackets.{next-first, sorted-out}
 use Rattle.work_packets.proofs.plain_split.run_share.Goals as goal
 
@@ -25,7 +25,7 @@ loop-p-init g c =
       log = [];
       awaited = λ start h. subst (λ l. AwaitsAll g.W.PacketWorker.awaits start c.args.share.worker (c.args.share.packets.items ++ l)) none
           (subst (AwaitsAll g.W.PacketWorker.awaits start c.args.share.worker) (sym (append-nil c.args.share.packets.items)) h);
-      runs = subst (λ l. RunsShare g.W.PacketWorker.steps c.args.b c.args.share.worker c.args.share.packets.items [] c.args.share.worker c.args.share.packets.items l) none
+      runs = subst (λ l. RunsShare g.W.PacketWorker.steps (did c.args.b c.args.share.worker c.args.share.packets.items [] c.args.share.worker c.args.share.packets.items l)) none
           (share-begins g.W.PacketWorker.steps c.args.b c.args.share.worker c.args.share.packets.items);
     }
 
@@ -75,7 +75,7 @@ loop-p-preserved g c =
       none_pushed = c.in_ok-sort_out.ensures.empty;
       log = c.loop-p.invariant.log ++ s ∷ [];
       runs = share-goes-on g.W.PacketWorker.steps c.args.b c.args.share.worker c.args.share.packets.items c.loop-p.invariant.log c.loop-p.worker s todo todo' later later'
-          (subst (λ l. RunsShare g.W.PacketWorker.steps c.args.b c.args.share.worker c.args.share.packets.items c.loop-p.invariant.log c.loop-p.worker l c.loop-p.later.items) c.in-Some.ensures.items c.loop-p.invariant.runs)
+          (subst (λ l. RunsShare g.W.PacketWorker.steps (did c.args.b c.args.share.worker c.args.share.packets.items c.loop-p.invariant.log c.loop-p.worker l c.loop-p.later.items)) c.in-Some.ensures.items c.loop-p.invariant.runs)
           c.in_ok-run.ensures.step now after order;
       awaited = λ start h. sorted-out awaits b start c.run.new.self todo later pushed todo' later' order now after
           (c.in_ok-run.ensures.awaits start (todo ++ later) (next-first awaits start c.loop-p.worker todo later c.in-Some.p
@@ -91,6 +91,6 @@ returns g c =
       sized = i.later_sized;
       taken = i.later_taken;
       log = i.log;
-      runs = subst (λ l. RunsShare steps c.args.b c.args.share.worker c.args.share.packets.items i.log c.loop-p.worker l c.loop-p.later.items) none i.runs;
+      runs = subst (λ l. RunsShare steps (did c.args.b c.args.share.worker c.args.share.packets.items i.log c.loop-p.worker l c.loop-p.later.items)) none i.runs;
       awaits_later = λ start h. subst (λ l. AwaitsAll awaits start c.loop-p.worker (l ++ c.loop-p.later.items)) none (i.awaited start h);
     }

@@ -2,6 +2,7 @@ use Rattle.std.proofs.Common.{◌≡◌, ◌+◌, List, [], ◌++◌, length, Al
 use Rattle.work_packets.specs.Awaiting.{AwaitsAll}
 use Rattle.work_packets.specs.Packets.{HasItems}
 use Rattle.work_packets.specs.Steps.{Step, RunsShare}
+use Rattle.work_packets.proofs.Logs.{did}
 use Rattle.work_packets.proofs.plain_split.run_share.Given as goal
 
 abbrev pub invariant-loop-p : goal.invariant-loop-p
@@ -15,7 +16,7 @@ invariant-loop-p g l = record {
   none_pushed : l.pushed.items ≡ [];
   log : List (Step g.row.W.Denot g.row.T.Denot);
   awaited : (start : g.row.W-Start.Denot) → AwaitsAll g.W.PacketWorker.awaits start l.initial.worker l.initial.todo.items → AwaitsAll g.W.PacketWorker.awaits start l.worker (l.todo.items ++ l.later.items);
-  runs : RunsShare g.W.PacketWorker.steps l.b l.initial.worker l.initial.todo.items log l.worker l.todo.items l.later.items;
+  runs : RunsShare g.W.PacketWorker.steps (did l.b l.initial.worker l.initial.todo.items log l.worker l.todo.items l.later.items);
 }
 
 abbrev pub decreases-loop-p : goal.decreases-loop-p
