@@ -9,10 +9,10 @@ use Rattle.heap_layout.specs.Zones.{Zone, Globals, BlockWords, LineWords, StartB
 use Rattle.heap_layout.specs.declared.block.Kind.{Kind}
 use Rattle.heap_layout.specs.declared.block.Kind.TheVariants as kinds
 use Rattle.ideal_heap.specs.Ideal.{IdealHeap}
-use Rattle.object_model.specs.Objects.{HeapState, word_at, global_at, is_pinned, IsHeld, size_at, refs_at, ref_at, is_reference, has_kind}
+use Rattle.object_model.specs.Objects.{HeapState, word_at, global_at, is_pinned, is_unlogged, IsHeld, size_at, refs_at, ref_at, is_reference, has_kind}
 use Rattle.object_model.specs.Lawful.{IsWellFormed, IsLawful}
 use Rattle.object_model.specs.Graphs.{MutatorState, Represents, IsReachable, roots_of}
-use Rattle.object_model.specs.Ages.{is_old}
+use Rattle.object_model.specs.Ages.{is_old, RemembersYoung}
 use Rattle.object_model.specs.Changes.{ObjectsStay}
 use Rattle.object_model.proofs.Frames as frames
 use Rattle.object_model.proofs.Marks.{mark-same}
@@ -93,14 +93,22 @@ module _ (s : HeapState) (lawful : IsLawful s) where
       age : ℕ → Bool
       age word = nat_lt 0 s.base && nat_le s.base (word / 2 ^ 24)
 
-  pub remembers-cleared : (r : Rules) → Remembers r s → Remembers r (without_stop s)
-  remembers-cleared r remembers young a i holds aged unlogged less some =
+  fields-cleared : RemembersYoung s → (a i : ℕ) → IsHeld (without_stop s) a → IsTrue (is_old (without_stop s) a) → IsTrue (is_unlogged (without_stop s) a)
+      → i < refs_at (without_stop s) a → IsTrue (is_reference (ref_at (without_stop s) a i))
+      → IsHeld (without_stop s) (ref_at (without_stop s) a i) × IsTrue (is_old (without_stop s) (ref_at (without_stop s) a i))
+  fields-cleared remembers a i holds aged unlogged less some =
       let before : IsHeld s a = frames.held-before s (without_stop s).words keeps a holds in
       let few : i < refs_at s a = subst (λ n. i < n) (frames.refs-after s (without_stop s).words keeps a before) less in
       let same : ref_at (without_stop s) a i ≡ ref_at s a i = other (a + 3 + i) (omega arith) in
-      let there = remembers young a i before (sym (old-same a) ∙ aged) (keeps.unlogs a unlogged) few (subst (λ v. IsTrue (is_reference v)) same some) in
+      let there = remembers.fields a i before (sym (old-same a) ∙ aged) (keeps.unlogs a unlogged) few (subst (λ v. IsTrue (is_reference v)) same some) in
       subst (λ v. IsHeld (without_stop s) v × IsTrue (is_old (without_stop s) v)) (sym same)
       (frames.held-after s (without_stop s).words keeps (ref_at s a i) there.0, old-same (ref_at s a i) ∙ there.1)
+
+  marks-cleared : RemembersYoung s → (a : ℕ) → IsHeld (without_stop s) a → IsTrue (is_unlogged (without_stop s) a) → IsTrue (is_old (without_stop s) a)
+  marks-cleared remembers a holds unlogged = old-same a ∙ remembers.marked a (frames.held-before s (without_stop s).words keeps a holds) (keeps.unlogs a unlogged)
+
+  pub remembers-cleared : (r : Rules) → Remembers r s → Remembers r (without_stop s)
+  remembers-cleared r remembers young = record { fields = fields-cleared (remembers young); marked = marks-cleared (remembers young) }
 
   kinds-same : (k : ℕ) (kind : Kind) → has_kind (without_stop s) k kind ≡ has_kind s k kind
   kinds-same = frames.has_kind-same s (without_stop s).words keeps.block_words

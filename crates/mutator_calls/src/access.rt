@@ -119,7 +119,7 @@ pub fn get<S: MutatorSteps>(seat: &mut S, d: u32, s: u32, i: u32) -> Reply
 
 /// Whether a store of a reference into the object in register `s` must log the object: the plan is
 /// generational, and the object is old and not logged yet.
-fn must_log<S: MutatorSteps>(seat: &mut S, s: u32) -> bool
+fn needs_log<S: MutatorSteps>(seat: &mut S, s: u32) -> bool
     requires ready { S.is_ready seat.old }
     requires register { s < REGISTERS }
     requires some { S.address seat.old s ≢ 0 }
@@ -148,7 +148,7 @@ pub fn put<S: MutatorSteps>(seat: &mut S, s: u32, i: u32, v: u32) -> Reply
     match shape_with_field(seat, s, i, &Command::Put { s, i, v }) {
         Err(reply) => reply,
         Ok(shape) => {
-            if must_log(seat, s) {
+            if needs_log(seat, s) {
                 seat.log_and_store_field(s, i, v, &shape);
             } else {
                 seat.store_field(s, i, v, &shape);

@@ -19,7 +19,7 @@ pub empty-ready : (plan : Plan) (b : ℕ) (numbers : List ℕ) → 4 ≤ b → b
     → EpochMayBegin (record { rules = rules_of plan; before = empty_heap b; mutators = map new_mutator numbers })
 empty-ready plan b numbers least most few = record {
   lawful = zeros.lawful b least most;
-  remembers = λ young a j holds old unlogged less some. absurd (zeros.none_held b a holds);
+  remembers = λ young. zeros.remembers b;
   fills = fills plan;
   stop = zeros.zero_word b 0;
   tickets = zeros.zero_word b 1;

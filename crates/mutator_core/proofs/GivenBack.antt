@@ -11,7 +11,7 @@ use Rattle.heap_layout.specs.declared.block.Kind.TheVariants as kinds
 use Rattle.heap_layout.specs.declared.block.BlockWord.{BlockWord}
 use Rattle.heap_layout.proofs.BlockLemmas.{code_parts, valid_most, kind_code_most, is_block_code-code_of}
 use Rattle.ideal_heap.specs.Ideal.{IdealHeap}
-use Rattle.object_model.specs.Objects.{HeapState, with_words, word_at, block_word, has_kind, HasKind, class_at, owner_at, is_unlogged, IsHeld, ref_at, is_reference}
+use Rattle.object_model.specs.Objects.{HeapState, with_words, word_at, block_word, has_kind, HasKind, class_at, owner_at, is_unlogged, IsHeld, refs_at, ref_at, is_reference}
 use Rattle.object_model.specs.Ages.{is_old}
 use Rattle.object_model.specs.Lawful.{IsLawful, IsWellFormed, IsUnowned, FreeBlockIsClear, LineBitsAreExact}
 use Rattle.object_model.specs.Agreement.{RepresentsOn}
@@ -160,10 +160,19 @@ module _ (p : Epoch) (ready : EpochMayBegin p) (h : Machine) (i : IdealHeap) (se
   pub old-back : (a : ℕ) → IsHeld s a → is_old new a ≡ is_old s a
   old-back a holds = ap (λ v. nat_lt 0 s.base && nat_le s.base (v / 2 ^ 24)) (same.words (a + 2) (let from : heap_of s.blocks ≤ a = holds.address.from in omega arith))
 
-  pub remembers-back : Remembers p.rules new
-  remembers-back young a j holds aged unlogged less some =
+  fields-back : IsTrue p.rules.young → (a j : ℕ) → IsHeld new a → IsTrue (is_old new a) → IsTrue (is_unlogged new a) → j < refs_at new a
+      → IsTrue (is_reference (ref_at new a j)) → IsHeld new (ref_at new a j) × IsTrue (is_old new (ref_at new a j))
+  fields-back young a j holds aged unlogged less some =
       let before : IsHeld s a = held-before a holds in
       let ref : ref_at new a j ≡ ref_at s a j = blocks.ref-same s w same a j before in
-      let target = now.epoch.remembers young a j before (sym (old-back a before) ∙ aged) (sym (same.unlogs a) ∙ unlogged)
+      let target = (now.epoch.remembers young).fields a j before (sym (old-back a before) ∙ aged) (sym (same.unlogs a) ∙ unlogged)
       (subst (λ (n : ℕ). j < n) (blocks.refs-same s w same a before) less) (subst (λ (v : ℕ). IsTrue (is_reference v)) ref some) in
       subst (λ (v : ℕ). IsHeld new v × IsTrue (is_old new v)) (sym ref) (held-back (ref_at s a j) target.0, old-back (ref_at s a j) target.0 ∙ target.1)
+
+  marks-back : IsTrue p.rules.young → (a : ℕ) → IsHeld new a → IsTrue (is_unlogged new a) → IsTrue (is_old new a)
+  marks-back young a holds unlogged =
+      let before : IsHeld s a = held-before a holds in
+      old-back a before ∙ (now.epoch.remembers young).marked a before (sym (same.unlogs a) ∙ unlogged)
+
+  pub remembers-back : Remembers p.rules new
+  remembers-back young = record { fields = fields-back young; marked = marks-back young }

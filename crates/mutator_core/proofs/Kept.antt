@@ -100,16 +100,23 @@ module _ (p : Epoch) (s : HeapState) (w : List ℕ) (leaves : Leaves s w) where
 abbrev pub KeepsFields : Epoch → HeapState → List ℕ → Type 0
 KeepsFields p s w = IsTrue p.rules.young → (a j : ℕ) → IsHeld s a → j < refs_at s a → IsTrue (is_old s a) → IsTrue (is_unlogged s a) → ref_at (with_words s w) a j ≡ ref_at s a j
 
--- so references to young objects are remembered
-pub remembers-left : (p : Epoch) (s : HeapState) (w : List ℕ) → Leaves s w → ((a : ℕ) → IsHeld (with_words s w) a → IsTrue (is_old (with_words s w) a) → IsHeld s a) → KeepsFields p s w → Remembers p.rules s → Remembers p.rules (with_words s w)
-remembers-left p s w leaves only fields old young a j holds aged unlogged less some =
-    let before : IsHeld s a = only a holds aged in
-    let few : j < refs_at s a = subst (λ (v : ℕ). j < v % 65536) (leaves.headers a 1 before (omega arith)) less in
-    let was : IsTrue (is_old s a) = sym (old-left a before) ∙ aged in
-    let set : IsTrue (is_unlogged s a) = leaves.unlogs a unlogged in
-    let same : ref_at (with_words s w) a j ≡ ref_at s a j = fields young a j before few was set in
-    let target = old young a j before was set few (subst (λ (v : ℕ). IsTrue (is_reference v)) same some) in
-    subst (λ (v : ℕ). IsHeld (with_words s w) v × IsTrue (is_old (with_words s w) v)) (sym same) (leaves.held (ref_at s a j) target.0, old-left (ref_at s a j) target.0 ∙ target.1)
+-- so references to young objects are remembered, and no young object gets an unlog bit
+pub remembers-left : (p : Epoch) (s : HeapState) (w : List ℕ) → Leaves s w → ((a : ℕ) → IsHeld (with_words s w) a → IsTrue (is_old (with_words s w) a) → IsHeld s a)
+    → ((a : ℕ) → IsHeld (with_words s w) a → IsTrue (is_unlogged s a) → IsHeld s a) → KeepsFields p s w → Remembers p.rules s → Remembers p.rules (with_words s w)
+remembers-left p s w leaves only bits fields old young = record {
+  fields = λ a j holds aged unlogged less some. (
+      let before : IsHeld s a = only a holds aged in
+      let few : j < refs_at s a = subst (λ (v : ℕ). j < v % 65536) (leaves.headers a 1 before (omega arith)) less in
+      let was : IsTrue (is_old s a) = sym (old-left a before) ∙ aged in
+      let set : IsTrue (is_unlogged s a) = leaves.unlogs a unlogged in
+      let same : ref_at (with_words s w) a j ≡ ref_at s a j = fields young a j before few was set in
+      let target = (old young).fields a j before was set few (subst (λ (v : ℕ). IsTrue (is_reference v)) same some) in
+      subst (λ (v : ℕ). IsHeld (with_words s w) v × IsTrue (is_old (with_words s w) v)) (sym same) (leaves.held (ref_at s a j) target.0, old-left (ref_at s a j) target.0 ∙ target.1));
+  marked = λ a holds unlogged. (
+      let set : IsTrue (is_unlogged s a) = leaves.unlogs a unlogged in
+      let before : IsHeld s a = bits a holds set in
+      old-left a before ∙ (old young).marked a before set);
+}
   where
     old-left : (x : ℕ) → IsHeld s x → is_old (with_words s w) x ≡ is_old s x
     old-left x there = ap (λ v. nat_lt 0 s.base && nat_le s.base (v / 2 ^ 24)) (leaves.headers x 2 there (omega arith))
@@ -135,7 +142,7 @@ epoch-left p h w now leaves only free words fields untouched = record {
   ];
   lines = λ k line there few. leaves.lines k line there few ∙ now.lines k line there few;
   unlogs = λ a set. now.unlogs a (leaves.unlogs a set);
-  remembers = remembers-left p (heap_in p h) w leaves (λ a holds aged. only a holds) fields now.remembers;
+  remembers = remembers-left p (heap_in p h) w leaves (λ a holds aged. only a holds) (λ a holds set. only a holds) fields now.remembers;
   members = now.members;
 }
 

@@ -231,13 +231,16 @@ module _ (p : Epoch) (ready : EpochMayBegin p) (h : Machine) (i : IdealHeap) (se
   abbrev extent : Extent
   extent = record { address = (h.locals m).unpublished.address; size = size_of refs nums }
 
+  no-bit : IsTrue (is_unlogged s a) → ⊥
+  no-bit set = births.not-held s w a n refs nums adds vacant (order.objects.marks a (or_right (is_pinned s a) (is_unlogged s a) set))
+
   made : IsMade p after l.owned extent
   made = record {
     held = births.held-new s w a n refs nums adds vacant;
     same = births.new-size s w a n refs nums adds vacant;
     place = place;
     unclaimed = writes.blank 2 (omega arith) (omega arith);
-    unmarked = λ is. births.not-held s w a n refs nums adds vacant (order.objects.marks a (or_right (is_pinned s a) (is_unlogged s a) (sym (adds.unlogs a) ∙ is)));
+    unmarked = λ is. no-bit (sym (adds.unlogs a) ∙ is);
   }
 
   knows : KnowsItsState p after l'
@@ -302,10 +305,17 @@ module _ (p : Epoch) (ready : EpochMayBegin p) (h : Machine) (i : IdealHeap) (se
     lines = λ q line there few. leaves.lines q line there few ∙ now.epoch.lines q line there few;
     unlogs = λ x is. now.epoch.unlogs x (leaves.unlogs x is);
     members = λ q x there. local-cases (λ j y. Contains y.owned x → Contains (numbers_of p.mutators) j) h.locals m l' q (λ e has. known) (λ differ. now.epoch.members q x) there;
-    remembers = remembers-left p s w leaves old-object
+    remembers = remembers-left p s w leaves old-object old-bit
         (λ young x j holds less aged unlogged. heap-word (x + 3 + j) (let from : heap_of s.blocks ≤ x = holds.address.from in omega arith)) now.epoch.remembers;
   }
     where
+      -- the new object has no unlog bit
+      old-bit : (x : ℕ) → IsHeld after x → IsTrue (is_unlogged s x) → IsHeld s x
+      old-bit x holds set = elim (births.held-cases s w a n refs nums adds vacant x holds) as (λ _. IsHeld s x) [
+        | inr before ↦ before
+        | inl e ↦ absurd (no-bit (subst (λ (y : ℕ). IsTrue (is_unlogged s y)) e set))
+      ]
+
       -- the new object is young
       old-object : (x : ℕ) → IsHeld after x → IsTrue (is_old after x) → IsHeld s x
       old-object x holds aged = elim (births.held-cases s w a n refs nums adds vacant x holds) as (λ _. IsHeld s x) [

@@ -183,7 +183,7 @@ module _ (p : Epoch) (ready : EpochMayBegin p) (h : Machine) (i : IdealHeap) (se
           ];
           lines = λ j line inside few. leaves.lines j line inside few ∙ now.epoch.lines j line inside few;
           unlogs = λ x set. now.epoch.unlogs x (leaves.unlogs x set);
-          remembers = remembers-left p s w leaves (λ x holds aged. blocks.held-before s w same x holds)
+          remembers = remembers-left p s w leaves (λ x holds aged. blocks.held-before s w same x holds) (λ x holds set. blocks.held-before s w same x holds)
               (λ young x j holds less aged unlogged. same.words (x + 3 + j) (let from : heap_of s.blocks ≤ x = holds.address.from in omega arith)) now.epoch.remembers;
           members = λ q x there. local-cases (λ j y. Contains y.owned x → Contains (numbers_of p.mutators) j) h.locals m l' q (λ e has. known) (λ differ. now.epoch.members q x) there;
         };

@@ -7,3 +7,4 @@ pub mod Logs
 pub mod Closing
 pub mod Tickets
 pub mod Seen
+pub mod Prelude

@@ -1,20 +1,10 @@
 //! Worked examples: lists of events with their histories.
 
 ghost use Rattle.std.specs.Prelude.{◌≡◌, ℕ, ◌≤◌, List, [], ◌∷◌, ◌++◌, length, map, true};
-ghost use Rattle.ideal_heap.specs.declared.command.Command.TheVariants as command;
-ghost use Rattle.ideal_heap.specs.declared.reply.Reply.TheVariants as reply;
-ghost use Rattle.ideal_heap.specs.Ideal.{empty};
-ghost use Rattle.ideal_heap.specs.Names.{name};
-ghost use Rattle.ideal_heap.specs.Runs.{entry};
-ghost use Rattle.object_model.specs.Objects.{empty_heap};
-ghost use Rattle.object_model.specs.Graphs.{new_mutator};
-ghost use Rattle.sessions.specs.Plans.{NoGc, Plan, rules_of};
-ghost use Rattle.mutator_core.specs.declared.state.Event.TheVariants as event;
-ghost use Rattle.mutator_core.specs.Machine.{first_machine};
-ghost use Rattle.mutator_core.specs.Histories.{history, IsLog};
-ghost use Rattle.mutator_core.specs.Epochs.{EpochMayBegin};
-ghost use Rattle.mutator_core.specs.Examples.{small_epoch, log_of, birth_events, share_events, separate_events, old_object_epoch, barrier_events, empty_epoch, mixed_log};
-ghost use Rattle.mutator_core.specs.Logs.{IsEpochLog, history_of, local_after_log, AreBetweenCalls};
+ghost use Rattle.mutator_core.specs.Prelude.{empty, name, entry, empty_heap, new_mutator, NoGc, Plan, rules_of, first_machine, history, IsLog, EpochMayBegin, small_epoch, log_of, birth_events, share_events, separate_events, old_object_epoch, barrier_events, empty_epoch, mixed_log, IsEpochLog, history_of, local_after_log, AreBetweenCalls};
+ghost use Rattle.mutator_core.specs.Prelude.commands;
+ghost use Rattle.mutator_core.specs.Prelude.replies;
+ghost use Rattle.mutator_core.specs.Prelude.event;
 
 use heap_layout::{MAX_BLOCKS, MIN_BLOCKS};
 use ideal_heap::MAX_MUTATORS;
@@ -27,11 +17,11 @@ pub fn births_by_steps()
         (log_of (small_epoch NoGc) (first_machine (small_epoch NoGc)) (birth_events 1)) ≡ [] }
     ensures entry { history (small_epoch NoGc) (first_machine (small_epoch NoGc))
         (log_of (small_epoch NoGc) (first_machine (small_epoch NoGc))
-        (birth_events 1 ++ (1, event.Perform (command.New 0 1 1)) ∷ []))
-        ≡ entry 1 (command.New 0 1 1) (reply.New (name 1 1)) ∷ [] }
+        (birth_events 1 ++ (1, event.Perform (commands.New 0 1 1)) ∷ []))
+        ≡ entry 1 (commands.New 0 1 1) (replies.New (name 1 1)) ∷ [] }
     ensures steps { IsLog (small_epoch NoGc) (first_machine (small_epoch NoGc))
         (log_of (small_epoch NoGc) (first_machine (small_epoch NoGc))
-        (birth_events 1 ++ (1, event.Perform (command.New 0 1 1)) ∷ [])) }
+        (birth_events 1 ++ (1, event.Perform (commands.New 0 1 1)) ∷ [])) }
     ensures twice { IsLog (small_epoch NoGc) (first_machine (small_epoch NoGc))
         (log_of (small_epoch NoGc) (first_machine (small_epoch NoGc))
         ((1, event.DrawTicket) ∷ (1, event.DrawTicket) ∷ [])) → ⊥ }
@@ -50,12 +40,12 @@ pub fn births_by_steps()
 pub fn allocations_in_turns()
     ensures log { IsEpochLog empty_epoch empty mixed_log }
     ensures entries { history_of empty_epoch mixed_log
-        ≡ entry 2 (command.New 0 0 1) (reply.New (name 2 1))
-        ∷ entry 1 (command.New 0 1 0) (reply.New (name 1 1))
-        ∷ entry 2 (command.Share 3 0) reply.Done
-        ∷ entry 1 (command.Load 1 3) (reply.Ref (name 2 1))
-        ∷ entry 1 (command.Put 0 0 1) reply.Done
-        ∷ entry 1 (command.Get 2 0 0) (reply.Ref (name 2 1))
+        ≡ entry 2 (commands.New 0 0 1) (replies.New (name 2 1))
+        ∷ entry 1 (commands.New 0 1 0) (replies.New (name 1 1))
+        ∷ entry 2 (commands.Share 3 0) replies.Done
+        ∷ entry 1 (commands.Load 1 3) (replies.Ref (name 2 1))
+        ∷ entry 1 (commands.Put 0 0 1) replies.Done
+        ∷ entry 1 (commands.Get 2 0 0) (replies.Ref (name 2 1))
         ∷ [] }
     ensures blocks { map (λ m. map (λ o. o.block) (local_after_log empty_epoch mixed_log m).owned)
         (1 ∷ 2 ∷ []) ≡ (0 ∷ []) ∷ (1 ∷ []) ∷ [] }
@@ -69,25 +59,25 @@ pub fn allocations_in_turns()
 pub fn commands_in_turns()
     ensures entries { history (small_epoch NoGc) (first_machine (small_epoch NoGc))
         (log_of (small_epoch NoGc) (first_machine (small_epoch NoGc)) share_events)
-        ≡ entry 1 (command.New 0 1 1) (reply.New (name 1 1))
-        ∷ entry 1 (command.Write 0 0 5) reply.Done
-        ∷ entry 1 (command.Share 9 0) reply.Done
-        ∷ entry 2 (command.Load 3 9) (reply.Ref (name 1 1))
-        ∷ entry 2 (command.Add 3 0 4) (reply.Num 5)
-        ∷ entry 1 (command.Read 0 0) (reply.Num 9)
-        ∷ entry 2 (command.Swap 3 0 9 7) reply.Yes
-        ∷ entry 1 (command.Swap 0 0 9 8) reply.No
-        ∷ entry 1 (command.Get 2 0 0) reply.Nil
-        ∷ entry 1 (command.Put 0 0 0) reply.Done
-        ∷ entry 2 (command.Get 4 3 0) (reply.Ref (name 1 1))
-        ∷ entry 1 (command.Pin 0) reply.Yes
-        ∷ entry 2 (command.Pin 4) reply.No
-        ∷ entry 2 (command.Unpin 3) reply.Yes
-        ∷ entry 1 (command.Move 1 0) reply.Done
-        ∷ entry 1 (command.DropReg 0) reply.Done
-        ∷ entry 1 (command.Get 2 0 0) reply.Null
-        ∷ entry 1 (command.Read 1 1) reply.Range
-        ∷ entry 1 (command.Read 1 0) (reply.Num 7)
+        ≡ entry 1 (commands.New 0 1 1) (replies.New (name 1 1))
+        ∷ entry 1 (commands.Write 0 0 5) replies.Done
+        ∷ entry 1 (commands.Share 9 0) replies.Done
+        ∷ entry 2 (commands.Load 3 9) (replies.Ref (name 1 1))
+        ∷ entry 2 (commands.Add 3 0 4) (replies.Num 5)
+        ∷ entry 1 (commands.Read 0 0) (replies.Num 9)
+        ∷ entry 2 (commands.Swap 3 0 9 7) replies.Yes
+        ∷ entry 1 (commands.Swap 0 0 9 8) replies.No
+        ∷ entry 1 (commands.Get 2 0 0) replies.Nil
+        ∷ entry 1 (commands.Put 0 0 0) replies.Done
+        ∷ entry 2 (commands.Get 4 3 0) (replies.Ref (name 1 1))
+        ∷ entry 1 (commands.Pin 0) replies.Yes
+        ∷ entry 2 (commands.Pin 4) replies.No
+        ∷ entry 2 (commands.Unpin 3) replies.Yes
+        ∷ entry 1 (commands.Move 1 0) replies.Done
+        ∷ entry 1 (commands.DropReg 0) replies.Done
+        ∷ entry 1 (commands.Get 2 0 0) replies.Null
+        ∷ entry 1 (commands.Read 1 1) replies.Range
+        ∷ entry 1 (commands.Read 1 0) (replies.Num 7)
         ∷ [] }
     ensures steps { IsLog (small_epoch NoGc) (first_machine (small_epoch NoGc))
         (log_of (small_epoch NoGc) (first_machine (small_epoch NoGc)) share_events) }
@@ -97,34 +87,34 @@ pub fn commands_in_turns()
 pub fn commands_one_after_another()
     ensures entries { history (small_epoch NoGc) (first_machine (small_epoch NoGc))
         (log_of (small_epoch NoGc) (first_machine (small_epoch NoGc)) separate_events)
-        ≡ entry 1 (command.New 0 1 1) (reply.New (name 1 1))
-        ∷ entry 1 (command.Write 0 0 5) reply.Done
-        ∷ entry 1 (command.Add 0 0 4) (reply.Num 5)
-        ∷ entry 1 (command.Read 0 0) (reply.Num 9)
-        ∷ entry 1 (command.Swap 0 0 9 7) reply.Yes
-        ∷ entry 1 (command.Put 0 0 0) reply.Done
-        ∷ entry 1 (command.Get 1 0 0) (reply.Ref (name 1 1))
-        ∷ entry 1 (command.Share 9 0) reply.Done
-        ∷ entry 1 (command.Pin 0) reply.Yes
-        ∷ entry 1 (command.Unpin 0) reply.Yes
-        ∷ entry 1 (command.Move 2 0) reply.Done
-        ∷ entry 1 (command.DropReg 2) reply.Done
-        ∷ entry 1 (command.Load 3 9) (reply.Ref (name 1 1))
-        ∷ entry 2 (command.Load 0 9) (reply.Ref (name 1 1))
-        ∷ entry 2 (command.Read 0 0) (reply.Num 7)
-        ∷ entry 2 (command.Write 0 0 1) reply.Done
-        ∷ entry 2 (command.Add 0 0 2) (reply.Num 1)
-        ∷ entry 2 (command.Swap 0 0 5 8) reply.No
-        ∷ entry 2 (command.Get 1 0 0) (reply.Ref (name 1 1))
-        ∷ entry 2 (command.Put 0 0 5) reply.Done
-        ∷ entry 2 (command.Get 1 0 0) reply.Nil
-        ∷ entry 2 (command.Share 9 5) reply.Done
-        ∷ entry 2 (command.Pin 0) reply.Yes
-        ∷ entry 2 (command.Unpin 0) reply.Yes
-        ∷ entry 2 (command.Move 2 0) reply.Done
-        ∷ entry 2 (command.DropReg 0) reply.Done
-        ∷ entry 2 (command.Load 3 9) reply.Nil
-        ∷ entry 2 (command.Pin 0) reply.Null
+        ≡ entry 1 (commands.New 0 1 1) (replies.New (name 1 1))
+        ∷ entry 1 (commands.Write 0 0 5) replies.Done
+        ∷ entry 1 (commands.Add 0 0 4) (replies.Num 5)
+        ∷ entry 1 (commands.Read 0 0) (replies.Num 9)
+        ∷ entry 1 (commands.Swap 0 0 9 7) replies.Yes
+        ∷ entry 1 (commands.Put 0 0 0) replies.Done
+        ∷ entry 1 (commands.Get 1 0 0) (replies.Ref (name 1 1))
+        ∷ entry 1 (commands.Share 9 0) replies.Done
+        ∷ entry 1 (commands.Pin 0) replies.Yes
+        ∷ entry 1 (commands.Unpin 0) replies.Yes
+        ∷ entry 1 (commands.Move 2 0) replies.Done
+        ∷ entry 1 (commands.DropReg 2) replies.Done
+        ∷ entry 1 (commands.Load 3 9) (replies.Ref (name 1 1))
+        ∷ entry 2 (commands.Load 0 9) (replies.Ref (name 1 1))
+        ∷ entry 2 (commands.Read 0 0) (replies.Num 7)
+        ∷ entry 2 (commands.Write 0 0 1) replies.Done
+        ∷ entry 2 (commands.Add 0 0 2) (replies.Num 1)
+        ∷ entry 2 (commands.Swap 0 0 5 8) replies.No
+        ∷ entry 2 (commands.Get 1 0 0) (replies.Ref (name 1 1))
+        ∷ entry 2 (commands.Put 0 0 5) replies.Done
+        ∷ entry 2 (commands.Get 1 0 0) replies.Nil
+        ∷ entry 2 (commands.Share 9 5) replies.Done
+        ∷ entry 2 (commands.Pin 0) replies.Yes
+        ∷ entry 2 (commands.Unpin 0) replies.Yes
+        ∷ entry 2 (commands.Move 2 0) replies.Done
+        ∷ entry 2 (commands.DropReg 0) replies.Done
+        ∷ entry 2 (commands.Load 3 9) replies.Nil
+        ∷ entry 2 (commands.Pin 0) replies.Null
         ∷ [] }
     ensures steps { IsLog (small_epoch NoGc) (first_machine (small_epoch NoGc))
         (log_of (small_epoch NoGc) (first_machine (small_epoch NoGc)) separate_events) }
@@ -135,15 +125,15 @@ pub fn commands_one_after_another()
 pub fn barriers_before_stores()
     ensures steps { IsLog old_object_epoch (first_machine old_object_epoch)
         (log_of old_object_epoch (first_machine old_object_epoch)
-        (barrier_events ++ (1, event.Perform (command.Put 0 0 0)) ∷ [])) }
+        (barrier_events ++ (1, event.Perform (commands.Put 0 0 0)) ∷ [])) }
     ensures entry { history old_object_epoch (first_machine old_object_epoch)
         (log_of old_object_epoch (first_machine old_object_epoch)
-        (barrier_events ++ (1, event.Perform (command.Put 0 0 0)) ∷ []))
-        ≡ entry 1 (command.Put 0 0 0) reply.Done ∷ [] }
+        (barrier_events ++ (1, event.Perform (commands.Put 0 0 0)) ∷ []))
+        ≡ entry 1 (commands.Put 0 0 0) replies.Done ∷ [] }
     ensures before { IsLog old_object_epoch (first_machine old_object_epoch)
         (log_of old_object_epoch (first_machine old_object_epoch)
         ((1, event.LoadShape 0) ∷ (1, event.LoadCollector 0)
-        ∷ (1, event.Perform (command.Put 0 0 0)) ∷ [])) → ⊥ }
+        ∷ (1, event.Perform (commands.Put 0 0 0)) ∷ [])) → ⊥ }
     ensures nil { IsLog old_object_epoch (first_machine old_object_epoch)
         (log_of old_object_epoch (first_machine old_object_epoch)
         ((1, event.LoadUnlog 1) ∷ [])) → ⊥ }

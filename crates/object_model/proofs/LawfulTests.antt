@@ -9,6 +9,7 @@ use Rattle.heap_layout.specs.Blocks.{is_block_code}
 use Rattle.heap_layout.specs.declared.block.Kind.{Kind}
 use Rattle.heap_layout.specs.declared.block.Kind.TheVariants as kinds
 use Rattle.object_model.specs.Objects.{HeapState, word_at, global_at, block_word, has_kind, HasKind, class_at, owner_at, line_marked, is_start, is_pinned, is_unlogged, IsHeld, IsInExtent, name_at, refs_at, nums_at, size_at, number_at, target_at, ref_at, is_reference, cell_words, blocks_for}
+use Rattle.object_model.specs.Ages.{is_old, RemembersYoung}
 use Rattle.object_model.specs.Lawful.{IsLawful, IsWellFormed, HasHeader, LiesInBlock, LiesInRun, IsClear, IsRefField, IsRoot, has_small, is_in_run, IsTouched}
 use Rattle.object_model.proofs.Marks as marks
 use Rattle.object_model.proofs.OneKind.{kind-within}
@@ -168,6 +169,26 @@ held-at s a start = marks.held s a start
 -- none is held if no start bit is set
 pub none-held-by : (s : HeapState) → filter (is_start s) (addresses s) ≡ [] → (a : ℕ) → IsHeld s a → ⊥
 none-held-by s none a holds = let wrong : false ≡ true = held-test s [] none (λ x. false) refl a holds in cc
+
+-- a reference of an object goes to an old one
+abbrev refers_old : HeapState → ℕ → ℕ → Bool
+refers_old s a i = if is_reference (ref_at s a i) then is_start s (ref_at s a i) && is_old s (ref_at s a i) else true
+
+-- an object whose unlog bit is set is old, and each of its references goes to an old one
+abbrev pub remembers_at : HeapState → ℕ → Bool
+remembers_at s a = if is_unlogged s a then is_old s a && list_all (refers_old s a) (range_with_len 0 (refs_at s a)) else true
+
+pub remembers : (s : HeapState) (hs : List ℕ) → filter (is_start s) (addresses s) ≡ hs → list_all (remembers_at s) hs ≡ true → RemembersYoung s
+remembers s hs held all = record {
+  fields = λ a i holds old unlogged less some. (
+      let both = and_parts (is_start s (ref_at s a i)) _
+      (implied (is_reference (ref_at s a i)) _ (below (refers_old s a) (refs_at s a) (passes a holds unlogged).1 i less) some) in
+      (held-at s (ref_at s a i) both.0, both.1));
+  marked = λ a holds unlogged. (passes a holds unlogged).0;
+}
+  where
+    passes : (a : ℕ) → IsHeld s a → IsTrue (is_unlogged s a) → IsTrue (is_old s a) × (list_all (refers_old s a) (range_with_len 0 (refs_at s a)) ≡ true)
+    passes a holds unlogged = and_parts (is_old s a) _ (implied (is_unlogged s a) _ (held-test s hs held (remembers_at s) all a holds) unlogged)
 
 module _ (s : HeapState) (hs : List ℕ) (tests : PassesTests s hs) where
   each-held : (p : ℕ → Bool) → list_all p hs ≡ true → (a : ℕ) → IsHeld s a → p a ≡ true

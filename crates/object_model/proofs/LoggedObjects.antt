@@ -42,15 +42,28 @@ module _ (s : HeapState) (w : List ℕ) (a : ℕ) (clears : ClearsUnlog s (with_
     | inr none ↦ ap (λ b. (b && is_old after x) && not (is_unlogged after x)) (start-same x ∙ none) ∙ sym (ap (λ b. (b && is_old s x) && not (is_unlogged s x)) none)
   ]
 
-  remembers : RemembersYoung s → RemembersYoung after
-  remembers before x i holds old unlogged less some =
-      let there : IsHeld s x = held-before x holds in
+  not-cleared : (x : ℕ) → IsTrue (is_unlogged after x) → IsTrue (is_unlogged s x)
+  not-cleared x unlogged =
       let differ : x ≢ a = λ same. let wrong : false ≡ true = sym (ap (is_unlogged after) same ∙ clears.clear) ∙ unlogged in cc in
+      sym (clears.others x differ) ∙ unlogged
+
+  remembers-fields : RemembersYoung s → (x i : ℕ) → IsHeld after x → IsTrue (is_old after x) → IsTrue (is_unlogged after x) → i < refs_at after x
+      → IsTrue (is_reference (ref_at after x i)) → IsHeld after (ref_at after x i) × IsTrue (is_old after (ref_at after x i))
+  remembers-fields before x i holds old unlogged less some =
+      let there : IsHeld s x = held-before x holds in
       let refs : refs_at after x ≡ refs_at s x = ap (λ v. v % 65536) (heap-word x 1 there) in
       let place : x + 3 + i ≡ x + (3 + i) = omega arith in
       let field : ref_at after x i ≡ ref_at s x i = ap (word_at after) place ∙ heap-word x (3 + i) there ∙ sym (ap (word_at s) place) in
-      let to = before x i there (sym (old-same x there) ∙ old) (sym (clears.others x differ) ∙ unlogged) (subst (λ (n : ℕ). i < n) refs less) (subst (λ (v : ℕ). IsTrue (is_reference v)) field some) in
+      let to = before.fields x i there (sym (old-same x there) ∙ old) (not-cleared x unlogged) (subst (λ (n : ℕ). i < n) refs less) (subst (λ (v : ℕ). IsTrue (is_reference v)) field some) in
       (subst (IsHeld after) (sym field) (held-after (ref_at s x i) to.0), ap (is_old after) field ∙ old-same (ref_at s x i) to.0 ∙ to.1)
+
+  remembers-marks : RemembersYoung s → (x : ℕ) → IsHeld after x → IsTrue (is_unlogged after x) → IsTrue (is_old after x)
+  remembers-marks before x holds unlogged =
+      let there : IsHeld s x = held-before x holds in
+      old-same x there ∙ before.marked x there (not-cleared x unlogged)
+
+  remembers : RemembersYoung s → RemembersYoung after
+  remembers before = record { fields = remembers-fields before; marked = remembers-marks before }
 
 module _ (old new : HeapState) (a : ℕ) (clears : ClearsUnlog old new a) where
   same : new ≡ with_words old new.words

@@ -18,6 +18,7 @@ use Rattle.ideal_heap.specs.Ideal.{empty}
 use Rattle.ideal_heap.specs.Reach.{PathReaches, from_register, from_global, from_field}
 use Rattle.object_model.specs.Objects.{HeapState, empty_heap, word_at, global_at, block_word, is_start, is_pinned, is_unlogged, IsHeld, HasKind, size_of, blocks_for}
 use Rattle.object_model.specs.Lawful.{IsLawful}
+use Rattle.object_model.specs.Ages.{RemembersYoung}
 use Rattle.object_model.specs.Births.{IsLargeRoom}
 use Rattle.object_model.specs.Graphs as graphs
 use Rattle.object_model.specs.Graphs.{Represents, IsReachable, MutatorState, IsMutatorState, AreDifferent, new_mutator, numbers_of, roots_of, register_at, PointsTo}
@@ -110,6 +111,10 @@ lawful b least most = record {
     touched = λ line is. absurd (not_kind b k kinds.Immix (lit< tt) is);
   };
 }
+
+-- no object is held
+pub remembers : (b : ℕ) → RemembersYoung (zeros b)
+remembers b = record { fields = λ a i holds. absurd (none_held b a holds); marked = λ a holds. absurd (none_held b a holds) }
 
 kind-free : (b k : ℕ) → k < b → HasKind (zeros b) k kinds.Free
 kind-free b k there = and_from (nat_lt k b) _ (lt-ltb k b there) (eq-eqb _ _ (ap (λ x. x % 256) (is_free b k) ∙ zero-mod 256))

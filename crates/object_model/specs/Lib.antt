@@ -1,5 +1,6 @@
 pub mod Objects
 pub mod Lines
+pub mod Times
 pub mod Lawful
 pub mod Graphs
 pub mod Ages

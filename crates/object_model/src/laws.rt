@@ -77,7 +77,8 @@ pub fn fields_refer()
 {}
 
 /// What old, logged and surviving mean. If the heap remembers its young objects, no field of an old
-/// object that is not logged refers to a young one. With a base of 0 no object is old.
+/// object that is not logged refers to a young one, and an unlog bit is set only at an old object.
+/// With a base of 0 no object is old, so a heap remembers its young objects if no unlog bit is set.
 pub fn ages()
     ensures old { (s : HeapState) (a : ℕ) → IsTrue (is_old s a)
         ↔ ((0 < s.base) × (s.base ≤ number_at s a)) }
@@ -89,7 +90,10 @@ pub fn ages()
         → IsTrue (is_old s a) → is_logged s a ≡ false → i < refs_at s a
         → IsTrue (is_reference (ref_at s a i))
         → IsHeld s (ref_at s a i) × IsTrue (is_old s (ref_at s a i)) }
-    ensures young { (s : HeapState) → s.base ≡ 0 → RemembersYoung s }
+    ensures marked { (s : HeapState) (a : ℕ) → RemembersYoung s → IsHeld s a
+        → IsTrue (is_unlogged s a) → IsTrue (is_old s a) }
+    ensures young { (s : HeapState) → s.base ≡ 0
+        → ((a : ℕ) → IsHeld s a → is_unlogged s a ≡ false) → RemembersYoung s }
 {}
 
 /// No step of a mutator sets an unlog bit.

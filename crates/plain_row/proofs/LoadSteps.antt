@@ -1,12 +1,9 @@
 -- The steps that load a word: what they may read, and the entries that they make.
-use Rattle.std.proofs.Common.{◌≡◌, ◌≢◌, refl, sym, ◌∙◌, ap, subst, ℕ, ◌+◌, ◌*◌, ◌-◌, ◌%◌, ◌/◌, ◌<◌, ◌≤◌, inl, inr, arith, true, false, nat_eq, List, [], ◌∷◌, length}
+use Rattle.std.proofs.Common.{◌≡◌, ◌≢◌, refl, sym, ◌∙◌, ap, subst, ℕ, ◌+◌, ◌%◌, ◌/◌, ◌<◌, ◌≤◌, inl, inr, arith, true, false, nat_eq, List, [], ◌∷◌, length}
 use Rattle.std.specs.Prelude.{if◌then◌else◌, MatchBool, slice_get, slice_index, slice_set}
 use Rattle.std.proofs.lemmas.Bool.{cases_lt, cond-true, cond-false, ne_eqb, eq-eqb}
 use Rattle.std.proofs.lemmas.List.{get_or-set_same}
-use Rattle.forward_word.specs.CollectorWords.{is_old_word}
-use Rattle.heap_layout.specs.Zones.{UnlogBits, first, heap_of, IsAddress, row_words}
-use Rattle.heap_layout.proofs.MarkLemmas.{address_bit-at_address}
-use Rattle.std.specs.Int.{bit_at}
+use Rattle.heap_layout.specs.Zones.{IsAddress, row_words}
 use Rattle.ideal_heap.specs.declared.command.Command.{Command}
 use Rattle.ideal_heap.specs.declared.command.Command.TheVariants as c
 use Rattle.ideal_heap.specs.declared.name.Name.{Name}
@@ -16,9 +13,8 @@ use Rattle.ideal_heap.specs.Ideal.{IdealHeap}
 use Rattle.ideal_heap.specs.Runs as runs
 use Rattle.ideal_heap.specs.Runs.{entry}
 use Rattle.object_model.specs.declared.shape.Shape.{Shape}
-use Rattle.object_model.specs.Objects.{HeapState, state_of, word_at, global_at, ref_at, name_at, IsHeld, is_unlogged, size_at}
+use Rattle.object_model.specs.Objects.{HeapState, state_of, word_at, global_at, ref_at, name_at, IsHeld, size_at}
 use Rattle.object_model.specs.Lawful.{IsWellFormed, IsReadable}
-use Rattle.object_model.specs.Ages.{is_old}
 use Rattle.mutator_core.specs.declared.state.LogEntry.{LogEntry}
 use Rattle.mutator_core.specs.declared.state.Event.TheVariants as e
 use Rattle.mutator_core.specs.Machine.{Epoch, source, address_in}
@@ -69,29 +65,6 @@ module _ (a : PlainRow) (ready : MayCall a) where
         let extent : length a.row.words.items ≡ row_words a.row.layout.blocks = readable.extent in
         let inside : address_at a s + size_at (state_of a.row) (address_at a s) ≤ row_words a.row.layout.blocks = readable.inside in
         omega arith
-
-  -- a word with a side bit of its address
-  pub side-word : (n first at : ℕ) → IsAddress a.row.layout.blocks n → at ≡ first + (n - (18 + 197 * a.row.layout.blocks)) / 64
-      → first + 64 * a.row.layout.blocks ≤ 18 + 197 * a.row.layout.blocks → at < length a.row.words.items
-  side-word n first at is same room =
-      let extent : length a.row.words.items ≡ row_words a.row.layout.blocks = order.row.extent in
-      let below : n < 18 + 4293 * a.row.layout.blocks = is.below in
-      omega arith
-
--- what an object's collector word and the word of its unlog bit say
-pub is_old-by_word : (a : PlainRow) (s n word : ℕ) → n ≡ address_at a s → word ≡ word_at (state_of a.row) (n + 2)
-    → is_old (state_of a.row) (address_at a s) ≡ is_old_word a.row.base word
-is_old-by_word a s n word here is =
-    ap (λ k. is_old_word a.row.base (word_at (state_of a.row) (k + 2))) (sym here) ∙ ap (λ w. is_old_word a.row.base w) (sym is)
-
-pub marked-by : (a : PlainRow) (s n at bit zone : ℕ) → IsAddress a.row.layout.blocks (address_at a s) → n ≡ address_at a s → zone ≡ first a.row.layout.blocks UnlogBits
-    → at ≡ zone + (n - heap_of a.row.layout.blocks) / 64 → bit ≡ (n - heap_of a.row.layout.blocks) % 64
-    → is_unlogged (state_of a.row) (address_at a s) ≡ nat_eq (bit_at (word_at (state_of a.row) at) bit) 1
-marked-by a s n at bit zone address here base word place =
-    address_bit-at_address a.row.layout.blocks UnlogBits (state_of a.row).words (address_at a s) address
-    ∙ ap (λ k. nat_eq (bit_at (word_at (state_of a.row) (first a.row.layout.blocks UnlogBits + (k - heap_of a.row.layout.blocks) / 64)) ((k - heap_of a.row.layout.blocks) % 64)) 1) (sym here)
-    ∙ ap (λ k. nat_eq (bit_at (word_at (state_of a.row) k) ((n - heap_of a.row.layout.blocks) % 64)) 1) (sym (word ∙ ap (λ q. q + (n - heap_of a.row.layout.blocks) / 64) base))
-    ∙ ap (λ k. nat_eq (bit_at (word_at (state_of a.row) at) k) 1) (sym place)
 
 -- register d of the mutator becomes v: it keeps its number
 pub sets-number : (a b : PlainRow) (d v : ℕ) → SetsRegister a b d v → number_at_turn b ≡ number_at_turn a

@@ -326,15 +326,7 @@ module _ (a cleared b : PlainRow) (ready : MayCall a) (s k v : ℕ) (shape : Sha
       now : Continues ready.between_calls.some.epoch ready.between_calls.some.ideal ready.between_calls.some.log (number_at_turn a) (logs (object ∷ []) (c.Put s k v) r.Done) b
       now = steps ready.between_calls.some.epoch ready.between_calls.some.ideal ready.between_calls.some.log ready.between_calls.some.at
 
--- the words and bits where the code finds them
-pub clears-there : (a cleared : PlainRow) (s n bit : ℕ) → n ≡ first a.row.layout.blocks UnlogBits + (address_at a s - heap_of a.row.layout.blocks) / 64
-    → bit ≡ (address_at a s - heap_of a.row.layout.blocks) % 64 → StoresWord a cleared n (without_bit (word_at (state_of a.row) n) bit)
-    → StoresWord a cleared (first a.row.layout.blocks UnlogBits + (address_at a s - heap_of a.row.layout.blocks) / 64)
-    (without_bit (word_at (state_of a.row) (first a.row.layout.blocks UnlogBits + (address_at a s - heap_of a.row.layout.blocks) / 64)) ((address_at a s - heap_of a.row.layout.blocks) % 64))
-clears-there a cleared s n bit word word_of_event clears =
-    subst (λ q. StoresWord a cleared q (without_bit (word_at (state_of a.row) q) ((address_at a s - heap_of a.row.layout.blocks) % 64))) word
-    (subst (λ q. StoresWord a cleared n (without_bit (word_at (state_of a.row) n) q)) word_of_event clears)
-
+-- the words where the code finds them
 pub address-stays : (a cleared : PlainRow) (s n x : ℕ) → StoresWord a cleared n x → address_at cleared s ≡ address_at a s
 address-stays a cleared s n x clears = ap (λ w. address_at w s) clears.rest
 

@@ -15,7 +15,7 @@ use crate::plain_row::PlainRow;
 use heap_layout::{BUDGET_WORD, STOP_WORD};
 use ideal_heap::{Command, Name};
 use mutator_calls::MutatorSteps;
-use object_model::{COLLECTOR_OFFSET, Shape};
+use object_model::Shape;
 use side_meta::test_bit;
 
 impl MutatorSteps for PlainRow {
@@ -120,13 +120,13 @@ impl MutatorSteps for PlainRow {
     }
 
     fn is_old(&mut self, register: u32) -> bool {
-        let word = self.row.words[self.register(register) as usize + COLLECTOR_OFFSET as usize];
-        forward_word::is_old(word, self.row.base)
+        let address = self.register(register);
+        write_barrier::is_old(&self.row.words, self.row.base, address)
     }
 
     fn is_unlogged(&mut self, register: u32) -> bool {
-        let (at, bit) = self.bit_at(self.row.layout.unlog_base(), self.register(register));
-        test_bit(&self.row.words, at, bit)
+        let address = self.register(register);
+        write_barrier::is_unlogged(&self.row.words, &self.row.layout, address)
     }
 
     fn answer_null(&mut self, _command: &Command) {}
@@ -165,8 +165,8 @@ impl MutatorSteps for PlainRow {
     }
 
     fn log_and_store_field(&mut self, s: u32, i: u32, v: u32, _shape: &Shape) {
-        let (at, bit) = self.bit_at(self.row.layout.unlog_base(), self.register(s));
-        self.clear_bit(at, bit);
+        let object = self.register(s);
+        self.clear_unlog(object);
         let at = self.field(s, i);
         let address = self.register(v);
         self.store(at, address as u64);

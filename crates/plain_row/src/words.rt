@@ -5,7 +5,8 @@
 //! touches notes, seats or mutators.
 
 ghost use Rattle.std.specs.Prelude.{◌≡◌, ◌+◌, ◌-◌, ◌/◌, ◌%◌, ◌<◌, ◌≤◌, length, slice_index};
-ghost use Rattle.heap_layout.specs.Zones.{heap_of, IsAddress};
+ghost use Rattle.heap_layout.specs.Zones.{UnlogBits, heap_of, IsAddress, IsRowOf};
+ghost use Rattle.object_model.specs.BitWords.{bit_word, bit_place};
 ghost use Rattle.side_meta.specs.BitWords.{with_bit, without_bit};
 ghost use Rattle.plain_row.specs.Rows.{IsTurn, address_at};
 ghost use Rattle.plain_row.specs.Changes.{StoresWord};
@@ -53,6 +54,19 @@ impl PlainRow {
             (without_bit (slice_index self.old.row.words.items at) bit) }
     {
         side_meta::clear_bit(&mut self.row.words, at, bit);
+    }
+
+    /// Clears the unlog bit of an address.
+    pub(crate) fn clear_unlog(&mut self, address: u32)
+        requires extent { IsRowOf self.old.row.layout self.old.row.words.items }
+        requires address { IsAddress self.old.row.layout.blocks address }
+        ensures { StoresWord self.old self.new
+            (bit_word self.old.row.layout.blocks UnlogBits address)
+            (without_bit (slice_index self.old.row.words.items
+            (bit_word self.old.row.layout.blocks UnlogBits address))
+            (bit_place self.old.row.layout.blocks address)) }
+    {
+        write_barrier::log(&mut self.row.words, &self.row.layout, address);
     }
 
     /// The index of reference field `i` of the object in register `s`.

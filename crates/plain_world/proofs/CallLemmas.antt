@@ -195,7 +195,11 @@ pub stays-open : {P : Type 0} (rules : Rules) (old new : PlainWorld P) (m : ℕ)
     → Goes (record old.row { turn = m }) e new.row → StaysOpen rules old new
 stays-open rules old new m e is_open idle goes =
     let same = places-same old.row new.row m e is_open.between_calls goes in record {
-      is_open = record { between_calls = idle; fill = goes.fill ∙ is_open.fill };
+      is_open = record {
+        between_calls = idle;
+        fill = goes.fill ∙ is_open.fill;
+        young = young-same old.row new.row m e is_open.between_calls goes ∙ is_open.young;
+      };
       places = record { count = same.0; numbers = same.1 };
       plan = young-same old.row new.row m e is_open.between_calls goes;
     }

@@ -4,3 +4,4 @@ pub mod AllocationCalls
 pub mod Begun
 pub mod Closed
 pub mod HeldRegisters
+mod StoreLogs

@@ -59,10 +59,12 @@ places_of w = length w.row.mutators.items
 abbrev pub HasPlace : {P : Type 0} → PlainWorld P → ℕ → Type 0
 HasPlace w m = m < places_of w
 
--- The world is between two calls, and mutators fill blocks of the kind of these rules.
+-- The world is between two calls, mutators fill blocks of the kind of these rules, and stores log
+-- old objects if the rules have young ones.
 pub record IsOpen {P : Type 0} (rules : Rules) (w : PlainWorld P) : Type 0 where
   pub between_calls : RowIsBetweenCalls w.row
   pub fill : w.row.fill ≡ rules.fill
+  pub young : w.row.young ≡ rules.young
 
 -- the world is in the epoch p, which began with the ideal heap i, and the history since then is the
 -- part

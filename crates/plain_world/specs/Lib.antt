@@ -1,3 +1,4 @@
 pub mod Calls
 pub mod EmptySeats
 pub mod Endings
+pub mod Prelude

@@ -1,12 +1,7 @@
 //! The end of an epoch.
 
 ghost use Rattle.std.specs.Prelude.{◌≡◌, ◌<◌, ◌≤◌, ◌^◌, ℕ, replicate, length, sum_by, IfOk, IsTrue};
-ghost use Rattle.heap_layout.specs.Blocks.{is_block_code};
-ghost use Rattle.object_model.specs.Objects.{state_of, block_word};
-ghost use Rattle.object_model.specs.Lawful.{IsWellFormed};
-ghost use Rattle.mutator_core.specs.Closing.{GivesBack};
-ghost use Rattle.mutator_core.specs.Tickets.{tickets_in};
-ghost use Rattle.block_regions.specs.Notes.{HasNotes, ListsOwned, AreUnowned, IsLeastLeft, GivesBackBlock};
+ghost use Rattle.plain_world.specs.Prelude.{is_block_code, state_of, block_word, IsWellFormed, GivesBack, tickets_in, HasNotes, ListsOwned, AreUnowned, IsLeastLeft, GivesBackBlock};
 
 use block_regions::{BlockNote, give_back_block};
 use heap_layout::{BLOCK_WORDS, Kind, OWNER_UNIT, Region};

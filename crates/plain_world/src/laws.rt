@@ -1,16 +1,9 @@
 //! Laws of worlds.
 
-ghost use Rattle.std.specs.Prelude.{◌≡◌, ◌⊎◌, ℕ, List};
+ghost use Rattle.std.specs.Prelude.{◌≡◌, ◌⊎◌, ℕ, IsTrue, List, false};
 ghost use Rattle.std.specs.List.{AllByRecursion, Contains};
-ghost use Rattle.ideal_heap.specs.Ideal.{IdealHeap};
-ghost use Rattle.ideal_heap.specs.Runs.{Entry, IsRun, heap_after_run};
-ghost use Rattle.object_model.specs.Graphs.{Represents, numbers_of};
-ghost use Rattle.object_model.specs.Lawful.{IsWellFormed};
-ghost use Rattle.sessions.specs.Collecting.{Remembers};
-ghost use Rattle.mutator_core.specs.Machine.{Epoch};
-ghost use Rattle.mutator_core.specs.Guards.{allowance};
-ghost use Rattle.sessions.specs.Sessions.{IsOfPart};
-ghost use Rattle.plain_world.specs.Calls.{heap_of_world, mutators_of_world, fill_of, epoch_allowance, stop_word, HasHistory};
+ghost use Rattle.plain_world.specs.Prelude.{IdealHeap, Entry, IsRun, heap_after_run, Reply, is_unlogged, Represents, numbers_of, IsWellFormed, Rules, Remembers, Epoch, allowance, IsOfPart, heap_of_world, mutators_of_world, fill_of, epoch_allowance, stop_word, register_in, HasHistory, IsOldUnlogged, EntersStore};
+ghost use Rattle.plain_world.specs.Prelude.replies;
 
 use crate::plain_world::PlainWorld;
 
@@ -42,4 +35,22 @@ pub fn worlds_stay_in_order<P>(world: &PlainWorld<P>)
         → HasHistory world.now p i part → fill_of world.now ≡ p.rules.fill }
     ensures allowance { (p : Epoch) (i : IdealHeap) (part : List Entry)
         → HasHistory world.now p i part → epoch_allowance world.now ≡ allowance p }
+{}
+
+/// A store into an old object leaves its unlog bit clear, under a generational plan. A store clears
+/// no other unlog bit, sets none, and clears that one only if it is made.
+pub fn stores_log_old_objects<P>(world: &PlainWorld<P>)
+    ensures logs { (rules : Rules) (new : PlainWorld P) (place s i v : ℕ) (reply : Reply)
+        → EntersStore rules world.now place s i v reply new → reply ≡ replies.Done
+        → IsOldUnlogged world.now (register_in world.now place s)
+        → is_unlogged (heap_of_world new) (register_in world.now place s) ≡ false }
+    ensures sets { (rules : Rules) (new : PlainWorld P) (place s i v : ℕ) (reply : Reply) (x : ℕ)
+        → EntersStore rules world.now place s i v reply new
+        → IsTrue (is_unlogged (heap_of_world new) x)
+        → IsTrue (is_unlogged (heap_of_world world.now) x) }
+    ensures clears { (rules : Rules) (new : PlainWorld P) (place s i v : ℕ) (reply : Reply) (x : ℕ)
+        → EntersStore rules world.now place s i v reply new
+        → IsTrue (is_unlogged (heap_of_world world.now) x)
+        → is_unlogged (heap_of_world new) x ≡ false
+        → (x ≡ register_in world.now place s) × (reply ≡ replies.Done) × IsOldUnlogged world.now x }
 {}

@@ -5,22 +5,7 @@
 //! the end no block has an owner, and notes and counts are right for the heap that is handed on.
 
 ghost use Rattle.std.specs.Prelude.{◌≡◌, ◌+◌, ◌<◌, ◌≤◌, ℕ, List, [], ◌∷◌, Some, None, length, map, replicate, IfOk};
-ghost use Rattle.ideal_heap.specs.Ideal.{IdealHeap};
-ghost use Rattle.ideal_heap.specs.Runs.{Entry};
-ghost use Rattle.object_model.specs.Graphs.{Represents};
-ghost use Rattle.object_model.specs.Heaps.{heap_state};
-ghost use Rattle.sessions.specs.Plans.{Rules};
-ghost use Rattle.sessions.specs.Collecting.{Remembers};
-ghost use Rattle.sessions.specs.Sessions.{Stopped};
-ghost use Rattle.mutator_core.specs.Machine.{Epoch};
-ghost use Rattle.mutator_core.specs.Closing.{GivesBack};
-ghost use Rattle.object_model.specs.Graphs.{numbers_of};
-ghost use Rattle.heap_users.specs.Users.{mutator_state};
-ghost use Rattle.block_regions.specs.Notes.{AreNotes};
-ghost use Rattle.plain_world.specs.Calls.{heap_of_world, mutators_of_world, is_generational, fill_of, births_at, ticket_at, budget_word, places_of, HasPlace, IsOpen, HasHistory};
-ghost use Rattle.heap_users.specs.Beginnings.{MayUse, without_stop, epoch_of};
-ghost use Rattle.plain_world.specs.EmptySeats.{empty_seat};
-ghost use Rattle.plain_world.specs.Endings.{GrantsWithTickets};
+ghost use Rattle.plain_world.specs.Prelude.{IdealHeap, Entry, Represents, heap_state, Rules, Remembers, Stopped, Epoch, GivesBack, numbers_of, mutator_state, AreNotes, heap_of_world, mutators_of_world, is_generational, fill_of, births_at, ticket_at, budget_word, places_of, HasPlace, IsOpen, HasHistory, MayUse, without_stop, epoch_of, empty_seat, GrantsWithTickets};
 
 use crate::closing::{give_back, unused_tickets};
 use bitflags::Flags;

@@ -1,10 +1,7 @@
 //! What can be asked of a world between two calls. Nothing here walks over objects or blocks.
 
 ghost use Rattle.std.specs.Prelude.{◌≡◌, ◌<◌, IfNone, IfSome};
-ghost use Rattle.ideal_heap.specs.declared.command.TheConstants.{REGISTERS};
-ghost use Rattle.object_model.specs.Objects.{IsHeld, nums_at, refs_at};
-ghost use Rattle.sessions.specs.Fitting.{free_of};
-ghost use Rattle.plain_world.specs.Calls.{HasPlace, IsOpen, heap_of_world, register_in};
+ghost use Rattle.plain_world.specs.Prelude.{REGISTERS, IsHeld, nums_at, refs_at, free_of, HasPlace, IsOpen, heap_of_world, register_in};
 
 use crate::closing::unused_tickets;
 use crate::plain_world::PlainWorld;

@@ -6,14 +6,9 @@
 
 ghost use Rattle.std.specs.Prelude.{◌≡◌, ◌+◌, ◌<◌, ◌≤◌, ◌^◌, ◌⊎◌, ℕ, List, [], ◌∷◌, ⊤};
 ghost use Rattle.std.specs.List.{Contains};
-ghost use Rattle.ideal_heap.specs.declared.command.Command.TheVariants as command;
-ghost use Rattle.ideal_heap.specs.declared.reply.Reply.TheVariants as reply;
-ghost use Rattle.object_model.specs.Graphs.{numbers_of};
-ghost use Rattle.object_model.specs.Objects.{size_of};
-ghost use Rattle.mutator_calls.specs.Effects.{raises};
-ghost use Rattle.mutator_calls.specs.Stopping.{stop_of};
-ghost use Rattle.mutator_calls.specs.Allocating.{IsCause, IsNeedOf, MatchAllocated};
-ghost use Rattle.plain_world.specs.Calls.{mutators_of_world, births_at, books_at, HasPlace, IsOpen, AddsEntries, StaysOpen, HasEffect, EntersCommand, EntersStore, Logs, IsUnchanged, Allocates, Refuses, HasNoRoom, stop_word};
+ghost use Rattle.plain_world.specs.Prelude.{numbers_of, size_of, raises, stop_of, IsCause, IsNeedOf, MatchAllocated, mutators_of_world, births_at, books_at, HasPlace, IsOpen, AddsEntries, StaysOpen, HasEffect, EntersCommand, EntersStore, Logs, IsUnchanged, Allocates, Refuses, HasNoRoom, stop_word};
+ghost use Rattle.plain_world.specs.Prelude.commands;
+ghost use Rattle.plain_world.specs.Prelude.replies;
 
 use crate::plain_world::PlainWorld;
 use ideal_heap::{GLOBALS, MAX_NUMS, MAX_REFS, REGISTERS, Reply};
@@ -84,7 +79,7 @@ impl<P: Plan> PlainWorld<P> {
         requires place { HasPlace self.old place }
         requires target { d < REGISTERS }
         requires source { s < REGISTERS }
-        ensures { EntersCommand P.rules self.old place (command.Get d s i) result self.new }
+        ensures { EntersCommand P.rules self.old place (commands.Get d s i) result self.new }
     {
         self.row.turn = place as usize;
         calls::get(&mut self.row, d, s, i)
@@ -108,7 +103,7 @@ impl<P: Plan> PlainWorld<P> {
         requires open { IsOpen P.rules self.old }
         requires place { HasPlace self.old place }
         requires register { s < REGISTERS }
-        ensures { EntersCommand P.rules self.old place (command.Read s j) result self.new }
+        ensures { EntersCommand P.rules self.old place (commands.Read s j) result self.new }
     {
         self.row.turn = place as usize;
         calls::read(&mut self.row, s, j)
@@ -119,7 +114,7 @@ impl<P: Plan> PlainWorld<P> {
         requires open { IsOpen P.rules self.old }
         requires place { HasPlace self.old place }
         requires register { s < REGISTERS }
-        ensures { EntersCommand P.rules self.old place (command.Write s j n) result self.new }
+        ensures { EntersCommand P.rules self.old place (commands.Write s j n) result self.new }
     {
         self.row.turn = place as usize;
         calls::write(&mut self.row, s, j, n)
@@ -130,7 +125,7 @@ impl<P: Plan> PlainWorld<P> {
         requires open { IsOpen P.rules self.old }
         requires place { HasPlace self.old place }
         requires register { s < REGISTERS }
-        ensures { EntersCommand P.rules self.old place (command.Add s j n) result self.new }
+        ensures { EntersCommand P.rules self.old place (commands.Add s j n) result self.new }
     {
         self.row.turn = place as usize;
         calls::add(&mut self.row, s, j, n)
@@ -142,7 +137,7 @@ impl<P: Plan> PlainWorld<P> {
         requires place { HasPlace self.old place }
         requires register { s < REGISTERS }
         ensures { EntersCommand P.rules self.old place
-            (command.Swap s j was next) result self.new }
+            (commands.Swap s j was next) result self.new }
     {
         self.row.turn = place as usize;
         calls::swap(&mut self.row, s, j, was, next)
@@ -154,7 +149,7 @@ impl<P: Plan> PlainWorld<P> {
         requires place { HasPlace self.old place }
         requires target { d < REGISTERS }
         requires source { s < REGISTERS }
-        ensures { EntersCommand P.rules self.old place (command.Move d s) result self.new }
+        ensures { EntersCommand P.rules self.old place (commands.Move d s) result self.new }
     {
         self.row.turn = place as usize;
         calls::move_register(&mut self.row, d, s)
@@ -165,7 +160,7 @@ impl<P: Plan> PlainWorld<P> {
         requires open { IsOpen P.rules self.old }
         requires place { HasPlace self.old place }
         requires register { s < REGISTERS }
-        ensures { EntersCommand P.rules self.old place (command.DropReg s) result self.new }
+        ensures { EntersCommand P.rules self.old place (commands.DropReg s) result self.new }
     {
         self.row.turn = place as usize;
         calls::drop_register(&mut self.row, s)
@@ -177,7 +172,7 @@ impl<P: Plan> PlainWorld<P> {
         requires place { HasPlace self.old place }
         requires register { d < REGISTERS }
         requires global { g < GLOBALS }
-        ensures { EntersCommand P.rules self.old place (command.Load d g) result self.new }
+        ensures { EntersCommand P.rules self.old place (commands.Load d g) result self.new }
     {
         self.row.turn = place as usize;
         calls::load(&mut self.row, d, g)
@@ -189,7 +184,7 @@ impl<P: Plan> PlainWorld<P> {
         requires place { HasPlace self.old place }
         requires register { s < REGISTERS }
         requires global { g < GLOBALS }
-        ensures { EntersCommand P.rules self.old place (command.Share g s) result self.new }
+        ensures { EntersCommand P.rules self.old place (commands.Share g s) result self.new }
     {
         self.row.turn = place as usize;
         calls::share(&mut self.row, g, s)
@@ -200,7 +195,7 @@ impl<P: Plan> PlainWorld<P> {
         requires open { IsOpen P.rules self.old }
         requires place { HasPlace self.old place }
         requires register { s < REGISTERS }
-        ensures { EntersCommand P.rules self.old place (command.Pin s) result self.new }
+        ensures { EntersCommand P.rules self.old place (commands.Pin s) result self.new }
     {
         self.row.turn = place as usize;
         calls::pin(&mut self.row, s)
@@ -211,7 +206,7 @@ impl<P: Plan> PlainWorld<P> {
         requires open { IsOpen P.rules self.old }
         requires place { HasPlace self.old place }
         requires register { s < REGISTERS }
-        ensures { EntersCommand P.rules self.old place (command.Unpin s) result self.new }
+        ensures { EntersCommand P.rules self.old place (commands.Unpin s) result self.new }
     {
         self.row.turn = place as usize;
         calls::unpin(&mut self.row, s)

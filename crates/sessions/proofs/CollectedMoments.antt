@@ -1,12 +1,12 @@
 -- A collection of a sound moment's heap leaves a sound moment.
 use Rattle.std.proofs.Common.{◌≡◌, ◌≢◌, refl, sym, ◌∙◌, ap, subst, subst₂, ℕ, ◌+◌, ◌<◌, inl, inr, arith, Bool, true, false, IsTrue, List, [], ◌∷◌, length, map}
 use Rattle.std.specs.List.{AllByRecursion}
-use Rattle.std.proofs.lemmas.Bool.{and_parts, cases_eq}
+use Rattle.std.proofs.lemmas.Bool.{and_parts, cases_eq, or_right}
 use Rattle.std.proofs.lemmas.List.{length-map}
 use Rattle.ideal_heap.specs.Ideal.{IdealHeap, empty}
 use Rattle.ideal_heap.specs.Runs.{Entry, heap_after_run}
 use Rattle.object_model.specs.declared.collect.Collect.{Collect}
-use Rattle.object_model.specs.Objects.{HeapState, word_at, IsHeld, is_unlogged, refs_at, ref_at, is_reference}
+use Rattle.object_model.specs.Objects.{HeapState, word_at, IsHeld, is_pinned, is_unlogged, refs_at, ref_at, is_reference}
 use Rattle.object_model.specs.Ages.{is_old, RemembersYoung}
 use Rattle.object_model.specs.Graphs.{MutatorState, IsMutatorState, IsReachable, Represents, numbers_of, roots_of}
 use Rattle.object_model.specs.Lawful.{IsLawful}
@@ -15,7 +15,7 @@ use Rattle.object_model.proofs.Preserved as preserved
 use Rattle.object_model.proofs.Preserved.{at_targets, roots-moved}
 use Rattle.object_model.proofs.Representation as standing
 use Rattle.sessions.specs.Plans.{Rules}
-use Rattle.sessions.specs.Collecting.{CollectsIf, IsCollection, Remembers, may_move}
+use Rattle.sessions.specs.Collecting.{Collects, CollectsIf, IsCollection, Remembers, may_move}
 use Rattle.sessions.specs.Sessions.{Setting, Moment, IsSound, MakesCollection, AddsObject, birth_count, counts_after, ideal_at}
 use Rattle.sessions.proofs.PlacedObjects as placed
 use Rattle.sessions.proofs.SameStates.{HaveRegisters, states-same}
@@ -63,17 +63,37 @@ represents-after true r workers kind old new ms ns h made lawful lawful' same ea
     (preserved.represents (may_move r kind old) old new ms h (roots_of ns) made.target lawful.but_lines.order lawful'.but_lines.order made.kept represents)
 
 remembers-counted : (s : HeapState) → RemembersYoung s → RemembersYoung (counted s)
-remembers-counted s remembers a i holds aged unlogged less some =
-    let there = remembers a i (held-back s a holds) aged unlogged less some in
-    (held-counted s (ref_at s a i) there.0, there.1)
+remembers-counted s remembers = record {
+  fields = λ a i holds aged unlogged less some. (
+      let there = remembers.fields a i (held-back s a holds) aged unlogged less some in
+      (held-counted s (ref_at s a i) there.0, there.1));
+  marked = λ a holds. remembers.marked a (held-back s a holds);
+}
+
+-- after a collection that reclaims each object is old
+pub remembers-collected : (r : Rules) (workers : ℕ) (kind : Collect) (old new : HeapState) (roots heap_after_run : List ℕ)
+    → Collects r workers kind old roots new heap_after_run → IsLawful new → Remembers r new
+remembers-collected r workers kind old new roots heap_after_run made lawful young = record {
+  fields = λ a i holds aged unlogged less some. (
+      let there : IsHeld new (ref_at new a i) = lawful.but_lines.order.objects.references a i holds less some in
+      (there, aged-now (ref_at new a i) there));
+  marked = λ a holds unlogged. aged-now a holds;
+}
+  where
+    aged-now : (a : ℕ) → IsHeld new a → IsTrue (is_old new a)
+    aged-now a there = (and_parts r.young (is_old new a) (made.ages a there young)).1
 
 pub remembers-after : (b : Bool) (r : Rules) (workers : ℕ) (kind : Collect) (old new : HeapState) (roots heap_after_run : List ℕ)
     → CollectsIf b r workers kind old roots new heap_after_run → IsLawful new → Remembers r old → Remembers r new
 remembers-after false r workers kind old new roots heap_after_run counts lawful remembers young =
     subst RemembersYoung (sym counts.heap) (remembers-counted old (remembers young))
-remembers-after true r workers kind old new roots heap_after_run made lawful remembers young = λ a i holds aged unlogged less some.
-    (let there : IsHeld new (ref_at new a i) = lawful.but_lines.order.objects.references a i holds less some in
-    (there, (and_parts r.young (is_old new (ref_at new a i)) (made.ages (ref_at new a i) there young)).1))
+remembers-after true r workers kind old new roots heap_after_run made lawful remembers young =
+    remembers-collected r workers kind old new roots heap_after_run made lawful young
+
+pub remembers-after-collection : (b : Bool) (r : Rules) (workers : ℕ) (kind : Collect) (old new : HeapState) (roots heap_after_run : List ℕ)
+    → b ≡ true → CollectsIf b r workers kind old roots new heap_after_run → IsLawful new → Remembers r new
+remembers-after-collection true r workers kind old new roots heap_after_run is made = remembers-collected r workers kind old new roots heap_after_run made
+remembers-after-collection false r workers kind old new roots heap_after_run is made = (let wrong : false ≡ true = is in cc)
 
 pub roots-after : (b : Bool) (r : Rules) (workers : ℕ) (kind : Collect) (old new : HeapState) (roots heap_after_run : List ℕ)
     → CollectsIf b r workers kind old roots new heap_after_run → length heap_after_run ≡ length roots
@@ -106,20 +126,7 @@ abbrev old_by : ℕ → ℕ → Bool
 old_by base word = is_old (record { words = 0 ∷ 0 ∷ word ∷ []; blocks = 0; number = 0; base = base }) 0
 
 pub remembers-placed : (r : Rules) (old new : HeapState) (a refs nums : ℕ) → Remembers r old → AddsObject old new a refs nums → new.base ≡ old.base → Remembers r new
-remembers-placed r old new a refs nums remembers adds base young x i holds aged unlogged less some =
-    elim (cases_eq x a) as (λ _. IsHeld new (ref_at new x i) × IsTrue (is_old new (ref_at new x i))) [
-      | inl same ↦ absurd (adds.unmarked.1 (subst (λ (y : ℕ). IsTrue (is_unlogged new y)) same unlogged))
-      | inr other ↦ (
-          let was : IsHeld old x = (adds.others x other).1 holds in
-          let refs-same : refs_at new x ≡ refs_at old x = (placed.other-shape old new a refs nums adds x was).0 in
-          let within : i < refs_at old x = omega (arith, refs-same, less) in
-          let field : ref_at new x i ≡ ref_at old x i = placed.other-field old new a refs nums adds x was i within in
-          let there = remembers young x i was (old-back x was aged) (sym (adds.bits x was).1 ∙ unlogged) within (subst (λ (v : ℕ). IsTrue (is_reference v)) field some) in
-          let not-new : ref_at old x i ≢ a = (λ e. adds.fresh (subst (IsHeld old) e there.0)) in
-          subst (λ (v : ℕ). IsHeld new v × IsTrue (is_old new v)) (sym field)
-          ((adds.others (ref_at old x i) not-new).0 there.0, old-on (ref_at old x i) there.0 there.1)
-          )
-    ]
+remembers-placed r old new a refs nums remembers adds base young = record { fields = fields-placed; marked = marks-placed }
   where
     word-same : (y : ℕ) → IsHeld old y → is_old new y ≡ is_old old y
     word-same y was = ap (λ (b : ℕ). old_by b (word_at new (y + 2))) base ∙ ap (old_by old.base) (adds.words y 2 was (omega arith))
@@ -129,3 +136,28 @@ remembers-placed r old new a refs nums remembers adds base young x i holds aged 
 
     old-on : (y : ℕ) → IsHeld old y → IsTrue (is_old old y) → IsTrue (is_old new y)
     old-on y was aged = word-same y was ∙ aged
+
+    fields-placed : (x i : ℕ) → IsHeld new x → IsTrue (is_old new x) → IsTrue (is_unlogged new x) → i < refs_at new x
+        → IsTrue (is_reference (ref_at new x i)) → IsHeld new (ref_at new x i) × IsTrue (is_old new (ref_at new x i))
+    fields-placed x i holds aged unlogged less some =
+        elim (cases_eq x a) as (λ _. IsHeld new (ref_at new x i) × IsTrue (is_old new (ref_at new x i))) [
+          | inl same ↦ absurd (adds.unmarked.1 (subst (λ (y : ℕ). IsTrue (is_unlogged new y)) same unlogged))
+          | inr other ↦ (
+              let was : IsHeld old x = (adds.others x other).1 holds in
+              let refs-same : refs_at new x ≡ refs_at old x = (placed.other-shape old new a refs nums adds x was).0 in
+              let within : i < refs_at old x = omega (arith, refs-same, less) in
+              let field : ref_at new x i ≡ ref_at old x i = placed.other-field old new a refs nums adds x was i within in
+              let there = (remembers young).fields x i was (old-back x was aged) (sym (adds.bits x was).1 ∙ unlogged) within (subst (λ (v : ℕ). IsTrue (is_reference v)) field some) in
+              let not-new : ref_at old x i ≢ a = (λ e. adds.fresh (subst (IsHeld old) e there.0)) in
+              subst (λ (v : ℕ). IsHeld new v × IsTrue (is_old new v)) (sym field)
+              ((adds.others (ref_at old x i) not-new).0 there.0, old-on (ref_at old x i) there.0 there.1)
+              )
+        ]
+
+    marks-placed : (x : ℕ) → IsHeld new x → IsTrue (is_unlogged new x) → IsTrue (is_old new x)
+    marks-placed x holds unlogged = elim (cases_eq x a) as (λ _. IsTrue (is_old new x)) [
+      | inl same ↦ absurd (adds.unmarked.1 (subst (λ (y : ℕ). IsTrue (is_unlogged new y)) same unlogged))
+      | inr other ↦
+          let was : IsHeld old x = (adds.others x other).1 holds in
+          old-on x was ((remembers young).marked x was (sym (adds.bits x was).1 ∙ unlogged))
+    ]

@@ -1,6 +1,7 @@
 -- A session of one mutator whose trace is `gc`, under each plan that reclaims.
 use Rattle.std.proofs.Common.{◌≡◌, refl, subst, ℕ, ◌+◌, ◌≤◌, arith, true, List, [], ◌∷◌, lit<}
 use Rattle.std.specs.Prelude.{IfSome, take, length, slice_index, replicate}
+use Rattle.std.proofs.lemmas.Bool.{or_right}
 use Rattle.heap_layout.specs.declared.block.Kind.TheVariants as kinds
 use Rattle.ideal_heap.specs.declared.command.Command.{Command}
 use Rattle.ideal_heap.specs.declared.command.Command.TheVariants as c
@@ -11,7 +12,8 @@ use Rattle.ideal_heap.specs.Reach as reach
 use Rattle.ideal_heap.specs.Reach.{PathReaches}
 use Rattle.ideal_heap.specs.Runs.{Entry, entry, IsMutator, IsOrderPrefix, commands_of, of_mutator, trace_of, next_of, last_level, level_after}
 use Rattle.object_model.specs.declared.collect.Collect.TheVariants.{Full}
-use Rattle.object_model.specs.Objects.{HeapState, empty_heap, HasKind, IsHeld}
+use Rattle.object_model.specs.Objects.{HeapState, empty_heap, HasKind, IsHeld, is_pinned, is_unlogged}
+use Rattle.object_model.specs.Ages.{RemembersYoung}
 use Rattle.object_model.specs.Lawful.{IsLawful}
 use Rattle.object_model.specs.Graphs as graphs
 use Rattle.object_model.specs.Graphs.{Represents, IsReachable, MutatorState, roots_of, new_mutator}
@@ -127,13 +129,19 @@ module _ (p : Plan) (collects : (rules_of p).collects ≡ true) where
   abbrev collected : Moment
   collected = record { heap = heap; mutators = mutators; done = []; nursery = 0; full = 1 }
 
+  none-remembered : RemembersYoung heap
+  none-remembered = record {
+    fields = λ a i holds. absurd (none-held a holds);
+    marked = λ a holds. absurd (none-held a holds);
+  }
+
   makes : MakesCollection t Full first collected
   makes = record {
     collection = collected-empty 4 16 p 1 collects;
     mutators = refl;
     done = refl;
     counts = refl;
-    sound = record { lawful = lawful; remembers = λ young a i holds. absurd (none-held a holds); represents = represents; listed = refl };
+    sound = record { lawful = lawful; remembers = λ young. none-remembered; represents = represents; listed = refl };
   }
 
   abbrev pub last : Moment

@@ -19,7 +19,7 @@ module _ (t : Setting) (now : Moment) (sound : IsSound t now) where
 
   pub old-to-old : t.rules.young ≡ true → (a i : ℕ) → IsHeld now.heap a → is_old now.heap a ≡ true → is_unlogged now.heap a ≡ true → i < refs_at now.heap a → 0 < ref_at now.heap a i
       → is_old now.heap (ref_at now.heap a i) ≡ true
-  old-to-old young a i holds old unlogged less some = (sound.remembers young a i holds old unlogged less (some-reference _ some)).1
+  old-to-old young a i holds old unlogged less some = ((sound.remembers young).fields a i holds old unlogged less (some-reference _ some)).1
 
   pub reached : (n : Name) → PathReaches (ideal_at now) n → (a : ℕ) × IsReachable now.heap (roots_of now.mutators) a × (name_at now.heap a ≡ n)
   reached = sound.represents.all

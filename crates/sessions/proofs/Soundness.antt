@@ -1,6 +1,5 @@
 -- Each moment that ends a session is sound.
 use Rattle.std.specs.List.{range_with_len, AllByRecursion}
-use Rattle.std.proofs.lemmas.Bool.{false≢true}
 use Rattle.std.proofs.lemmas.List.FromFn.{get_or-range_with_len, length-range_with_len}
 use Rattle.object_model.proofs.Zeros as zeros
 use Rattle.std.proofs.Common.{inl, ◌≤◌, ◌+◌, suc, zero, map, length, slice_index, arith, ◌≡◌, refl, sym, ◌∙◌, ap, subst, ℕ, Bool, true, false, List, [], ◌∷◌, ◌++◌}
@@ -122,7 +121,7 @@ numbers-differ a n i j below_i below_j e =
 first-sound : (t : Setting) → 4 ≤ t.blocks → t.blocks ≤ 1024 → length t.traces ≤ 16 → IsSound t (first_moment t)
 first-sound t least most few = record {
   lawful = zeros.lawful t.blocks least most;
-  remembers = λ young a i held old. absurd (false≢true old);
+  remembers = λ young. zeros.remembers t.blocks;
   represents = zeros.represents t.blocks (traced_mutators t) (numbers-within 1 (length t.traces) (omega arith) (omega arith)) (numbers-differ 1 (length t.traces));
   listed = numbers-new (traced_mutators t);
 }

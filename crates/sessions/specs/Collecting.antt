@@ -20,11 +20,11 @@ is_old_under r s a = r.young && is_old s a
 abbrev pub is_logged_under : Rules → HeapState → ℕ → Bool
 is_logged_under r s a = r.young && is_logged s a
 
--- required under plans with young objects
+-- The heap remembers its young objects, if the plan has any.
 abbrev pub Remembers : Rules → HeapState → Type 0
 Remembers r s = IsTrue r.young → RemembersYoung s
 
--- a young object begins in block k
+-- a young object begins in block k, under a plan with young objects
 abbrev pub has_young : Rules → HeapState → ℕ → Bool
 has_young r s k = list_any (λ w. is_start s (block_start s.blocks k + w)
     && not (is_old_under r s (block_start s.blocks k + w))) (range_with_len 0 BLOCK_WORDS)
@@ -35,7 +35,7 @@ young_blocks r s = block_count s (λ k. has_young r s k && not (has_kind s k kin
 
 -- The collection to try first: a nursery collection if and only if the plan has young objects, a
 -- full collection was made, some object is young, and at least a quarter of the blocks in use have
--- young objects.
+-- young objects, large ones not counted.
 abbrev pub first_collection : Rules → HeapState → Collect
 first_collection r s =
     if r.young && nat_lt 0 s.base && list_any (has_young r s) (range_with_len 0 s.blocks)
@@ -79,15 +79,15 @@ is_copied_out r Full s k = has_kind s k r.fill || has_kind s k r.copy || has_kin
 is_copied_out r Nursery s k = r.young && has_kind s k r.fill
 
 -- a plan with lines evacuates the candidates, and only in a full collection
-abbrev pub is_recycled : Collect → HeapState → ℕ → Bool
-is_recycled Full s k = is_candidate s k
-is_recycled Nursery s k = false
+abbrev pub is_defragmented : Collect → HeapState → ℕ → Bool
+is_defragmented Full s k = is_candidate s k
+is_defragmented Nursery s k = false
 
 -- block k is to be evacuated under this reserve
 abbrev pub is_evacuated_by : Reserve → Rules → Collect → HeapState → ℕ → Bool
 is_evacuated_by Nothing r c s k = false
 is_evacuated_by Copies r c s k = is_copied_out r c s k
-is_evacuated_by Headroom r c s k = is_recycled c s k
+is_evacuated_by Headroom r c s k = is_defragmented c s k
 
 -- block k is to be evacuated under these rules
 abbrev pub is_evacuated : Rules → Collect → HeapState → ℕ → Bool

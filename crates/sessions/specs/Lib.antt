@@ -6,3 +6,4 @@ pub mod Sessions
 pub mod WorkedFits
 pub mod WorkedCollections
 pub mod WorkedSessions
+pub mod Prelude

@@ -29,6 +29,11 @@ aged_heap blocks number base = heap_of_kinds blocks
     (plain_object 0 0 1 [] 0 2 ∷ plain_object 0 4093 2 [] 0 number
     ∷ plain_object 1 0 3 [] 0 2 ∷ []) base
 
+-- As many blocks, all in use, of which the first and the last have a young object each.
+abbrev pub two_young : ℕ → HeapState
+two_young blocks = heap_of_kinds (replicate blocks kinds.Young)
+    (plain_object 0 0 1 [] 0 1 ∷ plain_object (blocks - 1) 4093 2 [] 0 1 ∷ []) 2
+
 -- Block 0 has a large object with this number, and the next block, if it is not Free, may have
 -- these objects.
 abbrev pub large_heap : List Kind → ℕ → List WorkedObject → HeapState

@@ -2,22 +2,13 @@
 
 ghost use Rattle.std.specs.Prelude.{ℕ, ◌≡◌, ◌<◌, IsTrue, List, [], ◌∷◌, ◌++◌, map, filter, replicate, true, false};
 ghost use Rattle.std.specs.List.{range_with_len};
-ghost use Rattle.heap_layout.specs.declared.block.Kind.TheVariants as kinds;
-ghost use Rattle.heap_layout.specs.declared.layout.TheConstants.{BLOCK_LINES};
-ghost use Rattle.object_model.specs.declared.collect.Collect.TheVariants.{Full, Nursery};
-ghost use Rattle.object_model.specs.Births.{with_block};
-ghost use Rattle.object_model.specs.Objects.{HeapState};
-ghost use Rattle.object_model.specs.WorkedHeaps.{plain_object, unowned};
-ghost use Rattle.sessions.specs.Plans.{NoGc, MarkSweep, SemiSpace, GenCopy, Immix, StickyImmix, rules_of};
-ghost use Rattle.sessions.specs.Grants.{all_plans};
-ghost use Rattle.sessions.specs.Fitting.{IsLineHole};
-ghost use Rattle.sessions.specs.Collecting.{first_collection, young_blocks, holes_in, marked_in, is_hole_start, is_recyclable, is_candidate, is_evacuated, may_move, still_free, IsEmptied, IsCollection};
-ghost use Rattle.sessions.specs.WorkedCollections.{aged_heap, large_heap, lined_heap, fragmented_heap, evacuated_kinds, movable_heap, heap_before, heap_left, roots_before, roots_moved, unlogged_after, left_in_place, moved_out, first_one, second_one, pinned_one, lonely_one, old_one, remembered_ones, four_kinds, cells_left, run_heap};
+ghost use Rattle.sessions.specs.Prelude.{BLOCK_LINES, Full, Nursery, with_block, HeapState, plain_object, unowned, NoGc, MarkSweep, SemiSpace, GenCopy, Immix, StickyImmix, rules_of, all_plans, IsLineHole, first_collection, young_blocks, holes_in, marked_in, is_hole_start, is_recyclable, is_candidate, is_evacuated, may_move, still_free, IsEmptied, IsCollection, aged_heap, two_young, large_heap, lined_heap, fragmented_heap, evacuated_kinds, movable_heap, heap_before, heap_left, roots_before, roots_moved, unlogged_after, left_in_place, moved_out, first_one, second_one, pinned_one, lonely_one, old_one, remembered_ones, four_kinds, cells_left, run_heap};
+ghost use Rattle.sessions.specs.Prelude.kinds;
 
 /// A nursery collection is tried first if the plan has young objects, a full collection was made,
 /// some object is young, and at least a quarter of the blocks in use have young objects: one of
-/// four is enough, and one of five is not. A young large object is a young object, but its block is
-/// not counted.
+/// four is enough, one of five is not, two of eight are, and two of nine are not. So is one of four
+/// Immix blocks. A young large object is a young object, but its block is not counted.
 pub fn first_collections_have_bounds()
     ensures plans { map (λ p. first_collection (rules_of p) (aged_heap (kinds.Young
         ∷ kinds.Mature
@@ -27,6 +18,10 @@ pub fn first_collections_have_bounds()
         ∷ kinds.Mature ∷ kinds.Mature ∷ kinds.Free ∷ kinds.Free ∷ []) 1 0) ≡ Full }
     ensures less { first_collection (rules_of GenCopy) (aged_heap (kinds.Young ∷ kinds.Mature
         ∷ kinds.Mature ∷ kinds.Mature ∷ kinds.Mature ∷ kinds.Free ∷ []) 1 2) ≡ Full }
+    ensures lines { first_collection (rules_of StickyImmix) (aged_heap (kinds.Immix ∷ kinds.Immix
+        ∷ kinds.Immix ∷ kinds.Immix ∷ kinds.Free ∷ kinds.Free ∷ []) 1 2) ≡ Nursery }
+    ensures two { map (λ blocks. first_collection (rules_of GenCopy) (two_young blocks))
+        (8 ∷ 9 ∷ []) ≡ Nursery ∷ Full ∷ [] }
     ensures counted { map (λ number. young_blocks (rules_of GenCopy) (aged_heap (kinds.Young
         ∷ kinds.Mature ∷ kinds.Free ∷ kinds.Free ∷ []) number 2)) (0 ∷ 1 ∷ 2 ∷ 3
         ∷ [])

@@ -2,24 +2,10 @@
 
 ghost use Rattle.std.specs.Prelude.{◌≡◌, ◌≢◌, ◌↔◌, ◌⊎◌, ℕ, ◌+◌, ◌*◌, ◌-◌, ◌/◌, ◌%◌, ◌<◌, ◌≤◌, true, false, List, [], ◌∷◌, ◌++◌, map, length, count_by, nat_lt, None, Some};
 ghost use Rattle.std.specs.List.{AllByRecursion};
-ghost use Rattle.heap_layout.specs.Zones.{block_at, offset_at, block_start};
-ghost use Rattle.heap_layout.specs.declared.block.Kind.{Kind};
-ghost use Rattle.heap_layout.specs.declared.block.Kind.TheVariants as kinds;
-ghost use Rattle.ideal_heap.specs.declared.name.Name.{Name};
-ghost use Rattle.ideal_heap.specs.declared.command.Command.{Command};
-ghost use Rattle.ideal_heap.specs.declared.command.Command.TheVariants as c;
-ghost use Rattle.ideal_heap.specs.declared.reply.Reply.TheVariants as r;
-ghost use Rattle.ideal_heap.specs.Commands.{is_new, is_gc, is_meet, size_wanted};
-ghost use Rattle.ideal_heap.specs.Ideal.{IdealHeap};
-ghost use Rattle.ideal_heap.specs.Runs.{Entry, entry, is_full, IsMutator, heap_after_run};
-ghost use Rattle.object_model.specs.Objects.{HeapState, empty_heap, HasKind, block_word, class_at, line_marked, is_start, is_unlogged, IsHeld, name_at, refs_at, nums_at, size_at, number_at, size_of, cell_words};
-ghost use Rattle.object_model.specs.Ages.{is_old};
-ghost use Rattle.object_model.specs.Graphs.{MutatorState};
-ghost use Rattle.sessions.specs.Plans.{Rules, MarkSweep, SemiSpace, GenCopy, Immix, StickyImmix, rules_of, Copies, Headroom};
-ghost use Rattle.sessions.specs.Fitting.{IsTail, HasHole, free_of, used_of, headroom_of, allowance_of};
-ghost use Rattle.sessions.specs.Collecting.{is_logged_under};
-ghost use Rattle.sessions.specs.Sessions.{Setting, Moment, Cause, AtGc, AtMeet, AtEnd, AtNeed, Raised, is_at_gc, is_at_need, next_in, Needs, EndsBy, IsOfPart, LeavesNoGap, IsBirth, StoresInto, Stopped, ExhaustsAllowance, RunsPart, IsSound};
-ghost use Rattle.sessions.specs.WorkedSessions.{part_of_birth, heap_after_birth};
+ghost use Rattle.sessions.specs.Prelude.{block_at, offset_at, block_start, Kind, Name, Command, is_new, is_gc, is_meet, size_wanted, IdealHeap, Entry, entry, is_full, IsMutator, heap_after_run, HeapState, empty_heap, HasKind, block_word, class_at, line_marked, is_start, is_unlogged, IsHeld, name_at, refs_at, nums_at, size_at, number_at, size_of, cell_words, is_old, MutatorState, Rules, MarkSweep, SemiSpace, GenCopy, Immix, StickyImmix, rules_of, Copies, Headroom, IsTail, HasHole, free_of, used_of, headroom_of, allowance_of, is_logged_under, Setting, Moment, Cause, AtGc, AtMeet, AtEnd, AtNeed, Raised, is_at_gc, is_at_need, next_in, Needs, EndsBy, IsOfPart, LeavesNoGap, IsBirth, StoresInto, Stopped, ExhaustsAllowance, RunsPart, IsSound, part_of_birth, heap_after_birth};
+ghost use Rattle.sessions.specs.Prelude.kinds;
+ghost use Rattle.sessions.specs.Prelude.c;
+ghost use Rattle.sessions.specs.Prelude.r;
 
 use object_model::MAX_MEDIUM_WORDS;
 

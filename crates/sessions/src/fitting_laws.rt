@@ -2,17 +2,8 @@
 
 ghost use Rattle.std.specs.Prelude.{◌≡◌, ◌≢◌, ◌↔◌, ℕ, ◌+◌, ◌%◌, ◌<◌, ◌≤◌, Option, Some, None, List, ◌∷◌, [], map, replicate, false, true, codes};
 ghost use Rattle.std.specs.List.{range_with_len};
-ghost use Rattle.heap_layout.specs.Blocks.{all_kinds};
-ghost use Rattle.heap_layout.specs.declared.block.Kind.{Kind};
-ghost use Rattle.heap_layout.specs.declared.block.Kind.TheVariants as kinds;
-ghost use Rattle.object_model.specs.Objects.{HeapState, HasKind, class_at, cell_words, empty_heap, blocks_for};
-ghost use Rattle.object_model.specs.Lawful.{IsLawful, IsClear};
-ghost use Rattle.object_model.specs.Births.{with_block};
-ghost use Rattle.object_model.specs.WorkedHeaps.{unowned};
-ghost use Rattle.sessions.specs.Plans.{Plan, NoGc, SemiSpace, GenCopy, Immix, Rules, Reserve, Nothing, Copies, Headroom, rules_of, plan_word};
-ghost use Rattle.sessions.specs.Grants.{BlockCounts, HoldsReserve, IsGrantable, IsRunGrantable, after_taking, all_plans, counts_with};
-ghost use Rattle.sessions.specs.Fitting.{Fits, MayGrant, MayGrantRun, IsFreeRun, IsTail, IsLineHole, class_of, class_for, HasHole, LiesInHole, HasCellFor, counts_of, total_of, used_of, headroom_of, allowance_of};
-ghost use Rattle.sessions.specs.WorkedFits.{mixed_heap, heap_used, used_heap, full_heap, split_heap};
+ghost use Rattle.sessions.specs.Prelude.{all_kinds, Kind, HeapState, HasKind, class_at, cell_words, empty_heap, blocks_for, IsLawful, IsClear, with_block, unowned, Plan, NoGc, SemiSpace, GenCopy, Immix, Rules, Reserve, Nothing, Copies, Headroom, rules_of, plan_word, BlockCounts, HoldsReserve, IsGrantable, IsRunGrantable, after_taking, all_plans, counts_with, Fits, MayGrant, MayGrantRun, IsFreeRun, IsTail, IsLineHole, class_of, class_for, HasHole, LiesInHole, HasCellFor, counts_of, total_of, used_of, headroom_of, allowance_of, mixed_heap, heap_used, used_heap, full_heap, split_heap};
+ghost use Rattle.sessions.specs.Prelude.kinds;
 
 use heap_layout::BLOCK_WORDS;
 use object_model::MAX_MEDIUM_WORDS;

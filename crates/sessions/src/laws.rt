@@ -2,22 +2,7 @@
 
 ghost use Rattle.std.specs.Prelude.{length, ◌≡◌, ◌↔◌, ◌*◌, ℕ, ◌+◌, ◌<◌, ◌≤◌, false, true, List, ◌∷◌, ◌++◌, [], replicate, ◌/◌, ◌-◌, map};
 ghost use Rattle.std.specs.List.{AllByRecursion};
-ghost use Rattle.ideal_heap.specs.declared.command.Command.{Command};
-ghost use Rattle.ideal_heap.specs.Ideal.{empty};
-ghost use Rattle.ideal_heap.specs.Runs.{IsRun, is_full, replies_of, alone};
-ghost use Rattle.heap_layout.specs.Zones.{block_at, offset_at};
-ghost use Rattle.heap_layout.specs.declared.block.Kind.{Kind};
-ghost use Rattle.object_model.specs.declared.collect.Collect.{Collect};
-ghost use Rattle.object_model.specs.declared.collect.Collect.TheVariants.{Full, Nursery};
-ghost use Rattle.object_model.specs.Objects.{HeapState, IsHeld, IsInExtent, empty_heap, size_of, size_at, is_pinned};
-ghost use Rattle.object_model.specs.Ages.{is_old, is_logged, RemembersYoung};
-ghost use Rattle.object_model.specs.Graphs.{IsReachable};
-ghost use Rattle.object_model.specs.Lawful.{IsWellFormed, LineBitsAreExact};
-ghost use Rattle.sessions.specs.Plans.{Plan, Rules, Reserve, NoGc, rules_of, Nothing, Copies, Headroom};
-ghost use Rattle.sessions.specs.Grants.{BlockCounts, total_in, used_in, headroom_in, IsGrantable, IsRunGrantable, allowance_in, counts_with, allowances};
-ghost use Rattle.sessions.specs.Fitting.{Fits, HasHole, LiesInHole, MayGrant, allowance_of, headroom_of};
-ghost use Rattle.sessions.specs.Collecting.{IsCollection, Collects, Remembers, IsNurseryReachable, is_evacuated, is_old_under, is_logged_under};
-ghost use Rattle.sessions.specs.Sessions.{Setting, Moment, InSession, IsEpoch, IsWhole, IsSound, Places, ServesNeed, first_moment, refused_entry};
+ghost use Rattle.sessions.specs.Prelude.{Command, empty, IsRun, is_full, replies_of, alone, block_at, offset_at, Kind, Collect, Full, Nursery, HeapState, IsHeld, IsInExtent, empty_heap, size_of, size_at, is_pinned, is_old, is_logged, RemembersYoung, IsReachable, IsWellFormed, LineBitsAreExact, Plan, Rules, Reserve, NoGc, rules_of, Nothing, Copies, Headroom, BlockCounts, total_in, used_in, headroom_in, IsGrantable, IsRunGrantable, allowance_in, counts_with, allowances, Fits, HasHole, LiesInHole, MayGrant, allowance_of, headroom_of, IsCollection, Collects, Remembers, IsNurseryReachable, is_evacuated, is_old_under, is_logged_under, Setting, Moment, InSession, IsEpoch, IsWhole, IsSound, Places, ServesNeed, first_moment, refused_entry};
 
 use heap_layout::{MAX_BLOCKS, MIN_BLOCKS};
 use ideal_heap::MAX_MUTATORS;

@@ -2,11 +2,7 @@
 
 ghost use Rattle.std.specs.Prelude.{ℕ, ◌≡◌, ◌<◌, ◌⊎◌, None, filter, length, take};
 ghost use Rattle.std.specs.List.{AllByRecursion};
-ghost use Rattle.ideal_heap.specs.Runs.{commands_of, of_mutator, trace_of};
-ghost use Rattle.ideal_heap.specs.Runs.{IsMutator, IsOrderPrefix};
-ghost use Rattle.sessions.specs.Sessions.{Setting, Moment, Cause, InSession, IsEpoch, IsWhole};
-ghost use Rattle.sessions.specs.Sessions.{RunsPart, CollectsFor, ServesAll, Meets};
-ghost use Rattle.sessions.specs.Sessions.{is_at_gc, is_at_need, traced_mutators, next_in};
+ghost use Rattle.sessions.specs.Prelude.{commands_of, of_mutator, trace_of, IsMutator, IsOrderPrefix, Setting, Moment, Cause, InSession, IsEpoch, IsWhole, RunsPart, CollectsFor, ServesAll, Meets, is_at_gc, is_at_need, traced_mutators, next_in};
 
 /// Whatever the parts, collections and needs of an epoch, its entries keep an order that `meet`
 /// allows, if each mutator's are the first commands of its trace. A session in which every command

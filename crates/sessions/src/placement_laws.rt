@@ -1,15 +1,7 @@
 //! Laws of objects that are placed at a stop.
 
 ghost use Rattle.std.specs.Prelude.{ℕ, ◌≢◌, ◌+◌, ◌≤◌};
-ghost use Rattle.heap_layout.specs.Zones.{block_start};
-ghost use Rattle.heap_layout.specs.declared.block.Kind.{Kind};
-ghost use Rattle.ideal_heap.specs.declared.name.Name.{Name};
-ghost use Rattle.ideal_heap.specs.Names.{IsName};
-ghost use Rattle.object_model.specs.Objects.{HeapState, IsHeld, name_at, size_of, blocks_for};
-ghost use Rattle.object_model.specs.Lawful.{IsWellFormed, LineBitsAreExact};
-ghost use Rattle.object_model.specs.Births.{IsRoom, IsLargeRoom, WritesLargeObject};
-ghost use Rattle.sessions.specs.Fitting.{HasHole, IsFreeRun};
-ghost use Rattle.sessions.specs.Sessions.{PlacesLarge, AddsObject, UsesRun, ChangesBlocks};
+ghost use Rattle.sessions.specs.Prelude.{block_start, Kind, Name, IsName, HeapState, IsHeld, name_at, size_of, blocks_for, IsWellFormed, LineBitsAreExact, IsRoom, IsLargeRoom, WritesLargeObject, HasHole, IsFreeRun, PlacesLarge, AddsObject, UsesRun, ChangesBlocks};
 
 use ideal_heap::{MAX_NUMS, MAX_REFS};
 use object_model::MAX_MEDIUM_WORDS;

@@ -3,25 +3,10 @@
 
 ghost use Rattle.std.specs.Prelude.{◌≡◌, ◌≢◌, ◌↔◌, ◌⊎◌, ℕ, ◌+◌, ◌*◌, ◌<◌, ◌≤◌, ◌^◌, true, false, List, [], ◌∷◌, ◌++◌, map, filter, length, take, None, Some};
 ghost use Rattle.std.specs.List.{AllByRecursion};
-ghost use Rattle.heap_layout.specs.Zones.{block_at, offset_at, block_start, IsAddress};
-ghost use Rattle.heap_layout.specs.declared.block.Kind.{Kind};
-ghost use Rattle.heap_layout.specs.declared.block.Kind.TheVariants as kinds;
-ghost use Rattle.ideal_heap.specs.declared.name.Name.{Name};
-ghost use Rattle.ideal_heap.specs.declared.command.Command.TheVariants as c;
-ghost use Rattle.ideal_heap.specs.declared.reply.Reply.TheVariants as r;
-ghost use Rattle.ideal_heap.specs.Commands.{is_meet};
-ghost use Rattle.ideal_heap.specs.Reach.{PathReaches};
-ghost use Rattle.ideal_heap.specs.Runs.{Entry, entry, IsMutator, commands_of, of_mutator, trace_of};
-ghost use Rattle.object_model.specs.declared.collect.Collect.{Collect};
-ghost use Rattle.object_model.specs.declared.collect.Collect.TheVariants.{Full, Nursery};
-ghost use Rattle.object_model.specs.Objects.{HeapState, empty_heap, HasKind, word_at, global_at, block_word, is_pinned, is_unlogged, IsHeld, name_at, refs_at, nums_at, number_at, ref_at, num_at, size_of, blocks_for};
-ghost use Rattle.object_model.specs.Ages.{is_old};
-ghost use Rattle.object_model.specs.Graphs.{new_mutator, numbers_of, roots_of, IsReachable};
-ghost use Rattle.sessions.specs.Plans.{Plan, Rules, MarkSweep, GenCopy, rules_of};
-ghost use Rattle.sessions.specs.Fitting.{Fits, HasHole, HasSomeHole};
-ghost use Rattle.sessions.specs.Collecting.{Collects, first_collection};
-ghost use Rattle.sessions.specs.Sessions.{Setting, Moment, Cause, traced_mutators, first_moment, next_in, ideal_at, is_at_gc, is_at_need, is_at_meet, is_waiting, all_done, refused_entry, IsOfPart, IsSound, MakesCollection, OnlyReplies, CollectsFor, PlacesSmall, PlacesLarge, UsesBlock, UsesRun, AddsObject, ChangesBlocks, Places, ServesNeed, ServesAll, Meets, IsEpoch, InSession, IsWhole};
-ghost use Rattle.sessions.specs.WorkedSessions.{worked_setting, worked_moment};
+ghost use Rattle.sessions.specs.Prelude.{block_at, offset_at, block_start, IsAddress, Kind, Name, is_meet, PathReaches, Entry, entry, IsMutator, commands_of, of_mutator, trace_of, Collect, Full, Nursery, HeapState, empty_heap, HasKind, word_at, global_at, block_word, is_pinned, is_unlogged, IsHeld, name_at, refs_at, nums_at, number_at, ref_at, num_at, size_of, blocks_for, is_old, new_mutator, numbers_of, roots_of, IsReachable, Plan, Rules, MarkSweep, GenCopy, rules_of, Fits, HasHole, HasSomeHole, Collects, first_collection, Setting, Moment, Cause, traced_mutators, first_moment, next_in, ideal_at, is_at_gc, is_at_need, is_at_meet, is_waiting, all_done, refused_entry, IsOfPart, IsSound, MakesCollection, OnlyReplies, CollectsFor, PlacesSmall, PlacesLarge, UsesBlock, UsesRun, AddsObject, ChangesBlocks, Places, ServesNeed, ServesAll, Meets, IsEpoch, InSession, IsWhole, worked_setting, worked_moment};
+ghost use Rattle.sessions.specs.Prelude.kinds;
+ghost use Rattle.sessions.specs.Prelude.c;
+ghost use Rattle.sessions.specs.Prelude.r;
 
 use heap_layout::GLOBALS;
 use object_model::MAX_MEDIUM_WORDS;

@@ -25,13 +25,13 @@ worked_object block offset n refs nums number pinned unlogged = record {
 -- Objects of mutators 1 and 16 at 1212, 5312, 9384, 9392 and 19632: one in two lines of an Immix
 -- block, two in a block of 8-word cells, the second of them in the last cell, one of 4,097 words in
 -- a run of two blocks, and one of 2,048 words at the end of a Mature block. The first and the last
--- are pinned, the first three are unlogged.
+-- are pinned, the second and the third are unlogged.
 abbrev pub five_kinds : WorkedHeap
 five_kinds = record {
   blocks = unowned kinds.Immix 0 ∷ unowned kinds.Cells 2 ∷ unowned kinds.LargeHead 2
       ∷ unowned kinds.LargeTail 0
       ∷ unowned kinds.Mature 0 ∷ unowned kinds.Free 0 ∷ [];
-  objects = worked_object 0 12 (name 1 1) (9392 ∷ 0 ∷ []) (7 ∷ []) 0 true true
+  objects = worked_object 0 12 (name 1 1) (9392 ∷ 0 ∷ []) (7 ∷ []) 0 true false
       ∷ worked_object 1 16 (name 16 1) (19632 ∷ []) [] 3 false true
       ∷ worked_object 1 4088 (name 1 2) (0 ∷ 5312 ∷ []) (8 ∷ 9 ∷ 10 ∷ []) 2 false true
       ∷ worked_object 2 0 (name 1 3) [] (replicate 4093 0 ++ 11 ∷ []) 1 false false
@@ -91,6 +91,11 @@ small_heap blocks objects =
 -- such a heap of a Bump block and three Free ones
 abbrev pub bump_with : List WorkedObject → HeapState
 bump_with objects = small_heap (three_free (unowned kinds.Bump 0)) objects
+
+-- such a heap with two logged objects, at 806 and 816
+abbrev pub two_logged : HeapState
+two_logged = bump_with (worked_object 0 0 (name 1 1) [] [] 2 false false
+    ∷ worked_object 0 10 (name 1 2) [] [] 2 false false ∷ [])
 
 -- the heap with another word at an index
 abbrev pub with_word : HeapState → ℕ → ℕ → HeapState

@@ -6,7 +6,7 @@ ghost use Rattle.heap_layout.specs.Zones.{row_words};
 ghost use Rattle.ideal_heap.specs.Names.{name};
 ghost use Rattle.ideal_heap.specs.Ideal.{Nil, At, empty, no_fields};
 ghost use Rattle.object_model.specs.Objects.{HeapState, empty_heap, global_at, block_word, line_marked, is_start, is_pinned, is_unlogged, name_at, size_at, refs_at, nums_at, number_at, target_at, ref_at, num_at, record_at};
-ghost use Rattle.object_model.specs.Ages.{is_old, is_logged, is_survivor, RemembersYoung};
+ghost use Rattle.object_model.specs.Ages.{is_old, is_logged, is_survivor, RemembersYoung, ListsLogged};
 ghost use Rattle.heap_graph.specs.Places.{IsGraphOf};
 ghost use Rattle.object_model.specs.Graphs.{IsMutatorState, AreMutators, Represents, new_mutator};
 ghost use Rattle.object_model.specs.Changes.{ClearsUnlog};
@@ -14,7 +14,7 @@ ghost use Rattle.object_model.specs.Agreement.{AgreesOn};
 ghost use Rattle.object_model.specs.Births.{MarksLinesOfBirth, MakesRun};
 ghost use Rattle.object_model.specs.Lawful.{IsLawful};
 ghost use Rattle.object_model.specs.WorkedHeaps.{unowned, plain_object};
-ghost use Rattle.worked_heaps.specs.WorkedKinds.{kinds_heap, kinds_held, kinds_mutators, kinds_ideal, worked_object, three_free, small_heap, bump_with, with_word};
+ghost use Rattle.worked_heaps.specs.WorkedKinds.{kinds_heap, kinds_held, kinds_mutators, kinds_ideal, worked_object, three_free, small_heap, bump_with, two_logged, with_word};
 ghost use Rattle.heap_layout.specs.declared.block.Kind.TheVariants as kinds;
 
 /// A built heap reads back as the blocks and objects that it was built from.
@@ -23,7 +23,7 @@ pub fn built_heaps_read_back()
     ensures pinned { filter (is_pinned kinds_heap) (range_with_len 0 (row_words 6))
         ≡ 1212 ∷ 19632 ∷ [] }
     ensures unlogged { filter (is_unlogged kinds_heap) (range_with_len 0 (row_words 6))
-        ≡ 1212 ∷ 5312 ∷ 9384 ∷ [] }
+        ≡ 5312 ∷ 9384 ∷ [] }
     ensures names { map (name_at kinds_heap) kinds_held
         ≡ name 1 1 ∷ name 16 1 ∷ name 1 2 ∷ name 1 3 ∷ name 16 2 ∷ [] }
     ensures refs { map (refs_at kinds_heap) kinds_held ≡ 2 ∷ 1 ∷ 2 ∷ 0 ∷ 1 ∷ [] }
@@ -58,8 +58,11 @@ pub fn built_heaps_read_back()
 /// Old, logged and surviving objects of a heap whose last full collection is number 2, and of the
 /// same heap after other full collections. An index that is no object's address is not logged. That
 /// heap remembers its young objects, of which a logged old object and a young one hold some. A heap
-/// does not if an old unlogged object's last field refers to a young object, or to no object. What
-/// is no object, since its start bit is clear, may refer to anything.
+/// does not if an old unlogged object's last field refers to a young object, or to no object, nor
+/// if the unlog bit of a young object is set. What is no object, since its start bit is clear, may
+/// refer to anything and have any bit. An old object whose unlog bit is clear may refer to a young
+/// one. No list with a greater address before a lower one lists logged objects, nor one with an
+/// address twice.
 pub fn worked_ages()
     ensures old { filter (is_old kinds_heap) kinds_held ≡ 5312 ∷ 9384 ∷ 19632 ∷ [] }
     ensures old_from_one { filter (is_old (record kinds_heap { base = 1 })) kinds_held
@@ -79,6 +82,12 @@ pub fn worked_ages()
         ∷ worked_object 0 10 (name 1 2) (807 ∷ []) [] 2 false true ∷ [])) → ⊥ }
     ensures unheld { RemembersYoung (with_word (bump_with (plain_object 0 0 1 [] 0 0
         ∷ worked_object 0 10 (name 1 2) (0 ∷ 806 ∷ []) [] 2 false true ∷ [])) 38 0) }
+    ensures young_unlogged { RemembersYoung (bump_with (
+        worked_object 0 0 (name 1 1) [] [] 1 false true ∷ [])) → ⊥ }
+    ensures old_logged { RemembersYoung (bump_with (plain_object 0 0 1 [] 0 0
+        ∷ worked_object 0 10 (name 1 2) (0 ∷ 806 ∷ []) [] 2 false false ∷ [])) }
+    ensures falling { ListsLogged two_logged (816 ∷ 806 ∷ []) → ⊥ }
+    ensures twice { ListsLogged two_logged (806 ∷ 806 ∷ 816 ∷ []) → ⊥ }
 {}
 
 /// A heap with objects of two mutators in Immix, Cells and Mature blocks, and in a run of two

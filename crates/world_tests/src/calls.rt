@@ -264,8 +264,8 @@ fn stops_and_epochs(rt: HostRuntime) -> Result<(), Fail> {
     Ok(())
 }
 
-// The next state of a random sequence.
-fn stir(state: u64) -> u64 {
+/// The next state of a random sequence.
+pub(crate) fn stir(state: u64) -> u64 {
     state
         .wrapping_mul(6_364_136_223_846_793_005)
         .wrapping_add(1_442_695_040_888_963_407)

@@ -1,7 +1,11 @@
-//! Tests of worlds: calls of mutators against the ideal heap, and allocation until a heap is full
-//! against a plain model of its blocks.
+//! Tests of worlds: calls of mutators against the ideal heap, allocation until a heap is full
+//! against a plain model of its blocks, which objects stores log, and worked traces.
 #![tactic(auto)]
 
+#[cfg(test)]
+mod ages;
+#[cfg(test)]
+mod barrier_tests;
 #[cfg(test)]
 mod calls;
 #[cfg(test)]
@@ -22,5 +26,7 @@ mod place_tests;
 mod recycling;
 #[cfg(test)]
 mod twins;
+#[cfg(test)]
+mod worked_traces;
 #[cfg(test)]
 mod worlds;

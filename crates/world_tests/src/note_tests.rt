@@ -1,6 +1,5 @@
 //! Tests of what is known of the blocks of a heap.
 
-ghost use Rattle.std.specs.Prelude.{◌≡◌, IfOk, false};
 ghost use Rattle.object_model.specs.Heaps.{heap_state};
 ghost use Rattle.block_regions.specs.Notes.{AreNotes, FillsHoles};
 
@@ -63,9 +62,7 @@ fn check_holes(rt: &impl Abort, notes: &mut BlockNotes, heap: &Heap, fill: Kind,
 }
 
 // The heap of 4 blocks in which a mutator allocated objects of these sizes.
-fn heap_with<P: Plan>(rt: &impl Abort, alloc: Global, sizes: &[u32]) -> Result<Heap, Fail>
-    requires { P.rules.young ≡ false }
-{
+fn heap_with<P: Plan>(rt: &impl Abort, alloc: Global, sizes: &[u32]) -> Result<Heap, Fail> {
     let mut world = new_world::<P>(rt, alloc, 4, 1)?;
     for size in sizes {
         allocate(rt, &mut world, 0, 0, 0, size.saturating_sub(3));

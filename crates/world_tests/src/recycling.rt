@@ -1,8 +1,9 @@
 //! Collections that drop objects, so that the lines of blocks are filled again.
 
-ghost use Rattle.std.specs.Prelude.{◌≡◌, ◌<◌, IfOk, false};
+ghost use Rattle.std.specs.Prelude.{◌≡◌, ◌<◌, IfOk, true, false};
 ghost use Rattle.object_model.specs.Heaps.{heap_state};
 ghost use Rattle.object_model.specs.Lawful.{AreRoots};
+ghost use Rattle.sessions.specs.Collecting.{Remembers};
 ghost use Rattle.plain_world.specs.Calls.{IsOpen};
 
 use crate::epochs::check_blocks;
@@ -35,8 +36,8 @@ impl Kept {
     }
 }
 
-// The registers of all mutators in turn.
-fn registers_of(alloc: Global, mutators: &[Mutator]) -> Result<Vec<u32>, AllocError> {
+/// The registers of all mutators in turn.
+pub(crate) fn registers_of(alloc: Global, mutators: &[Mutator]) -> Result<Vec<u32>, AllocError> {
     let mut registers = Vec::new(alloc);
     for mutator in mutators {
         registers.extend_from_slice(&mutator.registers)?;
@@ -44,8 +45,8 @@ fn registers_of(alloc: Global, mutators: &[Mutator]) -> Result<Vec<u32>, AllocEr
     Ok(registers)
 }
 
-// The mutators' registers after a collection.
-fn set_registers(mutators: &mut Vec<Mutator>, roots: &[u32]) {
+/// The mutators' registers after a collection.
+pub(crate) fn set_registers(mutators: &mut Vec<Mutator>, roots: &[u32]) {
     for (m, mutator) in mutators.iter_mut().enumerate() {
         for (s, register) in mutator.registers.iter_mut().enumerate() {
             let at = m.wrapping_mul(16).wrapping_add(s);
@@ -90,13 +91,15 @@ fn with_roots(rt: &impl Abort, heap: Heap, roots: Vec<u32>) -> Rooted {
     Rooted { heap, roots }
 }
 
-// A full collection from these roots.
-fn collect_from<P: Plan, R: Abort + Threads + Sync>(
+/// A full collection from these roots.
+pub(crate) fn collect_from<P: Plan, R: Abort + Threads + Sync>(
     rt: &R,
     alloc: Global,
     heap: Heap,
     roots: Vec<u32>,
-) -> Result<(Heap, Vec<u32>), Fail> {
+) -> Result<(Heap, Vec<u32>), Fail>
+    ensures { P.rules.collects ≡ true → IfOk result (λ r. Remembers P.rules (heap_state r.0)) }
+{
     let Rooted { heap, roots } = with_roots(rt, heap, roots);
     assert!(rt; heap.number() < 1_000_000);
     assert!(rt; roots.len() <= 1_000_000);

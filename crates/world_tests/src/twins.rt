@@ -5,10 +5,10 @@ ghost use Rattle.ideal_heap.specs.Plain.{mutators_of};
 ghost use Rattle.sessions.specs.Plans.{NoGc as no_gc, rules_of};
 ghost use Rattle.plain_world.specs.Calls.{IsOpen};
 
-use crate::worlds::{allocate, new_world};
+use crate::worlds::{new_world, reply_to};
 use heap_graph::{Place, graph};
 use ideal_heap::{Command, GLOBALS, Ideal, MAX_NUMS, MAX_REFS, Name, Reply, valid};
-use mutator_calls::{Allocated, Mutator};
+use mutator_calls::Mutator;
 use object_model::{Heap, are_roots};
 use plain_world::PlainWorld;
 use plans::NoGc;
@@ -68,33 +68,6 @@ const DROP_CELL: Command = Command::Get {
 };
 
 pub(crate) type World = PlainWorld<NoGc>;
-
-/// The reply to a command of the mutator at place `m`. A `new` that stops is refused.
-fn reply_to(rt: &impl Abort, world: &mut World, m: u32, command: &Command) -> Reply
-    requires { IsOpen (rules_of no_gc) world.old }
-    ensures { IsOpen (rules_of no_gc) world.new }
-{
-    assert!(rt; (m as usize) < world.mutators().len() && valid(command));
-    match *command {
-        Command::New { d, refs, nums } => match allocate(rt, world, m, d, refs, nums) {
-            Allocated::Made(name) => Reply::New(name),
-            Allocated::Stop(_) => Reply::Full,
-        },
-        Command::Get { d, s, i } => world.get(m, d, s, i),
-        Command::Put { s, i, v } => world.put(m, s, i, v),
-        Command::Read { s, j } => world.read(m, s, j),
-        Command::Write { s, j, n } => world.write(m, s, j, n),
-        Command::Add { s, j, n } => world.add(m, s, j, n),
-        Command::Swap { s, j, was, next } => world.swap(m, s, j, was, next),
-        Command::Move { d, s } => world.move_register(m, d, s),
-        Command::DropReg { s } => world.drop_register(m, s),
-        Command::Load { d, g } => world.load(m, d, g),
-        Command::Share { g, s } => world.share(m, g, s),
-        Command::Pin { s } => world.pin(m, s),
-        Command::Unpin { s } => world.unpin(m, s),
-        Command::Gc | Command::Meet => Reply::Done,
-    }
-}
 
 /// A world of two mutators, and the ideal heap that it follows.
 #[derive(Drop)]

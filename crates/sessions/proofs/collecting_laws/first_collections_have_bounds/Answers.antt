@@ -7,6 +7,12 @@ returns-clause-plans c = refl
 pub returns-clause-full_made : goal.returns-clause-full_made
 returns-clause-full_made c = refl
 
+pub returns-clause-lines : goal.returns-clause-lines
+returns-clause-lines c = refl
+
+pub returns-clause-two : goal.returns-clause-two
+returns-clause-two c = refl
+
 pub returns-clause-less : goal.returns-clause-less
 returns-clause-less c = refl
 

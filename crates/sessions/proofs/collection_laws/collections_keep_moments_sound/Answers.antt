@@ -12,3 +12,6 @@ returns-clause-roots c = collected.roots-kept
 
 pub returns-clause-placed : goal.returns-clause-placed
 returns-clause-placed c = collected.remembers-placed
+
+pub returns-clause-remembers : goal.returns-clause-remembers
+returns-clause-remembers c = λ r workers kind old new roots after made is. collected.remembers-after-collection r.collects r workers kind old new roots after is made

@@ -29,6 +29,7 @@ returns-clause-open g c = record {
   })
       c.args.heap.lawful c.requires.users g.met.P.Plan.fill_has_holes c.requires.remembers c.requires.few;
   fill = c.alloc_kind.ensures;
+  young = c.contains.ensures tt ∙ ap (λ f. bit_and f.0 2 == 2) c.FLAGS.ensures ∙ ap (λ n. bit_and n 2 == 2) g.met.P.Plan.flags_are_of_rules ∙ young-flag g.P.Plan.rules;
 }
 
 pub returns-clause-plan : goal.returns-clause-plan

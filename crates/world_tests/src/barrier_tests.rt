@@ -1,0 +1,269 @@
+//! Tests of what stores log, and of the list of logged objects.
+
+ghost use Rattle.std.specs.Prelude.{◌≡◌, true};
+ghost use Rattle.plain_world.specs.Calls.{IsOpen};
+
+use crate::ages::{Between, Old, call_noted, noted_epoch};
+use crate::calls::stir;
+use crate::worlds::new_world;
+use ideal_heap::Command;
+use plain_world::PlainWorld;
+use plan_api::Plan;
+use plans::{GenCopy, StickyImmix};
+use std::alloc::Global;
+use std::process::Abort;
+use std::test::Fail;
+use std::thread::Threads;
+
+// A new object before the list in register 0, which becomes the list.
+const ADD: [Command; 3] = [
+    Command::New {
+        d: 1,
+        refs: 2,
+        nums: 0,
+    },
+    Command::Put { s: 1, i: 0, v: 0 },
+    Command::Move { d: 0, s: 1 },
+];
+
+// Stores into objects of an old list in register 0, and how many objects are logged then.
+const STORES: [(&[Command], usize); 9] = [
+    (&[], 0),
+    // Of itself.
+    (&[Command::Put { s: 0, i: 1, v: 0 }], 1),
+    // A second one.
+    (&[Command::Put { s: 0, i: 1, v: 9 }], 1),
+    // Of nil.
+    (
+        &[
+            Command::Get { d: 2, s: 0, i: 0 },
+            Command::Put { s: 2, i: 1, v: 9 },
+        ],
+        2,
+    ),
+    // Of an old object.
+    (
+        &[
+            Command::Get { d: 3, s: 2, i: 0 },
+            Command::Put { s: 3, i: 1, v: 0 },
+        ],
+        3,
+    ),
+    // Of a young one.
+    (
+        &[
+            Command::Get { d: 4, s: 3, i: 0 },
+            Command::New {
+                d: 5,
+                refs: 2,
+                nums: 0,
+            },
+            Command::Put { s: 4, i: 1, v: 5 },
+        ],
+        4,
+    ),
+    // Into a young one.
+    (
+        &[
+            Command::Put { s: 5, i: 0, v: 0 },
+            Command::Put { s: 5, i: 1, v: 5 },
+        ],
+        4,
+    ),
+    // Into nil, and into a reference that the object lacks.
+    (
+        &[
+            Command::Get { d: 6, s: 4, i: 0 },
+            Command::Put { s: 9, i: 0, v: 6 },
+            Command::Put { s: 6, i: 2, v: 5 },
+        ],
+        4,
+    ),
+    (&[], 4),
+];
+
+// Commands of the one mutator, each of which is done.
+fn call_all<P: Plan>(
+    rt: &impl Abort,
+    world: &mut PlainWorld<P>,
+    olds: &mut Vec<Old>,
+    commands: &[Command],
+)
+    requires { IsOpen P.rules world.old }
+    ensures { IsOpen P.rules world.new }
+{
+    for command in commands {
+        call_noted(rt, world, olds, command);
+    }
+}
+
+// A collected list of 200 objects, and stores into some of them, each followed by a stop. A full
+// collection leaves none logged.
+fn check_stores<P: Plan, R: Abort + Threads + Sync>(rt: &R, alloc: Global) -> Result<(), Fail>
+    requires { P.rules.collects ≡ true }
+{
+    let mut world = new_world::<P>(rt, alloc, 8, 1)?;
+    let mut olds = Vec::new(alloc);
+    for _ in 0..200 {
+        call_all(rt, &mut world, &mut olds, &ADD);
+    }
+    let collects = Between {
+        logs: 0,
+        collects: true,
+    };
+    let stays = Between {
+        logs: 0,
+        collects: false,
+    };
+    let (mut world, _) = noted_epoch::<P, R>(rt, alloc, world, &mut olds, collects)?;
+    for (commands, want) in STORES {
+        call_all(rt, &mut world, &mut olds, commands);
+        let (next, count) = noted_epoch::<P, R>(rt, alloc, world, &mut olds, stays)?;
+        assert_eq!(rt; count, want, "after {commands:?}");
+        world = next;
+    }
+    let (world, _) = noted_epoch::<P, R>(rt, alloc, world, &mut olds, collects)?;
+    let (_, count) = noted_epoch::<P, R>(rt, alloc, world, &mut olds, stays)?;
+    assert_eq!(rt; count, 0);
+    Ok(())
+}
+
+#[test]
+fn stores_into_old_objects_log_them(rt: HostRuntime) -> Result<(), Fail> {
+    check_stores::<GenCopy, HostRuntime>(&rt, rt.alloc())?;
+    check_stores::<StickyImmix, HostRuntime>(&rt, rt.alloc())
+}
+
+// A random command on registers 0 to 11. Objects have at most three references, and some sizes
+// that end at the edge of a word of bits or of a block.
+fn command_of(state: u64) -> Command {
+    let (d, s) = ((state >> 33) % 12, (state >> 41) % 12);
+    let (d, s) = (d as u32, s as u32);
+    let (i, g) = (((state >> 50) & 3) as u32, ((state >> 54) & 15) as u32);
+    let nums = [0u32, 0, 1, 2, 57, 58, 121, 2042][(state >> 46) as usize & 7];
+    match (state >> 58) & 31 {
+        0..5 => Command::New { d, refs: i, nums },
+        5 => Command::DropReg { s },
+        6 | 7 => Command::Load { d, g },
+        8 | 9 => Command::Share { g, s },
+        10 => Command::Pin { s },
+        11..18 => Command::Get { d, s, i },
+        _ => Command::Put { s: d, i, v: s },
+    }
+}
+
+// Random commands of the one mutator. Returns the state of the random sequence.
+fn call_at_random<P: Plan>(
+    rt: &impl Abort,
+    world: &mut PlainWorld<P>,
+    olds: &mut Vec<Old>,
+    state: u64,
+    count: u32,
+) -> u64
+    requires { IsOpen P.rules world.old }
+    ensures { IsOpen P.rules world.new }
+{
+    let mut x = state;
+    for _ in 0..count {
+        x = stir(x);
+        call_noted(rt, world, olds, &command_of(x));
+    }
+    x
+}
+
+// Epochs of random commands, in a heap of so many blocks.
+#[derive(Clone, Copy)]
+struct Setting {
+    blocks: u32,
+    epochs: u32,
+    commands: u32,
+}
+
+// Runs epochs, with a full collection after two of three. Returns how many objects were logged.
+fn run<P: Plan, R: Abort + Threads + Sync>(
+    rt: &R,
+    alloc: Global,
+    setting: Setting,
+    seed: u64,
+) -> Result<usize, Fail>
+    requires { P.rules.collects ≡ true }
+{
+    let mut world = new_world::<P>(rt, alloc, setting.blocks, 1)?;
+    let mut olds = Vec::new(alloc);
+    let (mut x, mut sum) = (seed, 0usize);
+    for epoch in 0..setting.epochs {
+        x = call_at_random(rt, &mut world, &mut olds, x, setting.commands);
+        let between = Between {
+            logs: (x >> 61) as usize,
+            collects: epoch % 3 != 1,
+        };
+        let (next, count) = noted_epoch::<P, R>(rt, alloc, world, &mut olds, between)?;
+        sum = sum.wrapping_add(count);
+        world = next;
+    }
+    Ok(sum)
+}
+
+// 2,000 small heaps, and 10,000 commands in a larger one. More than one object a heap is logged.
+#[test]
+fn random_stores(rt: HostRuntime) -> Result<(), Fail> {
+    let alloc = rt.alloc();
+    let large = Setting {
+        blocks: 32,
+        epochs: 20,
+        commands: 500,
+    };
+    let mut sum = run::<GenCopy, HostRuntime>(&rt, alloc, large, 3)?;
+    for seed in 0..1000 {
+        let small = Setting {
+            blocks: 4 + (seed % 5) as u32,
+            epochs: 3,
+            commands: 40,
+        };
+        sum = sum.wrapping_add(run::<GenCopy, HostRuntime>(&rt, alloc, small, seed)?);
+        sum = sum.wrapping_add(run::<StickyImmix, HostRuntime>(&rt, alloc, small, seed)?);
+    }
+    assert!(&rt; sum > 2_000, "{sum} logged objects");
+    Ok(())
+}
+
+// Numbers of objects without references that begin at both ends of words of bits, and at offset
+// 4,093, the last at which an object can begin; and these offsets.
+const EDGES: [(u32, u32); 7] = [
+    (60, 0),
+    (62, 63),
+    (60, 128),
+    (62, 191),
+    (2045, 256),
+    (1786, 2304),
+    (0, 4093),
+];
+
+// Objects that fill a block, at edges of words of bits, are all listed.
+#[test]
+fn objects_at_edges_are_listed(rt: HostRuntime) -> Result<(), Fail> {
+    let alloc = rt.alloc();
+    let mut world = new_world::<StickyImmix>(&rt, alloc, 4, 1)?;
+    let mut olds = Vec::new(alloc);
+    for (d, (nums, _)) in EDGES.iter().enumerate() {
+        let new = Command::New {
+            d: d as u32,
+            refs: 0,
+            nums: *nums,
+        };
+        call_noted(&rt, &mut world, &mut olds, &new);
+    }
+    for logs in [0, 1] {
+        let between = Between {
+            logs,
+            collects: logs == 0,
+        };
+        world = noted_epoch::<StickyImmix, HostRuntime>(&rt, alloc, world, &mut olds, between)?.0;
+    }
+    let found = olds
+        .iter()
+        .filter(|o| o.logged)
+        .map(|o| o.address.wrapping_sub(806));
+    assert!(&rt; found.eq(EDGES.iter().map(|e| e.1)));
+    Ok(())
+}

@@ -1,0 +1,2 @@
+mod LoggedLists
+pub mod LoggedWords
