@@ -1,3 +1,5 @@
+pub mod YoungBits
+pub mod FirstCollections
 pub mod CellSearch
 pub mod HoleTests
 pub mod PlanFlagLaws

@@ -1,4 +1,5 @@
 pub mod Flags
+pub mod Ages
 pub mod Cells
 pub mod Views
 pub mod Holes

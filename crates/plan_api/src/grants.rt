@@ -1,16 +1,20 @@
 //! How many Free blocks may be granted, by the counts of a heap's blocks.
 
-ghost use Rattle.std.specs.Prelude.{◌≡◌, ◌↔◌, ◌+◌, ◌<◌, IsTrue, nat_eq, if◌then◌else◌, ◌||◌};
-ghost use Rattle.heap_layout.specs.Blocks.{kind_code};
+ghost use Rattle.std.specs.Prelude.{◌≡◌, ◌↔◌, ◌+◌, ◌<◌, ℕ, IsTrue, nat_eq, if◌then◌else◌, ◌||◌};
+ghost use Rattle.heap_layout.specs.Zones.{IsRowOf};
+ghost use Rattle.heap_layout.specs.Blocks.{kind_code, is_block_code};
+ghost use Rattle.object_model.specs.Objects.{shown, block_word};
 ghost use Rattle.object_model.specs.Heaps.{heap_state};
 ghost use Rattle.sessions.specs.Grants.{total_in, used_in, headroom_in, reserve_in, reserve_per_block, allowance_in, IsGrantable, IsRunGrantable};
 ghost use Rattle.sessions.specs.Fitting.{counts_of};
 ghost use Rattle.plan_api.specs.Counting.{session_counts, session_reserve};
 
 use crate::counts::{BlockCounts, Reserve};
-use heap_layout::Kind;
+use crate::readers::block_word_in;
+use heap_layout::{Kind, Layout};
 use immix_space::headroom_for;
 use object_model::Heap;
+use side_meta::Words;
 
 impl BlockCounts {
     /// The number of blocks that belong to no large object.
@@ -84,11 +88,21 @@ fn per_block(reserve: Reserve) -> u32
 pub fn block_counts(heap: &Heap) -> BlockCounts
     ensures { session_counts result ≡ counts_of (heap_state heap.now) }
 {
-    let blocks = heap.layout().blocks();
+    block_counts_in(heap.words(), heap.layout())
+}
+
+/// The counts of a row's blocks.
+pub fn block_counts_in<W: Words>(words: &W, layout: &Layout) -> BlockCounts
+    requires extent { IsRowOf layout.now (W.words words.now) }
+    requires codes { (k : ℕ) → k < layout.now.blocks
+        → IsTrue (is_block_code (block_word (shown (W.words words.now) layout.now) k)) }
+    ensures { session_counts result ≡ counts_of (shown (W.words words.now) layout.now) }
+{
+    let blocks = layout.blocks();
     let mut free = 0;
     let mut large = 0;
     for block in 0..blocks {
-        let kind = heap.block(block).kind;
+        let kind = block_word_in(words, layout, block).kind;
         free += free_blocks(kind);
         large += large_blocks(kind);
     }

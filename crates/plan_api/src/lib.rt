@@ -1,6 +1,7 @@
 //! The interface of a plan, for a runtime that is generic over plans.
 #![tactic(auto)]
 
+mod ages;
 mod block_view;
 mod blocks_to_copy;
 mod cells;
@@ -19,6 +20,7 @@ mod release_laws;
 mod relist_laws;
 mod worked_laws;
 
+pub use ages::{first_kind, first_kind_in};
 pub use block_view::BlockView;
 pub use blocks_to_copy::{Fills, copied_blocks, may_leave, no_blocks};
 pub use cells::class_for;
@@ -28,7 +30,7 @@ pub use cursors::{Cursors, place_in};
 pub use evacuation_laws::{evacuated_blocks, kept_blocks};
 pub use fit::{fits, fits_small, has_hole, has_run};
 pub use flags::PlanFlags;
-pub use grants::block_counts;
+pub use grants::{block_counts, block_counts_in};
 pub use holes::first_hole;
 pub use laws::{
     first_parts, hole_parts, plans_have_flags, plans_hold_reserves, reserves_are_kept,

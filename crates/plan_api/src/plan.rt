@@ -14,7 +14,7 @@ ghost use Rattle.object_model.specs.Heaps.{heap_state};
 ghost use Rattle.sessions.specs.Plans.{Rules, Plan as PlanName, rules_of, plan_word, has_holes};
 ghost use Rattle.sessions.specs.Grants.{BlockCounts as Counts, HoldsReserve, allowance_in, after_taking};
 ghost use Rattle.sessions.specs.Fitting.{Fits, allowance_of, class_for as class_for_size};
-ghost use Rattle.sessions.specs.Collecting.{first_collection, is_evacuated};
+ghost use Rattle.sessions.specs.Collecting.{first_collection, is_evacuated, is_old_under, Remembers};
 ghost use Rattle.plan_api.specs.declared.flags.PlanFlags.{PlanFlags};
 ghost use Rattle.plan_api.specs.Flags.{flags_of};
 ghost use Rattle.plan_api.specs.Counting.{session_reserve};
@@ -25,6 +25,7 @@ ghost use Rattle.plan_api.specs.Evacuation.{listed};
 ghost use Rattle.plan_api.specs.Releasing.{Releases};
 ghost use Rattle.plan_api.specs.Relisting.{Relists};
 
+use crate::ages::is_old;
 use crate::block_view::BlockView;
 use crate::blocks_to_copy::may_leave;
 use crate::cells::class_for;
@@ -111,8 +112,17 @@ pub trait Plan {
         fits(heap, Self::alloc_kind(), Self::reserve(), size)
     }
 
+    /// Whether the object is old. Under a plan without young objects none is.
+    fn old(heap: &Heap, address: u32) -> bool
+        requires { IsHeld (heap_state heap.now) address }
+        ensures { result ≡ is_old_under rules (heap_state heap.now) address }
+    {
+        Self::FLAGS.contains(PlanFlags::YOUNG) && is_old(heap, address)
+    }
+
     /// The first collection to run when an object does not fit.
     fn kind(heap: &Heap) -> Collect
+        requires { Remembers rules (heap_state heap.now) }
         ensures { result ≡ first_collection rules (heap_state heap.now) };
 
     /// The number of Free blocks that mutators may take in an epoch.

@@ -1,9 +1,12 @@
 //! What each plan says of itself, of empty heaps, and of blocks that it fills.
 
+ghost use Rattle.object_model.specs.Heaps.{heap_state};
+ghost use Rattle.sessions.specs.Collecting.{Remembers};
+
 use heap_layout::{BlockWord, Kind, Layout, Region};
 use object_model::{Collect, Heap};
 use plan_api::{BlockView, Plan, PlanFlags, Reserve, plans_hold_reserves};
-use plans::{Immix, MarkSweep, NoGc, SemiSpace};
+use plans::{GenCopy, Immix, MarkSweep, NoGc, SemiSpace, StickyImmix};
 use std::alloc::{AllocError, Global};
 use std::process::Abort;
 use std::test::Fail;
@@ -36,6 +39,15 @@ const TAILS: [Hole; 4] = [
     (TAIL, 0, 2048, Some((2000, 4096))),
     (TAIL, 2048, 2048, Some((2048, 4096))),
     (TAIL, 2049, 2048, None),
+];
+
+const YOUNG: Block = (Kind::Young, 0, [0; 4], 1997);
+
+const YOUNG_TAILS: [Hole; 4] = [
+    (YOUNG, 0, 3, Some((2000, 4096))),
+    (YOUNG, 2048, 2048, Some((2048, 4096))),
+    (YOUNG, 2049, 2048, None),
+    (TAIL, 0, 3, None),
 ];
 
 // Blocks of cells of 4, 96 and 2,048 words, of which the first two are taken.
@@ -106,7 +118,9 @@ fn profile_of<P: Plan>() -> Profile {
 
 /// The allowance of a heap, whether objects of 3, 2,048 and 2,049 words fit, and whether one of
 /// 61,027 words does, which needs 15 blocks. A collection is a full one.
-fn asks<P: Plan>(heap: &Heap) -> (u32, [bool; 3], bool, Collect) {
+fn asks<P: Plan>(heap: &Heap) -> (u32, [bool; 3], bool, Collect)
+    requires { Remembers P.rules (heap_state heap.now) }
+{
     plans_hold_reserves::<P>();
     (
         P::allowance(heap),
@@ -172,8 +186,8 @@ fn check_plan<P: Plan>(
     Ok(())
 }
 
-// No block of an empty heap is held back under NoGC and MarkSweep. SemiSpace lets mutators take
-// half of the blocks, and Immix all but the headroom.
+// No block of an empty heap is held back under NoGC and MarkSweep. SemiSpace and GenCopy let
+// mutators take half of the blocks, Immix and StickyImmix all but the headroom.
 #[test]
 fn plans_say_their_rules(rt: HostRuntime) -> Result<(), Fail> {
     let alloc = rt.alloc();
@@ -201,6 +215,14 @@ fn plans_say_their_rules(rt: HostRuntime) -> Result<(), Fail> {
         reserve: Reserve::Copies,
         classes: [0; 6],
     };
+    let gencopy = Profile {
+        name: "gencopy",
+        flags: PlanFlags(3),
+        collects: true,
+        kinds: (Kind::Young, Kind::Mature),
+        reserve: Reserve::Copies,
+        classes: [0; 6],
+    };
     let immix = Profile {
         name: "immix",
         flags: PlanFlags(5),
@@ -208,6 +230,11 @@ fn plans_say_their_rules(rt: HostRuntime) -> Result<(), Fail> {
         kinds: (Kind::Immix, Kind::Immix),
         reserve: Reserve::Headroom,
         classes: [0; 6],
+    };
+    let stickyimmix = Profile {
+        name: "stickyimmix",
+        flags: PlanFlags(7),
+        ..immix
     };
     let whole = [
         (4, 4, false),
@@ -225,5 +252,7 @@ fn plans_say_their_rules(rt: HostRuntime) -> Result<(), Fail> {
     check_plan::<NoGc>(&rt, alloc, &nogc, &whole, &TAILS)?;
     check_plan::<MarkSweep>(&rt, alloc, &marksweep, &whole, &CELLS)?;
     check_plan::<SemiSpace>(&rt, alloc, &semispace, &half, &TAILS)?;
-    check_plan::<Immix>(&rt, alloc, &immix, &rest, &LINES)
+    check_plan::<GenCopy>(&rt, alloc, &gencopy, &half, &YOUNG_TAILS)?;
+    check_plan::<Immix>(&rt, alloc, &immix, &rest, &LINES)?;
+    check_plan::<StickyImmix>(&rt, alloc, &stickyimmix, &rest, &LINES)
 }

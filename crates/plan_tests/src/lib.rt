@@ -13,6 +13,8 @@ mod cursors;
 #[cfg(test)]
 mod every_plan;
 #[cfg(test)]
+mod first_collections;
+#[cfg(test)]
 mod immix_plan;
 #[cfg(test)]
 mod immix_sweeps;

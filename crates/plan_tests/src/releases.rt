@@ -9,7 +9,7 @@ ghost use Rattle.heap_layout.specs.declared.layout.TheConstants.{BLOCK_WORDS};
 use heap_layout::{Kind, Layout};
 use object_model::{Collect, Shape};
 use plan_api::Plan;
-use plans::{Immix, MarkSweep, NoGc, SemiSpace};
+use plans::{GenCopy, Immix, MarkSweep, NoGc, SemiSpace, StickyImmix};
 use releasable_rows::{Object, empty_row, is_releasable, set_block, write_object};
 use std::alloc::{AllocError, Global};
 use std::process::Abort;
@@ -117,14 +117,14 @@ fn check_release<P: Plan>(
 }
 
 /// What becomes of block 1 of a kind and class in which two objects live: its word, and its first
-/// and last line word. The word is another one under a plan that makes evacuated blocks Kept.
-const LIVING: [((Kind, u32), (u64, u64), (u64, u64)); 6] = [
-    ((Kind::Bump, 0), (1, 8), STALE),
-    ((Kind::Young, 0), (2, 2), STALE),
-    ((Kind::Mature, 0), (3, 3), STALE),
-    ((Kind::Immix, 0), (4, 4), TOUCHED),
-    ((Kind::Cells, 8), (2053, 2053), STALE),
-    ((Kind::Kept, 0), (8, 8), STALE),
+/// and last line word. The word is 8 if the plan makes blocks of the kind Kept.
+const LIVING: [((Kind, u32), u64, (u64, u64)); 6] = [
+    ((Kind::Bump, 0), 1, STALE),
+    ((Kind::Young, 0), 2, STALE),
+    ((Kind::Mature, 0), 3, STALE),
+    ((Kind::Immix, 0), 4, TOUCHED),
+    ((Kind::Cells, 8), 2053, STALE),
+    ((Kind::Kept, 0), 8, STALE),
 ];
 
 // The line words of `small_row`, and those of lines 4, 5 and 12 to 15.
@@ -168,12 +168,12 @@ fn check_kinds<P: Plan>(
     rt: &impl Abort,
     alloc: Global,
     layout: &Layout,
-    keeps: bool,
+    keeps: &[Kind],
 ) -> Result<(), AllocError>
     requires { layout.now.blocks ≡ 4 }
 {
-    for ((kind, class), (plain, kept), lines) in LIVING {
-        let word = if keeps { kept } else { plain };
+    for ((kind, class), plain, lines) in LIVING {
+        let word = if keeps.contains(&kind) { 8 } else { plain };
         let own = [(19, word), (26, lines.0), (29, lines.1)];
         let living = small_row(alloc, layout, kind, class, 1)?;
         check_release::<P>(rt, alloc, layout, living, 1, &own, TWO_LIVE)?;
@@ -248,8 +248,8 @@ fn check_runs<P: Plan>(rt: &impl Abort, alloc: Global, layout: &Layout) -> Resul
     Ok(())
 }
 
-/// All releases under a plan, which may make evacuated blocks Kept.
-fn check_plan<P: Plan>(rt: &impl Abort, alloc: Global, keeps: bool) -> Result<(), Fail> {
+/// All releases under a plan, which makes evacuated blocks of these kinds Kept.
+fn check_plan<P: Plan>(rt: &impl Abort, alloc: Global, keeps: &[Kind]) -> Result<(), Fail> {
     let layout = Layout::new(4)?;
     check_kinds::<P>(rt, alloc, &layout, keeps)?;
     check_copies::<P>(rt, alloc, &layout)?;
@@ -259,8 +259,11 @@ fn check_plan<P: Plan>(rt: &impl Abort, alloc: Global, keeps: bool) -> Result<()
 
 #[test]
 fn releases(rt: HostRuntime) -> Result<(), Fail> {
-    check_plan::<NoGc>(&rt, rt.alloc(), false)?;
-    check_plan::<MarkSweep>(&rt, rt.alloc(), false)?;
-    check_plan::<SemiSpace>(&rt, rt.alloc(), true)?;
-    check_plan::<Immix>(&rt, rt.alloc(), false)
+    let mature = [Kind::Young, Kind::Mature, Kind::Kept];
+    check_plan::<NoGc>(&rt, rt.alloc(), &[])?;
+    check_plan::<MarkSweep>(&rt, rt.alloc(), &[])?;
+    check_plan::<SemiSpace>(&rt, rt.alloc(), &[Kind::Bump, Kind::Kept])?;
+    check_plan::<GenCopy>(&rt, rt.alloc(), &mature)?;
+    check_plan::<Immix>(&rt, rt.alloc(), &[])?;
+    check_plan::<StickyImmix>(&rt, rt.alloc(), &[])
 }

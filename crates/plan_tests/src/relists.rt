@@ -6,7 +6,7 @@ ghost use Rattle.heap_layout.specs.Zones.{IsRowOf};
 use crate::releases::{check_words, small_row};
 use heap_layout::{Kind, Layout};
 use plan_api::Plan;
-use plans::{Immix, MarkSweep, NoGc, SemiSpace};
+use plans::{GenCopy, Immix, MarkSweep, NoGc, SemiSpace, StickyImmix};
 use releasable_rows::is_releasable;
 use std::alloc::{AllocError, Global};
 use std::process::Abort;
@@ -68,5 +68,7 @@ fn relists(rt: HostRuntime) -> Result<(), Fail> {
     check_kinds::<NoGc>(&rt, rt.alloc(), false)?;
     check_kinds::<MarkSweep>(&rt, rt.alloc(), false)?;
     check_kinds::<SemiSpace>(&rt, rt.alloc(), false)?;
-    check_kinds::<Immix>(&rt, rt.alloc(), true)
+    check_kinds::<GenCopy>(&rt, rt.alloc(), false)?;
+    check_kinds::<Immix>(&rt, rt.alloc(), true)?;
+    check_kinds::<StickyImmix>(&rt, rt.alloc(), true)
 }

@@ -32,7 +32,7 @@ fn row_with(
 }
 
 /// Sets a word of the row, if there is such a word.
-fn put(words: &mut Vec<u64>, index: u32, value: u64) {
+pub(crate) fn put(words: &mut Vec<u64>, index: u32, value: u64) {
     if let Some(word) = words.get_mut(index as usize) {
         *word = value;
     }

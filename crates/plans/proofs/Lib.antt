@@ -1,1 +1,2 @@
+mod Candidates
 mod ReleasedSmall

@@ -6,11 +6,11 @@ ghost use Rattle.plan_api.proofs.PartLaws.{part-clear};
 ghost use Rattle.plan_api.proofs.ReserveLaws.{headroom-kept};
 ghost use Rattle.std.proofs.Common.{refl};
 
-use crate::release::{mark_lines, release_in_place};
+use crate::release::{release_in_place, relist_lines};
 use heap_layout::{Kind, Layout};
 use immix_space::candidates;
 use object_model::{Collect, Heap};
-use plan_api::{Plan, PlanFlags, Reserve, block_word_in};
+use plan_api::{Plan, PlanFlags, Reserve};
 use side_meta::Words;
 use std::alloc::{AllocError, Global};
 
@@ -86,7 +86,6 @@ impl Plan for Immix {
     }
 
     fn relist_block<W: Words>(words: &mut W, layout: &Layout, block: u32) {
-        let kind = block_word_in(words, layout, block).kind;
-        mark_lines(words, layout, block, kind);
+        relist_lines(words, layout, block);
     }
 }

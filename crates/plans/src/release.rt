@@ -11,6 +11,7 @@ ghost use Rattle.object_model.specs.Releasing.{IsReleasable};
 ghost use Rattle.sessions.specs.Plans.{Rules, Copies};
 ghost use Rattle.plan_api.specs.Evacuation.{HasFills};
 ghost use Rattle.plan_api.specs.Releasing.{Releases, is_kept_after};
+ghost use Rattle.plan_api.specs.Relisting.{Relists};
 ghost use Rattle.block_sweeps.specs.Sweeping.{AreApart, Sweeps, MarksTouched, object_count};
 
 use block_sweeps::{sweep_block, unlog_block};
@@ -24,7 +25,7 @@ use side_meta::Words;
 
 /// Whether a block with this word is Kept if something stays in it, under a plan that copies whole
 /// blocks. A block with an owner has copies, and is none.
-pub(crate) fn is_kept(fills: &Fills, collect: Collect, word: &BlockWord) -> bool
+fn is_kept(fills: &Fills, collect: Collect, word: &BlockWord) -> bool
     ensures { (r : Rules) (s : HeapState) (k : ℕ) → HasFills r fills.now
         → r.reserve ≡ Copies → k < s.blocks → IsValidWord word.now
         → code_of word.now ≡ block_word s k
@@ -61,9 +62,31 @@ pub(crate) fn release_in_place<W: Words>(words: &mut W, layout: &Layout, block: 
     release(words, layout, block, &word, false, base);
 }
 
+/// Releases a block under a plan that copies whole blocks: what it evacuates is Kept if something
+/// stays in it.
+pub(crate) fn release_copied<W: Words>(
+    words: &mut W,
+    layout: &Layout,
+    block: u32,
+    fills: &Fills,
+    collect: Collect,
+    base: u64,
+)
+    requires extent { IsRowOf layout.now (W.words words.old) }
+    requires block { block < layout.now.blocks }
+    requires releasable { IsReleasable (shown (W.words words.old) layout.now) block }
+    ensures { (r : Rules) → HasFills r fills.now → r.reserve ≡ Copies
+        → Releases r collect base (shown (W.words words.old) layout.now)
+        (shown (W.words words.new) layout.now) block }
+{
+    let word = block_word_in(words, layout, block);
+    let kept = is_kept(fills, collect, &word);
+    release(words, layout, block, &word, kept, base);
+}
+
 /// Releases a block whose word is `word`: what does not live is held no more, what lives has its
 /// unlog bit. A block in which nothing lives becomes Free, another one Kept if `kept`.
-pub(crate) fn release<W: Words>(
+fn release<W: Words>(
     words: &mut W,
     layout: &Layout,
     block: u32,
@@ -126,7 +149,7 @@ fn release_small<W: Words>(
 
 /// Makes the line bits of a block of the kind `kind` those of the lines that objects in it touch,
 /// if it is an Immix block.
-pub(crate) fn mark_lines<W: Words>(words: &mut W, layout: &Layout, block: u32, kind: Kind)
+fn mark_lines<W: Words>(words: &mut W, layout: &Layout, block: u32, kind: Kind)
     requires extent { IsRowOf layout.now (W.words words.old) }
     requires block { kind ≡ kinds.Immix
         → IsReadableBlock (shown (W.words words.old) layout.now) block }
@@ -142,6 +165,17 @@ pub(crate) fn mark_lines<W: Words>(words: &mut W, layout: &Layout, block: u32, k
     if kind == Kind::Immix {
         relist(words, layout, block);
     }
+}
+
+/// Relists a block under a plan that fills lines.
+pub(crate) fn relist_lines<W: Words>(words: &mut W, layout: &Layout, block: u32)
+    requires block { IsReadableBlock (shown (W.words words.old) layout.now) block }
+    requires apart { AreApart (shown (W.words words.old) layout.now) block }
+    ensures { (r : Rules) → r.lines ≡ true → Relists r (shown (W.words words.old) layout.now)
+        (shown (W.words words.new) layout.now) block }
+{
+    let kind = block_word_in(words, layout, block).kind;
+    mark_lines(words, layout, block, kind);
 }
 
 /// Sweeps a block of small and medium objects. One in which something lives becomes Kept if `kept`,

@@ -6,10 +6,10 @@ ghost use Rattle.plan_api.proofs.PartLaws.{part-clear};
 ghost use Rattle.plan_api.proofs.ReserveLaws.{copies-kept};
 ghost use Rattle.std.proofs.Common.{refl};
 
-use crate::release::{is_kept, release};
+use crate::release::release_copied;
 use heap_layout::{Kind, Layout};
 use object_model::{Collect, Heap};
-use plan_api::{Fills, Plan, PlanFlags, Reserve, block_word_in, copied_blocks};
+use plan_api::{Fills, Plan, PlanFlags, Reserve, copied_blocks};
 use side_meta::Words;
 use std::alloc::{AllocError, Global};
 
@@ -84,9 +84,7 @@ impl Plan for SemiSpace {
         collect: Collect,
         base: u64,
     ) {
-        let word = block_word_in(words, layout, block);
-        let kept = is_kept(&FILLS, collect, &word);
-        release(words, layout, block, &word, kept, base);
+        release_copied(words, layout, block, &FILLS, collect, base);
     }
 
     fn relist_block<W: Words>(_words: &mut W, _layout: &Layout, _block: u32) {}

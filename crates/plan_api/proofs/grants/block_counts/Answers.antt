@@ -1,26 +1,20 @@
-use Rattle.std.proofs.Common.{◌≡◌, ◌<◌, ◌+◌, ◌||◌, ℕ, Bool, arith, nat_eq}
-use Rattle.heap_layout.specs.declared.block.Kind.TheVariants as kinds
-use Rattle.heap_layout.specs.Blocks.{kind_code}
-use Rattle.object_model.specs.Objects.{HeapState, has_kind}
+use Rattle.std.proofs.Common.{ℕ, ◌<◌, sym, subst, ap, ◌∙◌, IsTrue}
+use Rattle.object_model.specs.Objects.{HeapState, block_word}
 use Rattle.object_model.specs.Heaps.{heap_state}
-use Rattle.sessions.proofs.PlacedSmallObjects.{one_if}
-use Rattle.plan_api.proofs.Tallies.{count_below, count-next, free-one, large-one, one-most}
+use Rattle.heap_layout.specs.Blocks.{is_block_code}
+use Rattle.sessions.specs.Fitting.{counts_of}
+use Rattle.plan_api.proofs.BlockViews.{state-same, lawful-block}
 use Rattle.plan_api.proofs.grants.block_counts.Goals as goal
 
-pub loop-block-preserved : goal.loop-block-preserved
-loop-block-preserved c =
+pub block_counts_in-requires-clause-codes : goal.block_counts_in-requires-clause-codes
+block_counts_in-requires-clause-codes c = λ k there.
     let s : HeapState = heap_state c.args.heap.now in
-    let b : ℕ = c.loop-block.block in
-    let there : b < s.blocks = omega arith in
-    let kind = c.block-kind.result.kind in
-    let is_free : ℕ → Bool = λ k. has_kind s k kinds.Free in
-    let is_large : ℕ → Bool = λ k. has_kind s k kinds.LargeHead || has_kind s k kinds.LargeTail in
-    let free : one_if (is_free b) ≡ one_if (nat_eq (kind_code kind) 0) = free-one s b c.block-kind.result there c.block-kind.ensures.valid c.block-kind.ensures.code in
-    let large : one_if (is_large b) ≡ one_if (nat_eq (kind_code kind) 6 || nat_eq (kind_code kind) 7) = large-one s b c.block-kind.result there c.block-kind.ensures.valid c.block-kind.ensures.code in
-    let more_free : count_below is_free (b + 1) ≡ count_below is_free b + one_if (is_free b) = count-next is_free b in
-    let more_large : count_below is_large (b + 1) ≡ count_below is_large b + one_if (is_large b) = count-next is_large b in
-    let few = one-most (nat_eq (kind_code kind) 0) in
-    let few' = one-most (nat_eq (kind_code kind) 6 || nat_eq (kind_code kind) 7) in
-    let added : c.free_blocks-free.result ≡ one_if (nat_eq (kind_code kind) 0) = c.free_blocks-free.ensures in
-    let added' : c.large_blocks-large.result ≡ one_if (nat_eq (kind_code kind) 6 || nat_eq (kind_code kind) 7) = c.large_blocks-large.ensures in
-    record { few_free = omega arith; few_large = omega arith; free = omega arith; large = omega arith }
+    let words = c.words.result.now.items in
+    let l = c.layout.result.now in
+    subst (λ (x : HeapState). IsTrue (is_block_code (block_word x k))) (state-same s words l c.words.ensures c.layout.ensures)
+    (lawful-block s k c.args.heap.now.lawful (subst (λ (n : ℕ). k < n) c.layout.ensures there)).code
+
+pub returns : goal.returns
+returns c =
+    let s : HeapState = heap_state c.args.heap.now in
+    c.block_counts_in.ensures ∙ ap counts_of (sym (state-same s c.words.result.now.items c.layout.result.now c.words.ensures c.layout.ensures))
