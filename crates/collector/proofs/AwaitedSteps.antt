@@ -11,7 +11,7 @@ use Rattle.work_packets.specs.declared.packet.Packet.{Packet}
 use Rattle.work_packets.specs.declared.packet.Bucket.TheVariants as buckets
 use Rattle.work_packets.specs.Packets.{HasItems}
 use Rattle.work_packets.specs.Awaiting.{AwaitsAll}
-use Rattle.heap_layout.specs.Zones.{row_words}
+use Rattle.heap_layout.specs.Zones.{row_words, IsAddress}
 use Rattle.object_model.specs.Objects.{HeapState, state_of, IsHeld}
 use Rattle.object_model.specs.Heaps.{heap_state}
 use Rattle.object_model.specs.Lawful.{IsLawfulButLines}
@@ -19,7 +19,8 @@ use Rattle.trace_core.specs.Setups.{Setup, blocks, held, refs}
 use Rattle.trace_core.specs.Machine.{Event}
 use Rattle.trace_core.specs.Traces.{stage_of}
 use Rattle.trace_core.specs.Outcomes.{image}
-use Rattle.trace_core.specs.Views.{View, one_if, hits, times}
+use Rattle.trace_core.specs.Views.{View, hits}
+use Rattle.object_model.specs.Times.{one_if, times}
 use Rattle.plain_tracer.specs.TokenRights.{IsGrey, copied_in, to_scan_in}
 use Rattle.plain_tracer.specs.Tracers.{Tracks}
 use Rattle.trace_core.specs.Runs.{setup_of}
@@ -38,6 +39,8 @@ use Rattle.collector.proofs.ItemCounts.{all-left, all-right, all-both, registers
 use Rattle.collector.proofs.ItsLines.{lines-grow}
 use Rattle.collector.proofs.TallySums.{total-copied}
 use Rattle.plain_tracer.proofs.TracedObjects.{token-below}
+use Rattle.trace_core.proofs.Begun.{by-begun}
+use Rattle.plain_tracer.proofs.ListedObjects.{listed-held}
 use Rattle.collector.proofs.NextTally.{next-tally}
 use Rattle.collector.proofs.LeftFalls.{left-is}
 
@@ -90,19 +93,25 @@ module _ (s : HeapState) (run : TraceRun) (roots : List ℕ) (w : PacketTracer) 
   same-awaited aw = record {
     events = aw.events;
     view = aw.view;
-    tracks = aw.tracks;
-    runs = aw.runs;
-    rights = same-rights (setup_of s run 1) aw.view aw.rights;
-    none = aw.none;
-    sparse = aw.sparse;
-    scanned = λ x some. subst (λ n. (0 < n) ⊎ (0 < hits x (refs (setup_of s run 1) x) aw.view.grey)) (sym (same.of_objects x)) (aw.scanned x some);
-    lines = λ on x some. subst (λ n. (0 < n) ⊎ HasItsLines (setup_of s run 1) aw.events x) (sym (same.of_objects x)) (aw.lines on x some);
+    tracer = record {
+      tracks = aw.tracer.tracks;
+      runs = aw.tracer.runs;
+      rights = same-rights (setup_of s run 1) aw.view aw.tracer.rights;
+      none = aw.tracer.none;
+      sparse = aw.tracer.sparse;
+    };
+    of_objects = record {
+      scanned = λ x some. subst (λ n. (0 < n) ⊎ (0 < hits x (refs (setup_of s run 1) x) aw.view.grey)) (sym (same.of_objects x)) (aw.of_objects.scanned x some);
+      lines = λ on x some. subst (λ n. (0 < n) ⊎ HasItsLines (setup_of s run 1) aw.events x) (sym (same.of_objects x)) (aw.of_objects.lines on x some);
+    };
     settled = λ g few. subst (λ n. (0 < n) ⊎ (0 < times g aw.view.set)) (sym (same.of_globals g)) (aw.settled g few);
-    as_many = aw.as_many;
-    waiting = λ i some. aw.waiting i (subst (λ n. 0 < n) (same.of_roots i) some);
-    served = λ i few none. aw.served i few (sym (same.of_roots i) ∙ none);
-    asked = λ i none some. aw.asked i (sym (same.of_roots i) ∙ none) some;
-    by_roots = aw.by_roots;
+    of_roots = record {
+      as_many = aw.of_roots.as_many;
+      waiting = λ i some. aw.of_roots.waiting i (subst (λ n. 0 < n) (same.of_roots i) some);
+      served = λ i few none. aw.of_roots.served i few (sym (same.of_roots i) ∙ none);
+      asked = λ i none some. aw.of_roots.asked i (sym (same.of_roots i) ∙ none) some;
+      by_roots = aw.of_roots.by_roots;
+    };
     tally = aw.tally;
   }
 
@@ -113,15 +122,15 @@ module _ (s : HeapState) (run : TraceRun) (roots : List ℕ) (w v : PacketTracer
   p = setup_of s run 1
 
   first-rights : HasRights p aw.view w.roots.items items
-  first-rights = rights-of-first p aw.view w.roots.items items rest aw.rights
+  first-rights = rights-of-first p aw.view w.roots.items items rest aw.tracer.rights
 
   sv : ServesItems p aw.events aw.view w.tracer w.roots.items items v.tracer v.roots.items step.won
-  sv = step.serves p aw.events aw.view aw.tracks first-rights
+  sv = step.serves p aw.events aw.view aw.tracer.tracks first-rights
 
   -- what came of it, and what was left before, waits to be scanned
   waits : (x : ℕ) → objects x pushed + objects x rest ≤ hits x 0 sv.view.grey
   waits x =
-      let had : objects x (items ++ rest) ≤ hits x 0 aw.view.grey = aw.rights.objects_once x in
+      let had : objects x (items ++ rest) ≤ hits x 0 aw.view.grey = aw.tracer.rights.objects_once x in
       let both : objects x (items ++ rest) ≡ objects x items + objects x rest = objects-append x items rest in
       let now : hits x 0 sv.view.grey + objects x items ≡ hits x 0 (to_scan_in step.won) + hits x 0 aw.view.grey + (if nat_eq 0 (refs p x) then objects x items else 0) = sv.grey x 0 in
       let more : hits x 0 (to_scan_in step.won) ≡ objects x pushed = scans-of x step.won ∙ sym (objects-pushed step.won pushed step.tokens x) in
@@ -136,7 +145,7 @@ module _ (s : HeapState) (run : TraceRun) (roots : List ℕ) (w v : PacketTracer
   }
 
   unserved : (i : ℕ) → 0 < registers i rest → registers i items ≡ 0
-  unserved i some = let both = registers-append i items rest in let once : registers i (items ++ rest) ≤ 1 = aw.rights.roots_once i in omega arith
+  unserved i some = let both = registers-append i items rest in let once : registers i (items ++ rest) ≤ 1 = aw.tracer.rights.roots_once i in omega arith
 
   -- no root is pushed
   left-over : (i : ℕ) → registers i (pushed ++ rest) ≡ registers i rest
@@ -150,15 +159,15 @@ module _ (s : HeapState) (run : TraceRun) (roots : List ℕ) (w v : PacketTracer
         (all-both (IsGrey p aw.view) (λ grey. 0 < objects grey.object rest) (IsGrey p sv.view) token-stays (tokens_of rest) rest-tokens (tokens-there rest)));
     objects_once = λ x. (let both = objects-append x pushed rest in let all = waits x in omega arith);
     globals_once = λ g. (let both = globals-append g pushed rest in let none : globals g pushed ≡ 0 = no-globals pushed step.objects g in
-        let had : globals g (items ++ rest) ≤ times g aw.view.unset = aw.rights.globals_once g in let parts = globals-append g items rest in
+        let had : globals g (items ++ rest) ≤ times g aw.view.unset = aw.tracer.rights.globals_once g in let parts = globals-append g items rest in
         let now : times g sv.view.unset + globals g items ≡ times g aw.view.unset = sv.unset g in omega arith);
-    roots_once = λ i. (let same = left-over i in let both = registers-append i items rest in let once : registers i (items ++ rest) ≤ 1 = aw.rights.roots_once i in omega arith);
-    places = λ i some. subst (λ n. i < n) (sym sv.as_many) (aw.rights.places i (in-rest i some));
-    refer = λ i some. subst (λ r. (r ≡ 0) ⊎ IsHeld p.before r) (sym (sv.others i (unserved i (subst (λ n. 0 < n) (left-over i) some)))) (aw.rights.refer i (in-rest i some));
+    roots_once = λ i. (let same = left-over i in let both = registers-append i items rest in let once : registers i (items ++ rest) ≤ 1 = aw.tracer.rights.roots_once i in omega arith);
+    places = λ i some. subst (λ n. i < n) (sym sv.as_many) (aw.tracer.rights.places i (in-rest i some));
+    refer = λ i some. subst (λ r. (r ≡ 0) ⊎ IsHeld p.before r) (sym (sv.others i (unserved i (subst (λ n. 0 < n) (left-over i) some)))) (aw.tracer.rights.refer i (in-rest i some));
   }
     where
       rest-tokens : All (IsGrey p aw.view) (tokens_of rest)
-      rest-tokens = all-right (IsGrey p aw.view) (tokens_of items) (tokens_of rest) (subst (All (IsGrey p aw.view)) (tokens-append items rest) aw.rights.tokens)
+      rest-tokens = all-right (IsGrey p aw.view) (tokens_of items) (tokens_of rest) (subst (All (IsGrey p aw.view)) (tokens-append items rest) aw.tracer.rights.tokens)
 
       in-rest : (i : ℕ) → 0 < registers i (pushed ++ rest) → 0 < registers i (items ++ rest)
       in-rest i some = let same = left-over i in let both = registers-append i items rest in omega arith
@@ -198,7 +207,7 @@ module _ (s : HeapState) (run : TraceRun) (roots : List ℕ) (w v : PacketTracer
       let new : times x (copied_in step.won) ≡ objects x pushed = copies-of x step.won ∙ sym (objects-pushed step.won pushed step.tokens x) in
       elim (cases_lt 0 (objects x pushed)) as (λ _. Scans x) [
         | inl more ↦ inl (let both = objects-append x pushed rest in omega arith)
-        | inr none ↦ scanned-parts x (aw.scanned x (omega arith))
+        | inr none ↦ scanned-parts x (aw.of_objects.scanned x (omega arith))
       ]
 
   -- the lines of what was scanned are marked
@@ -209,7 +218,7 @@ module _ (s : HeapState) (run : TraceRun) (roots : List ℕ) (w v : PacketTracer
   lines-parts on x had = elim had as (λ _. Marks x) [
     | inl waiting ↦ elim (cases_lt 0 (objects x rest)) as (λ _. Marks x) [
       | inl more ↦ inl (let both = objects-append x pushed rest in omega arith)
-      | inr none ↦ inr (sv.lines (subst (λ (r : TraceRun). IsTrue r.lines) (sym aw.runs) on) x (let both = objects-append x items rest in omega arith))
+      | inr none ↦ inr (sv.lines (subst (λ (r : TraceRun). IsTrue r.lines) (sym aw.tracer.runs) on) x (let both = objects-append x items rest in omega arith))
     ]
     | inr done ↦ inr (lines-grow p aw.events sv.events sv.tracks.trace x done)
   ]
@@ -220,7 +229,7 @@ module _ (s : HeapState) (run : TraceRun) (roots : List ℕ) (w v : PacketTracer
       let new : times x (copied_in step.won) ≡ objects x pushed = copies-of x step.won ∙ sym (objects-pushed step.won pushed step.tokens x) in
       elim (cases_lt 0 (objects x pushed)) as (λ _. Marks x) [
         | inl more ↦ inl (let both = objects-append x pushed rest in omega arith)
-        | inr none ↦ lines-parts on x (aw.lines on x (omega arith))
+        | inr none ↦ lines-parts on x (aw.of_objects.lines on x (omega arith))
       ]
 
   abbrev Settles : ℕ → Type 0
@@ -239,7 +248,7 @@ module _ (s : HeapState) (run : TraceRun) (roots : List ℕ) (w v : PacketTracer
 
   -- roots
   was-waiting : (i : ℕ) → 0 < registers i items → slice_index w.roots.items i ≡ slice_index roots i
-  was-waiting i some = aw.waiting i (let both = registers-append i items rest in omega arith)
+  was-waiting i some = aw.of_roots.waiting i (let both = registers-append i items rest in omega arith)
 
   still-none : (i : ℕ) → registers i (pushed ++ rest) ≡ 0 → registers i items ≡ 0 → registers i (items ++ rest) ≡ 0
   still-none i none here = let same = left-over i in let both = registers-append i items rest in omega arith
@@ -250,43 +259,54 @@ module _ (s : HeapState) (run : TraceRun) (roots : List ℕ) (w v : PacketTracer
     | inr without ↦ (let here : registers i items ≡ 0 = omega arith in
         subst (λ t. IsTargetOf sv.view (slice_index roots i) t) (sym (sv.others i here))
         (target-stays aw.view sv.view (slice_index roots i) (slice_index w.roots.items i) (sv.known (slice_index roots i) (slice_index w.roots.items i))
-        (aw.served i few (still-none i none here))))
+        (aw.of_roots.served i few (still-none i none here))))
   ]
 
   asked-now : (i : ℕ) → registers i (pushed ++ rest) ≡ 0 → 0 < slice_index roots i → 0 < times (slice_index roots i) sv.view.asked
   asked-now i none some = elim (cases_lt 0 (registers i items)) as (λ _. 0 < times (slice_index roots i) sv.view.asked) [
     | inl more ↦ subst (λ r. 0 < times r sv.view.asked) (was-waiting i more) (sv.asks i more (subst (λ r. 0 < r) (sym (was-waiting i more)) some))
-    | inr without ↦ (let here : registers i items ≡ 0 = omega arith in sv.asked (slice_index roots i) (aw.asked i (still-none i none here) some))
+    | inr without ↦ (let here : registers i items ≡ 0 = omega arith in sv.asked (slice_index roots i) (aw.of_roots.asked i (still-none i none here) some))
   ]
 
   by-roots : (x : ℕ) → 0 < times x sv.view.asked → (i : ℕ) × (slice_index roots i ≡ x)
   by-roots x some = elim (sv.by_roots x some) as (λ _. (i : ℕ) × (slice_index roots i ≡ x)) [
-    | inl before ↦ aw.by_roots x before
+    | inl before ↦ aw.of_roots.by_roots x before
     | inr now ↦ (now.0, sym (was-waiting now.0 now.1) ∙ now.2)
   ]
 
+  -- each listed object was held as the trace began
+  addresses : (x : ℕ) → 0 < times x run.logged.items → IsAddress s.blocks x
+  addresses x some = subst (λ b. IsAddress b x) (by-begun s run (λ h. h.blocks ≡ s.blocks) refl refl (λ young. refl))
+      (listed-held p aw.events w.tracer aw.view aw.tracer.tracks x (subst (λ r. 0 < times x r.logged.items) (sym aw.tracer.runs) some)).address
+
   tallied : IsTally s (image (stage_of p (aw.events ++ sv.events))) sv.view.copied v.tally
-  tallied = next-tally s run lawful aw.events sv.events aw.view sv.view aw.tracks.trace aw.tracks.holds sv.tracks.trace sv.tracks.holds step.won sv.copied sv.tokens
+  tallied = next-tally s run lawful addresses aw.events sv.events aw.view sv.view aw.tracer.tracks.trace aw.tracer.tracks.holds sv.tracks.trace sv.tracks.holds step.won sv.copied sv.tokens
       w.tally v.tally step.counts aw.tally
 
   pub awaited-next : IsAwaited s run roots v (pushed ++ rest)
   awaited-next = record {
     events = aw.events ++ sv.events;
     view = sv.view;
-    tracks = sv.tracks;
-    runs = sv.run ∙ aw.runs;
-    rights = new-rights;
-    none = step.none;
-    sparse = sv.sparse ∙ aw.sparse;
-    scanned = scans;
-    lines = lines-now;
+    tracer = record {
+      tracks = sv.tracks;
+      runs = sv.run ∙ aw.tracer.runs;
+      rights = new-rights;
+      none = step.none;
+      sparse = sv.sparse ∙ aw.tracer.sparse;
+    };
+    of_objects = record {
+      scanned = scans;
+      lines = lines-now;
+    };
     settled = λ g few. settles g (aw.settled g few);
-    as_many = sv.as_many ∙ aw.as_many;
-    waiting = λ i some. let more : 0 < registers i rest = subst (λ n. 0 < n) (left-over i) some in
-        sv.others i (unserved i more) ∙ aw.waiting i (let both = registers-append i items rest in omega arith);
-    served = served-now;
-    asked = asked-now;
-    by_roots = by-roots;
+    of_roots = record {
+      as_many = sv.as_many ∙ aw.of_roots.as_many;
+      waiting = λ i some. let more : 0 < registers i rest = subst (λ n. 0 < n) (left-over i) some in
+          sv.others i (unserved i more) ∙ aw.of_roots.waiting i (let both = registers-append i items rest in omega arith);
+      served = served-now;
+      asked = asked-now;
+      by_roots = by-roots;
+    };
     tally = tallied;
   }
 
@@ -342,7 +362,7 @@ pub left-falls : (start : TracingStart) (w v : PacketTracer) (p : Packet Item) (
 left-falls start w v p q rest runs objects items all =
     let aw : IsAwaited (heap_state start.heap) start.run start.roots.items w (p.items.items ++ items_of rest) = (all (p ∷ rest) (IsPermutation-refl (p ∷ rest))).awaited in
     let setup : Setup = setup_of (heap_state start.heap) start.run 1 in
-    let sv : ServesItems setup aw.events aw.view w.tracer w.roots.items p.items.items v.tracer v.roots.items runs.won = runs.serves setup aw.events aw.view aw.tracks
-    (rights-of-first setup aw.view w.roots.items p.items.items (items_of rest) aw.rights) in
-    falls setup aw.events (aw.events ++ sv.events) w.tracer v.tracer aw.view sv.view aw.tracks sv.tracks aw.rights.none_won sv.none_won runs.won sv.copied sv.tokens (length q)
+    let sv : ServesItems setup aw.events aw.view w.tracer w.roots.items p.items.items v.tracer v.roots.items runs.won = runs.serves setup aw.events aw.view aw.tracer.tracks
+    (rights-of-first setup aw.view w.roots.items p.items.items (items_of rest) aw.tracer.rights) in
+    falls setup aw.events (aw.events ++ sv.events) w.tracer v.tracer aw.view sv.view aw.tracer.tracks sv.tracks aw.tracer.rights.none_won sv.none_won runs.won sv.copied sv.tokens (length q)
     (packets-few q items objects runs.won runs.pushed)

@@ -21,9 +21,9 @@ use Rattle.trace_core.proofs.Releasable.{copy-low}
 use Rattle.collector.proofs.EvacuatedKinds.{evacuated-kind}
 use Rattle.collector.proofs.Given.{IsSetupUnder, kind-given}
 use Rattle.collector.proofs.KeptBlocks.{after-same}
-use Rattle.collector.proofs.Runs.{tail-of, tail-empty, one-large, head-object, object}
+use Rattle.block_sweeps.proofs.LargeRuns.{tail-of, tail-empty, one-large, head-object, object}
 use Rattle.collector.proofs.Fates as fates
-use Rattle.collector.proofs.Fates.{IsAllReleased, WasFreed, IsInUse, IsInLargeUse}
+use Rattle.collector.proofs.Fates.{IsAllReleased, IsInUse, IsInLargeUse}
 use Rattle.collector.proofs.ReleasedBlocks as released_blocks
 
 -- in any row whose blocks were released, a block without words of held objects is Free

@@ -18,7 +18,7 @@ use Rattle.plan_api.specs.Releasing.{IsReleased, is_kept_after, word_after}
 use Rattle.collector.specs.Released.{AreReleased}
 use Rattle.collector.proofs.Alike as alike
 use Rattle.collector.proofs.Alike.{SameRest, rest-back}
-use Rattle.collector.proofs.Runs.{tail-of, one-lives}
+use Rattle.block_sweeps.proofs.LargeRuns.{tail-of, one-lives}
 use Rattle.collector.proofs.Spans.{IsToRelease, FirstOf, first-of, address-block}
 
 -- Nothing lives in the span that block j is of, and the block was freed.

@@ -11,13 +11,14 @@ use Rattle.heap_layout.specs.Zones.{row_words}
 use Rattle.object_model.specs.Objects.{HeapState, IsHeld, size_at}
 use Rattle.object_model.specs.Lawful.{IsLawfulButLines, AreRoots}
 use Rattle.plain_tracer.specs.TokenRights.{IsGrey}
-use Rattle.trace_core.specs.Views.{one_if, times, first_view}
+use Rattle.trace_core.specs.Views.{first_view}
+use Rattle.object_model.specs.Times.{one_if, times}
 use Rattle.plain_tracer.specs.Tracers.{Tracks}
 use Rattle.trace_core.specs.Runs.{setup_of}
 use Rattle.trace_core.specs.declared.run.TraceRun.{TraceRun}
 use Rattle.plain_tracer.specs.declared.tokens.GlobalRoot.{GlobalRoot}
 use Rattle.trace_core.proofs.CountedRights.{count-cons, count-append, times-cons}
-use Rattle.trace_core.proofs.Begun.{held-begun}
+use Rattle.trace_core.proofs.Begun.{HasList, held-begun}
 use Rattle.collector.specs.declared.item.Item.{Item}
 use Rattle.collector.specs.declared.item.Item.TheVariants.{Register, Global}
 use Rattle.collector.specs.declared.packet_tracer.PacketTracer.{PacketTracer}
@@ -135,7 +136,7 @@ module _ (n : ℕ) (tokens : List GlobalRoot) (every : map (λ (token : GlobalRo
     | inr past ↦ omega (arith, first-others i past)
   ]
 
-module _ (s : HeapState) (run : TraceRun) (roots : List ℕ) (lawful : IsLawfulButLines s) (held : AreRoots s roots) (tokens : List GlobalRoot)
+module _ (s : HeapState) (run : TraceRun) (roots : List ℕ) (lawful : IsLawfulButLines s) (lists : HasList s run) (held : AreRoots s roots) (tokens : List GlobalRoot)
     (every : map (λ (token : GlobalRoot). token.global) tokens ≡ range_with_len 0 16) where
   abbrev items : List Item
   items = for_places (range_with_len 0 (length roots)) ++ for_globals tokens
@@ -150,7 +151,7 @@ module _ (s : HeapState) (run : TraceRun) (roots : List ℕ) (lawful : IsLawfulB
     places = below-length (length roots) tokens every;
     refer = λ i some. elim (cases_eq (slice_index roots i) 0) as (λ _. (slice_index roots i ≡ 0) ⊎ IsHeld (setup_of s run 1).before (slice_index roots i)) [
       | inl nil ↦ inl nil
-      | inr some-root ↦ inr (held-begun s run lawful (slice_index roots i) (held i (below-length (length roots) tokens every i some) some-root))
+      | inr some-root ↦ inr (held-begun s run lawful lists (slice_index roots i) (held i (below-length (length roots) tokens every i some) some-root))
     ];
   }
 
@@ -166,29 +167,35 @@ first-tally s F tally kept moved words = record {
   words = words ∙ sym (sum-none _ (λ a. zero-mul (size_at s a)) (range_with_len 0 (row_words s.blocks)));
 }
 
-pub first-awaited : (s : HeapState) (run : TraceRun) (roots : List ℕ) → IsLawfulButLines s → AreRoots s roots → (tokens : List GlobalRoot)
+pub first-awaited : (s : HeapState) (run : TraceRun) (roots : List ℕ) → IsLawfulButLines s → HasList s run → AreRoots s roots → (tokens : List GlobalRoot)
     → map (λ (token : GlobalRoot). token.global) tokens ≡ range_with_len 0 16 → (w : PacketTracer) → Tracks (setup_of s run 1) [] w.tracer (first_view run)
     → w.tracer.run ≡ run → w.roots.items ≡ roots → w.won.items ≡ [] → w.tally.kept ≡ 0 → w.tally.moved ≡ 0 → w.tally.words ≡ 0
     → IsAwaited s run roots w (starting_items (length roots) tokens)
-first-awaited s run roots lawful held tokens every w tracks runs same none kept moved words = record {
+first-awaited s run roots lawful lists held tokens every w tracks runs same none kept moved words = record {
   events = [];
   view = first_view run;
-  tracks = tracks;
-  runs = runs;
-  rights = subst (λ l. HasRights (setup_of s run 1) (first_view run) l (starting_items (length roots) tokens)) (sym same) (first-rights s run roots lawful held tokens every);
-  none = none;
-  sparse = refl;
-  scanned = λ x some. absurd (omega (arith, some));
-  lines = λ on x some. absurd (omega (arith, some));
+  tracer = record {
+    tracks = tracks;
+    runs = runs;
+    rights = subst (λ l. HasRights (setup_of s run 1) (first_view run) l (starting_items (length roots) tokens)) (sym same) (first-rights s run roots lawful lists held tokens every);
+    none = none;
+    sparse = refl;
+  };
+  of_objects = record {
+    scanned = λ x some. absurd (omega (arith, some));
+    lines = λ on x some. absurd (omega (arith, some));
+  };
   settled = λ g small. inl (let is : globals g (starting_items (length roots) tokens) ≡ times g (range_with_len 0 16) = first-globals (length roots) tokens every g in
       let one : times g (range_with_len 0 16) ≡ 1 = range-once 0 16 g (omega arith) (omega (arith, small)) in omega (arith, is, one));
-  as_many = ap length same;
-  waiting = λ i some. ap (λ l. slice_index l i) same;
-  served = λ i below zero. absurd (omega (arith, zero, first-registers (length roots) tokens every i below));
-  asked = λ i zero some. elim (cases_lt i (length roots)) as (λ _. 0 < times (slice_index roots i) (first_view run).asked) [
-    | inl below ↦ absurd (omega (arith, zero, first-registers (length roots) tokens every i below))
-    | inr past ↦ absurd (let nil : slice_index roots i ≡ 0 = get_or_past roots i 0 past in omega (arith, nil, some))
-  ];
-  by_roots = λ x some. absurd (omega (arith, some));
+  of_roots = record {
+    as_many = ap length same;
+    waiting = λ i some. ap (λ l. slice_index l i) same;
+    served = λ i below zero. absurd (omega (arith, zero, first-registers (length roots) tokens every i below));
+    asked = λ i zero some. elim (cases_lt i (length roots)) as (λ _. 0 < times (slice_index roots i) (first_view run).asked) [
+      | inl below ↦ absurd (omega (arith, zero, first-registers (length roots) tokens every i below))
+      | inr past ↦ absurd (let nil : slice_index roots i ≡ 0 = get_or_past roots i 0 past in omega (arith, nil, some))
+    ];
+    by_roots = λ x some. absurd (omega (arith, some));
+  };
   tally = first-tally s _ w.tally kept moved words;
 }

@@ -7,9 +7,10 @@ use Rattle.std.proofs.lemmas.Bool.{cases_Bool, cases_lt, lt-ltb, and_right, and_
 use Rattle.std.proofs.lemmas.List.Sums.{sum_by-cons, sum_by-append}
 use Rattle.heap_layout.specs.Zones.{row_words, heap_of}
 use Rattle.object_model.specs.Objects.{HeapState, is_start, size_at, has_kind, block_count}
-use Rattle.trace_core.specs.Views.{one_if}
+use Rattle.object_model.specs.Times.{one_if}
 use Rattle.heap_layout.specs.declared.block.Kind.TheVariants as kinds
 use Rattle.object_model.specs.declared.collect.Collect.{Collect}
+use Rattle.object_model.specs.declared.collect.Collect.TheVariants.{Full}
 use Rattle.object_model.proofs.Counts.{counted}
 use Rattle.collector.specs.declared.outcome.Note.{Note}
 use Rattle.collector.specs.Tallies.{total, stays_in_place, IsNote}
@@ -90,12 +91,12 @@ stays s P a set clear = elim (cases_Bool (is_start s a)) as (λ _. P (is_start s
   | inr none ↦ subst (λ (b : Bool). P b (if b then a else 0)) (sym none) clear
 ]
 
-pub note-counted : (c : Collect) (s new : HeapState) (note : Note) (n m : ℕ) → new ≡ counted s
+pub note-counted : (c : Collect) (s new : HeapState) (note : Note) (n m : ℕ) → c ≡ Full → new ≡ counted s
     → n ≡ total s.blocks (held_at s) → m ≡ total s.blocks (words_at s)
     → note.collect ≡ c → note.kept ≡ n → note.moved ≡ 0 → note.in_place ≡ n → note.kept_words ≡ m
     → note.free_blocks ≡ block_count s (λ k. has_kind s k kinds.Free) → IsNote c s (stays_in_place s) new note
-note-counted c s new note n m is objects words of kept moved left size free = record {
-  collect = of;
+note-counted c s new note n m full is objects words of kept moved left size free = subst (λ k. IsNote k s (stays_in_place s) new note) (sym full) (record {
+  collect = of ∙ full;
   kept = kept ∙ objects ∙ total-same s.blocks _ _ (λ a. stays s (λ (b : Bool) (t : ℕ). one_if b ≡ one_if (nat_lt 0 t)) a
       (λ some. sym (ap one_if (lt-ltb 0 a some))) refl);
   moved = moved ∙ sym (total-none s.blocks _ (λ a. stays s (λ (b : Bool) (t : ℕ). one_if (nat_lt 0 t && not (nat_eq t a)) ≡ 0) a
@@ -105,7 +106,7 @@ note-counted c s new note n m is objects words of kept moved left size free = re
   words = size ∙ words ∙ total-same s.blocks _ _ (λ a. stays s (λ (b : Bool) (t : ℕ). one_if b * size_at s a ≡ one_if (nat_lt 0 t) * size_at s a) a
       (λ some. sym (ap (λ b. one_if b * size_at s a) (lt-ltb 0 a some))) refl);
   free = subst (λ (h : HeapState). note.free_blocks ≡ block_count h (λ k. has_kind h k kinds.Free)) (sym is) free;
-}
+})
   where
     total-none : (b : ℕ) (f : ℕ → ℕ) → ((a : ℕ) → f a ≡ 0) → total b f ≡ 0
     total-none b f none = below-none f (row_words b) (λ a less. none a)

@@ -7,7 +7,7 @@ use Rattle.std.proofs.lemmas.Nat.Bits.{bit_at_clear_same, bit_at_clear_other}
 use Rattle.heap_layout.specs.Zones.{StartBits, first, heap_of, bit_of, IsAddress}
 use Rattle.heap_layout.proofs.MarkLemmas.{address_bit-at_address}
 use Rattle.object_model.specs.Objects.{HeapState, IsHeld, word_at, is_start, size_at}
-use Rattle.trace_core.specs.Views.{one_if}
+use Rattle.object_model.specs.Times.{one_if}
 use Rattle.side_meta.specs.BitWords.{has_bit}
 use Rattle.block_sweeps.specs.WordSweeps.{start_word, address_of}
 use Rattle.block_sweeps.proofs.TouchedWords.{without}

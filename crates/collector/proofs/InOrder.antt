@@ -15,7 +15,7 @@ use Rattle.trace_core.specs.Outcomes.{base_after_trace}
 use Rattle.trace_core.proofs.Releasable.{releasable}
 use Rattle.collector.specs.Released.{ReleasesBelow, none, one_more, AreReleased}
 use Rattle.collector.proofs.Metadata.{SameReads}
-use Rattle.collector.proofs.Runs.{no-head-and-tail, IsOfNone, some-or-none, span-tail}
+use Rattle.block_sweeps.proofs.LargeRuns.{no-head-and-tail, IsOfNone, some-or-none, span-tail}
 use Rattle.collector.proofs.Bare.{bare-releasable}
 use Rattle.collector.proofs.Releasables.{releasable-after}
 use Rattle.collector.proofs.Steps.{IsReleasedBelow, own-span, tail-bare, tail-word, one-more}

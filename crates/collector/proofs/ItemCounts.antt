@@ -8,7 +8,8 @@ use Rattle.std.proofs.lemmas.List.Sorted.{All-permutation, sum_by-IsPermutation}
 use Rattle.std.proofs.lemmas.List.Sums.{sum_by-cons}
 use Rattle.work_packets.specs.declared.packet.Packet.{Packet}
 use Rattle.trace_core.specs.Setups.{Setup}
-use Rattle.trace_core.specs.Views.{View, one_if, hits, times}
+use Rattle.trace_core.specs.Views.{View, hits}
+use Rattle.object_model.specs.Times.{one_if, times}
 use Rattle.plain_tracer.specs.TokenRights.{IsGrey, copied_in, to_scan_in}
 use Rattle.plain_tracer.specs.declared.tokens.Grey.{Grey}
 use Rattle.trace_core.proofs.CountedRights.{count-cons, count-append, hits-cons, times-cons}

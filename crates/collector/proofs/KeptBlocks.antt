@@ -30,14 +30,14 @@ module _ (r : Rules) (s t : HeapState) (k : ℕ) (blocks : t.blocks ≡ s.blocks
   kind-same : (kind : Kind) → has_kind t k kind ≡ has_kind s k kind
   kind-same kind = ap₂ (λ b w. nat_lt k b && nat_eq (w % 256) (kind_code kind)) blocks word
 
-  kept_kind-same : is_kept_kind t k ≡ is_kept_kind s k
+  pub kept_kind-same : is_kept_kind t k ≡ is_kept_kind s k
   kept_kind-same = ap₂ (λ b w. is_kept_code (nat_lt k b) (w % 256)) blocks word
 
   copied-same : (c : Collect) → is_copied_out r c t k ≡ is_copied_out r c s k
   copied-same Full = ap₂ (λ x y. x || y) (ap₂ (λ x y. x || y) (kind-same r.fill) (kind-same r.copy)) (kind-same kinds.Kept)
   copied-same Nursery = ap (λ filled. r.young && filled) (kind-same r.fill)
 
-  evacuated-same : (reserve : Reserve) (c : Collect) → IsTrue (is_kept_kind s k) → is_evacuated_by reserve r c t k ≡ is_evacuated_by reserve r c s k
+  pub evacuated-same : (reserve : Reserve) (c : Collect) → IsTrue (is_kept_kind s k) → is_evacuated_by reserve r c t k ≡ is_evacuated_by reserve r c s k
   evacuated-same Nothing c kept = refl
   evacuated-same Copies c kept = copied-same c
   evacuated-same Headroom Full kept = no-candidate t k (kept_kind-same ∙ kept) ∙ sym (no-candidate s k kept)

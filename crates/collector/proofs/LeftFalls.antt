@@ -8,7 +8,8 @@ use Rattle.object_model.proofs.Marks as marks
 use Rattle.trace_core.specs.Setups.{Setup, blocks, collection, held, stays_old}
 use Rattle.trace_core.specs.Machine.{Stage, Unclaimed, Copying, Scanning, target, Event, claimed_word}
 use Rattle.trace_core.specs.Traces.{IsTracing, machine_after, heap_after, stage_of, target_of}
-use Rattle.trace_core.specs.Views.{View, Holds, one_if, hits, times, is_copying, is_stage_copied}
+use Rattle.trace_core.specs.Views.{View, Holds, hits, is_copying, is_stage_copied}
+use Rattle.object_model.specs.Times.{one_if, times}
 use Rattle.plain_tracer.specs.Tracers.{Tracks}
 use Rattle.plain_tracer.specs.declared.plain_trace.PlainTrace.{PlainTrace}
 use Rattle.trace_core.proofs.Clauses.{held-of, targets-inside, collector, unclaimed, whole, starts-from, starts-kept, old-target}

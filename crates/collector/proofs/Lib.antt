@@ -1,6 +1,5 @@
 mod Metadata
 mod Alike
-mod Runs
 mod KeptBlocks
 mod Releases
 mod Bare
@@ -8,10 +7,10 @@ mod Beside
 mod Releasables
 mod Steps
 mod InOrder
-mod Owners
-mod MovedBlocks
+mod BlockReads
 mod UnlogBits
 mod MarkedBlocks
+mod EvacuationFlags
 mod Spans
 mod Fates
 mod ReleasedBlocks

@@ -1,17 +1,14 @@
--- The release of a block of cells or lines whose bits show what lives in it.
-use Rattle.std.proofs.Common.{◌≡◌, refl, sym, ◌∙◌, ap, ℕ, ◌+◌, ◌*◌, ◌-◌, ◌<◌, ◌≤◌, ◌/◌, ◌%◌, ◌⊎◌, inl, inr, arith, Bool, true, false, true≢false, ◌&&◌, IsTrue, nat_eq, nat_le, bit_and, List, length, slice_index, if◌then◌else◌, subst}
+-- The release of a block whose unlog bits show what lives in it.
+use Rattle.std.proofs.Common.{◌≡◌, refl, sym, ◌∙◌, ap, ℕ, ◌+◌, ◌*◌, ◌-◌, ◌<◌, ◌≤◌, ◌/◌, ◌%◌, inl, inr, arith, Bool, true, false, true≢false, ◌&&◌, IsTrue, nat_eq, nat_le, bit_and, List, length, slice_index, subst}
 use Rattle.std.specs.Int.Bits.{and_self}
 use Rattle.std.proofs.Math.Logic.{∥∥₁_elim}
 use Rattle.std.proofs.lemmas.Bool.{cases_Bool, and_parts, and_from, and_right}
 use Rattle.forward_word.specs.CollectorWords.{number_in, target_in}
 use Rattle.heap_layout.specs.Zones.{StartBits, PinBits, UnlogBits, BlockWords, first, row_words, IsAddress}
-use Rattle.heap_layout.specs.Blocks.{kind_code, code_of, IsValidWord}
-use Rattle.heap_layout.specs.declared.block.Kind.{Kind}
+use Rattle.heap_layout.specs.Blocks.{code_of, IsValidWord}
 use Rattle.heap_layout.specs.declared.block.Kind.TheVariants as kinds
 use Rattle.heap_layout.specs.declared.block.BlockWord.{BlockWord}
 use Rattle.heap_layout.specs.declared.layout.Layout.{Layout}
-use Rattle.heap_layout.proofs.BlockLemmas.{kind_code_most}
-use Rattle.object_model.proofs.OneKind.{kind-from}
 use Rattle.object_model.specs.declared.collect.Collect.{Collect}
 use Rattle.object_model.specs.Objects.{HeapState, state_over, with_words, block_word, HasKind, line_marked, is_start, is_unlogged, IsHeld, size_at}
 use Rattle.object_model.specs.Lines.{TouchesLine}
@@ -25,12 +22,11 @@ use Rattle.block_sweeps.proofs.SweptBlocks.{bit-there, may-sweep, may-next, swep
 use Rattle.block_sweeps.proofs.SweptWords.{all-live, some-die}
 use Rattle.block_sweeps.proofs.BlockSweeps.{swept-free, swept-kept, none-counts, none-lives, word-only}
 use Rattle.sessions.specs.Plans.{Rules}
-use Rattle.plan_api.specs.Releasing.{Releases, word_after, is_kept_after}
-use Rattle.plan_api.proofs.EvacuationLaws.{not-kept, other-kind}
+use Rattle.plan_api.specs.Releasing.{Releases, word_after}
 use Rattle.plan_api.proofs.ReleasedBlocks as blocks
 use Rattle.collector.specs.Released.{UnlogBitsMarkSurvivors, UnlogWordMarksSurvivors, LivesOnLine, LineBitsMarkSurvivors}
 use Rattle.collector.proofs.Metadata.{heap-word}
-use Rattle.collector.proofs.MovedBlocks.{kind-shown, unowned-code}
+use Rattle.collector.proofs.BlockReads.{kind-shown}
 
 both-ways : (x y : Bool) → (IsTrue x → IsTrue y) → (IsTrue y → IsTrue x) → x ≡ y
 both-ways true true to from = refl
@@ -112,11 +108,7 @@ marked-first base from s = record {
   rest = record { blocks = refl; extent = refl; others = λ i outside. refl; fit = λ fits. fits };
 }
 
--- a block of cells has no lines
-pub no-lines : (base : ℕ) (s : HeapState) (k : ℕ) (w : BlockWord) → IsValidWord w → code_of w ≡ block_word s k → w.kind ≡ kinds.Cells → LineBitsMarkSurvivors base s k
-no-lines base s k w valid code cells immix = absurd (let wrong : kinds.Cells ≡ kinds.Immix = sym cells ∙ kind-shown s k kinds.Immix w valid code immix in cc)
-
--- Block k has cells or lines, and of its start bits those with an unlog bit were left.
+-- Of the start bits of block k those with an unlog bit were left.
 module _ (r : Rules) (c : Collect) (l : Layout) (base k : ℕ) (old mid new : List ℕ) (w : BlockWord) where
   abbrev s : HeapState
   s = state_over old l 0 0
@@ -124,52 +116,32 @@ module _ (r : Rules) (c : Collect) (l : Layout) (base k : ℕ) (old mid new : Li
   abbrev m : HeapState
   m = state_over mid l 0 0
 
-  module _ (there : k < l.blocks) (valid : IsValidWord w) (code : code_of w ≡ block_word s k) (kind : (w.kind ≡ kinds.Cells) ⊎ (w.kind ≡ kinds.Immix)) (shows : UnlogBitsMarkSurvivors base s k) (lines : LineBitsMarkSurvivors base s k)
-      (swept : SweepsWords base (64 * k) 64 s m) where
+  module _ (there : k < l.blocks) (valid : IsValidWord w) (code : code_of w ≡ block_word s k) (not-head : w.kind ≡ kinds.LargeHead → ⊥) (not-tail : w.kind ≡ kinds.LargeTail → ⊥)
+      (shows : UnlogBitsMarkSurvivors base s k) (lines : LineBitsMarkSurvivors base s k) (swept : SweepsWords base (64 * k) 64 s m) where
     objects : KeepsLiving base (InBlock s k) s m
     objects = keeps-living base k s mid there swept
 
-    one-of-two : (kind' : Kind) → (w.kind ≡ kinds.Cells) ⊎ (w.kind ≡ kinds.Immix) → w.kind ≡ kind' → nat_eq (kind_code kinds.Cells) (kind_code kind') ≡ false → nat_eq (kind_code kinds.Immix) (kind_code kind') ≡ false → ⊥
-    one-of-two kind' (inl cells) same differ differ' = true≢false (ap (λ d. nat_eq (kind_code kinds.Cells) (kind_code d)) (sym cells ∙ same) ∙ differ)
-    one-of-two kind' (inr immix) same differ differ' = true≢false (ap (λ d. nat_eq (kind_code kinds.Immix) (kind_code d)) (sym immix ∙ same) ∙ differ')
+    no-head : HasKind s k kinds.LargeHead → ⊥
+    no-head is = not-head (kind-shown s k kinds.LargeHead w valid code is)
 
-    other : (kind' : Kind) → nat_eq (kind_code kinds.Cells) (kind_code kind') ≡ false → nat_eq (kind_code kinds.Immix) (kind_code kind') ≡ false → HasKind s k kind' → ⊥
-    other kind' differ differ' is = one-of-two kind' kind (kind-shown s k kind' w valid code is) differ differ'
+    no-tail : HasKind s k kinds.LargeTail → ⊥
+    no-tail is = not-tail (kind-shown s k kinds.LargeTail w valid code is)
 
     pub freed : ((a : ℕ) → InBlock m k a → IsHeld m a → ⊥) → Frees m (state_over new l 0 0) k → Releases r c base s (state_over new l 0 0) k
     freed none frees =
         let dead : HasNoLiving base s (InBlock s k) = λ a here living. none a (record { address = here.address; block = here.block }) ((objects.held a here).1 living) in
-        blocks.empty l r c base 0 k old new (other kinds.LargeHead refl refl) (other kinds.LargeTail refl refl) dead
+        blocks.empty l r c base 0 k old new no-head no-tail dead
         (swept-free base k s mid new there objects swept.rest frees.rest 0 (none-counts base k s mid new there objects swept.rest frees.rest dead) frees.freed)
 
-    has-kind : (kind' : Kind) → w.kind ≡ kind' → HasKind s k kind'
-    has-kind kind' is =
-        let same : kind_code w.kind ≡ kind_code kind' = ap kind_code is in
-        let most : kind_code w.kind ≤ 8 = kind_code_most w.kind in
-        let word : code_of w ≡ block_word s k = code in
-        kind-from s k kind' there (let e : block_word s k % 256 ≡ kind_code kind' = omega arith in e)
-
-    stays : is_kept_after r c s k ≡ false
-    stays = not-kept r c s k (λ kept from. elim kind as (λ _. ⊥) [
-      | inl cells ↦ other-kind s k kinds.Cells refl refl refl refl (has-kind kinds.Cells cells) kept
-      | inr immix ↦ other-kind s k kinds.Immix refl refl refl refl (has-kind kinds.Immix immix) kept
-    ])
-
-    after-is : code_of (record { kind = w.kind; class = w.class; owner = 0 }) ≡ word_after r c s k
-    after-is = unowned-code w (block_word s k) valid code ∙ sym (ap (λ kept. if kept then kind_code kinds.Kept else block_word s k % 65536) stays)
-
-    module _ (a : ℕ) (here : InBlock m k a) (held : IsHeld m a) (word : Stores mid new (first l.blocks BlockWords + k) (code_of (record { kind = w.kind; class = w.class; owner = 0 }))) where
-      word-is : Stores mid new (first l.blocks BlockWords + k) (word_after r c s k)
-      word-is = subst (Stores mid new (first l.blocks BlockWords + k)) after-is word
-
+    module _ (a : ℕ) (here : InBlock m k a) (held : IsHeld m a) (word : Stores mid new (first l.blocks BlockWords + k) (word_after r c s k)) where
       there-before : InBlock s k a
       there-before = record { address = here.address; block = here.block }
 
       sweep : Sweeps base (word_after r c s k) s (state_over new l 0 0) k
       sweep =
-          let only = word-only s k (word_after r c s k) mid new word-is in
+          let only = word-only s k (word_after r c s k) mid new word in
           swept-kept base k s mid new there objects swept.rest only (word_after r c s k)
-          (λ none. none-lives base k s mid new there objects swept.rest only none a there-before ((objects.held a there-before).0 held)) word-is
+          (λ none. none-lives base k s mid new there objects swept.rest only none a there-before ((objects.held a there-before).0 held)) word
 
       nothing : {P : ℕ → Type 0} → ChangesOnly P (state_over new l 0 0) (state_over new l 0 0)
       nothing = record { blocks = refl; extent = refl; others = λ i outside. refl; fit = λ fits. fits }
@@ -220,4 +192,4 @@ module _ (r : Rules) (c : Collect) (l : Layout) (base k : ℕ) (old mid new : Li
       }
 
       pub kept : Releases r c base s (state_over new l 0 0) k
-      kept = blocks.small l r c base k old new new new there (other kinds.LargeHead refl refl) sweep touched (λ not. refl) (record { unlogs = unlogged; rest = nothing }) (other kinds.LargeTail refl refl)
+      kept = blocks.small l r c base k old new new new there no-head sweep touched (λ not. refl) (record { unlogs = unlogged; rest = nothing }) no-tail

@@ -22,7 +22,7 @@ use Rattle.trace_core.proofs.Releasable.{releasable, tail-in-run}
 use Rattle.collector.specs.Released.{ReleasesBelow, LinesOfTargetsAreMarked, LivesOnLine, LineBitsMarkSurvivors}
 use Rattle.collector.proofs.Metadata.{SameReads}
 use Rattle.collector.proofs.Alike.{SameRest, rest-back, reads-back, size-same, kind-same, lives-after}
-use Rattle.collector.proofs.Runs.{some-or-none, span-tail}
+use Rattle.block_sweeps.proofs.LargeRuns.{some-or-none, span-tail}
 use Rattle.collector.proofs.Spans.{IsToRelease, begins-in}
 use Rattle.collector.proofs.Steps.{IsReleasedBelow, tail-word}
 use Rattle.collector.proofs.InOrder.{released-below}

@@ -3,7 +3,7 @@ use Rattle.std.proofs.Common.{◌≡◌, refl, sym, ◌∙◌, ap, subst, ℕ, �
 use Rattle.std.specs.Prelude.{All, sum_by, count_by}
 use Rattle.std.proofs.lemmas.Bool.{cases_lt}
 use Rattle.std.proofs.lemmas.List.Elements.{All-weaker}
-use Rattle.heap_layout.specs.Zones.{row_words}
+use Rattle.heap_layout.specs.Zones.{row_words, IsAddress}
 use Rattle.object_model.specs.Objects.{HeapState, IsHeld, refs_at, nums_at, size_at}
 use Rattle.object_model.specs.Lawful.{IsLawfulButLines}
 use Rattle.object_model.proofs.Blocks as given
@@ -11,13 +11,16 @@ use Rattle.trace_core.specs.Setups.{Setup, blocks, size}
 use Rattle.trace_core.specs.Machine.{Event, address_or_nil}
 use Rattle.trace_core.specs.Traces.{IsTracing, machine_after, stage_of}
 use Rattle.trace_core.specs.Outcomes.{image}
-use Rattle.trace_core.specs.Views.{View, Holds, one_if, times}
+use Rattle.trace_core.specs.Views.{View, Holds}
+use Rattle.object_model.specs.Times.{one_if, times}
 use Rattle.plain_tracer.specs.TokenRights.{IsGrey, copied_in}
 use Rattle.trace_core.specs.Runs.{setup_of, without_lines}
 use Rattle.trace_core.specs.declared.run.TraceRun.{TraceRun}
 use Rattle.plain_tracer.specs.declared.tokens.Grey.{Grey}
 use Rattle.object_model.proofs.Frames as frames
 use Rattle.trace_core.proofs.WithoutLines as lines
+use Rattle.trace_core.proofs.SameObjects as objects
+use Rattle.trace_core.proofs.SetUnlogs.{same-objects}
 use Rattle.trace_core.proofs.Begun.{by-begun, keeps-objects}
 use Rattle.collector.specs.declared.tally.Tally.{Tally}
 use Rattle.collector.specs.Tallies.{total, has_moved, Counts, IsTally}
@@ -37,12 +40,12 @@ product-same n k l same = elim (cases_lt 0 n) as (λ _. n * k ≡ n * l) [
   | inr none ↦ (let zero : n ≡ 0 = omega arith in let left : n * k ≡ 0 * k = ap (λ m. m * k) zero in let right : n * l ≡ 0 * l = ap (λ m. m * l) zero in omega arith)
 ]
 
-module _ (s : HeapState) (run : TraceRun) (lawful : IsLawfulButLines s) where
+module _ (s : HeapState) (run : TraceRun) (lawful : IsLawfulButLines s) (listed : (x : ℕ) → 0 < times x run.logged.items → IsAddress s.blocks x) where
   abbrev p : Setup
   p = setup_of s run 1
 
   blocks-same : blocks p ≡ s.blocks
-  blocks-same = by-begun s run (λ h. h.blocks ≡ s.blocks) refl refl refl
+  blocks-same = by-begun s run (λ h. h.blocks ≡ s.blocks) refl refl (λ young. refl)
 
   lawful-lines : IsLawfulButLines (without_lines s)
   lawful-lines = lines.without_lines-lawful s lawful
@@ -53,7 +56,8 @@ module _ (s : HeapState) (run : TraceRun) (lawful : IsLawfulButLines s) where
       frames.size-after (without_lines s) _ (keeps-objects (without_lines s) lawful-lines) a before
       ∙ given.size-same s ((without_lines s).words) (lines.same s lawful) a (given.held-before s ((without_lines s).words) (lines.same s lawful) a before))
       (λ a there. frames.size-after s _ (keeps-objects s lawful) a (frames.held-before s _ (keeps-objects s lawful) a there))
-      (λ a there. refl)
+      (λ young. let same = same-objects s lawful.order.row.extent run.logged.items listed in
+      λ a there. objects.size-same s _ same a (objects.held-before s _ same a there))
 
   module _ (es ds : List Event) (v v' : View) (trace : IsTracing p es) (holds : Holds p (machine_after p es) v)
       (trace' : IsTracing p (es ++ ds)) (holds' : Holds p (machine_after p (es ++ ds)) v') (pushed : List Grey)

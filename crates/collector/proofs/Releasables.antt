@@ -11,7 +11,7 @@ use Rattle.object_model.proofs.OneKind.{is_small_code}
 use Rattle.block_sweeps.specs.Sweeping.{IsOfSpan}
 use Rattle.collector.proofs.Metadata.{SameReads}
 use Rattle.collector.proofs.Alike.{SameRest, rest-back, reads-back, kind-same, class-same, size-same, object-after, extent-after, held-after, in-span-after}
-use Rattle.collector.proofs.Runs.{no-head-and-tail, span-tail}
+use Rattle.block_sweeps.proofs.LargeRuns.{no-head-and-tail, span-tail}
 
 module _ (s t : HeapState) (ready : (k : ℕ) → k < s.blocks → IsReleasable s k) (rest : SameRest s t) (n : ℕ) (same : (j : ℕ) → IsOfSpan s n j → SameReads s t j) (was : IsReleasable s n) where
   back : SameRest t s

@@ -1,8 +1,14 @@
 -- The blocks that were released so far.
-use Rattle.std.proofs.Common.{◌≡◌, sym, subst, subst₂, ap, refl, ◌∙◌, ℕ, ◌+◌, ◌<◌, ◌^◌, false, List, length}
+use Rattle.std.proofs.Common.{◌≡◌, sym, subst, subst₂, ap, refl, ◌∙◌, ℕ, ◌+◌, ◌<◌, ◌^◌, Bool, false, List, length}
+use Rattle.std.specs.Prelude.{get_or}
+use Rattle.std.proofs.lemmas.List.{get_or_default}
+use Rattle.std.proofs.lemmas.Option.{slice_get_within, unwrap_or-slice_get}
 use Rattle.heap_layout.specs.Zones.{row_words}
+use Rattle.heap_layout.specs.Blocks.{code_of, IsValidWord}
+use Rattle.heap_layout.specs.declared.block.BlockWord.{BlockWord}
+use Rattle.heap_layout.specs.declared.block.Kind.TheVariants as kinds
 use Rattle.heap_layout.specs.declared.layout.Layout.{Layout}
-use Rattle.object_model.specs.Objects.{HeapState, state_of, state_over, word_at, is_unlogged}
+use Rattle.object_model.specs.Objects.{HeapState, state_of, state_over, block_word, word_at}
 use Rattle.object_model.specs.Lawful.{IsLawful}
 use Rattle.object_model.specs.Releasing.{IsReleasable}
 use Rattle.object_model.specs.declared.row.Row.{Row}
@@ -14,13 +20,17 @@ use Rattle.trace_core.specs.Traces.{IsTracing, IsFinished, machine_after, heap_a
 use Rattle.trace_core.specs.Outcomes.{base_after_trace, image, FinishedRow}
 use Rattle.trace_core.proofs.Rows.{row}
 use Rattle.plan_api.specs.Releasing.{Releases}
-use Rattle.collector.specs.Released.{ReleasesBelow, none, one_more, MoveAll, OwnerShowsWhatLives, UnlogBitsMarkSurvivors, LinesOfTargetsAreMarked, LineBitsMarkSurvivors}
-use Rattle.collector.specs.Knowing.{IsKnown, ShowsWhatLives}
+use Rattle.trace_core.specs.Runs.{IsRunOf}
+use Rattle.trace_core.specs.declared.run.TraceRun.{TraceRun}
+use Rattle.plan_api.specs.Evacuation.{listed}
+use Rattle.collector.specs.Released.{ReleasesBelow, none, one_more, UnlogBitsMarkSurvivors, LinesOfTargetsAreMarked, LineBitsMarkSurvivors, FlagShowsEvacuation}
+use Rattle.collector.specs.Knowing.{IsTracedUnder, IsKnown, ShowsRelease}
 use Rattle.collector.specs.declared.releasing.Known.{Known}
 use Rattle.collector.specs.declared.releasing.Known.TheVariants as known
+use Rattle.collector.proofs.BlockReads.{kind-shown}
 use Rattle.collector.proofs.InOrder.{next, released}
 use Rattle.collector.proofs.LawfulReleases.{lawful-with}
-use Rattle.collector.proofs.Owners.{shows-next, shows-again}
+use Rattle.collector.proofs.EvacuationFlags.{flag-next, flag-again}
 use Rattle.collector.proofs.UnlogBits.{marks-next, marks-again}
 use Rattle.collector.proofs.MarkedLines.{lines-next, lines-again}
 use Rattle.collector.proofs.Numbers.{releasable-again, releases-again}
@@ -65,25 +75,32 @@ module _ (r : Rules) (c : Collect) (base : ℕ) (old : Row) (p : Setup) (es : Li
     pub releasable : n < old.layout.blocks → IsReleasable (state_over words old.layout 0 0) n
     releasable there = releasable-again words old.layout old.number old.base 0 0 n (next p es r c now n trace finished below (subst (λ b. n < b) blocks-same there))
 
-    shows : MoveAll p es → n < old.layout.blocks → OwnerShowsWhatLives base (state_over words old.layout 0 0) n
-    shows move there = subst (λ b. OwnerShowsWhatLives b (state_over words old.layout 0 0) n) (sym is-base)
-        (shows-again (base_after_trace p) words old.layout old.number old.base 0 0 n (shows-next p es r c now n trace finished move below (subst (λ b. n < b) blocks-same there)))
+    flags : (run : TraceRun) → run.collect ≡ c → IsTracedUnder r run p → n < old.layout.blocks → FlagShowsEvacuation r c (state_over words old.layout 0 0) n (listed run.from.items n)
+    flags run is under there = flag-again r c words old.layout old.number old.base 0 0 n (listed run.from.items n)
+        (subst (λ k. FlagShowsEvacuation r k now n (listed run.from.items n)) is
+        (flag-next r run p es now n under trace finished (subst (λ k. ReleasesBelow r k (base_after_trace p) (heap_after p es) now n) (sym is) below) (subst (λ b. n < b) blocks-same there)))
 
     lines : LinesOfTargetsAreMarked p es → n < old.layout.blocks → LineBitsMarkSurvivors base (state_over words old.layout 0 0) n
     lines marked there = subst (λ b. LineBitsMarkSurvivors b (state_over words old.layout 0 0) n) (sym is-base)
         (lines-again (base_after_trace p) words old.layout old.number old.base 0 0 n (lines-next p es r c now n trace finished marked below (subst (λ b. n < b) blocks-same there)))
 
-    marks : p.nursery ≡ false → ((a : ℕ) → is_unlogged p.before a ≡ false) → n < old.layout.blocks → UnlogBitsMarkSurvivors base (state_over words old.layout 0 0) n
-    marks full clear there = subst (λ b. UnlogBitsMarkSurvivors b (state_over words old.layout 0 0) n) (sym is-base)
-        (marks-again (base_after_trace p) words old.layout old.number old.base 0 0 n (marks-next p es r c now n trace finished full clear below (subst (λ b. n < b) blocks-same there)))
+    marks : n < old.layout.blocks → UnlogBitsMarkSurvivors base (state_over words old.layout 0 0) n
+    marks there = subst (λ b. UnlogBitsMarkSurvivors b (state_over words old.layout 0 0) n) (sym is-base)
+        (marks-again (base_after_trace p) words old.layout old.number old.base 0 0 n (marks-next p es r c now n trace finished below (subst (λ b. n < b) blocks-same there)))
+
+    -- the flag of the next block is read from the run's list
+    pub flag-there : (run : TraceRun) → IsRunOf p run → n < old.layout.blocks → n < length run.from.items
+    flag-there run of there = slice_get_within run.from.items n (p.from n) (of.from n (subst (λ b. n < b) blocks-same there))
+
+    pub flag-read : (run : TraceRun) → IsRunOf p run → n < old.layout.blocks → (flag : Bool) → flag ≡ get_or run.from.items n flag → listed run.from.items n ≡ flag
+    flag-read run of there flag read = unwrap_or-slice_get run.from.items n false ∙ get_or_default run.from.items n false flag (flag-there run of there) ∙ sym read
 
     -- what is known of the trace shows of the next block
-    pub shown : (k : Known) → IsKnown p es k → (p.nursery ≡ false → (a : ℕ) → is_unlogged p.before a ≡ false) → n < old.layout.blocks
-        → ShowsWhatLives k base (state_over words old.layout 0 0) n
-    shown known.Nothing is clear there = tt
-    shown known.AllMoved is clear there = shows is there
-    shown known.Full is clear there = marks is (clear is) there
-    shown known.FullWithLines is clear there = (marks is.0 (clear is.0) there, lines is.1 there)
+    pub shown : (run : TraceRun) → run.collect ≡ c → (k : Known) → IsKnown r run p es k → n < old.layout.blocks
+        → ShowsRelease k r c base (state_over words old.layout 0 0) n (listed run.from.items n)
+    shown run same-kind known.Nothing is there = tt
+    shown run same-kind known.Flags is there = (marks there, flags run same-kind is there)
+    shown run same-kind known.FlagsAndLines is there = (marks there, flags run same-kind is.0 there, lines is.1 there)
 
   pub lawful-after : (words : List ℕ) → ReleasesBelow r c base (state_of old) (state_over words old.layout old.number old.base) old.layout.blocks → ((i : ℕ) → word_at (state_over words old.layout old.number old.base) i < 2 ^ 64)
       → (number : ℕ) → number ≡ collection p → IsLawful (state_over words old.layout number base)
@@ -92,3 +109,15 @@ module _ (r : Rules) (c : Collect) (base : ℕ) (old : Row) (p : Setup) (es : Li
       let all = released p es r c now (blocks p) trace finished (subst (ReleasesBelow r c (base_after_trace p) (heap_after p es) now) blocks-same (subst₂ (λ b s. ReleasesBelow r c b s now old.layout.blocks) is-base same all-below)) in
       subst₂ (λ n b. IsLawful (state_over words old.layout n b)) (sym is) (sym is-base)
       (lawful-with p es trace finished r c now fits all)
+
+-- what is known shows of the block if it is something
+module _ (r : Rules) (c : Collect) (base : ℕ) (s : HeapState) (k : ℕ) (flag : Bool) where
+  pub bits-shown : (known' : Known) → (known' ≡ known.Nothing → ⊥) → ShowsRelease known' r c base s k flag → UnlogBitsMarkSurvivors base s k × FlagShowsEvacuation r c s k flag
+  bits-shown known.Nothing some shows = absurd (some refl)
+  bits-shown known.Flags some shows = shows
+  bits-shown known.FlagsAndLines some shows = (shows.0, shows.1)
+
+  pub lines-shown : (known' : Known) (w : BlockWord) → IsValidWord w → code_of w ≡ block_word s k → (w.kind ≡ kinds.Immix → known' ≡ known.FlagsAndLines)
+      → ShowsRelease known' r c base s k flag → LineBitsMarkSurvivors base s k
+  lines-shown known' w valid code lines shows immix =
+      (subst (λ k'. ShowsRelease k' r c base s k flag) (lines (kind-shown s k kinds.Immix w valid code immix)) shows).2 immix

@@ -20,7 +20,7 @@ use Rattle.object_model.proofs.Marks as marks
 use Rattle.block_sweeps.specs.Sweeping.{IsOfSpan}
 use Rattle.sessions.specs.Plans.{Rules}
 use Rattle.plan_api.specs.Releasing.{is_kept_kind, is_kept_after}
-use Rattle.collector.proofs.Runs.{object, one-large, head-object, no-head-and-tail}
+use Rattle.block_sweeps.proofs.LargeRuns.{object, one-large, head-object, no-head-and-tail}
 use Rattle.collector.proofs.Spans.{begins-in}
 use Rattle.collector.proofs.Fates as fates
 use Rattle.collector.proofs.Fates.{IsAllReleased, WasFreed, IsInUse, IsInLargeUse, low-half}

@@ -13,7 +13,7 @@ use Rattle.object_model.proofs.ObjectParts.{AreObjectsRight}
 use Rattle.object_model.proofs.References.{refers-cases}
 use Rattle.sessions.specs.Plans.{Rules}
 use Rattle.collector.proofs.Alike.{object-after}
-use Rattle.collector.proofs.Runs.{object}
+use Rattle.block_sweeps.proofs.LargeRuns.{object}
 use Rattle.collector.proofs.Fates as fates
 use Rattle.collector.proofs.Fates.{IsAllReleased}
 

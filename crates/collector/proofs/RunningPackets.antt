@@ -185,15 +185,15 @@ module _ {w : PacketTracer} {p : Packet Item}
   now = awaited.2 (p ∷ awaited.1) (IsPermutation-refl (p ∷ awaited.1))
 
   pub none-won : w.won.items ≡ []
-  none-won = now.awaited.none
+  none-won = now.awaited.tracer.none
 
   pub may-run : MayServe w p.items.items
   may-run = record {
     setup = setup_of (heap_state awaited.0.heap) awaited.0.run 1;
     events = now.awaited.events;
     view = now.awaited.view;
-    tracks = now.awaited.tracks;
-    right = rights-part (halves-cut p.items.items (items_of awaited.1)) now.awaited.rights;
+    tracks = now.awaited.tracer.tracks;
+    right = rights-part (halves-cut p.items.items (items_of awaited.1)) now.awaited.tracer.rights;
   }
 
   of-trace : IsOfTrace p

@@ -9,7 +9,8 @@ use Rattle.object_model.specs.Lines.{TouchesLine}
 use Rattle.trace_core.specs.Setups.{Setup, blocks, refs}
 use Rattle.trace_core.specs.Machine.{Event}
 use Rattle.trace_core.specs.Traces.{heap_after}
-use Rattle.trace_core.specs.Views.{View, one_if, without, is_pair, hits, times, set_view}
+use Rattle.trace_core.specs.Views.{View, without, is_pair, hits, set_view}
+use Rattle.object_model.specs.Times.{one_if, times}
 use Rattle.plain_tracer.specs.TokenRights.{IsGrey, to_scan_in}
 use Rattle.plain_tracer.specs.Tracers.{SetsGlobal, ScansFields}
 use Rattle.plain_tracer.specs.declared.plain_trace.PlainTrace.{PlainTrace}
@@ -48,8 +49,8 @@ module _ (p : Setup) (es : List Event) (v : View) (t t' : PlainTrace) (roots : L
       let g : ℕ = root.global in
       let w : View = sets.view in
       let right : 0 < times root.global sets.view.unset = subst (λ l. 0 < times root.global l) (sym sets.pushes.unset) (global-right root rights) in (
-        sets.pushed,
-        sets.out,
+        sets.tokens.pushed,
+        sets.tokens.out,
         record {
           events = sets.grows.events;
           view = set_view g w;
@@ -60,11 +61,11 @@ module _ (p : Setup) (es : List Event) (v : View) (t t' : PlainTrace) (roots : L
           known = sets.pushes.known;
           copied = sets.pushes.copied;
           tokens = All-weaker (IsGrey p w) (IsGrey p (set_view g w))
-              (λ grey token. record { right = token.right; target = token.target; size = token.size; refs = token.refs }) sets.pushed sets.pushes.tokens;
+              (λ grey token. record { right = token.right; target = token.target; size = token.size; refs = token.refs }) sets.tokens.pushed sets.pushes.tokens;
           grey = λ y k. (let n : ℕ = objects y (Global root ∷ []) in
               let a : (if nat_eq k 0 then objects y (Global root ∷ []) else 0) ≡ 0 = none-if (nat_eq k 0) n refl in
               let b : (if nat_eq k (refs p y) then objects y (Global root ∷ []) else 0) ≡ 0 = none-if (nat_eq k (refs p y)) n refl in
-              let d : hits y k sets.view.grey ≡ hits y k (to_scan_in sets.pushed) + hits y k v.grey = sets.pushes.grey y k in omega arith);
+              let d : hits y k sets.view.grey ≡ hits y k (to_scan_in sets.tokens.pushed) + hits y k v.grey = sets.pushes.grey y k in omega arith);
           lines = λ on y some. absurd (omega (arith, some));
           unset = λ h. (let was : times h sets.view.unset ≡ times h v.unset = ap (times h) sets.pushes.unset in
               let d : times h sets.view.unset ≡ times h (without (nat_eq root.global) sets.view.unset) + one_if (nat_eq h root.global) =
@@ -118,8 +119,8 @@ module _ (p : Setup) (es : List Event) (v : View) (t t' : PlainTrace) (roots : L
   serves-object lines scans run marked =
       let x : ℕ = grey.object in
       let w : View = scans.view in (
-        scans.pushed,
-        scans.out,
+        scans.tokens.pushed,
+        scans.tokens.out,
         record {
           events = scans.grows.events;
           view = w;
@@ -131,7 +132,7 @@ module _ (p : Setup) (es : List Event) (v : View) (t t' : PlainTrace) (roots : L
           copied = scans.scanned.copied;
           tokens = scans.scanned.tokens;
           grey = λ y k. (let all : hits y k scans.view.grey + one_if (is_pair y k (grey.object, 0))
-              ≡ hits y k (to_scan_in scans.pushed) + hits y k v.grey + one_if (is_pair y k (grey.object, grey.refs)) = scans.scanned.grey y k in
+              ≡ hits y k (to_scan_in scans.tokens.pushed) + hits y k v.grey + one_if (is_pair y k (grey.object, grey.refs)) = scans.scanned.grey y k in
               let one : one_if (nat_eq grey.object y) ≡ objects y (Object grey ∷ []) = sym (object-one grey y) in
               let a : one_if (is_pair y k (grey.object, 0)) ≡ (if nat_eq k 0 then objects y (Object grey ∷ []) else 0) =
               pair-as-if x 0 y k ∙ ap (λ n. if nat_eq k 0 then n else 0) one in

@@ -7,7 +7,8 @@ use Rattle.std.proofs.lemmas.List.Elements.{All-nil, All-cons}
 use Rattle.object_model.specs.Objects.{IsHeld}
 use Rattle.trace_core.specs.Setups.{Setup, refs}
 use Rattle.trace_core.specs.Machine.{Event, ByRoot, Claim}
-use Rattle.trace_core.specs.Views.{View, one_if, is_pair, hits, times, steps_at_claim, asked_view, claimed_view, copied_view}
+use Rattle.trace_core.specs.Views.{View, is_pair, hits, steps_at_claim, asked_view, claimed_view, copied_view}
+use Rattle.object_model.specs.Times.{one_if, times}
 use Rattle.plain_tracer.specs.TokenRights.{IsGrey, copied_in, to_scan_in}
 use Rattle.plain_tracer.specs.Tracers.{Tracks}
 use Rattle.trace_core.specs.CallEvents.{block_taken, taken_in, copying}

@@ -7,7 +7,8 @@ use Rattle.std.proofs.lemmas.List.Elements.{All-nil, All-cons, All-append, All-w
 use Rattle.object_model.specs.Objects.{IsHeld}
 use Rattle.trace_core.specs.Setups.{Setup, refs}
 use Rattle.trace_core.specs.Machine.{Event}
-use Rattle.trace_core.specs.Views.{View, is_pair, hits, times}
+use Rattle.trace_core.specs.Views.{View, is_pair, hits}
+use Rattle.object_model.specs.Times.{times}
 use Rattle.plain_tracer.specs.TokenRights.{IsGrey, copied_in, to_scan_in}
 use Rattle.plain_tracer.specs.Tracers.{Tracks}
 use Rattle.trace_core.specs.declared.run.TraceRun.{TraceRun}

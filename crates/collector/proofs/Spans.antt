@@ -12,7 +12,7 @@ use Rattle.object_model.specs.Releasing.{IsReleasable}
 use Rattle.object_model.proofs.OneKind.{kind-within}
 use Rattle.block_sweeps.specs.Sweeping.{IsOfSpan}
 use Rattle.sessions.proofs.Tails.{small-block}
-use Rattle.collector.proofs.Runs.{no-head-and-tail, run-tail, object, tail-of}
+use Rattle.block_sweeps.proofs.LargeRuns.{no-head-and-tail, run-tail, object, tail-of}
 
 -- block j is `first`, which is no tail of a large run, or a later block of the run that begins there
 pub record FirstOf (s : HeapState) (j : ℕ) : Type 0 where

@@ -13,7 +13,7 @@ use Rattle.sessions.specs.Plans.{Rules}
 use Rattle.plan_api.specs.Releasing.{IsReleased, ReleasesSpan, ReleasesIf, Releases}
 use Rattle.collector.proofs.Metadata.{SameReads, same-reads}
 use Rattle.collector.proofs.Alike.{SameRest, rest-through, rest-back, reads-through, reads-back, kind-same, span-after}
-use Rattle.collector.proofs.Runs.{no-head-and-tail, IsOfNone, some-or-none, span-within, spans-apart, tail-empty, lives-or-not}
+use Rattle.block_sweeps.proofs.LargeRuns.{no-head-and-tail, IsOfNone, some-or-none, span-within, spans-apart, tail-empty, lives-or-not}
 use Rattle.collector.proofs.Releases.{kept, begun}
 use Rattle.collector.proofs.Bare.{IsBare, bare, bare-same}
 use Rattle.collector.proofs.Beside.{rest-beside, beside}

@@ -18,7 +18,8 @@ use Rattle.trace_core.specs.Setups.{Setup, blocks, collection, held, stays_old}
 use Rattle.trace_core.specs.Machine.{Event}
 use Rattle.trace_core.specs.Traces.{IsTracing, IsFinished, machine_after, heap_after, stage_of}
 use Rattle.trace_core.specs.Outcomes.{base_after_trace, image}
-use Rattle.trace_core.specs.Views.{one_if, times, without}
+use Rattle.trace_core.specs.Views.{without}
+use Rattle.object_model.specs.Times.{one_if, times}
 use Rattle.trace_core.specs.Runs.{is_nursery}
 use Rattle.trace_core.specs.Rooms.{IsFilled}
 use Rattle.trace_core.proofs.CountedRights.{count-cons, times-without}

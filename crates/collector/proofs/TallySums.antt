@@ -7,7 +7,7 @@ use Rattle.std.proofs.lemmas.List.Elements.{All-head, All-tail}
 use Rattle.std.proofs.lemmas.List.FromFn.{length-range_with_len}
 use Rattle.std.proofs.lemmas.List.Sums.{sum_by-cons, sum_by-le}
 use Rattle.heap_layout.specs.Zones.{row_words}
-use Rattle.trace_core.specs.Views.{one_if, times}
+use Rattle.object_model.specs.Times.{one_if, times}
 use Rattle.plain_tracer.specs.TokenRights.{copied_in}
 use Rattle.plain_tracer.specs.declared.tokens.Grey.{Grey}
 use Rattle.trace_core.proofs.CountedRights.{times-cons}
@@ -67,20 +67,8 @@ sum-only weight x a (suc n) from below =
           let rest : sum_over (only weight x) (a + 1) n ≡ weight x = sum-only weight x (a + 1) n (omega arith) (omega arith) in omega arith)
     ]
 
-sum-part : (f : ℕ → ℕ) (x a n : ℕ) → a ≤ x → x < a + n → f x ≤ sum_over f a n
-sum-part f x a zero from below = absurd (omega arith)
-sum-part f x a (suc n) from below =
-    let all : sum_over f a (suc n) ≡ f a + sum_over f (a + 1) n = sum-first f a n in
-    elim (cases_eq a x) as (λ _. f x ≤ sum_over f a (suc n)) [
-      | inl e ↦ (let here : f a ≡ f x = ap f e in omega arith)
-      | inr ne ↦ (let rest : f x ≤ sum_over f (a + 1) n = sum-part f x (a + 1) n (omega arith) (omega arith) in omega arith)
-    ]
-
 -- sums over all addresses
 module _ (b : ℕ) where
-  pub total-part : (f : ℕ → ℕ) (x : ℕ) → x < row_words b → f x ≤ total b f
-  total-part f x below = sum-part f x 0 (row_words b) (omega arith) (omega arith)
-
   pub total-same : (f g : ℕ → ℕ) → ((i : ℕ) → i < row_words b → f i ≡ g i) → total b f ≡ total b g
   total-same f g same = sum-same f g 0 (row_words b) (λ i _ below. same i (omega arith))
 

@@ -10,7 +10,8 @@ use Rattle.trace_core.specs.Setups.{Setup, blocks, size}
 use Rattle.trace_core.specs.Machine.{Event, Machine, address_or_nil}
 use Rattle.trace_core.specs.Traces.{IsTracing, IsFinished, machine_after, stage_of, target_of}
 use Rattle.trace_core.specs.Outcomes.{image}
-use Rattle.trace_core.specs.Views.{View, Holds, one_if, times}
+use Rattle.trace_core.specs.Views.{View, Holds}
+use Rattle.object_model.specs.Times.{one_if, times}
 use Rattle.trace_core.specs.Rooms.{IsLeftFor, AreLeft}
 use Rattle.trace_core.proofs.Rows.{row}
 use Rattle.trace_core.proofs.Clauses.{held-of, has-room, owned-word}

@@ -38,7 +38,7 @@ module _ (h : ℕ) where
       (places-of ps (λ i some. places i (let both = registers-append i p.items.items (items_of ps) in omega arith)))
 
 pub takes-awaited : (start : TracingStart) (w : PacketTracer) (ps : List (Packet Item)) → AwaitsPackets start w ps → All (TakesPlaces (length w.roots.items)) ps
-takes-awaited start w ps aw = places-of (length w.roots.items) ps aw.awaited.rights.places
+takes-awaited start w ps aw = places-of (length w.roots.items) ps aw.awaited.tracer.rights.places
 
 -- packets of the trace after one of its buckets
 module _ (b : Bucket) where

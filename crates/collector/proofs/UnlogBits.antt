@@ -1,57 +1,28 @@
--- After a trace that began with no unlog bit set, the unlog bits show what lives.
-use Rattle.std.proofs.Common.{◌≡◌, sym, ◌∙◌, ap, subst, ℕ, ◌<◌, inl, inr, arith, false, true≢false, ◌&&◌, not, IsTrue, List, Some}
+-- After a trace the unlog bits show what lives.
+use Rattle.std.proofs.Common.{sym, ◌∙◌, ap, subst, ℕ, ◌<◌, inl, inr, arith, true≢false, List}
 use Rattle.heap_layout.specs.Zones.{block_at, IsAddress}
 use Rattle.heap_layout.specs.declared.layout.Layout.{Layout}
 use Rattle.object_model.specs.declared.collect.Collect.{Collect}
-use Rattle.object_model.specs.Objects.{HeapState, state_over, is_unlogged}
-use Rattle.object_model.specs.Ages as ages
-use Rattle.object_model.specs.Ages.{Lives}
+use Rattle.object_model.specs.Objects.{HeapState, state_over}
 use Rattle.object_model.specs.Releasing.{IsReleasable}
 use Rattle.block_sweeps.specs.Sweeping.{InBlock}
 use Rattle.sessions.specs.Plans.{Rules}
-use Rattle.trace_core.specs.Setups.{Setup, blocks, held, was_logged}
-use Rattle.trace_core.specs.Machine.{Event, target}
-use Rattle.trace_core.specs.Traces.{IsTracing, IsFinished, machine_after, heap_after, stage_of, target_of}
-use Rattle.trace_core.specs.Outcomes.{base_after_trace, image, FinishedRow}
+use Rattle.trace_core.specs.Setups.{Setup, blocks, held}
+use Rattle.trace_core.specs.Machine.{Event}
+use Rattle.trace_core.specs.Traces.{IsTracing, IsFinished, machine_after, heap_after}
+use Rattle.trace_core.specs.Outcomes.{base_after_trace}
 use Rattle.trace_core.proofs.Rows.{row}
-use Rattle.trace_core.proofs.Clauses.{unlogs-from}
-use Rattle.trace_core.proofs.Finished.{lives, onto}
 use Rattle.trace_core.proofs.Releasable.{releasable}
 use Rattle.collector.specs.Released.{ReleasesBelow, UnlogBitsMarkSurvivors}
 use Rattle.collector.proofs.Metadata.{SameReads}
 use Rattle.collector.proofs.Alike.{SameRest, rest-back, reads-back, held-after, lives-after}
 use Rattle.collector.proofs.Bare.{IsBare}
-use Rattle.collector.proofs.Runs.{some-or-none, span-tail}
+use Rattle.block_sweeps.proofs.LargeRuns.{some-or-none, span-tail}
 use Rattle.collector.proofs.Steps.{IsReleasedBelow, tail-bare}
 use Rattle.collector.proofs.InOrder.{released-below}
 
-module _ (p : Setup) (es : List Event) (trace : IsTracing p es) (finished : IsFinished p (machine_after p es))
-    (full : p.nursery ≡ false) (clear : (a : ℕ) → is_unlogged p.before a ≡ false) where
-  abbrev after : HeapState
-  after = heap_after p es
-
-  left : FinishedRow p after (image (stage_of p es)) (machine_after p es).taken
-  left = row p es trace finished
-
-  -- no object is old
-  not-logged : (x : ℕ) → was_logged p x ≡ false
-  not-logged x = ap (λ nursery. (nursery && (held p x && ages.is_old p.before x)) && not (is_unlogged p.before x)) full
-
-  living-marked : (a : ℕ) → Lives (base_after_trace p) after a → IsTrue (is_unlogged after a)
-  living-marked a living =
-      let by = onto p es trace finished a living in
-      subst (λ t. IsTrue (is_unlogged after t)) by.2 (left.unlogged by.0 by.1 (not-logged by.0))
-
-  marked-lives : (a : ℕ) → IsTrue (is_unlogged after a) → Lives (base_after_trace p) after a
-  marked-lives a set = elim (unlogs-from p es trace a set) as (λ _. Lives (base_after_trace p) after a) [
-    | inl was ↦ absurd (true≢false (sym was ∙ clear a))
-    | inr by ↦
-        let goes : target_of p es by.0 ≡ Some a = elim by.3 as (λ _. target_of p es by.0 ≡ Some a) [ inl scans ↦ ap target scans | inr copies ↦ ap target copies.0 ] in
-        lives p es trace finished by.0 a goes
-  ]
-
-  pub marks : (k : ℕ) → UnlogBitsMarkSurvivors (base_after_trace p) after k
-  marks k a here there = (living-marked a, marked-lives a)
+pub marks : (p : Setup) (es : List Event) → IsTracing p es → IsFinished p (machine_after p es) → (k : ℕ) → UnlogBitsMarkSurvivors (base_after_trace p) (heap_after p es) k
+marks p es trace finished k a here there = let both = (row p es trace finished).unlogs a in (both.1, both.0)
 
 -- a block without objects
 bare-marks : (base : ℕ) (s : HeapState) (k : ℕ) → IsBare s k → UnlogBitsMarkSurvivors base s k
@@ -83,11 +54,10 @@ module _ (r : Rules) (c : Collect) (base : ℕ) (s : HeapState) (ready : (k : �
   ]
 
 pub marks-next : (p : Setup) (es : List Event) (r : Rules) (c : Collect) (mid : HeapState) (n : ℕ) → IsTracing p es → IsFinished p (machine_after p es)
-    → p.nursery ≡ false → ((a : ℕ) → is_unlogged p.before a ≡ false)
     → ReleasesBelow r c (base_after_trace p) (heap_after p es) mid n → n < blocks p → UnlogBitsMarkSurvivors (base_after_trace p) mid n
-marks-next p es r c mid n trace finished full clear below there =
+marks-next p es r c mid n trace finished below there =
     let ready : (k : ℕ) → k < blocks p → IsReleasable (heap_after p es) k = releasable p es trace finished in
-    marks-still r c (base_after_trace p) (heap_after p es) ready mid n there (released-below r c (base_after_trace p) (heap_after p es) ready mid n below) (marks p es trace finished full clear n)
+    marks-still r c (base_after_trace p) (heap_after p es) ready mid n there (released-below r c (base_after_trace p) (heap_after p es) ready mid n below) (marks p es trace finished n)
 
 -- the numbers of a heap are no part of it
 pub marks-again : (age : ℕ) (words : List ℕ) (l : Layout) (number base number' base' k : ℕ) → UnlogBitsMarkSurvivors age (state_over words l number base) k → UnlogBitsMarkSurvivors age (state_over words l number' base') k

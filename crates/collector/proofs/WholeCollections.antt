@@ -1,11 +1,11 @@
 -- A finished trace and the release of all blocks make a collection.
-use Rattle.std.proofs.Common.{◌≡◌, refl, sym, ◌∙◌, ap, ap₂, subst, subst₂, ℕ, ◌+◌, ◌^◌, ◌<◌, ◌≤◌, arith, Bool, false, List, [], map, length, Option, Some, None}
+use Rattle.std.proofs.Common.{◌≡◌, refl, sym, ◌∙◌, ap, ap₂, subst, subst₂, ℕ, ◌+◌, ◌^◌, ◌<◌, ◌≤◌, arith, Bool, false, IsTrue, nat_lt, List, [], map, length, Option, Some, None}
 use Rattle.std.specs.Prelude.{if◌then◌else◌, slice_get, unwrap_or}
 use Rattle.std.proofs.lemmas.Bool.{cond-true, cond-false}
 use Rattle.heap_layout.specs.declared.block.Kind.TheVariants as kinds
 use Rattle.object_model.specs.declared.collect.Collect.{Collect}
 use Rattle.object_model.specs.declared.collect.Collect.TheVariants.{Nursery, Full}
-use Rattle.object_model.specs.Objects.{HeapState, HasKind, word_at, with_words}
+use Rattle.object_model.specs.Objects.{HeapState, HasKind, IsHeld, word_at, with_words}
 use Rattle.object_model.specs.Lawful.{IsLawful}
 use Rattle.sessions.specs.Plans.{Rules, Plan, rules_of}
 use Rattle.sessions.specs.Collecting as collecting
@@ -17,11 +17,13 @@ use Rattle.trace_core.specs.Machine.{Event}
 use Rattle.trace_core.specs.Traces.{IsTracing, IsFinished, machine_after, heap_after, stage_of}
 use Rattle.trace_core.specs.Outcomes.{base_after_trace, image, HaveAsked, NoOthersAsked}
 use Rattle.trace_core.specs.Rooms.{AreLeft}
-use Rattle.trace_core.specs.Runs.{is_nursery, is_some_true, without_lines, without_unlogs, setup_of, MayRun}
+use Rattle.trace_core.specs.Runs.{is_nursery, is_some_true, without_lines, without_unlogs, with_unlogs, setup_of, MayRun}
 use Rattle.trace_core.specs.Views.{View, Holds}
 use Rattle.trace_core.specs.declared.run.TraceRun.{TraceRun}
 use Rattle.trace_core.proofs.WithoutLines as lines
 use Rattle.trace_core.proofs.Begun as begins
+use Rattle.trace_core.proofs.SetUnlogs as sets
+use Rattle.object_model.specs.Times.{times}
 use Rattle.trace_core.proofs.Begun.{by-begun}
 use Rattle.collector.specs.Released.{ReleasesBelow, AreReleased, with_numbers}
 use Rattle.collector.specs.Collected.{IsRunUnder, FillsBlocks, FillsInTurn}
@@ -80,9 +82,10 @@ pub record IsNumbered (s : HeapState) (run : TraceRun) (p : Setup) : Type 0 wher
 module _ (s : HeapState) (run : TraceRun) (w : ℕ) where
   -- the setup, by the heap as its trace begins
   abbrev setup : HeapState → Setup
-  setup h = record { before = h; nursery = is_nursery run.collect; from = λ b. is_some_true (slice_get run.from.items b); copy = run.copy_kind; workers = w }
+  setup h = record { before = h; nursery = is_nursery run.collect; logged = λ a. nat_lt 0 (times a run.logged.items); from = λ b. is_some_true (slice_get run.from.items b); copy = run.copy_kind; workers = w }
 
-  by-heap : (P : Setup → Type 0) → P (setup (without_unlogs (without_lines s))) → P (setup (without_unlogs s)) → P (setup s) → P (setup_of s run w)
+  by-heap : (P : Setup → Type 0) → P (setup (without_unlogs (without_lines s))) → P (setup (without_unlogs s)) → (IsTrue (is_nursery run.collect) → P (setup (with_unlogs s run.logged.items)))
+      → P (setup_of s run w)
   by-heap P = by-begun s run (λ h. P (setup h))
 
   module _ (may : MayRun s run) where
@@ -96,7 +99,7 @@ module _ (s : HeapState) (run : TraceRun) (w : ℕ) where
         }
 
     pub numbered : (p : Setup) → p ≡ setup_of s run w → IsNumbered s run p
-    numbered p is = subst (IsNumbered s run) (sym is) (by-heap (IsNumbered s run) (numbered-by (without_unlogs (without_lines s)) refl) (numbered-by (without_unlogs s) refl) (numbered-by s refl))
+    numbered p is = subst (IsNumbered s run) (sym is) (by-heap (IsNumbered s run) (numbered-by (without_unlogs (without_lines s)) refl) (numbered-by (without_unlogs s) refl) (λ young. numbered-by (with_unlogs s run.logged.items) refl))
 
     -- what the release of all blocks left, by the setup's numbers
     releases : (p : Setup) → IsNumbered s run p → (es : List Event) (r : Rules) (c : Collect) (new : HeapState) → IsTracing p es → IsFinished p (machine_after p es)
@@ -145,11 +148,20 @@ module _ (q : Plan) (c : Collect) (s : HeapState) (run : TraceRun) (w : ℕ) (la
         blocks = λ k there. sym (keeps.block_words k there ∙ lines.block-same s lawful-before.but_lines k there);
       }
 
-  itself : SameButBits s s.words
-  itself = record {
-    heap = record { words = λ i above. refl; globals = λ g few. refl; starts = λ x. refl; pins = λ x. refl };
-    blocks = λ k there. refl;
-  }
+  -- with those of the logged objects set
+  marked : IsTrue (is_nursery run.collect) → SameButBits (with_unlogs s run.logged.items) s.words
+  marked young =
+      let lawful = lawful-before.but_lines in
+      let held : (x : ℕ) → 0 < times x run.logged.items → IsHeld s x = begins.listed-held s run.logged.items (may.nursery young) in
+      let same = sets.alike s lawful run.logged.items held in record {
+        heap = record {
+          words = λ i above. sym (same.words i above);
+          globals = λ g few. sym (same.globals g few);
+          starts = λ x. sym (same.starts x);
+          pins = λ x. sym (same.pins x);
+        };
+        blocks = λ k there. sym (sets.word-same s lawful run.logged.items held k there);
+      }
 
   module _ (h : HeapState) (like : SameButBits h s.words) (same : with_words h s.words ≡ s) where
     abbrev p : Setup
@@ -181,7 +193,7 @@ module _ (q : Plan) (c : Collect) (s : HeapState) (run : TraceRun) (w : ℕ) (la
         (collects under trace finished (all-numbered p es trace finished r c new (collection p) (base_after_trace p) are) roots asked no-others fills, refl))))
 
   pub makes : (p : Setup) → p ≡ setup_of s run w → Makes p
-  makes p is = subst Makes (sym is) (by-heap s run w Makes (of-setup (without_unlogs (without_lines s)) both refl) (of-setup (without_unlogs s) unlogs refl) (of-setup s itself refl))
+  makes p is = subst Makes (sym is) (by-heap s run w Makes (of-setup (without_unlogs (without_lines s)) both refl) (of-setup (without_unlogs s) unlogs refl) (λ young. of-setup (with_unlogs s run.logged.items) (marked young) refl))
 
   -- how one worker filled blocks
   abbrev Turns : Setup → Type 0
@@ -193,4 +205,4 @@ module _ (q : Plan) (c : Collect) (s : HeapState) (run : TraceRun) (w : ℕ) (la
       (fills-in-turn (setup s run w h) s.words like es trace finished v holds left lowest)
 
   pub turns : (p : Setup) → p ≡ setup_of s run w → Turns p
-  turns p is = subst Turns (sym is) (by-heap s run w Turns (turns-by (without_unlogs (without_lines s)) both refl) (turns-by (without_unlogs s) unlogs refl) (turns-by s itself refl))
+  turns p is = subst Turns (sym is) (by-heap s run w Turns (turns-by (without_unlogs (without_lines s)) both refl) (turns-by (without_unlogs s) unlogs refl) (λ young. turns-by (with_unlogs s run.logged.items) (marked young) refl))

@@ -12,7 +12,7 @@ use Rattle.sessions.specs.Plans.{Rules}
 use Rattle.sessions.specs.Collecting.{CollectsIf, is_evacuated}
 use Rattle.trace_core.specs.Setups.{Setup}
 use Rattle.trace_core.specs.Machine.{Machine}
-use Rattle.trace_core.specs.Views.{times}
+use Rattle.object_model.specs.Times.{times}
 use Rattle.trace_core.specs.Rooms.{IsFilled}
 use Rattle.trace_core.specs.declared.run.TraceRun.{TraceRun}
 

@@ -1,23 +1,34 @@
 -- What is known of a finished trace as its blocks are released, and what that shows of a block.
-use Rattle.std.specs.Prelude.{◌≡◌, ℕ, false, List}
-use Rattle.object_model.specs.Objects.{HeapState}
-use Rattle.trace_core.specs.Setups.{Setup}
+use Rattle.std.specs.Prelude.{◌≡◌, ℕ, ◌<◌, Bool, List}
+use Rattle.object_model.specs.declared.collect.Collect.{Collect}
+use Rattle.object_model.specs.Objects.{HeapState, block_word}
+use Rattle.sessions.specs.Plans.{Rules}
+use Rattle.trace_core.specs.Setups.{Setup, blocks}
 use Rattle.trace_core.specs.Machine.{Event}
-use Rattle.collector.specs.Released.{MoveAll, OwnerShowsWhatLives, UnlogBitsMarkSurvivors, LinesOfTargetsAreMarked, LineBitsMarkSurvivors}
+use Rattle.trace_core.specs.declared.run.TraceRun.{TraceRun}
+use Rattle.collector.specs.Collected.{IsRunUnder}
+use Rattle.collector.specs.Released.{UnlogBitsMarkSurvivors, LinesOfTargetsAreMarked, LineBitsMarkSurvivors, FlagShowsEvacuation}
 use Rattle.collector.specs.declared.releasing.Known.{Known}
 use Rattle.collector.specs.declared.releasing.Known.TheVariants as known
 
--- the trace was so
-abbrev pub IsKnown : Setup → List Event → Known → Type 0
-IsKnown p es known.Nothing = Unit {0}
-IsKnown p es known.AllMoved = MoveAll p es
-IsKnown p es known.Full = p.nursery ≡ false
-IsKnown p es known.FullWithLines = (p.nursery ≡ false) × LinesOfTargetsAreMarked p es
+-- The trace's run is that of a collection of a heap under these rules, and the trace began with the
+-- block words of that heap.
+pub record IsTracedUnder (r : Rules) (run : TraceRun) (p : Setup) : Type 0 where
+  pub heap : HeapState
+  pub under : IsRunUnder r run.collect heap run
+  pub blocks : blocks p ≡ heap.blocks
+  pub words : (k : ℕ) → k < heap.blocks → block_word p.before k ≡ block_word heap k
 
--- so these bits of block k, or its owner, show what lives in it
-abbrev pub ShowsWhatLives : Known → ℕ → HeapState → ℕ → Type 0
-ShowsWhatLives known.Nothing base s k = Unit {0}
-ShowsWhatLives known.AllMoved base s k = OwnerShowsWhatLives base s k
-ShowsWhatLives known.Full base s k = UnlogBitsMarkSurvivors base s k
-ShowsWhatLives known.FullWithLines base s k = UnlogBitsMarkSurvivors base s k
-    × LineBitsMarkSurvivors base s k
+-- the trace was so
+abbrev pub IsKnown : Rules → TraceRun → Setup → List Event → Known → Type 0
+IsKnown r run p es known.Nothing = Unit {0}
+IsKnown r run p es known.Flags = IsTracedUnder r run p
+IsKnown r run p es known.FlagsAndLines = IsTracedUnder r run p × LinesOfTargetsAreMarked p es
+
+-- so the bits of block k show what lives in it, and its flag whether it is Kept
+abbrev pub ShowsRelease : Known → Rules → Collect → ℕ → HeapState → ℕ → Bool → Type 0
+ShowsRelease known.Nothing r c base s k flag = Unit {0}
+ShowsRelease known.Flags r c base s k flag = UnlogBitsMarkSurvivors base s k
+    × FlagShowsEvacuation r c s k flag
+ShowsRelease known.FlagsAndLines r c base s k flag = UnlogBitsMarkSurvivors base s k
+    × FlagShowsEvacuation r c s k flag × LineBitsMarkSurvivors base s k

@@ -1,5 +1,5 @@
 -- The release of all blocks of a row, one after another.
-use Rattle.std.specs.Prelude.{◌≡◌, ◌≢◌, ◌↔◌, ℕ, ◌+◌, ◌*◌, ◌<◌, ◌^◌, ◌&&◌, IsTrue, false, length, Some, List}
+use Rattle.std.specs.Prelude.{◌≡◌, ◌↔◌, ℕ, ◌+◌, ◌*◌, ◌<◌, ◌^◌, ◌&&◌, Bool, IsTrue, false, length, Some, List}
 use Rattle.heap_layout.specs.Zones.{LineWords, bit_of, block_at}
 use Rattle.heap_layout.specs.declared.layout.TheConstants.{BLOCK_LINES}
 use Rattle.heap_layout.specs.declared.block.Kind.TheVariants as kinds
@@ -7,14 +7,15 @@ use Rattle.object_model.specs.declared.collect.Collect.{Collect}
 use Rattle.object_model.specs.Objects.{HeapState, HasKind, word_at, owner_at, line_marked, is_unlogged, IsHeld, size_at}
 use Rattle.object_model.specs.Lines.{TouchesLine}
 use Rattle.object_model.specs.Ages.{is_survivor, Lives}
-use Rattle.block_sweeps.specs.Sweeping.{IsMetadata, InBlock, HasNoLiving}
+use Rattle.block_sweeps.specs.Sweeping.{IsMetadata, InBlock}
 use Rattle.side_meta.specs.BitWords.{has_bit}
 use Rattle.block_sweeps.specs.WordSweeps.{start_word, unlog_word, address_of}
 use Rattle.sessions.specs.Plans.{Rules}
+use Rattle.sessions.specs.Collecting.{is_evacuated}
 use Rattle.trace_core.specs.Setups.{Setup, blocks, size}
 use Rattle.trace_core.specs.Machine.{Event}
 use Rattle.trace_core.specs.Traces.{heap_after, target_of}
-use Rattle.plan_api.specs.Releasing.{Releases, IsReleased}
+use Rattle.plan_api.specs.Releasing.{Releases, IsReleased, is_kept_kind}
 
 -- The blocks below n were released, in order: the row was s and is now the last state.
 pub data ReleasesBelow (r : Rules) (c : Collect) (base : ℕ) (s : HeapState) : HeapState → ℕ
@@ -43,16 +44,6 @@ with_numbers s number base = record {
   number = number;
   base = base;
 }
-
--- each object that the trace keeps has a target other than its own place
-abbrev pub MoveAll : Setup → List Event → Type 0
-MoveAll p es = (x t : ℕ) → target_of p es x ≡ Some t → t ≢ x
-
--- The owner of block k shows what lives in it: all objects that begin in it if it has an owner, as
--- the workers of a trace are of the blocks that they copy into, and none if it has no owner.
-pub record OwnerShowsWhatLives (base : ℕ) (s : HeapState) (k : ℕ) : Type 0 where
-  pub owned : 0 < owner_at s k → (a : ℕ) → InBlock s k a → IsHeld s a → Lives base s a
-  pub unowned : owner_at s k ≡ 0 → HasNoLiving base s (InBlock s k)
 
 -- The unlog bits of block k show what lives in it: an object that is held there lives if and only
 -- if its unlog bit is set.
@@ -84,3 +75,10 @@ pub record LivesOnLine (base : ℕ) (s : HeapState) (k line : ℕ) : Type 0 wher
 abbrev pub LineBitsMarkSurvivors : ℕ → HeapState → ℕ → Type 0
 LineBitsMarkSurvivors base s k = HasKind s k kinds.Immix → (line : ℕ) → line < BLOCK_LINES
     → IsTrue (line_marked s k line) ↔ LivesOnLine base s k line
+
+-- The flag is that of block k, whether it was evacuated, if it is Bump, Young, Mature or Kept and
+-- has no owner. A block that a worker took for copies has one. Of these kinds the rules ask the
+-- block's kind alone, which no trace changes.
+abbrev pub FlagShowsEvacuation : Rules → Collect → HeapState → ℕ → Bool → Type 0
+FlagShowsEvacuation r c s k flag = IsTrue (is_kept_kind s k) → owner_at s k ≡ 0
+    → is_evacuated r c s k ≡ flag

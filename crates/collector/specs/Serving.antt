@@ -7,7 +7,8 @@ use Rattle.object_model.specs.Lines.{TouchesLine}
 use Rattle.trace_core.specs.Setups.{Setup, blocks, size, refs}
 use Rattle.trace_core.specs.Machine.{Event}
 use Rattle.trace_core.specs.Traces.{heap_after, target_of}
-use Rattle.trace_core.specs.Views.{View, hits, times}
+use Rattle.trace_core.specs.Views.{View, hits}
+use Rattle.object_model.specs.Times.{times}
 use Rattle.plain_tracer.specs.TokenRights.{IsGrey, IsReached, grey_of, copied_in, to_scan_in}
 use Rattle.plain_tracer.specs.Tracers.{Tracks}
 use Rattle.plain_tracer.specs.declared.plain_trace.PlainTrace.{PlainTrace}

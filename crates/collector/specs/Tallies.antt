@@ -4,8 +4,10 @@ use Rattle.std.specs.List.{range_with_len}
 use Rattle.heap_layout.specs.Zones.{row_words}
 use Rattle.heap_layout.specs.declared.block.Kind.TheVariants as kinds
 use Rattle.object_model.specs.Objects.{HeapState, has_kind, is_start, number_at, size_at, block_count}
+use Rattle.object_model.specs.Ages.{is_old}
 use Rattle.object_model.specs.declared.collect.Collect.{Collect}
-use Rattle.trace_core.specs.Views.{one_if, times}
+use Rattle.object_model.specs.declared.collect.Collect.TheVariants.{Nursery, Full}
+use Rattle.object_model.specs.Times.{one_if, times}
 use Rattle.plain_tracer.specs.declared.tokens.Grey.{Grey}
 use Rattle.collector.specs.declared.tally.Tally.{Tally}
 use Rattle.collector.specs.declared.outcome.Note.{Note}
@@ -41,17 +43,24 @@ abbrev pub unclaimed : HeapState → ℕ → ℕ
 unclaimed s number =
     total s.blocks (λ a. one_if (is_start s a && not (nat_eq (number_at s a) number)))
 
--- The note of a full collection which preserves the objects that have a target, and where each
--- target is.
+-- The note counts the object: the collection preserves it and claimed it. A full collection claims
+-- each object that it preserves, a nursery one none that was old.
+abbrev pub is_counted : Collect → HeapState → (ℕ → ℕ) → ℕ → Bool
+is_counted Full s target a = nat_lt 0 (target a)
+is_counted Nursery s target a = nat_lt 0 (target a) && not (is_old s a)
+
+-- The note of a collection which preserves the objects that have a target, and where each target
+-- is. It counts the claimed ones.
 pub record IsNote (c : Collect) (s : HeapState) (target : ℕ → ℕ) (new : HeapState) (note : Note)
     : Type 0 where
   pub collect : note.collect ≡ c
-  pub kept : note.kept ≡ total s.blocks (λ a. one_if (nat_lt 0 (target a)))
-  pub moved : note.moved
-      ≡ total s.blocks (λ a. one_if (nat_lt 0 (target a) && not (nat_eq (target a) a)))
+  pub kept : note.kept ≡ total s.blocks (λ a. one_if (is_counted c s target a))
+  pub moved : note.moved ≡ total s.blocks
+      (λ a. one_if (is_counted c s target a && not (nat_eq (target a) a)))
   pub in_place : note.in_place ≡ total s.blocks
-      (λ a. one_if (nat_lt 0 (target a) && nat_eq (target a) a))
-  pub words : note.kept_words ≡ total s.blocks (λ a. one_if (nat_lt 0 (target a)) * size_at s a)
+      (λ a. one_if (is_counted c s target a && nat_eq (target a) a))
+  pub words : note.kept_words ≡ total s.blocks
+      (λ a. one_if (is_counted c s target a) * size_at s a)
   pub free : note.free_blocks ≡ block_count new (λ k. has_kind new k kinds.Free)
 
 -- the target of each object where it is: a collection that reclaims nothing preserves all that is

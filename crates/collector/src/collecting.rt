@@ -184,7 +184,8 @@ fn run_packets<Q: Pool, G: Gate, R: Threads + Sync>(
 
 /// The heap after a trace of which nothing is left to do.
 fn finish<P: Plan>(trace: PacketTracer) -> Collected
-    requires { (start : TracingStart) × IsFullTracer start trace }
+    requires { (start : TracingStart) × IsFullTracer start trace
+        × IsRunUnder P.rules start.run.collect (heap_state start.heap) start.run }
     ensures { (start : TracingStart) → IsFullTracer start trace → P.rules.collects ≡ true
         → IsRunUnder P.rules start.run.collect (heap_state start.heap) start.run
         → (made : Collects P.rules 1 start.run.collect (heap_state start.heap)
@@ -200,7 +201,7 @@ fn finish<P: Plan>(trace: PacketTracer) -> Collected
     } = trace;
     let traced = tracer.close();
     let collect = traced.run.collect;
-    let known = known_after(collect, tally.kept == tally.moved, traced.run.lines);
+    let known = known_after(collect, traced.run.lines);
     let heap = release_by::<P>(traced, known);
     let free_blocks = block_counts(&heap).free;
     Collected {

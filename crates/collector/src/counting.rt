@@ -4,11 +4,13 @@ ghost use Rattle.std.specs.Prelude.{◌≡◌, ◌+◌, ◌*◌, ◌^◌, ◌<�
 ghost use Rattle.std.specs.List.{range_with_len};
 ghost use Rattle.object_model.specs.Objects.{is_start, size_at};
 ghost use Rattle.object_model.specs.Heaps.{heap_state};
-ghost use Rattle.trace_core.specs.Views.{one_if};
+ghost use Rattle.object_model.specs.Times.{one_if};
 ghost use Rattle.block_sweeps.specs.WordSweeps.{address_of};
 ghost use Rattle.collector.specs.Tallies.{total};
 
+use heap_layout::BLOCK_BIT_WORDS;
 use object_model::{Heap, size_words};
+use side_meta::BITS_PER_WORD;
 
 /// The number of objects that are held, and their words. It reads the start bits, 64 at a time, and
 /// the shapes of the objects.
@@ -20,7 +22,7 @@ pub(crate) fn count_held(heap: &Heap) -> (u32, u64)
 {
     let mut objects: u32 = 0;
     let mut words: u64 = 0;
-    for index in 0..64 * heap.layout().blocks() {
+    for index in 0..BLOCK_BIT_WORDS * heap.layout().blocks() {
         let (more, more_words) = count_starts(heap, index);
         objects += more;
         words += more_words as u64;
@@ -40,7 +42,7 @@ fn count_starts(heap: &Heap, index: u32) -> (u32, u32)
         (range_with_len 0 64) }
     ensures few { result.1 < 2 ^ 32 }
 {
-    let first = heap.layout().heap_base() + 64 * index;
+    let first = heap.layout().heap_base() + BITS_PER_WORD * index;
     let mut rest = heap.words()[(heap.layout().start_base() + index) as usize];
     let mut objects: u32 = 0;
     let mut words: u32 = 0;

@@ -1,6 +1,6 @@
 //! Laws of the release of all blocks after a trace, and of the collection that both make.
 
-ghost use Rattle.std.specs.Prelude.{◌≡◌, ◌↔◌, ◌^◌, ◌<◌, ℕ, List, IsTrue, true, false, map};
+ghost use Rattle.std.specs.Prelude.{◌≡◌, ◌↔◌, ◌^◌, ◌<◌, ℕ, Bool, Some, List, IsTrue, true, false, map, slice_get};
 ghost use Rattle.heap_layout.specs.Zones.{block_at};
 ghost use Rattle.heap_layout.specs.declared.layout.TheConstants.{BLOCK_LINES};
 ghost use Rattle.heap_layout.specs.declared.block.Kind.TheVariants as kinds;
@@ -21,7 +21,8 @@ ghost use Rattle.trace_core.specs.Runs.{setup_of, MayRun};
 ghost use Rattle.trace_core.specs.declared.run.TraceRun.{TraceRun};
 ghost use Rattle.plan_api.specs.Releasing.{Releases};
 ghost use Rattle.collector.specs.Collected.{IsOffered, IsRunUnder, FillsBlocks};
-ghost use Rattle.collector.specs.Released.{ReleasesBelow, AreReleased, with_numbers, MoveAll, OwnerShowsWhatLives, UnlogBitsMarkSurvivors, LinesOfTargetsAreMarked, LineBitsMarkSurvivors};
+ghost use Rattle.collector.specs.Released.{ReleasesBelow, AreReleased, with_numbers, UnlogBitsMarkSurvivors, LinesOfTargetsAreMarked, LineBitsMarkSurvivors, FlagShowsEvacuation};
+ghost use Rattle.collector.specs.Knowing.{IsTracedUnder};
 
 /// After a finished trace the blocks can be released in order: the next block may be released each
 /// time. What each release left stays, and no word but metadata of blocks changes.
@@ -36,20 +37,11 @@ pub fn blocks_are_released_in_order()
         → AreReleased r c (base_after_trace p) (heap_after p es) mid n }
 {}
 
-/// After a finished trace in which all that is kept moved, the owner of a block shows what lives in
-/// it.
-pub fn owners_show_what_lives()
-    ensures { (p : Setup) (es : List Event) (k : ℕ) → IsTracing p es
-        → IsFinished p (machine_after p es) → MoveAll p es → k < blocks p
-        → OwnerShowsWhatLives (base_after_trace p) (heap_after p es) k }
-{}
-
-/// After a finished trace of a full collection, which began with no unlog bit set, the unlog bits
-/// of a block show what lives in it.
+/// After a finished trace, of a full or of a nursery collection, the unlog bits of a block show
+/// what lives in it.
 pub fn unlog_bits_show_what_lives()
     ensures { (p : Setup) (es : List Event) (k : ℕ) → IsTracing p es
-        → IsFinished p (machine_after p es) → p.nursery ≡ false
-        → ((a : ℕ) → is_unlogged p.before a ≡ false)
+        → IsFinished p (machine_after p es)
         → UnlogBitsMarkSurvivors (base_after_trace p) (heap_after p es) k }
 {}
 
@@ -60,6 +52,15 @@ pub fn line_bits_show_what_lives()
     ensures { (p : Setup) (es : List Event) (k : ℕ) → IsTracing p es
         → IsFinished p (machine_after p es) → LinesOfTargetsAreMarked p es → k < blocks p
         → LineBitsMarkSurvivors (base_after_trace p) (heap_after p es) k }
+{}
+
+/// After a finished trace of a run under these rules, the run's flag of a block shows whether the
+/// block was evacuated.
+pub fn flags_show_evacuation()
+    ensures { (r : Rules) (run : TraceRun) (p : Setup) (es : List Event) (k : ℕ) (flag : Bool)
+        → IsTracedUnder r run p → IsTracing p es → IsFinished p (machine_after p es)
+        → k < blocks p → slice_get run.from.items k ≡ Some flag
+        → FlagShowsEvacuation r run.collect (heap_after p es) k flag }
 {}
 
 /// If each block of the row after a finished trace was released, the objects held are exactly those

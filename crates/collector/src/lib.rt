@@ -15,8 +15,8 @@ mod worker;
 pub use collecting::collect;
 pub use item::Item;
 pub use laws::{
-    blocks_are_released_in_order, line_bits_show_what_lives, offered_collections,
-    owners_show_what_lives, released_heaps_are_lawful, released_traces_are_collections,
+    blocks_are_released_in_order, flags_show_evacuation, line_bits_show_what_lives,
+    offered_collections, released_heaps_are_lawful, released_traces_are_collections,
     releases_ignore_numbers, unlog_bits_show_what_lives,
 };
 pub use outcome::{Collected, Note};

@@ -6,11 +6,12 @@ use object_model::{Collect, Heap};
 #[derive(Clone, Copy, Debug, PartialEq, Eq)]
 pub struct Note {
     pub collect: Collect,
-    /// The objects that are preserved: those that moved, and those in place.
+    /// The objects that are preserved, but for old ones in a nursery collection: those that moved,
+    /// and those in place.
     pub kept: u32,
     pub moved: u32,
     pub in_place: u32,
-    /// The words of the objects that are preserved.
+    /// The words of these objects.
     pub kept_words: u64,
     /// The Free blocks of the heap after the collection.
     pub free_blocks: u32,

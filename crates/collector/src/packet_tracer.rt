@@ -11,7 +11,8 @@ ghost use Rattle.work_packets.specs.declared.packet.Bucket.TheVariants as bucket
 ghost use Rattle.work_packets.specs.declared.packet.TheConstants.{MAX_ITEMS};
 ghost use Rattle.trace_core.specs.Setups.{Setup};
 ghost use Rattle.trace_core.specs.Machine.{Event};
-ghost use Rattle.trace_core.specs.Views.{View, one_if};
+ghost use Rattle.trace_core.specs.Views.{View};
+ghost use Rattle.object_model.specs.Times.{one_if};
 ghost use Rattle.plain_tracer.specs.TokenRights.{IsReached, grey_of};
 ghost use Rattle.plain_tracer.specs.Tracers.{Tracks, TracerHolds};
 ghost use Rattle.plain_tracer.specs.declared.tokens.Grey.{Grey};

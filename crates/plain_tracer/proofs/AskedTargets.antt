@@ -5,7 +5,8 @@ use Rattle.std.proofs.lemmas.List.{set-get_or}
 use Rattle.trace_core.specs.Setups.{Setup, stays_old}
 use Rattle.trace_core.specs.Machine.{Machine, Event, ByRoot, Ask, target, next, put, heap_in}
 use Rattle.trace_core.specs.Traces.{machine_after, target_of}
-use Rattle.trace_core.specs.Views.{View, Holds, one_if, times, asked_view}
+use Rattle.trace_core.specs.Views.{View, Holds, asked_view}
+use Rattle.object_model.specs.Times.{one_if, times}
 use Rattle.plain_tracer.specs.Tracers.{Tracks, Claims, ClaimsRoot}
 use Rattle.trace_core.specs.Rooms.{IsCopyRoom, StayWithoutRoom}
 use Rattle.plain_tracer.specs.declared.plain_trace.PlainTrace.{PlainTrace}

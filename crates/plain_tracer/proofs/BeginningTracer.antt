@@ -1,7 +1,7 @@
 -- A tracer begins: what it is given makes a setup that is ready, which it tracks from no event on.
-use Rattle.std.proofs.Common.{◌≡◌, ℕ, ◌+◌, ◌<◌, ◌^◌, inl, inr, Bool, true, false, true≢false, ◌&&◌, ◌||◌, not, IsTrue, [], length, Option, Some, None, refl, sym, ap, ◌∙◌, subst, arith}
+use Rattle.std.proofs.Common.{◌≡◌, ℕ, ◌+◌, ◌<◌, ◌^◌, inl, inr, Bool, true, false, true≢false, ◌||◌, not, IsTrue, [], length, Option, Some, None, refl, sym, ap, ◌∙◌, subst, arith}
 use Rattle.std.specs.Prelude.{if◌then◌else◌, slice_get}
-use Rattle.std.proofs.lemmas.Bool.{cases_Bool, cond-true, cond-false, false_from_ne_true}
+use Rattle.std.proofs.lemmas.Bool.{cases_Bool, cond-true, cond-false}
 use denote.Enum.Bare.{sameb}
 use Rattle.std.proofs.lemmas.Option.{slice_get-get_or}
 use Rattle.heap_layout.specs.declared.block.Kind.{Kind}
@@ -9,14 +9,13 @@ use Rattle.heap_layout.specs.declared.block.Kind.TheVariants as kinds
 use Rattle.object_model.specs.contracts.collect.Collect.{the_type}
 use Rattle.object_model.specs.declared.collect.Collect.{Collect}
 use Rattle.object_model.specs.declared.collect.Collect.TheVariants.{Nursery, Full}
-use Rattle.object_model.specs.Objects.{HeapState, state_of, has_kind, is_start, is_unlogged}
+use Rattle.object_model.specs.Objects.{HeapState, state_of, has_kind}
 use Rattle.object_model.specs.Lawful.{IsLawfulButLines}
-use Rattle.object_model.specs.Ages as ages
-use Rattle.object_model.specs.Ages.{RemembersYoung}
 use Rattle.trace_core.specs.Setups.{Setup, TraceMayBegin, blocks, collection, was_logged}
 use Rattle.trace_core.specs.Outcomes.{base_after_trace}
-use Rattle.trace_core.specs.Views.{one_if, times, first_view}
-use Rattle.trace_core.specs.Runs.{is_nursery, is_some_true, without_lines, without_unlogs, setup_of, MayRun, IsRunOf}
+use Rattle.trace_core.specs.Views.{first_view}
+use Rattle.object_model.specs.Times.{one_if, times}
+use Rattle.trace_core.specs.Runs.{is_nursery, is_some_true, without_lines, without_unlogs, with_unlogs, setup_of, MayRun, IsRunOf}
 use Rattle.plain_tracer.specs.Tracers.{Tracks}
 use Rattle.trace_core.proofs.Objects.{None-not-Some}
 use Rattle.trace_core.proofs.FirstInvariant.{first-young}
@@ -25,7 +24,8 @@ use Rattle.trace_core.specs.declared.run.TraceRun.{TraceRun}
 use Rattle.plain_tracer.specs.declared.plain_trace.PlainTrace.{PlainTrace}
 use Rattle.object_model.proofs.Frames.{has_kind-same}
 use Rattle.trace_core.proofs.WithoutLines.{without_lines-lawful, kind-same}
-use Rattle.trace_core.proofs.Begun.{by-begun, begun-lawful, begun-same, begun-unlogs, keeps-objects}
+use Rattle.trace_core.proofs.SetUnlogs.{word-same}
+use Rattle.trace_core.proofs.Begun.{by-begun, begun-lawful, begun-unlogs, begun-remembers, begun-logged, listed-held, keeps-objects}
 use Rattle.trace_core.proofs.FirstView.{first-holds}
 
 -- the comparison of a kind of collection
@@ -56,25 +56,23 @@ module _ (s : HeapState) (run : TraceRun) (lawful : IsLawfulButLines s) (may : M
   abbrev nursery : Bool
   nursery = is_nursery run.collect
 
-  either : (P : HeapState → Type 0) → P (without_unlogs (without_lines s)) → P (without_unlogs s) → P s → P p.before
+  either : (P : HeapState → Type 0) → P (without_unlogs (without_lines s)) → P (without_unlogs s) → (IsTrue nursery → P (with_unlogs s run.logged.items)) → P p.before
   either = by-begun s run
 
-  pub before-same : IsTrue nursery → p.before ≡ s
-  before-same young = begun-same s run young
-
   number-same : p.before.number ≡ s.number
-  number-same = either (λ h. h.number ≡ s.number) refl refl refl
+  number-same = either (λ h. h.number ≡ s.number) refl refl (λ young. refl)
 
   base-same : p.before.base ≡ s.base
-  base-same = either (λ h. h.base ≡ s.base) refl refl refl
+  base-same = either (λ h. h.base ≡ s.base) refl refl (λ young. refl)
 
   blocks-same : blocks p ≡ s.blocks
-  blocks-same = either (λ h. h.blocks ≡ s.blocks) refl refl refl
+  blocks-same = either (λ h. h.blocks ≡ s.blocks) refl refl (λ young. refl)
 
   kinds-same : (b : ℕ) (kind : Kind) → has_kind p.before b kind ≡ has_kind s b kind
   kinds-same b kind = either (λ h. has_kind h b kind ≡ has_kind s b kind)
       (has_kind-same (without_lines s) _ (keeps-objects (without_lines s) (without_lines-lawful s lawful)).block_words b kind ∙ kind-same s lawful b kind)
-      (has_kind-same s _ (keeps-objects s lawful).block_words b kind) refl
+      (has_kind-same s _ (keeps-objects s lawful).block_words b kind)
+      (λ young. has_kind-same s _ (word-same s lawful run.logged.items (listed-held s run.logged.items (may.nursery young))) b kind)
 
   abbrev large_in : HeapState → ℕ → Bool
   large_in h b = has_kind h b kinds.LargeHead || has_kind h b kinds.LargeTail
@@ -85,12 +83,13 @@ module _ (s : HeapState) (run : TraceRun) (lawful : IsLawfulButLines s) (may : M
 
   pub ready : TraceMayBegin p
   ready = record {
-    lawful = begun-lawful s run lawful;
+    lawful = begun-lawful s run lawful may.nursery;
     number = subst (λ (n : ℕ). n < 2 ^ 40) (may.number ∙ ap (λ n. n + 1) (sym number-same)) may.limit;
     some = omega arith;
     few = omega arith;
     base = λ young. subst (λ (n : ℕ). 0 < n) (sym base-same) (may.full young);
-    remembers = λ young. subst RemembersYoung (sym (before-same young)) (may.remembers young);
+    remembers = begun-remembers s run 1 lawful may.nursery may.remembers;
+    unlogs = begun-unlogs s run 1 lawful may.nursery may.remembers;
     kind = may.kind;
     small = λ b from large. may.small b (set-some (slice_get run.from.items b) from) (sym (large-same b) ∙ large);
     fixed = λ none b. elim (cases_Bool (p.from b)) as (λ _. p.from b ≡ false) [
@@ -98,6 +97,10 @@ module _ (s : HeapState) (run : TraceRun) (lawful : IsLawfulButLines s) (may : M
       | inr stays ↦ stays
     ];
   }
+
+  -- the list that it was given has each logged object once
+  pub logged : (x : ℕ) → times x run.logged.items ≡ one_if (was_logged p x)
+  logged = begun-logged s run 1 lawful may.nursery may.remembers may.none
 
   run-of : IsRunOf p run
   run-of = record {
@@ -112,19 +115,8 @@ module _ (s : HeapState) (run : TraceRun) (lawful : IsLawfulButLines s) (may : M
         some-set (slice_get run.from.items b) _ (slice_get-get_or run.from.items b false (omega arith));
     kind = refl;
     nursery = refl;
-    unlogs = λ full a. false_from_ne_true (is_unlogged p.before a) (begun-unlogs s run lawful full a);
+    logged = logged;
   }
-
-  -- the list that it was given has each logged object once
-  abbrev logged_in : Bool → HeapState → ℕ → Bool
-  logged_in young h x = young && (is_start h x && ages.is_old h x) && not (is_unlogged h x)
-
-  logged : (x : ℕ) → times x run.logged.items ≡ one_if (was_logged p x)
-  logged x = elim (cases_Bool nursery) as (λ _. times x run.logged.items ≡ one_if (was_logged p x)) [
-    | inl young ↦ (may.nursery young).all x ∙ ap (λ n. one_if (logged_in n s x)) (sym young)
-        ∙ ap (λ h. one_if (logged_in nursery h x)) (sym (before-same young))
-    | inr full ↦ ap (times x) (may.none full) ∙ ap (λ n. one_if (logged_in n p.before x)) (sym full)
-  ]
 
   -- a tracer of this row that did nothing yet
   pub begins : (t : PlainTrace) → state_of t.row ≡ p.before → t.run ≡ run → t.room.next ≡ t.room.end → t.next_block ≡ 0

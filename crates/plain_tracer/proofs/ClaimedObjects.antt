@@ -10,7 +10,8 @@ use Rattle.object_model.specs.Objects.{IsHeld, state_of, with_words, IsInExtentO
 use Rattle.trace_core.specs.Setups.{Setup, blocks, size, refs, stays_old, keeps_its_words, may_be_moved}
 use Rattle.trace_core.specs.Machine.{Stage, Unclaimed, Copying, Scanning, target, Machine, Event, ClaimCause, ByRoot, ByGlobal, ByField, Claim, next, put, put_all, asks_after, heap_in}
 use Rattle.trace_core.specs.Traces.{May, NoneIsFree, IsAskedBy, machine_after, stage_of, target_of}
-use Rattle.trace_core.specs.Views.{View, Holds, one_if, hits, times, is_copying, is_scanning, is_stage_copied, steps_at_claim, asked_roots, claimed_view}
+use Rattle.trace_core.specs.Views.{View, Holds, hits, is_copying, is_scanning, is_stage_copied, steps_at_claim, asked_roots, claimed_view}
+use Rattle.object_model.specs.Times.{one_if, times}
 use Rattle.plain_tracer.specs.Tracers.{Tracks}
 use Rattle.trace_core.specs.Runs.{IsRunOf}
 use Rattle.trace_core.specs.Rooms.{IsCopyRoom, AreLeft, StayWithoutRoom}

@@ -6,13 +6,14 @@ use Rattle.std.proofs.lemmas.Bool.{cases_eq, cases_lt, cond-true, cond-false, eq
 use Rattle.std.proofs.lemmas.Grind.{same_number_lists}
 use Rattle.std.proofs.lemmas.List.{replicate-append-replicate}
 use Rattle.heap_layout.specs.Zones.{row_words, StartBits, UnlogBits, IsAddress}
-use Rattle.object_model.specs.Objects.{state_of, with_words, is_unlogged}
+use Rattle.object_model.specs.Objects.{state_of, with_words}
 use Rattle.side_meta.specs.BitWords.{with_bit}
 use Rattle.object_model.specs.BitWords.{bit_word, bit_place}
 use Rattle.trace_core.specs.Setups.{Setup, blocks, size, stays_old, keeps_its_words}
 use Rattle.trace_core.specs.Machine.{Stage, Unclaimed, Copying, Scanning, target, Machine, Event, Copy, next, put, copied_word, step_of_offset, heap_in}
 use Rattle.trace_core.specs.Traces.{AreNext, after, machine_after, stage_of}
-use Rattle.trace_core.specs.Views.{View, Holds, one_if, hits, times, is_pair, is_copying, is_scanning, is_stage_copied, without, steps_at_claim, copied_view}
+use Rattle.trace_core.specs.Views.{View, Holds, hits, is_pair, is_copying, is_scanning, is_stage_copied, without, steps_at_claim, copied_view}
+use Rattle.object_model.specs.Times.{one_if, times}
 use Rattle.plain_tracer.specs.TokenRights.{IsWon}
 use Rattle.plain_tracer.specs.Tracers.{Tracks}
 use Rattle.trace_core.specs.Runs.{IsRunOf}
@@ -52,7 +53,7 @@ module _ (p : Setup) (m m' : Machine) (v : View) (holds : Holds p m v) (x t : �
   s = steps_at_claim p x t
 
   not-idle : keeps_its_words p x ≡ false
-  not-idle = ap (λ b. b && is_unlogged p.before x) young
+  not-idle = ap (λ b. b && not (p.logged x)) young
 
   won-here : 0 < hits x s v.won
   won-here = subst (λ c. 0 < c) (sym (holds.won x s ∙ ap (λ z. one_if (is_copying s z)) stage ∙ one-if-true (nat_eq s s) (eq-eqb s s refl))) (omega arith)

@@ -6,7 +6,8 @@ use Rattle.std.proofs.lemmas.List.{append-nil, append_assoc, map-append}
 use Rattle.std.proofs.lemmas.List.Elements.{All-nil, All-cons, All-append, All-weaker}
 use Rattle.trace_core.specs.Setups.{Setup, size, refs}
 use Rattle.trace_core.specs.Machine.{Event, Claim, Ask, Copy, Scan, SetGlobal, MarkLines, TakeBlock}
-use Rattle.trace_core.specs.Views.{View, one_if, without, is_pair, hits, times, scanned_view}
+use Rattle.trace_core.specs.Views.{View, without, is_pair, hits, scanned_view}
+use Rattle.object_model.specs.Times.{one_if, times}
 use Rattle.plain_tracer.specs.TokenRights.{IsGrey, Pushes, Scanned, copied_in, to_scan_in}
 use Rattle.plain_tracer.specs.Tracers.{Tracks, MakesEvents, ScansField, ScansFields}
 use Rattle.plain_tracer.specs.TokenRights.{IsMarking, IsNextField}
@@ -21,9 +22,7 @@ pub none-scanned : (p : Setup) (es : List Event) (v : View) (t : PlainTrace) (gr
 none-scanned p es v t grey out tracks = record {
   view = v;
   grows = record { events = []; all = All-nil (Scans false grey.object); tracks = subst (λ ds. Tracks p ds t v) (sym (append-nil es)) tracks };
-  pushed = [];
-  out = sym (append-nil out);
-  few = omega arith;
+  tokens = record { pushed = []; out = sym (append-nil out); few = omega arith };
   scanned = record {
     won = refl;
     grey = λ y j. omega arith;
@@ -140,9 +139,9 @@ one-more p es v mid new grey k out out' out'' s token next f =
     let fs : List Event = s.grows.events in
     let ds : List Event = f.grows.events in
     let last : View = scanned_view grey.object k f.view in
-    let few : length s.pushed ≤ k = s.few in
-    let one : length f.pushed ≤ 1 = f.few in
-    let both : length (s.pushed ++ f.pushed) ≡ length s.pushed + length f.pushed = length-append s.pushed f.pushed in
+    let few : length s.tokens.pushed ≤ k = s.tokens.few in
+    let one : length f.tokens.pushed ≤ 1 = f.tokens.few in
+    let both : length (s.tokens.pushed ++ f.tokens.pushed) ≡ length s.tokens.pushed + length f.tokens.pushed = length-append s.tokens.pushed f.tokens.pushed in
     record {
       view = last;
       grows = record {
@@ -150,10 +149,12 @@ one-more p es v mid new grey k out out' out'' s token next f =
         all = All-append (Scans false grey.object) fs ds s.grows.all f.grows.all;
         tracks = subst (λ es'. Tracks p es' new (scanned_view grey.object k f.view)) (append_assoc es fs ds) f.grows.tracks;
       };
-      pushed = s.pushed ++ f.pushed;
-      out = f.out ∙ ap (λ o. o ++ f.pushed) s.out ∙ append_assoc out s.pushed f.pushed;
-      few = omega arith;
-      scanned = scanned-more p grey.object k v s.view f.view s.pushed f.pushed s.scanned f.pushes token.right next.right;
+      tokens = record {
+        pushed = s.tokens.pushed ++ f.tokens.pushed;
+        out = f.tokens.out ∙ ap (λ o. o ++ f.tokens.pushed) s.tokens.out ∙ append_assoc out s.tokens.pushed f.tokens.pushed;
+        few = omega arith;
+      };
+      scanned = scanned-more p grey.object k v s.view f.view s.tokens.pushed f.tokens.pushed s.scanned f.pushes token.right next.right;
     }
 
 marks-scans : (x : ℕ) (e : Event) → Marks x e → Scans true x e
@@ -184,9 +185,7 @@ lines-unmarked p es v new lines grey k out out' s = record {
     all = All-weaker (Scans false grey.object) (Scans lines grey.object) (more-scans lines grey.object) s.grows.events s.grows.all;
     tracks = s.grows.tracks;
   };
-  pushed = s.pushed;
-  out = s.out;
-  few = s.few;
+  tokens = s.tokens;
   scanned = s.scanned;
 }
 
@@ -201,9 +200,7 @@ lines-marked p es v mid new grey k out out' s more = let fs : List Event = s.gro
         (All-weaker (Marks grey.object) (Scans true grey.object) (marks-scans grey.object) more.events more.all);
     tracks = subst (λ ds. Tracks p ds new s.view) (append_assoc es fs more.events) more.tracks;
   };
-  pushed = s.pushed;
-  out = s.out;
-  few = s.few;
+  tokens = s.tokens;
   scanned = s.scanned;
 }
 

@@ -8,7 +8,8 @@ use Rattle.object_model.specs.Objects.{is_reference}
 use Rattle.trace_core.specs.Setups.{Setup, size, refs}
 use Rattle.trace_core.specs.Machine.{Stage, target, Event, ClaimCause, Claim, Copy, TakeBlock, IsSettled, forward, address_or_nil}
 use Rattle.trace_core.specs.Traces.{stage_of, target_of}
-use Rattle.trace_core.specs.Views.{View, is_pair, hits, times, steps_at_claim, claimed_view, copied_view}
+use Rattle.trace_core.specs.Views.{View, is_pair, hits, steps_at_claim, claimed_view, copied_view}
+use Rattle.object_model.specs.Times.{times}
 use Rattle.plain_tracer.specs.TokenRights.{IsWon, IsGrey, Pushes}
 use Rattle.plain_tracer.specs.Tracers.{Tracks, Wins, Forwards}
 use Rattle.trace_core.specs.CallEvents.{block_taken, taken_in, copying, Follows, IsNoRoot}
@@ -42,9 +43,7 @@ module _ (p : Setup) (es : List Event) (v : View) (new : PlainTrace) (x value : 
   at-once out tracks settled last = let same : es ≡ es ++ [] = sym (append-nil es) in record {
     view = v;
     grows = record { events = []; all = All-nil (Follows cause); tracks = subst (λ ds. Tracks p ds new v) same tracks };
-    pushed = [];
-    out = sym (append-nil out);
-    few = omega arith;
+    tokens = record { pushed = []; out = sym (append-nil out); few = omega arith };
     pushes = record {
       won = refl;
       grey = λ y k. omega arith;
@@ -142,9 +141,7 @@ module _ (p : Setup) (es : List Event) (v : View) (mid : PlainTrace) (x : ℕ) (
       record {
         view = v';
         grows = record { events = ds; all = follows-all taken; tracks = now };
-        pushed = grey ∷ [];
-        out = pushed;
-        few = omega arith;
+        tokens = record { pushed = grey ∷ []; out = pushed; few = omega arith };
         pushes = pushes-by taken grey unasked (same ∙ object) grey-is;
         settled = settled-at (stage_of p (es ++ (claiming taken ++ copying p x won.target))) x t known;
         last = at ∙ forward-at (stage_of p (es ++ (claiming taken ++ copying p x won.target))) x t some known;

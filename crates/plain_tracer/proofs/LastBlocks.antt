@@ -6,7 +6,8 @@ use Rattle.heap_layout.specs.Zones.{block_start}
 use Rattle.trace_core.specs.Setups.{Setup, blocks, size}
 use Rattle.trace_core.specs.Machine.{Event}
 use Rattle.trace_core.specs.Traces.{IsTracing, machine_after}
-use Rattle.trace_core.specs.Views.{View, one_if, times}
+use Rattle.trace_core.specs.Views.{View}
+use Rattle.object_model.specs.Times.{one_if, times}
 use Rattle.plain_tracer.specs.Tracers.{Tracks, IsTraced}
 use Rattle.trace_core.specs.Rooms.{IsFilled, IsLeftFor, AreLeft}
 use Rattle.plain_tracer.specs.declared.plain_trace.PlainTrace.{PlainTrace}

@@ -1,4 +1,5 @@
 mod LastBlocks
+pub mod ListedObjects
 mod TracedRows
 mod TakenRoom
 mod ObjectsRead

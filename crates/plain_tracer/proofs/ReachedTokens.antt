@@ -44,7 +44,7 @@ module _ (p : Setup) (es : List Event) (t : PlainTrace) (v : View) (tracks : Tra
   -- it is set, so the object is claimed
   pub claimed-before : (cause : ClaimCause) (out : List Grey) → found ≡ true → x ≢ 0 → Forwards p es v t x x cause out out
   claimed-before cause out set some =
-      let here = (marked p es tracks.trace x stays.held (tracks.run.unlogs stays.full x) (unlog-read ∙ set)).1 in
+      let here = marked p es tracks.trace x stays.held (unlog-read ∙ set) in
       at-once p es v t x x cause out tracks (settled-at (stage_of p es) x x here) (forward-at (stage_of p es) x x some here)
 
   -- it is clear, so nothing claimed the object

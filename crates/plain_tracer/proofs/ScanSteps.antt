@@ -10,7 +10,8 @@ use Rattle.object_model.proofs.Marks as marks
 use Rattle.trace_core.specs.Setups.{Setup, TraceMayBegin, blocks, refs}
 use Rattle.trace_core.specs.Machine.{Scanning, target, Machine, put, scan_stage, Event, ByField, ByGlobal, Claim, Ask, Copy, Scan, SetGlobal, MarkLines, TakeBlock, IsSettled, forward, scan_place, scan_value}
 use Rattle.trace_core.specs.Traces.{IsAskedBy, machine_after, heap_after, stage_of}
-use Rattle.trace_core.specs.Views.{View, hits, times, scanned_view, set_view}
+use Rattle.trace_core.specs.Views.{View, hits, scanned_view, set_view}
+use Rattle.object_model.specs.Times.{times}
 use Rattle.plain_tracer.specs.Tracers.{Tracks, Forwards, ScansField, SetsGlobal, ChangesWords}
 use Rattle.trace_core.specs.Rights.{IsReferred}
 use Rattle.plain_tracer.specs.TokenRights.{IsNextField}
@@ -122,6 +123,7 @@ changes-nothing t i value is = let ws = t.row.words.items in record {
   room = refl;
   next_block = refl;
   globals = refl;
+  logged = refl;
 }
 
 -- a scan changes no target
@@ -200,9 +202,7 @@ module _ (p : Setup) (es : List Event) (v : View) (mid new : PlainTrace) (refere
               (grey.target, k, now, next.field, settled) refl refl (scan-targets m' x grey.target k now) (sym (ap scan_place now)) stores changes refl refl
               (holds-scanned p m' w by.grows.tracks.holds x grey.target k right now));
         };
-        pushed = by.pushed;
-        out = by.out;
-        few = by.few;
+        tokens = by.tokens;
         pushes = by.pushes;
       }
 
@@ -228,8 +228,6 @@ module _ (p : Setup) (es : List Event) (v : View) (mid new : PlainTrace) (refere
               (by.last ∙ ap (forward m'.stage) reads) changes refl refl
               (holds-set p m' w by.grows.tracks.holds g right));
         };
-        pushed = by.pushed;
-        out = by.out;
-        few = by.few;
+        tokens = by.tokens;
         pushes = by.pushes;
       }

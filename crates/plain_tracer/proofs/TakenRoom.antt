@@ -11,7 +11,8 @@ use Rattle.object_model.specs.Objects.{HasKind, block_word, state_of, with_words
 use Rattle.trace_core.specs.Setups.{Setup, blocks}
 use Rattle.trace_core.specs.Machine.{Machine, target, Event, TakeBlock, next, taken_word, heap_in}
 use Rattle.trace_core.specs.Traces.{May, IsTracing, NoneIsFree, machine_after, heap_after}
-use Rattle.trace_core.specs.Views.{View, Holds, one_if, times, left_view}
+use Rattle.trace_core.specs.Views.{View, Holds, left_view}
+use Rattle.object_model.specs.Times.{one_if, times}
 use Rattle.plain_tracer.specs.Tracers.{Tracks, TracerHolds, TakesCopyBlock, FindsNone}
 use Rattle.trace_core.specs.Runs.{IsRunOf}
 use Rattle.trace_core.specs.Rooms.{StayWithoutRoom, IsCopyRoom, AreLeft}

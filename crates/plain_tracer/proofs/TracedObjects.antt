@@ -7,7 +7,8 @@ use Rattle.object_model.proofs.Marks as marks
 use Rattle.trace_core.specs.Setups.{Setup, blocks, size, stays_old}
 use Rattle.trace_core.specs.Machine.{Stage, Unclaimed, Copying, Scanning, target, Machine, Event, Claim, Ask, Copy, Scan, SetGlobal, MarkLines, TakeBlock, put, copy_stage, scan_stage, next, first_machine}
 use Rattle.trace_core.specs.Traces.{May, after, AreNext, IsTracing, machine_after, stage_of, target_of}
-use Rattle.trace_core.specs.Views.{View, Holds, one_if, times, is_stage_copied}
+use Rattle.trace_core.specs.Views.{View, Holds, is_stage_copied}
+use Rattle.object_model.specs.Times.{one_if, times}
 use Rattle.plain_tracer.specs.TokenRights.{IsGrey}
 use Rattle.plain_tracer.specs.declared.tokens.Grey.{Grey}
 use Rattle.trace_core.proofs.Clauses.{held-of}

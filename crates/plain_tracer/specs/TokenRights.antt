@@ -1,7 +1,8 @@
 -- Tokens as rights: what a view holds for each token, and views after tokens were pushed.
 use Rattle.std.specs.Prelude.{◌≡◌, ℕ, ◌+◌, ◌<◌, List, All, map}
 use Rattle.trace_core.specs.Setups.{Setup, size, refs}
-use Rattle.trace_core.specs.Views.{View, one_if, times, hits, steps_at_claim, is_pair}
+use Rattle.trace_core.specs.Views.{View, hits, steps_at_claim, is_pair}
+use Rattle.object_model.specs.Times.{one_if, times}
 use Rattle.plain_tracer.specs.declared.tokens.Won.{Won}
 use Rattle.plain_tracer.specs.declared.tokens.Grey.{Grey}
 use Rattle.plain_tracer.specs.declared.tokens.Reached.{Reached}
@@ -28,6 +29,10 @@ grey_of p r = record {
   size = size p r.object;
   refs = refs p r.object;
 }
+
+-- the token of a logged object, which stays where it is
+abbrev pub logged_token : Setup → ℕ → Grey
+logged_token p x = record { object = x; target = x; size = size p x; refs = refs p x }
 
 -- the token is the right to scan an object, whose shape is not read yet
 abbrev pub IsReached : Setup → View → Reached → Type 0

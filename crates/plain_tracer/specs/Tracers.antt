@@ -1,15 +1,16 @@
 -- A tracer and the trace that it makes.
-use Rattle.std.specs.Prelude.{◌≡◌, ℕ, ◌+◌, ◌<◌, ◌≤◌, ◌⊎◌, Bool, false, IsTrue, List, [], ◌∷◌, ◌++◌, length, slice_set, Option, Some, None, All}
+use Rattle.std.specs.Prelude.{◌≡◌, ℕ, ◌+◌, ◌<◌, ◌≤◌, ◌⊎◌, Bool, false, IsTrue, List, [], ◌∷◌, ◌++◌, length, Option, Some, None, All}
 use Rattle.heap_layout.specs.declared.block.TheConstants.{FIRST_WORKER_OWNER}
-use Rattle.heap_layout.specs.Zones.{BlockWords, first, block_start}
+use Rattle.heap_layout.specs.Zones.{block_start}
 use Rattle.heap_layout.specs.declared.layout.TheConstants.{BLOCK_WORDS}
-use Rattle.heap_layout.specs.Blocks.{code_of}
 use Rattle.object_model.specs.declared.shape.TheConstants.{MAX_MEDIUM_WORDS}
+use Rattle.object_model.specs.Births.{with_block}
 use Rattle.object_model.specs.Objects.{HasKind, state_of, with_words}
 use Rattle.trace_core.specs.Setups.{Setup, blocks, size, refs, stays_old}
 use Rattle.trace_core.specs.Machine.{Event, ClaimCause, ByRoot, Claim, Ask, IsSettled, forward}
 use Rattle.trace_core.specs.Traces.{IsTracing, machine_after, heap_after, target_of, stage_of}
-use Rattle.trace_core.specs.Views.{View, Holds, times, asked_view, claimed_view, scanned_view, set_view}
+use Rattle.trace_core.specs.Views.{View, Holds, asked_view, claimed_view, scanned_view, set_view}
+use Rattle.object_model.specs.Times.{times}
 use Rattle.trace_core.specs.declared.run.Traced.{Traced}
 use Rattle.plain_tracer.specs.declared.tokens.Won.{Won}
 use Rattle.plain_tracer.specs.declared.tokens.Grey.{Grey}
@@ -47,11 +48,11 @@ pub record TracerHolds (t : PlainTrace) (Right : Setup → List Event → View �
 -- The worker took block b, which was Free. It begins anew with its room.
 pub record TakesCopyBlock (old new : PlainTrace) (b : ℕ) : Type 0 where
   -- the word of the block says that it is of the kind of copies, and the worker's
-  pub row : state_of new.row ≡ with_words (state_of old.row) (slice_set old.row.words.items
-      (first old.row.layout.blocks BlockWords + b)
-      (code_of (record { kind = old.run.copy_kind; class = 0; owner = FIRST_WORKER_OWNER })))
+  pub row : state_of new.row ≡ with_block (state_of old.row) b
+      (record { kind = old.run.copy_kind; class = 0; owner = FIRST_WORKER_OWNER })
   pub run : new.run ≡ old.run
   pub globals : new.globals_taken ≡ old.globals_taken
+  pub logged : new.logged_taken ≡ old.logged_taken
   pub block : new.block ≡ b
   pub room : new.room ≡ record { next = 0; end = BLOCK_WORDS }
   pub next_block : new.next_block ≡ b + 1
@@ -64,6 +65,7 @@ pub record FindsNone (old new : PlainTrace) : Type 0 where
   pub row : new.row ≡ old.row
   pub run : new.run ≡ old.run
   pub globals : new.globals_taken ≡ old.globals_taken
+  pub logged : new.logged_taken ≡ old.logged_taken
   pub block : new.block ≡ old.block
   pub room : new.room ≡ old.room
   pub next_block : new.next_block ≡ old.row.layout.blocks
@@ -77,11 +79,14 @@ pub record ChangesWords (old new : PlainTrace) (words : List ℕ) : Type 0 where
   pub room : new.room ≡ old.room
   pub next_block : new.next_block ≡ old.next_block
   pub globals : new.globals_taken ≡ old.globals_taken
+  pub logged : new.logged_taken ≡ old.logged_taken
 
--- what the tracer was given, and whether it gave the tokens of globals, is as it was
+-- what the tracer was given, and whether it gave the tokens of globals and of logged objects, is as
+-- it was
 pub record KeepsRun (old new : PlainTrace) : Type 0 where
   pub run : new.run ≡ old.run
   pub globals : new.globals_taken ≡ old.globals_taken
+  pub logged : new.logged_taken ≡ old.logged_taken
 
 -- A block is taken only if an object of this size does not fit the worker's room. It is the lowest
 -- Free one that is left.
@@ -149,18 +154,21 @@ pub record MakesEvents (p : Setup) (es : List Event) (new : PlainTrace) (v : Vie
   pub all : All IsEvent events
   pub tracks : Tracks p (es ++ events) new v
 
+-- Tokens were pushed behind those before, at most so many.
+pub record PushesAtMost (most : ℕ) (before after : List Grey) : Type 0 where
+  pub pushed : List Grey
+  pub out : after ≡ before ++ pushed
+  pub few : length pushed ≤ most
+
 -- A reference was followed. A token was pushed if its object was not claimed before.
 pub record Forwards (p : Setup) (es : List Event) (v : View) (new : PlainTrace)
-    (reference value : ℕ)
-    (cause : ClaimCause) (before after : List Grey) : Type 0 where
+    (reference value : ℕ) (cause : ClaimCause) (before after : List Grey) : Type 0 where
   -- the events of a reference that is followed led to a view
   pub view : View
   pub grows : MakesEvents p es new view (Follows cause)
-  -- a token was pushed behind those before, or none; the view has its right more
-  pub pushed : List Grey
-  pub out : after ≡ before ++ pushed
-  pub few : length pushed ≤ 1
-  pub pushes : Pushes p v view pushed
+  -- a token was pushed, or none; the view has its right more
+  pub tokens : PushesAtMost 1 before after
+  pub pushes : Pushes p v view tokens.pushed
   -- the reference is settled, and its last value is its target's address
   pub settled : IsSettled (stage_of p (es ++ grows.events)) reference
   pub last : value ≡ forward (stage_of p (es ++ grows.events)) reference
@@ -171,11 +179,9 @@ pub record ScansField (p : Setup) (es : List Event) (v : View) (new : PlainTrace
   -- the events of a scan of the object, of which field k was scanned last, led from a view
   pub view : View
   pub grows : MakesEvents p es new (scanned_view grey.object k view) (Scans false grey.object)
-  -- a token was pushed behind those before, or none; the view has its right more
-  pub pushed : List Grey
-  pub out : after ≡ before ++ pushed
-  pub few : length pushed ≤ 1
-  pub pushes : Pushes p v view pushed
+  -- a token was pushed, or none; the view has its right more
+  pub tokens : PushesAtMost 1 before after
+  pub pushes : Pushes p v view tokens.pushed
 
 -- The fields of an object were scanned, up to field k, and its lines may be marked.
 pub record ScansFields (p : Setup) (es : List Event) (v : View) (new : PlainTrace) (lines : Bool)
@@ -183,11 +189,10 @@ pub record ScansFields (p : Setup) (es : List Event) (v : View) (new : PlainTrac
   -- the events of a scan of the object led to a view
   pub view : View
   pub grows : MakesEvents p es new view (Scans lines grey.object)
-  -- at most a token for each field was pushed behind those before; the view has their rights more
-  pub pushed : List Grey
-  pub out : after ≡ before ++ pushed
-  pub few : length pushed ≤ k
-  pub scanned : Scanned p grey.object k v view pushed
+  -- at most a token for each field was pushed
+  pub tokens : PushesAtMost k before after
+  -- the view has their rights more, and of the object the right to scan field k, not the first
+  pub scanned : Scanned p grey.object k v view tokens.pushed
 
 -- A global was set.
 pub record SetsGlobal (p : Setup) (es : List Event) (v : View) (new : PlainTrace) (g : ℕ)
@@ -195,11 +200,9 @@ pub record SetsGlobal (p : Setup) (es : List Event) (v : View) (new : PlainTrace
   -- the events of a set of the global, which was set last, led from a view
   pub view : View
   pub grows : MakesEvents p es new (set_view g view) (Sets g)
-  -- a token was pushed behind those before, or none; the view has its right more
-  pub pushed : List Grey
-  pub out : after ≡ before ++ pushed
-  pub few : length pushed ≤ 1
-  pub pushes : Pushes p v view pushed
+  -- a token was pushed, or none; the view has its right more
+  pub tokens : PushesAtMost 1 before after
+  pub pushes : Pushes p v view tokens.pushed
 
 -- The row after a trace that made these events. Each block that was taken to copy into is the last
 -- one of a worker, is sparse, or has more than 2,048 words of targets. Each was the lowest Free one

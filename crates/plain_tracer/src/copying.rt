@@ -6,7 +6,7 @@
 
 ghost use Rattle.std.specs.Prelude.{◌≡◌, ◌+◌, ◌*◌, ◌-◌, ◌/◌, ◌%◌, ◌^◌, ◌<◌, ◌≤◌, ◌++◌, ℕ, List, IsTrue, nat_eq, slice_index, slice_set};
 ghost use Rattle.std.specs.Int.{bit_at};
-ghost use Rattle.heap_layout.specs.Zones.{heap_of, IsAddress, LineWords, bit_of, IsRowOf};
+ghost use Rattle.heap_layout.specs.Zones.{heap_of, first, IsAddress, LineWords, UnlogBits, bit_of, IsRowOf};
 ghost use Rattle.side_meta.specs.BitWords.{with_bit};
 ghost use Rattle.object_model.specs.Lines.{TouchesLine};
 ghost use Rattle.trace_core.specs.Setups.{Setup, blocks};
@@ -21,6 +21,7 @@ ghost use Rattle.trace_core.specs.Rights.{IsMoving, IsCopiedHere};
 use crate::plain_trace::PlainTrace;
 use crate::tokens::{Grey, Won};
 use heap_layout::Layout;
+use side_meta::BITS_PER_WORD;
 
 impl PlainTrace {
     /// Copies a claimed object to its target, and sets the target's unlog bit and its start bit. In
@@ -106,13 +107,17 @@ impl PlainTrace {
         requires layout { layout.blocks ≡ self.now.row.layout.blocks }
         requires extent { IsRowOf self.now.row.layout self.now.row.words.items }
         requires address { IsAddress self.now.row.layout.blocks address }
-        requires zone { zone ≤ 18 + 133 * self.now.row.layout.blocks }
+        requires zone { zone ≤ first self.now.row.layout.blocks UnlogBits }
         ensures { result ≡ nat_eq (bit_at (slice_index self.now.row.words.items
             (zone + (address - heap_of self.now.row.layout.blocks) / 64))
             ((address - heap_of self.now.row.layout.blocks) % 64)) 1 }
     {
         let index = address - layout.heap_base();
-        side_meta::test_bit(&self.row.words, zone + index / 64, index % 64)
+        side_meta::test_bit(
+            &self.row.words,
+            zone + index / BITS_PER_WORD,
+            index % BITS_PER_WORD,
+        )
     }
 
     /// Sets the bit of an address in a zone that has a bit for each word of the heap.
@@ -120,7 +125,7 @@ impl PlainTrace {
         requires layout { layout.blocks ≡ self.old.row.layout.blocks }
         requires extent { IsRowOf self.old.row.layout self.old.row.words.items }
         requires address { IsAddress self.old.row.layout.blocks address }
-        requires zone { zone ≤ 18 + 133 * self.old.row.layout.blocks }
+        requires zone { zone ≤ first self.old.row.layout.blocks UnlogBits }
         ensures { ChangesWords self.old self.new (slice_set self.old.row.words.items
             (zone + (address - heap_of self.old.row.layout.blocks) / 64)
             (with_bit (slice_index self.old.row.words.items
@@ -128,7 +133,11 @@ impl PlainTrace {
             ((address - heap_of self.old.row.layout.blocks) % 64))) }
     {
         let index = address - layout.heap_base();
-        side_meta::set_bit(&mut self.row.words, zone + index / 64, index % 64);
+        side_meta::set_bit(
+            &mut self.row.words,
+            zone + index / BITS_PER_WORD,
+            index % BITS_PER_WORD,
+        );
     }
 
     /// Marks the lines that an object touches after the collection.

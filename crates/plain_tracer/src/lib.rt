@@ -1,4 +1,4 @@
-//! The tracer for one worker: it makes the steps of the trace machine on a heap's row.
+//! The tracer for one worker: it makes the steps of the tracing machine on a heap's row.
 #![tactic(auto)]
 
 mod claiming;

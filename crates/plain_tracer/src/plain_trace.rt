@@ -3,9 +3,9 @@
 //! `block`, `room` and `next_block` change together, in `take_block`. `run` never changes.
 //! Of the row it writes block words, and at `begin` line bits and unlog bits: no word of an object.
 
-ghost use Rattle.std.specs.Prelude.{◌≡◌, ◌≢◌, ◌+◌, ◌<◌, ◌≤◌, ◌↔◌, ℕ, IsTrue, length, true, false, List, [], ◌∷◌, ◌++◌, map, take, if◌then◌else◌, IfOk, IfErr, IfSome, IfNone};
+ghost use Rattle.std.specs.Prelude.{◌≡◌, ◌≢◌, ◌+◌, ◌<◌, ◌≤◌, ◌↔◌, ℕ, IsTrue, length, true, false, List, [], ◌∷◌, ◌++◌, map, take, if◌then◌else◌, All, IfOk, IfErr, IfSome, IfNone};
 ghost use Rattle.std.specs.List.{range_with_len};
-ghost use Rattle.heap_layout.specs.Zones.{row_words, IsRowOf};
+ghost use Rattle.heap_layout.specs.Zones.{row_words, IsRowOf, IsAddress};
 ghost use Rattle.heap_layout.specs.declared.layout.TheConstants.{GLOBALS};
 ghost use Rattle.heap_layout.specs.declared.block.Kind.TheVariants as kinds;
 ghost use Rattle.object_model.specs.Heaps.{heap_state};
@@ -15,17 +15,22 @@ ghost use Rattle.trace_core.specs.Machine.{Event, TakeBlock};
 ghost use Rattle.trace_core.specs.Traces.{IsFinished, machine_after};
 ghost use Rattle.trace_core.specs.Views.{View, NothingIsLeft, first_view, taken_view, left_view};
 ghost use Rattle.plain_tracer.specs.Tracers.{Tracks, TracerHolds, IsTraced, TakesCopyBlock, FindsNone, KeepsRun};
-ghost use Rattle.trace_core.specs.Runs.{MayRun, setup_of, without_lines, without_unlogs};
+ghost use Rattle.trace_core.specs.Runs.{MayRun, setup_of, without_lines, without_unlogs, with_unlogs};
+ghost use Rattle.trace_core.specs.Rights.{HoldsLogged};
+ghost use Rattle.object_model.specs.declared.collect.Collect.TheVariants.{Full};
+ghost use Rattle.object_model.specs.Times.{times};
+ghost use Rattle.plain_tracer.specs.TokenRights.{IsGrey, logged_token};
 ghost use Rattle.trace_core.specs.Rooms.{NoneFree};
 
-use crate::tokens::GlobalRoot;
+use crate::tokens::{GlobalRoot, Grey};
 use heap_layout::{BLOCK_WORDS, BlockWord, CLASS_UNIT, FIRST_WORKER_OWNER, GLOBALS, Kind, Region};
 use object_model::{Collect, Heap, Row};
+use side_meta::BITS_PER_WORD;
 use std::alloc::{AllocError, Global};
 use trace_core::{TraceRun, Traced};
 
 /// The tracer for one worker. It finds what is reachable and moves it, and makes the events of the
-/// trace machine.
+/// tracing machine.
 ///
 /// Its clauses speak of every setup, list of events and view that it tracks.
 #[derive(Debug, Drop)]
@@ -38,11 +43,12 @@ pub struct PlainTrace {
     // No block before it is Free.
     pub(crate) next_block: u32,
     pub(crate) globals_taken: bool,
+    pub(crate) logged_taken: bool,
 }
 
 impl PlainTrace {
     /// Begins a trace of a heap. A full collection clears all unlog bits, and under a plan with
-    /// lines all line bits.
+    /// lines all line bits. A nursery collection sets the unlog bits of the logged objects.
     ///
     /// It takes no memory.
     pub fn begin(heap: Heap, run: TraceRun) -> Result<PlainTrace, AllocError>
@@ -51,11 +57,14 @@ impl PlainTrace {
             Tracks (setup_of (heap_state heap) run 1) [] t (first_view run)) }
         ensures run { IfOk result (λ t. t.run ≡ run) }
         ensures globals { IfOk result (λ t. t.globals_taken ≡ false) }
+        ensures logged { IfOk result (λ t. t.logged_taken ≡ false) }
         ensures never_fails { IfErr result (λ e. ⊥) }
     {
         let mut row = heap.into_row();
         if run.collect == Collect::Full {
             clear_bits(&mut row, run.lines);
+        } else {
+            set_unlogs(&mut row, &run.logged);
         }
         Ok(PlainTrace {
             row,
@@ -64,6 +73,7 @@ impl PlainTrace {
             room: Region { next: 0, end: 0 },
             next_block: 0,
             globals_taken: false,
+            logged_taken: false,
         })
     }
 
@@ -112,6 +122,7 @@ impl PlainTrace {
         ensures taken { IfOk result (λ tokens. self.new.globals_taken ≡ true) }
         ensures failed { IfErr result (λ e. self.new.globals_taken ≡ self.old.globals_taken) }
         ensures run { self.new.run ≡ self.old.run }
+        ensures logged { self.new.logged_taken ≡ self.old.logged_taken }
         ensures same { (p : Setup) (es : List Event) (v : View) → Tracks p es self.old v
             → Tracks p es self.new v }
     {
@@ -123,6 +134,51 @@ impl PlainTrace {
             tokens.push_reserved(GlobalRoot { global });
         }
         self.globals_taken = true;
+        Ok(tokens)
+    }
+
+    /// The tokens of the logged objects, by address, at the first `Ok`. Then none, and in a full
+    /// collection none.
+    ///
+    /// Fails if memory runs out.
+    pub fn take_logged(&mut self, alloc: Global) -> Result<Vec<Grey>, AllocError>
+        requires { TracerHolds self.old (λ p es v. Unit {0}) }
+        ensures first { IfOk result (λ tokens. self.old.logged_taken ≡ false
+            → map (λ token. token.object) tokens.items ≡ self.old.run.logged.items) }
+        ensures rights { IfOk result (λ tokens. (p : Setup) (es : List Event) (v : View)
+            → Tracks p es self.old v → HoldsLogged p v → All (IsGrey p v) tokens.items) }
+        ensures later { IfOk result (λ tokens. self.old.logged_taken ≡ true
+            → tokens.items ≡ []) }
+        ensures full { IfOk result (λ tokens. self.old.run.collect ≡ Full
+            → tokens.items ≡ []) }
+        ensures taken { IfOk result (λ tokens. self.new.logged_taken ≡ true) }
+        ensures failed { IfErr result (λ e. self.new.logged_taken ≡ self.old.logged_taken) }
+        ensures run { self.new.run ≡ self.old.run }
+        ensures globals { self.new.globals_taken ≡ self.old.globals_taken }
+        ensures same { (p : Setup) (es : List Event) (v : View) → Tracks p es self.old v
+            → Tracks p es self.new v }
+    {
+        if self.logged_taken {
+            return Ok(Vec::new(alloc));
+        }
+        let tokens = self.logged_tokens(alloc)?;
+        self.logged_taken = true;
+        Ok(tokens)
+    }
+
+    /// The token of each logged object.
+    fn logged_tokens(&self, alloc: Global) -> Result<Vec<Grey>, AllocError>
+        requires { TracerHolds self.now (λ p es v. Unit {0}) }
+        ensures { IfOk result (λ tokens. (p : Setup) (es : List Event) (v : View)
+            → Tracks p es self.now v
+            → tokens.items ≡ map (logged_token p) self.now.run.logged.items) }
+    {
+        let count = self.run.logged.len();
+        let mut tokens = Vec::with_capacity(alloc, count)?;
+        for place in 0..count {
+            let object = self.run.logged[place];
+            tokens.push_reserved(self.with_shape(object, object));
+        }
         Ok(tokens)
     }
 
@@ -178,6 +234,30 @@ impl PlainTrace {
     {
         self.row.words[self.row.layout.block_at(block) as usize] % CLASS_UNIT == Kind::Free as u64
     }
+}
+
+/// Sets the unlog bits of these objects.
+fn set_unlogs(row: &mut Row, objects: &[u32])
+    requires extent { length row.old.words.items ≡ row_words row.old.layout.blocks }
+    requires objects { (a : ℕ) → 0 < times a objects.now
+        → IsAddress row.old.layout.blocks a }
+    ensures { state_of row.new ≡ with_unlogs (state_of row.old) objects.now }
+{
+    for place in 0..objects.len() {
+        let object = objects[place];
+        set_unlog(row, object);
+    }
+}
+
+/// Sets the unlog bit of an address.
+fn set_unlog(row: &mut Row, address: u32)
+    requires extent { length row.old.words.items ≡ row_words row.old.layout.blocks }
+    requires address { IsAddress row.old.layout.blocks address }
+    ensures { state_of row.new ≡ with_unlogs (state_of row.old) (address ∷ []) }
+{
+    let index = address - row.layout.heap_base();
+    let word = row.layout.unlog_base() + index / BITS_PER_WORD;
+    side_meta::set_bit(&mut row.words, word, index % BITS_PER_WORD);
 }
 
 /// Clears all unlog bits, and if `lines` all line bits.

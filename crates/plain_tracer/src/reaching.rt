@@ -11,7 +11,8 @@ ghost use Rattle.object_model.specs.Lines.{TouchesLine};
 ghost use Rattle.trace_core.specs.Setups.{Setup, blocks, may_be_moved};
 ghost use Rattle.trace_core.specs.Machine.{Event, ClaimCause};
 ghost use Rattle.trace_core.specs.Traces.{IsAskedBy, machine_after};
-ghost use Rattle.trace_core.specs.Views.{View, times};
+ghost use Rattle.trace_core.specs.Views.{View};
+ghost use Rattle.object_model.specs.Times.{times};
 ghost use Rattle.plain_tracer.specs.TokenRights.{IsGrey, IsReached, grey_of};
 ghost use Rattle.plain_tracer.specs.Tracers.{Tracks, TracerHolds, Forwards, ScansField, ScansFields, SetsGlobal, KeepsRun};
 ghost use Rattle.trace_core.specs.Rights.{WasHeld, StaysHere, IsReferred};
@@ -21,7 +22,7 @@ ghost use Rattle.plain_tracer.specs.TokenRights.{IsNextField};
 use crate::plain_trace::PlainTrace;
 use crate::tokens::{Claim, GlobalRoot, Grey, Reached};
 use heap_layout::{Layout, block_of};
-use object_model::{Collect, HEADER_WORDS, size_words};
+use object_model::{HEADER_WORDS, size_words};
 
 impl PlainTrace {
     /// The token with the shape of its object.
@@ -30,17 +31,27 @@ impl PlainTrace {
         ensures { (p : Setup) (es : List Event) (v : View) → Tracks p es self.now v
             → IsReached p v reached → result ≡ grey_of p reached }
     {
-        let shape = self.row.shape_at(reached.object);
+        self.with_shape(reached.object, reached.target)
+    }
+
+    /// The token of an object with its shape, which is read where the object was.
+    pub(crate) fn with_shape(&self, object: u32, target: u32) -> Grey
+        requires { TracerHolds self.now (WasHeld object) }
+        ensures { (p : Setup) (es : List Event) (v : View) → Tracks p es self.now v
+            → IsHeld p.before object
+            → result ≡ grey_of p (record { object = object; target = target }) }
+    {
+        let shape = self.row.shape_at(object);
         Grey {
-            object: reached.object,
-            target: reached.target,
+            object,
+            target,
             size: size_words(&shape),
             refs: shape.refs,
         }
     }
 
-    /// Scans the fields of an object, as `scan_object`. An object that stays in place in a full
-    /// collection is claimed by its unlog bit, and its words are written and not read.
+    /// Scans the fields of an object, as `scan_object`. An object that lies in a block whose
+    /// objects stay is claimed by its unlog bit, and its words are written and not read.
     ///
     /// It takes no memory: `out` has room for as many tokens as the object has references.
     pub fn reach_fields(&mut self, grey: Grey, out: &mut Vec<Reached>)
@@ -160,17 +171,13 @@ impl PlainTrace {
         }
     }
 
-    /// Whether the collection is a full one, and the object at `x` lies in a block whose objects
-    /// stay.
+    /// Whether the object at `x` lies in a block whose objects stay.
     fn stays(&self, layout: Layout, x: u32) -> bool
         requires tracing { TracerHolds self.now (WasHeld x) }
         requires layout { layout.blocks ≡ self.now.row.layout.blocks }
         ensures { IsTrue result → (p : Setup) (es : List Event) (v : View)
             → Tracks p es self.now v → IsHeld p.before x → v.won ≡ [] → StaysHere p v x }
     {
-        if self.run.collect != Collect::Full {
-            return false;
-        }
         !self.run.from[block_of(&layout, x) as usize]
     }
 

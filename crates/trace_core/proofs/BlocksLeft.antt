@@ -5,7 +5,7 @@ use Rattle.std.proofs.lemmas.Bool.{false≢true}
 use Rattle.heap_layout.specs.Zones.{block_start}
 use Rattle.trace_core.specs.Setups.{Setup, blocks}
 use Rattle.trace_core.specs.Machine.{Machine}
-use Rattle.trace_core.specs.Views.{times}
+use Rattle.object_model.specs.Times.{times}
 use Rattle.trace_core.specs.Rooms.{IsFilled, IsLeftFor, AreLeft}
 
 module _ (p : Setup) (m m' : Machine) (more : (a y : ℕ) → m.owner a ≡ Some y → m'.owner a ≡ Some y) where

@@ -2,7 +2,7 @@
 use Rattle.std.proofs.Common.{◌≡◌, ◌≢◌, ℕ, ◌+◌, ◌-◌, ◌/◌, ◌%◌, ◌<◌, ◌≤◌, ◌⊎◌, inl, inr, false, true≢false, if◌then◌else◌, ◌&&◌, not, IsTrue, nat_eq, nat_lt, List, slice_index, refl, sym, ap, ◌∙◌, subst, arith, Option, Some, None, count_by}
 use Rattle.std.specs.Prelude.{is_some}
 use Rattle.std.specs.Int.{bit_at}
-use Rattle.std.proofs.lemmas.Bool.{cases_eq, cases_lt, cases_Bool, cond-true, cond-false, and_parts, eqb-true, ltb-true, ne_eqb, eq-eqb, not_from_true, not_from_false, and_from, and_right, false_from_ne_true}
+use Rattle.std.proofs.lemmas.Bool.{cases_eq, cases_lt, cases_Bool, cond-true, cond-false, and_parts, eqb-true, ltb-true, ne_eqb, eq-eqb, not-true, and_right, true_from_ne_false}
 use Rattle.heap_layout.specs.Zones.{StopWord, BudgetWord, InZone, PinBits, row_words, heap_of, first, IsAddress}
 use Rattle.heap_layout.specs.declared.block.Kind.{Kind}
 use Rattle.heap_layout.specs.declared.block.Kind.TheVariants as kinds
@@ -16,7 +16,7 @@ use Rattle.trace_core.specs.Traces.{HasCopyRoom, IsTracing, machine_after, heap_
 use Rattle.trace_core.proofs.Steps.{copied-plain}
 use Rattle.trace_core.proofs.Objects.{IsPlaced, CopyingObject, ScanningObject, ObjectIs, Some-injective, None-not-Some}
 use Rattle.trace_core.proofs.Places as places
-use Rattle.trace_core.proofs.FirstInvariant.{remembered, first-old, first-young}
+use Rattle.trace_core.proofs.FirstInvariant.{remembered, first-old, first-young, kept-words}
 use Rattle.trace_core.proofs.Once.{one_if, targets-in, claims, scans}
 use Rattle.object_model.proofs.Marks.{mark-same}
 use Rattle.trace_core.proofs.Sides.{StartsAt, UnlogsAt}
@@ -226,8 +226,8 @@ module _ (p : Setup) (es : List Event) (trace : IsTracing p es) where
       ]
 
   logged-of : (x : ℕ) → IsTrue (keeps_its_words p x) → IsTrue (stays_old p x) × (was_logged p x ≡ false)
-  logged-of x idle = let both = and_parts (stays_old p x) (is_unlogged p.before x) idle in
-      (both.0, and_right (stays_old p x) (not (is_unlogged p.before x)) (not_from_true (is_unlogged p.before x) both.1))
+  logged-of x idle = let both = and_parts (stays_old p x) (not (p.logged x)) idle in
+      (both.0, and_right (stays_old p x) (p.logged x) (not-true (p.logged x) both.1))
 
   pub idle-target : (x : ℕ) → IsTrue (keeps_its_words p x) → stage_of p es x ≡ Scanning x (refs p x)
   idle-target x idle = let d = logged-of x idle in idle-stage x d.0 d.1
@@ -259,7 +259,7 @@ module _ (p : Setup) (es : List Event) (trace : IsTracing p es) where
   scanned-once x busy = let total : fields_scanned (m.stage x) ≡ fields_scanned (first_stage p x) + count_by (is_scan_of x) es = scans p x (first_machine p) es trace.events in
       let none : fields_scanned (first_stage p x) ≡ 0 = elim (cases_Bool (stays_old p x)) as (λ _. fields_scanned (first_stage p x) ≡ 0) [
         | inl aged ↦ ap fields_scanned (first-old p trace.ready x aged) ∙ cond-true (was_logged p x) 0 (refs p x)
-            (and_from (stays_old p x) (not (is_unlogged p.before x)) aged (not_from_false (is_unlogged p.before x) (false_from_ne_true (is_unlogged p.before x) (λ set. true≢false (sym (and_from (stays_old p x) (is_unlogged p.before x) aged set) ∙ busy)))))
+            (true_from_ne_false (was_logged p x) (λ other. true≢false (sym (kept-words p trace.ready x aged other) ∙ busy)))
         | inr young ↦ ap fields_scanned (first-young p trace.ready x young)
       ] in omega arith
 

@@ -3,7 +3,8 @@ use Rattle.std.proofs.Common.{◌≡◌, ℕ, ◌+◌, ◌<◌, ◌⊎◌, Bool,
 use Rattle.std.specs.Prelude.{count_by}
 use Rattle.std.proofs.lemmas.Bool.{cases_Bool, cond-true, cond-false, and_parts, and_from, eqb-true, eq-eqb}
 use Rattle.std.proofs.lemmas.List.Sums.{sum_by-cons, sum_by-append}
-use Rattle.trace_core.specs.Views.{one_if, without, is_pair, hits, times}
+use Rattle.trace_core.specs.Views.{without, is_pair, hits}
+use Rattle.object_model.specs.Times.{one_if, times}
 
 pub count-cons : {A : Type 0} (f : A → Bool) (e : A) (l : List A) → count_by f (e ∷ l) ≡ one_if (f e) + count_by f l
 count-cons f e l = sum_by-cons (λ x. one_if (f x)) e l

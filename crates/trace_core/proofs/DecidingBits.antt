@@ -9,10 +9,11 @@ use Rattle.trace_core.specs.Setups.{Setup, blocks, collection, held, size, stays
 use Rattle.trace_core.specs.Machine.{Stage, Unclaimed, Copying, Scanning, target, Event}
 use Rattle.trace_core.specs.Traces.{IsTracing, machine_after, heap_after, stage_of, target_of}
 use Rattle.trace_core.specs.Outcomes.{base_after_trace}
-use Rattle.trace_core.specs.Views.{View, Holds, hits, one_if, is_copying}
+use Rattle.trace_core.specs.Views.{View, Holds, hits, is_copying}
+use Rattle.object_model.specs.Times.{one_if}
 use Rattle.trace_core.specs.Rights.{StaysHere}
 use Rattle.trace_core.proofs.FirstInvariant.{nursery-of, age-of}
-use Rattle.trace_core.proofs.Clauses.{collector, unclaimed, targets-inside, extents-apart, has-room, unlogs-from, unlogs-done}
+use Rattle.trace_core.proofs.Clauses.{collector, unclaimed, targets-inside, extents-apart, has-room, old-target, unlogs-from, unlogs-kept, unlogs-done}
 use Rattle.trace_core.proofs.Finished.{parts-of, option-cases}
 
 module _ (p : Setup) (es : List Event) (trace : IsTracing p es) (x : ℕ) (there : IsHeld p.before x) where
@@ -80,16 +81,16 @@ module _ (p : Setup) (es : List Event) (trace : IsTracing p es) (x : ℕ) (there
     ]
   ]
 
--- An unlog bit that is set, where none was, means that the object there was claimed and stays.
-pub marked : (p : Setup) (es : List Event) → IsTracing p es → (x : ℕ) → IsHeld p.before x → is_unlogged p.before x ≡ false
-    → IsTrue (is_unlogged (heap_after p es) x) → (stays_old p x ≡ false) × (target_of p es x ≡ Some x)
-marked p es trace x there clear set = elim (unlogs-from p es trace x set) as (λ _. (stays_old p x ≡ false) × (target_of p es x ≡ Some x)) [
-  | inl was ↦ absurd (true≢false (sym was ∙ clear))
+-- An unlog bit that is set means that the object there is old or was claimed, and stays.
+pub marked : (p : Setup) (es : List Event) → IsTracing p es → (x : ℕ) → IsHeld p.before x
+    → IsTrue (is_unlogged (heap_after p es) x) → target_of p es x ≡ Some x
+marked p es trace x there set = elim (unlogs-from p es trace x set) as (λ _. target_of p es x ≡ Some x) [
+  | inl was ↦ old-target p es trace x (sym (trace.ready.unlogs x) ∙ was)
   | inr by ↦ (
       let goes : target_of p es by.0 ≡ Some x = elim by.3 as (λ _. target_of p es by.0 ≡ Some x) [ inl scans ↦ ap target scans | inr copies ↦ ap target copies.0 ] in
       let same : by.0 ≡ x = (extents-apart p es trace by.0 x x x goes there (record { from = omega arith; below = (let some : 3 ≤ size p by.0 = omega arith in omega arith) })
       (record { from = omega arith; below = (let some : 3 ≤ size p x = omega arith in omega arith) })).0 in
-      (subst (λ y. stays_old p y ≡ false) same by.2, subst (λ y. target_of p es y ≡ Some x) same goes))
+      subst (λ y. target_of p es y ≡ Some x) same goes)
 ]
 
 -- A clear one means that nothing claimed the object, if it may not move and nothing waits to be copied.
@@ -97,9 +98,6 @@ pub unmarked : (p : Setup) (es : List Event) → IsTracing p es → (v : View) �
     → is_unlogged (heap_after p es) x ≡ false → target_of p es x ≡ None
 unmarked p es trace v holds x stays clear = by-stage (stage_of p es x) refl
   where
-    young : stays_old p x ≡ false
-    young = ap (λ b. b && (held p x && ages.is_old p.before x)) stays.full
-
     at-home : (t : ℕ) → target_of p es x ≡ Some t → t ≡ x
     at-home t is = elim (cases_eq t x) as (λ _. t ≡ x) [
       | inl same ↦ same
@@ -112,4 +110,7 @@ unmarked p es trace v holds x stays clear = by-stage (stage_of p es x) refl
         let none : hits x k v.won ≡ 0 = ap (hits x k) stays.none_won in
         let one : hits x k v.won ≡ 1 = holds.won x k ∙ ap (λ st. one_if (is_copying k st)) is ∙ ap one_if (eq-eqb k k refl) in
         omega arith)
-    by-stage (Scanning t k) is = absurd (true≢false (sym (subst (λ a. IsTrue (is_unlogged (heap_after p es) a)) (at-home t (ap target is)) (unlogs-done p es trace x t k young is)) ∙ clear))
+    by-stage (Scanning t k) is = absurd (elim (cases_Bool (stays_old p x)) as (λ _. ⊥) [
+      | inl aged ↦ true≢false (sym (unlogs-kept p es trace x (trace.ready.unlogs x ∙ aged)) ∙ clear)
+      | inr young ↦ true≢false (sym (subst (λ a. IsTrue (is_unlogged (heap_after p es) a)) (at-home t (ap target is)) (unlogs-done p es trace x t k young is)) ∙ clear)
+    ])

@@ -1,10 +1,9 @@
 -- The invariant for objects holds as a trace begins.
 use Rattle.std.proofs.Common.{◌≡◌, ℕ, ◌+◌, ◌<◌, ◌≤◌, inl, inr, false, true≢false, if◌then◌else◌, ◌&&◌, not, IsTrue, refl, sym, ap, ◌∙◌, subst, arith, None, slice_index}
 use Rattle.std.proofs.lemmas.Bool.{cases_Bool, cond-true, cond-false, and_parts, and_from, not_from_false}
-use Rattle.object_model.specs.Objects.{word_at, ref_at, is_reference, is_unlogged}
+use Rattle.object_model.specs.Objects.{word_at, ref_at, is_reference}
 use Rattle.object_model.specs.Ages as ages
-use Rattle.object_model.proofs.Marks as marks
-use Rattle.trace_core.specs.Setups.{Setup, TraceMayBegin, held, refs, stays_old, was_logged}
+use Rattle.trace_core.specs.Setups.{Setup, TraceMayBegin, held, refs, stays_old, was_logged, keeps_its_words}
 use Rattle.trace_core.specs.Machine.{Unclaimed, Scanning, target, first_machine, first_stage, copied_word, forward, IsSettled, address_or_nil}
 use Rattle.trace_core.proofs.Steps.{copied-plain, copied-collector}
 use Rattle.trace_core.proofs.Objects.{ScanningObject, ObjectIs, None-not-Some}
@@ -27,16 +26,17 @@ module _ (p : Setup) (ready : TraceMayBegin p) where
   pub first-young : (x : ℕ) → stays_old p x ≡ false → first_stage p x ≡ Unclaimed
   first-young x young = cond-false (stays_old p x) (Scanning x (if was_logged p x then 0 else refs p x)) Unclaimed young
 
-  -- each reference of an old object that is not logged is to an old object
+  -- an old object that was not logged keeps its words
+  pub kept-words : (x : ℕ) → IsTrue (stays_old p x) → was_logged p x ≡ false → IsTrue (keeps_its_words p x)
+  kept-words x aged idle = elim (cases_Bool (p.logged x)) as (λ _. IsTrue (keeps_its_words p x)) [
+    | inl logged ↦ absurd (true≢false (sym (and_from (stays_old p x) (p.logged x) aged logged) ∙ idle))
+    | inr other ↦ and_from (stays_old p x) (not (p.logged x)) aged (not_from_false (p.logged x) other)
+  ]
+
+  -- each reference of an old object that was not logged is to an old object
   pub remembered : (x i : ℕ) → IsTrue (stays_old p x) → was_logged p x ≡ false → i < refs p x → IsTrue (is_reference (ref_at p.before x i)) → IsTrue (stays_old p (ref_at p.before x i))
   remembered x i aged idle more reference =
-      let unlogged : IsTrue (is_unlogged p.before x) = (elim (cases_Bool (is_unlogged p.before x)) as (λ _. IsTrue (is_unlogged p.before x)) [
-        | inl set ↦ set
-        | inr clear ↦ absurd (true≢false (sym (and_from (stays_old p x) (not (is_unlogged p.before x)) aged (not_from_false (is_unlogged p.before x) clear)) ∙ idle))
-      ]) in
-      let met = ready.remembers (nursery-of x aged) x i (marks.held p.before x (held-of-old x aged)) (age-of x aged) unlogged more reference in
-      and_from p.nursery (held p (ref_at p.before x i) && ages.is_old p.before (ref_at p.before x i)) (nursery-of x aged)
-      (and_from (held p (ref_at p.before x i)) (ages.is_old p.before (ref_at p.before x i)) met.0.start met.1)
+      ready.remembers x i (kept-words x aged idle) more reference
 
   old-settled : (x i : ℕ) → IsTrue (stays_old p x) → was_logged p x ≡ false → i < refs p x → IsSettled (first_stage p) (ref_at p.before x i)
   old-settled x i aged idle more reference = let v : ℕ = ref_at p.before x i in (v, ap target (first-old v (remembered x i aged idle more reference)))

@@ -2,13 +2,14 @@
 use Rattle.std.proofs.Common.{◌≡◌, ℕ, zero, suc, ◌+◌, ◌<◌, ◌≤◌, inl, inr, true, false, true≢false, ◌&&◌, not, IsTrue, nat_eq, nat_lt, List, [], ◌∷◌, ◌++◌, Some, refl, sym, ap, ◌∙◌, subst, arith, eq-eqb, ne_eqb, add-zero}
 use Rattle.std.specs.Prelude.{map, if◌then◌else◌}
 use Rattle.std.specs.List.{range_with_len}
-use Rattle.std.proofs.lemmas.Bool.{cases_Bool, cases_eq, cond-true, and_from, and_left, and_right, lt-ltb, le-ltb, not_from_false}
-use Rattle.object_model.specs.Objects.{is_unlogged}
+use Rattle.std.proofs.lemmas.Bool.{cases_Bool, cases_eq, cond-true, and_from, and_left, and_parts, and_right, lt-ltb, le-ltb, not_from_false}
 use Rattle.trace_core.specs.Setups.{Setup, TraceMayBegin, refs, stays_old, keeps_its_words, was_logged}
 use Rattle.trace_core.specs.Machine.{Stage, Unclaimed, Scanning, target, first_machine, first_stage}
-use Rattle.trace_core.specs.Views.{Holds, one_if, hits, times, is_pair, is_copying, is_scanning, is_stage_copied, first_view}
+use Rattle.trace_core.specs.Views.{Holds, hits, is_pair, is_copying, is_scanning, is_stage_copied, first_view}
+use Rattle.object_model.specs.Times.{one_if, times}
+use Rattle.trace_core.specs.Rights.{HoldsLogged}
 use Rattle.trace_core.specs.declared.run.TraceRun.{TraceRun}
-use Rattle.trace_core.proofs.FirstInvariant.{first-old, first-young}
+use Rattle.trace_core.proofs.FirstInvariant.{first-old, first-young, kept-words}
 use Rattle.trace_core.proofs.CountedRights.{hits-cons, hits-from, pair-parts, times-cons}
 use Rattle.trace_core.proofs.Idle.{one-if-from, one-if-true}
 
@@ -81,6 +82,18 @@ known-logged x t (y ∷ l) some =
       | inr more ↦ (let rest = known-logged x t l more in let there : 0 < times x l = rest.1 in (rest.0, omega arith))
     ]
 
+-- and each object of the list is
+itself : (x : ℕ) (l : List ℕ) → 0 < times x l → 0 < hits x x (map (λ y. (y, y)) l)
+itself x [] some = absurd (omega (arith, some))
+itself x (y ∷ l) some =
+    let c : times x (y ∷ l) ≡ one_if (nat_eq x y) + times x l = times-cons y l x in
+    let d : hits x x ((y, y) ∷ map (λ z. (z, z)) l) ≡ one_if (is_pair x x (y, y)) + hits x x (map (λ z. (z, z)) l) = hits-cons y y (map (λ z. (z, z)) l) x x in
+    elim (cases_eq x y) as (λ _. 0 < hits x x (map (λ z. (z, z)) (y ∷ l))) [
+      | inl e ↦ (let here : one_if (is_pair x x (y, y)) ≡ 1 = one-if-true (is_pair x x (y, y)) (and_from (nat_eq y x) (nat_eq y x) (eq-eqb y x (sym e)) (eq-eqb y x (sym e))) in omega arith)
+      | inr ne ↦ (let none : one_if (nat_eq x y) ≡ 0 = ap one_if (ne_eqb x y ne) in
+          let rest : 0 < hits x x (map (λ z. (z, z)) l) = itself x l (omega arith) in omega arith)
+    ]
+
 module _ (p : Setup) (ready : TraceMayBegin p) (run : TraceRun) (logged : (x : ℕ) → times x run.logged.items ≡ one_if (was_logged p x)) where
   abbrev l : List ℕ
   l = run.logged.items
@@ -88,7 +101,7 @@ module _ (p : Setup) (ready : TraceMayBegin p) (run : TraceRun) (logged : (x : �
   old-of : (x : ℕ) → IsTrue (was_logged p x) → IsTrue (stays_old p x)
   old-of x is = elim (cases_Bool (stays_old p x)) as (λ _. IsTrue (stays_old p x)) [
     | inl aged ↦ aged
-    | inr young ↦ absurd (true≢false (sym is ∙ and_left (stays_old p x) (not (is_unlogged p.before x)) young))
+    | inr young ↦ absurd (true≢false (sym is ∙ and_left (stays_old p x) (p.logged x) young))
   ]
 
   -- what is so of each young object, and of each old one, as the trace begins
@@ -96,7 +109,7 @@ module _ (p : Setup) (ready : TraceMayBegin p) (run : TraceRun) (logged : (x : �
       → ((k : ℕ) → IsTrue (stays_old p x) → P (Scanning x k) (times x l)) → P (first_stage p x) (times x l)
   by-age P x young old = elim (cases_Bool (stays_old p x)) as (λ _. P (first_stage p x) (times x l)) [
     | inl aged ↦ subst (λ st. P st (times x l)) (sym (first-old p ready x aged)) (old (if was_logged p x then 0 else refs p x) aged)
-    | inr not-aged ↦ (let none : times x l ≡ 0 = logged x ∙ ap one_if (and_left (stays_old p x) (not (is_unlogged p.before x)) not-aged) in
+    | inr not-aged ↦ (let none : times x l ≡ 0 = logged x ∙ ap one_if (and_left (stays_old p x) (p.logged x) not-aged) in
         subst (λ st. P st (times x l)) (sym (first-young p ready x not-aged)) (subst (P Unclaimed) (sym none) (young not-aged none)))
   ]
 
@@ -108,22 +121,12 @@ module _ (p : Setup) (ready : TraceMayBegin p) (run : TraceRun) (logged : (x : �
       (λ young none. sym (ap one_if (and_right (not (stays_old p x)) false refl)))
       (λ j aged. sym (ap one_if (and_left (not (stays_old p x)) true (ap not aged))))
 
-  -- an old object that is not logged is idle
-  idle-old : (x : ℕ) → was_logged p x ≡ false → IsTrue (stays_old p x) → IsTrue (is_unlogged p.before x)
-  idle-old x other aged = elim (cases_Bool (is_unlogged p.before x)) as (λ _. IsTrue (is_unlogged p.before x)) [
-    | inl unlogged ↦ unlogged
-    | inr clear ↦ absurd (true≢false (sym (and_from (stays_old p x) (not (is_unlogged p.before x)) aged (not_from_false (is_unlogged p.before x) clear)) ∙ other))
-  ]
-
   grey-logged : (x k : ℕ) → IsTrue (was_logged p x) → hits x k (map (λ y. (y, 0)) l) ≡ one_if (not (keeps_its_words p x) && is_scanning k (first_stage p x))
   grey-logged x k is =
       let aged = old-of x is in
       let stage : first_stage p x ≡ Scanning x 0 = first-old p ready x aged ∙ ap (Scanning x) (cond-true (was_logged p x) 0 (refs p x) is) in
-      let clear : is_unlogged p.before x ≡ false = (elim (cases_Bool (is_unlogged p.before x)) as (λ _. is_unlogged p.before x ≡ false) [
-        | inl set ↦ absurd (true≢false (sym is ∙ and_right (stays_old p x) (not (is_unlogged p.before x)) (ap not set)))
-        | inr clear ↦ clear
-      ]) in
-      let busy : IsTrue (not (keeps_its_words p x)) = not_from_false (keeps_its_words p x) (and_right (stays_old p x) (is_unlogged p.before x) clear) in grey-from k
+      let listed : IsTrue (p.logged x) = (and_parts (stays_old p x) (p.logged x) is).1 in
+      let busy : IsTrue (not (keeps_its_words p x)) = not_from_false (keeps_its_words p x) (and_right (stays_old p x) (not (p.logged x)) (ap not listed)) in grey-from k
       (sym (ap (λ b. one_if (b && is_scanning k (first_stage p x))) busy ∙ ap (λ st. one_if (is_scanning k st)) stage))
     where
       grey-from : (k : ℕ) → one_if (nat_eq 0 k) ≡ one_if (not (keeps_its_words p x) && is_scanning k (first_stage p x))
@@ -134,7 +137,7 @@ module _ (p : Setup) (ready : TraceMayBegin p) (run : TraceRun) (logged : (x : �
   no-grey : (x k : ℕ) → was_logged p x ≡ false → (not (keeps_its_words p x) && is_scanning k (first_stage p x)) ≡ false
   no-grey x k other = elim (cases_Bool (stays_old p x)) as (λ _. (not (keeps_its_words p x) && is_scanning k (first_stage p x)) ≡ false) [
     | inl aged ↦ and_left (not (keeps_its_words p x)) (is_scanning k (first_stage p x))
-        (ap not (and_from (stays_old p x) (is_unlogged p.before x) aged (idle-old x other aged)))
+        (ap not (kept-words p ready x aged other))
     | inr young ↦ and_right (not (keeps_its_words p x)) (is_scanning k (first_stage p x)) (ap (is_scanning k) (first-young p ready x young))
   ]
 
@@ -149,6 +152,13 @@ module _ (p : Setup) (ready : TraceMayBegin p) (run : TraceRun) (logged : (x : �
       let d = known-logged x t l some in
       let is : IsTrue (was_logged p x) = one-if-from (was_logged p x) (subst (λ n. 0 < n) (logged x) d.1) in
       ap target (first-old p ready x (old-of x is)) ∙ ap (λ z. Some z) d.0
+
+  -- the right to scan each logged object
+  pub first-logged : HoldsLogged p (first_view run)
+  first-logged = record {
+    right = λ x is. (let one : hits x 0 (map (λ y. (y, 0)) l) ≡ 1 = hits-first x l ∙ logged x ∙ one-if-true (was_logged p x) is in omega arith);
+    target = λ x is. itself x l (let one : times x l ≡ 1 = logged x ∙ one-if-true (was_logged p x) is in omega arith);
+  }
 
   pub first-holds : Holds p (first_machine p) (first_view run)
   first-holds = record {

@@ -4,7 +4,8 @@ use Rattle.std.proofs.lemmas.Bool.{cases_Bool, and_parts, and_from, eqb-true, eq
 use Rattle.trace_core.specs.Setups.{Setup, refs, stays_old, keeps_its_words, was_logged}
 use Rattle.trace_core.specs.Machine.{Stage, Unclaimed, Copying, Scanning, target, Event}
 use Rattle.trace_core.specs.Traces.{IsTracing, IsFinished, machine_after, stage_of}
-use Rattle.trace_core.specs.Views.{View, Holds, NothingIsLeft, one_if, hits, is_copying, is_scanning, is_stage_copied}
+use Rattle.trace_core.specs.Views.{View, Holds, NothingIsLeft, hits, is_copying, is_scanning, is_stage_copied}
+use Rattle.object_model.specs.Times.{one_if}
 use Rattle.trace_core.proofs.Objects.{Some-injective, None-not-Some}
 use Rattle.trace_core.proofs.Clauses.{idle-stage}
 

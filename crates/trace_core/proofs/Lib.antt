@@ -25,6 +25,7 @@ pub mod WithoutLines
 pub mod FirstView
 pub mod ScanRights
 mod WorkedTraces
+pub mod SetUnlogs
 pub mod Begun
 pub mod LineBits
 pub mod DecidingBits

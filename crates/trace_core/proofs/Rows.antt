@@ -1,6 +1,6 @@
 -- The row after a finished trace.
-use Rattle.std.proofs.Common.{◌≡◌, ◌≢◌, ℕ, ◌+◌, ◌*◌, ◌/◌, ◌%◌, ◌<◌, ◌≤◌, ◌⊎◌, inl, inr, true≢false, ◌&&◌, ◌||◌, not, IsTrue, nat_eq, nat_lt, List, refl, sym, ap, ◌∙◌, subst, arith, Option, Some, None}
-use Rattle.std.proofs.lemmas.Bool.{cases_eq, cases_lt, cases_Bool, and_parts, and_from, or_cases, or_left, or_right, eqb-true, ltb-true, not_from_false, true_from_ne_false}
+use Rattle.std.proofs.Common.{◌≡◌, ◌≢◌, ℕ, ◌+◌, ◌*◌, ◌/◌, ◌%◌, ◌<◌, ◌≤◌, ◌⊎◌, inl, inr, ◌&&◌, ◌||◌, IsTrue, nat_eq, nat_lt, List, refl, sym, ap, ◌∙◌, subst, arith, Option, Some, None}
+use Rattle.std.proofs.lemmas.Bool.{cases_eq, cases_lt, cases_Bool, and_parts, or_cases, or_left, or_right, eqb-true, ltb-true}
 use Rattle.heap_layout.specs.Zones.{heap_of, block_at, offset_at}
 use Rattle.heap_layout.specs.declared.block.Kind.{Kind}
 use Rattle.heap_layout.specs.declared.block.Kind.TheVariants as kinds
@@ -146,14 +146,24 @@ module _ (p : Setup) (es : List Event) (trace : IsTracing p es) (finished : IsFi
   own-word : (x : ℕ) → IsInExtent after x x
   own-word x = record { from = omega arith; below = omega arith }
 
-  pub unlog-held : (x : ℕ) → IsTrue (is_unlogged after x) → IsHeld after x
-  unlog-held x set = elim (unlogs-from p es trace x set) as (λ _. IsHeld after x) [
-    | inl was ↦ starts-kept p es trace x (trace.ready.lawful.order.objects.marks x (or_right (is_pinned p.before x) (is_unlogged p.before x) was))
-    | inr by ↦ elim by.3 as (λ _. IsHeld after x) [
-      | inl now ↦ starts-done p es trace by.0 x by.1 now
-      | inr now ↦ starts-done p es trace by.0 x (refs p by.0) (finished.objects by.0 x (ap target now.0))
-    ]
+  -- the unlog bits are those of what lives
+  marked-lives : (x : ℕ) → IsTrue (is_unlogged after x) → Lives (base_after_trace p) after x
+  marked-lives x set = elim (unlogs-from p es trace x set) as (λ _. Lives (base_after_trace p) after x) [
+    | inl was ↦ lives p es trace finished x x (old-target p es trace x (sym (trace.ready.unlogs x) ∙ was))
+    | inr by ↦ lives p es trace finished by.0 x (elim by.3 as (λ _. target_of p es by.0 ≡ Some x) [ inl scans ↦ ap target scans | inr copies ↦ ap target copies.0 ])
   ]
+
+  target-marked : (a : ℕ) → 0 < F a → IsTrue (is_unlogged after (F a))
+  target-marked a some =
+      let is : target_of p es a ≡ Some (F a) = has-target p es trace finished a some in
+      elim (cases_Bool (stays_old p a)) as (λ _. IsTrue (is_unlogged after (F a))) [
+        | inl aged ↦ (let same : F a ≡ a = Some-injective (F a) a (sym is ∙ old-target p es trace a aged) in
+            subst (λ z. IsTrue (is_unlogged after z)) (sym same) (unlogs-kept p es trace a (trace.ready.unlogs a ∙ aged)))
+        | inr young ↦ unlogs-done p es trace a (F a) (refs p a) young (finished.objects a (F a) is)
+      ]
+
+  pub unlog-held : (x : ℕ) → IsTrue (is_unlogged after x) → IsHeld after x
+  unlog-held x set = (marked-lives x set).held
 
   pub clear : (b : ℕ) → FreeBlockIsClear after b
   clear b free = record {
@@ -199,13 +209,6 @@ module _ (p : Setup) (es : List Event) (trace : IsTracing p es) (finished : IsFi
     worker = (sound p es trace).sides.blocks.worker;
     clear = clear;
     pins = pins p es trace;
-    unlogs = unlog-held;
-    unlogged = λ a some idle. (let is : target_of p es a ≡ Some (F a) = has-target p es trace finished a some in
-        elim (cases_Bool (stays_old p a)) as (λ _. IsTrue (is_unlogged after (F a))) [
-          | inl aged ↦ (let same : F a ≡ a = Some-injective (F a) a (sym is ∙ old-target p es trace a aged) in
-              subst (λ z. IsTrue (is_unlogged after z)) (sym same) (unlogs-kept p es trace a (true_from_ne_false (is_unlogged p.before a) (λ none.
-              true≢false (sym (and_from (stays_old p a) (not (is_unlogged p.before a)) aged (not_from_false (is_unlogged p.before a) none)) ∙ idle)))))
-          | inr young ↦ unlogs-done p es trace a (F a) (refs p a) young (finished.objects a (F a) is)
-        ]);
+    unlogs = λ x. (marked-lives x, (λ live. let new = onto p es trace finished x live in subst (λ z. IsTrue (is_unlogged after z)) new.2 (target-marked new.0 new.1)));
     moved = λ a b same some young moves free. none-is-free p es trace a (has-target p es trace finished a (subst (λ z. 0 < z) (sym same) some) ∙ ap Some same) young moves b free;
   }

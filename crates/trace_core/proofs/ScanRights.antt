@@ -4,7 +4,8 @@ use Rattle.std.proofs.lemmas.Bool.{cases_eq, and_parts, and_left, and_right, eqb
 use Rattle.heap_layout.specs.declared.layout.TheConstants.{GLOBALS}
 use Rattle.trace_core.specs.Setups.{Setup, stays_old, keeps_its_words}
 use Rattle.trace_core.specs.Machine.{Stage, Unclaimed, Copying, Scanning, target, Machine, Scan, SetGlobal, next, put, scan_stage}
-use Rattle.trace_core.specs.Views.{View, Holds, one_if, without, is_pair, hits, times, is_copying, is_scanning, is_stage_copied, scanned_view, set_view}
+use Rattle.trace_core.specs.Views.{View, Holds, without, is_pair, hits, is_copying, is_scanning, is_stage_copied, scanned_view, set_view}
+use Rattle.object_model.specs.Times.{one_if, times}
 use Rattle.trace_core.proofs.Puts.{put_here, put_else}
 use Rattle.trace_core.proofs.CountedRights.{hits-cons, hits-without, times-cons, times-without}
 use Rattle.trace_core.proofs.Idle.{one-if-from, one-if-true}

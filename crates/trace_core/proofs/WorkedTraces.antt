@@ -2,22 +2,22 @@
 use Rattle.std.proofs.Common.{◌≢◌, slice_index, false, List, suc, zero, ◌≡◌, ℕ, ◌+◌, ◌-◌, ◌*◌, ◌^◌, ◌<◌, ◌≤◌, inl, inr, Bool, true, true≢false, IsTrue, not, nat_eq, nat_lt, ◌∙◌, if◌then◌else◌, ◌&&◌, ◌||◌, [], ◌∷◌, refl, sym, ap, subst, arith, Some, None, lit<}
 use Rattle.std.specs.Int.{bit_at}
 use Rattle.std.proofs.lemmas.Nat.Bits.{bit_at-pow_other}
-use Rattle.std.proofs.lemmas.Bool.{cases_eq, eqb-true, and_parts, and_from, or_cases, ltb-true}
+use Rattle.std.proofs.lemmas.Bool.{cases_Bool, cases_eq, eqb-true, and_left, and_parts, and_right, false_from_ne_true, not-true, or_cases, or_right, ltb-true}
 use Rattle.heap_layout.specs.Blocks.{kind_code}
 use Rattle.heap_layout.specs.declared.block.Kind.{Kind}
 use Rattle.heap_layout.specs.declared.block.Kind.TheVariants as kinds
-use Rattle.object_model.specs.Objects.{has_kind, is_start, is_unlogged, is_reference, ref_at, refs_at}
-use Rattle.object_model.specs.Ages.{RemembersYoung, is_old}
+use Rattle.object_model.specs.Objects.{has_kind, is_start, is_pinned, is_unlogged, ref_at}
+use Rattle.object_model.specs.Ages.{is_old}
 use Rattle.object_model.proofs.Marks as marks
 use Rattle.std.specs.List.{range_with_len, list_all}
 use Rattle.trace_core.proofs.Puts.{all_else, put_else}
-use Rattle.object_model.specs.Lawful.{IsLawful}
+use Rattle.object_model.specs.Lawful.{IsLawful, IsLawfulButLines}
 use Rattle.object_model.proofs.LawfulTests as tests
 use Rattle.object_model.proofs.BuiltWords.{built-fits}
 use Rattle.std.specs.Prelude.{filter}
 use Rattle.heap_layout.specs.Zones.{heap_of}
 use Rattle.object_model.specs.Lines.{TouchesLine}
-use Rattle.trace_core.specs.Setups.{Setup, TraceMayBegin, refs}
+use Rattle.trace_core.specs.Setups.{Setup, TraceMayBegin, refs, stays_old, keeps_its_words}
 use Rattle.trace_core.specs.Machine.{Stage, Unclaimed, Copying, Scanning, target, Event, first_machine, put}
 use Rattle.trace_core.specs.Outcomes.{HaveAsked, NoOthersAsked}
 use Rattle.trace_core.proofs.Objects.{Some-injective, None-not-Some}
@@ -31,6 +31,21 @@ cycle-lawful = tests.lawful cycle_setup.before (806 ∷ 810 ∷ []) (record { he
 pub nursery-lawful : IsLawful nursery_setup.before
 nursery-lawful = tests.lawful nursery_setup.before (806 ∷ 810 ∷ 814 ∷ []) (record { held = refl; starts = refl; least = refl; most = refl; extent = refl; words = built-fits nursery_parts (lit< tt) refl refl; base = refl; named = refl; refs = refl; nums = refl; number = refl; target = refl; marks = refl; within = refl; kind = refl; cell = refl; run = refl; apart = refl; heads = refl; tails = refl; references = refl; globals = refl; names = refl; codes = refl; owners = refl; free_words = refl; free_lines = refl; free_marks = refl; lines = refl })
 
+-- unlog bits are right if they are right at held objects
+unlogs-by : (p : Setup) (hs : List ℕ) → filter (is_start p.before) (range_with_len (heap_of p.before.blocks) (4096 * p.before.blocks)) ≡ hs → IsLawfulButLines p.before
+    → list_all (λ a. if is_unlogged p.before a then stays_old p a else not (stays_old p a)) hs ≡ true → (a : ℕ) → is_unlogged p.before a ≡ stays_old p a
+unlogs-by p hs held lawful all a = elim (cases_Bool (is_start p.before a)) as (λ _. is_unlogged p.before a ≡ stays_old p a) [
+  | inl start ↦ right (is_unlogged p.before a) (stays_old p a)
+      (tests.held-test p.before hs held (λ x. if is_unlogged p.before x then stays_old p x else not (stays_old p x)) all a (marks.held p.before a start))
+  | inr none ↦
+      false_from_ne_true (is_unlogged p.before a) (λ set. true≢false (sym (lawful.order.objects.marks a (or_right (is_pinned p.before a) (is_unlogged p.before a) set)).start ∙ none))
+      ∙ sym (and_right p.nursery (is_start p.before a && is_old p.before a) (and_left (is_start p.before a) (is_old p.before a) none))
+]
+  where
+    right : (b c : Bool) → (if b then c else not c) ≡ true → b ≡ c
+    right true c is = sym is
+    right false c is = sym (not-true c is)
+
 bump-not-free : kinds.Bump ≡ kinds.Free → ⊥
 bump-not-free e = true≢false (sym (ap (λ k. nat_eq (kind_code k) 0) e))
 
@@ -41,7 +56,8 @@ cycle-ready = record {
   some = omega arith;
   few = omega arith;
   base = λ nursery. absurd (true≢false (sym nursery));
-  remembers = λ nursery. absurd (true≢false (sym nursery));
+  remembers = λ x i keeps. absurd (true≢false (sym keeps));
+  unlogs = unlogs-by cycle_setup (806 ∷ 810 ∷ []) refl cycle-lawful.but_lines refl;
   kind = refl;
   small = λ b from large. (let at : b ≡ 0 = eqb-true b 0 from in
       true≢false (sym (subst (λ k. IsTrue (has_kind cycle_setup.before k kinds.LargeHead || has_kind cycle_setup.before k kinds.LargeTail)) at large)));
@@ -169,21 +185,25 @@ cycle-events = (
   ),
 )
 
--- the old object that is not logged refers to an old one
-abbrev remembers-at : ℕ → ℕ → Bool
-remembers-at a i = if is_old nursery_setup.before a && (is_unlogged nursery_setup.before a && is_reference (ref_at nursery_setup.before a i))
-    then is_start nursery_setup.before (ref_at nursery_setup.before a i) && is_old nursery_setup.before (ref_at nursery_setup.before a i) else true
+-- the old object that was not logged refers to an old one
+kept-old : (x : ℕ) → IsTrue (keeps_its_words nursery_setup x) → x ≡ 806
+kept-old x keeps =
+    let start : IsTrue (is_start nursery_setup.before x) = (and_parts (is_start nursery_setup.before x) (is_old nursery_setup.before x) (and_parts (stays_old nursery_setup x) (not (nat_eq x 810)) keeps).0).0 in
+    let test : (not (keeps_its_words nursery_setup x) || nat_eq x 806) ≡ true =
+    tests.held-test nursery_setup.before (806 ∷ 810 ∷ 814 ∷ []) refl (λ a. not (keeps_its_words nursery_setup a) || nat_eq a 806) refl x (marks.held nursery_setup.before x start) in
+    elim (or_cases (not (keeps_its_words nursery_setup x)) (nat_eq x 806) test) as (λ _. x ≡ 806) [
+      | inl other ↦ absurd (true≢false (sym other ∙ ap not keeps))
+      | inr same ↦ eqb-true x 806 same
+    ]
 
-nursery-remembers : RemembersYoung nursery_setup.before
-nursery-remembers a i held aged unlogged more reference =
-    let all = tests.held-test nursery_setup.before (806 ∷ 810 ∷ 814 ∷ []) refl (λ a. list_all (remembers-at a) (range_with_len 0 (refs_at nursery_setup.before a))) refl a held in
-    let both = and_parts (is_start nursery_setup.before (ref_at nursery_setup.before a i)) (is_old nursery_setup.before (ref_at nursery_setup.before a i))
-    (tests.implied (is_old nursery_setup.before a && (is_unlogged nursery_setup.before a && is_reference (ref_at nursery_setup.before a i)))
-    (is_start nursery_setup.before (ref_at nursery_setup.before a i) && is_old nursery_setup.before (ref_at nursery_setup.before a i))
-    (tests.below (remembers-at a) (refs_at nursery_setup.before a) all i more)
-    (and_from (is_old nursery_setup.before a) (is_unlogged nursery_setup.before a && is_reference (ref_at nursery_setup.before a i)) aged
-    (and_from (is_unlogged nursery_setup.before a) (is_reference (ref_at nursery_setup.before a i)) unlogged reference))) in
-    (marks.held nursery_setup.before (ref_at nursery_setup.before a i) both.0, both.1)
+none-but-0 : (i : ℕ) → i < 1 → i ≡ 0
+none-but-0 i few = omega arith
+
+nursery-remembers : (x i : ℕ) → x ≡ 806 → i < refs nursery_setup x → IsTrue (stays_old nursery_setup (ref_at nursery_setup.before x i))
+nursery-remembers x i at less =
+    let first : i ≡ 0 = none-but-0 i (subst (λ y. i < refs nursery_setup y) at less) in
+    subst (λ y. IsTrue (stays_old nursery_setup (ref_at nursery_setup.before y i))) (sym at)
+    (subst (λ k. IsTrue (stays_old nursery_setup (ref_at nursery_setup.before 806 k))) (sym first) refl)
 
 mature-not-free : kinds.Mature ≡ kinds.Free → ⊥
 mature-not-free e = true≢false (sym (ap (λ k. nat_eq (kind_code k) 0) e))
@@ -195,7 +215,8 @@ nursery-ready = record {
   some = omega arith;
   few = omega arith;
   base = λ nursery. omega arith;
-  remembers = λ nursery. nursery-remembers;
+  remembers = λ x i keeps less reference. nursery-remembers x i (kept-old x keeps) less;
+  unlogs = unlogs-by nursery_setup (806 ∷ 810 ∷ 814 ∷ []) refl nursery-lawful.but_lines refl;
   kind = refl;
   small = λ b from large. (let at : b ≡ 0 = eqb-true b 0 from in
       true≢false (sym (subst (λ k. IsTrue (has_kind nursery_setup.before k kinds.LargeHead || has_kind nursery_setup.before k kinds.LargeTail)) at large)));
@@ -287,7 +308,8 @@ shared-ready = record {
   some = omega arith;
   few = omega arith;
   base = λ nursery. absurd (true≢false (sym nursery));
-  remembers = λ nursery. absurd (true≢false (sym nursery));
+  remembers = λ x i keeps. absurd (true≢false (sym keeps));
+  unlogs = unlogs-by shared_setup (806 ∷ 810 ∷ 814 ∷ []) refl shared-lawful.but_lines refl;
   kind = refl;
   small = λ b from large. (let at : b ≡ 0 = eqb-true b 0 from in
       true≢false (sym (subst (λ k. IsTrue (has_kind shared_setup.before k kinds.LargeHead || has_kind shared_setup.before k kinds.LargeTail)) at large)));
@@ -423,7 +445,8 @@ full-ready = record {
   some = omega arith;
   few = omega arith;
   base = λ nursery. absurd (true≢false (sym nursery));
-  remembers = λ nursery. absurd (true≢false (sym nursery));
+  remembers = λ x i keeps. absurd (true≢false (sym keeps));
+  unlogs = unlogs-by full_setup (806 ∷ 4902 ∷ 8998 ∷ []) refl full-lawful.but_lines refl;
   kind = refl;
   small = λ b from large. elim (or_cases (has_kind full_setup.before b kinds.LargeHead) (has_kind full_setup.before b kinds.LargeTail) large) as (λ _. ⊥) [
     | inl head ↦ no-kind kinds.LargeHead refl b head

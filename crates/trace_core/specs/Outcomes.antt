@@ -6,7 +6,7 @@ use Rattle.heap_layout.specs.declared.block.Kind.TheVariants as kinds
 use Rattle.object_model.specs.Objects.{HeapState, HasKind, IsHeld, IsInExtent, word_at, block_word, number_at, name_at, refs_at, nums_at, is_pinned, is_unlogged}
 use Rattle.object_model.specs.Lawful.{FreeBlockIsClear}
 use Rattle.object_model.specs.Ages.{Lives}
-use Rattle.trace_core.specs.Setups.{Setup, blocks, collection, stays_old, was_logged, may_be_moved}
+use Rattle.trace_core.specs.Setups.{Setup, blocks, collection, stays_old, may_be_moved}
 use Rattle.trace_core.specs.Machine.{Stage, target, address_or_nil, taken_word}
 use Rattle.trace_core.specs.Traces.{HasCopyRoom}
 
@@ -44,9 +44,8 @@ pub record FinishedRow (p : Setup) (after : HeapState) (F taken : ℕ → ℕ) :
   pub worker : (b : ℕ) → taken b ≤ p.workers
   pub clear : (b : ℕ) → FreeBlockIsClear after b
   pub pins : (x : ℕ) → is_pinned after x ≡ is_pinned p.before x
-  -- an unlog bit is set only at an object, and at each target but those of logged objects
-  pub unlogs : (x : ℕ) → IsTrue (is_unlogged after x) → IsHeld after x
-  pub unlogged : (a : ℕ) → 0 < F a → was_logged p a ≡ false → IsTrue (is_unlogged after (F a))
+  -- the unlog bits are set of what lives
+  pub unlogs : (x : ℕ) → IsTrue (is_unlogged after x) ↔ Lives (base_after_trace p) after x
   -- an object that may move is in place only if no block is Free
   pub moved : (a b : ℕ) → F a ≡ a → 0 < a → stays_old p a ≡ false → IsTrue (may_be_moved p a)
       → HasKind after b kinds.Free → ⊥

@@ -6,7 +6,7 @@ use Rattle.heap_layout.specs.declared.region.Region.{Region}
 use Rattle.object_model.specs.Objects.{HeapState, HasKind}
 use Rattle.trace_core.specs.Setups.{Setup, blocks, size, stays_old, may_be_moved}
 use Rattle.trace_core.specs.Machine.{Machine, target}
-use Rattle.trace_core.specs.Views.{times}
+use Rattle.object_model.specs.Times.{times}
 use Rattle.heap_layout.specs.declared.block.Kind.TheVariants as kinds
 
 -- the first words of the block, up to this offset, are words of targets

@@ -1,17 +1,18 @@
 -- A collection as a tracer gets it, and the collection that it begins so.
-use Rattle.std.specs.Prelude.{◌≡◌, ℕ, ◌+◌, ◌*◌, ◌^◌, ◌<◌, Bool, true, false, ◌||◌, IsTrue, List, [], ◌++◌, take, drop, length, slice_get, slice_index, Option, Some, None, replicate, if◌then◌else◌}
+use Rattle.std.specs.Prelude.{◌≡◌, ℕ, ◌+◌, ◌*◌, ◌^◌, ◌<◌, Bool, true, false, ◌||◌, IsTrue, List, [], ◌++◌, take, drop, length, slice_get, slice_index, Option, Some, None, replicate, if◌then◌else◌, slice_set, ◌∷◌, nat_lt}
 use Rattle.forward_word.specs.declared.words.TheConstants.{NUMBER_BITS}
 use Rattle.heap_layout.specs.Zones.{LineWords, UnlogBits, first}
 use Rattle.object_model.specs.declared.collect.Collect.{Collect}
 use Rattle.object_model.specs.declared.collect.Collect.TheVariants.{Nursery, Full}
-use Rattle.object_model.specs.Objects.{HeapState, has_kind, with_words, is_unlogged}
-use Rattle.object_model.specs.Ages.{RemembersYoung}
-use Rattle.trace_core.specs.Setups.{Setup, blocks, collection, is_copy_kind}
+use Rattle.object_model.specs.Objects.{HeapState, has_kind, with_words}
+use Rattle.object_model.specs.BitWords.{bit_word, bit_place}
+use Rattle.object_model.specs.Times.{one_if, times}
+use Rattle.side_meta.specs.BitWords.{with_bit}
+use Rattle.object_model.specs.Ages.{RemembersYoung, ListsLogged}
+use Rattle.trace_core.specs.Setups.{Setup, blocks, collection, is_copy_kind, was_logged}
 use Rattle.trace_core.specs.Outcomes.{base_after_trace}
-use Rattle.trace_core.specs.Views.{one_if, times}
 use Rattle.trace_core.specs.declared.run.TraceRun.{TraceRun}
 use Rattle.heap_layout.specs.declared.block.Kind.TheVariants as kinds
-use Rattle.object_model.specs.Ages as ages
 
 -- a nursery collection
 abbrev pub is_nursery : Collect → Bool
@@ -34,26 +35,32 @@ without_lines s = with_words s (zeroed s.words (first s.blocks LineWords) (4 * s
 abbrev pub without_unlogs : HeapState → HeapState
 without_unlogs s = with_words s (zeroed s.words (first s.blocks UnlogBits) (64 * s.blocks))
 
--- The heap as its trace begins. A full collection begins by clearing the unlog bits, so that a set
--- one means that a target is there. Under a plan with lines it clears the line bits too.
+-- the row with the unlog bits of these objects set
+abbrev pub set_unlogs : ℕ → List ℕ → List ℕ → List ℕ
+set_unlogs b [] words = words
+set_unlogs b (a ∷ objects) words = set_unlogs b objects (slice_set words (bit_word b UnlogBits a)
+    (with_bit (slice_index words (bit_word b UnlogBits a)) (bit_place b a)))
+
+abbrev pub with_unlogs : HeapState → List ℕ → HeapState
+with_unlogs s objects = with_words s (set_unlogs s.blocks objects s.words)
+
+-- The heap as its trace begins, where a set unlog bit means that the object has its target. So a
+-- full collection begins by clearing these bits, and a nursery one by setting those of the logged
+-- objects. Under a plan with lines a full one clears the line bits too.
 abbrev pub begun : HeapState → TraceRun → HeapState
-begun s run =
-    if is_nursery run.collect then s else without_unlogs (if run.lines then without_lines s else s)
+begun s run = if is_nursery run.collect then with_unlogs s run.logged.items
+    else without_unlogs (if run.lines then without_lines s else s)
 
 -- the collection as its trace begins
 abbrev pub setup_of : HeapState → TraceRun → ℕ → Setup
 setup_of s run workers = record {
   before = begun s run;
   nursery = is_nursery run.collect;
+  logged = λ a. nat_lt 0 (times a run.logged.items);
   from = λ b. is_some_true (slice_get run.from.items b);
   copy = run.copy_kind;
   workers = workers;
 }
-
--- the list has each logged object once, by address
-pub record ListsLogged (s : HeapState) (logged : List ℕ) : Type 0 where
-  pub rising : (i j : ℕ) → i < j → j < length logged → slice_index logged i < slice_index logged j
-  pub all : (x : ℕ) → times x logged ≡ one_if (ages.is_logged s x)
 
 -- A trace of this heap may begin so.
 pub record MayRun (s : HeapState) (run : TraceRun) : Type 0 where
@@ -79,6 +86,6 @@ pub record IsRunOf (p : Setup) (run : TraceRun) : Type 0 where
   pub base : run.base ≡ base_after_trace p
   pub from : (b : ℕ) → b < blocks p → slice_get run.from.items b ≡ Some (p.from b)
   pub kind : run.copy_kind ≡ p.copy
-  -- a full collection began with no unlog bit set
   pub nursery : p.nursery ≡ is_nursery run.collect
-  pub unlogs : p.nursery ≡ false → (a : ℕ) → is_unlogged p.before a ≡ false
+  -- the list has each logged object once
+  pub logged : (x : ℕ) → times x run.logged.items ≡ one_if (was_logged p x)

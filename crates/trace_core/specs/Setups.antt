@@ -3,18 +3,18 @@ use Rattle.std.specs.Prelude.{◌≡◌, ℕ, ◌+◌, ◌<◌, ◌≤◌, ◌^�
 use Rattle.forward_word.specs.declared.words.TheConstants.{NUMBER_BITS}
 use Rattle.heap_layout.specs.declared.block.Kind.{Kind}
 use Rattle.heap_layout.specs.declared.block.Kind.TheVariants as kinds
-use Rattle.object_model.specs.Objects.{HeapState, has_kind, is_start, is_unlogged, refs_at, size_at}
+use Rattle.object_model.specs.Objects.{HeapState, has_kind, is_start, is_unlogged, is_reference, ref_at, refs_at, size_at}
 use Rattle.object_model.specs.Ages as ages
-use Rattle.object_model.specs.Ages.{RemembersYoung}
 use Rattle.object_model.specs.Lawful.{IsLawfulButLines}
 use Rattle.object_model.specs.Preserving.{may_leave}
 
--- A collection as its trace begins: the heap, whether it is a nursery collection, the blocks to
--- evacuate, the kind of the blocks that objects are copied into (Free if none are copied), and how
--- many workers trace.
+-- A collection as its trace begins: the heap, whether it is a nursery collection, the objects that
+-- were logged, the blocks to evacuate, the kind of the blocks that objects are copied into (Free if
+-- none are copied), and how many workers trace.
 pub record Setup : Type 0 where
   pub before : HeapState
   pub nursery : Bool
+  pub logged : ℕ → Bool
   pub from : ℕ → Bool
   pub copy : Kind
   pub workers : ℕ
@@ -42,11 +42,11 @@ stays_old p x = p.nursery && (held p x && ages.is_old p.before x)
 
 -- the old object was stored into since the last collection, so it may refer to young objects
 abbrev pub was_logged : Setup → ℕ → Bool
-was_logged p x = stays_old p x && not (is_unlogged p.before x)
+was_logged p x = stays_old p x && p.logged x
 
 -- a nursery collection leaves the words of the old object as they are
 abbrev pub keeps_its_words : Setup → ℕ → Bool
-keeps_its_words p x = stays_old p x && is_unlogged p.before x
+keeps_its_words p x = stays_old p x && not (p.logged x)
 
 -- the object may be moved: it lies in a block to evacuate, and is neither pinned nor large
 abbrev pub may_be_moved : Setup → ℕ → Bool
@@ -72,10 +72,13 @@ pub record TraceMayBegin (p : Setup) : Type 0 where
   pub number : collection p < 2 ^ NUMBER_BITS
   pub some : 1 ≤ p.workers
   pub few : p.workers ≤ 16
-  -- a nursery collection comes after a full one, and finds each reference from an old object to a
-  -- young one logged
+  -- a nursery collection comes after a full one
   pub base : IsTrue p.nursery → 0 < p.before.base
-  pub remembers : IsTrue p.nursery → RemembersYoung p.before
+  -- each object to which an old one refers that was not logged is old
+  pub remembers : (x i : ℕ) → IsTrue (keeps_its_words p x) → i < refs p x
+      → IsTrue (is_reference (ref_at p.before x i)) → IsTrue (stays_old p (ref_at p.before x i))
+  -- the unlog bits are set of those objects that have their target: old ones that stay
+  pub unlogs : (a : ℕ) → is_unlogged p.before a ≡ stays_old p a
   pub kind : IsTrue (is_copy_kind p.copy)
   -- no object leaves a large block, and none leaves any block where none are copied
   pub small : (b : ℕ) → IsTrue (p.from b)

@@ -1,4 +1,4 @@
--- When an event of the trace machine may come, and the traces that begin with a collection.
+-- When an event of the tracing machine may come, and the traces that begin with a collection.
 use Rattle.std.specs.Prelude.{◌≡◌, ◌≢◌, ℕ, ◌+◌, ◌-◌, ◌*◌, ◌<◌, ◌≤◌, ◌⊎◌, Bool, false, IsTrue, nat_eq, Option, Some, None, List, [], ◌∷◌}
 use Rattle.std.specs.Int.{bit_at}
 use Rattle.heap_layout.specs.Zones.{LineWords, first, InZone, block_at, offset_at, IsAddress}

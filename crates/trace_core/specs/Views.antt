@@ -2,6 +2,7 @@
 -- gave.
 use Rattle.std.specs.Prelude.{◌≡◌, ℕ, ◌+◌, ◌<◌, Bool, true, false, nat_eq, List, [], ◌∷◌, ◌++◌, take, Some, if◌then◌else◌, ◌&&◌, not, nat_lt, map, count_by}
 use Rattle.heap_layout.specs.declared.layout.TheConstants.{GLOBALS}
+use Rattle.object_model.specs.Times.{times, one_if}
 use Rattle.trace_core.specs.Setups.{Setup, size, refs, stays_old, keeps_its_words, was_logged}
 use Rattle.trace_core.specs.Machine.{Machine, target, ClaimCause, ByRoot, Stage, Copying, Scanning}
 use Rattle.trace_core.specs.declared.run.TraceRun.{TraceRun}
@@ -25,23 +26,17 @@ pub record View : Type 0 where
   -- of these, blocks that it left although much of them is free
   pub sparse : List ℕ
 
-abbrev pub one_if : Bool → ℕ
-one_if b = if b then 1 else 0
-
 -- the list without its first element that passes the test
 abbrev pub without : {A : Type 0} → (A → Bool) → List A → List A
 without test [] = []
 without test (e ∷ l) = if test e then l else e ∷ without test l
 
--- how often an element is in a list
+-- how often a pair is in a list
 abbrev pub is_pair : ℕ → ℕ → ℕ × ℕ → Bool
 is_pair x k e = nat_eq e.0 x && nat_eq e.1 k
 
 abbrev pub hits : ℕ → ℕ → List (ℕ × ℕ) → ℕ
 hits x k l = count_by (is_pair x k) l
-
-abbrev pub times : ℕ → List ℕ → ℕ
-times x l = count_by (nat_eq x) l
 
 abbrev pub is_copying : ℕ → Stage → Bool
 is_copying k (Copying t n) = nat_eq n k

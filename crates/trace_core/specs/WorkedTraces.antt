@@ -22,6 +22,7 @@ abbrev pub cycle_setup : Setup
 cycle_setup = record {
   before = build_heap cycle_parts;
   nursery = false;
+  logged = λ a. false;
   from = λ b. nat_eq b 0;
   copy = kinds.Bump;
   workers = 1;
@@ -34,13 +35,14 @@ cycle_events = TakeBlock 1 1 ∷ Claim 806 4902 (ByGlobal 0) ∷ replicate 6 (Co
     ++ Ask 806 ∷ MarkLines 806 26 1 ∷ Claim 810 4906 (ByField 806 0)
     ∷ replicate 7 (Copy 810) ++ Scan 806 ∷ Scan 810 ∷ map SetGlobal (range_with_len 0 16)
 
--- Block 0 has an old object that is not logged, an old one that is, and a young one, to which the
--- latter refers. The base is 1.
+-- Block 0 has an old object that was not logged, an old one that was, and a young one, to which the
+-- latter refers. The unlog bits of the old ones are set. The base is 1.
 abbrev pub nursery_parts : WorkedHeap
 nursery_parts = record {
   blocks = unowned kinds.Young 0 ∷ replicate 3 (unowned kinds.Free 0);
   objects = (record (plain_object 0 0 1 (810 ∷ []) 0 1) { unlogged = true })
-      ∷ plain_object 0 4 2 (814 ∷ []) 0 1 ∷ plain_object 0 8 3 [] 0 0 ∷ [];
+      ∷ (record (plain_object 0 4 2 (814 ∷ []) 0 1) { unlogged = true })
+      ∷ plain_object 0 8 3 [] 0 0 ∷ [];
   globals = replicate 16 0;
   number = 1;
   base = 1;
@@ -51,6 +53,7 @@ abbrev pub nursery_setup : Setup
 nursery_setup = record {
   before = build_heap nursery_parts;
   nursery = true;
+  logged = λ a. nat_eq a 810;
   from = λ b. nat_eq b 0;
   copy = kinds.Mature;
   workers = 2;
@@ -77,6 +80,7 @@ abbrev pub shared_setup : Setup
 shared_setup = record {
   before = build_heap shared_parts;
   nursery = false;
+  logged = λ a. false;
   from = λ b. nat_eq b 0;
   copy = kinds.Bump;
   workers = 1;
@@ -104,6 +108,7 @@ abbrev pub full_setup : Setup
 full_setup = record {
   before = build_heap full_parts;
   nursery = false;
+  logged = λ a. false;
   from = λ b. true;
   copy = kinds.Bump;
   workers = 1;

@@ -90,12 +90,13 @@ pub fn nursery_moves_young_objects()
     ensures words { map (word_at (heap_after nursery_setup nursery_events))
         (808 ∷ 812 ∷ 816 ∷ 4904 ∷ 813 ∷ 19 ∷ 550 ∷ 614 ∷ [])
         ≡ (2 ^ 24 + 806) ∷ (2 ^ 24 + 810) ∷ (2 * 2 ^ 24 + 4902) ∷ (2 * 2 ^ 24 + 4902)
-        ∷ 4902 ∷ (3 + 65536 * 18) ∷ 1 ∷ 1 ∷ [] }
+        ∷ 4902 ∷ (3 + 65536 * 18) ∷ 17 ∷ 1 ∷ [] }
 {}
 
 /// A trace of the cycle may begin. It may not with no worker or more than 16, with cells or a block
 /// kept in place to copy into, with objects that leave a block where none are copied, or as a
-/// nursery collection before a full one.
+/// nursery collection before a full one. That of a nursery may not begin as a full collection while
+/// unlog bits are set, nor with an old object that refers to a young one and was not logged.
 pub fn setups_are_refused()
     ensures ready { TraceMayBegin cycle_setup }
     ensures none { TraceMayBegin (record cycle_setup { workers = 0 }) → ⊥ }
@@ -104,6 +105,8 @@ pub fn setups_are_refused()
     ensures kept { TraceMayBegin (record cycle_setup { copy = kinds.Kept }) → ⊥ }
     ensures fixed { TraceMayBegin (record cycle_setup { copy = kinds.Free }) → ⊥ }
     ensures base { TraceMayBegin (record cycle_setup { nursery = true }) → ⊥ }
+    ensures marked { TraceMayBegin (record nursery_setup { nursery = false }) → ⊥ }
+    ensures forgotten { TraceMayBegin (record nursery_setup { logged = λ a. false }) → ⊥ }
     ensures moves { map (may_be_moved cycle_setup) (806 ∷ 810 ∷ 4902 ∷ [])
         ≡ true ∷ true ∷ false ∷ [] }
 {}

@@ -1,7 +1,7 @@
-//! Laws of the trace machine. Each holds after every list of events of a trace, by any number of
+//! Laws of the tracing machine. Each holds after every list of events of a trace, by any number of
 //! workers in any order.
 
-ghost use Rattle.std.specs.Prelude.{◌≡◌, ◌≢◌, ◌⊎◌, ◌↔◌, ℕ, ◌+◌, ◌*◌, ◌<◌, ◌≤◌, ◌++◌, false, Some, None, List, IsTrue, map, if◌then◌else◌, is_some, count_by};
+ghost use Rattle.std.specs.Prelude.{◌≡◌, ◌≢◌, ◌⊎◌, ◌↔◌, ℕ, ◌+◌, ◌*◌, ◌<◌, ◌≤◌, ◌++◌, ◌&&◌, false, Some, None, List, IsTrue, map, if◌then◌else◌, is_some, count_by};
 ghost use Rattle.forward_word.specs.CollectorWords.{collector_word};
 ghost use Rattle.heap_layout.specs.Zones.{LineWords, UnlogBits, StopWord, BudgetWord, PinBits, InZone, IsAddress, bit_of};
 ghost use Rattle.heap_layout.specs.declared.block.Kind.TheVariants as kinds;
@@ -11,13 +11,13 @@ ghost use Rattle.object_model.specs.Objects.{HeapState, word_at, global_at, bloc
 ghost use Rattle.trace_core.specs.Setups.{Setup, blocks, collection, size, refs, stays_old, was_logged, keeps_its_words, may_be_moved};
 ghost use Rattle.trace_core.specs.Machine.{Machine, Event, next, Copying, Scanning, copied_word, step_of_offset, forward, IsSettled, taken_word};
 ghost use Rattle.object_model.specs.Graphs.{IsReachable};
-ghost use Rattle.object_model.specs.Ages.{Lives};
+ghost use Rattle.object_model.specs.Ages.{is_logged, Lives, RemembersYoung, ListsLogged};
 ghost use Rattle.object_model.specs.Preserving.{PreservesObjects};
 ghost use Rattle.object_model.specs.Releasing.{IsReleasable};
 ghost use Rattle.trace_core.specs.Views.{View, Holds};
 ghost use Rattle.trace_core.specs.Rights.{StaysHere};
-ghost use Rattle.trace_core.specs.Runs.{setup_of};
-ghost use Rattle.object_model.specs.declared.collect.Collect.TheVariants.{Nursery, Full};
+ghost use Rattle.trace_core.specs.Runs.{is_nursery, setup_of};
+ghost use Rattle.object_model.specs.declared.collect.Collect.TheVariants.{Full};
 ghost use Rattle.trace_core.specs.declared.run.TraceRun.{TraceRun};
 ghost use Rattle.trace_core.specs.Outcomes.{FinishedRow, base_after_trace, image, HaveAsked, NoOthersAsked};
 ghost use Rattle.trace_core.specs.Traces.{May, HasCopyRoom, IsTracing, IsFinished, TraceKeeps, machine_after, heap_after, stage_of, target_of, fields_scanned, is_claim_of, is_scan_of};
@@ -228,12 +228,14 @@ pub fn bits_of_objects_are_set()
         → is_pinned (heap_after p es) a ≡ is_pinned p.before a }
 {}
 
-/// In a full collection that began with no unlog bit set, an object that may not move is claimed if
-/// and only if its unlog bit is set, where nothing that is claimed waits to be copied.
+/// An object whose unlog bit is set is its own target, in both kinds of collections. One that may
+/// not move has no target if the bit is clear, where nothing that is claimed waits to be copied.
 pub fn unlog_bits_show_what_is_claimed()
-    ensures { (p : Setup) (es : List Event) (v : View) → IsTracing p es
-        → Holds p (machine_after p es) v → ((a : ℕ) → is_unlogged p.before a ≡ false)
-        → (x : ℕ) → StaysHere p v x
+    ensures marked { (p : Setup) (es : List Event) → IsTracing p es → (x : ℕ)
+        → IsHeld p.before x → IsTrue (is_unlogged (heap_after p es) x)
+        → target_of p es x ≡ Some x }
+    ensures stays { (p : Setup) (es : List Event) (v : View) → IsTracing p es
+        → Holds p (machine_after p es) v → (x : ℕ) → StaysHere p v x
         → IsTrue (is_unlogged (heap_after p es) x) ↔ (target_of p es x ≡ Some x) }
 {}
 
@@ -265,19 +267,27 @@ pub fn side_words_follow_events()
         → IsTrue (bit_of (blocks p) LineWords (heap_after p (es ++ more)).words n) }
 {}
 
-/// A trace begins with the words of the heap that it is given. A full collection begins with all
-/// unlog bits clear, and under a plan with lines with all line bits clear.
+/// A trace begins with the words of the heap that it is given, but for line and unlog bits. The
+/// unlog bits are set of those objects that have their target: of none in a full collection, and of
+/// the old ones in a nursery one. Those that were logged are known by the list that is given. Under
+/// a plan with lines a full collection begins with all line bits clear.
 pub fn traces_begin_with_the_heap()
     ensures words { (s : HeapState) (run : TraceRun) (w i : ℕ) → IsLawfulButLines s
+        → (IsTrue (is_nursery run.collect) → ListsLogged s run.logged.items)
         → (InZone s.blocks LineWords i → ⊥) → (InZone s.blocks UnlogBits i → ⊥)
         → word_at (setup_of s run w).before i ≡ word_at s i }
     ensures held { (s : HeapState) (run : TraceRun) (w a : ℕ) → IsLawfulButLines s
+        → (IsTrue (is_nursery run.collect) → ListsLogged s run.logged.items)
         → IsHeld (setup_of s run w).before a ↔ IsHeld s a }
-    ensures same { (s : HeapState) (run : TraceRun) (w : ℕ)
-        → run.collect ≡ Nursery → (setup_of s run w).before ≡ s }
+    ensures logged { (s : HeapState) (run : TraceRun) (w a : ℕ) → IsLawfulButLines s
+        → (IsTrue (is_nursery run.collect) → ListsLogged s run.logged.items)
+        → (IsTrue (is_nursery run.collect) → RemembersYoung s)
+        → was_logged (setup_of s run w) a ≡ (is_nursery run.collect && is_logged s a) }
     ensures lines { (s : HeapState) (run : TraceRun) (w k line : ℕ) → IsLawfulButLines s
         → IsTrue (run.lines) → run.collect ≡ Full → k < s.blocks → line < 256
         → line_marked (setup_of s run w).before k line ≡ false }
     ensures unlogs { (s : HeapState) (run : TraceRun) (w a : ℕ) → IsLawfulButLines s
-        → run.collect ≡ Full → is_unlogged (setup_of s run w).before a ≡ false }
+        → (IsTrue (is_nursery run.collect) → ListsLogged s run.logged.items)
+        → (IsTrue (is_nursery run.collect) → RemembersYoung s)
+        → is_unlogged (setup_of s run w).before a ≡ stays_old (setup_of s run w) a }
 {}

@@ -1,6 +1,6 @@
-//! The trace machine: the steps by which any number of workers find what is reachable and move it,
-//! while mutators are stopped, and its laws. And what every tracer shares: what it is given, its
-//! rights and its room.
+//! The tracing machine: the steps by which any number of workers find what is reachable and move
+//! it, while mutators are stopped, and its laws. And what every tracer shares: what it is given,
+//! its rights and its room.
 #![tactic(auto)]
 
 pub mod examples;

@@ -5,7 +5,8 @@ use Rattle.std.proofs.lemmas.List.{map-append}
 use Rattle.std.proofs.lemmas.List.Elements.{All-append, All-cons, All-nil, All-pop, All-weaker}
 use Rattle.trace_core.specs.Setups.{Setup}
 use Rattle.trace_core.specs.Machine.{Event, ByRoot}
-use Rattle.trace_core.specs.Views.{View, one_if, without, is_pair, hits, times, claimed_view, copied_view, set_view}
+use Rattle.trace_core.specs.Views.{View, without, is_pair, hits, claimed_view, copied_view, set_view}
+use Rattle.object_model.specs.Times.{one_if, times}
 use Rattle.plain_tracer.specs.TokenRights.{IsGrey, Scanned, to_scan_in}
 use Rattle.plain_tracer.specs.Tracers.{Tracks}
 use Rattle.trace_core.specs.CallEvents.{taken_in}

@@ -3,7 +3,8 @@ use Rattle.std.specs.Prelude.{◌≡◌, ℕ, ◌<◌, ◌≤◌, List, map}
 use Rattle.std.specs.List.{All}
 use Rattle.trace_core.specs.Setups.{Setup, size, refs}
 use Rattle.trace_core.specs.Machine.{Event}
-use Rattle.trace_core.specs.Views.{View, hits, times}
+use Rattle.trace_core.specs.Views.{View, hits}
+use Rattle.object_model.specs.Times.{times}
 use Rattle.plain_tracer.specs.TokenRights.{to_scan_in}
 use Rattle.plain_tracer.specs.Tracers.{Tracks}
 use Rattle.plain_tracer.specs.declared.tokens.Grey.{Grey}

@@ -1,7 +1,5 @@
 //! Tests of whole collections, against plain counts and against the plain tracer.
 
-ghost use Rattle.std.specs.Prelude.{◌≡◌, false};
-
 use crate::graphs::{list, random_graph};
 use crate::heaps::{Built, build, build_under, full_run, with_roots};
 use crate::tracing::trace;
@@ -349,9 +347,7 @@ fn collect_each<B: Plan, P: Plan, R: Abort + Threads + Sync>(
     way: Way,
     commands: &[Command],
     passes: &[usize],
-) -> Result<Vec<Note>, Fail>
-    requires { B.rules.young ≡ false }
-{
+) -> Result<Vec<Note>, Fail> {
     let mut built = build_under::<B>(rt, alloc, setting.blocks, commands, 16)?;
     let mut notes = Vec::new(alloc);
     for kept in passes {

@@ -1,10 +1,10 @@
 //! Heaps that a mutator built, and full collections of them.
 
-ghost use Rattle.std.specs.Prelude.{◌≡◌, ◌<◌, IfOk, IsTrue, false, length};
+ghost use Rattle.std.specs.Prelude.{◌≡◌, ◌<◌, IfOk, IsTrue, length};
 ghost use Rattle.heap_layout.specs.declared.block.Kind.TheVariants as kinds;
 ghost use Rattle.object_model.specs.Heaps.{heap_state};
 ghost use Rattle.object_model.specs.Lawful.{AreRoots};
-ghost use Rattle.plain_world.specs.Calls.{IsOpen, SamePlaces};
+ghost use Rattle.plain_world.specs.Calls.{IsOpen, SamePlaces, is_generational};
 ghost use Rattle.trace_core.specs.Runs.{MayRun};
 ghost use Rattle.trace_tests.specs.Blocks.{is_large, HasSmall};
 
@@ -48,9 +48,7 @@ pub(crate) fn build_under<P: Plan>(
     blocks: u32,
     commands: &[Command],
     kept: usize,
-) -> Result<Built, Fail>
-    requires ages { P.rules.young ≡ false }
-{
+) -> Result<Built, Fail> {
     let mut world = new_world::<P>(alloc, blocks)?;
     for command in commands {
         call(rt, &mut world, command);
@@ -65,15 +63,17 @@ pub(crate) fn build_under<P: Plan>(
 }
 
 /// A heap with these registers, which are roots.
-pub(crate) fn with_roots(rt: &impl Abort, heap: Heap, registers: Vec<u32>) -> Built {
+pub(crate) fn with_roots(rt: &impl Abort, heap: Heap, registers: Vec<u32>) -> Built
+    ensures { result.heap ≡ heap }
+{
     assert!(rt; are_roots(&heap, &registers));
     Built { heap, registers }
 }
 
 /// A world of an empty heap of `blocks` blocks, with one mutator.
-fn new_world<P: Plan>(alloc: Global, blocks: u32) -> Result<PlainWorld<P>, Fail>
-    requires ages { P.rules.young ≡ false }
+pub(crate) fn new_world<P: Plan>(alloc: Global, blocks: u32) -> Result<PlainWorld<P>, Fail>
     ensures open { IfOk result (λ w. IsOpen P.rules w) }
+    ensures plan { IfOk result (λ w. is_generational w ≡ P.rules.young) }
 {
     let heap = Heap::new(alloc, Layout::new(blocks)?)?;
     let mutators = new_mutators(alloc, 1)?;
@@ -81,10 +81,11 @@ fn new_world<P: Plan>(alloc: Global, blocks: u32) -> Result<PlainWorld<P>, Fail>
 }
 
 /// A command of the mutator, which succeeds.
-fn call<P: Plan>(rt: &impl Abort, world: &mut PlainWorld<P>, command: &Command)
+pub(crate) fn call<P: Plan>(rt: &impl Abort, world: &mut PlainWorld<P>, command: &Command)
     requires { IsOpen P.rules world.old }
     ensures open { IsOpen P.rules world.new }
     ensures places { SamePlaces world.old world.new }
+    ensures plan { is_generational world.new ≡ is_generational world.old }
 {
     let reply = reply_to(rt, world, command);
     assert!(rt;
@@ -98,6 +99,7 @@ fn reply_to<P: Plan>(rt: &impl Abort, world: &mut PlainWorld<P>, command: &Comma
     requires { IsOpen P.rules world.old }
     ensures open { IsOpen P.rules world.new }
     ensures places { SamePlaces world.old world.new }
+    ensures plan { is_generational world.new ≡ is_generational world.old }
 {
     assert!(rt; valid(command));
     assert!(rt; world.mutators().len() == 1);
@@ -116,16 +118,19 @@ fn reply_to<P: Plan>(rt: &impl Abort, world: &mut PlainWorld<P>, command: &Comma
     }
 }
 
-/// Whether a block is Free or a Bump block.
+/// Whether a block is Free, or of a kind that is filled from start to end.
 fn is_small(heap: &Heap, block: u32) -> bool
     requires { block < (heap_state heap.now).blocks }
     ensures { IsTrue result → IsTrue (is_large (heap_state heap.now) block) → ⊥ }
 {
-    matches!(heap.block(block).kind, Kind::Free | Kind::Bump)
+    matches!(
+        heap.block(block).kind,
+        Kind::Free | Kind::Bump | Kind::Young | Kind::Mature
+    )
 }
 
-/// Asserts that each block is Free or a Bump block.
-fn check_small(rt: &impl Abort, heap: &Heap)
+/// Asserts that each block is so.
+pub(crate) fn check_small(rt: &impl Abort, heap: &Heap)
     ensures { HasSmall (heap_state heap.now) }
 {
     for block in 0..heap.layout().blocks() {
@@ -134,7 +139,7 @@ fn check_small(rt: &impl Abort, heap: &Heap)
 }
 
 /// A list that has `moving` times true first, and `blocks` entries.
-fn first_blocks(alloc: Global, blocks: u32, moving: u32) -> Result<Vec<bool>, AllocError>
+pub(crate) fn first_blocks(alloc: Global, blocks: u32, moving: u32) -> Result<Vec<bool>, AllocError>
     ensures { IfOk result (λ v. length v.items ≡ blocks) }
 {
     let mut from = Vec::new(alloc);

@@ -2,7 +2,9 @@
 
 ghost use Rattle.std.specs.Prelude.{◌≡◌, ◌<◌};
 ghost use Rattle.heap_layout.specs.declared.block.Kind.TheVariants as kinds;
+ghost use Rattle.object_model.specs.Heaps.{heap_state};
 ghost use Rattle.plain_tracer.specs.Tracers.{TracerHolds};
+ghost use Rattle.trace_core.specs.Runs.{MayRun};
 
 use crate::heaps::{Built, build, full_run};
 use crate::tracing::{Outcome, trace};
@@ -12,12 +14,13 @@ use plain_tracer::PlainTrace;
 use std::alloc::Global;
 use std::process::Abort;
 use std::test::Fail;
+use trace_core::TraceRun;
 
 fn create(d: u32, refs: u32, nums: u32) -> Command {
     Command::New { d, refs, nums }
 }
 
-fn word(words: &[u64], at: usize) -> u64 {
+pub(crate) fn word(words: &[u64], at: usize) -> u64 {
     words.get(at).copied().unwrap_or(0)
 }
 
@@ -36,15 +39,24 @@ fn target(words: &[u64], at: u64) -> u64 {
     }
 }
 
-// Whether each word of an object is at its target, with the targets of references.
-fn has_words(old: &[u64], new: &[u64], place: &Place) -> bool {
+// The collector word of an object at its target. Only an object that was never claimed gets one.
+fn collector_word(was: u64, number: u64, to: u64) -> u64 {
+    match was {
+        0 => (number << 24).wrapping_add(to),
+        _ => was,
+    }
+}
+
+// Whether each word of an object is at its target, with the targets of references, after a
+// collection of objects that no full one met before.
+fn has_words(old: &[u64], new: &[u64], place: &Place, number: u64) -> bool {
     let at = place.at as usize;
     let to = target(new, at as u64);
     let refs = (word(old, at.wrapping_add(1)) % 65_536) as usize;
     for offset in 0..place.size as usize {
         let was = word(old, at.wrapping_add(offset));
         let want = match offset {
-            2 => to.wrapping_add(1 << 24),
+            2 => collector_word(was, number, to),
             _ if 3 <= offset && offset < 3 + refs => target(new, was),
             _ => was,
         };
@@ -67,11 +79,22 @@ fn has_bits(old: &[u64], new: &[u64], place: &Place) -> bool {
         && bit(new, pins, to) == bit(old, pins, from)
 }
 
-// Each object of a graph is at its target.
-fn check_objects(rt: &impl Abort, old: &[u64], new: &[u64], graph: &[Place]) {
+// How many unlog bits are set.
+fn unlogged(words: &[u64]) -> usize {
+    let blocks = (words.len().saturating_sub(18) / 4293).min(1024);
+    let mut count = 0usize;
+    for bits in words.iter().skip(18 + 133 * blocks).take(64 * blocks) {
+        count = count.wrapping_add(bits.count_ones() as usize);
+    }
+    count
+}
+
+// Each object of a graph is at its target, and no other one has an unlog bit.
+fn check_objects(rt: &impl Abort, old: &[u64], new: &[u64], graph: &[Place], number: u64) {
+    assert_eq!(rt; unlogged(new), graph.len());
     for place in graph {
         let name = place.name;
-        assert!(rt; has_words(old, new, place), "the words of {name:?}");
+        assert!(rt; has_words(old, new, place, number), "the words of {name:?}");
         assert!(rt; has_bits(old, new, place), "the bits of {name:?}");
     }
 }
@@ -84,8 +107,8 @@ fn has_roots(old: &[u64], new: &[u64], registers: &[u32], last: &[u32]) -> bool 
         && new.iter().skip(2).take(16).copied().eq(globals)
 }
 
-// Traces a heap whose first blocks are evacuated. Registers, globals and fields follow, and each
-// reachable object is scanned once.
+// Traces a heap whose first blocks are evacuated, in a full collection. Each reachable object is
+// scanned once.
 fn check_trace(
     rt: &impl Abort,
     alloc: Global,
@@ -93,15 +116,30 @@ fn check_trace(
     moving: u32,
     lines: bool,
 ) -> Result<Outcome, Fail> {
-    let registers = built.registers.as_slice().to_vec(alloc)?;
-    let old = built.heap.words().as_slice().to_vec(alloc)?;
     let places = graph(alloc, &built.heap, &built.registers)?;
     let run = full_run(rt, alloc, &built.heap, moving, lines)?;
+    let outcome = check_run(rt, alloc, built, run, &places)?;
+    assert_eq!(rt; outcome.scanned as usize, places.len());
+    Ok(outcome)
+}
+
+// Traces a heap, of which these objects are kept. Registers, globals and fields follow.
+pub(crate) fn check_run(
+    rt: &impl Abort,
+    alloc: Global,
+    built: Built,
+    run: TraceRun,
+    places: &[Place],
+) -> Result<Outcome, Fail>
+    requires { MayRun (heap_state built.heap) run }
+{
+    let number = run.number;
+    let registers = built.registers.as_slice().to_vec(alloc)?;
+    let old = built.heap.words().as_slice().to_vec(alloc)?;
     let outcome = trace(rt, alloc, built, run)?;
     let new = outcome.traced.row.words.as_slice();
-    check_objects(rt, &old, new, &places);
+    check_objects(rt, &old, new, places, number);
     assert!(rt; has_roots(&old, new, &registers, &outcome.registers));
-    assert_eq!(rt; outcome.scanned as usize, places.len());
     Ok(outcome)
 }
 

@@ -20,7 +20,8 @@ pub(crate) struct Outcome {
     pub(crate) scanned: u32,
 }
 
-/// Traces a heap from its registers and globals.
+/// Traces a heap from its registers and globals, and in a nursery collection from its logged
+/// objects.
 pub(crate) fn trace(
     rt: &impl Abort,
     alloc: Global,
@@ -32,7 +33,7 @@ pub(crate) fn trace(
     let Built { heap, registers } = built;
     let mut tracer = PlainTrace::begin(heap, run)?;
     let globals = tracer.take_globals(alloc)?;
-    let mut stack = Vec::new(alloc);
+    let mut stack = tracer.take_logged(alloc)?;
     let registers = trace_registers(alloc, &mut tracer, &registers, &mut stack)?;
     trace_globals(&mut tracer, globals, &mut stack)?;
     let scanned = scan_all(rt, &mut tracer, &mut stack)?;

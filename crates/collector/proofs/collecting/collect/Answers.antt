@@ -33,6 +33,7 @@ finish-requires g c =
         full = c.in_ok-run.ensures.under.collect ∙ offered-full g.P.Plan.rules c.args.collect c.requires.offered;
         awaited = (c.in_ok-trace-2.ensures start (record { awaited = c.in_ok-trace.ensures.awaits; buckets = root-buckets c.in_ok-trace.first.items c.in_ok-trace.ensures.packets })).awaited;
       },
+      subst (λ k. IsRunUnder g.P.Plan.rules k (heap_state c.args.heap) c.in_ok-run.run') (sym c.in_ok-run.ensures.under.collect) c.in_ok-run.ensures.under,
     )
 
 pub returns : goal.returns

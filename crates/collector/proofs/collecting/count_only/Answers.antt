@@ -11,6 +11,6 @@ from_row-requires c = lawful-counted (state_of c.into_row-row.result) c.into_row
 pub returns-clause-note : goal.returns-clause-note
 returns-clause-note c =
     let s = heap_state c.args.heap in
-    note-counted c.args.collect s (heap_state c.from_row.result) _ c.count_held-kept.result.0 c.count_held-kept.result.1
+    note-counted c.args.collect s (heap_state c.from_row.result) _ c.count_held-kept.result.0 c.count_held-kept.result.1 c.requires.full
     (c.from_row.ensures ∙ ap counted c.into_row-row.ensures.state) c.count_held-kept.ensures.objects c.count_held-kept.ensures.words
     refl refl refl refl refl (ap (λ n. n.free) c.block_counts-free_blocks.ensures)

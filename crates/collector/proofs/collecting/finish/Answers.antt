@@ -1,5 +1,4 @@
-use Rattle.std.proofs.Common.{refl, ap, ◌∙◌, subst, IsTrue}
-use Rattle.std.proofs.lemmas.Bool.{eqb-true}
+use Rattle.std.proofs.Common.{refl, sym, ap, ◌∙◌, subst, IsTrue}
 use Rattle.object_model.specs.Heaps.{heap_state}
 use Rattle.sessions.specs.Grants.{BlockCounts}
 use Rattle.trace_core.specs.declared.run.TraceRun.{TraceRun}
@@ -14,7 +13,7 @@ release_by-heap-requires g c =
     let p = setup_of (heap_state start.heap) start.run 1 in
     let es = full.awaited.events in
     let v = full.awaited.view in
-    let tracks = full.awaited.tracks in
+    let tracks = full.awaited.tracer.tracks in
     let is : IsTraced p es v c.close-traced.result = c.close-traced.ensures.traced p es v tracks in
     let finished = c.close-traced.ensures.finished p es v tracks (whole.idle start w full) in (
       p,
@@ -23,12 +22,12 @@ release_by-heap-requires g c =
       finished,
       is.row,
       is.run,
-      c.known_after-known.ensures p es is.run.nursery
-          (λ all. whole.moves-all start w full finished (eqb-true w.tally.kept w.tally.moved all))
-          (λ on. whole.marks-lines start w full finished (subst (λ (r : TraceRun). IsTrue r.lines) (c.close-traced.ensures.run ∙ full.awaited.runs) on)),
+      c.known_after-known.ensures g.P.Plan.rules c.close-traced.result.run p es
+          (whole.traced-under start w full g.P.Plan.rules c.close-traced.result.run (c.close-traced.ensures.run ∙ full.awaited.tracer.runs) c.requires.2)
+          (λ is_full on. whole.marks-lines start w full finished (ap (λ (r : TraceRun). r.collect) (sym (c.close-traced.ensures.run ∙ full.awaited.tracer.runs)) ∙ is_full) (subst (λ (r : TraceRun). IsTrue r.lines) (c.close-traced.ensures.run ∙ full.awaited.tracer.runs) on)),
     )
 
 pub returns : goal.returns
 returns g c start full reclaims shown = whole.finishes g.P.Plan.plan g.P.Plan.rules g.met.P.Plan.rules_are_of_plan start c.args.trace full shown c.close-traced.result
-    c.close-traced.ensures.run (c.close-traced.ensures.traced _ _ _ full.awaited.tracks) (c.close-traced.ensures.finished _ _ _ full.awaited.tracks (whole.idle start c.args.trace full))
+    c.close-traced.ensures.run (c.close-traced.ensures.traced _ _ _ full.awaited.tracer.tracks) (c.close-traced.ensures.finished _ _ _ full.awaited.tracer.tracks (whole.idle start c.args.trace full))
     c.release_by-heap.result c.release_by-heap.ensures.0 c.release_by-heap.ensures.1 c.release_by-heap.ensures.2 _ refl refl refl c.saturating_sub.ensures refl (ap (λ (n : BlockCounts). n.free) c.block_counts-free_blocks.ensures)

@@ -4,7 +4,7 @@ use Rattle.std.proofs.lemmas.List.Elements.{All-nil, All-push}
 use Rattle.std.proofs.lemmas.List.Sorted.{IsPermutation-refl}
 use Rattle.std.proofs.lemmas.List.Sums.{sum_by-cons}
 use Rattle.std.specs.List.Sorted.{IsPermutation}
-use Rattle.trace_core.specs.Views.{one_if}
+use Rattle.object_model.specs.Times.{one_if}
 use Rattle.plain_tracer.specs.declared.tokens.Grey.{Grey}
 use Rattle.trace_core.proofs.CountedRights.{count-cons}
 use Rattle.collector.specs.declared.item.Item.TheVariants.{Object}

@@ -1,6 +1,6 @@
 use Rattle.std.proofs.Common.{◌+◌, ◌*◌, arith, true≢false, sym, ap}
 use Rattle.object_model.specs.Objects.{HeapState, state_over}
-use Rattle.collector.proofs.MovedBlocks.{from-next, some-there, none-begins}
+use Rattle.collector.proofs.BlockReads.{from-next, some-there, none-begins}
 use Rattle.collector.proofs.releasing.has_object.Goals as goal
 
 pub returns-then-word-ne0 : goal.returns-then-word-ne0

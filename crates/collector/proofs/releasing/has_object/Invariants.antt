@@ -1,6 +1,6 @@
 use Rattle.std.proofs.Common.{◌*◌}
 use Rattle.object_model.specs.Objects.{state_over}
-use Rattle.collector.proofs.MovedBlocks.{AllFrom}
+use Rattle.collector.proofs.BlockReads.{AllFrom}
 use Rattle.collector.proofs.releasing.has_object.Given as goal
 
 abbrev pub invariant-loop-index : goal.invariant-loop-index

@@ -1,6 +1,7 @@
-use Rattle.std.proofs.Common.{◌≡◌, ◌∙◌, ap, subst, ℕ, ◌<◌, ◌^◌, arith, false, List, slice_index}
+use Rattle.std.proofs.Common.{refl, subst, ℕ, ◌<◌, ◌^◌, arith, List, slice_index}
 use Rattle.object_model.specs.Objects.{state_over}
-use Rattle.collector.proofs.ReleaseLoop.{going-first, going-on, extent, releasable, shown, lawful-after, at-end}
+use Rattle.collector.specs.Knowing.{ShowsRelease}
+use Rattle.collector.proofs.ReleaseLoop.{going-first, going-on, extent, releasable, flag-there, flag-read, shown, lawful-after, at-end}
 use Rattle.collector.proofs.releasing.release_by.Goals as goal
 
 pub loop-block-init : goal.loop-block-init
@@ -16,10 +17,20 @@ release_next-requires-clause-releasable g c =
     let t = c.args.traced in let is = c.requires in
     releasable g.P.Plan.rules t.run.collect t.run.base t.row is.0 is.1 is.2 is.3 is.4 is.5.base c.loop-block.words.items c.loop-block.block c.loop-block.invariant (subst (λ n. c.loop-block.block < n) c.blocks-block-end.ensures c.loop-block-test.true)
 
+pub index-evacuated-requires : goal.index-evacuated-requires
+index-evacuated-requires g c =
+    let t = c.args.traced in let is = c.requires in
+    let few = t.run.from.ok.0 in
+    let inside = flag-there g.P.Plan.rules t.run.collect t.run.base t.row is.0 is.1 is.2 is.3 is.4 is.5.base c.loop-block.words.items c.loop-block.block c.loop-block.invariant t.run is.5 (subst (λ n. c.loop-block.block < n) c.blocks-block-end.ensures c.loop-block-test.true) in
+    omega (arith, few, inside)
+
 pub release_next-requires-clause-shows : goal.release_next-requires-clause-shows
 release_next-requires-clause-shows g c =
     let t = c.args.traced in let is = c.requires in
-    shown g.P.Plan.rules t.run.collect t.run.base t.row is.0 is.1 is.2 is.3 is.4 is.5.base c.loop-block.words.items c.loop-block.block c.loop-block.invariant c.args.known is.6 is.5.unlogs (subst (λ n. c.loop-block.block < n) c.blocks-block-end.ensures c.loop-block-test.true)
+    let there = subst (λ n. c.loop-block.block < n) c.blocks-block-end.ensures c.loop-block-test.true in
+    subst (ShowsRelease c.args.known g.P.Plan.rules t.run.collect t.run.base (state_over c.loop-block.words.items t.row.layout 0 0) c.loop-block.block)
+    (flag-read g.P.Plan.rules t.run.collect t.run.base t.row is.0 is.1 is.2 is.3 is.4 is.5.base c.loop-block.words.items c.loop-block.block c.loop-block.invariant t.run is.5 there c.index-evacuated.result.now c.index-evacuated.ensures)
+    (shown g.P.Plan.rules t.run.collect t.run.base t.row is.0 is.1 is.2 is.3 is.4 is.5.base c.loop-block.words.items c.loop-block.block c.loop-block.invariant t.run refl c.args.known is.6 there)
 
 pub loop-block-preserved : goal.loop-block-preserved
 loop-block-preserved g c =

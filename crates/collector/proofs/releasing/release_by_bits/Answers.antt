@@ -1,5 +1,6 @@
 use Rattle.std.proofs.Common.{subst, ℕ, ◌∙◌, arith, List}
-use Rattle.heap_layout.specs.Blocks.{code_of}
+use Rattle.object_model.specs.Objects.{state_over}
+use Rattle.plan_api.specs.Releasing.{word_after}
 use Rattle.block_sweeps.specs.Stores.{Stores}
 use Rattle.collector.proofs.MarkedBlocks.{freed, kept}
 use Rattle.collector.proofs.releasing.release_by_bits.Goals as goal
@@ -19,19 +20,19 @@ pub free_block-requires-clause-extent : goal.free_block-requires-clause-extent
 free_block-requires-clause-extent g c = let known = c.requires.shows in (c.keep_marked.ensures known.0 known.1).rest.extent ∙ c.requires.extent
 
 pub returns-then-has_object : goal.returns-then-has_object
-returns-then-has_object g c = λ r collect base shows lines.
+returns-then-has_object g c = λ r collect base shows lines flag.
     let l = c.args.layout.now in
-    let w = c.args.word.now in
     let mid : List ℕ = g.W.Words.words c.keep_marked.new.words in
     let new : List ℕ = g.W.Words.words c.store.new.words in
-    let code : ℕ = code_of (record { kind = w.kind; class = w.class; owner = 0 }) in
+    let old : List ℕ = g.W.Words.words c.args.words.now in
     let some = c.has_object.ensures.some c.if-has_object.true in
-    kept r collect l base c.args.block (g.W.Words.words c.args.words.now) mid new w c.requires.block c.requires.valid c.requires.code c.requires.kind shows lines (c.keep_marked.ensures base shows)
+    let word = c.encode.ensures ∙ c.word_of_rest-left.ensures.code r collect (state_over old l 0 0) c.args.block c.requires.block c.requires.code flag in
+    kept r collect l base c.args.block old mid new c.args.word.now c.requires.block c.requires.valid c.requires.code c.requires.head c.requires.tail shows lines (c.keep_marked.ensures base shows)
     some.0 some.1 some.2
-    (subst (λ (i : ℕ). Stores mid new i code) c.block_at.ensures (subst (λ (v : ℕ). Stores mid new c.block_at.result v) c.encode.ensures c.store.ensures))
+    (subst (λ (i : ℕ). Stores mid new i (word_after r collect (state_over old l 0 0) c.args.block)) c.block_at.ensures (subst (λ (v : ℕ). Stores mid new c.block_at.result v) word c.store.ensures))
 
 pub returns-else-has_object : goal.returns-else-has_object
-returns-else-has_object g c = λ r collect base shows lines.
+returns-else-has_object g c = λ r collect base shows lines flag.
     freed r collect c.args.layout.now base c.args.block (g.W.Words.words c.args.words.now) (g.W.Words.words c.keep_marked.new.words) (g.W.Words.words c.free_block.new.words)
-    c.args.word.now c.requires.block c.requires.valid c.requires.code c.requires.kind shows lines (c.keep_marked.ensures base shows)
+    c.args.word.now c.requires.block c.requires.valid c.requires.code c.requires.head c.requires.tail shows lines (c.keep_marked.ensures base shows)
     (c.has_object.ensures.none c.if-has_object.false) c.free_block.ensures

@@ -29,14 +29,14 @@ loop-global-preserved c =
     let steps = c.in-Some.ensures.steps.0 in
     let s = c.trace_global.ensures.sets t.setup t.events t.view t.tracks (first-unset t.view g _ _ steps t.right.1) in
     let w = set_view g.global s.view in
-    let pushed = more-grey t.setup t.view s.view s.pushes.known c.loop-global.stack.items s.pushed t.right.0 s.pushes.grey s.pushes.tokens in
+    let pushed = more-grey t.setup t.view s.view s.pushes.known c.loop-global.stack.items s.tokens.pushed t.right.0 s.pushes.grey s.pushes.tokens in
     record {
       setup = t.setup;
       events = _;
       view = w;
       tracks = s.grows.tracks;
       right = (
-        subst (AreGrey t.setup w) (sym (s.out ∙ ap (λ l. l ++ s.pushed) c.in_ok-reserve.ensures.items))
+        subst (AreGrey t.setup w) (sym (s.tokens.out ∙ ap (λ l. l ++ s.tokens.pushed) c.in_ok-reserve.ensures.items))
             (set-grey t.view g _ _ steps t.right.1 t.setup s.view _ pushed),
         rest-unset t.view g _ _ steps t.right.1 s.view s.pushes.unset,
       );

@@ -25,6 +25,6 @@ loop-scanned-preserved g c =
       events = _;
       view = s.view;
       tracks = s.grows.tracks;
-      right = subst (AreGrey t.setup s.view) (sym (s.out ∙ ap (λ l. l ++ s.pushed) c.in_ok-reserve.ensures.items))
-          (scanned-grey t.setup t.view old rest grey last t.right s.view grey.refs s.pushed s.scanned);
+      right = subst (AreGrey t.setup s.view) (sym (s.tokens.out ∙ ap (λ l. l ++ s.tokens.pushed) c.in_ok-reserve.ensures.items))
+          (scanned-grey t.setup t.view old rest grey last t.right s.view grey.refs s.tokens.pushed s.scanned);
     }

@@ -1,18 +1,15 @@
-use Rattle.std.proofs.Common.{◌≡◌, ◌+◌, ap, ◌∙◌}
-use Rattle.trace_core.specs.Setups.{size, refs}
-use Rattle.plain_tracer.proofs.ObjectsRead.{readable, refs-read, nums-read, known-held}
+use Rattle.plain_tracer.proofs.ObjectsRead.{known-held}
 use Rattle.plain_tracer.proofs.plain_trace.PlainTrace.grey.Goals as goal
 
-pub shape_at-shape-requires : goal.shape_at-shape-requires
-shape_at-shape-requires c = let r = c.requires in
-    readable r.setup r.events c.args.self.now r.view r.tracks c.args.reached.object (known-held r.setup r.events c.args.self.now r.view r.tracks c.args.reached.object c.args.reached.target r.right.target)
+pub with_shape-requires : goal.with_shape-requires
+with_shape-requires c = let r = c.requires in record {
+  setup = r.setup;
+  events = r.events;
+  view = r.view;
+  tracks = r.tracks;
+  right = known-held r.setup r.events c.args.self.now r.view r.tracks c.args.reached.object c.args.reached.target r.right.target;
+}
 
 pub returns : goal.returns
 returns c = λ p es v tracks is.
-    let x = c.args.reached.object in
-    let there = known-held p es c.args.self.now v tracks x c.args.reached.target is.target in
-    let refs-are : c.shape_at-shape.result.refs ≡ refs p x = c.shape_at-shape.ensures.refs ∙ refs-read p es c.args.self.now v tracks x there in
-    ap (λ n. record { object = x; target = c.args.reached.target; size = n; refs = c.shape_at-shape.result.refs })
-    (c.size_words.ensures ∙ ap (λ n. 3 + n + c.shape_at-shape.result.nums) refs-are
-    ∙ ap (λ n. 3 + refs p x + n) (c.shape_at-shape.ensures.nums ∙ nums-read p es c.args.self.now v tracks x there))
-    ∙ ap (λ n. record { object = x; target = c.args.reached.target; size = size p x; refs = n }) refs-are
+    c.with_shape.ensures p es v tracks (known-held p es c.args.self.now v tracks c.args.reached.object c.args.reached.target is.target)

@@ -19,7 +19,7 @@ pub returns-clause-grows : goal.returns-clause-grows
 returns-clause-grows c = λ p es v tracks right.
     marks.grows-marks p es c.args.self.now v tracks c.args.grey.now right c.mark.new.words.items c.mark.ensures
     (λ i. subst (λ ws. slice_index ws i < 2 ^ 64) c.deref.ensures.value (c.words_fit.ensures i)) _
-    (record { row = refl; run = refl; block = refl; room = refl; next_block = refl; globals = refl })
+    (record { row = refl; run = refl; block = refl; room = refl; next_block = refl; globals = refl; logged = refl })
 
 pub returns-clause-marked : goal.returns-clause-marked
 returns-clause-marked c = λ p es v tracks right.

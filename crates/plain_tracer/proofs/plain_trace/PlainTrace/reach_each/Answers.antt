@@ -9,7 +9,7 @@ loop-field-init c = record {
   scans = λ p es v tracks token idle. none-scanned p es v c.args.self.now c.args.grey.now (map (grey_of p) c.args.out.now.items) tracks;
   room = omega arith;
   capacity = refl;
-  keeps = record { run = refl; globals = refl };
+  keeps = record { run = refl; globals = refl; logged = refl };
 }
 
 pub reach_field-requires-clause-tracing : goal.reach_field-requires-clause-tracing
@@ -21,7 +21,7 @@ reach_field-requires-clause-tracing c =
       events = _;
       view = s.view;
       tracks = s.grows.tracks;
-      right = (next-field t.setup t.view s.view c.args.grey.now c.loop-field.field s.pushed s.scanned t.right.0 c.loop-field-test.true, s.scanned.won ∙ t.right.1);
+      right = (next-field t.setup t.view s.view c.args.grey.now c.loop-field.field s.tokens.pushed s.scanned t.right.0 c.loop-field-test.true, s.scanned.won ∙ t.right.1);
     }
 
 pub loop-field-preserved : goal.loop-field-preserved
@@ -34,13 +34,13 @@ loop-field-preserved c =
     record {
       scans = λ p es v tracks token idle.
           (let before = c.loop-field.invariant.scans p es v tracks token idle in
-          let next = next-field p v before.view grey k before.pushed before.scanned token less in
+          let next = next-field p v before.view grey k before.tokens.pushed before.scanned token less in
           one-more p es v c.loop-field.self c.reach_field.new.self grey k (map (grey_of p) c.args.out.now.items)
           (map (grey_of p) c.loop-field.out.items) (map (grey_of p) c.reach_field.new.out.items) before token next
           (c.reach_field.ensures.scans p _ before.view before.grows.tracks next (before.scanned.won ∙ idle)));
       room = omega arith;
       capacity = c.reach_field.ensures.capacity ∙ c.loop-field.invariant.capacity;
-      keeps = record { run = c.reach_field.ensures.keeps.run ∙ c.loop-field.invariant.keeps.run; globals = c.reach_field.ensures.keeps.globals ∙ c.loop-field.invariant.keeps.globals };
+      keeps = record { run = c.reach_field.ensures.keeps.run ∙ c.loop-field.invariant.keeps.run; globals = c.reach_field.ensures.keeps.globals ∙ c.loop-field.invariant.keeps.globals; logged = c.reach_field.ensures.keeps.logged ∙ c.loop-field.invariant.keeps.logged };
     }
 
 pub returns-clause-scans : goal.returns-clause-scans

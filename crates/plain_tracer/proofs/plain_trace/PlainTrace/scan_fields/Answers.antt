@@ -8,7 +8,7 @@ loop-field-init c = record {
   scans = λ p es v tracks token. none-scanned p es v c.args.self.now c.args.grey.now c.args.out.now.items tracks;
   room = omega arith;
   capacity = refl;
-  keeps = record { run = refl; globals = refl };
+  keeps = record { run = refl; globals = refl; logged = refl };
 }
 
 pub scan_field-requires-clause-tracing : goal.scan_field-requires-clause-tracing
@@ -20,7 +20,7 @@ scan_field-requires-clause-tracing c =
       events = _;
       view = s.view;
       tracks = s.grows.tracks;
-      right = next-field t.setup t.view s.view c.args.grey.now c.loop-field.field s.pushed s.scanned t.right c.loop-field-test.true;
+      right = next-field t.setup t.view s.view c.args.grey.now c.loop-field.field s.tokens.pushed s.scanned t.right c.loop-field-test.true;
     }
 
 pub loop-field-preserved : goal.loop-field-preserved
@@ -30,21 +30,21 @@ loop-field-preserved c =
     let less = c.loop-field-test.true in
     let t = c.requires.tracing in
     let s = c.loop-field.invariant.scans t.setup t.events t.view t.tracks t.right in
-    let f = c.scan_field.ensures.scans t.setup _ s.view s.grows.tracks (next-field t.setup t.view s.view grey k s.pushed s.scanned t.right less) in
+    let f = c.scan_field.ensures.scans t.setup _ s.view s.grows.tracks (next-field t.setup t.view s.view grey k s.tokens.pushed s.scanned t.right less) in
     let room : vec_len c.loop-field.out ≤ vec_len c.args.out.now + c.loop-field.field = c.loop-field.invariant.room in
-    let few : length f.pushed ≤ 1 = f.few in
-    let longer : length c.scan_field.new.out.items ≡ length c.loop-field.out.items + length f.pushed =
-    ap length f.out ∙ length-append c.loop-field.out.items f.pushed in
+    let few : length f.tokens.pushed ≤ 1 = f.tokens.few in
+    let longer : length c.scan_field.new.out.items ≡ length c.loop-field.out.items + length f.tokens.pushed =
+    ap length f.tokens.out ∙ length-append c.loop-field.out.items f.tokens.pushed in
     record {
       scans = λ p es v tracks token.
           (let before = c.loop-field.invariant.scans p es v tracks token in
-          let next = next-field p v before.view grey k before.pushed before.scanned token less in
+          let next = next-field p v before.view grey k before.tokens.pushed before.scanned token less in
           one-more p es v c.loop-field.self c.scan_field.new.self grey k c.args.out.now.items c.loop-field.out.items
           c.scan_field.new.out.items before token next
           (c.scan_field.ensures.scans p _ before.view before.grows.tracks next));
       room = omega arith;
       capacity = c.scan_field.ensures.capacity ∙ c.loop-field.invariant.capacity;
-      keeps = record { run = c.scan_field.ensures.keeps.run ∙ c.loop-field.invariant.keeps.run; globals = c.scan_field.ensures.keeps.globals ∙ c.loop-field.invariant.keeps.globals };
+      keeps = record { run = c.scan_field.ensures.keeps.run ∙ c.loop-field.invariant.keeps.run; globals = c.scan_field.ensures.keeps.globals ∙ c.loop-field.invariant.keeps.globals; logged = c.scan_field.ensures.keeps.logged ∙ c.loop-field.invariant.keeps.logged };
     }
 
 pub returns-clause-scans : goal.returns-clause-scans

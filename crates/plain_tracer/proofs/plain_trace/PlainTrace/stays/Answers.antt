@@ -1,7 +1,6 @@
-use Rattle.std.proofs.Common.{◌≡◌, ◌<◌, true, sym, ◌∙◌, subst, arith, length, vec_len}
+use Rattle.std.proofs.Common.{◌≡◌, ◌<◌, subst, arith, length, vec_len}
 use Rattle.heap_layout.specs.Zones.{block_at}
-use Rattle.trace_core.specs.Runs.{is_nursery}
-use Rattle.plain_tracer.proofs.BeginningTracer.{is-full, straight, turned}
+use Rattle.plain_tracer.proofs.BeginningTracer.{straight}
 use Rattle.plain_tracer.proofs.ObjectsRead.{from-within, may-move-from}
 use Rattle.plain_tracer.proofs.plain_trace.PlainTrace.stays.Goals as goal
 
@@ -15,7 +14,6 @@ returns c = λ kept p es v tracks held idle.
     let t = c.args.self.now in
     record {
       held = held;
-      full = tracks.run.nursery ∙ straight (is_nursery t.run.collect) (is-full t.run.collect true (sym (turned _ (sym c.ne.ensures ∙ c.if-ne.false))));
       fixed = may-move-from p es t v tracks c.args.x held c.block_of.result c.index.result.now
           (subst (λ b. c.block_of.result ≡ block_at b c.args.x) c.requires.layout c.block_of.ensures.block) c.index.ensures (straight c.index.result.now kept);
       none_won = idle;
