@@ -21,7 +21,8 @@ pub record Does {P : Type 0} (rules : Rules) (old : ManagedHeap P) (m : ℕ) (co
       → StandsFor rules new (heap_after i (m + 1) commands)
 
 -- The heap is ready, and the builder has the lists and the array.
-pub record KnowsLists {P : Type 0} (rules : Rules) (h : ManagedHeap P) (xs ys : List ℕ) : Type 0 where
+pub record KnowsLists {P : Type 0} (rules : Rules) (h : ManagedHeap P) (xs ys : List ℕ)
+    : Type 0 where
   pub ready : IsReady rules h
   pub holds : HoldsOfIdeal rules h (HoldsLists xs ys)
 

@@ -12,6 +12,7 @@ use Rattle.sessions.specs.Sessions.{Setting, Moment, MakesCollection, birth_coun
 use Rattle.sessions.proofs.CountedCollections.{counts-one}
 use Rattle.sessions.proofs.CollectedMoments as moments
 use Rattle.sessions.proofs.SameStates.{HaveRegisters}
+use Rattle.collector.specs.Collected.{FillsIf}
 use Rattle.collector.specs.Tallies.{NotesIf}
 use Rattle.collector.specs.declared.outcome.Note.{Note}
 use Rattle.mutator_calls.specs.declared.need.Mutator.{Mutator}
@@ -98,16 +99,18 @@ module _ {P : Type 0} (rules : Rules) (kind : Collect) (old new : StoppedHeap P)
   pub makes-from : (t : Setting) (now : Moment) → HeapStandsAt rules old t now → (next : Moment) × MakesCollection t kind now next × HeapStandsAt rules new t next
   makes-from t now at = (late now, makes t now at, stands t now at)
 
+-- what a collection of these roots did, with its note
+abbrev Made : (rules : Rules) (kind : Collect) (s : HeapState) (from : List ℕ) (s' : HeapState) (to : List ℕ) (note : Note) → Type 0
+Made rules kind s from s' to note = (made : IsCollection rules 1 kind s from s' to) × NotesIf rules.collects rules 1 kind s from s' to made note
+    × FillsIf rules.collects rules 1 kind s from s' to made
+
 -- a collection of the registers, which are set to the targets of the roots
 pub has-collected : {P : Type 0} (rules : Rules) (kind : Collect) (old new : StoppedHeap P) (note : Note) (from to : List ℕ) → from ≡ registers_of_heap old → to ≡ registers_of_heap new
-    → ((made : IsCollection rules 1 kind (heap_state old.heap) from (heap_state new.heap) to) × NotesIf rules.collects rules 1 kind (heap_state old.heap) from (heap_state new.heap) to made note)
+    → Made rules kind (heap_state old.heap) from (heap_state new.heap) to note
     → map birth_count (map mutator_state new.mutators.items) ≡ map birth_count (map mutator_state old.mutators.items) → AllByRecursion (λ u. length u.registers ≡ 16) new.mutators.items
     → (new.nursery, new.full) ≡ counted kind old.nursery old.full → AreNotes rules.fill (heap_state new.heap) new.notes → HasCollected rules kind old new note
-has-collected rules kind old new note from to read set pair births registers counts notes =
-    let both : (made : IsCollection rules 1 kind (heap_state old.heap) (registers_of_heap old) (heap_state new.heap) (registers_of_heap new))
-    × NotesIf rules.collects rules 1 kind (heap_state old.heap) (registers_of_heap old) (heap_state new.heap) (registers_of_heap new) made note =
-    subst (λ (l : List ℕ). (made : IsCollection rules 1 kind (heap_state old.heap) l (heap_state new.heap) (registers_of_heap new))
-    × NotesIf rules.collects rules 1 kind (heap_state old.heap) l (heap_state new.heap) (registers_of_heap new) made note) read
-    (subst (λ (l : List ℕ). (made : IsCollection rules 1 kind (heap_state old.heap) from (heap_state new.heap) l)
-    × NotesIf rules.collects rules 1 kind (heap_state old.heap) from (heap_state new.heap) l made note) set pair) in
-    record { collection = both.0; noted = both.1; births = births; registers = registers; counts = counts; notes = notes }
+has-collected rules kind old new note from to read set whole births registers counts notes =
+    let all : Made rules kind (heap_state old.heap) (registers_of_heap old) (heap_state new.heap) (registers_of_heap new) note =
+    subst (λ (l : List ℕ). Made rules kind (heap_state old.heap) l (heap_state new.heap) (registers_of_heap new) note) read
+    (subst (λ (l : List ℕ). Made rules kind (heap_state old.heap) from (heap_state new.heap) l note) set whole) in
+    record { collection = all.0; noted = all.1; fills = all.2; births = births; registers = registers; counts = counts; notes = notes }

@@ -12,7 +12,7 @@ use Rattle.object_model.specs.declared.collect.Collect.TheVariants.{Nursery, Ful
 use Rattle.sessions.specs.Plans.{Rules}
 use Rattle.sessions.specs.Collecting.{IsCollection, first_collection}
 use Rattle.sessions.specs.Sessions.{Setting, Moment, IsSound, Stopped as EndsPart, birth_count, ideal_at}
-use Rattle.collector.specs.Collected.{IsOffered}
+use Rattle.collector.specs.Collected.{IsOffered, FillsIf}
 use Rattle.collector.specs.Tallies.{NotesIf}
 use Rattle.collector.specs.declared.outcome.Note.{Note}
 use Rattle.heap_users.specs.Users.{mutator_state}
@@ -106,8 +106,9 @@ counted Full nursery full = (nursery, full + 1)
 abbrev pub registers_of_heap : {P : Type 0} → StoppedHeap P → List ℕ
 registers_of_heap h = roots_of (map mutator_state h.mutators.items)
 
--- A collection was made and counted, and the note is of it. The registers are those that it left,
--- and the notes on blocks those of its heap. Mutators keep their numbers and births.
+-- A collection was made and counted, and the note is of it. Its worker filled blocks in turn. The
+-- registers are those that it left, and the notes on blocks those of its heap. Mutators keep their
+-- numbers and births.
 pub record HasCollected {P : Type 0} (rules : Rules) (kind : Collect) (old new : StoppedHeap P)
     (note : Note) : Type 0 where
   pub collection : IsCollection rules 1 kind (heap_state old.heap) (registers_of_heap old)
@@ -117,6 +118,10 @@ pub record HasCollected {P : Type 0} (rules : Rules) (kind : Collect) (old new :
       (heap_state new.heap)
       (registers_of_heap new)
       collection note
+  pub fills : FillsIf rules.collects rules 1 kind (heap_state old.heap) (registers_of_heap old)
+      (heap_state new.heap)
+      (registers_of_heap new)
+      collection
   pub births : map birth_count (map mutator_state new.mutators.items)
       ≡ map birth_count (map mutator_state old.mutators.items)
   pub registers : AllByRecursion (λ u. length u.registers ≡ 16) new.mutators.items

@@ -9,7 +9,7 @@ use Rattle.mutator_calls.specs.Effects.{Effect}
 use Rattle.plain_row.specs.Rows.{births_of}
 use Rattle.plain_row.specs.Worlds.{births_in}
 use Rattle.plain_world.specs.declared.plain_world.PlainWorld.{PlainWorld}
-use Rattle.plain_world.specs.Calls.{places_of, mutator_number_at, IsOpen, StaysOpen, LeavesRest, SamePlaces, AddsEntries as AddMoreToWorld, AddsEntry as AddsToWorld}
+use Rattle.plain_world.specs.Calls.{places_of, mutator_number_at, IsOpen, StaysOpen, LeavesRest, SamePlaces, budget_word, AddsEntries as AddMoreToWorld, AddsEntry as AddsToWorld}
 use Rattle.heap_users.specs.Beginnings.{epoch_of}
 use Rattle.sessions.specs.Plans.{Rules}
 use Rattle.sessions.specs.Sessions.{ideal_at}
@@ -77,17 +77,17 @@ module _ {P : Type 0} (rules : Rules) (old new : ManagedHeap P) (v w : PlainWorl
     pub call-usable : IsUsable rules old → IsOpen rules w → SamePlaces v w → IsUsable rules new
     call-usable usable is_open places = usable-with (entry (m + 1) command reply ∷ []) usable is_open places call-adds
 
-  pub goes-on : (more : List Entry) → AddMoreToWorld v more w → GoesOn old new
-  goes-on more adds x is =
+  pub goes-on : (more : List Entry) → AddMoreToWorld v more w → budget_word w ≡ budget_word v → GoesOn old new
+  goes-on more adds budget x is =
       let both : Some x ≡ Some v = sym is ∙ here in
       let same : v ≡ x = cc in
-      (w, there, more, subst (λ (y : PlainWorld P). AddMoreToWorld y more w) same adds)
+      (w, there, more, subst (λ (y : PlainWorld P). AddMoreToWorld y more w) same adds, budget ∙ ap budget_word same)
 
-  -- a call that allocates nothing
+  -- a call that allocates nothing, and draws no ticket
   pub call-rest : (m : ℕ) (command : Command) (reply : Reply) (e : Effect) → AddsToWorld v m command reply w → SamePlaces v w → LeavesRest v m e w
-      → births_in e.entries ≡ 0 → words_used new ≡ words_used old → StaysInEpoch old new
-  call-rest m command reply e adds places rest none used = record {
-    epoch = goes-on (entry (mutator_number_at v m) command reply ∷ []) adds;
+      → births_in e.entries ≡ 0 → e.drawn ≡ 0 → words_used new ≡ words_used old → StaysInEpoch old new
+  call-rest m command reply e adds places rest none undrawn used = record {
+    epoch = goes-on (entry (mutator_number_at v m) command reply ∷ []) adds (let moved : budget_word w ≡ budget_word v + e.drawn = rest.budget in omega (arith, moved, undrawn));
     places = places-with places;
     births = births-stay m e rest none;
     nursery = nursery;
@@ -96,12 +96,12 @@ module _ {P : Type 0} (rules : Rules) (old new : ManagedHeap P) (v w : PlainWorl
   }
 
   pub call-entered : (m : ℕ) (command : Command) (reply : Reply) (e : Effect) → m < places_of v → IsUsable rules old → StaysOpen rules v w
-      → AddsToWorld v m command reply w → LeavesRest v m e w → births_in e.entries ≡ 0 → words_used new ≡ words_used old
+      → AddsToWorld v m command reply w → LeavesRest v m e w → births_in e.entries ≡ 0 → e.drawn ≡ 0 → words_used new ≡ words_used old
       → EntersCall rules old m command reply new
-  call-entered m command reply e place usable stays adds rest none used = record {
+  call-entered m command reply e place usable stays adds rest none undrawn used = record {
     usable = call-usable m command reply place adds usable stays.is_open stays.places;
     history = call-adds m command reply place adds;
-    rest = call-rest m command reply e adds stays.places rest none used;
+    rest = call-rest m command reply e adds stays.places rest none undrawn used;
   }
 
   -- a call that adds no entry

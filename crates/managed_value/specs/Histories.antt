@@ -11,7 +11,7 @@ use Rattle.sessions.specs.Plans.{Rules}
 use Rattle.sessions.specs.Sessions.{Setting, Moment, IsSound, ideal_at}
 use Rattle.heap_users.specs.Beginnings.{epoch_of}
 use Rattle.plain_world.specs.declared.plain_world.PlainWorld.{PlainWorld}
-use Rattle.plain_world.specs.Calls.{HasHistory, IsOpen, places_of, births_at as births_in, AddsEntries as AddsToWorld}
+use Rattle.plain_world.specs.Calls.{HasHistory, IsOpen, places_of, budget_word, births_at as births_in, AddsEntries as AddsToWorld}
 use Rattle.managed_value.specs.declared.managed.ManagedHeap.{ManagedHeap}
 
 -- The heap and the mutators are gone: the host's memory ran out as they were handed on.
@@ -101,12 +101,15 @@ AddsHeapEntry rules old m command reply new =
 abbrev pub KeepsEntries : {P : Type 0} → Rules → ManagedHeap P → ManagedHeap P → Type 0
 KeepsEntries rules old new = (es : List Entry) → HasEntries rules old es → HasEntries rules new es
 
--- The epoch goes on: its history gets more entries, and there was no stop.
+-- The epoch goes on: its history gets more entries, no ticket for a Free block is drawn, and there
+-- was no stop.
 abbrev pub GoesOn : {P : Type 0} → ManagedHeap P → ManagedHeap P → Type 0
 GoesOn {P} old new = (v : PlainWorld P) → old.world ≡ Some v
     → (w : PlainWorld P) × (new.world ≡ Some w) × (more : List Entry) × AddsToWorld v more w
+    × (budget_word w ≡ budget_word v)
 
--- A call within the epoch, which allocates no object. There are the same mutators.
+-- A call within the epoch, which allocates no object and takes no block. There are the same
+-- mutators.
 pub record StaysInEpoch {P : Type 0} (old new : ManagedHeap P) : Type 0 where
   pub epoch : GoesOn old new
   pub places : mutators_of_heap new ≡ mutators_of_heap old
@@ -150,7 +153,8 @@ shape_of_object i (Some n) = Some (record {
   nums = length (record_of i n).nums;
 })
 
--- Q holds of an ideal heap that the heap stands for: what a program knows of its registers
+-- Q holds of an ideal heap that the heap stands for: what a program knows of its registers. The heap
+-- may stand for several, so a program keeps all that it knows in one Q.
 pub record HoldsOfIdeal {P : Type 0} (rules : Rules) (h : ManagedHeap P) (Q : IdealHeap → Type 0)
     : Type 0 where
   pub ideal : IdealHeap

@@ -1,6 +1,6 @@
 //! The manager of a heap: epochs and stops, from the empty heap to the end of all traces.
 //!
-//! `mm_drive` calls `begin_stored` once and `advance` until it answers `Ended`. Between two calls
+//! `driver` calls `begin_stored` once and `advance` until it answers `Ended`. Between two calls
 //! the manager stands at a moment of its session: heap and replies belong together. Traces are
 //! never written.
 

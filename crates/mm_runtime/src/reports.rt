@@ -1,6 +1,6 @@
 //! What a manager answers about its session.
 //!
-//! `mm_drive` calls `mutators` and `replies` as it prints, tests call the others. Nothing here is
+//! `driver` calls `mutators` and `replies` as it prints, tests call the others. Nothing here is
 //! written.
 
 ghost use Rattle.std.specs.Prelude.{◌≡◌, ◌-◌, ◌<◌, ◌≤◌, ◌++◌, ℕ, Some, length, map, slice_get, IfOk};

@@ -58,17 +58,17 @@ returns-clause-stopped g c =
     collected.stopped-made g.P.Plan.rules c.args.kind c.args.self _ c.in_ok-after.after.note
     (collected.has-collected g.P.Plan.rules c.args.kind c.args.self _ c.in_ok-after.after.note c.list_registers.new.roots.items c.in_ok-after.after.roots.items
     (c.in_ok-list_registers.ensures ∙ ap (λ (us : List Mutator). roots_of (map mutator_state us)) c.deref.ensures.value) (sym (c.set_registers.ensures.roots ∙ c.deref-2.ensures.value))
-    (c.in_ok-after.ensures.0, c.in_ok-after.ensures.1) c.set_registers.ensures.births c.set_registers.ensures.registers c.count_one-nursery.ensures (c.renew_notes.ensures g.P.Plan.rules.fill)) c.requires.stopped
+    c.in_ok-after.ensures c.set_registers.ensures.births c.set_registers.ensures.registers c.count_one-nursery.ensures (c.renew_notes.ensures g.P.Plan.rules.fill)) c.requires.stopped
 
 pub returns-clause-collected : goal.returns-clause-collected
 returns-clause-collected g c =
     collected.has-collected g.P.Plan.rules c.args.kind c.args.self _ c.in_ok-after.after.note c.list_registers.new.roots.items c.in_ok-after.after.roots.items
     (c.in_ok-list_registers.ensures ∙ ap (λ (us : List Mutator). roots_of (map mutator_state us)) c.deref.ensures.value) (sym (c.set_registers.ensures.roots ∙ c.deref-2.ensures.value))
-    (c.in_ok-after.ensures.0, c.in_ok-after.ensures.1) c.set_registers.ensures.births c.set_registers.ensures.registers c.count_one-nursery.ensures (c.renew_notes.ensures g.P.Plan.rules.fill)
+    c.in_ok-after.ensures c.set_registers.ensures.births c.set_registers.ensures.registers c.count_one-nursery.ensures (c.renew_notes.ensures g.P.Plan.rules.fill)
 
 pub returns-clause-makes : goal.returns-clause-makes
 returns-clause-makes g c =
     collected.makes-from g.P.Plan.rules c.args.kind c.args.self _ c.in_ok-after.after.note
     (collected.has-collected g.P.Plan.rules c.args.kind c.args.self _ c.in_ok-after.after.note c.list_registers.new.roots.items c.in_ok-after.after.roots.items
     (c.in_ok-list_registers.ensures ∙ ap (λ (us : List Mutator). roots_of (map mutator_state us)) c.deref.ensures.value) (sym (c.set_registers.ensures.roots ∙ c.deref-2.ensures.value))
-    (c.in_ok-after.ensures.0, c.in_ok-after.ensures.1) c.set_registers.ensures.births c.set_registers.ensures.registers c.count_one-nursery.ensures (c.renew_notes.ensures g.P.Plan.rules.fill))
+    c.in_ok-after.ensures c.set_registers.ensures.births c.set_registers.ensures.registers c.count_one-nursery.ensures (c.renew_notes.ensures g.P.Plan.rules.fill))

@@ -8,8 +8,12 @@ use Rattle.object_model.specs.Heaps.{heap_state}
 use Rattle.collector.specs.Collected.{IsOffered}
 use Rattle.managed_heap.specs.Stopped.{collections_of}
 use Rattle.managed_heap.proofs.Collected as collected
+use Rattle.managed_heap.proofs.EpochLaws.{remembers}
 use Rattle.managed_heap.proofs.ServedNeeds as serving
 use Rattle.managed_heap.proofs.stopped_heap.StoppedHeap.make_room.Goals as goal
+
+pub kind-first-requires : goal.kind-first-requires
+kind-first-requires g c = remembers g.P.Plan.rules c.args.self c.requires.stopped
 
 pub collect-requires-clause-offered : goal.collect-requires-clause-offered
 collect-requires-clause-offered g c κs within =

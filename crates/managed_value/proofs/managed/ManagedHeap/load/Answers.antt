@@ -16,7 +16,7 @@ returns-in-Some g c =
     let call = c.load.ensures in
     calls.call-entered g.P.Plan.rules c.args.self.now _ c.in-Some.world c.load.new.self c.in-Some.is refl refl refl c.args.m (command.Load c.args.d c.args.g) c.load.result
     (enters (command.Load c.args.d c.args.g) c.load.result) (places.place-here g.P.Plan.rules c.args.self.now c.in-Some.world c.in-Some.is c.args.m c.requires.place)
-    c.requires.usable call.stays call.history call.rest refl refl
+    c.requires.usable call.stays call.history call.rest refl refl refl
 
 pub returns-in-None : goal.returns-in-None
 returns-in-None g c = absurd (places.not-lost g.P.Plan.rules c.args.self.now c.requires.usable c.in-None.is)
