@@ -1,0 +1,98 @@
+-- What is known of a job that arguments name.
+use Rattle.std.proofs.Common.{◌≡◌, refl, sym, ◌∙◌, ap, subst, ℕ, ◌≤◌, Bool, true, false, ◌&&◌, List, nat_eq}
+use Rattle.std.specs.Prelude.{Option, None, Some, option_and_then, option_map, unwrap_or, nat_le, nat_lt, not, ◌||◌, length, if◌then◌else◌}
+use Rattle.std.proofs.lemmas.Bool.{true≢false, leb-true}
+use Rattle.std.proofs.lemmas.Option.{none-some}
+use Rattle.trace_text.specs.Grammar.{numeral}
+use Rattle.sessions.specs.Plans.{Plan}
+use Rattle.command_line.specs.Words.{Job, Work, Files, Made, Line, Values, job_of, form_of, line_of_words, job_in, job_with, plan_of, bounded_numeral, if_within, workers_of, work_of, values_in, is_supported, if_supported, is_implemented, has_files}
+use Rattle.driver.specs.Printed.{files_in, job_files}
+
+both : (a b : Bool) → (a && b) ≡ true → (a ≡ true) × (b ≡ true)
+both true b e = (refl, e)
+both false b e = absurd (true≢false (sym e))
+
+picked : {X : Type 0} (b : Bool) (x y : X) → (if b then Some x else None) ≡ Some y → (b ≡ true) × (x ≡ y)
+picked true x y e = (refl, ap (λ o. unwrap_or o x) e)
+picked false x y e = absurd (none-some y e)
+
+supported-in : (o : Option Job) (job : Job) → option_and_then if_supported o ≡ Some job → (is_supported job ≡ true) × (o ≡ Some job)
+supported-in None job e = absurd (none-some job e)
+supported-in (Some j) job e =
+    let p = picked (is_supported j) j job e in
+    (subst (λ (x : Job). is_supported x ≡ true) p.1 p.0, ap (λ x. Some x) p.1)
+
+-- the job is implemented, and named by arguments that match the usage
+pub job-supported : (words : List (List ℕ)) (job : Job) → Some job ≡ job_of words → (is_supported job ≡ true) × (form_of words ≡ Some job)
+unfolding job_of
+job-supported words job e = supported-in (form_of words) job (sym e)
+
+within-bounds : (least most : ℕ) (o : Option ℕ) (n : ℕ) → option_and_then (if_within least most) o ≡ Some n → (least ≤ n) × (n ≤ most)
+within-bounds least most None n e = absurd (none-some n e)
+within-bounds least most (Some k) n e =
+    let p = picked (nat_le least k && nat_le k most) k n e in
+    let q = both (nat_le least k) (nat_le k most) p.0 in
+    (subst (λ (x : ℕ). least ≤ x) p.1 (leb-true least k q.0), subst (λ (x : ℕ). x ≤ most) p.1 (leb-true k most q.1))
+
+read-bounds : (least most : ℕ) (o : Option (List ℕ)) (n : ℕ) → option_and_then (bounded_numeral least most) o ≡ Some n → (least ≤ n) × (n ≤ most)
+read-bounds least most None n e = absurd (none-some n e)
+read-bounds least most (Some word) n e = within-bounds least most (numeral word) n e
+
+with-blocks : (has_map : Bool) (p : Option Plan) (b w : Option ℕ) (k : Option Work) (job : Job) → job_with has_map p b w k ≡ Some job → b ≡ Some job.blocks
+with-blocks has_map None b w k job e = absurd (none-some job e)
+with-blocks has_map (Some plan) None w k job e = absurd (none-some job e)
+with-blocks has_map (Some plan) (Some blocks) None k job e = absurd (none-some job e)
+with-blocks has_map (Some plan) (Some blocks) (Some workers) None job e = absurd (none-some job e)
+with-blocks has_map (Some plan) (Some blocks) (Some workers) (Some work) job e =
+    let first : Job = record { plan = plan; blocks = blocks; workers = workers; map = has_map; work = work } in
+    ap (λ o. Some (unwrap_or o first).blocks) e
+
+line-bounds : (o : Option Line) (job : Job) → option_and_then job_in o ≡ Some job → (4 ≤ job.blocks) × (job.blocks ≤ 1024)
+line-bounds None job e = absurd (none-some job e)
+line-bounds (Some line) job e =
+    let v : Values = values_in line.settings in
+    read-bounds 4 1024 v.heap job.blocks
+    (with-blocks v.has_map (option_and_then plan_of v.plan) (option_and_then (bounded_numeral 4 1024) v.heap) (workers_of v.workers) (work_of v.make v.has_map line.files) job e)
+
+-- its blocks are as many as a heap may have
+pub job-blocks : (words : List (List ℕ)) (job : Job) → form_of words ≡ Some job → (4 ≤ job.blocks) × (job.blocks ≤ 1024)
+unfolding form_of
+job-blocks words job e = line-bounds (line_of_words words) job e
+
+made-none : (b : Bool) (o : Option ℕ) (work : Work) → (if b then None else option_map Made o) ≡ Some work → has_files work ≡ true → ⊥
+made-none true o work e kept = none-some work e
+made-none false None work e kept = none-some work e
+made-none false (Some n) work e kept = true≢false (sym kept ∙ ap (λ x. has_files (unwrap_or x work)) (sym e))
+
+files-within : (o : Option (List ℕ)) (has_map : Bool) (files : List (List ℕ)) (work : Work) → work_of o has_map files ≡ Some work → has_files work ≡ true
+    → (1 ≤ length (files_in work)) × (length (files_in work) ≤ 16)
+files-within None has_map files work e kept =
+    let p = picked (nat_le 1 (length files) && nat_le (length files) 16) (Files files) work e in
+    let q = both (nat_le 1 (length files)) (nat_le (length files) 16) p.0 in
+    subst (λ (w : Work). (1 ≤ length (files_in w)) × (length (files_in w) ≤ 16)) p.1 (leb-true 1 (length files) q.0, leb-true (length files) 16 q.1)
+files-within (Some word) has_map files work e kept = absurd (made-none (has_map || nat_lt 0 (length files)) (bounded_numeral 1 1000000 word) work e kept)
+
+with-work : (has_map : Bool) (p : Option Plan) (b w : Option ℕ) (k : Option Work) (job : Job) → job_with has_map p b w k ≡ Some job → k ≡ Some job.work
+with-work has_map None b w k job e = absurd (none-some job e)
+with-work has_map (Some plan) None w k job e = absurd (none-some job e)
+with-work has_map (Some plan) (Some blocks) None k job e = absurd (none-some job e)
+with-work has_map (Some plan) (Some blocks) (Some workers) None job e = absurd (none-some job e)
+with-work has_map (Some plan) (Some blocks) (Some workers) (Some work) job e =
+    let first : Job = record { plan = plan; blocks = blocks; workers = workers; map = has_map; work = work } in
+    ap (λ o. Some (unwrap_or o first).work) e
+
+line-files : (o : Option Line) (job : Job) → option_and_then job_in o ≡ Some job → has_files job.work ≡ true → (1 ≤ length (job_files job)) × (length (job_files job) ≤ 16)
+line-files None job e kept = absurd (none-some job e)
+line-files (Some line) job e kept =
+    let v : Values = values_in line.settings in
+    files-within v.make v.has_map line.files job.work
+    (with-work v.has_map (option_and_then plan_of v.plan) (option_and_then (bounded_numeral 4 1024) v.heap) (workers_of v.workers) (work_of v.make v.has_map line.files) job e) kept
+
+-- it has 1 to 16 files, if its work is files
+pub job-files : (words : List (List ℕ)) (job : Job) → form_of words ≡ Some job → has_files job.work ≡ true → (1 ≤ length (job_files job)) × (length (job_files job) ≤ 16)
+unfolding form_of
+job-files words job e kept = line-files (line_of_words words) job e kept
+
+-- its work is files
+pub supported-work : (job : Job) → is_supported job ≡ true → has_files job.work ≡ true
+supported-work job supported = (both (is_implemented job.plan && nat_eq job.workers 1 && not job.map) (has_files job.work) supported).1

@@ -1,0 +1,125 @@
+//! Laws on made traces and on the printed text.
+
+ghost use Rattle.std.specs.Prelude.{◌≡◌, ℕ, ◌++◌, ◌∷◌, [], List, codes, map, take, drop, replicate};
+ghost use Rattle.std.specs.List.{range_with_len};
+ghost use Rattle.ideal_heap.specs.declared.command.Command.TheVariants as command;
+ghost use Rattle.ideal_heap.specs.declared.reply.Reply.TheVariants as reply;
+ghost use Rattle.ideal_heap.specs.Names.{name, IsBefore};
+ghost use Rattle.ideal_heap.specs.Runs.{entry, alone};
+ghost use Rattle.object_model.specs.Objects.{empty_heap};
+ghost use Rattle.object_model.specs.Graphs.{MutatorState};
+ghost use Rattle.sessions.specs.Plans.{NoGc};
+ghost use Rattle.driver.specs.Made.{command_at, made_trace};
+ghost use Rattle.driver.specs.Texts.{map_line, report_part, summary_part, replies_part, count_words_at, kinds_line};
+ghost use Rattle.driver.specs.Printed.{AreReplies};
+ghost use Rattle.ideal_heap.specs.declared.command.Command.{Command};
+ghost use Rattle.ideal_heap.specs.Ideal.{empty};
+ghost use Rattle.trace_text.specs.Text.{mutator_text, HasFullLine};
+ghost use Rattle.sessions.specs.Sessions.{Setting};
+ghost use Rattle.object_model.specs.Objects.{HeapState};
+
+/// Worked made traces: how one begins, commands of each row, and later resets and collections.
+pub fn made_traces()
+    ensures first { take 33 (made_trace 40) ≡ map command.DropReg (range_with_len 0 16)
+        ++ map (λ g. command.Share g 0) (range_with_len 0 16) ++ command.Gc ∷ [] }
+    ensures rest { drop 33 (made_trace 40) ≡ command.Write 0 28 1432594236
+        ∷ command.Swap 12 20 3 1 ∷ command.Share 0 6 ∷ command.Get 12 0 1
+        ∷ command.New 15 7 5 ∷ command.New 11 1 8 ∷ command.New 2 7 19 ∷ [] }
+    ensures rows { drop 33 (made_trace 63) ≡ command.New 7 3 21 ∷ command.Add 5 9 108862078
+        ∷ command.Move 14 5 ∷ command.Read 15 12 ∷ command.Read 1 31 ∷ command.Pin 4
+        ∷ command.Add 7 31 1467576682 ∷ command.Share 1 14 ∷ command.Put 14 0 4
+        ∷ command.Pin 10 ∷ command.Write 6 31 1255150287 ∷ command.New 10 6 23
+        ∷ command.Move 6 6 ∷ command.Add 3 3 1492670376 ∷ command.Swap 14 11 1 3
+        ∷ command.Load 4 1 ∷ command.Swap 14 5 1 1 ∷ command.Read 11 29 ∷ command.Put 12 5 0
+        ∷ command.Pin 8 ∷ command.Get 12 2 0 ∷ command.Get 8 3 7
+        ∷ command.Write 10 16 1281387370
+        ∷ command.New 14 1 22 ∷ command.Move 1 15 ∷ command.New 5 3 22 ∷ command.Load 10 11
+        ∷ command.New 8 7 24 ∷ command.Get 11 7 5 ∷ command.New 5 3 31 ∷ [] }
+    ensures more { take 20 (drop 33 (made_trace 113)) ≡ command.Share 10 1 ∷ command.Share 13 7
+        ∷ command.Load 11 12 ∷ command.Add 14 29 233140506 ∷ command.Get 0 10 4
+        ∷ command.Read 5 12 ∷ command.Write 10 6 76593114 ∷ command.Put 11 5 10
+        ∷ command.Get 8 14 4 ∷ command.New 10 1 18 ∷ command.Move 8 15 ∷ command.Move 12 1
+        ∷ command.Get 8 12 5 ∷ command.Put 11 0 4 ∷ command.Put 2 4 2 ∷ command.Move 8 3
+        ∷ command.Load 12 11 ∷ command.Swap 3 1 2 1 ∷ command.Read 10 16
+        ∷ command.New 15 0 22 ∷ [] }
+    ensures later { (x : ℕ) → (command_at 1024 x ≡ (command.DropReg 0, x))
+        × (command_at 1055 x ≡ (command.Share 15 0, x))
+        × (command_at 1056 x ≡ command_at 33 x)
+        × (command_at 32800 x ≡ command_at 33 x) × (command_at 65568 x ≡ (command.Gc, x)) }
+    ensures between { (x : ℕ) → command_at 512 x ≡ command_at 33 x }
+{}
+
+/// The summary of a made trace whose replies are all `ok`, and at whose end nothing is reachable.
+pub fn summary_of_ok()
+    ensures { summary_part 33 (empty_heap 4) [] (replicate 33 reply.Done)
+        ≡ codes "make 33\nnew 0\nfull 0\nref 0\nnil 0\nnum 0 sum 0\nok 33\nyes 0\nno 0\nnull 0\n"
+        ++ codes "range 0\nlive objects 0 words 0\n" }
+{}
+
+/// Each line of a summary counts one kind of reply. The sum of the numbers is modulo 2^64.
+pub fn summary_of_each()
+    ensures { summary_part 16 (empty_heap 4) []
+        (reply.New (name 1 1) ∷ reply.Full ∷ reply.Full ∷ reply.Ref (name 1 1) ∷ reply.Nil
+        ∷ reply.Nil ∷ reply.Nil ∷ reply.Num 18446744073709551615 ∷ reply.Num 3
+        ∷ reply.Done ∷ reply.Yes ∷ reply.Yes ∷ reply.No ∷ reply.Null ∷ reply.Range
+        ∷ reply.Range ∷ [])
+        ≡ codes "make 16\nnew 1\nfull 2\nref 1\nnil 3\nnum 2 sum 2\nok 1\nyes 2\nno 1\nnull 1\n"
+        ++ codes "range 2\nlive objects 0 words 0\n" }
+{}
+
+/// The nine lines of a report on a session of three commands whose last heap has no blocks, and the
+/// map line of an object at the first word of a heap.
+pub fn report_and_map()
+    ensures report { (ms : List MutatorState) → report_part NoGc 3 (record {
+      heap = empty_heap 0;
+      mutators = ms;
+      done = entry 1 command.Gc reply.Done ∷ entry 2 command.Meet reply.Done
+          ∷ entry 1 (command.New 0 1 2) reply.Full ∷ [];
+      nursery = 4;
+      full = 2;
+    }) [] ≡ codes "plan nogc\nblocks 0\nmutators 3\ncommands 3\nfull 1\n"
+        ++ codes "collections nursery 4 full 2\nlive objects 0 words 0\nheld objects 0 words 0\n"
+        ++ codes "kinds free 0 bump 0 young 0 mature 0 immix 0 cells 0 large 0 kept 0\n" }
+    ensures map { map_line (record (empty_heap 0) {
+      words = replicate 18 0 ++ 97 ∷ 131073 ∷ 0 ∷ [];
+    }) 18
+        ≡ codes "map 1.3 block 0 word 0 size 6\n" }
+{}
+
+/// The replies to a single trace depend on that trace alone, if the line `full` does not stand in
+/// their text. With more mutators they depend on the order of commands too.
+pub fn printed_of_one()
+    ensures { (t : Setting) (trace : List Command) (text : List ℕ) → t.traces ≡ trace ∷ []
+        → AreReplies t text → (HasFullLine text → ⊥)
+        → text ≡ mutator_text 1 (alone empty 1 trace) }
+{}
+
+/// The replies are grouped by mutator, in rising order of mutators.
+pub fn replies_of_two()
+    ensures { (heap : HeapState) (ms : List MutatorState) → replies_part 2 (record {
+      heap = heap;
+      mutators = ms;
+      done = entry 2 command.Gc reply.Done ∷ entry 1 (command.New 0 1 2) reply.Full ∷ [];
+      nursery = 0;
+      full = 1;
+    }) ≡ codes "mutator 1\nfull\nmutator 2\nok\n" }
+{}
+
+/// The map line of an object in block 1, the words of listed objects, the count of blocks of each
+/// kind, and the order of names.
+pub fn texts_of_a_heap()
+    ensures place { map_line (record (empty_heap 0) {
+      words = replicate 4119 0 ++ 97 ∷ 131073 ∷ 0 ∷ [];
+    }) 4119 ≡ codes "map 1.3 block 1 word 5 size 6\n" }
+    ensures words { count_words_at (record (empty_heap 0) {
+      words = replicate 18 0 ++ 97 ∷ 131073 ∷ 0 ∷ [];
+    }) (18 ∷ 18 ∷ []) ≡ 12 }
+    ensures kinds { kinds_line (record (empty_heap 12) {
+      words = replicate 18 0
+          ++ 0 ∷ 1 ∷ 2 ∷ 2 ∷ 3 ∷ 3 ∷ 3 ∷ 4 ∷ 5 ∷ 6 ∷ 7 ∷ 8 ∷ [];
+    })
+        ≡ codes "kinds free 1 bump 1 young 2 mature 3 immix 1 cells 1 large 2 kept 1\n" }
+    ensures births { IsBefore (name 1 1) (name 1 2) }
+    ensures mutators { IsBefore (name 1 9) (name 2 1) }
+    ensures falls { IsBefore (name 1 2) (name 1 1) → ⊥ }
+{}

@@ -1,0 +1,103 @@
+//! From the arguments and streams of the process to its exit number.
+
+ghost use Rattle.std.specs.Prelude.{◌≡◌, drop, IfOk, IfErr};
+ghost use Rattle.std.specs.Vec.Iter.{into_iter_items};
+ghost use Rattle.std.specs.IoError.{error_kind};
+ghost use Rattle.command_line.specs.Orders.{texts};
+ghost use Rattle.command_line.specs.Words.{job_of};
+ghost use Rattle.driver.specs.Statuses.{status_number};
+ghost use Rattle.driver.specs.Printed.{WritesFaultLine};
+ghost use Rattle.driver.specs.Exits.{Ran, IsReported, IsExit, refusal, refusal_line};
+
+use crate::fault_lines::{write_memory_fault, write_usage_fault};
+use crate::runs::run;
+use crate::status::Status;
+use outside::{ErrSink, FileSources, OutSink, Sink, Sources};
+use std::alloc::{AllocError, Global};
+use std::env::Args;
+use std::io;
+use std::io::{ErrorKind, Stderr, Stdout};
+use std::rt::Files;
+use std::thread::Threads;
+use work_packets::OpenGate;
+
+// The arguments after the program's name.
+fn command_words(alloc: Global, args: Args) -> Result<Vec<String>, AllocError>
+    ensures { IfOk result (λ v. v.items ≡ drop 1 (into_iter_items args)) }
+{
+    let mut left = args;
+    let mut words = Vec::new(alloc);
+    let _name = left.next();
+    while let Some(word) = left.next() {
+        words.push(word)?;
+    }
+    Ok(words)
+}
+
+// The status if the system gives no arguments, with its fault line.
+fn refuse<E: Sink>(err: &mut E, kind: ErrorKind) -> Status
+    ensures status { result ≡ refusal kind }
+    ensures reported { WritesFaultLine (E.state err.old) (E.state err.new) (refusal_line kind) }
+{
+    match kind {
+        ErrorKind::OutOfMemory => {
+            write_memory_fault(err);
+            Status::OutOfMemory
+        }
+        _ => {
+            write_usage_fault(err);
+            Status::Usage
+        }
+    }
+}
+
+// Runs the program over these sources.
+fn run_args<R: Threads + Sync, S: Sources, O: Sink, E: Sink>(
+    rt: &R,
+    alloc: Global,
+    args: io::Result<Args>,
+    sources: &mut S,
+    out: &mut O,
+    err: &mut E,
+) -> Status
+    ensures refused { IfErr args (λ e. result ≡ refusal (error_kind e)) }
+    ensures reported { IfErr args (λ e. WritesFaultLine (E.state err.old) (E.state err.new)
+        (refusal_line (error_kind e))) }
+    ensures unwritten { IfErr args (λ e. O.state out.new ≡ O.state out.old) }
+    ensures unread { IfErr args (λ e. S.state sources.new ≡ S.state sources.old) }
+    ensures ran { IfOk args (λ it. Ran (job_of (texts (drop 1 (into_iter_items it)))) result
+        (S.state sources.old) (S.state sources.new) (O.state out.old) (O.state out.new)
+        (E.state err.old) (E.state err.new)) }
+    ensures causes { IfOk args (λ it.
+        IsReported (job_of (texts (drop 1 (into_iter_items it)))) result
+        (S.state sources.old) (S.state sources.new) (E.state err.old) (E.state err.new)) }
+{
+    let args = match args {
+        Ok(args) => args,
+        Err(error) => return refuse(err, error.kind()),
+    };
+    let Ok(words) = command_words(alloc, args) else {
+        write_memory_fault(err);
+        return Status::OutOfMemory;
+    };
+    run(rt, alloc, &words, sources, out, err, &OpenGate)
+}
+
+/// The exit number of the process. `args` has the program's name first.
+pub fn program<R: Threads + Sync + Files>(
+    rt: &R,
+    alloc: Global,
+    args: io::Result<Args>,
+    out: Stdout,
+    err: Stderr,
+) -> u8
+    // An argument is not UTF-8, or memory for the arguments ran out.
+    ensures refused { IfErr args (λ e. result ≡ status_number (refusal (error_kind e))) }
+    // Otherwise the number of the status of a run of the arguments after the program's name.
+    ensures ran { IfOk args (λ it. IsExit (job_of (texts (drop 1 (into_iter_items it)))) result) }
+{
+    let mut sources = FileSources::new(rt, alloc);
+    let mut out = OutSink::new(out);
+    let mut err = ErrSink::new(err);
+    run_args(rt, alloc, args, &mut sources, &mut out, &mut err).number()
+}

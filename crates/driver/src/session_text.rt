@@ -1,0 +1,114 @@
+//! The text that a session prints.
+
+ghost use Rattle.std.specs.Prelude.{◌≡◌, ◌≤◌, ℕ, All, length, IfOk, true};
+ghost use Rattle.sessions.specs.Sessions.{Setting, Moment, IsWhole};
+ghost use Rattle.command_line.specs.Orders.{job_of_order};
+ghost use Rattle.command_line.specs.Words.{is_supported};
+ghost use Rattle.mm_runtime.specs.Managers.{Closes, ClosesSome, IsRunnableTrace};
+ghost use Rattle.managed_heap.specs.Stopped.{IsManaged};
+ghost use Rattle.driver.specs.Texts.{replies_part};
+ghost use Rattle.driver.specs.Printed.{AreReplies, setting_of, IsPrinted};
+
+use command_line::{Order, PlanName};
+use heap_layout::{Layout, MAX_BLOCKS, MIN_BLOCKS};
+use ideal_heap::MAX_MUTATORS;
+use mm_runtime::{Manager, Turn, managed_plans};
+use plan_api::Plan;
+use plans::{Immix, MarkSweep, NoGc, SemiSpace};
+use pools::PlainPool;
+use std::alloc::{AllocError, Global};
+use std::thread::Threads;
+use stored_commands::StoredTrace;
+use trace_text::print_replies;
+use work_packets::Gate;
+
+// Runs the traces to their end, under a plan.
+fn run_to_end<P: Plan, G: Gate, R: Threads + Sync>(
+    rt: &R,
+    alloc: Global,
+    layout: Layout,
+    traces: Vec<StoredTrace>,
+    gate: &G,
+) -> Result<Manager<P>, AllocError>
+    requires plan { IsManaged P.rules }
+    requires some { 1 ≤ length traces.items }
+    requires few { length traces.items ≤ MAX_MUTATORS }
+    requires fit { All IsRunnableTrace traces.items }
+    ensures ready { IfOk result (λ m. ClosesSome P.rules m) }
+    ensures whole { (t : Setting) → t.rules ≡ P.rules → t.blocks ≡ layout.blocks
+        → t.workers ≡ 1 → t.traces ≡ traces.items
+        → IfOk result (λ m. (last : Moment) × IsWhole t last × Closes P.rules m t last) }
+{
+    let mut manager = Manager::<P>::begin_stored(alloc, layout, traces, 1)?;
+    'epochs: loop {
+        let (next, turn) = manager.advance(rt, &PlainPool, gate)?;
+        manager = next;
+        if turn == Turn::Ended {
+            return Ok(manager);
+        }
+    }
+}
+
+// The replies of all mutators.
+fn text_of_replies<P: Plan>(alloc: Global, manager: &Manager<P>) -> Result<Vec<u8>, AllocError>
+    requires { ClosesSome P.rules manager.now }
+    ensures { (t : Setting) (last : Moment) → Closes P.rules manager.now t last
+        → IfOk result (λ v. v.items ≡ replies_part (length t.traces) last) }
+{
+    let mut text = Vec::new(alloc);
+    for m in 0..manager.mutators() {
+        print_replies(m + 1, manager.replies(m + 1), &mut text)?;
+    }
+    Ok(text)
+}
+
+// The replies of a whole session under a plan.
+fn text_under<P: Plan, G: Gate, R: Threads + Sync>(
+    rt: &R,
+    alloc: Global,
+    layout: Layout,
+    traces: Vec<StoredTrace>,
+    gate: &G,
+) -> Result<Vec<u8>, AllocError>
+    requires plan { IsManaged P.rules }
+    requires some { 1 ≤ length traces.items }
+    requires few { length traces.items ≤ MAX_MUTATORS }
+    requires fit { All IsRunnableTrace traces.items }
+    ensures { (t : Setting) → t.rules ≡ P.rules → t.blocks ≡ layout.blocks
+        → t.workers ≡ 1 → t.traces ≡ traces.items
+        → IfOk result (λ v. AreReplies t v.items) }
+{
+    let manager = run_to_end::<P, G, R>(rt, alloc, layout, traces, gate)?;
+    text_of_replies::<P>(alloc, &manager)
+}
+
+/// The text of a whole session of an order that is implemented: traces from files, under the plan
+/// that the order names.
+///
+/// Fails if memory runs out.
+pub(crate) fn text_of_session<G: Gate, R: Threads + Sync>(
+    rt: &R,
+    alloc: Global,
+    order: &Order,
+    traces: Vec<StoredTrace>,
+    gate: &G,
+) -> Result<Vec<u8>, AllocError>
+    requires supported { is_supported (job_of_order order.now) ≡ true }
+    requires least { MIN_BLOCKS ≤ order.now.blocks }
+    requires most { order.now.blocks ≤ MAX_BLOCKS }
+    requires some { 1 ≤ length traces.items }
+    requires few { length traces.items ≤ MAX_MUTATORS }
+    requires fit { All IsRunnableTrace traces.items }
+    ensures { IfOk result (λ v. IsPrinted (job_of_order order.now)
+        traces.items v.items) }
+{
+    let layout = Layout::new(order.blocks).unwrap();
+    managed_plans();
+    match order.plan {
+        PlanName::NoGc => text_under::<NoGc, G, R>(rt, alloc, layout, traces, gate),
+        PlanName::MarkSweep => text_under::<MarkSweep, G, R>(rt, alloc, layout, traces, gate),
+        PlanName::SemiSpace => text_under::<SemiSpace, G, R>(rt, alloc, layout, traces, gate),
+        PlanName::Immix => text_under::<Immix, G, R>(rt, alloc, layout, traces, gate),
+        _ => unreachable!(),
+    }
+}
