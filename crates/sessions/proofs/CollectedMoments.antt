@@ -1,12 +1,12 @@
 -- A collection of a sound moment's heap leaves a sound moment.
 use Rattle.std.proofs.Common.{◌≡◌, ◌≢◌, refl, sym, ◌∙◌, ap, subst, subst₂, ℕ, ◌+◌, ◌<◌, inl, inr, arith, Bool, true, false, IsTrue, List, [], ◌∷◌, length, map}
 use Rattle.std.specs.List.{AllByRecursion}
-use Rattle.std.proofs.lemmas.Bool.{and_parts, cases_eq, or_right}
+use Rattle.std.proofs.lemmas.Bool.{and_parts, cases_eq}
 use Rattle.std.proofs.lemmas.List.{length-map}
 use Rattle.ideal_heap.specs.Ideal.{IdealHeap, empty}
 use Rattle.ideal_heap.specs.Runs.{Entry, heap_after_run}
 use Rattle.object_model.specs.declared.collect.Collect.{Collect}
-use Rattle.object_model.specs.Objects.{HeapState, word_at, IsHeld, is_pinned, is_unlogged, refs_at, ref_at, is_reference}
+use Rattle.object_model.specs.Objects.{HeapState, word_at, IsHeld, is_unlogged, refs_at, ref_at, is_reference}
 use Rattle.object_model.specs.Ages.{is_old, RemembersYoung}
 use Rattle.object_model.specs.Graphs.{MutatorState, IsMutatorState, IsReachable, Represents, numbers_of, roots_of}
 use Rattle.object_model.specs.Lawful.{IsLawful}

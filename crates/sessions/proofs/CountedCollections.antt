@@ -83,6 +83,8 @@ module _ (b n : ℕ) where
     logged = none-logged r;
     unlogged = λ a holds. absurd (none-held a holds);
     numbers = λ full a holds. absurd (none-held a holds);
+    claimed = λ young a none. absurd (omega arith);
+    stays = λ young a none. absurd (omega arith);
     number = refl;
     base = refl;
     layout = refl;

@@ -1,7 +1,6 @@
 -- A session of one mutator whose trace is `gc`, under each plan that reclaims.
 use Rattle.std.proofs.Common.{◌≡◌, refl, subst, ℕ, ◌+◌, ◌≤◌, arith, true, List, [], ◌∷◌, lit<}
 use Rattle.std.specs.Prelude.{IfSome, take, length, slice_index, replicate}
-use Rattle.std.proofs.lemmas.Bool.{or_right}
 use Rattle.heap_layout.specs.declared.block.Kind.TheVariants as kinds
 use Rattle.ideal_heap.specs.declared.command.Command.{Command}
 use Rattle.ideal_heap.specs.declared.command.Command.TheVariants as c
@@ -12,7 +11,7 @@ use Rattle.ideal_heap.specs.Reach as reach
 use Rattle.ideal_heap.specs.Reach.{PathReaches}
 use Rattle.ideal_heap.specs.Runs.{Entry, entry, IsMutator, IsOrderPrefix, commands_of, of_mutator, trace_of, next_of, last_level, level_after}
 use Rattle.object_model.specs.declared.collect.Collect.TheVariants.{Full}
-use Rattle.object_model.specs.Objects.{HeapState, empty_heap, HasKind, IsHeld, is_pinned, is_unlogged}
+use Rattle.object_model.specs.Objects.{HeapState, empty_heap, HasKind, IsHeld}
 use Rattle.object_model.specs.Ages.{RemembersYoung}
 use Rattle.object_model.specs.Lawful.{IsLawful}
 use Rattle.object_model.specs.Graphs as graphs

@@ -1,7 +1,7 @@
 -- Tests that decide whether a heap is another one after a collection, where a list has each kept object's target.
 use Rattle.std.proofs.Common.{◌≡◌, refl, sym, ◌∙◌, ap, subst, ℕ, zero, suc, ◌+◌, ◌*◌, ◌<◌, ◌≤◌, ◌≢◌, ◌⊎◌, inl, inr, arith, Bool, true, false, ◌&&◌, ◌||◌, not, IsTrue, nat_eq, nat_lt, nat_le, if◌then◌else◌, List, [], ◌∷◌, map, slice_index}
 use Rattle.std.specs.List.{range_with_len, list_all, AllByRecursion}
-use Rattle.std.proofs.lemmas.Bool.{and_parts, or_cases, true≢false, false≢true, eqb-true, ltb-true, ltb-false, leb-true, cases_Bool, lt-ltb, le-leb, eq-eqb, ne_eqb}
+use Rattle.std.proofs.lemmas.Bool.{and_parts, or_cases, cond-true, cond-false, true≢false, false≢true, eqb-true, ltb-true, ltb-false, leb-true, cases_Bool, lt-ltb, le-leb, eq-eqb, ne_eqb}
 use Rattle.heap_layout.specs.Zones.{heap_of, block_at, block_start, StartBits}
 use Rattle.heap_layout.specs.declared.block.Kind.TheVariants as kinds
 use Rattle.heap_layout.proofs.MarkLemmas.{is-address_from_mark}
@@ -183,6 +183,14 @@ module _ (r : Rules) (workers : ℕ) (c : Collect) (old new : HeapState) (roots 
   abbrev pub stays_put : ℕ → Bool
   stays_put a = may_move r c old a || nat_eq (target a) a
 
+  -- in a nursery collection an old object stays with its number, and another has that of the collection
+  abbrev pub keeps_age : Collect → ℕ → Bool
+  keeps_age Full a = true
+  keeps_age Nursery a = if is_old_under r old a then nat_eq (target a) a && nat_eq (number_at new a) (number_at old a) else nat_eq (number_at new (target a)) new.number
+
+  abbrev pub stays_as_it_may : ℕ → Bool
+  stays_as_it_may a = stays_put a && keeps_age c a
+
   abbrev pub is_due : Collect → ℕ → Bool
   is_due Full a = true
   is_due Nursery a = not (is_old_under r old a)
@@ -212,7 +220,7 @@ module _ (r : Rules) (workers : ℕ) (c : Collect) (old new : HeapState) (roots 
   abbrev pub Each : (ℕ → Bool) → Type 0
   Each test = list_all (λ p. test p.0) ps ≡ true
 
-  module _ (both : Each held_both) (once : Each alone) (same : Each looks_same) (fields : Each fields_follow) (put : Each stays_put) (left : Each has_left)
+  module _ (both : Each held_both) (once : Each alone) (same : Each looks_same) (fields : Each fields_follow) (put : Each stays_as_it_may) (left : Each has_left)
       (first_roots : list_all has_target roots ≡ true) (globals : list_all global_follows (range_with_len 0 16) ≡ true)
       (order : at_objects new is_in_order ≡ true) (blocks : list_all is_block_after (range_with_len 0 old.blocks) ≡ true)
       (registers : roots' ≡ map target roots) where
@@ -339,6 +347,17 @@ module _ (r : Rules) (workers : ℕ) (c : Collect) (old new : HeapState) (roots 
         (so (may_move r c old a) _
         (so (is_due c a) _ (passes has_left left a some) (due a which)) may) (eq-eqb (target a) a stays))
 
+    age-kept : c ≡ Nursery → (a : ℕ) → 0 < target a → keeps_age Nursery a ≡ true
+    age-kept young a some = subst (λ (d : Collect). keeps_age d a ≡ true) young (and_parts (stays_put a) (keeps_age c a) (passes stays_as_it_may put a some)).1
+
+    claimed-one : c ≡ Nursery → (a : ℕ) → 0 < target a → is_old_under r old a ≡ false → number_at new (target a) ≡ new.number
+    claimed-one young a some aged = eqb-true _ _ (sym (cond-false (is_old_under r old a) _ _ aged) ∙ age-kept young a some)
+
+    old-one : c ≡ Nursery → (a : ℕ) → 0 < target a → IsTrue (is_old_under r old a) → (target a ≡ a) × (number_at new a ≡ number_at old a)
+    old-one young a some aged =
+        let both = and_parts (nat_eq (target a) a) (nat_eq (number_at new a) (number_at old a)) (sym (cond-true (is_old_under r old a) _ _ aged) ∙ age-kept young a some) in
+        (eqb-true _ _ both.0, eqb-true _ _ both.1)
+
     pub collected : IsPrecise r c old roots target → ((a : ℕ) → IsReachable old roots a → 0 < target a) → new.number ≡ old.number + 1 → new.base ≡ base_after c new.number old.base → new.blocks ≡ old.blocks
         → Collects r workers c old roots new roots'
     collected precise reach number base layout = record {
@@ -358,7 +377,7 @@ module _ (r : Rules) (workers : ℕ) (c : Collect) (old new : HeapState) (roots 
         globals = λ g few. eqb-true _ _ (global-both g few).0;
         registers = registers;
         stays = λ a some still.
-            elim (or_cases (may_move r c old a) (nat_eq (target a) a) (passes stays_put put a some)) as (λ _. target a ≡ a) [
+            elim (or_cases (may_move r c old a) (nat_eq (target a) a) (and_parts (stays_put a) (keeps_age c a) (passes stays_as_it_may put a some)).0) as (λ _. target a ≡ a) [
               | inl may ↦ absurd (false≢true (sym still ∙ may))
               | inr there ↦ eqb-true _ _ there
             ];
@@ -374,6 +393,8 @@ module _ (r : Rules) (workers : ℕ) (c : Collect) (old new : HeapState) (roots 
           true≢false (sym (in-order x held).2 ∙ ap not is);
       unlogged = λ x held. (in-order x held).3;
       numbers = numbered;
+      claimed = claimed-one;
+      stays = old-one;
       number = number;
       base = base;
       layout = layout;

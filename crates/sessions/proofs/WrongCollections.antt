@@ -4,7 +4,7 @@ use Rattle.std.proofs.lemmas.Bool.{false≢true}
 use Rattle.heap_layout.specs.declared.block.Kind.TheVariants as kinds
 use Rattle.object_model.specs.declared.collect.Collect.{Collect}
 use Rattle.object_model.specs.declared.collect.Collect.TheVariants.{Nursery, Full}
-use Rattle.object_model.specs.Objects.{HeapState, is_start, IsHeld, ref_at}
+use Rattle.object_model.specs.Objects.{HeapState, is_start, IsHeld, number_at, ref_at}
 use Rattle.object_model.specs.Graphs as graphs
 use Rattle.object_model.specs.WorkedHeaps.{plain_object}
 use Rattle.object_model.specs.Graphs.{IsReachable}
@@ -211,3 +211,22 @@ young-kept k =
     let same : from.0 ≡ 824 = sym (k.kept.stays from.0 from.1 refl) ∙ from.2 in
     let live : IsNurseryReachable (rules_of StickyImmix) immix roots_before 824 = subst (IsNurseryReachable (rules_of StickyImmix) immix roots_before) same ((k.precise from.0).0 from.1) in
     false≢true (stands nursery-sticky-immix 824 ((nursery-sticky-immix.precise 824).1 live) refl)
+
+abbrev old-claimed-heap : HeapState
+old-claimed-heap = heap_left (four_kinds kinds.Immix kinds.Immix kinds.Free kinds.Free) (left_in_place ++ plain_object 0 24 5 [] 3 4 ∷ record (old_one 830) { number = 4 } ∷ []) 818 2
+
+pub old-claimed : Collects (rules_of StickyImmix) 1 Nursery immix roots_before old-claimed-heap roots_before → ⊥
+old-claimed k =
+    let some : 0 < k.target 4902 = (k.precise 4902).1 (collecting.was_old (held-from immix 4902 refl) refl) in
+    let same : 4 ≡ 2 = (k.stays refl 4902 some refl).1 in
+    omega (arith, same)
+
+abbrev young-unclaimed-heap : HeapState
+young-unclaimed-heap = heap_left (four_kinds kinds.Immix kinds.Immix kinds.Free kinds.Free) (first_one 0 (812 ∷ 818 ∷ []) 3 ∷ pinned_one ∷ second_one 0 12 806 ∷ remembered_ones 0 24 830) 818 2
+
+pub young-unclaimed : Collects (rules_of StickyImmix) 1 Nursery immix roots_before young-unclaimed-heap roots_before → ⊥
+young-unclaimed k =
+    let some : 0 < k.target 806 = (k.precise 806).1 (collecting.is_root 1 refl (lit< tt)) in
+    let here : k.target 806 ≡ 806 = k.kept.stays 806 some refl in
+    let same : 3 ≡ 4 = ap (λ a. number_at young-unclaimed-heap a) (sym here) ∙ k.claimed refl 806 some refl in
+    omega (arith, same)

@@ -24,7 +24,7 @@ is_logged_under r s a = r.young && is_logged s a
 abbrev pub Remembers : Rules → HeapState → Type 0
 Remembers r s = IsTrue r.young → RemembersYoung s
 
--- a young object begins in block k, under a plan with young objects
+-- an object that is not old under the plan begins in block k
 abbrev pub has_young : Rules → HeapState → ℕ → Bool
 has_young r s k = list_any (λ w. is_start s (block_start s.blocks k + w)
     && not (is_old_under r s (block_start s.blocks k + w))) (range_with_len 0 BLOCK_WORDS)
@@ -149,11 +149,15 @@ pub record Collects (r : Rules) (workers : ℕ) (c : Collect) (old : HeapState) 
   pub ages : (a : ℕ) → IsHeld new a → IsTrue r.young → IsTrue (is_old_under r new a)
   pub block : (k : ℕ) → k < old.blocks → BlockAfter r c old new k
   pub logged : (a : ℕ) → IsTrue (is_logged_under r new a) → ⊥
-  -- Each object's unlog bit is set, under any plan. A full collection claims each object that it
-  -- keeps, and so leaves its number in it. A nursery collection leaves an old object the number
-  -- that it had.
+  -- each object's unlog bit is set, under any plan
   pub unlogged : (a : ℕ) → IsHeld new a → IsTrue (is_unlogged new a)
+  -- A full collection claims each object that it keeps, and leaves its number in it. So does a
+  -- nursery collection with young objects. Old ones stay in place, with the number that they had.
   pub numbers : c ≡ Full → (a : ℕ) → IsHeld new a → number_at new a ≡ new.number
+  pub claimed : c ≡ Nursery → (a : ℕ) → 0 < target a → is_old_under r old a ≡ false
+      → number_at new (target a) ≡ new.number
+  pub stays : c ≡ Nursery → (a : ℕ) → 0 < target a → IsTrue (is_old_under r old a)
+      → (target a ≡ a) × (number_at new a ≡ number_at old a)
   pub number : new.number ≡ old.number + 1
   pub base : new.base ≡ base_after c new.number old.base
   pub layout : new.blocks ≡ old.blocks

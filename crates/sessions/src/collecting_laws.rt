@@ -241,7 +241,8 @@ pub fn wrong_ages()
 {}
 
 /// A nursery collection loses no old object and none that an old one refers to, and keeps no young
-/// one that nothing else refers to.
+/// one that nothing else refers to. It leaves an old object the number that it had, and a young one
+/// its own.
 pub fn wrong_nurseries()
     ensures old_lost { IsCollection (rules_of StickyImmix) 1 Nursery
         (heap_before kinds.Immix kinds.Immix 0) roots_before
@@ -255,4 +256,14 @@ pub fn wrong_nurseries()
         (heap_before kinds.Immix kinds.Immix 0) roots_before
         (heap_left (four_kinds kinds.Immix kinds.Immix kinds.Free kinds.Free)
         (left_in_place ++ lonely_one ∷ remembered_ones 0 24 830) 818 2) roots_before → ⊥ }
+    ensures old_claimed { IsCollection (rules_of StickyImmix) 1 Nursery
+        (heap_before kinds.Immix kinds.Immix 0) roots_before
+        (heap_left (four_kinds kinds.Immix kinds.Immix kinds.Free kinds.Free)
+        (left_in_place ++ plain_object 0 24 5 [] 3 4 ∷ record (old_one 830) { number = 4 } ∷ [])
+        818 2) roots_before → ⊥ }
+    ensures young_unclaimed { IsCollection (rules_of StickyImmix) 1 Nursery
+        (heap_before kinds.Immix kinds.Immix 0) roots_before
+        (heap_left (four_kinds kinds.Immix kinds.Immix kinds.Free kinds.Free)
+        (first_one 0 (812 ∷ 818 ∷ []) 3 ∷ pinned_one ∷ second_one 0 12 806
+        ∷ remembered_ones 0 24 830) 818 2) roots_before → ⊥ }
 {}
