@@ -3,32 +3,19 @@ use Rattle.std.proofs.Common.{◌≡◌, ℕ, ◌+◌, ◌*◌, ◌-◌, ◌/◌
 use Rattle.side_meta.specs.BitWords.{has_bit}
 use Rattle.std.specs.Prelude.{count_by, count_ones}
 use Rattle.std.specs.List.{range_with_len}
-use Rattle.std.specs.Int.{bit_at}
 use Rattle.std.proofs.lemmas.Bool.{cases_lt, and_parts, and_from, or_right}
 use Rattle.forward_word.specs.CollectorWords.{number_in, target_in}
 use Rattle.std.proofs.lemmas.List.Sums.{count_by-le-length}
 use Rattle.std.proofs.lemmas.List.FromFn.{length-range_with_len}
-use Rattle.heap_layout.specs.Zones.{Zone, StartBits, PinBits, UnlogBits, first, heap_of, row_words, block_at, block_start, bit_of, address_bit}
-use Rattle.heap_layout.proofs.MarkLemmas.{address_bit-at_address}
+use Rattle.heap_layout.specs.Zones.{Zone, StartBits, PinBits, UnlogBits, first, heap_of, row_words, block_at, block_start, address_bit}
 use Rattle.object_model.specs.Objects.{HeapState, with_words, word_at, is_start, is_pinned, is_unlogged, IsHeld, size_at}
 use Rattle.object_model.specs.Ages.{is_survivor}
 use Rattle.object_model.specs.Releasing.{IsReleasable, InSpan}
 use Rattle.object_model.proofs.ObjectReads.{lies_in_row}
+use Rattle.object_model.proofs.WordReads.{bit-there}
 use Rattle.block_sweeps.specs.Sweeping.{InBlock, IsAmong, ChangesOnly, KeepsLiving}
 use Rattle.block_sweeps.specs.WordSweeps.{start_word, pin_word, unlog_word, address_of, IsMarkAmong, MaySweep, SweepsWords}
 use Rattle.block_sweeps.proofs.BitCounts.{count-same, count-parts, ones-count}
-
--- the bit of an address, by its word
-pub bit-there : (b : ℕ) (z : Zone) (w : List ℕ) (i j : ℕ) → i < 64 * b → j < 64
-    → address_bit b z w (heap_of b + 64 * i + j) ≡ has_bit (slice_index w (first b z + i)) j
-bit-there b z w i j inside small =
-    let at : heap_of b + 64 * i + j - heap_of b ≡ 64 * i + j = omega arith in
-    let word : (64 * i + j) / 64 ≡ i = omega arith in
-    let bit : (64 * i + j) % 64 ≡ j = omega arith in
-    address_bit-at_address b z w (heap_of b + 64 * i + j) (record { from = omega arith; below = omega arith })
-    ∙ ap (bit_of b z w) at
-    ∙ ap (λ n. nat_eq (bit_at (slice_index w (first b z + n)) ((64 * i + j) % 64)) 1) word
-    ∙ ap (λ n. nat_eq (bit_at (slice_index w (first b z + i)) n) 1) bit
 
 -- the words of a block that may be released may be swept
 module _ (s : HeapState) (k i : ℕ) (long : length s.words ≡ row_words s.blocks) (there : k < s.blocks) (may : IsReleasable s k)

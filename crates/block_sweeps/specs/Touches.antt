@@ -6,10 +6,11 @@ use Rattle.heap_layout.specs.declared.layout.TheConstants.{BLOCK_LINES, BLOCK_WO
 use Rattle.line_bits.specs.LineMarks.{IsFromTo}
 use Rattle.object_model.specs.Lines.{TouchesLine}
 use Rattle.object_model.specs.Objects.{HeapState, is_start, size_at}
+use Rattle.side_meta.specs.declared.word.TheConstants.{BITS_PER_WORD}
 
 -- bit n of a list of words
 abbrev pub has_line : List ℕ → ℕ → Bool
-has_line lines n = nat_eq (bit_at (slice_index lines (n / 64)) (n % 64)) 1
+has_line lines n = nat_eq (bit_at (slice_index lines (n / BITS_PER_WORD)) (n % BITS_PER_WORD)) 1
 
 -- these bits were set, and no other bit changed
 pub record AddsLines (Added : ℕ → Type 0) (old new : List ℕ) : Type 0 where
@@ -41,9 +42,10 @@ pub record BeginsIn (s : HeapState) (k line : ℕ) : Type 0 where
 
 -- these are the start bits of the 64 addresses of block k from offset 64 * index on
 pub record AreStarts (s : HeapState) (k index bits : ℕ) : Type 0 where
-  pub set : (i : ℕ) → i < 64 → bit_at bits i ≡ 1
-      → IsTrue (is_start s (block_start s.blocks k + (64 * index + i)))
-  pub all : (i : ℕ) → i < 64 → IsTrue (is_start s (block_start s.blocks k + (64 * index + i)))
+  pub set : (i : ℕ) → i < BITS_PER_WORD → bit_at bits i ≡ 1
+      → IsTrue (is_start s (block_start s.blocks k + (BITS_PER_WORD * index + i)))
+  pub all : (i : ℕ) → i < BITS_PER_WORD
+      → IsTrue (is_start s (block_start s.blocks k + (BITS_PER_WORD * index + i)))
       → bit_at bits i ≡ 1
 
 -- these are the bits of line 0, 1, 2 or 3 of a word, in their places
@@ -70,8 +72,10 @@ pub record BeginsFrom (s : HeapState) (k from to line : ℕ) : Type 0 where
 
 -- these are the bits of the 64 lines of block k from 64 * word on in which objects begin
 pub record AreBegun (s : HeapState) (k word bits : ℕ) : Type 0 where
-  pub set : (i : ℕ) → i < 64 → bit_at bits i ≡ 1 → BeginsIn s k (64 * word + i)
-  pub all : (i : ℕ) → i < 64 → BeginsIn s k (64 * word + i) → bit_at bits i ≡ 1
+  pub set : (i : ℕ) → i < BITS_PER_WORD → bit_at bits i ≡ 1
+      → BeginsIn s k (BITS_PER_WORD * word + i)
+  pub all : (i : ℕ) → i < BITS_PER_WORD → BeginsIn s k (BITS_PER_WORD * word + i)
+      → bit_at bits i ≡ 1
 
 -- the lines that objects touch which begin in this line of block k are among these
 abbrev pub HasLinesOf : HeapState → ℕ → ℕ → List ℕ → Type 0

@@ -87,7 +87,7 @@ fn begun_lines<W: Words>(words: &W, layout: &Layout, block: u32) -> [u64; 4]
 /// Adds those of four lines in which objects begin. Word `index` of start bits is theirs.
 #[inline(always)]
 fn add_begun(starts: u64, index: u32, lines: &mut [u64; 4])
-    requires index { index < 64 }
+    requires index { index < BLOCK_BIT_WORDS }
     requires len { length lines.old ≡ 4 }
     ensures { (s : HeapState) (k : ℕ) → AreStarts s k index starts
         → AddsLines (BeginsFrom s k (4 * index) (4 * index + 4)) lines.old lines.new }
@@ -136,7 +136,7 @@ fn add_ends<W: Words>(
     requires begun { AreBegun (shown (W.words words.now) layout.now) block word begun }
     requires len { length lines.old ≡ 4 }
     ensures { AddsEnds (shown (W.words words.now) layout.now) block
-        (64 * word) (64 * word + 64) lines.old lines.new }
+        (BITS_PER_WORD * word) (BITS_PER_WORD * word + BITS_PER_WORD) lines.old lines.new }
 {
     let mut rest = begun & !(begun >> 1);
     while rest != 0 {
@@ -173,7 +173,7 @@ fn add_last<W: Words>(words: &W, layout: &Layout, block: u32, line: u32, lines: 
 fn start_word<W: Words>(words: &W, layout: &Layout, block: u32, index: u32) -> u64
     requires extent { IsRowOf layout.now (W.words words.now) }
     requires block { block < layout.now.blocks }
-    requires index { index < 64 }
+    requires index { index < BLOCK_BIT_WORDS }
     ensures { AreStarts (shown (W.words words.now) layout.now) block index result }
 {
     words.get(layout.start_base() + BLOCK_BIT_WORDS * block + index)

@@ -110,9 +110,9 @@ fn mask<W: Words>(words: &mut W, index: u32, bits: u64)
 /// The start bits whose objects live. Bit 0 is that of the address `first`.
 fn living_bits<W: Words>(words: &W, starts: u64, first: u32, base: u64) -> u64
     requires index { length (W.words words.now) < 2 ^ 32 }
-    requires words { (j : ℕ) → j < 64 → IsTrue (has_bit starts j)
+    requires words { (j : ℕ) → j < BITS_PER_WORD → IsTrue (has_bit starts j)
         → first + j + 2 < length (W.words words.now) }
-    ensures { (j : ℕ) → j < 64 → has_bit result j
+    ensures { (j : ℕ) → j < BITS_PER_WORD → has_bit result j
         ≡ (has_bit starts j && survives (W.words words.now) base (first + j)) }
 {
     let mut living = starts;

@@ -5,7 +5,7 @@ use Rattle.std.proofs.lemmas.Bool.{cases_eq, eq-eqb, eqb-true}
 use Rattle.std.proofs.lemmas.Nat.Bits.{bit_at-lt}
 use Rattle.heap_layout.specs.Zones.{StartBits, first, heap_of, block_start}
 use Rattle.object_model.specs.Objects.{HeapState, is_start}
-use Rattle.block_sweeps.proofs.SweptBlocks.{bit-there}
+use Rattle.object_model.proofs.WordReads.{bit-there}
 use Rattle.cell_space.specs.WordCells.{IsClearStart, IsFirstClear, HasNoneClear, IsBeside, IsFirstBeside, HasNoneBeside}
 
 module _ (s : HeapState) (k size at base word : ℕ) (there : k < s.blocks) (inside : at < 4096)

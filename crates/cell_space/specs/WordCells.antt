@@ -3,12 +3,13 @@ use Rattle.std.specs.Prelude.{◌≡◌, ℕ, ◌+◌, ◌*◌, ◌/◌, ◌<◌
 use Rattle.std.specs.Int.{bit_at}
 use Rattle.heap_layout.specs.Zones.{block_start}
 use Rattle.object_model.specs.Objects.{HeapState, is_start}
+use Rattle.side_meta.specs.declared.word.TheConstants.{BITS_PER_WORD}
 
 -- Bit n of the word is clear, and a cell of `size` words begins there, if one begins at `bit`.
 pub record IsClearStart (starts size bit n : ℕ) : Type 0 where
   pub index : ℕ
   pub start : n ≡ bit + index * size
-  pub inside : n < 64
+  pub inside : n < BITS_PER_WORD
   pub clear : bit_at starts n ≡ 0
 
 -- n is the first such bit
@@ -25,7 +26,7 @@ HasNoneClear starts size bit = (n : ℕ) → IsClearStart starts size bit n → 
 pub record IsBeside (s : HeapState) (k size at x : ℕ) : Type 0 where
   pub index : ℕ
   pub start : x ≡ at + index * size
-  pub inside : x < 64 * (at / 64 + 1)
+  pub inside : x < BITS_PER_WORD * (at / BITS_PER_WORD + 1)
   pub free : IsTrue (is_start s (block_start s.blocks k + x)) → ⊥
 
 -- x is the first such offset

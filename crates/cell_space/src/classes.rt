@@ -7,6 +7,7 @@ ghost use Rattle.sessions.specs.Fitting.{class_of as class_of_size};
 
 use heap_layout::CLASSES;
 use object_model::MAX_MEDIUM_WORDS;
+use side_meta::BITS_PER_WORD;
 
 /// The size in words of a cell of each class.
 const CELL_WORDS: [u32; CLASSES] = [
@@ -49,7 +50,7 @@ pub fn cell_size(class: u32) -> u32
 /// The bits of a word where cells of this class begin, if one begins at bit 0.
 pub(crate) fn cell_starts(class: u32) -> u64
     requires { class ≤ 18 }
-    ensures { (n : ℕ) → n < 64
+    ensures { (n : ℕ) → n < BITS_PER_WORD
         → bit_at result n ≡ (if nat_eq (n % cell_words class) 0 then 1 else 0) }
 {
     CELL_STARTS[class as usize]

@@ -83,7 +83,7 @@ fn free_beside<W: Words>(words: &W, layout: &Layout, block: u32, class: u32, at:
 /// The first clear bit among those where cells begin, if one begins at `bit`.
 fn clear_cell(starts: u64, class: u32, bit: u32) -> Option<u32>
     requires class { class ≤ 18 }
-    requires bit { bit < 64 }
+    requires bit { bit < BITS_PER_WORD }
     ensures { MatchOption result (HasNoneClear starts (cell_words class) bit)
         (λ n. IsFirstClear starts (cell_words class) bit n) }
 {

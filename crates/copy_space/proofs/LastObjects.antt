@@ -15,7 +15,7 @@ use Rattle.sessions.specs.Fitting.{IsTail}
 use Rattle.block_sweeps.specs.Sweeping.{AreApart}
 use Rattle.side_meta.specs.BitWords.{has_bit}
 use Rattle.block_sweeps.specs.WordSweeps.{start_word}
-use Rattle.block_sweeps.proofs.SweptBlocks.{bit-there}
+use Rattle.object_model.proofs.WordReads.{bit-there}
 use Rattle.copy_space.specs.LastOffsets.{IsLast}
 
 -- each object of block k begins before this offset

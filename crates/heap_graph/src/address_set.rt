@@ -1,6 +1,7 @@
 //! A set of heap addresses.
 
 ghost use Rattle.std.specs.Prelude.{◌≡◌, ◌*◌, length};
+ghost use Rattle.heap_layout.specs.declared.layout.TheConstants.{BLOCK_BIT_WORDS};
 
 use heap_layout::{BLOCK_BIT_WORDS, Layout};
 use object_model::bit_spec;
@@ -12,7 +13,7 @@ use std::alloc::{AllocError, Global};
 pub(crate) struct AddressSet {
     words: Vec<u64>,
     layout: Layout,
-    pub ghost extent: { length words.items ≡ 64 * layout.blocks },
+    pub ghost extent: { length words.items ≡ BLOCK_BIT_WORDS * layout.blocks },
 }
 
 impl AddressSet {

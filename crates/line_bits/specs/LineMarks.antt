@@ -4,12 +4,13 @@ use Rattle.heap_layout.specs.Zones.{LineWords, first, bit_of}
 use Rattle.object_model.specs.Lines.{TouchesLine}
 use Rattle.object_model.specs.Objects.{HeapState, word_at}
 use Rattle.side_meta.specs.BitWords.{has_bit}
+use Rattle.side_meta.specs.declared.word.TheConstants.{BITS_PER_WORD}
 
 -- word i has the bit of a line that an object of this size at address a touches
 pub record HasTouched (b a size i : ℕ) : Type 0 where
   pub line : ℕ
   pub touches : TouchesLine b a size line
-  pub word : i ≡ first b LineWords + line / 64
+  pub word : i ≡ first b LineWords + line / BITS_PER_WORD
 
 -- line n of the heap is marked
 abbrev pub LineIsMarked : HeapState → ℕ → Type 0

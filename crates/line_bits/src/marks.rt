@@ -39,7 +39,7 @@ pub fn mark<W: Words>(words: &mut W, layout: &Layout, address: u32, size: u32)
 fn set_run<W: Words>(words: &mut W, index: u32, low: u32, high: u32)
     requires index { index < length (W.words words.old) }
     requires order { low ≤ high }
-    requires high { high < 64 }
+    requires high { high < BITS_PER_WORD }
     ensures { SetsRun (W.words words.old) (W.words words.new) index low high }
 {
     let before = words.get(index);

@@ -2,38 +2,40 @@
 use Rattle.heap_layout.specs.declared.layout.TheConstants.{BLOCK_LINES}
 use Rattle.std.specs.Prelude.{◌≡◌, ℕ, ◌+◌, ◌*◌, ◌-◌, ◌/◌, ◌%◌, ◌<◌, ◌≤◌, ◌⊎◌, Bool, true, false, List, length, slice_index, nat_eq}
 use Rattle.std.specs.Int.{bit_at}
+use Rattle.side_meta.specs.declared.word.TheConstants.{BITS_PER_WORD}
 
 -- bit n of a list of words: bit n mod 64 of word n / 64
 abbrev pub bit_in : List ℕ → ℕ → Bool
-bit_in words n = nat_eq (bit_at (slice_index words (n / 64)) (n % 64)) 1
+bit_in words n = nat_eq (bit_at (slice_index words (n / BITS_PER_WORD)) (n % BITS_PER_WORD)) 1
 
 -- n is the lowest set bit of the word at or after bit `from`
 pub record IsFirstSet (word from n : ℕ) : Type 0 where
   pub after : from ≤ n
-  pub inside : n < 64
+  pub inside : n < BITS_PER_WORD
   pub set : bit_at word n ≡ 1
   pub others : (m : ℕ) → from ≤ m → m < n → bit_at word m ≡ 0
 
 -- no bit at or after bit `from` is set
 abbrev pub HasNoneSet : ℕ → ℕ → Type 0
-HasNoneSet word from = (m : ℕ) → from ≤ m → m < 64 → bit_at word m ≡ 0
+HasNoneSet word from = (m : ℕ) → from ≤ m → m < BITS_PER_WORD → bit_at word m ≡ 0
 
 -- n is the first bit with this value at or after bit `from`
 pub record IsFirstBit (words : List ℕ) (value : Bool) (from n : ℕ) : Type 0 where
   pub after : from ≤ n
-  pub inside : n < 64 * length words
+  pub inside : n < BITS_PER_WORD * length words
   pub is : bit_in words n ≡ value
   pub others : (m : ℕ) → from ≤ m → m < n → bit_in words m ≡ value → ⊥
 
 -- no bit at or after bit `from` has this value
 abbrev pub HasNoBit : List ℕ → Bool → ℕ → Type 0
-HasNoBit words value from = (m : ℕ) → from ≤ m → m < 64 * length words → bit_in words m ≡ value → ⊥
+HasNoBit words value from = (m : ℕ) → from ≤ m → m < BITS_PER_WORD * length words
+    → bit_in words m ≡ value → ⊥
 
 -- n is the last set bit
 pub record IsLastBit (words : List ℕ) (n : ℕ) : Type 0 where
-  pub inside : n < 64 * length words
+  pub inside : n < BITS_PER_WORD * length words
   pub set : bit_in words n ≡ true
-  pub others : (m : ℕ) → m < 64 * length words → bit_in words m ≡ true → m ≤ n
+  pub others : (m : ℕ) → m < BITS_PER_WORD * length words → bit_in words m ≡ true → m ≤ n
 
 -- in words with a bit for each line of a block, the run of clear bits that contains bit x ends
 -- before bit `end`

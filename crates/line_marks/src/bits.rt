@@ -4,11 +4,12 @@ ghost use Rattle.std.specs.Prelude.{◌≡◌, ◌↔◌, ℕ, ◌*◌, ◌<◌,
 ghost use Rattle.std.specs.Int.{bit_at};
 ghost use Rattle.line_marks.specs.Bits.{IsFirstSet, HasNoneSet, IsFirstBit, HasNoBit, IsLastBit};
 
+use heap_layout::BLOCK_BIT_WORDS;
 use side_meta::BITS_PER_WORD;
 
 /// The lowest set bit of `word` at or after bit `from`.
 fn first_set(word: u64, from: u32) -> Option<u32>
-    requires { from < 64 }
+    requires { from < BITS_PER_WORD }
     ensures { MatchOption result (HasNoneSet word from) (λ n. IsFirstSet word from n) }
 {
     let rest = word >> from;
@@ -20,7 +21,7 @@ fn first_set(word: u64, from: u32) -> Option<u32>
 
 /// The word whose set bits are the bits of `word` with this value.
 fn bits_with(word: u64, value: bool) -> u64
-    ensures { (n : ℕ) → n < 64 → (bit_at result n ≡ 1) ↔ (nat_eq (bit_at word n) 1
+    ensures { (n : ℕ) → n < BITS_PER_WORD → (bit_at result n ≡ 1) ↔ (nat_eq (bit_at word n) 1
         ≡ value) }
 {
     if value { word } else { !word }
@@ -28,7 +29,7 @@ fn bits_with(word: u64, value: bool) -> u64
 
 /// The first bit of `words` with this value, at or after bit `from`.
 pub fn first_bit(words: &[u64], value: bool, from: u32) -> Option<u32>
-    requires { length words.now ≤ 64 }
+    requires { length words.now ≤ BLOCK_BIT_WORDS }
     ensures { MatchOption result (HasNoBit words.now value from)
         (λ n. IsFirstBit words.now value from n) }
 {
@@ -44,7 +45,7 @@ pub fn first_bit(words: &[u64], value: bool, from: u32) -> Option<u32>
 
 /// The last set bit of `words`.
 pub fn last_bit(words: &[u64]) -> Option<u32>
-    requires { length words.now ≤ 64 }
+    requires { length words.now ≤ BLOCK_BIT_WORDS }
     ensures { MatchOption result (HasNoBit words.now true 0) (λ n. IsLastBit words.now n) }
 {
     for i in (0..words.len()).rev() {

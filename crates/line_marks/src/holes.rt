@@ -12,7 +12,7 @@ ghost use Rattle.line_marks.specs.LineHoles.{IsNextHole, HasNoHole};
 
 use crate::runs::first_run;
 use heap_layout::{BLOCK_LINE_BIT_WORDS, LINE_WORDS, Layout};
-use side_meta::Words;
+use side_meta::{BITS_PER_WORD, Words};
 
 /// A run of clear lines, or the part of it from a line on.
 #[derive(Clone, Copy, Debug, PartialEq, Eq)]
@@ -110,7 +110,7 @@ pub fn line_counts<W: Words>(words: &W, layout: &Layout, block: u32) -> LineCoun
 fn hole_starts(word: u64, before: u64) -> u64
     requires { before < 2 }
     ensures lowest { has_bit result 0 ≡ (not (has_bit word 0) && nat_eq before 1) }
-    ensures others { (j : ℕ) → 0 < j → j < 64
+    ensures others { (j : ℕ) → 0 < j → j < BITS_PER_WORD
         → has_bit result j ≡ (not (has_bit word j) && has_bit word (j - 1)) }
 {
     !word & (word << 1 | before)

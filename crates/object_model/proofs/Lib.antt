@@ -9,6 +9,7 @@ pub mod TwoSteps
 pub mod Frames
 pub mod Stores
 pub mod OneKind
+pub mod WordReads
 pub mod Counts
 pub mod Sets
 pub mod Among
@@ -45,5 +46,7 @@ pub mod TakenBlocks
 pub mod WorkedHeaps
 pub mod LawfulTests
 pub mod BuiltWords
+pub mod HeldCounts
+mod HeldWords
 pub mod OwnedBlocks
 pub mod BitWords

@@ -6,6 +6,7 @@ use Rattle.ideal_heap.specs.Names.{name_code}
 use Rattle.object_model.specs.declared.shape.TheConstants.{COLLECTOR_OFFSET, HEADER_WORDS, SHAPE_OFFSET}
 use Rattle.object_model.specs.Objects.{HeapState, word_at, block_word, line_marked, is_start, is_pinned, is_unlogged, IsHeld, size_of, shape_code}
 use Rattle.heap_layout.specs.declared.layout.TheConstants.{BLOCK_WORDS}
+use Rattle.side_meta.specs.declared.word.TheConstants.{BITS_PER_WORD}
 
 -- Every object keeps its address, name, shape and collector word. Block words and line bits are
 -- unchanged, and no unlog bit gets set. Fields, globals and pin bits may change.
@@ -38,7 +39,7 @@ pub record WritesObject (old new : HeapState) (a : ℕ) (n : Name) (refs nums : 
   pub starts : (n : ℕ) → n < BLOCK_WORDS * old.blocks → n ≢ a - heap_of old.blocks
       → bit_of old.blocks StartBits new.words n ≡ bit_of old.blocks StartBits old.words n
   pub others : (i : ℕ) → (i < a) ⊎ (a + size_of refs nums ≤ i)
-      → i ≢ first old.blocks StartBits + (a - heap_of old.blocks) / 64
+      → i ≢ first old.blocks StartBits + (a - heap_of old.blocks) / BITS_PER_WORD
       → word_at new i ≡ word_at old i
 
 -- The pin bit of address a becomes `pinned`. All else is unchanged.

@@ -13,3 +13,4 @@ pub mod Steps
 pub mod Births
 pub mod WorkedHeaps
 pub mod BitWords
+pub mod Counting

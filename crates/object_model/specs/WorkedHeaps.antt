@@ -11,6 +11,7 @@ use Rattle.ideal_heap.specs.declared.name.Name.{Name}
 use Rattle.ideal_heap.specs.Names.{name, name_code}
 use Rattle.object_model.specs.Objects.{HeapState, empty_heap, with_words, size_of, shape_code}
 use Rattle.object_model.specs.Births.{with_block}
+use Rattle.side_meta.specs.declared.word.TheConstants.{BITS_PER_WORD}
 
 -- the word of a block without an owner
 abbrev pub unowned : Kind → ℕ → BlockWord
@@ -87,7 +88,8 @@ object_word start objects i = sum_by
 -- begins
 abbrev pub mark_word : (WorkedObject → Bool) → List WorkedObject → ℕ → ℕ
 mark_word test objects i = sum_by
-    (λ o. if test o && nat_eq (words_before o / 64) i then 2 ^ (words_before o % 64) else 0) objects
+    (λ o. if test o && nat_eq (words_before o / BITS_PER_WORD) i
+    then 2 ^ (words_before o % BITS_PER_WORD) else 0) objects
 
 -- the object has a word in this line, counted from the first line of the heap
 abbrev pub touches_line : ℕ → WorkedObject → Bool
@@ -98,8 +100,8 @@ touches_line line o = nat_lt (words_before o) (16 * (line + 1))
 abbrev pub line_word : List BlockWord → List WorkedObject → ℕ → ℕ
 line_word blocks objects i =
     if nat_eq (slice_index (map code_of blocks) (i / 4) % 256) 4 then
-    sum_by (λ l. if list_any (touches_line (64 * i + l)) objects then 2 ^ l else 0)
-    (range_with_len 0 64) else 0
+    sum_by (λ l. if list_any (touches_line (BITS_PER_WORD * i + l)) objects then 2 ^ l else 0)
+    (range_with_len 0 BITS_PER_WORD) else 0
 
 -- word i of the row, of b blocks
 abbrev pub built_word : WorkedHeap → ℕ → ℕ → ℕ

@@ -26,6 +26,7 @@ use heap_layout::{
     BLOCK_LINE_BIT_WORDS, BLOCK_LINES, BLOCK_WORDS, CLASS_UNIT, MAX_BLOCKS, MIN_BLOCKS, OWNER_UNIT,
 };
 use ideal_heap::{MAX_MUTATORS, MAX_NUMS, MAX_REFS};
+use side_meta::BITS_PER_WORD;
 
 /// A row of zeros is a lawful heap. With mutators that have allocated nothing, it represents the
 /// empty ideal heap. A large object may begin at any of its blocks, if all blocks that the object
@@ -150,8 +151,8 @@ pub fn collector_words_read()
 pub fn lines_have_words()
     ensures { (s : HeapState) (k line : ℕ) → line < BLOCK_LINES
         → line_marked s k line ≡ nat_eq (bit_at
-        (word_at s (first s.blocks LineWords + BLOCK_LINE_BIT_WORDS * k + line / 64))
-        (line % 64)) 1 }
+        (word_at s (first s.blocks LineWords + BLOCK_LINE_BIT_WORDS * k + line / BITS_PER_WORD))
+        (line % BITS_PER_WORD)) 1 }
 {}
 
 /// An object touches the lines in which it has a word.

@@ -3,6 +3,7 @@
 
 mod bits;
 mod collect;
+mod counting;
 mod heap;
 mod heap_laws;
 mod laws;

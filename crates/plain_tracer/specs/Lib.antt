@@ -1,2 +1,3 @@
 pub mod TokenRights
 pub mod Tracers
+pub mod Prelude

@@ -21,7 +21,7 @@ pub record IsGrey (p : Setup) (v : View) (grey : Grey) : Type 0 where
   pub size : grey.size ≡ size p grey.object
   pub refs : grey.refs ≡ refs p grey.object
 
--- the token with the shape that its object had as the trace began
+-- the token with the shape that its object had as the tracing began
 abbrev pub grey_of : Setup → Reached → Grey
 grey_of p r = record {
   object = r.object;

@@ -1,4 +1,4 @@
--- A tracer and the trace that it makes.
+-- A tracer and the tracing that it makes.
 use Rattle.std.specs.Prelude.{◌≡◌, ℕ, ◌+◌, ◌<◌, ◌≤◌, ◌⊎◌, Bool, false, IsTrue, List, [], ◌∷◌, ◌++◌, length, Option, Some, None, All}
 use Rattle.heap_layout.specs.declared.block.TheConstants.{FIRST_WORKER_OWNER}
 use Rattle.heap_layout.specs.Zones.{block_start}
@@ -204,9 +204,9 @@ pub record SetsGlobal (p : Setup) (es : List Event) (v : View) (new : PlainTrace
   pub tokens : PushesAtMost 1 before after
   pub pushes : Pushes p v view tokens.pushed
 
--- The row after a trace that made these events. Each block that was taken to copy into is the last
--- one of a worker, is sparse, or has more than 2,048 words of targets. Each was the lowest Free one
--- that was left.
+-- The row after a tracing that made these events. Each block that was taken to copy into is the
+-- last one of a worker, is sparse, or has more than 2,048 words of targets. Each was the lowest
+-- Free one that was left.
 pub record IsTraced (p : Setup) (es : List Event) (v : View) (traced : Traced) : Type 0 where
   pub trace : IsTracing p es
   pub run : IsRunOf p traced.run

@@ -5,16 +5,8 @@
 //! Never writes another word of an object, nor a bit.
 
 ghost use Rattle.std.specs.Prelude.{◌≡◌, ◌≢◌, ◌+◌, ◌<◌, ◌≤◌, ℕ, List, [], ◌∷◌, ◌++◌, Option, Some, None, IfSome, IfNone, IsTrue};
-ghost use Rattle.heap_layout.specs.Zones.{block_start};
-ghost use Rattle.heap_layout.specs.declared.block.Kind.TheVariants as kinds;
-ghost use Rattle.object_model.specs.declared.shape.TheConstants.{MAX_MEDIUM_WORDS};
-ghost use Rattle.object_model.specs.Objects.{IsHeld, size_of};
-ghost use Rattle.trace_core.specs.Setups.{Setup, blocks, may_be_moved, size as size_before};
-ghost use Rattle.trace_core.specs.Machine.{Event, ClaimCause, ByRoot, Claim as ClaimEvent};
-ghost use Rattle.trace_core.specs.Traces.{IsAskedBy, NoneIsFree, machine_after, target_of};
-ghost use Rattle.trace_core.specs.Views.{View, claimed_view};
-ghost use Rattle.plain_tracer.specs.Tracers.{Tracks, TracerHolds, ClaimsRoot, Claims, Fronts, Wins, KeepsRun};
-ghost use Rattle.trace_core.specs.Rights.{WasHeld, IsWaiting};
+ghost use Rattle.plain_tracer.specs.Prelude.{block_start, MAX_MEDIUM_WORDS, IsHeld, size_of, Setup, blocks, may_be_moved, size_before, Event, ClaimCause, ByRoot, ClaimEvent, IsAskedBy, NoneIsFree, machine_after, target_of, View, claimed_view, Tracks, TracerHolds, ClaimsRoot, Claims, Fronts, Wins, KeepsRun, WasHeld, IsWaiting};
+ghost use Rattle.plain_tracer.specs.Prelude.kinds;
 
 use crate::plain_trace::PlainTrace;
 use crate::tokens::{Claim, Won};

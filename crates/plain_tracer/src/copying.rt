@@ -6,17 +6,7 @@
 
 ghost use Rattle.std.specs.Prelude.{◌≡◌, ◌+◌, ◌*◌, ◌-◌, ◌/◌, ◌%◌, ◌^◌, ◌<◌, ◌≤◌, ◌++◌, ℕ, List, IsTrue, nat_eq, slice_index, slice_set};
 ghost use Rattle.std.specs.Int.{bit_at};
-ghost use Rattle.heap_layout.specs.Zones.{heap_of, first, IsAddress, LineWords, UnlogBits, bit_of, IsRowOf};
-ghost use Rattle.side_meta.specs.BitWords.{with_bit};
-ghost use Rattle.object_model.specs.Lines.{TouchesLine};
-ghost use Rattle.trace_core.specs.Setups.{Setup, blocks};
-ghost use Rattle.trace_core.specs.Machine.{Event};
-ghost use Rattle.trace_core.specs.Views.{View, copied_view};
-ghost use Rattle.plain_tracer.specs.TokenRights.{IsWon, IsGrey};
-ghost use Rattle.plain_tracer.specs.Tracers.{Tracks, TracerHolds, MakesEvents, ChangesWords, KeepsRun};
-ghost use Rattle.trace_core.specs.CallEvents.{Marks, copying};
-ghost use Rattle.plain_tracer.specs.TokenRights.{IsMarking};
-ghost use Rattle.trace_core.specs.Rights.{IsMoving, IsCopiedHere};
+ghost use Rattle.plain_tracer.specs.Prelude.{heap_of, first, IsAddress, LineWords, UnlogBits, bit_of, IsRowOf, with_bit, TouchesLine, Setup, blocks, Event, View, copied_view, IsWon, IsGrey, Tracks, TracerHolds, MakesEvents, ChangesWords, KeepsRun, Marks, copying, IsMarking, IsMoving, IsCopiedHere};
 
 use crate::plain_trace::PlainTrace;
 use crate::tokens::{Grey, Won};
@@ -109,8 +99,8 @@ impl PlainTrace {
         requires address { IsAddress self.now.row.layout.blocks address }
         requires zone { zone ≤ first self.now.row.layout.blocks UnlogBits }
         ensures { result ≡ nat_eq (bit_at (slice_index self.now.row.words.items
-            (zone + (address - heap_of self.now.row.layout.blocks) / 64))
-            ((address - heap_of self.now.row.layout.blocks) % 64)) 1 }
+            (zone + (address - heap_of self.now.row.layout.blocks) / BITS_PER_WORD))
+            ((address - heap_of self.now.row.layout.blocks) % BITS_PER_WORD)) 1 }
     {
         let index = address - layout.heap_base();
         side_meta::test_bit(
@@ -127,10 +117,10 @@ impl PlainTrace {
         requires address { IsAddress self.old.row.layout.blocks address }
         requires zone { zone ≤ first self.old.row.layout.blocks UnlogBits }
         ensures { ChangesWords self.old self.new (slice_set self.old.row.words.items
-            (zone + (address - heap_of self.old.row.layout.blocks) / 64)
+            (zone + (address - heap_of self.old.row.layout.blocks) / BITS_PER_WORD)
             (with_bit (slice_index self.old.row.words.items
-            (zone + (address - heap_of self.old.row.layout.blocks) / 64))
-            ((address - heap_of self.old.row.layout.blocks) % 64))) }
+            (zone + (address - heap_of self.old.row.layout.blocks) / BITS_PER_WORD))
+            ((address - heap_of self.old.row.layout.blocks) % BITS_PER_WORD))) }
     {
         let index = address - layout.heap_base();
         side_meta::set_bit(

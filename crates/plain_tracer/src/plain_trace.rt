@@ -1,26 +1,12 @@
-//! The tracer for one worker: how a trace begins and ends, and blocks to copy into.
+//! The tracer for one worker: how a tracing begins and ends, and blocks to copy into.
 //! `collector` calls `begin`, `take_globals` and `close`; `claiming.rt` calls `take_block`.
 //! `block`, `room` and `next_block` change together, in `take_block`. `run` never changes.
 //! Of the row it writes block words, and at `begin` line bits and unlog bits: no word of an object.
 
 ghost use Rattle.std.specs.Prelude.{◌≡◌, ◌≢◌, ◌+◌, ◌<◌, ◌≤◌, ◌↔◌, ℕ, IsTrue, length, true, false, List, [], ◌∷◌, ◌++◌, map, take, if◌then◌else◌, All, IfOk, IfErr, IfSome, IfNone};
 ghost use Rattle.std.specs.List.{range_with_len};
-ghost use Rattle.heap_layout.specs.Zones.{row_words, IsRowOf, IsAddress};
-ghost use Rattle.heap_layout.specs.declared.layout.TheConstants.{GLOBALS};
-ghost use Rattle.heap_layout.specs.declared.block.Kind.TheVariants as kinds;
-ghost use Rattle.object_model.specs.Heaps.{heap_state};
-ghost use Rattle.object_model.specs.Objects.{HasKind, state_of};
-ghost use Rattle.trace_core.specs.Setups.{Setup};
-ghost use Rattle.trace_core.specs.Machine.{Event, TakeBlock};
-ghost use Rattle.trace_core.specs.Traces.{IsFinished, machine_after};
-ghost use Rattle.trace_core.specs.Views.{View, NothingIsLeft, first_view, taken_view, left_view};
-ghost use Rattle.plain_tracer.specs.Tracers.{Tracks, TracerHolds, IsTraced, TakesCopyBlock, FindsNone, KeepsRun};
-ghost use Rattle.trace_core.specs.Runs.{MayRun, setup_of, without_lines, without_unlogs, with_unlogs};
-ghost use Rattle.trace_core.specs.Rights.{HoldsLogged};
-ghost use Rattle.object_model.specs.declared.collect.Collect.TheVariants.{Full};
-ghost use Rattle.object_model.specs.Times.{times};
-ghost use Rattle.plain_tracer.specs.TokenRights.{IsGrey, logged_token};
-ghost use Rattle.trace_core.specs.Rooms.{NoneFree};
+ghost use Rattle.plain_tracer.specs.Prelude.{row_words, IsRowOf, IsAddress, GLOBALS, heap_state, HasKind, state_of, Setup, Event, TakeBlock, IsFinished, machine_after, View, NothingIsLeft, first_view, taken_view, left_view, Tracks, TracerHolds, IsTraced, TakesCopyBlock, FindsNone, KeepsRun, MayRun, setup_of, without_lines, without_unlogs, with_unlogs, HoldsLogged, Full, times, IsGrey, logged_token, NoneFree};
+ghost use Rattle.plain_tracer.specs.Prelude.kinds;
 
 use crate::tokens::{GlobalRoot, Grey};
 use heap_layout::{BLOCK_WORDS, BlockWord, CLASS_UNIT, FIRST_WORKER_OWNER, GLOBALS, Kind, Region};
@@ -47,7 +33,7 @@ pub struct PlainTrace {
 }
 
 impl PlainTrace {
-    /// Begins a trace of a heap. A full collection clears all unlog bits, and under a plan with
+    /// Begins a tracing of a heap. A full collection clears all unlog bits, and under a plan with
     /// lines all line bits. A nursery collection sets the unlog bits of the logged objects.
     ///
     /// It takes no memory.
@@ -77,7 +63,7 @@ impl PlainTrace {
         })
     }
 
-    /// The row after the trace, and what `begin` was given. Blocks that `take_copy_block` made it
+    /// The row after the tracing, and what `begin` was given. Blocks that `take_copy_block` made it
     /// leave may have few words of targets.
     pub fn close(self) -> Traced
         ensures run { result.run ≡ self.run }

@@ -5,19 +5,7 @@
 //! Never reads a word of such an object before its turn to be scanned comes (`grey`).
 
 ghost use Rattle.std.specs.Prelude.{◌≡◌, ◌≢◌, ◌+◌, ◌<◌, ◌≤◌, ◌++◌, ◌∷◌, ℕ, List, [], IsTrue, false, map, vec_len, vec_capacity};
-ghost use Rattle.heap_layout.specs.Zones.{bit_of, LineWords};
-ghost use Rattle.object_model.specs.Objects.{IsHeld};
-ghost use Rattle.object_model.specs.Lines.{TouchesLine};
-ghost use Rattle.trace_core.specs.Setups.{Setup, blocks, may_be_moved};
-ghost use Rattle.trace_core.specs.Machine.{Event, ClaimCause};
-ghost use Rattle.trace_core.specs.Traces.{IsAskedBy, machine_after};
-ghost use Rattle.trace_core.specs.Views.{View};
-ghost use Rattle.object_model.specs.Times.{times};
-ghost use Rattle.plain_tracer.specs.TokenRights.{IsGrey, IsReached, grey_of};
-ghost use Rattle.plain_tracer.specs.Tracers.{Tracks, TracerHolds, Forwards, ScansField, ScansFields, SetsGlobal, KeepsRun};
-ghost use Rattle.trace_core.specs.Rights.{WasHeld, StaysHere, IsReferred};
-ghost use Rattle.trace_core.specs.CallEvents.{IsNoRoot};
-ghost use Rattle.plain_tracer.specs.TokenRights.{IsNextField};
+ghost use Rattle.plain_tracer.specs.Prelude.{bit_of, LineWords, IsHeld, TouchesLine, Setup, blocks, may_be_moved, Event, ClaimCause, IsAskedBy, machine_after, View, times, IsGrey, IsReached, grey_of, Tracks, TracerHolds, Forwards, ScansField, ScansFields, SetsGlobal, KeepsRun, WasHeld, StaysHere, IsReferred, IsNoRoot, IsNextField};
 
 use crate::plain_trace::PlainTrace;
 use crate::tokens::{Claim, GlobalRoot, Grey, Reached};

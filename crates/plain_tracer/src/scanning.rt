@@ -5,18 +5,7 @@
 //! Never claims an object by its unlog bit.
 
 ghost use Rattle.std.specs.Prelude.{◌≡◌, ◌+◌, ◌<◌, ◌≤◌, ℕ, List, IsTrue, false, length, slice_set, vec_len, vec_capacity};
-ghost use Rattle.heap_layout.specs.Zones.{bit_of, LineWords};
-ghost use Rattle.object_model.specs.Lines.{TouchesLine};
-ghost use Rattle.trace_core.specs.Setups.{Setup, blocks};
-ghost use Rattle.trace_core.specs.Machine.{Event, ClaimCause};
-ghost use Rattle.trace_core.specs.Traces.{IsAskedBy, machine_after};
-ghost use Rattle.trace_core.specs.Views.{View};
-ghost use Rattle.object_model.specs.Times.{times};
-ghost use Rattle.plain_tracer.specs.TokenRights.{IsGrey};
-ghost use Rattle.plain_tracer.specs.Tracers.{Tracks, TracerHolds, Forwards, ScansField, ScansFields, SetsGlobal, ChangesWords, KeepsRun};
-ghost use Rattle.trace_core.specs.Rights.{IsReferred};
-ghost use Rattle.trace_core.specs.CallEvents.{IsNoRoot};
-ghost use Rattle.plain_tracer.specs.TokenRights.{IsNextField};
+ghost use Rattle.plain_tracer.specs.Prelude.{bit_of, LineWords, TouchesLine, Setup, blocks, Event, ClaimCause, IsAskedBy, machine_after, View, times, IsGrey, Tracks, TracerHolds, Forwards, ScansField, ScansFields, SetsGlobal, ChangesWords, KeepsRun, IsReferred, IsNoRoot, IsNextField};
 
 use crate::plain_trace::PlainTrace;
 use crate::tokens::{Claim, GlobalRoot, Grey};

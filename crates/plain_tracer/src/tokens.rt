@@ -1,4 +1,4 @@
-//! Tokens: each is the right to one piece of the work of a trace. None can be copied.
+//! Tokens: each is the right to one piece of the work of a tracing. None can be copied.
 
 /// The answer to a claim.
 #[derive(Debug)]

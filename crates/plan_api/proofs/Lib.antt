@@ -15,3 +15,4 @@ pub mod ReleasedBlocks
 pub mod FreeRuns
 pub mod CellParts
 pub mod TestedRows
+pub mod SweptSmallBlocks

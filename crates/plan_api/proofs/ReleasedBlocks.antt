@@ -23,7 +23,7 @@ use Rattle.block_sweeps.proofs.ChangedWords.{changes-more, changes-both}
 use Rattle.plan_api.specs.Releasing.{is_kept_after, word_after, IsReleased, ReleasesIf, Releases}
 
 -- bits of one word of a zone
-bit-same : (b : ℕ) (z : Zone) (u v : List ℕ) (a : ℕ) → slice_index v (first b z + (a - heap_of b) / 64) ≡ slice_index u (first b z + (a - heap_of b) / 64)
+pub bit-same : (b : ℕ) (z : Zone) (u v : List ℕ) (a : ℕ) → slice_index v (first b z + (a - heap_of b) / 64) ≡ slice_index u (first b z + (a - heap_of b) / 64)
     → address_bit b z v a ≡ address_bit b z u a
 bit-same b z u v a same = ap (λ n. nat_le (heap_of b) a && nat_lt a (row_words b) && nat_eq (bit_at n ((a - heap_of b) % 64)) 1) same
 

@@ -7,6 +7,7 @@ use Rattle.heap_layout.specs.declared.layout.TheConstants.{BLOCK_WORDS}
 use Rattle.object_model.specs.Objects.{HeapState, shown, is_start, is_unlogged}
 use Rattle.object_model.specs.Ages.{is_old}
 use Rattle.object_model.specs.Lawful.{IsReadableBlock}
+use Rattle.side_meta.specs.declared.word.TheConstants.{BITS_PER_WORD}
 use Rattle.write_barrier.specs.Listed.{address_of}
 
 -- each block of the row can be read
@@ -21,7 +22,7 @@ is_young s a = is_start s a && not (is_unlogged s a) && not (is_old s a)
 -- a young object begins at one of the 64 addresses of word i of start bits
 pub record BeginsYoungIn (s : HeapState) (i : ℕ) : Type 0 where
   pub bit : ℕ
-  pub within : bit < 64
+  pub within : bit < BITS_PER_WORD
   pub young : IsTrue (is_young s (address_of s i bit))
 
 -- a young object begins in block k

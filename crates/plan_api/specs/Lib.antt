@@ -10,3 +10,4 @@ pub mod Evacuation
 pub mod Cursors
 pub mod WorkedCursors
 pub mod Relisting
+pub mod Prelude

@@ -2,21 +2,14 @@
 
 ghost use Rattle.std.specs.Prelude.{◌≡◌, ◌↔◌, ◌<◌, ◌≤◌, ◌*◌, ◌&&◌, ℕ, IsTrue, not, true, nat_eq, if◌then◌else◌};
 ghost use Rattle.std.specs.List.{range_with_len, list_any};
-ghost use Rattle.heap_layout.specs.Zones.{IsRowOf};
-ghost use Rattle.heap_layout.specs.Blocks.{kind_code};
-ghost use Rattle.heap_layout.specs.declared.block.Kind.TheVariants as kinds;
-ghost use Rattle.object_model.specs.Objects.{IsHeld, state_over, has_kind, block_count};
-ghost use Rattle.object_model.specs.Ages.{is_old as is_old_at, RemembersYoung};
-ghost use Rattle.object_model.specs.Heaps.{heap_state};
-ghost use Rattle.sessions.specs.Plans.{Rules};
-ghost use Rattle.sessions.specs.Collecting.{first_collection};
-ghost use Rattle.plan_api.specs.Ages.{AreReadable, BeginsYoungIn, begins_young as begins_young_at};
+ghost use Rattle.plan_api.specs.Prelude.{IsRowOf, kind_code, IsHeld, state_over, has_kind, block_count, is_old_at, RemembersYoung, heap_state, Rules, first_collection, AreReadable, BeginsYoungIn, begins_young_at};
+ghost use Rattle.plan_api.specs.Prelude.kinds;
 
 use crate::grants::block_counts_in;
 use crate::readers::block_word_in;
-use heap_layout::{Kind, Layout};
+use heap_layout::{BLOCK_BIT_WORDS, Kind, Layout};
 use object_model::{Collect, Heap};
-use side_meta::Words;
+use side_meta::{BITS_PER_WORD, Words};
 use write_barrier::{starts_without_unlog_bit, without};
 
 /// Whether the object is old: the last full collection or a later one claimed it.
@@ -109,8 +102,8 @@ fn begins_young<W: Words>(words: &W, layout: &Layout, base: u64, block: u32) -> 
     ) {
         return false;
     }
-    for word in 0..64 {
-        if begins_young_in(words, layout, base, 64 * block + word) {
+    for word in 0..BLOCK_BIT_WORDS {
+        if begins_young_in(words, layout, base, BLOCK_BIT_WORDS * block + word) {
             return true;
         }
     }
@@ -121,11 +114,11 @@ fn begins_young<W: Words>(words: &W, layout: &Layout, base: u64, block: u32) -> 
 fn begins_young_in<W: Words>(words: &W, layout: &Layout, base: u64, index: u32) -> bool
     requires extent { IsRowOf layout.now (W.words words.now) }
     requires readable { AreReadable (W.words words.now) layout.now }
-    requires index { index < 64 * layout.now.blocks }
+    requires index { index < BLOCK_BIT_WORDS * layout.now.blocks }
     ensures { IsTrue result
         ↔ BeginsYoungIn (state_over (W.words words.now) layout.now 0 base) index }
 {
-    let first = layout.heap_base() + 64 * index;
+    let first = layout.heap_base() + BITS_PER_WORD * index;
     let mut rest = starts_without_unlog_bit(words, layout, index);
     while rest != 0 {
         let bit = rest.trailing_zeros();

@@ -2,12 +2,7 @@
 
 ghost use Rattle.std.specs.Prelude.{◌≡◌, ◌<◌, ℕ, length, map, IfOk, false};
 ghost use Rattle.std.specs.List.{range_with_len};
-ghost use Rattle.object_model.specs.Heaps.{heap_state};
-ghost use Rattle.object_model.specs.Objects.{HeapState, HasKind, IsHeld};
-ghost use Rattle.object_model.specs.Preserving.{may_leave as may_leave_from};
-ghost use Rattle.sessions.specs.Plans.{Rules};
-ghost use Rattle.sessions.specs.Collecting.{is_copied_out as is_copied_in};
-ghost use Rattle.plan_api.specs.Evacuation.{HasFills, listed};
+ghost use Rattle.plan_api.specs.Prelude.{heap_state, HeapState, HasKind, IsHeld, may_leave_from, Rules, is_copied_in, HasFills, listed};
 
 use heap_layout::{Kind, block_of};
 use object_model::{Collect, Heap, MAX_MEDIUM_WORDS, size_words};

@@ -1,9 +1,7 @@
 //! Laws of the two regions that a mutator fills under a plan with lines.
 
 ghost use Rattle.std.specs.Prelude.{◌≡◌, ◌≤◌, ◌⊎◌, ℕ};
-ghost use Rattle.heap_layout.specs.declared.layout.TheConstants.{LINE_WORDS};
-ghost use Rattle.plan_api.specs.declared.cursors.Cursors.{Cursors};
-ghost use Rattle.plan_api.specs.Cursors.{PlacesInRegion, LacksRoom};
+ghost use Rattle.plan_api.specs.Prelude.{LINE_WORDS, Cursors, PlacesInRegion, LacksRoom};
 
 /// Cursors and size decide whether an object is placed, where, and what the cursors are then. An
 /// object of at most a line is placed in the hole region or not at all. No region ends before it

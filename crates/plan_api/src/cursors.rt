@@ -1,7 +1,7 @@
 //! The two regions that a mutator fills under a plan with lines, as in Immix.
 
 ghost use Rattle.std.specs.Prelude.{◌≡◌, ◌≤◌, IfSome, IfNone};
-ghost use Rattle.plan_api.specs.Cursors.{PlacesInRegion, LacksRoom};
+ghost use Rattle.plan_api.specs.Prelude.{PlacesInRegion, LacksRoom};
 
 use heap_layout::{LINE_WORDS, Region, bump};
 

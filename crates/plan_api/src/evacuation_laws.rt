@@ -2,16 +2,9 @@
 
 ghost use Rattle.std.specs.Prelude.{◌≡◌, ◌&&◌, ◌||◌, ℕ, ◌<◌, Bool, true, false, List, IsTrue, map};
 ghost use Rattle.std.specs.List.{range_with_len};
-ghost use Rattle.heap_layout.specs.declared.block.Kind.TheVariants as kinds;
-ghost use Rattle.object_model.specs.declared.collect.Collect.{Collect};
-ghost use Rattle.object_model.specs.declared.collect.Collect.TheVariants.{Nursery, Full};
-ghost use Rattle.object_model.specs.Objects.{HeapState, has_kind, HasKind, owner_at, IsHeld};
-ghost use Rattle.object_model.specs.Preserving.{may_leave};
-ghost use Rattle.sessions.specs.Plans as plans;
-ghost use Rattle.sessions.specs.Plans.{Rules, Plan, rules_of};
-ghost use Rattle.sessions.specs.Collecting.{is_evacuated, may_move};
-ghost use Rattle.plan_api.specs.Evacuation.{listed};
-ghost use Rattle.plan_api.specs.Releasing.{is_kept_after};
+ghost use Rattle.plan_api.specs.Prelude.{Collect, Nursery, Full, HeapState, has_kind, HasKind, owner_at, IsHeld, may_leave, Rules, Plan, rules_of, is_evacuated, may_move, listed, is_kept_after};
+ghost use Rattle.plan_api.specs.Prelude.kinds;
+ghost use Rattle.plan_api.specs.Prelude.plans;
 
 /// Under no plan is a block of a large object evacuated. With the blocks to evacuate as a list of
 /// flags, the objects that may move are those of the definitions.

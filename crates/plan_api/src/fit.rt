@@ -1,11 +1,7 @@
 //! The tests whether an object fits a heap.
 
 ghost use Rattle.std.specs.Prelude.{◌≡◌, ◌↔◌, ◌⊎◌, ◌<◌, ◌≤◌, ℕ, IsTrue};
-ghost use Rattle.object_model.specs.Heaps.{heap_state};
-ghost use Rattle.object_model.specs.Objects.{size_of, blocks_for as blocks_for_size};
-ghost use Rattle.sessions.specs.Plans.{Rules};
-ghost use Rattle.sessions.specs.Fitting.{HasHole, HasSomeHole, MayGrant, MayGrantRun, IsFreeRun, Fits};
-ghost use Rattle.plan_api.specs.Counting.{session_reserve};
+ghost use Rattle.plan_api.specs.Prelude.{heap_state, size_of, blocks_for_size, Rules, HasHole, HasSomeHole, MayGrant, MayGrantRun, IsFreeRun, Fits, session_reserve};
 
 use crate::counts::Reserve;
 use crate::grants::block_counts;

@@ -1,13 +1,7 @@
 //! How many Free blocks may be granted, by the counts of a heap's blocks.
 
 ghost use Rattle.std.specs.Prelude.{◌≡◌, ◌↔◌, ◌+◌, ◌<◌, ℕ, IsTrue, nat_eq, if◌then◌else◌, ◌||◌};
-ghost use Rattle.heap_layout.specs.Zones.{IsRowOf};
-ghost use Rattle.heap_layout.specs.Blocks.{kind_code, is_block_code};
-ghost use Rattle.object_model.specs.Objects.{shown, block_word};
-ghost use Rattle.object_model.specs.Heaps.{heap_state};
-ghost use Rattle.sessions.specs.Grants.{total_in, used_in, headroom_in, reserve_in, reserve_per_block, allowance_in, IsGrantable, IsRunGrantable};
-ghost use Rattle.sessions.specs.Fitting.{counts_of};
-ghost use Rattle.plan_api.specs.Counting.{session_counts, session_reserve};
+ghost use Rattle.plan_api.specs.Prelude.{IsRowOf, kind_code, is_block_code, shown, block_word, heap_state, total_in, used_in, headroom_in, reserve_in, reserve_per_block, allowance_in, IsGrantable, IsRunGrantable, counts_of, session_counts, session_reserve};
 
 use crate::counts::{BlockCounts, Reserve};
 use crate::readers::block_word_in;

@@ -1,11 +1,7 @@
 //! The search for the first hole of a block with room for an object.
 
 ghost use Rattle.std.specs.Prelude.{◌≡◌, ◌+◌, ◌*◌, ◌/◌, ◌<◌, ◌≤◌, ℕ, max, false, length, MatchOption};
-ghost use Rattle.object_model.specs.Objects.{HeapState, lines_for};
-ghost use Rattle.line_marks.specs.Bits.{IsFirstClearRun, HasNoClearRun};
-ghost use Rattle.plan_api.specs.Views.{IsViewOf};
-ghost use Rattle.block_sweeps.specs.Sweeping.{AreApart};
-ghost use Rattle.plan_api.specs.Holes.{IsFirstHole};
+ghost use Rattle.plan_api.specs.Prelude.{HeapState, lines_for, IsFirstClearRun, HasNoClearRun, IsViewOf, AreApart, IsFirstHole};
 
 use crate::block_view::BlockView;
 use crate::cells::free_cell;

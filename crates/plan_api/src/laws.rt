@@ -1,25 +1,9 @@
 //! Laws of holes, views, reserves and taken blocks.
 
 ghost use Rattle.std.specs.Prelude.{◌≡◌, ◌≢◌, ◌↔◌, ◌+◌, ◌<◌, ◌≤◌, ℕ, List, [], ◌∷◌, filter, IsTrue, None};
-ghost use Rattle.heap_layout.specs.Zones.{block_at, offset_at, block_start};
-ghost use Rattle.heap_layout.specs.Blocks.{all_kinds};
-ghost use Rattle.heap_layout.specs.declared.block.Kind.{Kind};
-ghost use Rattle.heap_layout.specs.declared.block.Kind.TheVariants as kinds;
-ghost use Rattle.heap_layout.specs.declared.layout.Layout.{Layout};
-ghost use Rattle.object_model.specs.Objects.{HeapState, state_over, HasKind, class_at, owner_at, IsHeld, IsInExtent, shown};
-ghost use Rattle.object_model.specs.Lawful.{IsWellFormed, IsReadableBlock, IsTouched, LineBitsAreExact};
-ghost use Rattle.line_marks.specs.Bits.{bit_in};
-ghost use Rattle.sessions.specs.Plans as plans;
-ghost use Rattle.sessions.specs.Plans.{rules_of, Nothing, Copies, Headroom, has_holes};
-ghost use Rattle.sessions.specs.Grants.{BlockCounts, HoldsReserve, allowance_in, after_taking};
-ghost use Rattle.sessions.specs.Fitting.{IsTail, HasHole, LiesInHole, free_of, counts_of, allowance_of};
-ghost use Rattle.plan_api.specs.Flags.{flags_of, has_cells};
-ghost use Rattle.plan_api.specs.Taking.{TakesBlocks};
-ghost use Rattle.plan_api.specs.declared.block_view.BlockView.{BlockView};
-ghost use Rattle.plan_api.specs.Views.{IsViewOf};
-ghost use Rattle.block_sweeps.specs.Sweeping.{AreApart};
-ghost use Rattle.heap_layout.specs.declared.region.Region.{Region};
-ghost use Rattle.plan_api.specs.Holes.{IsHolePart, HasRoomFrom, IsFirstPart, IsFirstHole};
+ghost use Rattle.plan_api.specs.Prelude.{block_at, offset_at, block_start, all_kinds, Kind, Layout, HeapState, state_over, HasKind, class_at, owner_at, IsHeld, IsInExtent, shown, IsWellFormed, IsReadableBlock, IsTouched, LineBitsAreExact, bit_in, rules_of, Nothing, Copies, Headroom, has_holes, BlockCounts, HoldsReserve, allowance_in, after_taking, IsTail, HasHole, LiesInHole, free_of, counts_of, allowance_of, flags_of, has_cells, TakesBlocks, BlockView, IsViewOf, AreApart, Region, IsHolePart, HasRoomFrom, IsFirstPart, IsFirstHole};
+ghost use Rattle.plan_api.specs.Prelude.kinds;
+ghost use Rattle.plan_api.specs.Prelude.plans;
 
 use crate::plan::Plan;
 use heap_layout::{BLOCK_LINES, BLOCK_WORDS};

@@ -2,28 +2,8 @@
 
 ghost use Rattle.std.specs.Prelude.{◌≡◌, ◌↔◌, ◌<◌, ◌≤◌, ◌&&◌, ◌||◌, ℕ, IsTrue, length, map, IfOk};
 ghost use Rattle.std.specs.List.{range_with_len};
-ghost use Rattle.heap_layout.specs.Zones.{block_at, offset_at, IsRowOf};
-ghost use Rattle.heap_layout.specs.declared.block.Kind.TheVariants as kinds;
-ghost use Rattle.object_model.specs.Objects.{HeapState, size_of, has_kind, IsHeld, IsInExtent, shown};
-ghost use Rattle.object_model.specs.declared.collect.Collect.{Collect};
-ghost use Rattle.object_model.specs.declared.collect.Collect.TheVariants.{Nursery};
-ghost use Rattle.object_model.specs.Preserving.{may_leave as may_leave_from};
-ghost use Rattle.object_model.specs.Releasing.{IsReleasable};
-ghost use Rattle.object_model.specs.Lawful.{IsWellFormed, IsReadableBlock, LineBitsAreExact};
-ghost use Rattle.object_model.specs.Heaps.{heap_state};
-ghost use Rattle.sessions.specs.Plans.{Rules, Plan as PlanName, rules_of, plan_word, has_holes};
-ghost use Rattle.sessions.specs.Grants.{BlockCounts as Counts, HoldsReserve, allowance_in, after_taking};
-ghost use Rattle.sessions.specs.Fitting.{Fits, allowance_of, class_for as class_for_size};
-ghost use Rattle.sessions.specs.Collecting.{first_collection, is_evacuated, is_old_under, Remembers};
-ghost use Rattle.plan_api.specs.declared.flags.PlanFlags.{PlanFlags};
-ghost use Rattle.plan_api.specs.Flags.{flags_of};
-ghost use Rattle.plan_api.specs.Counting.{session_reserve};
-ghost use Rattle.plan_api.specs.Views.{IsViewOf};
-ghost use Rattle.block_sweeps.specs.Sweeping.{AreApart};
-ghost use Rattle.plan_api.specs.Holes.{IsFirstHole, IsHolePart};
-ghost use Rattle.plan_api.specs.Evacuation.{listed};
-ghost use Rattle.plan_api.specs.Releasing.{Releases};
-ghost use Rattle.plan_api.specs.Relisting.{Relists};
+ghost use Rattle.plan_api.specs.Prelude.{block_at, offset_at, IsRowOf, HeapState, size_of, has_kind, IsHeld, IsInExtent, shown, Collect, Nursery, may_leave_from, IsReleasable, IsWellFormed, IsReadableBlock, LineBitsAreExact, heap_state, Rules, PlanName, rules_of, plan_word, has_holes, Counts, HoldsReserve, allowance_in, after_taking, Fits, allowance_of, class_for_size, first_collection, is_evacuated, is_old_under, Remembers, PlanFlags, flags_of, session_reserve, IsViewOf, AreApart, IsFirstHole, IsHolePart, listed, Releases, Relists};
+ghost use Rattle.plan_api.specs.Prelude.kinds;
 
 use crate::ages::is_old;
 use crate::block_view::BlockView;
@@ -170,8 +150,9 @@ pub trait Plan {
         ensures { Releases rules collect base (shown (W.words words.old) layout.now)
             (shown (W.words words.new) layout.now) block };
 
-    /// After mutators filled a block: makes the line bits of an Immix block those of the lines that
-    /// objects touch, if the plan fills lines. In every other case changes nothing.
+    /// After mutators filled a block, or objects in it died: makes the line bits of an Immix block
+    /// those of the lines that objects touch, if the plan fills lines. In every other case changes
+    /// nothing.
     fn relist_block<W: Words>(words: &mut W, layout: &Layout, block: u32)
         requires block { IsReadableBlock (shown (W.words words.old) layout.now) block }
         requires apart { AreApart (shown (W.words words.old) layout.now) block }

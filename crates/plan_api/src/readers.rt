@@ -1,14 +1,7 @@
 //! The functions that read blocks of a heap's row. Plans decide by their results alone.
 
 ghost use Rattle.std.specs.Prelude.{◌≡◌, ◌+◌, ◌*◌, ◌<◌, ◌≤◌, ℕ, IsTrue, length, slice_index};
-ghost use Rattle.heap_layout.specs.Zones.{first, BlockWords, StartBits, IsRowOf};
-ghost use Rattle.heap_layout.specs.Blocks.{code_of, is_block_code, IsValidWord};
-ghost use Rattle.object_model.specs.Objects.{state_over, block_word, shown};
-ghost use Rattle.object_model.specs.Lawful.{IsReadableBlock};
-ghost use Rattle.object_model.specs.Heaps.{heap_state};
-ghost use Rattle.block_sweeps.specs.Sweeping.{AreApart};
-ghost use Rattle.plan_api.specs.Views.{IsViewOf};
-ghost use Rattle.plan_api.specs.Holes.{IsFirstHole};
+ghost use Rattle.plan_api.specs.Prelude.{first, BlockWords, StartBits, IsRowOf, code_of, is_block_code, IsValidWord, state_over, block_word, shown, IsReadableBlock, heap_state, AreApart, IsViewOf, IsFirstHole};
 
 use crate::block_view::BlockView;
 use crate::holes::{clear_lines, first_hole};
@@ -104,14 +97,14 @@ pub fn block_word_in<W: Words>(words: &W, layout: &Layout, block: u32) -> BlockW
 fn start_words<W: Words>(words: &W, layout: &Layout, block: u32) -> [u64; 64]
     requires extent { IsRowOf layout.now (W.words words.now) }
     requires block { block < layout.now.blocks }
-    ensures len { length result ≡ 64 }
-    ensures words { (n : ℕ) → n < 64 → slice_index result n
+    ensures len { length result ≡ BLOCK_BIT_WORDS }
+    ensures words { (n : ℕ) → n < BLOCK_BIT_WORDS → slice_index result n
         ≡ slice_index (W.words words.now)
         (first layout.now.blocks StartBits + BLOCK_BIT_WORDS * block + n) }
 {
     let at = layout.start_base() + BLOCK_BIT_WORDS * block;
     let mut starts = [0; 64];
-    for index in 0..64 {
+    for index in 0..BLOCK_BIT_WORDS {
         starts[index as usize] = words.get(at + index);
     }
     starts

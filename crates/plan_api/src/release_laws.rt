@@ -1,15 +1,8 @@
 //! How the release of a block is made of sweeps.
 
 ghost use Rattle.std.specs.Prelude.{◌≡◌, ◌<◌, ℕ, List};
-ghost use Rattle.heap_layout.specs.declared.block.Kind.TheVariants as kinds;
-ghost use Rattle.heap_layout.specs.declared.layout.Layout.{Layout};
-ghost use Rattle.object_model.specs.declared.collect.Collect.{Collect};
-ghost use Rattle.object_model.specs.Objects.{HasKind, shown};
-ghost use Rattle.object_model.specs.Releasing.{IsReleasable, InSpan};
-ghost use Rattle.object_model.specs.Ages.{Lives};
-ghost use Rattle.block_sweeps.specs.Sweeping.{Sweeps, SweepsRun, MarksTouched, Unlogs, InBlock, HasNoLiving};
-ghost use Rattle.sessions.specs.Plans.{Rules};
-ghost use Rattle.plan_api.specs.Releasing.{Releases, word_after};
+ghost use Rattle.plan_api.specs.Prelude.{Layout, Collect, HasKind, shown, IsReleasable, InSpan, Lives, Sweeps, SweepsRun, MarksTouched, Unlogs, InBlock, HasNoLiving, Rules, Releases, word_after};
+ghost use Rattle.plan_api.specs.Prelude.kinds;
 
 /// A block is released by a sweep that gives it its word, the marks of touched lines if it is an
 /// Immix block, and unlog bits. If nothing lives in it, the sweep is all. So it is with a large

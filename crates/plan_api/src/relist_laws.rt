@@ -1,13 +1,8 @@
 //! Laws of the blocks that are relisted after mutators filled them.
 
 ghost use Rattle.std.specs.Prelude.{◌≡◌, ◌↔◌, ◌<◌, ℕ, IsTrue, false};
-ghost use Rattle.heap_layout.specs.declared.layout.TheConstants.{BLOCK_LINES};
-ghost use Rattle.heap_layout.specs.declared.block.Kind.TheVariants as kinds;
-ghost use Rattle.object_model.specs.Objects.{HeapState, HasKind, word_at, line_marked};
-ghost use Rattle.object_model.specs.Lawful.{LineBitsAreExact, AllLie};
-ghost use Rattle.block_sweeps.specs.Sweeping.{IsLineWord, IsTouchedHere};
-ghost use Rattle.sessions.specs.Plans.{Rules};
-ghost use Rattle.plan_api.specs.Relisting.{Relists};
+ghost use Rattle.plan_api.specs.Prelude.{BLOCK_LINES, HeapState, HasKind, word_at, line_marked, LineBitsAreExact, AllLie, IsLineWord, IsTouchedHere, Rules, Relists};
+ghost use Rattle.plan_api.specs.Prelude.kinds;
 
 /// A relisted Immix block has its lines marked that objects in it touch, under rules with lines,
 /// and its line bits are exact if all objects lie as they may. Under other rules, and in a block of

@@ -1,15 +1,9 @@
 //! Worked examples of parts of holes, of cursors and of counts.
 
 ghost use Rattle.std.specs.Prelude.{◌≡◌, ℕ, List, [], ◌∷◌, map, None};
-ghost use Rattle.heap_layout.specs.declared.block.Kind.TheVariants as kinds;
-ghost use Rattle.sessions.specs.Plans.{Nothing, Copies, Headroom};
-ghost use Rattle.sessions.specs.Grants.{counts_with};
-ghost use Rattle.sessions.specs.WorkedFits.{mixed_heap};
-ghost use Rattle.plan_api.specs.Counting.{session_counts, session_reserve};
-ghost use Rattle.plan_api.specs.declared.counts.Reserve.TheVariants as reserves;
-ghost use Rattle.plan_api.specs.Cursors.{PlacesInHole, PlacesInOverflow, LacksRoom};
-ghost use Rattle.plan_api.specs.Holes.{HasRoomFrom, IsFirstPart, IsFirstHole};
-ghost use Rattle.plan_api.specs.WorkedCursors.{cursors_with};
+ghost use Rattle.plan_api.specs.Prelude.{Nothing, Copies, Headroom, counts_with, mixed_heap, session_counts, session_reserve, PlacesInHole, PlacesInOverflow, LacksRoom, HasRoomFrom, IsFirstPart, IsFirstHole, cursors_with};
+ghost use Rattle.plan_api.specs.Prelude.kinds;
+ghost use Rattle.plan_api.specs.Prelude.reserves;
 
 /// First parts in a worked heap: of a tail all that is left from the offset on; of lines the first
 /// run with room, or what is left of it after the line of the offset; of cells of the size's class

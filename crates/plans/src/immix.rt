@@ -1,9 +1,6 @@
 //! The plan that fills clear lines between objects, and evacuates the blocks with the most holes.
 
-ghost use Rattle.sessions.specs.Plans.{Immix as immix, rules_of};
-ghost use Rattle.plan_api.proofs.EvacuationLaws.{none-large};
-ghost use Rattle.plan_api.proofs.PartLaws.{part-clear};
-ghost use Rattle.plan_api.proofs.ReserveLaws.{headroom-kept};
+ghost use Rattle.plans.specs.Prelude.{immix, rules_of, none-large, part-clear, headroom-kept};
 ghost use Rattle.std.proofs.Common.{refl};
 
 use crate::release::{release_in_place, relist_lines};

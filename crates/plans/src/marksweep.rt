@@ -1,9 +1,6 @@
 //! The plan of cells that are swept in place.
 
-ghost use Rattle.sessions.specs.Plans.{MarkSweep as mark_sweep, rules_of};
-ghost use Rattle.plan_api.proofs.EvacuationLaws.{none-large};
-ghost use Rattle.plan_api.proofs.PartLaws.{part-clear};
-ghost use Rattle.plan_api.proofs.ReserveLaws.{nothing-kept};
+ghost use Rattle.plans.specs.Prelude.{mark_sweep, rules_of, none-large, part-clear, nothing-kept};
 ghost use Rattle.std.proofs.Common.{refl};
 
 use crate::release::release_in_place;

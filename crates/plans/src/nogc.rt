@@ -1,9 +1,6 @@
 //! The plan that never reclaims memory.
 
-ghost use Rattle.sessions.specs.Plans.{NoGc as no_gc, rules_of};
-ghost use Rattle.plan_api.proofs.EvacuationLaws.{none-large};
-ghost use Rattle.plan_api.proofs.PartLaws.{part-clear};
-ghost use Rattle.plan_api.proofs.ReserveLaws.{nothing-kept};
+ghost use Rattle.plans.specs.Prelude.{no_gc, rules_of, none-large, part-clear, nothing-kept};
 ghost use Rattle.std.proofs.Common.{refl};
 
 use crate::release::release_in_place;

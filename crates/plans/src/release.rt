@@ -1,18 +1,8 @@
 //! The release of a block at the end of a collection, for every plan.
 
 ghost use Rattle.std.specs.Prelude.{◌≡◌, ◌<◌, ◌%◌, ◌||◌, ℕ, length, nat_eq, true, false, if◌then◌else◌};
-ghost use Rattle.heap_layout.specs.Zones.{row_words, IsRowOf};
-ghost use Rattle.heap_layout.specs.Blocks.{code_of, kind_code, IsValidWord};
-ghost use Rattle.heap_layout.specs.declared.block.Kind.TheVariants as kinds;
-ghost use Rattle.object_model.specs.declared.collect.Collect.{Collect};
-ghost use Rattle.object_model.specs.Objects.{HeapState, block_word, HasKind, shown};
-ghost use Rattle.object_model.specs.Lawful.{IsReadableBlock};
-ghost use Rattle.object_model.specs.Releasing.{IsReleasable};
-ghost use Rattle.sessions.specs.Plans.{Rules, Copies};
-ghost use Rattle.plan_api.specs.Evacuation.{HasFills};
-ghost use Rattle.plan_api.specs.Releasing.{Releases, is_kept_after};
-ghost use Rattle.plan_api.specs.Relisting.{Relists};
-ghost use Rattle.block_sweeps.specs.Sweeping.{AreApart, Sweeps, MarksTouched, object_count};
+ghost use Rattle.plans.specs.Prelude.{row_words, IsRowOf, code_of, kind_code, IsValidWord, Collect, HeapState, block_word, HasKind, shown, IsReadableBlock, IsReleasable, Rules, Copies, HasFills, Releases, is_kept_after, Relists, AreApart, Sweeps, MarksTouched, object_count};
+ghost use Rattle.plans.specs.Prelude.kinds;
 
 use block_sweeps::{sweep_block, unlog_block};
 use copy_space::release_block;

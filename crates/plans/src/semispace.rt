@@ -1,9 +1,6 @@
 //! The copying plan with two spaces.
 
-ghost use Rattle.sessions.specs.Plans.{SemiSpace as semi_space, rules_of};
-ghost use Rattle.plan_api.proofs.EvacuationLaws.{none-large};
-ghost use Rattle.plan_api.proofs.PartLaws.{part-clear};
-ghost use Rattle.plan_api.proofs.ReserveLaws.{copies-kept};
+ghost use Rattle.plans.specs.Prelude.{semi_space, rules_of, none-large, part-clear, copies-kept};
 ghost use Rattle.std.proofs.Common.{refl};
 
 use crate::release::release_copied;

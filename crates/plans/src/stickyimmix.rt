@@ -1,9 +1,6 @@
 //! Immix with young objects.
 
-ghost use Rattle.sessions.specs.Plans.{StickyImmix as sticky_immix, rules_of};
-ghost use Rattle.plan_api.proofs.EvacuationLaws.{none-large};
-ghost use Rattle.plan_api.proofs.PartLaws.{part-clear};
-ghost use Rattle.plan_api.proofs.ReserveLaws.{headroom-kept};
+ghost use Rattle.plans.specs.Prelude.{sticky_immix, rules_of, none-large, part-clear, headroom-kept};
 ghost use Rattle.std.proofs.Common.{refl};
 
 use crate::release::{release_in_place, relist_lines};

@@ -12,7 +12,8 @@ use Rattle.object_model.specs.Objects.{HeapState, HasKind, IsHeld, block_word, c
 use Rattle.object_model.specs.Lawful.{HasObject, Lies, has_small}
 use Rattle.object_model.specs.Releasing.{IsReleasable, InSpan}
 use Rattle.object_model.proofs.ObjectReads.{place_of_address}
-use Rattle.object_model.proofs.OneKind.{kind-from, one-kind, is_small_code, has_small-code}
+use Rattle.object_model.proofs.WordReads.{has-shown}
+use Rattle.object_model.proofs.OneKind.{one-kind, is_small_code, has_small-code}
 use Rattle.object_model.proofs.Marks.{held}
 use Rattle.block_sweeps.proofs.RunSpans as spans
 use Rattle.releasable_rows.specs.BlockTests.{word_in_block, HasNoMark, HasNoLine, HoldsSmall, AreInCells, HoldsLarge}
@@ -23,7 +24,7 @@ module _ (s : HeapState) (k : ℕ) (there : k < s.blocks) (w : BlockWord) (valid
   word-code = is_block_code-code_of w (block_word s k) valid is
 
   pub word-kind : HasKind s k w.kind
-  word-kind = kind-from s k w.kind there (code_parts (kind_code w.kind) w.class w.owner (block_word s k) (kind_code_most w.kind) (valid_most w.kind w.class w.owner valid).0 is).0
+  word-kind = has-shown s k w there valid is
 
   pub word-class : class_at s k ≡ w.class
   word-class = (code_parts (kind_code w.kind) w.class w.owner (block_word s k) (kind_code_most w.kind) (valid_most w.kind w.class w.owner valid).0 is).1

@@ -109,6 +109,13 @@ module _ (p : Setup) (es : List Event) (trace : IsTracing p es) (finished : IsFi
     ];
   }
 
+  -- a claimed object has the number of the collection, an old one the number that it had
+  pub claimed-number : (a t : ℕ) → target_of p es a ≡ Some t → stays_old p a ≡ false → number_at after t ≡ collection p
+  claimed-number a t is young = (parts-of (collection p) t (word_at after (t + 2)) (small t (target-from a t is).1) (mark-of a t is ∙ young-mark a t young)).0
+
+  pub old-stays : (a : ℕ) → IsTrue (stays_old p a) → (F a ≡ a) × (number_at after a ≡ number_at p.before a)
+  old-stays a aged = let goes = old-target p es trace a aged in (image-is a a goes, ap number_in (mark-of a a goes ∙ old-mark a a aged))
+
   -- its number is that of the collection, or of an earlier one if the object is old
   pub low-number : (a t : ℕ) → target_of p es a ≡ Some t → number_at after t ≤ collection p
   low-number a t is = elim (cases_Bool (stays_old p a)) as (λ _. number_at after t ≤ collection p) [

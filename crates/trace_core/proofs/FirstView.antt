@@ -47,7 +47,7 @@ times-range a (suc n) g from =
     ]
 
 -- how often an object is in a list of objects with their first fields
-hits-first : (x : ℕ) (l : List ℕ) → hits x 0 (map (λ y. (y, 0)) l) ≡ times x l
+pub hits-first : (x : ℕ) (l : List ℕ) → hits x 0 (map (λ y. (y, 0)) l) ≡ times x l
 hits-first x [] = refl
 hits-first x (y ∷ l) =
     let d : hits x 0 ((y, 0) ∷ map (λ z. (z, 0)) l) ≡ one_if (is_pair x 0 (y, 0)) + hits x 0 (map (λ z. (z, 0)) l) = hits-cons y 0 (map (λ z. (z, 0)) l) x 0 in

@@ -1,6 +1,7 @@
 -- A heap with the unlog bits of some held objects set is lawful but for lines, as it was.
 use Rattle.std.proofs.Common.{◌≡◌, ◌≢◌, ℕ, ◌+◌, ◌*◌, ◌-◌, ◌/◌, ◌%◌, ◌^◌, ◌<◌, ◌≤◌, ◌⊎◌, inl, inr, ◌||◌, IsTrue, nat_eq, List, [], ◌∷◌, length, slice_index, slice_set, refl, sym, ap, ◌∙◌, subst, arith}
 use Rattle.std.specs.Int.{bit_at}
+use Rattle.std.proofs.Math.Logic.{∥∥₁_map}
 use Rattle.std.proofs.lemmas.Bool.{cases_eq, or_cases, or_left, or_right, eq-eqb, ne_eqb}
 use Rattle.std.proofs.lemmas.List.{get_or-set_same, get_or-set_other, length-set}
 use Rattle.heap_layout.specs.Zones.{Zone, Globals, BlockWords, LineWords, StartBits, PinBits, UnlogBits, first, heap_of, row_words, address_bit, IsAddress}
@@ -13,7 +14,8 @@ use Rattle.side_meta.proofs.BitWords.{with-same, with-other, with-fits}
 use Rattle.object_model.specs.BitWords.{bit_word, bit_place}
 use Rattle.object_model.specs.Times.{one_if, times}
 use Rattle.object_model.specs.Objects.{HeapState, with_words, word_at, block_word, line_marked, HasKind, is_start, is_pinned, is_unlogged, IsHeld, IsInExtent, size_at}
-use Rattle.object_model.specs.Lawful.{IsLawfulButLines, HasLawfulObjects, HasHeader, Lies, IsRefField, IsRoot, IsClear}
+use Rattle.object_model.specs.Lawful.{IsLawfulButLines, HasLawfulObjects, HasHeader, Lies, IsRefField, IsRoot, IsClear, LineBitsAreExact}
+use Rattle.object_model.specs.Lines.{TouchesLine}
 use Rattle.object_model.proofs.BitWords.{at-side, own-mark, other-mark}
 use Rattle.object_model.proofs.Frames.{HasKind-back}
 use Rattle.object_model.proofs.Marks.{mark-same}
@@ -238,3 +240,19 @@ module _ (s : HeapState) (lawful : IsLawfulButLines s) (objects : List ℕ) (are
     };
     free = λ k is. let free = kind-before k kinds.Free is in clear-after k (kind-within s k kinds.Free free) (lawful.free k free);
   }
+
+  -- exact line bits stay exact
+  pub lines-exact : (k : ℕ) → k < s.blocks → LineBitsAreExact s k → LineBitsAreExact after k
+  lines-exact k there exact =
+      let same : (line : ℕ) → line < 256 → line_marked after k line ≡ line_marked s k line = (λ line few. line-same s lawful.order.row.extent objects (λ x some. (are x some).address) k line there few) in record {
+        marked = λ line is few set. ∥∥₁_map (exact.marked line (kind-before k kinds.Immix is) few (sym (same line few) ∙ set)) (λ t. record {
+          object = t.object;
+          held = now t.object t.held;
+          touches = subst (λ n. TouchesLine s.blocks t.object n (256 * k + line)) (sym (size-same s ws alike t.object t.held)) t.touches;
+        });
+        touched = λ line is few t. same line few ∙ exact.touched line (kind-before k kinds.Immix is) few (record {
+          object = t.object;
+          held = before t.object t.held;
+          touches = subst (λ n. TouchesLine s.blocks t.object n (256 * k + line)) (size-same s ws alike t.object (before t.object t.held)) t.touches;
+        });
+      }

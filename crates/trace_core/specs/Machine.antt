@@ -193,7 +193,7 @@ next p m e = record {
   asked = asks_after m e;
 }
 
--- As the trace begins nothing is claimed. Old objects of a nursery collection stay in place: the
+-- As the tracing begins nothing is claimed. Old objects of a nursery collection stay in place: the
 -- fields of a logged one are to be scanned, those of the others are as if they were.
 abbrev pub first_stage : Setup → ℕ → Stage
 first_stage p x =

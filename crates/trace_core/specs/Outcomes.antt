@@ -1,4 +1,4 @@
--- What a finished trace leaves: which objects live, and where.
+-- What a finished tracing leaves: which objects live, and where.
 use Rattle.std.specs.Prelude.{◌≡◌, ℕ, ◌<◌, ◌≤◌, ◌⊎◌, ◌↔◌, false, IsTrue, if◌then◌else◌, List, length, slice_index}
 use Rattle.heap_layout.specs.declared.layout.TheConstants.{BUDGET_WORD, STOP_WORD}
 use Rattle.heap_layout.specs.Zones.{row_words}
@@ -18,7 +18,7 @@ base_after_trace p = if p.nursery then p.before.base else collection p
 abbrev pub image : (ℕ → Stage) → ℕ → ℕ
 image stage x = address_or_nil (target (stage x))
 
--- The row after a finished trace, where F gives targets and `taken` the workers that took blocks.
+-- The row after a finished tracing, where F gives targets and `taken` the workers that took blocks.
 -- It is no lawful heap: a moved object and its copy have one name, and dead objects are still held.
 pub record FinishedRow (p : Setup) (after : HeapState) (F taken : ℕ → ℕ) : Type 0 where
   pub extent : length after.words ≡ row_words (blocks p)

@@ -7,7 +7,7 @@ use Rattle.trace_core.specs.Machine.{Event}
 use Rattle.trace_core.specs.Traces.{target_of}
 use Rattle.trace_core.specs.Views.{View, hits, steps_at_claim}
 
--- the object at x was held as the trace began
+-- the object at x was held as the tracing began
 abbrev pub WasHeld : ℕ → Setup → List Event → View → Type 0
 WasHeld x p es v = IsHeld p.before x
 

@@ -2,6 +2,7 @@
 use Rattle.std.specs.Prelude.{◌≡◌, ℕ, ◌+◌, ◌*◌, ◌^◌, ◌<◌, Bool, true, false, ◌||◌, IsTrue, List, [], ◌++◌, take, drop, length, slice_get, slice_index, Option, Some, None, replicate, if◌then◌else◌, slice_set, ◌∷◌, nat_lt}
 use Rattle.forward_word.specs.declared.words.TheConstants.{NUMBER_BITS}
 use Rattle.heap_layout.specs.Zones.{LineWords, UnlogBits, first}
+use Rattle.heap_layout.specs.declared.layout.TheConstants.{BLOCK_BIT_WORDS, BLOCK_LINE_BIT_WORDS}
 use Rattle.object_model.specs.declared.collect.Collect.{Collect}
 use Rattle.object_model.specs.declared.collect.Collect.TheVariants.{Nursery, Full}
 use Rattle.object_model.specs.Objects.{HeapState, has_kind, with_words}
@@ -30,10 +31,12 @@ zeroed xs a n = take a xs ++ (replicate n 0 ++ drop (a + n) xs)
 
 -- the row with all line bits clear, and with all unlog bits clear
 abbrev pub without_lines : HeapState → HeapState
-without_lines s = with_words s (zeroed s.words (first s.blocks LineWords) (4 * s.blocks))
+without_lines s =
+    with_words s (zeroed s.words (first s.blocks LineWords) (BLOCK_LINE_BIT_WORDS * s.blocks))
 
 abbrev pub without_unlogs : HeapState → HeapState
-without_unlogs s = with_words s (zeroed s.words (first s.blocks UnlogBits) (64 * s.blocks))
+without_unlogs s =
+    with_words s (zeroed s.words (first s.blocks UnlogBits) (BLOCK_BIT_WORDS * s.blocks))
 
 -- the row with the unlog bits of these objects set
 abbrev pub set_unlogs : ℕ → List ℕ → List ℕ → List ℕ
@@ -44,14 +47,14 @@ set_unlogs b (a ∷ objects) words = set_unlogs b objects (slice_set words (bit_
 abbrev pub with_unlogs : HeapState → List ℕ → HeapState
 with_unlogs s objects = with_words s (set_unlogs s.blocks objects s.words)
 
--- The heap as its trace begins, where a set unlog bit means that the object has its target. So a
+-- The heap as its tracing begins, where a set unlog bit means that the object has its target. So a
 -- full collection begins by clearing these bits, and a nursery one by setting those of the logged
 -- objects. Under a plan with lines a full one clears the line bits too.
 abbrev pub begun : HeapState → TraceRun → HeapState
 begun s run = if is_nursery run.collect then with_unlogs s run.logged.items
     else without_unlogs (if run.lines then without_lines s else s)
 
--- the collection as its trace begins
+-- the collection as its tracing begins
 abbrev pub setup_of : HeapState → TraceRun → ℕ → Setup
 setup_of s run workers = record {
   before = begun s run;
@@ -62,7 +65,7 @@ setup_of s run workers = record {
   workers = workers;
 }
 
--- A trace of this heap may begin so.
+-- A tracing of this heap may begin so.
 pub record MayRun (s : HeapState) (run : TraceRun) : Type 0 where
   pub number : run.number ≡ s.number + 1
   pub limit : run.number < 2 ^ NUMBER_BITS

@@ -1,4 +1,4 @@
--- A collection as its trace begins, and what is read from the heap as it was then.
+-- A collection as its tracing begins, and what is read from the heap as it was then.
 use Rattle.std.specs.Prelude.{◌≡◌, ℕ, ◌+◌, ◌<◌, ◌≤◌, ◌^◌, Bool, true, false, ◌&&◌, ◌||◌, not, IsTrue}
 use Rattle.forward_word.specs.declared.words.TheConstants.{NUMBER_BITS}
 use Rattle.heap_layout.specs.declared.block.Kind.{Kind}
@@ -8,9 +8,9 @@ use Rattle.object_model.specs.Ages as ages
 use Rattle.object_model.specs.Lawful.{IsLawfulButLines}
 use Rattle.object_model.specs.Preserving.{may_leave}
 
--- A collection as its trace begins: the heap, whether it is a nursery collection, the objects that
--- were logged, the blocks to evacuate, the kind of the blocks that objects are copied into (Free if
--- none are copied), and how many workers trace.
+-- A collection as its tracing begins: the heap, whether it is a nursery collection, the objects
+-- that were logged, the blocks to evacuate, the kind of the blocks that objects are copied into
+-- (Free if none are copied), and how many workers trace.
 pub record Setup : Type 0 where
   pub before : HeapState
   pub nursery : Bool
@@ -64,7 +64,7 @@ is_copy_kind kinds.LargeHead = false
 is_copy_kind kinds.LargeTail = false
 is_copy_kind kinds.Kept = false
 
--- A trace may begin. The heap is lawful but for its line bits, which a full collection of a plan
+-- A tracing may begin. The heap is lawful but for its line bits, which a full collection of a plan
 -- with lines clears first.
 pub record TraceMayBegin (p : Setup) : Type 0 where
   pub lawful : IsLawfulButLines p.before

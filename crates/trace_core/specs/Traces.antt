@@ -1,4 +1,4 @@
--- When an event of the tracing machine may come, and the traces that begin with a collection.
+-- When an event of the tracing machine may come, and the tracings that begin with a collection.
 use Rattle.std.specs.Prelude.{◌≡◌, ◌≢◌, ℕ, ◌+◌, ◌-◌, ◌*◌, ◌<◌, ◌≤◌, ◌⊎◌, Bool, false, IsTrue, nat_eq, Option, Some, None, List, [], ◌∷◌}
 use Rattle.std.specs.Int.{bit_at}
 use Rattle.heap_layout.specs.Zones.{LineWords, first, InZone, block_at, offset_at, IsAddress}
@@ -6,6 +6,7 @@ use Rattle.heap_layout.specs.declared.layout.TheConstants.{BLOCK_WORDS, GLOBALS}
 use Rattle.heap_layout.specs.declared.block.Kind.TheVariants as kinds
 use Rattle.object_model.specs.Objects.{HeapState, HasKind, global_at, ref_at, is_reference, IsInExtentOf}
 use Rattle.object_model.specs.Lines.{TouchesLine}
+use Rattle.side_meta.specs.declared.word.TheConstants.{BITS_PER_WORD}
 use Rattle.trace_core.specs.Setups.{Setup, TraceMayBegin, blocks, held, size, refs, stays_old, may_be_moved}
 use Rattle.trace_core.specs.Machine.{Stage, Unclaimed, Copying, Scanning, target, Machine, ClaimCause, ByRoot, ByGlobal, ByField, Event, Claim, Ask, Copy, Scan, SetGlobal, MarkLines, TakeBlock, IsSettled, next, first_machine, heap_in}
 
@@ -51,8 +52,9 @@ May p m (SetGlobal g) = (g < GLOBALS) × (m.set g ≡ false) × IsSettled m.stag
 May p m (MarkLines x word mask) = InZone (blocks p) LineWords word
     × ((t : ℕ) × (target (m.stage x) ≡ Some t)
     × ((k : ℕ) → bit_at mask k ≡ 1
-    → (k < 64)
-    × TouchesLine (blocks p) t (size p x) (64 * (word - first (blocks p) LineWords) + k)))
+    → (k < BITS_PER_WORD)
+    × TouchesLine (blocks p) t (size p x)
+    (BITS_PER_WORD * (word - first (blocks p) LineWords) + k)))
 May p m (TakeBlock b w) = HasKind p.before b kinds.Free × (m.taken b ≡ 0) × (0 < w)
     × (w ≤ p.workers) × (p.copy ≢ kinds.Free)
 
@@ -79,12 +81,12 @@ stage_of p es x = (machine_after p es).stage x
 abbrev pub target_of : Setup → List Event → ℕ → Option ℕ
 target_of p es x = target (stage_of p es x)
 
--- the events are those of a trace, by any workers in any order, up to some moment
+-- the events are those of a tracing, by any workers in any order, up to some moment
 pub record IsTracing (p : Setup) (es : List Event) : Type 0 where
   pub ready : TraceMayBegin p
   pub events : AreNext p (first_machine p) es
 
--- An object that a trace keeps: a root, a global or, in a nursery collection, an old object leads
+-- An object that a tracing keeps: a root, a global or, in a nursery collection, an old object leads
 -- to it.
 pub data TraceKeeps (p : Setup) (asked : ℕ → ℕ) : ℕ → Type 0 where
   FromRoot : (x : ℕ) → 0 < asked x → TraceKeeps p asked x
@@ -100,7 +102,7 @@ abbrev pub fields_scanned : Stage → ℕ
 fields_scanned (Scanning t k) = k
 fields_scanned _ = 0
 
--- The trace is finished: each global has its last value, and each claimed or old object is copied
+-- The tracing is finished: each global has its last value, and each claimed or old object is copied
 -- and has its fields scanned. A root that is no global is set as soon as it asked.
 pub record IsFinished (p : Setup) (m : Machine) : Type 0 where
   pub globals : (g : ℕ) → g < GLOBALS → IsTrue (m.set g)

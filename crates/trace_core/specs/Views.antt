@@ -76,7 +76,7 @@ pub record NothingIsLeft (p : Setup) (v : View) : Type 0 where
   pub logged : (x : ℕ) → was_logged p x ≡ true → 0 < hits x (refs p x) v.grey
   pub globals : (g : ℕ) → g < GLOBALS → 0 < times g v.set
 
--- the view as a trace begins
+-- the view as a tracing begins
 abbrev pub first_view : TraceRun → View
 first_view run = record {
   won = [];

@@ -1,4 +1,4 @@
--- Worked traces: two objects that refer to each other move, and a nursery collection begins.
+-- Worked tracings: two objects that refer to each other move, and a nursery collection begins.
 use Rattle.std.specs.Prelude.{true, false, nat_eq, List, [], ◌∷◌, ◌++◌, map, replicate}
 use Rattle.std.specs.List.{range_with_len}
 use Rattle.heap_layout.specs.declared.block.Kind.TheVariants as kinds

@@ -1,4 +1,4 @@
-//! Worked traces: the machine, step by step, on small heaps.
+//! Worked tracings: the machine, step by step, on small heaps.
 
 ghost use Rattle.std.specs.Prelude.{◌≡◌, ℕ, ◌+◌, ◌*◌, ◌^◌, true, false, List, [], ◌∷◌, map, replicate};
 ghost use Rattle.heap_layout.specs.declared.block.Kind.TheVariants as kinds;
@@ -93,8 +93,8 @@ pub fn nursery_moves_young_objects()
         ∷ 4902 ∷ (3 + 65536 * 18) ∷ 17 ∷ 1 ∷ [] }
 {}
 
-/// A trace of the cycle may begin. It may not with no worker or more than 16, with cells or a block
-/// kept in place to copy into, with objects that leave a block where none are copied, or as a
+/// A tracing of the cycle may begin. It may not with no worker or more than 16, with cells or a
+/// block kept in place to copy into, with objects that leave a block where none are copied, or as a
 /// nursery collection before a full one. That of a nursery may not begin as a full collection while
 /// unlog bits are set, nor with an old object that refers to a young one and was not logged.
 pub fn setups_are_refused()

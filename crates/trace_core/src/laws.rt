@@ -1,5 +1,5 @@
-//! Laws of the tracing machine. Each holds after every list of events of a trace, by any number of
-//! workers in any order.
+//! Laws of the tracing machine. Each holds after every list of events of a tracing, by any number
+//! of workers in any order.
 
 ghost use Rattle.std.specs.Prelude.{◌≡◌, ◌≢◌, ◌⊎◌, ◌↔◌, ℕ, ◌+◌, ◌*◌, ◌<◌, ◌≤◌, ◌++◌, ◌&&◌, false, Some, None, List, IsTrue, map, if◌then◌else◌, is_some, count_by};
 ghost use Rattle.forward_word.specs.CollectorWords.{collector_word};
@@ -109,7 +109,7 @@ pub fn references_are_forwarded()
 {}
 
 /// A root, a global or an old object leads to each object that has a target, which was held as the
-/// trace began. Each root that asked for an object has its target.
+/// tracing began. Each root that asked for an object has its target.
 pub fn claims_have_reasons()
     ensures reached { (p : Setup) (es : List Event) → IsTracing p es → (x t : ℕ)
         → target_of p es x ≡ Some t → TraceKeeps p (machine_after p es).asked x }
@@ -141,8 +141,8 @@ pub fn each_field_is_scanned_once()
         → IsTrue (keeps_its_words p x) → count_by (is_scan_of x) es ≡ 0 }
 {}
 
-/// In a finished trace each field of a claimed or logged object was scanned once. Each field of an
-/// object that has a target, and each global, has the target of what it referred to.
+/// In a finished tracing each field of a claimed or logged object was scanned once. Each field of
+/// an object that has a target, and each global, has the target of what it referred to.
 pub fn finished_traces_are_whole()
     ensures scans { (p : Setup) (es : List Event) → IsTracing p es
         → IsFinished p (machine_after p es) → (x t : ℕ) → target_of p es x ≡ Some t
@@ -156,7 +156,7 @@ pub fn finished_traces_are_whole()
         → global_at (heap_after p es) g ≡ forward (stage_of p es) (global_at p.before g) }
 {}
 
-/// A finished trace preserves the graph: targets are one to one onto what lives, with the names,
+/// A finished tracing preserves the graph: targets are one to one onto what lives, with the names,
 /// shapes, numbers and pins of their objects; fields, globals and roots have the targets of what
 /// they referred to; what may not move stays; and everything that roots and globals reach lives.
 /// Roots are the registers that asked.
@@ -168,8 +168,8 @@ pub fn finished_traces_preserve_the_graph()
         (heap_after p es) (map (image (stage_of p es)) roots) (image (stage_of p es)) }
 {}
 
-/// A finished trace keeps exactly the objects that a root, a global or, in a nursery collection, an
-/// old object leads to. In a full collection in which the roots, and no others, asked, these are
+/// A finished tracing keeps exactly the objects that a root, a global or, in a nursery collection,
+/// an old object leads to. In a full collection in which the roots, and no others, asked, these are
 /// the reachable objects.
 pub fn finished_traces_are_precise()
     ensures kept { (p : Setup) (es : List Event) → IsTracing p es
@@ -182,13 +182,14 @@ pub fn finished_traces_are_precise()
         → (0 < image (stage_of p es) a) ↔ IsReachable p.before roots a }
 {}
 
-/// What the row is after a finished trace, without stages: what release of its blocks begins with.
+/// What the row is after a finished tracing, without stages: what release of its blocks begins
+/// with.
 pub fn finished_traces_leave_rows()
     ensures { (p : Setup) (es : List Event) → IsTracing p es → IsFinished p (machine_after p es)
         → FinishedRow p (heap_after p es) (image (stage_of p es)) (machine_after p es).taken }
 {}
 
-/// After a finished trace each block may be released.
+/// After a finished tracing each block may be released.
 pub fn finished_traces_may_be_released()
     ensures { (p : Setup) (es : List Event) → IsTracing p es → IsFinished p (machine_after p es)
         → (k : ℕ) → k < blocks p → IsReleasable (heap_after p es) k }
@@ -267,7 +268,7 @@ pub fn side_words_follow_events()
         → IsTrue (bit_of (blocks p) LineWords (heap_after p (es ++ more)).words n) }
 {}
 
-/// A trace begins with the words of the heap that it is given, but for line and unlog bits. The
+/// A tracing begins with the words of the heap that it is given, but for line and unlog bits. The
 /// unlog bits are set of those objects that have their target: of none in a full collection, and of
 /// the old ones in a nursery one. Those that were logged are known by the list that is given. Under
 /// a plan with lines a full collection begins with all line bits clear.

@@ -1,4 +1,4 @@
-//! What a trace begins with, and what it leaves.
+//! What a tracing begins with, and what it leaves.
 
 use heap_layout::Kind;
 use object_model::{Collect, Row};
@@ -22,7 +22,7 @@ pub struct TraceRun {
     pub logged: Vec<u32>,
 }
 
-/// The row after a trace, before its blocks are released.
+/// The row after a tracing, before its blocks are released.
 #[derive(Debug, Drop)]
 pub struct Traced {
     /// The row. The blocks that workers took to copy into are still theirs, and what died or moved

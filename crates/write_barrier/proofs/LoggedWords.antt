@@ -1,25 +1,28 @@
 -- The logged objects of a word of start bits, and of a block in which no object begins.
-use Rattle.std.proofs.Common.{◌≡◌, sym, ◌∙◌, ap, subst, ℕ, ◌+◌, ◌*◌, ◌-◌, ◌/◌, ◌%◌, ◌^◌, ◌<◌, ◌≤◌, ◌⊎◌, inl, inr, arith, w64, min, Bool, true, false, ◌&&◌, ◌||◌, true≢false, nat_eq, nat_le, eq-eqb, bit_and, List, [], ◌∷◌, ◌++◌, slice_index}
-use Rattle.std.specs.Prelude.{not}
+use Rattle.std.proofs.Common.{◌≡◌, refl, sym, ◌∙◌, ap, subst, ℕ, zero, suc, ◌+◌, ◌*◌, ◌-◌, ◌/◌, ◌%◌, ◌^◌, ◌<◌, ◌≤◌, ◌⊎◌, inl, inr, arith, w64, min, Bool, true, false, ◌&&◌, ◌||◌, true≢false, nat_eq, nat_le, eq-eqb, bit_and, List, [], ◌∷◌, ◌++◌, slice_index, slice_index_or, replicate}
+use Rattle.std.specs.Prelude.{Some, slice_get, not}
 use Rattle.std.specs.Int.{bit_at, bit_not}
 use Rattle.std.proofs.lemmas.Bool.{cases_Bool, cases_eq, cases_lt, le-leb, leb-true, and_left, and_parts, and_from, or_left}
 use Rattle.std.proofs.lemmas.Nat.{and_le_l}
+use Rattle.std.proofs.lemmas.Option.{get_or_from_slice_get}
+use Rattle.std.proofs.lemmas.List.{length-replicate}
 use Rattle.std.proofs.lemmas.Nat.Bits.{bit_at_and, bit_at_not, bit_at-lt, bit_at-zero}
-use Rattle.heap_layout.specs.Zones.{Zone, StartBits, UnlogBits, heap_of, first, block_at, block_start, bit_of, address_bit, IsAddress}
+use Rattle.heap_layout.specs.Zones.{Zone, StartBits, UnlogBits, heap_of, row_words, first, block_at, block_start, bit_of, address_bit, IsAddress}
 use Rattle.heap_layout.specs.Blocks.{kind_code, code_of, IsValidWord}
 use Rattle.heap_layout.specs.declared.block.BlockWord.{BlockWord}
 use Rattle.heap_layout.proofs.BlockLemmas.{code_parts, kind_code_most, valid_most}
 use Rattle.forward_word.specs.CollectorWords.{is_old_word}
 use Rattle.heap_layout.specs.declared.block.Kind.TheVariants as kinds
-use Rattle.heap_layout.proofs.MarkLemmas.{address_bit-at_address}
+use Rattle.heap_layout.proofs.MarkLemmas.{address_bit-at_address, is-address_from_mark}
 use Rattle.side_meta.specs.BitWords.{has_bit, without_bit}
 use Rattle.side_meta.proofs.BitWords.{without-same, without-other, without-fits}
-use Rattle.object_model.specs.Objects.{HeapState, HasKind, IsHeld, word_at, block_word, is_start, is_pinned, is_unlogged, size_at}
+use Rattle.object_model.specs.Objects.{HeapState, HasKind, IsHeld, word_at, is_start, is_pinned, is_unlogged, size_at}
 use Rattle.object_model.specs.Ages.{is_old, is_logged}
 use Rattle.object_model.specs.Lawful.{IsLawful}
 use Rattle.object_model.proofs.Marks.{held}
-use Rattle.object_model.proofs.OneKind.{kind-from, one-kind, has_small-code}
-use Rattle.write_barrier.specs.Listed.{logged_below, address_of, lacks_unlog_bit}
+use Rattle.object_model.proofs.OneKind.{one-kind, has_small-code}
+use Rattle.object_model.proofs.WordReads.{bit-there}
+use Rattle.write_barrier.specs.Listed.{CoverLogged, logged_below, address_of, lacks_unlog_bit}
 use Rattle.write_barrier.proofs.LoggedLists.{with-logged, without-logged, none-between}
 
 has-and-not : (a b j : ℕ) → b < 2 ^ 64 → j < 64 → has_bit (bit_and a (bit_not w64 b)) j ≡ (has_bit a j && not (has_bit b j))
@@ -31,13 +34,6 @@ has-and-not a b j fits small =
     both : (x y : ℕ) → x < 2 → y < 2 → nat_eq (min x (1 - y)) 1 ≡ (nat_eq x 1 && not (nat_eq y 1))
     both x y small low = grind arith
 
--- a word is less without a bit that is set
-pub without-less : (n k : ℕ) → k < 64 → bit_at n k ≡ 1 → without_bit n k < n
-without-less n k low set = elim (cases_eq (without_bit n k) n) as (λ _. without_bit n k < n) [
-  | inl same ↦ absurd (let clear : bit_at n k ≡ 0 = ap (λ v. bit_at v k) (sym same) ∙ without-same n k low in omega arith)
-  | inr differ ↦ (let most = and_le_l n (2 ^ 64 - 1 - 2 ^ k) in omega arith)
-]
-
 and-true : (b : Bool) → (b && true) ≡ b
 and-true b = grind arith
 
@@ -45,23 +41,13 @@ module _ (s : HeapState) (i : ℕ) (there : i < 64 * s.blocks) where
   pub address : (j : ℕ) → j < 64 → IsAddress s.blocks (address_of s i j)
   address j small = record { from = omega arith; below = omega (arith, there, small) }
 
-  bit-there : (z : Zone) (j : ℕ) → j < 64 → address_bit s.blocks z s.words (address_of s i j) ≡ has_bit (word_at s (first s.blocks z + i)) j
-  bit-there z j small =
-      let at : address_of s i j - heap_of s.blocks ≡ 64 * i + j = omega arith in
-      let word : (64 * i + j) / 64 ≡ i = omega (arith, small) in
-      let bit : (64 * i + j) % 64 ≡ j = omega (arith, small) in
-      address_bit-at_address s.blocks z s.words (address_of s i j) (address j small)
-      ∙ ap (bit_of s.blocks z s.words) at
-      ∙ ap (λ n. nat_eq (bit_at (word_at s (first s.blocks z + n)) ((64 * i + j) % 64)) 1) word
-      ∙ ap (λ n. nat_eq (bit_at (word_at s (first s.blocks z + i)) n) 1) bit
-
   pub without-bit : (starts unlogs : ℕ) → starts ≡ word_at s (first s.blocks StartBits + i) → unlogs ≡ word_at s (first s.blocks UnlogBits + i) → unlogs < 2 ^ 64
       → (j : ℕ) → j < 64 → has_bit (bit_and starts (bit_not w64 unlogs)) j ≡ lacks_unlog_bit s i j
   without-bit starts unlogs first-is second-is fits j small =
       has-and-not starts unlogs j fits small
       ∙ ap (λ v. has_bit v j && not (has_bit unlogs j)) first-is ∙ ap (λ v. has_bit (word_at s (first s.blocks StartBits + i)) j && not (has_bit v j)) second-is
-      ∙ ap (λ b. b && not (has_bit (word_at s (first s.blocks UnlogBits + i)) j)) (sym (bit-there StartBits j small))
-      ∙ ap (λ b. is_start s (address_of s i j) && not b) (sym (bit-there UnlogBits j small))
+      ∙ ap (λ b. b && not (has_bit (word_at s (first s.blocks UnlogBits + i)) j)) (sym (bit-there s.blocks StartBits s.words i j there small))
+      ∙ ap (λ b. is_start s (address_of s i j) && not b) (sym (bit-there s.blocks UnlogBits s.words i j there small))
 
   none-logged : (j : ℕ) → lacks_unlog_bit s i j ≡ false → is_logged s (address_of s i j) ≡ false
   none-logged j none = elim (cases_Bool (is_logged s (address_of s i j))) as (λ _. is_logged s (address_of s i j) ≡ false) [
@@ -174,10 +160,12 @@ old-read s words base at a same-words same-base here =
     ap (λ w. is_old_word base (slice_index w (at + 2))) same-words ∙ ap (λ n. is_old_word n (word_at s (at + 2))) same-base
     ∙ ap (λ k. is_old_word s.base (word_at s (k + 2))) here
 
--- the kind of a block by its decoded word
-pub kind-shown : (s : HeapState) (k : ℕ) (w : BlockWord) → k < s.blocks → IsValidWord w → code_of w ≡ block_word s k → HasKind s k w.kind
-kind-shown s k w there valid code = kind-from s k w.kind there
-    (code_parts (kind_code w.kind) w.class w.owner (block_word s k) (kind_code_most w.kind) (valid_most w.kind w.class w.owner valid).0 code).0
+-- a block without logged objects
+none-in-block : (s : HeapState) (k : ℕ) → ((a : ℕ) → block_at s.blocks a ≡ k → is_logged s a ≡ false)
+    → logged_below s (block_start s.blocks (k + 1)) ≡ logged_below s (block_start s.blocks k)
+none-in-block s k none =
+    let next : block_start s.blocks (k + 1) ≡ block_start s.blocks k + 4096 = omega arith in
+    ap (logged_below s) next ∙ none-between s (block_start s.blocks k) 4096 (λ j less. none (block_start s.blocks k + j) (omega (arith, less)))
 
 -- a block in which no object begins
 module _ (s : HeapState) (lawful : IsLawful s) (k : ℕ) (there : k < s.blocks) where
@@ -200,9 +188,29 @@ module _ (s : HeapState) (lawful : IsLawful s) (k : ℕ) (there : k < s.blocks) 
   ]
 
   pub none-here : (HasKind s k kinds.Free ⊎ HasKind s k kinds.LargeTail) → logged_below s (block_start s.blocks (k + 1)) ≡ logged_below s (block_start s.blocks k)
-  none-here is =
-      let next : block_start s.blocks (k + 1) ≡ block_start s.blocks k + 4096 = omega arith in
-      ap (logged_below s) next ∙ none-between s (block_start s.blocks k) 4096 (λ j less.
-      let at : block_at s.blocks (block_start s.blocks k + j) ≡ k = omega (arith, less) in
-      and_left (is_start s (block_start s.blocks k + j) && is_old s (block_start s.blocks k + j)) _
-      (and_left (is_start s (block_start s.blocks k + j)) _ (no-start is (block_start s.blocks k + j) at)))
+  none-here is = none-in-block s k (λ a at. and_left (is_start s a && is_old s a) _ (and_left (is_start s a) _ (no-start is a at)))
+
+-- a block whose flag is clear
+pub none-unflagged : (s : HeapState) (flags : List Bool) → CoverLogged s flags → (k : ℕ) → slice_index_or flags k false ≡ false
+    → logged_below s (block_start s.blocks (k + 1)) ≡ logged_below s (block_start s.blocks k)
+none-unflagged s flags cover k clear = none-in-block s k (λ a at. elim (cases_Bool (is_logged s a)) as (λ _. is_logged s a ≡ false) [
+  | inr none ↦ none
+  | inl logged ↦ absurd (true≢false (sym (get_or_from_slice_get flags (block_at s.blocks a) true false (cover.each a logged)) ∙ ap (λ n. slice_index_or flags n false) at ∙ clear))
+])
+
+get-copy : (n k : ℕ) → k < n → slice_get (replicate n true) k ≡ Some true
+get-copy zero k below = absurd (omega arith)
+get-copy (suc n) zero below = refl
+get-copy (suc n) (suc k) below = get-copy n k (let less : suc k < suc n = below in omega arith)
+
+-- all flags are set
+pub all-cover : (s : HeapState) → CoverLogged s (replicate s.blocks true)
+all-cover s = record {
+  len = length-replicate s.blocks true;
+  each = λ a logged.
+      let there = is-address_from_mark s.blocks StartBits s.words a
+      (and_parts (is_start s a) (is_old s a) (and_parts (is_start s a && is_old s a) (not (is_unlogged s a)) logged).0).0 in
+      let from : heap_of s.blocks ≤ a = there.from in
+      let below : a < row_words s.blocks = there.below in
+      get-copy s.blocks (block_at s.blocks a) (omega arith);
+}

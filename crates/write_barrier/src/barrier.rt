@@ -10,7 +10,7 @@ ghost use Rattle.object_model.specs.BitWords.{bit_word, bit_place};
 ghost use Rattle.object_model.specs.Changes.{ClearsUnlog};
 
 use heap_layout::Layout;
-use side_meta::{Words, clear_bit, test_bit};
+use side_meta::{BITS_PER_WORD, Words, clear_bit, test_bit};
 
 /// Whether a store of a reference into the object must log it first, under a plan with young
 /// objects: it is old, and no store has logged it since the last collection.
@@ -75,5 +75,8 @@ fn unlog_bit(layout: &Layout, address: u32) -> (u32, u32)
     ensures bit { result.1 ≡ bit_place layout.now.blocks address }
 {
     let index = address - layout.heap_base();
-    (layout.unlog_base() + index / 64, index % 64)
+    (
+        layout.unlog_base() + index / BITS_PER_WORD,
+        index % BITS_PER_WORD,
+    )
 }

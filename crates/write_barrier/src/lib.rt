@@ -6,4 +6,4 @@ mod barrier;
 mod list;
 
 pub use barrier::{is_old, is_unlogged, log, must_log};
-pub use list::{logged, starts_without_unlog_bit, without};
+pub use list::{all_flags, logged, logged_in_flagged, starts_without_unlog_bit, without};

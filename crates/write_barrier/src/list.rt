@@ -1,17 +1,17 @@
 //! The list of the logged objects.
 
-ghost use Rattle.std.specs.Prelude.{◌≡◌, ◌+◌, ◌*◌, ◌^◌, ◌<◌, ℕ, IfOk, OnOk};
+ghost use Rattle.std.specs.Prelude.{◌≡◌, ◌+◌, ◌*◌, ◌^◌, ◌<◌, ℕ, true, replicate, IfOk, OnOk};
 ghost use Rattle.side_meta.specs.BitWords.{has_bit, without_bit};
 ghost use Rattle.heap_layout.specs.Zones.{heap_of, block_start, IsRowOf};
 ghost use Rattle.object_model.specs.Objects.{state_over};
 ghost use Rattle.object_model.specs.Heaps.{heap_state};
 ghost use Rattle.object_model.specs.Ages.{ListsLogged};
-ghost use Rattle.write_barrier.specs.Listed.{logged_below, lacks_unlog_bit};
+ghost use Rattle.write_barrier.specs.Listed.{CoverLogged, logged_below, lacks_unlog_bit};
 
 use crate::barrier::is_old;
-use heap_layout::{Kind, Layout};
+use heap_layout::{BLOCK_BIT_WORDS, Kind, Layout};
 use object_model::Heap;
-use side_meta::Words;
+use side_meta::{BITS_PER_WORD, Words};
 use std::alloc::{AllocError, Global};
 
 /// The logged objects, which are old and have a clear unlog bit. By address, each once. It is asked
@@ -29,6 +29,53 @@ pub fn logged(alloc: Global, heap: &Heap) -> Result<Vec<u32>, AllocError>
     Ok(logged)
 }
 
+/// The logged objects, as `logged` lists them, by a flag for each block: set if the block may have
+/// logged objects. Looks at flagged blocks alone.
+///
+/// Fails if memory runs out.
+pub fn logged_in_flagged(alloc: Global, heap: &Heap, flags: &[bool]) -> Result<Vec<u32>, AllocError>
+    requires { CoverLogged (heap_state heap.now) flags.now }
+    ensures { IfOk result (λ v. ListsLogged (heap_state heap.now) v.items) }
+{
+    let mut logged = Vec::new(alloc);
+    for block in 0..heap.layout().blocks() {
+        add_if_flagged(heap, flags, block, &mut logged)?;
+    }
+    Ok(logged)
+}
+
+/// Flags for the blocks of a heap of whose logged objects nothing is known: all are set.
+pub fn all_flags(alloc: Global, heap: &Heap) -> Result<Vec<bool>, AllocError>
+    ensures { IfOk result (λ v. CoverLogged (heap_state heap.now) v.items) }
+{
+    let blocks = heap.layout().blocks() as usize;
+    let mut flags = Vec::with_capacity(alloc, blocks)?;
+    for _ in 0..blocks {
+        flags.push(true)?;
+    }
+    Ok(flags)
+}
+
+/// Adds the logged objects of a block if it is flagged.
+fn add_if_flagged(
+    heap: &Heap,
+    flags: &[bool],
+    block: u32,
+    logged: &mut Vec<u32>,
+) -> Result<(), AllocError>
+    requires flags { CoverLogged (heap_state heap.now) flags.now }
+    requires block { block < (heap_state heap.now).blocks }
+    requires before { logged.old.items ≡ logged_below (heap_state heap.now)
+        (block_start (heap_state heap.now).blocks block) }
+    ensures { OnOk result (logged.new.items ≡ logged_below (heap_state heap.now)
+        (block_start (heap_state heap.now).blocks (block + 1))) }
+{
+    if !flags[block as usize] {
+        return Ok(());
+    }
+    add_block(heap, block, logged)
+}
+
 /// Adds the logged objects of a block.
 fn add_block(heap: &Heap, block: u32, logged: &mut Vec<u32>) -> Result<(), AllocError>
     requires block { block < (heap_state heap.now).blocks }
@@ -40,21 +87,21 @@ fn add_block(heap: &Heap, block: u32, logged: &mut Vec<u32>) -> Result<(), Alloc
     if matches!(heap.block(block).kind, Kind::Free | Kind::LargeTail) {
         return Ok(());
     }
-    for word in 0..64 {
-        add_word(heap, 64 * block + word, logged)?;
+    for word in 0..BLOCK_BIT_WORDS {
+        add_word(heap, BLOCK_BIT_WORDS * block + word, logged)?;
     }
     Ok(())
 }
 
 /// Adds the logged objects of the 64 addresses whose bits are in word `index` of start bits.
 fn add_word(heap: &Heap, index: u32, logged: &mut Vec<u32>) -> Result<(), AllocError>
-    requires index { index < 64 * (heap_state heap.now).blocks }
+    requires index { index < BLOCK_BIT_WORDS * (heap_state heap.now).blocks }
     requires before { logged.old.items ≡ logged_below (heap_state heap.now)
-        (heap_of (heap_state heap.now).blocks + 64 * index) }
+        (heap_of (heap_state heap.now).blocks + BITS_PER_WORD * index) }
     ensures { OnOk result (logged.new.items ≡ logged_below (heap_state heap.now)
-        (heap_of (heap_state heap.now).blocks + 64 * index + 64)) }
+        (heap_of (heap_state heap.now).blocks + BITS_PER_WORD * index + BITS_PER_WORD)) }
 {
-    let first = heap.layout().heap_base() + 64 * index;
+    let first = heap.layout().heap_base() + BITS_PER_WORD * index;
     let mut rest = starts_without_unlog_bit(heap.words(), heap.layout(), index);
     while rest != 0 {
         let bit = rest.trailing_zeros();
@@ -70,8 +117,8 @@ fn add_word(heap: &Heap, index: u32, logged: &mut Vec<u32>) -> Result<(), AllocE
 #[inline(always)]
 pub fn starts_without_unlog_bit<W: Words>(words: &W, layout: &Layout, index: u32) -> u64
     requires extent { IsRowOf layout.now (W.words words.now) }
-    requires index { index < 64 * layout.now.blocks }
-    ensures bits { (number base j : ℕ) → j < 64 → has_bit result j
+    requires index { index < BLOCK_BIT_WORDS * layout.now.blocks }
+    ensures bits { (number base j : ℕ) → j < BITS_PER_WORD → has_bit result j
         ≡ lacks_unlog_bit (state_over (W.words words.now) layout.now number base) index j }
     ensures fits { result < 2 ^ 64 }
 {
@@ -83,7 +130,7 @@ pub fn starts_without_unlog_bit<W: Words>(words: &W, layout: &Layout, index: u32
 /// The bits without one of them.
 #[inline(always)]
 pub fn without(bits: u64, bit: u32) -> u64
-    requires { bit < 64 }
+    requires { bit < BITS_PER_WORD }
     ensures { result ≡ without_bit bits bit }
 {
     bits & !(1 << bit)

@@ -3,7 +3,7 @@ use Rattle.std.specs.Int.{trailing_zeros}
 use Rattle.std.proofs.lemmas.Nat.Bits.{bit_at-trailing_zeros}
 use Rattle.object_model.specs.Objects.{HeapState, state_over}
 use Rattle.block_sweeps.proofs.LineEnds.{left-first, left-next, left-none}
-use Rattle.block_sweeps.proofs.TouchedWords.{without-less}
+use Rattle.block_sweeps.proofs.TouchedWords.{cleared-less}
 use Rattle.block_sweeps.proofs.lines.add_ends.Goals as goal
 
 pub loop-rest-init : goal.loop-rest-init
@@ -19,7 +19,7 @@ add_last-requires-clause-begins g c =
 pub loop-rest-smaller : goal.loop-rest-smaller
 loop-rest-smaller g c =
     let found = bit_at-trailing_zeros w64 c.loop-rest.rest (omega (arith, c.loop-rest-test.true)) c.loop-rest.auto.rest-fits.fits in
-    without-less c.loop-rest.rest (trailing_zeros w64 c.loop-rest.rest) found.0 found.1
+    cleared-less c.loop-rest.rest (trailing_zeros w64 c.loop-rest.rest) found.0 found.1
 
 pub loop-rest-preserved : goal.loop-rest-preserved
 loop-rest-preserved g c =

@@ -4,7 +4,7 @@ use Rattle.std.specs.Int.{bit_at, trailing_zeros}
 use Rattle.std.proofs.lemmas.Nat.Bits.{bit_at-trailing_zeros}
 use Rattle.block_sweeps.specs.WordSweeps.{survives}
 use Rattle.block_sweeps.proofs.LivingBits.{rest-within, with-living, without-dead}
-use Rattle.block_sweeps.proofs.TouchedWords.{without-less}
+use Rattle.block_sweeps.proofs.TouchedWords.{cleared-less}
 use Rattle.block_sweeps.proofs.sweep.living_bits.Goals as goal
 
 -- the object of the lowest bit that is left has its collector word in the row
@@ -30,7 +30,7 @@ lives-requires-clause-word g c = inside c.args.starts c.loop-rest.rest c.args.fi
 pub loop-rest-smaller-then-not-lives : goal.loop-rest-smaller-then-not-lives
 loop-rest-smaller-then-not-lives g c =
     let found = bit_at-trailing_zeros w64 c.loop-rest.rest (omega arith) c.loop-rest.auto.rest-fits.fits in
-    without-less c.loop-rest.rest (trailing_zeros w64 c.loop-rest.rest) found.0 found.1
+    cleared-less c.loop-rest.rest (trailing_zeros w64 c.loop-rest.rest) found.0 found.1
 
 pub loop-rest-preserved-then-not-lives : goal.loop-rest-preserved-then-not-lives
 loop-rest-preserved-then-not-lives g c =
@@ -46,7 +46,7 @@ loop-rest-preserved-then-not-lives g c =
 pub loop-rest-smaller : goal.loop-rest-smaller
 loop-rest-smaller g c =
     let found = bit_at-trailing_zeros w64 c.loop-rest.rest (omega arith) c.loop-rest.auto.rest-fits.fits in
-    without-less c.loop-rest.rest (trailing_zeros w64 c.loop-rest.rest) found.0 found.1
+    cleared-less c.loop-rest.rest (trailing_zeros w64 c.loop-rest.rest) found.0 found.1
 
 pub loop-rest-preserved : goal.loop-rest-preserved
 loop-rest-preserved g c =

@@ -5,7 +5,7 @@ use Rattle.heap_layout.specs.Zones.{row_words}
 use Rattle.object_model.specs.Objects.{HeapState, state_over, is_start}
 use Rattle.object_model.specs.Ages.{is_old}
 use Rattle.write_barrier.specs.Listed.{address_of}
-use Rattle.write_barrier.proofs.LoggedWords.{without-less}
+use Rattle.object_model.proofs.WordReads.{without-less}
 use Rattle.std.proofs.lemmas.Bool.{and_parts}
 use Rattle.plan_api.proofs.YoungBits.{YoungLeft, young-begins, young-none, young-found, young-next, next-lacks, header-inside}
 use Rattle.plan_api.proofs.ages.begins_young_in.Goals as goal

@@ -9,7 +9,7 @@ use Rattle.object_model.proofs.OneKind.{kind-from}
 use Rattle.sessions.specs.Fitting.{class_of}
 use Rattle.plan_api.specs.Holes.{IsFirstPart, IsFirstHole}
 use Rattle.plan_api.proofs.Tallies.{kind-of-word}
-use Rattle.plan_api.proofs.HoleTests.{kind-shown}
+use Rattle.plan_api.proofs.HoleTests.{none-there}
 use Rattle.plan_api.proofs.Parts.{first-lines}
 use Rattle.line_marks.proofs.HoleRuns.{lines-read}
 use Rattle.plan_api.proofs.CellParts.{apart-anyway, class-shown, next-part, no-part}
@@ -19,7 +19,7 @@ pub returns-then-ne : goal.returns-then-ne
 returns-then-ne g c = λ number base.
     let s = state_over (g.W.Words.words c.args.words.now) c.args.layout.now number base in
     let word = c.block_word_in-word in
-    kind-shown c.args.fill s c.args.block c.args.from c.args.size word.result word.ensures.valid word.ensures.code (differs_true the_type word.result.kind c.args.fill (sym c.if-ne.ensures))
+    none-there c.args.fill s c.args.block c.args.from c.args.size word.result word.ensures.valid word.ensures.code (differs_true the_type word.result.kind c.args.fill (sym c.if-ne.ensures))
 
 pub returns-then-eq : goal.returns-then-eq
 returns-then-eq g c = λ number base.

@@ -4,12 +4,13 @@ use Rattle.heap_layout.specs.Blocks.{kind_code}
 use Rattle.heap_layout.specs.declared.block.Kind.TheVariants as kinds
 use Rattle.object_model.specs.Objects.{state_over, block_word, HasKind}
 use Rattle.object_model.proofs.OneKind.{kind-from}
+use Rattle.object_model.proofs.WordReads.{kind-shown}
 use Rattle.block_sweeps.specs.Sweeping.{Sweeps}
 use Rattle.plan_api.proofs.Tallies.{kind-of-word}
 use Rattle.block_sweeps.proofs.SweptApart.{swept-apart}
 use Rattle.plan_api.proofs.ReleasedBlocks as blocks
 use Rattle.plan_api.specs.Releasing.{word_after}
-use Rattle.plans.proofs.ReleasedSmall as small
+use Rattle.plan_api.proofs.SweptSmallBlocks as small
 use Rattle.plans.proofs.release.release_small.Goals as goal
 
 pub returns-then-sweep-eq0 : goal.returns-then-sweep-eq0
@@ -21,8 +22,8 @@ returns-then-sweep-eq0 g c = λ r collect kept.
     let s = state_over old l 0 0 in
     let none = small.none-living l k old mid c.args.base _ c.requires.block c.sweep.ensures.swept (sym c.sweep.ensures.count ∙ c.if-sweep-eq0.true) in
     blocks.empty l r collect c.args.base _ k old mid
-    (λ is. c.requires.head (small.kind-shown s k kinds.LargeHead c.args.word.now c.requires.valid c.requires.code is))
-    (λ is. c.requires.tail (small.kind-shown s k kinds.LargeTail c.args.word.now c.requires.valid c.requires.code is))
+    (λ is. c.requires.head (kind-shown s k kinds.LargeHead c.args.word.now c.requires.valid c.requires.code is))
+    (λ is. c.requires.tail (kind-shown s k kinds.LargeTail c.args.word.now c.requires.valid c.requires.code is))
     none c.sweep.ensures.swept
 
 pub mark_lines-requires-clause-extent : goal.mark_lines-requires-clause-extent
@@ -69,14 +70,13 @@ returns g c = λ r collect kept.
     let new = g.W.Words.words c.unlog_block.new.words in
     let s = state_over old l 0 0 in
     let w = c.args.word.now in
-    let shown = small.kind-shown s k in
     let immix : (w.kind ≡ kinds.Immix) → HasKind s k kinds.Immix = λ e. kind-from s k kinds.Immix c.requires.block (kind-of-word s k w c.requires.block c.requires.valid c.requires.code ∙ ap kind_code e) in
     let swept : Sweeps c.args.base (word_after r collect s k) s (state_over mid l 0 0) k =
     subst (λ is. Sweeps c.args.base (if is then 8 else block_word s k % 65536) s (state_over mid l 0 0) k) (sym kept) c.sweep.ensures.swept in
     blocks.small l r collect c.args.base k old mid marked new c.requires.block
-    (λ is. c.requires.head (small.kind-shown s k kinds.LargeHead w c.requires.valid c.requires.code is))
+    (λ is. c.requires.head (kind-shown s k kinds.LargeHead w c.requires.valid c.requires.code is))
     swept
-    (λ is. c.mark_lines.ensures.immix (small.kind-shown s k kinds.Immix w c.requires.valid c.requires.code is))
+    (λ is. c.mark_lines.ensures.immix (kind-shown s k kinds.Immix w c.requires.valid c.requires.code is))
     (λ not. c.mark_lines.ensures.others (λ e. not (immix e)))
     c.unlog_block.ensures
-    (λ is. c.requires.tail (small.kind-shown s k kinds.LargeTail w c.requires.valid c.requires.code is))
+    (λ is. c.requires.tail (kind-shown s k kinds.LargeTail w c.requires.valid c.requires.code is))

@@ -9,7 +9,7 @@ use Rattle.immix_space.proofs.LyingObjects.{touched-from-within}
 use Rattle.immix_space.proofs.SweptLines.{lines-exact}
 use Rattle.plan_api.specs.Relisting.{RelistsIf}
 use Rattle.plan_api.proofs.Tallies.{kind-of-word}
-use Rattle.plans.proofs.ReleasedSmall.{kind-shown}
+use Rattle.object_model.proofs.WordReads.{kind-shown}
 use Rattle.plans.proofs.release.relist_lines.Goals as goal
 
 -- the kind of a block by its word

@@ -1,7 +1,7 @@
 use Rattle.std.proofs.Common.{sym, subst, ◌%◌, if◌then◌else◌}
 use Rattle.object_model.specs.Objects.{state_over, block_word}
 use Rattle.block_sweeps.specs.Sweeping.{Sweeps}
-use Rattle.plans.proofs.ReleasedSmall.{unowned-code}
+use Rattle.plan_api.proofs.SweptSmallBlocks.{unowned-code}
 use Rattle.plans.proofs.release.sweep.Goals as goal
 
 pub returns-then-kept-clause-swept : goal.returns-then-kept-clause-swept

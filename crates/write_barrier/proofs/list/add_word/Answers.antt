@@ -6,7 +6,8 @@ use Rattle.object_model.specs.Heaps.{heap_state}
 use Rattle.object_model.specs.Objects.{IsHeld, state_over}
 use Rattle.object_model.proofs.ObjectReads.{in_words}
 use Rattle.write_barrier.specs.Listed.{address_of, lacks_unlog_bit}
-use Rattle.write_barrier.proofs.LoggedWords.{WordLeft, word-begins, word-ends, next-held, next-old, next-young, old-read, without-less}
+use Rattle.write_barrier.proofs.LoggedWords.{WordLeft, word-begins, word-ends, next-held, next-old, next-young, old-read}
+use Rattle.object_model.proofs.WordReads.{without-less}
 use Rattle.write_barrier.proofs.list.add_word.Goals as goal
 use Rattle.write_barrier.proofs.list.add_word.Goals.{then-is_old+in_ok-push, else-is_old}
 

@@ -1,13 +1,12 @@
 -- A block of small and medium objects after its sweep.
-use Rattle.std.proofs.Common.{◌≡◌, ◌≢◌, refl, sym, ap, ◌∙◌, subst, inl, inr, ℕ, zero, suc, ◌+◌, ◌/◌, ◌%◌, ◌<◌, ◌≤◌, Bool, true, IsTrue, List, length, slice_index, nat_eq, arith, Some}
+use Rattle.std.proofs.Common.{◌≡◌, ◌≢◌, refl, sym, ap, ◌∙◌, subst, inl, inr, ℕ, zero, suc, ◌+◌, ◌/◌, ◌%◌, ◌<◌, ◌≤◌, Bool, true, IsTrue, List, length, slice_index, nat_eq, arith}
 use Rattle.std.proofs.lemmas.Bool.{cases_Bool, cases_eq, and_parts, eqb-true}
 use Rattle.heap_layout.specs.Zones.{heap_of, row_words, block_start, block_at, offset_at, IsAddress}
 use Rattle.heap_layout.specs.Blocks.{kind_code, code_of, IsValidWord, is_block_code, is_valid_for, is_valid_for_some, kind_of_code}
-use Rattle.heap_layout.specs.declared.block.Kind.{Kind}
 use Rattle.heap_layout.specs.declared.block.Kind.TheVariants as kinds
 use Rattle.heap_layout.specs.declared.block.BlockWord.{BlockWord}
 use Rattle.heap_layout.specs.declared.layout.Layout.{Layout}
-use Rattle.heap_layout.proofs.BlockLemmas.{parts_of_code, kind_of_code-kind_code, kind_code_most}
+use Rattle.heap_layout.proofs.BlockLemmas.{parts_of_code, kind_code_most}
 use Rattle.object_model.specs.Objects.{HeapState, state_over, block_word, HasKind, IsHeld, is_start, size_at}
 use Rattle.object_model.specs.Lawful.{HasObject, Lies, IsReadableBlock, has_small}
 use Rattle.object_model.specs.Releasing.{IsReleasable, InSpan}
@@ -19,11 +18,6 @@ use Rattle.ideal_heap.specs.Names.{IsName, name_of}
 use Rattle.plan_api.proofs.EvacuationLaws.{kind-kept}
 use Rattle.plan_api.proofs.Tallies.{count_below, count-next}
 use Rattle.plan_api.proofs.BlockViews.{word-address, word-block, at-offset, offset-below}
-
--- the kind that a block has is that of its word
-pub kind-shown : (s : HeapState) (k : ℕ) (kind : Kind) (w : BlockWord) → IsValidWord w → code_of w ≡ block_word s k → HasKind s k kind → w.kind ≡ kind
-kind-shown s k kind w valid code is =
-    let e : Some w.kind ≡ Some kind = sym (parts_of_code w (block_word s k) valid code).0 ∙ ap kind_of_code (kind-code s k kind is) ∙ kind_of_code-kind_code kind in cc
 
 -- the code of a word without its owner
 pub unowned-code : (w : BlockWord) (v : ℕ) → IsValidWord w → code_of w ≡ v → code_of (record { kind = w.kind; class = w.class; owner = 0 }) ≡ v % 65536
