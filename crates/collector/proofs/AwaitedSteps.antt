@@ -102,6 +102,7 @@ module _ (s : HeapState) (run : TraceRun) (roots : List ℕ) (w : PacketTracer) 
     };
     of_objects = record {
       scanned = λ x some. subst (λ n. (0 < n) ⊎ (0 < hits x (refs (setup_of s run 1) x) aw.view.grey)) (sym (same.of_objects x)) (aw.of_objects.scanned x some);
+      logged = λ x is. subst (λ n. (0 < n) ⊎ (0 < hits x (refs (setup_of s run 1) x) aw.view.grey)) (sym (same.of_objects x)) (aw.of_objects.logged x is);
       lines = λ on x some. subst (λ n. (0 < n) ⊎ HasItsLines (setup_of s run 1) aw.events x) (sym (same.of_objects x)) (aw.of_objects.lines on x some);
     };
     settled = λ g few. subst (λ n. (0 < n) ⊎ (0 < times g aw.view.set)) (sym (same.of_globals g)) (aw.settled g few);
@@ -296,6 +297,7 @@ module _ (s : HeapState) (run : TraceRun) (roots : List ℕ) (w v : PacketTracer
     };
     of_objects = record {
       scanned = scans;
+      logged = λ x is. scanned-parts x (aw.of_objects.logged x is);
       lines = lines-now;
     };
     settled = λ g few. settles g (aw.settled g few);

@@ -1,25 +1,16 @@
 -- What the word and the start bits of a block say of it.
-use Rattle.std.proofs.Common.{◌≡◌, ◌≢◌, sym, ◌∙◌, ap, ℕ, ◌+◌, ◌*◌, ◌-◌, ◌^◌, ◌<◌, ◌≤◌, inl, inr, arith, w64, true, Some, slice_index, eq-eqb}
+use Rattle.std.proofs.Common.{◌≡◌, ◌≢◌, sym, ◌∙◌, ap, ℕ, ◌+◌, ◌*◌, ◌-◌, ◌/◌, ◌%◌, ◌^◌, ◌<◌, ◌≤◌, inl, inr, arith, w64, true, IsTrue, slice_index, eq-eqb}
 use Rattle.std.specs.Int.{bit_at, trailing_zeros}
-use Rattle.std.proofs.lemmas.Bool.{cases_lt, eqb-true}
+use Rattle.std.proofs.lemmas.Bool.{cases_lt, cases_eq, eqb-true}
 use Rattle.std.proofs.lemmas.Nat.Bits.{bit_at-zero, bit_at-trailing_zeros}
-use Rattle.heap_layout.specs.Zones.{StartBits, first, heap_of, block_at, offset_at, IsAddress}
-use Rattle.heap_layout.specs.Blocks.{code_of, IsValidWord, kind_of_code}
-use Rattle.heap_layout.specs.declared.block.Kind.{Kind}
-use Rattle.heap_layout.specs.declared.block.BlockWord.{BlockWord}
-use Rattle.heap_layout.proofs.BlockLemmas.{parts_of_code, kind_of_code-kind_code}
-use Rattle.object_model.specs.Objects.{HeapState, block_word, HasKind, is_start, IsHeld}
-use Rattle.object_model.proofs.OneKind.{kind-code}
+use Rattle.heap_layout.specs.Zones.{StartBits, UnlogBits, first, heap_of, block_at, offset_at, IsAddress}
+use Rattle.object_model.specs.Objects.{HeapState, is_start, is_unlogged, IsHeld}
 use Rattle.object_model.proofs.ObjectReads.{place_of_address}
 use Rattle.block_sweeps.specs.Sweeping.{InBlock}
 use Rattle.side_meta.specs.BitWords.{has_bit}
-use Rattle.block_sweeps.specs.WordSweeps.{start_word}
-use Rattle.block_sweeps.proofs.SweptBlocks.{bit-there}
-
--- the kind of a block is that of its word
-pub kind-shown : (s : HeapState) (k : ℕ) (kind : Kind) (w : BlockWord) → IsValidWord w → code_of w ≡ block_word s k → HasKind s k kind → w.kind ≡ kind
-kind-shown s k kind w valid code is =
-    let e : Some w.kind ≡ Some kind = sym (parts_of_code w (block_word s k) valid code).0 ∙ ap kind_of_code (kind-code s k kind is) ∙ kind_of_code-kind_code kind in cc
+use Rattle.block_sweeps.specs.WordSweeps.{start_word, unlog_word}
+use Rattle.object_model.proofs.WordReads.{bit-there}
+use Rattle.collector.specs.Released.{DiffersInSome}
 
 -- The objects of block k begin at or after this offset.
 abbrev pub AllFrom : HeapState → ℕ → ℕ → Type 0
@@ -60,6 +51,22 @@ module _ (s : HeapState) (k i at word : ℕ) (there : k < s.blocks) (few : i < 6
         record { address = at; block = omega (arith, there, few, small) },
         record { address = at; start = bit-there s.blocks StartBits s.words (64 * k + i) j (omega (arith, there, few)) small ∙ bit },
       )
+
+-- where start bits and unlog bits do not differ, each object of the block has its unlog bit
+pub all-unlogged : (s : HeapState) (k : ℕ) → k < s.blocks → (DiffersInSome s k → ⊥) → (a : ℕ) → InBlock s k a → IsHeld s a → IsTrue (is_unlogged s a)
+all-unlogged s k there none a here held =
+    let place = place_of_address s.blocks a here.address in
+    let block : block_at s.blocks a ≡ k = here.block in
+    let i : ℕ = offset_at s.blocks a / 64 in
+    let j : ℕ = offset_at s.blocks a % 64 in
+    let e : heap_of s.blocks + 64 * (64 * k + i) + j ≡ a = omega arith in
+    let set : is_start s (heap_of s.blocks + 64 * (64 * k + i) + j) ≡ true = ap (is_start s) e ∙ held.start in
+    let same : start_word s (64 * k + i) ≡ unlog_word s (64 * k + i) = elim (cases_eq (start_word s (64 * k + i)) (unlog_word s (64 * k + i))) as (λ _. start_word s (64 * k + i) ≡ unlog_word s (64 * k + i)) [
+      | inl is ↦ is
+      | inr differ ↦ absurd (none (record { index = i; inside = omega arith; differ = differ }))
+    ] in
+    sym (ap (is_unlogged s) e) ∙ bit-there s.blocks UnlogBits s.words (64 * k + i) j (omega arith) (omega arith)
+    ∙ ap (λ v. has_bit v j) (sym same) ∙ sym (bit-there s.blocks StartBits s.words (64 * k + i) j (omega arith) (omega arith)) ∙ set
 
 pub none-begins : (s : HeapState) (k n : ℕ) → 64 ≤ n → AllFrom s k (64 * n) → (a : ℕ) → InBlock s k a → IsHeld s a → ⊥
 none-begins s k n all from a here held =

@@ -1,5 +1,5 @@
 -- The objects of a heap after a finished trace and the release of all blocks: which are preserved, and how old they are.
-use Rattle.std.proofs.Common.{◌≡◌, ◌≢◌, refl, sym, ◌∙◌, ap, subst, ℕ, ◌+◌, ◌/◌, ◌<◌, ◌≤◌, inl, inr, arith, false, true≢false, ◌&&◌, not, IsTrue, nat_eq, nat_lt, nat_le, List, map, slice_index}
+use Rattle.std.proofs.Common.{◌≡◌, ◌≢◌, refl, sym, ◌∙◌, ap, ap₂, subst, ℕ, ◌+◌, ◌/◌, ◌<◌, ◌≤◌, inl, inr, arith, false, true≢false, ◌&&◌, not, IsTrue, Some, nat_eq, nat_lt, nat_le, List, map, slice_index}
 use Rattle.std.proofs.lemmas.Bool.{cases_Bool, cases_eq, and_parts, and_from, cond-true, cond-false, lt-ltb, leb-true, not_from_true}
 use Rattle.forward_word.specs.CollectorWords.{number_in}
 use Rattle.object_model.specs.declared.collect.Collect.{Collect}
@@ -15,13 +15,14 @@ use Rattle.object_model.proofs.References.{refers, refers-some}
 use Rattle.sessions.specs.Plans.{Rules, Plan, rules_of}
 use Rattle.sessions.specs.Collecting as collecting
 use Rattle.sessions.specs.Collecting.{is_old_under, is_logged_under, IsNurseryReachable, is_root, is_global, was_old, is_field, IsPrecise}
-use Rattle.trace_core.specs.Setups.{Setup, blocks, collection, may_be_moved, held}
+use Rattle.trace_core.specs.Setups.{Setup, blocks, collection, may_be_moved, held, stays_old}
 use Rattle.trace_core.specs.Machine.{Event}
-use Rattle.trace_core.specs.Traces.{IsTracing, IsFinished, TraceKeeps, FromRoot, FromGlobal, FromOld, ByReference, machine_after, heap_after, stage_of}
+use Rattle.trace_core.specs.Traces.{IsTracing, IsFinished, TraceKeeps, FromRoot, FromGlobal, FromOld, ByReference, machine_after, heap_after, stage_of, target_of}
 use Rattle.trace_core.specs.Outcomes.{base_after_trace, image, HaveAsked, NoOthersAsked}
 use Rattle.trace_core.specs.Runs.{is_nursery}
 use Rattle.trace_core.proofs.Rows.{row}
-use Rattle.trace_core.proofs.Finished.{preserved, kept-exactly, kept-reachable}
+use Rattle.trace_core.proofs.Clauses.{held-of}
+use Rattle.trace_core.proofs.Finished.{preserved, kept-exactly, kept-reachable, lives, has-target, claimed-number, old-stays}
 use Rattle.collector.proofs.Given.{IsSetupUnder, old-given, reachable-before, reachable-given, moves-given}
 use Rattle.collector.proofs.Fates as fates
 use Rattle.collector.proofs.Fates.{IsAllReleased}
@@ -184,3 +185,28 @@ module _ {q : Plan} {c : Collect} {p : Setup} {u : List ℕ} (under : IsSetupUnd
       let base : base_after_trace p ≡ collection p = cond-false p.nursery p.before.base (collection p) full in
       let same : number_at (heap_after p es) a ≡ collection p = omega arith in
       ap number_in (fates.word-same all a 2 there) ∙ same
+
+  -- in a nursery collection a claimed object has its number, and an old one stays with that which it had
+  module _ (young : c ≡ Nursery) (a : ℕ) (some : 0 < F a) where
+    goes : target_of p es a ≡ Some (F a)
+    goes = has-target p es trace finished a some
+
+    before : IsHeld p.before a
+    before = marks.held p.before a (held-of p es trace a (F a) goes)
+
+    now : IsHeld new (F a)
+    now = fates.lives-held all (F a) (lives p es trace finished a (F a) goes)
+
+    -- it is old as the trace begins if it was in the heap
+    age : stays_old p a ≡ is_old_under r old a
+    age = ap₂ (λ x y. x && (y && ages.is_old p.before a)) (under.nursery ∙ ap is_nursery young) before.start
+        ∙ sym (old-given under.like a before) ∙ sym (ap (λ x. x && ages.is_old old a) (under.young young))
+
+    pub claimed-here : is_old_under r old a ≡ false → number_at new (F a) ≡ collection p
+    claimed-here aged = ap number_in (fates.word-same all (F a) 2 now) ∙ claimed-number p es trace finished a (F a) goes (age ∙ aged)
+
+    pub old-stay : IsTrue (is_old_under r old a) → (F a ≡ a) × (number_at new a ≡ number_at old a)
+    old-stay aged =
+        let kept = old-stays p es trace finished a (age ∙ aged) in
+        let here : IsHeld new a = subst (IsHeld new) kept.0 now in
+        (kept.0, ap number_in (fates.word-same all a 2 here) ∙ kept.1 ∙ ap number_in (sym (given.at p.before u under.like.heap a 2 before)))

@@ -90,7 +90,7 @@ and-true : (b : Bool) → b && true ≡ b
 and-true true = refl
 and-true false = refl
 
-eq-either : (x y : ℕ) → nat_eq x y ≡ nat_eq y x
+pub eq-either : (x y : ℕ) → nat_eq x y ≡ nat_eq y x
 eq-either x y = elim (cases_eq x y) as (λ _. nat_eq x y ≡ nat_eq y x) [
   | inl e ↦ eq-eqb x y e ∙ sym (eq-eqb y x (sym e))
   | inr ne ↦ ne_eqb x y ne ∙ sym (ne_eqb y x (λ e. ne (sym e)))

@@ -17,7 +17,7 @@ abbrev is_kept_code : Bool → ℕ → Bool
 is_kept_code there code = (there && nat_eq code 1) || (there && nat_eq code 2) || (there && nat_eq code 3) || (there && nat_eq code 8)
 
 -- an Immix block is not of such a kind, and no other block is a candidate
-immix-not-kept : (s : HeapState) (k : ℕ) → HasKind s k kinds.Immix → is_kept_kind s k ≡ false
+pub immix-not-kept : (s : HeapState) (k : ℕ) → HasKind s k kinds.Immix → is_kept_kind s k ≡ false
 immix-not-kept s k immix = ap (λ t. is_kept_code t (block_word s k % 256)) (and_parts (nat_lt k s.blocks) _ immix).0 ∙ ap (is_kept_code true) (kind-code s k kinds.Immix immix)
 
 no-candidate : (s : HeapState) (k : ℕ) → IsTrue (is_kept_kind s k) → is_candidate s k ≡ false

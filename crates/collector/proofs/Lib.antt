@@ -10,6 +10,7 @@ mod InOrder
 mod BlockReads
 mod UnlogBits
 mod MarkedBlocks
+mod SweptBlocks
 mod EvacuationFlags
 mod Spans
 mod Fates
@@ -32,8 +33,7 @@ mod ServedItems
 mod HandedOn
 mod RootLists
 mod FirstItems
-mod HeldCounts
-mod HeldWords
+mod CountedNotes
 pub mod Numbers
 mod ServesAppend
 mod RunningPackets

@@ -1,7 +1,6 @@
 -- The release of a block whose unlog bits show what lives in it.
-use Rattle.std.proofs.Common.{◌≡◌, refl, sym, ◌∙◌, ap, ℕ, ◌+◌, ◌*◌, ◌-◌, ◌<◌, ◌≤◌, ◌/◌, ◌%◌, inl, inr, arith, Bool, true, false, true≢false, ◌&&◌, IsTrue, nat_eq, nat_le, bit_and, List, length, slice_index, subst}
+use Rattle.std.proofs.Common.{◌≡◌, refl, sym, ◌∙◌, ap, ℕ, ◌+◌, ◌*◌, ◌-◌, ◌<◌, ◌≤◌, inl, inr, arith, Bool, true, false, ◌&&◌, IsTrue, nat_eq, nat_le, bit_and, List, length, slice_index}
 use Rattle.std.specs.Int.Bits.{and_self}
-use Rattle.std.proofs.Math.Logic.{∥∥₁_elim}
 use Rattle.std.proofs.lemmas.Bool.{cases_Bool, and_parts, and_from, and_right}
 use Rattle.forward_word.specs.CollectorWords.{number_in, target_in}
 use Rattle.heap_layout.specs.Zones.{StartBits, PinBits, UnlogBits, BlockWords, first, row_words, IsAddress}
@@ -10,23 +9,21 @@ use Rattle.heap_layout.specs.declared.block.Kind.TheVariants as kinds
 use Rattle.heap_layout.specs.declared.block.BlockWord.{BlockWord}
 use Rattle.heap_layout.specs.declared.layout.Layout.{Layout}
 use Rattle.object_model.specs.declared.collect.Collect.{Collect}
-use Rattle.object_model.specs.Objects.{HeapState, state_over, with_words, block_word, HasKind, line_marked, is_start, is_unlogged, IsHeld, size_at}
-use Rattle.object_model.specs.Lines.{TouchesLine}
+use Rattle.object_model.specs.Objects.{HeapState, state_over, with_words, block_word, HasKind, is_start, is_unlogged, IsHeld}
 use Rattle.object_model.specs.Ages.{is_survivor}
 use Rattle.object_model.specs.Releasing.{IsReleasable}
 use Rattle.block_sweeps.specs.Stores.{Stores}
-use Rattle.block_sweeps.specs.Sweeping.{InBlock, IsAmong, ChangesOnly, KeepsLiving, HasNoLiving, Sweeps, IsTouchedHere, MarksTouched, Frees}
+use Rattle.block_sweeps.specs.Sweeping.{InBlock, IsAmong, KeepsLiving, HasNoLiving, Sweeps, Frees}
 use Rattle.side_meta.specs.BitWords.{has_bit}
 use Rattle.block_sweeps.specs.WordSweeps.{start_word, unlog_word, address_of, MaySweep, SweepsWords}
-use Rattle.block_sweeps.proofs.SweptBlocks.{bit-there, may-sweep, may-next, swept-next, start-same, unlog-same, heap-same, keeps-living}
+use Rattle.block_sweeps.proofs.SweptBlocks.{may-sweep, may-next, swept-next, start-same, unlog-same, heap-same, keeps-living}
 use Rattle.block_sweeps.proofs.SweptWords.{all-live, some-die}
 use Rattle.block_sweeps.proofs.BlockSweeps.{swept-free, swept-kept, none-counts, none-lives, word-only}
 use Rattle.sessions.specs.Plans.{Rules}
 use Rattle.plan_api.specs.Releasing.{Releases, word_after}
 use Rattle.plan_api.proofs.ReleasedBlocks as blocks
-use Rattle.collector.specs.Released.{UnlogBitsMarkSurvivors, UnlogWordMarksSurvivors, LivesOnLine, LineBitsMarkSurvivors}
-use Rattle.collector.proofs.Metadata.{heap-word}
-use Rattle.collector.proofs.BlockReads.{kind-shown}
+use Rattle.collector.specs.Released.{UnlogBitsMarkSurvivors, UnlogWordMarksSurvivors, SweepsSome}
+use Rattle.object_model.proofs.WordReads.{bit-there, kind-shown}
 
 both-ways : (x y : Bool) → (IsTrue x → IsTrue y) → (IsTrue y → IsTrue x) → x ≡ y
 both-ways true true to from = refl
@@ -117,7 +114,7 @@ module _ (r : Rules) (c : Collect) (l : Layout) (base k : ℕ) (old mid new : Li
   m = state_over mid l 0 0
 
   module _ (there : k < l.blocks) (valid : IsValidWord w) (code : code_of w ≡ block_word s k) (not-head : w.kind ≡ kinds.LargeHead → ⊥) (not-tail : w.kind ≡ kinds.LargeTail → ⊥)
-      (shows : UnlogBitsMarkSurvivors base s k) (lines : LineBitsMarkSurvivors base s k) (swept : SweepsWords base (64 * k) 64 s m) where
+      (shows : UnlogBitsMarkSurvivors base s k) (swept : SweepsWords base (64 * k) 64 s m) where
     objects : KeepsLiving base (InBlock s k) s m
     objects = keeps-living base k s mid there swept
 
@@ -143,9 +140,6 @@ module _ (r : Rules) (c : Collect) (l : Layout) (base k : ℕ) (old mid new : Li
           swept-kept base k s mid new there objects swept.rest only (word_after r c s k)
           (λ none. none-lives base k s mid new there objects swept.rest only none a there-before ((objects.held a there-before).0 held)) word
 
-      nothing : {P : ℕ → Type 0} → ChangesOnly P (state_over new l 0 0) (state_over new l 0 0)
-      nothing = record { blocks = refl; extent = refl; others = λ i outside. refl; fit = λ fits. fits }
-
       unlogged : (x : ℕ) → InBlock (state_over new l 0 0) k x → is_unlogged (state_over new l 0 0) x ≡ is_start (state_over new l 0 0) x
       unlogged x at =
           let before : InBlock s k x = record { address = at.address; block = at.block } in
@@ -156,40 +150,5 @@ module _ (r : Rules) (c : Collect) (l : Layout) (base k : ℕ) (old mid new : Li
             | inr clear ↦ and_right (is_unlogged s x) (is_start (state_over new l 0 0) x) clear ∙ sym clear
           ]
 
-      -- line bits are as they were: those of the lines that what lives here touches
-      size-kept : (x : ℕ) → IsAddress l.blocks x → size_at (state_over new l 0 0) x ≡ size_at s x
-      size-kept x at = ap (λ v. 3 + v % 65536 + v / 65536) (sweep.rest.others (x + 1) (λ meta. let from = at.from in heap-word l.blocks k (x + 1) there (omega arith) meta))
-
-      was-on-line : (line : ℕ) → IsTouchedHere (state_over new l 0 0) k line → LivesOnLine base s k line
-      was-on-line line is = record {
-        object = is.touched.object;
-        lives = (sweep.objects.held is.touched.object (record { address = is.touched.held.address; block = is.here })).0 is.touched.held;
-        here = is.here;
-        touches = subst (λ n. TouchesLine l.blocks is.touched.object n (256 * k + line)) (size-kept is.touched.object is.touched.held.address) is.touched.touches;
-      }
-
-      touched : HasKind s k kinds.Immix → MarksTouched (state_over new l 0 0) (state_over new l 0 0) k
-      touched immix = record {
-        lines = λ line few.
-            let same : line_marked (state_over new l 0 0) k line ≡ line_marked s k line = sweep.lines a line there-before ((objects.held a there-before).0 held) few in (
-              (λ set. let is = (lines immix line few).0 (sym same ∙ set) in
-                  let object : ℕ = is.object in
-                  let at : IsHeld (state_over new l 0 0) is.object = (sweep.objects.held is.object (record { address = is.lives.held.address; block = is.here })).1 is.lives in
-                  ∣ record {
-                    touched = record {
-                      object = object;
-                      held = at;
-                      touches = subst (λ n. TouchesLine l.blocks is.object n (256 * k + line)) (sym (size-kept is.object is.lives.held.address)) is.touches;
-                    };
-                    here = is.here;
-                  } ∣₁),
-              (λ some. elim (cases_Bool (line_marked (state_over new l 0 0) k line)) as (λ _. IsTrue (line_marked (state_over new l 0 0) k line)) [
-                | inl set ↦ set
-                | inr clear ↦ absurd (∥∥₁_elim some (λ x. absurd x) (λ is. true≢false (sym (same ∙ (lines immix line few).1 (was-on-line line is)) ∙ clear)))
-              ]),
-            );
-        rest = nothing;
-      }
-
-      pub kept : Releases r c base s (state_over new l 0 0) k
-      kept = blocks.small l r c base k old new new new there no-head sweep touched (λ not. refl) (record { unlogs = unlogged; rest = nothing }) no-tail
+      pub some : SweepsSome r c base s (state_over new l 0 0) k
+      some = record { sweeps = sweep; object = a; here = there-before; lives = (objects.held a there-before).0 held; unlogs = unlogged }

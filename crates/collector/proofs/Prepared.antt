@@ -1,5 +1,5 @@
--- What a tracer gets as the description of a full collection.
-use Rattle.std.proofs.Common.{◌≡◌, refl, sym, ◌∙◌, ap, subst, subst₂, ℕ, ◌+◌, ◌<◌, ◌^◌, Bool, true, false, IsTrue, [], map, length, Some, true≢false, arith}
+-- What a tracer gets as the description of a collection.
+use Rattle.std.proofs.Common.{◌≡◌, refl, sym, ◌∙◌, ap, ap₂, subst, ℕ, ◌+◌, ◌<◌, ◌^◌, Bool, true, false, IsTrue, [], map, length, Some, true≢false, arith}
 use Rattle.std.specs.Prelude.{nat_eq, bit_and, slice_get, ◌||◌, if◌then◌else◌}
 use Rattle.std.specs.List.{range_with_len}
 use Rattle.std.proofs.lemmas.Option.{slice_get_within, get_or_from_slice_get}
@@ -14,7 +14,8 @@ use Rattle.plan_api.specs.Flags.{flags_of}
 use Rattle.trace_core.specs.Setups.{is_copy_kind}
 use Rattle.trace_core.specs.Runs.{MayRun, is_nursery}
 use Rattle.trace_core.specs.declared.run.TraceRun.{TraceRun}
-use Rattle.collector.specs.Collected.{IsRunUnder}
+use Rattle.collector.specs.Collected.{IsRunUnder, IsOffered}
+use Rattle.object_model.specs.Ages.{ListsLogged}
 
 -- plans fill blocks of these kinds with copies, and evacuate none if they fill none
 copies : (q : Plan) → IsTrue (is_copy_kind (rules_of q).copy)
@@ -38,50 +39,41 @@ flag-set f n k is =
     let within : k < n = subst (λ m. k < m) (length-map-range_with_len f 0 n) (slice_get_within _ k true is) in
     sym (get_or-map-range_with_len f 0 n k k false within (omega arith)) ∙ get_or_from_slice_get _ k true false is
 
-module _ (q : Plan) (s : HeapState) (run : TraceRun) (full : run.collect ≡ Full)
-    (from : run.from.items ≡ map (is_evacuated (rules_of q) Full s) (range_with_len 0 s.blocks)) where
-  not-nursery : IsTrue (is_nursery run.collect) → ⊥
-  not-nursery is = true≢false (sym is ∙ ap is_nursery full)
+nursery-is : (c : Collect) → IsTrue (is_nursery c) → c ≡ Nursery
+nursery-is Nursery is = refl
+nursery-is Full is = absurd (true≢false (sym is))
 
-  leaves : (b : ℕ) → slice_get run.from.items b ≡ Some true → is_evacuated (rules_of q) Full s b ≡ true
-  leaves b is = flag-set (is_evacuated (rules_of q) Full s) s.blocks b (subst (λ l. slice_get l b ≡ Some true) from is)
-
-  pub may-run : run.number ≡ s.number + 1 → run.number < 2 ^ 40 → run.base ≡ run.number → run.copy_kind ≡ (rules_of q).copy → run.logged.items ≡ []
-      → ((k : ℕ) → IsTrue (is_evacuated (rules_of q) Full s k) → IsTrue (has_kind s k kinds.LargeHead || has_kind s k kinds.LargeTail) → ⊥)
-      → MayRun s run
-  may-run number limit base copy logged stay = record {
-    number = number;
-    limit = limit;
-    base = base ∙ sym (ap (λ c. if is_nursery c then s.base else run.number) full);
-    full = λ is. absurd (not-nursery is);
-    remembers = λ is. absurd (not-nursery is);
-    nursery = λ is. absurd (not-nursery is);
-    none = λ is. logged;
-    kind = subst (λ k. IsTrue (is_copy_kind k)) (sym copy) (copies q);
-    from = ap length from ∙ length-map-range_with_len (is_evacuated (rules_of q) Full s) 0 s.blocks;
-    small = λ b is. stay b (leaves b is);
-    fixed = λ free b is. true≢false (sym (leaves b is) ∙ none-leaves q Full s b (sym copy ∙ free));
-  }
-
-  pub run-under : run.copy_kind ≡ (rules_of q).copy → run.lines ≡ (rules_of q).lines → IsRunUnder (rules_of q) Full s run
-  run-under copy lines = record { collect = full; young = λ is. (let wrong : Full ≡ Nursery = is in cc); from = from; copy = copy; lines = lines }
-
--- the same, by the rules of a plan that are given as its own
-module _ (q : Plan) (r : Rules) (of : r ≡ rules_of q) (c : Collect) (full : c ≡ Full) (s : HeapState) (run : TraceRun) (is : run.collect ≡ c)
+-- by the rules of a plan that are given as its own
+module _ (q : Plan) (r : Rules) (of : r ≡ rules_of q) (c : Collect) (s : HeapState) (offered : IsOffered r c s) (run : TraceRun) (is : run.collect ≡ c)
     (from : run.from.items ≡ map (is_evacuated r c s) (range_with_len 0 s.blocks)) (copy : run.copy_kind ≡ r.copy) where
-  own-from : run.from.items ≡ map (is_evacuated (rules_of q) Full s) (range_with_len 0 s.blocks)
-  own-from = subst₂ (λ r c. run.from.items ≡ map (is_evacuated r c s) (range_with_len 0 s.blocks)) of full from
+  nursery : IsTrue (is_nursery run.collect) → c ≡ Nursery
+  nursery young = nursery-is c (ap is_nursery (sym is) ∙ young)
+
+  leaves : (b : ℕ) → slice_get run.from.items b ≡ Some true → is_evacuated r c s b ≡ true
+  leaves b some = flag-set (is_evacuated r c s) s.blocks b (subst (λ l. slice_get l b ≡ Some true) from some)
 
   own-copy : run.copy_kind ≡ (rules_of q).copy
   own-copy = copy ∙ ap (λ (r : Rules). r.copy) of
 
-  pub may-trace : run.number ≡ s.number + 1 → run.number < 2 ^ 40 → run.base ≡ run.number → run.logged.items ≡ []
-      → ((k : ℕ) → IsTrue (is_evacuated r Full s k) → IsTrue (has_kind s k kinds.LargeHead || has_kind s k kinds.LargeTail) → ⊥) → MayRun s run
-  may-trace number limit base logged stay = may-run q s run (is ∙ full) own-from number limit base own-copy logged
-      (λ k leaves. stay k (subst (λ r. IsTrue (is_evacuated r Full s k)) (sym of) leaves))
+  pub may-trace : run.number ≡ s.number + 1 → run.number < 2 ^ 40 → run.base ≡ (if is_nursery c then s.base else s.number + 1)
+      → (IsTrue (is_nursery c) → ListsLogged s run.logged.items) → (is_nursery c ≡ false → run.logged.items ≡ [])
+      → ((k : ℕ) → IsTrue (is_evacuated r c s k) → IsTrue (has_kind s k kinds.LargeHead || has_kind s k kinds.LargeTail) → ⊥) → MayRun s run
+  may-trace number limit base lists none stay = record {
+    number = number;
+    limit = limit;
+    base = base ∙ ap₂ (λ k n. if is_nursery k then s.base else n) (sym is) (sym number);
+    full = λ young. offered.base (nursery young);
+    remembers = λ young. offered.remembers (nursery young);
+    nursery = λ young. lists (ap is_nursery (sym is) ∙ young);
+    none = λ full. none (ap is_nursery (sym is) ∙ full);
+    kind = subst (λ k. IsTrue (is_copy_kind k)) (sym own-copy) (copies q);
+    from = ap length from ∙ length-map-range_with_len (is_evacuated r c s) 0 s.blocks;
+    small = λ b some. stay b (leaves b some);
+    fixed = λ free b some. true≢false (sym (leaves b some) ∙ ap (λ (r : Rules). is_evacuated r c s b) of ∙ none-leaves q c s b (sym own-copy ∙ free));
+  }
 
   pub traces-under : run.lines ≡ r.lines → IsRunUnder r c s run
-  traces-under lines = subst₂ (λ r c. IsRunUnder r c s run) (sym of) (sym full) (run-under q s run (is ∙ full) own-from own-copy (lines ∙ ap (λ (r : Rules). r.lines) of))
+  traces-under lines = record { collect = is; young = offered.young; from = from; copy = copy; lines = lines }
 
 -- the flag of lines is that of the rules
 lines-flag : (q : Plan) → nat_eq (bit_and (flags_of (rules_of q)) 4) 4 ≡ (rules_of q).lines

@@ -1,5 +1,5 @@
 -- The blocks that were released so far.
-use Rattle.std.proofs.Common.{◌≡◌, sym, subst, subst₂, ap, refl, ◌∙◌, ℕ, ◌+◌, ◌<◌, ◌^◌, Bool, false, List, length}
+use Rattle.std.proofs.Common.{◌≡◌, sym, subst, subst₂, ap, refl, ◌∙◌, ℕ, ◌+◌, ◌<◌, ◌^◌, Bool, false, IsTrue, List, length}
 use Rattle.std.specs.Prelude.{get_or}
 use Rattle.std.proofs.lemmas.List.{get_or_default}
 use Rattle.std.proofs.lemmas.Option.{slice_get_within, unwrap_or-slice_get}
@@ -23,16 +23,16 @@ use Rattle.plan_api.specs.Releasing.{Releases}
 use Rattle.trace_core.specs.Runs.{IsRunOf}
 use Rattle.trace_core.specs.declared.run.TraceRun.{TraceRun}
 use Rattle.plan_api.specs.Evacuation.{listed}
-use Rattle.collector.specs.Released.{ReleasesBelow, none, one_more, UnlogBitsMarkSurvivors, LinesOfTargetsAreMarked, LineBitsMarkSurvivors, FlagShowsEvacuation}
+use Rattle.collector.specs.Released.{ReleasesBelow, none, one_more, UnlogBitsMarkSurvivors, LinesOfTargetsAreMarked, LinesOfClaimedAreMarked, LosesNothing, LineBitsMarkSurvivors, FlagShowsEvacuation}
 use Rattle.collector.specs.Knowing.{IsTracedUnder, IsKnown, ShowsRelease}
 use Rattle.collector.specs.declared.releasing.Known.{Known}
 use Rattle.collector.specs.declared.releasing.Known.TheVariants as known
-use Rattle.collector.proofs.BlockReads.{kind-shown}
+use Rattle.object_model.proofs.WordReads.{kind-shown}
 use Rattle.collector.proofs.InOrder.{next, released}
 use Rattle.collector.proofs.LawfulReleases.{lawful-with}
 use Rattle.collector.proofs.EvacuationFlags.{flag-next, flag-again}
 use Rattle.collector.proofs.UnlogBits.{marks-next, marks-again}
-use Rattle.collector.proofs.MarkedLines.{lines-next, lines-again}
+use Rattle.collector.proofs.MarkedLines.{lines-next, lines-again, kept-lines-next, whole-again}
 use Rattle.collector.proofs.Numbers.{releasable-again, releases-again}
 
 -- the blocks of the row below n are released in these words
@@ -82,7 +82,13 @@ module _ (r : Rules) (c : Collect) (base : ℕ) (old : Row) (p : Setup) (es : Li
 
     lines : LinesOfTargetsAreMarked p es → n < old.layout.blocks → LineBitsMarkSurvivors base (state_over words old.layout 0 0) n
     lines marked there = subst (λ b. LineBitsMarkSurvivors b (state_over words old.layout 0 0) n) (sym is-base)
-        (lines-again (base_after_trace p) words old.layout old.number old.base 0 0 n (lines-next p es r c now n trace finished marked below (subst (λ b. n < b) blocks-same there)))
+        (lines-again (base_after_trace p) words old.layout old.number old.base 0 0 n (lines-next p es r c now n trace finished below (subst (λ b. n < b) blocks-same there) marked))
+
+    kept-lines : LinesOfClaimedAreMarked p es → n < old.layout.blocks → LosesNothing base (state_over words old.layout 0 0) n → LineBitsMarkSurvivors base (state_over words old.layout 0 0) n
+    kept-lines marked there whole = subst (λ b. LineBitsMarkSurvivors b (state_over words old.layout 0 0) n) (sym is-base)
+        (lines-again (base_after_trace p) words old.layout old.number old.base 0 0 n
+        (kept-lines-next p es r c now n trace finished below (subst (λ b. n < b) blocks-same there) marked
+        (whole-again (base_after_trace p) words old.layout 0 0 old.number old.base n (subst (λ b. LosesNothing b (state_over words old.layout 0 0) n) is-base whole))))
 
     marks : n < old.layout.blocks → UnlogBitsMarkSurvivors base (state_over words old.layout 0 0) n
     marks there = subst (λ b. UnlogBitsMarkSurvivors b (state_over words old.layout 0 0) n) (sym is-base)
@@ -101,6 +107,8 @@ module _ (r : Rules) (c : Collect) (base : ℕ) (old : Row) (p : Setup) (es : Li
     shown run same-kind known.Nothing is there = tt
     shown run same-kind known.Flags is there = (marks there, flags run same-kind is there)
     shown run same-kind known.FlagsAndLines is there = (marks there, flags run same-kind is.0 there, lines is.1 there)
+    shown run same-kind known.FlagsAndKeptLines is there =
+        (marks there, flags run same-kind is.0 there, kept-lines is.1 there, subst (λ b. IsTrue b) is.0.under.lines is.2)
 
   pub lawful-after : (words : List ℕ) → ReleasesBelow r c base (state_of old) (state_over words old.layout old.number old.base) old.layout.blocks → ((i : ℕ) → word_at (state_over words old.layout old.number old.base) i < 2 ^ 64)
       → (number : ℕ) → number ≡ collection p → IsLawful (state_over words old.layout number base)
@@ -116,6 +124,10 @@ module _ (r : Rules) (c : Collect) (base : ℕ) (s : HeapState) (k : ℕ) (flag 
   bits-shown known.Nothing some shows = absurd (some refl)
   bits-shown known.Flags some shows = shows
   bits-shown known.FlagsAndLines some shows = (shows.0, shows.1)
+  bits-shown known.FlagsAndKeptLines some shows = (shows.0, shows.1)
+
+  pub kept-shown : (known' : Known) → known' ≡ known.FlagsAndKeptLines → ShowsRelease known' r c base s k flag → ShowsRelease known.FlagsAndKeptLines r c base s k flag
+  kept-shown known' is shows = subst (λ k'. ShowsRelease k' r c base s k flag) is shows
 
   pub lines-shown : (known' : Known) (w : BlockWord) → IsValidWord w → code_of w ≡ block_word s k → (w.kind ≡ kinds.Immix → known' ≡ known.FlagsAndLines)
       → ShowsRelease known' r c base s k flag → LineBitsMarkSurvivors base s k

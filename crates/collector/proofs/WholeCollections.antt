@@ -31,7 +31,7 @@ use Rattle.collector.proofs.Given.{SameButBits, IsSetupUnder}
 use Rattle.collector.proofs.Fates.{IsAllReleased}
 use Rattle.collector.proofs.InOrder.{released}
 use Rattle.collector.proofs.LawfulReleases.{all-numbered, lawful}
-use Rattle.collector.proofs.CollectedObjects.{kept, precise, aged, none-logged, unlogged, has-number}
+use Rattle.collector.proofs.CollectedObjects.{kept, precise, aged, none-logged, unlogged, has-number, claimed-here, old-stay}
 use Rattle.collector.proofs.CollectedBlocks.{block-after}
 use Rattle.collector.proofs.StillFree.{in-place}
 use Rattle.collector.proofs.Turns.{fills-in-turn}
@@ -60,6 +60,8 @@ module _ {q : Plan} {c : Collect} {p : Setup} {u : List ℕ} (under : IsSetupUnd
     logged = none-logged under trace finished all;
     unlogged = unlogged under trace finished all;
     numbers = λ full. has-number under trace finished all (under.nursery ∙ ap is_nursery full);
+    claimed = λ young. claimed-here under trace finished all young;
+    stays = λ young. old-stay under trace finished all young;
     number = refl;
     base = base-by c under.nursery;
     layout = refl;

@@ -1,8 +1,8 @@
--- A trace of which items are left to serve.
+-- A tracing of which some items are left to serve.
 use Rattle.std.specs.Prelude.{◌≡◌, ℕ, ◌<◌, ◌⊎◌, IsTrue, List, [], length, slice_index}
 use Rattle.heap_layout.specs.declared.layout.TheConstants.{GLOBALS}
 use Rattle.object_model.specs.Objects.{HeapState}
-use Rattle.trace_core.specs.Setups.{Setup, refs}
+use Rattle.trace_core.specs.Setups.{Setup, refs, was_logged}
 use Rattle.trace_core.specs.Machine.{Event}
 use Rattle.trace_core.specs.Traces.{stage_of}
 use Rattle.trace_core.specs.Outcomes.{image}
@@ -29,13 +29,16 @@ pub record TracerAwaits (p : Setup) (run : TraceRun) (events : List Event) (view
   pub none : w.won.items ≡ []
   pub sparse : view.sparse ≡ []
 
--- What is to be done with objects that are copied is done, or left to these items.
+-- What is to be done with objects that are copied or were logged is done, or left to these items.
 pub record ObjectsAwait (p : Setup) (run : TraceRun) (events : List Event) (view : View)
     (items : List Item) : Type 0 where
   -- an object that is copied is an item, or is scanned up to its last field
   pub scanned : (x : ℕ) → 0 < times x view.copied
       → (0 < objects x items) ⊎ (0 < hits x (refs p x) view.grey)
-  -- and if the run marks lines, it is an item, or its lines are marked
+  -- so is one that was logged
+  pub logged : (x : ℕ) → IsTrue (was_logged p x)
+      → (0 < objects x items) ⊎ (0 < hits x (refs p x) view.grey)
+  -- if the run marks lines, one that is copied is an item, or its lines are marked
   pub lines : IsTrue run.lines → (x : ℕ) → 0 < times x view.copied
       → (0 < objects x items) ⊎ HasItsLines p events x
 
@@ -51,7 +54,7 @@ pub record RootsAwait (view : View) (roots now : List ℕ) (items : List Item) :
       → 0 < times (slice_index roots i) view.asked
   pub by_roots : (x : ℕ) → 0 < times x view.asked → (i : ℕ) × (slice_index roots i ≡ x)
 
--- A trace of this heap from these roots is finished once these items, and no others, are served.
+-- A tracing of this heap from these roots is finished once these items, and no others, are served.
 pub record IsAwaited (s : HeapState) (run : TraceRun) (roots : List ℕ) (w : PacketTracer)
     (items : List Item) : Type 0 where
   pub events : List Event

@@ -5,7 +5,8 @@ use Rattle.heap_layout.specs.Zones.{block_at, block_start}
 use Rattle.heap_layout.specs.declared.layout.TheConstants.{BLOCK_WORDS}
 use Rattle.heap_layout.specs.declared.block.Kind.TheVariants as kinds
 use Rattle.object_model.specs.declared.collect.Collect.{Collect}
-use Rattle.object_model.specs.declared.collect.Collect.TheVariants.{Nursery, Full}
+use Rattle.object_model.specs.declared.collect.Collect.TheVariants.{Nursery}
+use Rattle.object_model.specs.Ages.{RemembersYoung}
 use Rattle.object_model.specs.declared.shape.TheConstants.{MAX_MEDIUM_WORDS}
 use Rattle.object_model.specs.Objects.{HeapState, HasKind, IsInExtentOf, size_at}
 use Rattle.sessions.specs.Plans.{Rules}
@@ -16,9 +17,13 @@ use Rattle.object_model.specs.Times.{times}
 use Rattle.trace_core.specs.Rooms.{IsFilled}
 use Rattle.trace_core.specs.declared.run.TraceRun.{TraceRun}
 
--- `collect` makes collections of this kind under these rules: full ones, today
-unfoldable pub IsOffered : Rules → Collect → Type 0
-IsOffered r c = c ≡ Full
+-- A collection of this kind may be made of this heap under these rules: a full one of any heap, a
+-- nursery one under rules with young objects, after a full one, if the heap remembers its young
+-- objects.
+pub record IsOffered (r : Rules) (c : Collect) (s : HeapState) : Type 0 where
+  pub young : c ≡ Nursery → IsTrue r.young
+  pub base : c ≡ Nursery → 0 < s.base
+  pub remembers : c ≡ Nursery → RemembersYoung s
 
 -- The description is of a collection of this kind under these rules: which blocks the rules
 -- evacuate, the kind of blocks that workers fill, and whether lines are marked. Only rules with

@@ -1,5 +1,5 @@
--- What is known of a finished trace as its blocks are released, and what that shows of a block.
-use Rattle.std.specs.Prelude.{◌≡◌, ℕ, ◌<◌, Bool, List}
+-- What is known of a finished tracing as its blocks are released, and what that shows of a block.
+use Rattle.std.specs.Prelude.{◌≡◌, ℕ, ◌<◌, Bool, IsTrue, List}
 use Rattle.object_model.specs.declared.collect.Collect.{Collect}
 use Rattle.object_model.specs.Objects.{HeapState, block_word}
 use Rattle.sessions.specs.Plans.{Rules}
@@ -7,23 +7,25 @@ use Rattle.trace_core.specs.Setups.{Setup, blocks}
 use Rattle.trace_core.specs.Machine.{Event}
 use Rattle.trace_core.specs.declared.run.TraceRun.{TraceRun}
 use Rattle.collector.specs.Collected.{IsRunUnder}
-use Rattle.collector.specs.Released.{UnlogBitsMarkSurvivors, LinesOfTargetsAreMarked, LineBitsMarkSurvivors, FlagShowsEvacuation}
+use Rattle.collector.specs.Released.{UnlogBitsMarkSurvivors, LosesNothing, LinesOfTargetsAreMarked, LinesOfClaimedAreMarked, LineBitsMarkSurvivors, FlagShowsEvacuation}
 use Rattle.collector.specs.declared.releasing.Known.{Known}
 use Rattle.collector.specs.declared.releasing.Known.TheVariants as known
 
--- The trace's run is that of a collection of a heap under these rules, and the trace began with the
--- block words of that heap.
+-- The tracing's run is that of a collection of a heap under these rules, and the tracing began with
+-- the block words of that heap.
 pub record IsTracedUnder (r : Rules) (run : TraceRun) (p : Setup) : Type 0 where
   pub heap : HeapState
   pub under : IsRunUnder r run.collect heap run
   pub blocks : blocks p ≡ heap.blocks
   pub words : (k : ℕ) → k < heap.blocks → block_word p.before k ≡ block_word heap k
 
--- the trace was so
+-- the tracing was so
 abbrev pub IsKnown : Rules → TraceRun → Setup → List Event → Known → Type 0
 IsKnown r run p es known.Nothing = Unit {0}
 IsKnown r run p es known.Flags = IsTracedUnder r run p
 IsKnown r run p es known.FlagsAndLines = IsTracedUnder r run p × LinesOfTargetsAreMarked p es
+IsKnown r run p es known.FlagsAndKeptLines = IsTracedUnder r run p × LinesOfClaimedAreMarked p es
+    × IsTrue run.lines
 
 -- so the bits of block k show what lives in it, and its flag whether it is Kept
 abbrev pub ShowsRelease : Known → Rules → Collect → ℕ → HeapState → ℕ → Bool → Type 0
@@ -32,3 +34,6 @@ ShowsRelease known.Flags r c base s k flag = UnlogBitsMarkSurvivors base s k
     × FlagShowsEvacuation r c s k flag
 ShowsRelease known.FlagsAndLines r c base s k flag = UnlogBitsMarkSurvivors base s k
     × FlagShowsEvacuation r c s k flag × LineBitsMarkSurvivors base s k
+ShowsRelease known.FlagsAndKeptLines r c base s k flag = UnlogBitsMarkSurvivors base s k
+    × FlagShowsEvacuation r c s k flag
+    × (LosesNothing base s k → LineBitsMarkSurvivors base s k) × IsTrue r.lines

@@ -7,3 +7,4 @@ pub mod RootPackets
 pub mod Serving
 pub mod Tallies
 pub mod Working
+pub mod Prelude

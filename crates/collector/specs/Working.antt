@@ -1,10 +1,9 @@
--- What the worker of a collection is, by its trace: the packets it may run, its steps, and what it
--- awaits.
+-- What the worker of a collection is, by its tracing: the packets it may run, its steps, and what
+-- it awaits.
 use Rattle.std.specs.Prelude.{◌≡◌, ℕ, ◌<◌, ◌⊎◌, List, [], All}
 use Rattle.std.specs.List.Sorted.{IsPermutation}
 use Rattle.work_packets.specs.declared.packet.Packet.{Packet}
 use Rattle.work_packets.specs.declared.packet.Bucket.TheVariants as buckets
-use Rattle.object_model.specs.declared.collect.Collect.TheVariants.{Full}
 use Rattle.object_model.specs.Objects.{state_of}
 use Rattle.object_model.specs.Heaps.{heap_state}
 use Rattle.trace_core.specs.Setups.{Setup}
@@ -25,7 +24,7 @@ use Rattle.collector.specs.Tallies.{Counts, unclaimed}
 abbrev pub TakesPlaces : ℕ → Packet Item → Type 0
 TakesPlaces h p = (i : ℕ) → 0 < registers i p.items.items → i < h
 
--- The trace ran a packet and pushed these: whatever collection it traces, it served the items of
+-- The worker ran a packet and pushed these: whatever collection it traces, it served the items of
 -- the packet and pushed the objects that it copied meanwhile, which it counted.
 pub record RunsPacket (w : PacketTracer) (p : Packet Item) (q : List (Packet Item))
     (v : PacketTracer) : Type 0 where
@@ -37,7 +36,7 @@ pub record RunsPacket (w : PacketTracer) (p : Packet Item) (q : List (Packet Ite
       → HasRights setup view w.roots.items p.items.items
       → ServesItems setup es view w.tracer w.roots.items p.items.items v.tracer v.roots.items won
 
--- the objects that the trace has still to claim are at most so many
+-- the objects that the tracing has still to claim are at most so many
 abbrev pub unclaimed_by : PacketTracer → ℕ
 unclaimed_by w = unclaimed (state_of w.tracer.row) w.tracer.run.number
 
@@ -45,14 +44,13 @@ unclaimed_by w = unclaimed (state_of w.tracer.row) w.tracer.run.number
 abbrev pub IsOfTrace : Packet Item → Type 0
 IsOfTrace p = (p.bucket ≡ buckets.Roots) ⊎ (p.bucket ≡ buckets.Closure)
 
--- The trace began so, and these packets are left.
+-- The tracing began so, and these packets are left.
 pub record AwaitsPackets (start : TracingStart) (w : PacketTracer) (ps : List (Packet Item))
     : Type 0 where
   pub awaited : IsAwaited (heap_state start.heap) start.run start.roots.items w (items_of ps)
   pub buckets : All IsOfTrace ps
 
--- The trace of a full collection began so, and nothing is left to serve.
-pub record IsFullTracer (start : TracingStart) (w : PacketTracer) : Type 0 where
+-- The tracing of a collection, full or nursery, began so, and nothing is left to serve.
+pub record AwaitsNothing (start : TracingStart) (w : PacketTracer) : Type 0 where
   pub may : MayRun (heap_state start.heap) start.run
-  pub full : start.run.collect ≡ Full
   pub awaited : IsAwaited (heap_state start.heap) start.run start.roots.items w []

@@ -1,21 +1,8 @@
 //! A whole collection.
 
-ghost use Rattle.std.specs.Prelude.{◌≡◌, ◌+◌, ◌*◌, ◌^◌, ◌<◌, ◌≤◌, ◌⊎◌, ◌∷◌, [], ℕ, List, All, IfOk, length, true, false};
-ghost use Rattle.object_model.specs.declared.collect.Collect.TheVariants.{Full};
-ghost use Rattle.object_model.specs.Objects.{IsHeld};
-ghost use Rattle.object_model.specs.Heaps.{heap_state};
-ghost use Rattle.sessions.specs.Collecting.{IsCollection, Collects, OnlyCounts};
-ghost use Rattle.trace_core.specs.Runs.{MayRun, is_nursery};
-ghost use Rattle.collector.specs.Collected.{IsOffered, IsRunUnder, FillsInTurn, FillsIf};
-ghost use Rattle.collector.specs.Items.{items_of};
-ghost use Rattle.collector.specs.RootPackets.{AreRootPackets};
-ghost use Rattle.collector.specs.Awaited.{IsAwaited};
-ghost use Rattle.collector.specs.Working.{AwaitsPackets, IsFullTracer};
-ghost use Rattle.collector.specs.Tallies.{IsNote, NotesIf, stays_in_place};
-ghost use Rattle.object_model.specs.Lawful.{AreRoots};
-ghost use Rattle.collector.specs.declared.worker.TracingStart.{TracingStart};
+ghost use Rattle.std.specs.Prelude.{◌≡◌, ◌+◌, ◌*◌, ◌^◌, ◌<◌, ◌≤◌, ◌⊎◌, ◌∷◌, [], ℕ, List, All, IfOk, IsTrue, length, true, false, if◌then◌else◌};
+ghost use Rattle.collector.specs.Prelude.{Full, Nursery, CoverLogged, IsHeld, heap_state, IsCollection, Collects, OnlyCounts, MayRun, is_nursery, ListsLogged, IsOffered, IsRunUnder, FillsInTurn, FillsIf, items_of, AreRootItems, AreRootPackets, IsAwaited, AwaitsPackets, AwaitsNothing, IsNote, NotesIf, stays_in_place, AreRoots, TracingStart};
 
-use crate::counting::count_held;
 use crate::item::Item;
 use crate::outcome::{Collected, Note};
 use crate::packet_tracer::PacketTracer;
@@ -33,14 +20,15 @@ use std::alloc::{AllocError, Global};
 use std::thread::Threads;
 use trace_core::TraceRun;
 use work_packets::{Bucket, Gate, Packet};
+use write_barrier::{all_flags, logged_in_flagged};
 
-/// Runs a full collection of a heap in buckets of work, as MMTk does: the tracer is prepared, the
-/// worker serves the roots, `roots` and the heap's globals, and scans what it claims, and the
-/// blocks are released. Under NoGC the collection number rises, and nothing else changes.
+/// Runs a collection of a heap in buckets of work, as MMTk does: the tracer is prepared, the worker
+/// serves the roots, `roots` and the heap's globals, scans what it claims, and in a nursery
+/// collection the logged objects, and the blocks are released. Old objects stay in a nursery
+/// collection, dead ones too. Under NoGC the collection number rises, and nothing else changes.
 ///
 /// `roots` are the mutators' registers. There is one worker, which takes a block to copy into only
-/// for an object that does not fit the last one, and then the lowest Free one. Only full
-/// collections are offered, and others are not made.
+/// for an object that does not fit the last one, and then the lowest Free one.
 ///
 /// Fails if memory runs out. The heap is lost then.
 pub fn collect<P: Plan, Q: Pool, G: Gate, R: Threads + Sync>(
@@ -53,7 +41,38 @@ pub fn collect<P: Plan, Q: Pool, G: Gate, R: Threads + Sync>(
     pool: &Q,
     gate: &G,
 ) -> Result<Collected, AllocError>
-    requires offered { IsOffered P.rules collect }
+    requires offered { IsOffered P.rules collect (heap_state heap) }
+    requires one { workers ≡ 1 }
+    requires few { length roots.items ≤ MAX_ROOTS }
+    requires held { AreRoots (heap_state heap) roots.items }
+    requires number { (heap_state heap).number + 1 < 2 ^ NUMBER_BITS }
+    ensures { IfOk result (λ c. (made : IsCollection P.rules workers collect (heap_state heap)
+        roots.items (heap_state c.heap) c.roots.items)
+        × NotesIf P.rules.collects P.rules workers collect (heap_state heap) roots.items
+        (heap_state c.heap) c.roots.items made c.note
+        × FillsIf P.rules.collects P.rules workers collect (heap_state heap) roots.items
+        (heap_state c.heap) c.roots.items made) }
+{
+    let flags = all_flags(alloc, &heap)?;
+    collect_flagged::<P, Q, G, R>(rt, alloc, heap, roots, &flags, collect, workers, pool, gate)
+}
+
+/// Runs a collection as `collect` does, with a flag for each block: under a plan with young objects
+/// it is set if an object of the block may be logged. A nursery collection looks for logged objects
+/// in flagged blocks alone.
+pub fn collect_flagged<P: Plan, Q: Pool, G: Gate, R: Threads + Sync>(
+    rt: &R,
+    alloc: Global,
+    heap: Heap,
+    roots: Vec<u32>,
+    flags: &[bool],
+    collect: Collect,
+    workers: u32,
+    pool: &Q,
+    gate: &G,
+) -> Result<Collected, AllocError>
+    requires offered { IsOffered P.rules collect (heap_state heap) }
+    requires flags { IsTrue P.rules.young → CoverLogged (heap_state heap) flags.now }
     requires one { workers ≡ 1 }
     requires few { length roots.items ≤ MAX_ROOTS }
     requires held { AreRoots (heap_state heap) roots.items }
@@ -69,7 +88,7 @@ pub fn collect<P: Plan, Q: Pool, G: Gate, R: Threads + Sync>(
     if !reclaims {
         return Ok(count_only(heap, roots, collect));
     }
-    let run = prepare::<P>(alloc, &heap, collect)?;
+    let run = prepare::<P>(alloc, &heap, flags, collect)?;
     let (trace, first) = begin(alloc, heap, run, roots)?;
     let trace = run_packets(rt, trace, first, pool, gate)?;
     Ok(finish::<P>(trace))
@@ -84,7 +103,7 @@ fn count_only(heap: Heap, roots: Vec<u32>, collect: Collect) -> Collected
     ensures note { IsNote collect (heap_state heap) (stays_in_place (heap_state heap))
         (heap_state result.heap) result.note }
 {
-    let (kept, kept_words) = count_held(&heap);
+    let (kept, kept_words) = heap.held_count();
     let free_blocks = block_counts(&heap).free;
     let mut row = heap.into_row();
     row.number += 1;
@@ -102,27 +121,67 @@ fn count_only(heap: Heap, roots: Vec<u32>, collect: Collect) -> Collected
     }
 }
 
-/// What the tracer gets as the description of a full collection under the plan.
-fn prepare<P: Plan>(alloc: Global, heap: &Heap, collect: Collect) -> Result<TraceRun, AllocError>
-    requires full { collect ≡ Full }
+/// What the tracer gets as the description of a collection under the plan.
+///
+/// Fails if memory runs out.
+fn prepare<P: Plan>(
+    alloc: Global,
+    heap: &Heap,
+    flags: &[bool],
+    collect: Collect,
+) -> Result<TraceRun, AllocError>
+    requires offered { IsOffered P.rules collect (heap_state heap.now) }
+    requires flags { IsTrue P.rules.young → CoverLogged (heap_state heap.now) flags.now }
     requires number { (heap_state heap.now).number + 1 < 2 ^ NUMBER_BITS }
     ensures may { IfOk result (λ run. MayRun (heap_state heap.now) run) }
     ensures under { IfOk result (λ run. IsRunUnder P.rules collect (heap_state heap.now) run) }
 {
-    let number = heap.number() + 1;
     let from = P::from_blocks(alloc, heap, collect)?;
+    let logged = logged_for(alloc, heap, flags, collect)?;
     Ok(TraceRun {
-        number,
-        base: number,
+        number: heap.number() + 1,
+        base: base_after(heap, collect),
         collect,
         from,
         copy_kind: P::copy_kind(),
         lines: P::FLAGS.contains(PlanFlags::LINES),
-        logged: Vec::new(alloc),
+        logged,
     })
 }
 
-/// The trace as it begins, and the packets of its roots.
+/// The base after a collection of the heap.
+fn base_after(heap: &Heap, collect: Collect) -> u64
+    requires { (heap_state heap.now).number + 1 < 2 ^ NUMBER_BITS }
+    ensures { result ≡ (if is_nursery collect then (heap_state heap.now).base
+        else (heap_state heap.now).number + 1) }
+{
+    match collect {
+        Collect::Nursery => heap.base(),
+        Collect::Full => heap.number() + 1,
+    }
+}
+
+/// The logged objects for a nursery collection, and none for a full one.
+///
+/// Fails if memory runs out.
+fn logged_for(
+    alloc: Global,
+    heap: &Heap,
+    flags: &[bool],
+    collect: Collect,
+) -> Result<Vec<u32>, AllocError>
+    requires { collect ≡ Nursery → CoverLogged (heap_state heap.now) flags.now }
+    ensures nursery { IfOk result (λ v. IsTrue (is_nursery collect)
+        → ListsLogged (heap_state heap.now) v.items) }
+    ensures full { IfOk result (λ v. is_nursery collect ≡ false → v.items ≡ []) }
+{
+    match collect {
+        Collect::Nursery => logged_in_flagged(alloc, heap, flags),
+        Collect::Full => Ok(Vec::new(alloc)),
+    }
+}
+
+/// The tracing as it begins, and the packets of its roots.
 fn begin(
     alloc: Global,
     heap: Heap,
@@ -130,16 +189,18 @@ fn begin(
     roots: Vec<u32>,
 ) -> Result<(PacketTracer, Vec<Packet<Item>>), AllocError>
     requires may { MayRun (heap_state heap) run }
-    requires full { is_nursery run.collect ≡ false }
     requires few { length roots.items ≤ MAX_ROOTS }
     requires held { AreRoots (heap_state heap) roots.items }
     ensures awaits { IfOk result (λ r. IsAwaited (heap_state heap) run roots.items r.0
+        (items_of r.1.items)) }
+    ensures items { IfOk result (λ r. AreRootItems (length roots.items) run.logged.items
         (items_of r.1.items)) }
     ensures packets { IfOk result (λ r. AreRootPackets r.1.items) }
 {
     let mut tracer = PlainTrace::begin(heap, run)?;
     let globals = tracer.take_globals(alloc)?;
-    let first = root_packets(alloc, roots.len() as u32, globals)?;
+    let logged = tracer.take_logged(alloc)?;
+    let first = root_packets(alloc, roots.len() as u32, globals, logged)?;
     let trace = PacketTracer {
         tracer,
         roots,
@@ -182,11 +243,11 @@ fn run_packets<Q: Pool, G: Gate, R: Threads + Sync>(
     Ok(worker.trace)
 }
 
-/// The heap after a trace of which nothing is left to do.
+/// The heap after a tracing of which nothing is left to do.
 fn finish<P: Plan>(trace: PacketTracer) -> Collected
-    requires { (start : TracingStart) × IsFullTracer start trace
+    requires { (start : TracingStart) × AwaitsNothing start trace
         × IsRunUnder P.rules start.run.collect (heap_state start.heap) start.run }
-    ensures { (start : TracingStart) → IsFullTracer start trace → P.rules.collects ≡ true
+    ensures { (start : TracingStart) → AwaitsNothing start trace → P.rules.collects ≡ true
         → IsRunUnder P.rules start.run.collect (heap_state start.heap) start.run
         → (made : Collects P.rules 1 start.run.collect (heap_state start.heap)
         start.roots.items (heap_state result.heap) result.roots.items)

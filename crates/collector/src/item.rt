@@ -2,7 +2,7 @@
 
 use plain_tracer::{GlobalRoot, Grey};
 
-/// One piece of the work of a trace.
+/// One piece of the work of a tracing.
 #[derive(Debug, Drop)]
 pub enum Item {
     /// The root at this place of the list of roots is to get its target.

@@ -1,31 +1,11 @@
-//! Laws of the release of all blocks after a trace, and of the collection that both make.
+//! Laws of the release of all blocks after a tracing, and of the collection that both make.
 
 ghost use Rattle.std.specs.Prelude.{◌≡◌, ◌↔◌, ◌^◌, ◌<◌, ℕ, Bool, Some, List, IsTrue, true, false, map, slice_get};
-ghost use Rattle.heap_layout.specs.Zones.{block_at};
-ghost use Rattle.heap_layout.specs.declared.layout.TheConstants.{BLOCK_LINES};
-ghost use Rattle.heap_layout.specs.declared.block.Kind.TheVariants as kinds;
-ghost use Rattle.heap_layout.specs.declared.layout.Layout.{Layout};
-ghost use Rattle.object_model.specs.declared.collect.Collect.{Collect};
-ghost use Rattle.object_model.specs.declared.collect.Collect.TheVariants.{Full, Nursery};
-ghost use Rattle.object_model.specs.Objects.{HeapState, HasKind, state_over, word_at, line_marked, refs_at, nums_at, IsHeld, is_unlogged};
-ghost use Rattle.object_model.specs.Lawful.{IsLawful};
-ghost use Rattle.object_model.specs.Ages.{Lives};
-ghost use Rattle.object_model.specs.Releasing.{IsReleasable};
-ghost use Rattle.sessions.specs.Plans.{Rules, Plan, rules_of};
-ghost use Rattle.sessions.specs.Collecting.{IsCollection};
-ghost use Rattle.trace_core.specs.Setups.{Setup, blocks, collection};
-ghost use Rattle.trace_core.specs.Machine.{Event};
-ghost use Rattle.trace_core.specs.Traces.{IsTracing, IsFinished, machine_after, heap_after, stage_of};
-ghost use Rattle.trace_core.specs.Outcomes.{base_after_trace, image, HaveAsked, NoOthersAsked};
-ghost use Rattle.trace_core.specs.Runs.{setup_of, MayRun};
-ghost use Rattle.trace_core.specs.declared.run.TraceRun.{TraceRun};
-ghost use Rattle.plan_api.specs.Releasing.{Releases};
-ghost use Rattle.collector.specs.Collected.{IsOffered, IsRunUnder, FillsBlocks};
-ghost use Rattle.collector.specs.Released.{ReleasesBelow, AreReleased, with_numbers, UnlogBitsMarkSurvivors, LinesOfTargetsAreMarked, LineBitsMarkSurvivors, FlagShowsEvacuation};
-ghost use Rattle.collector.specs.Knowing.{IsTracedUnder};
+ghost use Rattle.collector.specs.Prelude.{block_at, BLOCK_LINES, Layout, Collect, Full, Nursery, HeapState, HasKind, state_over, word_at, line_marked, refs_at, nums_at, IsHeld, is_unlogged, IsLawful, Lives, IsReleasable, Rules, Plan, rules_of, IsCollection, Setup, blocks, collection, Event, IsTracing, IsFinished, machine_after, heap_after, stage_of, base_after_trace, image, HaveAsked, NoOthersAsked, setup_of, MayRun, TraceRun, Releases, IsOffered, Remembers, first_collection, IsRunUnder, FillsBlocks, ReleasesBelow, AreReleased, with_numbers, UnlogBitsMarkSurvivors, LinesOfTargetsAreMarked, LinesOfClaimedAreMarked, LosesNothing, LineBitsMarkSurvivors, FlagShowsEvacuation, IsTracedUnder};
+ghost use Rattle.collector.specs.Prelude.kinds;
 
-/// After a finished trace the blocks can be released in order: the next block may be released each
-/// time. What each release left stays, and no word but metadata of blocks changes.
+/// After a finished tracing the blocks can be released in order: the next block may be released
+/// each time. What each release left stays, and no word but metadata of blocks changes.
 pub fn blocks_are_released_in_order()
     ensures next { (p : Setup) (es : List Event) (r : Rules) (c : Collect) (mid : HeapState)
         (n : ℕ) → IsTracing p es → IsFinished p (machine_after p es)
@@ -37,7 +17,7 @@ pub fn blocks_are_released_in_order()
         → AreReleased r c (base_after_trace p) (heap_after p es) mid n }
 {}
 
-/// After a finished trace, of a full or of a nursery collection, the unlog bits of a block show
+/// After a finished tracing, of a full or of a nursery collection, the unlog bits of a block show
 /// what lives in it.
 pub fn unlog_bits_show_what_lives()
     ensures { (p : Setup) (es : List Event) (k : ℕ) → IsTracing p es
@@ -45,16 +25,21 @@ pub fn unlog_bits_show_what_lives()
         → UnlogBitsMarkSurvivors (base_after_trace p) (heap_after p es) k }
 {}
 
-/// After a finished trace that began with no line bit set, and marked the lines of each object
+/// After a finished tracing that began with no line bit set, and marked the lines of each object
 /// that it keeps, the line bits of an Immix block are those of the lines that what lives in it
-/// touches.
+/// touches. The same is so of a block in which no object died or moved away, after a tracing that
+/// began with exact line bits, and marked the lines of each object that it claimed.
 pub fn line_bits_show_what_lives()
-    ensures { (p : Setup) (es : List Event) (k : ℕ) → IsTracing p es
+    ensures all { (p : Setup) (es : List Event) (k : ℕ) → IsTracing p es
         → IsFinished p (machine_after p es) → LinesOfTargetsAreMarked p es → k < blocks p
+        → LineBitsMarkSurvivors (base_after_trace p) (heap_after p es) k }
+    ensures kept { (p : Setup) (es : List Event) (k : ℕ) → IsTracing p es
+        → IsFinished p (machine_after p es) → LinesOfClaimedAreMarked p es → k < blocks p
+        → LosesNothing (base_after_trace p) (heap_after p es) k
         → LineBitsMarkSurvivors (base_after_trace p) (heap_after p es) k }
 {}
 
-/// After a finished trace of a run under these rules, the run's flag of a block shows whether the
+/// After a finished tracing of a run under these rules, the run's flag of a block shows whether the
 /// block was evacuated.
 pub fn flags_show_evacuation()
     ensures { (r : Rules) (run : TraceRun) (p : Setup) (es : List Event) (k : ℕ) (flag : Bool)
@@ -63,10 +48,11 @@ pub fn flags_show_evacuation()
         → FlagShowsEvacuation r run.collect (heap_after p es) k flag }
 {}
 
-/// If each block of the row after a finished trace was released, the objects held are exactly those
-/// that survive, each with its unlog bit, and the heap is lawful. The stop word and the budget word
-/// are as they were before the trace, an object that was held and still is has its shape, and a
-/// block that is no Immix block, where an object that lives begins, keeps its line bits.
+/// If each block of the row after a finished tracing was released, the objects held are exactly
+/// those that survive, each with its unlog bit, and the heap is lawful. The stop word and the
+/// budget word are as they were before the tracing, an object that was held and still is has its
+/// shape, and a block that is no Immix block, where an object that lives begins, keeps its line
+/// bits.
 pub fn released_heaps_are_lawful()
     ensures held { (p : Setup) (es : List Event) (r : Rules) (c : Collect) (new : HeapState)
         (a : ℕ) → IsTracing p es → IsFinished p (machine_after p es)
@@ -99,7 +85,7 @@ pub fn released_heaps_are_lawful()
         → IsLawful (with_numbers new (collection p) (base_after_trace p)) }
 {}
 
-/// Under every plan that reclaims, a finished trace and the release of all blocks make a
+/// Under every plan that reclaims, a finished tracing and the release of all blocks make a
 /// collection: if the roots, and no others, asked, the heap after it and the roots' targets are
 /// those that a collection leaves. That heap is lawful.
 pub fn released_traces_are_collections()
@@ -132,8 +118,19 @@ pub fn releases_ignore_numbers()
         → Releases r c age (state_over old l number' base') (state_over new l number' base') k }
 {}
 
-/// Full collections are made under all rules, and nursery collections under none.
+/// A full collection may be made of any heap, and the collection to try first of a heap that
+/// remembers its young objects. For callers who choose the kind themselves: under a plan with young
+/// objects a nursery collection may be made of a lawful heap that a collection left. It still may
+/// while the base stays and the heap remembers its young objects, as after an epoch or a placement.
 pub fn offered_collections()
-    ensures full { (r : Rules) → IsOffered r Full }
-    ensures only { (r : Rules) → IsOffered r Nursery → ⊥ }
+    ensures full { (r : Rules) (s : HeapState) → IsOffered r Full s }
+    ensures first { (r : Rules) (s : HeapState) → Remembers r s
+        → IsOffered r (first_collection r s) s }
+    ensures none { (r : Rules) (s : HeapState) → r.young ≡ false → IsOffered r Nursery s → ⊥ }
+    ensures begins { (r : Rules) (s : HeapState) → s.base ≡ 0 → IsOffered r Nursery s → ⊥ }
+    ensures after { (q : Plan) (w : ℕ) (c : Collect) (s new : HeapState) (roots roots' : List ℕ)
+        → IsTrue (rules_of q).young → IsOffered (rules_of q) c s → IsLawful new
+        → IsCollection (rules_of q) w c s roots new roots' → IsOffered (rules_of q) Nursery new }
+    ensures kept { (r : Rules) (s new : HeapState) → IsOffered r Nursery s → new.base ≡ s.base
+        → Remembers r new → IsOffered r Nursery new }
 {}

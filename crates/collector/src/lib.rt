@@ -1,8 +1,7 @@
-//! Whole collections: the trace of a heap by packets of work, and the release of its blocks.
+//! Whole collections: the tracing of a heap by packets of work, and the release of its blocks.
 #![tactic(auto)]
 
 mod collecting;
-mod counting;
 mod item;
 mod laws;
 mod outcome;
@@ -12,7 +11,7 @@ mod roots;
 mod tally;
 mod worker;
 
-pub use collecting::collect;
+pub use collecting::{collect, collect_flagged};
 pub use item::Item;
 pub use laws::{
     blocks_are_released_in_order, flags_show_evacuation, line_bits_show_what_lives,

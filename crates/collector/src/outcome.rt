@@ -6,10 +6,12 @@ use object_model::{Collect, Heap};
 #[derive(Clone, Copy, Debug, PartialEq, Eq)]
 pub struct Note {
     pub collect: Collect,
-    /// The objects that are preserved, but for old ones in a nursery collection: those that moved,
-    /// and those in place.
+    /// The objects that were claimed and so are preserved: all but old ones of a nursery
+    /// collection.
     pub kept: u32,
+    /// Of these, the ones that moved.
     pub moved: u32,
+    /// Of these, the ones that stay where they were.
     pub in_place: u32,
     /// The words of these objects.
     pub kept_words: u64,

@@ -1,4 +1,4 @@
-//! A trace that is made item by item.
+//! A tracer that serves item by item.
 //! The worker (`worker.rt`) calls `serve` for each item of a packet, and `hand_on` after the last.
 //! `serve` writes `roots` and adds to `won`. `hand_on` takes `won` apart: as a token leaves it,
 //! `tally` counts its object, so the two change together. `spare` holds lists between packets.
@@ -6,21 +6,9 @@
 
 ghost use Rattle.std.specs.Prelude.{◌≡◌, ◌∷◌, ◌++◌, ◌≤◌, ◌<◌, [], List, All, IfOk, length, map, vec_capacity};
 ghost use Rattle.std.specs.List.Sorted.{IsPermutation};
-ghost use Rattle.work_packets.specs.Packets.{HasItems};
-ghost use Rattle.work_packets.specs.declared.packet.Bucket.TheVariants as buckets;
-ghost use Rattle.work_packets.specs.declared.packet.TheConstants.{MAX_ITEMS};
-ghost use Rattle.trace_core.specs.Setups.{Setup};
-ghost use Rattle.trace_core.specs.Machine.{Event};
-ghost use Rattle.trace_core.specs.Views.{View};
-ghost use Rattle.object_model.specs.Times.{one_if};
-ghost use Rattle.plain_tracer.specs.TokenRights.{IsReached, grey_of};
-ghost use Rattle.plain_tracer.specs.Tracers.{Tracks, TracerHolds};
-ghost use Rattle.plain_tracer.specs.declared.tokens.Grey.{Grey};
-ghost use Rattle.plain_tracer.specs.declared.tokens.Reached.{Reached};
-ghost use Rattle.collector.specs.declared.item.Item.TheVariants as items;
-ghost use Rattle.collector.specs.Items.{items_of, tokens_of, IsObject};
-ghost use Rattle.collector.specs.Serving.{HasRights, ServesItems, AreShaped};
-ghost use Rattle.collector.specs.Tallies.{Counts, has_moved};
+ghost use Rattle.collector.specs.Prelude.{HasItems, MAX_ITEMS, Setup, Event, View, one_if, IsReached, grey_of, Tracks, TracerHolds, Grey, Reached, items_of, tokens_of, IsObject, HasRights, ServesItems, AreShaped, Counts, has_moved};
+ghost use Rattle.collector.specs.Prelude.buckets;
+ghost use Rattle.collector.specs.Prelude.items;
 
 use crate::item::Item;
 use crate::tally::Tally;
@@ -29,7 +17,7 @@ use std::alloc::AllocError;
 use std::mem;
 use work_packets::{Bucket, MAX_ITEMS, Packet};
 
-/// A trace by one worker, its roots and its counts.
+/// A tracer for one worker, the roots and its counts.
 #[derive(Debug, Drop)]
 pub struct PacketTracer {
     pub(crate) tracer: PlainTrace,

@@ -1,27 +1,10 @@
-//! The release of all blocks at the end of a collection. What is known of the trace and the kind of
-//! a block say how: by its unlog bits, where these are all that is read, or by the plan.
+//! The release of all blocks at the end of a collection. What is known of the tracing and the kind
+//! of a block say how: by its unlog bits alone, by these and the objects left, or by the plan.
 
-ghost use Rattle.std.specs.Prelude.{◌≡◌, ◌+◌, ◌*◌, ◌<◌, ◌^◌, ◌||◌, ℕ, nat_eq, List, slice_index, true, false};
-ghost use Rattle.heap_layout.specs.Zones.{IsRowOf};
-ghost use Rattle.heap_layout.specs.Blocks.{code_of, kind_code, IsValidWord};
-ghost use Rattle.heap_layout.specs.declared.block.Kind.TheVariants as kinds;
-ghost use Rattle.object_model.specs.Objects.{HeapState, state_of, block_word, IsHeld, shown};
-ghost use Rattle.object_model.specs.Releasing.{IsReleasable};
-ghost use Rattle.object_model.specs.Heaps.{heap_state};
-ghost use Rattle.object_model.specs.declared.collect.Collect.{Collect};
-ghost use Rattle.object_model.specs.declared.collect.Collect.TheVariants.{Full};
-ghost use Rattle.block_sweeps.specs.Sweeping.{InBlock};
-ghost use Rattle.block_sweeps.specs.WordSweeps.{MaySweep, SweepsWords};
-ghost use Rattle.sessions.specs.Plans.{Rules};
-ghost use Rattle.trace_core.specs.Setups.{Setup};
-ghost use Rattle.trace_core.specs.Machine.{Event};
-ghost use Rattle.trace_core.specs.Traces.{IsTracing, IsFinished, machine_after, heap_after};
-ghost use Rattle.trace_core.specs.Runs.{IsRunOf};
-ghost use Rattle.trace_core.specs.declared.run.TraceRun.{TraceRun};
-ghost use Rattle.plan_api.specs.Releasing.{Releases, word_after, is_kept_after};
-ghost use Rattle.collector.specs.Released.{ReleasesBelow, with_numbers, UnlogBitsMarkSurvivors, UnlogWordMarksSurvivors, LinesOfTargetsAreMarked, LineBitsMarkSurvivors, FlagShowsEvacuation};
-ghost use Rattle.collector.specs.declared.releasing.Known.TheVariants as knowledge;
-ghost use Rattle.collector.specs.Knowing.{IsTracedUnder, IsKnown, ShowsRelease};
+ghost use Rattle.std.specs.Prelude.{◌≡◌, ◌+◌, ◌*◌, ◌<◌, ◌^◌, ◌||◌, ℕ, nat_eq, List, IsTrue, slice_index, true, false};
+ghost use Rattle.collector.specs.Prelude.{IsRowOf, code_of, kind_code, IsValidWord, HeapState, state_of, block_word, IsHeld, shown, IsReleasable, heap_state, Collect, Full, Nursery, InBlock, MaySweep, SweepsWords, Rules, Setup, Event, IsTracing, IsFinished, machine_after, heap_after, IsRunOf, TraceRun, Releases, word_after, is_kept_after, ReleasesBelow, with_numbers, UnlogBitsMarkSurvivors, LosesNothing, SweepsSome, DiffersInSome, UnlogWordMarksSurvivors, LinesOfTargetsAreMarked, LinesOfClaimedAreMarked, LineBitsMarkSurvivors, FlagShowsEvacuation, IsTracedUnder, IsKnown, ShowsRelease};
+ghost use Rattle.collector.specs.Prelude.kinds;
+ghost use Rattle.collector.specs.Prelude.knowledge;
 
 use block_sweeps::{free_block, store};
 use heap_layout::{BLOCK_BIT_WORDS, BlockWord, Kind, Layout, encode};
@@ -30,7 +13,7 @@ use plan_api::{Plan, block_word_in};
 use side_meta::Words;
 use trace_core::{TraceRun, Traced};
 
-/// What is known of a finished trace, and shows what becomes of a block.
+/// What is known of a finished tracing, and shows what becomes of a block.
 #[derive(Clone, Copy, Debug, PartialEq, Eq)]
 pub(crate) enum Known {
     /// Nothing: what lives is seen by the collector words of objects.
@@ -40,31 +23,32 @@ pub(crate) enum Known {
     /// The same, and line bits that were clear are set where objects that live lie: the line bits
     /// of an Immix block are its lines in use.
     FlagsAndLines,
+    /// The same as `Flags`, and line bits that were exact are set where claimed objects lie: the
+    /// line bits of an Immix block are its lines in use if no object in it died or moved away.
+    FlagsAndKeptLines,
 }
 
-/// What is known after a trace of a collection of this kind, which marked lines if `lines`. A
+/// What is known after a tracing of a collection of this kind, which marked lines if `lines`. A
 /// nursery collection leaves the lines of young objects that died marked.
 pub(crate) fn known_after(collect: Collect, lines: bool) -> Known
     ensures { (r : Rules) (run : TraceRun) (p : Setup) (es : List Event) → IsTracedUnder r run p
-        → (collect ≡ Full → lines ≡ true → LinesOfTargetsAreMarked p es)
+        → run.lines ≡ lines → (collect ≡ Full → lines ≡ true → LinesOfTargetsAreMarked p es)
+        → (collect ≡ Nursery → lines ≡ true → LinesOfClaimedAreMarked p es)
         → IsKnown r run p es result }
 {
+    if !lines {
+        return Known::Flags;
+    }
     match collect {
-        Collect::Nursery => Known::Flags,
-        Collect::Full => {
-            if lines {
-                Known::FlagsAndLines
-            } else {
-                Known::Flags
-            }
-        }
+        Collect::Nursery => Known::FlagsAndKeptLines,
+        Collect::Full => Known::FlagsAndLines,
     }
 }
 
-/// Releases each block of the row after a finished trace by the rules of the plan, which makes it a
-/// lawful heap.
+/// Releases each block of the row after a finished tracing by the rules of the plan, which makes it
+/// a lawful heap.
 ///
-/// It asks nothing of the trace but that it is finished, so it reads the collector word of each
+/// It asks nothing of the tracing but that it is finished, so it reads the collector word of each
 /// object, and the header of one where it marks lines.
 pub fn release<P: Plan>(traced: Traced) -> Heap
     requires { (p : Setup) × (es : List Event) × IsTracing p es × IsFinished p (machine_after p es)
@@ -77,7 +61,7 @@ pub fn release<P: Plan>(traced: Traced) -> Heap
     release_by::<P>(traced, Known::Nothing)
 }
 
-/// Releases each block as `release` does, by what is known of the trace.
+/// Releases each block as `release` does, by what is known of the tracing.
 pub(crate) fn release_by<P: Plan>(traced: Traced, known: Known) -> Heap
     requires { (p : Setup) × (es : List Event) × IsTracing p es × IsFinished p (machine_after p es)
         × (state_of traced.row ≡ heap_after p es) × IsRunOf p traced.run
@@ -113,9 +97,8 @@ pub(crate) fn release_by<P: Plan>(traced: Traced, known: Known) -> Heap
     })
 }
 
-/// Releases a block, by what is known of the trace and by its kind. `evacuated` is the block's flag
-/// of the trace. Large runs are released by the plan, and so are Immix blocks whose line bits may
-/// be set where nothing that lives lies: they are written anew, from the objects that are left.
+/// Releases a block, by what is known of the tracing and by its kind. `evacuated` is the block's
+/// flag of the tracing. Large runs are released by the plan.
 fn release_next<P: Plan>(
     words: &mut Vec<u64>,
     layout: &Layout,
@@ -136,6 +119,8 @@ fn release_next<P: Plan>(
     let word = block_word_in(words, layout, block);
     if is_shown(known, word.kind) {
         release_by_bits(words, layout, block, &word, evacuated);
+    } else if keeps_lines(known, word.kind) {
+        release_kept_lines::<P>(words, layout, block, &word);
     } else {
         P::release_block(words, layout, block, collect, base);
     }
@@ -155,9 +140,48 @@ fn is_shown(known: Known, kind: Kind) -> bool
     }
 }
 
+/// Whether what is known shows what becomes of a block of this kind if nothing in it died.
+fn keeps_lines(known: Known, kind: Kind) -> bool
+    ensures known { result ≡ true → known ≡ knowledge.FlagsAndKeptLines }
+    ensures immix { result ≡ true → kind ≡ kinds.Immix }
+{
+    match kind {
+        Kind::Immix => matches!(known, Known::FlagsAndKeptLines),
+        _ => false,
+    }
+}
+
+/// Releases an Immix block whose line bits show what lives in it if no object in it died or moved
+/// away. They stay then, else its lines are marked anew, from the objects that are left.
+fn release_kept_lines<P: Plan>(words: &mut Vec<u64>, layout: &Layout, block: u32, word: &BlockWord)
+    requires extent { IsRowOf layout.now words.old.items }
+    requires block { block < layout.now.blocks }
+    requires releasable { IsReleasable (shown words.old.items layout.now) block }
+    requires valid { IsValidWord word.now }
+    requires code { code_of word.now ≡ block_word (shown words.old.items layout.now) block }
+    requires immix { word.now.kind ≡ kinds.Immix }
+    requires lines { IsTrue P.rules.lines }
+    requires shows { (base : ℕ)
+        × UnlogBitsMarkSurvivors base (shown words.old.items layout.now) block }
+    ensures { (c : Collect) (base : ℕ)
+        → UnlogBitsMarkSurvivors base (shown words.old.items layout.now) block
+        → (LosesNothing base (shown words.old.items layout.now) block
+        → LineBitsMarkSurvivors base (shown words.old.items layout.now) block)
+        → Releases P.rules c base (shown words.old.items layout.now)
+        (shown words.new.items layout.now) block }
+{
+    if !bits_differ(words, layout, block) {
+        release_by_bits(words, layout, block, word, false);
+        return;
+    }
+    if sweep_by_bits(words, layout, block, word, false) {
+        P::relist_block(words, layout, block);
+    }
+}
+
 /// Releases a block of small and medium objects whose word is `word`: objects in it without an
 /// unlog bit are held no more. A block that is left with none becomes Free. Another keeps its line
-/// bits and has no owner, and is Kept if it was evacuated.
+/// bits and has no owner. One that was evacuated is Kept then, but for an Immix block.
 fn release_by_bits<W: Words>(
     words: &mut W,
     layout: &Layout,
@@ -182,13 +206,46 @@ fn release_by_bits<W: Words>(
         → Releases r c base (shown (W.words words.old) layout.now)
         (shown (W.words words.new) layout.now) block }
 {
+    let _left = sweep_by_bits(words, layout, block, word, evacuated);
+}
+
+/// Sweeps a block of small and medium objects whose word is `word` by its unlog bits. Answers
+/// whether an object is left. A block without one is released.
+fn sweep_by_bits<W: Words>(
+    words: &mut W,
+    layout: &Layout,
+    block: u32,
+    word: &BlockWord,
+    evacuated: bool,
+) -> bool
+    requires extent { IsRowOf layout.now (W.words words.old) }
+    requires block { block < layout.now.blocks }
+    requires releasable { IsReleasable (shown (W.words words.old) layout.now) block }
+    requires valid { IsValidWord word.now }
+    requires code { code_of word.now
+        ≡ block_word (shown (W.words words.old) layout.now) block }
+    requires head { word.now.kind ≡ kinds.LargeHead → ⊥ }
+    requires tail { word.now.kind ≡ kinds.LargeTail → ⊥ }
+    requires shows { (base : ℕ)
+        × UnlogBitsMarkSurvivors base (shown (W.words words.old) layout.now) block }
+    ensures left { result ≡ true → (r : Rules) (c : Collect) (base : ℕ)
+        → UnlogBitsMarkSurvivors base (shown (W.words words.old) layout.now) block
+        → FlagShowsEvacuation r c (shown (W.words words.old) layout.now) block evacuated
+        → SweepsSome r c base (shown (W.words words.old) layout.now)
+        (shown (W.words words.new) layout.now) block }
+    ensures none { result ≡ false → (r : Rules) (c : Collect) (base : ℕ)
+        → UnlogBitsMarkSurvivors base (shown (W.words words.old) layout.now) block
+        → Releases r c base (shown (W.words words.old) layout.now)
+        (shown (W.words words.new) layout.now) block }
+{
     keep_marked(words, layout, block);
-    if has_object(words, layout, block) {
-        let left = word_of_rest(word, evacuated);
-        store(words, layout.block_at(block), encode(&left));
-    } else {
+    if !has_object(words, layout, block) {
         free_block(words, layout, block);
+        return false;
     }
+    let left = word_of_rest(word, evacuated);
+    store(words, layout.block_at(block), encode(&left));
+    true
 }
 
 /// The word of a block in which something lives, of which `word` is the word before its release:
@@ -289,6 +346,26 @@ fn has_object<W: Words>(words: &W, layout: &Layout, block: u32) -> bool
     for index in 0..BLOCK_BIT_WORDS {
         let word = words.get(starts + index);
         if word != 0 {
+            return true;
+        }
+    }
+    false
+}
+
+/// Whether the start bits of the block differ from its unlog bits.
+fn bits_differ<W: Words>(words: &W, layout: &Layout, block: u32) -> bool
+    requires extent { IsRowOf layout.now (W.words words.now) }
+    requires block { block < layout.now.blocks }
+    ensures some { result ≡ true → DiffersInSome (shown (W.words words.now) layout.now) block }
+    ensures none { result ≡ false → DiffersInSome (shown (W.words words.now) layout.now) block
+        → ⊥ }
+{
+    let starts = layout.start_base() + BLOCK_BIT_WORDS * block;
+    let unlogs = layout.unlog_base() + BLOCK_BIT_WORDS * block;
+    for index in 0..BLOCK_BIT_WORDS {
+        let held = words.get(starts + index);
+        let living = words.get(unlogs + index);
+        if held != living {
             return true;
         }
     }

@@ -2,43 +2,58 @@
 
 ghost use Rattle.std.specs.Prelude.{◌≡◌, ◌++◌, ◌∷◌, [], IfOk, map};
 ghost use Rattle.std.specs.List.{range_with_len};
-ghost use Rattle.collector.specs.declared.item.Item.TheVariants as item;
-ghost use Rattle.collector.specs.Items.{items_of};
-ghost use Rattle.collector.specs.RootPackets.{AreRootPackets};
+ghost use Rattle.collector.specs.Prelude.{items_of, AreRootPackets};
+ghost use Rattle.collector.specs.Prelude.items;
 
 use crate::item::Item;
-use plain_tracer::GlobalRoot;
+use plain_tracer::{GlobalRoot, Grey};
 use std::alloc::{AllocError, Global};
 use work_packets::{Bucket, MAX_ITEMS, Packet};
 
 /// The maximum number of roots of a collection, more than the registers of all mutators.
 pub const MAX_ROOTS: usize = 1_000_000;
 
-/// The packets of `count` roots, in order, and of the globals after them. Each but the last has
-/// `MAX_ITEMS` items.
+/// The packets of `count` roots, in order, of the globals after them, and of the logged objects of
+/// a nursery collection. Each but the last has `MAX_ITEMS` items.
 ///
 /// Fails if memory runs out.
 pub(crate) fn root_packets(
     alloc: Global,
     count: u32,
     globals: Vec<GlobalRoot>,
+    logged: Vec<Grey>,
 ) -> Result<Vec<Packet<Item>>, AllocError>
     ensures items { IfOk result (λ ps. items_of ps.items
-        ≡ map (λ i. item.Register i) (range_with_len 0 count)
-        ++ map (λ root. item.Global root) globals.items) }
+        ≡ (map (λ i. items.Register i) (range_with_len 0 count)
+        ++ map (λ root. items.Global root) globals.items)
+        ++ map (λ grey. items.Object grey) logged.items) }
     ensures packets { IfOk result (λ ps. AreRootPackets ps.items) }
 {
     let mut packets = register_packets(alloc, count)?;
-    for root in globals {
-        add(&mut packets, Item::Global(root))?;
+    add_globals(&mut packets, globals)?;
+    for grey in logged {
+        add(&mut packets, Item::Object(grey))?;
     }
     Ok(packets)
+}
+
+/// Adds the globals.
+fn add_globals(packets: &mut Vec<Packet<Item>>, globals: Vec<GlobalRoot>) -> Result<(), AllocError>
+    requires { AreRootPackets packets.old.items }
+    ensures items { IfOk result (λ _. items_of packets.new.items
+        ≡ items_of packets.old.items ++ map (λ root. items.Global root) globals.items) }
+    ensures packets { IfOk result (λ _. AreRootPackets packets.new.items) }
+{
+    for root in globals {
+        add(packets, Item::Global(root))?;
+    }
+    Ok(())
 }
 
 /// The packets of the roots that are no globals.
 fn register_packets(alloc: Global, count: u32) -> Result<Vec<Packet<Item>>, AllocError>
     ensures items { IfOk result (λ ps. items_of ps.items
-        ≡ map (λ i. item.Register i) (range_with_len 0 count)) }
+        ≡ map (λ i. items.Register i) (range_with_len 0 count)) }
     ensures packets { IfOk result (λ ps. AreRootPackets ps.items) }
 {
     let mut packets = Vec::new(alloc);

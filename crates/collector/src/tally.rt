@@ -1,7 +1,7 @@
 //! Counts of the objects that a collection preserves.
 
 ghost use Rattle.std.specs.Prelude.{◌≡◌, ◌+◌, ◌-◌, ◌^◌, ◌<◌};
-ghost use Rattle.collector.specs.Tallies.{capped};
+ghost use Rattle.collector.specs.Prelude.{capped};
 
 /// How many objects were copied or claimed in place, how many of them moved, and their words.
 #[derive(Clone, Copy, Debug, PartialEq, Eq)]

@@ -7,7 +7,7 @@ use std::alloc::AllocError;
 use trace_core::TraceRun;
 use work_packets::{Gate, Packet, PacketWorker, Point};
 
-/// What a trace began from. Contracts alone speak of it.
+/// What a tracing began from. Contracts alone speak of it.
 #[derive(Debug, Drop)]
 pub struct TracingStart {
     pub heap: Heap,

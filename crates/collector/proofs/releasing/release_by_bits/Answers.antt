@@ -1,38 +1,21 @@
-use Rattle.std.proofs.Common.{subst, ℕ, ◌∙◌, arith, List}
+use Rattle.std.proofs.Common.{inl, inr}
+use Rattle.std.proofs.lemmas.Bool.{cases_Bool}
+use Rattle.heap_layout.specs.declared.block.Kind.TheVariants as kinds
 use Rattle.object_model.specs.Objects.{state_over}
-use Rattle.plan_api.specs.Releasing.{word_after}
-use Rattle.block_sweeps.specs.Stores.{Stores}
-use Rattle.collector.proofs.MarkedBlocks.{freed, kept}
+use Rattle.plan_api.specs.Releasing.{Releases}
+use Rattle.object_model.proofs.WordReads.{kind-shown}
+use Rattle.collector.proofs.SweptBlocks.{kept}
 use Rattle.collector.proofs.releasing.release_by_bits.Goals as goal
 
-pub has_object-requires-clause-extent : goal.has_object-requires-clause-extent
-has_object-requires-clause-extent g c = let known = c.requires.shows in (c.keep_marked.ensures known.0 known.1).rest.extent ∙ c.requires.extent
-
-pub store-requires : goal.store-requires
-store-requires g c =
-    let known = c.requires.shows in
-    let long = c.requires.extent in
-    let same = (c.keep_marked.ensures known.0 known.1).rest.extent in
-    let there = c.requires.block in
-    omega (arith, c.block_at.ensures)
-
-pub free_block-requires-clause-extent : goal.free_block-requires-clause-extent
-free_block-requires-clause-extent g c = let known = c.requires.shows in (c.keep_marked.ensures known.0 known.1).rest.extent ∙ c.requires.extent
-
-pub returns-then-has_object : goal.returns-then-has_object
-returns-then-has_object g c = λ r collect base shows lines flag.
+pub returns : goal.returns
+returns g c = λ r collect base shows lines flag.
     let l = c.args.layout.now in
-    let mid : List ℕ = g.W.Words.words c.keep_marked.new.words in
-    let new : List ℕ = g.W.Words.words c.store.new.words in
-    let old : List ℕ = g.W.Words.words c.args.words.now in
-    let some = c.has_object.ensures.some c.if-has_object.true in
-    let word = c.encode.ensures ∙ c.word_of_rest-left.ensures.code r collect (state_over old l 0 0) c.args.block c.requires.block c.requires.code flag in
-    kept r collect l base c.args.block old mid new c.args.word.now c.requires.block c.requires.valid c.requires.code c.requires.head c.requires.tail shows lines (c.keep_marked.ensures base shows)
-    some.0 some.1 some.2
-    (subst (λ (i : ℕ). Stores mid new i (word_after r collect (state_over old l 0 0) c.args.block)) c.block_at.ensures (subst (λ (v : ℕ). Stores mid new c.block_at.result v) word c.store.ensures))
-
-pub returns-else-has_object : goal.returns-else-has_object
-returns-else-has_object g c = λ r collect base shows lines flag.
-    freed r collect c.args.layout.now base c.args.block (g.W.Words.words c.args.words.now) (g.W.Words.words c.keep_marked.new.words) (g.W.Words.words c.free_block.new.words)
-    c.args.word.now c.requires.block c.requires.valid c.requires.code c.requires.head c.requires.tail shows lines (c.keep_marked.ensures base shows)
-    (c.has_object.ensures.none c.if-has_object.false) c.free_block.ensures
+    let old = g.W.Words.words c.args.words.now in
+    let new = g.W.Words.words c.sweep_by_bits-left.new.words in
+    let s = state_over old l 0 0 in
+    elim (cases_Bool c.sweep_by_bits-left.result) as (λ _. Releases r collect base s (state_over new l 0 0) c.args.block) [
+      | inl left ↦ kept r collect l base c.args.block old new c.requires.block (c.sweep_by_bits-left.ensures.left left r collect base shows flag)
+          (λ is. c.requires.head (kind-shown s c.args.block kinds.LargeHead c.args.word.now c.requires.valid c.requires.code is))
+          (λ is. c.requires.tail (kind-shown s c.args.block kinds.LargeTail c.args.word.now c.requires.valid c.requires.code is)) lines
+      | inr none ↦ c.sweep_by_bits-left.ensures.none none r collect base shows
+    ]

@@ -5,6 +5,6 @@ use Rattle.collector.specs.Items.{items_of}
 use Rattle.collector.specs.RootPackets.{AreRootPackets}
 use Rattle.collector.proofs.roots.root_packets.Given as goal
 
-abbrev pub invariant-loop-root : goal.invariant-loop-root
-invariant-loop-root l = (items_of l.packets.items ≡ map (λ i. item.Register i) (range_with_len 0 l.fn.count) ++ map (λ root. item.Global root) l.yielded)
-    × AreRootPackets l.packets.items
+abbrev pub invariant-loop-grey : goal.invariant-loop-grey
+invariant-loop-grey l = (items_of l.packets.items ≡ (map (λ i. item.Register i) (range_with_len 0 l.fn.count) ++ map (λ root. item.Global root) l.fn.globals.items)
+    ++ map (λ grey. item.Object grey) l.yielded) × AreRootPackets l.packets.items
