@@ -10,6 +10,7 @@ pub mod GrownLines
 pub mod BlockSides
 pub mod Relisted
 pub mod NewNotes
+pub mod BlockFlags
 pub mod KeptNotes
 pub mod PlacedNotes
 pub mod PlacedRuns

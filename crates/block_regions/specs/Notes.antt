@@ -1,7 +1,7 @@
--- The notes on blocks, against the heap.
+-- The notes on blocks, and their flags, against the heap.
 use Rattle.heap_layout.specs.declared.block_codes.TheConstants.{OWNER_UNIT}
 use Rattle.heap_layout.specs.declared.layout.TheConstants.{BLOCK_WORDS, BLOCK_LINES}
-use Rattle.std.specs.Prelude.{◌≡◌, ℕ, ◌+◌, ◌-◌, ◌%◌, ◌<◌, ◌≤◌, ◌⊎◌, Bool, IsTrue, List, [], length, nat_eq, Some, slice_get, slice_set, vec_capacity}
+use Rattle.std.specs.Prelude.{◌≡◌, ℕ, ◌+◌, ◌-◌, ◌%◌, ◌<◌, ◌≤◌, ◌⊎◌, Bool, true, IsTrue, List, [], length, nat_eq, Some, slice_get, slice_set, vec_capacity}
 use Rattle.std.specs.List.{Contains, IsDistinct}
 use Rattle.heap_layout.specs.declared.block.Kind.{Kind}
 use Rattle.heap_layout.specs.declared.block.Kind.TheVariants as kinds
@@ -12,6 +12,7 @@ use Rattle.plan_api.specs.Counting.{session_counts}
 use Rattle.plan_api.specs.Relisting.{Relists}
 use Rattle.sessions.specs.Fitting.{HasHole, counts_of}
 use Rattle.sessions.specs.Plans.{Rules, has_holes}
+use Rattle.sessions.specs.Collecting.{is_logged_under}
 use Rattle.sessions.specs.Sessions.{AddsObject, UsesBlock, UsesRun}
 use Rattle.block_regions.specs.declared.block_notes.BlockNotes.{BlockNotes}
 use Rattle.block_regions.specs.declared.block_notes.BlockNote.{BlockNote}
@@ -116,6 +117,17 @@ pub record AreNotes (fill : Kind) (s : HeapState) (n : BlockNotes) : Type 0 wher
   pub unowned : AreUnowned n.notes.items
   pub owned : n.owned.items ≡ []
   pub room : s.blocks ≤ vec_capacity n.owned
+
+-- There is a flag for each block, and each object that is logged under the rules begins in a block
+-- whose flag is set. Other flags may be set too.
+pub record FlagsCover (rules : Rules) (s : HeapState) (flags : List Bool) : Type 0 where
+  pub len : length flags ≡ s.blocks
+  pub each : (a : ℕ) → IsTrue (is_logged_under rules s a)
+      → slice_get flags (block_at s.blocks a) ≡ Some true
+
+-- under the rules no object is logged
+abbrev pub NoneIsLogged : Rules → HeapState → Type 0
+NoneIsLogged rules s = (a : ℕ) → IsTrue (is_logged_under rules s a) → ⊥
 
 -- block k has no hole with room for the size
 abbrev pub LacksHoles : Kind → HeapState → ℕ → ℕ → Type 0

@@ -1,6 +1,6 @@
-//! What is known of the room in a heap's blocks between two epochs.
+//! What is known of the room in a heap's blocks between two epochs, and of their logged objects.
 
-ghost use Rattle.std.specs.Prelude.{◌≡◌, ◌+◌, ◌<◌, ◌≤◌, ℕ, true, IfOk, IfSome, IfNone};
+ghost use Rattle.std.specs.Prelude.{◌≡◌, ◌+◌, ◌<◌, ◌≤◌, ℕ, true, false, length, replicate, IfOk, IfSome, IfNone};
 ghost use Rattle.heap_layout.specs.declared.block.Kind.{Kind};
 ghost use Rattle.heap_layout.specs.declared.block.Kind.TheVariants as kinds;
 ghost use Rattle.object_model.specs.Objects.{HeapState, HasKind, class_at};
@@ -10,7 +10,7 @@ ghost use Rattle.plan_api.specs.Holes.{IsFirstPart, IsFirstHole};
 ghost use Rattle.sessions.specs.Fitting.{counts_of, HasHole, HasSomeHole, class_for as class_for_size};
 ghost use Rattle.sessions.specs.Plans.{Rules};
 ghost use Rattle.block_regions.specs.declared.block_notes.BlockNote.TheVariants.{Unowned};
-ghost use Rattle.block_regions.specs.Notes.{FillsHoles, AreNotes, IsLowestHole, LacksHoles, PlacesInBlock, PlacesRun};
+ghost use Rattle.block_regions.specs.Notes.{FillsHoles, AreNotes, FlagsCover, NoneIsLogged, IsLowestHole, LacksHoles, PlacesInBlock, PlacesRun};
 
 use crate::vectors::copies;
 use heap_layout::{BLOCK_WORDS, Kind, Region};
@@ -37,6 +37,8 @@ pub struct BlockNotes {
     pub notes: Vec<BlockNote>,
     /// The blocks that mutators own: none. There is room for all blocks.
     pub owned: Vec<u32>,
+    /// A flag for each block: set if an object of it may be logged.
+    pub flags: Vec<bool>,
 }
 
 /// The note of a block of which nothing is known: no hole is larger than a block.
@@ -70,18 +72,40 @@ fn decides(heap: &Heap, fill: Kind, block: u32, size: u32) -> bool
 }
 
 impl BlockNotes {
-    /// Counts the blocks of the heap. Nothing else is known yet.
+    /// Counts the blocks of the heap. Nothing else is known yet: all flags are set.
     pub fn new(alloc: Global, heap: &Heap) -> Result<BlockNotes, AllocError>
-        ensures { IfOk result (λ n. (fill : Kind) → AreNotes fill (heap_state heap.now) n) }
+        ensures notes { IfOk result (λ n. (fill : Kind) → AreNotes fill (heap_state heap.now) n) }
+        ensures flags { IfOk result (λ n. (rules : Rules)
+            → FlagsCover rules (heap_state heap.now) n.flags.items) }
+    {
+        BlockNotes::with_flags(alloc, heap, true)
+    }
+
+    /// Counts the blocks of a heap in which no object is logged: no flag is set.
+    pub fn new_unflagged(alloc: Global, heap: &Heap) -> Result<BlockNotes, AllocError>
+        ensures notes { IfOk result (λ n. (fill : Kind) → AreNotes fill (heap_state heap.now) n) }
+        ensures flags { IfOk result (λ n. (rules : Rules) → NoneIsLogged rules (heap_state heap.now)
+            → FlagsCover rules (heap_state heap.now) n.flags.items) }
+    {
+        BlockNotes::with_flags(alloc, heap, false)
+    }
+
+    /// Counts the blocks of the heap, and makes all flags the same.
+    fn with_flags(alloc: Global, heap: &Heap, flag: bool) -> Result<BlockNotes, AllocError>
+        ensures notes { IfOk result (λ n. (fill : Kind) → AreNotes fill (heap_state heap.now) n) }
+        ensures flags { IfOk result (λ n. n.flags.items
+            ≡ replicate (heap_state heap.now).blocks flag) }
     {
         let counts = block_counts(heap);
         let blocks = counts.blocks as usize;
         let notes = copies(alloc, nothing_known(), blocks)?;
         let owned = Vec::with_capacity(alloc, blocks)?;
+        let flags = copies(alloc, flag, blocks)?;
         Ok(BlockNotes {
             counts,
             notes,
             owned,
+            flags,
         })
     }
 
@@ -101,6 +125,7 @@ impl BlockNotes {
         requires least { HEADER_WORDS ≤ size }
         requires most { size ≤ MAX_MEDIUM_WORDS }
         ensures notes { AreNotes fill (heap_state heap.now) self.new }
+        ensures flags { self.new.flags ≡ self.old.flags }
         ensures none { IfNone result (LacksHoles fill (heap_state heap.now) block size) }
         ensures some { IfSome result (λ at. (end : ℕ) × IsFirstPart fill (heap_state heap.now)
             block 0 size (record { next = at; end = end })) }
@@ -131,6 +156,7 @@ impl BlockNotes {
         requires least { HEADER_WORDS ≤ size }
         requires most { size ≤ MAX_MEDIUM_WORDS }
         ensures notes { AreNotes fill (heap_state heap.now) self.new }
+        ensures flags { self.new.flags ≡ self.old.flags }
         ensures none { IfNone result (HasSomeHole fill (heap_state heap.now) size → ⊥) }
         ensures some { IfSome result (λ r. IsLowestHole fill (heap_state heap.now) r.0 r.1 size) }
     {
@@ -163,10 +189,14 @@ impl BlockNotes {
 
     /// Notes that an object was placed in the block, which was Free or had a hole.
     pub fn placed_in(&mut self, block: u32, was_free: bool)
-        ensures { (rules : Rules) (old new : HeapState) (a refs nums : ℕ)
+        ensures notes { (rules : Rules) (old new : HeapState) (a refs nums : ℕ)
             → FillsHoles rules.fill → AreNotes rules.fill old self.old
             → PlacesInBlock rules old new a refs nums block was_free
             → AreNotes rules.fill new self.new }
+        ensures flags { (rules : Rules) (old new : HeapState) (a refs nums : ℕ)
+            → FlagsCover rules old self.old.flags.items
+            → PlacesInBlock rules old new a refs nums block was_free
+            → FlagsCover rules new self.new.flags.items }
     {
         if was_free {
             self.counts.free = self.counts.free.saturating_sub(1);
@@ -179,10 +209,15 @@ impl BlockNotes {
     /// Notes that a large object was placed in a run of Free blocks. Takes no memory, and reads
     /// block words alone.
     pub fn placed_run(&mut self, heap: &Heap)
-        ensures { (fill : Kind) (old : HeapState) (a refs nums block : ℕ)
+        ensures notes { (fill : Kind) (old : HeapState) (a refs nums block : ℕ)
             → FillsHoles fill → AreNotes fill old self.old
             → PlacesRun old (heap_state heap.now) a refs nums block
             → AreNotes fill (heap_state heap.now) self.new }
+        ensures flags { (rules : Rules) (old : HeapState) (a refs nums block : ℕ)
+            → FlagsCover rules old self.old.flags.items
+            → PlacesRun old (heap_state heap.now) a refs nums block
+            → (heap_state heap.now).base ≡ old.base
+            → FlagsCover rules (heap_state heap.now) self.new.flags.items }
     {
         self.counts = block_counts(heap);
     }

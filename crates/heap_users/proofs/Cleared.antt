@@ -23,6 +23,8 @@ use Rattle.sessions.specs.Collecting.{Remembers}
 use Rattle.sessions.specs.Fitting.{allowance_of, free_of, large_of, counts_of}
 use Rattle.sessions.specs.Grants.{allowance_in, counts_with}
 use Rattle.heap_users.specs.Beginnings.{without_stop}
+use Rattle.block_regions.specs.Notes.{FlagsCover}
+use Rattle.block_regions.proofs.BlockFlags.{covers-kept}
 use Rattle.block_regions.proofs.NoteLemmas.{KeepsBlocks}
 
 module _ (s : HeapState) (lawful : IsLawful s) where
@@ -109,6 +111,13 @@ module _ (s : HeapState) (lawful : IsLawful s) where
 
   pub remembers-cleared : (r : Rules) → Remembers r s → Remembers r (without_stop s)
   remembers-cleared r remembers young = record { fields = fields-cleared (remembers young); marked = marks-cleared (remembers young) }
+
+  pub covers-cleared : (r : Rules) (flags : List Bool) → FlagsCover r s flags → FlagsCover r (without_stop s) flags
+  covers-cleared r flags = covers-kept r s (without_stop s) flags refl (λ a is. record {
+    held = frames.held-before s (without_stop s).words keeps a is.held;
+    old = sym (old-same a) ∙ is.old;
+    clear = sym (marks UnlogBits a (omega arith)) ∙ is.clear;
+  })
 
   kinds-same : (k : ℕ) (kind : Kind) → has_kind (without_stop s) k kind ≡ has_kind s k kind
   kinds-same = frames.has_kind-same s (without_stop s).words keeps.block_words

@@ -28,6 +28,7 @@ pub record IsBorn (a b : PlainRow) (d : ℕ) (n : Name) (refs nums : ℕ) : Type
   pub young : b.young ≡ a.young
   pub allowance : b.allowance ≡ a.allowance
   pub counts : b.counts ≡ a.counts
+  pub flags : b.flags ≡ a.flags
   pub owned : b.owned ≡ a.owned
   pub seats : b.seats ≡ a.seats
   pub current : IsBlockFor a.fill (regions_at_turn a) (size_of refs nums) block
@@ -54,6 +55,7 @@ allocated a b d n refs nums by = record {
   young = ap (λ w. w.young) by.rest ∙ by.count.plan.young ∙ by.region.plan.young;
   allowance = ap (λ w. w.allowance) by.rest ∙ by.count.plan.allowance ∙ by.region.plan.allowance;
   counts = ap (λ w. w.counts) by.rest ∙ by.count.plan.counts ∙ by.region.plan.counts;
+  flags = ap (λ w. w.flags) by.rest ∙ by.count.plan.flags ∙ by.region.plan.flags;
   owned = ap (λ w. w.owned) by.rest ∙ by.count.owned ∙ by.region.owned;
   seats = ap (λ w. w.seats) by.rest ∙ by.count.seats ∙ by.region.seats;
   current = by.region.current;

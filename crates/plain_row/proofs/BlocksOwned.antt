@@ -30,7 +30,7 @@ use Rattle.block_regions.specs.declared.block_notes.BlockNote.TheVariants.{Unown
 use Rattle.plain_row.specs.Rows.{IsTurn, number_at_turn, seat_at_turn}
 use Rattle.local_allocators.specs.Seats.{ticket_of, blocks_of, over_of}
 use Rattle.block_regions.specs.Regions.{IsRegionIn}
-use Rattle.block_regions.specs.Notes.{FillsHoles, IsBlockNote, IsOwnedNote, HasNotes, IsRegionOf}
+use Rattle.block_regions.specs.Notes.{FillsHoles, FlagsCover, IsBlockNote, IsOwnedNote, HasNotes, IsRegionOf}
 use Rattle.plain_row.specs.Changes.{OwnsBlock, seat_with}
 use Rattle.local_allocators.specs.MutatorRegions.{FillsLines}
 use Rattle.plain_row.specs.Worlds.{IsAt, HasState, HasCursors, Continues}
@@ -382,6 +382,9 @@ module _ (p : Epoch) (i : IdealHeap) (log : List LogEntry) (a b : PlainRow) (at 
     allowed = gains.takes.plan.allowance ∙ at.allowed;
     lists = lists-taken p a b block m region at.lists (λ was. gains.unowned was.owner was.region was.note) gains.takes.notes gains.takes.owned gains.takes.room
         gains.takes.plan.counts (ap (λ (t : HeapState). t.blocks) gains.takes.words);
+    flags = subst (λ z. FlagsCover p.rules (state_of b.row) z.items) (sym gains.takes.plan.flags)
+        (subst (λ (t : HeapState). FlagsCover p.rules t a.flags.items) (sym (heap ∙ ap (λ k. heap_in p k) (stepping.machine-pushed p i log a at turn x)))
+        (stepping.covers-next p i log a at turn x may-take refl refl a.flags.items (subst (λ (t : HeapState). FlagsCover p.rules t a.flags.items) at.heap at.flags)));
   }
 
   pub continues : Continues p i log m (effects.takes (block ∷ [])) b

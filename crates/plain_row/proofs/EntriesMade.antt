@@ -255,7 +255,7 @@ stepped-with p i log a b at turn x es drawn raised still does budget stop ticket
   continues = record {
     more = stepping.entry-for p i log a at turn x ∷ [];
     own = (refl, tt);
-    at = stepping.at-next p i log a at turn x does.may still.quiet still.untaken b does.words does.updates;
+    at = stepping.at-next p i log a at turn x does.may still.quiet still.untaken still.unlogged b does.words does.updates;
     entries = does.entries;
   };
   unlogs = λ q. ap (λ t. is_unlogged t q) does.words ∙ spot.unlogs still.unlogged q ∙ ap (λ t. is_unlogged t q) (sym at.heap);
@@ -399,6 +399,7 @@ module _ (p : Epoch) (i : IdealHeap) (log : List LogEntry) (a : PlainRow) (at : 
     allowed = ap (λ w. w.allowance) rest;
     owned = ap (λ w. w.owned) rest;
     counts = ap (λ w. w.counts) rest;
+    flags = ap (λ w. w.flags) rest;
     mutator = (stepping.mutator p i log a at turn).0;
     seat = (stepping.seat p i log a at turn).0;
     mutators = record { len = ap (λ w. length w.mutators.items) rest; here = ap (λ w. slice_get w.mutators.items a.turn) rest ∙ (stepping.mutator p i log a at turn).1; others = λ k other. ap (λ w. slice_get w.mutators.items k) rest };
@@ -425,6 +426,7 @@ module _ (p : Epoch) (i : IdealHeap) (log : List LogEntry) (a : PlainRow) (at : 
     allowed = sets.allowance;
     owned = sets.owned;
     counts = sets.counts;
+    flags = sets.flags;
     mutator = record sets.mutator { registers = slice_set sets.mutator.registers d v };
     seat = (stepping.seat p i log a at turn).0;
     mutators = sets.mutators;

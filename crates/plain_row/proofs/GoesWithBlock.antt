@@ -394,16 +394,17 @@ books-kept a b x goes drawn granted none allowance =
     (goes.births ∙ ap (λ n. births_of (mutator_at_turn a) + n) none ∙ add-zero (births_of (mutator_at_turn a)))
     ∙ ap (λ t. books a.row.layout.blocks a.allowance (births_of (mutator_at_turn a)) t) (goes.ticket drawn granted)
 
+-- the word of a Free block has neither class nor owner
+class-none : (class owner : ℕ) → IsValidWord (record { kind = kinds.Free; class = class; owner = owner }) → class ≡ 0
+class-none class owner valid = grind arith
+
+owner-none : (class owner : ℕ) → IsValidWord (record { kind = kinds.Free; class = class; owner = owner }) → owner ≡ 0
+owner-none class owner valid = grind arith
+
 -- a Free block
 module _ (a b : PlainRow) (ready : MayCall a) (block size : ℕ) (there : block < a.row.layout.blocks) (is : HasKind (state_of a.row) block kinds.Free) where
   valid : IsValidWord (record { kind = kinds.Free; class = class_at (state_of a.row) block; owner = owner_at (state_of a.row) block })
   valid = let now = ready.between_calls.some in valid-parts (state_of a.row) block kinds.Free is (facts.code now.epoch now.ideal now.log a now.at block there)
-
-  class-none : (class owner : ℕ) → IsValidWord (record { kind = kinds.Free; class = class; owner = owner }) → class ≡ 0
-  class-none class owner valid = grind arith
-
-  owner-none : (class owner : ℕ) → IsValidWord (record { kind = kinds.Free; class = class; owner = owner }) → owner ≡ 0
-  owner-none class owner valid = grind arith
 
   clear : IsClear (state_of a.row) block
   clear = let now = ready.between_calls.some in

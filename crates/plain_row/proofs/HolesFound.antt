@@ -41,7 +41,7 @@ use Rattle.block_regions.proofs.Elements.{set-changes, set-other, changes-cases}
 use Rattle.block_regions.proofs.NoteLemmas.{no-hole}
 use Rattle.block_regions.proofs.Lists.{one-element}
 use Rattle.plain_row.proofs.RegionsWithoutRoom.{no-block, unowned-lacks, unsuited-lacks, foreign-lacks, own-lines-lack, over-lacks}
-use Rattle.plain_row.proofs.OwnedLists.{lists-kept, lists-moved}
+use Rattle.plain_row.proofs.OwnedLists.{lists-kept, lists-moved, flags-kept}
 use Rattle.local_allocators.proofs.OwnedLists.{listed-noted, listed-moved}
 use Rattle.plain_row.proofs.LogStep as stepping
 use Rattle.block_regions.proofs.FilledKinds as filled_kinds
@@ -135,6 +135,7 @@ module _ (a b : PlainRow) (block size : ℕ) (region : Region) (note : slice_get
       young = returns.plan.young ∙ at.young;
       allowed = returns.plan.allowance ∙ at.allowed;
       lists = lists-kept p a b at.lists returns.notes returns.owned returns.plan.counts (ap (λ r. r.layout.blocks) returns.row);
+      flags = flags-kept p a b at.flags returns.plan.flags returns.row;
     }
 
   seat-same : seat_at_turn b ≡ Some seat
@@ -264,6 +265,7 @@ module _ (a b : PlainRow) (block least size : ℕ) (note : slice_get a.notes.ite
       allowed = marks.plan.allowance ∙ at.allowed;
       lists = lists-moved p a b at.lists (listed-noted a.notes.items b.notes.items a.owned.items block least size note marks.notes at.lists.owned)
           marks.owned marks.plan.counts (ap (λ r. r.layout.blocks) marks.row);
+      flags = flags-kept p a b at.flags marks.plan.flags marks.row;
     }
 
   pub noted-goes : Goes a nothing b
@@ -360,6 +362,7 @@ module _ (a b : PlainRow) (block size : ℕ) (region hole : Region) (note : slic
       lists = lists-moved p a b at.lists
           (listed-moved a.notes.items b.notes.items a.owned.items block (number_at_turn a) (number_at_turn a) region hole note marks.notes at.lists.owned)
           marks.owned marks.plan.counts (ap (λ r. r.layout.blocks) marks.row);
+      flags = flags-kept p a b at.flags marks.plan.flags marks.row;
     }
 
   same-seat : seat_at_turn b ≡ seat_at_turn a

@@ -20,3 +20,5 @@ pub mod StoreSteps
 pub mod LoggedStores
 pub mod RoomRead
 pub mod SeatRead
+mod FlaggedBlocks
+mod FlaggedStores

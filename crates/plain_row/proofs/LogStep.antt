@@ -1,12 +1,13 @@
 -- One step of the machine in a world that follows it.
-use Rattle.std.proofs.Common.{◌≡◌, ◌≢◌, refl, sym, ◌∙◌, ap, subst, ℕ, ◌+◌, ◌-◌, ◌/◌, ◌%◌, ◌<◌, ◌≤◌, inl, arith, false, nat_eq, List, [], ◌∷◌, ◌++◌, map}
+use Rattle.std.proofs.Common.{◌≡◌, ◌≢◌, refl, sym, ◌∙◌, ap, subst, ℕ, ◌+◌, ◌-◌, ◌/◌, ◌%◌, ◌<◌, ◌≤◌, inl, arith, Bool, false, nat_eq, List, [], ◌∷◌, ◌++◌, map}
 use Rattle.std.specs.Prelude.{Some, slice_get}
 use Rattle.std.specs.List.{Contains}
 use Rattle.std.specs.Int.{bit_at}
 use Rattle.std.proofs.lemmas.Bool.{cond-false, cond-true, ne_eqb, eq-eqb}
+use Rattle.forward_word.specs.CollectorWords.{is_old_word}
 use Rattle.heap_layout.specs.Zones.{StartBits, first, heap_of, row_words}
 use Rattle.ideal_heap.specs.Ideal.{IdealHeap}
-use Rattle.object_model.specs.Objects.{HeapState, state_of, with_words, is_start, size_of, class_at}
+use Rattle.object_model.specs.Objects.{HeapState, state_of, with_words, is_start, IsHeld, size_of, class_at}
 use Rattle.object_model.specs.Graphs.{numbers_of}
 use Rattle.object_model.proofs.Marks as marks
 use Rattle.mutator_core.specs.declared.state.Local.{Local}
@@ -19,7 +20,7 @@ use Rattle.mutator_core.proofs.Regions.{after-append}
 use Rattle.mutator_core.proofs.Law as law
 use Rattle.mutator_core.proofs.Law.{is_publication}
 use Rattle.mutator_core.proofs.Spots as spots
-use Rattle.mutator_core.proofs.Spots.{Spot, takes_block}
+use Rattle.mutator_core.proofs.Spots.{Spot, takes_block, clears_unlog}
 use Rattle.mutator_core.proofs.Kept.{Leaves}
 use Rattle.mutator_calls.specs.declared.need.Mutator.{Mutator}
 use Rattle.plain_row.specs.declared.plain_row.PlainRow.{PlainRow}
@@ -29,7 +30,8 @@ use Rattle.local_allocators.specs.Seats.{blocks_of, over_of}
 use Rattle.block_regions.specs.Elements.{ChangesAt}
 use Rattle.std.proofs.lemmas.Option.{get_or_from_slice_get}
 use Rattle.std.proofs.lemmas.List.{length-map}
-use Rattle.block_regions.specs.Notes.{HasNotes, IsRegionOf}
+use Rattle.block_regions.specs.Notes.{FlagsCover, HasNotes, IsRegionOf}
+use Rattle.block_regions.proofs.BlockFlags.{covers-kept}
 use Rattle.plain_row.specs.Worlds.{IsAt, HasState}
 use Rattle.block_regions.proofs.Lists.{get-some, get-below, get-map}
 use Rattle.plain_row.proofs.OwnedLists.{lists-kept}
@@ -46,6 +48,7 @@ pub record Updates (a b : PlainRow) (l' : Local) : Type 0 where
   pub allowed : b.allowance ≡ a.allowance
   pub owned : b.owned ≡ a.owned
   pub counts : b.counts ≡ a.counts
+  pub flags : b.flags ≡ a.flags
   pub mutator : Mutator
   pub seat : LocalSeat
   pub mutators : ChangesAt a.mutators.items b.mutators.items a.turn mutator
@@ -113,25 +116,37 @@ module _ (p : Epoch) (i : IdealHeap) (log : List LogEntry) (a : PlainRow) (at : 
     pub leaves : Leaves s (next p h m x).words
     leaves = (law.goes p at.epoch.ready h _ (facts.end p i log a at).set (facts.moment p i log a at) m known x may).leaves
 
-    -- a step that neither publishes an object nor takes a block
-    module _ (quiet : is_publication x ≡ false) (untaken : takes_block x ≡ false) where
+    -- a step that publishes no object
+    module _ (quiet : is_publication x ≡ false) where
       start-same : (q : ℕ) → is_start (with_words s (next p h m x).words) q ≡ is_start s q
       start-same q = marks.mark-same s.blocks StartBits s.words (next p h m x).words q (λ there.
           let from : heap_of s.blocks ≤ q = there.from in let below : q < row_words s.blocks = there.below in
           ap (λ word. nat_eq (bit_at word ((q - heap_of s.blocks) % 64)) 1) (spot.sides (first s.blocks StartBits + (q - heap_of s.blocks) / 64) (omega arith) (omega arith) (inl quiet)))
 
+      -- and clears no unlog bit
+      pub covers-next : clears_unlog x ≡ false → (flags : List Bool) → FlagsCover p.rules s flags → FlagsCover p.rules (with_words s (next p h m x).words) flags
+      covers-next unlogged flags = covers-kept p.rules s (with_words s (next p h m x).words) flags refl (λ q is.
+          let was : IsHeld s q = record { address = is.held.address; start = sym (start-same q) ∙ is.held.start } in
+          record {
+            held = was;
+            old = ap (is_old_word s.base) (sym (leaves.headers q 2 was (omega arith))) ∙ is.old;
+            clear = sym (spot.unlogs unlogged q) ∙ is.clear;
+          })
+
+    -- nor takes a block
+    module _ (quiet : is_publication x ≡ false) (untaken : takes_block x ≡ false) where
       pub keeps : KeepsBlocks s (next p h m x).words
       keeps = record {
         words = spot.blocks untaken;
         after = leaves.held;
-        before = λ q holds. record { address = holds.address; start = sym (start-same q) ∙ holds.start };
+        before = λ q holds. record { address = holds.address; start = sym (start-same quiet q) ∙ holds.start };
         sizes = λ q holds. ap (λ v. size_of (v % 65536) (v / 65536)) (leaves.headers q 1 holds (omega arith));
         lines = λ j line there few. leaves.lines j line there few;
       }
 
-      pub at-next : (b : PlainRow) → state_of b.row ≡ with_words s (next p h m x).words → Updates a b (local_after p l x (found p h m x))
+      pub at-next : clears_unlog x ≡ false → (b : PlainRow) → state_of b.row ≡ with_words s (next p h m x).words → Updates a b (local_after p l x (found p h m x))
           → IsAt p i (log ++ entry-for x ∷ []) b
-      at-next b words up = at-follows p i log a at turn (entry-for x ∷ []) (known, may, refl, tt) b (record {
+      at-next unlogged b words up = at-follows p i log a at turn (entry-for x ∷ []) (known, may, refl, tt) b (record {
         words = words;
         notes = subst (λ f. HasNotes f (state_of b.row) b.notes.items) (sym up.fill)
             (subst (λ t. HasNotes a.fill t b.notes.items) (sym words)
@@ -142,6 +157,8 @@ module _ (p : Epoch) (i : IdealHeap) (log : List LogEntry) (a : PlainRow) (at : 
         fill = up.fill;
         young = up.young;
         allowed = up.allowed;
+        flags = subst (λ v. FlagsCover p.rules (state_of b.row) v.items) (sym up.flags) (subst (λ t. FlagsCover p.rules t a.flags.items) (sym words)
+            (covers-next quiet unlogged a.flags.items (subst (λ t. FlagsCover p.rules t a.flags.items) at.heap at.flags)));
         lists = λ lists. lists-kept p a b lists up.notes up.owned up.counts (ap (λ (t : HeapState). t.blocks) words ∙ ap (λ (t : HeapState). t.blocks) (sym at.heap));
         mutator = up.mutator;
         seat = up.seat;

@@ -19,7 +19,7 @@ use Rattle.block_regions.specs.declared.block_notes.BlockNote.TheVariants.{Owned
 use Rattle.plain_row.specs.Rows.{IsTurn, mutator_number, number_at_turn, seat_at_turn}
 use Rattle.local_allocators.specs.Seats.{blocks_of, over_of}
 use Rattle.block_regions.specs.Elements.{ChangesAt}
-use Rattle.block_regions.specs.Notes.{FillsHoles, HasNotes, IsRegionOf}
+use Rattle.block_regions.specs.Notes.{FillsHoles, FlagsCover, HasNotes, IsRegionOf}
 use Rattle.plain_row.specs.Worlds.{IsAt, HasState, HasCursors, HasLists}
 use Rattle.block_regions.proofs.Lists.{get-some, get-below, one-element, get-map}
 
@@ -39,7 +39,8 @@ log-longer p h [] more is later = later
 log-longer p h (x ∷ xs) more is later = (is.0, is.1, is.2, log-longer p (next p h x.mutator x.event) xs more is.3 later)
 
 -- The world b after steps that leave the machine k: its row has the machine's words, and it has another mutator and
--- another seat for the one whose turn it is, with the machine's state. Its notes are right, and blocks keep their classes.
+-- another seat for the one whose turn it is, with the machine's state. Its notes and
+-- flags are right, and blocks keep their classes.
 pub record Follows (p : Epoch) (log : List LogEntry) (a b : PlainRow) (k : Machine) : Type 0 where
   pub words : state_of b.row ≡ with_words (heap_after p log) k.words
   pub notes : HasNotes b.fill (state_of b.row) b.notes.items
@@ -49,6 +50,7 @@ pub record Follows (p : Epoch) (log : List LogEntry) (a b : PlainRow) (k : Machi
   pub young : b.young ≡ a.young
   pub allowed : b.allowance ≡ a.allowance
   pub lists : HasLists p a → HasLists p b
+  pub flags : FlagsCover p.rules (state_of b.row) b.flags.items
   pub mutator : Mutator
   pub seat : LocalSeat
   pub mutators : ChangesAt a.mutators.items b.mutators.items a.turn mutator
@@ -160,4 +162,5 @@ module _ (p : Epoch) (i : IdealHeap) (log : List LogEntry) (a : PlainRow) (at : 
     young = up.young ∙ at.young;
     allowed = up.allowed ∙ at.allowed;
     lists = up.lists at.lists;
+    flags = up.flags;
   }

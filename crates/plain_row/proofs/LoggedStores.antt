@@ -1,17 +1,18 @@
 -- A store of a reference that logs the object first.
-use Rattle.std.proofs.Common.{◌≡◌, refl, sym, ◌∙◌, ap, subst, ℕ, ◌+◌, ◌-◌, ◌/◌, ◌%◌, ◌<◌, ◌≤◌, inl, inr, arith, Bool, true, false, ◌&&◌, ◌||◌, not, nat_eq, List, [], ◌∷◌, ◌++◌, length, add-zero}
-use Rattle.std.specs.Prelude.{slice_index, slice_get, slice_set}
+use Rattle.std.proofs.Common.{◌≡◌, refl, sym, ◌∙◌, ap, subst, ℕ, ◌+◌, ◌-◌, ◌/◌, ◌%◌, ◌<◌, ◌≤◌, ◌⊎◌, inl, inr, arith, Bool, true, false, ◌&&◌, ◌||◌, not, nat_eq, List, [], ◌∷◌, ◌++◌, length, add-zero}
+use Rattle.std.specs.Prelude.{Some, slice_index, slice_get, slice_set}
 use Rattle.std.specs.Int.{bit_at}
 use Rattle.std.proofs.lemmas.Bool.{cases_eq, cond-false, cond-true, ne_eqb, eq-eqb}
 use Rattle.std.proofs.lemmas.List.{get_or-set_other, length-set}
-use Rattle.heap_layout.specs.Zones.{StartBits, BlockWords, UnlogBits, first, row_words, heap_of, IsAddress}
+use Rattle.forward_word.specs.CollectorWords.{is_old_word}
+use Rattle.heap_layout.specs.Zones.{StartBits, BlockWords, UnlogBits, first, row_words, heap_of, block_at, IsAddress}
 use Rattle.heap_layout.specs.declared.block.Kind.TheVariants as kinds
 use Rattle.ideal_heap.specs.declared.command.Command.TheVariants as c
 use Rattle.ideal_heap.specs.declared.reply.Reply.TheVariants as r
 use Rattle.ideal_heap.specs.Ideal.{IdealHeap}
 use Rattle.ideal_heap.specs.Runs as runs
 use Rattle.object_model.specs.declared.shape.Shape.{Shape}
-use Rattle.object_model.specs.Objects.{HeapState, state_of, with_words, word_at, block_word, has_kind, is_start, is_unlogged, size_of, class_at}
+use Rattle.object_model.specs.Objects.{HeapState, state_of, with_words, word_at, block_word, has_kind, is_start, is_unlogged, IsHeld, size_of, class_at}
 use Rattle.object_model.specs.Changes.{ClearsUnlog}
 use Rattle.object_model.proofs.Marks as marks
 use Rattle.object_model.proofs.Frames as frames
@@ -35,13 +36,14 @@ use Rattle.mutator_calls.specs.Effects.{Effect, nothing, logs}
 use Rattle.plain_row.specs.declared.plain_row.PlainRow.{PlainRow}
 use Rattle.plain_row.specs.Rows.{IsTurn, births_of, mutator_at_turn, seat_at_turn, number_at_turn, address_at}
 use Rattle.local_allocators.specs.Seats.{ticket_of, block_of, over_of}
-use Rattle.block_regions.specs.Notes.{AreFilled, HasNotes, IsRegionOf}
+use Rattle.block_regions.specs.Notes.{AreFilled, FlagsCover, HasNotes, IsRegionOf}
 use Rattle.plain_row.specs.Changes.{StoresWord}
 use Rattle.plain_row.specs.Worlds.{IsAt, MayCall, HasState, Continues, Goes, is_in_list}
 use Rattle.plain_row.specs.SeatLaws.{continues-after}
 use Rattle.local_allocators.proofs.SeatRegions.{same-keeps}
 use Rattle.plain_row.proofs.ForeignBlocks.{foreign-same}
 use Rattle.plain_row.specs.Steps.{HasShape}
+use Rattle.block_regions.proofs.BlockFlags.{WasLogged, covers-after}
 use Rattle.block_regions.proofs.NoteLemmas as notes
 use Rattle.block_regions.proofs.NoteLemmas.{KeepsBlocks}
 use Rattle.plain_row.proofs.EpochFacts as facts
@@ -99,14 +101,33 @@ module _ (p : Epoch) (i : IdealHeap) (log : List LogEntry) (a b : PlainRow) (at 
     keeps-one : KeepsBlocks (heap_in p h) g.words
     keeps-one = keeps-of (heap_in p h) g.words x (stepping.spot p i log a at turn x may) one.leaves quiet untaken
 
+    leaves-two : Leaves (heap_in p g) (next p g m y).words
+    leaves-two = (law.goes p at.epoch.ready g _ one.set one.moment m (stepping.known p i log a at turn) y may-then).leaves
+
     keeps-two : KeepsBlocks (heap_in p g) (next p g m y).words
     keeps-two = keeps-of (heap_in p g) (next p g m y).words y
         (spots.spot p at.epoch.ready g _ one.set one.moment m (stepping.known p i log a at turn) y may-then)
-        (law.goes p at.epoch.ready g _ one.set one.moment m (stepping.known p i log a at turn) y may-then).leaves next-quiet next-untaken
+        leaves-two next-quiet next-untaken
 
     notes-two : HasNotes a.fill (with_words (heap_in p g) (next p g m y).words) a.notes.items
     notes-two = notes.notes-after (heap_in p g) (next p g m y).words keeps-two a.fill at.fills a.notes.items
         (notes.notes-after (heap_in p h) g.words keeps-one a.fill at.fills a.notes.items (subst (λ t. HasNotes a.fill t a.notes.items) at.heap at.notes))
+
+    -- what is logged after both was logged before, or is in a flagged block
+    covers-two : (flags : List Bool) → ((q : ℕ) → is_unlogged (with_words (heap_in p h) (next p g m y).words) q ≡ false
+        → (is_unlogged (heap_in p h) q ≡ false) ⊎ (slice_get flags (block_at p.before.blocks q) ≡ Some true))
+        → FlagsCover p.rules (heap_in p h) flags → FlagsCover p.rules (with_words (heap_in p h) (next p g m y).words) flags
+    covers-two flags logged = covers-after p.rules (heap_in p h) (with_words (heap_in p h) (next p g m y).words) flags refl (λ q is.
+        let then : IsHeld (heap_in p g) q = keeps-two.before q is.held in
+        let was : IsHeld (heap_in p h) q = keeps-one.before q then in
+        elim (logged q is.clear) as (λ _. WasLogged (heap_in p h) q ⊎ (slice_get flags (block_at p.before.blocks q) ≡ Some true)) [
+          | inl clear ↦ inl (record {
+            held = was;
+            old = ap (is_old_word p.before.base) (sym (leaves-two.headers q 2 then (omega arith) ∙ one.leaves.headers q 2 was (omega arith))) ∙ is.old;
+            clear = clear;
+          })
+          | inr flagged ↦ inr flagged
+        ])
 
     module _ (words : state_of b.row ≡ with_words (heap_after p log) (slice_set g.words (word_of_event p between y) (stored p between y (slice_index g.words (word_of_event p between y)))))
         (up : Updates a b (local_after p between y (slice_index g.words (word_of_event p between y)))) where
@@ -116,8 +137,9 @@ module _ (p : Epoch) (i : IdealHeap) (log : List LogEntry) (a b : PlainRow) (at 
       local-two : (next p g m y).locals m ≡ local_after p between y (slice_index g.words (word_of_event p between y))
       local-two = cond-true (nat_eq m m) _ _ (eq-eqb m m refl) ∙ ap (λ z. local_after p z y (slice_index g.words (word_of_event p z y))) own-next
 
-      pub at-two : IsAt p i (log ++ both) b
-      at-two = at-follows p i log a at turn both (stepping.known p i log a at turn, may, refl, (stepping.known p i log a at turn, may-then, refl, tt)) b (record {
+      pub at-two : ((q : ℕ) → is_unlogged (state_of b.row) q ≡ false
+          → (is_unlogged (state_of a.row) q ≡ false) ⊎ (slice_get a.flags.items (block_at a.row.layout.blocks q) ≡ Some true)) → IsAt p i (log ++ both) b
+      at-two logged = at-follows p i log a at turn both (stepping.known p i log a at turn, may, refl, (stepping.known p i log a at turn, may-then, refl, tt)) b (record {
         words = words-two;
         notes = subst (λ f. HasNotes f (state_of b.row) b.notes.items) (sym up.fill)
             (subst (λ t. HasNotes a.fill t b.notes.items) (sym words-two)
@@ -127,6 +149,12 @@ module _ (p : Epoch) (i : IdealHeap) (log : List LogEntry) (a b : PlainRow) (at 
         fill = up.fill;
         young = up.young;
         allowed = up.allowed;
+        flags = subst (λ v. FlagsCover p.rules (state_of b.row) v.items) (sym up.flags) (subst (λ t. FlagsCover p.rules t a.flags.items) (sym words-two)
+            (covers-two a.flags.items (λ q clear. elim (logged q (ap (λ t. is_unlogged t q) words-two ∙ clear)) as
+            (λ _. (is_unlogged (heap_in p h) q ≡ false) ⊎ (slice_get a.flags.items (block_at p.before.blocks q) ≡ Some true)) [
+              | inl was ↦ inl (ap (λ t. is_unlogged t q) (sym at.heap) ∙ was)
+              | inr flagged ↦ inr (ap (λ n. slice_get a.flags.items (block_at n q)) (facts.blocks p i log a at) ∙ flagged)
+            ]) (subst (λ t. FlagsCover p.rules t a.flags.items) at.heap at.flags)));
         lists = λ lists. lists-kept p a b lists up.notes up.owned up.counts (ap (λ (t : HeapState). t.blocks) words ∙ ap (λ (t : HeapState). t.blocks) (sym at.heap));
         mutator = up.mutator;
         seat = up.seat;
@@ -171,11 +199,13 @@ and-true : (x : Bool) → x ≡ (x && true)
 and-true true = refl
 and-true false = refl
 
--- The unlog bit of the object in register s becomes clear, and then its field k becomes the address in register v.
+-- The unlog bit of the object in register s becomes clear, and then its field k becomes the address in register v. The
+-- flag of its block is set.
 module _ (a cleared b : PlainRow) (ready : MayCall a) (s k v : ℕ) (shape : Shape) (register : s < 16) (value : v < 16) (has-shape : HasShape a s shape) (there : k < shape.refs)
     (clears : StoresWord a cleared (first a.row.layout.blocks UnlogBits + (address_at a s - heap_of a.row.layout.blocks) / 64)
     (without_bit (word_at (state_of a.row) (first a.row.layout.blocks UnlogBits + (address_at a s - heap_of a.row.layout.blocks) / 64)) ((address_at a s - heap_of a.row.layout.blocks) % 64)))
-    (stores : StoresWord cleared b (address_at a s + 3 + k) (address_at a v)) where
+    (stores : StoresWord cleared b (address_at a s + 3 + k) (address_at a v))
+    (flagged : slice_get a.flags.items (block_at a.row.layout.blocks (address_at a s)) ≡ Some true) where
   abbrev t : HeapState
   t = state_of a.row
 
@@ -218,6 +248,13 @@ module _ (a cleared b : PlainRow) (ready : MayCall a) (s k v : ℕ) (shape : Sha
         | inl here ↦ ap (is_unlogged (with_words t first-words)) here ∙ cleared-bit.clear ∙ sym (ap (λ y. is_unlogged t x && not (y || false)) (eq-eqb x object here) ∙ never (is_unlogged t x))
         | inr other ↦ cleared-bit.others x other ∙ and-true (is_unlogged t x) ∙ sym (ap (λ y. is_unlogged t x && not (y || false)) (ne_eqb x object other))
       ]
+
+  cleared-or-flagged : (x : ℕ) → is_unlogged (state_of b.row) x ≡ false
+      → (is_unlogged t x ≡ false) ⊎ (slice_get a.flags.items (block_at a.row.layout.blocks x) ≡ Some true)
+  cleared-or-flagged x clear = elim (cases_eq x object) as (λ _. (is_unlogged t x ≡ false) ⊎ (slice_get a.flags.items (block_at a.row.layout.blocks x) ≡ Some true)) [
+    | inl here ↦ inr (ap (λ n. slice_get a.flags.items (block_at a.row.layout.blocks n)) here ∙ flagged)
+    | inr other ↦ inl (and-true (is_unlogged t x) ∙ sym (ap (λ y. is_unlogged t x && not (y || false)) (ne_eqb x object other)) ∙ sym (logged x) ∙ clear)
+  ]
 
   -- a word that is neither the field nor that of the unlog bit
   elsewhere : (n : ℕ) → n < first a.row.layout.blocks UnlogBits → word_at (state_of b.row) n ≡ word_at t n
@@ -278,7 +315,7 @@ module _ (a cleared b : PlainRow) (ready : MayCall a) (s k v : ℕ) (shape : Sha
       more = both p i log a b at ready.turn (e.ClearUnlog s) (e.Perform (c.Put s k v));
       own = (refl, (refl, tt));
       at = at-two p i log a b at ready.turn (e.ClearUnlog s) (e.Perform (c.Put s k v)) ((field.0.0, field.0.1), stored-none) (value, field, inr (inr refl), inr refl) refl refl refl refl both-are
-          (entering.unchanged p i log a at ready.turn b rest _ refl refl refl refl (sym stored-none));
+          (entering.unchanged p i log a at ready.turn b rest _ refl refl refl refl (sym stored-none)) cleared-or-flagged;
       entries = refl;
     }
 

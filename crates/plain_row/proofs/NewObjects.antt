@@ -1,5 +1,5 @@
 -- The mutator whose turn it is allocates an object.
-use Rattle.std.proofs.Common.{◌≡◌, ◌≢◌, refl, sym, ◌∙◌, ap, subst, ℕ, ◌+◌, ◌/◌, ◌%◌, ◌<◌, ◌≤◌, ◌^◌, inl, inr, arith, List, [], ◌∷◌, length, Vec, Global}
+use Rattle.std.proofs.Common.{◌≡◌, ◌≢◌, refl, sym, ◌∙◌, ap, subst, ℕ, ◌+◌, ◌/◌, ◌%◌, ◌<◌, ◌≤◌, ◌^◌, inl, inr, arith, Bool, List, [], ◌∷◌, length, Vec, Global}
 use Rattle.std.specs.Prelude.{Some, slice_get, slice_index, slice_set}
 use Rattle.std.specs.List.{Contains}
 use Rattle.std.proofs.lemmas.Bool.{cases_eq}
@@ -39,7 +39,7 @@ use Rattle.local_allocators.specs.declared.local_seat.LocalSeat.{LocalSeat}
 use Rattle.block_regions.specs.declared.block_notes.BlockNote.TheVariants.{Owned}
 use Rattle.plain_row.specs.Rows.{mutator_number, births_of, registers_of, mutator_at_turn, seat_at_turn, number_at_turn, address_at, regions_at_turn}
 use Rattle.local_allocators.specs.Seats.{blocks_of, block_of, over_of}
-use Rattle.block_regions.specs.Notes.{FillsTails, FillsHoles, IsOwnedNote, HasNotes, IsRegionOf}
+use Rattle.block_regions.specs.Notes.{FillsTails, FillsHoles, FlagsCover, IsOwnedNote, HasNotes, IsRegionOf}
 use Rattle.plain_row.specs.Worlds.{HasState, IsAt, RegionHasRoomFor, Continues}
 use Rattle.plain_row.specs.Steps.{Lacks}
 use Rattle.local_allocators.specs.MutatorRegions.{FillsLines}
@@ -60,6 +60,7 @@ use Rattle.local_allocators.proofs.PublishedObjects as publishing
 use Rattle.local_allocators.proofs.PublishedObjects.{Stores, Publishes}
 use Rattle.local_allocators.proofs.WrittenWords.{words-written}
 use Rattle.local_allocators.proofs.CellRooms as rooms
+use Rattle.block_regions.proofs.BlockFlags.{covers-new}
 use Rattle.block_regions.proofs.NewNotes as notes
 use Rattle.plain_row.proofs.LogSteps.{Follows, at-follows}
 use Rattle.plain_row.proofs.Allocated.{IsBorn}
@@ -237,6 +238,12 @@ module _ (a b : PlainRow) (d refs nums : ℕ) (n : Name) (born : IsBorn a b d n 
         (notes.notes-new s v x n refs nums adds vacant block-words line-words born.block born.region.next block-is offset-is a.fill at.fills a.notes.items b.notes.items m born.region born.left
         (subst (λ t. HasNotes a.fill t a.notes.items) at.heap at.notes) born.was refl born.room rest born.notes))
 
+    -- the new object is young
+    flags-are : FlagsCover p.rules (state_of b.row) b.flags.items
+    flags-are = subst (λ (w : Vec Bool Global). FlagsCover p.rules (state_of b.row) w.items) (sym born.flags)
+        (subst (λ t. FlagsCover p.rules t a.flags.items) (sym words-are)
+        (covers-new p.rules s v x n refs nums adds vacant a.flags.items (subst (λ t. FlagsCover p.rules t a.flags.items) at.heap at.flags)))
+
     regions : (q k : ℕ) → IsRegionOf a.notes.items q k → IsRegionOf b.notes.items q k
     regions q k old = elim (cases_eq k born.block) as (λ _. IsRegionOf b.notes.items q k) [
       | inl same ↦ (
@@ -262,6 +269,7 @@ module _ (a b : PlainRow) (d refs nums : ℕ) (n : Name) (born : IsBorn a b d n 
       fill = born.fill;
       young = born.young;
       allowed = born.allowance;
+      flags = flags-are;
       lists = λ lists. lists-moved p a b lists (listed-moved a.notes.items b.notes.items a.owned.items born.block m m born.region
           born.left born.was born.notes lists.owned) born.owned born.counts
           (ap (λ (t : HeapState). t.blocks) words-are ∙ ap (λ (t : HeapState). t.blocks) (sym at.heap));

@@ -1,13 +1,14 @@
--- The list of the blocks that mutators own, from step to step.
+-- The list of the blocks that mutators own, and the flags of blocks, from step to step.
 use Rattle.std.proofs.Common.{◌≡◌, sym, ◌∙◌, ap, subst, ℕ, ◌+◌, ◌<◌, ◌≤◌, arith, [], ◌∷◌, ◌++◌, length}
 use Rattle.std.specs.Prelude.{vec_len, vec_capacity}
 use Rattle.heap_layout.specs.declared.region.Region.{Region}
+use Rattle.object_model.specs.Objects.{state_of}
 use Rattle.mutator_core.specs.Machine.{Epoch}
 use Rattle.plan_api.specs.Counting.{session_counts}
 use Rattle.plain_row.specs.declared.plain_row.PlainRow.{PlainRow}
 use Rattle.block_regions.specs.declared.block_notes.BlockNote.TheVariants.{Owned}
 use Rattle.block_regions.specs.Elements.{ChangesAt}
-use Rattle.block_regions.specs.Notes.{ListsOwned}
+use Rattle.block_regions.specs.Notes.{FlagsCover, ListsOwned}
 use Rattle.plain_row.specs.Worlds.{HasLists, IsInSomeEpoch}
 use Rattle.local_allocators.proofs.OwnedLists.{IsTaken, listed-taken, listed-room}
 
@@ -24,7 +25,12 @@ pub lists-kept : (p : Epoch) (a b : PlainRow) → HasLists p a → b.notes ≡ a
     → b.row.layout.blocks ≡ a.row.layout.blocks → HasLists p b
 lists-kept p a b lists notes = lists-moved p a b lists (subst (λ v. ListsOwned v.items a.owned.items) (sym notes) lists.owned)
 
--- and after one that takes a block
+-- its flags, after a step that changes no word
+pub flags-kept : (p : Epoch) (a b : PlainRow) → FlagsCover p.rules (state_of a.row) a.flags.items → b.flags ≡ a.flags → b.row ≡ a.row
+    → FlagsCover p.rules (state_of b.row) b.flags.items
+flags-kept p a b cover flags row = subst (λ v. FlagsCover p.rules (state_of b.row) v.items) (sym flags) (subst (λ r. FlagsCover p.rules (state_of r) a.flags.items) (sym row) cover)
+
+-- and the list after one that takes a block
 pub lists-taken : (p : Epoch) (a b : PlainRow) (block number : ℕ) (region : Region) → HasLists p a → (IsTaken a.notes.items block → ⊥)
     → ChangesAt a.notes.items b.notes.items block (Owned number region) → b.owned.items ≡ a.owned.items ++ block ∷ []
     → vec_capacity b.owned ≡ vec_capacity a.owned → b.counts ≡ a.counts → b.row.layout.blocks ≡ a.row.layout.blocks → HasLists p b

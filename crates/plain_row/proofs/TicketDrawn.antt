@@ -155,6 +155,7 @@ module _ (a b : PlainRow) (draws : DrawsTicket a b) (ready : MayCall a) (none : 
         allowed = ap (λ w. w.allowance) draws.rest;
         owned = ap (λ w. w.owned) draws.rest;
         counts = ap (λ w. w.counts) draws.rest;
+        flags = ap (λ w. w.flags) draws.rest;
         mutator = (stepping.mutator p i log a at ready.turn).0;
         seat = record { ticket = Some (word_at (state_of a.row) 1); blocks = blocks_of (seat_at_turn a); over = over_of (seat_at_turn a) };
         mutators = record {

@@ -26,13 +26,19 @@ pub record StoresWord (old new : PlainRow) (at v : ℕ) : Type 0 where
   pub words : state_of new.row ≡ with_words (state_of old.row)
       (slice_set (state_of old.row).words at v)
 
--- whose turn it is, the plan's kind and ages, the allowance and the counts stay
+-- the flag of this block becomes set; all else stays
+pub record SetsFlag (old new : PlainRow) (block : ℕ) : Type 0 where
+  pub rest : new ≡ record old { flags = new.flags }
+  pub flags : new.flags.items ≡ slice_set old.flags.items block true
+
+-- whose turn it is, the plan's kind and ages, the allowance, the counts and the flags stay
 pub record KeepsPlan (old new : PlainRow) : Type 0 where
   pub turn : new.turn ≡ old.turn
   pub fill : new.fill ≡ old.fill
   pub young : new.young ≡ old.young
   pub allowance : new.allowance ≡ old.allowance
   pub counts : new.counts ≡ old.counts
+  pub flags : new.flags ≡ old.flags
 
 -- The seat with this ticket, whose mutator allocates objects of the class in the block; or, in
 -- overflow allocation, has its overflow region there.

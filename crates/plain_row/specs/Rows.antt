@@ -53,6 +53,7 @@ pub record SetsRegister (old new : PlainRow) (d address : ℕ) : Type 0 where
   pub notes : new.notes ≡ old.notes
   pub owned : new.owned ≡ old.owned
   pub counts : new.counts ≡ old.counts
+  pub flags : new.flags ≡ old.flags
   pub fill : new.fill ≡ old.fill
   pub young : new.young ≡ old.young
   pub allowance : new.allowance ≡ old.allowance

@@ -28,7 +28,7 @@ use Rattle.heap_layout.specs.declared.block.TheConstants.{CLASSES}
 use Rattle.plain_row.specs.Rows.{IsTurn, mutator_at_turn, number_at_turn, seat_at_turn, births_of, regions_at_turn}
 use Rattle.local_allocators.specs.Seats.{ticket_of, blocks_of, over_of}
 use Rattle.local_allocators.specs.MutatorRegions.{FillsLines, IsBlockFor, KeepsRegions}
-use Rattle.block_regions.specs.Notes.{FillsHoles, HasNotes, ListsOwned, IsRegionOf, AreFilled, IsRoomIn}
+use Rattle.block_regions.specs.Notes.{FillsHoles, FlagsCover, HasNotes, ListsOwned, IsRegionOf, AreFilled, IsRoomIn}
 
 -- The mutator and its seat have the machine's state of the mutator, which has no unpublished
 -- object, and no unlog bit cleared for a store to come.
@@ -77,6 +77,7 @@ pub record IsAt (p : Epoch) (i : IdealHeap) (log : List LogEntry) (w : PlainRow)
   pub young : w.young ≡ p.rules.young
   pub allowed : w.allowance ≡ allowance p
   pub lists : HasLists p w
+  pub flags : FlagsCover p.rules (state_of w.row) w.flags.items
 
 -- It is the turn of a mutator whose blocks have notes.
 pub record IsReadableSeat (w : PlainRow) : Type 0 where

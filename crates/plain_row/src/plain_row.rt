@@ -1,8 +1,9 @@
 //! The row of a heap with its mutators, and the words of the mutator whose turn it is.
 //!
 //! Called by the steps and the search; a call of the world sets `turn` before it makes steps.
-//! `mutators` and `seats` have the same length, and `notes` one note for each block. A block is in
-//! `owned` as long as its note is Owned. `fill`, `young`, `allowance` and `counts` never change.
+//! `mutators` and `seats` have the same length, and `notes` and `flags` an element for each block.
+//! A block is in `owned` as long as its note is Owned. A flag is set before an object of its block
+//! is logged, and never cleared. `fill`, `young`, `allowance` and `counts` never change.
 
 ghost use Rattle.std.specs.Prelude.{◌≡◌, ◌≢◌, ◌+◌, ◌<◌, ◌≤◌, slice_set, slice_index};
 ghost use Rattle.object_model.specs.Objects.{state_of};
@@ -31,6 +32,8 @@ pub struct PlainRow {
     pub notes: Vec<BlockNote>,
     /// The blocks that mutators own, each once. There is room for all blocks.
     pub owned: Vec<u32>,
+    /// A flag for each block: set if an object of it may be logged.
+    pub flags: Vec<bool>,
     /// The counts of the blocks as the epoch began.
     pub counts: BlockCounts,
     /// The kind of the blocks that mutators fill.

@@ -1,8 +1,8 @@
 //! The atomic steps of the mutator whose turn it is, on the row.
 //!
 //! Called by `mutator_calls`, which puts steps together into calls. A step writes one word of the
-//! row at most, registers, the ticket, or what a function of the search writes. It never touches
-//! the seat or the mutator of another turn.
+//! row at most, registers, the ticket, a flag, or what a function of the search writes. It never
+//! touches the seat or the mutator of another turn.
 
 ghost use Rattle.std.specs.Prelude.{◌≡◌, ℕ, false};
 ghost use Rattle.plain_row.specs.Rows.{address_at};
@@ -166,6 +166,7 @@ impl MutatorSteps for PlainRow {
 
     fn log_and_store_field(&mut self, s: u32, i: u32, v: u32, _shape: &Shape) {
         let object = self.register(s);
+        self.flag_block(object);
         self.clear_unlog(object);
         let at = self.field(s, i);
         let address = self.register(v);
@@ -236,6 +237,7 @@ impl MutatorSteps for PlainRow {
         self.is_overflow(size)
     }
 
+    #[inline(always)]
     fn take_hole(&mut self, block: u32, size: u32) -> bool {
         self.take_hole_in(block, size)
     }

@@ -113,6 +113,7 @@ impl PlainRow {
     }
 
     /// Takes a block that nobody owns if it has a hole with room for `size` words.
+    #[inline(never)]
     fn take_unowned(&mut self, block: u32, size: u32) -> bool
         requires ready { MayCall self.old }
         requires block { block < self.old.row.layout.blocks }
@@ -159,6 +160,7 @@ impl PlainRow {
     /// Makes room for `size` words in an own block the mutator's region, if it has some: the block
     /// becomes the one that the mutator allocates objects of the class in, or its next hole the
     /// hole region.
+    #[inline(never)]
     fn take_in_own(&mut self, block: u32, region: Region, size: u32) -> bool
         requires ready { MayCall self.old }
         requires block { block < self.old.row.layout.blocks }
@@ -192,7 +194,9 @@ impl PlainRow {
     }
 
     /// Makes a hole of the block with room for `size` words the mutator's region, if there is one
-    /// that it may fill.
+    /// that it may fill. It is inlined into the search over all blocks, most of which it only has
+    /// to pass over; what it calls is not.
+    #[inline(always)]
     pub(crate) fn take_hole_in(&mut self, block: u32, size: u32) -> bool
         requires ready { MayCall self.old }
         requires block { block < self.old.row.layout.blocks }

@@ -1,19 +1,21 @@
 //! Loads and stores of single words and bits of the row.
 //!
-//! Called by the steps. Writes one word of `row`. The caller knows what the word means: a field, a
-//! number, a global, a bit for unlogged or pinned objects, the stop word or the budget word. Never
-//! touches notes, seats or mutators.
+//! Called by the steps. Writes one word of `row`, or a flag. The caller knows what the word means:
+//! a field, a number, a global, a bit for unlogged or pinned objects, the stop word or the budget
+//! word. Never touches notes, seats or mutators.
 
 ghost use Rattle.std.specs.Prelude.{◌≡◌, ◌+◌, ◌-◌, ◌/◌, ◌%◌, ◌<◌, ◌≤◌, length, slice_index};
-ghost use Rattle.heap_layout.specs.Zones.{UnlogBits, heap_of, IsAddress, IsRowOf};
+ghost use Rattle.heap_layout.specs.Zones.{UnlogBits, heap_of, block_at, IsAddress, IsRowOf};
 ghost use Rattle.object_model.specs.BitWords.{bit_word, bit_place};
 ghost use Rattle.side_meta.specs.BitWords.{with_bit, without_bit};
 ghost use Rattle.plain_row.specs.Rows.{IsTurn, address_at};
-ghost use Rattle.plain_row.specs.Changes.{StoresWord};
+ghost use Rattle.plain_row.specs.Changes.{StoresWord, SetsFlag};
 
 use crate::plain_row::PlainRow;
+use heap_layout::BLOCK_WORDS;
 use ideal_heap::REGISTERS;
 use object_model::{HEADER_WORDS, Shape};
+use side_meta::BITS_PER_WORD;
 
 impl PlainRow {
     /// Stores a word.
@@ -29,17 +31,18 @@ impl PlainRow {
     pub(crate) fn bit_at(&self, zone: u32, address: u32) -> (u32, u32)
         requires address { IsAddress self.now.row.layout.blocks address }
         requires zone { zone ≤ heap_of self.now.row.layout.blocks }
-        ensures word { result.0 ≡ zone + (address - heap_of self.now.row.layout.blocks) / 64 }
-        ensures bit { result.1 ≡ (address - heap_of self.now.row.layout.blocks) % 64 }
+        ensures word { result.0
+            ≡ zone + (address - heap_of self.now.row.layout.blocks) / BITS_PER_WORD }
+        ensures bit { result.1 ≡ (address - heap_of self.now.row.layout.blocks) % BITS_PER_WORD }
     {
         let index = address - self.row.layout.heap_base();
-        (zone + index / 64, index % 64)
+        (zone + index / BITS_PER_WORD, index % BITS_PER_WORD)
     }
 
     /// Sets a bit of a word.
     pub(crate) fn set_bit(&mut self, at: u32, bit: u32)
         requires word { at < length self.old.row.words.items }
-        requires bit { bit < 64 }
+        requires bit { bit < BITS_PER_WORD }
         ensures { StoresWord self.old self.new at
             (with_bit (slice_index self.old.row.words.items at) bit) }
     {
@@ -49,11 +52,21 @@ impl PlainRow {
     /// Clears a bit of a word.
     pub(crate) fn clear_bit(&mut self, at: u32, bit: u32)
         requires word { at < length self.old.row.words.items }
-        requires bit { bit < 64 }
+        requires bit { bit < BITS_PER_WORD }
         ensures { StoresWord self.old self.new at
             (without_bit (slice_index self.old.row.words.items at) bit) }
     {
         side_meta::clear_bit(&mut self.row.words, at, bit);
+    }
+
+    /// Sets the flag of the block with an address: an object there is to be logged.
+    pub(crate) fn flag_block(&mut self, address: u32)
+        requires address { IsAddress self.old.row.layout.blocks address }
+        requires flags { length self.old.flags.items ≡ self.old.row.layout.blocks }
+        ensures { SetsFlag self.old self.new (block_at self.old.row.layout.blocks address) }
+    {
+        let block = (address - self.row.layout.heap_base()) / BLOCK_WORDS;
+        self.flags[block as usize] = true;
     }
 
     /// Clears the unlog bit of an address.

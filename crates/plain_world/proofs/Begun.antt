@@ -22,7 +22,7 @@ use Rattle.heap_layout.specs.declared.block.TheConstants.{CLASSES}
 use Rattle.block_regions.specs.declared.block_notes.BlockNotes.{BlockNotes}
 use Rattle.heap_users.specs.Users.{mutator_state}
 use Rattle.local_allocators.specs.Seats.{ticket_of}
-use Rattle.block_regions.specs.Notes.{FillsHoles, HasNotes, ListsOwned, AreUnowned, AreNotes}
+use Rattle.block_regions.specs.Notes.{FillsHoles, FlagsCover, HasNotes, ListsOwned, AreUnowned, AreNotes}
 use Rattle.heap_users.specs.Beginnings.{MayUse, without_stop, epoch_of}
 use Rattle.plain_row.specs.Worlds.{HasState, HasCursors, HasLists, IsAt, IsAfter, RowIsBetweenCalls}
 use Rattle.block_regions.proofs.Lists.{get-map, get-copy}
@@ -77,9 +77,11 @@ pub record IsBegun (r : Rules) (s : HeapState) (ms : List MutatorState) (w : Pla
   pub seats : w.seats.items ≡ replicate (length w.mutators.items) empty_seat
   pub known : BlockNotes
   pub are : AreNotes r.fill s known
+  pub cover : FlagsCover r s known.flags.items
   pub notes : w.notes ≡ known.notes
   pub owned : w.owned ≡ known.owned
   pub counts : w.counts ≡ known.counts
+  pub flags : w.flags ≡ known.flags
   pub fill : w.fill ≡ r.fill
   pub young : w.young ≡ r.young
   pub allowance : w.allowance ≡ allowance_of r.reserve s
@@ -145,6 +147,8 @@ module _ (r : Rules) (s : HeapState) (ms : List MutatorState) (w : PlainRow) (be
     young = begun.young;
     allowed = begun.allowance ∙ sym (cleared.allowance-cleared s lawful r.reserve);
     lists = lists-begun;
+    flags = subst (λ v. FlagsCover r (state_of w.row) v.items) (sym begun.flags)
+        (subst (λ t. FlagsCover r t begun.known.flags.items) (sym begun.heap) (cleared.covers-cleared s lawful r begun.known.flags.items begun.cover));
   }
 
   pub after-begun : (i : IdealHeap) → Represents s ms i → IsAfter p i [] w

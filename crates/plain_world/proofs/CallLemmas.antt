@@ -49,6 +49,7 @@ at-turn p i log a m at = record {
   young = at.young;
   allowed = at.allowed;
   lists = record { owned = at.lists.owned; room = at.lists.room; counts = at.lists.counts };
+  flags = at.flags;
 }
 
 -- the mutators keep their places

@@ -48,9 +48,10 @@ use Rattle.block_regions.specs.declared.block_notes.BlockNote.{BlockNote}
 use Rattle.block_regions.specs.declared.block_notes.BlockNote.TheVariants.{Unowned, Owned}
 use Rattle.heap_users.specs.Users.{mutator_state}
 use Rattle.local_allocators.specs.Seats.{ticket_of}
-use Rattle.block_regions.specs.Notes.{FillsHoles, IsBlockNote, IsOwnedNote, AreFilled}
+use Rattle.block_regions.specs.Notes.{FillsHoles, FlagsCover, IsBlockNote, IsOwnedNote, AreFilled}
 use Rattle.block_regions.specs.Regions.{IsRegionIn}
 use Rattle.plain_row.specs.Worlds.{HasState, IsAt, IsInSomeEpoch}
+use Rattle.block_regions.proofs.BlockFlags.{covers-kept}
 use Rattle.block_regions.proofs.LineRegions.{here-some}
 use Rattle.block_regions.proofs.Regions.{fills-cases, region-some}
 use Rattle.block_regions.proofs.Lists.{get-some, get-below}
@@ -204,6 +205,22 @@ module _ (p : Epoch) (i : IdealHeap) (log : List LogEntry) (w : PlainRow) (at : 
         let e : free_of (with_words p.before new.words) ≡ free_of (heap_after p log) = ap (λ f. count_by f (range_with_len 0 p.before.blocks))
         (fun_ext (λ k. back.kind-same p at.epoch.ready h _ (facts.end p i log w at).set (facts.moment p i log w at) new.words (subst (GivesBack (heap_after p log)) same gives-after) k kinds.Free)) in
         ap free_of same ∙ e
+
+    -- the flags cover what is logged then
+    pub flags-after : FlagsCover p.rules new w.flags.items
+    flags-after =
+        let same : new ≡ with_words p.before new.words = same-layout p.before new gives-after.blocks gives-after.number gives-after.base in
+        let set = (facts.end p i log w at).set in
+        let now = facts.moment p i log w at in
+        let given : GivesBack (heap_after p log) (with_words p.before new.words) = subst (GivesBack (heap_after p log)) same gives-after in
+        subst (λ (t : HeapState). FlagsCover p.rules t w.flags.items) (sym same)
+        (covers-kept p.rules (heap_after p log) (with_words p.before new.words) w.flags.items refl (λ a is.
+        let was : IsHeld (heap_after p log) a = back.held-before p at.epoch.ready h _ set now new.words given a is.held in
+        record {
+          held = was;
+          old = sym (back.old-back p at.epoch.ready h _ set now new.words given a was) ∙ is.old;
+          clear = sym (back.unlog-back p at.epoch.ready h _ set now new.words given a) ∙ is.clear;
+        }) (subst (λ (t : HeapState). FlagsCover p.rules t w.flags.items) at.heap at.flags))
 
     pub tickets-drawn : free_of p.before + sum_by (λ x. tickets_in x.ticket) w.seats.items ≡ free_of new + word_at (state_of w.row) 1
     tickets-drawn = tickets-now ∙ ap (λ n. n + word_at (state_of w.row) 1) (sym free-same)

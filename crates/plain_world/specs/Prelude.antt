@@ -1,5 +1,5 @@
 -- The names that the contracts of plain_world cite, passed on from one place. Declares nothing.
-pub use Rattle.block_regions.specs.Notes.{AreNotes, AreUnowned, GivesBackBlock, HasNotes, IsLeastLeft, ListsOwned}
+pub use Rattle.block_regions.specs.Notes.{AreNotes, AreUnowned, FlagsCover, GivesBackBlock, HasNotes, IsLeastLeft, ListsOwned}
 pub use Rattle.heap_layout.specs.Blocks.{is_block_code}
 pub use Rattle.heap_users.specs.Beginnings.{MayUse, epoch_of, without_stop}
 pub use Rattle.heap_users.specs.Users.{mutator_state}

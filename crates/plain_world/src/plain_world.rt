@@ -2,10 +2,11 @@
 //!
 //! Called by whoever runs an epoch. `begin` makes all fields of the row of a heap, its mutators and
 //! notes; `close` takes them apart. The stop word and the budget word are 0 at the beginning; at
-//! the end no block has an owner, and notes and counts are right for the heap that is handed on.
+//! the end no block has an owner, and notes, flags and counts are right for the heap that is handed
+//! on.
 
 ghost use Rattle.std.specs.Prelude.{◌≡◌, ◌+◌, ◌<◌, ◌≤◌, ℕ, List, [], ◌∷◌, Some, None, length, map, replicate, IfOk};
-ghost use Rattle.plain_world.specs.Prelude.{IdealHeap, Entry, Represents, heap_state, Rules, Remembers, Stopped, Epoch, GivesBack, numbers_of, mutator_state, AreNotes, heap_of_world, mutators_of_world, is_generational, fill_of, births_at, ticket_at, budget_word, places_of, HasPlace, IsOpen, HasHistory, MayUse, without_stop, epoch_of, empty_seat, GrantsWithTickets};
+ghost use Rattle.plain_world.specs.Prelude.{IdealHeap, Entry, Represents, heap_state, Rules, Remembers, Stopped, Epoch, GivesBack, numbers_of, mutator_state, AreNotes, FlagsCover, heap_of_world, mutators_of_world, is_generational, fill_of, births_at, ticket_at, budget_word, places_of, HasPlace, IsOpen, HasHistory, MayUse, without_stop, epoch_of, empty_seat, GrantsWithTickets};
 
 use crate::closing::{give_back, unused_tickets};
 use bitflags::Flags;
@@ -88,6 +89,7 @@ impl<P: Plan> PlainWorld<P> {
         requires users { MayUse (heap_state heap) (map mutator_state mutators.items) }
         requires remembers { Remembers P.rules (heap_state heap) }
         requires notes { AreNotes P.rules.fill (heap_state heap) notes }
+        requires flags { FlagsCover P.rules (heap_state heap) notes.flags.items }
         ensures open { IfOk result (λ w. IsOpen P.rules w) }
         ensures mutators { IfOk result (λ w. mutators_of_world w
             ≡ map mutator_state mutators.items) }
@@ -117,6 +119,7 @@ impl<P: Plan> PlainWorld<P> {
         requires users { MayUse (heap_state heap) (map mutator_state mutators.items) }
         requires remembers { Remembers P.rules (heap_state heap) }
         requires notes { AreNotes P.rules.fill (heap_state heap) notes }
+        requires flags { FlagsCover P.rules (heap_state heap) notes.flags.items }
         requires seats { seats.items ≡ replicate (length mutators.items) empty_seat }
         ensures open { IsOpen P.rules result }
         ensures mutators { mutators_of_world result ≡ map mutator_state mutators.items }
@@ -137,6 +140,7 @@ impl<P: Plan> PlainWorld<P> {
             counts,
             notes,
             owned,
+            flags,
         } = notes;
         let row = PlainRow {
             row,
@@ -145,6 +149,7 @@ impl<P: Plan> PlainWorld<P> {
             turn: 0,
             notes,
             owned,
+            flags,
             counts,
             fill: P::alloc_kind(),
             young: P::FLAGS.contains(PlanFlags::YOUNG),
@@ -213,6 +218,8 @@ impl<P: Plan> PlainWorld<P> {
         ensures notes { (p : Epoch) (i : IdealHeap) (part : List Entry)
             → HasHistory self p i part → AreNotes p.rules.fill (heap_state result.0) result.2 }
         ensures known { AreNotes (fill_of self) (heap_state result.0) result.2 }
+        ensures flags { (rules : Rules) → rules.young ≡ is_generational self
+            → FlagsCover rules (heap_state result.0) result.2.flags.items }
     {
         let PlainRow {
             mut row,
@@ -220,6 +227,7 @@ impl<P: Plan> PlainWorld<P> {
             seats,
             mut notes,
             mut owned,
+            flags,
             mut counts,
             ..
         } = self.row;
@@ -231,6 +239,7 @@ impl<P: Plan> PlainWorld<P> {
             counts,
             notes,
             owned,
+            flags,
         };
         (Heap::from_row(row), mutators, notes)
     }

@@ -60,7 +60,7 @@ returns c =
     let is : IsCurrent w c.args.size c.args.block c.args.owner c.args.region.now =
     current-note w c.args.size c.requires.room c.args.block c.args.owner c.args.region.now c.requires.current c.requires.note in
     record {
-      plan = record { turn = refl; fill = refl; young = refl; allowance = refl; counts = refl };
+      plan = record { turn = refl; fill = refl; young = refl; allowance = refl; counts = refl; flags = refl };
       mutators = refl;
       row = refl;
       seats = refl;

@@ -11,7 +11,7 @@ returns c =
     let owner : ℕ = c.number-owner.result in
     let hole = c.args.hole in
     record {
-      plan = record { turn = refl; fill = refl; young = refl; allowance = refl; counts = refl };
+      plan = record { turn = refl; fill = refl; young = refl; allowance = refl; counts = refl; flags = refl };
       mutators = refl;
       row = refl;
       seats = refl;

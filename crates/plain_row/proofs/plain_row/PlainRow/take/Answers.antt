@@ -21,7 +21,7 @@ returns-then-over c =
     let number : owner ≡ number_at_turn w = c.number-owner.ensures in
     let x : LocalSeat = c.index_mut-seat.result.now in
     rw c.if-over.true (record {
-      plan = record { turn = refl; fill = refl; young = refl; allowance = refl; counts = refl };
+      plan = record { turn = refl; fill = refl; young = refl; allowance = refl; counts = refl; flags = refl };
       mutators = refl;
       words = subst (λ (n : ℕ). state_of c.set_block.new.self ≡ with_words (state_of w.row) (slice_set (state_of w.row).words
           (first (state_of w.row).blocks BlockWords + block) (code_of (record { kind = w.fill; class = c.args.class; owner = n })))) number c.set_block.ensures;
@@ -45,7 +45,7 @@ returns-else-over c =
     let number : owner ≡ number_at_turn w = c.number-owner.ensures in
     let x : LocalSeat = c.index_mut-seat.result.now in
     rw c.if-over.false (record {
-      plan = record { turn = refl; fill = refl; young = refl; allowance = refl; counts = refl };
+      plan = record { turn = refl; fill = refl; young = refl; allowance = refl; counts = refl; flags = refl };
       mutators = refl;
       words = subst (λ (n : ℕ). state_of c.set_block.new.self ≡ with_words (state_of w.row) (slice_set (state_of w.row).words
           (first (state_of w.row).blocks BlockWords + block) (code_of (record { kind = w.fill; class = c.args.class; owner = n })))) number c.set_block.ensures;

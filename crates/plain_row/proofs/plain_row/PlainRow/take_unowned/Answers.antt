@@ -46,7 +46,7 @@ returns-in-None-clause-none c = λ no.
     let w = c.args.self.now in
     let note = c.requires.note in
     changes.seen note.0 note.1 (rw c.in-None.is at c.first_hole.ensures) (c.has_other_class.ensures.suits c.if-has_other_class.false) (record {
-      plan = record { turn = refl; fill = refl; young = refl; allowance = refl; counts = refl };
+      plan = record { turn = refl; fill = refl; young = refl; allowance = refl; counts = refl; flags = refl };
       mutators = refl;
       row = refl;
       seats = refl;

@@ -19,9 +19,11 @@ returns-clause-open g c = record {
     seats = c.requires.seats;
     known = c.args.notes;
     are = c.requires.notes;
+    cover = c.requires.flags;
     notes = refl;
     owned = refl;
     counts = refl;
+    flags = refl;
     fill = c.alloc_kind.ensures;
     young = c.contains.ensures tt ∙ ap (λ f. bit_and f.0 2 == 2) c.FLAGS.ensures ∙ ap (λ n. bit_and n 2 == 2) g.met.P.Plan.flags_are_of_rules ∙ young-flag g.P.Plan.rules;
     allowance = c.allowance.ensures ∙ ap (λ r. allowance_in r (session_counts c.args.notes.counts)) c.reserve.ensures
@@ -46,9 +48,11 @@ returns-clause-begins g c = begun.after-begun g.P.Plan.rules (heap_state c.args.
   seats = c.requires.seats;
   known = c.args.notes;
   are = c.requires.notes;
+  cover = c.requires.flags;
   notes = refl;
   owned = refl;
   counts = refl;
+  flags = refl;
   fill = c.alloc_kind.ensures;
   young = c.contains.ensures tt ∙ ap (λ f. bit_and f.0 2 == 2) c.FLAGS.ensures ∙ ap (λ n. bit_and n 2 == 2) g.met.P.Plan.flags_are_of_rules ∙ young-flag g.P.Plan.rules;
   allowance = c.allowance.ensures ∙ ap (λ r. allowance_in r (session_counts c.args.notes.counts)) c.reserve.ensures

@@ -16,7 +16,8 @@ use Rattle.heap_users.specs.Beginnings.{MayUse}
 use Rattle.block_regions.specs.Notes.{HasNotes}
 use Rattle.plain_row.proofs.EpochFacts as facts
 use Rattle.block_regions.proofs.KeptNotes.{notes-for}
-use Rattle.plain_world.proofs.Closed.{AreFew, are-few, more-words, counts-after, ended, may-use, ticket-drawn, tickets-allowed, tickets-drawn}
+use Rattle.block_regions.proofs.BlockFlags.{covers-young}
+use Rattle.plain_world.proofs.Closed.{AreFew, are-few, more-words, counts-after, flags-after, ended, may-use, ticket-drawn, tickets-allowed, tickets-drawn}
 use Rattle.plain_world.proofs.plain_world.PlainWorld.close_with.Goals as goal
 
 pub overflow_add-counts : goal.overflow_add-counts
@@ -138,3 +139,11 @@ returns-clause-known g c =
 
 pub returns-clause-notes : goal.returns-clause-notes
 returns-clause-notes g c = λ p i part is. notes-for c.args.self.row.fill p.rules.fill is.at.fill _ _ (returns-clause-known g c)
+
+pub returns-clause-flags : goal.returns-clause-flags
+returns-clause-flags g c = λ rules same.
+    let is = c.requires.open.between_calls.some in
+    let w = c.args.self.row in
+    let new : HeapState = heap_state c.from_row.result in
+    let gives : GivesBack (state_of w.row) new = subst (GivesBack (state_of w.row)) (sym c.from_row.ensures) c.give_back.ensures.gives in
+    covers-young is.epoch.rules rules new w.flags.items (same ∙ is.at.young) (flags-after is.epoch is.ideal is.log w is.at new gives)
