@@ -1,4 +1,4 @@
-//! A small list language on a managed heap, under three plans. One mutator builds a list, amid
+//! A small list language on a managed heap, under five plans. One mutator builds a list, amid
 //! garbage, reverses it and hands it over by a global; the other adds its numbers. An array lies
 //! beside it. An element is an object with one reference, to the next element, and one number.
 #![tactic(auto)]
@@ -18,7 +18,7 @@ use ideal_heap::Reply;
 use managed_heap::managed_plans;
 use managed_value::{ManagedHeap, Refused};
 use plan_api::Plan;
-use plans::{Immix, MarkSweep, SemiSpace};
+use plans::{GenCopy, Immix, MarkSweep, SemiSpace, StickyImmix};
 use std::alloc::Global;
 use std::thread::Threads;
 
@@ -52,12 +52,13 @@ const LAST_NUMBER: u64 = 7;
 /// The numbers of an object that is garbage at once.
 const GARBAGE_NUMBERS: u32 = 100;
 
-/// The sum of the list, the last number of the array, and how many collections were made.
+/// The sum of the list, the last number of the array, and how many nursery and full collections
+/// were made.
 #[derive(Debug, Drop)]
 struct Outcome {
     sum: u64,
     last: u64,
-    collections: u64,
+    collections: (u64, u64),
 }
 
 /// Allocates an object into the builder's register `d`.
@@ -225,11 +226,10 @@ fn run<P: Plan, R: Threads + Sync>(alloc: Global, rt: &R, count: u64) -> Result<
     let last = last_number(&mut heap);
     hand_over(&mut heap);
     let sum = sum(&mut heap, ADDER, LIST, count);
-    let (_, collections) = heap.collections();
     Ok(Outcome {
         sum,
         last,
-        collections,
+        collections: heap.collections(),
     })
 }
 
@@ -245,5 +245,13 @@ fn main(rt: HostRuntime) -> Result<()> {
         run::<MarkSweep, HostRuntime>(alloc, &rt, COUNT)?
     )?;
     println!(rt; "Immix {:?}", run::<Immix, HostRuntime>(alloc, &rt, COUNT)?)?;
+    println!(rt;
+        "GenCopy {:?}",
+        run::<GenCopy, HostRuntime>(alloc, &rt, COUNT)?
+    )?;
+    println!(rt;
+        "StickyImmix {:?}",
+        run::<StickyImmix, HostRuntime>(alloc, &rt, COUNT)?
+    )?;
     Ok(())
 }

@@ -1,13 +1,16 @@
 -- A stopped heap after a collection, which was made and counted.
-use Rattle.std.proofs.Common.{◌≡◌, refl, sym, ◌∙◌, ap, subst, ℕ, ◌+◌, ◌≤◌, arith, List, [], ◌∷◌, length, map}
+use Rattle.std.proofs.Common.{◌≡◌, refl, sym, ◌∙◌, ap, subst, ℕ, ◌+◌, ◌≤◌, arith, Bool, true, false, IsTrue, List, [], ◌∷◌, length, map}
 use Rattle.std.specs.List.{AllByRecursion}
 use Rattle.object_model.specs.declared.collect.Collect.{Collect}
 use Rattle.object_model.specs.declared.collect.Collect.TheVariants.{Nursery, Full}
 use Rattle.object_model.specs.Heaps.{heap_state}
 use Rattle.object_model.specs.Objects.{HeapState}
 use Rattle.object_model.specs.Graphs.{MutatorState, roots_of}
-use Rattle.sessions.specs.Plans.{Rules}
-use Rattle.sessions.specs.Collecting.{IsCollection}
+use Rattle.sessions.specs.Plans.{Plan, Rules, rules_of, NoGc, MarkSweep, SemiSpace, GenCopy, Immix, StickyImmix}
+use Rattle.sessions.specs.Collecting.{IsCollection, CollectsIf}
+use Rattle.object_model.specs.Ages.{is_logged}
+use Rattle.heap_layout.specs.declared.block.Kind.{Kind}
+use Rattle.std.proofs.lemmas.Bool.{and_parts, true≢false}
 use Rattle.sessions.specs.Sessions.{Setting, Moment, MakesCollection, birth_count, counts_after}
 use Rattle.sessions.proofs.CountedCollections.{counts-one}
 use Rattle.sessions.proofs.CollectedMoments as moments
@@ -17,8 +20,10 @@ use Rattle.collector.specs.Tallies.{NotesIf}
 use Rattle.collector.specs.declared.outcome.Note.{Note}
 use Rattle.mutator_calls.specs.declared.need.Mutator.{Mutator}
 use Rattle.heap_users.specs.Users.{mutator_state}
-use Rattle.block_regions.specs.Notes.{AreNotes}
+use Rattle.block_regions.specs.Notes.{AreNotes, FlagsCover, NoneIsLogged}
+use Rattle.block_regions.specs.declared.block_notes.BlockNotes.{BlockNotes}
 use Rattle.managed_heap.specs.declared.stopped_heap.StoppedHeap.{StoppedHeap}
+use Rattle.managed_heap.proofs.Noted.{AreKnown, IsFound}
 use Rattle.managed_heap.specs.Stopped.{collections_of, registers_of_heap, counted, IsHeapInOrder, IsStopped, HeapStandsAt, HasCollected}
 use Rattle.managed_heap.specs.Needs.{AddsBirths}
 use Rattle.managed_heap.proofs.BirthCounts.{as-many, none-added}
@@ -86,7 +91,7 @@ module _ {P : Type 0} (rules : Rules) (kind : Collect) (old new : StoppedHeap P)
       let sum : new.nursery + new.full ≡ old.nursery + old.full + 1 = counts in
       let risen : (heap_state new.heap).number ≡ (heap_state old.heap).number + 1 =
       (counts-one rules 1 kind (heap_state old.heap) (heap_state new.heap) (registers_of_heap old) (registers_of_heap new) made.collection).0 in
-      record { few = omega arith; notes = made.notes; number = omega arith }
+      record { few = omega arith; notes = made.notes; flags = made.flags; number = omega arith }
 
   pub stopped-made : IsStopped rules old → IsStopped rules new
   stopped-made stopped = record {
@@ -99,6 +104,46 @@ module _ {P : Type 0} (rules : Rules) (kind : Collect) (old new : StoppedHeap P)
   pub makes-from : (t : Setting) (now : Moment) → HeapStandsAt rules old t now → (next : Moment) × MakesCollection t kind now next × HeapStandsAt rules new t next
   makes-from t now at = (late now, makes t now at, stands t now at)
 
+-- a plan with young objects reclaims
+young-collects : (q : Plan) → IsTrue (rules_of q).young → (rules_of q).collects ≡ true
+young-collects NoGc young = absurd (true≢false (sym young))
+young-collects MarkSweep young = refl
+young-collects SemiSpace young = refl
+young-collects GenCopy young = refl
+young-collects Immix young = refl
+young-collects StickyImmix young = refl
+
+-- after a collection no object is logged
+none-if : (b : Bool) (r : Rules) (w : ℕ) (kind : Collect) (s new : HeapState) (from to : List ℕ) → (IsTrue r.young → b ≡ true) → CollectsIf b r w kind s from new to → NoneIsLogged r new
+none-if true r w kind s new from to young made a logged = made.logged a logged
+none-if false r w kind s new from to young made a logged = true≢false (sym (young (and_parts r.young (is_logged new a) logged).0))
+
+-- what is known of the blocks then
+pub known-after : (q : Plan) (r : Rules) → r ≡ rules_of q → (w : ℕ) (kind : Collect) (s new : HeapState) (from to : List ℕ) → IsCollection r w kind s from new to → (n : BlockNotes)
+    → ((fill : Kind) → AreNotes fill new n) → ((x : Rules) → NoneIsLogged x new → FlagsCover x new n.flags.items) → AreKnown r new n
+known-after q r of w kind s new from to made n notes flags = record {
+  notes = notes r.fill;
+  flags = flags r (none-if r.collects r w kind s new from to
+      (λ young. ap (λ (x : Rules). x.collects) of ∙ young-collects q (subst (λ (x : Rules). IsTrue x.young) of young)) made);
+}
+
+-- a search of the notes after it leaves all else
+pub collected-found : {P : Type 0} (rules : Rules) (kind : Collect) (old new found : StoppedHeap P) (note : Note) → HasCollected rules kind old new note → IsFound new found
+    → AreKnown rules (heap_state found.heap) found.notes → HasCollected rules kind old found note
+collected-found {P = P} rules kind old new found note made rest known = subst (λ (x : StoppedHeap P). HasCollected rules kind old x note) (sym rest) (record {
+  collection = made.collection;
+  noted = made.noted;
+  fills = made.fills;
+  births = made.births;
+  registers = made.registers;
+  counts = made.counts;
+  notes = own.notes;
+  flags = own.flags;
+})
+  where
+    own : AreKnown rules (heap_state new.heap) found.notes
+    own = subst (λ (x : StoppedHeap P). AreKnown rules (heap_state x.heap) found.notes) rest known
+
 -- what a collection of these roots did, with its note
 abbrev Made : (rules : Rules) (kind : Collect) (s : HeapState) (from : List ℕ) (s' : HeapState) (to : List ℕ) (note : Note) → Type 0
 Made rules kind s from s' to note = (made : IsCollection rules 1 kind s from s' to) × NotesIf rules.collects rules 1 kind s from s' to made note
@@ -108,9 +153,9 @@ Made rules kind s from s' to note = (made : IsCollection rules 1 kind s from s' 
 pub has-collected : {P : Type 0} (rules : Rules) (kind : Collect) (old new : StoppedHeap P) (note : Note) (from to : List ℕ) → from ≡ registers_of_heap old → to ≡ registers_of_heap new
     → Made rules kind (heap_state old.heap) from (heap_state new.heap) to note
     → map birth_count (map mutator_state new.mutators.items) ≡ map birth_count (map mutator_state old.mutators.items) → AllByRecursion (λ u. length u.registers ≡ 16) new.mutators.items
-    → (new.nursery, new.full) ≡ counted kind old.nursery old.full → AreNotes rules.fill (heap_state new.heap) new.notes → HasCollected rules kind old new note
-has-collected rules kind old new note from to read set whole births registers counts notes =
+    → (new.nursery, new.full) ≡ counted kind old.nursery old.full → AreKnown rules (heap_state new.heap) new.notes → HasCollected rules kind old new note
+has-collected rules kind old new note from to read set whole births registers counts known =
     let all : Made rules kind (heap_state old.heap) (registers_of_heap old) (heap_state new.heap) (registers_of_heap new) note =
     subst (λ (l : List ℕ). Made rules kind (heap_state old.heap) l (heap_state new.heap) (registers_of_heap new) note) read
     (subst (λ (l : List ℕ). Made rules kind (heap_state old.heap) from (heap_state new.heap) l note) set whole) in
-    record { collection = all.0; noted = all.1; fills = all.2; births = births; registers = registers; counts = counts; notes = notes }
+    record { collection = all.0; noted = all.1; fills = all.2; births = births; registers = registers; counts = counts; notes = known.notes; flags = known.flags }

@@ -10,7 +10,7 @@ use Rattle.object_model.specs.Graphs.{MutatorState, Represents, numbers_of}
 use Rattle.sessions.specs.Plans.{Rules}
 use Rattle.sessions.specs.Collecting.{Remembers}
 use Rattle.sessions.specs.Sessions.{Setting, Moment, ideal_at}
-use Rattle.block_regions.specs.Notes.{AreNotes}
+use Rattle.block_regions.specs.Notes.{AreNotes, FlagsCover}
 use Rattle.heap_users.specs.Users.{mutator_state}
 use Rattle.heap_users.specs.Beginnings.{MayUse}
 use Rattle.plain_world.proofs.Closed.{may-use}
@@ -56,11 +56,12 @@ module _ {P : Type 0} (rules : Rules) (old new : StoppedHeap P) (t : Setting) (n
       ∙ length-map (map mutator_state old.mutators.items) (λ (m : MutatorState). m.number)
       ∙ length-map old.mutators.items mutator_state
 
-  pub is-stopped : IsHeapInOrder rules old → AreNotes rules.fill (heap_state new.heap) new.notes → IsStopped rules new
-  is-stopped order notes = record {
+  pub is-stopped : IsHeapInOrder rules old → AreNotes rules.fill (heap_state new.heap) new.notes → FlagsCover rules (heap_state new.heap) new.notes.flags.items → IsStopped rules new
+  is-stopped order notes flags = record {
     order = record {
       few = subst (λ (n : ℕ). n ≤ 16) (sym count) order.few;
       notes = notes;
+      flags = flags;
       number = ends.stopped.number ∙ ap (λ (x : HeapState). x.number) (sym stands.heap) ∙ order.number
           ∙ ap (λ (n : ℕ). n + old.full) (sym ends.nursery) ∙ ap (λ (n : ℕ). new.nursery + n) (sym ends.full);
     };

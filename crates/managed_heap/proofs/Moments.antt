@@ -76,7 +76,7 @@ module _ {P : Type 0} (rules : Rules) (old new : StoppedHeap P) (m : ℕ) (need 
   order-placed =
       let few : length old.mutators.items ≤ 16 = stopped.order.few in
       let many : length new.mutators.items ≡ length old.mutators.items = bears.change.len in
-      record { few = omega arith; notes = puts.notes; number = born.layout.1 ∙ stopped.order.number ∙ sym counts-placed }
+      record { few = omega arith; notes = puts.notes; flags = puts.flags; number = born.layout.1 ∙ stopped.order.number ∙ sym counts-placed }
 
   module _ (t : Setting) (now : Moment) (stands : HeapStandsAt rules old t now) where
     abbrev h : IdealHeap

@@ -15,7 +15,7 @@ use Rattle.sessions.specs.Fitting.{HasHole}
 use Rattle.sessions.specs.Sessions.{PlacesSmall}
 use Rattle.mutator_calls.specs.declared.need.Need.{Need}
 use Rattle.mutator_calls.specs.declared.need.Mutator.{Mutator}
-use Rattle.block_regions.specs.Notes.{FillsHoles, AreNotes, PlacesInBlock, PlacesRun}
+use Rattle.block_regions.specs.Notes.{FillsHoles, AreNotes, FlagsCover, PlacesInBlock, PlacesRun}
 use Rattle.block_regions.specs.declared.block_notes.BlockNotes.{BlockNotes}
 use Rattle.managed_heap.specs.declared.stopped_heap.StoppedHeap.{StoppedHeap}
 use Rattle.managed_heap.specs.declared.spot.Spot.{Spot}
@@ -125,7 +125,19 @@ module _ {P : Type 0} (rules : Rules) (h : StoppedHeap P) (m : ℕ) (need : Need
           lines = born.lines;
         }
 
-        -- the notes, as they follow the placement
+        -- the flags, as they follow the placement
+        pub flags : (old after : BlockNotes) → FlagsCover rules s old.flags.items
+            → (spot.run ≡ 0 → (x : Rules) (u v : HeapState) (a refs nums : ℕ) → FlagsCover x u old.flags.items → PlacesInBlock x u v a refs nums spot.block spot.free
+            → FlagsCover x v after.flags.items)
+            → (spot.run ≢ 0 → (x : Rules) (u : HeapState) (a refs nums : ℕ) → FlagsCover x u old.flags.items → PlacesRun u new a refs nums spot.block → new.base ≡ u.base
+            → FlagsCover x new after.flags.items)
+            → FlagsCover rules new after.flags.items
+        flags old after before small large =
+            by-run rules.fill s (size_of need.refs need.nums) spot (FlagsCover rules new after.flags.items) found
+            (λ none is. small none rules s new (address_of s spot) need.refs need.nums before (small-placed is))
+            (λ some is. large some rules s (address_of s spot) need.refs need.nums before (large-placed is) layout.2)
+
+        -- and the notes
         pub notes : (old after : BlockNotes) → AreNotes rules.fill s old
             → (spot.run ≡ 0 → (x : Rules) (u v : HeapState) (a refs nums : ℕ) → FillsHoles x.fill → AreNotes x.fill u old → PlacesInBlock x u v a refs nums spot.block spot.free
             → AreNotes x.fill v after)

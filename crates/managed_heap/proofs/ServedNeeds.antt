@@ -15,10 +15,10 @@ use Rattle.sessions.specs.Collecting.{first_collection}
 use Rattle.sessions.specs.Sessions.{Setting, Moment, Places, OnlyReplies, ServesNeed, FirstTry, refused_entry, ideal_at, at_once, after_nursery, after_full, refused}
 use Rattle.collector.specs.declared.outcome.Note.{Note}
 use Rattle.mutator_calls.specs.declared.need.Need.{Need}
-use Rattle.block_regions.specs.Notes.{AreNotes}
 use Rattle.managed_heap.specs.declared.stopped_heap.StoppedHeap.{StoppedHeap}
 use Rattle.managed_heap.specs.declared.place.Placed.{Placed}
 use Rattle.managed_heap.specs.declared.place.Placed.TheVariants as answer
+use Rattle.managed_heap.proofs.Noted.{AreKnown}
 use Rattle.managed_heap.specs.Stopped.{collections_of, IsHeapInOrder, IsStopped, HeapStandsAt, HasCollected}
 use Rattle.managed_heap.specs.Needs.{MakesRoomAtStop, Settles, AddsNeed, AddsBirths, IfRefused, born_in}
 use Rattle.managed_heap.proofs.Noted as noted
@@ -43,7 +43,7 @@ abbrev pub RoomFrom : {P : Type 0} → Rules → StoppedHeap P → ℕ → Stopp
 RoomFrom rules old size new = (t : Setting) (now : Moment) → HeapStandsAt rules old t now
     → (late : Moment) × MakesRoomAtStop t size now late × HeapStandsAt rules new t late
 
-pub serves-at-once : {P : Type 0} (rules : Rules) (old new last : StoppedHeap P) (m : ℕ) (need : Need) (what : Placed) → IsFound old new → AreNotes rules.fill (heap_state new.heap) new.notes
+pub serves-at-once : {P : Type 0} (rules : Rules) (old new last : StoppedHeap P) (m : ℕ) (need : Need) (what : Placed) → IsFound old new → AreKnown rules (heap_state new.heap) new.notes
     → PlacesFrom rules new m need what last → ServesFrom rules old m need what last
 serves-at-once rules old new last m need what rest are places t now stands =
     let placed = places t now (noted.stands-found rules old new rest are t now stands) in
@@ -163,7 +163,7 @@ refused-at rules h m d refs nums t now stands =
 -- a need that is settled
 
 module _ {P : Type 0} (rules : Rules) (old found : StoppedHeap P) (m : ℕ) (need : Need) (size : ℕ) (rest : IsFound old found)
-    (notes : AreNotes rules.fill (heap_state found.heap) found.notes) (is : size ≡ size_of need.refs need.nums) where
+    (notes : AreKnown rules (heap_state found.heap) found.notes) (is : size ≡ size_of need.refs need.nums) where
   pub settles-placed : (last : StoppedHeap P) (n : Name) → PlacesFrom rules found m need (answer.Placed n) last → SettlesFrom rules old m need (answer.Placed n) last
   settles-placed last n places t now stands =
       let placed = places t now (noted.stands-found rules old found rest notes t now stands) in
@@ -207,7 +207,7 @@ room-done t size now late (inl part) = part.1.done
 room-done t size now late (inr whole) = whole.2.done ∙ first-done t size (first_collection t.rules now.heap) now whole.0 whole.1
 
 module _ {P : Type 0} (rules : Rules) (old found made last : StoppedHeap P) (m : ℕ) (need : Need) (what : Placed) (size : ℕ) (rest : IsFound old found)
-    (notes : AreNotes rules.fill (heap_state found.heap) found.notes) (is : size ≡ size_of need.refs need.nums) where
+    (notes : AreKnown rules (heap_state found.heap) found.notes) (is : size ≡ size_of need.refs need.nums) where
   pub serves-after : (Fits rules (heap_state old.heap) size → ⊥) → RoomFrom rules found size made → SettlesFrom rules made m need what last → ServesFrom rules old m need what last
   serves-after none room settles t now stands =
       let first = room t now (noted.stands-found rules old found rest notes t now stands) in

@@ -1,3 +1,4 @@
 pub mod Stopped
 pub mod Spots
 pub mod Needs
+pub mod Prelude

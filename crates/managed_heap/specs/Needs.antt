@@ -18,7 +18,7 @@ use Rattle.sessions.specs.Collecting.{first_collection}
 use Rattle.sessions.specs.Sessions.{Setting, Moment, MakesCollection, FirstTry, Places, OnlyReplies, refused_entry}
 use Rattle.collector.specs.declared.outcome.Note.{Note}
 use Rattle.block_regions.specs.Elements.{ChangesAt}
-use Rattle.block_regions.specs.Notes.{AreNotes}
+use Rattle.block_regions.specs.Notes.{AreNotes, FlagsCover}
 use Rattle.mutator_calls.specs.declared.need.Mutator.{Mutator}
 use Rattle.mutator_calls.specs.declared.need.Need.{Need}
 use Rattle.managed_heap.specs.declared.stopped_heap.StoppedHeap.{StoppedHeap}
@@ -69,6 +69,7 @@ pub record WritesNeed {P : Type 0} (rules : Rules) (old : StoppedHeap P) (m : �
       → MutatorAllocatesAt old.mutators.items new.mutators.items k m need.register
       (block_start (heap_state old.heap).blocks spot.block + spot.offset) n
   pub notes : AreNotes rules.fill (heap_state new.heap) new.notes
+  pub flags : FlagsCover rules (heap_state new.heap) new.notes.flags.items
   pub nursery : new.nursery ≡ old.nursery
   pub full : new.full ≡ old.full
 

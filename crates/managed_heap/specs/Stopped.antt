@@ -10,14 +10,14 @@ use Rattle.object_model.specs.Objects.{HeapState}
 use Rattle.object_model.specs.declared.collect.Collect.{Collect}
 use Rattle.object_model.specs.declared.collect.Collect.TheVariants.{Nursery, Full}
 use Rattle.sessions.specs.Plans.{Rules}
-use Rattle.sessions.specs.Collecting.{IsCollection, first_collection}
+use Rattle.sessions.specs.Collecting.{IsCollection, Remembers, first_collection}
 use Rattle.sessions.specs.Sessions.{Setting, Moment, IsSound, Stopped as EndsPart, birth_count, ideal_at}
 use Rattle.collector.specs.Collected.{IsOffered, FillsIf}
 use Rattle.collector.specs.Tallies.{NotesIf}
 use Rattle.collector.specs.declared.outcome.Note.{Note}
 use Rattle.heap_users.specs.Users.{mutator_state}
 use Rattle.heap_users.specs.Beginnings.{without_stop}
-use Rattle.block_regions.specs.Notes.{AreNotes, FillsHoles}
+use Rattle.block_regions.specs.Notes.{AreNotes, FillsHoles, FlagsCover}
 use Rattle.managed_heap.specs.declared.stopped_heap.StoppedHeap.{StoppedHeap}
 use Rattle.managed_heap.specs.declared.stopped_heap.Parts.{Parts}
 
@@ -25,8 +25,8 @@ use Rattle.managed_heap.specs.declared.stopped_heap.Parts.{Parts}
 -- allocations ask for.
 pub record IsManaged (r : Rules) : Type 0 where
   pub fill : FillsHoles r.fill
-  pub first : (s : HeapState) → IsOffered r (first_collection r s)
-  pub full : IsOffered r Full
+  pub first : (s : HeapState) → Remembers r s → IsOffered r (first_collection r s) s
+  pub full : (s : HeapState) → Remembers r s → IsOffered r Full s
 
 -- its parts
 abbrev pub parts_of : {P : Type 0} → StoppedHeap P → Parts
@@ -47,11 +47,12 @@ count_of_mutators h = length h.mutators.items
 abbrev pub collections_of : {P : Type 0} → StoppedHeap P → ℕ
 collections_of h = h.nursery + h.full
 
--- What a stopped heap keeps in order: the mutators are few, the notes are those of its blocks, and
--- the counts of collections add up to the collection number.
+-- What a stopped heap keeps in order: the mutators are few, the notes and flags are those of its
+-- blocks, and the counts of collections add up to the collection number.
 pub record IsHeapInOrder {P : Type 0} (rules : Rules) (h : StoppedHeap P) : Type 0 where
   pub few : count_of_mutators h ≤ MAX_MUTATORS
   pub notes : AreNotes rules.fill (heap_state h.heap) h.notes
+  pub flags : FlagsCover rules (heap_state h.heap) h.notes.flags.items
   pub number : (heap_state h.heap).number ≡ collections_of h
 
 -- Heap, mutators and counts of collections are those of this moment, and the plan is that of the
@@ -107,8 +108,8 @@ abbrev pub registers_of_heap : {P : Type 0} → StoppedHeap P → List ℕ
 registers_of_heap h = roots_of (map mutator_state h.mutators.items)
 
 -- A collection was made and counted, and the note is of it. Its worker filled blocks in turn. The
--- registers are those that it left, and the notes on blocks those of its heap. Mutators keep their
--- numbers and births.
+-- registers are those that it left, and the notes on blocks and their flags those of its heap.
+-- Mutators keep their numbers and births.
 pub record HasCollected {P : Type 0} (rules : Rules) (kind : Collect) (old new : StoppedHeap P)
     (note : Note) : Type 0 where
   pub collection : IsCollection rules 1 kind (heap_state old.heap) (registers_of_heap old)
@@ -127,3 +128,4 @@ pub record HasCollected {P : Type 0} (rules : Rules) (kind : Collect) (old new :
   pub registers : AllByRecursion (λ u. length u.registers ≡ 16) new.mutators.items
   pub counts : (new.nursery, new.full) ≡ counted kind old.nursery old.full
   pub notes : AreNotes rules.fill (heap_state new.heap) new.notes
+  pub flags : FlagsCover rules (heap_state new.heap) new.notes.flags.items

@@ -5,18 +5,12 @@
 
 ghost use Rattle.std.specs.Prelude.{◌≡◌, ◌+◌, ◌*◌, ◌^◌, ◌<◌, ◌≤◌, [], map, length, vec_capacity, IfOk};
 ghost use Rattle.std.specs.List.{AllByRecursion};
-ghost use Rattle.heap_layout.specs.declared.block.Kind.{Kind};
-ghost use Rattle.object_model.specs.Heaps.{heap_state};
-ghost use Rattle.block_regions.specs.Notes.{AreNotes};
-ghost use Rattle.object_model.specs.Graphs.{roots_of};
-ghost use Rattle.sessions.specs.Sessions.{Setting, Moment, MakesCollection, birth_count};
-ghost use Rattle.heap_users.specs.Users.{mutator_state};
-ghost use Rattle.collector.specs.Collected.{IsOffered};
-ghost use Rattle.managed_heap.specs.Stopped.{collections_of, counted, HasCollected, IsStopped, HeapStandsAt};
+ghost use Rattle.managed_heap.specs.Prelude.{Kind, Rules, heap_state, AreNotes, FlagsCover, NoneIsLogged, roots_of, Setting, Moment, MakesCollection, birth_count, mutator_state, IsOffered, collections_of, counted, HasCollected, IsStopped, HeapStandsAt};
 
 use crate::stopped_heap::StoppedHeap;
 use block_regions::{BlockNote, BlockNotes};
 use collector::Note;
+use forward_word::NUMBER_BITS;
 use heap_layout::BLOCK_WORDS;
 use ideal_heap::REGISTERS;
 use mutator_calls::Mutator;
@@ -49,18 +43,22 @@ pub fn all_registers(alloc: Global, mutators: &[Mutator]) -> Result<Vec<u32>, Al
     Ok(roots)
 }
 
-/// Counts the blocks of a heap that has as many as the notes. Nothing else is known of them then.
-/// Takes no memory, and reads each block word once.
+/// Counts the blocks of a heap that has as many as the notes, and in which no object is logged.
+/// Nothing else is known of them then. Takes no memory, and reads each block word once.
 fn renew_notes(notes: &mut BlockNotes, heap: &Heap)
     requires blocks { length notes.old.notes.items ≡ (heap_state heap.now).blocks }
     requires owned { notes.old.owned.items ≡ [] }
     requires room { (heap_state heap.now).blocks ≤ vec_capacity notes.old.owned }
-    ensures { (fill : Kind) → AreNotes fill (heap_state heap.now) notes.new }
+    requires flags { length notes.old.flags.items ≡ (heap_state heap.now).blocks }
+    ensures notes { (fill : Kind) → AreNotes fill (heap_state heap.now) notes.new }
+    ensures flags { (rules : Rules) → NoneIsLogged rules (heap_state heap.now)
+        → FlagsCover rules (heap_state heap.now) notes.new.flags.items }
 {
     notes.counts = block_counts(heap);
     notes.notes.fill(BlockNote::Unowned {
         least: BLOCK_WORDS + 1,
     });
+    notes.flags.fill(false);
 }
 
 /// Gives each mutator its registers: 16 of `roots` each, one mutator after another.
@@ -103,9 +101,9 @@ impl<P: Plan> StoppedHeap<P> {
         pool: &Q,
         gate: &G,
     ) -> Result<(StoppedHeap<P>, Note), AllocError>
-        requires offered { IsOffered P.rules kind }
+        requires offered { IsOffered P.rules kind (heap_state self.heap) }
         requires stopped { IsStopped P.rules self }
-        requires collections { collections_of self + 1 < 2 ^ 40 }
+        requires collections { collections_of self + 1 < 2 ^ NUMBER_BITS }
         ensures stopped { IfOk result (λ r. IsStopped P.rules r.0) }
         ensures collected { IfOk result (λ r. HasCollected P.rules kind self r.0 r.1) }
         ensures makes { (t : Setting) (now : Moment) → HeapStandsAt P.rules self t now
@@ -123,7 +121,10 @@ impl<P: Plan> StoppedHeap<P> {
             plan,
         } = self;
         list_registers(&mut roots, &mutators)?;
-        let after = collector::collect::<P, Q, G, R>(rt, alloc, heap, roots, kind, 1, pool, gate)?;
+        let flags = &notes.flags;
+        let after = collector::collect_flagged::<P, Q, G, R>(
+            rt, alloc, heap, roots, flags, kind, 1, pool, gate,
+        )?;
         set_registers(&mut mutators, &after.roots);
         renew_notes(&mut notes, &after.heap);
         let (nursery, full) = count_one(kind, nursery, full);

@@ -1,36 +1,27 @@
 //! The plans that can be managed.
 
-ghost use Rattle.heap_layout.specs.declared.block.Kind.TheVariants as kinds;
-ghost use Rattle.sessions.specs.Plans.{Rules, NoGc, MarkSweep, SemiSpace, Immix, rules_of};
-ghost use Rattle.std.specs.Prelude.{◌≡◌, ◌≤◌, ◌++◌, true, List, map, length};
-ghost use Rattle.ideal_heap.specs.declared.command.TheConstants.{MAX_MUTATORS};
-ghost use Rattle.ideal_heap.specs.Runs.{Entry};
-ghost use Rattle.object_model.specs.Heaps.{heap_state};
-ghost use Rattle.sessions.specs.Collecting.{Remembers};
-ghost use Rattle.sessions.specs.Sessions.{Setting, Moment};
-ghost use Rattle.heap_users.specs.Beginnings.{MayUse};
-ghost use Rattle.heap_users.specs.Users.{mutator_state};
-ghost use Rattle.block_regions.specs.Notes.{AreNotes};
-ghost use Rattle.managed_heap.specs.declared.stopped_heap.StoppedHeap.{StoppedHeap};
-ghost use Rattle.managed_heap.specs.Stopped.{EndsEpoch, IsManaged, IsHeapInOrder, IsStopped, HeapStandsAt, moment_of};
+ghost use Rattle.managed_heap.specs.Prelude.{Rules, NoGc, MarkSweep, SemiSpace, GenCopy, Immix, StickyImmix, rules_of, MAX_MUTATORS, Entry, Full, Nursery, IsOffered, heap_state, Remembers, Setting, Moment, MayUse, mutator_state, AreNotes, FlagsCover, StoppedHeap, EndsEpoch, IsManaged, IsHeapInOrder, IsStopped, HeapStandsAt, moment_of};
+ghost use Rattle.managed_heap.specs.Prelude.kinds;
+ghost use Rattle.std.specs.Prelude.{◌≡◌, ◌<◌, ◌≤◌, ◌++◌, IsTrue, List, map, length};
 
 use crate::stopped_heap::StoppedHeap;
 
-/// A stopped heap runs the plans NoGC, MarkSweep, SemiSpace and Immix: mutators fill tails of
-/// blocks, cells or lines, and the collections that these plans ask for are made. Blocks with tails
-/// may be Young too. It does not run a plan whose mutators fill no holes, nor one that asks for
-/// nursery collections.
+/// A stopped heap runs all plans: mutators fill tails of blocks, cells or lines, and the
+/// collections that the plans ask for are made. It does not run a plan whose mutators fill no
+/// holes.
 pub fn managed_plans()
     ensures nogc { IsManaged (rules_of NoGc) }
     ensures marksweep { IsManaged (rules_of MarkSweep) }
     ensures semispace { IsManaged (rules_of SemiSpace) }
-    ensures young_tails { IsManaged (record (rules_of NoGc) { fill = kinds.Young }) }
+    ensures gencopy { IsManaged (rules_of GenCopy) }
     ensures immix { IsManaged (rules_of Immix) }
+    ensures stickyimmix { IsManaged (rules_of StickyImmix) }
     ensures holes { IsManaged (record (rules_of NoGc) { fill = kinds.Mature }) → ⊥ }
-    ensures young { IsManaged (record (rules_of SemiSpace) { young = true }) → ⊥ }
 {}
 
-/// The parts of a stopped heap meet what `PlainWorld::begin_with` requires of them.
+/// The parts of a stopped heap meet what `PlainWorld::begin_with` requires of them. A full
+/// collection of it may be made, and under rules with young objects a nursery one while its base is
+/// above 0, as it is after a full one that reclaims.
 pub fn stopped_heaps_begin_epochs<P>(heap: &StoppedHeap<P>)
     ensures few { (rules : Rules) → IsStopped rules heap.now
         → length heap.now.mutators.items ≤ MAX_MUTATORS }
@@ -40,6 +31,12 @@ pub fn stopped_heaps_begin_epochs<P>(heap: &StoppedHeap<P>)
         → Remembers rules (heap_state heap.now.heap) }
     ensures notes { (rules : Rules) → IsStopped rules heap.now
         → AreNotes rules.fill (heap_state heap.now.heap) heap.now.notes }
+    ensures flags { (rules : Rules) → IsStopped rules heap.now
+        → FlagsCover rules (heap_state heap.now.heap) heap.now.notes.flags.items }
+    ensures full { (rules : Rules) → IsOffered rules Full (heap_state heap.now.heap) }
+    ensures nursery { (rules : Rules) → IsStopped rules heap.now → IsTrue rules.young
+        → 0 < (heap_state heap.now.heap).base
+        → IsOffered rules Nursery (heap_state heap.now.heap) }
 {}
 
 /// The parts of a world that `PlainWorld::close_with` closed, with the counts of collections of the
@@ -51,5 +48,6 @@ pub fn closed_worlds_are_stopped<P>(heap: &StoppedHeap<P>)
     ensures stopped { (rules : Rules) (old : StoppedHeap P) (t : Setting) (now : Moment)
         (part : List Entry) → HeapStandsAt rules old t now → EndsEpoch rules old now part heap.now
         → IsHeapInOrder rules old → AreNotes rules.fill (heap_state heap.now.heap) heap.now.notes
+        → FlagsCover rules (heap_state heap.now.heap) heap.now.notes.flags.items
         → IsStopped rules heap.now }
 {}

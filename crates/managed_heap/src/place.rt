@@ -5,21 +5,14 @@
 //! Collections are made by `collect.rt`.
 
 ghost use Rattle.std.specs.Prelude.{◌≡◌, ◌+◌, ◌≤◌, ◌<◌, ◌^◌, ℕ, length, slice_get, IfSome, IfNone, IfOk, OnErr};
-ghost use Rattle.object_model.specs.Heaps.{heap_state};
-ghost use Rattle.object_model.specs.Objects.{size_of};
-ghost use Rattle.plan_api.specs.Counting.{session_counts};
-ghost use Rattle.sessions.specs.Fitting.{Fits, counts_of};
-ghost use Rattle.sessions.specs.Sessions.{Setting, Moment, Places, ServesNeed};
-ghost use Rattle.mutator_calls.specs.declared.need.Mutator.{Mutator};
-ghost use Rattle.block_regions.specs.Notes.{AreNotes};
-ghost use Rattle.managed_heap.specs.declared.place.Placed.TheVariants as placed;
-ghost use Rattle.managed_heap.specs.Stopped.{collections_of, IsManaged, IsHeapInOrder, IsStopped, HeapStandsAt};
-ghost use Rattle.managed_heap.specs.Spots.{IsSpot};
-ghost use Rattle.managed_heap.specs.Needs.{born_in, AddsBirths, AddsNeed, MutatorAllocatesAt, IfRefused, MakesRoomAtStop, MayAllocate, NotesLast, WritesNeed, Settles, IsNoteOfLast};
+ghost use Rattle.managed_heap.specs.Prelude.{heap_state, size_of, session_counts, Fits, counts_of, Setting, Moment, Places, ServesNeed, Mutator, AreNotes, collections_of, IsManaged, IsHeapInOrder, IsStopped, HeapStandsAt, IsSpot, born_in, AddsBirths, AddsNeed, MutatorAllocatesAt, IfRefused, MakesRoomAtStop, MayAllocate, NotesLast, WritesNeed, Settles, IsNoteOfLast};
+ghost use Rattle.managed_heap.specs.Prelude.placed;
 
+use crate::scheduler::Scheduler;
 use crate::spot::{Spot, note_placed, relist_spot, take_spot};
 use crate::stopped_heap::StoppedHeap;
 use collector::Note;
+use forward_word::NUMBER_BITS;
 use ideal_heap::{MAX_NUMS, MAX_REFS, Name, REGISTERS};
 use large_space::{blocks_for, find_run};
 use mutator_calls::{Mutator, Need};
@@ -79,6 +72,7 @@ impl<P: Plan> StoppedHeap<P> {
         requires least { 3 ≤ size }
         requires most { size ≤ size_of MAX_REFS MAX_NUMS }
         ensures notes { AreNotes P.rules.fill (heap_state self.new.heap) self.new.notes }
+        ensures flags { self.new.notes.flags ≡ self.old.notes.flags }
         ensures rest { self.new ≡ record self.old { notes = self.new.notes } }
         ensures spot { IfSome result (IsSpot P.rules (heap_state self.old.heap) size) }
         ensures none { IfNone result (Fits P.rules (heap_state self.old.heap) size → ⊥) }
@@ -197,14 +191,12 @@ impl<P: Plan> StoppedHeap<P> {
     /// Fails if memory runs out. The heap is lost then.
     fn make_room<Q: Pool, G: Gate, R: Threads + Sync>(
         self,
-        rt: &R,
+        scheduler: &Scheduler<'_, R, Q, G>,
         size: u32,
-        pool: &Q,
-        gate: &G,
     ) -> Result<(StoppedHeap<P>, Note), AllocError>
         requires plan { IsManaged P.rules }
         requires stopped { IsStopped P.rules self }
-        requires collections { collections_of self + 2 < 2 ^ 40 }
+        requires collections { collections_of self + 2 < 2 ^ NUMBER_BITS }
         requires least { 3 ≤ size }
         requires most { size ≤ size_of MAX_REFS MAX_NUMS }
         ensures order { IfOk result (λ r. IsHeapInOrder P.rules r.0) }
@@ -218,12 +210,13 @@ impl<P: Plan> StoppedHeap<P> {
         ensures counts { IfOk result (λ r. collections_of r.0 ≤ collections_of self + 2) }
         ensures noted { IfOk result (λ r. IsNoteOfLast P.rules self r.0 r.1) }
     {
+        let Scheduler { rt, pool, gate } = *scheduler;
         let first = P::kind(&self.heap);
-        let (stopped, note) = self.collect(rt, first, pool, gate)?;
+        let (mut stopped, note) = self.collect(rt, first, pool, gate)?;
         if first == Collect::Full {
             return Ok((stopped, note));
         }
-        if P::fits(&stopped.heap, size) {
+        if let Some(_spot) = stopped.find_place(size) {
             return Ok((stopped, note));
         }
         let (stopped, note) = stopped.collect(rt, Collect::Full, pool, gate)?;
@@ -272,7 +265,7 @@ impl<P: Plan> StoppedHeap<P> {
         requires plan { IsManaged P.rules }
         requires stopped { IsStopped P.rules self }
         requires may { MayAllocate self number need }
-        requires collections { collections_of self + 2 < 2 ^ 40 }
+        requires collections { collections_of self + 2 < 2 ^ NUMBER_BITS }
         ensures stopped { IfOk result (λ r. IsStopped P.rules r.0) }
         ensures serves { (t : Setting) (now : Moment) → HeapStandsAt P.rules self t now
             → IfOk result (λ r. (next : Moment)
@@ -294,7 +287,8 @@ impl<P: Plan> StoppedHeap<P> {
             let (stopped, name) = stopped.place_need(number, &need, spot);
             return Ok((stopped, Placed::Placed(name), None));
         }
-        let (stopped, note) = stopped.make_room(rt, size, pool, gate)?;
+        let scheduler = Scheduler { rt, pool, gate };
+        let (stopped, note) = stopped.make_room(&scheduler, size)?;
         let (stopped, placed) = stopped.place_or_refuse(number, &need);
         Ok((stopped, placed, Some(note)))
     }

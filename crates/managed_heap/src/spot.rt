@@ -1,18 +1,7 @@
 //! A place for an object, and what a stop writes there before and after the object.
 
 ghost use Rattle.std.specs.Prelude.{◌≡◌, ◌≢◌, ◌≤◌, ◌<◌, ℕ, length};
-ghost use Rattle.heap_layout.specs.Zones.{IsRowOf};
-ghost use Rattle.heap_layout.specs.declared.block.Kind.{Kind};
-ghost use Rattle.object_model.specs.Heaps.{heap_state};
-ghost use Rattle.object_model.specs.Objects.{HeapState, size_of, state_of};
-ghost use Rattle.object_model.specs.Births.{MakesRun};
-ghost use Rattle.object_model.specs.Lawful.{IsReadableBlock};
-ghost use Rattle.block_sweeps.specs.Sweeping.{AreApart};
-ghost use Rattle.sessions.specs.Fitting.{IsFreeRun};
-ghost use Rattle.sessions.specs.Plans.{Rules};
-ghost use Rattle.block_regions.specs.Notes.{AreNotes, FillsHoles, PlacesInBlock, PlacesRun};
-ghost use Rattle.managed_heap.specs.Stopped.{IsManaged};
-ghost use Rattle.managed_heap.specs.Spots.{IsPlaceForSize, TakesSpotBlock, TakesSpot, RelistsSpot};
+ghost use Rattle.managed_heap.specs.Prelude.{IsRowOf, Kind, heap_state, HeapState, size_of, state_of, MakesRun, IsReadableBlock, AreApart, IsFreeRun, Rules, AreNotes, FillsHoles, FlagsCover, PlacesInBlock, PlacesRun, IsManaged, IsPlaceForSize, TakesSpotBlock, TakesSpot, RelistsSpot};
 
 use heap_layout::BlockWord;
 use ideal_heap::{MAX_NUMS, MAX_REFS};
@@ -101,10 +90,20 @@ pub(crate) fn note_placed(notes: &mut BlockNotes, heap: &Heap, spot: &Spot)
         → FillsHoles rules.fill → AreNotes rules.fill old notes.old
         → PlacesInBlock rules old new a refs nums spot.now.block spot.now.free
         → AreNotes rules.fill new notes.new }
+    ensures small_flags { spot.now.run ≡ 0
+        → (rules : Rules) (old new : HeapState) (a refs nums : ℕ)
+        → FlagsCover rules old notes.old.flags.items
+        → PlacesInBlock rules old new a refs nums spot.now.block spot.now.free
+        → FlagsCover rules new notes.new.flags.items }
     ensures large { spot.now.run ≢ 0 → (fill : Kind) (old : HeapState) (a refs nums : ℕ)
         → FillsHoles fill → AreNotes fill old notes.old
         → PlacesRun old (heap_state heap.now) a refs nums spot.now.block
         → AreNotes fill (heap_state heap.now) notes.new }
+    ensures large_flags { spot.now.run ≢ 0 → (rules : Rules) (old : HeapState) (a refs nums : ℕ)
+        → FlagsCover rules old notes.old.flags.items
+        → PlacesRun old (heap_state heap.now) a refs nums spot.now.block
+        → (heap_state heap.now).base ≡ old.base
+        → FlagsCover rules (heap_state heap.now) notes.new.flags.items }
 {
     if spot.run == 0 {
         notes.placed_in(spot.block, spot.free);

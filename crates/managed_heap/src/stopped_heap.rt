@@ -1,10 +1,7 @@
 //! A heap between two epochs: its mutators, what is known of its blocks, and its collections.
 
 ghost use Rattle.std.specs.Prelude.{◌≡◌, ◌≤◌, length, map, IfOk};
-ghost use Rattle.sessions.specs.Sessions.{Setting, Moment, first_moment};
-ghost use Rattle.object_model.specs.Heaps.{heap_state};
-ghost use Rattle.heap_users.specs.Users.{mutator_state};
-ghost use Rattle.managed_heap.specs.Stopped.{parts_of, IsStopped, HeapStandsAt};
+ghost use Rattle.managed_heap.specs.Prelude.{Setting, Moment, first_moment, heap_state, mutator_state, parts_of, IsStopped, HeapStandsAt};
 
 use heap_layout::Layout;
 use ideal_heap::{MAX_MUTATORS, REGISTERS};
@@ -62,7 +59,7 @@ impl<P: Plan> StoppedHeap<P> {
         ensures mutators { IfOk result (λ h. length h.mutators.items ≡ mutators) }
     {
         let heap = Heap::new(alloc, layout)?;
-        let notes = BlockNotes::new(alloc, &heap)?;
+        let notes = BlockNotes::new_unflagged(alloc, &heap)?;
         let roots = Vec::with_capacity(alloc, mutators as usize * REGISTERS)?;
         let mutators = new_mutators(alloc, mutators)?;
         Ok(StoppedHeap {

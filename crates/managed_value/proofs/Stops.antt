@@ -12,11 +12,11 @@ use Rattle.sessions.specs.Collecting.{Remembers}
 use Rattle.sessions.specs.Sessions.{Setting, Moment, Stopped, ideal_at}
 use Rattle.mutator_core.specs.Machine.{Epoch}
 use Rattle.mutator_core.specs.Closing.{GivesBack}
-use Rattle.block_regions.specs.Notes.{AreNotes}
+use Rattle.block_regions.specs.Notes.{AreNotes, FlagsCover}
 use Rattle.heap_users.specs.Users.{mutator_state}
 use Rattle.heap_users.specs.Beginnings.{epoch_of, without_stop, MayUse}
 use Rattle.plain_world.specs.declared.plain_world.PlainWorld.{PlainWorld}
-use Rattle.plain_world.specs.Calls.{heap_of_world, mutators_of_world, places_of, HasHistory, IsOpen}
+use Rattle.plain_world.specs.Calls.{heap_of_world, mutators_of_world, places_of, is_generational, HasHistory, IsOpen}
 use Rattle.plain_world.proofs.Closed.{may-use}
 use Rattle.managed_heap.specs.declared.stopped_heap.StoppedHeap.{StoppedHeap}
 use Rattle.managed_heap.specs.Stopped.{HeapStandsAt, IsHeapInOrder, IsStopped}
@@ -72,6 +72,7 @@ module _ {P : Type 0} (rules : Rules) (h : ManagedHeap P) (w : PlainWorld P) (s 
     → Stopped p.rules (numbers_of p.mutators) p.before i part (heap_state s.heap) (map mutator_state s.mutators.items))
     (states : map mutator_state s.mutators.items ≡ mutators_of_world w)
     (notes : (p : Epoch) (i : IdealHeap) (part : List Entry) → HasHistory w p i part → AreNotes p.rules.fill (heap_state s.heap) s.notes)
+    (flags : (x : Rules) → x.young ≡ is_generational w → FlagsCover x (heap_state s.heap) s.notes.flags.items)
     (gives : GivesBack (heap_of_world w) (heap_state s.heap)) where
   stands-at : (es : List Entry) → HasEntries rules h es → (t : Setting) × (now : Moment) × (now.done ≡ es) × HeapStandsAt rules s t now
   stands-at es has =
@@ -97,6 +98,7 @@ module _ {P : Type 0} (rules : Rules) (h : ManagedHeap P) (w : PlainWorld P) (s 
       record {
         few = subst (λ (n : ℕ). n ≤ 16) (sym count) few;
         notes = notes p (ideal_at has.now) has.part since.history;
+        flags = flags rules (sym since.history.at.young);
         number = number ∙ since.number ∙ ap (λ (n : ℕ). n + h.full) (sym nursery) ∙ ap (λ (n : ℕ). s.nursery + n) (sym full);
       }
 

@@ -1,5 +1,6 @@
 -- What allocations and collections do to a managed heap.
 use Rattle.std.specs.Prelude.{◌≡◌, ◌≢◌, ℕ, ◌+◌, ◌-◌, ◌<◌, ◌≤◌, ◌^◌, ◌⊎◌, Option, None, Some, [], ◌∷◌, ◌++◌}
+use Rattle.forward_word.specs.declared.words.TheConstants.{NUMBER_BITS}
 use Rattle.ideal_heap.specs.declared.command.Command.TheVariants as c
 use Rattle.ideal_heap.specs.declared.reply.Reply.{Reply}
 use Rattle.ideal_heap.specs.declared.reply.Reply.TheVariants as r
@@ -30,7 +31,7 @@ use Rattle.managed_value.specs.Epochs.{EndsWith, BeginsWith}
 -- The mutator at place m has a name left for an object, and two collections may be made for it.
 pub record HeapMayAllocate {P : Type 0} (h : ManagedHeap P) (m : ℕ) : Type 0 where
   pub births : heap_births_at h m + 1 < 2 ^ 32
-  pub collections : collections_made h + 2 < 2 ^ 40
+  pub collections : collections_made h + 2 < 2 ^ NUMBER_BITS
 
 -- The object has this name, and the mutator one birth more; the others have as many as before.
 pub record Makes {P : Type 0} (rules : Rules) (old : ManagedHeap P) (m d refs nums : ℕ) (n : Name)

@@ -153,8 +153,8 @@ shape_of_object i (Some n) = Some (record {
   nums = length (record_of i n).nums;
 })
 
--- Q holds of an ideal heap that the heap stands for: what a program knows of its registers. The heap
--- may stand for several, so a program keeps all that it knows in one Q.
+-- Q holds of an ideal heap that the heap stands for: what a program knows of its registers. The
+-- heap may stand for several, so a program keeps all that it knows in one Q.
 pub record HoldsOfIdeal {P : Type 0} (rules : Rules) (h : ManagedHeap P) (Q : IdealHeap → Type 0)
     : Type 0 where
   pub ideal : IdealHeap

@@ -1,3 +1,4 @@
 pub mod Histories
 pub mod Allocations
 pub mod Epochs
+pub mod Prelude

@@ -1,19 +1,14 @@
 //! Allocation of objects of every size.
 
 ghost use Rattle.std.specs.Prelude.{◌≡◌, ◌↔◌, ◌+◌, ◌-◌, ◌≤◌, ◌<◌, ◌^◌, ◌⊎◌, ⊤, IsTrue, IfOk, IfSome, IfNone, MatchResult};
-ghost use Rattle.ideal_heap.specs.declared.reply.Reply.TheVariants as reply;
-ghost use Rattle.object_model.specs.Objects.{size_of};
-ghost use Rattle.mutator_calls.specs.Allocating.{IsNeedOf, MatchAllocated};
-ghost use Rattle.collector.specs.Tallies.{capped};
-ghost use Rattle.managed_heap.specs.Stopped.{IsManaged};
-ghost use Rattle.managed_heap.specs.Needs.{reply_of};
-ghost use Rattle.managed_value.specs.Histories.{HeapHasPlace, IsAsBeforeOrLost, IsUsable, heap_births_at};
-ghost use Rattle.managed_value.specs.Allocations.{AllocatesInEpoch, FindsNoRoom, RepliesFull, Makes, MatchAnswer, MatchRefused, HeapMayAllocate, RunsOut, RunsOutAtStop, ServesAtStop, StopsFor, kept_by, used_with};
+ghost use Rattle.managed_value.specs.Prelude.{size_of, IsNeedOf, MatchAllocated, capped, IsManaged, reply_of, HeapHasPlace, IsAsBeforeOrLost, IsUsable, heap_births_at, AllocatesInEpoch, FindsNoRoom, RepliesFull, Makes, MatchAnswer, MatchRefused, HeapMayAllocate, RunsOut, RunsOutAtStop, ServesAtStop, StopsFor, kept_by, used_with};
+ghost use Rattle.managed_value.specs.Prelude.reply;
 
 use crate::managed::ManagedHeap;
 use collector::Note;
+use forward_word::NUMBER_BITS;
 use ideal_heap::{MAX_NUMS, MAX_REFS, Name, REGISTERS};
-use managed_heap::Placed;
+use managed_heap::{Placed, Scheduler};
 use mutator_calls::{Allocated, Need, NeedCause};
 use object_model::{Shape, size_words};
 use plan_api::Plan;
@@ -23,7 +18,7 @@ use std::thread::Threads;
 use work_packets::{Gate, OpenGate};
 
 /// The most collections of a heap, so that an allocation may make two more.
-const MAX_COLLECTIONS: u64 = (1 << 40) - 3;
+const MAX_COLLECTIONS: u64 = (1 << NUMBER_BITS) - 3;
 
 /// Why an object was not allocated.
 #[derive(Clone, Copy, Debug, PartialEq, Eq)]
@@ -36,7 +31,7 @@ pub enum Refused {
 
 /// Whether two collections may follow so many nursery and full ones.
 fn may_collect_twice(nursery: u64, full: u64) -> bool
-    ensures { IsTrue result ↔ nursery + full + 2 < 2 ^ 40 }
+    ensures { IsTrue result ↔ nursery + full + 2 < 2 ^ NUMBER_BITS }
 {
     if nursery > MAX_COLLECTIONS {
         return false;
@@ -185,7 +180,7 @@ impl<P: Plan> ManagedHeap<P> {
     {
         match self.try_new(m, d, refs, nums) {
             Allocated::Made(name) => Ok(name),
-            Allocated::Stop(need) => self.place_at_stop(rt, m, need, pool, gate),
+            Allocated::Stop(need) => self.place_at_stop(&Scheduler { rt, pool, gate }, m, need),
         }
     }
 
@@ -222,11 +217,9 @@ impl<P: Plan> ManagedHeap<P> {
     /// Serves a need of the mutator at place `m` at a stop.
     fn place_at_stop<Q: Pool, G: Gate, R: Threads + Sync>(
         &mut self,
-        rt: &R,
+        scheduler: &Scheduler<'_, R, Q, G>,
         m: u32,
         need: Need,
-        pool: &Q,
-        gate: &G,
     ) -> Result<Name, Refused>
         requires plan { IsManaged P.rules }
         requires usable { IsUsable P.rules self.old }
@@ -245,7 +238,7 @@ impl<P: Plan> ManagedHeap<P> {
             (MatchRefused (ServesAtStop P.rules self.old m need.register need.refs need.nums
             reply.Full self.new) ⊤) }
     {
-        match self.serve(rt, m, need, pool, gate) {
+        match self.serve(scheduler, m, need) {
             Ok(Placed::Placed(name)) => Ok(name),
             Ok(Placed::HeapFull { .. }) => Err(Refused::Full),
             Err(_) => Err(Refused::OutOfMemory),
@@ -257,11 +250,9 @@ impl<P: Plan> ManagedHeap<P> {
     /// Fails if memory runs out. The heap is as it was then, or lost in a collection.
     fn serve<Q: Pool, G: Gate, R: Threads + Sync>(
         &mut self,
-        rt: &R,
+        scheduler: &Scheduler<'_, R, Q, G>,
         m: u32,
         need: Need,
-        pool: &Q,
-        gate: &G,
     ) -> Result<Placed, AllocError>
         requires plan { IsManaged P.rules }
         requires usable { IsUsable P.rules self.old }
@@ -285,6 +276,7 @@ impl<P: Plan> ManagedHeap<P> {
         let Some(stopped) = self.stop() else {
             return Err(AllocError);
         };
+        let Scheduler { rt, pool, gate } = *scheduler;
         let (stopped, placed, note) = stopped.place_or_collect(rt, m + 1, need, pool, gate)?;
         self.words = count_words(kept_words(self.words, &note), &placed, size);
         self.go_on(stopped, seats);

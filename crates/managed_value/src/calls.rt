@@ -1,8 +1,8 @@
 //! The calls of mutators. Each makes one entry, and takes no memory.
 
 ghost use Rattle.std.specs.Prelude.{◌<◌};
-ghost use Rattle.ideal_heap.specs.declared.command.Command.TheVariants as command;
-ghost use Rattle.managed_value.specs.Histories.{IsUsable, HeapHasPlace, EntersCall};
+ghost use Rattle.managed_value.specs.Prelude.{IsUsable, HeapHasPlace, EntersCall};
+ghost use Rattle.managed_value.specs.Prelude.command;
 
 use crate::managed::ManagedHeap;
 use ideal_heap::{GLOBALS, REGISTERS, Reply};

@@ -4,14 +4,11 @@
 //! failure there leaves it so: what the next epoch takes is taken before, by `next_seats`.
 
 ghost use Rattle.std.specs.Prelude.{◌≡◌, ◌+◌, ◌≤◌, ◌<◌, ◌^◌, None, replicate, IfSome, IfOk, MatchResult};
-ghost use Rattle.plain_world.specs.EmptySeats.{empty_seat};
-ghost use Rattle.managed_heap.specs.Stopped.{IsManaged, IsStopped, count_of_mutators as stopped_count};
-ghost use Rattle.managed_value.specs.Histories.{IsLost, IsUsable, IsAsBeforeOrLost, collections_made, mutators_of_heap, words_used};
-ghost use Rattle.managed_value.specs.Allocations.{CollectsAll, CollectsAtStop};
-ghost use Rattle.managed_value.specs.Epochs.{EndsWith, BeginsWith};
+ghost use Rattle.managed_value.specs.Prelude.{empty_seat, IsManaged, IsStopped, stopped_count, IsLost, IsUsable, IsAsBeforeOrLost, collections_made, mutators_of_heap, words_used, CollectsAll, CollectsAtStop, EndsWith, BeginsWith};
 
 use crate::managed::ManagedHeap;
 use collector::Note;
+use forward_word::NUMBER_BITS;
 use managed_heap::{Parts, StoppedHeap};
 use object_model::Collect;
 use plain_world::{LocalSeat, PlainWorld, new_seats};
@@ -92,7 +89,7 @@ impl<P: Plan> ManagedHeap<P> {
     ) -> Result<Note, AllocError>
         requires plan { IsManaged P.rules }
         requires usable { IsUsable P.rules self.old }
-        requires collections { collections_made self.old + 1 < 2 ^ 40 }
+        requires collections { collections_made self.old + 1 < 2 ^ NUMBER_BITS }
         ensures made { MatchResult result (λ note. CollectsAll P.rules self.old note self.new)
             (λ _. IsAsBeforeOrLost P.rules self.old self.new) }
         ensures stop { IfOk result (λ note. CollectsAtStop P.rules self.old note self.new) }
@@ -113,7 +110,7 @@ impl<P: Plan> ManagedHeap<P> {
     pub fn collect<R: Threads + Sync>(&mut self, rt: &R) -> Result<Note, AllocError>
         requires plan { IsManaged P.rules }
         requires usable { IsUsable P.rules self.old }
-        requires collections { collections_made self.old + 1 < 2 ^ 40 }
+        requires collections { collections_made self.old + 1 < 2 ^ NUMBER_BITS }
         ensures made { MatchResult result (λ note. CollectsAll P.rules self.old note self.new)
             (λ _. IsAsBeforeOrLost P.rules self.old self.new) }
         ensures stop { IfOk result (λ note. CollectsAtStop P.rules self.old note self.new) }

@@ -1,20 +1,8 @@
 //! Laws of managed heaps.
 
 ghost use Rattle.std.specs.Prelude.{◌≡◌, ◌+◌, ◌∷◌, ◌++◌, [], ℕ, IsTrue, List, Some, false};
-ghost use Rattle.ideal_heap.specs.declared.command.Command.{Command};
-ghost use Rattle.ideal_heap.specs.declared.reply.Reply.{Reply};
-ghost use Rattle.ideal_heap.specs.declared.reply.Reply.TheVariants as reply;
-ghost use Rattle.ideal_heap.specs.Commands.{is_new};
-ghost use Rattle.ideal_heap.specs.Ideal.{IdealHeap, empty, step};
-ghost use Rattle.ideal_heap.specs.Runs.{Entry, IsRun, heap_after_run, is_full};
-ghost use Rattle.object_model.specs.Graphs.{Represents};
-ghost use Rattle.sessions.specs.Plans.{Rules};
-ghost use Rattle.plain_world.specs.declared.plain_world.PlainWorld.{PlainWorld};
-ghost use Rattle.plain_world.specs.Calls.{heap_of_world, mutators_of_world};
-ghost use Rattle.programs.specs.Growth.{IsGrown};
-ghost use Rattle.programs.specs.Lists.{heap_after};
-ghost use Rattle.managed_value.specs.declared.managed.ManagedHeap.{ManagedHeap};
-ghost use Rattle.managed_value.specs.Histories.{HasEntries, IsUsable, AddsHeapEntry, KeepsEntries, StandsFor};
+ghost use Rattle.managed_value.specs.Prelude.{Command, Reply, is_new, IdealHeap, empty, step, Entry, IsRun, heap_after_run, is_full, Represents, Rules, PlainWorld, heap_of_world, mutators_of_world, IsGrown, heap_after, ManagedHeap, HasEntries, IsUsable, AddsHeapEntry, KeepsEntries, StandsFor};
+ghost use Rattle.managed_value.specs.Prelude.reply;
 
 use crate::managed::ManagedHeap;
 

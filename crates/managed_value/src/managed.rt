@@ -1,16 +1,7 @@
 //! The managed heap, and what can be asked of it between two calls.
 
 ghost use Rattle.std.specs.Prelude.{◌≡◌, ◌↔◌, ◌+◌, ◌≤◌, ◌<◌, ℕ, IfOk, IsTrue, [], Some, length, slice_get, slice_index};
-ghost use Rattle.heap_layout.specs.declared.layout.TheConstants.{MIN_BLOCKS, MAX_BLOCKS};
-ghost use Rattle.ideal_heap.specs.declared.command.TheConstants.{MAX_MUTATORS, REGISTERS};
-ghost use Rattle.ideal_heap.specs.Ideal.{IdealHeap};
-ghost use Rattle.mutator_calls.specs.declared.need.Mutator.{Mutator as User};
-ghost use Rattle.sessions.specs.Fitting.{free_of};
-ghost use Rattle.plain_world.specs.declared.plain_world.PlainWorld.{PlainWorld as World};
-ghost use Rattle.plain_world.specs.Calls.{heap_of_world};
-ghost use Rattle.managed_heap.specs.Stopped.{IsManaged};
-ghost use Rattle.managed_value.specs.Histories.{IsLost, IsUsable, HasEntries, HeapHasPlace, StandsFor, mutators_of_heap, heap_births_at, collections_made, shape_of_object, words_used};
-ghost use Rattle.managed_value.specs.Allocations.{IsEmpty};
+ghost use Rattle.managed_value.specs.Prelude.{MIN_BLOCKS, MAX_BLOCKS, MAX_MUTATORS, REGISTERS, IdealHeap, User, free_of, World, heap_of_world, IsManaged, IsLost, IsUsable, HasEntries, HeapHasPlace, StandsFor, mutators_of_heap, heap_births_at, collections_made, shape_of_object, words_used, IsEmpty};
 
 use heap_layout::Layout;
 use managed_heap::StoppedHeap;

@@ -147,6 +147,7 @@ module _ {P : Type 0} (rules : Rules) (old new : Manager P) (ends : List End) (r
         heap = record {
           few = let few = order.few in let many = count-after order in omega (arith, many, same, few);
           notes = r.notes p (ideal_at now) part history;
+          flags = r.flags rules (sym history.at.young);
           number = (r.stopped p (ideal_at now) part history).number ∙ order.heap.number ∙ ap (λ n. n + old.heap.full) (sym r.nursery) ∙ ap (λ n. new.heap.nursery + n) (sym r.full);
         };
         some = let some = order.some in omega arith;

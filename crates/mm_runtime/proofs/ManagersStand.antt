@@ -22,13 +22,13 @@ use Rattle.heap_users.specs.Beginnings.{epoch_of}
 use Rattle.plain_world.specs.Endings.{GrantsWithTickets}
 use Rattle.plain_row.specs.Rows.{births_of}
 use Rattle.heap_users.specs.Users.{mutator_state}
-use Rattle.plain_world.specs.Calls.{heap_of_world, mutators_of_world, mutator_number_at, ticket_at, places_of, budget_word, HasHistory}
+use Rattle.plain_world.specs.Calls.{heap_of_world, mutators_of_world, mutator_number_at, ticket_at, places_of, budget_word, is_generational, HasHistory}
 use Rattle.plain_world.proofs.CallLemmas.{numbers-mapped}
 use Rattle.block_regions.proofs.Lists.{get-some, get-below}
 use Rattle.mm_runtime.specs.declared.progress.Progress.{Progress}
 use Rattle.mm_runtime.specs.declared.progress.End.{End}
 use Rattle.mm_runtime.specs.declared.manager.Manager.{Manager}
-use Rattle.block_regions.specs.Notes.{AreNotes}
+use Rattle.block_regions.specs.Notes.{AreNotes, FlagsCover}
 use Rattle.mm_runtime.specs.Managers.{traces_of, replied, HasReplies, StandsAt}
 use Rattle.mm_runtime.specs.Parts.{RunsParts}
 use Rattle.mm_runtime.proofs.AnswersInTurn.{number-mapped, births-same}
@@ -48,6 +48,7 @@ pub record RunsEpoch {P : Type 0} (rules : Rules) (old new : Manager P) (ends : 
   pub drawn : (k t : ℕ) → ticket_at last k ≡ Some t → t < budget_word last
   pub tickets : (p : Epoch) (i : IdealHeap) (part : List Entry) → HasHistory last p i part → GrantsWithTickets p last (heap_state new.heap.heap)
   pub notes : (p : Epoch) (i : IdealHeap) (part : List Entry) → HasHistory last p i part → AreNotes p.rules.fill (heap_state new.heap.heap) new.heap.notes
+  pub flags : (x : Rules) → x.young ≡ is_generational last → FlagsCover x (heap_state new.heap.heap) new.heap.notes.flags.items
   pub nursery : new.heap.nursery ≡ old.heap.nursery
   pub full : new.heap.full ≡ old.heap.full
 

@@ -5,16 +5,12 @@
 //! one. Never places an object.
 
 ghost use Rattle.std.specs.Prelude.{◌≡◌, ◌≢◌, ◌↔◌, ◌≤◌, ◌<◌, ℕ, IsTrue, filter, length, Some, slice_get, IfOk};
-ghost use Rattle.sessions.specs.Sessions.{Setting, Moment, CollectsFor, is_at_gc, traced_mutators};
-ghost use Rattle.mm_runtime.specs.declared.progress.Progress.{Progress as State};
-ghost use Rattle.mm_runtime.specs.Managers.{replied, IsAtStop, IsInOrder, IsProgress, StandsAt};
-ghost use Rattle.managed_heap.specs.Stopped.{IsManaged};
-ghost use Rattle.mm_runtime.specs.Parts.{causes, AreGcs};
-ghost use Rattle.mm_runtime.specs.Replying.{is_gc_at, HasGc, RepliesBelow};
-ghost use Rattle.mm_runtime.specs.declared.progress.End.TheVariants as end_is;
+ghost use Rattle.mm_runtime.specs.Prelude.{Setting, Moment, CollectsFor, is_at_gc, traced_mutators, State, replied, IsAtStop, IsInOrder, IsProgress, StandsAt, IsManaged, causes, AreGcs, is_gc_at, HasGc, RepliesBelow};
+ghost use Rattle.mm_runtime.specs.Prelude.end_is;
 
 use crate::manager::Manager;
 use crate::progress::{End, Progress, reply_ok};
+use managed_heap::Scheduler;
 use object_model::Collect;
 use plan_api::Plan;
 use pools::Pool;
@@ -56,10 +52,8 @@ impl<P: Plan> Manager<P> {
     /// Fails if memory runs out. The manager is lost then.
     pub(crate) fn collect_at<Q: Pool, G: Gate, R: Threads + Sync>(
         self,
-        rt: &R,
+        scheduler: &Scheduler<'_, R, Q, G>,
         ends: &[End],
-        pool: &Q,
-        gate: &G,
     ) -> Result<Manager<P>, AllocError>
         requires plan { IsManaged P.rules }
         requires stop { IsAtStop P.rules 0 self }
@@ -83,6 +77,7 @@ impl<P: Plan> Manager<P> {
             heap,
             mut progress,
         } = self;
+        let Scheduler { rt, pool, gate } = *scheduler;
         let (heap, _) = heap.collect(rt, Collect::Full, pool, gate)?;
         reply_to_gcs(&mut progress, ends);
         Ok(Manager {

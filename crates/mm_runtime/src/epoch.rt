@@ -5,11 +5,7 @@
 //! writes the counts of collections.
 
 ghost use Rattle.std.specs.Prelude.{◌≡◌, ◌+◌, ◌<◌, ◌≤◌, ℕ, length, slice_get, Some, IfOk};
-ghost use Rattle.sessions.specs.Sessions.{Setting, Moment, RunsPart};
-ghost use Rattle.plain_world.specs.Calls.{births_at, mutator_number_at, places_of, stop_word, IsOpen};
-ghost use Rattle.mm_runtime.specs.Managers.{replied, IsProgress, Closes, IsInOrder, ClosesSome, StandsAt};
-ghost use Rattle.managed_heap.specs.Stopped.{IsManaged};
-ghost use Rattle.mm_runtime.specs.Parts.{causes, AreGcs, AreNeeds, RunsParts};
+ghost use Rattle.mm_runtime.specs.Prelude.{Setting, Moment, RunsPart, births_at, mutator_number_at, places_of, stop_word, IsOpen, replied, IsProgress, Closes, IsInOrder, ClosesSome, StandsAt, IsManaged, causes, AreGcs, AreNeeds, RunsParts};
 
 use crate::manager::Manager;
 use crate::part::run_part;

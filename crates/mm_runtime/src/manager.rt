@@ -5,17 +5,12 @@
 //! never written.
 
 ghost use Rattle.std.specs.Prelude.{◌≡◌, ◌↔◌, ◌<◌, ◌≤◌, ℕ, All, Some, length, slice_get, IfOk, IsTrue};
-ghost use Rattle.heap_layout.specs.declared.layout.TheConstants.{MIN_BLOCKS, MAX_BLOCKS};
-ghost use Rattle.sessions.specs.Sessions.{Setting, Moment, IsEpoch, IsWhole, first_moment};
-ghost use Rattle.mm_runtime.specs.declared.progress.Progress.{Progress as State};
-ghost use Rattle.mm_runtime.specs.Managers.{left, traces_of, replied, Closes, IsFresh, ClosesSome, IsRunnableTrace, HasEnded};
-ghost use Rattle.managed_heap.specs.Stopped.{IsManaged};
-ghost use Rattle.stored_commands.specs.Lists.{lists_of};
+ghost use Rattle.mm_runtime.specs.Prelude.{MIN_BLOCKS, MAX_BLOCKS, Setting, Moment, IsEpoch, IsWhole, first_moment, State, left, traces_of, replied, Closes, IsFresh, ClosesSome, IsRunnableTrace, HasEnded, IsManaged, lists_of};
 
 use crate::progress::Progress;
 use heap_layout::Layout;
 use ideal_heap::{Command, MAX_MUTATORS};
-use managed_heap::StoppedHeap;
+use managed_heap::{Scheduler, StoppedHeap};
 use plan_api::Plan;
 use pools::Pool;
 use std::alloc::{AllocError, Global};
@@ -140,8 +135,9 @@ impl<P: Plan> Manager<P> {
             → Closes P.rules r.0 t now → IsWhole t now) }
     {
         let (manager, ends) = self.run_epoch(gate)?;
-        let manager = manager.collect_at(rt, &ends, pool, gate)?;
-        let mut manager = manager.serve_needs(rt, &ends, pool, gate)?;
+        let scheduler = Scheduler { rt, pool, gate };
+        let manager = manager.collect_at(&scheduler, &ends)?;
+        let mut manager = manager.serve_needs(&scheduler, &ends)?;
         manager.meet();
         let turn = manager.turn();
         Ok((manager, turn))

@@ -4,10 +4,7 @@
 //! `meet` gets one, or none does. Never writes the heap.
 
 ghost use Rattle.std.specs.Prelude.{◌≡◌, ◌↔◌, ◌≤◌, ℕ, IsTrue, Some, length, slice_get};
-ghost use Rattle.sessions.specs.Sessions.{Setting, Moment, Meets, is_waiting};
-ghost use Rattle.mm_runtime.specs.declared.progress.Progress.{Progress as State};
-ghost use Rattle.mm_runtime.specs.Managers.{next_in_trace, replied, HasEnded, IsProgress, IsAtStop, IsInOrder, StandsAt};
-ghost use Rattle.mm_runtime.specs.Replying.{is_meet_at, RepliesBelow};
+ghost use Rattle.mm_runtime.specs.Prelude.{Setting, Moment, Meets, is_waiting, State, next_in_trace, replied, HasEnded, IsProgress, IsAtStop, IsInOrder, StandsAt, is_meet_at, RepliesBelow};
 
 use crate::manager::{Manager, Turn};
 use crate::progress::{Progress, reply_ok};

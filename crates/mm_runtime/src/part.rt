@@ -1,11 +1,8 @@
 //! A mutator's part of an epoch.
 
 ghost use Rattle.std.specs.Prelude.{◌≡◌, ◌+◌, ◌<◌, ◌≤◌, ◌^◌, length, MatchOption};
-ghost use Rattle.ideal_heap.specs.Commands.{IsValid};
-ghost use Rattle.ideal_heap.specs.declared.command.Command.TheVariants as command_is;
-ghost use Rattle.plain_world.specs.Calls.{HasPlace, IsOpen, births_at, places_of, stop_word};
-ghost use Rattle.mm_runtime.specs.Managers.{next_in_trace, IsProgress};
-ghost use Rattle.mm_runtime.specs.Parts.{EndsFor, EndsPart, GetsReply, RunsTrace};
+ghost use Rattle.mm_runtime.specs.Prelude.{IsValid, HasPlace, IsOpen, births_at, places_of, stop_word, next_in_trace, IsProgress, EndsFor, EndsPart, GetsReply, RunsTrace};
+ghost use Rattle.mm_runtime.specs.Prelude.command_is;
 
 use crate::perform::perform;
 use crate::progress::{End, Progress};

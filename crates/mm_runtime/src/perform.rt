@@ -1,9 +1,7 @@
 //! One command of a mutator, by a call of its world.
 
 ghost use Rattle.std.specs.Prelude.{◌≡◌, ◌∷◌, [], true};
-ghost use Rattle.ideal_heap.specs.Commands.{IsValid};
-ghost use Rattle.plain_world.specs.Calls.{HasPlace, IsOpen, stop_word};
-ghost use Rattle.mm_runtime.specs.Parts.{is_quiet, AnswersMutator};
+ghost use Rattle.mm_runtime.specs.Prelude.{IsValid, HasPlace, IsOpen, stop_word, is_quiet, AnswersMutator};
 
 use ideal_heap::{Command, Reply};
 use plain_world::PlainWorld;

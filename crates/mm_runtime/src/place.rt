@@ -4,16 +4,8 @@
 //! this file writes the reply alone.
 
 ghost use Rattle.std.specs.Prelude.{◌≡◌, ◌+◌, ◌≤◌, ◌<◌, ℕ, length, slice_get, IfOk};
-ghost use Rattle.ideal_heap.specs.declared.reply.Reply.TheVariants as reply_is;
-ghost use Rattle.object_model.specs.Heaps.{heap_state};
-ghost use Rattle.object_model.specs.Objects.{size_of};
-ghost use Rattle.sessions.specs.Fitting.{Fits};
-ghost use Rattle.sessions.specs.Sessions.{Setting, Moment, ServesNeed};
-ghost use Rattle.managed_heap.specs.Stopped.{IsManaged};
-ghost use Rattle.managed_heap.specs.Needs.{reply_of};
-ghost use Rattle.mm_runtime.specs.Managers.{IsAtStop, IsInOrder, StandsAt};
-ghost use Rattle.mm_runtime.specs.declared.progress.Progress.{Progress};
-ghost use Rattle.mm_runtime.specs.Stops.{NeedsNext, RepliesAt, RepliesTo, MatchPlaced};
+ghost use Rattle.mm_runtime.specs.Prelude.{heap_state, size_of, Fits, Setting, Moment, ServesNeed, IsManaged, reply_of, IsAtStop, IsInOrder, StandsAt, Progress, NeedsNext, RepliesAt, RepliesTo, MatchPlaced};
+ghost use Rattle.mm_runtime.specs.Prelude.reply_is;
 
 use crate::manager::Manager;
 use crate::progress::Progress;

@@ -1,9 +1,7 @@
 //! How far a mutator has come in its trace.
 
 ghost use Rattle.std.specs.Prelude.{◌≡◌, ◌<◌, length, Some, None, MatchOption};
-ghost use Rattle.sessions.specs.Sessions.{is_at_meet, is_waiting};
-ghost use Rattle.mm_runtime.specs.Managers.{next_in_trace, IsProgress};
-ghost use Rattle.mm_runtime.specs.Replying.{GetsOk};
+ghost use Rattle.mm_runtime.specs.Prelude.{is_at_meet, is_waiting, next_in_trace, IsProgress, GetsOk};
 
 use ideal_heap::{Command, Reply};
 use mutator_calls::Need;

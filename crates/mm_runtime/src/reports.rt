@@ -4,14 +4,7 @@
 //! written.
 
 ghost use Rattle.std.specs.Prelude.{◌≡◌, ◌-◌, ◌<◌, ◌≤◌, ◌++◌, ℕ, Some, length, map, slice_get, IfOk};
-ghost use Rattle.ideal_heap.specs.Runs.{replies_of};
-ghost use Rattle.object_model.specs.Heaps.{heap_state};
-ghost use Rattle.object_model.specs.Graphs.{roots_of};
-ghost use Rattle.object_model.specs.Objects.{global_at as global_word_at};
-ghost use Rattle.heap_users.specs.Users.{mutator_state};
-ghost use Rattle.sessions.specs.Sessions.{Setting, Moment};
-ghost use Rattle.mm_runtime.specs.declared.progress.Progress.{Progress as State};
-ghost use Rattle.mm_runtime.specs.Managers.{globals_of, Closes, IsMutatorOf, IsInOrder};
+ghost use Rattle.mm_runtime.specs.Prelude.{replies_of, heap_state, roots_of, global_word_at, mutator_state, Setting, Moment, State, globals_of, Closes, IsMutatorOf, IsInOrder};
 
 use crate::manager::Manager;
 use crate::progress::MAX_COMMANDS;

@@ -5,15 +5,11 @@
 //! writes.
 
 ghost use Rattle.std.specs.Prelude.{◌≡◌, ◌≤◌, ℕ, filter, length, IfOk};
-ghost use Rattle.sessions.specs.Sessions.{Setting, Moment, ServesAll, is_at_need, traced_mutators};
-ghost use Rattle.mm_runtime.specs.Managers.{replied, IsAtStop, IsInOrder, StandsAt};
-ghost use Rattle.managed_heap.specs.Stopped.{IsManaged};
-ghost use Rattle.mutator_calls.specs.declared.need.Need.{Need};
-ghost use Rattle.mm_runtime.specs.Parts.{causes, AreNeeds};
-ghost use Rattle.mm_runtime.specs.Stops.{NeedsNext, ServesEnd, AddsReply};
+ghost use Rattle.mm_runtime.specs.Prelude.{Setting, Moment, ServesAll, is_at_need, traced_mutators, replied, IsAtStop, IsInOrder, StandsAt, IsManaged, Need, causes, AreNeeds, NeedsNext, ServesEnd, AddsReply};
 
 use crate::manager::Manager;
 use crate::progress::End;
+use managed_heap::Scheduler;
 use plan_api::Plan;
 use pools::Pool;
 use std::alloc::AllocError;
@@ -24,11 +20,9 @@ impl<P: Plan> Manager<P> {
     /// Serves the need of mutator `number`, if its part of the epoch ended at one.
     fn serve_end<Q: Pool, G: Gate, R: Threads + Sync>(
         self,
-        rt: &R,
+        scheduler: &Scheduler<'_, R, Q, G>,
         number: u32,
         end: End,
-        pool: &Q,
-        gate: &G,
     ) -> Result<Manager<P>, AllocError>
         requires plan { IsManaged P.rules }
         requires stop { IsAtStop P.rules 0 self }
@@ -43,6 +37,7 @@ impl<P: Plan> Manager<P> {
         let End::Need(need) = end else {
             return Ok(self);
         };
+        let Scheduler { rt, pool, gate } = *scheduler;
         let (manager, _placed) = self.place_or_collect(rt, number, need, pool, gate)?;
         Ok(manager)
     }
@@ -50,10 +45,8 @@ impl<P: Plan> Manager<P> {
     /// Serves each need, in ascending order of the mutators.
     pub(crate) fn serve_needs<Q: Pool, G: Gate, R: Threads + Sync>(
         self,
-        rt: &R,
+        scheduler: &Scheduler<'_, R, Q, G>,
         ends: &[End],
-        pool: &Q,
-        gate: &G,
     ) -> Result<Manager<P>, AllocError>
         requires plan { IsManaged P.rules }
         requires stop { IsAtStop P.rules 0 self }
@@ -69,7 +62,7 @@ impl<P: Plan> Manager<P> {
     {
         let mut manager = self;
         for m in 0..ends.len() {
-            manager = manager.serve_end(rt, m as u32 + 1, ends[m], pool, gate)?;
+            manager = manager.serve_end(scheduler, m as u32 + 1, ends[m])?;
         }
         Ok(manager)
     }

@@ -1,12 +1,13 @@
-use Rattle.std.proofs.Common.{◌≡◌, sym, ◌∙◌, ap, subst, ℕ, replicate}
+use Rattle.std.proofs.Common.{◌≡◌, sym, ◌∙◌, ap, subst, ℕ, false, replicate}
 use Rattle.object_model.specs.Heaps.{heap_state}
 use Rattle.block_regions.specs.declared.block_notes.BlockNote.TheVariants.{Unowned}
-use Rattle.block_regions.specs.Notes.{HasNotes, AreUnowned}
+use Rattle.block_regions.specs.Notes.{FlagsCover, HasNotes, AreUnowned}
+use Rattle.block_regions.proofs.BlockFlags.{covers-none}
 use Rattle.block_regions.proofs.KeptNotes.{notes-unknown, none-unknown}
 use Rattle.managed_heap.proofs.collect.renew_notes.Goals as goal
 
-pub returns : goal.returns
-returns c = λ fill.
+pub returns-clause-notes : goal.returns-clause-notes
+returns-clause-notes c = λ fill.
     let s = heap_state c.args.heap.now in
     let items : c.fill.new.self.items ≡ replicate s.blocks (Unowned 4097)
     = c.fill.ensures.items (λ y e. e)
@@ -18,3 +19,10 @@ returns c = λ fill.
       owned = c.requires.owned;
       room = c.requires.room;
     }
+
+pub returns-clause-flags : goal.returns-clause-flags
+returns-clause-flags c = λ rules none.
+    let s = heap_state c.args.heap.now in
+    let items : c.fill-2.new.self.items ≡ replicate s.blocks false
+    = c.fill-2.ensures.items (λ y e. e) ∙ ap (λ (n : ℕ). replicate n false) (c.args.notes.now.flags.ok.0 ∙ c.requires.flags) in
+    subst (FlagsCover rules s) (sym items) (covers-none rules s none)

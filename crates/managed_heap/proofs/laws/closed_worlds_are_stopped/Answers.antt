@@ -5,4 +5,4 @@ pub returns-clause-stands : goal.returns-clause-stands
 returns-clause-stands g c = λ rules old t now part stands ends. epochs.stands-after rules old c.args.heap.now t now part stands ends
 
 pub returns-clause-stopped : goal.returns-clause-stopped
-returns-clause-stopped g c = λ rules old t now part stands ends order notes. epochs.is-stopped rules old c.args.heap.now t now part stands ends order notes
+returns-clause-stopped g c = λ rules old t now part stands ends order notes flags. epochs.is-stopped rules old c.args.heap.now t now part stands ends order notes flags

@@ -8,23 +8,30 @@ use Rattle.sessions.proofs.CollectedMoments.{roots-kept}
 use Rattle.sessions.proofs.CountedCollections.{counts-one}
 use Rattle.mutator_calls.specs.declared.need.Mutator.{Mutator}
 use Rattle.heap_users.specs.Users.{mutator_state}
+use Rattle.write_barrier.specs.Listed.{CoverLogged}
+use Rattle.block_regions.proofs.BlockFlags.{covers-logged}
 use Rattle.managed_heap.proofs.Collected as collected
 use Rattle.managed_heap.proofs.RootLists as roots
 use Rattle.managed_heap.proofs.stopped_heap.StoppedHeap.collect.Goals as goal
 
-pub collect-requires-clause-few : goal.collect-requires-clause-few
-collect-requires-clause-few g c κs within =
+pub collect_flagged-requires-clause-few : goal.collect_flagged-requires-clause-few
+collect_flagged-requires-clause-few g c κs within =
     subst (λ (l : List ℕ). length l ≤ 1000000) (sym (c.in_ok-list_registers.ensures ∙ ap (λ (us : List Mutator). roots_of (map mutator_state us)) c.deref.ensures.value)) (roots.roots-few g.P.Plan.rules c.args.self c.requires.stopped)
 
-pub collect-requires-clause-held : goal.collect-requires-clause-held
-collect-requires-clause-held g c κs within =
+pub collect_flagged-requires-clause-held : goal.collect_flagged-requires-clause-held
+collect_flagged-requires-clause-held g c κs within =
     subst (λ (l : List ℕ). AreRoots (heap_state c.args.self.heap) l) (sym (c.in_ok-list_registers.ensures ∙ ap (λ (us : List Mutator). roots_of (map mutator_state us)) c.deref.ensures.value)) (roots.roots-held g.P.Plan.rules c.args.self c.requires.stopped)
 
-pub collect-requires-clause-number : goal.collect-requires-clause-number
-collect-requires-clause-number g c κs within =
+pub collect_flagged-requires-clause-number : goal.collect_flagged-requires-clause-number
+collect_flagged-requires-clause-number g c κs within =
     let few : c.args.self.nursery + c.args.self.full + 1 < 1099511627776 = c.requires.collections in
     let number : (heap_state c.args.self.heap).number ≡ c.args.self.nursery + c.args.self.full = c.requires.stopped.order.number in
     omega arith
+
+pub collect_flagged-requires-clause-flags : goal.collect_flagged-requires-clause-flags
+collect_flagged-requires-clause-flags g c κs within = λ young.
+    subst (CoverLogged (heap_state c.args.self.heap)) (sym c.deref-2.ensures.value)
+    (covers-logged g.P.Plan.rules (heap_state c.args.self.heap) c.args.self.notes.flags.items c.requires.stopped.order.flags young)
 
 pub count_one-nursery-requires : goal.count_one-nursery-requires
 count_one-nursery-requires g c =
@@ -34,6 +41,11 @@ count_one-nursery-requires g c =
 pub renew_notes-requires-clause-blocks : goal.renew_notes-requires-clause-blocks
 renew_notes-requires-clause-blocks g c =
     c.requires.stopped.order.notes.notes.len
+    ∙ sym (counts-one g.P.Plan.rules 1 c.args.kind (heap_state c.args.self.heap) (heap_state c.in_ok-after.after.heap) c.list_registers.new.roots.items c.in_ok-after.after.roots.items c.in_ok-after.ensures.0).1
+
+pub renew_notes-requires-clause-flags : goal.renew_notes-requires-clause-flags
+renew_notes-requires-clause-flags g c =
+    c.requires.stopped.order.flags.len
     ∙ sym (counts-one g.P.Plan.rules 1 c.args.kind (heap_state c.args.self.heap) (heap_state c.in_ok-after.after.heap) c.list_registers.new.roots.items c.in_ok-after.after.roots.items c.in_ok-after.ensures.0).1
 
 pub renew_notes-requires-clause-owned : goal.renew_notes-requires-clause-owned
@@ -50,25 +62,28 @@ set_registers-requires g c =
     roots-kept g.P.Plan.rules 1 c.args.kind (heap_state c.args.self.heap) (heap_state c.in_ok-after.after.heap) c.list_registers.new.roots.items c.in_ok-after.after.roots.items c.in_ok-after.ensures.0 in
     let read : length c.list_registers.new.roots.items ≡ length (roots_of (map mutator_state c.args.self.mutators.items)) = ap length (c.in_ok-list_registers.ensures ∙ ap (λ (us : List Mutator). roots_of (map mutator_state us)) c.deref.ensures.value) in
     let many : length (roots_of (map mutator_state c.args.self.mutators.items)) ≡ 16 * length c.args.self.mutators.items = roots.roots-many g.P.Plan.rules c.args.self c.requires.stopped in
-    let same : length c.deref-2.result.now ≡ length c.in_ok-after.after.roots.items = ap length c.deref-2.ensures.value in
+    let same : length c.deref-3.result.now ≡ length c.in_ok-after.after.roots.items = ap length c.deref-3.ensures.value in
     omega arith
 
 pub returns-clause-stopped : goal.returns-clause-stopped
 returns-clause-stopped g c =
     collected.stopped-made g.P.Plan.rules c.args.kind c.args.self _ c.in_ok-after.after.note
     (collected.has-collected g.P.Plan.rules c.args.kind c.args.self _ c.in_ok-after.after.note c.list_registers.new.roots.items c.in_ok-after.after.roots.items
-    (c.in_ok-list_registers.ensures ∙ ap (λ (us : List Mutator). roots_of (map mutator_state us)) c.deref.ensures.value) (sym (c.set_registers.ensures.roots ∙ c.deref-2.ensures.value))
-    c.in_ok-after.ensures c.set_registers.ensures.births c.set_registers.ensures.registers c.count_one-nursery.ensures (c.renew_notes.ensures g.P.Plan.rules.fill)) c.requires.stopped
+    (c.in_ok-list_registers.ensures ∙ ap (λ (us : List Mutator). roots_of (map mutator_state us)) c.deref.ensures.value) (sym (c.set_registers.ensures.roots ∙ c.deref-3.ensures.value))
+    c.in_ok-after.ensures c.set_registers.ensures.births c.set_registers.ensures.registers c.count_one-nursery.ensures (collected.known-after g.P.Plan.plan g.P.Plan.rules g.met.P.Plan.rules_are_of_plan 1 c.args.kind _ _ _ _ c.in_ok-after.ensures.0 _
+    c.renew_notes.ensures.notes c.renew_notes.ensures.flags)) c.requires.stopped
 
 pub returns-clause-collected : goal.returns-clause-collected
 returns-clause-collected g c =
     collected.has-collected g.P.Plan.rules c.args.kind c.args.self _ c.in_ok-after.after.note c.list_registers.new.roots.items c.in_ok-after.after.roots.items
-    (c.in_ok-list_registers.ensures ∙ ap (λ (us : List Mutator). roots_of (map mutator_state us)) c.deref.ensures.value) (sym (c.set_registers.ensures.roots ∙ c.deref-2.ensures.value))
-    c.in_ok-after.ensures c.set_registers.ensures.births c.set_registers.ensures.registers c.count_one-nursery.ensures (c.renew_notes.ensures g.P.Plan.rules.fill)
+    (c.in_ok-list_registers.ensures ∙ ap (λ (us : List Mutator). roots_of (map mutator_state us)) c.deref.ensures.value) (sym (c.set_registers.ensures.roots ∙ c.deref-3.ensures.value))
+    c.in_ok-after.ensures c.set_registers.ensures.births c.set_registers.ensures.registers c.count_one-nursery.ensures (collected.known-after g.P.Plan.plan g.P.Plan.rules g.met.P.Plan.rules_are_of_plan 1 c.args.kind _ _ _ _ c.in_ok-after.ensures.0 _
+    c.renew_notes.ensures.notes c.renew_notes.ensures.flags)
 
 pub returns-clause-makes : goal.returns-clause-makes
 returns-clause-makes g c =
     collected.makes-from g.P.Plan.rules c.args.kind c.args.self _ c.in_ok-after.after.note
     (collected.has-collected g.P.Plan.rules c.args.kind c.args.self _ c.in_ok-after.after.note c.list_registers.new.roots.items c.in_ok-after.after.roots.items
-    (c.in_ok-list_registers.ensures ∙ ap (λ (us : List Mutator). roots_of (map mutator_state us)) c.deref.ensures.value) (sym (c.set_registers.ensures.roots ∙ c.deref-2.ensures.value))
-    c.in_ok-after.ensures c.set_registers.ensures.births c.set_registers.ensures.registers c.count_one-nursery.ensures (c.renew_notes.ensures g.P.Plan.rules.fill))
+    (c.in_ok-list_registers.ensures ∙ ap (λ (us : List Mutator). roots_of (map mutator_state us)) c.deref.ensures.value) (sym (c.set_registers.ensures.roots ∙ c.deref-3.ensures.value))
+    c.in_ok-after.ensures c.set_registers.ensures.births c.set_registers.ensures.registers c.count_one-nursery.ensures (collected.known-after g.P.Plan.plan g.P.Plan.rules g.met.P.Plan.rules_are_of_plan 1 c.args.kind _ _ _ _ c.in_ok-after.ensures.0 _
+    c.renew_notes.ensures.notes c.renew_notes.ensures.flags))

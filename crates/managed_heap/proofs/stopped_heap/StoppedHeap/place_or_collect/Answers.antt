@@ -29,24 +29,24 @@ find_place-requires-clause-most g c =
     c.size_words-size.ensures c.shape_of.ensures.refs c.shape_of.ensures.nums
 
 pub place_need-stopped-requires-clause-stopped : goal.place_need-stopped-requires-clause-stopped
-place_need-stopped-requires-clause-stopped g c = noted.stopped-found g.P.Plan.rules c.args.self c.find_place.new.self c.find_place.ensures.rest c.find_place.ensures.notes c.requires.stopped
+place_need-stopped-requires-clause-stopped g c = noted.stopped-found g.P.Plan.rules c.args.self c.find_place.new.self c.find_place.ensures.rest (noted.known-found g.P.Plan.rules c.args.self c.find_place.new.self c.find_place.ensures.rest c.find_place.ensures.notes c.find_place.ensures.flags c.requires.stopped.order.flags) c.requires.stopped
 
 pub place_need-stopped-requires-clause-may : goal.place_need-stopped-requires-clause-may
-place_need-stopped-requires-clause-may g c = noted.may-found g.P.Plan.rules c.args.self c.find_place.new.self c.find_place.ensures.rest c.find_place.ensures.notes c.args.number c.args.need c.requires.may
+place_need-stopped-requires-clause-may g c = noted.may-found g.P.Plan.rules c.args.self c.find_place.new.self c.find_place.ensures.rest (noted.known-found g.P.Plan.rules c.args.self c.find_place.new.self c.find_place.ensures.rest c.find_place.ensures.notes c.find_place.ensures.flags c.requires.stopped.order.flags) c.args.number c.args.need c.requires.may
 
 pub place_need-stopped-requires-clause-spot : goal.place_need-stopped-requires-clause-spot
 place_need-stopped-requires-clause-spot g c =
-    noted.spot-found g.P.Plan.rules c.args.self c.find_place.new.self c.find_place.ensures.rest c.find_place.ensures.notes c.size_words-size.result (size_of c.args.need.refs c.args.need.nums) c.in-Some.spot
+    noted.spot-found g.P.Plan.rules c.args.self c.find_place.new.self c.find_place.ensures.rest (noted.known-found g.P.Plan.rules c.args.self c.find_place.new.self c.find_place.ensures.rest c.find_place.ensures.notes c.find_place.ensures.flags c.requires.stopped.order.flags) c.size_words-size.result (size_of c.args.need.refs c.args.need.nums) c.in-Some.spot
     (c.size_words-size.ensures ∙ ap (λ r. size_of r c.shape_of.result.nums) c.shape_of.ensures.refs ∙ ap (λ q. size_of c.args.need.refs q) c.shape_of.ensures.nums) c.in-Some.ensures.spot
 
 pub returns-in-Some-clause-stopped : goal.returns-in-Some-clause-stopped
 returns-in-Some-clause-stopped g c =
     serving.stopped-served g.P.Plan.rules c.args.self c.place_need-stopped.result.0 c.args.number c.args.need (answer.Placed c.place_need-stopped.result.1) c.requires.stopped c.place_need-stopped.ensures.order
-    (serving.serves-at-once g.P.Plan.rules c.args.self c.find_place.new.self c.place_need-stopped.result.0 c.args.number c.args.need (answer.Placed c.place_need-stopped.result.1) c.find_place.ensures.rest c.find_place.ensures.notes c.place_need-stopped.ensures.places)
+    (serving.serves-at-once g.P.Plan.rules c.args.self c.find_place.new.self c.place_need-stopped.result.0 c.args.number c.args.need (answer.Placed c.place_need-stopped.result.1) c.find_place.ensures.rest (noted.known-found g.P.Plan.rules c.args.self c.find_place.new.self c.find_place.ensures.rest c.find_place.ensures.notes c.find_place.ensures.flags c.requires.stopped.order.flags) c.place_need-stopped.ensures.places)
 
 pub returns-in-Some-clause-serves : goal.returns-in-Some-clause-serves
 returns-in-Some-clause-serves g c =
-    serving.serves-at-once g.P.Plan.rules c.args.self c.find_place.new.self c.place_need-stopped.result.0 c.args.number c.args.need (answer.Placed c.place_need-stopped.result.1) c.find_place.ensures.rest c.find_place.ensures.notes c.place_need-stopped.ensures.places
+    serving.serves-at-once g.P.Plan.rules c.args.self c.find_place.new.self c.place_need-stopped.result.0 c.args.number c.args.need (answer.Placed c.place_need-stopped.result.1) c.find_place.ensures.rest (noted.known-found g.P.Plan.rules c.args.self c.find_place.new.self c.find_place.ensures.rest c.find_place.ensures.notes c.find_place.ensures.flags c.requires.stopped.order.flags) c.place_need-stopped.ensures.places
 
 pub returns-in-Some-clause-births : goal.returns-in-Some-clause-births
 returns-in-Some-clause-births g c = serving.births-found c.args.self c.find_place.new.self c.place_need-stopped.result.0 c.args.number c.find_place.ensures.rest 1 c.place_need-stopped.ensures.births
@@ -56,7 +56,7 @@ returns-in-Some-clause-counts g c =
     let same = serving.counts-found c.args.self c.find_place.new.self c.place_need-stopped.result.0 c.args.number c.find_place.ensures.rest c.place_need-stopped.ensures.counts in omega (arith, same)
 
 pub make_room-requires-clause-stopped : goal.make_room-requires-clause-stopped
-make_room-requires-clause-stopped g c κs within = noted.stopped-found g.P.Plan.rules c.args.self c.find_place.new.self c.find_place.ensures.rest c.find_place.ensures.notes c.requires.stopped
+make_room-requires-clause-stopped g c κs within = noted.stopped-found g.P.Plan.rules c.args.self c.find_place.new.self c.find_place.ensures.rest (noted.known-found g.P.Plan.rules c.args.self c.find_place.new.self c.find_place.ensures.rest c.find_place.ensures.notes c.find_place.ensures.flags c.requires.stopped.order.flags) c.requires.stopped
 
 pub make_room-requires-clause-collections : goal.make_room-requires-clause-collections
 make_room-requires-clause-collections g c κs within =
@@ -71,28 +71,28 @@ make_room-requires-clause-most g c κs within =
 
 pub place_or_refuse-stopped-requires-clause-stopped : goal.place_or_refuse-stopped-requires-clause-stopped
 place_or_refuse-stopped-requires-clause-stopped g c =
-    serving.stopped-made g.P.Plan.rules c.args.self c.find_place.new.self c.in_ok-stopped.stopped c.in_ok-stopped.stopped c.args.number c.args.need (answer.HeapFull 0) c.size_words-size.result c.find_place.ensures.rest c.find_place.ensures.notes (c.size_words-size.ensures ∙ ap (λ r. size_of r c.shape_of.result.nums) c.shape_of.ensures.refs ∙ ap (λ q. size_of c.args.need.refs q) c.shape_of.ensures.nums)
-    c.in_ok-stopped.ensures.order (noted.stopped-found g.P.Plan.rules c.args.self c.find_place.new.self c.find_place.ensures.rest c.find_place.ensures.notes c.requires.stopped) c.in_ok-stopped.ensures.room
+    serving.stopped-made g.P.Plan.rules c.args.self c.find_place.new.self c.in_ok-stopped.stopped c.in_ok-stopped.stopped c.args.number c.args.need (answer.HeapFull 0) c.size_words-size.result c.find_place.ensures.rest (noted.known-found g.P.Plan.rules c.args.self c.find_place.new.self c.find_place.ensures.rest c.find_place.ensures.notes c.find_place.ensures.flags c.requires.stopped.order.flags) (c.size_words-size.ensures ∙ ap (λ r. size_of r c.shape_of.result.nums) c.shape_of.ensures.refs ∙ ap (λ q. size_of c.args.need.refs q) c.shape_of.ensures.nums)
+    c.in_ok-stopped.ensures.order (noted.stopped-found g.P.Plan.rules c.args.self c.find_place.new.self c.find_place.ensures.rest (noted.known-found g.P.Plan.rules c.args.self c.find_place.new.self c.find_place.ensures.rest c.find_place.ensures.notes c.find_place.ensures.flags c.requires.stopped.order.flags) c.requires.stopped) c.in_ok-stopped.ensures.room
 
 pub place_or_refuse-stopped-requires-clause-may : goal.place_or_refuse-stopped-requires-clause-may
 place_or_refuse-stopped-requires-clause-may g c =
     may-kept c.find_place.new.self c.in_ok-stopped.stopped c.args.number c.args.need (c.in_ok-stopped.ensures.births c.args.number)
-    (noted.may-found g.P.Plan.rules c.args.self c.find_place.new.self c.find_place.ensures.rest c.find_place.ensures.notes c.args.number c.args.need c.requires.may)
+    (noted.may-found g.P.Plan.rules c.args.self c.find_place.new.self c.find_place.ensures.rest (noted.known-found g.P.Plan.rules c.args.self c.find_place.new.self c.find_place.ensures.rest c.find_place.ensures.notes c.find_place.ensures.flags c.requires.stopped.order.flags) c.args.number c.args.need c.requires.may)
 
 pub returns-clause-stopped : goal.returns-clause-stopped
 returns-clause-stopped g c =
     serving.stopped-served g.P.Plan.rules c.args.self c.place_or_refuse-stopped.result.0 c.args.number c.args.need c.place_or_refuse-stopped.result.1 c.requires.stopped c.place_or_refuse-stopped.ensures.order
-    (serving.serves-after g.P.Plan.rules c.args.self c.find_place.new.self c.in_ok-stopped.stopped c.place_or_refuse-stopped.result.0 c.args.number c.args.need c.place_or_refuse-stopped.result.1 c.size_words-size.result c.find_place.ensures.rest c.find_place.ensures.notes (c.size_words-size.ensures ∙ ap (λ r. size_of r c.shape_of.result.nums) c.shape_of.ensures.refs ∙ ap (λ q. size_of c.args.need.refs q) c.shape_of.ensures.nums) c.in_default.ensures.none c.in_ok-stopped.ensures.room c.place_or_refuse-stopped.ensures.settles)
+    (serving.serves-after g.P.Plan.rules c.args.self c.find_place.new.self c.in_ok-stopped.stopped c.place_or_refuse-stopped.result.0 c.args.number c.args.need c.place_or_refuse-stopped.result.1 c.size_words-size.result c.find_place.ensures.rest (noted.known-found g.P.Plan.rules c.args.self c.find_place.new.self c.find_place.ensures.rest c.find_place.ensures.notes c.find_place.ensures.flags c.requires.stopped.order.flags) (c.size_words-size.ensures ∙ ap (λ r. size_of r c.shape_of.result.nums) c.shape_of.ensures.refs ∙ ap (λ q. size_of c.args.need.refs q) c.shape_of.ensures.nums) c.in_default.ensures.none c.in_ok-stopped.ensures.room c.place_or_refuse-stopped.ensures.settles)
 
 pub returns-clause-serves : goal.returns-clause-serves
 returns-clause-serves g c =
-    serving.serves-after g.P.Plan.rules c.args.self c.find_place.new.self c.in_ok-stopped.stopped c.place_or_refuse-stopped.result.0 c.args.number c.args.need c.place_or_refuse-stopped.result.1 c.size_words-size.result c.find_place.ensures.rest c.find_place.ensures.notes (c.size_words-size.ensures ∙ ap (λ r. size_of r c.shape_of.result.nums) c.shape_of.ensures.refs ∙ ap (λ q. size_of c.args.need.refs q) c.shape_of.ensures.nums) c.in_default.ensures.none c.in_ok-stopped.ensures.room c.place_or_refuse-stopped.ensures.settles
+    serving.serves-after g.P.Plan.rules c.args.self c.find_place.new.self c.in_ok-stopped.stopped c.place_or_refuse-stopped.result.0 c.args.number c.args.need c.place_or_refuse-stopped.result.1 c.size_words-size.result c.find_place.ensures.rest (noted.known-found g.P.Plan.rules c.args.self c.find_place.new.self c.find_place.ensures.rest c.find_place.ensures.notes c.find_place.ensures.flags c.requires.stopped.order.flags) (c.size_words-size.ensures ∙ ap (λ r. size_of r c.shape_of.result.nums) c.shape_of.ensures.refs ∙ ap (λ q. size_of c.args.need.refs q) c.shape_of.ensures.nums) c.in_default.ensures.none c.in_ok-stopped.ensures.room c.place_or_refuse-stopped.ensures.settles
 
 pub returns-clause-births : goal.returns-clause-births
-returns-clause-births g c = serving.births-after g.P.Plan.rules c.args.self c.find_place.new.self c.in_ok-stopped.stopped c.place_or_refuse-stopped.result.0 c.args.number c.args.need c.place_or_refuse-stopped.result.1 c.size_words-size.result c.find_place.ensures.rest c.find_place.ensures.notes (c.size_words-size.ensures ∙ ap (λ r. size_of r c.shape_of.result.nums) c.shape_of.ensures.refs ∙ ap (λ q. size_of c.args.need.refs q) c.shape_of.ensures.nums) (c.in_ok-stopped.ensures.births c.args.number) c.place_or_refuse-stopped.ensures.births
+returns-clause-births g c = serving.births-after g.P.Plan.rules c.args.self c.find_place.new.self c.in_ok-stopped.stopped c.place_or_refuse-stopped.result.0 c.args.number c.args.need c.place_or_refuse-stopped.result.1 c.size_words-size.result c.find_place.ensures.rest (noted.known-found g.P.Plan.rules c.args.self c.find_place.new.self c.find_place.ensures.rest c.find_place.ensures.notes c.find_place.ensures.flags c.requires.stopped.order.flags) (c.size_words-size.ensures ∙ ap (λ r. size_of r c.shape_of.result.nums) c.shape_of.ensures.refs ∙ ap (λ q. size_of c.args.need.refs q) c.shape_of.ensures.nums) (c.in_ok-stopped.ensures.births c.args.number) c.place_or_refuse-stopped.ensures.births
 
 pub returns-clause-counts : goal.returns-clause-counts
-returns-clause-counts g c = serving.counts-after g.P.Plan.rules c.args.self c.find_place.new.self c.in_ok-stopped.stopped c.place_or_refuse-stopped.result.0 c.args.number c.args.need c.place_or_refuse-stopped.result.1 c.size_words-size.result c.find_place.ensures.rest c.find_place.ensures.notes (c.size_words-size.ensures ∙ ap (λ r. size_of r c.shape_of.result.nums) c.shape_of.ensures.refs ∙ ap (λ q. size_of c.args.need.refs q) c.shape_of.ensures.nums) c.in_ok-stopped.ensures.counts c.place_or_refuse-stopped.ensures.counts
+returns-clause-counts g c = serving.counts-after g.P.Plan.rules c.args.self c.find_place.new.self c.in_ok-stopped.stopped c.place_or_refuse-stopped.result.0 c.args.number c.args.need c.place_or_refuse-stopped.result.1 c.size_words-size.result c.find_place.ensures.rest (noted.known-found g.P.Plan.rules c.args.self c.find_place.new.self c.find_place.ensures.rest c.find_place.ensures.notes c.find_place.ensures.flags c.requires.stopped.order.flags) (c.size_words-size.ensures ∙ ap (λ r. size_of r c.shape_of.result.nums) c.shape_of.ensures.refs ∙ ap (λ q. size_of c.args.need.refs q) c.shape_of.ensures.nums) c.in_ok-stopped.ensures.counts c.place_or_refuse-stopped.ensures.counts
 
 pub returns-clause-refused : goal.returns-clause-refused
 returns-clause-refused g c =
@@ -108,7 +108,7 @@ returns-clause-noted g c =
       kind = last.kind;
       before = last.before;
       after = last.after;
-      stands = λ t now stands. last.stands t now (noted.stands-found g.P.Plan.rules c.args.self c.find_place.new.self c.find_place.ensures.rest c.find_place.ensures.notes t now stands);
+      stands = λ t now stands. last.stands t now (noted.stands-found g.P.Plan.rules c.args.self c.find_place.new.self c.find_place.ensures.rest (noted.known-found g.P.Plan.rules c.args.self c.find_place.new.self c.find_place.ensures.rest c.find_place.ensures.notes c.find_place.ensures.flags c.requires.stopped.order.flags) t now stands);
       collected = last.collected;
       count = c.place_or_refuse-stopped.ensures.counts ∙ last.count;
       more = (

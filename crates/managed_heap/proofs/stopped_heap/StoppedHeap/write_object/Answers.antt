@@ -132,6 +132,13 @@ returns g c = record {
       (heap_state c.from_row-heap.result) (lines-of-plan g.P.Plan.plan g.P.Plan.rules g.met.P.Plan.rules_are_of_plan)
       (subst (λ (x : HeapState). RelistsSpot g.P.Plan.rules (state_of c.write_object.new.self) c.args.spot x) (sym c.from_row-heap.ensures) c.relist_spot-row.ensures)
       c.args.self.notes c.note_placed.new.notes c.requires.stopped.order.notes c.note_placed.ensures.small c.note_placed.ensures.large;
+  flags = calls.flags g.P.Plan.rules c.args.self c.args.number c.args.need.now c.args.spot c.requires.plan.fill c.requires.stopped c.requires.may c.requires.spot
+      (state_of c.into_row.result) (state_of c.take_spot-row.result) c.size_words.result c.shape_of-shape.result.refs c.shape_of-shape.result.nums c.into_row.ensures.state c.size_words.ensures
+      c.shape_of-shape.ensures.refs c.shape_of-shape.ensures.nums c.take_spot-row.ensures
+      c.count_birth-name.new.mutators.items c.address-address.result c.count_birth-name.result c.address-address.ensures c.count_birth-name.ensures (state_of c.write_object.new.self) c.write_object.ensures.written
+      (heap_state c.from_row-heap.result) (lines-of-plan g.P.Plan.plan g.P.Plan.rules g.met.P.Plan.rules_are_of_plan)
+      (subst (λ (x : HeapState). RelistsSpot g.P.Plan.rules (state_of c.write_object.new.self) c.args.spot x) (sym c.from_row-heap.ensures) c.relist_spot-row.ensures)
+      c.args.self.notes c.note_placed.new.notes c.requires.stopped.order.flags c.note_placed.ensures.small_flags c.note_placed.ensures.large_flags;
   nursery = refl;
   full = refl;
 }

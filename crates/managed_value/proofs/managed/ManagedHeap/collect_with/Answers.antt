@@ -1,6 +1,8 @@
 -- A full collection between two epochs.
 use Rattle.std.proofs.Common.{◌≡◌, ◌+◌, ◌<◌, sym, ◌∙◌, ap, ℕ, inl, inr, arith, replicate}
 use Rattle.std.proofs.lemmas.Result.{err_from_is_err_and}
+use Rattle.object_model.specs.Heaps.{heap_state}
+use Rattle.managed_heap.proofs.EpochLaws.{remembers}
 use Rattle.managed_value.specs.Histories.{collections_made}
 use Rattle.managed_value.specs.declared.managed.ManagedHeap.{ManagedHeap}
 use Rattle.plain_world.specs.EmptySeats.{empty_seat}
@@ -9,7 +11,8 @@ use Rattle.managed_value.proofs.Served as served
 use Rattle.managed_value.proofs.managed.ManagedHeap.collect_with.Goals as goal
 
 pub collect-requires-clause-offered : goal.collect-requires-clause-offered
-collect-requires-clause-offered g c κs within = c.requires.plan.full
+collect-requires-clause-offered g c κs within =
+    c.requires.plan.full (heap_state c.in-Some.stopped.heap) (remembers g.P.Plan.rules c.in-Some.stopped c.in-Some.ensures.ends.stopped)
 
 pub collect-requires-clause-stopped : goal.collect-requires-clause-stopped
 collect-requires-clause-stopped g c κs within = c.in-Some.ensures.ends.stopped

@@ -4,7 +4,7 @@ use Rattle.ideal_heap.specs.Ideal.{IdealHeap}
 use Rattle.object_model.specs.Heaps.{heap_state}
 use Rattle.object_model.specs.Graphs.{Represents}
 use Rattle.sessions.specs.Collecting.{Remembers}
-use Rattle.block_regions.specs.Notes.{AreNotes}
+use Rattle.block_regions.specs.Notes.{AreNotes, FlagsCover}
 use Rattle.heap_users.specs.Users.{mutator_state}
 use Rattle.heap_users.specs.Beginnings.{MayUse, epoch_of, without_stop}
 use Rattle.plain_world.specs.Calls.{HasHistory}
@@ -30,6 +30,10 @@ begin_seated-world-requires-clause-remembers g c =
 pub begin_seated-world-requires-clause-notes : goal.begin_seated-world-requires-clause-notes
 begin_seated-world-requires-clause-notes g c =
     subst (λ (x : Parts). AreNotes g.P.Plan.rules.fill (heap_state x.heap) x.notes) (sym c.into_parts-heap.ensures) c.requires.stopped.order.notes
+
+pub begin_seated-world-requires-clause-flags : goal.begin_seated-world-requires-clause-flags
+begin_seated-world-requires-clause-flags g c =
+    subst (λ (x : Parts). FlagsCover g.P.Plan.rules (heap_state x.heap) x.notes.flags.items) (sym c.into_parts-heap.ensures) c.requires.stopped.order.flags
 
 pub begin_seated-world-requires-clause-seats : goal.begin_seated-world-requires-clause-seats
 begin_seated-world-requires-clause-seats g c =

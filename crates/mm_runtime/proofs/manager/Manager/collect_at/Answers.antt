@@ -1,7 +1,9 @@
 -- A full collection, and then the replies.
 use Rattle.std.proofs.Common.{◌+◌, ◌≤◌, refl, arith}
 use Rattle.std.proofs.lemmas.Bool.{false≢true}
+use Rattle.object_model.specs.Heaps.{heap_state}
 use Rattle.managed_heap.specs.Stopped.{collections_of}
+use Rattle.managed_heap.proofs.EpochLaws.{remembers}
 use Rattle.mm_runtime.proofs.Bounds.{collections-few}
 use Rattle.mm_runtime.proofs.Collected.{stopped-of}
 use Rattle.mm_runtime.proofs.GcStops as stops
@@ -12,7 +14,8 @@ returns-then-not-some_gc-clause-gc g c =
     stops.nothing g.P.Plan.rules c.args.ends.now c.args.self (λ some. false≢true (c.if-not-some_gc.ensures.1 some))
 
 pub collect-requires-clause-offered : goal.collect-requires-clause-offered
-collect-requires-clause-offered g c κs within = c.requires.plan.full
+collect-requires-clause-offered g c κs within =
+    c.requires.plan.full (heap_state c.args.self.heap.heap) (remembers g.P.Plan.rules c.args.self.heap (stopped-of g.P.Plan.rules 0 c.args.self c.requires.stop))
 
 pub collect-requires-clause-stopped : goal.collect-requires-clause-stopped
 collect-requires-clause-stopped g c κs within = stopped-of g.P.Plan.rules 0 c.args.self c.requires.stop

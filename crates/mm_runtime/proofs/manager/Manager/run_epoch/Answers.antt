@@ -10,8 +10,8 @@ use Rattle.sessions.specs.Sessions.{Stopped, ideal_at}
 use Rattle.mutator_core.specs.Machine.{Epoch}
 use Rattle.mutator_core.specs.Closing.{GivesBack}
 use Rattle.heap_users.specs.Beginnings.{MayUse, epoch_of}
-use Rattle.block_regions.specs.Notes.{AreNotes}
-use Rattle.plain_world.specs.Calls.{heap_of_world, mutators_of_world, HasHistory}
+use Rattle.block_regions.specs.Notes.{AreNotes, FlagsCover}
+use Rattle.plain_world.specs.Calls.{heap_of_world, mutators_of_world, is_generational, HasHistory}
 use Rattle.plain_world.specs.Endings.{GrantsWithTickets}
 use Rattle.managed_heap.specs.declared.stopped_heap.Parts.{Parts}
 use Rattle.heap_users.specs.Users.{mutator_state}
@@ -46,6 +46,10 @@ begin_with-requires-clause-remembers g c =
 pub begin_with-requires-clause-notes : goal.begin_with-requires-clause-notes
 begin_with-requires-clause-notes g c =
     subst (λ (q : Parts). AreNotes g.P.Plan.rules.fill (heap_state q.heap) q.notes) (sym c.into_parts-parts.ensures) c.requires.ready.order.heap.notes
+
+pub begin_with-requires-clause-flags : goal.begin_with-requires-clause-flags
+begin_with-requires-clause-flags g c =
+    subst (λ (q : Parts). FlagsCover g.P.Plan.rules (heap_state q.heap) q.notes.flags.items) (sym c.into_parts-parts.ensures) c.requires.ready.order.heap.flags
 
 pub run_parts-requires-clause-numbers : goal.run_parts-requires-clause-numbers
 run_parts-requires-clause-numbers g c κs within =
@@ -85,6 +89,7 @@ returns g c =
       drawn = close.drawn;
       tickets = subst (λ (q : Parts). (p : Epoch) (i : IdealHeap) (part : List Entry) → HasHistory last p i part → GrantsWithTickets p last (heap_state q.heap)) parts_are close.tickets;
       notes = subst (λ (q : Parts). (p : Epoch) (i : IdealHeap) (part : List Entry) → HasHistory last p i part → AreNotes p.rules.fill (heap_state q.heap) q.notes) parts_are close.notes;
+      flags = subst (λ (q : Parts). (x : Rules) → x.young ≡ is_generational last → FlagsCover x (heap_state q.heap) q.notes.flags.items) parts_are close.flags;
       nursery = ap (λ (q : Parts). q.nursery) c.from_parts-heap.ensures ∙ ap (λ (q : Parts). q.nursery) c.into_parts-parts.ensures;
       full = ap (λ (q : Parts). q.full) c.from_parts-heap.ensures ∙ ap (λ (q : Parts). q.full) c.into_parts-parts.ensures;
     } in record {
