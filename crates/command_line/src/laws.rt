@@ -58,8 +58,16 @@ pub fn worked_command_lines()
         ∷ codes "--heap" ∷ codes "4" ∷ []) ≡ None }
     ensures empty_word { form_of (codes "--plan=immix" ∷ codes "--heap=4" ∷ [] ∷ [])
         ≡ None }
-    ensures unsupported { job_of (codes "--heap=4" ∷ codes "--plan=stickyimmix" ∷ codes "a"
-        ∷ []) ≡ None }
+    ensures unsupported { job_of (codes "--heap=4" ∷ codes "--plan=immix" ∷ codes "--map"
+        ∷ codes "a" ∷ []) ≡ None }
+    ensures stickyimmix { job_of (codes "--heap=4" ∷ codes "--plan=stickyimmix" ∷ codes "a"
+        ∷ []) ≡ Some (record {
+          plan = StickyImmix;
+          blocks = 4;
+          workers = 1;
+          map = false;
+          work = Files (codes "a" ∷ []);
+        }) }
     ensures marksweep { job_of (codes "--heap=4" ∷ codes "--plan=marksweep" ∷ codes "a" ∷ [])
         ≡ Some (record {
           plan = MarkSweep;
@@ -71,6 +79,14 @@ pub fn worked_command_lines()
     ensures semispace { job_of (codes "--heap=4" ∷ codes "--plan=semispace" ∷ codes "a" ∷ [])
         ≡ Some (record {
           plan = SemiSpace;
+          blocks = 4;
+          workers = 1;
+          map = false;
+          work = Files (codes "a" ∷ []);
+        }) }
+    ensures gencopy { job_of (codes "--heap=4" ∷ codes "--plan=gencopy" ∷ codes "a" ∷ [])
+        ≡ Some (record {
+          plan = GenCopy;
           blocks = 4;
           workers = 1;
           map = false;

@@ -5,7 +5,7 @@ ghost use Rattle.command_line.specs.Words.{form_of, is_supported as can_run, job
 ghost use Rattle.command_line.specs.Orders.{job_of_order, texts, values_seen};
 
 use crate::clap_values::{Found, read_values};
-use crate::order::{Order, PlanName, Target};
+use crate::order::{Order, Target};
 use crate::splitter::{are_all_single, split_words};
 use crate::values::{number_within, plan_named, work_of, workers_of};
 use heap_layout::{MAX_BLOCKS, MIN_BLOCKS};
@@ -45,23 +45,18 @@ pub fn read_form<'a>(alloc: Global, words: &'a [String]) -> Result<Option<Order<
     Ok(order_of(&found, parts.files))
 }
 
-// Whether the order is implemented: `nogc`, `marksweep`, `semispace` or `immix`, files, one worker
-// and no map.
+// Whether the order is implemented: files, one worker and no map.
 fn is_supported(order: &Order) -> bool
     ensures { result ≡ can_run (job_of_order order.now) }
 {
-    let is_implemented = matches!(
-        order.plan,
-        PlanName::NoGc | PlanName::MarkSweep | PlanName::SemiSpace | PlanName::Immix
-    );
-    is_implemented && order.workers == 1 && !order.map && matches!(order.work, Target::Files(_))
+    order.workers == 1 && !order.map && matches!(order.work, Target::Files(_))
 }
 
 /// What the arguments after the program's name ask for.
 ///
 /// `None` if the arguments do not match the usage, or ask for a feature that is not implemented
-/// yet: a plan other than `nogc`, `marksweep`, `semispace` and `immix`, several workers, a map or a
-/// made trace. The order borrows the names of its files from the arguments.
+/// yet: several workers, a map or a made trace. The order borrows the names of its files from the
+/// arguments.
 ///
 /// Errors: out of memory.
 #[tactic(auto, unfolding(crate::specs::Words::job_of))]

@@ -5,7 +5,7 @@ use Rattle.std.proofs.lemmas.Bool.{true≢false, leb-true}
 use Rattle.std.proofs.lemmas.Option.{none-some}
 use Rattle.trace_text.specs.Grammar.{numeral}
 use Rattle.sessions.specs.Plans.{Plan}
-use Rattle.command_line.specs.Words.{Job, Work, Files, Made, Line, Values, job_of, form_of, line_of_words, job_in, job_with, plan_of, bounded_numeral, if_within, workers_of, work_of, values_in, is_supported, if_supported, is_implemented, has_files}
+use Rattle.command_line.specs.Words.{Job, Work, Files, Made, Line, Values, job_of, form_of, line_of_words, job_in, job_with, plan_of, bounded_numeral, if_within, workers_of, work_of, values_in, is_supported, if_supported, has_files}
 use Rattle.driver.specs.Printed.{files_in, job_files}
 
 both : (a b : Bool) → (a && b) ≡ true → (a ≡ true) × (b ≡ true)
@@ -95,4 +95,4 @@ job-files words job e kept = line-files (line_of_words words) job e kept
 
 -- its work is files
 pub supported-work : (job : Job) → is_supported job ≡ true → has_files job.work ≡ true
-supported-work job supported = (both (is_implemented job.plan && nat_eq job.workers 1 && not job.map) (has_files job.work) supported).1
+supported-work job supported = (both (nat_eq job.workers 1 && not job.map) (has_files job.work) supported).1

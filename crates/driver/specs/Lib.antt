@@ -5,3 +5,4 @@ pub mod Reading
 pub mod Statuses
 pub mod Exits
 pub mod WorkedEnds
+pub mod Prelude

@@ -2,20 +2,19 @@
 use Rattle.std.specs.Prelude.{◌≡◌, ℕ, ◌+◌, ◌*◌, ◌%◌, ◌^◌, ◌<◌, ◌↔◌, Bool, List, [], ◌∷◌, ◌++◌, length, count_by, slice_index, codes, if◌then◌else◌}
 use Rattle.std.specs.List.{Any, flat_map, range_with_len}
 use Rattle.std.specs.Fmt.{decimal}
-use Rattle.heap_layout.specs.Zones.{heap_of, block_at, offset_at}
-use Rattle.heap_layout.specs.declared.block.Kind.{Kind}
+use Rattle.heap_layout.specs.Zones.{block_at, offset_at}
 use Rattle.heap_layout.specs.declared.block.Kind.TheVariants as kinds
 use Rattle.ideal_heap.specs.Names.{IsBefore}
 use Rattle.ideal_heap.specs.declared.reply.Reply.{Reply}
 use Rattle.ideal_heap.specs.declared.reply.Reply.TheVariants as r
 use Rattle.ideal_heap.specs.Runs.{replies_of, is_full}
-use Rattle.object_model.specs.Objects.{HeapState, is_start, name_at, size_at, has_kind, block_count}
+use Rattle.object_model.specs.Objects.{HeapState, name_at, size_at}
+use Rattle.object_model.specs.Counting.{held_in, count_words_at, kind_count}
 use Rattle.object_model.specs.Graphs.{IsReachable, roots_of}
 use Rattle.trace_text.specs.Text.{ended, name_text, mutator_text}
 use Rattle.sessions.specs.Plans.{Plan, plan_word}
 use Rattle.sessions.specs.Fitting.{large_of}
 use Rattle.sessions.specs.Sessions.{Moment}
-use Rattle.heap_layout.specs.declared.layout.TheConstants.{BLOCK_WORDS}
 
 -- the replies of mutators 1 to n
 abbrev pub replies_part : ℕ → Moment → List ℕ
@@ -26,19 +25,6 @@ pub record AreLive (last : Moment) (live : List ℕ) : Type 0 where
   pub all : (a : ℕ) → IsReachable last.heap (roots_of last.mutators) a ↔ Any (λ x. x ≡ a) live
   pub rise : (i j : ℕ) → i < j → j < length live
       → IsBefore (name_at last.heap (slice_index live i)) (name_at last.heap (slice_index live j))
-
--- the addresses of the held objects
-abbrev pub held_in : HeapState → List ℕ
-held_in s = flat_map (λ a. if is_start s a then a ∷ [] else [])
-    (range_with_len (heap_of s.blocks) (BLOCK_WORDS * s.blocks))
-
--- the words of the objects at these addresses
-abbrev pub count_words_at : HeapState → List ℕ → ℕ
-count_words_at s [] = 0
-count_words_at s (a ∷ rest) = size_at s a + count_words_at s rest
-
-abbrev pub kind_count : HeapState → Kind → ℕ
-kind_count s kind = block_count s (λ k. has_kind s k kind)
 
 abbrev pub live_line : HeapState → List ℕ → List ℕ
 live_line s live = ended (codes "live objects " ++ decimal (length live)

@@ -3,7 +3,7 @@
 
 ghost use Rattle.std.specs.Prelude.{◌≡◌, codes};
 ghost use Rattle.std.specs.List.{flat_map};
-ghost use Rattle.driver.specs.Printed.{WritesFaultLine, usage_line, unread_line, long_line, file_line, line_fault, fault_line, write_line, memory_line, why_word};
+ghost use Rattle.driver.specs.Prelude.{WritesFaultLine, usage_line, unread_line, long_line, file_line, line_fault, fault_line, write_line, memory_line, why_word};
 
 use itoa::Buffer;
 use outside::{Sink, write_parts};

@@ -2,21 +2,9 @@
 
 ghost use Rattle.std.specs.Prelude.{◌≡◌, ℕ, ◌++◌, ◌∷◌, [], List, codes, map, take, drop, replicate};
 ghost use Rattle.std.specs.List.{range_with_len};
-ghost use Rattle.ideal_heap.specs.declared.command.Command.TheVariants as command;
-ghost use Rattle.ideal_heap.specs.declared.reply.Reply.TheVariants as reply;
-ghost use Rattle.ideal_heap.specs.Names.{name, IsBefore};
-ghost use Rattle.ideal_heap.specs.Runs.{entry, alone};
-ghost use Rattle.object_model.specs.Objects.{empty_heap};
-ghost use Rattle.object_model.specs.Graphs.{MutatorState};
-ghost use Rattle.sessions.specs.Plans.{NoGc};
-ghost use Rattle.driver.specs.Made.{command_at, made_trace};
-ghost use Rattle.driver.specs.Texts.{map_line, report_part, summary_part, replies_part, count_words_at, kinds_line};
-ghost use Rattle.driver.specs.Printed.{AreReplies};
-ghost use Rattle.ideal_heap.specs.declared.command.Command.{Command};
-ghost use Rattle.ideal_heap.specs.Ideal.{empty};
-ghost use Rattle.trace_text.specs.Text.{mutator_text, HasFullLine};
-ghost use Rattle.sessions.specs.Sessions.{Setting};
-ghost use Rattle.object_model.specs.Objects.{HeapState};
+ghost use Rattle.driver.specs.Prelude.{name, IsBefore, entry, alone, empty_heap, MutatorState, NoGc, command_at, made_trace, map_line, report_part, summary_part, replies_part, count_words_at, kinds_line, AreReplies, Command, empty, mutator_text, HasFullLine, Setting, HeapState};
+ghost use Rattle.driver.specs.Prelude.command;
+ghost use Rattle.driver.specs.Prelude.reply;
 
 /// Worked made traces: how one begins, commands of each row, and later resets and collections.
 pub fn made_traces()

@@ -3,11 +3,7 @@
 ghost use Rattle.std.specs.Prelude.{◌≡◌, drop, IfOk, IfErr};
 ghost use Rattle.std.specs.Vec.Iter.{into_iter_items};
 ghost use Rattle.std.specs.IoError.{error_kind};
-ghost use Rattle.command_line.specs.Orders.{texts};
-ghost use Rattle.command_line.specs.Words.{job_of};
-ghost use Rattle.driver.specs.Statuses.{status_number};
-ghost use Rattle.driver.specs.Printed.{WritesFaultLine};
-ghost use Rattle.driver.specs.Exits.{Ran, IsReported, IsExit, refusal, refusal_line};
+ghost use Rattle.driver.specs.Prelude.{texts, job_of, status_number, WritesFaultLine, Ran, IsReported, IsExit, refusal, refusal_line};
 
 use crate::fault_lines::{write_memory_fault, write_usage_fault};
 use crate::runs::run;

@@ -1,11 +1,7 @@
 //! The whole program as one function.
 
 ghost use Rattle.std.specs.Prelude.{◌≡◌, ◌≢◌, ◌⊎◌, ◌≤◌, ◌<◌, length, slice_get, Some, None, IfSome, MatchOption};
-ghost use Rattle.command_line.specs.Orders.{texts, job_of_order};
-ghost use Rattle.command_line.specs.Words.{job_of};
-ghost use Rattle.outside.specs.Outside.{HasRisen};
-ghost use Rattle.driver.specs.Printed.{job_files, HasTraces, Prints, PrintsPrefix, AsksFirst, AsksPrefix, EndsAtKnown, IsLong, IsNoTrace, WritesFaultLine, IsUsage, Unread, IsTooLong, IsBad, write_line, memory_line};
-ghost use Rattle.driver.specs.Reading.{IsOneOf, fault_line_of};
+ghost use Rattle.driver.specs.Prelude.{texts, job_of_order, job_of, HasRisen, job_files, HasTraces, Prints, PrintsPrefix, AsksFirst, AsksPrefix, EndsAtKnown, IsLong, IsNoTrace, WritesFaultLine, IsUsage, Unread, IsTooLong, IsBad, write_line, memory_line, IsOneOf, fault_line_of};
 
 use crate::fault_lines::{
     write_length_fault, write_memory_fault, write_output_fault, write_read_fault,

@@ -1,20 +1,15 @@
 //! The text that a session prints.
 
 ghost use Rattle.std.specs.Prelude.{◌≡◌, ◌≤◌, ℕ, All, length, IfOk, true};
-ghost use Rattle.sessions.specs.Sessions.{Setting, Moment, IsWhole};
-ghost use Rattle.command_line.specs.Orders.{job_of_order};
-ghost use Rattle.command_line.specs.Words.{is_supported};
-ghost use Rattle.mm_runtime.specs.Managers.{Closes, ClosesSome, IsRunnableTrace};
-ghost use Rattle.managed_heap.specs.Stopped.{IsManaged};
-ghost use Rattle.driver.specs.Texts.{replies_part};
-ghost use Rattle.driver.specs.Printed.{AreReplies, setting_of, IsPrinted};
+ghost use Rattle.driver.specs.Prelude.{Setting, Moment, IsWhole, job_of_order, is_supported, Closes, ClosesSome, IsRunnableTrace, IsManaged, replies_part, AreReplies, setting_of, IsPrinted};
 
 use command_line::{Order, PlanName};
 use heap_layout::{Layout, MAX_BLOCKS, MIN_BLOCKS};
 use ideal_heap::MAX_MUTATORS;
+use managed_heap::Scheduler;
 use mm_runtime::{Manager, Turn, managed_plans};
 use plan_api::Plan;
-use plans::{Immix, MarkSweep, NoGc, SemiSpace};
+use plans::{GenCopy, Immix, MarkSweep, NoGc, SemiSpace, StickyImmix};
 use pools::PlainPool;
 use std::alloc::{AllocError, Global};
 use std::thread::Threads;
@@ -24,11 +19,10 @@ use work_packets::Gate;
 
 // Runs the traces to their end, under a plan.
 fn run_to_end<P: Plan, G: Gate, R: Threads + Sync>(
-    rt: &R,
+    scheduler: &Scheduler<'_, R, PlainPool, G>,
     alloc: Global,
     layout: Layout,
     traces: Vec<StoredTrace>,
-    gate: &G,
 ) -> Result<Manager<P>, AllocError>
     requires plan { IsManaged P.rules }
     requires some { 1 ≤ length traces.items }
@@ -39,9 +33,10 @@ fn run_to_end<P: Plan, G: Gate, R: Threads + Sync>(
         → t.workers ≡ 1 → t.traces ≡ traces.items
         → IfOk result (λ m. (last : Moment) × IsWhole t last × Closes P.rules m t last) }
 {
+    let Scheduler { rt, pool, gate } = *scheduler;
     let mut manager = Manager::<P>::begin_stored(alloc, layout, traces, 1)?;
     'epochs: loop {
-        let (next, turn) = manager.advance(rt, &PlainPool, gate)?;
+        let (next, turn) = manager.advance(rt, pool, gate)?;
         manager = next;
         if turn == Turn::Ended {
             return Ok(manager);
@@ -64,11 +59,10 @@ fn text_of_replies<P: Plan>(alloc: Global, manager: &Manager<P>) -> Result<Vec<u
 
 // The replies of a whole session under a plan.
 fn text_under<P: Plan, G: Gate, R: Threads + Sync>(
-    rt: &R,
+    scheduler: &Scheduler<'_, R, PlainPool, G>,
     alloc: Global,
     layout: Layout,
     traces: Vec<StoredTrace>,
-    gate: &G,
 ) -> Result<Vec<u8>, AllocError>
     requires plan { IsManaged P.rules }
     requires some { 1 ≤ length traces.items }
@@ -78,7 +72,7 @@ fn text_under<P: Plan, G: Gate, R: Threads + Sync>(
         → t.workers ≡ 1 → t.traces ≡ traces.items
         → IfOk result (λ v. AreReplies t v.items) }
 {
-    let manager = run_to_end::<P, G, R>(rt, alloc, layout, traces, gate)?;
+    let manager = run_to_end::<P, G, R>(scheduler, alloc, layout, traces)?;
     text_of_replies::<P>(alloc, &manager)
 }
 
@@ -103,12 +97,18 @@ pub(crate) fn text_of_session<G: Gate, R: Threads + Sync>(
         traces.items v.items) }
 {
     let layout = Layout::new(order.blocks).unwrap();
+    let scheduler = Scheduler {
+        rt,
+        pool: &PlainPool,
+        gate,
+    };
     managed_plans();
     match order.plan {
-        PlanName::NoGc => text_under::<NoGc, G, R>(rt, alloc, layout, traces, gate),
-        PlanName::MarkSweep => text_under::<MarkSweep, G, R>(rt, alloc, layout, traces, gate),
-        PlanName::SemiSpace => text_under::<SemiSpace, G, R>(rt, alloc, layout, traces, gate),
-        PlanName::Immix => text_under::<Immix, G, R>(rt, alloc, layout, traces, gate),
-        _ => unreachable!(),
+        PlanName::NoGc => text_under::<NoGc, G, R>(&scheduler, alloc, layout, traces),
+        PlanName::MarkSweep => text_under::<MarkSweep, G, R>(&scheduler, alloc, layout, traces),
+        PlanName::SemiSpace => text_under::<SemiSpace, G, R>(&scheduler, alloc, layout, traces),
+        PlanName::GenCopy => text_under::<GenCopy, G, R>(&scheduler, alloc, layout, traces),
+        PlanName::Immix => text_under::<Immix, G, R>(&scheduler, alloc, layout, traces),
+        PlanName::StickyImmix => text_under::<StickyImmix, G, R>(&scheduler, alloc, layout, traces),
     }
 }

@@ -2,31 +2,11 @@
 
 ghost use Rattle.std.specs.Prelude.{◌≡◌, ◌≢◌, ◌≤◌, ◌⊎◌, ℕ, suc, ◌++◌, ◌∷◌, [], List, length, map, take, replicate, slice_get, codes, true, false, Option, Some, None, IfSome, Ok, Err};
 ghost use Rattle.std.specs.List.{range_with_len};
-ghost use Rattle.heap_layout.specs.declared.block.Kind.TheVariants as kinds;
-ghost use Rattle.heap_layout.specs.Blocks.{code_of};
-ghost use Rattle.ideal_heap.specs.declared.command.Command.{Command};
-ghost use Rattle.ideal_heap.specs.declared.command.Command.TheVariants as command;
-ghost use Rattle.ideal_heap.specs.declared.reply.Reply.TheVariants as reply;
-ghost use Rattle.ideal_heap.specs.Ideal.{empty};
-ghost use Rattle.ideal_heap.specs.Names.{name};
-ghost use Rattle.ideal_heap.specs.Runs.{alone, replies_of};
-ghost use Rattle.object_model.specs.Objects.{empty_heap};
-ghost use Rattle.object_model.specs.Graphs.{IsReachable, roots_of};
-ghost use Rattle.object_model.specs.WorkedHeaps.{unowned, plain_object, build_heap};
-ghost use Rattle.sessions.specs.Plans.{Plan, NoGc, GenCopy, StickyImmix, rules_of};
-ghost use Rattle.sessions.specs.Sessions.{Moment};
-ghost use Rattle.trace_text.specs.declared.fault.TraceFault.{TraceFault};
-ghost use Rattle.trace_text.specs.Grammar.{trace};
-ghost use Rattle.trace_text.specs.Text.{mutator_text, HasFullLine};
-ghost use Rattle.command_line.specs.Words.{Job, Work, Files, Made};
-ghost use Rattle.outside.specs.Outside.{Asked, SourceState, SinkState, HasRisen, AppendsPrefix};
-ghost use Rattle.driver.specs.declared.status.Status.{Status};
-ghost use Rattle.driver.specs.declared.status.Status.TheVariants as status;
-ghost use Rattle.driver.specs.Exits.{IsExit, Ran};
-ghost use Rattle.driver.specs.Made.{in_row};
-ghost use Rattle.driver.specs.Printed.{Content, AreTraces, Prints, PrintsPrefix, AsksFirst, AsksPrefix, Unread, IsTooLong, IsBad, IsUsage, IsLong, IsNoTrace, HasFault, HasTraces, EndsAtKnown, WritesFaultLine, job_files, setting_of, IsWholeText, fault_line, usage_line};
-ghost use Rattle.driver.specs.Texts.{AreLive, IsSessionText, IsSummary, kinds_line, held_line, replies_part, report_part, summary_part};
-ghost use Rattle.driver.specs.WorkedEnds.{worked_end};
+ghost use Rattle.driver.specs.Prelude.{code_of, Command, empty, name, alone, replies_of, empty_heap, IsReachable, roots_of, unowned, plain_object, build_heap, Plan, NoGc, GenCopy, StickyImmix, rules_of, Moment, TraceFault, trace, mutator_text, HasFullLine, Job, Work, Files, Made, Asked, SourceState, SinkState, HasRisen, AppendsPrefix, Status, IsExit, Ran, in_row, Content, AreTraces, Prints, PrintsPrefix, AsksFirst, AsksPrefix, Unread, IsTooLong, IsBad, IsUsage, IsLong, IsNoTrace, HasFault, HasTraces, EndsAtKnown, WritesFaultLine, job_files, setting_of, IsWholeText, fault_line, usage_line, AreLive, IsSessionText, IsSummary, kinds_line, held_line, replies_part, report_part, summary_part, worked_end};
+ghost use Rattle.driver.specs.Prelude.kinds;
+ghost use Rattle.driver.specs.Prelude.command;
+ghost use Rattle.driver.specs.Prelude.reply;
+ghost use Rattle.driver.specs.Prelude.status;
 
 /// The live objects of a worked heap: all that are reachable, each once, in the order of names.
 pub fn live_objects()

@@ -1,13 +1,7 @@
 //! The traces in named files.
 
 ghost use Rattle.std.specs.Prelude.{◌≡◌, ◌≤◌, length, All, OnOk, IfOk, IfErr, IfSome, IsErrOf};
-ghost use Rattle.trace_text.specs.Readers.{HasRead};
-ghost use Rattle.command_line.specs.Orders.{texts};
-ghost use Rattle.outside.specs.Outside.{HasRisen};
-ghost use Rattle.trace_text.specs.declared.fault.TraceFault.{TraceFault as AnyFault};
-ghost use Rattle.driver.specs.Printed.{AreTraces, IsTraceIn, IsLong, HasFault, AsksFirst, AsksPrefix};
-ghost use Rattle.mm_runtime.specs.Managers.{IsRunnableTrace};
-ghost use Rattle.driver.specs.Reading.{AsksName, Halts, status_of};
+ghost use Rattle.driver.specs.Prelude.{HasRead, texts, HasRisen, AnyFault, AreTraces, IsTraceIn, IsLong, HasFault, AsksFirst, AsksPrefix, IsRunnableTrace, AsksName, Halts, status_of};
 
 use crate::status::Status;
 use outside::{Consumer, ReadFault, Sources, read_file};

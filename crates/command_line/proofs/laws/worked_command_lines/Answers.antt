@@ -62,6 +62,10 @@ pub returns-clause-unsupported : goal.returns-clause-unsupported
 unfolding form_of job_of
 returns-clause-unsupported c = refl
 
+pub returns-clause-stickyimmix : goal.returns-clause-stickyimmix
+unfolding form_of job_of
+returns-clause-stickyimmix c = refl
+
 pub returns-clause-marksweep : goal.returns-clause-marksweep
 unfolding form_of job_of
 returns-clause-marksweep c = refl
@@ -73,6 +77,10 @@ returns-clause-immix c = refl
 pub returns-clause-semispace : goal.returns-clause-semispace
 unfolding form_of job_of
 returns-clause-semispace c = refl
+
+pub returns-clause-gencopy : goal.returns-clause-gencopy
+unfolding form_of job_of
+returns-clause-gencopy c = refl
 
 pub returns-clause-supported : goal.returns-clause-supported
 unfolding form_of job_of
