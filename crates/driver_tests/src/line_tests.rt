@@ -17,14 +17,13 @@ const SUPPORTED: &[&str] = &[
     "--plan semispace --heap 4 a",
     "--heap=5 --workers=1 --plan=semispace a",
     "--heap=4 --plan marksweep a",
+    "--heap 4 --plan=gencopy a",
     "--heap=4 --plan=immix a",
+    "--heap=4 --plan=stickyimmix a",
 ];
 
 const REFUSED: &[&str] = &[
     // These match the usage, but ask for a feature that is not implemented yet.
-    "--plan gencopy --heap 4 a",
-    "--plan stickyimmix --heap 4 a",
-    "--heap=4 --plan=gencopy a",
     "--plan nogc --heap 4 --workers 2 a",
     "--plan nogc --heap 4 --workers 16 a",
     "--plan semispace --heap 4 --workers 2 a",

@@ -49,7 +49,14 @@ fn additions(rt: HostRuntime) -> Result<(), Fail> {
     let other = "meet;load r1 g0;500*add r1 0 1;gc;500*add r1 0 1;meet";
     let traces = format!(in alloc; "{first}|{other}|{other}|{other}")?;
     let want = Vec::from_iter(alloc, 0..4001u64)?;
-    for plan in ["nogc", "marksweep", "semispace", "immix"] {
+    for plan in [
+        "nogc",
+        "marksweep",
+        "semispace",
+        "gencopy",
+        "immix",
+        "stickyimmix",
+    ] {
         let ran = run_traces(&rt, alloc, plan, 8, &traces, &OpenGate)?;
         let numbers = numbers_in(alloc, &ran)?;
         assert!(rt; numbers.as_slice() == want.as_slice(), "{plan}");
@@ -146,7 +153,7 @@ fn gates_are_passed(rt: HostRuntime) -> Result<(), Fail> {
     let seen = count_points(&rt, alloc, "nogc", two, "new 1.1;ok;ok|ok;full;null")?;
     assert_eq!(rt; seen, [3, 3, 1, 1, 1, 0, 0, 0, 0]);
     let one = "new r0 1 0;new r1 0 1;put r0 0 r1;drop r1;gc";
-    for plan in ["marksweep", "semispace", "immix"] {
+    for plan in ["marksweep", "semispace", "gencopy", "immix", "stickyimmix"] {
         let seen = count_points(&rt, alloc, plan, one, "new 1.1;new 1.2;ok;ok;ok")?;
         assert!(rt; seen[6] > 0 && seen[7] > 2 && seen[8] == seen[7], "{plan}");
     }

@@ -11,13 +11,24 @@ const MARKSWEEP: &[&str] = &["marksweep"];
 
 const SEMISPACE: &[&str] = &["semispace"];
 
-const IMMIX: &[&str] = &["immix"];
+const GENCOPY: &[&str] = &["gencopy"];
 
-const ALL: &[&str] = &["nogc", "marksweep", "semispace", "immix"];
+const LINES: &[&str] = &["immix", "stickyimmix"];
 
-const COLLECTING: &[&str] = &["marksweep", "semispace", "immix"];
+const ALL: &[&str] = &[
+    "nogc",
+    "marksweep",
+    "semispace",
+    "gencopy",
+    "immix",
+    "stickyimmix",
+];
 
-const BUT_IMMIX: &[&str] = &["nogc", "marksweep", "semispace"];
+const COLLECTING: &[&str] = &["marksweep", "semispace", "gencopy", "immix", "stickyimmix"];
+
+const COPYING: &[&str] = &["semispace", "gencopy"];
+
+const BUT_LINES: &[&str] = &["nogc", "marksweep", "semispace", "gencopy"];
 
 // Nine objects of half a block, of which the last alone is held.
 const HALVES: &str = "9*new r0 0 2045";
@@ -35,7 +46,7 @@ const LISTS: &str = "new r0 1 1;new r1 1 1;put r1 0 r0;drop r0;new r2 1 1;new r3
     pin r1;drop r2;drop r3;gc;get r0 r1 0;new r4 0 9000;new r4 0 4000";
 
 // Plans, blocks, and the commands and replies of each mutator.
-const SESSIONS: [(&[&str], u32, &str, &str); 33] = [
+const SESSIONS: [(&[&str], u32, &str, &str); 34] = [
     (ALL, 4, FIRST, "new 1.1;ok;num 7;nil"),
     (ALL, 4, "", ""),
     (
@@ -111,13 +122,13 @@ const SESSIONS: [(&[&str], u32, &str, &str); 33] = [
     // The pinned object keeps its block, and what it refers to moves to a second one. So two blocks
     // are Free.
     (
-        IMMIX,
+        LINES,
         4,
         LISTS,
         "new 1.1;new 1.2;ok;ok;new 1.3;new 1.4;ok;yes;ok;ok;ok;ref 1.1;full;new 1.5",
     ),
     (
-        SEMISPACE,
+        COPYING,
         4,
         LISTS,
         "new 1.1;new 1.2;ok;ok;new 1.3;new 1.4;ok;yes;ok;ok;ok;ref 1.1;full;full",
@@ -131,6 +142,14 @@ const SESSIONS: [(&[&str], u32, &str, &str); 33] = [
         "new 1.1;ok;new 1.2;ok;ok;ok;new 1.3;new 1.4;new 1.5;new 1.6;new 1.7;new 1.8;new 1.9;\
         ref 1.2;num 9",
     ),
+    // The last object is placed after a nursery collection, which keeps what a dead old one holds.
+    (
+        GENCOPY,
+        16,
+        "new r0 1 0;gc;new r1 0 1;put r0 0 r1;drop r1;drop r0;14*new r2 0 2045",
+        "new 1.1;ok;new 1.2;ok;ok;ok;new 1.3;new 1.4;new 1.5;new 1.6;new 1.7;new 1.8;new 1.9;\
+        new 1.10;new 1.11;new 1.12;new 1.13;new 1.14;new 1.15;new 1.16",
+    ),
     (
         NOGC,
         4,
@@ -143,13 +162,13 @@ const SESSIONS: [(&[&str], u32, &str, &str); 33] = [
         HALVES,
         "new 1.1;new 1.2;new 1.3;new 1.4;new 1.5;new 1.6;new 1.7;new 1.8;new 1.9",
     ),
-    // Immix holds back a Free block to copy into.
-    (BUT_IMMIX, 15, LARGEST, "new 1.1;ok;ref 1.1"),
-    (IMMIX, 16, LARGEST, "new 1.1;ok;ref 1.1"),
-    (BUT_IMMIX, 14, PIN_LARGEST, "full;null"),
-    (IMMIX, 15, PIN_LARGEST, "full;null"),
-    (BUT_IMMIX, 16, TWO_LARGEST, "new 1.1;full"),
-    (IMMIX, 17, TWO_LARGEST, "new 1.1;full"),
+    // Plans with lines hold back a Free block to copy into.
+    (BUT_LINES, 15, LARGEST, "new 1.1;ok;ref 1.1"),
+    (LINES, 16, LARGEST, "new 1.1;ok;ref 1.1"),
+    (BUT_LINES, 14, PIN_LARGEST, "full;null"),
+    (LINES, 15, PIN_LARGEST, "full;null"),
+    (BUT_LINES, 16, TWO_LARGEST, "new 1.1;full"),
+    (LINES, 17, TWO_LARGEST, "new 1.1;full"),
     // Six of eight blocks are Free, but no three beside one another: the third and the sixth block
     // have small objects that are held. Dropped, they leave room for a large one.
     (
@@ -170,7 +189,7 @@ const SESSIONS: [(&[&str], u32, &str, &str); 33] = [
     // Two pinned objects keep a block each. Then no block is left for copies, all objects stay
     // where they are, and nothing fits. Unpinned, the two move together.
     (
-        SEMISPACE,
+        COPYING,
         4,
         "new r0 0 2045;pin r0;new r1 0 2045;new r2 0 2045;pin r2;new r3 0 2045;gc;pin r1;gc;gc;\
         new r4 0 1;write r2 0 3;drop r1;drop r3;unpin r0;unpin r2;gc;new r4 0 1;read r2 0",
@@ -196,7 +215,7 @@ const SESSIONS: [(&[&str], u32, &str, &str); 33] = [
     ),
     // The fifth finds each block owned, and is served at the stop.
     (
-        NOGC,
+        ALL,
         4,
         "new r0 0 1|new r0 0 1|new r0 0 1|new r0 0 1|new r0 0 1",
         "new 1.1|new 2.1|new 3.1|new 4.1|new 5.1",
@@ -225,7 +244,7 @@ const SESSIONS: [(&[&str], u32, &str, &str); 33] = [
     ),
     // Fifteen meet twice. The sixteenth has no command, and holds nobody up.
     (
-        IMMIX,
+        ALL,
         16,
         "2*meet|2*meet|2*meet|2*meet|2*meet|2*meet|2*meet|2*meet|2*meet|2*meet|2*meet|2*meet\
         |2*meet|2*meet|2*meet|",

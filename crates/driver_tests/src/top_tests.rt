@@ -66,6 +66,7 @@ fn random_commands(rt: HostRuntime) -> Result<(), Fail> {
         "--plan nogc --heap 64 a",
         "--plan semispace --heap 64 a",
         "--plan marksweep --heap 64 a",
+        "--plan gencopy --heap 64 a",
         "--plan immix --heap 64 a",
     ] {
         let ran = run_line(&rt, alloc, line, text.to_vec(alloc)?)?;

@@ -45,6 +45,7 @@ fn reads_command_lines(rt: HostRuntime) -> Result<(), Fail> {
         ("--plan semispace --heap 4 a", 4),
         ("--heap=6 --plan marksweep a", 6),
         ("--heap=5 --workers=1 --plan=semispace a", 5),
+        ("--plan gencopy --heap 4 a", 4),
         ("--plan immix --heap 4 a", 4),
         ("--heap=7 --plan=immix a", 7),
     ] {
@@ -59,12 +60,14 @@ const IMPLEMENTED: &str = "--plan nogc --heap 4 a b\n\
     --plan nogc --heap 4 a a\n\
     --plan semispace --heap 4 a b\n\
     --plan marksweep --heap 4 a b\n\
+    --plan gencopy --heap 4 a b\n\
     --plan immix --heap 4 a b\n\
+    --plan stickyimmix --heap 4 a b\n\
     --plan nogc --heap 4 a b c d e f g h i j k l m n o p";
 
-const NOT_IMPLEMENTED: &str = "--plan gencopy --heap 4 a\n\
-    --plan stickyimmix --heap 4 a\n\
-    --heap=4 --plan=gencopy a\n\
+const NOT_IMPLEMENTED: &str = "--plan stickyimmix --heap 4 --workers 2 a\n\
+    --heap=4 --plan=stickyimmix --map a\n\
+    --plan gencopy --heap 4 --workers 2 a\n\
     --plan nogc --heap 4 --workers 2 a\n\
     --plan nogc --heap 4 --workers 16 a\n\
     --plan semispace --heap 4 --workers 2 a\n\

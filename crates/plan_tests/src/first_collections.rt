@@ -318,18 +318,18 @@ fn nurseries(rt: &impl Abort, words: &Vec<u64>, layout: &Layout) -> u32
     count
 }
 
-// Of 2,000 first collections, four of a row, at least 500 are nursery collections. At least 500 are
-// full ones, since the first of each row is.
+// Of the 8,000 first collections of 2,000 rows, four of each, at least 2,000 are nursery
+// collections. At least 2,000 are full ones, since the first of each row is.
 #[test]
 fn first_collections_of_random_rows(rt: HostRuntime) -> Result<(), Fail> {
     let mut random = Random(88_172_645_463_325_252);
     let mut count = 0u32;
-    for _row in 0..500 {
+    for _row in 0..2000 {
         let layout = Layout::new(random.below(5).wrapping_add(4))?;
         let words = random_row(rt.alloc(), &layout, &mut random)?;
         assert!(rt; is_readable(&words, &layout));
         count = count.wrapping_add(nurseries(&rt, &words, &layout));
     }
-    assert!(rt; 500 <= count, "{count}");
+    assert!(rt; 2_000 <= count, "{count}");
     Ok(())
 }

@@ -2,6 +2,8 @@
 
 use ideal_heap::Command;
 use std::alloc::{AllocError, Global};
+use std::test::Fail;
+use trace_text::read_trace;
 
 pub(crate) fn create(d: u32, refs: u32, nums: u32) -> Command {
     Command::New { d, refs, nums }
@@ -98,4 +100,33 @@ pub(crate) fn commands_of(alloc: Global, letters: &[u8]) -> Result<Vec<Command>,
         })?;
     }
     Ok(commands)
+}
+
+// Appends the lines that semicolons separate, no line if there is no text.
+fn push_lines(text: &mut Vec<u8>, lines: &str) -> Result<(), AllocError> {
+    if lines.is_empty() {
+        return Ok(());
+    }
+    for line in lines.split(';') {
+        text.extend_from_slice(line.as_bytes())?;
+        text.push(b'\n')?;
+    }
+    Ok(())
+}
+
+/// The commands of a trace, with semicolons between them: `first`, so often `again`, and `last`.
+pub(crate) fn commands_in(
+    alloc: Global,
+    first: &str,
+    count: u32,
+    again: &str,
+    last: &str,
+) -> Result<Vec<Command>, Fail> {
+    let mut text = Vec::from_slice(alloc, b"mmtrace 1\n")?;
+    push_lines(&mut text, first)?;
+    for _ in 0..count {
+        push_lines(&mut text, again)?;
+    }
+    push_lines(&mut text, last)?;
+    Ok(read_trace(alloc, &text)?)
 }

@@ -9,6 +9,10 @@ mod fragments;
 #[cfg(test)]
 mod graph_tests;
 #[cfg(test)]
+mod nursery_tests;
+#[cfg(test)]
 mod reply_tests;
+#[cfg(test)]
+mod stopped_tests;
 #[cfg(test)]
 mod whole_sessions;

@@ -5,12 +5,12 @@ ghost use Rattle.managed_heap.specs.Stopped.{IsManaged};
 ghost use Rattle.mm_runtime.specs.Managers.{ClosesSome, IsRunnableTrace};
 
 use heap_graph::{Place, graph};
-use heap_layout::Layout;
+use heap_layout::{Kind, Layout};
 use ideal_heap::{Command, Reply, valid};
 use mm_runtime::{Manager, Turn, managed_plans};
-use object_model::{Heap, are_roots};
+use object_model::{Heap, are_roots, size_words};
 use plan_api::Plan;
-use plans::{Immix, MarkSweep, NoGc, SemiSpace};
+use plans::{GenCopy, Immix, MarkSweep, NoGc, SemiSpace, StickyImmix};
 use pools::PlainPool;
 use std::alloc::{AllocError, Global};
 use std::process::Abort;
@@ -24,17 +24,23 @@ pub(crate) enum Under {
     NoGc,
     MarkSweep,
     SemiSpace,
+    GenCopy,
     Immix,
+    StickyImmix,
 }
 
-/// What a session left: the replies of each mutator, the roots, the objects that they reach, and
-/// the numbers of nursery and full collections.
+/// What a session left: the replies of each mutator, the roots, the objects that they reach, the
+/// kinds of the blocks, the numbers of held objects and of their words, those of nursery and full
+/// collections, and that of stops at which nursery collections alone were made.
 #[derive(Drop)]
 pub(crate) struct End {
     pub(crate) replies: Vec<Vec<Reply>>,
     pub(crate) roots: Vec<u32>,
     pub(crate) places: Vec<Place>,
+    pub(crate) kinds: Vec<Kind>,
+    pub(crate) held: (u64, u64),
     pub(crate) collections: (u64, u64),
+    pub(crate) nursery_stops: u64,
 }
 
 fn is_runnable(trace: &[Command]) -> bool
@@ -62,11 +68,33 @@ fn graph_from(
     graph(alloc, heap, roots)
 }
 
+// The kind of each block.
+fn kinds_of(alloc: Global, heap: &Heap) -> Result<Vec<Kind>, AllocError> {
+    let mut kinds = Vec::new(alloc);
+    for block in 0..heap.layout().blocks() {
+        kinds.push(heap.block(block).kind)?;
+    }
+    Ok(kinds)
+}
+
+// The numbers of held objects and of their words, by a look at each address.
+fn held_in(heap: &Heap) -> (u64, u64) {
+    let (mut objects, mut words) = (0u64, 0u64);
+    for address in heap.layout().heap_base()..heap.layout().words() {
+        if heap.held(address) {
+            objects = objects.wrapping_add(1);
+            words = words.wrapping_add(u64::from(size_words(&heap.shape_at(address))));
+        }
+    }
+    (objects, words)
+}
+
 // What a session leaves, with the objects that `from` reaches, or all roots if it is empty.
 fn end_of<P: Plan>(
     rt: &impl Abort,
     alloc: Global,
     manager: Manager<P>,
+    nursery_stops: u64,
     from: &[u32],
 ) -> Result<End, AllocError>
     requires { ClosesSome P.rules manager }
@@ -82,12 +110,14 @@ fn end_of<P: Plan>(
         from
     };
     let places = graph_from(rt, alloc, manager.heap(), from)?;
-    let collections = manager.collections();
     Ok(End {
         replies,
         roots,
         places,
-        collections,
+        kinds: kinds_of(alloc, manager.heap())?,
+        held: held_in(manager.heap()),
+        collections: manager.collections(),
+        nursery_stops,
     })
 }
 
@@ -103,11 +133,17 @@ fn run<P: Plan, R: Abort + Threads + Sync>(
     assert!(rt; 1 <= traces.len() && traces.len() <= 16);
     check_runnable(rt, &traces);
     let mut manager = Manager::<P>::begin(alloc, Layout::new(blocks)?, traces, 1)?;
+    let mut nursery_stops = 0u64;
     'epochs: loop {
+        let (nursery, full) = manager.collections();
         let (next, turn) = manager.advance(rt, &PlainPool, &OpenGate)?;
         manager = next;
+        let (more, same) = manager.collections();
+        if more > nursery && same == full {
+            nursery_stops = nursery_stops.wrapping_add(1);
+        }
         if turn == Turn::Ended {
-            return Ok(end_of(rt, alloc, manager, from)?);
+            return Ok(end_of(rt, alloc, manager, nursery_stops, from)?);
         }
     }
 }
@@ -131,6 +167,8 @@ pub(crate) fn session<R: Abort + Threads + Sync>(
         Under::NoGc => run::<NoGc, R>(rt, alloc, blocks, copies, from),
         Under::MarkSweep => run::<MarkSweep, R>(rt, alloc, blocks, copies, from),
         Under::SemiSpace => run::<SemiSpace, R>(rt, alloc, blocks, copies, from),
+        Under::GenCopy => run::<GenCopy, R>(rt, alloc, blocks, copies, from),
         Under::Immix => run::<Immix, R>(rt, alloc, blocks, copies, from),
+        Under::StickyImmix => run::<StickyImmix, R>(rt, alloc, blocks, copies, from),
     }
 }

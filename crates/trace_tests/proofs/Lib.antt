@@ -1,3 +1,4 @@
+mod LargeObjects
 mod TracersGoOn
 mod TraceStarts
 mod NextBlocks

@@ -3,160 +3,17 @@
 use crate::graphs::{list, random_graph};
 use crate::heaps::{Built, build, build_under, full_run, with_roots};
 use crate::tracing::trace;
-use collector::{Note, collect};
-use heap_graph::{Place, graph};
+use crate::views::{Pass, View, check_graph, collect_counted, moved};
+use collector::Note;
+use heap_graph::Place;
 use ideal_heap::Command;
 use object_model::Collect;
 use plan_api::Plan;
 use plans::{MarkSweep, NoGc, SemiSpace};
-use pools::PlainPool;
 use std::alloc::{AllocError, Global};
 use std::process::Abort;
-use std::sync::atomic::{AtomicU64, Ordering};
 use std::test::Fail;
 use std::thread::Threads;
-use work_packets::{Gate, Point};
-
-// A gate that counts how often the first worker passes before and after an item.
-#[derive(Drop)]
-struct CountingGate {
-    claim: AtomicU64,
-    claimed: AtomicU64,
-}
-
-impl Gate for CountingGate {
-    fn pass(&self, who: u32, point: Point) {
-        if who == 17 && point == Point::Claim {
-            self.claim.fetch_add(1, Ordering::SeqCst);
-        }
-        if who == 17 && point == Point::Claimed {
-            self.claimed.fetch_add(1, Ordering::SeqCst);
-        }
-    }
-}
-
-// The words of a heap, its roots, and the objects that these and the globals reach.
-#[derive(Drop)]
-struct View {
-    words: Vec<u64>,
-    blocks: usize,
-    number: u64,
-    base: u64,
-    roots: Vec<u32>,
-    places: Vec<Place>,
-}
-
-// A collection: what it began with, what it left, its counts, and how often the gate was passed.
-#[derive(Drop)]
-struct Pass {
-    old: View,
-    new: View,
-    note: Note,
-    claim: u64,
-    claimed: u64,
-}
-
-fn word(words: &[u64], at: usize) -> u64 {
-    words.get(at).copied().unwrap_or(0)
-}
-
-impl View {
-    fn of(alloc: Global, built: &Built) -> Result<View, AllocError> {
-        let heap = &built.heap;
-        Ok(View {
-            words: heap.words().as_slice().to_vec(alloc)?,
-            blocks: heap.layout().blocks() as usize,
-            number: heap.number(),
-            base: heap.base(),
-            roots: built.registers.as_slice().to_vec(alloc)?,
-            places: graph(alloc, heap, &built.registers)?,
-        })
-    }
-
-    // Bit n of the zone of bits that begins `zone` words a block after the block words.
-    fn bit(&self, zone: usize, at: u64) -> bool {
-        let n = (at as usize).wrapping_sub(self.blocks.wrapping_mul(197).wrapping_add(18));
-        let first = self.blocks.wrapping_mul(zone).wrapping_add(18);
-        word(&self.words, first.wrapping_add(n / 64)) >> (n % 64) & 1 == 1
-    }
-
-    fn is_pinned(&self, at: u64) -> bool {
-        self.bit(69, at)
-    }
-
-    // The kind of the block of an address, as its number.
-    fn kind(&self, at: u32) -> u64 {
-        let offset = (at as usize).wrapping_sub(self.blocks.wrapping_mul(197).wrapping_add(18));
-        word(&self.words, 18 + offset / 4096) % 16
-    }
-
-    // The first word of the object at an address, which is its name, and 0 for nil.
-    fn name(&self, at: u64) -> u64 {
-        match at {
-            0 => 0,
-            _ => word(&self.words, at as usize),
-        }
-    }
-
-    // The word after, which has the numbers of references and numbers.
-    fn shape(&self, at: u64) -> u64 {
-        word(&self.words, (at as usize).wrapping_add(1))
-    }
-
-    // How many objects begin at these 64 addresses, and their words.
-    fn held_from(&self, first: u64, bits: u64) -> (u32, u64) {
-        let (mut count, mut size) = (0u32, 0u64);
-        for n in 0..64 {
-            if bits >> n & 1 == 1 {
-                let shape = self.shape(first.wrapping_add(n));
-                count = count.wrapping_add(1);
-                size = size.wrapping_add(3 + shape % 65_536 + (shape >> 16) % 65_536);
-            }
-        }
-        (count, size)
-    }
-
-    // How many objects are held, and their words.
-    fn held(&self) -> (u32, u64) {
-        let (mut count, mut size) = (0u32, 0u64);
-        let mut first = (self.blocks as u64).wrapping_mul(197).wrapping_add(18);
-        let zone = self.blocks.wrapping_mul(5).wrapping_add(18);
-        let words = self.words.iter().skip(zone);
-        for bits in words.take(self.blocks.wrapping_mul(64)) {
-            if *bits > 0 {
-                let (more, words) = self.held_from(first, *bits);
-                count = count.wrapping_add(more);
-                size = size.wrapping_add(words);
-            }
-            first = first.wrapping_add(64);
-        }
-        (count, size)
-    }
-
-    fn blocks_of(&self, kind: u64) -> u32 {
-        let mut count = 0u32;
-        for block in self.words.iter().skip(18).take(self.blocks) {
-            if *block % 16 == kind {
-                count = count.wrapping_add(1);
-            }
-        }
-        count
-    }
-
-    // How many blocks have an object that begins in them.
-    fn filled(&self) -> u32 {
-        let zone = self.blocks.wrapping_mul(5).wrapping_add(18);
-        let mut count = 0u32;
-        for block in 0..self.blocks {
-            let first = block.wrapping_mul(64).wrapping_add(zone);
-            let mut words = self.words.iter().skip(first).take(64);
-            if words.any(|bits| *bits > 0) {
-                count = count.wrapping_add(1);
-            }
-        }
-        count
-    }
-}
 
 // A full collection from the first `kept` registers.
 fn collect_once<P: Plan, R: Abort + Threads + Sync>(
@@ -165,90 +22,21 @@ fn collect_once<P: Plan, R: Abort + Threads + Sync>(
     built: Built,
     kept: usize,
 ) -> Result<(Pass, Built), Fail> {
-    let Built {
-        heap,
-        mut registers,
-    } = built;
-    registers.truncate(kept);
-    let built = with_roots(rt, heap, registers);
-    let old = View::of(alloc, &built)?;
-    let gate = CountingGate {
-        claim: AtomicU64::new(0),
-        claimed: AtomicU64::new(0),
-    };
     let Built { heap, registers } = built;
-    assert!(rt; heap.number() < 1_000_000);
-    assert!(rt; registers.len() <= 1_000_000);
-    let made = collect::<P, PlainPool, CountingGate, R>(
-        rt,
-        alloc,
-        heap,
-        registers,
-        Collect::Full,
-        1,
-        &PlainPool,
-        &gate,
-    )?;
+    let mut roots = registers;
+    roots.truncate(kept);
+    let old = View::of(rt, alloc, &heap, roots.as_slice().to_vec(alloc)?)?;
+    let (made, claim, claimed) = collect_counted::<P, R>(rt, alloc, heap, roots, Collect::Full)?;
     let built = with_roots(rt, made.heap, made.roots);
+    let roots = built.registers.as_slice().to_vec(alloc)?;
     let pass = Pass {
         old,
-        new: View::of(alloc, &built)?,
+        new: View::of(rt, alloc, &built.heap, roots)?,
         note: made.note,
-        claim: gate.claim.load(Ordering::SeqCst),
-        claimed: gate.claimed.load(Ordering::SeqCst),
+        claim,
+        claimed,
     };
     Ok((pass, built))
-}
-
-// Whether a root or a field refers to the same object, or is nil, before and after.
-fn is_same(old: &View, new: &View, was: u64, is: u64) -> bool {
-    (was == 0) == (is == 0) && old.name(was) == new.name(is)
-}
-
-// Whether an object has the words that it had, but for addresses.
-fn has_same_words(old: &View, new: &View, was: &Place, is: &Place) -> bool {
-    let refs = old.shape(u64::from(was.at)) % 65_536;
-    for offset in 0..was.size {
-        let before = word(&old.words, was.at.wrapping_add(offset) as usize);
-        let after = word(&new.words, is.at.wrapping_add(offset) as usize);
-        let same = match offset {
-            2 => true,
-            _ if 3 <= offset && u64::from(offset) < 3 + refs => is_same(old, new, before, after),
-            _ => before == after,
-        };
-        if !same {
-            return false;
-        }
-    }
-    true
-}
-
-// Whether an object is as it was, but for addresses.
-fn is_same_object(old: &View, new: &View, was: &Place, is: &Place) -> bool {
-    was.name == is.name
-        && was.size == is.size
-        && old.is_pinned(u64::from(was.at)) == new.is_pinned(u64::from(is.at))
-        && has_same_words(old, new, was, is)
-}
-
-// Whether all roots and globals refer to the same objects.
-fn has_same_roots(old: &View, new: &View) -> bool {
-    let mut roots = old.roots.iter().zip(&new.roots);
-    let globals = old.words.iter().skip(2).zip(new.words.iter().skip(2));
-    old.roots.len() == new.roots.len()
-        && roots.all(|(was, is)| is_same(old, new, u64::from(*was), u64::from(*is)))
-        && globals
-            .take(16)
-            .all(|(was, is)| is_same(old, new, *was, *is))
-}
-
-// The reachable objects and the references of roots and globals are as they were.
-fn check_graph(rt: &impl Abort, pass: &Pass) {
-    let (old, new) = (&pass.old, &pass.new);
-    assert!(rt; old.places.len() == new.places.len() && has_same_roots(old, new));
-    for (was, is) in old.places.iter().zip(&new.places) {
-        assert!(rt; is_same_object(old, new, was, is), "{:?}", was.name);
-    }
 }
 
 // Whether an object that moved is in a Bump block and is not pinned, and one that stayed in a Kept
@@ -259,15 +47,6 @@ fn is_placed(pass: &Pass, was: &Place, is: &Place, room: bool) -> bool {
         false => !pinned && pass.new.kind(is.at) == 1,
         true => (pinned || !room) && pass.new.kind(is.at) == 8,
     }
-}
-
-// How many of the objects moved.
-fn moved(pass: &Pass) -> u32 {
-    let mut moved = 0u32;
-    for (was, is) in pass.old.places.iter().zip(&pass.new.places) {
-        moved = moved.wrapping_add(u32::from(was.at != is.at));
-    }
-    moved
 }
 
 // What is noted of so many objects with so many words, of which some moved.

@@ -95,6 +95,29 @@ pub(crate) fn random_graph(
     Ok(grower.commands)
 }
 
+/// `count` pairs of commands on random objects: one loads a reference of the object in a register
+/// into one of registers 4 to 15, and one stores a register in a reference of such an object. Some
+/// objects lack the reference.
+pub(crate) fn random_stores(
+    alloc: Global,
+    seed: u64,
+    count: u32,
+) -> Result<Vec<Command>, AllocError> {
+    let mut random = Random(seed);
+    let mut commands = Vec::new(alloc);
+    for _ in 0..count {
+        let s = random.below(16);
+        let i = random.below(if s < 4 { 1024 } else { 4 });
+        let d = random.below(12).wrapping_add(4);
+        commands.push(Command::Get { d, s, i })?;
+        let s = random.below(12).wrapping_add(4);
+        let i = random.below(3);
+        let v = random.below(16);
+        commands.push(Command::Put { s, i, v })?;
+    }
+    Ok(commands)
+}
+
 /// Commands that build a list of `count` objects of 4 words, its last one first. Register 2 has the
 /// whole list, and register 0 the first half that was made.
 pub(crate) fn list(alloc: Global, count: u32) -> Result<Vec<Command>, AllocError> {

@@ -4,7 +4,7 @@ ghost use Rattle.std.specs.Prelude.{◌≡◌, ◌<◌, IfOk, IsTrue, length};
 ghost use Rattle.heap_layout.specs.declared.block.Kind.TheVariants as kinds;
 ghost use Rattle.object_model.specs.Heaps.{heap_state};
 ghost use Rattle.object_model.specs.Lawful.{AreRoots};
-ghost use Rattle.plain_world.specs.Calls.{IsOpen, SamePlaces, is_generational};
+ghost use Rattle.plain_world.specs.Calls.{IsOpen};
 ghost use Rattle.trace_core.specs.Runs.{MayRun};
 ghost use Rattle.trace_tests.specs.Blocks.{is_large, HasSmall};
 
@@ -51,7 +51,11 @@ pub(crate) fn build_under<P: Plan>(
 ) -> Result<Built, Fail> {
     let mut world = new_world::<P>(alloc, blocks)?;
     for command in commands {
-        call(rt, &mut world, command);
+        let reply = reply_to(rt, &mut world, 0, command);
+        assert!(rt;
+            reply == Reply::Done || reply == Reply::Yes,
+            "{reply:?} to {command:?}"
+        );
     }
     let (heap, mutators) = world.close();
     let mut registers = Vec::new(alloc);
@@ -72,48 +76,38 @@ pub(crate) fn with_roots(rt: &impl Abort, heap: Heap, registers: Vec<u32>) -> Bu
 
 /// A world of an empty heap of `blocks` blocks, with one mutator.
 pub(crate) fn new_world<P: Plan>(alloc: Global, blocks: u32) -> Result<PlainWorld<P>, Fail>
-    ensures open { IfOk result (λ w. IsOpen P.rules w) }
-    ensures plan { IfOk result (λ w. is_generational w ≡ P.rules.young) }
+    ensures { IfOk result (λ w. IsOpen P.rules w) }
 {
     let heap = Heap::new(alloc, Layout::new(blocks)?)?;
     let mutators = new_mutators(alloc, 1)?;
     Ok(PlainWorld::<P>::begin(alloc, heap, mutators)?)
 }
 
-/// A command of the mutator, which succeeds.
-pub(crate) fn call<P: Plan>(rt: &impl Abort, world: &mut PlainWorld<P>, command: &Command)
+/// The reply to a command of the mutator at place `m`, `Done` to an allocation that has room.
+pub(crate) fn reply_to<P: Plan>(
+    rt: &impl Abort,
+    world: &mut PlainWorld<P>,
+    m: u32,
+    command: &Command,
+) -> Reply
     requires { IsOpen P.rules world.old }
-    ensures open { IsOpen P.rules world.new }
-    ensures places { SamePlaces world.old world.new }
-    ensures plan { is_generational world.new ≡ is_generational world.old }
-{
-    let reply = reply_to(rt, world, command);
-    assert!(rt;
-        reply == Reply::Done || reply == Reply::Yes,
-        "{reply:?} to {command:?}"
-    );
-}
-
-/// The reply to a command of the mutator, `Done` to an allocation that has room.
-fn reply_to<P: Plan>(rt: &impl Abort, world: &mut PlainWorld<P>, command: &Command) -> Reply
-    requires { IsOpen P.rules world.old }
-    ensures open { IsOpen P.rules world.new }
-    ensures places { SamePlaces world.old world.new }
-    ensures plan { is_generational world.new ≡ is_generational world.old }
+    ensures { IsOpen P.rules world.new }
 {
     assert!(rt; valid(command));
-    assert!(rt; world.mutators().len() == 1);
-    assert!(rt; world.births(0) < 1_000_000);
+    assert!(rt; (m as usize) < world.mutators().len());
+    assert!(rt; world.births(m) < 1_000_000);
     match *command {
-        Command::New { d, refs, nums } => match world.new_object(0, d, refs, nums) {
+        Command::New { d, refs, nums } => match world.new_object(m, d, refs, nums) {
             Allocated::Made(_) => Reply::Done,
             Allocated::Stop(_) => Reply::Full,
         },
-        Command::Put { s, i, v } => world.put(0, s, i, v),
-        Command::Write { s, j, n } => world.write(0, s, j, n),
-        Command::Move { d, s } => world.move_register(0, d, s),
-        Command::Share { g, s } => world.share(0, g, s),
-        Command::Pin { s } => world.pin(0, s),
+        Command::Get { d, s, i } => world.get(m, d, s, i),
+        Command::Put { s, i, v } => world.put(m, s, i, v),
+        Command::Write { s, j, n } => world.write(m, s, j, n),
+        Command::Move { d, s } => world.move_register(m, d, s),
+        Command::DropReg { s } => world.drop_register(m, s),
+        Command::Share { g, s } => world.share(m, g, s),
+        Command::Pin { s } => world.pin(m, s),
         _ => Reply::Null,
     }
 }

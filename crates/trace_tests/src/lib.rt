@@ -2,6 +2,8 @@
 #![tactic(auto)]
 
 #[cfg(test)]
+mod ages;
+#[cfg(test)]
 mod collection_tests;
 #[cfg(test)]
 mod evacuation_tests;
@@ -9,8 +11,14 @@ mod evacuation_tests;
 mod graphs;
 #[cfg(test)]
 mod heaps;
+#[cfg(test)]
+mod nursery_tests;
+#[cfg(test)]
+mod old_views;
 mod roots;
 #[cfg(test)]
 mod tests;
 #[cfg(test)]
 mod tracing;
+#[cfg(test)]
+mod views;

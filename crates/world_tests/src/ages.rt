@@ -10,7 +10,7 @@ use crate::recycling::{collect_from, registers_of, set_registers};
 use crate::worlds::{address, reply_to};
 use ideal_heap::{Command, Reply};
 use mutator_calls::Mutator;
-use object_model::Heap;
+use object_model::{Collect, Heap};
 use plain_world::{PlainWorld, may_use};
 use plan_api::Plan;
 use std::alloc::{AllocError, Global};
@@ -152,7 +152,7 @@ pub(crate) fn stop<P: Plan, R: Abort + Threads + Sync>(
         return Ok(heap);
     }
     let roots = registers_of(alloc, mutators)?;
-    let (heap, roots) = collect_from::<P, R>(rt, alloc, heap, roots)?;
+    let (heap, roots) = collect_from::<P, R>(rt, alloc, heap, roots, Collect::Full)?;
     set_registers(mutators, &roots);
     Ok(heap)
 }

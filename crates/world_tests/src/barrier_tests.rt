@@ -134,21 +134,52 @@ fn stores_into_old_objects_log_them(rt: HostRuntime) -> Result<(), Fail> {
     check_stores::<StickyImmix, HostRuntime>(&rt, rt.alloc())
 }
 
-// A random command on registers 0 to 11. Objects have at most three references, and some sizes
-// that end at the edge of a word of bits or of a block.
+// References, numbers and offsets of objects that begin at both ends of words of bits, and at
+// offset 4,093, the last at which one can begin. In the other order they begin at the same offsets.
+const EDGES: [(u32, u32, u32); 10] = [
+    (0, 0, 0),
+    (1, 56, 3),
+    (1, 61, 63),
+    (1, 59, 128),
+    (1, 1853, 191),
+    (1, 1853, 2048),
+    (1, 59, 3905),
+    (1, 61, 3968),
+    (1, 56, 4033),
+    (0, 0, 4093),
+];
+
+// Fills a block with objects at edges, which registers 0 to 9 hold.
+fn place_edges<P: Plan>(rt: &impl Abort, world: &mut PlainWorld<P>, olds: &mut Vec<Old>)
+    requires { IsOpen P.rules world.old }
+    ensures { IsOpen P.rules world.new }
+{
+    for (d, (refs, nums, _)) in EDGES.iter().enumerate() {
+        let new = Command::New {
+            d: d as u32,
+            refs: *refs,
+            nums: *nums,
+        };
+        call_noted(rt, world, olds, &new);
+    }
+}
+
+// A random command. Registers 0 to 9 stay as they are. Objects have at most three references, and
+// some sizes that end at the edge of a word of bits or of a block.
 fn command_of(state: u64) -> Command {
-    let (d, s) = ((state >> 33) % 12, (state >> 41) % 12);
+    let (d, s) = (10 + (state >> 33) % 6, (state >> 41) % 16);
     let (d, s) = (d as u32, s as u32);
     let (i, g) = (((state >> 50) & 3) as u32, ((state >> 54) & 15) as u32);
     let nums = [0u32, 0, 1, 2, 57, 58, 121, 2042][(state >> 46) as usize & 7];
     match (state >> 58) & 31 {
         0..5 => Command::New { d, refs: i, nums },
-        5 => Command::DropReg { s },
+        5 => Command::DropReg { s: d },
         6 | 7 => Command::Load { d, g },
         8 | 9 => Command::Share { g, s },
         10 => Command::Pin { s },
         11..18 => Command::Get { d, s, i },
-        _ => Command::Put { s: d, i, v: s },
+        18..22 => Command::Put { s, i: 0, v: d },
+        _ => Command::Put { s, i, v: d },
     }
 }
 
@@ -179,7 +210,8 @@ struct Setting {
     commands: u32,
 }
 
-// Runs epochs, with a full collection after two of three. Returns how many objects were logged.
+// Runs epochs, with a full collection after two of three. The first begins with objects at edges.
+// Returns how many objects were logged.
 fn run<P: Plan, R: Abort + Threads + Sync>(
     rt: &R,
     alloc: Global,
@@ -190,6 +222,7 @@ fn run<P: Plan, R: Abort + Threads + Sync>(
 {
     let mut world = new_world::<P>(rt, alloc, setting.blocks, 1)?;
     let mut olds = Vec::new(alloc);
+    place_edges(rt, &mut world, &mut olds);
     let (mut x, mut sum) = (seed, 0usize);
     for epoch in 0..setting.epochs {
         x = call_at_random(rt, &mut world, &mut olds, x, setting.commands);
@@ -204,7 +237,7 @@ fn run<P: Plan, R: Abort + Threads + Sync>(
     Ok(sum)
 }
 
-// 2,000 small heaps, and 10,000 commands in a larger one. More than one object a heap is logged.
+// 2,000 small heaps, and 10,000 commands in a larger one. More than ten objects a heap are logged.
 #[test]
 fn random_stores(rt: HostRuntime) -> Result<(), Fail> {
     let alloc = rt.alloc();
@@ -223,47 +256,34 @@ fn random_stores(rt: HostRuntime) -> Result<(), Fail> {
         sum = sum.wrapping_add(run::<GenCopy, HostRuntime>(&rt, alloc, small, seed)?);
         sum = sum.wrapping_add(run::<StickyImmix, HostRuntime>(&rt, alloc, small, seed)?);
     }
-    assert!(&rt; sum > 2_000, "{sum} logged objects");
+    assert!(&rt; sum > 20_000, "{sum} logged objects");
     Ok(())
 }
 
-// Numbers of objects without references that begin at both ends of words of bits, and at offset
-// 4,093, the last at which an object can begin; and these offsets.
-const EDGES: [(u32, u32); 7] = [
-    (60, 0),
-    (62, 63),
-    (60, 128),
-    (62, 191),
-    (2045, 256),
-    (1786, 2304),
-    (0, 4093),
-];
-
-// Objects that fill a block, at edges of words of bits, are all listed.
-#[test]
-fn objects_at_edges_are_listed(rt: HostRuntime) -> Result<(), Fail> {
-    let alloc = rt.alloc();
-    let mut world = new_world::<StickyImmix>(&rt, alloc, 4, 1)?;
+// Objects at edges, which fill a block, are all listed.
+fn check_edges<P: Plan, R: Abort + Threads + Sync>(rt: &R, alloc: Global) -> Result<(), Fail>
+    requires { P.rules.collects ≡ true }
+{
+    let mut world = new_world::<P>(rt, alloc, 4, 1)?;
     let mut olds = Vec::new(alloc);
-    for (d, (nums, _)) in EDGES.iter().enumerate() {
-        let new = Command::New {
-            d: d as u32,
-            refs: 0,
-            nums: *nums,
-        };
-        call_noted(&rt, &mut world, &mut olds, &new);
-    }
+    place_edges(rt, &mut world, &mut olds);
     for logs in [0, 1] {
         let between = Between {
             logs,
             collects: logs == 0,
         };
-        world = noted_epoch::<StickyImmix, HostRuntime>(&rt, alloc, world, &mut olds, between)?.0;
+        world = noted_epoch::<P, R>(rt, alloc, world, &mut olds, between)?.0;
     }
     let found = olds
         .iter()
         .filter(|o| o.logged)
-        .map(|o| o.address.wrapping_sub(806));
-    assert!(&rt; found.eq(EDGES.iter().map(|e| e.1)));
+        .map(|o| o.address.wrapping_sub(806) % 4096);
+    assert!(rt; found.eq(EDGES.iter().map(|e| e.2)));
     Ok(())
+}
+
+#[test]
+fn objects_at_edges_are_listed(rt: HostRuntime) -> Result<(), Fail> {
+    check_edges::<GenCopy, HostRuntime>(&rt, rt.alloc())?;
+    check_edges::<StickyImmix, HostRuntime>(&rt, rt.alloc())
 }

@@ -15,6 +15,8 @@ mod filling;
 #[cfg(test)]
 mod filling_tests;
 #[cfg(test)]
+mod flag_tests;
+#[cfg(test)]
 mod line_model;
 #[cfg(test)]
 mod model;

@@ -4,6 +4,7 @@ ghost use Rattle.std.specs.Prelude.{◌≡◌, ◌<◌, IfOk, true, false};
 ghost use Rattle.object_model.specs.Heaps.{heap_state};
 ghost use Rattle.object_model.specs.Lawful.{AreRoots};
 ghost use Rattle.sessions.specs.Collecting.{Remembers};
+ghost use Rattle.collector.specs.Collected.{IsOffered};
 ghost use Rattle.plain_world.specs.Calls.{IsOpen};
 
 use crate::epochs::check_blocks;
@@ -86,32 +87,29 @@ struct Rooted {
     ghost held: { AreRoots (heap_state heap) roots.items },
 }
 
-fn with_roots(rt: &impl Abort, heap: Heap, roots: Vec<u32>) -> Rooted {
+fn with_roots(rt: &impl Abort, heap: Heap, roots: Vec<u32>) -> Rooted
+    ensures { result.heap ≡ heap }
+{
     assert!(rt; are_roots(&heap, &roots));
     Rooted { heap, roots }
 }
 
-/// A full collection from these roots.
+/// A collection from these roots.
 pub(crate) fn collect_from<P: Plan, R: Abort + Threads + Sync>(
     rt: &R,
     alloc: Global,
     heap: Heap,
     roots: Vec<u32>,
+    kind: Collect,
 ) -> Result<(Heap, Vec<u32>), Fail>
+    requires offered { IsOffered P.rules kind (heap_state heap) }
     ensures { P.rules.collects ≡ true → IfOk result (λ r. Remembers P.rules (heap_state r.0)) }
 {
     let Rooted { heap, roots } = with_roots(rt, heap, roots);
     assert!(rt; heap.number() < 1_000_000);
     assert!(rt; roots.len() <= 1_000_000);
     let made = collect::<P, PlainPool, OpenGate, R>(
-        rt,
-        alloc,
-        heap,
-        roots,
-        Collect::Full,
-        1,
-        &PlainPool,
-        &OpenGate,
+        rt, alloc, heap, roots, kind, 1, &PlainPool, &OpenGate,
     )?;
     Ok((made.heap, made.roots))
 }
@@ -135,7 +133,7 @@ pub(crate) fn recycled_epoch<P: Plan, R: Abort + Threads + Sync>(
     let mut roots = registers_of(alloc, &mutators)?;
     let held = roots.len();
     keep(alloc, model, &mut roots, kept)?;
-    let (heap, roots) = collect_from::<P, R>(rt, alloc, heap, roots)?;
+    let (heap, roots) = collect_from::<P, R>(rt, alloc, heap, roots, Collect::Full)?;
     set_registers(&mut mutators, &roots);
     model.collected(roots.get(held..).unwrap_or_default());
     check_blocks(rt, &heap, model);
