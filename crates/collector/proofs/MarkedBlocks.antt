@@ -22,8 +22,9 @@ use Rattle.block_sweeps.proofs.BlockSweeps.{swept-free, swept-kept, none-counts,
 use Rattle.sessions.specs.Plans.{Rules}
 use Rattle.plan_api.specs.Releasing.{Releases, word_after}
 use Rattle.plan_api.proofs.ReleasedBlocks as blocks
-use Rattle.collector.specs.Released.{UnlogBitsMarkSurvivors, UnlogWordMarksSurvivors, SweepsSome}
+use Rattle.collector.specs.Released.{DiffersInSome, UnlogBitsMarkSurvivors, UnlogWordMarksSurvivors, SweepsSome}
 use Rattle.object_model.proofs.WordReads.{bit-there, kind-shown}
+use Rattle.collector.proofs.BlockReads.{words-equal}
 
 both-ways : (x y : Bool) → (IsTrue x → IsTrue y) → (IsTrue y → IsTrue x) → x ≡ y
 both-ways true true to from = refl
@@ -95,6 +96,22 @@ module _ (base k index : ℕ) (s : HeapState) (ws ws' : List ℕ) (long : length
   pub marked-next : (UnlogWordMarksSurvivors base (with_words s ws) index → SweepsWords base index 1 (with_words s ws) (with_words s ws')) → SweepsWords base (64 * k) (index + 1 - 64 * k) s (with_words s ws')
   marked-next more = swept-next base (64 * k) index s ws ws' from (omega arith) swept
       (more (word-later base (64 * k) index s ws from (omega arith) swept (word-shows base k index s long there may shows from below)))
+
+-- no word changes in a block whose bits do not differ
+module _ (base k : ℕ) (s : HeapState) (long : length s.words ≡ row_words s.blocks) (there : k < s.blocks) (may : IsReleasable s k) (shows : UnlogBitsMarkSurvivors base s k) (same : DiffersInSome s k → ⊥) where
+  each-stays : (i : ℕ) → IsAmong (64 * k) 64 i → SweepsWords base i 1 s s
+  each-stays i among =
+      let at : 64 * k + (i - 64 * k) ≡ i = omega (arith, among.after) in
+      word-stays base i s (may-sweep s k i long there may among.after among.below) (word-shows base k i s long there may shows among.after among.below)
+      (ap (unlog_word s) (sym at) ∙ sym (words-equal s k same (i - 64 * k) (omega (arith, among.after, among.below))) ∙ ap (start_word s) at)
+
+  pub block-stays : SweepsWords base (64 * k) 64 s s
+  block-stays = record {
+    starts = λ i j among. (each-stays i among).starts i j (record { after = omega arith; below = omega arith });
+    pins = λ i j among. (each-stays i among).pins i j (record { after = omega arith; below = omega arith });
+    unlogs = λ i j among. (each-stays i among).unlogs i j (record { after = omega arith; below = omega arith });
+    rest = record { blocks = refl; extent = refl; others = λ i outside. refl; fit = λ fits. fits };
+  }
 
 -- nothing was swept yet
 pub marked-first : (base from : ℕ) (s : HeapState) → SweepsWords base from 0 s s

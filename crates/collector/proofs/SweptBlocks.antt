@@ -1,5 +1,5 @@
 -- The release of a block that was swept by its unlog bits, and in which something lives.
-use Rattle.std.proofs.Common.{◌≡◌, refl, sym, ◌∙◌, ap, subst, ℕ, ◌+◌, ◌*◌, ◌/◌, ◌%◌, ◌<◌, arith, IsTrue, List, length}
+use Rattle.std.proofs.Common.{◌≡◌, refl, sym, ◌∙◌, ap, subst, ℕ, ◌+◌, ◌*◌, ◌/◌, ◌%◌, ◌<◌, arith, Bool, true, false, IsTrue, List, length}
 use Rattle.std.proofs.Math.Logic.{∥∥₁_map}
 use Rattle.std.proofs.lemmas.Bool.{and_from, and_left, cond-false}
 use Rattle.heap_layout.specs.Zones.{StartBits, UnlogBits, row_words, IsAddress}
@@ -104,3 +104,10 @@ module _ (r : Rules) (c : Collect) (l : Layout) (base k : ℕ) (old new : List �
 
           unlogged : (a : ℕ) → InBlock u k a → is_unlogged u a ≡ is_start u a
           unlogged a here = unlog-same a here ∙ is.unlogs a (record { address = here.address; block = here.block }) ∙ sym (start-same a here)
+
+-- a block with the line bits of what lives in it, in which something is left or nothing
+pub either : (r : Rules) (c : Collect) (l : Layout) (base k : ℕ) (old new : List ℕ) → k < l.blocks → (HasKind (state_over old l 0 0) k kinds.LargeHead → ⊥) → (HasKind (state_over old l 0 0) k kinds.LargeTail → ⊥)
+    → LineBitsMarkSurvivors base (state_over old l 0 0) k → (left : Bool) → (left ≡ true → SweepsSome r c base (state_over old l 0 0) (state_over new l 0 0) k)
+    → (left ≡ false → Releases r c base (state_over old l 0 0) (state_over new l 0 0) k) → Releases r c base (state_over old l 0 0) (state_over new l 0 0) k
+either r c l base k old new there head tail lines true some none = kept r c l base k old new there (some refl) head tail lines
+either r c l base k old new there head tail lines false some none = none refl

@@ -118,7 +118,7 @@ fn release_next<P: Plan>(
 {
     let word = block_word_in(words, layout, block);
     if is_shown(known, word.kind) {
-        release_by_bits(words, layout, block, &word, evacuated);
+        let _left = sweep_by_bits(words, layout, block, &word, evacuated);
     } else if keeps_lines(known, word.kind) {
         release_kept_lines::<P>(words, layout, block, &word);
     } else {
@@ -171,7 +171,7 @@ fn release_kept_lines<P: Plan>(words: &mut Vec<u64>, layout: &Layout, block: u32
         (shown words.new.items layout.now) block }
 {
     if !bits_differ(words, layout, block) {
-        release_by_bits(words, layout, block, word, false);
+        let _left = sweep_by_bits(words, layout, block, word, false);
         return;
     }
     if sweep_by_bits(words, layout, block, word, false) {
@@ -179,64 +179,35 @@ fn release_kept_lines<P: Plan>(words: &mut Vec<u64>, layout: &Layout, block: u32
     }
 }
 
-/// Releases a block of small and medium objects whose word is `word`: objects in it without an
-/// unlog bit are held no more. A block that is left with none becomes Free. Another keeps its line
-/// bits and has no owner. One that was evacuated is Kept then, but for an Immix block.
-fn release_by_bits<W: Words>(
-    words: &mut W,
-    layout: &Layout,
-    block: u32,
-    word: &BlockWord,
-    evacuated: bool,
-)
-    requires extent { IsRowOf layout.now (W.words words.old) }
-    requires block { block < layout.now.blocks }
-    requires releasable { IsReleasable (shown (W.words words.old) layout.now) block }
-    requires valid { IsValidWord word.now }
-    requires code { code_of word.now
-        ≡ block_word (shown (W.words words.old) layout.now) block }
-    requires head { word.now.kind ≡ kinds.LargeHead → ⊥ }
-    requires tail { word.now.kind ≡ kinds.LargeTail → ⊥ }
-    requires shows { (base : ℕ)
-        × UnlogBitsMarkSurvivors base (shown (W.words words.old) layout.now) block }
-    ensures { (r : Rules) (c : Collect) (base : ℕ)
-        → UnlogBitsMarkSurvivors base (shown (W.words words.old) layout.now) block
-        → LineBitsMarkSurvivors base (shown (W.words words.old) layout.now) block
-        → FlagShowsEvacuation r c (shown (W.words words.old) layout.now) block evacuated
-        → Releases r c base (shown (W.words words.old) layout.now)
-        (shown (W.words words.new) layout.now) block }
-{
-    let _left = sweep_by_bits(words, layout, block, word, evacuated);
-}
-
-/// Sweeps a block of small and medium objects whose word is `word` by its unlog bits. Answers
-/// whether an object is left. A block without one is released.
-fn sweep_by_bits<W: Words>(
-    words: &mut W,
+/// Sweeps a block of small and medium objects whose word is `word`: objects in it without an unlog
+/// bit are held no more. Answers whether an object is left. A block without one becomes Free.
+/// Another keeps its line bits and has no owner. One that was evacuated is Kept then, but for an
+/// Immix block.
+fn sweep_by_bits(
+    words: &mut Vec<u64>,
     layout: &Layout,
     block: u32,
     word: &BlockWord,
     evacuated: bool,
 ) -> bool
-    requires extent { IsRowOf layout.now (W.words words.old) }
+    requires extent { IsRowOf layout.now words.old.items }
     requires block { block < layout.now.blocks }
-    requires releasable { IsReleasable (shown (W.words words.old) layout.now) block }
+    requires releasable { IsReleasable (shown words.old.items layout.now) block }
     requires valid { IsValidWord word.now }
-    requires code { code_of word.now
-        ≡ block_word (shown (W.words words.old) layout.now) block }
+    requires code { code_of word.now ≡ block_word (shown words.old.items layout.now) block }
     requires head { word.now.kind ≡ kinds.LargeHead → ⊥ }
     requires tail { word.now.kind ≡ kinds.LargeTail → ⊥ }
     requires shows { (base : ℕ)
-        × UnlogBitsMarkSurvivors base (shown (W.words words.old) layout.now) block }
+        × UnlogBitsMarkSurvivors base (shown words.old.items layout.now) block }
     ensures left { result ≡ true → (r : Rules) (c : Collect) (base : ℕ)
-        → UnlogBitsMarkSurvivors base (shown (W.words words.old) layout.now) block
-        → FlagShowsEvacuation r c (shown (W.words words.old) layout.now) block evacuated
-        → SweepsSome r c base (shown (W.words words.old) layout.now)
-        (shown (W.words words.new) layout.now) block }
+        → UnlogBitsMarkSurvivors base (shown words.old.items layout.now) block
+        → FlagShowsEvacuation r c (shown words.old.items layout.now) block evacuated
+        → SweepsSome r c base (shown words.old.items layout.now)
+        (shown words.new.items layout.now) block }
     ensures none { result ≡ false → (r : Rules) (c : Collect) (base : ℕ)
-        → UnlogBitsMarkSurvivors base (shown (W.words words.old) layout.now) block
-        → Releases r c base (shown (W.words words.old) layout.now)
-        (shown (W.words words.new) layout.now) block }
+        → UnlogBitsMarkSurvivors base (shown words.old.items layout.now) block
+        → Releases r c base (shown words.old.items layout.now) (shown words.new.items layout.now)
+        block }
 {
     keep_marked(words, layout, block);
     if !has_object(words, layout, block) {
@@ -295,19 +266,22 @@ fn may_be_kept(kind: Kind) -> bool
     matches!(kind, Kind::Bump | Kind::Young | Kind::Mature | Kind::Kept)
 }
 
-/// Clears the start and pin bits of objects in the block that have no unlog bit.
-fn keep_marked<W: Words>(words: &mut W, layout: &Layout, block: u32)
-    requires extent { IsRowOf layout.now (W.words words.old) }
+/// Clears the start and pin bits of objects in the block that have no unlog bit. Most blocks of old
+/// objects lose none, which takes one look at each word.
+fn keep_marked(words: &mut Vec<u64>, layout: &Layout, block: u32)
+    requires extent { IsRowOf layout.now words.old.items }
     requires block { block < layout.now.blocks }
-    requires releasable { IsReleasable (shown (W.words words.old) layout.now) block }
+    requires releasable { IsReleasable (shown words.old.items layout.now) block }
     requires shows { (base : ℕ)
-        × UnlogBitsMarkSurvivors base (shown (W.words words.old) layout.now) block }
+        × UnlogBitsMarkSurvivors base (shown words.old.items layout.now) block }
     ensures { (base : ℕ)
-        → UnlogBitsMarkSurvivors base (shown (W.words words.old) layout.now) block
+        → UnlogBitsMarkSurvivors base (shown words.old.items layout.now) block
         → SweepsWords base (BLOCK_BIT_WORDS * block) BLOCK_BIT_WORDS
-        (shown (W.words words.old) layout.now)
-        (shown (W.words words.new) layout.now) }
+        (shown words.old.items layout.now) (shown words.new.items layout.now) }
 {
+    if !bits_differ(words, layout, block) {
+        return;
+    }
     for index in BLOCK_BIT_WORDS * block..BLOCK_BIT_WORDS * block + BLOCK_BIT_WORDS {
         keep_marked_in(words, layout, index);
     }
@@ -353,19 +327,18 @@ fn has_object<W: Words>(words: &W, layout: &Layout, block: u32) -> bool
 }
 
 /// Whether the start bits of the block differ from its unlog bits.
-fn bits_differ<W: Words>(words: &W, layout: &Layout, block: u32) -> bool
-    requires extent { IsRowOf layout.now (W.words words.now) }
+fn bits_differ(words: &Vec<u64>, layout: &Layout, block: u32) -> bool
+    requires extent { IsRowOf layout.now words.now.items }
     requires block { block < layout.now.blocks }
-    ensures some { result ≡ true → DiffersInSome (shown (W.words words.now) layout.now) block }
-    ensures none { result ≡ false → DiffersInSome (shown (W.words words.now) layout.now) block
-        → ⊥ }
+    ensures some { result ≡ true → DiffersInSome (shown words.now.items layout.now) block }
+    ensures none { result ≡ false → DiffersInSome (shown words.now.items layout.now) block → ⊥ }
 {
-    let starts = layout.start_base() + BLOCK_BIT_WORDS * block;
-    let unlogs = layout.unlog_base() + BLOCK_BIT_WORDS * block;
-    for index in 0..BLOCK_BIT_WORDS {
-        let held = words.get(starts + index);
-        let living = words.get(unlogs + index);
-        if held != living {
+    let starts = (layout.start_base() + BLOCK_BIT_WORDS * block) as usize;
+    let unlogs = (layout.unlog_base() + BLOCK_BIT_WORDS * block) as usize;
+    let held = &words[starts..starts + BLOCK_BIT_WORDS as usize];
+    let living = &words[unlogs..unlogs + BLOCK_BIT_WORDS as usize];
+    for index in 0..BLOCK_BIT_WORDS as usize {
+        if held[index] != living[index] {
             return true;
         }
     }

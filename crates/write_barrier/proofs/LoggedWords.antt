@@ -1,19 +1,15 @@
 -- The logged objects of a word of start bits, and of a block in which no object begins.
-use Rattle.std.proofs.Common.{◌≡◌, refl, sym, ◌∙◌, ap, subst, ℕ, zero, suc, ◌+◌, ◌*◌, ◌-◌, ◌/◌, ◌%◌, ◌^◌, ◌<◌, ◌≤◌, ◌⊎◌, inl, inr, arith, w64, min, Bool, true, false, ◌&&◌, ◌||◌, true≢false, nat_eq, nat_le, eq-eqb, bit_and, List, [], ◌∷◌, ◌++◌, slice_index, slice_index_or, replicate}
+use Rattle.std.proofs.Common.{◌≡◌, refl, sym, ◌∙◌, ap, subst, ℕ, zero, suc, ◌+◌, ◌*◌, ◌-◌, ◌^◌, ◌<◌, ◌≤◌, ◌⊎◌, inl, inr, arith, w64, min, Bool, true, false, ◌&&◌, ◌||◌, true≢false, nat_eq, nat_le, eq-eqb, bit_and, List, [], ◌∷◌, ◌++◌, slice_index, slice_index_or, replicate}
 use Rattle.std.specs.Prelude.{Some, slice_get, not}
 use Rattle.std.specs.Int.{bit_at, bit_not}
 use Rattle.std.proofs.lemmas.Bool.{cases_Bool, cases_eq, cases_lt, le-leb, leb-true, and_left, and_parts, and_from, or_left}
-use Rattle.std.proofs.lemmas.Nat.{and_le_l}
 use Rattle.std.proofs.lemmas.Option.{get_or_from_slice_get}
 use Rattle.std.proofs.lemmas.List.{length-replicate}
 use Rattle.std.proofs.lemmas.Nat.Bits.{bit_at_and, bit_at_not, bit_at-lt, bit_at-zero}
-use Rattle.heap_layout.specs.Zones.{Zone, StartBits, UnlogBits, heap_of, row_words, first, block_at, block_start, bit_of, address_bit, IsAddress}
-use Rattle.heap_layout.specs.Blocks.{kind_code, code_of, IsValidWord}
-use Rattle.heap_layout.specs.declared.block.BlockWord.{BlockWord}
-use Rattle.heap_layout.proofs.BlockLemmas.{code_parts, kind_code_most, valid_most}
+use Rattle.heap_layout.specs.Zones.{StartBits, UnlogBits, heap_of, row_words, first, block_at, block_start, IsAddress}
 use Rattle.forward_word.specs.CollectorWords.{is_old_word}
 use Rattle.heap_layout.specs.declared.block.Kind.TheVariants as kinds
-use Rattle.heap_layout.proofs.MarkLemmas.{address_bit-at_address, is-address_from_mark}
+use Rattle.heap_layout.proofs.MarkLemmas.{is-address_from_mark}
 use Rattle.side_meta.specs.BitWords.{has_bit, without_bit}
 use Rattle.side_meta.proofs.BitWords.{without-same, without-other, without-fits}
 use Rattle.object_model.specs.Objects.{HeapState, HasKind, IsHeld, word_at, is_start, is_pinned, is_unlogged, size_at}
@@ -159,6 +155,23 @@ pub old-read : (s : HeapState) (words : List ℕ) (base at a : ℕ) → words �
 old-read s words base at a same-words same-base here =
     ap (λ w. is_old_word base (slice_index w (at + 2))) same-words ∙ ap (λ n. is_old_word n (word_at s (at + 2))) same-base
     ∙ ap (λ k. is_old_word s.base (word_at s (k + 2))) here
+
+-- the start bits of word w of block k whose objects lack their unlog bits, as they are read
+pub bits-read : (s : HeapState) (words : List ℕ) (starts unlogs k w : ℕ) → words ≡ s.words → starts ≡ first s.blocks StartBits → unlogs ≡ first s.blocks UnlogBits
+    → k < s.blocks → w < 64 → slice_index words (unlogs + 64 * k + w) < 2 ^ 64 → (j : ℕ) → j < 64
+    → has_bit (bit_and (slice_index words (starts + 64 * k + w)) (bit_not w64 (slice_index words (unlogs + 64 * k + w)))) j ≡ lacks_unlog_bit s (64 * k + w) j
+bits-read s words starts unlogs k w same from other there inside fits =
+    let i : ℕ = 64 * k + w in
+    let first-is : slice_index words (starts + 64 * k + w) ≡ word_at s (first s.blocks StartBits + i) =
+    ap (slice_index words) (let e : starts + 64 * k + w ≡ first s.blocks StartBits + i = omega (arith, from) in e) ∙ ap (λ l. slice_index l (first s.blocks StartBits + i)) same in
+    let second-is : slice_index words (unlogs + 64 * k + w) ≡ word_at s (first s.blocks UnlogBits + i) =
+    ap (slice_index words) (let e : unlogs + 64 * k + w ≡ first s.blocks UnlogBits + i = omega (arith, other) in e) ∙ ap (λ l. slice_index l (first s.blocks UnlogBits + i)) same in
+    without-bit s i (omega (arith, there, inside)) (slice_index words (starts + 64 * k + w)) (slice_index words (unlogs + 64 * k + w)) first-is second-is fits
+
+-- a word in which no object lacks its unlog bit
+pub none-in-word : (s : HeapState) (i bits : ℕ) (logged : List ℕ) → i < 64 * s.blocks → ((j : ℕ) → j < 64 → has_bit bits j ≡ lacks_unlog_bit s i j) → bits ≡ 0
+    → logged ≡ logged_below s (heap_of s.blocks + 64 * i) → logged ≡ logged_below s (heap_of s.blocks + 64 * i + 64)
+none-in-word s i bits logged there lack none list = word-ends s i bits logged there (word-begins s i bits logged (omega (arith, none)) lack list) none
 
 -- a block without logged objects
 none-in-block : (s : HeapState) (k : ℕ) → ((a : ℕ) → block_at s.blocks a ≡ k → is_logged s a ≡ false)

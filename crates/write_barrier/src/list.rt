@@ -87,25 +87,37 @@ fn add_block(heap: &Heap, block: u32, logged: &mut Vec<u32>) -> Result<(), Alloc
     if matches!(heap.block(block).kind, Kind::Free | Kind::LargeTail) {
         return Ok(());
     }
+    let words = heap.words().as_slice();
+    let from = BLOCK_BIT_WORDS * block;
+    let starts = (heap.layout().start_base() + from) as usize;
+    let unlogs = (heap.layout().unlog_base() + from) as usize;
     for word in 0..BLOCK_BIT_WORDS {
-        add_word(heap, BLOCK_BIT_WORDS * block + word, logged)?;
+        let bits = words[starts + word as usize] & !words[unlogs + word as usize];
+        if bits != 0 {
+            add_word(heap, from + word, bits, logged)?;
+        }
     }
     Ok(())
 }
 
-/// Adds the logged objects of the 64 addresses whose bits are in word `index` of start bits.
-fn add_word(heap: &Heap, index: u32, logged: &mut Vec<u32>) -> Result<(), AllocError>
+/// Adds the logged objects of the 64 addresses whose bits are in word `index` of start bits, of
+/// which `bits` are those without unlog bits. Apart from the loop over words, which is then short.
+#[inline(never)]
+fn add_word(heap: &Heap, index: u32, bits: u64, logged: &mut Vec<u32>) -> Result<(), AllocError>
     requires index { index < BLOCK_BIT_WORDS * (heap_state heap.now).blocks }
+    requires bits { (j : ℕ) → j < BITS_PER_WORD
+        → has_bit bits j ≡ lacks_unlog_bit (heap_state heap.now) index j }
     requires before { logged.old.items ≡ logged_below (heap_state heap.now)
         (heap_of (heap_state heap.now).blocks + BITS_PER_WORD * index) }
     ensures { OnOk result (logged.new.items ≡ logged_below (heap_state heap.now)
         (heap_of (heap_state heap.now).blocks + BITS_PER_WORD * index + BITS_PER_WORD)) }
 {
     let first = heap.layout().heap_base() + BITS_PER_WORD * index;
-    let mut rest = starts_without_unlog_bit(heap.words(), heap.layout(), index);
+    let base = heap.base();
+    let mut rest = bits;
     while rest != 0 {
         let bit = rest.trailing_zeros();
-        if is_old(heap.words(), heap.base(), first + bit) {
+        if is_old(heap.words(), base, first + bit) {
             logged.push(first + bit)?;
         }
         rest = without(rest, bit);

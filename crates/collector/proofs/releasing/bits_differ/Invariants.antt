@@ -4,5 +4,5 @@ use Rattle.block_sweeps.specs.WordSweeps.{start_word, unlog_word}
 use Rattle.collector.proofs.releasing.bits_differ.Given as goal
 
 abbrev pub invariant-loop-index : goal.invariant-loop-index
-invariant-loop-index g l = let s = state_over (g.W.Words.words l.words) l.layout 0 0 in
+invariant-loop-index l = let s = state_over l.words.items l.layout 0 0 in
     (i : ℕ) → i < l.index → start_word s (64 * l.block + i) ≡ unlog_word s (64 * l.block + i)

@@ -12,7 +12,7 @@ use Rattle.sessions.specs.Plans.{Rules}
 use Rattle.collector.specs.Released.{FlagShowsEvacuation}
 use Rattle.collector.proofs.BlockReads.{all-unlogged}
 use Rattle.collector.proofs.KeptBlocks.{immix-not-kept}
-use Rattle.collector.proofs.SweptBlocks.{readable, apart, relisted}
+use Rattle.collector.proofs.SweptBlocks.{readable, apart, relisted, either}
 use Rattle.collector.proofs.releasing.release_kept_lines.Goals as goal
 
 module _ (l : Layout) (k : ℕ) (old : List ℕ) (w : BlockWord) (there : k < l.blocks) (valid : IsValidWord w) (code : code_of w ≡ block_word (state_over old l 0 0) k) (is : w.kind ≡ kinds.Immix) where
@@ -49,9 +49,10 @@ relist_block-requires-clause-apart g c =
 pub returns-then-not-bits_differ : goal.returns-then-not-bits_differ
 returns-then-not-bits_differ g c = λ collect base shows lines.
     let l = c.args.layout.now in let k = c.args.block in let old = c.args.words.now.items in let w = c.args.word.now in let b = c.requires.block in let r = g.P.Plan.rules in
-    c.release_by_bits.ensures r collect base shows
+    let flag = any-flag l k old w b c.requires.valid c.requires.code c.requires.immix r collect false in
+    either r collect l base k old c.sweep_by_bits-left.new.words.items b (no-head l k old w b c.requires.valid c.requires.code c.requires.immix) (no-tail l k old w b c.requires.valid c.requires.code c.requires.immix)
     (lines (λ a here held. (shows a here held).1 (all-unlogged (state_over old l 0 0) k b (c.bits_differ.ensures.none c.if-not-bits_differ.true) a here held)))
-    (any-flag l k old w b c.requires.valid c.requires.code c.requires.immix r collect false)
+    c.sweep_by_bits-left.result (λ left. c.sweep_by_bits-left.ensures.left left r collect base shows flag) (λ none. c.sweep_by_bits-left.ensures.none none r collect base shows)
 
 pub returns-then-sweep_by_bits : goal.returns-then-sweep_by_bits
 returns-then-sweep_by_bits g c = λ collect base shows lines.

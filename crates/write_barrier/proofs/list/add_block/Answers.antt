@@ -1,11 +1,13 @@
-use Rattle.std.proofs.Common.{sym, subst, ◌∙◌, inl, inr, true≢false, ◌⊎◌}
+use Rattle.std.proofs.Common.{◌≡◌, ℕ, ◌+◌, ◌*◌, ◌<◌, ap, arith, sym, subst, ◌∙◌, inl, inr, true≢false, ◌⊎◌}
+use Rattle.heap_layout.specs.Zones.{first, heap_of, StartBits, UnlogBits}
 use Rattle.heap_layout.specs.declared.block.Kind.TheVariants as kinds
 use Rattle.object_model.specs.Heaps.{heap_state}
 use Rattle.object_model.specs.Objects.{HasKind}
 use Rattle.object_model.proofs.WordReads.{has-shown}
-use Rattle.write_barrier.proofs.LoggedWords.{none-here}
+use Rattle.write_barrier.specs.Listed.{logged_below}
+use Rattle.write_barrier.proofs.LoggedWords.{none-here, none-in-word, bits-read}
 use Rattle.write_barrier.proofs.list.add_block.Goals as goal
-use Rattle.write_barrier.proofs.list.add_block.Goals.{in-Free, in_default}
+use Rattle.write_barrier.proofs.list.add_block.Goals.{in-Free, in_default, then-bits-ne0+in_ok-add_word, else-bits-ne0}
 
 pub returns-then-matches : goal.returns-then-matches
 returns-then-matches c =
@@ -19,3 +21,24 @@ returns-then-matches c =
       | in_default w ↦ absurd (true≢false (sym c.if-matches.true ∙ w.matches-is))
     ] in
     c.requires.before ∙ sym (none-here s c.args.heap.now.lawful c.args.block c.requires.block none)
+
+pub add_word-requires-clause-bits : goal.add_word-requires-clause-bits
+add_word-requires-clause-bits c =
+    bits-read (heap_state c.args.heap.now) c.as_slice-words.result.now c.start_base.result c.unlog_base.result c.args.block c.loop-word.word
+    (c.as_slice-words.ensures.value ∙ c.words.ensures) (c.start_base.ensures ∙ ap (λ b. first b StartBits) c.layout.ensures)
+    (c.unlog_base.ensures ∙ ap (λ b. first b UnlogBits) c.layout-2.ensures) c.requires.block (omega (arith, c.loop-word-test.true)) (omega (arith, c.type_inv.words (c.unlog_base.result + 64 * c.args.block + c.loop-word.word)))
+
+pub loop-word-preserved : goal.loop-word-preserved
+loop-word-preserved c =
+    let s = heap_state c.args.heap.now in
+    let i : ℕ = 64 * c.args.block + c.loop-word.word in
+    let end : heap_of s.blocks + 64 * i + 64 ≡ heap_of s.blocks + 64 * (64 * c.args.block + (c.loop-word.word + 1)) = omega arith in
+    let there : i < 64 * s.blocks = omega (arith, c.requires.block, c.loop-word-test.true) in
+    elim c.if-bits-ne0.branch as (λ _. c.if-bits-ne0.logged.items ≡ logged_below s (heap_of s.blocks + 64 * (64 * c.args.block + (c.loop-word.word + 1)))) [
+      | then-bits-ne0+in_ok-add_word w ↦ ap (λ v. v.items) w.logged-is ∙ w.in_ok-add_word.ensures ∙ ap (logged_below s) end
+      | else-bits-ne0 w ↦ ap (λ v. v.items) w.logged-is
+          ∙ none-in-word s i _ c.loop-word.logged.items there (bits-read s c.as_slice-words.result.now c.start_base.result c.unlog_base.result c.args.block c.loop-word.word
+          (c.as_slice-words.ensures.value ∙ c.words.ensures) (c.start_base.ensures ∙ ap (λ b. first b StartBits) c.layout.ensures)
+          (c.unlog_base.ensures ∙ ap (λ b. first b UnlogBits) c.layout-2.ensures) c.requires.block (omega (arith, c.loop-word-test.true)) (omega (arith, c.type_inv.words (c.unlog_base.result + 64 * c.args.block + c.loop-word.word))))
+          w.if-bits-ne0.false c.loop-word.invariant ∙ ap (logged_below s) end
+    ]

@@ -3,22 +3,16 @@ use Rattle.std.specs.Int.{trailing_zeros}
 use Rattle.std.proofs.lemmas.Nat.Bits.{bit_at-trailing_zeros}
 use Rattle.heap_layout.specs.Zones.{heap_of}
 use Rattle.object_model.specs.Heaps.{heap_state}
-use Rattle.object_model.specs.Objects.{IsHeld, state_over}
+use Rattle.object_model.specs.Objects.{IsHeld}
 use Rattle.object_model.proofs.ObjectReads.{in_words}
-use Rattle.write_barrier.specs.Listed.{address_of, lacks_unlog_bit}
+use Rattle.write_barrier.specs.Listed.{address_of}
 use Rattle.write_barrier.proofs.LoggedWords.{WordLeft, word-begins, word-ends, next-held, next-old, next-young, old-read}
 use Rattle.object_model.proofs.WordReads.{without-less}
 use Rattle.write_barrier.proofs.list.add_word.Goals as goal
 use Rattle.write_barrier.proofs.list.add_word.Goals.{then-is_old+in_ok-push, else-is_old}
 
 pub loop-rest-init : goal.loop-rest-init
-loop-rest-init c =
-    let s = heap_state c.args.heap.now in
-    let words = c.words.result.now.items in
-    let l = c.layout-2.result.now in
-    let same : state_over words l s.number s.base ≡ s = ap (λ w. record s { words = w; blocks = l.blocks }) c.words.ensures ∙ ap (λ b. record s { blocks = b }) c.layout-2.ensures in
-    word-begins s c.args.index c.starts_without_unlog_bit-rest.result c.args.logged.now.items c.starts_without_unlog_bit-rest.ensures.fits
-    (λ j small. c.starts_without_unlog_bit-rest.ensures.bits s.number s.base j small ∙ ap (λ x. lacks_unlog_bit x c.args.index j) same) c.requires.before
+loop-rest-init c = word-begins (heap_state c.args.heap.now) c.args.index c.args.bits c.args.logged.now.items (omega arith) c.requires.bits c.requires.before
 
 pub is_old-requires-clause-word : goal.is_old-requires-clause-word
 is_old-requires-clause-word c =
@@ -29,7 +23,7 @@ is_old-requires-clause-word c =
     let held : IsHeld s (address_of s i b) = next-held s i c.loop-rest.rest c.loop-rest.logged.items c.requires.index c.loop-rest.invariant b found.0 found.1 found.2 in
     let there : address_of s i b + 2 < length s.words = in_words s c.args.heap.now.lawful.but_lines.order (address_of s i b) 2 held (omega arith) in
     let base : c.heap_base.result ≡ heap_of s.blocks = c.heap_base.ensures ∙ ap heap_of c.layout.ensures in
-    subst₂ (λ (n : ℕ) (w : List ℕ). n + 64 * i + b + 2 < length w) (sym base) (sym c.words-in-loop-rest.ensures) there
+    subst₂ (λ (n : ℕ) (w : List ℕ). n + 64 * i + b + 2 < length w) (sym base) (sym c.words.ensures) there
 
 pub without-rest-requires : goal.without-rest-requires
 without-rest-requires c = (bit_at-trailing_zeros w64 c.loop-rest.rest (omega (arith, c.loop-rest-test.true)) c.loop-rest.invariant.fits).0
@@ -49,7 +43,7 @@ loop-rest-preserved c =
     let found = bit_at-trailing_zeros w64 rest (omega (arith, c.loop-rest-test.true)) c.loop-rest.invariant.fits in
     let base : c.heap_base.result ≡ heap_of s.blocks = c.heap_base.ensures ∙ ap heap_of c.layout.ensures in
     let at : c.heap_base.result + 64 * i + b ≡ address_of s i b = ap (λ n. n + 64 * i + b) base in
-    let read = c.is_old.ensures c.layout.result.now 0 ∙ old-read s c.words-in-loop-rest.result.now.items c.base.result (c.heap_base.result + 64 * i + b) (address_of s i b) c.words-in-loop-rest.ensures c.base.ensures at in
+    let read = c.is_old.ensures c.layout.result.now 0 ∙ old-read s c.words.result.now.items c.base-base.result (c.heap_base.result + 64 * i + b) (address_of s i b) c.words.ensures c.base-base.ensures at in
     elim c.if-is_old.branch as (λ _. WordLeft s i c.without-rest.result c.if-is_old.logged.items) [
       | then-is_old+in_ok-push w ↦
           subst₂ (WordLeft s i) (sym c.without-rest.ensures) (sym (ap (λ v. v.items) w.logged-is ∙ w.in_ok-push.ensures.items ∙ ap (λ n. old ++ n ∷ []) at))
