@@ -86,6 +86,8 @@ impl BlockNotes {
         ensures notes { IfOk result (λ n. (fill : Kind) → AreNotes fill (heap_state heap.now) n) }
         ensures flags { IfOk result (λ n. (rules : Rules) → NoneIsLogged rules (heap_state heap.now)
             → FlagsCover rules (heap_state heap.now) n.flags.items) }
+        ensures unset { IfOk result (λ n. n.flags.items
+            ≡ replicate (heap_state heap.now).blocks false) }
     {
         BlockNotes::with_flags(alloc, heap, false)
     }
