@@ -1,0 +1,18 @@
+use Rattle.std.proofs.Common.{arith}
+use Rattle.made_trace.proofs.Making.{made-more, made-all, made-begins, made-count}
+use Rattle.made_trace.proofs.makers.made.Goals as goal
+
+pub loop-k-init : goal.loop-k-init
+loop-k-init c = rw (c.in_ok-commands.ensures.items, c.from.ensures) (made-begins c.args.n)
+
+pub loop-k-preserved : goal.loop-k-preserved
+loop-k-preserved c = rw c.in_ok-push.ensures.items (made-more c.loop-k.commands.items c.loop-k.k c.args.n c.loop-k.draws.state c.command.result c.command.new.self.state (grind arith) c.command.ensures.drawn c.command.ensures.valid c.loop-k.invariant)
+
+pub returns-clause-made : goal.returns-clause-made
+returns-clause-made c = made-all c.loop-k.commands.items c.loop-k.k c.args.n c.loop-k.draws.state (grind arith) c.loop-k.invariant
+
+pub returns-clause-valid : goal.returns-clause-valid
+returns-clause-valid c = c.loop-k.invariant.valid
+
+pub returns-clause-count : goal.returns-clause-count
+returns-clause-count c = made-count c.loop-k.commands.items c.args.n (made-all c.loop-k.commands.items c.loop-k.k c.args.n c.loop-k.draws.state (grind arith) c.loop-k.invariant)

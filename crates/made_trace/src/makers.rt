@@ -1,0 +1,47 @@
+//! The made trace, as a list and as it is stored.
+
+ghost use Rattle.std.specs.Prelude.{◌≡◌, All, IfOk, length};
+ghost use Rattle.ideal_heap.specs.Commands.{IsValid};
+ghost use Rattle.made_trace.specs.Made.{made_trace};
+
+use crate::draws::Draws;
+use ideal_heap::Command;
+use std::alloc::{AllocError, Global};
+use stored_commands::{PackedCommand, StoredTrace};
+
+/// The made trace of `n` commands.
+///
+/// Fails if memory runs out.
+pub fn made(alloc: Global, n: u32) -> Result<Vec<Command>, AllocError>
+    ensures made { IfOk result (λ v. v.items ≡ made_trace n) }
+    ensures count { IfOk result (λ v. length v.items ≡ n) }
+    ensures valid { IfOk result (λ v. All IsValid v.items) }
+{
+    let mut draws = Draws {
+        state: u64::from(n),
+    };
+    let mut commands = Vec::with_capacity(alloc, n as usize)?;
+    for k in 0..n {
+        commands.push(draws.command(k))?;
+    }
+    Ok(commands)
+}
+
+/// The made trace of `n` commands, as it is stored: 8 bytes a command.
+///
+/// Fails if memory runs out.
+pub fn made_stored(alloc: Global, n: u32) -> Result<StoredTrace, AllocError>
+    ensures made { IfOk result (λ t. t ≡ made_trace n) }
+    ensures count { IfOk result (λ t. length t ≡ n) }
+    ensures valid { IfOk result (λ t. All IsValid t) }
+{
+    let mut draws = Draws {
+        state: u64::from(n),
+    };
+    let mut trace = StoredTrace::new(alloc);
+    trace.reserve(n as usize)?;
+    for k in 0..n {
+        trace.push(PackedCommand::new(&draws.command(k)))?;
+    }
+    Ok(trace)
+}
