@@ -184,14 +184,9 @@ line_of_words words = option_and_then if_single (split_line words)
 unfoldable pub form_of : List (List ℕ) → Option Job
 form_of words = option_and_then job_in (line_of_words words)
 
--- the work of mutators from files
-abbrev pub has_files : Work → Bool
-has_files (Files files) = true
-has_files (Made n) = false
-
--- the jobs that are implemented: traces from files, with one worker and no map
+-- the jobs that are implemented: those with one worker
 abbrev pub is_supported : Job → Bool
-is_supported job = nat_eq job.workers 1 && not job.map && has_files job.work
+is_supported job = nat_eq job.workers 1
 
 -- the job, if it is implemented
 abbrev pub if_supported : Job → Option Job

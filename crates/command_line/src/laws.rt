@@ -58,8 +58,24 @@ pub fn worked_command_lines()
         ∷ codes "--heap" ∷ codes "4" ∷ []) ≡ None }
     ensures empty_word { form_of (codes "--plan=immix" ∷ codes "--heap=4" ∷ [] ∷ [])
         ≡ None }
-    ensures unsupported { job_of (codes "--heap=4" ∷ codes "--plan=immix" ∷ codes "--map"
+    ensures unsupported { job_of (codes "--heap=4" ∷ codes "--plan=immix" ∷ codes "--workers=2"
         ∷ codes "a" ∷ []) ≡ None }
+    ensures mapped { job_of (codes "--heap=4" ∷ codes "--plan=immix" ∷ codes "--map"
+        ∷ codes "a" ∷ []) ≡ Some (record {
+          plan = Immix;
+          blocks = 4;
+          workers = 1;
+          map = true;
+          work = Files (codes "a" ∷ []);
+        }) }
+    ensures made_runs { job_of (codes "--heap=4" ∷ codes "--plan=immix" ∷ codes "--make=5" ∷ [])
+        ≡ Some (record {
+          plan = Immix;
+          blocks = 4;
+          workers = 1;
+          map = false;
+          work = Made 5;
+        }) }
     ensures stickyimmix { job_of (codes "--heap=4" ∷ codes "--plan=stickyimmix" ∷ codes "a"
         ∷ []) ≡ Some (record {
           plan = StickyImmix;

@@ -45,17 +45,17 @@ pub fn read_form<'a>(alloc: Global, words: &'a [String]) -> Result<Option<Order<
     Ok(order_of(&found, parts.files))
 }
 
-// Whether the order is implemented: files, one worker and no map.
+// Whether the order is implemented: with one worker.
 fn is_supported(order: &Order) -> bool
     ensures { result ≡ can_run (job_of_order order.now) }
 {
-    order.workers == 1 && !order.map && matches!(order.work, Target::Files(_))
+    order.workers == 1
 }
 
 /// What the arguments after the program's name ask for.
 ///
 /// `None` if the arguments do not match the usage, or ask for a feature that is not implemented
-/// yet: several workers, a map or a made trace. The order borrows the names of its files from the
+/// yet: several workers. The order borrows the names of its files from the
 /// arguments.
 ///
 /// Errors: out of memory.

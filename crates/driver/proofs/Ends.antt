@@ -1,13 +1,13 @@
 -- What ends the reading of files: from the fault of one file to the end of a run.
-use Rattle.std.proofs.Common.{◌≡◌, ◌≢◌, ◌∙◌, refl, ap, subst, ℕ, ◌<◌, ◌≤◌, arith, inl, inr, true, List, [], length}
-use Rattle.std.specs.Prelude.{◌⊎◌, Option, None, Some, Ok, Err, Result, slice_get, unwrap_or, String}
+use Rattle.std.proofs.Common.{◌≡◌, ◌≢◌, ◌∙◌, refl, ap, subst, ℕ, ◌<◌, ◌≤◌, arith, inl, inr, List, [], length}
+use Rattle.std.specs.Prelude.{◌⊎◌, Option, None, Some, Err, Result, slice_get, unwrap_or, String}
 use Rattle.std.specs.declared.alloc.Global.{Global}
 use Rattle.ideal_heap.specs.declared.command.Command.{Command}
 use Rattle.trace_text.specs.declared.fault.TraceFault.{TraceFault}
 use Rattle.trace_text.specs.declared.fault.TraceFault.TheVariants as texts
 use Rattle.trace_text.specs.Grammar.{Gives}
 use Rattle.command_line.specs.Orders.{texts as names_of}
-use Rattle.command_line.specs.Words.{Job, has_files}
+use Rattle.command_line.specs.Words.{Job}
 use Rattle.outside.specs.Outside.{Asked, SourceState, SinkState, HasRisen}
 use Rattle.driver.specs.declared.status.Status.{Status}
 use Rattle.driver.specs.declared.status.Status.TheVariants as status
@@ -18,8 +18,8 @@ use Rattle.driver.specs.Statuses.{status_number}
 use Rattle.driver.specs.Printed.{job_files, HasTraces, EndsAtKnown, IsLong, IsNoTrace, HasFault, Unread, IsTooLong, IsBad, unread_line, long_line, fault_line, memory_line, WritesFaultLine}
 use Rattle.driver.specs.Exits.{OpensOnly, Ran, IsReported}
 use Rattle.driver.specs.Reading.{HaltsAt, Halts, IsOneOf, text_fault, status_of, file_name_in, line_of_fault, fault_line_of}
-use Rattle.driver.proofs.JoinedFiles.{asks-none, risen-since, long-off, bad-off, fault-off, long-bad, fault-long, reported-clash, ends-clash}
-use Rattle.driver.proofs.Outcomes.{within-files, to-files}
+use Rattle.driver.proofs.JoinedFiles.{asks-none, risen-since, long-off, bad-off, fault-off, long-bad, fault-long, ends-clash}
+use Rattle.driver.proofs.Outcomes.{within-files, reported-clash-of}
 
 -- the fault of a file whose text was read
 abbrev fault-in-text : FileFault → TraceFault
@@ -148,14 +148,14 @@ module _ (names : List (List ℕ)) (before after : SourceState) where
   bad-status k (file.Bad fault) ends at = inl refl
   bad-status k file.OutOfMemory ends at = inr (inr refl)
 
-pub good-status : (job : Job) (before after : SourceState) → has_files job.work ≡ true → (k : ℕ) (f : FileFault) → HaltsAt (job_files job) before after k f → HasTraces before.content job
+pub good-status : (job : Job) (before after : SourceState) (k : ℕ) (f : FileFault) → HaltsAt (job_files job) before after k f → HasTraces before.content job
     → (HasRisen before.faults after.faults → ⊥) → (status_of f ≡ status.Ok) ⊎ (status_of f ≡ status.OutOfMemory)
-good-status job before after one k file.Unread ends good calm = absurd (calm (risen-since before.faults ends.1.count after.faults ends.1.since ends.1.risen))
-good-status job before after one k file.TooLong ends good calm =
-    absurd (reported-clash before.content (job_files job) good.traces k IsLong long-off ends.0 good.reported (to-files before.content job.work good.traces one good.read))
-good-status job before after one k (file.Bad fault) ends good calm =
-    absurd (reported-clash before.content (job_files job) good.traces k (HasFault fault) (fault-off fault) ends.0 good.reported (to-files before.content job.work good.traces one good.read))
-good-status job before after one k file.OutOfMemory ends good calm = inr refl
+good-status job before after k file.Unread ends good calm = absurd (calm (risen-since before.faults ends.1.count after.faults ends.1.since ends.1.risen))
+good-status job before after k file.TooLong ends good calm =
+    absurd (reported-clash-of before.content job.work good.traces k IsLong long-off ends.0 good.reported good.read)
+good-status job before after k (file.Bad fault) ends good calm =
+    absurd (reported-clash-of before.content job.work good.traces k (HasFault fault) (fault-off fault) ends.0 good.reported good.read)
+good-status job before after k file.OutOfMemory ends good calm = inr refl
 
 -- memory ran out before a name was asked for
 opens-none : (job : Option Job) (asked : Asked) → OpensOnly job asked asked

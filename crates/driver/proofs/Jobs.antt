@@ -1,12 +1,12 @@
 -- What is known of a job that arguments name.
-use Rattle.std.proofs.Common.{◌≡◌, refl, sym, ◌∙◌, ap, subst, ℕ, ◌≤◌, Bool, true, false, ◌&&◌, List, nat_eq}
-use Rattle.std.specs.Prelude.{Option, None, Some, option_and_then, option_map, unwrap_or, nat_le, nat_lt, not, ◌||◌, length, if◌then◌else◌}
+use Rattle.std.proofs.Common.{◌≡◌, refl, sym, ap, subst, ℕ, ◌≤◌, Bool, true, false, ◌&&◌, List}
+use Rattle.std.specs.Prelude.{Option, None, Some, option_and_then, option_map, unwrap_or, nat_le, nat_lt, ◌||◌, length, if◌then◌else◌}
 use Rattle.std.proofs.lemmas.Bool.{true≢false, leb-true}
 use Rattle.std.proofs.lemmas.Option.{none-some}
 use Rattle.trace_text.specs.Grammar.{numeral}
 use Rattle.sessions.specs.Plans.{Plan}
-use Rattle.command_line.specs.Words.{Job, Work, Files, Made, Line, Values, job_of, form_of, line_of_words, job_in, job_with, plan_of, bounded_numeral, if_within, workers_of, work_of, values_in, is_supported, if_supported, has_files}
-use Rattle.driver.specs.Printed.{files_in, job_files}
+use Rattle.command_line.specs.Words.{Job, Work, Files, Made, Line, Values, job_of, form_of, line_of_words, job_in, job_with, plan_of, bounded_numeral, if_within, workers_of, work_of, values_in, is_supported, if_supported}
+use Rattle.driver.specs.Printed.{IsWithinLimits}
 
 both : (a b : Bool) → (a && b) ≡ true → (a ≡ true) × (b ≡ true)
 both true b e = (refl, e)
@@ -59,18 +59,18 @@ pub job-blocks : (words : List (List ℕ)) (job : Job) → form_of words ≡ Som
 unfolding form_of
 job-blocks words job e = line-bounds (line_of_words words) job e
 
-made-none : (b : Bool) (o : Option ℕ) (work : Work) → (if b then None else option_map Made o) ≡ Some work → has_files work ≡ true → ⊥
-made-none true o work e kept = none-some work e
-made-none false None work e kept = none-some work e
-made-none false (Some n) work e kept = true≢false (sym kept ∙ ap (λ x. has_files (unwrap_or x work)) (sym e))
+made-within : (b : Bool) (o : Option ℕ) (work : Work) → ((n : ℕ) → o ≡ Some n → n ≤ 1000000) → (if b then None else option_map Made o) ≡ Some work → IsWithinLimits work
+made-within true o work few e = absurd (none-some work e)
+made-within false None work few e = absurd (none-some work e)
+made-within false (Some n) work few e = subst IsWithinLimits (ap (λ x. unwrap_or x work) e) (few n refl)
 
-files-within : (o : Option (List ℕ)) (has_map : Bool) (files : List (List ℕ)) (work : Work) → work_of o has_map files ≡ Some work → has_files work ≡ true
-    → (1 ≤ length (files_in work)) × (length (files_in work) ≤ 16)
-files-within None has_map files work e kept =
+work-within : (o : Option (List ℕ)) (has_map : Bool) (files : List (List ℕ)) (work : Work) → work_of o has_map files ≡ Some work → IsWithinLimits work
+work-within None has_map files work e =
     let p = picked (nat_le 1 (length files) && nat_le (length files) 16) (Files files) work e in
     let q = both (nat_le 1 (length files)) (nat_le (length files) 16) p.0 in
-    subst (λ (w : Work). (1 ≤ length (files_in w)) × (length (files_in w) ≤ 16)) p.1 (leb-true 1 (length files) q.0, leb-true (length files) 16 q.1)
-files-within (Some word) has_map files work e kept = absurd (made-none (has_map || nat_lt 0 (length files)) (bounded_numeral 1 1000000 word) work e kept)
+    subst IsWithinLimits p.1 (leb-true 1 (length files) q.0, leb-true (length files) 16 q.1)
+work-within (Some word) has_map files work e =
+    made-within (has_map || nat_lt 0 (length files)) (bounded_numeral 1 1000000 word) work (λ n is. (within-bounds 1 1000000 (numeral word) n is).1) e
 
 with-work : (has_map : Bool) (p : Option Plan) (b w : Option ℕ) (k : Option Work) (job : Job) → job_with has_map p b w k ≡ Some job → k ≡ Some job.work
 with-work has_map None b w k job e = absurd (none-some job e)
@@ -81,18 +81,14 @@ with-work has_map (Some plan) (Some blocks) (Some workers) (Some work) job e =
     let first : Job = record { plan = plan; blocks = blocks; workers = workers; map = has_map; work = work } in
     ap (λ o. Some (unwrap_or o first).work) e
 
-line-files : (o : Option Line) (job : Job) → option_and_then job_in o ≡ Some job → has_files job.work ≡ true → (1 ≤ length (job_files job)) × (length (job_files job) ≤ 16)
-line-files None job e kept = absurd (none-some job e)
-line-files (Some line) job e kept =
+line-work : (o : Option Line) (job : Job) → option_and_then job_in o ≡ Some job → IsWithinLimits job.work
+line-work None job e = absurd (none-some job e)
+line-work (Some line) job e =
     let v : Values = values_in line.settings in
-    files-within v.make v.has_map line.files job.work
-    (with-work v.has_map (option_and_then plan_of v.plan) (option_and_then (bounded_numeral 4 1024) v.heap) (workers_of v.workers) (work_of v.make v.has_map line.files) job e) kept
+    work-within v.make v.has_map line.files job.work
+    (with-work v.has_map (option_and_then plan_of v.plan) (option_and_then (bounded_numeral 4 1024) v.heap) (workers_of v.workers) (work_of v.make v.has_map line.files) job e)
 
--- it has 1 to 16 files, if its work is files
-pub job-files : (words : List (List ℕ)) (job : Job) → form_of words ≡ Some job → has_files job.work ≡ true → (1 ≤ length (job_files job)) × (length (job_files job) ≤ 16)
+-- it has 1 to 16 files, or as many commands as a trace may have
+pub job-work : (words : List (List ℕ)) (job : Job) → form_of words ≡ Some job → IsWithinLimits job.work
 unfolding form_of
-job-files words job e kept = line-files (line_of_words words) job e kept
-
--- its work is files
-pub supported-work : (job : Job) → is_supported job ≡ true → has_files job.work ≡ true
-supported-work job supported = (both (nat_eq job.workers 1 && not job.map) (has_files job.work) supported).1
+job-work words job e = line-work (line_of_words words) job e

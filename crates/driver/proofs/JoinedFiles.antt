@@ -103,8 +103,8 @@ get-take (y ∷ ys) (suc n) (suc k) x low is = get-take ys n k x (omega (arith, 
 abbrev pub IsOffTrace : (List ℕ → Type 0) → Type 0
 IsOffTrace P = (bytes : List ℕ) (t : List Command) → P bytes → (length bytes ≤ MAX_FILE_BYTES) × (trace bytes ≡ Ok t) → ⊥
 
-abbrev pub AreApart : (List ℕ → Type 0) → (List ℕ → Type 0) → Type 0
-AreApart P Q = (bytes : List ℕ) → P bytes → Q bytes → ⊥
+abbrev pub AreDisjoint : (List ℕ → Type 0) → (List ℕ → Type 0) → Type 0
+AreDisjoint P Q = (bytes : List ℕ) → P bytes → Q bytes → ⊥
 
 no-error : (r : Result (List Command) TraceFault) (t : List Command) → r ≡ Ok t → IsErr r → ⊥
 no-error r t e err = true≢false (sym (subst (λ (x : Result (List Command) TraceFault). IsErr x) e err))
@@ -121,10 +121,10 @@ bad-off bytes t bad fine = no-error (trace bytes) t fine.1 bad.1
 pub fault-off : (f : TraceFault) → IsOffTrace (HasFault f)
 fault-off f bytes t bad fine = no-error (trace bytes) t fine.1 (fault-is (trace bytes) f bad.1)
 
-pub long-bad : AreApart IsLong IsNoTrace
+pub long-bad : AreDisjoint IsLong IsNoTrace
 long-bad bytes long bad = let most : MAX_FILE_BYTES < length bytes = long in omega (arith, most, bad.0)
 
-pub fault-long : (f : TraceFault) → AreApart (HasFault f) IsLong
+pub fault-long : (f : TraceFault) → AreDisjoint (HasFault f) IsLong
 fault-long f bytes bad long = let most : MAX_FILE_BYTES < length bytes = long in omega (arith, most, bad.0)
 
 module _ (content : Content) (names : List (List ℕ)) where
@@ -150,7 +150,7 @@ module _ (content : Content) (names : List (List ℕ)) where
       off bytes t.0 p (of-reported content file bytes (λ x. (length x ≤ MAX_FILE_BYTES) × (trace x ≡ Ok t.0)) known t.1)
 
   -- reading ends at a single file, with a single cause
-  pub ends-clash : (k : ℕ) (P Q : List ℕ → Type 0) → IsOffTrace P → IsOffTrace Q → AreApart P Q → EndsAtFile content names k P → EndsAtKnown content names Q → ⊥
+  pub ends-clash : (k : ℕ) (P Q : List ℕ → Type 0) → IsOffTrace P → IsOffTrace Q → AreDisjoint P Q → EndsAtFile content names k P → EndsAtKnown content names Q → ⊥
   ends-clash k P Q off-p off-q apart at ends =
       let j = ends.0 in
       let other = ends.1 in

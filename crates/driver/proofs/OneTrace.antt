@@ -1,6 +1,6 @@
 -- The traces of files, and the text of a session of one trace.
-use Rattle.std.proofs.Common.{◌≡◌, refl, sym, ◌∙◌, ap, subst, ℕ, suc, ◌≤◌, arith, inl, false, cond, List, [], ◌∷◌, ◌++◌, map, length, append-nil, eq-eqb}
-use Rattle.std.specs.Prelude.{Option, Result, Ok, Err, Some}
+use Rattle.std.proofs.Common.{◌≡◌, refl, sym, ◌∙◌, ap, subst, ℕ, suc, ◌≤◌, arith, inl, false, cond, List, [], ◌∷◌, ◌++◌, map, length, append-nil, append_assoc, eq-eqb}
+use Rattle.std.specs.Prelude.{Option, Result, Ok, Err, Some, if◌then◌else◌}
 use Rattle.std.specs.List.{AllByRecursion, Any}
 use Rattle.ideal_heap.specs.declared.command.Command.{Command}
 use Rattle.ideal_heap.specs.Ideal.{empty}
@@ -13,8 +13,9 @@ use Rattle.trace_text.specs.Text.{mutator_text, HasFullLine}
 use Rattle.trace_text.proofs.ReplyTexts.{IsRefusal, any_first, any_later, full_in_text}
 use Rattle.sessions.specs.Sessions.{Setting, Moment, IsWhole}
 use Rattle.sessions.proofs.Histories.{replies-alone}
-use Rattle.driver.specs.Printed.{Content, IsTraceIn, AreTraces, AreReplies}
-use Rattle.driver.specs.Texts.{replies_part}
+use Rattle.command_line.specs.Words.{Job, Work, Files}
+use Rattle.driver.specs.Printed.{Content, IsTraceIn, AreTraces, IsTextOf, IsWholeText, setting_of}
+use Rattle.driver.specs.Texts.{replies_part, report_part, map_part}
 
 pub trace-number : (content : Content) (files : List (List ℕ)) (traces : List (List Command)) → AreTraces content files traces → length traces ≡ length files
 trace-number content [] [] are = refl
@@ -62,14 +63,29 @@ only-one traces (e ∷ es) one are =
     let most : e.mutator ≤ length traces = are.0.1 in
     (omega (arith, least, most, one), only-one traces es one are.1)
 
--- the replies of one mutator in whose text no line `full` stands, whatever follows them
+-- of one mutator in whose text no line `full` stands, whatever follows it, no entry is refused
+pub never-full : (t : Setting) (cs : List Command) (last : Moment) (more : List ℕ) → t.traces ≡ cs ∷ [] → IsWhole t last
+    → (HasFullLine (mutator_text 1 (replies_of 1 last.done) ++ more) → ⊥) → AllByRecursion (λ e. is_full e.reply ≡ false) last.done
+never-full t cs last more one whole none =
+    none-full last.done (only-one t.traces last.done (ap length one) whole.order.mutators) (λ a. none (full_in_text 1 (replies_of 1 last.done) more (inl a)))
+
+-- the replies of such a mutator
 pub replies-of-one : (t : Setting) (cs : List Command) (last : Moment) (more : List ℕ) → t.traces ≡ cs ∷ [] → IsWhole t last
     → (HasFullLine (mutator_text 1 (replies_of 1 last.done) ++ more) → ⊥) → replies_of 1 last.done ≡ alone empty 1 cs
-replies-of-one t cs last more one whole none =
-    replies-alone t cs last one whole (none-full last.done (only-one t.traces last.done (ap length one) whole.order.mutators) (λ a. none (full_in_text 1 (replies_of 1 last.done) more (inl a))))
+replies-of-one t cs last more one whole none = replies-alone t cs last one whole (never-full t cs last more one whole none)
 
-pub printed-alone : (t : Setting) (cs : List Command) (text : List ℕ) → t.traces ≡ cs ∷ [] → AreReplies t text → (HasFullLine text → ⊥) → text ≡ mutator_text 1 (alone empty 1 cs)
-printed-alone t cs text one p none =
-    let replies = replies_of 1 p.last.done in
-    let is : text ≡ mutator_text 1 replies ++ [] = p.printed ∙ ap (λ ts. replies_part (length ts) p.last) one in
-    is ∙ append-nil (mutator_text 1 replies) ∙ ap (mutator_text 1) (replies-of-one t cs p.last [] one p.whole (λ a. none (subst HasFullLine (sym is) a)))
+pub printed-alone : (t : Setting) (cs : List Command) (last : Moment) → t.traces ≡ cs ∷ [] → IsWhole t last → (HasFullLine (replies_part 1 last) → ⊥) → replies_part 1 last ≡ mutator_text 1 (alone empty 1 cs)
+printed-alone t cs last one whole none =
+    append-nil (mutator_text 1 (replies_of 1 last.done)) ∙ ap (mutator_text 1) (replies-of-one t cs last [] one whole none)
+
+-- the text of a job of one file begins with the replies of its trace alone
+pub text-of-one : (job : Job) (file text : List ℕ) (cs : List Command) → job.work ≡ Files (file ∷ []) → IsWholeText job (cs ∷ []) text → (HasFullLine text → ⊥)
+    → (rest : List ℕ) × (text ≡ mutator_text 1 (alone empty 1 cs) ++ rest)
+text-of-one job file text cs work w none =
+    let is = subst (λ (k : Work). IsTextOf job k 1 w.last text) work w.text_is in
+    let replies = replies_of 1 w.last.done in
+    let report = report_part job.plan 1 w.last is.live in
+    let map = if job.map then map_part w.last is.live else [] in
+    let text_is : text ≡ mutator_text 1 replies ++ (report ++ map) =
+    is.printed ∙ append_assoc (replies_part 1 w.last) report map ∙ ap (λ x. x ++ (report ++ map)) (append-nil (mutator_text 1 replies)) in
+    (report ++ map, text_is ∙ ap (λ rs. mutator_text 1 rs ++ (report ++ map)) (replies-of-one (setting_of job (cs ∷ [])) cs w.last (report ++ map) refl w.whole (λ a. none (subst HasFullLine (sym text_is) a))))

@@ -1,8 +1,11 @@
 pub mod Texts
-pub mod Made
+pub mod Reports
+pub mod LiveNames
+pub mod MapPlaces
 pub mod Printed
 pub mod Reading
 pub mod Statuses
 pub mod Exits
 pub mod WorkedEnds
+pub mod WorkedReach
 pub mod Prelude

@@ -2,30 +2,40 @@
 pub use Rattle.command_line.specs.Orders.{job_of_order, texts}
 pub use Rattle.command_line.specs.Words.{Files, Job, Made, Work, is_supported, job_of}
 pub use Rattle.driver.specs.Exits.{IsExit, IsReported, Ran, refusal, refusal_line}
-pub use Rattle.driver.specs.Made.{command_at, in_row, made_trace}
-pub use Rattle.driver.specs.Printed.{AreReplies, AreTraces, AsksFirst, AsksPrefix, Content, EndsAtKnown, HasFault, HasTraces, IsBad, IsLong, IsNoTrace, IsPrinted, IsTooLong, IsTraceIn, IsUsage, IsWholeText, Prints, PrintsPrefix, Unread, WritesFaultLine, fault_line, file_line, job_files, line_fault, long_line, memory_line, setting_of, unread_line, usage_line, why_word, write_line}
+pub use Rattle.driver.specs.LiveNames.{AreLiveNames, count_words_named, heap_alone, ideal_live_line, record_size}
+pub use Rattle.driver.specs.Printed.{AreTraces, AreTracesOf, AsksFirst, AsksPrefix, Content, EndsAtKnown, HasFault, HasTraces, IsBad, IsLong, IsNoTrace, IsTooLong, IsTraceIn, IsUsage, IsWholeText, IsWithinLimits, Prints, PrintsPrefix, Unread, WritesFaultLine, fault_line, file_line, job_files, line_fault, long_line, memory_line, setting_of, unread_line, usage_line, why_word, write_line}
+pub use Rattle.driver.specs.MapPlaces.{AreDisjoint, IsMapOf, LiesInBlocks, MapPlace, line_of_place, place_of}
 pub use Rattle.driver.specs.Reading.{AsksName, Halts, IsOneOf, fault_line_of, status_of}
+pub use Rattle.driver.specs.Reports.{place_line, session_lines}
 pub use Rattle.driver.specs.Statuses.{status_number}
-pub use Rattle.driver.specs.Texts.{AreLive, IsSessionText, IsSummary, held_line, kinds_line, map_line, replies_part, report_part, summary_part}
+pub use Rattle.driver.specs.Texts.{AreLive, IsSessionText, IsSummary, counts_part, held_line, kinds_line, live_line, map_line, map_part, replies_part, report_part, summary_part}
 pub use Rattle.driver.specs.WorkedEnds.{worked_end}
+pub use Rattle.driver.specs.WorkedReach.{place_at, worked_ideal, worked_map, worked_names, worked_trace}
 pub use Rattle.driver.specs.declared.status.Status.{Status}
+pub use Rattle.heap_graph.specs.Places.{IsPlaceOfObject, addresses_of}
 pub use Rattle.heap_layout.specs.Blocks.{code_of}
-pub use Rattle.ideal_heap.specs.Ideal.{empty}
+pub use Rattle.heap_layout.specs.Zones.{IsAddress}
+pub use Rattle.ideal_heap.specs.Ideal.{At, IdealHeap, empty, record_of}
 pub use Rattle.ideal_heap.specs.Names.{IsBefore, name}
-pub use Rattle.ideal_heap.specs.Runs.{alone, entry, replies_of}
+pub use Rattle.ideal_heap.specs.Runs.{alone, entry, is_full, replies_of}
 pub use Rattle.ideal_heap.specs.declared.command.Command.{Command}
+pub use Rattle.ideal_heap.specs.declared.reply.Reply.{Reply as AnyReply}
+pub use Rattle.ideal_heap.specs.declared.name.Name.{Name}
+pub use Rattle.made_trace.specs.Counts.{AreCounts}
+pub use Rattle.made_trace.specs.Made.{made_trace}
 pub use Rattle.managed_heap.specs.Stopped.{IsManaged}
 pub use Rattle.mm_runtime.specs.Managers.{Closes, ClosesSome, IsRunnableTrace}
 pub use Rattle.object_model.specs.Counting.{count_words_at}
 pub use Rattle.object_model.specs.Graphs.{IsReachable, MutatorState, roots_of}
-pub use Rattle.object_model.specs.Objects.{HeapState, empty_heap}
+pub use Rattle.object_model.specs.Heaps.{heap_state}
+pub use Rattle.object_model.specs.Objects.{HeapState, empty_heap, name_at, record_at, size_at}
 pub use Rattle.object_model.specs.WorkedHeaps.{build_heap, plain_object, unowned}
 pub use Rattle.outside.specs.Outside.{AppendsPrefix, Asked, HasRisen, SinkState, SourceState}
 pub use Rattle.sessions.specs.Plans.{GenCopy, NoGc, Plan, StickyImmix, rules_of}
-pub use Rattle.sessions.specs.Sessions.{IsWhole, Moment, Setting}
+pub use Rattle.sessions.specs.Sessions.{IsSound, IsWhole, Moment, Setting, ideal_at}
 pub use Rattle.trace_text.specs.Grammar.{trace}
 pub use Rattle.trace_text.specs.Readers.{HasRead}
-pub use Rattle.trace_text.specs.Text.{HasFullLine, mutator_text}
+pub use Rattle.trace_text.specs.Text.{HasFullLine, ended, mutator_text}
 pub use Rattle.trace_text.specs.declared.fault.TraceFault.{TraceFault as AnyFault, TraceFault}
 pub use Rattle.driver.specs.declared.status.Status.TheVariants as status
 pub use Rattle.heap_layout.specs.declared.block.Kind.TheVariants as kinds

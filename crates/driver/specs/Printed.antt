@@ -12,9 +12,11 @@ use Rattle.sessions.specs.Plans.{rules_of}
 use Rattle.sessions.specs.Sessions.{Setting, Moment, IsWhole}
 use Rattle.command_line.specs.Words.{Job, Work, Files, Made}
 use Rattle.outside.specs.Outside.{Asked, SourceState, SinkState, HasRisen, AppendsText, AppendsPrefix}
+use Rattle.ideal_heap.specs.declared.command.TheConstants.{MAX_MUTATORS}
+use Rattle.trace_text.specs.declared.limits.TheConstants.{MAX_COMMANDS}
 use Rattle.outside.specs.declared.reader.TheConstants.{MAX_FILE_BYTES}
-use Rattle.driver.specs.Texts.{replies_part, IsSessionText, IsSummary}
-use Rattle.driver.specs.Made.{made_trace}
+use Rattle.driver.specs.Texts.{IsSessionText, IsSummary}
+use Rattle.made_trace.specs.Made.{made_trace}
 
 -- the files of a job; a made trace has none
 abbrev pub files_in : Work → List (List ℕ)
@@ -24,6 +26,11 @@ files_in (Made n) = []
 abbrev pub job_files : Job → List (List ℕ)
 job_files job = files_in job.work
 
+-- at most as many files as mutators, or as many commands as a trace has
+abbrev pub IsWithinLimits : Work → Type 0
+IsWithinLimits (Files files) = (1 ≤ length files) × (length files ≤ MAX_MUTATORS)
+IsWithinLimits (Made n) = n ≤ MAX_COMMANDS
+
 -- the setting of a session of the job with these traces
 abbrev pub setting_of : Job → List (List Command) → Setting
 setting_of job traces = record {
@@ -32,12 +39,6 @@ setting_of job traces = record {
   workers = job.workers;
   traces = traces;
 }
-
--- the text consists of the replies of a whole session
-pub record AreReplies (t : Setting) (text : List ℕ) : Type 0 where
-  pub last : Moment
-  pub whole : IsWhole t last
-  pub printed : text ≡ replies_part (length t.traces) last
 
 -- the text of a session of n mutators: replies, report and map for files, and a summary for a made
 -- trace
@@ -51,10 +52,6 @@ pub record IsWholeText (job : Job) (traces : List (List Command)) (text : List �
   pub last : Moment
   pub whole : IsWhole (setting_of job traces) last
   pub text_is : IsTextOf job job.work (length traces) last text
-
--- The text that is printed. For now these are the replies alone.
-abbrev pub IsPrinted : Job → List (List Command) → List ℕ → Type 0
-IsPrinted job traces text = AreReplies (setting_of job traces) text
 
 -- the content of each file name that is known to the contract
 abbrev pub Content : Type 0
@@ -94,7 +91,7 @@ pub record Prints (content : Content) (job : Job) (before after : SinkState) : T
   pub traces : List (List Command)
   pub read : AreTracesOf content job.work traces
   pub text : List ℕ
-  pub printed : IsPrinted job traces text
+  pub printed : IsWholeText job traces text
   pub written : AppendsText before.written after.written text
 
 -- a prefix of such a text was written, but not the whole text, and the sink failed
@@ -102,7 +99,7 @@ pub record PrintsPrefix (content : Content) (job : Job) (before after : SinkStat
   pub traces : List (List Command)
   pub read : AreTracesOf content job.work traces
   pub text : List ℕ
-  pub printed : IsPrinted job traces text
+  pub printed : IsWholeText job traces text
   pub written : AppendsPrefix before.written after.written text
   pub risen : HasRisen before.faults after.faults
 

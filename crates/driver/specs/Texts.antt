@@ -1,17 +1,17 @@
 -- The text of a session: the replies of each mutator, the report, and the map.
-use Rattle.std.specs.Prelude.{◌≡◌, ℕ, ◌+◌, ◌*◌, ◌%◌, ◌^◌, ◌<◌, ◌↔◌, Bool, List, [], ◌∷◌, ◌++◌, length, count_by, slice_index, codes, if◌then◌else◌}
+use Rattle.std.specs.Prelude.{◌≡◌, ℕ, ◌<◌, ◌↔◌, Bool, List, [], ◌++◌, length, count_by, slice_index, codes, if◌then◌else◌}
 use Rattle.std.specs.List.{Any, flat_map, range_with_len}
 use Rattle.std.specs.Fmt.{decimal}
 use Rattle.heap_layout.specs.Zones.{block_at, offset_at}
 use Rattle.heap_layout.specs.declared.block.Kind.TheVariants as kinds
 use Rattle.ideal_heap.specs.Names.{IsBefore}
 use Rattle.ideal_heap.specs.declared.reply.Reply.{Reply}
-use Rattle.ideal_heap.specs.declared.reply.Reply.TheVariants as r
 use Rattle.ideal_heap.specs.Runs.{replies_of, is_full}
 use Rattle.object_model.specs.Objects.{HeapState, name_at, size_at}
 use Rattle.object_model.specs.Counting.{held_in, count_words_at, kind_count}
 use Rattle.object_model.specs.Graphs.{IsReachable, roots_of}
 use Rattle.trace_text.specs.Text.{ended, name_text, mutator_text}
+use Rattle.made_trace.specs.Counts.{is_new_reply, is_ref, is_nil, is_num, is_done, is_yes, is_no, is_null, is_range, sum_replied}
 use Rattle.sessions.specs.Plans.{Plan, plan_word}
 use Rattle.sessions.specs.Fitting.{large_of}
 use Rattle.sessions.specs.Sessions.{Moment}
@@ -76,74 +76,28 @@ pub record IsSessionText (plan : Plan) (n : ℕ) (has_map : Bool) (last : Moment
   pub printed : text ≡ replies_part n last ++ report_part plan n last live
       ++ (if has_map then map_part last live else [])
 
--- for each kind of reply, 1 if the reply is of that kind and 0 if not; and the number in a reply
-abbrev pub is_new_reply : Reply → ℕ
-is_new_reply (r.New n) = 1
-is_new_reply _ = 0
-
-abbrev pub is_ref : Reply → ℕ
-is_ref (r.Ref n) = 1
-is_ref _ = 0
-
-abbrev pub is_num : Reply → ℕ
-is_num (r.Num n) = 1
-is_num _ = 0
-
-abbrev pub number_replied : Reply → ℕ
-number_replied (r.Num n) = n
-number_replied _ = 0
-
-abbrev pub is_nil : Reply → ℕ
-is_nil r.Nil = 1
-is_nil _ = 0
-
-abbrev pub is_refused : Reply → ℕ
-is_refused r.Full = 1
-is_refused _ = 0
-
-abbrev pub is_done : Reply → ℕ
-is_done r.Done = 1
-is_done _ = 0
-
-abbrev pub is_yes : Reply → ℕ
-is_yes r.Yes = 1
-is_yes _ = 0
-
-abbrev pub is_no : Reply → ℕ
-is_no r.No = 1
-is_no _ = 0
-
-abbrev pub is_null : Reply → ℕ
-is_null r.Null = 1
-is_null _ = 0
-
-abbrev pub is_range : Reply → ℕ
-is_range r.Range = 1
-is_range _ = 0
-
-abbrev pub sum_by : (Reply → ℕ) → List Reply → ℕ
-sum_by f [] = 0
-sum_by f (x ∷ xs) = f x + sum_by f xs
-
 -- a line of the summary: how many replies are of this kind
-abbrev pub count_line : List ℕ → (Reply → ℕ) → List Reply → List ℕ
-count_line word f replies = ended (word ++ decimal (sum_by f replies))
+abbrev pub count_line : List ℕ → (Reply → Bool) → List Reply → List ℕ
+count_line word p replies = ended (word ++ decimal (count_by p replies))
 
-abbrev pub summary_part : ℕ → HeapState → List ℕ → List Reply → List ℕ
-summary_part n s live replies =
+-- the counts of replies in the summary of a made trace of n commands
+abbrev pub counts_part : ℕ → List Reply → List ℕ
+counts_part n replies =
     ended (codes "make " ++ decimal n)
     ++ count_line (codes "new ") is_new_reply replies
-    ++ count_line (codes "full ") is_refused replies
+    ++ count_line (codes "full ") is_full replies
     ++ count_line (codes "ref ") is_ref replies
     ++ count_line (codes "nil ") is_nil replies
-    ++ ended (codes "num " ++ decimal (sum_by is_num replies)
-    ++ codes " sum " ++ decimal (sum_by number_replied replies % 2 ^ 64))
+    ++ ended (codes "num " ++ decimal (count_by is_num replies)
+    ++ codes " sum " ++ decimal (sum_replied replies))
     ++ count_line (codes "ok ") is_done replies
     ++ count_line (codes "yes ") is_yes replies
     ++ count_line (codes "no ") is_no replies
     ++ count_line (codes "null ") is_null replies
     ++ count_line (codes "range ") is_range replies
-    ++ live_line s live
+
+abbrev pub summary_part : ℕ → HeapState → List ℕ → List Reply → List ℕ
+summary_part n s live replies = counts_part n replies ++ live_line s live
 
 -- the whole text of a session of a made trace of n commands
 pub record IsSummary (n : ℕ) (last : Moment) (text : List ℕ) : Type 0 where

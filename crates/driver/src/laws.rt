@@ -1,41 +1,10 @@
-//! Laws on made traces and on the printed text.
+//! Laws on the printed text.
 
 ghost use Rattle.std.specs.Prelude.{◌≡◌, ℕ, ◌++◌, ◌∷◌, [], List, codes, map, take, drop, replicate};
 ghost use Rattle.std.specs.List.{range_with_len};
-ghost use Rattle.driver.specs.Prelude.{name, IsBefore, entry, alone, empty_heap, MutatorState, NoGc, command_at, made_trace, map_line, report_part, summary_part, replies_part, count_words_at, kinds_line, AreReplies, Command, empty, mutator_text, HasFullLine, Setting, HeapState};
+ghost use Rattle.driver.specs.Prelude.{name, IsBefore, entry, alone, empty_heap, MutatorState, NoGc, map_line, report_part, summary_part, replies_part, count_words_at, kinds_line, Command, empty, mutator_text, HasFullLine, Setting, Moment, IsWhole, HeapState};
 ghost use Rattle.driver.specs.Prelude.command;
 ghost use Rattle.driver.specs.Prelude.reply;
-
-/// Worked made traces: how one begins, commands of each row, and later resets and collections.
-pub fn made_traces()
-    ensures first { take 33 (made_trace 40) ≡ map command.DropReg (range_with_len 0 16)
-        ++ map (λ g. command.Share g 0) (range_with_len 0 16) ++ command.Gc ∷ [] }
-    ensures rest { drop 33 (made_trace 40) ≡ command.Write 0 28 1432594236
-        ∷ command.Swap 12 20 3 1 ∷ command.Share 0 6 ∷ command.Get 12 0 1
-        ∷ command.New 15 7 5 ∷ command.New 11 1 8 ∷ command.New 2 7 19 ∷ [] }
-    ensures rows { drop 33 (made_trace 63) ≡ command.New 7 3 21 ∷ command.Add 5 9 108862078
-        ∷ command.Move 14 5 ∷ command.Read 15 12 ∷ command.Read 1 31 ∷ command.Pin 4
-        ∷ command.Add 7 31 1467576682 ∷ command.Share 1 14 ∷ command.Put 14 0 4
-        ∷ command.Pin 10 ∷ command.Write 6 31 1255150287 ∷ command.New 10 6 23
-        ∷ command.Move 6 6 ∷ command.Add 3 3 1492670376 ∷ command.Swap 14 11 1 3
-        ∷ command.Load 4 1 ∷ command.Swap 14 5 1 1 ∷ command.Read 11 29 ∷ command.Put 12 5 0
-        ∷ command.Pin 8 ∷ command.Get 12 2 0 ∷ command.Get 8 3 7
-        ∷ command.Write 10 16 1281387370
-        ∷ command.New 14 1 22 ∷ command.Move 1 15 ∷ command.New 5 3 22 ∷ command.Load 10 11
-        ∷ command.New 8 7 24 ∷ command.Get 11 7 5 ∷ command.New 5 3 31 ∷ [] }
-    ensures more { take 20 (drop 33 (made_trace 113)) ≡ command.Share 10 1 ∷ command.Share 13 7
-        ∷ command.Load 11 12 ∷ command.Add 14 29 233140506 ∷ command.Get 0 10 4
-        ∷ command.Read 5 12 ∷ command.Write 10 6 76593114 ∷ command.Put 11 5 10
-        ∷ command.Get 8 14 4 ∷ command.New 10 1 18 ∷ command.Move 8 15 ∷ command.Move 12 1
-        ∷ command.Get 8 12 5 ∷ command.Put 11 0 4 ∷ command.Put 2 4 2 ∷ command.Move 8 3
-        ∷ command.Load 12 11 ∷ command.Swap 3 1 2 1 ∷ command.Read 10 16
-        ∷ command.New 15 0 22 ∷ [] }
-    ensures later { (x : ℕ) → (command_at 1024 x ≡ (command.DropReg 0, x))
-        × (command_at 1055 x ≡ (command.Share 15 0, x))
-        × (command_at 1056 x ≡ command_at 33 x)
-        × (command_at 32800 x ≡ command_at 33 x) × (command_at 65568 x ≡ (command.Gc, x)) }
-    ensures between { (x : ℕ) → command_at 512 x ≡ command_at 33 x }
-{}
 
 /// The summary of a made trace whose replies are all `ok`, and at whose end nothing is reachable.
 pub fn summary_of_ok()
@@ -77,9 +46,9 @@ pub fn report_and_map()
 /// The replies to a single trace depend on that trace alone, if the line `full` does not stand in
 /// their text. With more mutators they depend on the order of commands too.
 pub fn printed_of_one()
-    ensures { (t : Setting) (trace : List Command) (text : List ℕ) → t.traces ≡ trace ∷ []
-        → AreReplies t text → (HasFullLine text → ⊥)
-        → text ≡ mutator_text 1 (alone empty 1 trace) }
+    ensures { (t : Setting) (trace : List Command) (last : Moment) → t.traces ≡ trace ∷ []
+        → IsWhole t last → (HasFullLine (replies_part 1 last) → ⊥)
+        → replies_part 1 last ≡ mutator_text 1 (alone empty 1 trace) }
 {}
 
 /// The replies are grouped by mutator, in rising order of mutators.

@@ -7,9 +7,9 @@ use crate::fault_lines::{
     write_length_fault, write_memory_fault, write_output_fault, write_read_fault,
     write_trace_fault, write_usage_fault,
 };
-use crate::session_text::text_of_session;
+use crate::session_runs::text_of_session;
 use crate::status::Status;
-use crate::traces::{FileFault, FilesFault, traces_of_files};
+use crate::traces::{FileFault, FilesFault, traces_of_order};
 use command_line::{Order, Target, read_words};
 use outside::{Sink, Sources, write_text};
 use std::alloc::Global;
@@ -62,8 +62,7 @@ pub fn run<R: Threads + Sync, S: Sources, O: Sink, E: Sink, G: Gate>(
     err: &mut E,
     gate: &G,
 ) -> Status
-    // The output is that of a whole session of the job that the arguments name, on the files'
-    // traces: the replies, for now.
+    // The output is the text of a whole session of the job that the arguments name, on its traces.
     ensures ok { result ≡ Status.Ok → IfSome (job_of (texts words.now)) (λ job. Prints
         (S.state sources.old).content job (O.state out.old) (O.state out.new)) }
 
@@ -145,7 +144,7 @@ pub fn run<R: Threads + Sync, S: Sources, O: Sink, E: Sink, G: Gate>(
         }
     };
     let files = files_named(&order);
-    let traces = match traces_of_files(alloc, sources, files) {
+    let traces = match traces_of_order(alloc, sources, &order) {
         Ok(traces) => traces,
         Err(first) => {
             write_files_fault(err, files, first);

@@ -2,7 +2,7 @@
 
 ghost use Rattle.std.specs.Prelude.{◌≡◌, ◌≢◌, ◌≤◌, ◌⊎◌, ℕ, suc, ◌++◌, ◌∷◌, [], List, length, map, take, replicate, slice_get, codes, true, false, Option, Some, None, IfSome, Ok, Err};
 ghost use Rattle.std.specs.List.{range_with_len};
-ghost use Rattle.driver.specs.Prelude.{code_of, Command, empty, name, alone, replies_of, empty_heap, IsReachable, roots_of, unowned, plain_object, build_heap, Plan, NoGc, GenCopy, StickyImmix, rules_of, Moment, TraceFault, trace, mutator_text, HasFullLine, Job, Work, Files, Made, Asked, SourceState, SinkState, HasRisen, AppendsPrefix, Status, IsExit, Ran, in_row, Content, AreTraces, Prints, PrintsPrefix, AsksFirst, AsksPrefix, Unread, IsTooLong, IsBad, IsUsage, IsLong, IsNoTrace, HasFault, HasTraces, EndsAtKnown, WritesFaultLine, job_files, setting_of, IsWholeText, fault_line, usage_line, AreLive, IsSessionText, IsSummary, kinds_line, held_line, replies_part, report_part, summary_part, worked_end};
+ghost use Rattle.driver.specs.Prelude.{code_of, Command, empty, name, alone, replies_of, empty_heap, IsReachable, roots_of, unowned, plain_object, build_heap, Plan, NoGc, GenCopy, StickyImmix, rules_of, Moment, TraceFault, trace, mutator_text, HasFullLine, Job, Work, Files, Made, Asked, SourceState, SinkState, HasRisen, AppendsPrefix, Status, IsExit, Ran, Content, AreTraces, Prints, PrintsPrefix, AsksFirst, AsksPrefix, Unread, IsTooLong, IsBad, IsUsage, IsLong, IsNoTrace, HasFault, HasTraces, EndsAtKnown, WritesFaultLine, job_files, setting_of, IsWholeText, fault_line, usage_line, AreLive, IsSessionText, IsSummary, kinds_line, held_line, replies_part, report_part, summary_part, worked_end};
 ghost use Rattle.driver.specs.Prelude.kinds;
 ghost use Rattle.driver.specs.Prelude.command;
 ghost use Rattle.driver.specs.Prelude.reply;
@@ -67,18 +67,6 @@ pub fn settings_of_jobs()
     } }
 {}
 
-/// A random command of each row, drawn from one state of the generator.
-pub fn made_rows()
-    ensures { map (λ row. (in_row row 1665).0) (range_with_len 0 16)
-        ≡ command.New 15 6 31 ∷ command.New 15 6 31 ∷ command.New 15 6 31
-        ∷ command.New 15 6 31
-        ∷ command.Put 15 6 15 ∷ command.Put 15 6 15 ∷ command.Get 15 14 7
-        ∷ command.Get 15 14 7
-        ∷ command.Read 15 30 ∷ command.Write 15 30 559166303 ∷ command.Add 15 30 559166303
-        ∷ command.Swap 15 30 3 2 ∷ command.Move 15 14 ∷ command.Load 15 14
-        ∷ command.Share 15 14 ∷ command.Pin 15 ∷ [] }
-{}
-
 /// Files have one trace each. That of a file whose content is known is the content's.
 pub fn traces_of_contents()
     ensures number { (content : Content) (files : List (List ℕ)) (traces : List (List Command))
@@ -88,20 +76,21 @@ pub fn traces_of_contents()
         → AreTraces content (file ∷ []) traces → traces ≡ cs ∷ [] }
 {}
 
-/// What is printed for one file whose content is known is a function of that content, if the line
-/// `full` does not stand in it. If writing fails, it is a proper front of that.
+/// What is printed for one file whose content is known begins with the replies of that content
+/// alone, if the line `full` does not stand in it. If writing fails, it is a proper front of that.
 pub fn printed_of_one_file()
     ensures whole { (content : Content) (job : Job) (before after : SinkState)
         (file bytes old text : List ℕ) (cs : List Command) → job.work ≡ Files (file ∷ [])
         → content file ≡ Some bytes → trace bytes ≡ Ok cs → before.written ≡ Some old
         → Prints content job before after → after.written ≡ Some (old ++ text)
-        → (HasFullLine text → ⊥) → text ≡ mutator_text 1 (alone empty 1 cs) }
+        → (HasFullLine text → ⊥)
+        → (rest : List ℕ) × (text ≡ mutator_text 1 (alone empty 1 cs) ++ rest) }
     ensures front { (content : Content) (job : Job) (before after : SinkState)
         (file bytes old : List ℕ) (cs : List Command) → job.work ≡ Files (file ∷ [])
         → content file ≡ Some bytes → trace bytes ≡ Ok cs → before.written ≡ Some old
         → (p : PrintsPrefix content job before after) → (HasFullLine p.text → ⊥)
-        → HasRisen before.faults after.faults
-        × AppendsPrefix (Some old) after.written (mutator_text 1 (alone empty 1 cs)) }
+        → HasRisen before.faults after.faults × ((rest : List ℕ)
+        × AppendsPrefix (Some old) after.written (mutator_text 1 (alone empty 1 cs) ++ rest)) }
 {}
 
 /// Files are asked for in their order, after all that was asked for before. The last one that was

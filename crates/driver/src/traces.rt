@@ -1,13 +1,16 @@
-//! The traces in named files.
+//! The traces in named files, and those of an order.
 
-ghost use Rattle.std.specs.Prelude.{◌≡◌, ◌≤◌, length, All, OnOk, IfOk, IfErr, IfSome, IsErrOf};
-ghost use Rattle.driver.specs.Prelude.{HasRead, texts, HasRisen, AnyFault, AreTraces, IsTraceIn, IsLong, HasFault, AsksFirst, AsksPrefix, IsRunnableTrace, AsksName, Halts, status_of};
+ghost use Rattle.std.specs.Prelude.{◌≡◌, ◌≤◌, ◌∷◌, [], length, All, OnOk, IfOk, IfErr, IfSome, IsErrOf};
+ghost use Rattle.driver.specs.Prelude.{HasRead, texts, HasRisen, AnyFault, AreTraces, AreTracesOf, IsWithinLimits, job_files, job_of_order, made_trace, IsTraceIn, IsLong, HasFault, AsksFirst, AsksPrefix, IsRunnableTrace, AsksName, Halts, status_of};
 
 use crate::status::Status;
+use command_line::{Order, Target};
+use ideal_heap::MAX_MUTATORS;
+use made_trace::made_stored;
 use outside::{Consumer, ReadFault, Sources, read_file};
 use std::alloc::{AllocError, Global};
 use stored_commands::StoredTrace;
-use trace_text::{TraceFault, TraceReader};
+use trace_text::{MAX_COMMANDS, TraceFault, TraceReader};
 
 /// Why a file has no trace.
 #[derive(Clone, Copy, Debug, PartialEq, Eq)]
@@ -150,4 +153,44 @@ pub(crate) fn traces_of_files<S: Sources>(
         }
     }
     Ok(traces)
+}
+
+// The made trace of so many commands, as the one trace of a session.
+fn made_alone(alloc: Global, commands: u32) -> Result<Vec<StoredTrace>, AllocError>
+    requires { commands ≤ MAX_COMMANDS }
+    ensures made { IfOk result (λ v. v.items ≡ made_trace commands ∷ []) }
+    ensures fit { IfOk result (λ v. All IsRunnableTrace v.items) }
+{
+    let mut traces = Vec::with_capacity(alloc, 1)?;
+    traces.push_reserved(made_stored(alloc, commands)?);
+    Ok(traces)
+}
+
+/// The traces of an order: those in its files, in their order, or the made one. Reading ends at the
+/// first file that has no trace.
+pub(crate) fn traces_of_order<S: Sources>(
+    alloc: Global,
+    sources: &mut S,
+    order: &Order,
+) -> Result<Vec<StoredTrace>, FilesFault>
+    requires { IsWithinLimits (job_of_order order.now).work }
+    ensures ok { IfOk result (λ v. AreTracesOf (S.state sources.old).content
+        (job_of_order order.now).work v.items) }
+    ensures fit { IfOk result (λ v. All IsRunnableTrace v.items) }
+    ensures some { IfOk result (λ v. 1 ≤ length v.items) }
+    ensures few { IfOk result (λ v. length v.items ≤ MAX_MUTATORS) }
+    ensures all { OnOk result (AsksFirst (length (job_files (job_of_order order.now)))
+        (job_files (job_of_order order.now)) (S.state sources.old).asked
+        (S.state sources.new).asked) }
+    ensures fault { IfErr result (Halts (job_files (job_of_order order.now))
+        (S.state sources.old) (S.state sources.new)) }
+    ensures prefix { AsksPrefix (job_files (job_of_order order.now)) (S.state sources.old).asked
+        (S.state sources.new).asked }
+    ensures later { (S.state sources.old).faults ≤ (S.state sources.new).faults }
+    ensures same { (S.state sources.new).content ≡ (S.state sources.old).content }
+{
+    match order.work {
+        Target::Files(files) => traces_of_files(alloc, sources, files),
+        Target::Made(commands) => Ok(made_alone(alloc, commands)?),
+    }
 }

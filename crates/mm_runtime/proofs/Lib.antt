@@ -27,4 +27,5 @@ pub mod PolledStops
 pub mod Replying
 pub mod ManagersStand
 pub mod Tally
+mod ReplyCounts
 pub mod Waits

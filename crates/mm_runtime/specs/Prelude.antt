@@ -2,7 +2,7 @@
 pub use Rattle.heap_layout.specs.declared.layout.TheConstants.{MAX_BLOCKS, MIN_BLOCKS}
 pub use Rattle.heap_users.specs.Users.{mutator_state}
 pub use Rattle.ideal_heap.specs.Commands.{IsValid}
-pub use Rattle.ideal_heap.specs.Runs.{replies_of}
+pub use Rattle.ideal_heap.specs.Runs.{is_full, replies_of}
 pub use Rattle.managed_heap.specs.Needs.{reply_of}
 pub use Rattle.managed_heap.specs.Stopped.{IsManaged}
 pub use Rattle.mm_runtime.specs.Managers.{Closes, ClosesSome, HasEnded, IsAtStop, IsFresh, IsInOrder, IsMutatorOf, IsProgress, IsRunnableTrace, StandsAt, globals_of, left, next_in_trace, replied, traces_of}
@@ -13,6 +13,7 @@ pub use Rattle.mm_runtime.specs.declared.progress.Progress.{Progress, Progress a
 pub use Rattle.mutator_calls.specs.declared.need.Need.{Need}
 pub use Rattle.object_model.specs.Graphs.{roots_of}
 pub use Rattle.object_model.specs.Heaps.{heap_state}
+pub use Rattle.object_model.specs.Lawful.{AreRoots}
 pub use Rattle.object_model.specs.Objects.{global_at as global_word_at, size_of}
 pub use Rattle.plain_world.specs.Calls.{HasPlace, IsOpen, births_at, mutator_number_at, places_of, stop_word}
 pub use Rattle.sessions.specs.Fitting.{Fits}

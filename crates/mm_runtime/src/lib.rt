@@ -3,6 +3,7 @@
 #![tactic(auto)]
 
 mod collections_at_gc;
+mod counts;
 mod epoch;
 mod manager;
 mod meets;

@@ -1,15 +1,16 @@
 -- One more reply beside those that are stored.
 use Rattle.std.proofs.Common.{◌≡◌, refl, sym, ◌∙◌, ap, subst, ℕ, suc, ◌+◌, ◌≤◌, ◌⊎◌, inl, inr, arith, List, [], ◌∷◌, ◌++◌, length, length-drop, drop, append-nil}
-use Rattle.std.specs.Prelude.{sum_by}
+use Rattle.std.specs.Prelude.{sum_by, count_by, cond}
 use Rattle.std.proofs.lemmas.List.{get_or_append_left, drop-append-le}
 use Rattle.std.proofs.lemmas.List.Sums.{sum_by-cons}
 use Rattle.ideal_heap.specs.Names.{name}
 use Rattle.ideal_heap.specs.declared.name.Name.{Name}
 use Rattle.ideal_heap.specs.declared.reply.Reply.{Reply}
 use Rattle.ideal_heap.specs.declared.reply.Reply.TheVariants as r
+use Rattle.ideal_heap.specs.Runs.{is_full}
 use Rattle.stored_replies.specs.declared.reply_kind.ReplyKind.{ReplyKind}
 use Rattle.stored_replies.specs.declared.reply_kind.ReplyKind.TheVariants as k
-use Rattle.stored_replies.specs.Kinds.{kind_of, first_reply, names_of_kind, numbers_in, unpacked, HasParts}
+use Rattle.stored_replies.specs.Kinds.{kind_of, is_full_kind, first_reply, names_of_kind, numbers_in, unpacked, HasParts}
 
 -- as many replies as kinds
 pub length-unpacked : (kinds : List ReplyKind) (names : List Name) (numbers : List ℕ) → length (unpacked kinds names numbers) ≡ length kinds
@@ -137,3 +138,26 @@ parts-most kinds names numbers has =
     let names_few = sum-most names_of_kind name-most kinds in
     let numbers_few = sum-most numbers_in number-most kinds in
     (omega (arith, n, names_few), omega (arith, m, numbers_few))
+
+-- a reply is `full` where its kind is
+full-kind : (kind : ReplyKind) (names : List Name) (numbers : List ℕ) → is_full (first_reply kind names numbers) ≡ is_full_kind kind
+full-kind k.New names numbers = refl
+full-kind k.Full names numbers = refl
+full-kind k.Ref names numbers = refl
+full-kind k.Nil names numbers = refl
+full-kind k.Num names numbers = refl
+full-kind k.Done names numbers = refl
+full-kind k.Yes names numbers = refl
+full-kind k.No names numbers = refl
+full-kind k.Null names numbers = refl
+full-kind k.Range names numbers = refl
+
+pub full-kinds : (kinds : List ReplyKind) (names : List Name) (numbers : List ℕ) → count_by is_full (unpacked kinds names numbers) ≡ count_by is_full_kind kinds
+full-kinds [] names numbers = refl
+full-kinds (kind ∷ kinds) names numbers =
+    let more : List Name = drop (names_of_kind kind) names in
+    let others : List ℕ = drop (numbers_in kind) numbers in
+    sum_by-cons (λ reply. cond (is_full reply) 1 0) (first_reply kind names numbers) (unpacked kinds more others)
+    ∙ ap (λ b. cond b 1 0 + count_by is_full (unpacked kinds more others)) (full-kind kind names numbers)
+    ∙ ap (λ n. cond (is_full_kind kind) 1 0 + n) (full-kinds kinds more others)
+    ∙ sym (sum_by-cons (λ x. cond (is_full_kind x) 1 0) kind kinds)

@@ -1,5 +1,5 @@
 -- Replies as their kinds, with the names and the numbers beside.
-use Rattle.std.specs.Prelude.{◌≡◌, ℕ, List, [], ◌∷◌, drop, get_or, length, sum_by}
+use Rattle.std.specs.Prelude.{◌≡◌, ℕ, Bool, true, false, List, [], ◌∷◌, drop, get_or, length, sum_by}
 use Rattle.ideal_heap.specs.Names.{name}
 use Rattle.ideal_heap.specs.declared.name.Name.{Name}
 use Rattle.ideal_heap.specs.declared.reply.Reply.{Reply}
@@ -42,6 +42,10 @@ names_of_kind _ = 0
 abbrev pub numbers_in : ReplyKind → ℕ
 numbers_in k.Num = 1
 numbers_in _ = 0
+
+abbrev pub is_full_kind : ReplyKind → Bool
+is_full_kind k.Full = true
+is_full_kind _ = false
 
 -- the replies of some kinds, with these names and numbers in turn
 abbrev pub unpacked : List ReplyKind → List Name → List ℕ → List Reply

@@ -1,7 +1,7 @@
 //! Kinds of replies.
 
-ghost use Rattle.std.specs.Prelude.{◌≡◌};
-ghost use Rattle.stored_replies.specs.Kinds.{kind_of};
+ghost use Rattle.std.specs.Prelude.{◌≡◌, count_by};
+ghost use Rattle.stored_replies.specs.Kinds.{kind_of, is_full_kind};
 
 use ideal_heap::Reply;
 
@@ -42,4 +42,19 @@ impl ReplyKind {
             Reply::Range => ReplyKind::Range,
         }
     }
+
+    /// Whether a reply of this kind is `full`.
+    #[inline(always)]
+    pub(crate) fn is_full(self) -> bool
+        ensures { result ≡ is_full_kind self }
+    {
+        matches!(self, ReplyKind::Full)
+    }
+}
+
+/// How many of the kinds are of the reply `full`.
+pub(crate) fn full_count(kinds: &[ReplyKind]) -> usize
+    ensures { result ≡ count_by is_full_kind kinds.now }
+{
+    kinds.iter().filter(|kind| kind.is_full()).count()
 }

@@ -1,9 +1,10 @@
 //! The type of replies that are kept.
 
-ghost use Rattle.std.specs.Prelude.{◌≡◌, ◌++◌, ◌∷◌, ◌<◌, [], length, IfOk};
+ghost use Rattle.std.specs.Prelude.{◌≡◌, ◌++◌, ◌∷◌, ◌<◌, [], length, count_by, IfOk};
+ghost use Rattle.ideal_heap.specs.Runs.{is_full};
 
 use crate::iter::Iter;
-use crate::reply_kind::ReplyKind;
+use crate::reply_kind::{ReplyKind, full_count};
 use ideal_heap::{Name, Reply};
 use std::alloc::{AllocError, Global};
 use std::marker::Model;
@@ -57,6 +58,13 @@ impl StoredReplies {
         ensures { result ≡ length self.now.items }
     {
         self.kinds.len()
+    }
+
+    /// The number of replies `full`, from the bytes of their kinds alone.
+    pub fn fulls(&self) -> usize
+        ensures { result ≡ count_by is_full self.now.items }
+    {
+        full_count(&self.kinds)
     }
 
     /// Adds a reply, for which there is room.

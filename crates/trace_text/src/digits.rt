@@ -6,7 +6,7 @@ ghost use Rattle.std.specs.Fmt.{decimal};
 use itoa::write_digits;
 
 // The most decimal digits of a 64-bit number.
-const MAX_DIGITS: usize = 20;
+pub(crate) const MAX_DIGITS: usize = 20;
 
 // Appends a short text, byte by byte.
 #[inline(always)]

@@ -4,7 +4,7 @@ ghost use Rattle.std.specs.Prelude.{◌≡◌, ◌+◌, ◌≤◌, ◌++◌, OnO
 ghost use Rattle.std.specs.Fmt.{decimal};
 ghost use Rattle.trace_text.specs.Text.{reply_text, name_text, mutator_text, ended};
 
-use crate::digits::{put, put_decimal};
+use crate::digits::{MAX_DIGITS, put, put_decimal};
 use crate::limits::MAX_COMMANDS;
 use ideal_heap::{Name, Reply};
 use std::alloc::AllocError;
@@ -73,6 +73,19 @@ pub fn print_reply(reply: &Reply, to: &mut Vec<u8>) -> Result<(), AllocError>
 {
     to.reserve(REPLY_BYTES)?;
     put_reply(reply, to);
+    Ok(())
+}
+
+/// Appends the numeral of a number.
+///
+/// Errors: out of memory; the text is then unchanged.
+#[inline(always)]
+pub fn print_decimal(number: u64, to: &mut Vec<u8>) -> Result<(), AllocError>
+    ensures ok { OnOk result (to.new.items ≡ to.old.items ++ decimal number) }
+    ensures same { OnErr result (to.new.items ≡ to.old.items) }
+{
+    to.reserve(MAX_DIGITS)?;
+    put_decimal(number, to);
     Ok(())
 }
 

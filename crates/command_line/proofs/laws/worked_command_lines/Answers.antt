@@ -85,3 +85,11 @@ returns-clause-gencopy c = refl
 pub returns-clause-supported : goal.returns-clause-supported
 unfolding form_of job_of
 returns-clause-supported c = refl
+
+pub returns-clause-mapped : goal.returns-clause-mapped
+unfolding form_of job_of
+returns-clause-mapped c = refl
+
+pub returns-clause-made_runs : goal.returns-clause-made_runs
+unfolding form_of job_of
+returns-clause-made_runs c = refl

@@ -1,86 +1,87 @@
-use Rattle.std.proofs.Common.{◌≡◌, sym, ◌∙◌, subst, ◌≤◌, rules, ℕ, List}
+use Rattle.std.proofs.Common.{◌≡◌, sym, ◌∙◌, subst, rules, ℕ, List}
 use Rattle.std.specs.Prelude.{◌⊎◌}
 use Rattle.command_line.specs.Orders.{texts, job_of_order}
 use Rattle.driver.specs.declared.status.Status.TheVariants as status
 use Rattle.driver.specs.Printed.{job_files, WritesFaultLine}
 use Rattle.driver.proofs.Ends.{one-of, not-ok, not-usage, not-unwritten, unread-end, long-end, bad-end, memory-end, long-status, bad-status, good-status}
-use Rattle.driver.proofs.Jobs.{job-supported, job-blocks, job-files, supported-work}
-use Rattle.driver.proofs.JoinedFiles.{long-off, bad-off, traces-clash}
-use Rattle.driver.proofs.Outcomes.{of-job, named-job, traces-count, prints, prints-prefix}
+use Rattle.driver.proofs.Jobs.{job-supported, job-blocks, job-work}
+use Rattle.driver.proofs.JoinedFiles.{long-off, bad-off}
+use Rattle.driver.proofs.Outcomes.{of-job, named-job, traces-clash-of, prints, prints-prefix}
 use Rattle.driver.proofs.runs.run.Goals as goal
 
 pub write_files_fault-requires : goal.write_files_fault-requires
-write_files_fault-requires g c = one-of _ _ _ c.in-Err-traces_of_files.first c.in-Err-traces_of_files.ensures.fault
+write_files_fault-requires g c =
+    let s = g.S.Sources in
+    one-of c.files_named-files.result.now (s.state c.args.sources.now) (s.state c.traces_of_order.new.sources) c.in-Err-traces_of_order.first (rw c.files_named-files.ensures c.in-Err-traces_of_order.ensures.fault)
 
-pub returns-in-Err-traces_of_files-clause-ok : goal.returns-in-Err-traces_of_files-clause-ok
-returns-in-Err-traces_of_files-clause-ok g c is = absurd (not-ok c.in-Err-traces_of_files.first.fault (sym c.status.ensures ∙ is))
+pub returns-in-Err-traces_of_order-clause-ok : goal.returns-in-Err-traces_of_order-clause-ok
+returns-in-Err-traces_of_order-clause-ok g c is = absurd (not-ok c.in-Err-traces_of_order.first.fault (sym c.status.ensures ∙ is))
 
-pub returns-in-Err-traces_of_files-clause-usage : goal.returns-in-Err-traces_of_files-clause-usage
-returns-in-Err-traces_of_files-clause-usage g c is = absurd (not-usage c.in-Err-traces_of_files.first.fault (sym c.status.ensures ∙ is))
+pub returns-in-Err-traces_of_order-clause-usage : goal.returns-in-Err-traces_of_order-clause-usage
+returns-in-Err-traces_of_order-clause-usage g c is = absurd (not-usage c.in-Err-traces_of_order.first.fault (sym c.status.ensures ∙ is))
 
-pub returns-in-Err-traces_of_files-clause-write_fault : goal.returns-in-Err-traces_of_files-clause-write_fault
-returns-in-Err-traces_of_files-clause-write_fault g c is = absurd (not-unwritten c.in-Err-traces_of_files.first.fault (sym c.status.ensures ∙ is))
+pub returns-in-Err-traces_of_order-clause-write_fault : goal.returns-in-Err-traces_of_order-clause-write_fault
+returns-in-Err-traces_of_order-clause-write_fault g c is = absurd (not-unwritten c.in-Err-traces_of_order.first.fault (sym c.status.ensures ∙ is))
 
-pub returns-in-Err-traces_of_files-clause-write_reported : goal.returns-in-Err-traces_of_files-clause-write_reported
-returns-in-Err-traces_of_files-clause-write_reported g c is = absurd (not-unwritten c.in-Err-traces_of_files.first.fault (sym c.status.ensures ∙ is))
+pub returns-in-Err-traces_of_order-clause-write_reported : goal.returns-in-Err-traces_of_order-clause-write_reported
+returns-in-Err-traces_of_order-clause-write_reported g c is = absurd (not-unwritten c.in-Err-traces_of_order.first.fault (sym c.status.ensures ∙ is))
 
-pub returns-in-Err-traces_of_files-clause-silent : goal.returns-in-Err-traces_of_files-clause-silent
-returns-in-Err-traces_of_files-clause-silent g c is = absurd (not-ok c.in-Err-traces_of_files.first.fault (sym c.status.ensures ∙ is))
+pub returns-in-Err-traces_of_order-clause-silent : goal.returns-in-Err-traces_of_order-clause-silent
+returns-in-Err-traces_of_order-clause-silent g c is = absurd (not-ok c.in-Err-traces_of_order.first.fault (sym c.status.ensures ∙ is))
 
-pub returns-in-Err-traces_of_files-clause-read : goal.returns-in-Err-traces_of_files-clause-read
-returns-in-Err-traces_of_files-clause-read g c is = absurd (not-ok c.in-Err-traces_of_files.first.fault (sym c.status.ensures ∙ is))
+pub returns-in-Err-traces_of_order-clause-read : goal.returns-in-Err-traces_of_order-clause-read
+returns-in-Err-traces_of_order-clause-read g c is = absurd (not-ok c.in-Err-traces_of_order.first.fault (sym c.status.ensures ∙ is))
 
-pub returns-in-Err-traces_of_files-clause-read_fault : goal.returns-in-Err-traces_of_files-clause-read_fault
-returns-in-Err-traces_of_files-clause-read_fault g c is =
+pub returns-in-Err-traces_of_order-clause-read_fault : goal.returns-in-Err-traces_of_order-clause-read_fault
+returns-in-Err-traces_of_order-clause-read_fault g c is =
     let job = job_of_order c.in-Ok-Some.order in
     let named = named-job _ c.in-Ok-Some.order _ c.in-Ok-Some.field-0-is c.in-Ok-Some.ensures in
-    let ends = rw c.files_named-files.ensures at c.in-Err-traces_of_files.ensures.fault in
+    let ends = c.in-Err-traces_of_order.ensures.fault in
     let line = rw c.files_named-files.ensures at c.write_files_fault.ensures in
-    of-job _ job _ named (unread-end _ _ _ _ c.in-Err-traces_of_files.first ends line (sym c.status.ensures ∙ is))
+    of-job _ job _ named (unread-end _ _ _ _ c.in-Err-traces_of_order.first ends line (sym c.status.ensures ∙ is))
 
-pub returns-in-Err-traces_of_files-clause-too_long : goal.returns-in-Err-traces_of_files-clause-too_long
-returns-in-Err-traces_of_files-clause-too_long g c is =
+pub returns-in-Err-traces_of_order-clause-too_long : goal.returns-in-Err-traces_of_order-clause-too_long
+returns-in-Err-traces_of_order-clause-too_long g c is =
     let job = job_of_order c.in-Ok-Some.order in
     let named = named-job _ c.in-Ok-Some.order _ c.in-Ok-Some.field-0-is c.in-Ok-Some.ensures in
-    let ends = rw c.files_named-files.ensures at c.in-Err-traces_of_files.ensures.fault in
+    let ends = c.in-Err-traces_of_order.ensures.fault in
     let line = rw c.files_named-files.ensures at c.write_files_fault.ensures in
-    of-job _ job _ named (long-end _ _ _ _ c.in-Err-traces_of_files.first ends line (sym c.status.ensures ∙ is))
+    of-job _ job _ named (long-end _ _ _ _ c.in-Err-traces_of_order.first ends line (sym c.status.ensures ∙ is))
 
-pub returns-in-Err-traces_of_files-clause-bad_trace : goal.returns-in-Err-traces_of_files-clause-bad_trace
-returns-in-Err-traces_of_files-clause-bad_trace g c is =
+pub returns-in-Err-traces_of_order-clause-bad_trace : goal.returns-in-Err-traces_of_order-clause-bad_trace
+returns-in-Err-traces_of_order-clause-bad_trace g c is =
     let job = job_of_order c.in-Ok-Some.order in
     let named = named-job _ c.in-Ok-Some.order _ c.in-Ok-Some.field-0-is c.in-Ok-Some.ensures in
-    let ends = rw c.files_named-files.ensures at c.in-Err-traces_of_files.ensures.fault in
+    let ends = c.in-Err-traces_of_order.ensures.fault in
     let line = rw c.files_named-files.ensures at c.write_files_fault.ensures in
-    of-job _ job _ named (bad-end _ _ _ _ c.in-Err-traces_of_files.first ends line (sym c.status.ensures ∙ is))
+    of-job _ job _ named (bad-end _ _ _ _ c.in-Err-traces_of_order.first ends line (sym c.status.ensures ∙ is))
 
-pub returns-in-Err-traces_of_files-clause-memory_reported : goal.returns-in-Err-traces_of_files-clause-memory_reported
-returns-in-Err-traces_of_files-clause-memory_reported g c is =
+pub returns-in-Err-traces_of_order-clause-memory_reported : goal.returns-in-Err-traces_of_order-clause-memory_reported
+returns-in-Err-traces_of_order-clause-memory_reported g c is =
     let line = rw c.files_named-files.ensures at c.write_files_fault.ensures in
     let e = g.E.Sink in
-    memory-end (job_files (job_of_order c.in-Ok-Some.order)) (λ (l : List ℕ). WritesFaultLine (e.state c.args.err.now) (e.state c.write_files_fault.new.err) l) c.in-Err-traces_of_files.first line (sym c.status.ensures ∙ is)
+    memory-end (job_files (job_of_order c.in-Ok-Some.order)) (λ (l : List ℕ). WritesFaultLine (e.state c.args.err.now) (e.state c.write_files_fault.new.err) l) c.in-Err-traces_of_order.first line (sym c.status.ensures ∙ is)
 
-pub returns-in-Err-traces_of_files-clause-long : goal.returns-in-Err-traces_of_files-clause-long
-returns-in-Err-traces_of_files-clause-long g c =
+pub returns-in-Err-traces_of_order-clause-long : goal.returns-in-Err-traces_of_order-clause-long
+returns-in-Err-traces_of_order-clause-long g c =
     let job = job_of_order c.in-Ok-Some.order in
     let named = named-job _ c.in-Ok-Some.order _ c.in-Ok-Some.field-0-is c.in-Ok-Some.ensures in
-    let ends = rw c.files_named-files.ensures at c.in-Err-traces_of_files.ensures.fault in
-    of-job _ job _ named (λ at. subst (λ s. (s ≡ status.TooLong) ⊎ ((s ≡ status.ReadFault) ⊎ (s ≡ status.OutOfMemory))) (sym c.status.ensures) (long-status _ _ _ c.in-Err-traces_of_files.first.place c.in-Err-traces_of_files.first.fault ends at))
+    let ends = c.in-Err-traces_of_order.ensures.fault in
+    of-job _ job _ named (λ at. subst (λ s. (s ≡ status.TooLong) ⊎ ((s ≡ status.ReadFault) ⊎ (s ≡ status.OutOfMemory))) (sym c.status.ensures) (long-status _ _ _ c.in-Err-traces_of_order.first.place c.in-Err-traces_of_order.first.fault ends at))
 
-pub returns-in-Err-traces_of_files-clause-no_trace : goal.returns-in-Err-traces_of_files-clause-no_trace
-returns-in-Err-traces_of_files-clause-no_trace g c =
+pub returns-in-Err-traces_of_order-clause-no_trace : goal.returns-in-Err-traces_of_order-clause-no_trace
+returns-in-Err-traces_of_order-clause-no_trace g c =
     let job = job_of_order c.in-Ok-Some.order in
     let named = named-job _ c.in-Ok-Some.order _ c.in-Ok-Some.field-0-is c.in-Ok-Some.ensures in
-    let ends = rw c.files_named-files.ensures at c.in-Err-traces_of_files.ensures.fault in
-    of-job _ job _ named (λ at. subst (λ s. (s ≡ status.BadTrace) ⊎ ((s ≡ status.ReadFault) ⊎ (s ≡ status.OutOfMemory))) (sym c.status.ensures) (bad-status _ _ _ c.in-Err-traces_of_files.first.place c.in-Err-traces_of_files.first.fault ends at))
+    let ends = c.in-Err-traces_of_order.ensures.fault in
+    of-job _ job _ named (λ at. subst (λ s. (s ≡ status.BadTrace) ⊎ ((s ≡ status.ReadFault) ⊎ (s ≡ status.OutOfMemory))) (sym c.status.ensures) (bad-status _ _ _ c.in-Err-traces_of_order.first.place c.in-Err-traces_of_order.first.fault ends at))
 
-pub returns-in-Err-traces_of_files-clause-complete : goal.returns-in-Err-traces_of_files-clause-complete
-returns-in-Err-traces_of_files-clause-complete g c =
+pub returns-in-Err-traces_of_order-clause-complete : goal.returns-in-Err-traces_of_order-clause-complete
+returns-in-Err-traces_of_order-clause-complete g c =
     let job = job_of_order c.in-Ok-Some.order in
     let named = named-job _ c.in-Ok-Some.order _ c.in-Ok-Some.field-0-is c.in-Ok-Some.ensures in
-    let ends = rw c.files_named-files.ensures at c.in-Err-traces_of_files.ensures.fault in
-    let one = supported-work job (job-supported (texts c.args.words.now) job named).0 in
-    of-job _ job _ named (λ good calm _. subst (λ s. (s ≡ status.Ok) ⊎ (s ≡ status.OutOfMemory)) (sym c.status.ensures) (good-status job _ _ one c.in-Err-traces_of_files.first.place c.in-Err-traces_of_files.first.fault ends good calm))
+    let ends = c.in-Err-traces_of_order.ensures.fault in
+    of-job _ job _ named (λ good calm _. subst (λ s. (s ≡ status.Ok) ⊎ (s ≡ status.OutOfMemory)) (sym c.status.ensures) (good-status job _ _ c.in-Err-traces_of_order.first.place c.in-Err-traces_of_order.first.fault ends good calm))
 
 pub text_of_session-requires-clause-supported : goal.text_of_session-requires-clause-supported
 text_of_session-requires-clause-supported g c κs within =
@@ -94,54 +95,43 @@ pub text_of_session-requires-clause-most : goal.text_of_session-requires-clause-
 text_of_session-requires-clause-most g c κs within =
     (job-blocks (texts c.args.words.now) (job_of_order c.in-Ok-Some.order) (job-supported (texts c.args.words.now) (job_of_order c.in-Ok-Some.order) (named-job _ c.in-Ok-Some.order _ c.in-Ok-Some.field-0-is c.in-Ok-Some.ensures)).1).1
 
-pub text_of_session-requires-clause-some : goal.text_of_session-requires-clause-some
-text_of_session-requires-clause-some g c κs within =
+pub traces_of_order-requires : goal.traces_of_order-requires
+traces_of_order-requires g c =
     let job = job_of_order c.in-Ok-Some.order in
-    let supported = job-supported (texts c.args.words.now) job (named-job _ c.in-Ok-Some.order _ c.in-Ok-Some.field-0-is c.in-Ok-Some.ensures) in
-    let good = rw c.files_named-files.ensures at c.in-Ok.ensures.ok in
-    let count = traces-count _ job _ good in
-    subst (λ n. 1 ≤ n) (sym count) (job-files (texts c.args.words.now) job supported.1 (supported-work job supported.0)).0
-
-pub text_of_session-requires-clause-few : goal.text_of_session-requires-clause-few
-text_of_session-requires-clause-few g c κs within =
-    let job = job_of_order c.in-Ok-Some.order in
-    let supported = job-supported (texts c.args.words.now) job (named-job _ c.in-Ok-Some.order _ c.in-Ok-Some.field-0-is c.in-Ok-Some.ensures) in
-    let good = rw c.files_named-files.ensures at c.in-Ok.ensures.ok in
-    let count = traces-count _ job _ good in
-    subst (λ n. n ≤ 16) (sym count) (job-files (texts c.args.words.now) job supported.1 (supported-work job supported.0)).1
+    job-work (texts c.args.words.now) job (job-supported (texts c.args.words.now) job (named-job _ c.in-Ok-Some.order _ c.in-Ok-Some.field-0-is c.in-Ok-Some.ensures)).1
 
 pub returns-then-is_err-clause-write_fault : goal.returns-then-is_err-clause-write_fault
 returns-then-is_err-clause-write_fault g c is =
     let job = job_of_order c.in-Ok-Some.order in
     let named = named-job _ c.in-Ok-Some.order _ c.in-Ok-Some.field-0-is c.in-Ok-Some.ensures in
-    let good = rw c.files_named-files.ensures at c.in-Ok.ensures.ok in
+    let good = c.in-Ok.ensures.ok in
     let text = c.in-Ok-text_of_session.ensures in
-    of-job _ job _ named (prints-prefix _ job _ _ _ _ (job-supported (texts c.args.words.now) job named).0 good text (search rules) (search rules))
+    of-job _ job _ named (prints-prefix _ job _ _ _ _ good text (search rules) (search rules))
 
 pub returns-then-is_err-clause-long : goal.returns-then-is_err-clause-long
 returns-then-is_err-clause-long g c =
-    let good = rw c.files_named-files.ensures at c.in-Ok.ensures.ok in
-    of-job _ (job_of_order c.in-Ok-Some.order) _ (named-job _ c.in-Ok-Some.order _ c.in-Ok-Some.field-0-is c.in-Ok-Some.ensures) (λ at. absurd (traces-clash _ _ _ _ long-off good at))
+    let good = c.in-Ok.ensures.ok in
+    of-job _ (job_of_order c.in-Ok-Some.order) _ (named-job _ c.in-Ok-Some.order _ c.in-Ok-Some.field-0-is c.in-Ok-Some.ensures) (λ at. absurd (traces-clash-of _ (job_of_order c.in-Ok-Some.order).work _ _ long-off good at))
 
 pub returns-then-is_err-clause-no_trace : goal.returns-then-is_err-clause-no_trace
 returns-then-is_err-clause-no_trace g c =
-    let good = rw c.files_named-files.ensures at c.in-Ok.ensures.ok in
-    of-job _ (job_of_order c.in-Ok-Some.order) _ (named-job _ c.in-Ok-Some.order _ c.in-Ok-Some.field-0-is c.in-Ok-Some.ensures) (λ at. absurd (traces-clash _ _ _ _ bad-off good at))
+    let good = c.in-Ok.ensures.ok in
+    of-job _ (job_of_order c.in-Ok-Some.order) _ (named-job _ c.in-Ok-Some.order _ c.in-Ok-Some.field-0-is c.in-Ok-Some.ensures) (λ at. absurd (traces-clash-of _ (job_of_order c.in-Ok-Some.order).work _ _ bad-off good at))
 
 pub returns-clause-ok : goal.returns-clause-ok
 returns-clause-ok g c is =
     let job = job_of_order c.in-Ok-Some.order in
     let named = named-job _ c.in-Ok-Some.order _ c.in-Ok-Some.field-0-is c.in-Ok-Some.ensures in
-    let good = rw c.files_named-files.ensures at c.in-Ok.ensures.ok in
+    let good = c.in-Ok.ensures.ok in
     let text = c.in-Ok-text_of_session.ensures in
-    of-job _ job _ named (prints _ job _ _ _ _ (job-supported (texts c.args.words.now) job named).0 good text (search rules))
+    of-job _ job _ named (prints _ job _ _ _ _ good text (search rules))
 
 pub returns-clause-long : goal.returns-clause-long
 returns-clause-long g c =
-    let good = rw c.files_named-files.ensures at c.in-Ok.ensures.ok in
-    of-job _ (job_of_order c.in-Ok-Some.order) _ (named-job _ c.in-Ok-Some.order _ c.in-Ok-Some.field-0-is c.in-Ok-Some.ensures) (λ at. absurd (traces-clash _ _ _ _ long-off good at))
+    let good = c.in-Ok.ensures.ok in
+    of-job _ (job_of_order c.in-Ok-Some.order) _ (named-job _ c.in-Ok-Some.order _ c.in-Ok-Some.field-0-is c.in-Ok-Some.ensures) (λ at. absurd (traces-clash-of _ (job_of_order c.in-Ok-Some.order).work _ _ long-off good at))
 
 pub returns-clause-no_trace : goal.returns-clause-no_trace
 returns-clause-no_trace g c =
-    let good = rw c.files_named-files.ensures at c.in-Ok.ensures.ok in
-    of-job _ (job_of_order c.in-Ok-Some.order) _ (named-job _ c.in-Ok-Some.order _ c.in-Ok-Some.field-0-is c.in-Ok-Some.ensures) (λ at. absurd (traces-clash _ _ _ _ bad-off good at))
+    let good = c.in-Ok.ensures.ok in
+    of-job _ (job_of_order c.in-Ok-Some.order) _ (named-job _ c.in-Ok-Some.order _ c.in-Ok-Some.field-0-is c.in-Ok-Some.ensures) (λ at. absurd (traces-clash-of _ (job_of_order c.in-Ok-Some.order).work _ _ bad-off good at))

@@ -3,7 +3,7 @@ use Rattle.std.specs.Prelude.{Option, Some, IfSome, Ok, is_err}
 use Rattle.ideal_heap.specs.declared.command.Command.{Command}
 use Rattle.trace_text.specs.Grammar.{trace}
 use Rattle.outside.specs.declared.reader.TheConstants.{MAX_FILE_BYTES}
-use Rattle.driver.specs.Made.{made_trace}
+use Rattle.made_trace.specs.Made.{made_trace}
 use Rattle.driver.specs.Printed.{Content, IsTraceIn, IsLong, IsNoTrace}
 use Rattle.driver.proofs.text_laws.contents_are_known.Goals as goal
 

@@ -1,0 +1,130 @@
+-- The places of the objects that are reachable from registers and globals.
+use Rattle.std.proofs.Common.{◌≡◌, ◌≢◌, refl, sym, ◌∙◌, ap, ap₂, subst, ℕ, suc, ◌+◌, ◌<◌, ◌≤◌, ◌^◌, inl, inr, arith, List, [], ◌∷◌, ◌++◌, length, slice_index, slice_index_or, nat_eq, IsTrue, true}
+use Rattle.std.specs.Prelude.{sum_by}
+use Rattle.std.specs.List.{All, AllPairs, Contains, flat_map, list_any}
+use Rattle.std.proofs.lemmas.List.{get_or_past, get_or-map, length-map}
+use Rattle.std.proofs.lemmas.List.Sums.{sum_by-cons}
+use Rattle.std.proofs.lemmas.Bool.{cases_lt, eqb-true}
+use Rattle.std.proofs.lemmas.Bool.Decides.{Decides-eqb}
+use Rattle.std.proofs.lemmas.Map.Made.{IsDistinct-from_AllPairs}
+use Rattle.std.proofs.lemmas.Map.Steps.{length-le_from_distinct_below}
+use Rattle.std.proofs.lemmas.Map.Views.{Contains-from_any}
+use Rattle.heap_layout.specs.Zones.{row_words, IsAddress}
+use Rattle.ideal_heap.specs.declared.name.Name.{Name}
+use Rattle.ideal_heap.specs.Names.{IsBefore, name}
+use Rattle.object_model.specs.Objects.{HeapState, IsHeld, name_at, size_at, is_reference}
+use Rattle.object_model.specs.declared.heap.Heap.{Heap}
+use Rattle.object_model.specs.Heaps.{heap_state}
+use Rattle.object_model.specs.Lawful.{IsLawful, IsRoot, AreRoots}
+use Rattle.object_model.specs.Counting.{count_words_at}
+use Rattle.object_model.specs.Graphs as graphs
+use Rattle.object_model.specs.Graphs.{IsReachable, roots_of}
+use Rattle.heap_graph.specs.declared.place.Place.{Place}
+use Rattle.heap_graph.specs.Places.{IsPlaceOfObject, IsGraphOf, addresses_of}
+use Rattle.sessions.specs.Sessions.{Moment}
+use Rattle.driver.specs.Texts.{AreLive, map_line}
+use Rattle.driver.specs.Reports.{place_line}
+
+abbrev pub no_place : Place
+no_place = record { name = name 0 0; at = 0; size = 0 }
+
+after-itself : (n : Name) → IsBefore n n → ⊥
+after-itself n before = elim before as (λ _. ⊥) [ inl less ↦ omega (arith, less) | inr same ↦ (let less : n.birth < n.birth = same.1 in omega (arith, less)) ]
+
+-- the words of objects are the sum of the sizes of their places
+pub count-words : (s : HeapState) (places : List Place) → All (IsPlaceOfObject s) places → count_words_at s (addresses_of places) ≡ sum_by (λ p. p.size) places
+count-words s [] each = refl
+count-words s (p ∷ places) each =
+    let first : p.size ≡ size_at s p.at = (each 0 p (omega arith)).size in
+    let rest = count-words s places (λ k d low. each (suc k) d (omega (arith, low))) in
+    ap₂ (λ (a b : ℕ). a + b) (sym first) rest ∙ sym (sum_by-cons (λ (q : Place). q.size) p places)
+
+-- the line of a place is that of the object there
+pub place-is : (s : HeapState) (p : Place) → IsPlaceOfObject s p → place_line s.blocks p ≡ map_line s p.at
+place-is s p is =
+    ap (λ n. place_line s.blocks (record { name = n; at = p.at; size = p.size })) is.name
+    ∙ ap (λ n. place_line s.blocks (record { name = name_at s p.at; at = p.at; size = n })) is.size
+
+pub lines-of-places : (s : HeapState) (places : List Place) → flat_map (λ p. map_line s p.at) places ≡ flat_map (map_line s) (addresses_of places)
+lines-of-places s [] = refl
+lines-of-places s (p ∷ places) = ap (λ l. map_line s p.at ++ l) (lines-of-places s places)
+
+-- the roots of a heap, by another name for heap and list
+pub roots-there : (a b : Heap) (xs ys : List ℕ) → a ≡ b → xs ≡ ys → AreRoots (heap_state b) ys → AreRoots (heap_state a) xs
+roots-there a b xs ys heap list roots =
+    subst (λ (h : Heap). AreRoots (heap_state h) xs) (sym heap) (subst (λ (l : List ℕ). AreRoots (heap_state b) l) (sym list) roots)
+
+module _ (s : HeapState) (lawful : IsLawful s) (roots : List ℕ) (all : AreRoots s roots) where
+  root-at : (i : ℕ) → IsRoot s (slice_index roots i)
+  root-at i some = elim (cases_lt i (length roots)) as (λ _. IsHeld s (slice_index roots i)) [
+    | inl low ↦ all i low some
+    | inr past ↦ absurd (some (get_or_past roots i 0 past))
+  ]
+
+  reached-held : (a : ℕ) → IsReachable s roots a → IsHeld s a
+  reached-held a (graphs.from_root i e some) = subst (IsHeld s) e (root-at i (λ nil. let same : a ≡ 0 = sym e ∙ nil in omega arith))
+  reached-held a (graphs.from_global g small e some) =
+      subst (IsHeld s) e (lawful.but_lines.order.objects.globals g small (λ nil. let same : a ≡ 0 = sym e ∙ nil in omega arith))
+  reached-held a (graphs.from_field x i before within e some) =
+      subst (IsHeld s) e (lawful.but_lines.order.objects.references x i (reached-held x before) within (subst (λ (v : ℕ). IsTrue (is_reference v)) (sym e) some))
+
+  module _ (places : List Place) (graph : IsGraphOf s roots places) where
+    -- the address of the place with an index
+    at-is : (k d : ℕ) → k < length places → slice_index_or (addresses_of places) k d ≡ (slice_index_or places k no_place).at
+    at-is k d low = get_or-map (λ p. p.at) places k no_place d low
+
+    within : (k : ℕ) → k < length (addresses_of places) → k < length places
+    within k low = let many = length-map places (λ p. p.at) in omega (arith, many, low)
+
+    back : (k : ℕ) → k < length places → k < length (addresses_of places)
+    back k low = let many = length-map places (λ p. p.at) in omega (arith, many, low)
+
+    pub places-held : All (λ p. IsHeld s p.at) places
+    places-held k d low =
+        let a : ℕ = (slice_index_or places k d).at in
+        reached-held a ((graph.reached a).1 (k, back k low, get_or-map (λ p. p.at) places k d a low))
+
+    pub places-addresses : All (λ p. IsAddress s.blocks p.at) places
+    places-addresses k d low = (places-held k d low).address
+
+    names-rise : (i j d : ℕ) → i < j → j < length places → IsBefore (name_at s (slice_index_or (addresses_of places) i d)) (name_at s (slice_index_or (addresses_of places) j d))
+    names-rise i j d less low =
+        let first : i < length places = omega (arith, less, low) in
+        let p : name_at s (slice_index_or (addresses_of places) i d) ≡ (slice_index_or places i no_place).name =
+        ap (name_at s) (at-is i d first) ∙ sym (graph.each i no_place first).name in
+        let q : name_at s (slice_index_or (addresses_of places) j d) ≡ (slice_index_or places j no_place).name =
+        ap (name_at s) (at-is j d low) ∙ sym (graph.each j no_place low).name in
+        subst (λ (n : Name). IsBefore n (name_at s (slice_index_or (addresses_of places) j d))) (sym p)
+        (subst (λ (n : Name). IsBefore (slice_index_or places i no_place).name n) (sym q) (graph.rise i j no_place less low))
+
+    apart : AllPairs (λ x y. x ≢ y) (addresses_of places)
+    apart i j d less low same =
+        let before = names-rise i j d less (within j low) in
+        let x : ℕ = slice_index_or (addresses_of places) i d in
+        after-itself (name_at s x) (subst (λ (y : ℕ). IsBefore (name_at s x) (name_at s y)) (sym same) before)
+
+    below : (q : ℕ) → list_any (nat_eq q) (addresses_of places) ≡ true → q < row_words s.blocks
+    below q there =
+        let found = Contains-from_any (λ x y e. eqb-true x y e) q (addresses_of places) there in
+        (reached-held q ((graph.reached q).1 found)).address.below
+
+    pub places-few : length places < 2 ^ 32
+    places-few =
+        let many : length (addresses_of places) ≤ row_words s.blocks = length-le_from_distinct_below (addresses_of places) (row_words s.blocks) (IsDistinct-from_AllPairs Decides-eqb (addresses_of places) apart) below in
+        let same = length-map places (λ p. p.at) in
+        let most = lawful.but_lines.order.row.most in
+        omega (arith, many, same, most)
+
+    pub are-live : (last : Moment) → s ≡ last.heap → roots ≡ roots_of last.mutators → AreLive last (addresses_of places)
+    are-live last is of = record {
+      all = λ a. (
+        λ arrives.
+            let there = (graph.reached a).0 (subst (λ (l : List ℕ). IsReachable s l a) (sym of) (subst (λ (h : HeapState). IsReachable h (roots_of last.mutators) a) (sym is) arrives)) in
+            (there.0, a, there.1, there.2, refl),
+        λ there.
+            let found : Contains (addresses_of places) a = subst (Contains (addresses_of places)) there.4 (there.0, there.2, there.3) in
+            subst (λ (h : HeapState). IsReachable h (roots_of last.mutators) a) is (subst (λ (l : List ℕ). IsReachable s l a) of ((graph.reached a).1 found)),
+      );
+      rise = λ i j less low. subst (λ (h : HeapState). IsBefore (name_at h (slice_index (addresses_of places) i)) (name_at h (slice_index (addresses_of places) j))) is
+          (names-rise i j 0 less (within j low));
+    }
