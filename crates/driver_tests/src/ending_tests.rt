@@ -107,8 +107,8 @@ impl Sink for Gauge {
     }
 }
 
-// As many commands as a trace may have. The text has a line of ten bytes, and three bytes for each
-// command.
+// As many commands as a trace may have. The text has a line of ten bytes, three bytes for each
+// command, and the report.
 #[test]
 fn longest_piece(rt: HostRuntime) -> Result<(), Fail> {
     let alloc = rt.alloc();
@@ -129,7 +129,7 @@ fn longest_piece(rt: HostRuntime) -> Result<(), Fail> {
         &mut err,
         &OpenGate,
     );
-    assert!(rt; number == 0 && out.total == 3_000_010 && out.longest == 65_536);
+    assert!(rt; number == 0 && out.total == 3_000_207 && out.longest == 65_536);
     Ok(())
 }
 
@@ -143,8 +143,8 @@ struct Device {
 }
 
 const SOUND: Device = Device {
-    room: 100,
-    most: 100,
+    room: 1000,
+    most: 1000,
     failing: 0,
 };
 
@@ -152,7 +152,7 @@ const FULL: Device = Device { room: 0, ..SOUND };
 
 const fn sink_that_fails(most: usize, failing: u64) -> Device {
     Device {
-        room: 100,
+        room: 1000,
         most,
         failing,
     }
@@ -197,11 +197,12 @@ fn report_of_failure(alloc: Global, call: usize) -> Result<Vec<u8>, AllocError> 
     if call <= 3 {
         return report(alloc, 3, b"", b"mm_drive: cannot read a\n");
     }
-    match FIRST_TEXT.get(..call - 1) {
-        Some(front) if call <= FIRST_TEXT.len() => {
+    let whole = FIRST_TEXT.as_bytes();
+    match whole.get(..call - 1) {
+        Some(front) if call <= whole.len() => {
             report(alloc, 6, front, b"mm_drive: write failed\n")
         }
-        _ => report(alloc, 0, FIRST_TEXT, b""),
+        _ => report(alloc, 0, whole, b""),
     }
 }
 
@@ -209,7 +210,7 @@ fn report_of_failure(alloc: Global, call: usize) -> Result<Vec<u8>, AllocError> 
 #[test]
 fn failures(rt: HostRuntime) -> Result<(), Fail> {
     let alloc = rt.alloc();
-    for call in 1..40usize {
+    for call in 1..250usize {
         let out = sink_that_fails(1, call as u64);
         let ran = run_devices(&rt, alloc, GOOD, FIRST, call as u64, out, SOUND)?;
         let want = report_of_failure(alloc, call)?;
@@ -222,6 +223,7 @@ fn failures(rt: HostRuntime) -> Result<(), Fail> {
 #[test]
 fn failing_sinks(rt: HostRuntime) -> Result<(), Fail> {
     let alloc = rt.alloc();
+    let whole = format!(in alloc; "0|{FIRST_TEXT}|")?;
     for (line, commands, out, err, want) in [
         (
             GOOD,
@@ -247,7 +249,7 @@ fn failing_sinks(rt: HostRuntime) -> Result<(), Fail> {
         ("--plan nogc", "", SOUND, FULL, "2||"),
         (UNREAD, "", SOUND, FULL, "3||"),
         (GOOD, "read r0", SOUND, FULL, "5||"),
-        (GOOD, "read r0 0", SOUND, FULL, "0|mutator 1\nnull\n|"),
+        (GOOD, FIRST, SOUND, FULL, &whole),
         (UNREAD, "", SOUND, sink_that_fails(100, 1), "3||"),
         (
             UNREAD,

@@ -1,8 +1,7 @@
 //! Tests of command lines in whole runs. A run does not show whether a refused line breaks the
 //! usage or asks for a feature that is not implemented. The tests of `command_line` do.
-use crate::test_runs::{FIRST, FIRST_TEXT, report, run_gated, run_line, trace_in};
+use crate::test_runs::{FIRST, report, report_of, run_line, run_words, trace_in};
 use std::test::Fail;
-use work_packets::OpenGate;
 
 const USAGE: &[u8] = b"mm_drive: usage: mm_drive --plan P --heap B [--workers W] [--map] FILE... \
     | mm_drive --plan P --heap B [--workers W] --make N\n";
@@ -20,6 +19,8 @@ const SUPPORTED: &[&str] = &[
     "--heap 4 --plan=gencopy a",
     "--heap=4 --plan=immix a",
     "--heap=4 --plan=stickyimmix a",
+    "--plan nogc --heap 4 --map a",
+    "--map --plan immix --heap=4 a",
 ];
 
 const REFUSED: &[&str] = &[
@@ -27,10 +28,6 @@ const REFUSED: &[&str] = &[
     "--plan nogc --heap 4 --workers 2 a",
     "--plan nogc --heap 4 --workers 16 a",
     "--plan semispace --heap 4 --workers 2 a",
-    "--plan nogc --heap 4 --map a",
-    "--map --plan nogc --heap 4 a",
-    "--plan nogc --heap 4 --make 5",
-    "--make=1 --plan nogc --heap 4",
     "--plan nogc --make 1000000 --workers 3 --heap 4",
     "--plan nogc --heap 4 --workers 2 a b c d e f g h i j k l m n o p",
     // Words out of place.
@@ -109,7 +106,7 @@ const REFUSED: &[&str] = &[
 #[test]
 fn lines(rt: HostRuntime) -> Result<(), Fail> {
     let alloc = rt.alloc();
-    let good = report(alloc, 0, FIRST_TEXT, b"")?;
+    let good = report_of(alloc, "new 1.1;ok;num 7;nil")?;
     let usage = report(alloc, 2, b"", USAGE)?;
     for (lines, want) in [(SUPPORTED, &good), (REFUSED, &usage)] {
         for line in lines {
@@ -117,7 +114,7 @@ fn lines(rt: HostRuntime) -> Result<(), Fail> {
             assert!(rt; ran.as_slice() == want.as_slice(), "{line}");
         }
     }
-    let no_word = run_gated(&rt, alloc, &[], Vec::new(alloc), &OpenGate)?;
+    let no_word = run_words(&rt, alloc, &[], Vec::new(alloc))?;
     assert!(rt; no_word.as_slice() == usage.as_slice());
     Ok(())
 }

@@ -9,7 +9,11 @@ use work_packets::{Gate, OpenGate};
 
 pub(crate) const FIRST: &str = "new r0 1 1;write r0 0 7;read r0 0;get r1 r0 0";
 
-pub(crate) const FIRST_TEXT: &[u8] = b"mutator 1\nnew 1.1\nok\nnum 7\nnil\n";
+// The text of `FIRST` under plan `nogc`, in four blocks.
+pub(crate) const FIRST_TEXT: &str = "mutator 1\nnew 1.1\nok\nnum 7\nnil\nplan nogc\nblocks 4\n\
+    mutators 1\ncommands 4\nfull 0\ncollections nursery 0 full 0\n\
+    live objects 1 words 5\nheld objects 1 words 5\n\
+    kinds free 3 bump 1 young 0 mature 0 immix 0 cells 0 large 0 kept 0\n";
 
 // The arguments in a line: one before each space, and one after the last.
 pub(crate) fn words_in(alloc: Global, line: &str) -> Result<Vec<String>, AllocError> {
@@ -31,7 +35,7 @@ fn push_line(text: &mut Vec<u8>, count: u32, line: &str) -> Result<(), AllocErro
 
 // Appends the lines that semicolons separate, no line if there is no text. `3*gc` stands for three
 // lines `gc`.
-fn push_lines(text: &mut Vec<u8>, lines: &str) -> Result<(), AllocError> {
+pub(crate) fn push_lines(text: &mut Vec<u8>, lines: &str) -> Result<(), AllocError> {
     if lines.is_empty() {
         return Ok(());
     }
@@ -77,14 +81,30 @@ pub(crate) fn report(
     Ok(text)
 }
 
-// The report of a run that ends well. Bars separate the mutators, and semicolons their replies.
-pub(crate) fn report_of(alloc: Global, replies: &str) -> Result<Vec<u8>, AllocError> {
+// The text of replies. Bars separate the mutators, and semicolons their replies.
+pub(crate) fn text_of_replies(alloc: Global, replies: &str) -> Result<Vec<u8>, AllocError> {
     let mut text = Vec::new(alloc);
     for (m, replies) in replies.split('|').enumerate() {
         push_line(&mut text, 1, &format!(in alloc; "mutator {}", m + 1)?)?;
         push_lines(&mut text, replies)?;
     }
-    report(alloc, 0, &text, b"")
+    Ok(text)
+}
+
+// The report of a run that ends well, by its replies alone.
+pub(crate) fn report_of(alloc: Global, replies: &str) -> Result<Vec<u8>, AllocError> {
+    report(alloc, 0, &text_of_replies(alloc, replies)?, b"")
+}
+
+// What a run reports, without what its text says after the replies.
+fn replies_alone(alloc: Global, ran: &[u8]) -> Result<Vec<u8>, AllocError> {
+    let text = str::from_utf8(ran).unwrap_or("");
+    match (text.split_once("\nplan "), text.rsplit_once('|')) {
+        (Some((replies, _)), Some((_, err))) => {
+            Ok(format!(in alloc; "{replies}\n|{err}")?.into_bytes())
+        }
+        _ => ran.to_vec(alloc),
+    }
 }
 
 // Runs the program with a list of arguments, through a gate, and returns its exit number.
@@ -100,8 +120,8 @@ pub(crate) fn number_of_run<R: Threads + Sync, S: Sources, O: Sink, E: Sink, G: 
     run(rt, alloc, words, sources, out, err, gate).number()
 }
 
-// Runs the program with a list of arguments over these files, through a gate.
-pub(crate) fn run_gated<R: Threads + Sync, G: Gate>(
+// Runs the program with a list of arguments over these files, through a gate, and reports all.
+pub(crate) fn run_whole<R: Threads + Sync, G: Gate>(
     rt: &R,
     alloc: Global,
     words: &[String],
@@ -115,6 +135,16 @@ pub(crate) fn run_gated<R: Threads + Sync, G: Gate>(
     report(alloc, number, out.bytes(), err.bytes())
 }
 
+// Runs the program with a list of arguments over these files, and reports the replies alone.
+pub(crate) fn run_words<R: Threads + Sync>(
+    rt: &R,
+    alloc: Global,
+    words: &[String],
+    files: Vec<(String, Vec<u8>)>,
+) -> Result<Vec<u8>, AllocError> {
+    replies_alone(alloc, &run_whole(rt, alloc, words, files, &OpenGate)?)
+}
+
 // Runs the program with the arguments in a line. File `a` has this content.
 pub(crate) fn run_line<R: Threads + Sync>(
     rt: &R,
@@ -123,11 +153,30 @@ pub(crate) fn run_line<R: Threads + Sync>(
     content: Vec<u8>,
 ) -> Result<Vec<u8>, AllocError> {
     let words = words_in(alloc, line)?;
-    run_gated(rt, alloc, &words, file_of(alloc, "a", content)?, &OpenGate)
+    run_words(rt, alloc, &words, file_of(alloc, "a", content)?)
 }
 
-// Runs one trace for each mutator, under a plan, through a gate. Bars separate the traces; their
-// files are `f0`, `f1` and so on.
+// Runs one trace for each mutator, with these options, through a gate, and reports all. Bars
+// separate the traces; their files are `f0`, `f1` and so on.
+pub(crate) fn run_options<R: Threads + Sync, G: Gate>(
+    rt: &R,
+    alloc: Global,
+    options: &str,
+    traces: &str,
+    gate: &G,
+) -> Result<Vec<u8>, AllocError> {
+    let mut line = String::from_str(alloc, options)?;
+    let mut files = Vec::new(alloc);
+    for (m, commands) in traces.split('|').enumerate() {
+        let name = format!(in alloc; "f{m}")?;
+        write!(line, " {name}")?;
+        files.push((name, trace_in(alloc, commands)?))?;
+    }
+    let words = words_in(alloc, &line)?;
+    run_whole(rt, alloc, &words, files, gate)
+}
+
+// Runs one trace for each mutator, under a plan, through a gate, and reports the replies alone.
 pub(crate) fn run_traces<R: Threads + Sync, G: Gate>(
     rt: &R,
     alloc: Global,
@@ -136,15 +185,8 @@ pub(crate) fn run_traces<R: Threads + Sync, G: Gate>(
     traces: &str,
     gate: &G,
 ) -> Result<Vec<u8>, AllocError> {
-    let mut line = format!(in alloc; "--plan {plan} --heap {heap}")?;
-    let mut files = Vec::new(alloc);
-    for (m, commands) in traces.split('|').enumerate() {
-        let name = format!(in alloc; "f{m}")?;
-        write!(line, " {name}")?;
-        files.push((name, trace_in(alloc, commands)?))?;
-    }
-    let words = words_in(alloc, &line)?;
-    run_gated(rt, alloc, &words, files, gate)
+    let options = format!(in alloc; "--plan {plan} --heap {heap}")?;
+    replies_alone(alloc, &run_options(rt, alloc, &options, traces, gate)?)
 }
 
 // The run of these traces has this report under each of the plans.

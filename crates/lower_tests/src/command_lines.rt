@@ -63,22 +63,21 @@ const IMPLEMENTED: &str = "--plan nogc --heap 4 a b\n\
     --plan gencopy --heap 4 a b\n\
     --plan immix --heap 4 a b\n\
     --plan stickyimmix --heap 4 a b\n\
+    --heap=4 --plan=stickyimmix --map a\n\
+    --map --plan nogc --heap 4 a\n\
+    --plan semispace --heap 4 --map a b\n\
+    --plan nogc --heap 4 --make 5\n\
+    --plan semispace --heap 4 --make 5\n\
+    --make=1 --plan nogc --heap 4\n\
     --plan nogc --heap 4 a b c d e f g h i j k l m n o p";
 
 const NOT_IMPLEMENTED: &str = "--plan stickyimmix --heap 4 --workers 2 a\n\
-    --heap=4 --plan=stickyimmix --map a\n\
     --plan gencopy --heap 4 --workers 2 a\n\
     --plan nogc --heap 4 --workers 2 a\n\
     --plan nogc --heap 4 --workers 16 a\n\
     --plan semispace --heap 4 --workers 2 a\n\
     --plan marksweep --heap 4 --workers 2 a\n\
     --plan immix --heap 4 --workers 2 a\n\
-    --plan nogc --heap 4 --map a\n\
-    --map --plan nogc --heap 4 a\n\
-    --plan semispace --heap 4 --map a\n\
-    --plan nogc --heap 4 --make 5\n\
-    --plan semispace --heap 4 --make 5\n\
-    --make=1 --plan nogc --heap 4\n\
     --plan nogc --make 1000000 --workers 3 --heap 4\n\
     --plan nogc --heap 4 --workers 2 a b c d e f g h i j k l m n o p";
 

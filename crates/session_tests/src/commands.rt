@@ -114,7 +114,25 @@ fn push_lines(text: &mut Vec<u8>, lines: &str) -> Result<(), AllocError> {
     Ok(())
 }
 
-/// The commands of a trace, with semicolons between them: `first`, so often `again`, and `last`.
+/// The text of a trace of commands, with semicolons between them: `first`, so often `again`, and
+/// `last`.
+pub(crate) fn trace_in(
+    alloc: Global,
+    first: &str,
+    count: u32,
+    again: &str,
+    last: &str,
+) -> Result<Vec<u8>, AllocError> {
+    let mut text = Vec::from_slice(alloc, b"mmtrace 1\n")?;
+    push_lines(&mut text, first)?;
+    for _ in 0..count {
+        push_lines(&mut text, again)?;
+    }
+    push_lines(&mut text, last)?;
+    Ok(text)
+}
+
+/// The commands of such a trace.
 pub(crate) fn commands_in(
     alloc: Global,
     first: &str,
@@ -122,11 +140,5 @@ pub(crate) fn commands_in(
     again: &str,
     last: &str,
 ) -> Result<Vec<Command>, Fail> {
-    let mut text = Vec::from_slice(alloc, b"mmtrace 1\n")?;
-    push_lines(&mut text, first)?;
-    for _ in 0..count {
-        push_lines(&mut text, again)?;
-    }
-    push_lines(&mut text, last)?;
-    Ok(read_trace(alloc, &text)?)
+    Ok(read_trace(alloc, &trace_in(alloc, first, count, again, last)?)?)
 }

@@ -9,6 +9,8 @@ mod fragments;
 #[cfg(test)]
 mod graph_tests;
 #[cfg(test)]
+mod map_tests;
+#[cfg(test)]
 mod nursery_tests;
 #[cfg(test)]
 mod reply_tests;

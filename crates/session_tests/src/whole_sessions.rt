@@ -4,6 +4,7 @@ ghost use Rattle.std.specs.Prelude.{◌≤◌, ℕ, All, IsTrue, length};
 ghost use Rattle.managed_heap.specs.Stopped.{IsManaged};
 ghost use Rattle.mm_runtime.specs.Managers.{ClosesSome, IsRunnableTrace};
 
+use driver::session_text;
 use heap_graph::{Place, graph};
 use heap_layout::{Kind, Layout};
 use ideal_heap::{Command, Reply, valid};
@@ -31,7 +32,8 @@ pub(crate) enum Under {
 
 /// What a session left: the replies of each mutator, the roots, the objects that they reach, the
 /// kinds of the blocks, the numbers of held objects and of their words, those of nursery and full
-/// collections, and that of stops at which nursery collections alone were made.
+/// collections, that of stops at which nursery collections alone were made, where each held object
+/// lies, and the text with the map.
 #[derive(Drop)]
 pub(crate) struct End {
     pub(crate) replies: Vec<Vec<Reply>>,
@@ -41,6 +43,8 @@ pub(crate) struct End {
     pub(crate) held: (u64, u64),
     pub(crate) collections: (u64, u64),
     pub(crate) nursery_stops: u64,
+    pub(crate) all_places: Vec<Place>,
+    pub(crate) text: Vec<u8>,
 }
 
 fn is_runnable(trace: &[Command]) -> bool
@@ -77,16 +81,45 @@ fn kinds_of(alloc: Global, heap: &Heap) -> Result<Vec<Kind>, AllocError> {
     Ok(kinds)
 }
 
-// The numbers of held objects and of their words, by a look at each address.
-fn held_in(heap: &Heap) -> (u64, u64) {
-    let (mut objects, mut words) = (0u64, 0u64);
+// Where each held object lies, by a look at each address.
+fn held_in(alloc: Global, heap: &Heap) -> Result<Vec<Place>, AllocError> {
+    let mut places = Vec::new(alloc);
     for address in heap.layout().heap_base()..heap.layout().words() {
         if heap.held(address) {
-            objects = objects.wrapping_add(1);
-            words = words.wrapping_add(u64::from(size_words(&heap.shape_at(address))));
+            places.push(Place {
+                name: heap.name_at(address),
+                at: address,
+                size: size_words(&heap.shape_at(address)),
+            })?;
         }
     }
-    (objects, words)
+    Ok(places)
+}
+
+// The numbers of these objects and of their words.
+fn counts_of(places: &[Place]) -> (u64, u64) {
+    let mut words = 0u64;
+    for place in places {
+        words = words.wrapping_add(u64::from(place.size));
+    }
+    (places.len() as u64, words)
+}
+
+// The heap's own counts are those of plain walks.
+fn check_counts(rt: &impl Abort, heap: &Heap, held: (u64, u64), kinds: &[Kind]) {
+    let (objects, words) = heap.held_count();
+    assert_eq!(rt; (u64::from(objects), words), held);
+    for kind in [
+        Kind::Free,
+        Kind::Bump,
+        Kind::Young,
+        Kind::Immix,
+        Kind::Cells,
+        Kind::LargeTail,
+    ] {
+        let count = kinds.iter().filter(|k| **k == kind).count();
+        assert_eq!(rt; heap.kind_count(kind) as usize, count, "{kind:?}");
+    }
 }
 
 // What a session leaves, with the objects that `from` reaches, or all roots if it is empty.
@@ -110,14 +143,21 @@ fn end_of<P: Plan>(
         from
     };
     let places = graph_from(rt, alloc, manager.heap(), from)?;
+    let kinds = kinds_of(alloc, manager.heap())?;
+    let all_places = held_in(alloc, manager.heap())?;
+    let held = counts_of(&all_places);
+    check_counts(rt, manager.heap(), held, &kinds);
+    let text = session_text(alloc, &manager, true)?;
     Ok(End {
         replies,
         roots,
         places,
-        kinds: kinds_of(alloc, manager.heap())?,
-        held: held_in(manager.heap()),
+        kinds,
+        held,
         collections: manager.collections(),
         nursery_stops,
+        all_places,
+        text,
     })
 }
 

@@ -18,9 +18,10 @@ use std::thread::Threads;
 
 /// A step in short. Of the first mutator, `n` makes an object in a register with so many references
 /// and numbers, `p` stores into the object of a register, at an index, the object of another one,
-/// `g` lets a global refer to the object of a register, `x` pins one, and `d` clears a register.
-/// `l` makes an object of the last mutator. `B` places a large object like `n`, at a stop and if
-/// there is a run of Free blocks. `N` is a nursery collection, and `F` a full one.
+/// `g` lets a global refer to the object of a register, `x` pins one, `m` copies a register to the
+/// first, and `d` clears a register. `*` takes all commands since the last stop again, so many
+/// times. `l` makes an object of the last mutator. `B` places a large object like `n`, at a stop
+/// and if there is a run of Free blocks. `N` is a nursery collection, and `F` a full one.
 type Step = (char, u32, u32, u32);
 
 /// Of each collection how many objects it kept and moved, and how many blocks are Free then.
@@ -38,7 +39,7 @@ const F: Step = ('F', 0, 0, 0);
 
 const N: Step = ('N', 0, 0, 0);
 
-const CASES: [Case; 10] = [
+const CASES: [Case; 11] = [
     // Nothing is young.
     Case {
         blocks: 8,
@@ -221,6 +222,40 @@ const CASES: [Case; 10] = [
         copied: &[(1, 1, 3), (3, 0, 0), (4, 0, 0)],
         in_place: &[(1, 1, 3), (4, 0, 0), (5, 0, 0)],
     },
+    // Old objects in every second line, young ones between them that die, and new ones in the lines
+    // of these. All are of one line, and fill a block.
+    Case {
+        blocks: 4,
+        steps: &[
+            F,
+            ('n', 1, 1, 12),
+            ('p', 1, 0, 0),
+            ('m', 1, 0, 0),
+            ('n', 1, 0, 13),
+            ('*', 127, 0, 0),
+            ('d', 1, 0, 0),
+            N,
+            ('n', 1, 0, 13),
+            ('*', 127, 0, 0),
+            ('d', 1, 0, 0),
+            N,
+            ('n', 1, 1, 12),
+            ('p', 1, 0, 0),
+            ('m', 1, 0, 0),
+            ('*', 127, 0, 0),
+            ('d', 1, 0, 0),
+            N,
+            F,
+        ],
+        copied: &[
+            (0, 0, 4),
+            (128, 128, 3),
+            (0, 0, 3),
+            (128, 128, 2),
+            (256, 256, 3),
+        ],
+        in_place: &[(0, 0, 4), (128, 0, 3), (0, 0, 3), (128, 0, 3), (256, 0, 3)],
+    },
 ];
 
 // One Free block is left: one object of each of two blocks moves there, and one stays in each.
@@ -252,6 +287,7 @@ fn command_of(step: &Step) -> Option<(u32, Command)> {
         'p' => Command::Put { s: a, i: b, v: c },
         'g' => Command::Share { g: a, s: b },
         'x' => Command::Pin { s: a },
+        'm' => Command::Move { d: 0, s: a },
         'd' => Command::DropReg { s: a },
         _ => return None,
     };
@@ -284,6 +320,15 @@ fn act<P: Plan, R: Abort + Threads + Sync>(
     Ok(aged)
 }
 
+// Adds all commands again, so many times.
+fn repeat(alloc: Global, commands: &mut Vec<(u32, Command)>, times: u32) -> Result<(), AllocError> {
+    let once = commands.as_slice().to_vec(alloc)?;
+    for _ in 0..times {
+        commands.extend_from_slice(&once)?;
+    }
+    Ok(())
+}
+
 // Takes the steps, and compares what is noted of the collections.
 fn play<P: Plan, R: Abort + Threads + Sync>(
     rt: &R,
@@ -300,6 +345,8 @@ fn play<P: Plan, R: Abort + Threads + Sync>(
     for step in case.steps {
         if let Some(command) = command_of(step) {
             commands.push(command)?;
+        } else if step.0 == '*' {
+            repeat(alloc, &mut commands, step.1)?;
         } else {
             aged = epoch::<P>(rt, alloc, aged, &commands)?;
             commands.clear();
