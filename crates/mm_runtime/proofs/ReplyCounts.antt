@@ -16,9 +16,6 @@ pub record SumsFirst (f : Progress → ℕ) (ps : List Progress) (i n : ℕ) : T
   pub sum : n ≡ sum_by f (take i ps)
   pub few : n ≤ 1000000 * i
 
-pub none-summed : (f : Progress → ℕ) (ps : List Progress) → SumsFirst f ps 0 0
-none-summed f ps = record { sum = refl; few = omega arith }
-
 pub one-summed : (f : Progress → ℕ) (ps ys : List Progress) (i n : ℕ) (p : Progress) → SumsFirst f ps i n → ys ≡ ps → i < length ys → p ≡ get_or ys i p → f p ≤ 1000000
     → SumsFirst f ps (i + 1) (n + f p)
 one-summed f ps ys i n p before same below is few = record {
