@@ -21,3 +21,4 @@ pub mod EpochEnds
 pub mod SeenWords
 pub mod LoadedWords
 pub mod Left
+pub mod SomeIdeal

@@ -1,8 +1,8 @@
 -- Small epochs and lists of events for the worked examples.
-use Rattle.std.specs.Prelude.{ℕ, ◌+◌, true, List, [], ◌∷◌, ◌++◌, map, replicate}
+use Rattle.std.specs.Prelude.{ℕ, ◌+◌, true, List, [], ◌∷◌, ◌++◌, map, replicate, slice_set}
 use Rattle.heap_layout.specs.Zones.{heap_of}
 use Rattle.ideal_heap.specs.declared.command.Command.TheVariants as c
-use Rattle.object_model.specs.Objects.{empty_heap}
+use Rattle.object_model.specs.Objects.{empty_heap, with_words}
 use Rattle.object_model.specs.Graphs.{new_mutator}
 use Rattle.sessions.specs.Plans.{Plan, NoGc, GenCopy, rules_of}
 use Rattle.mutator_core.specs.declared.state.Event.{Event}
@@ -85,6 +85,22 @@ old_object_epoch = record {
 abbrev pub barrier_events : List (ℕ × Event)
 barrier_events = (1, e.LoadShape 0) ∷ (1, e.LoadCollector 0) ∷ (1, e.LoadUnlog 0)
     ∷ (1, e.ClearUnlog 0) ∷ []
+
+-- the same epoch, but the block word is not that of a Free block, and some line bits are set
+abbrev pub used_block_epoch : Epoch
+used_block_epoch = record old_object_epoch {
+  before = with_words old_object_epoch.before
+      (slice_set (slice_set old_object_epoch.before.words 18 2) 19 5);
+}
+
+-- loads of the block word, of a line word and a start word, and of the object's header words, by
+-- its register and then, once its start bit is seen, by its address
+abbrev pub load_events : List (ℕ × Event)
+load_events = (1, e.LoadBlock 0) ∷ (1, e.LoadSide 19) ∷ (1, e.LoadSide 23) ∷ (1, e.LoadName 0)
+    ∷ (1, e.LoadShapeAt 215) ∷ []
+
+abbrev pub load_log : List LogEntry
+load_log = log_of used_block_epoch (first_machine used_block_epoch) load_events
 
 -- four blocks of an empty heap, and two mutators that have allocated nothing
 abbrev pub empty_epoch : Epoch

@@ -6,7 +6,7 @@ pub use Rattle.ideal_heap.specs.Runs.{IsRun, entry, heap_after_run}
 pub use Rattle.ideal_heap.specs.declared.command.Command.{Command}
 pub use Rattle.mutator_core.specs.Closing.{GivesBack}
 pub use Rattle.mutator_core.specs.Epochs.{EpochMayBegin}
-pub use Rattle.mutator_core.specs.Examples.{barrier_events, birth_events, empty_epoch, log_of, mixed_log, old_object_epoch, separate_events, share_events, small_epoch}
+pub use Rattle.mutator_core.specs.Examples.{barrier_events, birth_events, empty_epoch, load_log, log_of, mixed_log, old_object_epoch, separate_events, share_events, small_epoch, used_block_epoch}
 pub use Rattle.mutator_core.specs.Guards.{BeginsRegion, HasTicket, IsPlaceOfMutator, allowance}
 pub use Rattle.mutator_core.specs.Histories.{IsLog, entries_of, entry_of, history, reply_in}
 pub use Rattle.mutator_core.specs.Logs.{AreBetweenCalls, HasAvailable, HasRaisedStop, IsEpochLog, IsListed, IsOwnedBy, IsStoppedAfter, IsTaken, IsUnpublishedWord, IsUntaken, heap_after, history_of, local_after_log, machine_after, mutators_after, sum_after}

@@ -1,7 +1,7 @@
 //! Worked examples: lists of events with their histories.
 
 ghost use Rattle.std.specs.Prelude.{◌≡◌, ℕ, ◌≤◌, List, [], ◌∷◌, ◌++◌, length, map, true};
-ghost use Rattle.mutator_core.specs.Prelude.{empty, name, entry, empty_heap, new_mutator, NoGc, Plan, rules_of, first_machine, history, IsLog, EpochMayBegin, small_epoch, log_of, birth_events, share_events, separate_events, old_object_epoch, barrier_events, empty_epoch, mixed_log, IsEpochLog, history_of, local_after_log, AreBetweenCalls};
+ghost use Rattle.mutator_core.specs.Prelude.{empty, name, entry, empty_heap, new_mutator, NoGc, Plan, rules_of, first_machine, history, IsLog, EpochMayBegin, small_epoch, log_of, birth_events, share_events, separate_events, old_object_epoch, barrier_events, empty_epoch, mixed_log, used_block_epoch, load_log, HasSeenUsed, IsEpochLog, history_of, local_after_log, AreBetweenCalls};
 ghost use Rattle.mutator_core.specs.Prelude.commands;
 ghost use Rattle.mutator_core.specs.Prelude.replies;
 ghost use Rattle.mutator_core.specs.Prelude.event;
@@ -137,6 +137,23 @@ pub fn barriers_before_stores()
     ensures nil { IsLog old_object_epoch (first_machine old_object_epoch)
         (log_of old_object_epoch (first_machine old_object_epoch)
         ((1, event.LoadUnlog 1) ∷ [])) → ⊥ }
+{}
+
+/// A load that is no part of an entry is recorded, with the word that it found: a block word by its
+/// block, the others by their index of the row. The shape word of an object that no register holds
+/// may be loaded once the object's start bit was seen.
+pub fn loads_are_recorded()
+    ensures steps { IsLog used_block_epoch (first_machine used_block_epoch) load_log }
+    ensures blocks { (local_after_log used_block_epoch load_log 1).blocks
+        ≡ (record { at = 0; word = 2 }) ∷ [] }
+    ensures used { HasSeenUsed (local_after_log used_block_epoch load_log 1) 0 }
+    ensures words { (local_after_log used_block_epoch load_log 1).loaded
+        ≡ (record { at = 216; word = 1 }) ∷ (record { at = 215; word = 33 })
+        ∷ (record { at = 23; word = 1 }) ∷ (record { at = 19; word = 5 }) ∷ [] }
+    ensures unseen { IsLog used_block_epoch (first_machine used_block_epoch)
+        (log_of used_block_epoch (first_machine used_block_epoch)
+        ((1, event.LoadBlock 0) ∷ (1, event.LoadName 0) ∷ (1, event.LoadShapeAt 215) ∷ []))
+        → ⊥ }
 {}
 
 /// Under each plan an epoch may begin with an empty heap and up to `MAX_MUTATORS` mutators that

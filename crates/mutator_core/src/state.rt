@@ -79,6 +79,7 @@ pub struct Local {
 
 /// One atomic step of a mutator, on at most one word of the row. A register is given by its number,
 /// and an object by its address or by the register that holds its address.
+#[derive(Clone, Copy)]
 pub enum Event {
     /// The step at which a command takes effect and gets its entry in the history.
     Perform(Command),

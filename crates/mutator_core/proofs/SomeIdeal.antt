@@ -11,7 +11,7 @@ use Rattle.ideal_heap.specs.Names.{name, same_name}
 use Rattle.ideal_heap.specs.Ideal.{IdealHeap, IsConfined}
 use Rattle.object_model.specs.Objects.{HeapState, global_at, is_start, is_pinned, IsHeld, name_at, record_at}
 use Rattle.object_model.specs.Lawful.{IsLawful, IsWellFormed, IsRoot}
-use Rattle.object_model.specs.Graphs.{MutatorState, IsMutatorState, AreDifferent, AreRegisters, PointsTo, Represents, register_at, numbers_of}
+use Rattle.object_model.specs.Graphs.{MutatorState, IsMutatorState, AreDifferent, AreMutators, AreRegisters, PointsTo, Represents, register_at, numbers_of}
 use Rattle.object_model.specs.Agreement.{RepresentsOn}
 use Rattle.object_model.proofs.Among.{all-at, one-number, number-among}
 use Rattle.object_model.proofs.Marks as marks
@@ -19,7 +19,6 @@ use Rattle.object_model.proofs.Representation as standing
 use Rattle.mutator_core.specs.declared.state.Local.{Local}
 use Rattle.mutator_core.specs.Machine.{first_local, first_local_of}
 use Rattle.mutator_core.proofs.Beginnings.{differ-head, differ-tail}
-use Rattle.heap_users.specs.Beginnings.{MayUse}
 
 -- the one element that passes a test is found, and what is found passes it
 pub found-only : (p : ℕ → Bool) (n from a : ℕ) → IsTrue (p a) → from ≤ a → a < from + n → ((x : ℕ) → IsTrue (p x) → x ≡ a) → find p (range_with_len from n) ≡ Some a
@@ -104,7 +103,8 @@ names-equal a b is =
 same-names : (a : Name) → IsTrue (same_name a a)
 same-names a = ap (λ b. b && nat_eq a.birth a.birth) (eq-eqb a.mutator a.mutator refl) ∙ eq-eqb a.birth a.birth refl
 
-module _ (s : HeapState) (ms : List MutatorState) (lawful : IsLawful s) (may : MayUse s ms) where
+module _ (s : HeapState) (ms : List MutatorState) (lawful : IsLawful s) (mutators : AreMutators ms) (registers : AllByRecursion (λ m. AreRegisters s m.registers) ms)
+    (names : (a : ℕ) → IsHeld s a → Any (λ m. ((name_at s a).mutator ≡ m.number) × ((name_at s a).birth ≤ m.births)) ms) where
   order : IsWellFormed s
   order = lawful.but_lines.order
 
@@ -128,11 +128,11 @@ module _ (s : HeapState) (ms : List MutatorState) (lawful : IsLawful s) (may : M
   ]
 
   own : (m : MutatorState) → Contains ms m → first_local_of ms m.number ≡ first_local m
-  own m known = own-local ms m may.mutators.differ known
+  own m known = own-local ms m mutators.differ known
 
   register-points : (m : MutatorState) → Contains ms m → (d : ℕ) → d < 16 → PointsTo s (register_at m d) (h.registers m.number d)
   register-points m known d small = subst (λ (l : Local). PointsTo s (register_at m d) (name_in_word s (slice_index l.registers d))) (sym (own m known))
-      (word-points s (register_at m d) (all-at (λ x. AreRegisters s x.registers) ms m may.registers known d small))
+      (word-points s (register_at m d) (all-at (λ x. AreRegisters s x.registers) ms m registers known d small))
 
   confined : IsConfined (numbers_of ms) h
   confined = record {
@@ -142,7 +142,7 @@ module _ (s : HeapState) (ms : List MutatorState) (lawful : IsLawful s) (may : M
           elim (cases_lt d 16) as (λ _. d < 16) [
             | inl small ↦ small
             | inr large ↦ absurd (some (ap (λ (l : Local). slice_index l.registers d) one.3
-                ∙ get_or_past one.0.registers d 0 (let many : length one.0.registers ≡ 16 = (all-at IsMutatorState ms one.0 may.mutators.each one.1).registers in omega arith)))
+                ∙ get_or_past one.0.registers d 0 (let many : length one.0.registers ≡ 16 = (all-at IsMutatorState ms one.0 mutators.each one.1).registers in omega arith)))
           ],
           subst (Contains (numbers_of ms)) one.2 (number-among ms one.0 one.1),
         );
@@ -155,7 +155,7 @@ module _ (s : HeapState) (ms : List MutatorState) (lawful : IsLawful s) (may : M
   ideal-models : RepresentsOn s ms h (IsHeld s)
   ideal-models = record {
     order = order;
-    mutators = may.mutators;
+    mutators = mutators;
     pointers = record {
       registers = all-members (λ m. (d : ℕ) → d < 16 → PointsTo s (register_at m d) (h.registers m.number d)) ms register-points;
       globals = λ g small. subst (PointsTo s (global_at s g)) (sym (cond-true (nat_lt g 16) (name_in_word s (global_at s g)) None (lt-ltb g 16 small)))
@@ -164,15 +164,15 @@ module _ (s : HeapState) (ms : List MutatorState) (lawful : IsLawful s) (may : M
     };
     births = record {
       births = all-members (λ m. h.births m.number ≡ m.births) ms (λ m known. ap (λ (l : Local). l.births) (own m known));
-      held = may.names;
+      held = names;
       pinned = λ n is. let there = named-held n is in
-          one-number (λ m. n.birth ≤ m.births) n.mutator ms may.mutators.differ
-          (subst (λ (k : Name). Any (λ m. (k.mutator ≡ m.number) × (k.birth ≤ m.births)) ms) there.2 (may.names there.0 there.1));
+          one-number (λ m. n.birth ≤ m.births) n.mutator ms mutators.differ
+          (subst (λ (k : Name). Any (λ m. (k.mutator ≡ m.number) × (k.birth ≤ m.births)) ms) there.2 (names there.0 there.1));
     };
     mirrors = record {
       held = λ a holds. holds;
       fields = λ a i holds less some. order.objects.references a i holds less some;
-      registers = may.registers;
+      registers = registers;
       globals = order.objects.globals;
       records = λ a holds. ap (option_map (record_at s)) (place-held a holds);
       pins = λ a holds. subst (λ (b : Bool). IsTrue (is_pinned s a) ↔ IsTrue b) (sym (ap (λ o. option_map_or (is_pinned s) o false) (place-held a holds))) (λ is. is, λ is. is);
