@@ -184,8 +184,8 @@ abbrev pub MatchAllocated : Allocated → (Name → Type 0) → (Need → Type 0
 MatchAllocated (Made n) P Q = P n
 MatchAllocated (Stop need) P Q = Q need
 
--- What an allocation's promise reads of a mutator's states: ghost members of `MutatorSteps`, under
--- their names.
+-- What an allocation's promise reads of a mutator's states: ghost members of `AllocationSteps` and
+-- `makes_steps`, under their names.
 pub record AllocationReads (S : Type 0) : Type 1 where
   pub makes_steps : S → Effect → S → Type 0
   pub has_no_room : S → ℕ → ℕ → Type 0
@@ -238,14 +238,13 @@ search_of {S} reads before size after = record {
 
 -- A search has made a region with room of the size, by steps of this effect. If it kept the hole
 -- region, an object of the size would overflow it still.
-pub record MakesRoom {S : Type 0} (reads : AllocationReads S) (next : ℕ → Type 0)
-    (old : S) (size : ℕ) (new : S) : Type 0 where
+pub record MakesRoom {S : Type 0} (reads : AllocationReads S) (old : S) (size : ℕ) (new : S)
+    : Type 0 where
   pub taken : List ℕ
   pub granted : List ℕ
   pub drawn : ℕ
   pub effect : reads.makes_steps old (searches taken granted drawn) new
   pub finds : FindsRoom (record (search_of reads old size new) {
-    next = next;
     kept = reads.keeps_hole old new × reads.is_overflow new size;
   }) taken granted drawn
 

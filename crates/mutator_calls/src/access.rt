@@ -128,6 +128,8 @@ fn needs_log<S: MutatorSteps>(seat: &mut S, s: u32) -> bool
     ensures needed { result ≡ true
         → S.has_ages seat.old × S.is_aged seat.old s × S.is_marked seat.old s }
     ensures barred { result ≡ false → S.may_store_unlogged seat.new s }
+    ensures shapes { (q : ℕ) (shape : Shape) → S.has_shape seat.old q shape
+        → S.has_shape seat.new q shape }
 {
     seat.is_generational() && seat.is_old(s) && seat.is_unlogged(s)
 }

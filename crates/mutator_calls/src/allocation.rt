@@ -5,14 +5,14 @@ ghost use Rattle.object_model.specs.Objects.{size_of};
 ghost use Rattle.mutator_calls.specs.Effects.{nothing, takes, grants, draws};
 ghost use Rattle.mutator_calls.specs.Allocating.{searches, allocation_reads, IsNextTicket, IsSpent, Draws, MakesRoom, TakesFree, IsShort, IsCause, AnswersAllocation};
 
-use crate::mutator_steps::MutatorSteps;
+use crate::allocation_steps::AllocationSteps;
 use crate::need::{Allocated, Need, NeedCause};
 use ideal_heap::{MAX_NUMS, MAX_REFS, REGISTERS};
 use object_model::{HEADER_WORDS, MAX_MEDIUM_WORDS, Shape, size_words};
 
 /// Makes the first hole with room for `size` words, in ascending order of blocks, the seat's
 /// region. Returns whether there was one.
-fn take_some_hole<S: MutatorSteps>(seat: &mut S, size: u32) -> bool
+fn take_some_hole<S: AllocationSteps>(seat: &mut S, size: u32) -> bool
     requires ready { S.is_ready seat.old }
     requires least { HEADER_WORDS ≤ size }
     requires most { size ≤ MAX_MEDIUM_WORDS }
@@ -41,11 +41,12 @@ fn take_some_hole<S: MutatorSteps>(seat: &mut S, size: u32) -> bool
 }
 
 /// The mutator's ticket, which is drawn if it has none.
-fn hold_ticket<S: MutatorSteps>(seat: &mut S) -> u32
+fn hold_ticket<S: AllocationSteps>(seat: &mut S) -> u32
     requires { S.is_ready seat.old }
     ensures ready { S.is_ready seat.new }
     ensures goes { (drawn : ℕ) × S.makes_steps seat.old (draws drawn) seat.new
-        × Draws (S.has_budget seat.old) (S.books seat.old).ticket (Some result) drawn }
+        × Draws (IsNextTicket S.makes_steps S.has_budget seat.old) (S.books seat.old).ticket
+        (Some result) drawn }
     ensures full { (n : ℕ) → S.is_full seat.old n → S.is_full seat.new n }
     ensures stays { (n k : ℕ) → S.has_no_room seat.old n k → S.has_no_room seat.new n k }
     ensures lacked { (n k : ℕ) → S.allocates_in seat.old n k → S.has_no_room seat.new n k
@@ -61,7 +62,7 @@ fn hold_ticket<S: MutatorSteps>(seat: &mut S) -> u32
 
 /// Takes the first Free block with the mutator's ticket. There is one, since the ticket is below
 /// the allowance.
-fn take_some_free<S: MutatorSteps>(seat: &mut S, size: u32)
+fn take_some_free<S: AllocationSteps>(seat: &mut S, size: u32)
     requires ready { S.is_ready seat.old }
     requires least { HEADER_WORDS ≤ size }
     requires most { size ≤ MAX_MEDIUM_WORDS }
@@ -86,7 +87,7 @@ fn take_some_free<S: MutatorSteps>(seat: &mut S, size: u32)
 
 /// Takes the first Free block with the mutator's ticket, which is drawn if it has none. The error
 /// is a ticket that is not below the allowance.
-fn take_free_block<S: MutatorSteps>(seat: &mut S, size: u32) -> Result<(), u32>
+fn take_free_block<S: AllocationSteps>(seat: &mut S, size: u32) -> Result<(), u32>
     requires ready { S.is_ready seat.old }
     requires least { HEADER_WORDS ≤ size }
     requires most { size ≤ MAX_MEDIUM_WORDS }
@@ -94,8 +95,9 @@ fn take_free_block<S: MutatorSteps>(seat: &mut S, size: u32) -> Result<(), u32>
     ensures offered { IsOk result → S.offers_room seat.old seat.new size }
     ensures takes { IsOk result → (k : ℕ) × (drawn : ℕ)
         × S.makes_steps seat.old (searches (k ∷ []) (k ∷ []) drawn) seat.new
-        × TakesFree (S.is_used seat.new) (S.allocates_in seat.new size) (S.has_budget seat.old)
-        (S.books seat.old) (S.books seat.new) k drawn
+        × TakesFree (S.is_used seat.new) (S.allocates_in seat.new size)
+        (IsNextTicket S.makes_steps S.has_budget seat.old) (S.books seat.old) (S.books seat.new)
+        k drawn
         × ((j : ℕ) → S.has_no_room seat.old size j → j ≢ k → S.has_no_room seat.new size j) }
     ensures keeps { S.is_overflow seat.old size → S.keeps_hole seat.old seat.new }
     ensures overflow { S.is_overflow seat.old size → S.is_overflow seat.new size }
@@ -103,7 +105,7 @@ fn take_free_block<S: MutatorSteps>(seat: &mut S, size: u32) -> Result<(), u32>
     ensures blocks { (S.books seat.new).blocks ≡ (S.books seat.old).blocks }
     ensures ready { IsErr result → S.is_ready seat.new }
     ensures goes { IsErr result → (drawn : ℕ) × S.makes_steps seat.old (draws drawn) seat.new
-        × Draws (S.has_budget seat.old)
+        × Draws (IsNextTicket S.makes_steps S.has_budget seat.old)
         (S.books seat.old).ticket (S.books seat.new).ticket drawn }
     ensures full { IsErr result → S.is_full seat.old size → S.is_full seat.new size }
     ensures lacks { (j : ℕ) → IsErr result → S.has_no_room seat.old size j
@@ -124,7 +126,7 @@ fn take_free_block<S: MutatorSteps>(seat: &mut S, size: u32) -> Result<(), u32>
 
 /// Makes the seat's region one with room for an object of `size` words that overflows the region:
 /// a Free block, else a hole, first one in the block of the hole region.
-fn find_overflow<S: MutatorSteps>(seat: &mut S, size: u32) -> Result<(), u32>
+fn find_overflow<S: AllocationSteps>(seat: &mut S, size: u32) -> Result<(), u32>
     requires ready { S.is_ready seat.old }
     requires least { HEADER_WORDS ≤ size }
     requires most { size ≤ MAX_MEDIUM_WORDS }
@@ -134,11 +136,11 @@ fn find_overflow<S: MutatorSteps>(seat: &mut S, size: u32) -> Result<(), u32>
     ensures offered { IsOk result → S.offers_room seat.old seat.new size }
     ensures finds { IsOk result → MakesRoom (allocation_reads S.makes_steps S.has_no_room S.is_used
         S.allocates_in S.is_full S.is_overflow S.keeps_hole S.offers_room S.places S.has_budget
-        S.books) (S.has_budget seat.old) seat.old size seat.new }
+        S.books) seat.old size seat.new }
     ensures births { (S.books seat.new).births ≡ (S.books seat.old).births }
     ensures ready { IsErr result → S.is_ready seat.new }
     ensures goes { IsErr result → (drawn : ℕ) × S.makes_steps seat.old (draws drawn) seat.new
-        × Draws (S.has_budget seat.old)
+        × Draws (IsNextTicket S.makes_steps S.has_budget seat.old)
         (S.books seat.old).ticket (S.books seat.new).ticket drawn }
     ensures spent { IsErr result
         → IsSpent (S.allocates_in seat.old size) (S.has_no_room seat.old size) }
@@ -161,7 +163,7 @@ fn find_overflow<S: MutatorSteps>(seat: &mut S, size: u32) -> Result<(), u32>
 /// found, first one in the block of the hole region, or a Free block is taken with a ticket. In
 /// overflow allocation a Free block comes before a hole.
 #[inline(never)]
-fn find_room<S: MutatorSteps>(seat: &mut S, size: u32) -> Result<(), u32>
+fn find_room<S: AllocationSteps>(seat: &mut S, size: u32) -> Result<(), u32>
     requires ready { S.is_ready seat.old }
     requires least { HEADER_WORDS ≤ size }
     requires most { size ≤ MAX_MEDIUM_WORDS }
@@ -170,7 +172,7 @@ fn find_room<S: MutatorSteps>(seat: &mut S, size: u32) -> Result<(), u32>
     ensures offered { IsOk result → S.offers_room seat.old seat.new size }
     ensures finds { IsOk result → MakesRoom (allocation_reads S.makes_steps S.has_no_room S.is_used
         S.allocates_in S.is_full S.is_overflow S.keeps_hole S.offers_room S.places S.has_budget
-        S.books) (IsNextTicket S.makes_steps S.has_budget seat.old) seat.old size seat.new }
+        S.books) seat.old size seat.new }
     ensures births { (S.books seat.new).births ≡ (S.books seat.old).births }
     ensures ready { IsErr result → S.is_ready seat.new }
     ensures goes { IsErr result → (drawn : ℕ) × S.makes_steps seat.old (draws drawn) seat.new
@@ -196,7 +198,7 @@ fn find_room<S: MutatorSteps>(seat: &mut S, size: u32) -> Result<(), u32>
 /// Allocates an object for which no region has room, after a search for room. It is inlined, as its
 /// caller is, so that the answer stays in registers.
 #[inline(always)]
-fn allocate_elsewhere<S: MutatorSteps>(seat: &mut S, d: u32, refs: u32, nums: u32) -> Allocated
+fn allocate_elsewhere<S: AllocationSteps>(seat: &mut S, d: u32, refs: u32, nums: u32) -> Allocated
     requires ready { S.is_ready seat.old }
     requires register { d < REGISTERS }
     requires refs { refs ≤ MAX_REFS }
@@ -223,7 +225,7 @@ fn allocate_elsewhere<S: MutatorSteps>(seat: &mut S, d: u32, refs: u32, nums: u3
 /// The answer is `Stop` if the object is large, or if no block has room that the mutator may fill
 /// and no Free block may be taken. No region changes then.
 #[inline(always)]
-pub fn new_object<S: MutatorSteps>(seat: &mut S, d: u32, refs: u32, nums: u32) -> Allocated
+pub fn new_object<S: AllocationSteps>(seat: &mut S, d: u32, refs: u32, nums: u32) -> Allocated
     requires ready { S.is_ready seat.old }
     requires register { d < REGISTERS }
     requires refs { refs ≤ MAX_REFS }

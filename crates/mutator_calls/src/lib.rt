@@ -3,6 +3,7 @@
 
 mod access;
 mod allocation;
+mod allocation_steps;
 mod mutator_steps;
 mod need;
 mod stops;
@@ -11,6 +12,7 @@ pub use access::{
     add, drop_register, get, load, move_register, pin, put, read, share, swap, unpin, write,
 };
 pub use allocation::new_object;
+pub use allocation_steps::AllocationSteps;
 pub use mutator_steps::MutatorSteps;
 pub use need::{Allocated, Mutator, Need, NeedCause, Polled};
 pub use stops::{poll, raise};

@@ -12,7 +12,7 @@ pub fn poll<S: MutatorSteps>(seat: &mut S) -> Polled
     requires { S.is_ready seat.old }
     ensures ready { S.is_ready seat.new }
     ensures looks { S.only_loads seat.old seat.new }
-    ensures stop { S.has_stop seat.old (stop_of result) }
+    ensures stop { S.has_stop seat.new (stop_of result) }
     ensures raised { (n : ℕ) → result ≡ Polled.Raised n → n ≢ 0 }
 {
     match seat.load_stop() {

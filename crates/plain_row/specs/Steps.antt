@@ -1,7 +1,8 @@
 -- What the seat of a world of mutators in turns knows, and what its steps do.
-use Rattle.std.specs.Prelude.{◌≡◌, ◌≢◌, ℕ, ◌+◌, ◌⊎◌, true, false, Some, slice_get}
+use Rattle.std.specs.Prelude.{◌≡◌, ◌≢◌, ℕ, ◌+◌, ◌<◌, ◌⊎◌, true, false, Some, slice_get}
 use Rattle.heap_layout.specs.declared.layout.TheConstants.{BUDGET_WORD, STOP_WORD}
 use Rattle.heap_layout.specs.declared.block.Kind.TheVariants as kinds
+use Rattle.ideal_heap.specs.declared.command.TheConstants.{REGISTERS}
 use Rattle.ideal_heap.specs.declared.name.Name.{Name}
 use Rattle.object_model.specs.Objects.{state_of, word_at, HasKind, owner_at, refs_at, nums_at, name_at, is_unlogged}
 use Rattle.object_model.specs.Ages.{is_old}
@@ -81,12 +82,14 @@ HasBudget w n = word_at (state_of w.row) BUDGET_WORD ≡ n
 abbrev pub HasStop : PlainRow → ℕ → Type 0
 HasStop w n = word_at (state_of w.row) STOP_WORD ≡ n
 
--- the plan is generational; the object in register s is old; its unlog bit is set
+-- the plan is generational; register s, which is not nil, holds an old object; its unlog bit is set
 abbrev pub HasAges : PlainRow → Type 0
 HasAges w = w.young ≡ true
 
-abbrev pub IsAged : PlainRow → ℕ → Type 0
-IsAged w s = is_old (state_of w.row) (address_at w s) ≡ true
+pub record IsAged (w : PlainRow) (s : ℕ) : Type 0 where
+  pub register : s < REGISTERS
+  pub some : address_at w s ≢ 0
+  pub old : is_old (state_of w.row) (address_at w s) ≡ true
 
 abbrev pub HasUnlogBit : PlainRow → ℕ → Type 0
 HasUnlogBit w s = is_unlogged (state_of w.row) (address_at w s) ≡ true

@@ -9,12 +9,12 @@ ghost use Rattle.plain_row.specs.Rows.{address_at};
 ghost use Rattle.plain_row.specs.Worlds.{MayCall, RegionHasRoomFor, Goes};
 ghost use Rattle.plain_row.specs.Steps.{AllocatesIn, HasBudget, books_of, HasShape, HasName, MayStoreUnlogged, HasAges, IsAged, HasUnlogBit, Lacks, IsFull, IsOverflow, KeepsAll, KeepsRegion, IsUsed, Offers, PlacesAtRegion, HasStop};
 ghost use Rattle.plain_row.specs.SeatLaws.{goes-after, goes-nothing, shape-some, tried-stays, overflow-stays, free-block-is-left};
-ghost use Rattle.std.proofs.Common.{refl, sym, ◌∙◌, ap, subst};
+ghost use Rattle.std.proofs.Common.{refl, ◌∙◌, ap, subst};
 
 use crate::plain_row::PlainRow;
 use heap_layout::{BUDGET_WORD, STOP_WORD};
 use ideal_heap::{Command, Name};
-use mutator_calls::MutatorSteps;
+use mutator_calls::{AllocationSteps, MutatorSteps};
 use object_model::Shape;
 use side_meta::test_bit;
 
@@ -22,8 +22,6 @@ impl MutatorSteps for PlainRow {
     ghost is_ready = { λ w. MayCall w };
 
     ghost address = { λ w s. address_at w s };
-
-    ghost books = { λ w. books_of w };
 
     ghost makes_steps = { λ a e b. Goes a e b };
 
@@ -41,44 +39,7 @@ impl MutatorSteps for PlainRow {
 
     ghost is_marked = { λ w s. HasUnlogBit w s };
 
-    ghost has_no_room = { λ w size k. Lacks w size k };
-
-    ghost is_used = { λ w k. IsUsed w k };
-
-    ghost has_room = { λ w size. RegionHasRoomFor w size };
-
-    ghost allocates_in = { λ w size k. AllocatesIn w size k };
-
-    ghost is_full = { λ w size. IsFull w size };
-
-    ghost is_overflow = { λ w size. IsOverflow w size };
-
-    ghost keeps_regions = { λ a b. KeepsAll a b };
-
-    ghost keeps_hole = { λ a b. KeepsRegion a b };
-
-    ghost offers_room = { λ a b size. Offers a b size };
-
-    ghost places = { λ b c d size. PlacesAtRegion b c d size };
-
-    ghost has_budget = { λ w n. HasBudget w n };
-
     ghost has_stop = { λ w n. HasStop w n };
-
-    ghost regions_stay = { λ a b e goes still. (goes.fill, goes.regions still) };
-
-    ghost tried_blocks_stay = { tried-stays };
-
-    ghost overflows_stay = { overflow-stays };
-
-    ghost hole_stays = { λ a b kept. kept.1.classes 0 };
-
-    ghost hole_stays_kept = { λ a b c x y. record {
-      block = y.block ∙ x.block;
-      region = y.region ∙ x.region;
-    } };
-
-    ghost free_block_is_left = { free-block-is-left };
 
     ghost looks_at_nothing = { λ a. refl };
 
@@ -90,9 +51,6 @@ impl MutatorSteps for PlainRow {
 
     ghost registers_stay = { λ a b s same. ap (λ w. address_at w s) same };
 
-    ghost shapes_stay = { λ a b s shape same has.
-        subst (λ w. HasShape w s shape) (sym same) has };
-
     ghost plans_stay = { λ a b same is. subst (λ w. HasAges w) same is };
 
     ghost ages_stay = { λ a b s same is. subst (λ w. IsAged w s) same is };
@@ -100,8 +58,6 @@ impl MutatorSteps for PlainRow {
     ghost marks_stay = { λ a b s same is. subst (λ w. HasUnlogBit w s) same is };
 
     ghost shapes_are_of_objects = { shape-some };
-
-    ghost bars_stay = { λ a b s same is. subst (λ w. MayStoreUnlogged w s) (sym same) is };
 
     fn is_nil(&self, register: u32) -> bool {
         self.register(register) == 0
@@ -213,6 +169,59 @@ impl MutatorSteps for PlainRow {
         pinned
     }
 
+    fn load_stop(&mut self) -> u32 {
+        self.row.words[STOP_WORD] as u32
+    }
+
+    fn raise_stop(&mut self) {
+        let stop = self.row.words[STOP_WORD];
+        if stop == 0 {
+            let number = self.number();
+            self.store(0, number as u64);
+        }
+    }
+}
+
+impl AllocationSteps for PlainRow {
+    ghost books = { λ w. books_of w };
+
+    ghost has_no_room = { λ w size k. Lacks w size k };
+
+    ghost is_used = { λ w k. IsUsed w k };
+
+    ghost has_room = { λ w size. RegionHasRoomFor w size };
+
+    ghost allocates_in = { λ w size k. AllocatesIn w size k };
+
+    ghost is_full = { λ w size. IsFull w size };
+
+    ghost is_overflow = { λ w size. IsOverflow w size };
+
+    ghost keeps_regions = { λ a b. KeepsAll a b };
+
+    ghost keeps_hole = { λ a b. KeepsRegion a b };
+
+    ghost offers_room = { λ a b size. Offers a b size };
+
+    ghost places = { λ b c d size. PlacesAtRegion b c d size };
+
+    ghost has_budget = { λ w n. HasBudget w n };
+
+    ghost regions_stay = { λ a b e goes still. (goes.fill, goes.regions still) };
+
+    ghost tried_blocks_stay = { tried-stays };
+
+    ghost overflows_stay = { overflow-stays };
+
+    ghost hole_stays = { λ a b kept. kept.1.classes 0 };
+
+    ghost hole_stays_kept = { λ a b c x y. record {
+      block = y.block ∙ x.block;
+      region = y.region ∙ x.region;
+    } };
+
+    ghost free_block_is_left = { free-block-is-left };
+
     fn blocks(&self) -> u32 {
         self.row.layout.blocks()
     }
@@ -262,17 +271,5 @@ impl MutatorSteps for PlainRow {
     #[inline(always)]
     fn publish(&mut self, d: u32, shape: &Shape) -> Name {
         self.allocate(d, shape)
-    }
-
-    fn load_stop(&mut self) -> u32 {
-        self.row.words[STOP_WORD] as u32
-    }
-
-    fn raise_stop(&mut self) {
-        let stop = self.row.words[STOP_WORD];
-        if stop == 0 {
-            let number = self.number();
-            self.store(0, number as u64);
-        }
     }
 }

@@ -31,7 +31,7 @@ use Rattle.local_allocators.proofs.OwnedLists.{lists-none}
 use Rattle.plain_world.proofs.CallLemmas.{numbers-mapped}
 use Rattle.plain_world.specs.EmptySeats.{empty_seat}
 use Rattle.heap_users.proofs.Cleared as cleared
-use Rattle.heap_users.proofs.SomeIdeal.{own-local, some-ideal}
+use Rattle.mutator_core.proofs.SomeIdeal.{own-local, some-ideal}
 
 -- the flag of a generational plan
 young-of : (moves young lines cells : Bool) → (bit_and ((if moves then 1 else 0) + (if young then 2 else 0) + (if lines then 4 else 0) + (if cells then 8 else 0)) 2 == 2) ≡ young
@@ -156,6 +156,6 @@ module _ (r : Rules) (s : HeapState) (ms : List MutatorState) (w : PlainRow) (be
 
   pub idle-begun : RowIsBetweenCalls w
   idle-begun = record {
-    some = record { epoch = p; ideal = (some-ideal s ms lawful may).0; log = []; at = at-begun (some-ideal s ms lawful may).0 (some-ideal s ms lawful may).1 };
+    some = let ideal = some-ideal s ms lawful may.mutators may.registers may.names in record { epoch = p; ideal = ideal.0; log = []; at = at-begun ideal.0 ideal.1 };
     filled = λ k owner region is. absurd (begun.are.unowned k owner region (ap (λ v. slice_get v.items k) (sym begun.notes) ∙ is));
   }

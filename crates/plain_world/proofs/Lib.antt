@@ -5,3 +5,4 @@ pub mod Begun
 pub mod Closed
 pub mod HeldRegisters
 mod StoreLogs
+pub mod Rows

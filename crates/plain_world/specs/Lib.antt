@@ -2,3 +2,4 @@ pub mod Calls
 pub mod EmptySeats
 pub mod Endings
 pub mod Prelude
+pub mod Rows

@@ -1,23 +1,24 @@
 use Rattle.std.proofs.Common.{ℕ, refl, ap, subst, List, [], ◌++◌, add-zero}
 use Rattle.object_model.specs.Objects.{size_of}
-use Rattle.mutator_calls.specs.Allocating.{births, births_with, searches, allocation_reads, IsNextTicket, MakesRoom}
+use Rattle.mutator_calls.specs.Allocating.{births, births_with, searches, allocation_reads, MakesRoom}
 use Rattle.std.proofs.lemmas.List.{append-nil}
 use Rattle.mutator_calls.proofs.RoomFoundLater.{finds-later}
 use Rattle.mutator_calls.proofs.allocation.allocate_elsewhere.Goals as goal
 
 pub returns-in-Ok-clause-answer : goal.returns-in-Ok-clause-answer
 returns-in-Ok-clause-answer g c =
-    let steps = g.S.MutatorSteps in
+    let makes_steps = g.S.MutatorSteps.makes_steps in
+    let steps = g.S.AllocationSteps in
     let size = size_of c.args.refs c.args.nums in
     let old = c.args.seat.now in
     let offer = c.find_room.new.seat in
     let new = c.publish.new.self in
-    let found : MakesRoom (allocation_reads steps.makes_steps steps.has_no_room steps.is_used steps.allocates_in steps.is_full steps.is_overflow steps.keeps_hole steps.offers_room
-    steps.places steps.has_budget steps.books) (IsNextTicket steps.makes_steps steps.has_budget old) old size offer = subst
-    (λ n. MakesRoom (allocation_reads steps.makes_steps steps.has_no_room steps.is_used steps.allocates_in steps.is_full steps.is_overflow steps.keeps_hole steps.offers_room
-    steps.places steps.has_budget steps.books) (IsNextTicket steps.makes_steps steps.has_budget old) old n offer) c.size_words.ensures (c.in-Ok.ensures.finds refl) in
+    let found : MakesRoom (allocation_reads makes_steps steps.has_no_room steps.is_used steps.allocates_in steps.is_full steps.is_overflow steps.keeps_hole steps.offers_room
+    steps.places steps.has_budget steps.books) old size offer = subst
+    (λ n. MakesRoom (allocation_reads makes_steps steps.has_no_room steps.is_used steps.allocates_in steps.is_full steps.is_overflow steps.keeps_hole steps.offers_room
+    steps.places steps.has_budget steps.books) old n offer) c.size_words.ensures (c.in-Ok.ensures.finds refl) in
     let entry = births c.args.d c.args.refs c.args.nums c.publish.result in
-    let to : List ℕ → List ℕ → ℕ → Type 0 = λ t r n. steps.makes_steps old
+    let to : List ℕ → List ℕ → ℕ → Type 0 = λ t r n. makes_steps old
     (births_with c.args.d c.args.refs c.args.nums c.publish.result t r n) new in record {
       taken = found.taken;
       granted = found.granted;
@@ -36,7 +37,7 @@ returns-in-Ok-clause-answer g c =
         spent = λ is. is;
         overflow = λ is. is;
         was_overflow = λ is. is;
-        kept = λ both. g.met.S.MutatorSteps.hole_stays_kept _ _ _ both.0 (c.publish.ensures.keeps both.1);
+        kept = λ both. g.met.S.AllocationSteps.hole_stays_kept _ _ _ both.0 (c.publish.ensures.keeps both.1);
         blocks = ap (λ b. b.blocks) c.publish.ensures.books;
         allowance = ap (λ b. b.allowance) c.publish.ensures.books;
         old = refl;

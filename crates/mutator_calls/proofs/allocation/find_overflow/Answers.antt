@@ -1,6 +1,6 @@
 use Rattle.std.proofs.Common.{◌∙◌, refl, sym, ap, subst, inl, inr, [], ◌∷◌, add-zero}
 use Rattle.mutator_calls.specs.Effects.{nothing, draws, takes}
-use Rattle.mutator_calls.specs.Allocating.{ComesToHoles, FindsRoom, Draws, IsShort, searches}
+use Rattle.mutator_calls.specs.Allocating.{IsNextTicket, ComesToHoles, FindsRoom, Draws, IsShort, searches}
 use Rattle.mutator_calls.proofs.allocation.find_overflow.Goals as goal
 
 pub returns-in_default-clause-finds : goal.returns-in_default-clause-finds
@@ -35,8 +35,8 @@ returns-then-take_own_hole-clause-finds g c = λ _.
     let drew = c.in-Err.ensures.goes refl in
     let own = c.if-take_own_hole.ensures.region refl in
     let same = c.if-take_own_hole.ensures.books in
-    let short : IsShort (g.S.MutatorSteps.books c.take_own_hole.new.self) c.in-Err.ticket = subst (λ b. IsShort b c.in-Err.ticket) (sym same) c.in-Err.ensures.short in
-    let stayed = g.met.S.MutatorSteps.regions_stay _ _ (draws drew.0) drew.1 refl in record {
+    let short : IsShort (g.S.AllocationSteps.books c.take_own_hole.new.self) c.in-Err.ticket = subst (λ b. IsShort b c.in-Err.ticket) (sym same) c.in-Err.ensures.short in
+    let stayed = g.met.S.AllocationSteps.regions_stay _ _ (draws drew.0) drew.1 refl in record {
       taken = [];
       granted = [];
       drawn = drew.0;
@@ -48,9 +48,9 @@ returns-then-take_own_hole-clause-finds g c = λ _.
         takes = inl refl;
         none_granted = refl;
         full = c.requires.full;
-        comes = ComesToHoles.in_vain c.in-Err.ticket c.requires.overflow (subst (λ o. Draws (g.S.MutatorSteps.has_budget c.args.seat.now)
-            (g.S.MutatorSteps.books c.args.seat.now).ticket o drew.0) c.in-Err.ensures.short.ticket drew.2) short.ticket short.few;
-        first = inl ((g.met.S.MutatorSteps.tried_blocks_stay _ _ c.args.size own.0 stayed).1 own.1);
+        comes = ComesToHoles.in_vain c.in-Err.ticket c.requires.overflow (subst (λ o. Draws (IsNextTicket g.S.MutatorSteps.makes_steps g.S.AllocationSteps.has_budget c.args.seat.now)
+            (g.S.AllocationSteps.books c.args.seat.now).ticket o drew.0) c.in-Err.ensures.short.ticket drew.2) short.ticket short.few;
+        first = inl ((g.met.S.AllocationSteps.tried_blocks_stay _ _ c.args.size own.0 stayed).1 own.1);
       });
     }
 
@@ -64,8 +64,8 @@ returns-then-take_some_hole-clause-finds g c = λ _.
     let drew = c.in-Err.ensures.goes refl in
     let took = c.if-take_some_hole.ensures.taken refl in
     let same = c.if-take_some_hole.ensures.books ∙ c.if-take_own_hole.ensures.books in
-    let short : IsShort (g.S.MutatorSteps.books c.take_some_hole.new.seat) c.in-Err.ticket = subst (λ b. IsShort b c.in-Err.ticket) (sym same) c.in-Err.ensures.short in
-    let stayed = g.met.S.MutatorSteps.regions_stay _ _ (draws drew.0) drew.1 refl in record {
+    let short : IsShort (g.S.AllocationSteps.books c.take_some_hole.new.seat) c.in-Err.ticket = subst (λ b. IsShort b c.in-Err.ticket) (sym same) c.in-Err.ensures.short in
+    let stayed = g.met.S.AllocationSteps.regions_stay _ _ (draws drew.0) drew.1 refl in record {
       taken = took.1;
       granted = [];
       drawn = drew.0;
@@ -78,11 +78,11 @@ returns-then-take_some_hole-clause-finds g c = λ _.
         takes = took.2;
         none_granted = refl;
         full = c.requires.full;
-        comes = ComesToHoles.in_vain c.in-Err.ticket c.requires.overflow (subst (λ o. Draws (g.S.MutatorSteps.has_budget c.args.seat.now)
-            (g.S.MutatorSteps.books c.args.seat.now).ticket o drew.0) c.in-Err.ensures.short.ticket drew.2) short.ticket short.few;
+        comes = ComesToHoles.in_vain c.in-Err.ticket c.requires.overflow (subst (λ o. Draws (IsNextTicket g.S.MutatorSteps.makes_steps g.S.AllocationSteps.has_budget c.args.seat.now)
+            (g.S.AllocationSteps.books c.args.seat.now).ticket o drew.0) c.in-Err.ensures.short.ticket drew.2) short.ticket short.few;
         first = inr (
           (λ j tried. c.in-Err.ensures.lacked j refl tried
-              (c.if-take_own_hole.ensures.lacks refl j ((g.met.S.MutatorSteps.tried_blocks_stay _ _ c.args.size j stayed).0 tried))),
+              (c.if-take_own_hole.ensures.lacks refl j ((g.met.S.AllocationSteps.tried_blocks_stay _ _ c.args.size j stayed).0 tried))),
           took.4,
         );
       });
@@ -95,21 +95,21 @@ returns-clause-goes g c = λ _.
       subst (λ n. g.S.MutatorSteps.makes_steps c.args.seat.now (draws n) c.take_some_hole.new.seat) (add-zero drew.0)
           (g.met.S.MutatorSteps.one_after_another _ _ _ (draws drew.0) nothing drew.1
           (g.met.S.MutatorSteps.one_after_another _ _ _ nothing nothing c.if-take_own_hole.ensures.goes (c.if-take_some_hole.ensures.goes refl))),
-      subst (λ o. Draws (g.S.MutatorSteps.has_budget c.args.seat.now) (g.S.MutatorSteps.books c.args.seat.now).ticket o drew.0)
+      subst (λ o. Draws (IsNextTicket g.S.MutatorSteps.makes_steps g.S.AllocationSteps.has_budget c.args.seat.now) (g.S.AllocationSteps.books c.args.seat.now).ticket o drew.0)
           (sym (ap (λ b. b.ticket) (c.if-take_some_hole.ensures.books ∙ c.if-take_own_hole.ensures.books))) drew.2,
     )
 
 pub returns-clause-spent : goal.returns-clause-spent
 returns-clause-spent g c = λ _ j tried.
     let drew = c.in-Err.ensures.goes refl in
-    let stayed = g.met.S.MutatorSteps.regions_stay _ _ (draws drew.0) drew.1 refl in
+    let stayed = g.met.S.AllocationSteps.regions_stay _ _ (draws drew.0) drew.1 refl in
     c.in-Err.ensures.lacked j refl tried
-    (c.if-take_own_hole.ensures.lacks refl j ((g.met.S.MutatorSteps.tried_blocks_stay _ _ c.args.size j stayed).0 tried))
+    (c.if-take_own_hole.ensures.lacks refl j ((g.met.S.AllocationSteps.tried_blocks_stay _ _ c.args.size j stayed).0 tried))
 
 pub returns-clause-cause : goal.returns-clause-cause
 returns-clause-cause g c =
     let same = c.if-take_some_hole.ensures.books ∙ c.if-take_own_hole.ensures.books in
-    let short : IsShort (g.S.MutatorSteps.books c.take_some_hole.new.seat) c.in-Err.ticket = subst (λ b. IsShort b c.in-Err.ticket) (sym same) c.in-Err.ensures.short in (
+    let short : IsShort (g.S.AllocationSteps.books c.take_some_hole.new.seat) c.in-Err.ticket = subst (λ b. IsShort b c.in-Err.ticket) (sym same) c.in-Err.ensures.short in (
       c.requires.most,
       (λ k below. c.if-take_some_hole.ensures.lacks k refl below),
       short.ticket,

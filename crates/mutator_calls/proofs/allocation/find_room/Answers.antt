@@ -2,38 +2,8 @@ use Rattle.std.proofs.Common.{ℕ, ◌<◌, ◌∙◌, refl, ap, subst, inl, inr
 use Rattle.std.specs.Prelude.{Some}
 use Rattle.mutator_calls.specs.Effects.{nothing, draws, takes}
 use Rattle.mutator_calls.specs.Allocating.{IsNextTicket, ComesToHoles, FindsRoom, Draws, searches}
-use Rattle.mutator_calls.proofs.RoomFoundLater.{draws-from, finds-later}
+use Rattle.mutator_calls.proofs.RoomFoundLater.{draws-from}
 use Rattle.mutator_calls.proofs.allocation.find_room.Goals as goal
-
-pub returns-then-overflows-clause-finds : goal.returns-then-overflows-clause-finds
-returns-then-overflows-clause-finds g c = λ yes.
-    let found = c.find_overflow.ensures.finds yes in record {
-      taken = found.taken;
-      granted = found.granted;
-      drawn = found.drawn;
-      effect = found.effect;
-      finds = finds-later _ _ (record {
-        lacks = λ k is. is;
-        used = λ k is. is;
-        before = λ k is. is;
-        now = λ k is. is;
-        next = λ t is. record {
-          later = c.args.seat.now;
-          steps = g.met.S.MutatorSteps.loads_do_nothing _ _ (g.met.S.MutatorSteps.looks_at_nothing c.args.seat.now);
-          budget = is;
-        };
-        full = λ is. is;
-        was_full = λ is. is;
-        spent = λ is. is;
-        overflow = λ is. is;
-        was_overflow = λ is. is;
-        kept = λ is. is;
-        blocks = refl;
-        allowance = refl;
-        old = refl;
-        new = refl;
-      }) found.taken found.granted found.drawn found.finds;
-    }
 
 pub returns-then-take_own_hole-clause-finds : goal.returns-then-take_own_hole-clause-finds
 returns-then-take_own_hole-clause-finds g c = λ _.
@@ -87,7 +57,7 @@ returns-clause-finds g c = λ yes.
     let free = took.3 in
     let went = g.met.S.MutatorSteps.one_after_another _ _ _ nothing nothing c.if-take_own_hole.ensures.goes (c.if-take_some_hole.ensures.goes refl) in
     let same = c.if-take_some_hole.ensures.books ∙ c.if-take_own_hole.ensures.books in
-    let next : ℕ → Type 0 = IsNextTicket g.S.MutatorSteps.makes_steps g.S.MutatorSteps.has_budget c.args.seat.now in record {
+    let next : ℕ → Type 0 = IsNextTicket g.S.MutatorSteps.makes_steps g.S.AllocationSteps.has_budget c.args.seat.now in record {
       taken = took.0 ∷ [];
       granted = took.0 ∷ [];
       drawn = took.1;
@@ -101,8 +71,8 @@ returns-clause-finds g c = λ yes.
         full = c.requires.full;
         ticket = free.ticket;
         draws = subst (λ o. Draws next o (Some free.ticket) took.1) (ap (λ b. b.ticket) same)
-            (draws-from (g.S.MutatorSteps.has_budget c.take_some_hole.new.seat) next (g.S.MutatorSteps.books c.take_some_hole.new.seat).ticket (Some free.ticket) took.1
-            (λ t is. record { later = c.take_some_hole.new.seat; steps = went; budget = is }) free.draws);
+            (draws-from (IsNextTicket g.S.MutatorSteps.makes_steps g.S.AllocationSteps.has_budget c.take_some_hole.new.seat) next (g.S.AllocationSteps.books c.take_some_hole.new.seat).ticket (Some free.ticket) took.1
+            (λ t is. record { later = is.later; steps = g.met.S.MutatorSteps.one_after_another _ _ _ nothing nothing went is.steps; budget = is.budget }) free.draws);
         good = free.few;
         used_up = free.none;
         lowest = free.lower;
@@ -120,14 +90,14 @@ returns-clause-goes g c = λ no.
     let drew = c.take_free_block.ensures.goes no in
     let went = g.met.S.MutatorSteps.one_after_another _ _ _ nothing nothing c.if-take_own_hole.ensures.goes (c.if-take_some_hole.ensures.goes refl) in
     let same = c.if-take_some_hole.ensures.books ∙ c.if-take_own_hole.ensures.books in
-    let next : ℕ → Type 0 = IsNextTicket g.S.MutatorSteps.makes_steps g.S.MutatorSteps.has_budget c.args.seat.now in (
+    let next : ℕ → Type 0 = IsNextTicket g.S.MutatorSteps.makes_steps g.S.AllocationSteps.has_budget c.args.seat.now in (
       drew.0,
       subst (λ n. g.S.MutatorSteps.makes_steps c.args.seat.now (draws n) c.take_free_block.new.seat) (zero-add drew.0)
           (g.met.S.MutatorSteps.one_after_another _ _ _ nothing (draws drew.0) went drew.1),
-      subst (λ o. Draws next o (g.S.MutatorSteps.books c.take_free_block.new.seat).ticket drew.0) (ap (λ b. b.ticket) same)
-          (draws-from (g.S.MutatorSteps.has_budget c.take_some_hole.new.seat) next (g.S.MutatorSteps.books c.take_some_hole.new.seat).ticket
-          (g.S.MutatorSteps.books c.take_free_block.new.seat).ticket drew.0
-          (λ t is. record { later = c.take_some_hole.new.seat; steps = went; budget = is }) drew.2),
+      subst (λ o. Draws next o (g.S.AllocationSteps.books c.take_free_block.new.seat).ticket drew.0) (ap (λ b. b.ticket) same)
+          (draws-from (IsNextTicket g.S.MutatorSteps.makes_steps g.S.AllocationSteps.has_budget c.take_some_hole.new.seat) next (g.S.AllocationSteps.books c.take_some_hole.new.seat).ticket
+          (g.S.AllocationSteps.books c.take_free_block.new.seat).ticket drew.0
+          (λ t is. record { later = is.later; steps = g.met.S.MutatorSteps.one_after_another _ _ _ nothing nothing went is.steps; budget = is.budget }) drew.2),
     )
 
 pub returns-clause-spent : goal.returns-clause-spent

@@ -29,7 +29,8 @@ returns-in-Some-clause-answer g c =
 
 pub returns-clause-answer : goal.returns-clause-answer
 returns-clause-answer g c =
-    let steps = g.S.MutatorSteps in
-    subst (λ s. AnswersAllocation (allocation_reads steps.makes_steps steps.has_no_room steps.is_used steps.allocates_in steps.is_full steps.is_overflow steps.keeps_hole
+    let makes_steps = g.S.MutatorSteps.makes_steps in
+    let steps = g.S.AllocationSteps in
+    subst (λ s. AnswersAllocation (allocation_reads makes_steps steps.has_no_room steps.is_used steps.allocates_in steps.is_full steps.is_overflow steps.keeps_hole
     steps.offers_room steps.places steps.has_budget steps.books) s c.args.d c.args.refs c.args.nums c.allocate_elsewhere.result c.allocate_elsewhere.new.seat)
     c.in_default.ensures.same c.allocate_elsewhere.ensures.answer

@@ -7,11 +7,11 @@ pub returns-clause-takes : goal.returns-clause-takes
 returns-clause-takes g c = λ _.
     let drew = c.hold_ticket-ticket.ensures.goes in
     let found = c.take_some_free.ensures.grants in
-    let bound : c.allowance.result ≡ (g.S.MutatorSteps.books c.hold_ticket-ticket.new.seat).allowance = c.allowance.ensures in
-    let same : (g.S.MutatorSteps.books c.take_some_free.new.seat).allowance ≡ (g.S.MutatorSteps.books c.hold_ticket-ticket.new.seat).allowance
+    let bound : c.allowance.result ≡ (g.S.AllocationSteps.books c.hold_ticket-ticket.new.seat).allowance = c.allowance.ensures in
+    let same : (g.S.AllocationSteps.books c.take_some_free.new.seat).allowance ≡ (g.S.AllocationSteps.books c.hold_ticket-ticket.new.seat).allowance
     = ap (λ b. b.allowance) c.take_some_free.ensures.books in
     let over : c.hold_ticket-ticket.result < c.allowance.result = c.if-ticket-allowance.false in
-    let few : c.hold_ticket-ticket.result < (g.S.MutatorSteps.books c.take_some_free.new.seat).allowance = omega arith in (
+    let few : c.hold_ticket-ticket.result < (g.S.AllocationSteps.books c.take_some_free.new.seat).allowance = omega arith in (
       found.0,
       drew.0,
       subst (λ n. g.S.MutatorSteps.makes_steps c.args.seat.now (searches (found.0 ∷ []) (found.0 ∷ []) n) c.take_some_free.new.seat) (add-zero drew.0)
@@ -30,22 +30,22 @@ returns-clause-takes g c = λ _.
 pub returns-clause-keeps : goal.returns-clause-keeps
 returns-clause-keeps g c = λ is.
     let drew = c.hold_ticket-ticket.ensures.goes in
-    let stayed = g.met.S.MutatorSteps.regions_stay _ _ (draws drew.0) drew.1 refl in
-    g.met.S.MutatorSteps.hole_stays_kept _ _ _ (g.met.S.MutatorSteps.hole_stays _ _ stayed)
-    (c.take_some_free.ensures.keeps (g.met.S.MutatorSteps.overflows_stay _ _ c.args.size stayed is))
+    let stayed = g.met.S.AllocationSteps.regions_stay _ _ (draws drew.0) drew.1 refl in
+    g.met.S.AllocationSteps.hole_stays_kept _ _ _ (g.met.S.AllocationSteps.hole_stays _ _ stayed)
+    (c.take_some_free.ensures.keeps (g.met.S.AllocationSteps.overflows_stay _ _ c.args.size stayed is))
 
 pub returns-clause-overflow : goal.returns-clause-overflow
 returns-clause-overflow g c = λ is.
     let drew = c.hold_ticket-ticket.ensures.goes in
-    let stayed = g.met.S.MutatorSteps.regions_stay _ _ (draws drew.0) drew.1 refl in
-    c.take_some_free.ensures.overflow (g.met.S.MutatorSteps.overflows_stay _ _ c.args.size stayed is)
+    let stayed = g.met.S.AllocationSteps.regions_stay _ _ (draws drew.0) drew.1 refl in
+    c.take_some_free.ensures.overflow (g.met.S.AllocationSteps.overflows_stay _ _ c.args.size stayed is)
 
 pub returns-then-ticket-allowance-clause-keeps : goal.returns-then-ticket-allowance-clause-keeps
 returns-then-ticket-allowance-clause-keeps g c = λ is.
     let drew = c.hold_ticket-ticket.ensures.goes in
-    g.met.S.MutatorSteps.hole_stays _ _ (g.met.S.MutatorSteps.regions_stay _ _ (draws drew.0) drew.1 refl)
+    g.met.S.AllocationSteps.hole_stays _ _ (g.met.S.AllocationSteps.regions_stay _ _ (draws drew.0) drew.1 refl)
 
 pub returns-then-ticket-allowance-clause-overflow : goal.returns-then-ticket-allowance-clause-overflow
 returns-then-ticket-allowance-clause-overflow g c = λ is.
     let drew = c.hold_ticket-ticket.ensures.goes in
-    g.met.S.MutatorSteps.overflows_stay _ _ c.args.size (g.met.S.MutatorSteps.regions_stay _ _ (draws drew.0) drew.1 refl) is
+    g.met.S.AllocationSteps.overflows_stay _ _ c.args.size (g.met.S.AllocationSteps.regions_stay _ _ (draws drew.0) drew.1 refl) is

@@ -18,14 +18,14 @@ returns-then-take_free-clause-grants g c = (
 
 pub returns-then-take_free-clause-keeps : goal.returns-then-take_free-clause-keeps
 returns-then-take_free-clause-keeps g c = λ is.
-    let stayed = g.met.S.MutatorSteps.regions_stay _ _ nothing c.loop-block.invariant.2 refl in
-    g.met.S.MutatorSteps.hole_stays_kept _ _ _ (g.met.S.MutatorSteps.hole_stays _ _ stayed)
-    (c.if-take_free.ensures.keeps (g.met.S.MutatorSteps.overflows_stay _ _ c.args.size stayed is))
+    let stayed = g.met.S.AllocationSteps.regions_stay _ _ nothing c.loop-block.invariant.2 refl in
+    g.met.S.AllocationSteps.hole_stays_kept _ _ _ (g.met.S.AllocationSteps.hole_stays _ _ stayed)
+    (c.if-take_free.ensures.keeps (g.met.S.AllocationSteps.overflows_stay _ _ c.args.size stayed is))
 
 pub returns-then-take_free-clause-overflow : goal.returns-then-take_free-clause-overflow
 returns-then-take_free-clause-overflow g c = λ is.
-    let stayed = g.met.S.MutatorSteps.regions_stay _ _ nothing c.loop-block.invariant.2 refl in
-    c.if-take_free.ensures.overflow (g.met.S.MutatorSteps.overflows_stay _ _ c.args.size stayed is)
+    let stayed = g.met.S.AllocationSteps.regions_stay _ _ nothing c.loop-block.invariant.2 refl in
+    c.if-take_free.ensures.overflow (g.met.S.AllocationSteps.overflows_stay _ _ c.args.size stayed is)
 
 pub loop-block-preserved : goal.loop-block-preserved
 loop-block-preserved g c = (
@@ -33,7 +33,7 @@ loop-block-preserved g c = (
   c.loop-block.invariant.1,
   g.met.S.MutatorSteps.one_after_another _ _ _ nothing nothing c.loop-block.invariant.2 c.if-take_free.ensures.goes,
   (λ k lacks. c.if-take_free.ensures.same refl c.args.size k (c.loop-block.invariant.3 k lacks)),
-  below_more (λ k. g.S.MutatorSteps.is_used c.take_free.new.self k) c.loop-block.block
+  below_more (λ k. g.S.AllocationSteps.is_used c.take_free.new.self k) c.loop-block.block
       (λ k below. c.if-take_free.ensures.still k (c.loop-block.invariant.4 k below))
       (c.if-take_free.ensures.used refl),
   c.if-take_free.ensures.books ∙ c.loop-block.invariant.5,

@@ -32,7 +32,7 @@ loop-block-preserved g c = (
   c.if-take_hole.ensures.ready refl,
   c.loop-block.invariant.1,
   g.met.S.MutatorSteps.one_after_another _ _ _ nothing nothing c.loop-block.invariant.2 (c.if-take_hole.ensures.goes refl),
-  below_more (λ k. g.S.MutatorSteps.has_no_room c.take_hole.new.self c.args.size k) c.loop-block.block
+  below_more (λ k. g.S.AllocationSteps.has_no_room c.take_hole.new.self c.args.size k) c.loop-block.block
       (λ k below. c.if-take_hole.ensures.stays c.args.size k refl (c.loop-block.invariant.3 k below))
       (c.if-take_hole.ensures.lacks refl),
   c.if-take_hole.ensures.books ∙ c.loop-block.invariant.4,

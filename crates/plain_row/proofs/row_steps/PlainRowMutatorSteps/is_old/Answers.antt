@@ -22,8 +22,11 @@ is_old-requires-clause-index c =
 
 pub returns-clause-aged : goal.returns-clause-aged
 returns-clause-aged c old =
-    let w : PlainRow = c.args.self.now in
-    ap (is_old (state_of w.row)) (sym c.register-address.ensures) ∙ sym (c.is_old.ensures w.row.layout w.row.number) ∙ old
+    let w : PlainRow = c.args.self.now in record {
+      register = c.requires.register;
+      some = c.requires.some;
+      old = ap (is_old (state_of w.row)) (sym c.register-address.ensures) ∙ sym (c.is_old.ensures w.row.layout w.row.number) ∙ old;
+    }
 
 pub returns-clause-young : goal.returns-clause-young
 returns-clause-young c young =

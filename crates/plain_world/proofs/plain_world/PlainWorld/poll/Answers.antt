@@ -1,6 +1,7 @@
 use Rattle.std.proofs.Common.{sym, ◌∙◌, ap, subst, map}
 use Rattle.std.specs.Prelude.{slice_get}
-use Rattle.object_model.specs.Objects.{state_of}
+use Rattle.heap_layout.specs.declared.layout.TheConstants.{STOP_WORD}
+use Rattle.object_model.specs.Objects.{state_of, word_at}
 use Rattle.mutator_calls.specs.Effects.{nothing}
 use Rattle.mutator_calls.specs.Stopping.{stop_of}
 use Rattle.plain_row.specs.declared.plain_row.PlainRow.{PlainRow}
@@ -30,5 +31,10 @@ returns-clause-same g c = record {
       (regions-same a.notes.items (slice_get a.seats.items k));
 }
 
+-- a world in turns has the stop word that was loaded before the load, too
+pub returns-clause-stop : goal.returns-clause-stop
+returns-clause-stop g c = ap (λ w. word_at (state_of w.row) STOP_WORD) (sym c.poll.ensures.looks) ∙ c.poll.ensures.stop
+
 pub returns-clause-mutator : goal.returns-clause-mutator
-returns-clause-mutator g c = λ n is. stop-known c.args.self.now.row n c.requires.open.between_calls (c.poll.ensures.stop ∙ ap stop_of is) (c.poll.ensures.raised n is)
+returns-clause-mutator g c = λ n is.
+    stop-known c.args.self.now.row n c.requires.open.between_calls (returns-clause-stop g c ∙ ap stop_of is) (c.poll.ensures.raised n is)

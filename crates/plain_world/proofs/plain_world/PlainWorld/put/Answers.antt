@@ -18,6 +18,6 @@ returns g c =
       barrier = elim did.2 as (λ _. LogsStore old (register_in old c.args.place c.args.s) c.put.result did.0) [
         | inl none ↦ LogsStore.nothing_logged none.0 (λ done is. let seen = none.1 done in
             unbarred a c.args.s (subst (λ (w : PlainRow). MayStoreUnlogged w c.args.s) seen.1 seen.2) is.plan is.old is.unlogged)
-        | inr one ↦ LogsStore.object_logged one.0 one.1 (record { plan = one.2; old = one.3; unlogged = one.4 })
+        | inr one ↦ LogsStore.object_logged one.0 one.1 (record { plan = one.2; old = one.3.old; unlogged = one.4 })
       ];
     }

@@ -4,7 +4,7 @@ use Rattle.mutator_calls.specs.Effects.{nothing, takes}
 use Rattle.plain_row.specs.Steps.{IsUsed, Lacks, books_of}
 use Rattle.plain_row.proofs.GoesWithBlock.{used-still}
 use Rattle.plain_row.proofs.HolesFound.{enters-current, enters-goes, enters-room, enters-offers, enters-others, enters-books, leaves-books, leaves-goes, leaves-ready, leaves-lacks, leaves-offers, leaves-others, leaves-full}
-use Rattle.plain_row.proofs.row_steps.PlainRowMutatorSteps.take_hole.Goals as goal
+use Rattle.plain_row.proofs.row_steps.PlainRowAllocationSteps.take_hole.Goals as goal
 
 some : (size : ℕ) → 3 ≤ size → 1 ≤ size
 some size least = omega arith

@@ -12,7 +12,7 @@ use Rattle.plain_row.specs.SeatLaws.{goes-nothing}
 use Rattle.plain_row.specs.Steps.{IsFull, Lacks, Offers, books_of}
 use Rattle.plain_row.proofs.GoesWithBlock.{used-still}
 use Rattle.plain_row.proofs.HolesFound.{enters-current, enters-room, enters-offers, enters-books, own-tries, own-goes, spent-blocks}
-use Rattle.plain_row.proofs.row_steps.PlainRowMutatorSteps.take_own_hole.Goals as goal
+use Rattle.plain_row.proofs.row_steps.PlainRowAllocationSteps.take_own_hole.Goals as goal
 
 some : (size : ℕ) → 3 ≤ size → 1 ≤ size
 some size least = omega arith

@@ -1,6 +1,6 @@
 use Rattle.plain_row.proofs.Allocated.{allocated}
 use Rattle.plain_row.proofs.NewObjectCalls as calls
-use Rattle.plain_row.proofs.row_steps.PlainRowMutatorSteps.publish.Goals as goal
+use Rattle.plain_row.proofs.row_steps.PlainRowAllocationSteps.publish.Goals as goal
 
 pub returns-clause-ready : goal.returns-clause-ready
 returns-clause-ready c =

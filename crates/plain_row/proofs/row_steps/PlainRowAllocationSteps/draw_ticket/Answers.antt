@@ -1,4 +1,4 @@
-use Rattle.std.proofs.Common.{◌≡◌, sym, ◌∙◌, ap, subst, arith, List, ℕ, ◌+◌, ◌<◌, ◌≤◌, length}
+use Rattle.std.proofs.Common.{◌≡◌, refl, sym, ◌∙◌, ap, subst, arith, List, ℕ, ◌+◌, ◌<◌, ◌≤◌, length}
 use Rattle.std.specs.Prelude.{Option, Some, slice_set}
 use Rattle.std.specs.Vec.{with_item}
 use Rattle.std.proofs.lemmas.List.{get_or_read}
@@ -12,7 +12,8 @@ use Rattle.block_regions.proofs.Elements.{set-changes, read-some}
 use Rattle.plain_row.proofs.StopWord.{few-words}
 use Rattle.plain_row.proofs.TicketDrawn.{DrawsTicket, tickets-few, drawn-goes, drawn-ready, drawn-lacks, drawn-lacked, drawn-full, drawn-offers, drawn-books}
 use Rattle.plain_row.specs.Steps.{books_of}
-use Rattle.plain_row.proofs.row_steps.PlainRowMutatorSteps.draw_ticket.Goals as goal
+use Rattle.plain_row.specs.SeatLaws.{goes-nothing}
+use Rattle.plain_row.proofs.row_steps.PlainRowAllocationSteps.draw_ticket.Goals as goal
 
 pub index-ticket-requires : goal.index-ticket-requires
 index-ticket-requires c = let many = few-words c.args.self.now c.requires.ready.between_calls.some in omega arith
@@ -101,4 +102,4 @@ returns-clause-books c =
     ∙ ap (λ (n : ℕ). record (books_of c.args.self.now) { ticket = Some n }) (sym (ticket-is c))
 
 pub returns-clause-next : goal.returns-clause-next
-returns-clause-next c = sym (ticket-is c)
+returns-clause-next c = record { later = c.args.self.now; steps = goes-nothing _ _ refl; budget = sym (ticket-is c) }

@@ -5,7 +5,7 @@ use Rattle.plain_row.specs.Worlds.{Goes}
 use Rattle.plain_row.specs.SeatLaws.{goes-nothing}
 use Rattle.plain_row.specs.Steps.{IsOverflow, KeepsRegion, Lacks, IsUsed, Offers}
 use Rattle.plain_row.proofs.GoesWithBlock.{free-goes, free-room, free-offers, free-current, free-lacks, free-keeps, free-overflows, used-still}
-use Rattle.plain_row.proofs.row_steps.PlainRowMutatorSteps.take_free.Goals as goal
+use Rattle.plain_row.proofs.row_steps.PlainRowAllocationSteps.take_free.Goals as goal
 
 pub returns-clause-goes : goal.returns-clause-goes
 returns-clause-goes c =

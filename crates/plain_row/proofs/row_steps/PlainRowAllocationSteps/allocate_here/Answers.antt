@@ -8,7 +8,7 @@ use Rattle.plain_row.proofs.RoomOffered.{room-offers, room-not-full}
 use Rattle.plain_row.proofs.RegionsWithoutRoom.{own-lacks, lacks-regions}
 use Rattle.plain_row.proofs.NewObjectCalls as calls
 use Rattle.plain_row.proofs.Turns as turns
-use Rattle.plain_row.proofs.row_steps.PlainRowMutatorSteps.allocate_here.Goals as goal
+use Rattle.plain_row.proofs.row_steps.PlainRowAllocationSteps.allocate_here.Goals as goal
 
 pub returns-in-Some-clause-ready : goal.returns-in-Some-clause-ready
 returns-in-Some-clause-ready c =
