@@ -7,6 +7,7 @@ pub mod SweptWords
 pub mod BitCounts
 pub mod SweptBlocks
 pub mod BlockSweeps
+mod DifferingWords
 pub mod AddedLines
 pub mod TouchedLines
 pub mod TouchedWords

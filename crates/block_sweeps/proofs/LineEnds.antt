@@ -1,107 +1,83 @@
 -- The lines in which objects begin, and those that their last objects touch.
-use Rattle.std.proofs.Common.{◌≡◌, ℕ, ◌+◌, ◌*◌, ◌-◌, ◌/◌, ◌%◌, ◌^◌, ◌<◌, ◌≤◌, ◌⊎◌, ◌↔◌, inl, inr, refl, sym, ap, ◌∙◌, subst, arith, w64, IsTrue, bit_and, min, List, length, replicate, slice_index}
-use Rattle.line_bits.specs.LineMarks.{IsFromTo}
+use Rattle.std.proofs.Common.{◌≡◌, ℕ, ◌+◌, ◌*◌, ◌-◌, ◌/◌, ◌%◌, ◌^◌, ◌<◌, ◌≤◌, ◌⊎◌, ◌↔◌, inl, inr, refl, sym, ap, ◌∙◌, subst, arith, w64, IsTrue, bit_and, bit_or, min, max, List, length, slice_index}
 use Rattle.std.specs.Int.{bit_at, bit_not}
 use Rattle.std.proofs.lemmas.Bool.{cases_eq, cases_lt, eq-eqb, eqb-true}
-use Rattle.std.proofs.lemmas.Nat.Bits.{bit_at_and, bit_at_not, bit_at-lt, bit_at-zero, bit_at-suc, bit_at_above, bit_at_clear_same, bit_at_clear_other}
-use Rattle.heap_layout.specs.Zones.{block_start}
-use Rattle.object_model.specs.Objects.{HeapState, is_start}
+use Rattle.std.proofs.lemmas.Nat.{pow_pos}
+use Rattle.std.proofs.lemmas.Nat.Bits.{bit_at_and, bit_at_or, bit_at_not, bit_at_cat_low, bit_at_cat_high, bit_at-lt, bit_at-zero, bit_at-suc, bit_at_above, bit_at_clear_same, bit_at_clear_other}
+use Rattle.object_model.specs.Objects.{HeapState}
 use Rattle.block_sweeps.specs.Sweeping.{AreApart, IsTouchedHere}
-use Rattle.block_sweeps.specs.Touches.{AddsEnds, AddsLines, AreBegun, AreStarts, BeginsFrom, BeginsIn, HasLinesOf, MarksFrom, IsTouchedFrom, has_line}
-use Rattle.block_sweeps.proofs.AddedLines.{adds-both, adds-same}
-use Rattle.block_sweeps.proofs.LineStarts.{own-line, two-lines}
-use Rattle.block_sweeps.proofs.TouchedLines.{here-from, from-here, no-line}
+use Rattle.block_sweeps.specs.Touches.{AddsEnds, AreBegun, AreBegunFrom, AreBitsOf, AreStarts, BeginsFrom, BeginsIn, HasLinesOf, MarksFrom, IsTouchedFrom, has_line}
+use Rattle.block_sweeps.proofs.LineStarts.{begins, begins-none, own-line, two-lines}
+use Rattle.block_sweeps.proofs.TouchedLines.{here-from, from-here}
 use Rattle.block_sweeps.proofs.TouchedWords.{without}
+
+-- the low bits of a number that is shifted, and the others
+cut : (x i : ℕ) → i < 64 → bit_at (x % 2 ^ 64) i ≡ bit_at x i
+cut x i few = sym (bit_at_cat_low (x / 2 ^ 64) 64 (x % 2 ^ 64) i few) ∙ ap (λ v. bit_at v i) (omega arith)
+
+shifted-low : (n k i : ℕ) → i < 64 → i < k → bit_at (n * 2 ^ k % 2 ^ 64) i ≡ 0
+shifted-low n k i few low = cut (n * 2 ^ k) i few ∙ ap (λ v. bit_at v i) (omega arith) ∙ bit_at_cat_low n k 0 i low ∙ bit_at-zero i
+
+shifted-high : (n k i : ℕ) → i < 64 → k ≤ i → bit_at (n * 2 ^ k % 2 ^ 64) i ≡ bit_at n (i - k)
+shifted-high n k i few high = cut (n * 2 ^ k) i few ∙ ap (λ v. bit_at v i) (omega arith) ∙ bit_at_cat_high n k 0 i (pow_pos k) high
 
 module _ (s : HeapState) (k : ℕ) where
   -- no line is among none
-  pub adds-nothing : (from : ℕ) (lines : List ℕ) → AddsLines (BeginsFrom s k from from) lines lines
-  adds-nothing from lines = record {
-    extent = refl;
-    added = λ n is. absurd (let after : from ≤ n = is.after in let below : n < from = is.below in omega arith);
-    kept = λ n is. is;
-    only = λ n is. inl is;
+  pub begun-none : (first : ℕ) → AreBegunFrom s k first 0 0
+  begun-none first = record {
+    set = λ i small one. absurd (omega (arith, one, bit_at-zero i));
+    all = λ i few is. absurd (omega (arith, few));
   }
 
-  -- lines from one number on, and from another
-  pub adds-on : (from mid to : ℕ) (old between new : List ℕ) → from ≤ mid → mid ≤ to → AddsLines (BeginsFrom s k from mid) old between
-      → AddsLines (BeginsFrom s k mid to) between new → AddsLines (BeginsFrom s k from to) old new
-  adds-on from mid to old between new less more one two =
-      adds-both (BeginsFrom s k from mid) (BeginsFrom s k mid to) (BeginsFrom s k from to) old between new one two
-      (λ n is. elim (cases_lt n mid) as (λ _. BeginsFrom s k from mid n ⊎ BeginsFrom s k mid to n) [
-        | inl before ↦ inl (record { after = is.after; below = before; begins = is.begins })
-        | inr past ↦ inr (record { after = past; below = is.below; begins = is.begins })
-      ])
-      (λ n is. record { after = is.after; below = (let below : n < mid = is.below in omega arith); begins = is.begins })
-      (λ n is. record { after = (let after : mid ≤ n = is.after in omega arith); below = is.below; begins = is.begins })
-
-  -- no object begins at the addresses of a word without bits
-  pub adds-empty : (index word : ℕ) (lines : List ℕ) → word ≡ 0 → AreStarts s k index word → AddsLines (BeginsFrom s k (4 * index) (4 * index + 4)) lines lines
-  adds-empty index word lines none starts = record {
-    extent = refl;
-    added = λ n is.
-        let after : 4 * index ≤ n = is.after in
-        let below : n < 4 * index + 4 = is.below in
-        let from : 16 * n ≤ is.begins.offset = is.begins.from in
-        let end : is.begins.offset < 16 * (n + 1) = is.begins.below in
-        let i : ℕ = is.begins.offset - 64 * index in
-        let at : is.begins.offset ≡ 64 * index + i = omega arith in
-        let one : bit_at word i ≡ 1 = starts.all i (omega arith) (subst (λ o. IsTrue (is_start s (block_start s.blocks k + o))) at is.begins.start) in
-        let zero : bit_at word i ≡ 0 = ap (λ v. bit_at v i) none ∙ bit_at-zero i in
-        absurd (omega (arith, one, zero));
-    kept = λ n is. is;
-    only = λ n is. inl is;
+  -- the lines of a line's bits, which are 0 or not
+  pub begun-one : (index line word bits one : ℕ) → line < 4 → bits < 2 ^ 64 → AreStarts s k index word → AreBitsOf line word bits
+      → (bits ≡ 0 → one ≡ 0) → ((bits ≡ 0 → ⊥) → one ≡ 1) → AreBegunFrom s k (4 * index + line) 1 one
+  begun-one index line word bits one few small starts are none some = record {
+    set = λ i low set. elim (cases_eq bits 0) as (λ _. (i < 1) × BeginsIn s k (4 * index + line + i)) [
+      | inl zero ↦ absurd (let clear : bit_at one i ≡ 0 = ap (λ v. bit_at v i) (none zero) ∙ bit_at-zero i in omega (arith, clear, set))
+      | inr not ↦
+          let first : i < 1 = elim (cases_lt i 1) as (λ _. i < 1) [
+            | inl is ↦ is
+            | inr past ↦ absurd (let clear : bit_at one i ≡ 0 = ap (λ v. bit_at v i) (some not) ∙ bit_at_above 1 1 i (omega arith) past in omega (arith, clear, set))
+          ] in (first, subst (BeginsIn s k) (omega (arith, first)) (begins s k index line word bits few small not starts are))
+    ];
+    all = λ i low is. elim (cases_eq bits 0) as (λ _. bit_at one i ≡ 1) [
+      | inl zero ↦ absurd (begins-none s k index line word bits few zero starts are (subst (BeginsIn s k) (omega (arith, low)) is))
+      | inr not ↦ ap (λ v. bit_at v i) (some not) ∙ ap (bit_at 1) (let first : i ≡ 0 = omega (arith, low) in first)
+    ];
   }
 
-  -- an object begins in each of four lines
-  pub adds-dense : (index : ℕ) (old new : List ℕ) → ((line : ℕ) → line < 4 → BeginsIn s k (4 * index + line))
-      → AddsLines (IsFromTo (4 * index) (4 * index + 3)) old new → AddsLines (BeginsFrom s k (4 * index) (4 * index + 4)) old new
-  adds-dense index old new four adds = adds-same (IsFromTo (4 * index) (4 * index + 3)) (BeginsFrom s k (4 * index) (4 * index + 4)) old new adds
-      (λ n is. record { after = is.after; most = (let below : n < 4 * index + 4 = is.below in omega arith) })
-      (λ n is.
-      let after : 4 * index ≤ n = is.after in
-      let most : n ≤ 4 * index + 3 = is.most in
-      let at : 4 * index + (n - 4 * index) ≡ n = omega arith in
-      record { after = after; below = omega arith; begins = subst (BeginsIn s k) at (four (n - 4 * index) (omega arith)) })
-
-  -- a line is added if an object begins in it
-  pub adds-line : (line bits : ℕ) (old new : List ℕ) → ((bits ≡ 0 → ⊥) → BeginsIn s k line) → (bits ≡ 0 → BeginsIn s k line → ⊥)
-      → (bits ≡ 0 → new ≡ old) → ((bits ≡ 0 → ⊥) → AddsLines (IsFromTo line line) old new) → AddsLines (BeginsFrom s k line (line + 1)) old new
-  adds-line line bits old new begun clear same adds = elim (cases_eq bits 0) as (λ _. AddsLines (BeginsFrom s k line (line + 1)) old new) [
-    | inl zero ↦ subst (λ l. AddsLines (BeginsFrom s k line (line + 1)) old l) (sym (same zero)) (record {
-      extent = refl;
-      added = λ n is.
-          let after : line ≤ n = is.after in
-          let below : n < line + 1 = is.below in
-          absurd (clear zero (subst (BeginsIn s k) (omega arith) is.begins));
-      kept = λ n is. is;
-      only = λ n is. inl is;
-    })
-    | inr some ↦ adds-same (IsFromTo line line) (BeginsFrom s k line (line + 1)) old new (adds some)
-        (λ n is. record { after = is.after; most = (let below : n < line + 1 = is.below in omega arith) })
-        (λ n is.
-        let after : line ≤ n = is.after in
-        let most : n ≤ line = is.most in
-        record { after = after; below = omega arith; begins = subst (BeginsIn s k) (omega arith) (begun some) })
-  ]
-
-  -- the bits of the lines in which objects begin
-  pub are-begun : (lines : List ℕ) (word : ℕ) → word < 4 → AddsLines (BeginsFrom s k 0 256) (replicate 4 0) lines → AreBegun s k word (slice_index lines word)
-  are-begun lines word few adds = record {
-    set = λ i small one.
-        let n : ℕ = 64 * word + i in
-        let is : IsTrue (has_line lines n) = eq-eqb (bit_at (slice_index lines (n / 64)) (n % 64)) 1
-        (ap (λ w. bit_at (slice_index lines w) (n % 64)) (omega arith) ∙ ap (bit_at (slice_index lines word)) (omega arith) ∙ one) in
-        elim (adds.only n is) as (λ _. BeginsIn s k n) [
-          | inl before ↦ absurd (no-line n (omega arith) before)
-          | inr begun ↦ begun.begins
+  -- the lines of some bits, and of others after them
+  pub begun-join : (first count more old next : ℕ) → count + more ≤ 64 → AreBegunFrom s k first count old → AreBegunFrom s k (first + count) more next
+      → AreBegunFrom s k first (count + more) (bit_or old (next * 2 ^ count % 2 ^ 64))
+  begun-join first count more old next fits one two =
+      let shifted : ℕ = next * 2 ^ count % 2 ^ 64 in record {
+        set = λ i small set.
+            let both : max (bit_at old i) (bit_at shifted i) ≡ 1 = sym (bit_at_or old shifted i) ∙ set in
+            elim (cases_lt i count) as (λ _. (i < count + more) × BeginsIn s k (first + i)) [
+              | inl low ↦ (omega (arith, low), (one.set i small (let is : bit_at old i ≡ 1 = omega (arith, both, shifted-low next count i small low) in is)).1)
+              | inr high ↦
+                  let clear : bit_at old i ≡ 0 = elim (cases_eq (bit_at old i) 1) as (λ _. bit_at old i ≡ 0) [
+                    | inl is ↦ absurd (let below : i < count = (one.set i small is).0 in omega (arith, below, high))
+                    | inr not ↦ omega (arith, not, bit_at-lt old i)
+                  ] in
+                  let is : bit_at next (i - count) ≡ 1 = omega (arith, both, clear, shifted-high next count i small high) in
+                  let found = two.set (i - count) (omega (arith, small)) is in
+                  (omega (arith, high, found.0), subst (BeginsIn s k) (omega (arith, high)) found.1)
+            ];
+        all = λ i few is. bit_at_or old shifted i ∙ elim (cases_lt i count) as (λ _. max (bit_at old i) (bit_at shifted i) ≡ 1) [
+          | inl low ↦ (let both : max (bit_at old i) (bit_at shifted i) ≡ 1
+              = omega (arith, one.all i low is, shifted-low next count i (omega (arith, few, fits)) low) in both)
+          | inr high ↦
+              let set : bit_at next (i - count) ≡ 1 = two.all (i - count) (omega (arith, few, high)) (subst (BeginsIn s k) (omega (arith, high)) is) in
+              let both : max (bit_at old i) (bit_at shifted i) ≡ 1
+              = omega (arith, set, bit_at-lt old i, shifted-high next count i (omega (arith, few, fits)) high) in both
         ];
-    all = λ i small is.
-        let n : ℕ = 64 * word + i in
-        let marked : IsTrue (has_line lines n) = adds.added n (record { after = omega arith; below = omega arith; begins = is }) in
-        let one : bit_at (slice_index lines (n / 64)) (n % 64) ≡ 1 = eqb-true (bit_at (slice_index lines (n / 64)) (n % 64)) 1 marked in
-        ap (bit_at (slice_index lines word)) (omega arith) ∙ ap (λ w. bit_at (slice_index lines w) (n % 64)) (omega arith) ∙ one;
-  }
+      }
+
+  -- the lines of a word
+  pub are-begun : (word bits : ℕ) → AreBegunFrom s k (64 * word) 64 bits → AreBegun s k word bits
+  are-begun word bits are = record { set = λ i small one. (are.set i small one).1; all = are.all }
 
   -- the bits that are set, and whose next higher bit is clear
   abbrev last_bits : ℕ → ℕ

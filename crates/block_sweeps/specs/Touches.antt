@@ -77,6 +77,11 @@ pub record AreBegun (s : HeapState) (k word bits : ℕ) : Type 0 where
   pub all : (i : ℕ) → i < BITS_PER_WORD → BeginsIn s k (BITS_PER_WORD * word + i)
       → bit_at bits i ≡ 1
 
+-- Of 64 bits these are set: bit i below `count` if an object begins in line `first + i` of block k.
+pub record AreBegunFrom (s : HeapState) (k first count bits : ℕ) : Type 0 where
+  pub set : (i : ℕ) → i < BITS_PER_WORD → bit_at bits i ≡ 1 → (i < count) × BeginsIn s k (first + i)
+  pub all : (i : ℕ) → i < count → BeginsIn s k (first + i) → bit_at bits i ≡ 1
+
 -- the lines that objects touch which begin in this line of block k are among these
 abbrev pub HasLinesOf : HeapState → ℕ → ℕ → List ℕ → Type 0
 HasLinesOf s k line lines = (n : ℕ) → IsTouchedFrom s k (16 * line) (16 * line + 16) n

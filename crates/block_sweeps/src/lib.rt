@@ -3,12 +3,14 @@
 #![tactic(auto)]
 
 mod clearing;
+mod differing;
 mod lines;
 mod objects;
 mod runs;
 mod sweep;
 
 pub use clearing::{free_block, store, unlog_block};
+pub use differing::differ;
 pub use lines::mark_touched_lines;
 pub use objects::object_size;
 pub use runs::sweep_run;

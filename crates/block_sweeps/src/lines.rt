@@ -8,7 +8,7 @@ ghost use Rattle.heap_layout.specs.declared.block.Kind.TheVariants as kinds;
 ghost use Rattle.object_model.specs.Objects.{HeapState, HasKind, is_start, shown};
 ghost use Rattle.object_model.specs.Lawful.{IsReadableBlock};
 ghost use Rattle.block_sweeps.specs.Stores.{Fills};
-ghost use Rattle.block_sweeps.specs.Touches.{AddsEnds, AddsLines, AreBegun, AreBitsOf, AreStarts, BeginsFrom, BeginsIn, MarksFrom, TouchesAt, has_line};
+ghost use Rattle.block_sweeps.specs.Touches.{AddsEnds, AddsLines, AreBegun, AreBegunFrom, AreBitsOf, AreStarts, BeginsIn, MarksFrom, TouchesAt, has_line};
 ghost use Rattle.block_sweeps.specs.Sweeping.{AreApart, MarksTouched, IsTouchedHere};
 
 use crate::clearing::store;
@@ -77,46 +77,51 @@ fn begun_lines<W: Words>(words: &W, layout: &Layout, block: u32) -> [u64; 4]
         → AreBegun (shown (W.words words.now) layout.now) block word
         (slice_index result word) }
 {
-    let mut lines = [0; 4];
-    for index in 0..BLOCK_BIT_WORDS {
-        add_begun(start_word(words, layout, block, index), index, &mut lines);
-    }
-    lines
+    [
+        begun_in(words, layout, block, 0),
+        begun_in(words, layout, block, 1),
+        begun_in(words, layout, block, 2),
+        begun_in(words, layout, block, 3),
+    ]
 }
 
-/// Adds those of four lines in which objects begin. Word `index` of start bits is theirs.
-#[inline(always)]
-fn add_begun(starts: u64, index: u32, lines: &mut [u64; 4])
-    requires index { index < BLOCK_BIT_WORDS }
-    requires len { length lines.old ≡ 4 }
-    ensures { (s : HeapState) (k : ℕ) → AreStarts s k index starts
-        → AddsLines (BeginsFrom s k (4 * index) (4 * index + 4)) lines.old lines.new }
+/// The bits of the 64 lines from `64 * word` on in which objects begin.
+fn begun_in<W: Words>(words: &W, layout: &Layout, block: u32, word: u32) -> u64
+    requires extent { IsRowOf layout.now (W.words words.now) }
+    requires block { block < layout.now.blocks }
+    requires word { word < 4 }
+    ensures { AreBegun (shown (W.words words.now) layout.now) block word result }
 {
-    if starts == 0 {
-        return;
+    let mut begun = 0;
+    for index in 0..16 {
+        let starts = start_word(words, layout, block, 16 * word + index);
+        begun |= begun_of(starts) << (4 * index);
     }
-    if is_dense(starts) {
-        set_run(lines, 4 * index, 4 * index + 3);
-        return;
-    }
+    begun
+}
+
+/// The bits of the four lines with these start bits in which objects begin.
+#[inline(always)]
+fn begun_of(starts: u64) -> u64
+    ensures { (s : HeapState) (k index : ℕ) → AreStarts s k index starts
+        → AreBegunFrom s k (4 * index) 4 result }
+{
+    let mut begun = 0;
     for line in 0..4 {
-        add_if_begun(line_bits(starts, line), 4 * index + line, lines);
+        begun |= begun_bit(starts, line) << line;
     }
+    begun
 }
 
-/// Adds a line, unless its start bits are all clear.
+/// 1 if an object begins in one of the four lines with these start bits, else 0. It takes no
+/// branch, since nothing would foretell it.
 #[inline(always)]
-fn add_if_begun(bits: u64, line: u32, lines: &mut [u64; 4])
-    requires line { line < BLOCK_LINES }
-    requires len { length lines.old ≡ 4 }
-    ensures none { bits ≡ 0 → lines.new ≡ lines.old }
-    ensures some { (bits ≡ 0 → ⊥) → AddsLines (IsFromTo line line) lines.old lines.new }
-    ensures len { length lines.new ≡ 4 }
+fn begun_bit(starts: u64, line: u32) -> u64
+    requires { line < 4 }
+    ensures { (s : HeapState) (k index : ℕ) → AreStarts s k index starts
+        → AreBegunFrom s k (4 * index + line) 1 result }
 {
-    if bits == 0 {
-        return;
-    }
-    set_run(lines, line, line);
+    (line_bits(starts, line) != 0) as u64
 }
 
 /// For each of 64 lines in which objects begin, as the bits of `begun` say, adds the lines that
@@ -186,23 +191,6 @@ fn line_bits(word: u64, line: u32) -> u64
     ensures { AreBitsOf line word result }
 {
     word & run_mask(LINE_WORDS * line, LINE_WORDS * line + (LINE_WORDS - 1))
-}
-
-/// Whether an object begins in each of the four lines whose start bits these are.
-#[inline(always)]
-fn is_dense(starts: u64) -> bool
-    ensures dense { result ≡ true → (s : HeapState) (k index line : ℕ)
-        → AreStarts s k index starts → line < 4 → BeginsIn s k (4 * index + line) }
-    ensures sparse { result ≡ false → (s : HeapState) (k index : ℕ)
-        → AreStarts s k index starts
-        → (line : ℕ) × (line < 4) × (BeginsIn s k (4 * index + line) → ⊥) }
-{
-    for line in 0..4 {
-        if line_bits(starts, line) == 0 {
-            return false;
-        }
-    }
-    true
 }
 
 /// Adds the lines that the object at this offset touches.

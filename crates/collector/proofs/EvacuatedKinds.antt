@@ -27,24 +27,18 @@ module _ (s : HeapState) (k : ℕ) where
   young : HasKind s k kinds.Young → IsTrue (is_kept_kind s k)
   young is = or_left _ _ (or_left _ _ (or-right _ _ is))
 
-  mature : HasKind s k kinds.Mature → IsTrue (is_kept_kind s k)
-  mature is = or_left _ _ (or-right _ _ is)
-
-  kept : HasKind s k kinds.Kept → IsTrue (is_kept_kind s k)
-  kept is = or-right _ _ is
-
   -- an evacuated block that is not Immix is of a kind that is Kept
   pub evacuated-kind : (q : Plan) (c : Collect) → IsTrue (is_evacuated (rules_of q) c s k) → (HasKind s k kinds.Immix → ⊥) → IsTrue (is_kept_kind s k)
   evacuated-kind plans.NoGc c is other = absurd (true≢false (sym is))
   evacuated-kind plans.MarkSweep c is other = absurd (true≢false (sym is))
   evacuated-kind plans.SemiSpace Full is other = elim (or_cases (has_kind s k kinds.Bump || has_kind s k kinds.Bump) (has_kind s k kinds.Kept) is) as (λ _. IsTrue (is_kept_kind s k)) [
     | inl filled ↦ elim (or_cases (has_kind s k kinds.Bump) (has_kind s k kinds.Bump) filled) as (λ _. IsTrue (is_kept_kind s k)) [ inl one ↦ bump one | inr one ↦ bump one ]
-    | inr still ↦ kept still
+    | inr still ↦ or-right _ _ still
   ]
   evacuated-kind plans.SemiSpace Nursery is other = absurd (true≢false (sym is))
   evacuated-kind plans.GenCopy Full is other = elim (or_cases (has_kind s k kinds.Young || has_kind s k kinds.Mature) (has_kind s k kinds.Kept) is) as (λ _. IsTrue (is_kept_kind s k)) [
-    | inl filled ↦ elim (or_cases (has_kind s k kinds.Young) (has_kind s k kinds.Mature) filled) as (λ _. IsTrue (is_kept_kind s k)) [ inl one ↦ young one | inr one ↦ mature one ]
-    | inr still ↦ kept still
+    | inl filled ↦ elim (or_cases (has_kind s k kinds.Young) (has_kind s k kinds.Mature) filled) as (λ _. IsTrue (is_kept_kind s k)) [ inl one ↦ young one | inr one ↦ or_left _ _ (or-right _ _ one) ]
+    | inr still ↦ or-right _ _ still
   ]
   evacuated-kind plans.GenCopy Nursery is other = young is
   evacuated-kind plans.Immix Full is other = absurd (other (candidate-immix s k is))

@@ -6,7 +6,7 @@ ghost use Rattle.collector.specs.Prelude.{IsRowOf, code_of, kind_code, IsValidWo
 ghost use Rattle.collector.specs.Prelude.kinds;
 ghost use Rattle.collector.specs.Prelude.knowledge;
 
-use block_sweeps::{free_block, store};
+use block_sweeps::{differ, free_block, store};
 use heap_layout::{BLOCK_BIT_WORDS, BlockWord, Kind, Layout, encode};
 use object_model::{Collect, Heap, Row};
 use plan_api::{Plan, block_word_in};
@@ -31,10 +31,13 @@ pub(crate) enum Known {
 /// What is known after a tracing of a collection of this kind, which marked lines if `lines`. A
 /// nursery collection leaves the lines of young objects that died marked.
 pub(crate) fn known_after(collect: Collect, lines: bool) -> Known
-    ensures { (r : Rules) (run : TraceRun) (p : Setup) (es : List Event) → IsTracedUnder r run p
+    ensures known { (r : Rules) (run : TraceRun) (p : Setup) (es : List Event) → IsTracedUnder r run p
         → run.lines ≡ lines → (collect ≡ Full → lines ≡ true → LinesOfTargetsAreMarked p es)
         → (collect ≡ Nursery → lines ≡ true → LinesOfClaimedAreMarked p es)
         → IsKnown r run p es result }
+    ensures full { lines ≡ true → collect ≡ Full → result ≡ knowledge.FlagsAndLines }
+    ensures nursery { lines ≡ true → collect ≡ Nursery → result ≡ knowledge.FlagsAndKeptLines }
+    ensures others { lines ≡ false → result ≡ knowledge.Flags }
 {
     if !lines {
         return Known::Flags;
@@ -132,6 +135,9 @@ fn is_shown(known: Known, kind: Kind) -> bool
     ensures head { result ≡ true → kind ≡ kinds.LargeHead → ⊥ }
     ensures tail { result ≡ true → kind ≡ kinds.LargeTail → ⊥ }
     ensures lines { result ≡ true → kind ≡ kinds.Immix → known ≡ knowledge.FlagsAndLines }
+    ensures others { (known ≡ knowledge.Nothing → ⊥) → (kind ≡ kinds.Free → ⊥)
+        → (kind ≡ kinds.LargeHead → ⊥) → (kind ≡ kinds.LargeTail → ⊥)
+        → (kind ≡ kinds.Immix → known ≡ knowledge.FlagsAndLines) → result ≡ true }
 {
     match kind {
         Kind::Free | Kind::LargeHead | Kind::LargeTail => false,
@@ -144,6 +150,7 @@ fn is_shown(known: Known, kind: Kind) -> bool
 fn keeps_lines(known: Known, kind: Kind) -> bool
     ensures known { result ≡ true → known ≡ knowledge.FlagsAndKeptLines }
     ensures immix { result ≡ true → kind ≡ kinds.Immix }
+    ensures both { known ≡ knowledge.FlagsAndKeptLines → kind ≡ kinds.Immix → result ≡ true }
 {
     match kind {
         Kind::Immix => matches!(known, Known::FlagsAndKeptLines),
@@ -337,12 +344,7 @@ fn bits_differ(words: &Vec<u64>, layout: &Layout, block: u32) -> bool
     let unlogs = (layout.unlog_base() + BLOCK_BIT_WORDS * block) as usize;
     let held = &words[starts..starts + BLOCK_BIT_WORDS as usize];
     let living = &words[unlogs..unlogs + BLOCK_BIT_WORDS as usize];
-    for index in 0..BLOCK_BIT_WORDS as usize {
-        if held[index] != living[index] {
-            return true;
-        }
-    }
-    false
+    differ(held, living)
 }
 
 /// Each word has 64 bits, which a definition that speaks of numbers does not know.

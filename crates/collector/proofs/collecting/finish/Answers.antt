@@ -22,7 +22,7 @@ release_by-heap-requires g c =
       finished,
       is.row,
       is.run,
-      c.known_after-known.ensures g.P.Plan.rules c.close-traced.result.run p es
+      c.known_after-known.ensures.known g.P.Plan.rules c.close-traced.result.run p es
           (whole.traced-under start w done g.P.Plan.rules c.close-traced.result.run (c.close-traced.ensures.run ∙ done.awaited.tracer.runs) c.requires.2)
           refl
           (λ is_full on. whole.marks-lines start w done finished (ap (λ (r : TraceRun). r.collect) (sym (c.close-traced.ensures.run ∙ done.awaited.tracer.runs)) ∙ is_full) (subst (λ (r : TraceRun). IsTrue r.lines) (c.close-traced.ensures.run ∙ done.awaited.tracer.runs) on))
