@@ -1,47 +1,134 @@
--- Replies that are counted one after another.
-use Rattle.std.proofs.Common.{◌≡◌, sym, ap, ◌∙◌, subst, ℕ, suc, ◌+◌, ◌%◌, ◌^◌, ◌<◌, Bool, arith, List, [], ◌∷◌, ◌++◌, cond, count_by, length, append-nil, append_assoc}
-use Rattle.std.proofs.lemmas.List.{length-append}
-use Rattle.std.proofs.lemmas.List.Sums.{sum_by_push}
+-- Replies that are counted by the indexes of their kinds.
+use Rattle.std.proofs.Common.{◌≡◌, refl, ap, ◌+◌, ◌∙◌, sym, ℕ, Bool, List, [], ◌∷◌, cond, count_by}
+use Rattle.std.proofs.lemmas.List.Sums.{sum_by-cons}
 use Rattle.ideal_heap.specs.declared.reply.Reply.{Reply}
-use Rattle.made_trace.specs.declared.counts.ReplyCounts.{ReplyCounts}
-use Rattle.made_trace.specs.Counts.{number_replied, sum_replied, AreCounts, CountsOneMore}
+use Rattle.ideal_heap.specs.declared.reply.Reply.TheVariants as r
+use Rattle.ideal_heap.specs.Runs.{is_full}
+use Rattle.stored_replies.specs.Kinds.{is_of_kind}
+use Rattle.made_trace.specs.Counts.{is_new_reply, is_ref, is_nil, is_num, is_done, is_yes, is_no, is_null, is_range}
 
-count-more : (p : Reply → Bool) (xs : List Reply) (x : Reply) (old new : ℕ) → old ≡ count_by p xs → new ≡ old + cond (p x) 1 0 → new ≡ count_by p (xs ++ x ∷ [])
-count-more p xs x old new is more = more ∙ ap (λ n. n + cond (p x) 1 0) is ∙ sym (sum_by_push (λ y. cond (p y) 1 0) xs x)
+-- replies that one test tells from others are as many by an equal test
+pub same-count : (p q : Reply → Bool) → ((x : Reply) → p x ≡ q x) → (xs : List Reply) → count_by p xs ≡ count_by q xs
+same-count p q same [] = refl
+same-count p q same (x ∷ xs) = sum_by-cons (λ y. cond (p y) 1 0) x xs ∙ ap (λ b. cond b 1 0 + count_by p xs) (same x)
+    ∙ ap (λ n. cond (q x) 1 0 + n) (same-count p q same xs) ∙ sym (sum_by-cons (λ y. cond (q y) 1 0) x xs)
 
-sum-more : (xs : List Reply) (x : Reply) (old new : ℕ) → old ≡ sum_replied xs → new ≡ (old + number_replied x) % 2 ^ 64 → new ≡ sum_replied (xs ++ x ∷ [])
-sum-more xs x old new is more = rw (sum_by_push number_replied xs x) (more ∙ ap (λ n. (n + number_replied x) % 2 ^ 64) is ∙ omega arith)
+pub is-new : (x : Reply) → is_of_kind 1 x ≡ is_new_reply x
+is-new (r.New n) = refl
+is-new r.Full = refl
+is-new (r.Ref n) = refl
+is-new r.Nil = refl
+is-new (r.Num n) = refl
+is-new r.Done = refl
+is-new r.Yes = refl
+is-new r.No = refl
+is-new r.Null = refl
+is-new r.Range = refl
 
-pub counts-more : (old new : ReplyCounts) (xs : List Reply) (x : Reply) → AreCounts old xs → CountsOneMore old new x → AreCounts new (xs ++ x ∷ [])
-counts-more old new xs x are adds = record {
-  allocated = count-more _ xs x old.allocated new.allocated are.allocated adds.allocated;
-  refused = count-more _ xs x old.full new.full are.refused adds.refused;
-  refs = count-more _ xs x old.reference new.reference are.refs adds.refs;
-  nils = count-more _ xs x old.nil new.nil are.nils adds.nils;
-  numbers = count-more _ xs x old.number new.number are.numbers adds.numbers;
-  total = sum-more xs x old.sum new.sum are.total adds.total;
-  dones = count-more _ xs x old.done new.done are.dones adds.dones;
-  yeses = count-more _ xs x old.yes new.yes are.yeses adds.yeses;
-  noes = count-more _ xs x old.no new.no are.noes adds.noes;
-  nulls = count-more _ xs x old.null new.null are.nulls adds.nulls;
-  ranges = count-more _ xs x old.range new.range are.ranges adds.ranges;
-}
+pub is-full : (x : Reply) → is_of_kind 2 x ≡ is_full x
+is-full (r.New n) = refl
+is-full r.Full = refl
+is-full (r.Ref n) = refl
+is-full r.Nil = refl
+is-full (r.Num n) = refl
+is-full r.Done = refl
+is-full r.Yes = refl
+is-full r.No = refl
+is-full r.Null = refl
+is-full r.Range = refl
 
--- the first replies are counted, and these are left
-pub record CountsFirst (c : ReplyCounts) (first left all : List Reply) : Type 0 where
-  pub are : AreCounts c first
-  pub rest : first ++ left ≡ all
+pub is-ref : (x : Reply) → is_of_kind 3 x ≡ is_ref x
+is-ref (r.New n) = refl
+is-ref r.Full = refl
+is-ref (r.Ref n) = refl
+is-ref r.Nil = refl
+is-ref (r.Num n) = refl
+is-ref r.Done = refl
+is-ref r.Yes = refl
+is-ref r.No = refl
+is-ref r.Null = refl
+is-ref r.Range = refl
 
-pub counts-next : (old new : ReplyCounts) (first left left' all : List Reply) (x : Reply) → CountsFirst old first left all → left ≡ x ∷ left' → CountsOneMore old new x → CountsFirst new (first ++ x ∷ []) left' all
-counts-next old new first left left' all x counts next adds = record {
-  are = counts-more old new first x counts.are adds;
-  rest = append_assoc first (x ∷ []) left' ∙ ap (λ xs. first ++ xs) (sym next) ∙ counts.rest;
-}
+pub is-nil : (x : Reply) → is_of_kind 4 x ≡ is_nil x
+is-nil (r.New n) = refl
+is-nil r.Full = refl
+is-nil (r.Ref n) = refl
+is-nil r.Nil = refl
+is-nil (r.Num n) = refl
+is-nil r.Done = refl
+is-nil r.Yes = refl
+is-nil r.No = refl
+is-nil r.Null = refl
+is-nil r.Range = refl
 
-pub first-within : (c : ReplyCounts) (first left left' all : List Reply) (x : Reply) → CountsFirst c first left all → left ≡ x ∷ left' → length first < length all
-first-within c first left left' all x counts next =
-    let whole : length first + length left ≡ length all = sym (length-append first left) ∙ ap length counts.rest in
-    let more : length left ≡ suc (length left') = ap length next in omega arith
+pub is-num : (x : Reply) → is_of_kind 5 x ≡ is_num x
+is-num (r.New n) = refl
+is-num r.Full = refl
+is-num (r.Ref n) = refl
+is-num r.Nil = refl
+is-num (r.Num n) = refl
+is-num r.Done = refl
+is-num r.Yes = refl
+is-num r.No = refl
+is-num r.Null = refl
+is-num r.Range = refl
 
-pub counts-end : (c : ReplyCounts) (first left all : List Reply) → left ≡ [] → CountsFirst c first left all → AreCounts c all
-counts-end c first left all none counts = subst (AreCounts c) (sym (append-nil first) ∙ ap (λ xs. first ++ xs) (sym none) ∙ counts.rest) counts.are
+pub is-done : (x : Reply) → is_of_kind 6 x ≡ is_done x
+is-done (r.New n) = refl
+is-done r.Full = refl
+is-done (r.Ref n) = refl
+is-done r.Nil = refl
+is-done (r.Num n) = refl
+is-done r.Done = refl
+is-done r.Yes = refl
+is-done r.No = refl
+is-done r.Null = refl
+is-done r.Range = refl
+
+pub is-yes : (x : Reply) → is_of_kind 7 x ≡ is_yes x
+is-yes (r.New n) = refl
+is-yes r.Full = refl
+is-yes (r.Ref n) = refl
+is-yes r.Nil = refl
+is-yes (r.Num n) = refl
+is-yes r.Done = refl
+is-yes r.Yes = refl
+is-yes r.No = refl
+is-yes r.Null = refl
+is-yes r.Range = refl
+
+pub is-no : (x : Reply) → is_of_kind 8 x ≡ is_no x
+is-no (r.New n) = refl
+is-no r.Full = refl
+is-no (r.Ref n) = refl
+is-no r.Nil = refl
+is-no (r.Num n) = refl
+is-no r.Done = refl
+is-no r.Yes = refl
+is-no r.No = refl
+is-no r.Null = refl
+is-no r.Range = refl
+
+pub is-null : (x : Reply) → is_of_kind 9 x ≡ is_null x
+is-null (r.New n) = refl
+is-null r.Full = refl
+is-null (r.Ref n) = refl
+is-null r.Nil = refl
+is-null (r.Num n) = refl
+is-null r.Done = refl
+is-null r.Yes = refl
+is-null r.No = refl
+is-null r.Null = refl
+is-null r.Range = refl
+
+pub is-range : (x : Reply) → is_of_kind 0 x ≡ is_range x
+is-range (r.New n) = refl
+is-range r.Full = refl
+is-range (r.Ref n) = refl
+is-range r.Nil = refl
+is-range (r.Num n) = refl
+is-range r.Done = refl
+is-range r.Yes = refl
+is-range r.No = refl
+is-range r.Null = refl
+is-range r.Range = refl

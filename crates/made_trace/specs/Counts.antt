@@ -1,8 +1,9 @@
 -- Counts of replies, as a summary has them.
-use Rattle.std.specs.Prelude.{◌≡◌, ℕ, ◌+◌, ◌%◌, ◌^◌, Bool, true, false, List, cond, count_by, sum_by}
+use Rattle.std.specs.Prelude.{◌≡◌, ℕ, ◌%◌, ◌^◌, Bool, true, false, List, count_by, sum_by}
 use Rattle.ideal_heap.specs.declared.reply.Reply.{Reply}
 use Rattle.ideal_heap.specs.declared.reply.Reply.TheVariants as r
 use Rattle.ideal_heap.specs.Runs.{is_full}
+use Rattle.stored_replies.specs.Kinds.{number_replied}
 use Rattle.made_trace.specs.declared.counts.ReplyCounts.{ReplyCounts}
 
 abbrev pub is_new_reply : Reply → Bool
@@ -20,10 +21,6 @@ is_nil _ = false
 abbrev pub is_num : Reply → Bool
 is_num (r.Num n) = true
 is_num _ = false
-
-abbrev pub number_replied : Reply → ℕ
-number_replied (r.Num n) = n
-number_replied _ = 0
 
 abbrev pub is_done : Reply → Bool
 is_done r.Done = true
@@ -62,17 +59,3 @@ pub record AreCounts (c : ReplyCounts) (replies : List Reply) : Type 0 where
   pub noes : c.no ≡ count_by is_no replies
   pub nulls : c.null ≡ count_by is_null replies
   pub ranges : c.range ≡ count_by is_range replies
-
--- one reply more was counted
-pub record CountsOneMore (before after : ReplyCounts) (reply : Reply) : Type 0 where
-  pub allocated : after.allocated ≡ before.allocated + cond (is_new_reply reply) 1 0
-  pub refused : after.full ≡ before.full + cond (is_full reply) 1 0
-  pub refs : after.reference ≡ before.reference + cond (is_ref reply) 1 0
-  pub nils : after.nil ≡ before.nil + cond (is_nil reply) 1 0
-  pub numbers : after.number ≡ before.number + cond (is_num reply) 1 0
-  pub total : after.sum ≡ (before.sum + number_replied reply) % 2 ^ 64
-  pub dones : after.done ≡ before.done + cond (is_done reply) 1 0
-  pub yeses : after.yes ≡ before.yes + cond (is_yes reply) 1 0
-  pub noes : after.no ≡ before.no + cond (is_no reply) 1 0
-  pub nulls : after.null ≡ before.null + cond (is_null reply) 1 0
-  pub ranges : after.range ≡ before.range + cond (is_range reply) 1 0

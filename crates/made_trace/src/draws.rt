@@ -1,14 +1,27 @@
 //! Random commands.
 
-ghost use Rattle.std.specs.Prelude.{◌≡◌, ◌<◌, ◌/◌, ◌%◌, ◌^◌};
-ghost use Rattle.ideal_heap.specs.Commands.{IsValid};
-ghost use Rattle.made_trace.specs.Made.{next_state, a_new, a_put, a_get, a_read, a_write, an_add, a_swap, a_move, a_load, a_share, a_pin, in_row, command_at};
+ghost use Rattle.std.specs.Prelude.{◌≡◌, ◌<◌, ◌/◌, ◌^◌};
+ghost use Rattle.made_trace.specs.Made.{next_state, draw_below, in_row, command_at};
 
-use ideal_heap::{Command, GLOBALS, REGISTERS};
+use ideal_heap::{GLOBALS, REGISTERS};
+use stored_commands::{Op, PackedCommand, VALUE_UNIT};
 
 const MULTIPLIER: u64 = 6_364_136_223_846_793_005;
 
 const INCREMENT: u64 = 1_442_695_040_888_963_407;
+
+// Two, three and four steps of the generator as one.
+const MULTIPLIER_2: u64 = 7_520_897_724_310_334_953;
+
+const INCREMENT_2: u64 = 1_876_011_003_808_476_466;
+
+const MULTIPLIER_3: u64 = 793_875_393_913_628_917;
+
+const INCREMENT_3: u64 = 11_166_244_414_315_200_793;
+
+const MULTIPLIER_4: u64 = 18_108_194_425_815_612_945;
+
+const INCREMENT_4: u64 = 7_401_132_627_792_533_940;
 
 // The bits of the state that a draw leaves out.
 const LOW_BITS: u32 = 33;
@@ -23,13 +36,96 @@ const REGISTERS_RESET: u32 = REGISTERS as u32;
 
 const GLOBALS_RESET: u32 = REGISTERS_RESET + GLOBALS as u32;
 
-const REFS: u32 = 8;
-
-const NUMS: u32 = 32;
-
-const SWAPPED: u32 = 4;
-
 const ROWS: u32 = 16;
+
+// All bits of a draw.
+const ALL_BITS: u32 = 2_147_483_647;
+
+// What the commands of each row do.
+static OPS: [Op; 16] = [
+    Op::New,
+    Op::New,
+    Op::New,
+    Op::New,
+    Op::Put,
+    Op::Put,
+    Op::Get,
+    Op::Get,
+    Op::Read,
+    Op::Write,
+    Op::Add,
+    Op::Swap,
+    Op::Move,
+    Op::Load,
+    Op::Share,
+    Op::Pin,
+];
+
+// The bits of the second draw that are the second number of a row's commands, and so on. The first
+// number is always a register or a global.
+const SECOND: [u32; 16] = [7, 7, 7, 7, 7, 7, 15, 15, 31, 31, 31, 31, 15, 15, 15, 0];
+
+const THIRD: [u32; 16] = [
+    31, 31, 31, 31, 15, 15, 7, 7, 0, ALL_BITS, ALL_BITS, 3, 0, 0, 0, 0,
+];
+
+const FOURTH: [u32; 16] = [0, 0, 0, 0, 0, 0, 0, 0, 0, 0, 0, 3, 0, 0, 0, 0];
+
+// All draws of a row's arguments as one step of the generator.
+const MULTIPLIERS: [u64; 16] = [
+    MULTIPLIER_3,
+    MULTIPLIER_3,
+    MULTIPLIER_3,
+    MULTIPLIER_3,
+    MULTIPLIER_3,
+    MULTIPLIER_3,
+    MULTIPLIER_3,
+    MULTIPLIER_3,
+    MULTIPLIER_2,
+    MULTIPLIER_3,
+    MULTIPLIER_3,
+    MULTIPLIER_4,
+    MULTIPLIER_2,
+    MULTIPLIER_2,
+    MULTIPLIER_2,
+    MULTIPLIER,
+];
+
+const INCREMENTS: [u64; 16] = [
+    INCREMENT_3,
+    INCREMENT_3,
+    INCREMENT_3,
+    INCREMENT_3,
+    INCREMENT_3,
+    INCREMENT_3,
+    INCREMENT_3,
+    INCREMENT_3,
+    INCREMENT_2,
+    INCREMENT_3,
+    INCREMENT_3,
+    INCREMENT_4,
+    INCREMENT_2,
+    INCREMENT_2,
+    INCREMENT_2,
+    INCREMENT,
+];
+
+// The state after this one.
+#[inline(always)]
+fn next(state: u64) -> u64
+    ensures { result ≡ next_state state }
+{
+    state.wrapping_mul(MULTIPLIER).wrapping_add(INCREMENT)
+}
+
+// The number of 31 bits that a draw takes from the state after it.
+#[inline(always)]
+fn number(state: u64) -> u32
+    ensures number { result ≡ state / 2 ^ 33 }
+    ensures small { result < 2 ^ 31 }
+{
+    (state >> LOW_BITS) as u32
+}
 
 /// The state of a linear congruential generator of 64 bits, with the constants of Knuth's MMIX.
 #[derive(Debug, Drop)]
@@ -38,184 +134,41 @@ pub(crate) struct Draws {
 }
 
 impl Draws {
-    // A number of 31 bits.
+    // A random command. No branch depends on the draws: what they decide is read from tables.
     #[inline(always)]
-    fn draw(&mut self) -> u32
-        ensures drawn { result ≡ next_state self.old.state / 2 ^ 33 }
-        ensures small { result < 2 ^ 31 }
-        ensures state { self.new.state ≡ next_state self.old.state }
+    fn random(&mut self) -> PackedCommand
+        ensures { (result, self.new.state) ≡ draw_below 16 in_row self.old.state }
     {
-        self.state = self.state.wrapping_mul(MULTIPLIER).wrapping_add(INCREMENT);
-        (self.state >> LOW_BITS) as u32
-    }
-
-    // A number below the limit.
-    #[inline(always)]
-    fn below(&mut self, limit: u32) -> u32
-        requires { 0 < limit }
-        ensures drawn { result ≡ next_state self.old.state / 2 ^ 33 % limit }
-        ensures within { result < limit }
-        ensures state { self.new.state ≡ next_state self.old.state }
-    {
-        self.draw() % limit
-    }
-
-    #[inline(always)]
-    fn register(&mut self) -> u32
-        ensures drawn { result ≡ next_state self.old.state / 2 ^ 33 % 16 }
-        ensures within { result < 16 }
-        ensures state { self.new.state ≡ next_state self.old.state }
-    {
-        self.below(REGISTERS as u32)
-    }
-
-    fn new_object(&mut self) -> Command
-        ensures drawn { (result, self.new.state) ≡ a_new self.old.state }
-        ensures valid { IsValid result }
-    {
-        let d = self.register();
-        let refs = self.below(REFS);
-        let nums = self.below(NUMS);
-        Command::New { d, refs, nums }
-    }
-
-    fn put(&mut self) -> Command
-        ensures drawn { (result, self.new.state) ≡ a_put self.old.state }
-        ensures valid { IsValid result }
-    {
-        let s = self.register();
-        let i = self.below(REFS);
-        let v = self.register();
-        Command::Put { s, i, v }
-    }
-
-    fn get(&mut self) -> Command
-        ensures drawn { (result, self.new.state) ≡ a_get self.old.state }
-        ensures valid { IsValid result }
-    {
-        let d = self.register();
-        let s = self.register();
-        let i = self.below(REFS);
-        Command::Get { d, s, i }
-    }
-
-    fn read(&mut self) -> Command
-        ensures drawn { (result, self.new.state) ≡ a_read self.old.state }
-        ensures valid { IsValid result }
-    {
-        let s = self.register();
-        let j = self.below(NUMS);
-        Command::Read { s, j }
-    }
-
-    fn write(&mut self) -> Command
-        ensures drawn { (result, self.new.state) ≡ a_write self.old.state }
-        ensures valid { IsValid result }
-    {
-        let s = self.register();
-        let j = self.below(NUMS);
-        let n = u64::from(self.draw());
-        Command::Write { s, j, n }
-    }
-
-    fn add(&mut self) -> Command
-        ensures drawn { (result, self.new.state) ≡ an_add self.old.state }
-        ensures valid { IsValid result }
-    {
-        let s = self.register();
-        let j = self.below(NUMS);
-        let n = u64::from(self.draw());
-        Command::Add { s, j, n }
-    }
-
-    fn swap(&mut self) -> Command
-        ensures drawn { (result, self.new.state) ≡ a_swap self.old.state }
-        ensures valid { IsValid result }
-    {
-        let s = self.register();
-        let j = self.below(NUMS);
-        let was = u64::from(self.below(SWAPPED));
-        let next = u64::from(self.below(SWAPPED));
-        Command::Swap { s, j, was, next }
-    }
-
-    fn move_register(&mut self) -> Command
-        ensures drawn { (result, self.new.state) ≡ a_move self.old.state }
-        ensures valid { IsValid result }
-    {
-        let d = self.register();
-        let s = self.register();
-        Command::Move { d, s }
-    }
-
-    fn load(&mut self) -> Command
-        ensures drawn { (result, self.new.state) ≡ a_load self.old.state }
-        ensures valid { IsValid result }
-    {
-        let d = self.register();
-        let g = self.below(GLOBALS as u32);
-        Command::Load { d, g }
-    }
-
-    fn share(&mut self) -> Command
-        ensures drawn { (result, self.new.state) ≡ a_share self.old.state }
-        ensures valid { IsValid result }
-    {
-        let g = self.below(GLOBALS as u32);
-        let s = self.register();
-        Command::Share { g, s }
-    }
-
-    fn pin(&mut self) -> Command
-        ensures drawn { (result, self.new.state) ≡ a_pin self.old.state }
-        ensures valid { IsValid result }
-    {
-        let s = self.register();
-        Command::Pin { s }
-    }
-
-    // A random command of this row.
-    #[inline(always)]
-    fn in_row(&mut self, row: u32) -> Command
-        requires { row < 16 }
-        ensures drawn { (result, self.new.state) ≡ in_row row self.old.state }
-        ensures valid { IsValid result }
-    {
-        match row {
-            0..=3 => self.new_object(),
-            4 | 5 => self.put(),
-            6 | 7 => self.get(),
-            8 => self.read(),
-            9 => self.write(),
-            10 => self.add(),
-            11 => self.swap(),
-            12 => self.move_register(),
-            13 => self.load(),
-            14 => self.share(),
-            _ => self.pin(),
-        }
+        let row_state = next(self.state);
+        let row = (number(row_state) % ROWS) as usize;
+        let first = next(row_state);
+        let second = next(first);
+        let third = next(second);
+        let a = number(first) % REGISTERS as u32;
+        let b = number(second) & SECOND[row];
+        let c = number(third) & THIRD[row];
+        let d = number(next(third)) & FOURTH[row];
+        self.state = row_state
+            .wrapping_mul(MULTIPLIERS[row])
+            .wrapping_add(INCREMENTS[row]);
+        PackedCommand::short(OPS[row], a as u8, b as u16, c + VALUE_UNIT * d)
     }
 
     /// Command `k`, from 0 on.
     #[inline(always)]
-    pub(crate) fn command(&mut self, k: u32) -> Command
-        ensures drawn { (result, self.new.state) ≡ command_at k self.old.state }
-        ensures valid { IsValid result }
+    pub(crate) fn command(&mut self, k: u32) -> PackedCommand
+        ensures { (result, self.new.state) ≡ command_at k self.old.state }
     {
         let place = k % RESET_PERIOD;
         if place < REGISTERS_RESET {
-            return Command::DropReg { s: place };
+            return PackedCommand::short(Op::DropReg, place as u8, 0, 0);
         }
         if place < GLOBALS_RESET {
-            return Command::Share {
-                g: place - REGISTERS_RESET,
-                s: 0,
-            };
+            return PackedCommand::short(Op::Share, (place - REGISTERS_RESET) as u8, 0, 0);
         }
         if k % GC_PERIOD == GLOBALS_RESET {
-            return Command::Gc;
+            return PackedCommand::short(Op::Gc, 0, 0, 0);
         }
-        let row = self.below(ROWS);
-        self.in_row(row)
+        self.random()
     }
 }

@@ -7,7 +7,7 @@ ghost use Rattle.made_trace.specs.Made.{made_trace};
 use crate::draws::Draws;
 use ideal_heap::Command;
 use std::alloc::{AllocError, Global};
-use stored_commands::{PackedCommand, StoredTrace};
+use stored_commands::{StoredTrace, commands_of};
 
 /// The made trace of `n` commands.
 ///
@@ -17,14 +17,8 @@ pub fn made(alloc: Global, n: u32) -> Result<Vec<Command>, AllocError>
     ensures count { IfOk result (λ v. length v.items ≡ n) }
     ensures valid { IfOk result (λ v. All IsValid v.items) }
 {
-    let mut draws = Draws {
-        state: u64::from(n),
-    };
-    let mut commands = Vec::with_capacity(alloc, n as usize)?;
-    for k in 0..n {
-        commands.push(draws.command(k))?;
-    }
-    Ok(commands)
+    let trace = made_stored(alloc, n)?;
+    commands_of(alloc, &trace)
 }
 
 /// The made trace of `n` commands, as it is stored: 8 bytes a command.
@@ -41,7 +35,7 @@ pub fn made_stored(alloc: Global, n: u32) -> Result<StoredTrace, AllocError>
     let mut trace = StoredTrace::new(alloc);
     trace.reserve(n as usize)?;
     for k in 0..n {
-        trace.push(PackedCommand::new(&draws.command(k)))?;
+        trace.push(draws.command(k))?;
     }
     Ok(trace)
 }

@@ -1,26 +1,39 @@
-//! Forms of commands whose numbers take the bytes that they need.
+//! Forms of commands: what a command does, and numbers that take the bytes that they need.
 
-/// A command with narrow numbers, in 8 bytes. `Other` has the index of a command whose numbers do
-/// not fit, in a list beside the forms. It stands first so that no form has the tag of its command:
-/// with equal tags LLVM jumps by the tag twice.
-#[derive(Debug, Drop)]
-pub(crate) enum Form {
-    Other(u32),
-    New { d: u8, refs: u16, nums: u16 },
-    Get { d: u8, s: u8, i: u16 },
-    Put { s: u8, i: u16, v: u8 },
-    Read { s: u8, j: u16 },
-    Write { s: u8, j: u16, n: u32 },
-    Add { s: u8, j: u16, n: u32 },
-    Swap { s: u8, j: u16, was: u16, next: u16 },
-    Move { d: u8, s: u8 },
-    DropReg { s: u8 },
-    Load { d: u8, g: u8 },
-    Share { g: u8, s: u8 },
-    Pin { s: u8 },
-    Unpin { s: u8 },
+/// What a command does. `Other` stands first so that none has the tag of its command: with equal
+/// tags LLVM jumps by the tag twice.
+#[derive(Clone, Copy, Debug)]
+pub enum Op {
+    Other,
+    New,
+    Get,
+    Put,
+    Read,
+    Write,
+    Add,
+    Swap,
+    Move,
+    DropReg,
+    Load,
+    Share,
+    Pin,
+    Unpin,
     Gc,
     Meet,
 }
+
+/// A command with narrow numbers, in 8 bytes: its numbers in their order, where `c` has both values
+/// of a `swap`. `Other` has, as `c`, the index of a command whose numbers do not fit, in a list
+/// beside the forms.
+#[derive(Debug, Drop)]
+pub(crate) struct Form {
+    pub(crate) op: Op,
+    pub(crate) a: u8,
+    pub(crate) b: u16,
+    pub(crate) c: u32,
+}
+
+/// The factor of the second value of a `swap`. The first is below it.
+pub const VALUE_UNIT: u32 = 65_536;
 
 const _: () = prove!(size_of::<Form>() == 8);

@@ -7,6 +7,7 @@ mod packed_command;
 mod stored_command;
 mod stored_trace;
 
+pub use form::{Op, VALUE_UNIT};
 pub use lists::{commands_of, stored_traces};
 pub use packed_command::PackedCommand;
 pub use stored_command::StoredCommand;

@@ -2,7 +2,7 @@
 
 ghost use Rattle.std.specs.Prelude.{◌≡◌};
 
-use crate::form::Form;
+use crate::form::{Form, Op, VALUE_UNIT};
 use ideal_heap::Command;
 use std::marker::Model;
 
@@ -32,60 +32,44 @@ impl<'a> StoredCommand<'a> {
     pub fn command(&self) -> Command
         ensures { result ≡ self.now }
     {
-        match self.form {
-            Form::New { d, refs, nums } => Command::New {
-                d: u32::from(*d),
-                refs: u32::from(*refs),
-                nums: u32::from(*nums),
+        let Form { op, a, b, c } = self.form;
+        let a = u32::from(*a);
+        let b = u32::from(*b);
+        let c = *c;
+        match *op {
+            Op::New => Command::New {
+                d: a,
+                refs: b,
+                nums: c,
             },
-            Form::Get { d, s, i } => Command::Get {
-                d: u32::from(*d),
-                s: u32::from(*s),
-                i: u32::from(*i),
+            Op::Get => Command::Get { d: a, s: b, i: c },
+            Op::Put => Command::Put { s: a, i: b, v: c },
+            Op::Read => Command::Read { s: a, j: b },
+            Op::Write => Command::Write {
+                s: a,
+                j: b,
+                n: u64::from(c),
             },
-            Form::Put { s, i, v } => Command::Put {
-                s: u32::from(*s),
-                i: u32::from(*i),
-                v: u32::from(*v),
+            Op::Add => Command::Add {
+                s: a,
+                j: b,
+                n: u64::from(c),
             },
-            Form::Read { s, j } => Command::Read {
-                s: u32::from(*s),
-                j: u32::from(*j),
+            Op::Swap => Command::Swap {
+                s: a,
+                j: b,
+                was: u64::from(c % VALUE_UNIT),
+                next: u64::from(c / VALUE_UNIT),
             },
-            Form::Write { s, j, n } => Command::Write {
-                s: u32::from(*s),
-                j: u32::from(*j),
-                n: u64::from(*n),
-            },
-            Form::Add { s, j, n } => Command::Add {
-                s: u32::from(*s),
-                j: u32::from(*j),
-                n: u64::from(*n),
-            },
-            Form::Swap { s, j, was, next } => Command::Swap {
-                s: u32::from(*s),
-                j: u32::from(*j),
-                was: u64::from(*was),
-                next: u64::from(*next),
-            },
-            Form::Move { d, s } => Command::Move {
-                d: u32::from(*d),
-                s: u32::from(*s),
-            },
-            Form::DropReg { s } => Command::DropReg { s: u32::from(*s) },
-            Form::Load { d, g } => Command::Load {
-                d: u32::from(*d),
-                g: u32::from(*g),
-            },
-            Form::Share { g, s } => Command::Share {
-                g: u32::from(*g),
-                s: u32::from(*s),
-            },
-            Form::Pin { s } => Command::Pin { s: u32::from(*s) },
-            Form::Unpin { s } => Command::Unpin { s: u32::from(*s) },
-            Form::Gc => Command::Gc,
-            Form::Meet => Command::Meet,
-            Form::Other(k) => self.others[*k as usize],
+            Op::Move => Command::Move { d: a, s: b },
+            Op::DropReg => Command::DropReg { s: a },
+            Op::Load => Command::Load { d: a, g: b },
+            Op::Share => Command::Share { g: a, s: b },
+            Op::Pin => Command::Pin { s: a },
+            Op::Unpin => Command::Unpin { s: a },
+            Op::Gc => Command::Gc,
+            Op::Meet => Command::Meet,
+            Op::Other => self.others[c as usize],
         }
     }
 }

@@ -2,7 +2,7 @@
 
 ghost use Rattle.std.specs.Prelude.{◌≡◌, ◌++◌, ◌∷◌, [], None, Some, length, slice_get, MatchOption, OnOk};
 
-use crate::form::Form;
+use crate::form::{Form, Op};
 use crate::packed_command::{Packed, PackedCommand};
 use crate::stored_command::StoredCommand;
 use ideal_heap::Command;
@@ -70,7 +70,12 @@ impl StoredTrace {
             return Err(AllocError);
         };
         self.others.push(command)?;
-        self.forms.push(Form::Other(index))?;
+        self.forms.push(Form {
+            op: Op::Other,
+            a: 0,
+            b: 0,
+            c: index,
+        })?;
         Ok(())
     }
 

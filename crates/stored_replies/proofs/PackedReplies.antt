@@ -1,6 +1,6 @@
 -- One more reply beside those that are stored.
 use Rattle.std.proofs.Common.{◌≡◌, refl, sym, ◌∙◌, ap, subst, ℕ, suc, ◌+◌, ◌≤◌, ◌⊎◌, inl, inr, arith, List, [], ◌∷◌, ◌++◌, length, length-drop, drop, append-nil}
-use Rattle.std.specs.Prelude.{sum_by, count_by, cond}
+use Rattle.std.specs.Prelude.{sum, sum_by, count_by, cond}
 use Rattle.std.proofs.lemmas.List.{get_or_append_left, drop-append-le}
 use Rattle.std.proofs.lemmas.List.Sums.{sum_by-cons}
 use Rattle.ideal_heap.specs.Names.{name}
@@ -10,7 +10,7 @@ use Rattle.ideal_heap.specs.declared.reply.Reply.TheVariants as r
 use Rattle.ideal_heap.specs.Runs.{is_full}
 use Rattle.stored_replies.specs.declared.reply_kind.ReplyKind.{ReplyKind}
 use Rattle.stored_replies.specs.declared.reply_kind.ReplyKind.TheVariants as k
-use Rattle.stored_replies.specs.Kinds.{kind_of, is_full_kind, first_reply, names_of_kind, numbers_in, unpacked, HasParts}
+use Rattle.stored_replies.specs.Kinds.{kind_of, is_full_kind, is_of_index, is_of_kind, number_replied, first_reply, names_of_kind, numbers_in, unpacked, HasParts}
 
 -- as many replies as kinds
 pub length-unpacked : (kinds : List ReplyKind) (names : List Name) (numbers : List ℕ) → length (unpacked kinds names numbers) ≡ length kinds
@@ -161,3 +161,53 @@ full-kinds (kind ∷ kinds) names numbers =
     ∙ ap (λ b. cond b 1 0 + count_by is_full (unpacked kinds more others)) (full-kind kind names numbers)
     ∙ ap (λ n. cond (is_full_kind kind) 1 0 + n) (full-kinds kinds more others)
     ∙ sym (sum_by-cons (λ x. cond (is_full_kind x) 1 0) kind kinds)
+
+-- a reply has the kind that it was stored with
+kind-same : (kind : ReplyKind) (names : List Name) (numbers : List ℕ) → kind_of (first_reply kind names numbers) ≡ kind
+kind-same k.New names numbers = refl
+kind-same k.Full names numbers = refl
+kind-same k.Ref names numbers = refl
+kind-same k.Nil names numbers = refl
+kind-same k.Num names numbers = refl
+kind-same k.Done names numbers = refl
+kind-same k.Yes names numbers = refl
+kind-same k.No names numbers = refl
+kind-same k.Null names numbers = refl
+kind-same k.Range names numbers = refl
+
+pub counted-kinds : (i : ℕ) (kinds : List ReplyKind) (names : List Name) (numbers : List ℕ) → count_by (is_of_kind i) (unpacked kinds names numbers) ≡ count_by (is_of_index i) kinds
+counted-kinds i [] names numbers = refl
+counted-kinds i (kind ∷ kinds) names numbers =
+    let more : List Name = drop (names_of_kind kind) names in
+    let others : List ℕ = drop (numbers_in kind) numbers in
+    sum_by-cons (λ reply. cond (is_of_kind i reply) 1 0) (first_reply kind names numbers) (unpacked kinds more others)
+    ∙ ap (λ x. cond (is_of_index i x) 1 0 + count_by (is_of_kind i) (unpacked kinds more others)) (kind-same kind names numbers)
+    ∙ ap (λ n. cond (is_of_index i kind) 1 0 + n) (counted-kinds i kinds more others)
+    ∙ sym (sum_by-cons (λ x. cond (is_of_index i x) 1 0) kind kinds)
+
+-- the numbers in replies are those that are stored
+first-number : (kind : ReplyKind) (names : List Name) (numbers : List ℕ) → numbers_in kind ≤ length numbers
+    → number_replied (first_reply kind names numbers) + sum (drop (numbers_in kind) numbers) ≡ sum numbers
+first-number k.Num names (x ∷ numbers) has = sym (sum_by-cons (λ y. y) x numbers)
+first-number k.Num names [] has = absurd (omega (arith, has))
+first-number k.New names numbers has = omega arith
+first-number k.Full names numbers has = omega arith
+first-number k.Ref names numbers has = omega arith
+first-number k.Nil names numbers has = omega arith
+first-number k.Done names numbers has = omega arith
+first-number k.Yes names numbers has = omega arith
+first-number k.No names numbers has = omega arith
+first-number k.Null names numbers has = omega arith
+first-number k.Range names numbers has = omega arith
+
+pub numbers-summed : (kinds : List ReplyKind) (names : List Name) (numbers : List ℕ) → HasParts kinds names numbers
+    → sum_by number_replied (unpacked kinds names numbers) ≡ sum numbers
+numbers-summed [] names [] has = refl
+numbers-summed [] names (x ∷ numbers) has = let wrong : 0 ≡ length (x ∷ numbers) = has.number_count in absurd (omega (arith, wrong))
+numbers-summed (kind ∷ kinds) names numbers has =
+    let more : List Name = drop (names_of_kind kind) names in
+    let others : List ℕ = drop (numbers_in kind) numbers in
+    let rest = rest-has kind kinds names numbers has in
+    sum_by-cons number_replied (first_reply kind names numbers) (unpacked kinds more others)
+    ∙ ap (λ n. number_replied (first_reply kind names numbers) + n) (numbers-summed kinds more others rest.2)
+    ∙ first-number kind names numbers rest.1

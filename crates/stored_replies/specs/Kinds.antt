@@ -1,5 +1,5 @@
 -- Replies as their kinds, with the names and the numbers beside.
-use Rattle.std.specs.Prelude.{◌≡◌, ℕ, Bool, true, false, List, [], ◌∷◌, drop, get_or, length, sum_by}
+use Rattle.std.specs.Prelude.{◌≡◌, ℕ, Bool, true, false, List, [], ◌∷◌, drop, get_or, length, nat_eq, sum_by}
 use Rattle.ideal_heap.specs.Names.{name}
 use Rattle.ideal_heap.specs.declared.name.Name.{Name}
 use Rattle.ideal_heap.specs.declared.reply.Reply.{Reply}
@@ -46,6 +46,31 @@ numbers_in _ = 0
 abbrev pub is_full_kind : ReplyKind → Bool
 is_full_kind k.Full = true
 is_full_kind _ = false
+
+-- the index of a kind
+abbrev pub kind_index : ReplyKind → ℕ
+kind_index k.Range = 0
+kind_index k.New = 1
+kind_index k.Full = 2
+kind_index k.Ref = 3
+kind_index k.Nil = 4
+kind_index k.Num = 5
+kind_index k.Done = 6
+kind_index k.Yes = 7
+kind_index k.No = 8
+kind_index k.Null = 9
+
+abbrev pub is_of_index : ℕ → ReplyKind → Bool
+is_of_index i kind = nat_eq (kind_index kind) i
+
+-- a reply is of the kind with this index
+abbrev pub is_of_kind : ℕ → Reply → Bool
+is_of_kind i reply = is_of_index i (kind_of reply)
+
+-- the number in a reply, 0 if it has none
+abbrev pub number_replied : Reply → ℕ
+number_replied (r.Num n) = n
+number_replied _ = 0
 
 -- the replies of some kinds, with these names and numbers in turn
 abbrev pub unpacked : List ReplyKind → List Name → List ℕ → List Reply

@@ -7,4 +7,5 @@ mod reply_kind;
 mod stored_replies;
 
 pub use iter::Iter;
+pub use reply_kind::{KINDS, ReplyKind};
 pub use stored_replies::StoredReplies;

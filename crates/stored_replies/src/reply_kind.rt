@@ -1,14 +1,14 @@
 //! Kinds of replies.
 
-ghost use Rattle.std.specs.Prelude.{◌≡◌, count_by};
-ghost use Rattle.stored_replies.specs.Kinds.{kind_of, is_full_kind};
+ghost use Rattle.std.specs.Prelude.{◌≡◌, ◌<◌, ◌%◌, ◌^◌, ℕ, count_by, length, slice_index, sum};
+ghost use Rattle.stored_replies.specs.Kinds.{kind_of, is_full_kind, kind_index, is_of_index};
 
 use ideal_heap::Reply;
 
 /// What a reply is, without its name or number. `Range` stands first so that no kind has the tag of
 /// its reply: with equal tags LLVM jumps by the tag twice.
 #[derive(Clone, Copy, Debug)]
-pub(crate) enum ReplyKind {
+pub enum ReplyKind {
     Range,
     New,
     Full,
@@ -20,6 +20,9 @@ pub(crate) enum ReplyKind {
     No,
     Null,
 }
+
+/// The number of kinds.
+pub const KINDS: usize = 10;
 
 const _: () = prove!(size_of::<ReplyKind>() == 1);
 
@@ -43,6 +46,15 @@ impl ReplyKind {
         }
     }
 
+    /// Its index, below `KINDS`.
+    #[inline(always)]
+    pub fn index(self) -> usize
+        ensures index { result ≡ kind_index self }
+        ensures within { result < KINDS }
+    {
+        self as usize
+    }
+
     /// Whether a reply of this kind is `full`.
     #[inline(always)]
     pub(crate) fn is_full(self) -> bool
@@ -57,4 +69,28 @@ pub(crate) fn full_count(kinds: &[ReplyKind]) -> usize
     ensures { result ≡ count_by is_full_kind kinds.now }
 {
     kinds.iter().filter(|kind| kind.is_full()).count()
+}
+
+/// How many of the kinds have each index.
+pub(crate) fn index_counts(kinds: &[ReplyKind]) -> [u64; KINDS]
+    ensures len { length result ≡ KINDS }
+    ensures counts { (i : ℕ) → i < KINDS
+        → slice_index result i ≡ count_by (is_of_index i) kinds.now }
+{
+    let mut counts = [0; KINDS];
+    for kind in kinds {
+        counts[kind.index()] += 1;
+    }
+    counts
+}
+
+/// The sum of the numbers, modulo 2^64.
+pub(crate) fn sum_of(numbers: &[u64]) -> u64
+    ensures { result ≡ sum numbers.now % 2 ^ 64 }
+{
+    let mut sum: u64 = 0;
+    for number in numbers {
+        sum = sum.wrapping_add(*number);
+    }
+    sum
 }

@@ -1,10 +1,11 @@
 //! The type of replies that are kept.
 
-ghost use Rattle.std.specs.Prelude.{◌≡◌, ◌++◌, ◌∷◌, ◌<◌, [], length, count_by, IfOk};
+ghost use Rattle.std.specs.Prelude.{◌≡◌, ◌++◌, ◌∷◌, ◌<◌, ◌%◌, ◌^◌, [], ℕ, length, slice_index, count_by, sum_by, IfOk};
 ghost use Rattle.ideal_heap.specs.Runs.{is_full};
+ghost use Rattle.stored_replies.specs.Kinds.{is_of_kind, number_replied};
 
 use crate::iter::Iter;
-use crate::reply_kind::{ReplyKind, full_count};
+use crate::reply_kind::{KINDS, ReplyKind, full_count, index_counts, sum_of};
 use ideal_heap::{Name, Reply};
 use std::alloc::{AllocError, Global};
 use std::marker::Model;
@@ -65,6 +66,22 @@ impl StoredReplies {
         ensures { result ≡ count_by is_full self.now.items }
     {
         full_count(&self.kinds)
+    }
+
+    /// How many replies there are of each kind, from the bytes of their kinds alone.
+    pub fn kind_counts(&self) -> [u64; KINDS]
+        ensures len { length result ≡ KINDS }
+        ensures counts { (i : ℕ) → i < KINDS
+            → slice_index result i ≡ count_by (is_of_kind i) self.now.items }
+    {
+        index_counts(&self.kinds)
+    }
+
+    /// The sum of the numbers in the replies, modulo 2^64.
+    pub fn number_sum(&self) -> u64
+        ensures { result ≡ sum_by number_replied self.now.items % 2 ^ 64 }
+    {
+        sum_of(&self.numbers)
     }
 
     /// Adds a reply, for which there is room.

@@ -6,7 +6,7 @@ pub loop-k-init : goal.loop-k-init
 loop-k-init c = rw (c.reserve.ensures, c.new-trace.ensures, c.from.ensures) (made-begins c.args.n)
 
 pub loop-k-preserved : goal.loop-k-preserved
-loop-k-preserved c = rw (c.in_ok-push.ensures, c.new.ensures) (made-more c.loop-k.trace c.loop-k.k c.args.n c.loop-k.draws.state c.command.result c.command.new.self.state (grind arith) c.command.ensures.drawn c.command.ensures.valid c.loop-k.invariant)
+loop-k-preserved c = rw (c.in_ok-push.ensures) (made-more c.loop-k.trace c.loop-k.k c.args.n c.loop-k.draws.state c.command.result c.command.new.self.state (grind arith) c.command.ensures c.loop-k.invariant)
 
 pub returns-clause-made : goal.returns-clause-made
 returns-clause-made c = made-all c.loop-k.trace c.loop-k.k c.args.n c.loop-k.draws.state (grind arith) c.loop-k.invariant
