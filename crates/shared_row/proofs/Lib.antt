@@ -1,0 +1,8 @@
+pub mod Values
+pub mod Leases
+pub mod Reached
+pub mod Walked
+pub mod Sent
+pub mod Fitting
+mod Marking
+pub mod Granted

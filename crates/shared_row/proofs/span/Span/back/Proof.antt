@@ -1,0 +1,44 @@
+-- A span becomes full places, by the one call that makes them.
+use Rattle.shared_row.proofs.Walked.{◌≡◌, ℕ, ◌+◌, ◌*◌, ◌%◌, ◌^◌, ◌<◌, List, [], ◌∷◌, sym, refl, ap, subst, arith, lit<, w64, a_type, dcons, dnil, named, Val, vunit, vint, vptr, inst_fn, SProp, ent, sep, emp, Lft, Fml, ftrue, fsep, flft, sem, ‵, raw, ◌⊛◌, given, mean, at_ret, ◌$◌, ◌∵◌, !, qed, by, move, keep, drop, split, split3, join, fsplit, fsplit3, fjoin, fjoin3, fpick, learn, use0, use3, rewrite, feq_i, flt_i, stop, fld, load, lit, unit_lit, of_opd, bin, no_more, and_then, first, blocks, exec, Calls-last, returns, enter, alloc_all, pass_all, free_all, look_at, get, through, sets, lands_last, is, env, agg, sub, whole, look_in, tables, yes, RattleType, owns, types_at, plain, Ptr, block_ptr, ptr_val, nothing, param, bounded, Stays, stay_dropped, walk_of, Goes-dropped, fact, fact_i, block_of, count_of, at_block, via, RefOf, usize, u64, mut_vals, mut_Tells, shr_vals, shr_Tells, uint_vals, uint_Tells, stay_ref, Goes-ref, bit_or, bit_and, opens, closes, obor_close, shr_bor-open, Valss, pick, some, later, await, use1, use2, fpack, of_list, vstruct, InBlock, Goes-dropped, alive, length, get_in, no, lit<, WT, heard, layouts, WpFn, id⊢, suffices, Share, calls_at_last, mem, ◌∙◌, Bool, true, replicate, length-replicate, get_or-replicate, ◌⊑◌, ◌++◌, cell_at, Is, shows, peeks, none, either, eqb, unit, tail, asks, always, Me, step, Allows, Splits, Joins, TableId, age, mine, proved, leaves, steps, glances, forks, two, absorbs, merged, after, fm, seq_cst, found, stored, finds, has_stored, loads, stores, adds, ors, ands, exchanges, Seat, Shared, invariant_of, BareFields, bare_val, finds_start, takes_seat, shuts_seat, lets_go, seated}
+use Rattle.core.proofs.mem.Param.{El}
+use Rattle.core.proofs.slots.Opens.{row_val}
+use Rattle.core.specs.Mem.Slots.{slots_items, slots_filled, slots_ptr, slots_len, slots_counts, IsFull}
+use Rattle.core.proofs.slots.Slots.from_raw_parts.Met as callee
+use Rattle.atomic_table.specs.Seated.{strip}
+use Rattle.atomic_table.proofs.Walks.{proved_at}
+use Rattle.atomic_table.proofs.Dealing.{strip_lies}
+use Rattle.atomic_table.proofs.Raw.{Row, all as places, parts_typed, row_Typed, Row-seen, Into, at_into, Into-goes, Into-gives, to_strip, From, at_from, Made, from_goes, from_gives, of_strip}
+use Rattle.shared_row.specs.contracts.span.Span as span
+use Rattle.shared_row.proofs.Values.{SpanFields, span_val, span_made, span_told, span_fits}
+use mathlib.Core.Bool.{false}
+use lib.ListN.{get_or}
+use Rattle.shared_row.specs.contracts.span.Span.back.{ended, clauses}
+use Rattle.shared_row.specs.contracts.span.Span.back.Key.{name as #self}
+use Rattle.shared_row.proofs.span.Span.back.Statement.{statement}
+use Rattle.shared_row.proofs.span.Span.back.Code as code
+
+pub back_spec : {M : Type 1} → statement M
+back_spec 𝓤 𝓛 𝓜 𝓡 wired T L =
+    let H = 𝓛.H in let 𝓣 = tables 𝓤 H 𝓜 𝓡 𝓡.env in let R : RattleType = param 0 T in let E : El = record { row = T; laws = L } in let Sp : RattleType = span.the_row R in
+    let En = ended T in let inst = layouts (a_type ∷ []) (T, tt) in let fn = inst_fn inst code.function in let c = clauses T 𝓛 𝓜.mem 𝓡.returns in
+    let met = callee.met 𝓤 𝓛 𝓜 𝓡 (code.calls-core::slots::Slots::from_raw_parts 𝓡.env wired) T L in let spans = plain (λ _. Sp) in let counted = plain (λ _. usize) in let hs : Stays En.signature.params En.kept = (stay_dropped spans no, (stay_dropped counted yes, tt)) in
+    proved 𝓛 En hs c 𝓜 𝓡 (Goes-dropped 𝓛 1 spans no (λ κs x f. refl), (Goes-dropped 𝓛 1 counted yes (λ κs x f. refl), tt)) (#self inst) fn (code.unfolded 𝓤 H 𝓜 𝓡 wired (T, tt))
+    (λ κs. ((λ x. span_val x.start ∷ []), (uint_vals w64, tt))) (λ κs. ((λ x vs so. span_told R x.start vs so.0), (uint_Tells w64, tt))) (λ κs qs bounds a gh are.
+    let κ : Lft = κs.0 in let q : Share = qs.0 in let p : Ptr = a.0.start in let xs : List T.Denot = a.0.values in let k : ℕ = a.1.0 in let fk : k < 2 ^ 64 = are.1.0.1 in let b : ℕ = block_of p in let o : ℕ = count_of p in
+    let fs : List Bool = replicate (length xs) true in let z : (walk_of 𝓛 En hs c).Ghost = ((κs, qs, bounds, a, (span_val p ∷ [], (vint w64 k ∷ [], tt))), gh) in let Post : Val → SProp 𝓤 = (walk_of 𝓛 En hs c).post z in
+    qed 𝓛 (((‵ (flft κ q) ⊛ ‵ ftrue) ⊛ ‵ (owns (types_at En.signature.params κs) a z.0.4)) ∷ raw (fact 𝓤 (κ ⊑ T.lives)) ∷ raw (fact 𝓤 (k ≡ length xs)) ∷ []) ∵
+    move ! (1 ∷ 2 ∷ []) $ heard ! (κ ⊑ T.lives) (λ le. heard ! (k ≡ length xs) (λ lx. split ! $ split ! $ move ! (2 ∷ []) $ fsplit ! $ fsplit ! $ keep ! (1 ∷ 3 ∷ []) $
+    use1 𝓛 (given (InBlock p × (length xs * (mem R).size < 2 ^ 63)) (‵ (strip R p xs))) (strip_lies 𝓛 R p xs) $ learn ! (λ near. let at : p ≡ block_ptr b o = at_block p near.0 in
+    rewrite ! 0 (λ (π : Ptr). ‵ (strip R π xs)) at refl $ use1 𝓛 (‵ (places E b o xs fs)) (of_strip E 𝓛 b o xs) $
+    let lf : k ≡ length fs = lx ∙ sym (length-replicate (length xs) true) in let word : WT (row_val b o k) = (tt, (record { fits = fk }, tt)) in let y = at_from E 𝓛 𝓜.mem 𝓡.returns κ q b o k xs fs in
+    enter ! 𝓣.C 𝓣.Λ fn (span_val p ∷ vint w64 k ∷ []) Post $ alloc_all ! (λ l. pass_all ! refl (span_fits p near.0, ((tt, record { fits = fk }), tt)) $ let Ev = env fn.locals l in
+    sets ! (is ! (of_opd ! (get_in ! (fld ! refl (stop !)) (sub ! 0 refl (whole !)))) (ap ptr_val at)) refl (tt, tt) $ first ! $ blocks ! $
+    use2 𝓛 (raw ((From E 𝓛 𝓜.mem 𝓡.returns).pre y)) (from_goes E 𝓛 𝓜.mem 𝓡.returns κ q b o k xs fs le lx lf fk (subst (λ (n : ℕ). n * (mem R).size < 2 ^ 63) (sym lx) near.1)) $
+    calls_at_last ! (fm 𝓛 𝓜 𝓡) (From E 𝓛 𝓜.mem 𝓡.returns) met y (and_then ! (get ! refl) (and_then ! (get ! refl) (no_more !))) (λ v.
+    use1 𝓛 (later (some (λ (r : (Row E).Denot). given ((v ≡ row_val b o k) × Made E 𝓛 𝓜.mem 𝓡.returns κ q b o k xs fs r) (‵ ((Row E).own_val r (row_val b o k ∷ [])) ⊛ ‵ (flft κ q)))))
+    (from_gives E 𝓛 𝓜.mem 𝓡.returns κ q b o k xs fs v) $ await ! tt $ pick ! (λ r. learn ! (λ got. split ! $ let made = got.1 in
+    let full : IsFull r = λ j low high. let near : j < length xs = subst (λ (n : ℕ). j < n) (made.1 ∙ lx) high in ap (λ (gs : List Bool). get_or gs j false) made.3 ∙ get_or-replicate (length xs) j true false near in
+    let Told : Type 0 = (slots_ptr r ≡ p) × (slots_len r ≡ k) × (slots_items r ≡ xs) × IsFull r in
+    lands_last ! refl (row_Typed E v b o k got.0 fk) $ exec ! 𝓣.C 𝓣.Λ Ev (tail (tail fn.body)) (at_ret Ev Post) $ sets ! (is ! (of_opd ! (get ! refl)) got.0) refl (tt, word) $
+    nothing ! $ move ! (2 ∷ 0 ∷ []) $ join ! $ use0 𝓛 (raw (fact 𝓤 Told)) (fact_i 𝓤 Told (emp 𝓤) (made.0 ∙ sym at, made.1, made.2, full)) $ nothing ! $ nothing ! $ fjoin ! $ nothing ! $ fjoin ! $
+    returns ! (look_at ! 0 refl) $ free_all ! refl $ keep ! (2 ∷ 0 ∷ 3 ∷ 1 ∷ []) $ by ! (leaves 𝓛 En hs c z (row_val b o k) r (tt, (tt, tt)) (tt, (tt, tt)))))))))))
