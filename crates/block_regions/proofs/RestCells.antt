@@ -6,7 +6,7 @@ use Rattle.heap_layout.specs.declared.layout.Layout.{Layout}
 use Rattle.heap_layout.specs.declared.region.Region.{Region}
 use Rattle.object_model.specs.Objects.{HeapState, state_over, class_at, cell_words}
 use Rattle.sessions.specs.Fitting.{IsFreeCell}
-use Rattle.cell_space.specs.FreeCells.{IsNextCell, HasNoCell}
+use Rattle.plan_api.specs.Prelude.{IsNextCell, HasNoCell}
 use Rattle.block_regions.specs.Regions.{IsCellLeft, free, full, IsRestAfter}
 
 -- which cells are free does not depend on the collection numbers

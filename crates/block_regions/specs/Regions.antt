@@ -7,7 +7,7 @@ use Rattle.heap_layout.specs.declared.region.Region.{Region}
 use Rattle.std.specs.Prelude.{◌≡◌, ℕ, ◌+◌, ◌*◌, ◌/◌, ◌<◌, ◌≤◌, ◌⊎◌, IsTrue}
 use Rattle.object_model.specs.Objects.{HeapState, class_at, cell_words, line_marked, IsHeld, IsInExtent, size_at}
 use Rattle.sessions.specs.Fitting.{IsTail, IsLineHole, HasHole}
-use Rattle.cell_space.specs.FreeCells.{IsNextCell, HasNoCell}
+use Rattle.plan_api.specs.Prelude.{IsNextCell, HasNoCell}
 
 -- the region is the tail of block k
 pub record IsTailLeft (s : HeapState) (k : ℕ) (region : Region) : Type 0 where

@@ -22,8 +22,8 @@ use Rattle.object_model.specs.Graphs.{IsReachable, roots_of}
 use Rattle.heap_graph.specs.declared.place.Place.{Place}
 use Rattle.heap_graph.specs.Places.{IsPlaceOfObject, IsGraphOf, addresses_of}
 use Rattle.sessions.specs.Sessions.{Moment}
-use Rattle.driver.specs.Texts.{AreLive, map_line}
-use Rattle.driver.specs.Reports.{place_line}
+use Rattle.driver.specs.Texts.{AreLive, place_line, map_line}
+use Rattle.driver.specs.Reports.{place_in}
 
 abbrev pub no_place : Place
 no_place = record { name = name 0 0; at = 0; size = 0 }
@@ -40,10 +40,10 @@ count-words s (p ∷ places) each =
     ap₂ (λ (a b : ℕ). a + b) (sym first) rest ∙ sym (sum_by-cons (λ (q : Place). q.size) p places)
 
 -- the line of a place is that of the object there
-pub place-is : (s : HeapState) (p : Place) → IsPlaceOfObject s p → place_line s.blocks p ≡ map_line s p.at
+pub place-is : (s : HeapState) (p : Place) → IsPlaceOfObject s p → place_line (place_in s.blocks p) ≡ map_line s p.at
 place-is s p is =
-    ap (λ n. place_line s.blocks (record { name = n; at = p.at; size = p.size })) is.name
-    ∙ ap (λ n. place_line s.blocks (record { name = name_at s p.at; at = p.at; size = n })) is.size
+    ap (λ n. place_line (place_in s.blocks (record { name = n; at = p.at; size = p.size }))) is.name
+    ∙ ap (λ n. place_line (place_in s.blocks (record { name = name_at s p.at; at = p.at; size = n }))) is.size
 
 pub lines-of-places : (s : HeapState) (places : List Place) → flat_map (λ p. map_line s p.at) places ≡ flat_map (map_line s) (addresses_of places)
 lines-of-places s [] = refl

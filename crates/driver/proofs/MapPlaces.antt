@@ -10,17 +10,17 @@ use Rattle.object_model.specs.Lawful.{IsWellFormed, Lies}
 use Rattle.object_model.proofs.ObjectReads.{place_of_address, ends_in_row}
 use Rattle.object_model.proofs.Representation.{models}
 use Rattle.sessions.specs.Sessions.{Setting, Moment, IsSound, ideal_at}
-use Rattle.driver.specs.Texts.{AreLive, map_line, map_part}
+use Rattle.driver.specs.Texts.{AreLive, MapPlace, place_of, place_line, map_line, map_part}
 use Rattle.driver.specs.LiveNames.{AreLiveNames, record_size}
-use Rattle.driver.specs.MapPlaces.{MapPlace, place_of, line_of_place, HasWord, AreDisjoint, LiesInBlocks, IsMapOf}
+use Rattle.driver.specs.MapPlaces.{HasWord, AreDisjoint, LiesInBlocks, IsMapOf}
 use Rattle.driver.proofs.LiveNames.{all-of, live-size, live-names, not-before-itself}
 
 -- the lines of places
-lines-of : (s : HeapState) (live : List ℕ) → flat_map (map_line s) live ≡ flat_map line_of_place (map (place_of s) live)
+lines-of : (s : HeapState) (live : List ℕ) → flat_map (map_line s) live ≡ flat_map place_line (map (place_of s) live)
 lines-of s [] = refl
 lines-of s (a ∷ live) = ap (λ l. map_line s a ++ l) (lines-of s live)
 
-pub map-lines : (last : Moment) (live : List ℕ) → map_part last live ≡ flat_map line_of_place (map (place_of last.heap) live)
+pub map-lines : (last : Moment) (live : List ℕ) → map_part last live ≡ flat_map place_line (map (place_of last.heap) live)
 map-lines last live = lines-of last.heap live
 
 names-of : (s : HeapState) (live : List ℕ) → map (λ (p : MapPlace). p.name) (map (place_of s) live) ≡ map (name_at s) live

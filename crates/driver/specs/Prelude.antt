@@ -4,12 +4,12 @@ pub use Rattle.command_line.specs.Words.{Files, Job, Made, Work, is_supported, j
 pub use Rattle.driver.specs.Exits.{IsExit, IsReported, Ran, refusal, refusal_line}
 pub use Rattle.driver.specs.LiveNames.{AreLiveNames, count_words_named, heap_alone, ideal_live_line, record_size}
 pub use Rattle.driver.specs.Printed.{AreTraces, AreTracesOf, AsksFirst, AsksPrefix, Content, EndsAtKnown, HasFault, HasTraces, IsBad, IsLong, IsNoTrace, IsTooLong, IsTraceIn, IsUsage, IsWholeText, IsWithinLimits, Prints, PrintsPrefix, Unread, WritesFaultLine, fault_line, file_line, job_files, line_fault, long_line, memory_line, setting_of, unread_line, usage_line, why_word, write_line}
-pub use Rattle.driver.specs.MapPlaces.{AreDisjoint, IsMapOf, LiesInBlocks, MapPlace, line_of_place, place_of}
+pub use Rattle.driver.specs.MapPlaces.{AreDisjoint, IsMapOf, LiesInBlocks}
 pub use Rattle.driver.specs.Reading.{AsksName, Halts, IsOneOf, fault_line_of, status_of}
-pub use Rattle.driver.specs.Reports.{place_line, session_lines}
+pub use Rattle.driver.specs.Reports.{place_in, session_lines}
 pub use Rattle.driver.specs.Statuses.{status_number}
-pub use Rattle.driver.specs.Texts.{AreLive, IsSessionText, IsSummary, counts_part, held_line, kinds_line, live_line, map_line, map_part, replies_part, report_part, summary_part}
-pub use Rattle.driver.specs.WorkedEnds.{worked_end}
+pub use Rattle.driver.specs.Texts.{AreLive, IsSessionText, IsSummary, MapPlace, counts_part, held_line, kinds_line, live_line, map_line, map_part, place_line, place_of, replies_part, report_part, summary_part}
+pub use Rattle.driver.specs.WorkedEnds.{each_kind, worked_end}
 pub use Rattle.driver.specs.WorkedReach.{place_at, worked_ideal, worked_map, worked_names, worked_trace}
 pub use Rattle.driver.specs.declared.status.Status.{Status}
 pub use Rattle.heap_graph.specs.Places.{IsPlaceOfObject, addresses_of}
@@ -23,8 +23,8 @@ pub use Rattle.ideal_heap.specs.declared.reply.Reply.{Reply as AnyReply}
 pub use Rattle.ideal_heap.specs.declared.name.Name.{Name}
 pub use Rattle.made_trace.specs.Counts.{AreCounts}
 pub use Rattle.made_trace.specs.Made.{made_trace}
-pub use Rattle.managed_heap.specs.Stopped.{IsManaged}
-pub use Rattle.mm_runtime.specs.Managers.{Closes, ClosesSome, IsRunnableTrace}
+pub use Rattle.mm_runtime.specs.Prelude.{IsManaged}
+pub use Rattle.mm_runtime.specs.Managers.{Closes, ClosesSome, IsRunnableTrace, left}
 pub use Rattle.object_model.specs.Counting.{count_words_at}
 pub use Rattle.object_model.specs.Graphs.{IsReachable, MutatorState, roots_of}
 pub use Rattle.object_model.specs.Heaps.{heap_state}

@@ -1,12 +1,13 @@
--- Parts of a report and of a map, as they are printed.
+-- Parts of a report, and places of a map, as they are printed.
 use Rattle.std.specs.Prelude.{ℕ, List, ◌++◌, length, count_by, codes}
 use Rattle.std.specs.Fmt.{decimal}
 use Rattle.heap_layout.specs.Zones.{block_at, offset_at}
 use Rattle.ideal_heap.specs.Runs.{is_full}
-use Rattle.trace_text.specs.Text.{ended, name_text}
+use Rattle.trace_text.specs.Text.{ended}
 use Rattle.sessions.specs.Plans.{Plan, plan_word}
 use Rattle.sessions.specs.Sessions.{Moment}
 use Rattle.heap_graph.specs.declared.place.Place.{Place}
+use Rattle.driver.specs.Texts.{MapPlace}
 
 -- what a report on a session of n mutators says of all but the heap
 abbrev pub session_lines : Plan → ℕ → Moment → List ℕ
@@ -19,8 +20,11 @@ session_lines plan n last =
     ++ ended (codes "collections nursery " ++ decimal last.nursery ++ codes " full "
     ++ decimal last.full)
 
--- the map line of the object at a place, in a heap of b blocks
-abbrev pub place_line : ℕ → Place → List ℕ
-place_line b p =
-    ended (codes "map " ++ name_text p.name ++ codes " block " ++ decimal (block_at b p.at)
-    ++ codes " word " ++ decimal (offset_at b p.at) ++ codes " size " ++ decimal p.size)
+-- the place of a listed object, in a heap of b blocks
+abbrev pub place_in : ℕ → Place → MapPlace
+place_in b p = record {
+  name = p.name;
+  block = block_at b p.at;
+  word = offset_at b p.at;
+  size = p.size;
+}

@@ -4,6 +4,7 @@ use Rattle.std.specs.List.{Any, flat_map, range_with_len}
 use Rattle.std.specs.Fmt.{decimal}
 use Rattle.heap_layout.specs.Zones.{block_at, offset_at}
 use Rattle.heap_layout.specs.declared.block.Kind.TheVariants as kinds
+use Rattle.ideal_heap.specs.declared.name.Name.{Name}
 use Rattle.ideal_heap.specs.Names.{IsBefore}
 use Rattle.ideal_heap.specs.declared.reply.Reply.{Reply}
 use Rattle.ideal_heap.specs.Runs.{replies_of, is_full}
@@ -58,12 +59,30 @@ report_part plan n last live =
     ++ held_line last.heap
     ++ kinds_line last.heap
 
+-- a place: `size` words from word `word` of block `block` on, which the object of a name takes
+pub record MapPlace : Type 0 where
+  pub name : Name
+  pub block : ℕ
+  pub word : ℕ
+  pub size : ℕ
+
+-- the place of the object at a
+abbrev pub place_of : HeapState → ℕ → MapPlace
+place_of s a = record {
+  name = name_at s a;
+  block = block_at s.blocks a;
+  word = offset_at s.blocks a;
+  size = size_at s a;
+}
+
+abbrev pub place_line : MapPlace → List ℕ
+place_line p =
+    ended (codes "map " ++ name_text p.name ++ codes " block " ++ decimal p.block
+    ++ codes " word " ++ decimal p.word ++ codes " size " ++ decimal p.size)
+
 -- the map line of an object: its name, where it lies, and its size in words
 abbrev pub map_line : HeapState → ℕ → List ℕ
-map_line s a =
-    ended (codes "map " ++ name_text (name_at s a) ++ codes " block "
-    ++ decimal (block_at s.blocks a)
-    ++ codes " word " ++ decimal (offset_at s.blocks a) ++ codes " size " ++ decimal (size_at s a))
+map_line s a = place_line (place_of s a)
 
 abbrev pub map_part : Moment → List ℕ → List ℕ
 map_part last live = flat_map (map_line last.heap) live

@@ -1,6 +1,6 @@
 -- A worked end of a session of two mutators: a heap of five blocks with three live objects and two
--- dead ones.
-use Rattle.std.specs.Prelude.{ℕ, List, [], ◌∷◌, ◌++◌, replicate}
+-- dead ones. And a heap with a block of each kind.
+use Rattle.std.specs.Prelude.{ℕ, true, List, [], ◌∷◌, ◌++◌, replicate}
 use Rattle.heap_layout.specs.declared.block.Kind.TheVariants as kinds
 use Rattle.ideal_heap.specs.declared.command.Command.TheVariants as command
 use Rattle.ideal_heap.specs.declared.reply.Reply.TheVariants as reply
@@ -46,3 +46,19 @@ worked_end = record {
   nursery = 4;
   full = 3;
 }
+
+-- A heap with a block of each kind, and an object in each that may have one. The last born is
+-- pinned, in the first block.
+abbrev pub each_kind : HeapState
+each_kind = build_heap (record {
+  blocks = unowned kinds.Kept 0 ∷ unowned kinds.LargeHead 2 ∷ unowned kinds.LargeTail 0
+      ∷ unowned kinds.Cells 0
+      ∷ unowned kinds.Immix 0 ∷ unowned kinds.Mature 0 ∷ unowned kinds.Young 0
+      ∷ unowned kinds.Bump 0 ∷ unowned kinds.Free 0 ∷ [];
+  objects = (record (plain_object 0 0 7 [] 1 0) { pinned = true }) ∷ plain_object 1 0 6 [] 4094 0
+      ∷ plain_object 3 0 5 [] 0 0 ∷ plain_object 4 16 4 [] 1 0 ∷ plain_object 5 0 3 [] 2 0
+      ∷ plain_object 6 0 2 [] 3 0 ∷ plain_object 7 0 1 [] 4 0 ∷ [];
+  globals = replicate 16 0;
+  number = 7;
+  base = 7;
+})

@@ -6,7 +6,7 @@ use Rattle.ideal_heap.specs.declared.command.Command.{Command}
 use Rattle.ideal_heap.specs.declared.command.Command.TheVariants as command
 use Rattle.ideal_heap.specs.Names.{name}
 use Rattle.ideal_heap.specs.Ideal.{IdealHeap, Record, At, empty, born, set_record, set_register, set_global}
-use Rattle.driver.specs.MapPlaces.{MapPlace}
+use Rattle.driver.specs.Texts.{MapPlace}
 
 -- an object whose only reference is to n
 abbrev pub referrer : Name → Record

@@ -18,6 +18,7 @@ pub use laws::{
     printed_of_one, replies_of_two, report_and_map, summary_of_each, summary_of_ok, texts_of_a_heap,
 };
 pub use made_trace::made;
+pub use mm_runtime::{Manager, Turn, managed_plans};
 pub use process::program;
 pub use report::session_text;
 pub use report_laws::{
@@ -31,6 +32,6 @@ pub use summary::summary_text;
 pub use text_laws::{
     contents_are_known, exits_have_causes, fault_lines_are_written, files_are_asked_in_order,
     kinds_are_counted, live_objects, printed_of_one_file, replies_and_objects_are_counted,
-    settings_of_jobs, texts_are_of_sessions, texts_of_no_commands, traces_of_contents,
-    worked_texts,
+    settings_of_jobs, text_of_each_kind, texts_are_of_sessions, texts_of_no_commands,
+    traces_of_contents, worked_texts,
 };

@@ -3,7 +3,7 @@
 ghost use Rattle.std.specs.Prelude.{◌≡◌, ◌^◌, ◌<◌, ◌++◌, ℕ, All, length, sum_by, codes, OnOk, IfOk};
 ghost use Rattle.std.specs.Fmt.{decimal};
 ghost use Rattle.std.specs.List.{flat_map};
-ghost use Rattle.driver.specs.Prelude.{Setting, Moment, Closes, ClosesSome, IsSessionText, IsPlaceOfObject, addresses_of, HeapState, heap_state, IsAddress, ended, session_lines, live_line, held_line, kinds_line, map_line, place_line};
+ghost use Rattle.driver.specs.Prelude.{Setting, Moment, Closes, ClosesSome, IsSessionText, IsPlaceOfObject, addresses_of, HeapState, heap_state, IsAddress, ended, session_lines, live_line, held_line, kinds_line, map_line, place_line, place_in};
 
 use crate::session_runs::text_of_replies;
 use heap_graph::{Place, graph};
@@ -127,7 +127,7 @@ fn print_kinds(heap: &Heap, to: &mut Vec<u8>) -> Result<(), AllocError>
 fn print_place(layout: &Layout, place: &Place, to: &mut Vec<u8>) -> Result<(), AllocError>
     requires { IsAddress layout.now.blocks place.now.at }
     ensures { OnOk result (to.new.items
-        ≡ to.old.items ++ place_line layout.now.blocks place.now) }
+        ≡ to.old.items ++ place_line (place_in layout.now.blocks place.now)) }
 {
     let word = place.at - layout.heap_base();
     print_part(b"map ", u64::from(place.name.mutator), to)?;

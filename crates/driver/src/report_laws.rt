@@ -2,7 +2,7 @@
 
 ghost use Rattle.std.specs.Prelude.{◌≡◌, ℕ, ◌≤◌, ◌++◌, ◌∷◌, [], Bool, List, length, map, codes, true, false, None, Some};
 ghost use Rattle.std.specs.List.{AllByRecursion, flat_map};
-ghost use Rattle.driver.specs.Prelude.{Command, Name, name, IdealHeap, At, empty, record_of, is_full, name_at, size_at, record_at, count_words_at, Setting, Moment, IsSound, IsWhole, ideal_at, AreLive, live_line, replies_part, map_part, AreLiveNames, record_size, count_words_named, ideal_live_line, heap_alone, MapPlace, place_of, line_of_place, LiesInBlocks, AreDisjoint, IsMapOf, Plan, IsSessionText, IsSummary, Job, Files, Made, Content, AreTracesOf, IsWholeText, job_of, setting_of, HasFullLine, mutator_text, alone, worked_end, worked_ideal, worked_names, worked_trace, place_at, worked_map};
+ghost use Rattle.driver.specs.Prelude.{Command, Name, name, IdealHeap, At, empty, record_of, is_full, name_at, size_at, record_at, count_words_at, Setting, Moment, IsSound, IsWhole, ideal_at, AreLive, live_line, replies_part, map_part, AreLiveNames, record_size, count_words_named, ideal_live_line, heap_alone, MapPlace, place_of, place_line, LiesInBlocks, AreDisjoint, IsMapOf, Plan, IsSessionText, IsSummary, Job, Files, Made, Content, AreTracesOf, IsWholeText, job_of, setting_of, HasFullLine, mutator_text, alone, worked_end, worked_ideal, worked_names, worked_trace, place_at, worked_map};
 
 use heap_layout::{MAX_BLOCKS, MIN_BLOCKS};
 
@@ -35,7 +35,7 @@ pub fn live_objects_are_ideal()
 /// ends in such lines.
 pub fn maps_show_the_ideal_heap()
     ensures lines { (last : Moment) (live : List ℕ)
-        → map_part last live ≡ flat_map line_of_place (map (place_of last.heap) live) }
+        → map_part last live ≡ flat_map place_line (map (place_of last.heap) live) }
     ensures places { (t : Setting) (now : Moment) (live : List ℕ) → IsSound t now
         → AreLive now live
         → IsMapOf (ideal_at now) now.heap.blocks (map (place_of now.heap) live) }
@@ -43,7 +43,7 @@ pub fn maps_show_the_ideal_heap()
         → IsSound t last → IsSessionText plan n true last text
         → (front : List ℕ) × (places : List MapPlace)
         × IsMapOf (ideal_at last) last.heap.blocks places
-        × (text ≡ front ++ flat_map line_of_place places) }
+        × (text ≡ front ++ flat_map place_line places) }
 {}
 
 /// If no `new` was refused, the replies and the live line of a whole session of one trace are

@@ -1,8 +1,8 @@
 //! Laws on what a session prints at its end, and worked texts.
 
 ghost use Rattle.std.specs.Prelude.{◌≡◌, ◌≢◌, ◌≤◌, ◌⊎◌, ℕ, suc, ◌++◌, ◌∷◌, [], List, length, map, take, replicate, slice_get, codes, true, false, Option, Some, None, IfSome, Ok, Err};
-ghost use Rattle.std.specs.List.{range_with_len};
-ghost use Rattle.driver.specs.Prelude.{code_of, Command, empty, name, alone, replies_of, empty_heap, IsReachable, roots_of, unowned, plain_object, build_heap, Plan, NoGc, GenCopy, StickyImmix, rules_of, Moment, TraceFault, trace, mutator_text, HasFullLine, Job, Work, Files, Made, Asked, SourceState, SinkState, HasRisen, AppendsPrefix, Status, IsExit, Ran, Content, AreTraces, Prints, PrintsPrefix, AsksFirst, AsksPrefix, Unread, IsTooLong, IsBad, IsUsage, IsLong, IsNoTrace, HasFault, HasTraces, EndsAtKnown, WritesFaultLine, job_files, setting_of, IsWholeText, fault_line, usage_line, AreLive, IsSessionText, IsSummary, kinds_line, held_line, replies_part, report_part, summary_part, worked_end};
+ghost use Rattle.std.specs.List.{flat_map, range_with_len};
+ghost use Rattle.driver.specs.Prelude.{code_of, Command, empty, name, alone, replies_of, empty_heap, IsReachable, roots_of, unowned, plain_object, build_heap, Plan, NoGc, GenCopy, StickyImmix, rules_of, Moment, TraceFault, trace, mutator_text, HasFullLine, Job, Work, Files, Made, Asked, SourceState, SinkState, HasRisen, AppendsPrefix, Status, IsExit, Ran, Content, AreTraces, Prints, PrintsPrefix, AsksFirst, AsksPrefix, Unread, IsTooLong, IsBad, IsUsage, IsLong, IsNoTrace, HasFault, HasTraces, EndsAtKnown, WritesFaultLine, job_files, setting_of, IsWholeText, fault_line, usage_line, AreLive, IsSessionText, IsSummary, kinds_line, held_line, map_line, each_kind, replies_part, report_part, summary_part, worked_end};
 ghost use Rattle.driver.specs.Prelude.kinds;
 ghost use Rattle.driver.specs.Prelude.command;
 ghost use Rattle.driver.specs.Prelude.reply;
@@ -49,6 +49,20 @@ pub fn kinds_are_counted()
           ++ replicate 9 (unowned kinds.LargeTail 0));
     })
         ≡ codes "kinds free 1 bump 2 young 3 mature 4 immix 5 cells 6 large 17 kept 7\n" }
+{}
+
+/// What is printed of a heap with a block of each kind: a large object's two blocks are in one
+/// count, every other block in that of its kind, and each object is held and has its place.
+pub fn text_of_each_kind()
+    ensures held { held_line each_kind ≡ codes "held objects 7 words 4126\n" }
+    ensures kinds { kinds_line each_kind
+        ≡ codes "kinds free 1 bump 1 young 1 mature 1 immix 1 cells 1 large 2 kept 1\n" }
+    ensures map { flat_map (map_line each_kind)
+        (30463 ∷ 26367 ∷ 22271 ∷ 18191 ∷ 14079 ∷ 5887 ∷ 1791 ∷ [])
+        ≡ codes "map 1.1 block 7 word 0 size 7\nmap 1.2 block 6 word 0 size 6\n"
+        ++ codes "map 1.3 block 5 word 0 size 5\nmap 1.4 block 4 word 16 size 4\n"
+        ++ codes "map 1.5 block 3 word 0 size 3\nmap 1.6 block 1 word 0 size 4097\n"
+        ++ codes "map 1.7 block 0 word 0 size 4\n" }
 {}
 
 /// The setting of a job's session has the rules of its plan, its size, its workers and the traces.

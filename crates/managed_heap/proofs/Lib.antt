@@ -17,3 +17,4 @@ pub mod Moments
 pub mod ManagedPlans
 pub mod FirstHeap
 pub mod EpochLaws
+pub mod Worlds

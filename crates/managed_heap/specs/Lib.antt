@@ -2,3 +2,4 @@ pub mod Stopped
 pub mod Spots
 pub mod Needs
 pub mod Prelude
+pub mod Worlds

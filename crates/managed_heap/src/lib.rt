@@ -12,5 +12,6 @@ mod stopped_heap;
 pub use collect::all_registers;
 pub use laws::{closed_worlds_are_stopped, managed_plans, stopped_heaps_begin_epochs};
 pub use place::Placed;
+pub use plain_world::{LocalSeat, PlainWorld, new_seats};
 pub use scheduler::Scheduler;
 pub use stopped_heap::{Parts, StoppedHeap};

@@ -6,10 +6,7 @@ use Rattle.ideal_heap.specs.declared.command.Command.{Command}
 use Rattle.ideal_heap.specs.declared.reply.Reply.{Reply}
 use Rattle.ideal_heap.specs.Runs.{Entry, entry}
 use Rattle.mutator_calls.specs.Effects.{Effect}
-use Rattle.plain_row.specs.Rows.{births_of}
-use Rattle.plain_row.specs.Worlds.{births_in}
-use Rattle.plain_world.specs.declared.plain_world.PlainWorld.{PlainWorld}
-use Rattle.plain_world.specs.Calls.{places_of, mutator_number_at, IsOpen, StaysOpen, LeavesRest, SamePlaces, budget_word, AddsEntries as AddMoreToWorld, AddsEntry as AddsToWorld}
+use Rattle.managed_heap.specs.Worlds.{births_of, births_in, PlainWorld, places_of, mutator_number_at, IsOpen, StaysOpen, LeavesRest, SamePlaces, budget_word, AddsEntries as AddMoreToWorld, AddsEntry as AddsToWorld}
 use Rattle.heap_users.specs.Beginnings.{epoch_of}
 use Rattle.sessions.specs.Plans.{Rules}
 use Rattle.sessions.specs.Sessions.{ideal_at}

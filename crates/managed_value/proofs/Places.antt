@@ -12,9 +12,7 @@ use Rattle.sessions.specs.Sessions.{birth_count}
 use Rattle.mutator_calls.specs.declared.need.Mutator.{Mutator}
 use Rattle.heap_users.specs.Users.{mutator_state}
 use Rattle.block_regions.proofs.Lists.{get-some}
-use Rattle.plain_row.specs.Rows.{births_of, mutator_number}
-use Rattle.plain_world.specs.declared.plain_world.PlainWorld.{PlainWorld}
-use Rattle.plain_world.specs.Calls.{mutator_number_at, places_of, births_at as births_in, IsOpen}
+use Rattle.managed_heap.specs.Worlds.{births_of, mutator_number, PlainWorld, mutator_number_at, places_of, births_at as births_in, IsOpen}
 use Rattle.managed_heap.specs.Needs.{AddsBirths}
 use Rattle.managed_value.specs.declared.managed.ManagedHeap.{ManagedHeap}
 use Rattle.managed_value.specs.Histories.{HasEntries, HeapHasPlace, IsSince, IsUsable, heap_births_at, born_to, mutators_of_heap, places_in}

@@ -13,8 +13,7 @@ use Rattle.programs.specs.Growth.{IsGrown}
 use Rattle.programs.specs.Lists.{heap_after}
 use Rattle.programs.proofs.GrowthLemmas.{after-grown}
 use Rattle.sessions.specs.Plans.{Rules}
-use Rattle.plain_world.specs.declared.plain_world.PlainWorld.{PlainWorld}
-use Rattle.plain_world.specs.Calls.{heap_of_world, mutators_of_world}
+use Rattle.managed_heap.specs.Worlds.{PlainWorld, heap_of_world, mutators_of_world}
 use Rattle.managed_value.specs.declared.managed.ManagedHeap.{ManagedHeap}
 use Rattle.managed_value.specs.Histories.{AddsHeapEntry, HasEntries, KeepsEntries, StandsFor}
 use Rattle.managed_value.proofs.Runs.{entries-run, entries-represent}

@@ -17,11 +17,9 @@ use Rattle.heap_users.specs.Users.{mutator_state}
 use Rattle.heap_users.specs.Beginnings.{epoch_of}
 use Rattle.heap_users.proofs.UserLists.{all-each}
 use Rattle.block_regions.proofs.Lists.{get-map, get-some}
-use Rattle.plain_row.specs.Rows.{registers_of}
-use Rattle.plain_row.proofs.EpochFacts as facts
-use Rattle.plain_world.proofs.CallLemmas.{numbers-mapped}
-use Rattle.plain_world.specs.declared.plain_world.PlainWorld.{PlainWorld}
-use Rattle.plain_world.specs.Calls.{heap_of_world, mutators_of_world, places_of, register_in}
+use Rattle.managed_heap.specs.Worlds.{registers_of, PlainWorld, heap_of_world, mutators_of_world, places_of, register_in}
+use Rattle.managed_heap.proofs.Worlds.facts
+use Rattle.managed_heap.proofs.Worlds.{numbers-mapped}
 use Rattle.managed_heap.proofs.Users.{number-of}
 use Rattle.sessions.specs.Plans.{Rules}
 use Rattle.sessions.specs.Sessions.{ideal_at}

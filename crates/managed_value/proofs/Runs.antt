@@ -10,10 +10,9 @@ use Rattle.object_model.proofs.Representation as standing
 use Rattle.mutator_core.specs.Machine.{Epoch}
 use Rattle.mutator_core.specs.Logs.{heap_after, mutators_after, history_of}
 use Rattle.heap_users.specs.Users.{mutator_state}
-use Rattle.plain_row.proofs.EpochFacts as facts
-use Rattle.plain_world.specs.declared.plain_world.PlainWorld.{PlainWorld}
-use Rattle.plain_world.specs.Calls.{HasHistory, heap_of_world, mutators_of_world}
-use Rattle.plain_world.proofs.Closed.{mutators-same}
+use Rattle.managed_heap.proofs.Worlds.facts
+use Rattle.managed_heap.specs.Worlds.{PlainWorld, HasHistory, heap_of_world, mutators_of_world}
+use Rattle.managed_heap.proofs.Worlds.{mutators-same}
 use Rattle.sessions.specs.Plans.{Rules}
 use Rattle.sessions.specs.Sessions.{ideal_at}
 use Rattle.heap_users.specs.Beginnings.{epoch_of}

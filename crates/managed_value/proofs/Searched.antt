@@ -6,8 +6,7 @@ use Rattle.ideal_heap.specs.declared.name.Name.{Name}
 use Rattle.object_model.specs.Objects.{size_of}
 use Rattle.mutator_calls.specs.Effects.{draws}
 use Rattle.mutator_calls.specs.Allocating.{births_with}
-use Rattle.plain_world.specs.declared.plain_world.PlainWorld.{PlainWorld}
-use Rattle.plain_world.specs.Calls.{IsOpen, SamePlaces, Allocates, Refuses}
+use Rattle.managed_heap.specs.Worlds.{PlainWorld, IsOpen, SamePlaces, Allocates, Refuses}
 use Rattle.sessions.specs.Plans.{Rules}
 use Rattle.managed_heap.specs.declared.place.Placed.TheVariants as placed
 use Rattle.managed_value.specs.declared.managed.ManagedHeap.{ManagedHeap}

@@ -24,7 +24,7 @@ use Rattle.block_regions.specs.Notes.{FillsHoles}
 use Rattle.block_regions.proofs.NoteLemmas.{hole-before, kind-same}
 use Rattle.heap_users.specs.Beginnings.{without_stop}
 use Rattle.heap_users.proofs.Cleared as cleared
-use Rattle.plain_row.specs.Rows.{births_of}
+use Rattle.managed_heap.specs.Worlds.{births_of}
 use Rattle.managed_heap.specs.declared.stopped_heap.StoppedHeap.{StoppedHeap}
 use Rattle.managed_heap.specs.declared.place.Placed.{Placed}
 use Rattle.managed_heap.specs.declared.place.Placed.TheVariants as placed

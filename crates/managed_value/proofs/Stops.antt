@@ -15,9 +15,8 @@ use Rattle.mutator_core.specs.Closing.{GivesBack}
 use Rattle.block_regions.specs.Notes.{AreNotes, FlagsCover}
 use Rattle.heap_users.specs.Users.{mutator_state}
 use Rattle.heap_users.specs.Beginnings.{epoch_of, without_stop, MayUse}
-use Rattle.plain_world.specs.declared.plain_world.PlainWorld.{PlainWorld}
-use Rattle.plain_world.specs.Calls.{heap_of_world, mutators_of_world, places_of, is_generational, HasHistory, IsOpen}
-use Rattle.plain_world.proofs.Closed.{may-use}
+use Rattle.managed_heap.specs.Worlds.{PlainWorld, heap_of_world, mutators_of_world, places_of, is_generational, HasHistory, IsOpen}
+use Rattle.managed_heap.proofs.Worlds.{may-use}
 use Rattle.managed_heap.specs.declared.stopped_heap.StoppedHeap.{StoppedHeap}
 use Rattle.managed_heap.specs.Stopped.{HeapStandsAt, IsHeapInOrder, IsStopped}
 use Rattle.managed_heap.proofs.NeedsWritten.{stands-represents}

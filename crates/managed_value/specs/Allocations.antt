@@ -13,8 +13,7 @@ use Rattle.sessions.specs.Plans.{Rules}
 use Rattle.sessions.specs.Fitting.{Fits}
 use Rattle.sessions.specs.Sessions.{Setting, Moment, MakesCollection, ServesNeed}
 use Rattle.heap_users.specs.Beginnings.{without_stop}
-use Rattle.plain_world.specs.declared.plain_world.PlainWorld.{PlainWorld}
-use Rattle.plain_world.specs.Calls.{heap_of_world, Allocates, Refuses}
+use Rattle.managed_heap.specs.Worlds.{PlainWorld, heap_of_world, Allocates, Refuses}
 use Rattle.collector.specs.Tallies.{capped}
 use Rattle.collector.specs.declared.outcome.Note.{Note}
 use Rattle.managed_heap.specs.declared.stopped_heap.StoppedHeap.{StoppedHeap}

@@ -10,9 +10,7 @@ use Rattle.mutator_core.specs.Machine.{Epoch}
 use Rattle.mutator_core.specs.Closing.{GivesBack}
 use Rattle.heap_users.specs.Users.{mutator_state}
 use Rattle.heap_users.specs.Beginnings.{without_stop}
-use Rattle.plain_row.specs.Rows.{births_of}
-use Rattle.plain_world.specs.declared.plain_world.PlainWorld.{PlainWorld}
-use Rattle.plain_world.specs.Calls.{heap_of_world, mutators_of_world, HasHistory}
+use Rattle.managed_heap.specs.Worlds.{births_of, PlainWorld, heap_of_world, mutators_of_world, HasHistory}
 use Rattle.managed_heap.specs.declared.stopped_heap.StoppedHeap.{StoppedHeap}
 use Rattle.managed_heap.specs.Stopped.{IsStopped, HeapStandsAt, count_of_mutators as stopped_count}
 use Rattle.managed_value.specs.declared.managed.ManagedHeap.{ManagedHeap}

@@ -17,9 +17,7 @@ pub use Rattle.mutator_calls.specs.Allocating.{IsNeedOf, MatchAllocated}
 pub use Rattle.mutator_calls.specs.declared.need.Mutator.{Mutator as User}
 pub use Rattle.object_model.specs.Graphs.{Represents}
 pub use Rattle.object_model.specs.Objects.{size_of}
-pub use Rattle.plain_world.specs.Calls.{heap_of_world, mutators_of_world}
-pub use Rattle.plain_world.specs.EmptySeats.{empty_seat}
-pub use Rattle.plain_world.specs.declared.plain_world.PlainWorld.{PlainWorld, PlainWorld as World}
+pub use Rattle.managed_heap.specs.Worlds.{heap_of_world, mutators_of_world, empty_seat, PlainWorld, PlainWorld as World}
 pub use Rattle.programs.specs.Growth.{IsGrown}
 pub use Rattle.programs.specs.Lists.{heap_after}
 pub use Rattle.sessions.specs.Fitting.{free_of}

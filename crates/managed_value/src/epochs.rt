@@ -9,9 +9,8 @@ ghost use Rattle.managed_value.specs.Prelude.{empty_seat, IsManaged, IsStopped, 
 use crate::managed::ManagedHeap;
 use collector::Note;
 use forward_word::NUMBER_BITS;
-use managed_heap::{Parts, StoppedHeap};
+use managed_heap::{LocalSeat, Parts, PlainWorld, StoppedHeap, new_seats};
 use object_model::Collect;
-use plain_world::{LocalSeat, PlainWorld, new_seats};
 use plan_api::Plan;
 use pools::{PlainPool, Pool};
 use std::alloc::AllocError;

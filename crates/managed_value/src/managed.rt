@@ -4,10 +4,9 @@ ghost use Rattle.std.specs.Prelude.{◌≡◌, ◌↔◌, ◌+◌, ◌≤◌, �
 ghost use Rattle.managed_value.specs.Prelude.{MIN_BLOCKS, MAX_BLOCKS, MAX_MUTATORS, REGISTERS, IdealHeap, User, free_of, World, heap_of_world, IsManaged, IsLost, IsUsable, HasEntries, HeapHasPlace, StandsFor, mutators_of_heap, heap_births_at, collections_made, shape_of_object, words_used, IsEmpty};
 
 use heap_layout::Layout;
-use managed_heap::StoppedHeap;
+use managed_heap::{PlainWorld, StoppedHeap, new_seats};
 use mutator_calls::Mutator;
 use object_model::Shape;
-use plain_world::{PlainWorld, new_seats};
 use plan_api::Plan;
 use std::alloc::{AllocError, Global};
 

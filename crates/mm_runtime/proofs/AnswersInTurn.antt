@@ -17,11 +17,8 @@ use Rattle.mutator_calls.specs.declared.need.NeedCause.TheVariants.{Large, Budge
 use Rattle.mutator_calls.specs.Effects.{Answered, draws, raises}
 use Rattle.mutator_calls.specs.Allocating.{IsCause}
 use Rattle.sessions.specs.Plans.{Rules}
-use Rattle.plain_world.specs.declared.plain_world.PlainWorld.{PlainWorld}
-use Rattle.plain_row.specs.Rows.{births_of, mutator_number}
+use Rattle.managed_heap.specs.Worlds.{PlainWorld, births_of, mutator_number, births_in, stop_after, mutator_number_at, births_at, ticket_at, books_at, HasHistory, HasNoRoom, IsOpen, SamePlaces, AddsEntries, IsUnchanged, LeavesRest, stop_word}
 use Rattle.heap_users.specs.Users.{mutator_state}
-use Rattle.plain_row.specs.Worlds.{births_in, stop_after}
-use Rattle.plain_world.specs.Calls.{mutator_number_at, births_at, ticket_at, books_at, HasHistory, HasNoRoom, IsOpen, SamePlaces, AddsEntries, IsUnchanged, LeavesRest, stop_word}
 use Rattle.mm_runtime.specs.Parts.{AnswersMutator, IsExhausted}
 use Rattle.mm_runtime.proofs.WorldAnswers.{blocks-same, allowance-same}
 

@@ -8,7 +8,7 @@ use Rattle.ideal_heap.specs.Runs.{Entry, IsMutator, of_mutator}
 use Rattle.object_model.specs.Objects.{size_of}
 use Rattle.object_model.specs.declared.shape.TheConstants.{MAX_MEDIUM_WORDS}
 use Rattle.sessions.specs.Sessions.{Setting, Moment, AtGc, AtMeet, AtEnd, AtNeed, Raised, EndsBy, next_in, is_at_gc, is_at_need}
-use Rattle.plain_world.specs.declared.plain_world.PlainWorld.{PlainWorld}
+use Rattle.managed_heap.specs.Worlds.{PlainWorld}
 use Rattle.block_regions.proofs.Lists.{get-some, get-below, get-map}
 use Rattle.mm_runtime.specs.declared.progress.Progress.{Progress}
 use Rattle.mm_runtime.specs.declared.progress.End.{End}

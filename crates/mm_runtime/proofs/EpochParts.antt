@@ -18,10 +18,9 @@ use Rattle.mutator_core.specs.Machine.{Epoch}
 use Rattle.mutator_core.specs.Guards.{allowance}
 use Rattle.mutator_core.proofs.EpochEnds.{log-recorded}
 use Rattle.heap_users.specs.Beginnings.{epoch_of}
-use Rattle.plain_row.specs.Rows.{births_of}
+use Rattle.managed_heap.specs.Worlds.{births_of, HasHistory, births_at}
 use Rattle.heap_users.specs.Users.{mutator_state}
-use Rattle.plain_world.specs.Calls.{HasHistory, births_at}
-use Rattle.plain_row.proofs.EpochFacts as facts
+use Rattle.managed_heap.proofs.Worlds.facts
 use Rattle.heap_users.proofs.StopWords.{stopped-before}
 use Rattle.heap_users.proofs.Cleared as cleared
 use Rattle.mm_runtime.specs.declared.progress.Progress.{Progress}

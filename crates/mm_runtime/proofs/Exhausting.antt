@@ -14,12 +14,8 @@ use Rattle.sessions.specs.Fitting.{free_of}
 use Rattle.mutator_core.specs.Machine.{Epoch}
 use Rattle.mutator_core.specs.Guards.{allowance}
 use Rattle.mutator_core.specs.Tickets.{tickets_below, smaller}
-use Rattle.plain_world.specs.declared.plain_world.PlainWorld.{PlainWorld}
-use Rattle.local_allocators.specs.declared.local_seat.LocalSeat.{LocalSeat}
-use Rattle.local_allocators.specs.Seats.{ticket_of}
-use Rattle.plain_world.specs.Calls.{ticket_at, places_of, budget_word, HasHistory}
+use Rattle.managed_heap.specs.Worlds.{PlainWorld, LocalSeat, ticket_of, ticket_at, places_of, budget_word, HasHistory, GrantsWithTickets}
 use Rattle.heap_users.specs.Beginnings.{without_stop}
-use Rattle.plain_world.specs.Endings.{GrantsWithTickets}
 use Rattle.heap_users.proofs.Cleared as cleared
 use Rattle.mm_runtime.specs.Parts.{IsExhausted}
 use Rattle.mm_runtime.proofs.ListFacts.{sum-less}

@@ -17,13 +17,10 @@ use Rattle.mutator_core.specs.Machine.{Epoch}
 use Rattle.mutator_core.specs.Closing.{GivesBack}
 use Rattle.mutator_core.proofs.Lists.{all-append}
 use Rattle.mutator_calls.specs.declared.need.Mutator.{Mutator}
-use Rattle.plain_world.specs.declared.plain_world.PlainWorld.{PlainWorld}
+use Rattle.managed_heap.specs.Worlds.{PlainWorld, GrantsWithTickets, births_of, heap_of_world, mutators_of_world, mutator_number_at, ticket_at, places_of, budget_word, is_generational, HasHistory}
 use Rattle.heap_users.specs.Beginnings.{epoch_of}
-use Rattle.plain_world.specs.Endings.{GrantsWithTickets}
-use Rattle.plain_row.specs.Rows.{births_of}
 use Rattle.heap_users.specs.Users.{mutator_state}
-use Rattle.plain_world.specs.Calls.{heap_of_world, mutators_of_world, mutator_number_at, ticket_at, places_of, budget_word, is_generational, HasHistory}
-use Rattle.plain_world.proofs.CallLemmas.{numbers-mapped}
+use Rattle.managed_heap.proofs.Worlds.{numbers-mapped}
 use Rattle.block_regions.proofs.Lists.{get-some, get-below}
 use Rattle.mm_runtime.specs.declared.progress.Progress.{Progress}
 use Rattle.mm_runtime.specs.declared.progress.End.{End}

@@ -4,8 +4,7 @@ use Rattle.std.specs.Prelude.{Option}
 use Rattle.ideal_heap.specs.declared.command.Command.{Command}
 use Rattle.mutator_calls.specs.Effects.{Answered}
 use Rattle.sessions.specs.Plans.{Rules}
-use Rattle.plain_world.specs.declared.plain_world.PlainWorld.{PlainWorld}
-use Rattle.plain_world.specs.Calls.{stop_word, mutator_number_at}
+use Rattle.managed_heap.specs.Worlds.{PlainWorld, stop_word, mutator_number_at}
 use Rattle.mm_runtime.specs.declared.progress.End.{End}
 use Rattle.mm_runtime.specs.declared.progress.End.TheVariants as end
 use Rattle.mm_runtime.specs.Parts.{AnswersMutator, IsExhausted, EndsFor, EndedFor, EndRaisesStop, raises_stop}

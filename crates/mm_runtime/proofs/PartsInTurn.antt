@@ -8,8 +8,7 @@ use Rattle.ideal_heap.proofs.OrderLemmas.{of_mutator-append}
 use Rattle.mutator_core.proofs.Lists.{all-append}
 use Rattle.mutator_calls.specs.Effects.{Answered}
 use Rattle.sessions.specs.Plans.{Rules}
-use Rattle.plain_world.specs.declared.plain_world.PlainWorld.{PlainWorld}
-use Rattle.plain_world.specs.Calls.{mutator_number_at, births_at, stop_word, HasHistory, IsOpen}
+use Rattle.managed_heap.specs.Worlds.{PlainWorld, mutator_number_at, births_at, stop_word, HasHistory, IsOpen}
 use Rattle.block_regions.proofs.Lists.{one-element, get-below}
 use Rattle.block_regions.proofs.Elements.{set-here, set-other}
 use Rattle.mm_runtime.specs.declared.progress.Progress.{Progress}

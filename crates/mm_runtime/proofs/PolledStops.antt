@@ -4,9 +4,8 @@ use Rattle.std.specs.List.{Contains, AllByRecursion}
 use Rattle.object_model.specs.Graphs.{MutatorState, IsMutatorState, numbers_of}
 use Rattle.mutator_core.proofs.Lists.{contains-cases, contains-none}
 use Rattle.sessions.specs.Plans.{Rules}
-use Rattle.plain_world.specs.declared.plain_world.PlainWorld.{PlainWorld}
-use Rattle.plain_world.specs.Calls.{mutators_of_world, stop_word, IsOpen, IsUnchanged}
-use Rattle.plain_world.proofs.CallLemmas.{numbers-mapped}
+use Rattle.managed_heap.specs.Worlds.{PlainWorld, mutators_of_world, stop_word, IsOpen, IsUnchanged}
+use Rattle.managed_heap.proofs.Worlds.{numbers-mapped}
 use Rattle.object_model.specs.Objects.{HeapState, word_at}
 use Rattle.std.proofs.Common.{ap}
 

@@ -9,8 +9,7 @@ use Rattle.ideal_heap.specs.declared.reply.Reply.{Reply}
 use Rattle.ideal_heap.specs.Commands.{IsValid}
 use Rattle.mutator_calls.specs.Effects.{Answered}
 use Rattle.sessions.specs.Plans.{Rules}
-use Rattle.plain_world.specs.declared.plain_world.PlainWorld.{PlainWorld}
-use Rattle.plain_world.specs.Calls.{IsOpen, stop_word}
+use Rattle.managed_heap.specs.Worlds.{PlainWorld, IsOpen, stop_word}
 use Rattle.stored_replies.specs.Replies.{Replies}
 use Rattle.mm_runtime.specs.declared.progress.Progress.{Progress}
 use Rattle.mm_runtime.specs.declared.progress.End.{End}

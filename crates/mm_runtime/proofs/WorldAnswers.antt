@@ -1,5 +1,5 @@
 -- From what a world's calls promise to the answers of a part.
-use Rattle.std.proofs.Common.{◌≡◌, refl, sym, ◌∙◌, ap, subst, ℕ, Bool, true, false, ◌&&◌, List, [], ◌∷◌, map}
+use Rattle.std.proofs.Common.{◌≡◌, refl, sym, ◌∙◌, ap, subst, ℕ, Bool, true, false, ◌&&◌, List, [], ◌∷◌, ◌++◌, map}
 use Rattle.std.specs.Prelude.{not}
 use Rattle.heap_layout.specs.declared.block.Kind.TheVariants as kinds
 use Rattle.ideal_heap.specs.declared.command.Command.{Command}
@@ -9,12 +9,9 @@ use Rattle.object_model.specs.Objects.{HeapState, has_kind}
 use Rattle.mutator_core.specs.Logs.{history_of}
 use Rattle.mutator_calls.specs.Effects.{Effect}
 use Rattle.sessions.specs.Plans.{Rules}
-use Rattle.plain_world.specs.declared.plain_world.PlainWorld.{PlainWorld}
-use Rattle.plain_row.specs.Rows.{births_of}
-use Rattle.local_allocators.specs.Seats.{ticket_of}
-use Rattle.plain_row.specs.Worlds.{is_in_list}
-use Rattle.plain_world.specs.Calls.{heap_of_world, mutator_number_at, epoch_allowance, IsOpen, SamePlaces, AddsEntries, Grants, LeavesRest, HasEffect}
-use Rattle.mm_runtime.specs.Parts.{AnswersMutator}
+use Rattle.managed_heap.specs.Worlds.{PlainWorld, births_of, ticket_of, is_in_list, stop_after, heap_of_world, mutator_number_at, stop_word, epoch_allowance, IsOpen, SamePlaces, AddsEntries, Grants, LeavesRest, HasEffect}
+use Rattle.stored_replies.specs.Replies.{Replies}
+use Rattle.mm_runtime.specs.Parts.{AnswersMutator, GetsReply}
 
 -- the heap has as many blocks as the epoch's first one, and the allowance is the epoch's
 pub blocks-same : {P : Type 0} {rules : Rules} (old new : PlainWorld P) (es : List _) → IsOpen rules old → AddsEntries old es new
@@ -58,3 +55,15 @@ answers-enter {P} {rules} old new m command given reply e same entries is_old ca
     subst (λ (x : Command). AnswersMutator rules old m (record { command = x; reply = reply } ∷ []) new) (sym same)
     (subst (λ es. AnswersMutator rules old m es new) entries
     (answers-effect old new m e e.granted is_old call.stays.is_open call.stays.places call.history call.granted call.rest))
+
+-- its reply goes to the replies
+pub gets-entered : {P : Type 0} {rules : Rules} (old new : PlainWorld P) (m : ℕ) (command given : Command) (reply : Reply) (e : Effect) (before after : Replies) → command ≡ given
+    → e.entries ≡ record { command = given; reply = reply } ∷ [] → e.raised ≡ false → IsOpen rules old → HasEffect rules old m e new
+    → after.items ≡ before.items ++ reply ∷ [] → after.capacity ≡ before.capacity → GetsReply rules old m command before new after
+gets-entered old new m command given reply e before after same entries calm is_old call items capacity = record {
+  reply = reply;
+  answers = answers-enter old new m command given reply e same entries is_old call;
+  items = items;
+  capacity = capacity;
+  stop = call.rest.stop ∙ ap (λ b. stop_after b (mutator_number_at old m) (stop_word old)) calm;
+}

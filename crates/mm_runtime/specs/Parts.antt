@@ -13,9 +13,7 @@ use Rattle.sessions.specs.Plans.{Rules}
 use Rattle.sessions.specs.Sessions.{Cause, AtGc, AtMeet, AtEnd, AtNeed, Raised}
 use Rattle.mutator_calls.specs.declared.need.Need.{Need}
 use Rattle.mutator_calls.specs.Effects.{Answered}
-use Rattle.plain_world.specs.declared.plain_world.PlainWorld.{PlainWorld}
-use Rattle.plain_row.specs.Worlds.{births_in}
-use Rattle.plain_world.specs.Calls.{heap_of_world, mutator_number_at, births_at, ticket_at, stop_word, epoch_allowance, IsOpen, SamePlaces, AddsEntries}
+use Rattle.managed_heap.specs.Worlds.{PlainWorld, births_in, heap_of_world, mutator_number_at, births_at, ticket_at, stop_word, epoch_allowance, IsOpen, SamePlaces, AddsEntries}
 use Rattle.stored_replies.specs.Replies.{Replies}
 use Rattle.mm_runtime.specs.declared.progress.Progress.{Progress}
 use Rattle.mm_runtime.specs.declared.progress.End.{End}

@@ -15,7 +15,7 @@ pub use Rattle.object_model.specs.Graphs.{roots_of}
 pub use Rattle.object_model.specs.Heaps.{heap_state}
 pub use Rattle.object_model.specs.Lawful.{AreRoots}
 pub use Rattle.object_model.specs.Objects.{global_at as global_word_at, size_of}
-pub use Rattle.plain_world.specs.Calls.{HasPlace, IsOpen, births_at, mutator_number_at, places_of, stop_word}
+pub use Rattle.managed_heap.specs.Worlds.{HasPlace, IsOpen, births_at, mutator_number_at, places_of, stop_word}
 pub use Rattle.sessions.specs.Fitting.{Fits}
 pub use Rattle.sessions.specs.Sessions.{CollectsFor, IsEpoch, IsWhole, Meets, Moment, RunsPart, ServesAll, ServesNeed, Setting, first_moment, is_at_gc, is_at_meet, is_at_need, is_waiting, traced_mutators}
 pub use Rattle.stored_commands.specs.Lists.{lists_of}

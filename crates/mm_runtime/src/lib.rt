@@ -14,5 +14,5 @@ mod progress;
 mod reports;
 mod serve;
 
-pub use managed_heap::{Placed, managed_plans};
+pub use managed_heap::{Placed, Scheduler, managed_plans};
 pub use manager::{Manager, Turn};

@@ -7,8 +7,8 @@ ghost use Rattle.mm_runtime.specs.Prelude.command_is;
 use crate::perform::perform;
 use crate::progress::{End, Progress};
 use ideal_heap::{Command, MAX_MUTATORS, MAX_NUMS, MAX_REFS, REGISTERS, Reply};
+use managed_heap::PlainWorld;
 use mutator_calls::{Allocated, Polled};
-use plain_world::PlainWorld;
 use plan_api::Plan;
 use stored_commands::StoredCommand;
 use stored_replies::StoredReplies;
@@ -85,7 +85,7 @@ fn step<P: Plan, G: Gate>(
         Command::Meet => Some(End::Meet),
         Command::New { d, refs, nums } => allocate(world, place, d, refs, nums, replies, gate),
         _ => {
-            replies.push_reserved(perform(world, place, command));
+            perform(world, place, command, replies);
             None
         }
     }

@@ -1,5 +1,6 @@
 -- The names of other crates that the contracts cite, passed on from one place. Declares nothing.
 pub use Rattle.block_sweeps.specs.Sweeping.{AreApart, HasNoLiving, InBlock, IsLineWord, IsTouchedHere, MarksTouched, Sweeps, SweepsRun, Unlogs}
+pub use Rattle.cell_space.specs.FreeCells.{HasNoCell, IsNextCell}
 pub use Rattle.heap_layout.specs.Blocks.{IsValidWord, all_kinds, code_of, is_block_code, kind_code}
 pub use Rattle.heap_layout.specs.Zones.{BlockWords, IsRowOf, StartBits, block_at, block_start, first, offset_at}
 pub use Rattle.heap_layout.specs.declared.block.Kind.{Kind}

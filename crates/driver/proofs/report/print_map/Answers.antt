@@ -5,8 +5,8 @@ use Rattle.std.proofs.lemmas.Grind.{flat_map-append}
 use Rattle.heap_layout.specs.Zones.{IsAddress}
 use Rattle.heap_graph.specs.declared.place.Place.{Place}
 use Rattle.object_model.specs.Heaps.{heap_state}
-use Rattle.driver.specs.Texts.{map_line}
-use Rattle.driver.specs.Reports.{place_line}
+use Rattle.driver.specs.Texts.{map_line, place_line}
+use Rattle.driver.specs.Reports.{place_in}
 use Rattle.driver.proofs.LivePlaces.{no_place, place-is, lines-of-places}
 use Rattle.driver.proofs.report.print_map.Goals as goal
 
@@ -26,7 +26,7 @@ loop-place-preserved c =
     let f : Place → List ℕ = λ q. map_line s q.at in
     let more : flat_map f (take (i + 1) live) ≡ flat_map f (take i live) ++ f p =
     ap (flat_map f) (take_more live i no_place c.loop-place-test.true) ∙ flat_map-append f (take i live) (p ∷ []) ∙ ap (λ l. flat_map f (take i live) ++ l) (append-nil (f p)) in
-    c.in_ok-print_place.ensures ∙ ap (λ b. now ++ place_line b p) c.layout.ensures
+    c.in_ok-print_place.ensures ∙ ap (λ b. now ++ place_line (place_in b p)) c.layout.ensures
     ∙ ap (λ l. now ++ l) (place-is s p (c.requires.each i no_place c.loop-place-test.true))
     ∙ ap (λ l. l ++ f p) c.loop-place.invariant ∙ append_assoc t (flat_map f (take i live)) (f p) ∙ ap (λ l. t ++ l) (sym more)
 

@@ -1,6 +1,6 @@
 use Rattle.std.proofs.Common.{◌∙◌, ap, map, ◌++◌}
 use Rattle.driver.specs.Texts.{replies_part, report_part}
-use Rattle.driver.specs.MapPlaces.{place_of}
+use Rattle.driver.specs.Texts.{place_of}
 use Rattle.driver.proofs.MapPlaces.{map-lines, map-of}
 use Rattle.driver.proofs.report_laws.maps_show_the_ideal_heap.Goals as goal
 

@@ -3,7 +3,8 @@ use Rattle.std.proofs.lemmas.List.Elements.{All-from_recursion}
 use Rattle.ideal_heap.specs.Names.{IsBefore, name}
 use Rattle.ideal_heap.specs.Ideal.{record_of}
 use Rattle.driver.specs.LiveNames.{record_size}
-use Rattle.driver.specs.MapPlaces.{MapPlace, LiesInBlocks, AreDisjoint}
+use Rattle.driver.specs.Texts.{MapPlace}
+use Rattle.driver.specs.MapPlaces.{LiesInBlocks, AreDisjoint}
 use Rattle.driver.specs.WorkedReach.{worked_ideal, worked_map, place_at}
 use Rattle.driver.proofs.WorkedReach.{live, pairs-of-three}
 use Rattle.driver.proofs.report_laws.worked_maps.Goals as goal

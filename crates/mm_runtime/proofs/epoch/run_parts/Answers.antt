@@ -1,7 +1,7 @@
 -- One part after another.
 use Rattle.std.proofs.Common.{◌≡◌, ◌+◌, ◌<◌, [], ◌∷◌, ◌++◌, length, arith}
 use Rattle.std.specs.Prelude.{slice_set}
-use Rattle.plain_world.specs.Calls.{mutator_number_at}
+use Rattle.managed_heap.specs.Worlds.{mutator_number_at}
 use Rattle.block_regions.proofs.Elements.{read-some}
 use Rattle.mm_runtime.proofs.PartsInTurn.{parts-none, parts-more, parts-ends}
 use Rattle.mm_runtime.proofs.epoch.run_parts.Goals as goal

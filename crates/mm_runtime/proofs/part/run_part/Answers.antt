@@ -1,6 +1,6 @@
 -- Each step gives one reply, or ends the part.
 use Rattle.std.proofs.Common.{◌≡◌, refl, sym, ◌∙◌, subst, ℕ, ◌+◌, ◌<◌, ◌≤◌, length, Option, Some, arith, ap, length-append, ◌∷◌, []}
-use Rattle.plain_world.specs.Calls.{births_at, stop_word}
+use Rattle.managed_heap.specs.Worlds.{births_at, stop_word}
 use Rattle.ideal_heap.specs.declared.command.Command.{Command}
 use Rattle.ideal_heap.specs.declared.command.TheConstants.{MAX_MUTATORS}
 use Rattle.mm_runtime.specs.declared.progress.Progress.{Progress}

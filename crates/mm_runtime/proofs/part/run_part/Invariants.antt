@@ -1,7 +1,7 @@
 -- The mutator got the replies to its commands so far, and no stop is raised that was not.
 use Rattle.std.proofs.Common.{◌≡◌, ◌≤◌, ◌-◌, length}
 use Rattle.ideal_heap.specs.declared.command.TheConstants.{MAX_MUTATORS}
-use Rattle.plain_world.specs.Calls.{HasPlace, IsOpen, births_at, places_of, stop_word}
+use Rattle.managed_heap.specs.Worlds.{HasPlace, IsOpen, births_at, places_of, stop_word}
 use Rattle.mm_runtime.specs.Managers.{IsProgress}
 use Rattle.mm_runtime.specs.Parts.{RunsTrace}
 use Rattle.mm_runtime.proofs.part.run_part.Given as goal

@@ -3,7 +3,7 @@ use Rattle.std.proofs.Common.{◌≡◌, refl, sym, ◌∙◌, ap, subst, [], �
 use Rattle.std.specs.Prelude.{MatchOption}
 use Rattle.ideal_heap.specs.declared.command.Command.{Command}
 use Rattle.mutator_calls.specs.Effects.{raises}
-use Rattle.plain_world.specs.Calls.{stop_word}
+use Rattle.managed_heap.specs.Worlds.{stop_word}
 use Rattle.mm_runtime.specs.Parts.{AnswersMutator, EndsPart, GetsReply}
 use Rattle.mm_runtime.proofs.WorldAnswers.{answers-effect}
 use Rattle.mm_runtime.proofs.AnswersInTurn.{answers-unchanged, answers-append, raised-word}
@@ -66,12 +66,7 @@ returns-in-New g c =
 pub returns-in_default-command : goal.returns-in_default-command
 returns-in_default-command g c =
     let poll = c.poll.ensures in
-    gets-after c.args.world.now c.poll.new.self c.perform.new.world c.args.place c.args.stored c.args.replies.now c.push_reserved.new.self
+    gets-after c.args.world.now c.poll.new.self c.perform.new.world c.args.place c.args.stored c.args.replies.now c.perform.new.replies
     (answers-unchanged c.args.world.now c.poll.new.self c.args.place c.requires.open poll.stays.is_open poll.stays.places poll.history poll.same)
-    (word-same c.args.world.now c.poll.new.self poll.same) (record {
-      reply = c.perform.result;
-      answers = subst (λ (x : Command). AnswersMutator g.P.Plan.rules c.poll.new.self c.args.place (record { command = x; reply = c.perform.result } ∷ []) c.perform.new.world) c.command-command.ensures c.perform.ensures.answers;
-      items = c.push_reserved.ensures.items;
-      capacity = c.push_reserved.ensures.capacity;
-      stop = c.perform.ensures.stop;
-    })
+    (word-same c.args.world.now c.poll.new.self poll.same)
+    (subst (λ (x : Command). GetsReply g.P.Plan.rules c.poll.new.self c.args.place x c.args.replies.now c.perform.new.world c.perform.new.replies) c.command-command.ensures c.perform.ensures)

@@ -5,7 +5,7 @@ use Rattle.object_model.specs.Heaps.{heap_state}
 use Rattle.managed_heap.proofs.EpochLaws.{remembers}
 use Rattle.managed_value.specs.Histories.{collections_made}
 use Rattle.managed_value.specs.declared.managed.ManagedHeap.{ManagedHeap}
-use Rattle.plain_world.specs.EmptySeats.{empty_seat}
+use Rattle.managed_heap.specs.Worlds.{empty_seat}
 use Rattle.managed_value.proofs.Searched.{as-before-still}
 use Rattle.managed_value.proofs.Served as served
 use Rattle.managed_value.proofs.managed.ManagedHeap.collect_with.Goals as goal

@@ -1,8 +1,7 @@
 use Rattle.std.proofs.Common.{◌≡◌, sym, ◌∙◌, subst}
 use Rattle.std.specs.Prelude.{Some}
 use Rattle.sessions.specs.Fitting.{free_of}
-use Rattle.plain_world.specs.declared.plain_world.PlainWorld.{PlainWorld}
-use Rattle.plain_world.specs.Calls.{heap_of_world}
+use Rattle.managed_heap.specs.Worlds.{PlainWorld, heap_of_world}
 use Rattle.managed_value.proofs.Places as places
 use Rattle.managed_value.proofs.managed.ManagedHeap.free_blocks.Goals as goal
 

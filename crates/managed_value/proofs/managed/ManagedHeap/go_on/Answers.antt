@@ -7,8 +7,7 @@ use Rattle.sessions.specs.Collecting.{Remembers}
 use Rattle.block_regions.specs.Notes.{AreNotes, FlagsCover}
 use Rattle.heap_users.specs.Users.{mutator_state}
 use Rattle.heap_users.specs.Beginnings.{MayUse, epoch_of, without_stop}
-use Rattle.plain_world.specs.Calls.{HasHistory}
-use Rattle.plain_world.specs.EmptySeats.{empty_seat}
+use Rattle.managed_heap.specs.Worlds.{HasHistory, empty_seat}
 use Rattle.managed_heap.specs.declared.stopped_heap.Parts.{Parts}
 use Rattle.managed_value.proofs.Stops as stops
 use Rattle.managed_value.proofs.managed.ManagedHeap.go_on.Goals as goal

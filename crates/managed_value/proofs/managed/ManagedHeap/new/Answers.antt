@@ -5,7 +5,7 @@ use Rattle.heap_layout.specs.declared.layout.Layout.{Layout}
 use Rattle.heap_layout.specs.declared.layout.LayoutFault.{LayoutFault}
 use Rattle.object_model.specs.Objects.{empty_heap}
 use Rattle.heap_users.specs.Beginnings.{without_stop}
-use Rattle.plain_world.specs.EmptySeats.{empty_seat}
+use Rattle.managed_heap.specs.Worlds.{empty_seat}
 use Rattle.managed_value.proofs.FirstEntries as first
 use Rattle.managed_value.proofs.managed.ManagedHeap.new.Goals as goal
 

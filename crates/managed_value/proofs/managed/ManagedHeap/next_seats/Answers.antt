@@ -1,6 +1,6 @@
 use Rattle.std.proofs.Common.{◌≡◌, sym, ◌∙◌, ap, subst, ℕ, length, replicate, arith}
 use Rattle.std.specs.Prelude.{IfOk}
-use Rattle.plain_world.specs.EmptySeats.{empty_seat}
+use Rattle.managed_heap.specs.Worlds.{empty_seat}
 use Rattle.managed_value.specs.Histories.{mutators_of_heap, places_in}
 use Rattle.managed_value.proofs.managed.ManagedHeap.next_seats.Goals as goal
 

@@ -5,7 +5,7 @@ use Rattle.object_model.specs.Objects.{size_of}
 use Rattle.managed_value.specs.Histories.{collections_made, mutators_of_heap}
 use Rattle.managed_value.specs.Allocations.{kept_by, used_with}
 use Rattle.managed_value.specs.declared.managed.ManagedHeap.{ManagedHeap}
-use Rattle.plain_world.specs.EmptySeats.{empty_seat}
+use Rattle.managed_heap.specs.Worlds.{empty_seat}
 use Rattle.managed_value.proofs.Places as places
 use Rattle.managed_value.proofs.Searched.{as-before-still}
 use Rattle.managed_value.proofs.Served as served

@@ -10,7 +10,7 @@ use Rattle.mutator_core.specs.Machine.{Epoch}
 use Rattle.block_regions.specs.Notes.{AreNotes, FlagsCover}
 use Rattle.heap_users.specs.Users.{mutator_state}
 use Rattle.mutator_core.specs.Closing.{GivesBack}
-use Rattle.plain_world.specs.Calls.{heap_of_world, mutators_of_world, is_generational, HasHistory}
+use Rattle.managed_heap.specs.Worlds.{heap_of_world, mutators_of_world, is_generational, HasHistory}
 use Rattle.managed_heap.specs.declared.stopped_heap.Parts.{Parts}
 use Rattle.managed_value.proofs.Places as places
 use Rattle.managed_value.proofs.Stops as stops

@@ -11,11 +11,10 @@ use Rattle.mutator_core.specs.Machine.{Epoch}
 use Rattle.mutator_core.specs.Closing.{GivesBack}
 use Rattle.heap_users.specs.Beginnings.{MayUse, epoch_of}
 use Rattle.block_regions.specs.Notes.{AreNotes, FlagsCover}
-use Rattle.plain_world.specs.Calls.{heap_of_world, mutators_of_world, is_generational, HasHistory}
-use Rattle.plain_world.specs.Endings.{GrantsWithTickets}
+use Rattle.managed_heap.specs.Worlds.{heap_of_world, mutators_of_world, is_generational, HasHistory, GrantsWithTickets}
 use Rattle.managed_heap.specs.declared.stopped_heap.Parts.{Parts}
 use Rattle.heap_users.specs.Users.{mutator_state}
-use Rattle.plain_world.proofs.Closed.{may-use}
+use Rattle.managed_heap.proofs.Worlds.{may-use}
 use Rattle.sessions.specs.Plans.{Rules}
 use Rattle.mm_runtime.specs.declared.progress.End.{End}
 use Rattle.mm_runtime.specs.declared.progress.End.TheVariants as end
