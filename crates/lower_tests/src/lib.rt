@@ -1,5 +1,5 @@
 //! Tests of the lowest crates: layouts and words, commands and replies, how both are stored, traces
-//! as text, and the command line.
+//! as text, the command line, and sources and sinks.
 //!
 //! They stand apart because a crate with tests of its own is proved a second time with them.
 #![tactic(auto)]
@@ -11,8 +11,12 @@ mod commands;
 #[cfg(test)]
 mod layouts;
 #[cfg(test)]
+mod made;
+#[cfg(test)]
 mod printing;
 #[cfg(test)]
 mod reading;
 #[cfg(test)]
 mod stored;
+#[cfg(test)]
+mod streams;

@@ -58,16 +58,16 @@ fn moves(heap: &Heap, from: &[bool]) -> Option<bool> {
     Some(Immix::may_move(heap, from, 806))
 }
 
-/// The allowance, and whether objects of 3, 2,048, 2,049 and 8,193 words fit, which need a hole or
-/// a block, a block, and three blocks.
-fn asks(heap: &Heap) -> (u32, [bool; 4]) {
-    let fit = [
+/// Whether this is the allowance, and whether objects of 3, 2,048, 2,049 and 8,193 words fit as they
+/// should, which need a hole or a block, a block, and three blocks.
+fn asks(heap: &Heap, allowance: u32, fit: [bool; 4]) -> bool {
+    let seen = [
         Immix::fits(heap, 3),
         Immix::fits(heap, 2048),
         Immix::fits(heap, 2049),
         Immix::fits(heap, 8193),
     ];
-    (Immix::allowance(heap), fit)
+    Immix::allowance(heap) == allowance && seen == fit
 }
 
 // Blocks are taken one after another, of an empty heap and of one with lines, in which a hole is
@@ -79,7 +79,7 @@ fn taken_blocks(rt: HostRuntime) -> Result<(), Fail> {
     let mut lines = heap_of_lines(rt.alloc(), Layout::new(4)?)?;
     let first = moves(&lines, &[true, false, false, false]);
     let others = moves(&lines, &[false, true, true, true]);
-    assert_eq!(rt; (first, others), (Some(true), Some(false)));
+    assert!(rt; first == Some(true) && others == Some(false));
     for (block, allowance, large, first) in [
         (0, 2, true, true),
         (1, 1, true, true),
@@ -89,16 +89,16 @@ fn taken_blocks(rt: HostRuntime) -> Result<(), Fail> {
         heap = take(heap, block);
         lines = take(lines, block);
         let from = Immix::from_blocks(rt.alloc(), &lines, Collect::Full)?;
-        let is_first = from.as_slice() == [first, false, false, false].as_slice();
-        let seen = (asks(&heap), asks(&lines), Immix::kind(&lines), is_first);
-        let tails = (allowance, [large, large, large, false]);
-        let want = (
-            tails,
-            (allowance, [true, true, large, false]),
-            Collect::Full,
-            true,
+        assert!(rt; from.as_slice() == [first, false, false, false].as_slice());
+        assert!(rt;
+            asks(&heap, allowance, [large, large, large, false]),
+            "{block}"
         );
-        assert_eq!(rt; seen, want, "{block}");
+        assert!(rt;
+            asks(&lines, allowance, [true, true, large, false]),
+            "{block}"
+        );
+        assert!(rt; Immix::kind(&lines) == Collect::Full);
     }
     Ok(())
 }

@@ -49,23 +49,26 @@ fn write_object(words: &mut Vec<u64>, layout: &Layout, offset: u32) {
     }
 }
 
-/// The first hole of block 1 from an offset on, by words and by its view, or `None` if there is no
-/// such block or size.
-fn holes(
+/// Whether this is the first hole of block 1 from an offset on, by words and by its view. `false` if
+/// there is no such block or size.
+fn is_hole(
     words: &Vec<u64>,
     layout: &Layout,
     fill: Kind,
     from: u32,
     size: u32,
-) -> Option<(Option<Region>, Option<Region>)> {
+    want: Option<Region>,
+) -> bool {
     if words.len() != layout.words() as usize || !is_releasable(words, layout, 1) {
-        return None;
+        return false;
     }
     if size < 3 || size > 2048 {
-        return None;
+        return false;
     }
-    let seen = first_hole(fill, &view_in(words, layout, 1), from, size);
-    Some((hole_in_block(words, layout, fill, 1, from, size), seen))
+    if first_hole(fill, &view_in(words, layout, 1), from, size) != want {
+        return false;
+    }
+    hole_in_block(words, layout, fill, 1, from, size) == want
 }
 
 /// The block's kind, class, first line word and objects, the offset from which a hole for so many
@@ -133,15 +136,9 @@ fn holes_by_words(rt: HostRuntime) -> Result<(), Fail> {
         } else {
             Kind::Bump
         };
-        let seen = (
-            holes(&words, &layout, kind, from, size),
-            holes(&words, &layout, other, from, size),
-        );
-        assert_eq!(rt;
-            seen,
-            (Some((want, want)), Some((None, None))),
-            "for {size} from {from} of class {class}"
-        );
+        let found = is_hole(&words, &layout, kind, from, size, want);
+        assert!(rt; found, "for {size} from {from} of class {class}");
+        assert!(rt; is_hole(&words, &layout, other, from, size, None));
     }
     Ok(())
 }
@@ -196,11 +193,8 @@ fn runs(rt: HostRuntime) -> Result<(), Fail> {
                 let fit = (count as u32) <= longest;
                 for size in [4096 * count, 4096 * count - 2000] {
                     assert!(rt; 2048 < size && size <= 61027);
-                    let seen = (
-                        has_run(&heap, reserve, size),
-                        fits(&heap, Kind::Bump, reserve, size),
-                    );
-                    assert_eq!(rt; seen, (fit, fit), "{size}");
+                    assert!(rt; has_run(&heap, reserve, size) == fit, "{size}");
+                    assert!(rt; fits(&heap, Kind::Bump, reserve, size) == fit, "{size}");
                 }
             }
         }

@@ -2,8 +2,9 @@
 
 use crate::commands::{commands_in, random_commands};
 use crate::reply_tests::{check_replies, run_and_check};
-use crate::whole_sessions::{Under, session};
+use crate::whole_sessions::{Under, counts_of, session};
 use heap_layout::Kind;
+use std::alloc::{AllocError, Global};
 use std::test::Fail;
 
 // The commands of a session: the first, how often some more, and the last.
@@ -199,6 +200,17 @@ fn count_kinds(kinds: &[Kind]) -> [u32; 6] {
     counts
 }
 
+// The lines of a report with these numbers.
+fn lines_of(alloc: Global, live: (u64, u64), left: &Left) -> Result<String, AllocError> {
+    let (live, live_words) = live;
+    let ((nursery, full), (held, words), [free, young, mature, large, kept, immix]) = *left;
+    format!(in alloc;
+        "\ncollections nursery {nursery} full {full}\nlive objects {live} words {live_words}\n\
+        held objects {held} words {words}\nkinds free {free} bump 0 young {young} \
+        mature {mature} immix {immix} cells 0 large {large} kept {kept}\n"
+    )
+}
+
 #[test]
 fn worked_sessions(rt: HostRuntime) -> Result<(), Fail> {
     let alloc = rt.alloc();
@@ -206,9 +218,13 @@ fn worked_sessions(rt: HostRuntime) -> Result<(), Fail> {
         let commands = commands_in(alloc, first, *count, again, last)?;
         let (replied, end) = run_and_check(&rt, alloc, *plan, *blocks, &commands)?;
         let left = (end.collections, end.held, count_kinds(&end.kinds));
+        let lines = lines_of(alloc, counts_of(&end.places), want)?;
+        let printed = str::from_utf8(&end.text)
+            .unwrap_or("")
+            .contains(lines.as_str());
         assert!(rt;
-            (replied.as_slice(), left) == (*refused, *want),
-            "{first} {last}: {left:?}"
+            (replied.as_slice(), left, printed) == (*refused, *want, true),
+            "{first} {last}: {left:?} {printed}"
         );
     }
     Ok(())

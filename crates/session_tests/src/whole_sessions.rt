@@ -1,14 +1,12 @@
 //! Whole sessions under each plan.
 
 ghost use Rattle.std.specs.Prelude.{◌≤◌, ℕ, All, IsTrue, length};
-ghost use Rattle.managed_heap.specs.Stopped.{IsManaged};
-ghost use Rattle.mm_runtime.specs.Managers.{ClosesSome, IsRunnableTrace};
+ghost use Rattle.driver.specs.Prelude.{IsManaged, ClosesSome, IsRunnableTrace};
 
-use driver::session_text;
+use driver::{Manager, Turn, managed_plans, session_text};
 use heap_graph::{Place, graph};
 use heap_layout::{Kind, Layout};
 use ideal_heap::{Command, Reply, valid};
-use mm_runtime::{Manager, Turn, managed_plans};
 use object_model::{Heap, are_roots, size_words};
 use plan_api::Plan;
 use plans::{GenCopy, Immix, MarkSweep, NoGc, SemiSpace, StickyImmix};
@@ -97,7 +95,7 @@ fn held_in(alloc: Global, heap: &Heap) -> Result<Vec<Place>, AllocError> {
 }
 
 // The numbers of these objects and of their words.
-fn counts_of(places: &[Place]) -> (u64, u64) {
+pub(crate) fn counts_of(places: &[Place]) -> (u64, u64) {
     let mut words = 0u64;
     for place in places {
         words = words.wrapping_add(u64::from(place.size));

@@ -15,6 +15,7 @@ mod heaps;
 mod nursery_tests;
 #[cfg(test)]
 mod old_views;
+#[cfg(test)]
 mod roots;
 #[cfg(test)]
 mod tests;

@@ -2,7 +2,7 @@ use Rattle.std.proofs.Common.{ℕ, ◌<◌}
 use Rattle.std.specs.Prelude.{Vec, slice_index_or}
 use Rattle.std.specs.declared.alloc.Global.{Global}
 use Rattle.ideal_heap.specs.declared.command.Command.{Command}
-use Rattle.mm_runtime.specs.Managers.{IsRunnableTrace}
+use Rattle.driver.specs.Prelude.{IsRunnableTrace}
 use Rattle.session_tests.proofs.whole_sessions.check_runnable.Given as goal
 
 abbrev pub invariant-loop-trace : goal.invariant-loop-trace

@@ -1,5 +1,5 @@
 use Rattle.std.proofs.lemmas.List.Elements.{All-map}
-use Rattle.mm_runtime.specs.Managers.{IsRunnableTrace}
+use Rattle.driver.specs.Prelude.{IsRunnableTrace}
 use Rattle.session_tests.proofs.whole_sessions.run.Goals as goal
 
 pub begin-requires-clause-runnable : goal.begin-requires-clause-runnable

@@ -1,4 +1,4 @@
-use Rattle.mm_runtime.specs.Managers.{left, ClosesSome}
+use Rattle.driver.specs.Prelude.{left, ClosesSome}
 use Rattle.session_tests.proofs.whole_sessions.run.Given as goal
 
 abbrev pub invariant-epochs : goal.invariant-epochs
