@@ -236,22 +236,13 @@ fn run<P: Plan, R: Threads + Sync>(alloc: Global, rt: &R, count: u64) -> Result<
 fn main(rt: HostRuntime) -> Result<()> {
     let alloc = rt.alloc();
     managed_plans();
-    println!(rt;
-        "SemiSpace {:?}",
-        run::<SemiSpace, HostRuntime>(alloc, &rt, COUNT)?
-    )?;
-    println!(rt;
-        "MarkSweep {:?}",
-        run::<MarkSweep, HostRuntime>(alloc, &rt, COUNT)?
-    )?;
-    println!(rt; "Immix {:?}", run::<Immix, HostRuntime>(alloc, &rt, COUNT)?)?;
-    println!(rt;
-        "GenCopy {:?}",
-        run::<GenCopy, HostRuntime>(alloc, &rt, COUNT)?
-    )?;
+    println!(rt; "SemiSpace {:?}", run::<SemiSpace, _>(alloc, &rt, COUNT)?)?;
+    println!(rt; "MarkSweep {:?}", run::<MarkSweep, _>(alloc, &rt, COUNT)?)?;
+    println!(rt; "Immix {:?}", run::<Immix, _>(alloc, &rt, COUNT)?)?;
+    println!(rt; "GenCopy {:?}", run::<GenCopy, _>(alloc, &rt, COUNT)?)?;
     println!(rt;
         "StickyImmix {:?}",
-        run::<StickyImmix, HostRuntime>(alloc, &rt, COUNT)?
+        run::<StickyImmix, _>(alloc, &rt, COUNT)?
     )?;
     Ok(())
 }
