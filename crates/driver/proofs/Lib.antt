@@ -1,6 +1,7 @@
 mod MutatorReplies
 mod Lines
 mod LivePlaces
+mod UnorderedPlaces
 mod LiveLists
 mod WorkedLives
 mod LiveNames

@@ -3,10 +3,10 @@
 ghost use Rattle.std.specs.Prelude.{◌≡◌, ◌^◌, ◌<◌, ◌++◌, ℕ, All, length, sum_by, codes, OnOk, IfOk};
 ghost use Rattle.std.specs.Fmt.{decimal};
 ghost use Rattle.std.specs.List.{flat_map};
-ghost use Rattle.driver.specs.Prelude.{Setting, Moment, Closes, ClosesSome, IsSessionText, IsPlaceOfObject, addresses_of, HeapState, heap_state, IsAddress, ended, session_lines, live_line, held_line, kinds_line, map_line, place_line, place_in};
+ghost use Rattle.driver.specs.Prelude.{Setting, Moment, Closes, ClosesSome, IsSessionText, IsPlaceOfObject, addresses_of, HeapState, heap_state, IsAddress, ended, session_lines, live_line, held_line, kinds_line, map_line, place_line, place_in, AreRoots, AreLivePlaces};
 
 use crate::session_runs::text_of_replies;
-use heap_graph::{Place, graph};
+use heap_graph::{Place, graph, reachable};
 use heap_layout::{BLOCK_WORDS, Kind, Layout};
 use mm_runtime::Manager;
 use object_model::Heap;
@@ -150,6 +150,23 @@ fn print_map(heap: &Heap, live: &[Place], to: &mut Vec<u8>) -> Result<(), AllocE
     Ok(())
 }
 
+// The places of the live objects, for a map in rising order of names.
+pub(crate) fn live_places(
+    alloc: Global,
+    heap: &Heap,
+    roots: &[u32],
+    for_map: bool,
+) -> Result<Vec<Place>, AllocError>
+    requires { AreRoots (heap_state heap.now) roots.now }
+    ensures { IfOk result (λ v. AreLivePlaces (heap_state heap.now) roots.now for_map v.items) }
+{
+    if for_map {
+        graph(alloc, heap, roots)
+    } else {
+        reachable(alloc, heap, roots)
+    }
+}
+
 /// The text of a session so far: the replies of each mutator, the report, and the map if it is
 /// asked for. Once every command has its reply, it is that of the whole session.
 ///
@@ -165,7 +182,7 @@ pub fn session_text<P: Plan>(
 {
     let heap = manager.heap();
     let registers = manager.registers()?;
-    let live = graph(alloc, heap, &registers)?;
+    let live = live_places(alloc, heap, &registers, has_map)?;
     let mut text = text_of_replies(alloc, manager)?;
     print_session(manager, &mut text)?;
     print_objects(heap, &live, &mut text)?;

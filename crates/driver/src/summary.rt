@@ -5,8 +5,7 @@ ghost use Rattle.std.specs.Fmt.{decimal};
 ghost use Rattle.std.specs.List.{flat_map};
 ghost use Rattle.driver.specs.Prelude.{AnyReply, Setting, Moment, Closes, ClosesSome, IsSummary, AreLive, AreCounts, counts_part, live_line, ended};
 
-use crate::report::{print_line, print_live, print_pair};
-use heap_graph::graph;
+use crate::report::{live_places, print_line, print_live, print_pair};
 use made_trace::ReplyCounts;
 use mm_runtime::Manager;
 use plan_api::Plan;
@@ -59,7 +58,7 @@ fn print_live_of<P: Plan>(
         × (to.new.items ≡ to.old.items ++ live_line last.heap live)) }
 {
     let registers = manager.registers()?;
-    let live = graph(alloc, manager.heap(), &registers)?;
+    let live = live_places(alloc, manager.heap(), &registers, false)?;
     print_live(&live, to)
 }
 

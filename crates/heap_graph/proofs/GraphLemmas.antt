@@ -17,7 +17,7 @@ use Rattle.object_model.specs.Objects.{HeapState, global_at, IsHeld, name_at, re
 use Rattle.object_model.specs.Lawful.{IsWellFormed}
 use Rattle.object_model.specs.Graphs.{IsReachable, from_root, from_global, from_field}
 use Rattle.object_model.proofs.References.{refers-some}
-use Rattle.heap_graph.specs.Places.{IsPlaceOfObject, IsGraphOf, addresses_of}
+use Rattle.heap_graph.specs.Places.{AreReached, IsPlaceOfObject, IsGraphOf, addresses_of}
 use Rattle.heap_graph.specs.Walks.{is_among, Adds, HasFields, ClosesFields}
 use Rattle.heap_graph.proofs.WalkLemmas.{among-more}
 
@@ -83,20 +83,32 @@ names-differ s order places held each apart i j d less inside =
     let names : name_at s p.at ≡ name_at s q.at = sym (each i d before).name ∙ same ∙ (each j d inside).name in
     AllPairs-from_IsDistinct Decides-eqb (addresses_of places) apart i j 0 less far (p_at ∙ order.objects.names p.at q.at p_held q_held names ∙ sym q_at)
 
-pub is-graph : (s : HeapState) → IsWellFormed s → (roots first second : List ℕ) (found places : List Place)
+pub are-reached : (s : HeapState) → (roots first second : List ℕ) (found : List Place)
     → Adds (λ i. slice_index roots i) (length roots) [] first → Adds (global_at s) 16 first second → ClosesFields s (length (addresses_of found)) second (addresses_of found)
     → All (IsHeld s) (addresses_of found) → All (IsPlaceOfObject s) found → IsDistinct nat_eq (addresses_of found)
+    → AreReached s roots found
+are-reached s roots first second found from_roots from_globals closes held each apart = record {
+  reached = λ a. (
+    arrives-contained s roots first second (addresses_of found) from_roots from_globals closes a,
+    contained-arrives s roots first second (addresses_of found) from_roots from_globals closes a,
+  );
+  held = held;
+  each = each;
+  apart = apart;
+}
+
+pub is-graph : (s : HeapState) → IsWellFormed s → (roots : List ℕ) (found places : List Place) → AreReached s roots found
     → IsPermutation found places → IsSortedByKey (λ p. p.name) compare places
     → IsGraphOf s roots places
-is-graph s order roots first second found places from_roots from_globals closes held each apart moved sorted =
+is-graph s order roots found places all moved sorted =
     let moved_addresses : IsPermutation (addresses_of found) (addresses_of places) = IsPermutation-map (λ p. p.at) found places moved in
-    let placed : All (IsPlaceOfObject s) places = All-permutation (IsPlaceOfObject s) found places moved each in
-    let differ : AllPairs (λ p q. p.name ≢ q.name) places = names-differ s order places (All-permutation (IsHeld s) _ _ moved_addresses held) placed
-    (IsDistinct-IsPermutation nat_eq nat_eq_equiv.symm _ _ moved_addresses apart) in
+    let placed : All (IsPlaceOfObject s) places = All-permutation (IsPlaceOfObject s) found places moved all.each in
+    let differ : AllPairs (λ p q. p.name ≢ q.name) places = names-differ s order places (All-permutation (IsHeld s) _ _ moved_addresses all.held) placed
+    (IsDistinct-IsPermutation nat_eq nat_eq_equiv.symm _ _ moved_addresses all.apart) in
     record {
       reached = λ a. (
-        λ arrives. Contains-permutation _ _ a moved_addresses (arrives-contained s roots first second (addresses_of found) from_roots from_globals closes a arrives),
-        λ there. contained-arrives s roots first second (addresses_of found) from_roots from_globals closes a (Contains-permutation _ _ a (IsPermutation-sym _ _ moved_addresses) there),
+        λ arrives. Contains-permutation _ _ a moved_addresses ((all.reached a).0 arrives),
+        λ there. (all.reached a).1 (Contains-permutation _ _ a (IsPermutation-sym _ _ moved_addresses) there),
       );
       each = placed;
       rise = λ i j d less inside. rise (λ p. p.name) places sorted i j d less inside (differ i j d less inside);

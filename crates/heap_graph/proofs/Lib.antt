@@ -1,2 +1,3 @@
 mod WalkLemmas
 mod GraphLemmas
+pub mod SortedPlaces

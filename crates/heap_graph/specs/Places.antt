@@ -1,9 +1,9 @@
 -- The list of the objects that are reachable from roots and globals.
-use Rattle.std.specs.Prelude.{◌≡◌, ℕ, ◌↔◌, List, map}
-use Rattle.std.specs.List.{All, AllPairs, Contains}
+use Rattle.std.specs.Prelude.{◌≡◌, ℕ, ◌↔◌, List, map, nat_eq}
+use Rattle.std.specs.List.{All, AllPairs, Contains, IsDistinct}
 use Rattle.ideal_heap.specs.Names.{IsBefore}
 use Rattle.heap_graph.specs.declared.place.Place.{Place}
-use Rattle.object_model.specs.Objects.{HeapState, name_at, size_at}
+use Rattle.object_model.specs.Objects.{HeapState, IsHeld, name_at, size_at}
 use Rattle.object_model.specs.Graphs.{IsReachable}
 
 abbrev pub addresses_of : List Place → List ℕ
@@ -13,6 +13,13 @@ addresses_of places = map (λ p. p.at) places
 pub record IsPlaceOfObject (s : HeapState) (p : Place) : Type 0 where
   pub name : p.name ≡ name_at s p.at
   pub size : p.size ≡ size_at s p.at
+
+-- the places are those of all reachable objects and of no others, each once, in any order
+pub record AreReached (s : HeapState) (roots : List ℕ) (places : List Place) : Type 0 where
+  pub reached : (a : ℕ) → IsReachable s roots a ↔ Contains (addresses_of places) a
+  pub held : All (IsHeld s) (addresses_of places)
+  pub each : All (IsPlaceOfObject s) places
+  pub apart : IsDistinct nat_eq (addresses_of places)
 
 -- The places are those of all reachable objects and of no others, each once, in rising order of
 -- names.

@@ -6,5 +6,5 @@ mod object_graph;
 mod place;
 mod walk;
 
-pub use object_graph::graph;
+pub use object_graph::{graph, reachable};
 pub use place::Place;

@@ -25,7 +25,7 @@ fn global_at(heap: &Heap, global: u32) -> u32
     ensures value { result ≡ global_word_at (heap_state heap.now) global }
     ensures root { IsRoot (heap_state heap.now) result }
 {
-    heap.words()[heap.layout().global_at(global) as usize] as u32
+    heap.words().get(heap.layout().global_at(global) as usize) as u32
 }
 
 impl Walk {
