@@ -5,3 +5,4 @@ pub mod AwaitedPackets
 pub mod DealtPackets
 pub mod Ends
 pub mod Reached
+pub mod Balances

@@ -15,7 +15,7 @@ no-truth : true ≡ false → ⊥
 no-truth e = cc
 
 -- a bucket that is not before another one is the same or later, and not both
-one-of-two : (b c : Bucket) → is_before c b ≡ false → cond (is_same b c) 1 0 + cond (is_before b c) 1 0 ≡ 1
+pub one-of-two : (b c : Bucket) → is_before c b ≡ false → cond (is_same b c) 1 0 + cond (is_before b c) 1 0 ≡ 1
 one-of-two Prepare Prepare e = refl
 one-of-two Prepare Roots e = refl
 one-of-two Prepare Closure e = refl

@@ -57,3 +57,14 @@ pub fn workers_are_reached<T, W: PacketWorker<T>>()
         → sum_by f work.after
         ≡ sum_by f work.before + length (ran_by_all work.logs) }
 {}
+
+/// What workers give away with packets and take in with packets is balanced, where a step gives
+/// what the packets that it pushes carry, and takes what the packet that it runs carries.
+pub fn packets_carry_a_balance<T, W: PacketWorker<T>>()
+    ensures { (gave took : W → ℕ) (carried : Packet T → ℕ) → ((w v : W) (p : Packet T)
+        (q : List (Packet T)) → W.steps w p q v
+        → (gave v ≡ gave w + sum_by carried q) × (took v ≡ took w + carried p))
+        → (work : BucketWork W T) → RunsBucket W.steps work
+        → sum_by took work.after + sum_by gave work.before + sum_by carried work.later
+        ≡ sum_by gave work.after + sum_by took work.before + sum_by carried work.first }
+{}

@@ -10,7 +10,10 @@ mod share;
 mod worker;
 
 pub use gate::{Gate, OpenGate, Point};
-pub use laws::{buckets_have_an_order, packets_are_small, runs_lose_nothing, workers_are_reached};
+pub use laws::{
+    buckets_have_an_order, packets_are_small, packets_carry_a_balance, runs_lose_nothing,
+    workers_are_reached,
+};
 pub use packet::{Bucket, MAX_ITEMS, Packet};
 pub use plain_split::run_plain_split;
 pub use share::{Share, deal};
