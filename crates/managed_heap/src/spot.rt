@@ -23,7 +23,7 @@ pub(crate) struct Spot {
 /// Gives the block of a spot its word, if it is Free.
 fn take_block<P: Plan>(row: Row, spot: &Spot, size: u32) -> Row
     requires plan { IsManaged P.rules }
-    requires extent { IsRowOf row.layout row.words.items }
+    requires extent { IsRowOf row.layout row.words }
     requires block { spot.now.block < (state_of row).blocks }
     requires least { 3 ≤ size }
     requires most { size ≤ MAX_MEDIUM_WORDS }
@@ -44,7 +44,7 @@ fn take_block<P: Plan>(row: Row, spot: &Spot, size: u32) -> Row
 
 /// Makes `count` Free blocks, from `block` on, the run of a large object.
 fn take_run(row: Row, block: u32, count: u32) -> Row
-    requires extent { IsRowOf row.layout row.words.items }
+    requires extent { IsRowOf row.layout row.words }
     requires least { 1 ≤ count }
     requires most { count ≤ 15 }
     requires free { IsFreeRun (state_of row) block count }
@@ -58,7 +58,7 @@ fn take_run(row: Row, block: u32, count: u32) -> Row
 /// Gives the blocks of a spot their words, where they are Free.
 pub(crate) fn take_spot<P: Plan>(row: Row, spot: &Spot, size: u32) -> Row
     requires plan { IsManaged P.rules }
-    requires extent { IsRowOf row.layout row.words.items }
+    requires extent { IsRowOf row.layout row.words }
     requires least { 3 ≤ size }
     requires most { size ≤ size_of MAX_REFS MAX_NUMS }
     requires place { IsPlaceForSize P.rules.fill (state_of row) size spot.now }

@@ -32,12 +32,13 @@ impl<P: Plan> ManagedHeap<P> {
         }
     }
 
-    /// Ends the epoch. Takes no memory.
+    /// Ends the epoch, and hands on the list that collections use for their roots. Takes no memory.
     pub(crate) fn stop(&mut self) -> Option<StoppedHeap<P>>
         requires usable { IsUsable P.rules self.old }
         ensures lost { self.new ≡ record self.old { world = None; roots = self.new.roots } }
         ensures some { result ≡ None → ⊥ }
         ensures ends { IfSome result (λ s. EndsWith P.rules self.old s) }
+        ensures roots { IfSome result (λ s. s.roots ≡ self.old.roots) }
     {
         let world = self.world.take()?;
         let (heap, mutators, notes) = world.close_with();
@@ -61,6 +62,7 @@ impl<P: Plan> ManagedHeap<P> {
         requires seats { seats.items ≡ replicate (stopped_count stopped) empty_seat }
         ensures begins { BeginsWith P.rules stopped self.new }
         ensures used { words_used self.new ≡ words_used self.old }
+        ensures roots { self.new.roots ≡ stopped.roots }
     {
         let Parts {
             heap,
