@@ -16,5 +16,3 @@ mod plan_tests;
 mod report_tests;
 #[cfg(test)]
 mod test_runs;
-#[cfg(test)]
-mod top_tests;

@@ -49,18 +49,25 @@ const LISTS: &str = "new r0 1 1;new r1 1 1;put r1 0 r0;drop r0;new r2 1 1;new r3
 const SESSIONS: [(&[&str], u32, &str, &str); 34] = [
     (ALL, 4, FIRST, "new 1.1;ok;num 7;nil"),
     (ALL, 4, "", ""),
+    // Numbers, and what is refused for nil and for an index that is too large.
     (
         ALL,
         4,
-        "read r3 0;new r0 1 2;read r0 9;read r0 2;get r1 r0 1;pin r3",
-        "null;new 1.1;range;range;range;null",
+        "read r3 0;write r3 0 1;add r3 0 1;swap r3 0 0 1;new r0 1 2;read r0 1;read r0 2;read r0 9;\
+        write r0 2 1;add r0 2 1;swap r0 2 0 1;write r0 1 18446744073709551615;add r0 1 3;\
+        add r0 1 4;swap r0 1 5 7;read r0 1;swap r0 1 6 8;read r0 1;read r0 0",
+        "null;null;null;null;new 1.1;num 0;range;range;range;range;range;ok;\
+        num 18446744073709551615;num 2;no;num 6;yes;num 8;num 0",
     ),
+    // References. A nil field clears the register.
     (
         ALL,
         4,
-        "new r0 0 1;write r0 0 18446744073709551615;add r0 0 1;read r0 0;swap r0 0 1 5;\
-        swap r0 0 0 5;read r0 0",
-        "new 1.1;ok;num 18446744073709551615;num 0;no;yes;num 5",
+        "get r1 r3 0;put r3 0 r0;new r0 2 0;new r1 0 1;put r0 2 r1;get r2 r0 2;put r1 0 r1;\
+        put r0 1 r1;get r2 r0 1;write r2 0 9;read r1 0;put r0 0 r0;get r3 r0 0;put r0 1 r9;\
+        get r2 r0 1;read r2 0;read r1 0",
+        "null;null;new 1.1;new 1.2;range;range;range;ok;ref 1.2;ok;num 9;ok;ref 1.1;ok;nil;null;\
+        num 9",
     ),
     // A cycle is reached through either object, and is garbage before the second collection.
     (
@@ -79,9 +86,9 @@ const SESSIONS: [(&[&str], u32, &str, &str); 34] = [
     (
         ALL,
         4,
-        "load r1 g0;new r0 0 0;share g15 r0;drop r0;pin r0;load r2 g15;move r3 r2;pin r3;pin r2;\
-        unpin r3;unpin r2;meet;share g15 r0;load r2 g15",
-        "nil;new 1.1;ok;ok;null;ref 1.1;ok;yes;no;yes;no;ok;ok;nil",
+        "load r1 g0;new r0 0 0;share g15 r0;drop r0;pin r0;unpin r0;load r2 g15;move r3 r2;pin r3;\
+        pin r2;unpin r3;unpin r2;meet;share g15 r0;load r2 g15;move r3 r2;read r3 0",
+        "nil;new 1.1;ok;ok;null;null;ref 1.1;ok;yes;no;yes;no;ok;ok;nil;ok;null",
     ),
     // A pinned object and its neighbour.
     (
@@ -196,12 +203,13 @@ const SESSIONS: [(&[&str], u32, &str, &str); 34] = [
         "new 1.1;yes;new 1.2;new 1.3;yes;new 1.4;ok;yes;ok;ok;full;ok;ok;ok;yes;yes;ok;new 1.5;\
         num 3",
     ),
-    // An object is handed over at a `meet`.
+    // An object is handed over at a `meet`, and pinned by the other mutator.
     (
         ALL,
         4,
-        "new r0 0 1;write r0 0 5;share g0 r0;meet|meet;load r1 g0;read r1 0",
-        "new 1.1;ok;ok;ok|ok;ref 1.1;num 5",
+        "new r0 0 1;write r0 0 5;share g0 r0;meet;meet;pin r0;read r0 0\
+        |meet;new r0 0 1;load r1 g0;add r1 0 1;pin r1;meet",
+        "new 1.1;ok;ok;ok;ok;no;num 6|ok;new 2.1;ref 1.1;num 5;yes;ok",
     ),
     // Objects that one mutator makes, and another reads when collections have moved them.
     (

@@ -1,10 +1,8 @@
-//! Tests of grants, of an empty heap and of flags.
+//! Tests of grants.
 
-use bitflags::Flags;
-use heap_layout::{Kind, Layout};
+use heap_layout::Layout;
 use immix_space::headroom;
-use object_model::Heap;
-use plan_api::{BlockCounts, PlanFlags, Reserve, block_counts, fits_small, has_hole, view};
+use plan_api::{BlockCounts, Reserve};
 use std::test::Fail;
 
 /// Blocks, Free blocks and blocks of large objects under a reserve, and what is wanted: headroom,
@@ -48,34 +46,5 @@ fn figures(rt: HostRuntime) -> Result<(), Fail> {
         let want = ((held_back, held_back), (allowance, grants), true, false);
         assert_eq!(rt; seen, want, "of {blocks} and {free}");
     }
-    Ok(())
-}
-
-#[test]
-fn empty_heap(rt: HostRuntime) -> Result<(), Fail> {
-    let heap = Heap::new(rt.alloc(), Layout::new(5)?)?;
-    let counts = block_counts(&heap);
-    let figures = (counts.blocks, counts.free, counts.large);
-    let seen = view(&heap, 4);
-    let fits = (
-        has_hole(&heap, Kind::Bump, 3),
-        fits_small(&heap, Kind::Bump, Reserve::Copies, 2048),
-    );
-    assert_eq!(rt; (figures, fits), ((5, 5, 0), (false, true)));
-    assert_eq!(rt;
-        (seen.word.kind, seen.end, seen.lines, seen.starts),
-        (Kind::Free, 0, [0; 4], [0; 64])
-    );
-    Ok(())
-}
-
-#[test]
-fn flags(rt: HostRuntime) -> Result<(), Fail> {
-    let both = PlanFlags::MOVES.union(PlanFlags::LINES);
-    let has = (
-        both.contains(PlanFlags::LINES),
-        both.contains(PlanFlags::YOUNG),
-    );
-    assert_eq!(rt; (both.bits(), has), (5, (true, false)));
     Ok(())
 }

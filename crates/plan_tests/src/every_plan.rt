@@ -29,73 +29,35 @@ type EmptyHeap = (u32, u32, bool);
 /// The kind, class and line bits of a block with objects of 3 words at its start and at an offset.
 type Block = (Kind, u32, [u64; 4], u32);
 
-/// A block, the offset from which a hole for so many words is looked for, and the first hole.
+/// A block, the offset from which a hole for so many words is looked for, and the first hole. More
+/// blocks are searched in `searches`.
 type Hole = (Block, u32, u32, Option<(u32, u32)>);
 
 const TAIL: Block = (Kind::Bump, 0, [0; 4], 1997);
 
-const TAILS: [Hole; 4] = [
-    (TAIL, 0, 3, Some((2000, 4096))),
+const TAILS: [Hole; 2] = [
     (TAIL, 0, 2048, Some((2000, 4096))),
-    (TAIL, 2048, 2048, Some((2048, 4096))),
     (TAIL, 2049, 2048, None),
 ];
 
 const YOUNG: Block = (Kind::Young, 0, [0; 4], 1997);
 
-const YOUNG_TAILS: [Hole; 4] = [
-    (YOUNG, 0, 3, Some((2000, 4096))),
-    (YOUNG, 2048, 2048, Some((2048, 4096))),
-    (YOUNG, 2049, 2048, None),
-    (TAIL, 0, 3, None),
-];
+const YOUNG_TAILS: [Hole; 2] = [(YOUNG, 0, 3, Some((2000, 4096))), (TAIL, 0, 3, None)];
 
-// Blocks of cells of 4, 96 and 2,048 words, of which the first two are taken.
-const SMALL: Block = (Kind::Cells, 0, [0; 4], 4);
-
+// A block of cells of 96 words, of which the first two are taken.
 const MIDDLE: Block = (Kind::Cells, 9, [0; 4], 96);
 
-const LARGE: Block = (Kind::Cells, 18, [0; 4], 2048);
-
-const CELLS: [Hole; 6] = [
-    (SMALL, 0, 3, Some((8, 12))),
-    (SMALL, 9, 4, Some((12, 16))),
-    (SMALL, 0, 5, None),
-    (MIDDLE, 0, 96, Some((192, 288))),
-    (MIDDLE, 3937, 96, None),
-    (LARGE, 0, 2048, None),
-];
+const CELLS: [Hole; 2] = [(MIDDLE, 0, 96, Some((192, 288))), (MIDDLE, 3937, 96, None)];
 
 const ALL: u64 = u64::MAX;
 
-const CLEAR: Block = (Kind::Immix, 0, [0; 4], 0);
+// Lines 62 to 65 are clear, over the end of a word.
+const HOLE: Block = (Kind::Immix, 0, [ALL >> 2, ALL << 2, ALL, ALL], 0);
 
-const MARKED: Block = (Kind::Immix, 0, [ALL; 4], 0);
-
-// Line 1 is clear, and lines 3 to 254 are.
-const HOLES: Block = (Kind::Immix, 0, [0b101, 0, 0, 1 << 63], 0);
-
-const LAST: Block = (Kind::Immix, 0, [ALL, ALL, ALL, ALL >> 1], 0);
-
-// Two lines are clear, over the end of a word.
-const TWO: Block = (Kind::Immix, 0, [ALL >> 1, ALL << 1, ALL, ALL], 0);
-
-const KEPT: Block = (Kind::Kept, 0, [0; 4], 0);
-
-const LINES: [Hole; 13] = [
-    (CLEAR, 0, 2048, Some((0, 4096))),
-    (CLEAR, 2049, 2048, None),
-    (MARKED, 0, 3, None),
-    (HOLES, 0, 16, Some((16, 32))),
-    (HOLES, 0, 17, Some((48, 4080))),
-    (HOLES, 17, 3, Some((48, 4080))),
-    (HOLES, 4065, 3, None),
-    (LAST, 0, 16, Some((4080, 4096))),
-    (LAST, 0, 17, None),
-    (TWO, 0, 32, Some((1008, 1040))),
-    (TWO, 0, 33, None),
+const LINES: [Hole; 3] = [
+    (HOLE, 0, 64, Some((992, 1056))),
+    (HOLE, 0, 65, None),
     (TAIL, 0, 3, None),
-    (KEPT, 0, 3, None),
 ];
 
 fn profile_of<P: Plan>() -> Profile {

@@ -12,6 +12,7 @@ use object_model::{Collect, Heap, Row, lawful_heaps};
 use plan_api::Plan;
 use plans::Immix;
 use std::alloc::{AllocError, Global};
+use std::process::Abort;
 use std::test::Fail;
 
 /// The row with an object of 23 words at the start of block 0, and its two lines marked.
@@ -20,10 +21,10 @@ fn with_object(mut row: Row) -> Row
     ensures { state_of result
         ≡ with_first_object (with_lines (one_block kinds.Immix 0) 3) 20 }
 {
-    row.words[22] = 3;
-    row.words[38] = 1;
-    row.words[806] = 33;
-    row.words[807] = 65_536 * 20;
+    row.words.set(22, 3);
+    row.words.set(38, 1);
+    row.words.set(806, 33);
+    row.words.set(807, 65_536 * 20);
     row
 }
 
@@ -70,35 +71,40 @@ fn asks(heap: &Heap, allowance: u32, fit: [bool; 4]) -> bool {
     Immix::allowance(heap) == allowance && seen == fit
 }
 
-// Blocks are taken one after another, of an empty heap and of one with lines, in which a hole is
-// left at the end. Its block 0 has two marked lines, so it is evacuated as long as some block is
-// Free.
+/// Whether a full collection comes first, which evacuates block 0 or no block.
+fn evacuates(alloc: Global, heap: &Heap, first: bool) -> Result<bool, AllocError> {
+    let from = Immix::from_blocks(alloc, heap, Collect::Full)?;
+    let is_wanted = from.as_slice() == [first, false, false, false].as_slice();
+    Ok(is_wanted && Immix::kind(heap) == Collect::Full)
+}
+
+/// The blocks of a heap are taken one after another. With `lines` a hole is left at the end, and
+/// block 0 is evacuated as long as some block is Free.
+fn take_all(rt: &impl Abort, alloc: Global, mut heap: Heap, lines: bool) -> Result<(), AllocError> {
+    for (block, allowance) in [(0, 2), (1, 1), (2, 0), (3, 0)] {
+        heap = take(heap, block);
+        let fit = [lines || block < 2, lines || block < 2, block < 2, false];
+        assert!(rt;
+            asks(&heap, allowance, fit) && evacuates(alloc, &heap, lines && block < 3)?,
+            "{block}"
+        );
+    }
+    Ok(())
+}
+
+// Of an empty heap, and of one whose block 0 has two marked lines.
 #[test]
 fn taken_blocks(rt: HostRuntime) -> Result<(), Fail> {
-    let mut heap = Heap::new(rt.alloc(), Layout::new(4)?)?;
-    let mut lines = heap_of_lines(rt.alloc(), Layout::new(4)?)?;
+    take_all(
+        &rt,
+        rt.alloc(),
+        Heap::new(rt.alloc(), Layout::new(4)?)?,
+        false,
+    )?;
+    let lines = heap_of_lines(rt.alloc(), Layout::new(4)?)?;
     let first = moves(&lines, &[true, false, false, false]);
     let others = moves(&lines, &[false, true, true, true]);
     assert!(rt; first == Some(true) && others == Some(false));
-    for (block, allowance, large, first) in [
-        (0, 2, true, true),
-        (1, 1, true, true),
-        (2, 0, false, true),
-        (3, 0, false, false),
-    ] {
-        heap = take(heap, block);
-        lines = take(lines, block);
-        let from = Immix::from_blocks(rt.alloc(), &lines, Collect::Full)?;
-        assert!(rt; from.as_slice() == [first, false, false, false].as_slice());
-        assert!(rt;
-            asks(&heap, allowance, [large, large, large, false]),
-            "{block}"
-        );
-        assert!(rt;
-            asks(&lines, allowance, [true, true, large, false]),
-            "{block}"
-        );
-        assert!(rt; Immix::kind(&lines) == Collect::Full);
-    }
+    take_all(&rt, rt.alloc(), lines, true)?;
     Ok(())
 }

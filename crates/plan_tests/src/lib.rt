@@ -5,11 +5,7 @@
 #[cfg(test)]
 mod candidates;
 #[cfg(test)]
-mod copy_sweeps;
-#[cfg(test)]
 mod counts;
-#[cfg(test)]
-mod cursors;
 #[cfg(test)]
 mod every_plan;
 #[cfg(test)]

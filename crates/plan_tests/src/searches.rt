@@ -180,24 +180,36 @@ const RUNS: [(&[u32], u32, u32, u32); 7] = [
     (&[0, 1, 2, 3, 4, 5, 6, 7], 0, 0, 0),
 ];
 
+/// Whether objects of so many words fit or not, by runs and by the plan's test.
+fn fit_as(heap: &Heap, reserve: Reserve, size: u32, fit: bool) -> bool {
+    if size <= 2048 || size > 61_027 {
+        return false;
+    }
+    has_run(heap, reserve, size) == fit && fits(heap, Kind::Bump, reserve, size) == fit
+}
+
+/// Whether runs of up to so many blocks alone fit, and objects that need them.
+fn longest_is(heap: &Heap, reserve: Reserve, longest: u32) -> bool {
+    for count in 1..10 {
+        let fit = count <= longest;
+        if !fit_as(heap, reserve, 4096 * count, fit) {
+            return false;
+        }
+        if !fit_as(heap, reserve, 4096 * count - 2000, fit) {
+            return false;
+        }
+    }
+    true
+}
+
 #[test]
 fn runs(rt: HostRuntime) -> Result<(), Fail> {
     for (used, nothing, copies, headroom) in RUNS {
         let heap = heap_with(rt.alloc(), used)?;
-        for (reserve, longest) in [
-            (Reserve::Nothing, nothing),
-            (Reserve::Copies, copies),
-            (Reserve::Headroom, headroom),
-        ] {
-            for count in 1..10 {
-                let fit = (count as u32) <= longest;
-                for size in [4096 * count, 4096 * count - 2000] {
-                    assert!(rt; 2048 < size && size <= 61027);
-                    assert!(rt; has_run(&heap, reserve, size) == fit, "{size}");
-                    assert!(rt; fits(&heap, Kind::Bump, reserve, size) == fit, "{size}");
-                }
-            }
-        }
+        let are_wanted = longest_is(&heap, Reserve::Nothing, nothing)
+            && longest_is(&heap, Reserve::Copies, copies)
+            && longest_is(&heap, Reserve::Headroom, headroom);
+        assert!(rt; are_wanted, "{used:?}");
     }
     Ok(())
 }

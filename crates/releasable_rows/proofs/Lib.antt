@@ -1,3 +1,2 @@
 pub mod TestedBlocks
 pub mod ReleasableBlocks
-pub mod ReleaseTests

@@ -89,7 +89,7 @@ type Random = (Under, u64, u32, usize, bool, (u64, u64), bool);
 
 // Heaps that are collected again and again, and refuse some objects. Objects of any size have 3 to
 // 61,027 words.
-const FULL_HEAPS: [Random; 11] = [
+const FULL_HEAPS: [Random; 12] = [
     (Under::SemiSpace, 1, 7, 100_000, false, (0, 100), true),
     (Under::SemiSpace, 2, 8, 100_000, false, (0, 100), true),
     (Under::NoGc, 3, 32, 20_000, true, (0, 200), true),
@@ -100,6 +100,7 @@ const FULL_HEAPS: [Random; 11] = [
     (Under::Immix, 64, 64, 50_000, true, (0, 10), true),
     (Under::GenCopy, 3, 32, 20_000, true, (100, 200), true),
     (Under::StickyImmix, 4, 4, 50_000, true, (1_500, 2_000), true),
+    (Under::StickyImmix, 8, 8, 50_000, true, (900, 1_500), true),
     (Under::StickyImmix, 3, 64, 50_000, true, (200, 100), true),
 ];
 

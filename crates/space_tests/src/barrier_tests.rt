@@ -1,9 +1,8 @@
 //! Tests of the write barrier, beside bits and words worked out by hand.
 
 use heap_layout::Layout;
-use object_model::Heap;
 use std::test::Fail;
-use write_barrier::{is_unlogged, log, logged, must_log};
+use write_barrier::{is_unlogged, log, must_log};
 
 // Of a heap of 4 blocks, whose first address is 806 and whose unlog bits begin at word 550: at both
 // ends of words of bits, of blocks and of the heap, and at offset 4,093, the last of an object.
@@ -56,12 +55,5 @@ fn old_objects_with_their_bit_must_be_logged(rt: HostRuntime) -> Result<(), Fail
         let found = must_log(&words, &layout, base, 806);
         assert_eq!(rt; found, want, "base {base}, number {number}, bits {bits}");
     }
-    Ok(())
-}
-
-#[test]
-fn empty_heap_has_none(rt: HostRuntime) -> Result<(), Fail> {
-    let heap = Heap::new(rt.alloc(), Layout::new(4)?)?;
-    assert!(rt; logged(rt.alloc(), &heap)?.is_empty());
     Ok(())
 }

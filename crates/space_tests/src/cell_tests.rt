@@ -122,77 +122,21 @@ fn found(
     ])
 }
 
-/// Classes, the sizes of their cells, and the offset of a cell: the first, one between or the last,
-/// of sizes that divide a block and of sizes that don't.
-const FREE_CELLS: [(u32, u32, u32); 31] = [
-    (0, 4, 0),
-    (0, 4, 2056),
-    (0, 4, 4092),
-    (1, 6, 0),
-    (1, 6, 66),
-    (1, 6, 4086),
-    (2, 8, 4088),
-    (3, 12, 60),
-    (3, 12, 72),
-    (3, 12, 4080),
-    (4, 16, 4080),
-    (5, 24, 72),
-    (5, 24, 4056),
-    (6, 32, 4064),
-    (7, 48, 48),
-    (7, 48, 96),
-    (7, 48, 4032),
-    (8, 64, 64),
-    (8, 64, 4032),
-    (9, 96, 96),
-    (9, 96, 3936),
-    (10, 128, 3968),
-    (11, 192, 3840),
-    (12, 256, 3840),
-    (13, 384, 3456),
-    (14, 512, 3584),
-    (15, 768, 3072),
-    (16, 1024, 3072),
-    (17, 1536, 1536),
-    (18, 2048, 0),
-    (18, 2048, 2048),
-];
-
+// Each class, with the first cell free, one between and the last. Some sizes divide a block, and
+// some don't.
 #[test]
 fn one_free_cell(rt: HostRuntime) -> Result<(), Fail> {
     let layout = Layout::new(4)?;
-    for (class, size, offset) in FREE_CELLS {
-        let found = found(rt.alloc(), &layout, class, size, offset)?;
-        assert!(rt;
-            found == [Some(offset), Some(offset), None],
-            "{offset} of {class}"
-        );
-    }
-    Ok(())
-}
-
-/// Classes, where the search begins in an empty block, and what it finds. It begins at the end of a
-/// block, and beyond it, too.
-const SEARCHES: [(u32, u32, Option<u32>); 10] = [
-    (0, 0, Some(0)),
-    (0, 1, Some(4)),
-    (0, 4092, Some(4092)),
-    (0, 4093, None),
-    (1, 4081, Some(4086)),
-    (1, 4087, None),
-    (18, 1, Some(2048)),
-    (18, 2049, None),
-    (17, 1537, None),
-    (3, u32::MAX, None),
-];
-
-#[test]
-fn empty_blocks(rt: HostRuntime) -> Result<(), Fail> {
-    let layout = Layout::new(4)?;
-    for (class, from, want) in SEARCHES {
-        let words = row_of_cells(rt.alloc(), &layout, class)?;
-        let found = next_from(&words, &layout, class, from);
-        assert!(rt; found == want, "{class} from {from}");
+    for (class, _, size) in CLASSES {
+        let cells = BLOCK_WORDS.checked_div(size).unwrap_or(0);
+        for cell in [0, cells / 2, cells.saturating_sub(1)] {
+            let offset = cell.saturating_mul(size);
+            let found = found(rt.alloc(), &layout, class, size, offset)?;
+            assert!(rt;
+                found == [Some(offset), Some(offset), None],
+                "{offset} of {class}"
+            );
+        }
     }
     Ok(())
 }

@@ -1,4 +1,4 @@
-//! Tests of the search for runs, of placing and of sweeps, on rows of 8 blocks and of 16.
+//! Tests of the search for runs, of placing and of sweeps, on rows of 8 blocks.
 
 ghost use Rattle.std.specs.Prelude.{◌≡◌, ◌%◌, ◌<◌, IsTrue, length};
 ghost use Rattle.heap_layout.specs.Zones.{IsRowOf};
@@ -197,29 +197,5 @@ fn swept_runs(rt: HostRuntime) -> Result<(), Fail> {
     let wrong = first_wrong(&words, FIRST_FREED);
     let again = place_lowest(&mut words, &layout, 2);
     assert!(rt; are && wrong.is_none() && again == Some(1));
-    Ok(())
-}
-
-// 60,003 words, the most numbers that an object has, need 15 blocks, the most that a run has.
-const LONGEST: &[(u32, Option<u32>)] = &[(15, Some(1)), (1, None)];
-
-const LONGEST_HEAD: &[u64] = &[1, 3846, 7, 7, 7, 7, 7, 7, 7, 7, 7, 7, 7, 7, 7, 7, 0];
-
-const LONGEST_SWEEPS: &[(u32, u64, Option<bool>)] = &[(1, 1, Some(false)), (1, 2, Some(true))];
-
-// The words of the first two blocks and the last, and the object's start, pin and unlog bits.
-const LONGEST_FREED: &[(usize, u64)] = &[(19, 0), (20, 0), (33, 0), (162, 0), (1186, 0), (2210, 0)];
-
-#[test]
-fn longest_run(rt: HostRuntime) -> Result<(), Fail> {
-    let layout = Layout::new(16)?;
-    let mut words = row_of_used(rt.alloc(), &layout, 1)?;
-    let are_placed = are_placed(&mut words, &layout, LONGEST);
-    let has_head = words.get(18..35) == Some(LONGEST_HEAD);
-    write_object(&mut words, &layout, 1, 60_000, 1);
-    let are_swept = are_swept(&mut words, &layout, LONGEST_SWEEPS);
-    let wrong = first_wrong(&words, LONGEST_FREED);
-    let again = place_lowest(&mut words, &layout, 15);
-    assert!(rt; are_placed && has_head && are_swept && wrong.is_none() && again == Some(1));
     Ok(())
 }

@@ -99,31 +99,6 @@ fn plain(lines: &[u64; 4], from: u32, needed: u32) -> (u32, u32, Option<Hole>)
     (marked, holes, plain_hole(lines, from, needed))
 }
 
-const ALL: u64 = u64::MAX;
-
-/// The line words of a block, how many lines are marked, and how many holes there are.
-const COUNTS: [([u64; 4], u32, u32); 5] = [
-    ([5, 0, 0, 1 << 63], 3, 2),
-    ([0, 0, 0, 0], 0, 1),
-    ([ALL, ALL, ALL, ALL], 256, 0),
-    ([1 << 63, 1, 0, 0], 2, 2),
-    ([ALL, ALL, ALL, ALL >> 1], 255, 1),
-];
-
-#[test]
-fn holes_and_counts(rt: HostRuntime) -> Result<(), Fail> {
-    let layout = Layout::new(4)?;
-    for (lines, marked, holes) in COUNTS {
-        let words = row_with(rt.alloc(), &layout, &lines)?;
-        let seen = (
-            marked_lines(&words, &layout, 1),
-            count_holes(&words, &layout, 1),
-        );
-        assert!(rt; seen == (marked, holes), "{marked}");
-    }
-    Ok(())
-}
-
 /// The next number of a xorshift sequence.
 fn next_random(last: u64) -> u64 {
     let first = last ^ last << 13;
@@ -164,11 +139,12 @@ fn one_line(line: u32, marked: bool) -> [u64; 4]
     ]
 }
 
-// One marked line at each place, so beside each word's edge, and one clear line.
+// One marked line at each place, so beside each word's edge, and one clear line. Last come a block
+// with marks alone and one without.
 #[test]
 fn each_line(rt: HostRuntime) -> Result<(), Fail> {
     let layout = Layout::new(4)?;
-    for turn in 0..768 {
+    for turn in 0..771 {
         let line = turn / 3;
         let lines = one_line(line, turn % 3 != 0);
         let from = if turn % 3 == 1 { line } else { 0 };
@@ -214,6 +190,8 @@ fn mark_at(words: &mut Vec<u64>, layout: &Layout, offset: u32, size: u32)
     }
     mark(words, layout, layout.heap_base() + offset, size);
 }
+
+const ALL: u64 = u64::MAX;
 
 const EDGE: u64 = 13 + (1 << 63);
 

@@ -58,6 +58,7 @@ fn rows(rt: HostRuntime) -> Result<(), Fail> {
     row.set_pinned(806, false);
     assert_eq!(rt; (blocks, is_empty), (4, true));
     // Start bits, two words of pin bits, the word before the object, its words, and those after it.
+    let words = row.words.to_vec(rt.alloc())?;
     for (at, want) in [
         (38, Some(4)),
         (294, Some(4)),
@@ -70,7 +71,7 @@ fn rows(rt: HostRuntime) -> Result<(), Fail> {
         (17189, Some(0)),
         (17190, None),
     ] {
-        assert_eq!(rt; row.words.get(at).copied(), want, "at {at}");
+        assert_eq!(rt; words.get(at).copied(), want, "at {at}");
     }
     Ok(())
 }

@@ -183,8 +183,8 @@ fn plain_and_fast_scans_agree(rt: HostRuntime) -> Result<(), Fail> {
     let built = build(&rt, alloc, 40, &commands, 8)?;
     let (fast, _) = collect_once::<MarkSweep, HostRuntime>(&rt, alloc, built, 8)?;
     let zone = 18 + 133 * 40;
-    let words = plain.traced.row.words.iter().skip(zone);
-    let same = words.eq(fast.new.words.iter().skip(zone));
+    let words = plain.traced.row.words.to_vec(alloc)?;
+    let same = words.iter().skip(zone).eq(fast.new.words.iter().skip(zone));
     assert!(rt; same && plain.registers == fast.new.roots && plain.scanned == fast.note.kept);
     Ok(())
 }

@@ -51,7 +51,8 @@ fn is_old(words: &[u64], base: u64, at: u32) -> bool {
 // Adds the old ones of the objects that begin at 64 addresses, by their bits. Returns how many of
 // them have no unlog bit.
 fn add_old_from(
-    heap: &Heap,
+    words: &[u64],
+    base: u64,
     first: u32,
     starts: u64,
     unlogs: u64,
@@ -60,7 +61,7 @@ fn add_old_from(
     let mut logged = 0u64;
     for n in 0..64u32 {
         let at = first.wrapping_add(n);
-        if starts >> n & 1 == 1 && is_old(heap.words(), heap.base(), at) {
+        if starts >> n & 1 == 1 && is_old(words, base, at) {
             list.push(at)?;
             logged = logged.wrapping_add(1 - (unlogs >> n & 1));
         }
@@ -69,15 +70,16 @@ fn add_old_from(
 }
 
 // Adds the old objects of a heap to a list, by address. Returns how many of them are logged.
-fn add_old(heap: &Heap, list: &mut Vec<u32>) -> Result<u64, AllocError> {
+fn add_old(alloc: Global, heap: &Heap, list: &mut Vec<u32>) -> Result<u64, AllocError> {
     let blocks = heap.layout().blocks() as usize;
-    let unlogs = heap.words().iter().skip(zone(blocks, UNLOGS));
-    let starts = heap.words().iter().skip(zone(blocks, STARTS));
+    let words = heap.words().to_vec(alloc)?;
+    let unlogs = words.iter().skip(zone(blocks, UNLOGS));
+    let starts = words.iter().skip(zone(blocks, STARTS));
     let mut first = heap.layout().heap_base();
     let mut logged = 0u64;
     for (start, unlog) in starts.zip(unlogs).take(blocks.wrapping_mul(64)) {
         if *start > 0 {
-            let more = add_old_from(heap, first, *start, *unlog, list)?;
+            let more = add_old_from(&words, heap.base(), first, *start, *unlog, list)?;
             logged = logged.wrapping_add(more);
         }
         first = first.wrapping_add(64);
@@ -136,7 +138,7 @@ pub(crate) fn collect_aged<P: Plan, R: Abort + Threads + Sync>(
     let mut olds = Vec::new(alloc);
     let mut logged = 0;
     if kind == Collect::Nursery {
-        logged = add_old(&heap, &mut olds)?;
+        logged = add_old(alloc, &heap, &mut olds)?;
     }
     let old = view(rt, alloc, &heap, &registers, &olds)?;
     let roots = registers.len() as u64;

@@ -135,11 +135,11 @@ pub(crate) fn check_run(
 {
     let number = run.number;
     let registers = built.registers.as_slice().to_vec(alloc)?;
-    let old = built.heap.words().as_slice().to_vec(alloc)?;
+    let old = built.heap.words().to_vec(alloc)?;
     let outcome = trace(rt, alloc, built, run)?;
-    let new = outcome.traced.row.words.as_slice();
-    check_objects(rt, &old, new, places, number);
-    assert!(rt; has_roots(&old, new, &registers, &outcome.registers));
+    let new = outcome.traced.row.words.to_vec(alloc)?;
+    check_objects(rt, &old, &new, places, number);
+    assert!(rt; has_roots(&old, &new, &registers, &outcome.registers));
     Ok(outcome)
 }
 
@@ -265,8 +265,9 @@ fn small_graphs(rt: HostRuntime) -> Result<(), Fail> {
     ] {
         let built = build(&rt, rt.alloc(), 4, commands, kept)?;
         let outcome = check_trace(&rt, rt.alloc(), built, 1, false)?;
+        let left = outcome.traced.row.words.to_vec(rt.alloc())?;
         for (at, want) in words {
-            assert_eq!(rt; word(&outcome.traced.row.words, *at), *want, "at {at}");
+            assert_eq!(rt; word(&left, *at), *want, "at {at}");
         }
     }
     Ok(())
@@ -314,8 +315,9 @@ fn long_list(rt: HostRuntime) -> Result<(), Fail> {
     }
     let outcome = check_trace(&rt, alloc, build(&rt, alloc, 24, &commands, 1)?, 24, false)?;
     assert_eq!(rt; outcome.registers.as_slice(), [45_706].as_slice());
+    let words = outcome.traced.row.words.to_vec(alloc)?;
     for k in 0..10_000 {
-        let name = word(&outcome.traced.row.words, 45_706 + 4 * k);
+        let name = word(&words, 45_706 + 4 * k);
         assert_eq!(rt; name, 32 * (10_000 - k as u64) + 1, "object {k}");
     }
     Ok(())
@@ -378,7 +380,7 @@ fn marked_lines(rt: HostRuntime) -> Result<(), Fail> {
     for (moving, lines, objects) in LINES {
         let built = build(&rt, rt.alloc(), 4, MARKED, 3)?;
         let outcome = check_trace(&rt, rt.alloc(), built, moving, lines)?;
-        check_lines(&rt, &outcome.traced.row.words, objects);
+        check_lines(&rt, &outcome.traced.row.words.to_vec(rt.alloc())?, objects);
     }
     Ok(())
 }
@@ -415,7 +417,7 @@ fn check_tracer(rt: &impl Abort, alloc: Global, count: u32, used: u32) -> Result
     assert!(rt; globals.iter().map(|g| g.at()).eq(0..16));
     assert_eq!(rt; tracer.take_globals(alloc)?.len(), 0);
     check_blocks(rt, &mut tracer, used);
-    let words = tracer.close().row.words;
+    let words = tracer.close().row.words.to_vec(alloc)?;
     for block in 0..4 {
         let want = if block < used { 1 } else { 1 + 65_536 * 17 };
         assert_eq!(rt; word(&words, 18 + block as usize), want);

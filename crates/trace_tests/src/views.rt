@@ -98,7 +98,7 @@ impl View {
         assert!(rt; are_roots(heap, all));
         let places = graph(alloc, heap, all)?;
         Ok(View {
-            words: heap.words().as_slice().to_vec(alloc)?,
+            words: heap.words().to_vec(alloc)?,
             blocks: heap.layout().blocks() as usize,
             number: heap.number(),
             base: heap.base(),

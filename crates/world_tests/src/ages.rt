@@ -35,7 +35,7 @@ fn has_bit(words: &[u64], first: usize, n: usize) -> bool {
 /// The old objects of a heap, by address. Start bits are 5 words a block after the first block
 /// word, unlog bits 133, and the heap 197.
 pub(crate) fn old_objects(alloc: Global, heap: &Heap) -> Result<Vec<Old>, AllocError> {
-    let words = heap.words().as_slice();
+    let words = heap.words().to_vec(alloc)?;
     let blocks = heap.layout().blocks() as usize;
     let [starts, unlogs, first] = [5usize, 133, 197].map(|n| n
         .wrapping_mul(blocks)
@@ -44,10 +44,10 @@ pub(crate) fn old_objects(alloc: Global, heap: &Heap) -> Result<Vec<Old>, AllocE
     for n in 0..blocks.wrapping_mul(4096) {
         let address = first.wrapping_add(n);
         let collector = words.get(address.wrapping_add(2)).copied().unwrap_or(0);
-        if has_bit(words, starts, n) && heap.base() > 0 && collector >> 24 >= heap.base() {
+        if has_bit(&words, starts, n) && heap.base() > 0 && collector >> 24 >= heap.base() {
             olds.push(Old {
                 address: address as u32,
-                logged: !has_bit(words, unlogs, n),
+                logged: !has_bit(&words, unlogs, n),
             })?;
         }
     }

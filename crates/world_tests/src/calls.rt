@@ -5,218 +5,11 @@ ghost use Rattle.plain_world.specs.Calls.{IsOpen};
 
 use crate::twins::{Twins, World};
 use crate::worlds::{allocate, new_world};
-use ideal_heap::{Command, Name, Reply};
+use ideal_heap::Command;
 use mutator_calls::Polled;
-use std::alloc::{AllocError, Global};
+use std::alloc::AllocError;
 use std::process::Abort;
 use std::test::Fail;
-
-// A command of the mutator at this place, and its reply.
-type Row = (u32, Command, Reply);
-
-const FIRST: Name = Name {
-    mutator: 1,
-    birth: 1,
-};
-
-const SECOND: Name = Name {
-    mutator: 1,
-    birth: 2,
-};
-
-const OTHERS_FIRST: Name = Name {
-    mutator: 2,
-    birth: 1,
-};
-
-const OTHERS_SECOND: Name = Name {
-    mutator: 2,
-    birth: 2,
-};
-
-const NUMBERS: [Row; 18] = [
-    (0, Command::Read { s: 3, j: 0 }, Reply::Null),
-    (0, Command::Write { s: 3, j: 0, n: 1 }, Reply::Null),
-    (0, Command::Add { s: 3, j: 0, n: 1 }, Reply::Null),
-    (
-        0,
-        Command::Swap {
-            s: 3,
-            j: 0,
-            was: 0,
-            next: 1,
-        },
-        Reply::Null,
-    ),
-    (
-        0,
-        Command::New {
-            d: 0,
-            refs: 1,
-            nums: 2,
-        },
-        Reply::New(FIRST),
-    ),
-    (0, Command::Read { s: 0, j: 1 }, Reply::Num(0)),
-    (0, Command::Read { s: 0, j: 2 }, Reply::Range),
-    (0, Command::Write { s: 0, j: 2, n: 1 }, Reply::Range),
-    (0, Command::Add { s: 0, j: 2, n: 1 }, Reply::Range),
-    (
-        0,
-        Command::Swap {
-            s: 0,
-            j: 2,
-            was: 0,
-            next: 1,
-        },
-        Reply::Range,
-    ),
-    (
-        0,
-        Command::Write {
-            s: 0,
-            j: 1,
-            n: u64::MAX,
-        },
-        Reply::Done,
-    ),
-    (0, Command::Add { s: 0, j: 1, n: 3 }, Reply::Num(u64::MAX)),
-    (0, Command::Add { s: 0, j: 1, n: 4 }, Reply::Num(2)),
-    (
-        0,
-        Command::Swap {
-            s: 0,
-            j: 1,
-            was: 5,
-            next: 7,
-        },
-        Reply::No,
-    ),
-    (0, Command::Read { s: 0, j: 1 }, Reply::Num(6)),
-    (
-        0,
-        Command::Swap {
-            s: 0,
-            j: 1,
-            was: 6,
-            next: 8,
-        },
-        Reply::Yes,
-    ),
-    (0, Command::Read { s: 0, j: 1 }, Reply::Num(8)),
-    (0, Command::Read { s: 0, j: 0 }, Reply::Num(0)),
-];
-
-const REFERENCES: [Row; 17] = [
-    (0, Command::Get { d: 1, s: 3, i: 0 }, Reply::Null),
-    (0, Command::Put { s: 3, i: 0, v: 0 }, Reply::Null),
-    (
-        0,
-        Command::New {
-            d: 0,
-            refs: 2,
-            nums: 0,
-        },
-        Reply::New(FIRST),
-    ),
-    (
-        0,
-        Command::New {
-            d: 1,
-            refs: 0,
-            nums: 1,
-        },
-        Reply::New(SECOND),
-    ),
-    (0, Command::Put { s: 0, i: 2, v: 1 }, Reply::Range),
-    (0, Command::Get { d: 2, s: 0, i: 2 }, Reply::Range),
-    (0, Command::Put { s: 1, i: 0, v: 1 }, Reply::Range),
-    (0, Command::Put { s: 0, i: 1, v: 1 }, Reply::Done),
-    (0, Command::Get { d: 2, s: 0, i: 1 }, Reply::Ref(SECOND)),
-    (0, Command::Write { s: 2, j: 0, n: 9 }, Reply::Done),
-    (0, Command::Read { s: 1, j: 0 }, Reply::Num(9)),
-    (0, Command::Put { s: 0, i: 0, v: 0 }, Reply::Done),
-    (0, Command::Get { d: 3, s: 0, i: 0 }, Reply::Ref(FIRST)),
-    // A nil field clears the register.
-    (0, Command::Put { s: 0, i: 1, v: 9 }, Reply::Done),
-    (0, Command::Get { d: 2, s: 0, i: 1 }, Reply::Nil),
-    (0, Command::Read { s: 2, j: 0 }, Reply::Null),
-    (0, Command::Read { s: 1, j: 0 }, Reply::Num(9)),
-];
-
-const REGISTERS: [Row; 25] = [
-    (0, Command::Pin { s: 3 }, Reply::Null),
-    (0, Command::Unpin { s: 3 }, Reply::Null),
-    (
-        0,
-        Command::New {
-            d: 0,
-            refs: 0,
-            nums: 1,
-        },
-        Reply::New(FIRST),
-    ),
-    (
-        1,
-        Command::New {
-            d: 0,
-            refs: 0,
-            nums: 1,
-        },
-        Reply::New(OTHERS_FIRST),
-    ),
-    (
-        1,
-        Command::New {
-            d: 1,
-            refs: 0,
-            nums: 0,
-        },
-        Reply::New(OTHERS_SECOND),
-    ),
-    (0, Command::Write { s: 0, j: 0, n: 5 }, Reply::Done),
-    (0, Command::Pin { s: 0 }, Reply::Yes),
-    (0, Command::Pin { s: 0 }, Reply::No),
-    (0, Command::Unpin { s: 0 }, Reply::Yes),
-    (0, Command::Unpin { s: 0 }, Reply::No),
-    (1, Command::Load { d: 2, g: 15 }, Reply::Nil),
-    (0, Command::Share { g: 15, s: 0 }, Reply::Done),
-    (1, Command::Load { d: 2, g: 15 }, Reply::Ref(FIRST)),
-    (1, Command::Add { s: 2, j: 0, n: 1 }, Reply::Num(5)),
-    (0, Command::Read { s: 0, j: 0 }, Reply::Num(6)),
-    (1, Command::Move { d: 3, s: 2 }, Reply::Done),
-    (1, Command::DropReg { s: 2 }, Reply::Done),
-    (1, Command::Read { s: 2, j: 0 }, Reply::Null),
-    (1, Command::Pin { s: 3 }, Reply::Yes),
-    (0, Command::Pin { s: 0 }, Reply::No),
-    (1, Command::Move { d: 3, s: 2 }, Reply::Done),
-    (1, Command::Read { s: 3, j: 0 }, Reply::Null),
-    (0, Command::Share { g: 15, s: 9 }, Reply::Done),
-    (0, Command::Load { d: 0, g: 15 }, Reply::Nil),
-    (0, Command::Unpin { s: 0 }, Reply::Null),
-];
-
-// Two mutators of an empty heap get these replies.
-fn check_replies(rt: &impl Abort, alloc: Global, table: &[Row]) -> Result<(), Fail> {
-    let mut twins = Twins::new(rt, alloc, 4)?;
-    for (m, command, want) in table {
-        let reply = twins.call(rt, *m, command)?;
-        assert!(rt; reply == *want, "at {command:?}");
-    }
-    Ok(())
-}
-
-#[test]
-fn replies(rt: HostRuntime) -> Result<(), Fail> {
-    for table in [
-        NUMBERS.as_slice(),
-        REFERENCES.as_slice(),
-        REGISTERS.as_slice(),
-    ] {
-        check_replies(&rt, rt.alloc(), table)?;
-    }
-    Ok(())
-}
 
 // Stops that mutators raise, and what both then get from a poll.
 fn check_polls(rt: &impl Abort, world: &mut World, table: &[(Option<u32>, Polled)])
@@ -250,13 +43,14 @@ fn stops_and_epochs(rt: HostRuntime) -> Result<(), Fail> {
     ];
     check_polls(&rt, &mut world, &table);
     let (heap, mutators) = world.close();
-    let words = heap.words().as_slice().to_vec(alloc)?;
+    let words = heap.words().to_vec(alloc)?;
     assert!(&rt; mutators.len() <= 16);
     let (heap, mutators) = World::begin(alloc, heap, mutators)?.close();
     // Mutator 2 raised a stop, and three tickets were drawn.
     assert!(&rt; words.as_slice().starts_with(&[2, 3]));
-    assert!(&rt; heap.words().as_slice().starts_with(&[0, 0]));
-    assert!(&rt; heap.words().iter().skip(2).eq(words.iter().skip(2)));
+    let after = heap.words().to_vec(alloc)?;
+    assert!(&rt; after.as_slice().starts_with(&[0, 0]));
+    assert!(&rt; after.iter().skip(2).eq(words.iter().skip(2)));
     assert!(&rt; mutators.len() <= 16);
     let mut world = World::begin(alloc, heap, mutators)?;
     let table = [(None, Polled::Go), (Some(0), Polled::Raised(1))];

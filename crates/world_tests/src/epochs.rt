@@ -19,8 +19,8 @@ fn marked(heap: &Heap, block: u32) -> Lines
     let first = heap.layout().line_at(block) as usize;
     let mut lines = [false; 256];
     for (line, bit) in lines.iter_mut().enumerate() {
-        let word = heap.words().get(first.wrapping_add(line / 64)).copied();
-        *bit = word.unwrap_or(0) >> (line % 64) & 1 == 1;
+        let at = first.wrapping_add(line / 64);
+        *bit = at < heap.words().len() && heap.words().get(at) >> (line % 64) & 1 == 1;
     }
     lines
 }

@@ -164,7 +164,7 @@ fn run<P: Plan, R: Abort + Threads + Sync>(
     }
     assert!(rt; model.are_apart());
     let (heap, _mutators) = world.close();
-    Ok(heap.words().as_slice().to_vec(alloc)?)
+    Ok(heap.words().to_vec(alloc)?)
 }
 
 fn run_under_plan<R: Abort + Threads + Sync>(
