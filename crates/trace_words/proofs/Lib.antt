@@ -1,0 +1,10 @@
+pub mod Pooled
+pub mod RuleSteps
+pub mod ClaimSteps
+pub mod CopySteps
+pub mod ScanSteps
+pub mod Rooms
+pub mod SeatSteps
+pub mod TraceEnds
+pub mod WorkedSteps
+mod Racing

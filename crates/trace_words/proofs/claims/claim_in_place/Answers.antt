@@ -1,0 +1,5 @@
+use Rattle.trace_words.proofs.ClaimSteps.{claim-here}
+use Rattle.trace_words.proofs.claims.claim_in_place.Goals as goal
+
+pub compare_exchange-requires : goal.compare_exchange-requires
+compare_exchange-requires g c = (c.requires.own.0, c.requires.own.1, rw (c.requires.about.0, c.requires.about.1, c.requires.about.2) (claim-here g.C.About.setup _ _ _ g.C.About.object g.C.About.cause c.args.old c.requires.may c.requires.stays))

@@ -1,0 +1,5 @@
+use Rattle.trace_words.proofs.ClaimSteps.{look-at-bit}
+use Rattle.trace_words.proofs.claims.look_at_bit.Goals as goal
+
+pub load-requires : goal.load-requires
+load-requires g c = (c.requires.own.0, c.requires.own.1, rw (c.requires.about.0, c.requires.about.1) (look-at-bit g.C.About.setup _ _ _ g.C.About.object c.requires.live c.requires.held))

@@ -1,0 +1,8 @@
+use Rattle.trace_words.proofs.RuleSteps.{known-is}
+use Rattle.trace_words.proofs.laws.shares_know_targets.Goals as goal
+
+pub returns-clause-words : goal.returns-clause-words
+returns-clause-words c = λ p s keeps. keeps.words
+
+pub returns-clause-known : goal.returns-clause-known
+returns-clause-known c = λ p s keeps j v at x t has. known-is p s keeps j v at x t has

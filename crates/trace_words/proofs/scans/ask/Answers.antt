@@ -1,0 +1,5 @@
+use Rattle.trace_words.proofs.ScanSteps.{ask}
+use Rattle.trace_words.proofs.scans.ask.Goals as goal
+
+pub load-requires : goal.load-requires
+load-requires g c = (c.requires.own.0, c.requires.own.1, rw (c.requires.about.0, c.requires.about.1) (ask g.C.About.setup _ _ _ g.C.About.object g.C.About.target c.requires.knows))

@@ -1,0 +1,5 @@
+use Rattle.trace_words.proofs.ScanSteps.{read-global}
+use Rattle.trace_words.proofs.scans.read_global.Goals as goal
+
+pub load-requires : goal.load-requires
+load-requires g c = (c.requires.own.0, c.requires.own.1, rw (c.requires.about.0, c.requires.about.1) (read-global g.C.About.setup _ _ _ g.C.About.index c.requires.may))

@@ -1,0 +1,5 @@
+use Rattle.trace_words.proofs.ScanSteps.{scan-field}
+use Rattle.trace_words.proofs.scans.scan_field.Goals as goal
+
+pub store-requires : goal.store-requires
+store-requires g c = (c.requires.own.0, c.requires.own.1, rw (c.requires.about.0, c.requires.about.1) (scan-field g.C.About.setup _ _ _ g.C.About.object g.C.About.target g.C.About.index c.args.value c.requires.may c.requires.last))

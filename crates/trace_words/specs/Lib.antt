@@ -1,0 +1,4 @@
+pub mod Shares
+pub mod Rule
+pub mod Steps
+pub mod WorkedShares
