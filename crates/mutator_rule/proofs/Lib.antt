@@ -1,0 +1,9 @@
+pub mod Totals
+pub mod Pushes
+pub mod Moments
+pub mod Making
+pub mod SeatsDealt
+pub mod Longest
+pub mod Loops
+pub mod Registers
+pub mod StepsSeen

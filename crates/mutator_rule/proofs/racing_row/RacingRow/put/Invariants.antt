@@ -1,0 +1,4 @@
+use Rattle.mutator_rule.proofs.racing_row.RacingRow.put.Given as goal
+
+abbrev pub ghosts-put_as : goal.ghosts-put_as
+ghosts-put_as g a = record { event = a._event.now }

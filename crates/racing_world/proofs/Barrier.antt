@@ -1,0 +1,127 @@
+-- What loads of header words, of unlog bits and of the stop word tell, and the store after the barrier.
+use Rattle.std.proofs.Common.{◌≡◌, ◌≢◌, inl, inr, ⊎_elim, refl, sym, ◌∙◌, ap, subst, ℕ, ◌+◌, ◌/◌, ◌^◌, ◌<◌, arith, Bool, true, false, ◌&&◌, List, [], ◌∷◌, ◌++◌, nat_eq, slice_index}
+use Rattle.std.specs.Int.{bit_at}
+use Rattle.std.proofs.lemmas.Bool.{cond-false}
+use Rattle.forward_word.specs.CollectorWords.{is_old_word}
+use Rattle.heap_layout.specs.Zones.{UnlogBits}
+use Rattle.heap_layout.proofs.MarkLemmas.{address_bit-at_address}
+use Rattle.ideal_heap.specs.declared.command.Command.TheVariants as c
+use Rattle.ideal_heap.specs.declared.reply.Reply.TheVariants as r
+use Rattle.ideal_heap.specs.Names.{name_of}
+use Rattle.ideal_heap.specs.Runs.{entry}
+use Rattle.object_model.specs.BitWords.{bit_word, bit_place}
+use Rattle.object_model.specs.Objects.{word_at, name_at}
+use Rattle.object_model.proofs.ObjectReads.{readable}
+use Rattle.sessions.specs.Plans.{Rules}
+use Rattle.mutator_calls.specs.Effects.{logs}
+use Rattle.mutator_core.specs.declared.state.Event.TheVariants as e
+use Rattle.mutator_core.specs.declared.state.LogEntry.{LogEntry}
+use Rattle.mutator_core.specs.declared.state.Local.{Local}
+use Rattle.mutator_core.specs.Machine.{Epoch, address_in, bit_of_object}
+use Rattle.mutator_core.specs.Guards.{MayStoreReference, IsNotOld}
+use Rattle.mutator_core.specs.Logs.{IsEpochLog, machine_after, heap_after}
+use Rattle.mutator_core.proofs.EpochEnds.{log-seen}
+use Rattle.mutator_rule.specs.declared.views.EpochStart.{EpochStart}
+use Rattle.mutator_rule.specs.declared.views.MutatorView.{MutatorView}
+use Rattle.mutator_rule.specs.Views.{epoch_with}
+use Rattle.mutator_rule.specs.Logs.{MakesStep, MakesEntries, KnowsLog}
+use Rattle.mutator_rule.proofs.Moments as moments
+use Rattle.mutator_rule.proofs.StepsSeen.{step-entries}
+use Rattle.racing_world.specs.declared.racing.Racing.{Racing}
+use Rattle.racing_world.specs.RacingSeats.{view, local, address, epoch_of_racing, heap_seen, IsAged, IsMarked, DoesEffect, IsReady}
+use Rattle.racing_world.specs.SeatLaws.{entries-both, or-false}
+use Rattle.racing_world.proofs.Looking.{held-before, header-found, unlog-found, just-before}
+
+and-false : (b : Bool) → (b && false) ≡ false
+and-false true = refl
+and-false false = refl
+
+-- the base of the row is that of the epoch's beginning
+pub base-same : {P : Type 0} (rules : Rules) (a : Racing P) → IsReady rules a → a.row.now.base ≡ (epoch_of_racing rules a).before.base
+base-same rules a ready = a.row.now.based ∙ ap (λ (g : EpochStart). g.base) (sym ready.own.1)
+
+module _ {P : Type 0} (rules : Rules) (a : Racing P) (v : MutatorView) (told : KnowsLog (epoch_of_racing rules a) (view a)) (s n : ℕ) (few : s < 16) (some : address a s ≢ 0) where
+  abbrev p : Epoch
+  p = epoch_of_racing rules a
+
+  held : address_in (local a) s ≡ address a s
+  held = ap (λ (rs : List ℕ). slice_index rs s) a.seat.now.held
+
+  -- the collector word
+  module _ (st : MakesStep rules (view a) (e.LoadCollector s) n v) where
+    collector-found : n ≡ word_at (heap_after p (view a).seen) (address a s + 2)
+    collector-found = st.word
+        ∙ ap (λ (l : Local). slice_index (machine_after p ((view a).seen ++ st.between)).words (address_in l s + 2)) st.before
+        ∙ ap (λ x. slice_index (machine_after p ((view a).seen ++ st.between)).words (x + 2)) held
+        ∙ header-found rules a v (e.LoadCollector s) n st told s 2 few some (omega arith)
+
+    pub old-before : is_old_word p.before.base n ≡ true → IsAged rules a s
+    old-before is = (few, some, ap (is_old_word p.before.base) (sym collector-found) ∙ is)
+
+    pub young-after : is_old_word p.before.base n ≡ false → MayStoreReference (epoch_with rules v.start) v.local s
+    young-after is = subst (λ (g : EpochStart). MayStoreReference (epoch_with rules g) v.local s) (sym st.start)
+        (inr (inl (subst (λ (l : Local). IsNotOld p l s) (sym st.local) (refl, ap (λ w. p.rules.young && w) is ∙ and-false p.rules.young))))
+
+  -- the word with the unlog bit
+  module _ (st : MakesStep rules (view a) (e.LoadUnlog s) n v) where
+    unlog-word : n ≡ word_at (heap_after p ((view a).seen ++ st.between)) (bit_word p.before.blocks UnlogBits (address a s))
+    unlog-word = st.word
+        ∙ ap (λ (l : Local). slice_index (machine_after p ((view a).seen ++ st.between)).words (bit_word p.before.blocks UnlogBits (address_in l s))) st.before
+        ∙ ap (λ x. slice_index (machine_after p ((view a).seen ++ st.between)).words (bit_word p.before.blocks UnlogBits x)) held
+
+    pub marked-before : bit_of_object p (local a) s n ≡ 1 → IsMarked rules a s
+    marked-before is = unlog-found rules a v (e.LoadUnlog s) n st told (address a s)
+        (address_bit-at_address p.before.blocks UnlogBits (heap_after p ((view a).seen ++ st.between)).words (address a s) (held-before rules a v (e.LoadUnlog s) n st told s few some).address
+        ∙ ap (λ w. nat_eq (bit_at w (bit_place p.before.blocks (address a s))) 1) (sym unlog-word)
+        ∙ ap (λ x. nat_eq (bit_at n (bit_place p.before.blocks x)) 1) (sym held)
+        ∙ ap (λ w. nat_eq w 1) is)
+
+    pub logged-after : nat_eq (bit_of_object p (local a) s n) 1 ≡ false → MayStoreReference (epoch_with rules v.start) v.local s
+    logged-after is = subst (λ (g : EpochStart). MayStoreReference (epoch_with rules g) v.local s) (sym st.start)
+        (inr (inr (subst (λ (l : Local). l.logged ≡ address_in l s) (sym st.local) (cond-false (nat_eq (bit_of_object p (local a) s n) 1) (local a).logged (address_in (local a) s) is))))
+
+  -- the name word
+  module _ (st : MakesStep rules (view a) (e.LoadName s) n v) where
+    name-found : n ≡ word_at (heap_after p (view a).seen) (address a s)
+    name-found = st.word
+        ∙ ap (λ (l : Local). slice_index (machine_after p ((view a).seen ++ st.between)).words (address_in l s)) st.before
+        ∙ ap (λ x. slice_index (machine_after p ((view a).seen ++ st.between)).words x) (held ∙ sym (add-zero' (address a s)))
+        ∙ header-found rules a v (e.LoadName s) n st told s 0 few some (omega arith)
+        ∙ ap (λ x. word_at (heap_after p (view a).seen) x) (add-zero' (address a s))
+      where
+        add-zero' : (x : ℕ) → x + 0 ≡ x
+        add-zero' x = omega arith
+
+    pub name-read : name_of n ≡ name_at (heap_seen rules a) (address a s)
+    name-read = ap name_of name-found
+
+    pub birth-fits : n / 32 < 2 ^ 32
+    birth-fits = subst (λ w. w / 32 < 2 ^ 32) (sym name-found)
+        (readable (heap_after p (view a).seen) (moments.order p told.ideal (view a).seen told.epoch) (address a s) (held-before rules a v (e.LoadName s) n st told s few some)).object.name.fits
+
+-- the stop word is a mutator's number, or 0
+pub stop-small : {P : Type 0} (rules : Rules) (a : Racing P) (v : MutatorView) (n : ℕ) → KnowsLog (epoch_of_racing rules a) (view a) → MakesStep rules (view a) e.Poll n v → n < 2 ^ 32
+stop-small rules a v n told st =
+    let p : Epoch = epoch_of_racing rules a in
+    let log : List LogEntry = (view a).seen ++ st.between in
+    let is : IsEpochLog p st.told.ideal log = just-before rules a v e.Poll n st told in
+    subst (λ w. w < 2 ^ 32) (sym st.word)
+    (⊎_elim
+    (λ (none : word_at (heap_after p log) 0 ≡ 0). omega (arith, none))
+    (λ r. let most = (moments.state p st.told.ideal log is (word_at (heap_after p log) 0) r.0).most in
+    let number = moments.number p st.told.ideal log is (word_at (heap_after p log) 0) in
+    omega (arith, most, number))
+    (log-seen p st.told.ideal log is).stop)
+
+-- the barrier and the store after it
+pub log-store-does : {P : Type 0} (rules : Rules) (a b : Racing P) (mid : MutatorView) (s i v n k : ℕ) (addresses : List ℕ) → b.seat.ghost_name ≡ a.seat.ghost_name → b.row ≡ a.row
+    → MakesStep rules (view a) (e.ClearUnlog s) n mid → MakesStep rules mid (e.Perform (c.Put s i v)) k (view b) → DoesEffect rules a (logs addresses (c.Put s i v) r.Done) b
+log-store-does rules a b mid s i v n k addresses seat row one two = record {
+  makes = record {
+    seat = seat;
+    row = row;
+    goes = subst (λ m. MakesEntries rules (view a) (entry m (c.Put s i v) r.Done ∷ []) (view b)) one.number (entries-both rules (view a) mid (view b) [] _ (step-entries rules (view a) mid (e.ClearUnlog s) n one) (step-entries rules mid (view b) (e.Perform (c.Put s i v)) k two));
+    stop = λ some. ap (λ (l : Local). l.stop) two.local ∙ ap (λ (l : Local). l.stop) one.local;
+  };
+  raised = ap (λ (l : Local). l.raised) two.local ∙ ap (λ (l : Local). l.raised) one.local ∙ sym (or-false (local a).raised);
+}

@@ -1,0 +1,112 @@
+-- The world as an epoch begins, and lists of its seats.
+use Rattle.std.proofs.Common.{◌≡◌, refl, sym, ap, subst, ℕ, zero, suc, ◌<◌, ◌≤◌, IsTrue, List, [], ◌∷◌, ◌++◌, length, map, take, arith}
+use Rattle.std.specs.List.{All}
+use Rattle.std.proofs.lemmas.List.{length-map}
+use Rattle.std.proofs.lemmas.List.Elements.{All-nil, All-cons, All-head, All-tail}
+use mathlib.Core.Option.{some, some-injective, some-ne-none}
+use lib.ListN.{get_elem?, get_or}
+use Rattle.heap_users.proofs.Cleared as cleared
+use Rattle.heap_users.specs.Users.{mutator_state}
+use Rattle.heap_users.specs.Beginnings.{MayUse, without_stop, epoch_of}
+use Rattle.ideal_heap.specs.Ideal.{IdealHeap}
+use Rattle.object_model.specs.Objects.{HeapState}
+use Rattle.object_model.specs.Lawful.{IsLawful}
+use Rattle.object_model.specs.Graphs.{MutatorState, Represents, numbers_of}
+use Rattle.sessions.specs.Plans.{Rules, has_holes}
+use Rattle.sessions.specs.Collecting.{Remembers}
+use Rattle.mutator_calls.specs.declared.need.Mutator.{Mutator}
+use Rattle.mutator_core.specs.Epochs.{EpochMayBegin}
+use Rattle.mutator_core.proofs.SomeIdeal.{some-ideal}
+use Rattle.mutator_rule.specs.declared.racing_row.RacingRow.{RacingRow}
+use Rattle.mutator_rule.specs.declared.seat.MutatorSeat.{MutatorSeat}
+use Rattle.mutator_rule.specs.declared.views.EpochStart.{EpochStart}
+use Rattle.mutator_rule.specs.declared.views.MutatorView.{MutatorView}
+use Rattle.mutator_rule.specs.Views.{first_view}
+use Rattle.mutator_core.specs.Machine.{mutator_of}
+use Rattle.mutator_rule.specs.Logs.{history_seen, own_entries}
+use Rattle.mutator_rule.specs.Seats.{known, IsSeatOf}
+use Rattle.racing_world.specs.RacingSeats.{MayCall}
+use Rattle.racing_world.specs.Calls.{number_of, IsFresh}
+use Rattle.racing_world.specs.Closing.{mutator_at}
+
+-- a heap that mutators may use begins an epoch, and represents an ideal heap
+pub ready : (r : Rules) (s : HeapState) (ms : List Mutator) → IsLawful s → IsTrue (has_holes r.fill) → Remembers r s → length ms ≤ 16 → EpochMayBegin (epoch_of r s (map mutator_state ms))
+ready r s ms lawful fills remembers few = record {
+  lawful = cleared.lawful-cleared s lawful;
+  remembers = cleared.remembers-cleared s lawful r remembers;
+  fills = fills;
+  stop = cleared.stop s lawful;
+  tickets = cleared.tickets s lawful;
+  few = subst (λ n. n ≤ 16) (sym (length-map ms mutator_state)) few;
+}
+
+pub represents : (s : HeapState) (ms : List MutatorState) → IsLawful s → MayUse s ms → (i : IdealHeap) × Represents (without_stop s) ms i
+represents s ms lawful may = let some = some-ideal s ms lawful may.mutators may.registers may.names in (some.0, cleared.represents-cleared s lawful ms some.0 some.1)
+
+pub represents-cleared : (s : HeapState) (ms : List MutatorState) → IsLawful s → (i : IdealHeap) → Represents s ms i → Represents (without_stop s) ms i
+represents-cleared s ms lawful i stands = cleared.represents-cleared s lawful ms i stands
+
+-- each seat may call, has seen no entry, and has its mutator's number
+first-known : (x : MutatorSeat) (xs : List MutatorSeat) (g : EpochStart) (m : Mutator) (ms : List Mutator) → map known (x ∷ xs) ≡ map (first_view g) (m ∷ ms) → (known x ≡ first_view g m) × (map known xs ≡ map (first_view g) ms)
+first-known x xs g m ms e = let t : known x ∷ map known xs ≡ first_view g m ∷ map (first_view g) ms = e in (cc, cc)
+
+none-known : (x : MutatorSeat) (xs : List MutatorSeat) (g : EpochStart) → map known (x ∷ xs) ≡ map (first_view g) [] → ⊥
+none-known x xs g e = let t : known x ∷ map known xs ≡ [] = e in cc
+
+pub first-calls : {P : Type 0} (rules : Rules) (row : RacingRow P) (g : EpochStart) (xs : List MutatorSeat) (ms : List Mutator) → All (IsSeatOf rules row) xs → map known xs ≡ map (first_view g) ms → All (MayCall rules row) xs
+first-calls rules row g [] ms own e = All-nil (MayCall rules row)
+first-calls rules row g (x ∷ xs) [] own e = absurd (none-known x xs g e)
+first-calls rules row g (x ∷ xs) (m ∷ ms) own e =
+    let is = first-known x xs g m ms e in
+    All-cons (MayCall rules row) x xs (record {
+      own = All-head (IsSeatOf rules row) x xs own;
+      none = ap (λ (v : MutatorView). v.local.unpublished) is.0;
+      stored = ap (λ (v : MutatorView). v.local.pending) is.0;
+      untaken = ap (λ (v : MutatorView). v.local.owned) is.0;
+    }) (first-calls rules row g xs ms (All-tail (IsSeatOf rules row) x xs own) is.1)
+
+pub first-fresh : (rules : Rules) (g : EpochStart) (xs : List MutatorSeat) (ms : List Mutator) → map known xs ≡ map (first_view g) ms → All (IsFresh rules) xs
+first-fresh rules g [] ms e = All-nil (IsFresh rules)
+first-fresh rules g (x ∷ xs) [] e = absurd (none-known x xs g e)
+first-fresh rules g (x ∷ xs) (m ∷ ms) e =
+    let is = first-known x xs g m ms e in
+    All-cons (IsFresh rules) x xs (record {
+      steps = ap (λ (v : MutatorView). v.seen) is.0;
+      history = ap (λ (v : MutatorView). history_seen rules v) is.0;
+      calls = ap (λ (v : MutatorView). own_entries rules v) is.0;
+      stop = ap (λ (v : MutatorView). v.local.stop) is.0;
+      raised = ap (λ (v : MutatorView). v.local.raised) is.0;
+      ticket = ap (λ (v : MutatorView). v.local.ticket) is.0;
+    }) (first-fresh rules g xs ms is.1)
+
+pub first-states : (g : EpochStart) (xs : List MutatorSeat) (ms : List Mutator) → map known xs ≡ map (first_view g) ms → map mutator_at xs ≡ map mutator_state ms
+first-states g [] [] e = refl
+first-states g [] (m ∷ ms) e = let t : [] ≡ first_view g m ∷ map (first_view g) ms = e in cc
+first-states g (x ∷ xs) [] e = absurd (none-known x xs g e)
+first-states g (x ∷ xs) (m ∷ ms) e =
+    let is = first-known x xs g m ms e in
+    (λ k. mutator_of (is.0 k).local ∷ first-states g xs ms is.1 k)
+
+pub first-numbers : (g : EpochStart) (xs : List MutatorSeat) (ms : List Mutator) → map known xs ≡ map (first_view g) ms → map number_of xs ≡ numbers_of (map mutator_state ms)
+first-numbers g [] [] e = refl
+first-numbers g [] (m ∷ ms) e = let t : [] ≡ first_view g m ∷ map (first_view g) ms = e in cc
+first-numbers g (x ∷ xs) [] e = absurd (none-known x xs g e)
+first-numbers g (x ∷ xs) (m ∷ ms) e =
+    let is = first-known x xs g m ms e in
+    (λ k. (is.0 k).local.number ∷ first-numbers g xs ms is.1 k)
+
+-- what holds of all seats holds of the one at a place
+pub all-at-place : (Q : MutatorSeat → Type 0) (xs : List MutatorSeat) (k : ℕ) (x : MutatorSeat) → All Q xs → get_elem? xs k ≡ some x → Q x
+all-at-place Q [] k x all e = absurd (some-ne-none x (sym e))
+all-at-place Q (y ∷ ys) zero x all e = subst Q (some-injective y x e) (All-head Q y ys all)
+all-at-place Q (y ∷ ys) (suc k) x all e = all-at-place Q ys k x (All-tail Q y ys all) e
+
+-- the states of the first seats, and of one more
+pub taken-more : {A B : Type 0} (f : A → B) (xs : List A) (i : ℕ) (x : A) → i < length xs → x ≡ get_or xs i x → take (suc i) (map f xs) ≡ take i (map f xs) ++ f x ∷ []
+taken-more f [] i x few e = absurd (omega arith)
+taken-more f (y ∷ ys) zero x few e = ap (λ z. f z ∷ []) (sym e)
+taken-more f (y ∷ ys) (suc i) x few e = ap (λ zs. f y ∷ zs) (taken-more f ys i x (omega arith) e)
+
+pub taken-all : {A B : Type 0} (f : A → B) (xs : List A) → take (length xs) (map f xs) ≡ map f xs
+taken-all f [] = refl
+taken-all f (x ∷ xs) = ap (λ ys. f x ∷ ys) (taken-all f xs)

@@ -1,0 +1,10 @@
+pub mod Entered
+pub mod Looking
+pub mod Pinned
+pub mod CallsSeen
+pub mod Closed
+pub mod Barrier
+pub mod YoungPlans
+pub mod Begun
+pub mod WorldEnds
+pub mod WorldLaws

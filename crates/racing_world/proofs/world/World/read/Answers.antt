@@ -1,0 +1,14 @@
+use Rattle.std.proofs.Common.{◌≡◌, refl, subst, rules}
+use Rattle.ideal_heap.specs.declared.command.Command.TheVariants as command
+use Rattle.mutator_rule.specs.declared.seat.MutatorSeat.{MutatorSeat}
+use Rattle.racing_world.specs.Calls.{EntersCommand}
+use Rattle.racing_world.proofs.CallsSeen.{enters-command}
+use Rattle.racing_world.proofs.world.World.read.Goals as goal
+
+pub returns : goal.returns
+returns g c =
+    let does = c.read.ensures.goes in
+    let name = does.makes.seat in
+    let same : c.read.new.seat.seat.now ≡ c.seat-1.given.0 = search rules in
+    subst (λ (seat : MutatorSeat). EntersCommand g.P.Plan.rules c.args.self.now c.args.seat.now (command.Read c.args.s c.args.j) c.read.result seat) same
+    (enters-command g.P.Plan.rules c.args.self.now _ _ refl c.read.ensures.ready _ _ _ refl refl does)

@@ -1,0 +1,4 @@
+pub mod RacingSeats
+pub mod SeatLaws
+pub mod Calls
+pub mod Closing
