@@ -1,0 +1,12 @@
+mod Moves
+mod Offers
+mod Services
+mod Opening
+mod Places
+mod Tickets
+mod Totals
+mod Rounds
+mod Joined
+mod Ended
+mod Yields
+mod Trees

@@ -1,0 +1,12 @@
+//! Workers that run the packets of a bucket, and steal packets from one another.
+#![tactic(auto)]
+
+mod desk;
+mod rule;
+mod seats;
+mod serve;
+mod steal;
+#[cfg(test)]
+mod tests;
+
+pub use steal::{MAX_WORKERS, run_steal};
