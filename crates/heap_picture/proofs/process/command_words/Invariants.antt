@@ -1,0 +1,10 @@
+use Rattle.std.proofs.Common.{◌≡◌, ◌++◌}
+use Rattle.std.specs.Vec.Iter.{into_iter_items, into_iter_len}
+use Rattle.heap_picture.proofs.process.command_words.Given as goal
+
+-- the words so far, and those that are left
+abbrev pub invariant-loop-word : goal.invariant-loop-word
+invariant-loop-word l = l.words.items ++ into_iter_items l.left ≡ into_iter_items l.initial.left
+
+abbrev pub decreases-loop-word : goal.decreases-loop-word
+decreases-loop-word l = into_iter_len l.left

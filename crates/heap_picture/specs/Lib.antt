@@ -1,0 +1,9 @@
+pub mod Forms
+pub mod Reading
+pub mod Bars
+pub mod Drawn
+pub mod Asked
+pub mod Runs
+pub mod Texts
+pub mod Sessions
+pub mod Worked
