@@ -38,7 +38,8 @@ pub fn give_back_block<P: Plan>(row: &mut Row, notes: &mut Vec<BlockNote>, block
         return;
     };
     // The word without its owner.
-    row.words[row.layout.block_at(block) as usize] %= OWNER_UNIT;
+    let at = row.layout.block_at(block) as usize;
+    row.words.set(at, row.words.get(at) % OWNER_UNIT);
     P::relist_block(&mut row.words, &row.layout, block);
     notes[block as usize] = BlockNote::Unowned {
         least: least_left(P::alloc_kind(), &region),

@@ -1,5 +1,5 @@
 -- Words whose bits differ.
-use Rattle.std.proofs.Common.{◌≡◌, ◌≢◌, ℕ, ◌+◌, ◌%◌, ◌<◌, ◌≤◌, inl, inr, refl, sym, ap, ◌∙◌, subst, arith, max, bit_or, bit_xor, List, slice_index}
+use Rattle.std.proofs.Common.{◌≡◌, ◌≢◌, ℕ, ◌+◌, ◌%◌, ◌<◌, ◌≤◌, inl, inr, refl, sym, ap, ◌∙◌, subst, arith, max, bit_or, bit_xor}
 use Rattle.std.specs.Int.{bit_at}
 use Rattle.std.proofs.lemmas.Bool.{cases_eq}
 use Rattle.std.proofs.lemmas.Nat.Bits.{bit_at_or, bit_at_xor, bit_at-lt, bit_at-zero, same_from_bits}
@@ -20,12 +20,12 @@ xor-zero a b none = same_from_bits a b (λ i.
 xor-same : (a : ℕ) → bit_xor a a ≡ 0
 xor-same a = same_from_bits (bit_xor a a) 0 (λ i. bit_at_xor a a i ∙ (let even : (bit_at a i + bit_at a i) % 2 ≡ 0 = omega arith in even) ∙ sym (bit_at-zero i))
 
--- The bits are 0 if and only if the words of two lists are the same from one index on, before another.
-pub record AreDifferences (these those : List ℕ) (from to bits : ℕ) : Type 0 where
-  pub none : bits ≡ 0 → (i : ℕ) → from ≤ i → i < to → slice_index these i ≡ slice_index those i
-  pub some : (bits ≡ 0 → ⊥) → (i : ℕ) × (from ≤ i) × (i < to) × (slice_index these i ≢ slice_index those i)
+-- The bits are 0 if and only if the words of two runs are the same from one index on, before another.
+pub record AreDifferences (these those : ℕ → ℕ) (from to bits : ℕ) : Type 0 where
+  pub none : bits ≡ 0 → (i : ℕ) → from ≤ i → i < to → these i ≡ those i
+  pub some : (bits ≡ 0 → ⊥) → (i : ℕ) × (from ≤ i) × (i < to) × (these i ≢ those i)
 
-module _ (these those : List ℕ) (from : ℕ) where
+module _ (these those : ℕ → ℕ) (from : ℕ) where
   pub differ-first : AreDifferences these those from from 0
   differ-first = record {
     none = λ is i after below. absurd (omega (arith, after, below));
@@ -33,17 +33,17 @@ module _ (these those : List ℕ) (from : ℕ) where
   }
 
   pub differ-next : (to bits : ℕ) → from ≤ to → AreDifferences these those from to bits
-      → AreDifferences these those from (to + 1) (bit_or bits (bit_xor (slice_index these to) (slice_index those to)))
+      → AreDifferences these those from (to + 1) (bit_or bits (bit_xor (these to) (those to)))
   differ-next to bits order are =
-      let this : ℕ = slice_index these to in
-      let that : ℕ = slice_index those to in record {
+      let this : ℕ = these to in
+      let that : ℕ = those to in record {
         none = λ is i after below.
             let parts = or-zero bits (bit_xor this that) is in
-            elim (cases_eq i to) as (λ _. slice_index these i ≡ slice_index those i) [
-              | inl last ↦ subst (λ j. slice_index these j ≡ slice_index those j) (sym last) (xor-zero this that parts.1)
+            elim (cases_eq i to) as (λ _. these i ≡ those i) [
+              | inl last ↦ subst (λ j. these j ≡ those j) (sym last) (xor-zero this that parts.1)
               | inr other ↦ are.none parts.0 i after (omega (arith, below, other))
             ];
-        some = λ not. elim (cases_eq this that) as (λ _. (i : ℕ) × (from ≤ i) × (i < to + 1) × (slice_index these i ≢ slice_index those i)) [
+        some = λ not. elim (cases_eq this that) as (λ _. (i : ℕ) × (from ≤ i) × (i < to + 1) × (these i ≢ those i)) [
           | inl same ↦
               let zero : bit_xor this that ≡ 0 = ap (λ v. bit_xor v that) same ∙ xor-same that in
               let found = are.some (λ is. not (ap (λ v. bit_or v (bit_xor this that)) is ∙ ap (bit_or 0) zero)) in

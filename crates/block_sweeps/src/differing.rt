@@ -1,20 +1,23 @@
 //! Whether the bits of a block in two zones differ.
 
-ghost use Rattle.std.specs.Prelude.{◌≡◌, ◌≢◌, ◌+◌, ◌<◌, ◌≤◌, ℕ, true, false, length, slice_index};
+ghost use Rattle.std.specs.Prelude.{◌≡◌, ◌≢◌, ◌+◌, ◌<◌, ◌≤◌, ◌^◌, ℕ, true, false, length, slice_index};
 
 use heap_layout::BLOCK_BIT_WORDS;
+use object_model::WordRow;
 
-/// Whether two lists of as many words as a block has start bits differ. Tests once for eight words.
-pub fn differ(these: &[u64], those: &[u64]) -> bool
-    requires these { length these.now ≡ BLOCK_BIT_WORDS }
-    requires those { length those.now ≡ BLOCK_BIT_WORDS }
+/// Whether the words of a row from two indexes on differ, as many as a block has of start bits.
+/// Tests once for eight words.
+pub fn differ(words: &WordRow, these: usize, those: usize) -> bool
+    requires these { these + BLOCK_BIT_WORDS ≤ length words.now }
+    requires those { those + BLOCK_BIT_WORDS ≤ length words.now }
+    requires short { length words.now < 2 ^ 32 }
     ensures some { result ≡ true → (i : ℕ) × (i < BLOCK_BIT_WORDS)
-        × (slice_index these.now i ≢ slice_index those.now i) }
+        × (slice_index words.now (these + i) ≢ slice_index words.now (those + i)) }
     ensures none { result ≡ false → (i : ℕ) → i < BLOCK_BIT_WORDS
-        → slice_index these.now i ≡ slice_index those.now i }
+        → slice_index words.now (these + i) ≡ slice_index words.now (those + i) }
 {
     for eight in 0..8 {
-        if eight_differ(these, those, 8 * eight) {
+        if eight_differ(words, these, those, 8 * eight) {
             return true;
         }
     }
@@ -23,17 +26,18 @@ pub fn differ(these: &[u64], those: &[u64]) -> bool
 
 /// Whether one of eight words differs. It takes no branch for each.
 #[inline(always)]
-fn eight_differ(these: &[u64], those: &[u64], from: usize) -> bool
-    requires these { from + 8 ≤ length these.now }
-    requires those { from + 8 ≤ length those.now }
+fn eight_differ(words: &WordRow, these: usize, those: usize, from: usize) -> bool
+    requires these { these + from + 8 ≤ length words.now }
+    requires those { those + from + 8 ≤ length words.now }
+    requires short { length words.now < 2 ^ 32 }
     ensures some { result ≡ true → (i : ℕ) × (from ≤ i) × (i < from + 8)
-        × (slice_index these.now i ≢ slice_index those.now i) }
+        × (slice_index words.now (these + i) ≢ slice_index words.now (those + i)) }
     ensures none { result ≡ false → (i : ℕ) → from ≤ i → i < from + 8
-        → slice_index these.now i ≡ slice_index those.now i }
+        → slice_index words.now (these + i) ≡ slice_index words.now (those + i) }
 {
     let mut bits = 0;
     for index in from..from + 8 {
-        bits |= these[index] ^ those[index];
+        bits |= words.get(these + index) ^ words.get(those + index);
     }
     bits != 0
 }

@@ -1,12 +1,10 @@
 -- What the word and the start bits of a block say of it.
-use Rattle.std.proofs.Common.{◌≡◌, ◌≢◌, sym, ◌∙◌, ap, ℕ, ◌+◌, ◌*◌, ◌-◌, ◌/◌, ◌%◌, ◌^◌, ◌<◌, ◌≤◌, inl, inr, arith, w64, true, IsTrue, List, drop, slice_index, eq-eqb}
-use Rattle.std.specs.Prelude.{slice_range}
+use Rattle.std.proofs.Common.{◌≡◌, ◌≢◌, sym, ◌∙◌, ap, ℕ, ◌+◌, ◌*◌, ◌-◌, ◌/◌, ◌%◌, ◌^◌, ◌<◌, ◌≤◌, inl, inr, arith, w64, true, IsTrue, slice_index, eq-eqb}
 use Rattle.std.specs.Int.{bit_at, trailing_zeros}
 use Rattle.std.proofs.lemmas.Bool.{cases_lt, cases_eq, eqb-true}
-use Rattle.std.proofs.lemmas.List.{get_or-take, get_or-drop}
 use Rattle.std.proofs.lemmas.Nat.Bits.{bit_at-zero, bit_at-trailing_zeros}
-use Rattle.heap_layout.specs.Zones.{Zone, StartBits, UnlogBits, first, heap_of, block_at, offset_at, IsAddress}
-use Rattle.object_model.specs.Objects.{HeapState, word_at, is_start, is_unlogged, IsHeld}
+use Rattle.heap_layout.specs.Zones.{StartBits, UnlogBits, first, heap_of, block_at, offset_at, IsAddress}
+use Rattle.object_model.specs.Objects.{HeapState, is_start, is_unlogged, IsHeld}
 use Rattle.object_model.proofs.ObjectReads.{place_of_address}
 use Rattle.block_sweeps.specs.Sweeping.{InBlock}
 use Rattle.side_meta.specs.BitWords.{has_bit}
@@ -53,14 +51,6 @@ module _ (s : HeapState) (k i at word : ℕ) (there : k < s.blocks) (few : i < 6
         record { address = at; block = omega (arith, there, few, small) },
         record { address = at; start = bit-there s.blocks StartBits s.words (64 * k + i) j (omega (arith, there, few)) small ∙ bit },
       )
-
--- a word of the 64 words that a zone has of block k, read as a slice
-pub run-read : (s : HeapState) (words : List ℕ) (z : Zone) (at k i : ℕ) → words ≡ s.words → at ≡ first s.blocks z → i < 64
-    → slice_index (slice_range words (at + 64 * k) (at + 64 * k + 64)) i ≡ word_at s (first s.blocks z + (64 * k + i))
-run-read s words z at k i same is small =
-    let there : at + 64 * k + i ≡ first s.blocks z + (64 * k + i) = omega (arith, is) in
-    get_or-take (at + 64 * k + 64 - (at + 64 * k)) (drop (at + 64 * k) words) i 0 (omega (arith, small)) ∙ get_or-drop (at + 64 * k) words i 0
-    ∙ ap (slice_index words) there ∙ ap (λ l. slice_index l (first s.blocks z + (64 * k + i))) same
 
 -- where start bits and unlog bits do not differ, they are equal, and each object of the block has its unlog bit
 pub words-equal : (s : HeapState) (k : ℕ) → (DiffersInSome s k → ⊥) → (i : ℕ) → i < 64 → start_word s (64 * k + i) ≡ unlog_word s (64 * k + i)

@@ -46,3 +46,4 @@ mod TwoBuckets
 pub mod Offered
 pub mod ItsLines
 mod MarkedLines
+mod Crossing

@@ -40,7 +40,7 @@ pub record Going (r : Rules) (c : Collect) (base : ℕ) (old : Row) (words : Lis
   pub same : layout ≡ old.layout
   pub below : ReleasesBelow r c base (state_of old) (state_over words old.layout old.number old.base) n
 
-pub going-first : (r : Rules) (c : Collect) (base : ℕ) (old : Row) → Going r c base old old.words.items old.layout 0
+pub going-first : (r : Rules) (c : Collect) (base : ℕ) (old : Row) → Going r c base old old.words old.layout 0
 going-first r c base old = record { same = refl; below = none }
 
 pub going-on : (r : Rules) (c : Collect) (base : ℕ) (old : Row) (words words' : List ℕ) (n : ℕ) → Going r c base old words old.layout n → n < old.layout.blocks

@@ -114,7 +114,7 @@ module _ (p : Setup) (es : List Event) (v : View) (t t' : PlainTrace) (roots : L
   grey-token = All-head (IsGrey p v) grey [] rights.tokens
 
   pub serves-object : (lines : Bool) → ScansFields p es v t' lines grey grey.refs out out' → t'.run ≡ t.run
-      → (IsTrue t.run.lines → (n : ℕ) → TouchesLine (blocks p) grey.target grey.size n → IsTrue (bit_of (blocks p) LineWords t'.row.words.items n))
+      → (IsTrue t.run.lines → (n : ℕ) → TouchesLine (blocks p) grey.target grey.size n → IsTrue (bit_of (blocks p) LineWords t'.row.words n))
       → (pushed : List Grey) × (out' ≡ out ++ pushed) × ServesItems p es v t roots (Object grey ∷ []) t' roots pushed
   serves-object lines scans run marked =
       let x : ℕ = grey.object in

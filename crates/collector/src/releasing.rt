@@ -1,14 +1,14 @@
 //! The release of all blocks at the end of a collection. What is known of the tracing and the kind
 //! of a block say how: by its unlog bits alone, by these and the objects left, or by the plan.
 
-ghost use Rattle.std.specs.Prelude.{◌≡◌, ◌+◌, ◌*◌, ◌<◌, ◌^◌, ◌||◌, ℕ, nat_eq, List, IsTrue, slice_index, true, false};
+ghost use Rattle.std.specs.Prelude.{◌≡◌, ◌+◌, ◌*◌, ◌<◌, ◌||◌, ℕ, nat_eq, List, IsTrue, true, false};
 ghost use Rattle.collector.specs.Prelude.{IsRowOf, code_of, kind_code, IsValidWord, HeapState, state_of, block_word, IsHeld, shown, IsReleasable, heap_state, Collect, Full, Nursery, InBlock, MaySweep, SweepsWords, Rules, Setup, Event, IsTracing, IsFinished, machine_after, heap_after, IsRunOf, TraceRun, Releases, word_after, is_kept_after, ReleasesBelow, with_numbers, UnlogBitsMarkSurvivors, LosesNothing, SweepsSome, DiffersInSome, UnlogWordMarksSurvivors, LinesOfTargetsAreMarked, LinesOfClaimedAreMarked, LineBitsMarkSurvivors, FlagShowsEvacuation, IsTracedUnder, IsKnown, ShowsRelease};
 ghost use Rattle.collector.specs.Prelude.kinds;
 ghost use Rattle.collector.specs.Prelude.knowledge;
 
 use block_sweeps::{differ, free_block, store};
 use heap_layout::{BLOCK_BIT_WORDS, BlockWord, Kind, Layout, encode};
-use object_model::{Collect, Heap, Row};
+use object_model::{Collect, Heap, Row, WordRow};
 use plan_api::{Plan, block_word_in};
 use side_meta::Words;
 use trace_core::{TraceRun, Traced};
@@ -91,7 +91,7 @@ pub(crate) fn release_by<P: Plan>(traced: Traced, known: Known) -> Heap
         let evacuated = from[block as usize];
         release_next::<P>(&mut words, &layout, block, collect, base, known, evacuated);
     }
-    words_fit(&words);
+    words.words_fit();
     Heap::from_row(Row {
         words,
         layout,
@@ -103,7 +103,7 @@ pub(crate) fn release_by<P: Plan>(traced: Traced, known: Known) -> Heap
 /// Releases a block, by what is known of the tracing and by its kind. `evacuated` is the block's
 /// flag of the tracing. Large runs are released by the plan.
 fn release_next<P: Plan>(
-    words: &mut Vec<u64>,
+    words: &mut WordRow,
     layout: &Layout,
     block: u32,
     collect: Collect,
@@ -111,13 +111,13 @@ fn release_next<P: Plan>(
     known: Known,
     evacuated: bool,
 )
-    requires extent { IsRowOf layout.now words.old.items }
+    requires extent { IsRowOf layout.now words.old }
     requires block { block < layout.now.blocks }
-    requires releasable { IsReleasable (shown words.old.items layout.now) block }
-    requires shows { ShowsRelease known P.rules collect base (shown words.old.items layout.now)
+    requires releasable { IsReleasable (shown words.old layout.now) block }
+    requires shows { ShowsRelease known P.rules collect base (shown words.old layout.now)
         block evacuated }
-    ensures { Releases P.rules collect base (shown words.old.items layout.now)
-        (shown words.new.items layout.now) block }
+    ensures { Releases P.rules collect base (shown words.old layout.now)
+        (shown words.new layout.now) block }
 {
     let word = block_word_in(words, layout, block);
     if is_shown(known, word.kind) {
@@ -160,22 +160,22 @@ fn keeps_lines(known: Known, kind: Kind) -> bool
 
 /// Releases an Immix block whose line bits show what lives in it if no object in it died or moved
 /// away. They stay then, else its lines are marked anew, from the objects that are left.
-fn release_kept_lines<P: Plan>(words: &mut Vec<u64>, layout: &Layout, block: u32, word: &BlockWord)
-    requires extent { IsRowOf layout.now words.old.items }
+fn release_kept_lines<P: Plan>(words: &mut WordRow, layout: &Layout, block: u32, word: &BlockWord)
+    requires extent { IsRowOf layout.now words.old }
     requires block { block < layout.now.blocks }
-    requires releasable { IsReleasable (shown words.old.items layout.now) block }
+    requires releasable { IsReleasable (shown words.old layout.now) block }
     requires valid { IsValidWord word.now }
-    requires code { code_of word.now ≡ block_word (shown words.old.items layout.now) block }
+    requires code { code_of word.now ≡ block_word (shown words.old layout.now) block }
     requires immix { word.now.kind ≡ kinds.Immix }
     requires lines { IsTrue P.rules.lines }
     requires shows { (base : ℕ)
-        × UnlogBitsMarkSurvivors base (shown words.old.items layout.now) block }
+        × UnlogBitsMarkSurvivors base (shown words.old layout.now) block }
     ensures { (c : Collect) (base : ℕ)
-        → UnlogBitsMarkSurvivors base (shown words.old.items layout.now) block
-        → (LosesNothing base (shown words.old.items layout.now) block
-        → LineBitsMarkSurvivors base (shown words.old.items layout.now) block)
-        → Releases P.rules c base (shown words.old.items layout.now)
-        (shown words.new.items layout.now) block }
+        → UnlogBitsMarkSurvivors base (shown words.old layout.now) block
+        → (LosesNothing base (shown words.old layout.now) block
+        → LineBitsMarkSurvivors base (shown words.old layout.now) block)
+        → Releases P.rules c base (shown words.old layout.now)
+        (shown words.new layout.now) block }
 {
     if !bits_differ(words, layout, block) {
         let _left = sweep_by_bits(words, layout, block, word, false);
@@ -191,29 +191,29 @@ fn release_kept_lines<P: Plan>(words: &mut Vec<u64>, layout: &Layout, block: u32
 /// Another keeps its line bits and has no owner. One that was evacuated is Kept then, but for an
 /// Immix block.
 fn sweep_by_bits(
-    words: &mut Vec<u64>,
+    words: &mut WordRow,
     layout: &Layout,
     block: u32,
     word: &BlockWord,
     evacuated: bool,
 ) -> bool
-    requires extent { IsRowOf layout.now words.old.items }
+    requires extent { IsRowOf layout.now words.old }
     requires block { block < layout.now.blocks }
-    requires releasable { IsReleasable (shown words.old.items layout.now) block }
+    requires releasable { IsReleasable (shown words.old layout.now) block }
     requires valid { IsValidWord word.now }
-    requires code { code_of word.now ≡ block_word (shown words.old.items layout.now) block }
+    requires code { code_of word.now ≡ block_word (shown words.old layout.now) block }
     requires head { word.now.kind ≡ kinds.LargeHead → ⊥ }
     requires tail { word.now.kind ≡ kinds.LargeTail → ⊥ }
     requires shows { (base : ℕ)
-        × UnlogBitsMarkSurvivors base (shown words.old.items layout.now) block }
+        × UnlogBitsMarkSurvivors base (shown words.old layout.now) block }
     ensures left { result ≡ true → (r : Rules) (c : Collect) (base : ℕ)
-        → UnlogBitsMarkSurvivors base (shown words.old.items layout.now) block
-        → FlagShowsEvacuation r c (shown words.old.items layout.now) block evacuated
-        → SweepsSome r c base (shown words.old.items layout.now)
-        (shown words.new.items layout.now) block }
+        → UnlogBitsMarkSurvivors base (shown words.old layout.now) block
+        → FlagShowsEvacuation r c (shown words.old layout.now) block evacuated
+        → SweepsSome r c base (shown words.old layout.now)
+        (shown words.new layout.now) block }
     ensures none { result ≡ false → (r : Rules) (c : Collect) (base : ℕ)
-        → UnlogBitsMarkSurvivors base (shown words.old.items layout.now) block
-        → Releases r c base (shown words.old.items layout.now) (shown words.new.items layout.now)
+        → UnlogBitsMarkSurvivors base (shown words.old layout.now) block
+        → Releases r c base (shown words.old layout.now) (shown words.new layout.now)
         block }
 {
     keep_marked(words, layout, block);
@@ -275,16 +275,16 @@ fn may_be_kept(kind: Kind) -> bool
 
 /// Clears the start and pin bits of objects in the block that have no unlog bit. Most blocks of old
 /// objects lose none, which takes one look at each word.
-fn keep_marked(words: &mut Vec<u64>, layout: &Layout, block: u32)
-    requires extent { IsRowOf layout.now words.old.items }
+fn keep_marked(words: &mut WordRow, layout: &Layout, block: u32)
+    requires extent { IsRowOf layout.now words.old }
     requires block { block < layout.now.blocks }
-    requires releasable { IsReleasable (shown words.old.items layout.now) block }
+    requires releasable { IsReleasable (shown words.old layout.now) block }
     requires shows { (base : ℕ)
-        × UnlogBitsMarkSurvivors base (shown words.old.items layout.now) block }
+        × UnlogBitsMarkSurvivors base (shown words.old layout.now) block }
     ensures { (base : ℕ)
-        → UnlogBitsMarkSurvivors base (shown words.old.items layout.now) block
+        → UnlogBitsMarkSurvivors base (shown words.old layout.now) block
         → SweepsWords base (BLOCK_BIT_WORDS * block) BLOCK_BIT_WORDS
-        (shown words.old.items layout.now) (shown words.new.items layout.now) }
+        (shown words.old layout.now) (shown words.new layout.now) }
 {
     if !bits_differ(words, layout, block) {
         return;
@@ -334,20 +334,13 @@ fn has_object<W: Words>(words: &W, layout: &Layout, block: u32) -> bool
 }
 
 /// Whether the start bits of the block differ from its unlog bits.
-fn bits_differ(words: &Vec<u64>, layout: &Layout, block: u32) -> bool
-    requires extent { IsRowOf layout.now words.now.items }
+fn bits_differ(words: &WordRow, layout: &Layout, block: u32) -> bool
+    requires extent { IsRowOf layout.now words.now }
     requires block { block < layout.now.blocks }
-    ensures some { result ≡ true → DiffersInSome (shown words.now.items layout.now) block }
-    ensures none { result ≡ false → DiffersInSome (shown words.now.items layout.now) block → ⊥ }
+    ensures some { result ≡ true → DiffersInSome (shown words.now layout.now) block }
+    ensures none { result ≡ false → DiffersInSome (shown words.now layout.now) block → ⊥ }
 {
-    let starts = (layout.start_base() + BLOCK_BIT_WORDS * block) as usize;
-    let unlogs = (layout.unlog_base() + BLOCK_BIT_WORDS * block) as usize;
-    let held = &words[starts..starts + BLOCK_BIT_WORDS as usize];
-    let living = &words[unlogs..unlogs + BLOCK_BIT_WORDS as usize];
-    differ(held, living)
+    let starts = layout.start_base() + BLOCK_BIT_WORDS * block;
+    let unlogs = layout.unlog_base() + BLOCK_BIT_WORDS * block;
+    differ(words, starts as usize, unlogs as usize)
 }
-
-/// Each word has 64 bits, which a definition that speaks of numbers does not know.
-fn words_fit(words: &[u64])
-    ensures { (i : ℕ) → slice_index words.now i < 2 ^ 64 }
-{}

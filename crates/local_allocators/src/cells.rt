@@ -18,7 +18,7 @@ use side_meta::{BITS_PER_WORD, test_bit};
 
 /// Whether an object begins at the offset of the block.
 fn is_taken(row: &Row, block: u32, offset: u32) -> bool
-    requires extent { IsRowOf row.now.layout row.now.words.items }
+    requires extent { IsRowOf row.now.layout row.now.words }
     requires block { block < row.now.layout.blocks }
     requires offset { offset < BLOCK_WORDS }
     ensures { result ≡ is_start (state_of row.now)
@@ -31,7 +31,7 @@ fn is_taken(row: &Row, block: u32, offset: u32) -> bool
 /// The first free cell of the block that begins at or after the offset `from`, where a cell
 /// begins, or no words. That cell is tested first: the search for others takes divisions.
 pub fn free_cell(row: &Row, block: u32, class: u32, from: u32) -> Region
-    requires extent { IsRowOf row.now.layout row.now.words.items }
+    requires extent { IsRowOf row.now.layout row.now.words }
     requires kind { HasKind (state_of row.now) block kinds.Cells }
     requires class { class_at (state_of row.now) block ≡ class }
     requires few { class < CLASSES }

@@ -55,11 +55,11 @@ pub fn first_region(fill: Kind, size: u32) -> Region
 
 /// Whether a block is Free: the code of its kind alone says it.
 pub fn is_free(row: &Row, block: u32) -> bool
-    requires extent { IsRowOf row.now.layout row.now.words.items }
+    requires extent { IsRowOf row.now.layout row.now.words }
     requires block { block < row.now.layout.blocks }
     ensures { IsTrue result ↔ HasKind (state_of row.now) block kinds.Free }
 {
-    row.words[row.layout.block_at(block) as usize] % CLASS_UNIT == Kind::Free as u64
+    row.words.get(row.layout.block_at(block) as usize) % CLASS_UNIT == Kind::Free as u64
 }
 
 /// The first part of a hole of a block that has room for `size` words and begins at or after
@@ -79,7 +79,7 @@ pub fn first_hole(row: &Row, fill: Kind, block: u32, from: u32, size: u32) -> Op
 #[inline(always)]
 pub fn rest_after(row: &Row, fill: Kind, block: u32, region: &Region, size: u32) -> Region
     requires fills { FillsHoles fill }
-    requires extent { IsRowOf row.now.layout row.now.words.items }
+    requires extent { IsRowOf row.now.layout row.now.words }
     requires kind { HasKind (state_of row.now) block fill }
     requires class { class_at (state_of row.now) block
         ≡ class_for_size fill size }

@@ -20,7 +20,7 @@ fn global_at(heap: &Heap, global: u32) -> u32
     requires { global < GLOBALS }
     ensures { result ≡ global_word_at (heap_state heap.now) global }
 {
-    heap.words()[heap.layout().global_at(global) as usize] as u32
+    heap.words().get(heap.layout().global_at(global) as usize) as u32
 }
 
 /// Appends the globals.

@@ -41,10 +41,6 @@ in_row s law a i held inside = let ends = ends_in_row s law a held in omega arit
 pub in_words : (s : HeapState) → IsWellFormed s → (a i : ℕ) → IsHeld s a → i < size_at s a → a + i < length s.words
 in_words s law a i held inside = let there = in_row s law a i held inside in let extent = law.row.extent in omega arith
 
--- a block's word is a word of the row
-pub block_in_words : (s : HeapState) → length s.words ≡ row_words s.blocks → (k : ℕ) → k < s.blocks → first s.blocks BlockWords + k < length s.words
-block_in_words s extent k there = omega arith
-
 -- a held object of a well-formed heap can be read
 pub readable : (s : HeapState) → IsWellFormed s → (a : ℕ) → IsHeld s a → IsReadable s a
 readable s law a held = record { extent = law.row.extent; held = held; object = (law.objects.headers a held).object; inside = ends_in_row s law a held }

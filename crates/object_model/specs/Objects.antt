@@ -36,7 +36,7 @@ abbrev pub shown : List ℕ → Layout → HeapState
 shown words layout = state_over words layout 0 0
 
 abbrev pub state_of : Row → HeapState
-state_of r = state_over r.words.items r.layout r.number r.base
+state_of r = state_over r.words r.layout r.number r.base
 
 -- the empty heap of b blocks: a row of zeros
 abbrev pub empty_heap : ℕ → HeapState

@@ -66,7 +66,9 @@ impl Heap {
         ensures few { result.1 < 2 ^ 32 }
     {
         let first = self.layout().heap_base() + BITS_PER_WORD * index;
-        let mut rest = self.words()[(self.layout().start_base() + index) as usize];
+        let mut rest = self
+            .words()
+            .get((self.layout().start_base() + index) as usize);
         let mut objects: u32 = 0;
         let mut words: u32 = 0;
         while rest != 0 {

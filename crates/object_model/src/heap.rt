@@ -4,11 +4,11 @@ ghost use Rattle.object_model.specs.Lawful.{IsLawful};
 ghost use Rattle.object_model.specs.Objects.{state_of};
 
 use crate::bits::is_held;
-use crate::object_words::zeros;
 use crate::row::Row;
 use crate::shape::Shape;
 use heap_layout::{BlockWord, Layout};
 use ideal_heap::{MAX_NUMS, MAX_REFS, Name};
+use shared_row::WordRow;
 use std::alloc::{AllocError, Global};
 
 /// A heap that satisfies the heap invariant.
@@ -33,7 +33,7 @@ impl Heap {
     pub fn new(alloc: Global, layout: Layout) -> Result<Heap, AllocError>
         ensures { IfOk result (λ h. heap_state h ≡ empty_heap layout.blocks) }
     {
-        let words = zeros(alloc, layout.words() as usize)?;
+        let words = WordRow::zeros(alloc, layout.words() as usize)?;
         Ok(Heap {
             row: Row {
                 words,
@@ -82,8 +82,8 @@ impl Heap {
     }
 
     /// The words of its row: side metadata first, the heap last.
-    pub fn words(&self) -> &Vec<u64>
-        ensures { result.now.items ≡ (heap_state self.now).words }
+    pub fn words(&self) -> &WordRow
+        ensures { result.now ≡ (heap_state self.now).words }
     {
         &self.row.words
     }

@@ -32,6 +32,7 @@ pub use shape::{
     COLLECTOR_OFFSET, HEADER_WORDS, MAX_MEDIUM_WORDS, NUMS_UNIT, SHAPE_OFFSET, Shape, decode_shape,
     encode_shape, size_words,
 };
+pub use shared_row::WordRow;
 pub use step_laws::{
     cleared_bits_log, heaps_represent_on_sets, preserved_heaps_represent, steps_follow_steps,
 };

@@ -7,6 +7,7 @@ use crate::object_words::{BIRTH_UNIT, write_words};
 use crate::shape::{HEADER_WORDS, NUMS_UNIT, Shape};
 use heap_layout::{BlockWord, GLOBALS, Layout, decode, encode};
 use ideal_heap::{MAX_NUMS, MAX_REFS, Name};
+use shared_row::WordRow;
 use side_meta::{clear, set, test};
 
 /// A heap as plain data, for code that edits words and restores the invariants itself.
@@ -16,7 +17,7 @@ use side_meta::{clear, set, test};
 #[derive(Debug, Drop)]
 pub struct Row {
     /// The words: side metadata first, the heap last.
-    pub words: Vec<u64>,
+    pub words: WordRow,
     /// Where each zone begins, in words.
     pub layout: Layout,
     /// The number of the last collection, 0 before the first.
@@ -39,7 +40,7 @@ impl Row {
         ensures name { result ≡ name_at (state_of self.now) address }
         ensures valid { IsName result }
     {
-        let word = self.words[address as usize];
+        let word = self.words.get(address as usize);
         Name {
             mutator: (word % BIRTH_UNIT) as u32,
             birth: (word / BIRTH_UNIT) as u32,
@@ -54,7 +55,7 @@ impl Row {
         ensures refs_most { result.refs ≤ MAX_REFS }
         ensures nums_most { result.nums ≤ MAX_NUMS }
     {
-        let word = self.words[address as usize + 1];
+        let word = self.words.get(address as usize + 1);
         Shape {
             refs: (word % NUMS_UNIT) as u32,
             nums: (word / NUMS_UNIT) as u32,
@@ -69,7 +70,8 @@ impl Row {
         ensures value { result ≡ ref_word_at (state_of self.now) address index }
         ensures reference { IsRefField (state_of self.now) result }
     {
-        self.words[address as usize + HEADER_WORDS as usize + index as usize] as u32
+        self.words
+            .get(address as usize + HEADER_WORDS as usize + index as usize) as u32
     }
 
     /// Number `index` of the object at `address`.
@@ -78,7 +80,9 @@ impl Row {
         requires field { index < nums_at (state_of self.now) address }
         ensures { result ≡ num_word_at (state_of self.now) address index }
     {
-        self.words[address as usize + HEADER_WORDS as usize + self.refs(address) + index as usize]
+        self.words.get(
+            address as usize + HEADER_WORDS as usize + self.refs(address) + index as usize,
+        )
     }
 
     /// A global: an address, or 0 for nil.
@@ -88,19 +92,19 @@ impl Row {
         ensures value { result ≡ global_at (state_of self.now) global }
         ensures reference { IsRoot (state_of self.now) result }
     {
-        self.words[self.layout.global_at(global) as usize] as u32
+        self.words.get(self.layout.global_at(global) as usize) as u32
     }
 
     /// Sets a global to an address, or to 0 for nil.
     pub fn set_global(&mut self, global: u32, value: u32)
-        requires extent { length self.old.words.items ≡ row_words (state_of self.old).blocks }
+        requires extent { length self.old.words ≡ row_words (state_of self.old).blocks }
         requires global { global < GLOBALS }
         ensures { state_of self.new ≡ with_words (state_of self.old)
-            (slice_set self.old.words.items (first (state_of self.old).blocks Globals + global)
+            (slice_set self.old.words (first (state_of self.old).blocks Globals + global)
             value) }
     {
         let at = self.layout.global_at(global) as usize;
-        self.words[at] = value as u64;
+        self.words.set(at, value as u64);
     }
 
     /// The kind, class and owner of a block.
@@ -109,26 +113,26 @@ impl Row {
         ensures code { code_of result ≡ block_word (state_of self.now) block }
         ensures valid { IsValidWord result }
     {
-        decode(self.words[self.layout.block_at(block) as usize]).unwrap()
+        decode(self.words.get(self.layout.block_at(block) as usize)).unwrap()
     }
 
     /// Sets the word of a block.
     pub fn set_block(&mut self, block: u32, word: &BlockWord)
-        requires extent { length self.old.words.items ≡ row_words (state_of self.old).blocks }
+        requires extent { length self.old.words ≡ row_words (state_of self.old).blocks }
         requires block { block < (state_of self.old).blocks }
         requires valid { IsValidWord word.now }
         ensures { state_of self.new ≡ with_words (state_of self.old)
-            (slice_set self.old.words.items (first (state_of self.old).blocks BlockWords + block)
+            (slice_set self.old.words (first (state_of self.old).blocks BlockWords + block)
             (code_of word.now)) }
     {
         let at = self.layout.block_at(block) as usize;
-        self.words[at] = encode(word);
+        self.words.set(at, encode(word));
     }
 
     /// Writes a new object at `address`, with a collector word of 0, nil references and zero
     /// numbers, and sets its start bit. Block words and line bits are left to the caller.
     pub fn write_object(&mut self, address: u32, name: &Name, shape: &Shape)
-        requires extent { length self.old.words.items ≡ row_words (state_of self.old).blocks }
+        requires extent { length self.old.words ≡ row_words (state_of self.old).blocks }
         requires address { IsAddress (state_of self.old).blocks address }
         requires refs { shape.now.refs ≤ MAX_REFS }
         requires nums { shape.now.nums ≤ MAX_NUMS }
@@ -154,7 +158,7 @@ impl Row {
 
     /// Sets or clears the pin bit of an address.
     pub fn set_pinned(&mut self, address: u32, pinned: bool)
-        requires extent { length self.old.words.items ≡ row_words (state_of self.old).blocks }
+        requires extent { length self.old.words ≡ row_words (state_of self.old).blocks }
         requires address { IsAddress (state_of self.old).blocks address }
         ensures { SetsPin (state_of self.old) (state_of self.new) address pinned }
     {
@@ -171,6 +175,6 @@ impl Row {
         requires { IsReadable (state_of self.now) address }
         ensures { result ≡ refs_at (state_of self.now) address }
     {
-        (self.words[address as usize + 1] % NUMS_UNIT) as usize
+        (self.words.get(address as usize + 1) % NUMS_UNIT) as usize
     }
 }

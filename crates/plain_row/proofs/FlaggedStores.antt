@@ -20,7 +20,7 @@ use Rattle.plain_row.proofs.FlaggedBlocks as flags
 -- the row with the unlog bit of this address clear
 abbrev pub Cleared : PlainRow → PlainRow → ℕ → Type 0
 Cleared w cleared n = StoresWord w cleared (bit_word w.row.layout.blocks UnlogBits n)
-    (without_bit (slice_index w.row.words.items (bit_word w.row.layout.blocks UnlogBits n)) (bit_place w.row.layout.blocks n))
+    (without_bit (slice_index w.row.words (bit_word w.row.layout.blocks UnlogBits n)) (bit_place w.row.layout.blocks n))
 
 module _ (a w : PlainRow) (ready : MayCall a) (s : ℕ) (register : s < 16) (shape : Shape) (has-shape : HasShape a s shape)
     (sets : SetsFlag a w (block_at a.row.layout.blocks (address_at a s))) where

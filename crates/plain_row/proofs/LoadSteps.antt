@@ -60,9 +60,9 @@ module _ (a : PlainRow) (ready : MayCall a) where
     address = held.address
 
     -- its header is in the row
-    pub collector-word : address_at a s + 2 < length a.row.words.items
+    pub collector-word : address_at a s + 2 < length a.row.words
     collector-word =
-        let extent : length a.row.words.items ≡ row_words a.row.layout.blocks = readable.extent in
+        let extent : length a.row.words ≡ row_words a.row.layout.blocks = readable.extent in
         let inside : address_at a s + size_at (state_of a.row) (address_at a s) ≤ row_words a.row.layout.blocks = readable.inside in
         omega arith
 

@@ -374,8 +374,8 @@ stores-there a cleared b s k v n x at value clears here is stores =
     (subst (λ q. StoresWord cleared b at q) (is ∙ address-stays a cleared v n x clears) stores)
 
 pub field-inside-then : (a cleared : PlainRow) → MayCall a → (s k : ℕ) (shape : Shape) → s < 16 → HasShape a s shape → k < shape.refs → (n x at : ℕ) → StoresWord a cleared n x
-    → at ≡ address_at cleared s + 3 + k → at < length cleared.row.words.items
+    → at ≡ address_at cleared s + 3 + k → at < length cleared.row.words
 field-inside-then a cleared ready s k shape register is there n x at clears here =
     subst (λ q. at < q) (sym (ap (λ q. length q.words) clears.words ∙ length-set (state_of a.row).words n x))
-    (subst (λ q. q < length a.row.words.items) (sym (here ∙ ap (λ q. q + 3 + k) (address-stays a cleared s n x clears)))
+    (subst (λ q. q < length a.row.words) (sym (here ∙ ap (λ q. q + 3 + k) (address-stays a cleared s n x clears)))
     (storing.field-inside a ready s k shape register is there))

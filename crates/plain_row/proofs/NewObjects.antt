@@ -85,7 +85,7 @@ module _ (a b : PlainRow) (d refs nums : ℕ) (n : Name) (born : IsBorn a b d n 
   x = block_start a.row.layout.blocks born.block + born.region.next
 
   abbrev v : List ℕ
-  v = b.row.words.items
+  v = b.row.words
 
   abbrev m : ℕ
   m = number_at_turn a

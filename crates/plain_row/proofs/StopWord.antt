@@ -21,7 +21,7 @@ use Rattle.plain_row.proofs.EntriesMade.{SteppedWith}
 use Rattle.plain_row.proofs.Turns as turns
 
 -- the row has a stop word and a budget word
-pub few-words : (w : PlainRow) → IsInSomeEpoch w → 1 < length w.row.words.items
+pub few-words : (w : PlainRow) → IsInSomeEpoch w → 1 < length w.row.words
 few-words w now = let many = turns.extent now.epoch now.ideal now.log w now.at in omega arith
 
 -- the stop word is 0 or a mutator's number
@@ -39,7 +39,7 @@ module _ (a b : PlainRow) (n : ℕ) (stores : StoresWord a b 0 n) (ready : MayCa
 
   stop-raised : word_at (state_of b.row) 0 ≡ stop_after true (number_at_turn a) (word_at (state_of a.row) 0)
   stop-raised = ap (λ t. word_at t 0) stores.words
-      ∙ get_or-set_same (state_of a.row).words 0 n 0 (let many : 1 < length a.row.words.items = few-words a ready.between_calls.some in omega arith)
+      ∙ get_or-set_same (state_of a.row).words 0 n 0 (let many : 1 < length a.row.words = few-words a ready.between_calls.some in omega arith)
       ∙ own ∙ sym (cond-true (nat_eq (word_at (state_of a.row) 0) 0) (number_at_turn a) (word_at (state_of a.row) 0) (eq-eqb (word_at (state_of a.row) 0) 0 none))
 
   reach : (p : Epoch) (i : IdealHeap) (log : List LogEntry) → IsAt p i log a → SteppedWith p i log (number_at_turn a) [] 0 true a b

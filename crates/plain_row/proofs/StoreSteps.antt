@@ -1,8 +1,6 @@
 -- Commands that read or change a word.
 use Rattle.std.proofs.Common.{◌≡◌, ◌≢◌, refl, sym, ◌∙◌, ap, subst, ℕ, ◌+◌, ◌-◌, ◌/◌, ◌%◌, ◌^◌, ◌<◌, ◌≤◌, inl, inr, arith, Bool, true, false, ◌&&◌, not, nat_eq, List, [], ◌∷◌, ◌++◌, length, get_or}
 use Rattle.std.specs.Prelude.{slice_index, if◌then◌else◌}
-use Rattle.std.proofs.lemmas.Option.{get_or_from_slice_get}
-use Rattle.block_regions.proofs.Elements.{read-some}
 use Rattle.std.proofs.lemmas.Bool.{cases_lt, cond-false, cond-true, ne_eqb, eq-eqb}
 use Rattle.std.specs.Int.{bit_at}
 use Rattle.forward_word.specs.CollectorWords.{is_old_word}
@@ -59,35 +57,34 @@ held-in a ready s register some =
     (register, subst (λ n. 0 < n) (sym same) (some-address (address_at a s) some))))
 
 -- the row has all words of the layout
-pub extent : (a : PlainRow) → MayCall a → length a.row.words.items ≡ row_words a.row.layout.blocks
+pub extent : (a : PlainRow) → MayCall a → length a.row.words ≡ row_words a.row.layout.blocks
 extent a ready = let now = ready.between_calls.some in turns.extent now.epoch now.ideal now.log a now.at
 
 pub readable : (a : PlainRow) → MayCall a → (s : ℕ) → s < 16 → address_at a s ≢ 0 → IsReadable (state_of a.row) (address_at a s)
 readable a ready s register some = let now = ready.between_calls.some in facts.readable-object now.epoch now.ideal now.log a now.at (address_at a s) (held-in a ready s register some)
 
 -- a global, a field and a number of an object lie in the row
-pub global-inside : (a : PlainRow) → MayCall a → (g : ℕ) → g < 16 → 2 + g < length a.row.words.items
+pub global-inside : (a : PlainRow) → MayCall a → (g : ℕ) → g < 16 → 2 + g < length a.row.words
 global-inside a ready g there = let len = extent a ready in let few = (let now = ready.between_calls.some in turns.least-blocks now.epoch now.ideal now.log a now.at) in omega arith
 
-pub field-inside : (a : PlainRow) → MayCall a → (s i : ℕ) (shape : Shape) → s < 16 → HasShape a s shape → i < shape.refs → address_at a s + 3 + i < length a.row.words.items
+pub field-inside : (a : PlainRow) → MayCall a → (s i : ℕ) (shape : Shape) → s < 16 → HasShape a s shape → i < shape.refs → address_at a s + 3 + i < length a.row.words
 field-inside a ready s i shape register is there =
     let inside : address_at a s + (3 + refs_at (state_of a.row) (address_at a s) + nums_at (state_of a.row) (address_at a s)) ≤ row_words a.row.layout.blocks = (readable a ready s register is.some).inside in
     let refs : shape.refs ≡ refs_at (state_of a.row) (address_at a s) = is.refs in
-    let len : length a.row.words.items ≡ row_words a.row.layout.blocks = extent a ready in
+    let len : length a.row.words ≡ row_words a.row.layout.blocks = extent a ready in
     omega arith
 
-pub number-inside : (a : PlainRow) → MayCall a → (s j : ℕ) (shape : Shape) → s < 16 → HasShape a s shape → j < shape.nums → address_at a s + 3 + shape.refs + j < length a.row.words.items
+pub number-inside : (a : PlainRow) → MayCall a → (s j : ℕ) (shape : Shape) → s < 16 → HasShape a s shape → j < shape.nums → address_at a s + 3 + shape.refs + j < length a.row.words
 number-inside a ready s j shape register is there =
     let inside : address_at a s + (3 + refs_at (state_of a.row) (address_at a s) + nums_at (state_of a.row) (address_at a s)) ≤ row_words a.row.layout.blocks = (readable a ready s register is.some).inside in
     let refs : shape.refs ≡ refs_at (state_of a.row) (address_at a s) = is.refs in
     let nums : shape.nums ≡ nums_at (state_of a.row) (address_at a s) = is.nums in
-    let len : length a.row.words.items ≡ row_words a.row.layout.blocks = extent a ready in
+    let len : length a.row.words ≡ row_words a.row.layout.blocks = extent a ready in
     omega arith
 
 -- the word that is read
-pub read-word : (a : PlainRow) (k n x : ℕ) → k ≡ n → k < length a.row.words.items → x ≡ get_or a.row.words.items k x → x ≡ word_at (state_of a.row) n
-read-word a k n x same there read =
-    sym (get_or_from_slice_get a.row.words.items k x 0 (read-some a.row.words.items k x there read)) ∙ ap (word_at (state_of a.row)) same
+pub read-word : (a : PlainRow) (k n x : ℕ) → k ≡ n → x ≡ get_or a.row.words k 0 → x ≡ word_at (state_of a.row) n
+read-word a k n x same read = read ∙ ap (word_at (state_of a.row)) same
 
 -- a word that is only read
 pub reads : (a : PlainRow) (n : ℕ) → StoresWord a a n (word_at (state_of a.row) n)
@@ -277,12 +274,12 @@ module _ (a b : PlainRow) (ready : MayCall a) (s j : ℕ) (shape : Shape) (regis
 
 -- the word with a bit of an object lies in the row
 pub bit-inside : (a : PlainRow) → MayCall a → (s n : ℕ) → s < 16 → address_at a s ≢ 0 → n ≤ first a.row.layout.blocks UnlogBits
-    → n + (address_at a s - heap_of a.row.layout.blocks) / 64 < length a.row.words.items
+    → n + (address_at a s - heap_of a.row.layout.blocks) / 64 < length a.row.words
 bit-inside a ready s n register some low =
     let is = (held-in a ready s register some).address in
     let from : heap_of a.row.layout.blocks ≤ address_at a s = is.from in
     let below : address_at a s < row_words a.row.layout.blocks = is.below in
-    let len : length a.row.words.items ≡ row_words a.row.layout.blocks = extent a ready in
+    let len : length a.row.words ≡ row_words a.row.layout.blocks = extent a ready in
     omega arith
 
 -- the pin bit of the object in register s is set or cleared

@@ -71,7 +71,7 @@ module _ (p : Epoch) (i : IdealHeap) (log : List LogEntry) (w : PlainRow) (at : 
   abbrev s : HeapState
   s = state_of w.row
 
-  pub extent : length w.row.words.items ≡ row_words w.row.layout.blocks
+  pub extent : length w.row.words ≡ row_words w.row.layout.blocks
   extent = (facts.order p i log w at).row.extent
 
   pub least-blocks : 4 ≤ w.row.layout.blocks

@@ -131,7 +131,7 @@ impl MutatorSteps for PlainRow {
 
     fn load_number(&mut self, s: u32, j: u32, shape: &Shape) -> u64 {
         let at = self.number_word(s, j, shape);
-        self.row.words[at]
+        self.row.words.get(at)
     }
 
     fn store_number(&mut self, s: u32, j: u32, n: u64, shape: &Shape) {
@@ -141,14 +141,14 @@ impl MutatorSteps for PlainRow {
 
     fn add_number(&mut self, s: u32, j: u32, n: u64, shape: &Shape) -> u64 {
         let at = self.number_word(s, j, shape);
-        let number = self.row.words[at];
+        let number = self.row.words.get(at);
         self.store(at, number.wrapping_add(n));
         number
     }
 
     fn exchange_number(&mut self, s: u32, j: u32, was: u64, next: u64, shape: &Shape) -> bool {
         let at = self.number_word(s, j, shape);
-        if self.row.words[at] != was {
+        if self.row.words.get(at) != was {
             return false;
         }
         self.store(at, next);
@@ -170,11 +170,11 @@ impl MutatorSteps for PlainRow {
     }
 
     fn load_stop(&mut self) -> u32 {
-        self.row.words[STOP_WORD] as u32
+        self.row.words.get(STOP_WORD) as u32
     }
 
     fn raise_stop(&mut self) {
-        let stop = self.row.words[STOP_WORD];
+        let stop = self.row.words.get(STOP_WORD);
         if stop == 0 {
             let number = self.number();
             self.store(0, number as u64);
@@ -256,7 +256,7 @@ impl AllocationSteps for PlainRow {
     }
 
     fn draw_ticket(&mut self) -> u32 {
-        let ticket = self.row.words[BUDGET_WORD];
+        let ticket = self.row.words.get(BUDGET_WORD);
         self.store(1, ticket + 1);
         let ticket = ticket as u32;
         let seat = &mut self.seats[self.turn];

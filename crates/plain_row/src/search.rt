@@ -72,7 +72,7 @@ impl PlainRow {
     /// the class in, or, if `over`, its overflow region.
     fn take(&mut self, over: bool, block: u32, class: u32, region: Region, ticket: Option<u32>)
         requires turn { IsTurn self.old }
-        requires extent { IsRowOf self.old.row.layout self.old.row.words.items }
+        requires extent { IsRowOf self.old.row.layout self.old.row.words }
         requires block { block < self.old.row.layout.blocks }
         requires notes { block < length self.old.notes.items }
         requires room { vec_len self.old.owned < vec_capacity self.old.owned }

@@ -20,10 +20,10 @@ use side_meta::BITS_PER_WORD;
 impl PlainRow {
     /// Stores a word.
     pub(crate) fn store(&mut self, at: usize, value: u64)
-        requires { at < length self.old.row.words.items }
+        requires { at < length self.old.row.words }
         ensures { StoresWord self.old self.new at value }
     {
-        self.row.words[at] = value;
+        self.row.words.set(at, value);
     }
 
     /// The index of the word with the bit of an address, in a zone that has a bit for each word of
@@ -41,20 +41,20 @@ impl PlainRow {
 
     /// Sets a bit of a word.
     pub(crate) fn set_bit(&mut self, at: u32, bit: u32)
-        requires word { at < length self.old.row.words.items }
+        requires word { at < length self.old.row.words }
         requires bit { bit < BITS_PER_WORD }
         ensures { StoresWord self.old self.new at
-            (with_bit (slice_index self.old.row.words.items at) bit) }
+            (with_bit (slice_index self.old.row.words at) bit) }
     {
         side_meta::set_bit(&mut self.row.words, at, bit);
     }
 
     /// Clears a bit of a word.
     pub(crate) fn clear_bit(&mut self, at: u32, bit: u32)
-        requires word { at < length self.old.row.words.items }
+        requires word { at < length self.old.row.words }
         requires bit { bit < BITS_PER_WORD }
         ensures { StoresWord self.old self.new at
-            (without_bit (slice_index self.old.row.words.items at) bit) }
+            (without_bit (slice_index self.old.row.words at) bit) }
     {
         side_meta::clear_bit(&mut self.row.words, at, bit);
     }
@@ -71,11 +71,11 @@ impl PlainRow {
 
     /// Clears the unlog bit of an address.
     pub(crate) fn clear_unlog(&mut self, address: u32)
-        requires extent { IsRowOf self.old.row.layout self.old.row.words.items }
+        requires extent { IsRowOf self.old.row.layout self.old.row.words }
         requires address { IsAddress self.old.row.layout.blocks address }
         ensures { StoresWord self.old self.new
             (bit_word self.old.row.layout.blocks UnlogBits address)
-            (without_bit (slice_index self.old.row.words.items
+            (without_bit (slice_index self.old.row.words
             (bit_word self.old.row.layout.blocks UnlogBits address))
             (bit_place self.old.row.layout.blocks address)) }
     {

@@ -1,22 +1,18 @@
 -- A root asks a tracer for an object that has its target.
-use Rattle.std.proofs.Common.{◌≡◌, ℕ, ◌+◌, ◌<◌, inl, inr, IsTrue, nat_eq, List, [], ◌∷◌, ◌++◌, refl, sym, ap, ◌∙◌, subst, arith, Some}
-use Rattle.std.proofs.lemmas.Bool.{cases_eq, eq-eqb, ne_eqb}
+use Rattle.std.proofs.Common.{◌≡◌, ℕ, ◌+◌, ◌<◌, IsTrue, List, [], ◌∷◌, ◌++◌, refl, sym, ap, ◌∙◌, subst, Some}
 use Rattle.std.proofs.lemmas.List.{set-get_or}
 use Rattle.trace_core.specs.Setups.{Setup, stays_old}
-use Rattle.trace_core.specs.Machine.{Machine, Event, ByRoot, Ask, target, next, put, heap_in}
+use Rattle.trace_core.specs.Machine.{Machine, Event, ByRoot, Ask, next, heap_in}
 use Rattle.trace_core.specs.Traces.{machine_after, target_of}
 use Rattle.trace_core.specs.Views.{View, Holds, asked_view}
-use Rattle.object_model.specs.Times.{one_if, times}
 use Rattle.plain_tracer.specs.Tracers.{Tracks, Claims, ClaimsRoot}
 use Rattle.trace_core.specs.Rooms.{IsCopyRoom, StayWithoutRoom}
 use Rattle.plain_tracer.specs.declared.plain_trace.PlainTrace.{PlainTrace}
 use Rattle.plain_tracer.specs.declared.tokens.Claim as answers
 use Rattle.plain_tracer.specs.declared.tokens.Claim.TheVariants as answer
-use Rattle.trace_core.proofs.Puts.{put_here, put_else}
 use Rattle.trace_core.proofs.AppendedEvents.{machine-next, trace-next}
 use Rattle.trace_core.proofs.BlocksLeft.{left-stays}
-use Rattle.trace_core.proofs.CountedRights.{hits-from, pair-parts, times-cons}
-use Rattle.trace_core.proofs.Idle.{one-if-true}
+use Rattle.trace_core.proofs.AskRights.{holds-asked}
 
 module _ (p : Setup) (es : List Event) (t : PlainTrace) (v : View) (tracks : Tracks p es t v) (x u : ℕ) (is : target_of p es x ≡ Some u) where
   abbrev was : Machine
@@ -28,33 +24,6 @@ module _ (p : Setup) (es : List Event) (t : PlainTrace) (v : View) (tracks : Tra
   same-words : now.words ≡ was.words
   same-words = set-get_or was.words (x + 2) 0
 
-  asked-now : (y : ℕ) → times y (x ∷ v.asked) ≡ put was.asked x (was.asked x + 1) y
-  asked-now y = elim (cases_eq y x) as (λ _. times y (x ∷ v.asked) ≡ put was.asked x (was.asked x + 1) y) [
-    | inl e ↦ (let count : times y (x ∷ v.asked) ≡ one_if (nat_eq y x) + times y v.asked = times-cons x v.asked y in
-        let one : one_if (nat_eq y x) ≡ 1 = one-if-true (nat_eq y x) (eq-eqb y x e) in
-        let before : times y v.asked ≡ was.asked x = tracks.holds.asked y ∙ ap was.asked e in
-        let more : put was.asked x (was.asked x + 1) y ≡ was.asked x + 1 = ap (put was.asked x (was.asked x + 1)) e ∙ put_here was.asked x (was.asked x + 1) in omega arith)
-    | inr ne ↦ (let count : times y (x ∷ v.asked) ≡ one_if (nat_eq y x) + times y v.asked = times-cons x v.asked y in
-        let zero : one_if (nat_eq y x) ≡ 0 = ap one_if (ne_eqb y x ne) in
-        let before : times y v.asked ≡ was.asked y = tracks.holds.asked y in
-        let still : put was.asked x (was.asked x + 1) y ≡ was.asked y = put_else was.asked x (was.asked x + 1) y ne in omega arith)
-  ]
-
-  holds-now : Holds p now (asked_view x u v)
-  holds-now = record {
-    won = tracks.holds.won;
-    grey = tracks.holds.grey;
-    copied = tracks.holds.copied;
-    unset = tracks.holds.unset;
-    set = tracks.holds.set;
-    asked = asked-now;
-    known = λ y w some. elim (hits-from x u v.known y w some) as (λ _. target (was.stage y) ≡ Some w) [
-      | inl pair ↦ (let both = pair-parts x u y w pair in ap (λ z. target (was.stage z)) (sym both.0) ∙ is ∙ ap Some both.1)
-      | inr before ↦ tracks.holds.known y w before
-    ];
-    blocks = tracks.holds.blocks;
-  }
-
   pub tracks-asked : Tracks p (es ++ Ask x ∷ []) t (asked_view x u v)
   tracks-asked =
       let same : machine_after p (es ++ Ask x ∷ []) ≡ now = machine-next p es tracks.trace (Ask x) in
@@ -62,7 +31,7 @@ module _ (p : Setup) (es : List Event) (t : PlainTrace) (v : View) (tracks : Tra
         trace = trace-next p es tracks.trace (Ask x) (u, is);
         run = tracks.run;
         row = tracks.row ∙ ap (λ ws. record p.before { words = ws }) (sym same-words) ∙ ap (heap_in p) (sym same);
-        holds = subst (λ n. Holds p n (asked_view x u v)) (sym same) holds-now;
+        holds = subst (λ n. Holds p n (asked_view x u v)) (sym same) (holds-asked p was v tracks.holds x u is);
         room = subst (λ n. IsCopyRoom p n v.blocks t.block t.room) (sym same) tracks.room;
         left = left-stays p was (machine_after p (es ++ Ask x ∷ [])) (ap (λ (n : Machine). n.owner) same) v.sparse v.sparse refl v.blocks tracks.left;
         stayed = subst (λ n. StayWithoutRoom p n t.room) (sym same) tracks.stayed;

@@ -1,12 +1,9 @@
 -- A claim after a block was taken, or none.
-use Rattle.std.proofs.Common.{◌≡◌, ◌≢◌, ℕ, ◌+◌, ◌<◌, ◌≤◌, inl, inr, refl, arith, true≢false, ◌&&◌, not, IsTrue, nat_le, List, [], ◌∷◌, ◌++◌, append-nil, append_assoc, sym, ap, ◌∙◌, subst, Option, Some, None}
+use Rattle.std.proofs.Common.{◌≡◌, ◌≢◌, ℕ, ◌+◌, ◌<◌, inl, inr, refl, arith, List, [], ◌∷◌, ◌++◌, append-nil, append_assoc, sym, ap, ◌∙◌, subst, Option, Some, None}
 use Rattle.std.specs.Prelude.{take}
-use Rattle.std.proofs.lemmas.Bool.{and_parts, leb-true}
-use Rattle.heap_layout.specs.Zones.{block_at, block_start}
-use Rattle.heap_layout.specs.declared.block.Kind.TheVariants as kinds
+use Rattle.heap_layout.specs.Zones.{block_start}
 use Rattle.object_model.specs.declared.shape.Shape.{Shape}
-use Rattle.object_model.specs.Objects.{is_pinned}
-use Rattle.trace_core.specs.Setups.{Setup, TraceMayBegin, blocks, size, may_be_moved}
+use Rattle.trace_core.specs.Setups.{Setup, blocks, size}
 use Rattle.trace_core.specs.Machine.{Machine, Event, ClaimCause, ByRoot, ByGlobal, ByField, Claim, TakeBlock, target}
 use Rattle.trace_core.specs.Traces.{IsTracing, IsAskedBy, machine_after, target_of}
 use Rattle.trace_core.specs.Views.{View, claimed_view, taken_view, left_view}
@@ -21,16 +18,7 @@ use Rattle.trace_core.proofs.CountedRights.{hits-here}
 use Rattle.trace_core.proofs.AppendedEvents.{machine-next, trace-last}
 use Rattle.trace_core.proofs.BlocksLeft.{filled-more, left-more}
 use Rattle.trace_core.proofs.Clauses.{placed}
-use Rattle.plain_tracer.proofs.ClaimedObjects.{claim-keeps}
-
--- where an object may move, objects are copied somewhere, and it is not large
-module _ (p : Setup) (ready : TraceMayBegin p) (x : ℕ) (moves : IsTrue (may_be_moved p x)) where
-  pub copies-somewhere : p.copy ≢ kinds.Free
-  copies-somewhere none = true≢false (sym (and_parts (p.from (block_at (blocks p) x)) (not (is_pinned p.before x))
-      (and_parts (p.from (block_at (blocks p) x) && not (is_pinned p.before x)) (nat_le (size p x) 2048) moves).0).0 ∙ ready.fixed none (block_at (blocks p) x))
-
-  pub moves-small : size p x ≤ 2048
-  moves-small = leb-true (size p x) 2048 (and_parts (p.from (block_at (blocks p) x) && not (is_pinned p.before x)) (nat_le (size p x) 2048) moves).1
+use Rattle.trace_core.proofs.TakenStay.{claim-keeps}
 
 module _ (p : Setup) (es : List Event) (trace : IsTracing p es) where
   target-takes : (taken : Option ℕ) (x : ℕ) → target_of p (es ++ block_taken taken) x ≡ target_of p es x

@@ -1,5 +1,5 @@
 -- A tracer claims an object.
-use Rattle.std.proofs.Common.{◌≡◌, ◌≢◌, ℕ, ◌+◌, ◌-◌, ◌^◌, ◌<◌, ◌≤◌, inl, inr, Bool, ◌&&◌, not, IsTrue, nat_eq, List, [], ◌∷◌, ◌++◌, slice_set, refl, sym, ap, ◌∙◌, subst, arith, Option, Some, None}
+use Rattle.std.proofs.Common.{◌≡◌, ◌≢◌, ℕ, ◌+◌, ◌-◌, ◌^◌, ◌<◌, ◌≤◌, inl, inr, IsTrue, nat_eq, List, [], ◌∷◌, ◌++◌, slice_set, refl, sym, ap, ◌∙◌, subst, arith, Option, Some, None}
 use Rattle.std.specs.Prelude.{is_some}
 use Rattle.std.proofs.lemmas.Bool.{cases_eq, cases_lt, cond-true, cond-false, eq-eqb, ne_eqb}
 use Rattle.forward_word.specs.CollectorWords.{collector_word}
@@ -7,117 +7,28 @@ use Rattle.heap_layout.specs.Zones.{block_start, block_at}
 use Rattle.heap_layout.specs.declared.region.Region.{Region}
 use Rattle.object_model.specs.declared.shape.Shape.{Shape}
 use Rattle.object_model.specs.Objects.{IsHeld, state_of, with_words, IsInExtentOf}
-use Rattle.trace_core.specs.Setups.{Setup, blocks, size, refs, stays_old, keeps_its_words, may_be_moved}
-use Rattle.trace_core.specs.Machine.{Stage, Unclaimed, Copying, Scanning, target, Machine, Event, ClaimCause, ByRoot, ByGlobal, ByField, Claim, next, put, put_all, asks_after, heap_in}
-use Rattle.trace_core.specs.Traces.{May, NoneIsFree, IsAskedBy, machine_after, stage_of, target_of}
-use Rattle.trace_core.specs.Views.{View, Holds, hits, is_copying, is_scanning, is_stage_copied, steps_at_claim, asked_roots, claimed_view}
-use Rattle.object_model.specs.Times.{one_if, times}
+use Rattle.trace_core.specs.Setups.{Setup, blocks, size, refs, may_be_moved}
+use Rattle.trace_core.specs.Machine.{target, Machine, Event, ClaimCause, Claim, next, put_all, heap_in}
+use Rattle.trace_core.specs.Traces.{May, IsAskedBy, machine_after, stage_of, target_of}
+use Rattle.trace_core.specs.Views.{View, Holds, claimed_view}
 use Rattle.plain_tracer.specs.Tracers.{Tracks}
 use Rattle.trace_core.specs.Runs.{IsRunOf}
 use Rattle.trace_core.specs.Rooms.{IsCopyRoom, AreLeft, StayWithoutRoom}
 use Rattle.trace_core.specs.Rights.{IsWaiting}
 use Rattle.plain_tracer.specs.declared.plain_trace.PlainTrace.{PlainTrace}
 use Rattle.trace_core.proofs.Puts.{put_here, put_else, all_here, all_else}
-use Rattle.trace_core.proofs.Objects.{Some-injective, None-not-Some}
+use Rattle.trace_core.proofs.Objects.{Some-injective}
 use Rattle.trace_core.proofs.AppendedEvents.{machine-next, trace-next}
-use Rattle.trace_core.proofs.CountedRights.{hits-cons, hits-from, pair-parts, times-cons}
-use Rattle.trace_core.proofs.Idle.{one-if-true}
 use Rattle.trace_core.proofs.Law.{sound}
 use Rattle.trace_core.proofs.BlocksLeft.{left-more}
 use Rattle.plain_tracer.proofs.TracedRows.{words-are, blocks-are}
 use Rattle.plain_tracer.proofs.TakenRoom.{last, room-there, room-end, room-taken, room-block}
-
-pub unclaimed-stage : (st : Stage) → target st ≡ None → st ≡ Unclaimed
-unclaimed-stage Unclaimed is = refl
-unclaimed-stage (Copying t k) is = absurd (None-not-Some t (sym is))
-unclaimed-stage (Scanning t k) is = absurd (None-not-Some t (sym is))
-
--- the view after a claim of the object at x, which goes to u
-module _ (p : Setup) (m : Machine) (v : View) (holds : Holds p m v) (x u : ℕ) (cause : ClaimCause) (free : m.stage x ≡ Unclaimed) where
-  abbrev steps : ℕ
-  steps = steps_at_claim p x u
-
-  abbrev claimed : Machine
-  claimed = next p m (Claim x u cause)
-
-  here : claimed.stage x ≡ Copying u steps
-  here = put_here m.stage x (Copying u steps)
-
-  there : (y : ℕ) → y ≢ x → claimed.stage y ≡ m.stage y
-  there y ne = put_else m.stage x (Copying u steps) y ne
-
-  won-now : (y j : ℕ) → hits y j ((x, steps) ∷ v.won) ≡ one_if (is_copying j (claimed.stage y))
-  won-now y j = elim (cases_eq y x) as (λ _. hits y j ((x, steps) ∷ v.won) ≡ one_if (is_copying j (claimed.stage y))) [
-    | inl e ↦ (let count : hits y j ((x, steps) ∷ v.won) ≡ one_if (nat_eq x y && nat_eq steps j) + hits y j v.won = hits-cons x steps v.won y j in
-        let one : one_if (nat_eq x y && nat_eq steps j) ≡ one_if (nat_eq steps j) = ap (λ b. one_if (b && nat_eq steps j)) (eq-eqb x y (sym e)) in
-        let none : hits y j v.won ≡ 0 = holds.won y j ∙ ap (λ st. one_if (is_copying j st)) (ap m.stage e ∙ free) in
-        let now : one_if (is_copying j (claimed.stage y)) ≡ one_if (nat_eq steps j) = ap (λ st. one_if (is_copying j st)) (ap claimed.stage e ∙ here) in omega arith)
-    | inr ne ↦ (let count : hits y j ((x, steps) ∷ v.won) ≡ one_if (nat_eq x y && nat_eq steps j) + hits y j v.won = hits-cons x steps v.won y j in
-        let zero : one_if (nat_eq x y && nat_eq steps j) ≡ 0 = ap (λ b. one_if (b && nat_eq steps j)) (ne_eqb x y (λ e. ne (sym e))) in
-        let before : hits y j v.won ≡ one_if (is_copying j (m.stage y)) = holds.won y j in
-        let now : one_if (is_copying j (claimed.stage y)) ≡ one_if (is_copying j (m.stage y)) = ap (λ st. one_if (is_copying j st)) (there y ne) in omega arith)
-  ]
-
-  -- what is the same of an unclaimed object and of one to copy
-  unchanged : (f : Stage → Bool) → f Unclaimed ≡ f (Copying u steps) → (y : ℕ) → f (claimed.stage y) ≡ f (m.stage y)
-  unchanged f same y = elim (cases_eq y x) as (λ _. f (claimed.stage y) ≡ f (m.stage y)) [
-    | inl e ↦ ap f (ap claimed.stage e ∙ here) ∙ sym same ∙ sym (ap f (ap m.stage e ∙ free))
-    | inr ne ↦ ap f (there y ne)
-  ]
-
-  asked-now : (c : ClaimCause) (y : ℕ) → times y (asked_roots x c v.asked) ≡ asks_after m (Claim x u c) y
-  asked-now ByRoot y = elim (cases_eq y x) as (λ _. times y (x ∷ v.asked) ≡ put m.asked x (m.asked x + 1) y) [
-    | inl e ↦ (let count : times y (x ∷ v.asked) ≡ one_if (nat_eq y x) + times y v.asked = times-cons x v.asked y in
-        let one : one_if (nat_eq y x) ≡ 1 = one-if-true (nat_eq y x) (eq-eqb y x e) in
-        let before : times y v.asked ≡ m.asked x = holds.asked y ∙ ap m.asked e in
-        let now : put m.asked x (m.asked x + 1) y ≡ m.asked x + 1 = ap (put m.asked x (m.asked x + 1)) e ∙ put_here m.asked x (m.asked x + 1) in omega arith)
-    | inr ne ↦ (let count : times y (x ∷ v.asked) ≡ one_if (nat_eq y x) + times y v.asked = times-cons x v.asked y in
-        let zero : one_if (nat_eq y x) ≡ 0 = ap one_if (ne_eqb y x ne) in
-        let before : times y v.asked ≡ m.asked y = holds.asked y in
-        let now : put m.asked x (m.asked x + 1) y ≡ m.asked y = put_else m.asked x (m.asked x + 1) y ne in omega arith)
-  ]
-  asked-now (ByGlobal g) y = holds.asked y
-  asked-now (ByField z i) y = holds.asked y
-
-  known-now : (y w : ℕ) → 0 < hits y w ((x, u) ∷ v.known) → target (claimed.stage y) ≡ Some w
-  known-now y w some = elim (hits-from x u v.known y w some) as (λ _. target (claimed.stage y) ≡ Some w) [
-    | inl pair ↦ (let both = pair-parts x u y w pair in ap target (ap claimed.stage (sym both.0) ∙ here) ∙ ap Some both.1)
-    | inr before ↦ (let was : target (m.stage y) ≡ Some w = holds.known y w before in
-        ap target (there y (λ e. None-not-Some w (ap target (sym free ∙ ap m.stage (sym e)) ∙ was))) ∙ was)
-  ]
-
-  pub holds-claimed : Holds p claimed (claimed_view p x u cause v)
-  holds-claimed = record {
-    won = won-now;
-    grey = λ y j. holds.grey y j ∙ sym (ap (λ b. one_if (not (keeps_its_words p y) && b)) (unchanged (is_scanning j) refl y));
-    copied = λ y. holds.copied y ∙ sym (ap (λ b. one_if (not (stays_old p y) && b)) (unchanged is_stage_copied refl y));
-    unset = holds.unset;
-    set = holds.set;
-    asked = asked-now cause;
-    known = known-now;
-    blocks = holds.blocks;
-  }
-
--- a word of a target stays that object's
-pub claim-keeps : (p : Setup) (m : Machine) (x u : ℕ) (cause : ClaimCause) → May p m (Claim x u cause) → (a y : ℕ) → m.owner a ≡ Some y → (next p m (Claim x u cause)).owner a ≡ Some y
-claim-keeps p m x u cause may a y own = elim (cases_eq u x) as (λ _. (next p m (Claim x u cause)).owner a ≡ Some y) [
-  | inl e ↦ ap (λ (f : ℕ → Option ℕ). f a) (cond-true (nat_eq u x) m.owner _ (eq-eqb u x e)) ∙ own
-  | inr ne ↦ ap (λ (f : ℕ → Option ℕ). f a) (cond-false (nat_eq u x) m.owner _ (ne_eqb u x ne))
-      ∙ (elim (cases_lt a u) as (λ _. put_all m.owner u (size p x) (Some x) a ≡ Some y) [
-        | inl low ↦ all_else m.owner u (Some x) (size p x) a (inl low) ∙ own
-        | inr from ↦ elim (cases_lt a (u + size p x)) as (λ _. put_all m.owner u (size p x) (Some x) a ≡ Some y) [
-          | inl below ↦ absurd (elim may.3 as (λ _. ⊥) [
-            | inl stays ↦ ne stays.same
-            | inr moves ↦ None-not-Some y (sym (moves.unowned a (record { from = from; below = below })) ∙ own)
-          ])
-          | inr beyond ↦ all_else m.owner u (Some x) (size p x) a (inr beyond) ∙ own
-        ]
-      ])
-]
+use Rattle.trace_core.proofs.ClaimRights.{unclaimed-stage, holds-claimed}
+use Rattle.trace_core.proofs.TakenStay.{claim-keeps}
 
 module _ (p : Setup) (es : List Event) (old new : PlainTrace) (v : View) (tracks : Tracks p es old v) (x u : ℕ) (cause : ClaimCause)
     (may : May p (machine_after p es) (Claim x u cause))
-    (row : state_of new.row ≡ with_words (state_of old.row) (slice_set old.row.words.items (x + 2) (collector_word old.run.number u)))
+    (row : state_of new.row ≡ with_words (state_of old.row) (slice_set old.row.words (x + 2) (collector_word old.run.number u)))
     (run : new.run ≡ old.run) (block : new.block ≡ old.block) (next_block : new.next_block ≡ old.next_block) where
   abbrev was : Machine
   was = machine_after p es
@@ -126,7 +37,7 @@ module _ (p : Setup) (es : List Event) (old new : PlainTrace) (v : View) (tracks
   now = next p was (Claim x u cause)
 
   row-now : state_of new.row ≡ heap_in p now
-  row-now = row ∙ ap (λ s. with_words s (slice_set old.row.words.items (x + 2) (collector_word old.run.number u))) tracks.row
+  row-now = row ∙ ap (λ s. with_words s (slice_set old.row.words (x + 2) (collector_word old.run.number u))) tracks.row
       ∙ ap (λ ws. with_words p.before (slice_set ws (x + 2) (collector_word old.run.number u))) (words-are p es old v tracks)
       ∙ ap (λ n. with_words p.before (slice_set was.words (x + 2) (collector_word n u))) tracks.run.number
 
@@ -207,11 +118,6 @@ module _ (p : Setup) (es : List Event) (old new : PlainTrace) (v : View) (tracks
             ∙ all_else was.owner u (Some x) (size p x) (block_start (blocks p) b + o) (inr (omega arith)) ∙ room.4 o (omega arith) l),
       )
 
--- the claim may come
-pub may-stay : (p : Setup) (es : List Event) (x : ℕ) (cause : ClaimCause) → IsHeld p.before x → target_of p es x ≡ None → IsAskedBy p (machine_after p es) x cause
-    → (IsTrue (may_be_moved p x) → NoneIsFree p (machine_after p es).taken) → May p (machine_after p es) (Claim x x cause)
-may-stay p es x cause there free asked reason = (there.start, unclaimed-stage (stage_of p es x) free, asked, inl (record { same = refl; reason = reason }))
-
 pub waiting-size : (p : Setup) (es : List Event) (x : ℕ) (shape : Shape) → IsWaiting p es x shape → 3 + shape.refs + shape.nums ≡ size p x
 waiting-size p es x shape is = ap (λ n. 3 + n + shape.nums) is.refs ∙ ap (λ n. 3 + refs p x + n) is.nums
 
@@ -265,7 +171,7 @@ module _ (p : Setup) (es : List Event) (t : PlainTrace) (v : View) (tracks : Tra
           ap (machine_after p es).owner offset ∙ room.4 (i - block_start (blocks p) t.block) (omega arith) (omega arith)
 
   pub tracks-to-front : (new : PlainTrace) → target_of p es x ≡ None → IsAskedBy p (machine_after p es) x cause → IsTrue (may_be_moved p x)
-      → state_of new.row ≡ with_words (state_of t.row) (slice_set t.row.words.items (x + 2) (collector_word t.run.number u))
+      → state_of new.row ≡ with_words (state_of t.row) (slice_set t.row.words (x + 2) (collector_word t.run.number u))
       → new.run ≡ t.run → new.block ≡ t.block → new.next_block ≡ t.next_block → new.room.next ≡ t.room.next + size p x → new.room.end ≡ t.room.end
       → Tracks p (es ++ Claim x u cause ∷ []) new (claimed_view p x u cause v)
   tracks-to-front new free asked moves row run block next_block longer end = tracks-moved p es t new v tracks x u cause (may-move-there free asked moves) row run block next_block

@@ -1,19 +1,17 @@
 -- A tracer copies an object that it claimed.
-use Rattle.std.proofs.Common.{◌≡◌, ◌≢◌, ℕ, ◌+◌, ◌-◌, ◌<◌, ◌≤◌, inl, inr, true, false, ◌&&◌, not, nat_eq, List, [], ◌∷◌, ◌++◌, length, slice_index, slice_set, replicate, refl, sym, ap, ◌∙◌, subst, arith, Some}
-use Rattle.std.specs.Prelude.{nat_lt}
-use Rattle.std.specs.List.{CopiedTo, SameBelow, SameFrom}
-use Rattle.std.proofs.lemmas.Bool.{cases_eq, cases_lt, cond-true, cond-false, eq-eqb, ne_eqb, eqb-true}
+use Rattle.std.proofs.Common.{◌≡◌, ◌≢◌, ℕ, ◌+◌, ◌-◌, ◌<◌, ◌≤◌, inl, inr, false, nat_eq, List, [], ◌∷◌, ◌++◌, length, slice_index, slice_set, replicate, refl, sym, ap, ◌∙◌, subst, arith}
+use Rattle.shared_row.specs.Words.{IsCopied}
+use Rattle.std.proofs.lemmas.Bool.{cases_eq, cases_lt, cond-true, cond-false, eq-eqb, ne_eqb}
 use Rattle.std.proofs.lemmas.Grind.{same_number_lists}
 use Rattle.std.proofs.lemmas.List.{replicate-append-replicate}
 use Rattle.heap_layout.specs.Zones.{row_words, StartBits, UnlogBits, IsAddress}
 use Rattle.object_model.specs.Objects.{state_of, with_words}
 use Rattle.side_meta.specs.BitWords.{with_bit}
 use Rattle.object_model.specs.BitWords.{bit_word, bit_place}
-use Rattle.trace_core.specs.Setups.{Setup, blocks, size, stays_old, keeps_its_words}
-use Rattle.trace_core.specs.Machine.{Stage, Unclaimed, Copying, Scanning, target, Machine, Event, Copy, next, put, copied_word, step_of_offset, heap_in}
+use Rattle.trace_core.specs.Setups.{Setup, blocks, size, stays_old}
+use Rattle.trace_core.specs.Machine.{Copying, Scanning, target, Machine, Event, Copy, next, put, copied_word, step_of_offset, heap_in}
 use Rattle.trace_core.specs.Traces.{AreNext, after, machine_after, stage_of}
-use Rattle.trace_core.specs.Views.{View, Holds, hits, is_pair, is_copying, is_scanning, is_stage_copied, without, steps_at_claim, copied_view}
-use Rattle.object_model.specs.Times.{one_if, times}
+use Rattle.trace_core.specs.Views.{View, Holds, hits, steps_at_claim, copied_view}
 use Rattle.plain_tracer.specs.TokenRights.{IsWon}
 use Rattle.plain_tracer.specs.Tracers.{Tracks}
 use Rattle.trace_core.specs.Runs.{IsRunOf}
@@ -23,97 +21,16 @@ use Rattle.trace_core.specs.CallEvents.{copying as copying-events}
 use Rattle.plain_tracer.specs.declared.plain_trace.PlainTrace.{PlainTrace}
 use Rattle.plain_tracer.specs.declared.tokens.Won.{Won}
 use Rattle.trace_core.proofs.Puts.{put_here, put_else}
-use Rattle.trace_core.proofs.Objects.{Some-injective}
 use Rattle.trace_core.proofs.Steps.{offset-inside, copied-plain, copied-collector}
 use Rattle.trace_core.proofs.Law.{sound}
 use Rattle.plain_tracer.proofs.TracedRows.{words-are, blocks-are, row-extent}
 use Rattle.trace_core.proofs.Places.{object-below}
 use Rattle.trace_core.proofs.Clauses.{copying, targets-inside, held-of}
 use Rattle.trace_core.proofs.AppendedEvents.{machine-more, trace-more, after-append, next-append}
-use Rattle.trace_core.proofs.CountedRights.{hits-cons, hits-without, times-cons}
-use Rattle.trace_core.proofs.Idle.{one-if-from, one-if-true}
 use Rattle.plain_tracer.proofs.StoredWords.{room-stays}
 use Rattle.trace_core.proofs.BlocksLeft.{left-stays}
 use Rattle.trace_core.proofs.CopyEvents.{Reaches, Copies, copies, unlogged-moved, unlogged-in-place, started, reaches-on}
-
--- the stage of an object with this right
-pub won-stage : (p : Setup) (m : Machine) (v : View) → Holds p m v → (x k t : ℕ) → 0 < hits x k v.won → 0 < hits x t v.known → m.stage x ≡ Copying t k
-won-stage p m v holds x k t right known = by-stage (m.stage x) refl
-  where
-    by-stage : (st : Stage) → m.stage x ≡ st → m.stage x ≡ Copying t k
-    by-stage Unclaimed is = absurd (let none : hits x k v.won ≡ 0 = holds.won x k ∙ ap (λ z. one_if (is_copying k z)) is in omega arith)
-    by-stage (Copying u n) is = is ∙ ap (λ z. Copying z n) (Some-injective u t (ap target (sym is) ∙ holds.known x t known))
-        ∙ ap (Copying t) (eqb-true n k (one-if-from (nat_eq n k) (subst (λ c. 0 < c) (holds.won x k ∙ ap (λ z. one_if (is_copying k z)) is) right)))
-    by-stage (Scanning u n) is = absurd (let none : hits x k v.won ≡ 0 = holds.won x k ∙ ap (λ z. one_if (is_copying k z)) is in omega arith)
-
--- the view after an object is copied
-module _ (p : Setup) (m m' : Machine) (v : View) (holds : Holds p m v) (x t : ℕ) (young : stays_old p x ≡ false) (stage : m.stage x ≡ Copying t (steps_at_claim p x t))
-    (reaches : Reaches m m' x (Scanning t 0)) where
-  abbrev s : ℕ
-  s = steps_at_claim p x t
-
-  not-idle : keeps_its_words p x ≡ false
-  not-idle = ap (λ b. b && not (p.logged x)) young
-
-  won-here : 0 < hits x s v.won
-  won-here = subst (λ c. 0 < c) (sym (holds.won x s ∙ ap (λ z. one_if (is_copying s z)) stage ∙ one-if-true (nat_eq s s) (eq-eqb s s refl))) (omega arith)
-
-  won-now : (y j : ℕ) → hits y j (without (is_pair x s) v.won) ≡ one_if (is_copying j (m'.stage y))
-  won-now y j =
-      let less : hits y j v.won ≡ hits y j (without (is_pair x s) v.won) + one_if (nat_eq x y && nat_eq s j) = hits-without x s v.won won-here y j in
-      let before : hits y j v.won ≡ one_if (is_copying j (m.stage y)) = holds.won y j in
-      elim (cases_eq y x) as (λ _. hits y j (without (is_pair x s) v.won) ≡ one_if (is_copying j (m'.stage y))) [
-        | inl e ↦ (let was : one_if (is_copying j (m.stage y)) ≡ one_if (nat_eq s j) = ap (λ z. one_if (is_copying j z)) (ap m.stage e ∙ stage) in
-            let one : one_if (nat_eq x y && nat_eq s j) ≡ one_if (nat_eq s j) = ap (λ b. one_if (b && nat_eq s j)) (eq-eqb x y (sym e)) in
-            let now : one_if (is_copying j (m'.stage y)) ≡ 0 = ap (λ z. one_if (is_copying j z)) (ap m'.stage e ∙ reaches.stage) in omega arith)
-        | inr ne ↦ (let zero : one_if (nat_eq x y && nat_eq s j) ≡ 0 = ap (λ b. one_if (b && nat_eq s j)) (ne_eqb x y (λ e. ne (sym e))) in
-            let now : one_if (is_copying j (m'.stage y)) ≡ one_if (is_copying j (m.stage y)) = ap (λ z. one_if (is_copying j z)) (reaches.others y ne) in omega arith)
-      ]
-
-  grey-now : (y j : ℕ) → hits y j ((x, 0) ∷ v.grey) ≡ one_if (not (keeps_its_words p y) && is_scanning j (m'.stage y))
-  grey-now y j =
-      let count : hits y j ((x, 0) ∷ v.grey) ≡ one_if (nat_eq x y && nat_eq 0 j) + hits y j v.grey = hits-cons x 0 v.grey y j in
-      let before : hits y j v.grey ≡ one_if (not (keeps_its_words p y) && is_scanning j (m.stage y)) = holds.grey y j in
-      elim (cases_eq y x) as (λ _. hits y j ((x, 0) ∷ v.grey) ≡ one_if (not (keeps_its_words p y) && is_scanning j (m'.stage y))) [
-        | inl e ↦ (let busy : not (keeps_its_words p y) ≡ true = ap not (ap (keeps_its_words p) e ∙ not-idle) in
-            let was : one_if (not (keeps_its_words p y) && is_scanning j (m.stage y)) ≡ 0 = ap (λ b. one_if (b && is_scanning j (m.stage y))) busy ∙ ap (λ z. one_if (is_scanning j z)) (ap m.stage e ∙ stage) in
-            let one : one_if (nat_eq x y && nat_eq 0 j) ≡ one_if (nat_eq 0 j) = ap (λ b. one_if (b && nat_eq 0 j)) (eq-eqb x y (sym e)) in
-            let now : one_if (not (keeps_its_words p y) && is_scanning j (m'.stage y)) ≡ one_if (nat_eq 0 j) = ap (λ b. one_if (b && is_scanning j (m'.stage y))) busy ∙ ap (λ z. one_if (is_scanning j z)) (ap m'.stage e ∙ reaches.stage) in omega arith)
-        | inr ne ↦ (let zero : one_if (nat_eq x y && nat_eq 0 j) ≡ 0 = ap (λ b. one_if (b && nat_eq 0 j)) (ne_eqb x y (λ e. ne (sym e))) in
-            let now : one_if (not (keeps_its_words p y) && is_scanning j (m'.stage y)) ≡ one_if (not (keeps_its_words p y) && is_scanning j (m.stage y)) = ap (λ z. one_if (not (keeps_its_words p y) && is_scanning j z)) (reaches.others y ne) in omega arith)
-      ]
-
-  copied-now : (y : ℕ) → times y (x ∷ v.copied) ≡ one_if (not (stays_old p y) && is_stage_copied (m'.stage y))
-  copied-now y =
-      let count : times y (x ∷ v.copied) ≡ one_if (nat_eq y x) + times y v.copied = times-cons x v.copied y in
-      let before : times y v.copied ≡ one_if (not (stays_old p y) && is_stage_copied (m.stage y)) = holds.copied y in
-      elim (cases_eq y x) as (λ _. times y (x ∷ v.copied) ≡ one_if (not (stays_old p y) && is_stage_copied (m'.stage y))) [
-        | inl e ↦ (let new : not (stays_old p y) ≡ true = ap not (ap (stays_old p) e ∙ young) in
-            let was : one_if (not (stays_old p y) && is_stage_copied (m.stage y)) ≡ 0 = ap (λ b. one_if (b && is_stage_copied (m.stage y))) new ∙ ap (λ z. one_if (is_stage_copied z)) (ap m.stage e ∙ stage) in
-            let one : one_if (nat_eq y x) ≡ 1 = one-if-true (nat_eq y x) (eq-eqb y x e) in
-            let now : one_if (not (stays_old p y) && is_stage_copied (m'.stage y)) ≡ 1 = ap (λ b. one_if (b && is_stage_copied (m'.stage y))) new ∙ ap (λ z. one_if (is_stage_copied z)) (ap m'.stage e ∙ reaches.stage) in omega arith)
-        | inr ne ↦ (let zero : one_if (nat_eq y x) ≡ 0 = ap one_if (ne_eqb y x ne) in
-            let now : one_if (not (stays_old p y) && is_stage_copied (m'.stage y)) ≡ one_if (not (stays_old p y) && is_stage_copied (m.stage y)) = ap (λ z. one_if (not (stays_old p y) && is_stage_copied z)) (reaches.others y ne) in omega arith)
-      ]
-
-  known-now : (y u : ℕ) → 0 < hits y u v.known → target (m'.stage y) ≡ Some u
-  known-now y u some = let was : target (m.stage y) ≡ Some u = holds.known y u some in
-      elim (cases_eq y x) as (λ _. target (m'.stage y) ≡ Some u) [
-        | inl e ↦ ap target (ap m'.stage e ∙ reaches.stage) ∙ sym (ap target (ap m.stage e ∙ stage)) ∙ was
-        | inr ne ↦ ap target (reaches.others y ne) ∙ was
-      ]
-
-  pub holds-copied : Holds p m' (copied_view p x t v)
-  holds-copied = record {
-    won = won-now;
-    grey = grey-now;
-    copied = copied-now;
-    unset = λ g. holds.unset g ∙ ap (λ f. one_if (nat_lt g 16 && not (f g))) (sym reaches.set);
-    set = λ g. holds.set g ∙ ap (λ f. one_if (f g)) (sym reaches.set);
-    asked = λ y. holds.asked y ∙ ap (λ f. f y) (sym reaches.asked);
-    known = known-now;
-    blocks = λ b. holds.blocks b ∙ ap (λ f. one_if (nat_lt 0 (f b))) (sym reaches.taken);
-  }
+use Rattle.trace_core.proofs.CopyRights.{won-stage, holds-copied}
 
 -- The tracer made these copy events, after which its row is the machine's.
 module _ (p : Setup) (es : List Event) (old new : PlainTrace) (v : View) (tracks : Tracks p es old v) (x t : ℕ)
@@ -137,7 +54,7 @@ module _ (p : Setup) (es : List Event) (old new : PlainTrace) (v : View) (tracks
         trace = trace-more p es tracks.trace ds are;
         run = subst (λ r. IsRunOf p r) (sym run) tracks.run;
         row = row ∙ ap (heap_in p) (sym same);
-        holds = subst (λ n. Holds p n (copied_view p x t v)) (sym same) (holds-copied p was (after p was ds) v tracks.holds x t young stage reaches);
+        holds = subst (λ n. Holds p n (copied_view p x t v)) (sym same) (holds-copied p was (after p was ds) v tracks.holds x t (steps_at_claim p x t) young stage reaches);
         room = subst (λ n. IsCopyRoom p n v.blocks new.block new.room) (sym same) (subst (λ r. IsCopyRoom p (after p was ds) v.blocks new.block r) (sym room)
             (subst (λ b. IsCopyRoom p (after p was ds) v.blocks b old.room) (sym block) (room-stays p was (after p was ds) owner v.blocks old.block old.room tracks.room)));
         left = subst (λ n. AreLeft p n v.sparse v.blocks) (sym same) (left-stays p was (after p was ds) owner v.sparse v.sparse refl v.blocks tracks.left);
@@ -180,15 +97,15 @@ module _ (p : Setup) (es : List Event) (old new : PlainTrace) (v : View) (tracks
     abbrev copied : Machine
     copied = after p was (replicate (size p x) (Copy x))
 
-    words-copied : (ws : List ℕ) → length ws ≡ length was.words → CopiedTo was.words ws x t (size p x) → SameBelow was.words ws t → SameFrom was.words ws (t + size p x) → ws ≡ copied.words
-    words-copied ws long inside below beyond = same_number_lists ws copied.words (long ∙ sym all-words.1.long) (λ i l.
+    words-copied : (ws : List ℕ) → length ws ≡ length was.words → IsCopied was.words ws x t (size p x) → ws ≡ copied.words
+    words-copied ws long is = same_number_lists ws copied.words (long ∙ sym all-words.1.long) (λ i l.
         elim (cases_lt i t) as (λ _. slice_index ws i ≡ slice_index copied.words i) [
-          | inl low ↦ below i 0 low ∙ sym (all-words.1.rest i (λ o inner from to e. omega arith))
+          | inl low ↦ is.others i (inl low) ∙ sym (all-words.1.rest i (λ o inner from to e. omega arith))
           | inr from ↦ elim (cases_lt i (t + size p x)) as (λ _. slice_index ws i ≡ slice_index copied.words i) [
             | inl within ↦ (let at : i ≡ t + (i - t) = omega arith in
-                inside i 0 (omega arith) within ∙ source-word (i - t) (omega arith)
+                ap (slice_index ws) at ∙ is.copied (i - t) (omega arith) ∙ source-word (i - t) (omega arith)
                 ∙ sym (ap (slice_index copied.words) at ∙ all-words.1.copied (i - t) (omega arith) (omega arith) (let step : step_of_offset (size p x) (i - t) < size p x = offset-inside (size p x) least (i - t) (omega arith) in omega arith)))
-            | inr after ↦ beyond i 0 (omega arith) ∙ sym (all-words.1.rest i (λ o inner start to e. omega arith))
+            | inr after ↦ is.others i (inr after) ∙ sym (all-words.1.rest i (λ o inner start to e. omega arith))
           ]
         ])
 
@@ -225,16 +142,16 @@ module _ (p : Setup) (es : List Event) (old new : PlainTrace) (v : View) (tracks
           ap (λ n. n.words) two ∙ ap (λ ws. slice_set ws start (with_bit (slice_index ws start) (bit_place (blocks p) t))) (ap (λ n. n.words) one),
         )
 
-    pub tracks-to-target : (ws : List ℕ) → length ws ≡ length was.words → CopiedTo was.words ws x t (size p x) → SameBelow was.words ws t → SameFrom was.words ws (t + size p x)
+    pub tracks-to-target : (ws : List ℕ) → length ws ≡ length was.words → IsCopied was.words ws x t (size p x)
         → state_of new.row ≡ with_words p.before (with-bits ws) → new.run ≡ old.run → new.block ≡ old.block → new.room ≡ old.room → new.next_block ≡ old.next_block
         → Tracks p (es ++ replicate (size p x + 2) (Copy x)) new (copied_view p x t v)
-    tracks-to-target ws long inside below beyond row run block room next_block =
+    tracks-to-target ws long is row run block room next_block =
         let two = last-two copied (all-words.1.reaches.stage ∙ ap (Copying t) (let e : 0 + size p x ≡ size p x = omega arith in e)) in
         let same : after p was moved-events ≡ after p copied (Copy x ∷ Copy x ∷ []) = after-append p was (replicate (size p x) (Copy x)) (Copy x ∷ Copy x ∷ []) in
         subst (λ ds. Tracks p (es ++ ds) new (copied_view p x t v)) (replicate-append-replicate (size p x) 2 (Copy x))
         (tracks-copied moved-events (next-append p was (replicate (size p x) (Copy x)) (Copy x ∷ Copy x ∷ []) all-words.0 two.0)
         (subst (λ n. Reaches was n x (Scanning t 0)) (sym same) (reaches-on p x t least was copied (after p copied (Copy x ∷ Copy x ∷ [])) (Copying t (0 + size p x)) (Scanning t 0) all-words.1.reaches two.1))
-        (row ∙ ap (λ l. with_words p.before (with-bits l)) (words-copied ws long inside below beyond) ∙ ap (with_words p.before) (sym two.2) ∙ ap (heap_in p) (sym same))
+        (row ∙ ap (λ l. with_words p.before (with-bits l)) (words-copied ws long is) ∙ ap (with_words p.before) (sym two.2) ∙ ap (heap_in p) (sym same))
         run block room next_block)
 
   -- in place the unlog bit is set
@@ -265,30 +182,28 @@ module _ (p : Setup) (es : List Event) (t : PlainTrace) (v : View) (tracks : Tra
     pub target-address : IsAddress t.row.layout.blocks u
     target-address = subst (λ n. IsAddress n u) (sym (blocks-are p es t v tracks)) (subst (IsAddress (blocks p)) (let same : u + 0 ≡ u = omega arith in same) (target-fits p es t t v tracks x u stage 0 (omega arith)))
 
-    pub object-end : x + size p x ≤ length t.row.words.items
+    pub object-end : x + size p x ≤ length t.row.words
     object-end = let below : x + (size p x - 1) < row_words (blocks p) = object-fits p es t t v tracks x u stage (size p x - 1) (omega arith) in
-        let extent : length t.row.words.items ≡ row_words t.row.layout.blocks = row-extent p es t v tracks in
+        let extent : length t.row.words ≡ row_words t.row.layout.blocks = row-extent p es t v tracks in
         let same : t.row.layout.blocks ≡ blocks p = blocks-are p es t v tracks in omega arith
 
-    pub target-end : u + size p x ≤ length t.row.words.items
+    pub target-end : u + size p x ≤ length t.row.words
     target-end = let there = target-fits p es t t v tracks x u stage (size p x - 1) (omega arith) in
         let below : u + (size p x - 1) < row_words (blocks p) = there.below in
-        let extent : length t.row.words.items ≡ row_words t.row.layout.blocks = row-extent p es t v tracks in
+        let extent : length t.row.words ≡ row_words t.row.layout.blocks = row-extent p es t v tracks in
         let same : t.row.layout.blocks ≡ blocks p = blocks-are p es t v tracks in omega arith
 
 -- the words were moved, and both bits set
 pub tracks-moved : (p : Setup) (es : List Event) (old new : PlainTrace) (v : View) (tracks : Tracks p es old v) (x t n : ℕ) (stage : stage_of p es x ≡ Copying t (steps_at_claim p x t)) (moved : t ≢ x)
-    → n ≡ size p x → (ws : List ℕ) → length ws ≡ length old.row.words.items
-    → CopiedTo old.row.words.items ws x t (x + n - x) × SameBelow old.row.words.items ws t × SameFrom old.row.words.items ws (t + (x + n - x))
+    → n ≡ size p x → (ws : List ℕ) → length ws ≡ length old.row.words
+    → IsCopied old.row.words ws x t n
     → state_of new.row ≡ with_words p.before (with-bits p es old new v tracks x t stage moved ws) → new.run ≡ old.run → new.block ≡ old.block → new.room ≡ old.room → new.next_block ≡ old.next_block
     → Tracks p (es ++ copying-events p x t) new (copied_view p x t v)
 tracks-moved p es old new v tracks x t n stage moved same ws long by row run block room next_block =
-    let words : old.row.words.items ≡ (machine_after p es).words = words-are p es old v tracks in
-    let size-is : x + n - x ≡ size p x = omega arith in
-    let parts = subst (λ k. CopiedTo old.row.words.items ws x t k × SameBelow old.row.words.items ws t × SameFrom old.row.words.items ws (t + k)) size-is by in
-    let there = subst (λ l. CopiedTo l ws x t (size p x) × SameBelow l ws t × SameFrom l ws (t + size p x)) words parts in
+    let words : old.row.words ≡ (machine_after p es).words = words-are p es old v tracks in
+    let there = subst (λ l. IsCopied l ws x t (size p x)) words (subst (λ k. IsCopied old.row.words ws x t k) same by) in
     subst (λ k. Tracks p (es ++ replicate k (Copy x)) new (copied_view p x t v)) (sym (cond-false (nat_eq t x) 1 (size p x + 2) (ne_eqb t x moved)))
-    (tracks-to-target p es old new v tracks x t stage moved ws (long ∙ ap length words) there.0 there.1 there.2 row run block room next_block)
+    (tracks-to-target p es old new v tracks x t stage moved ws (long ∙ ap length words) there row run block room next_block)
 
 pub tracks-in-place : (p : Setup) (es : List Event) (old new : PlainTrace) (v : View) (tracks : Tracks p es old v) (x t : ℕ) (stage : stage_of p es x ≡ Copying t (steps_at_claim p x t)) → t ≡ x
     → state_of new.row ≡ with_words p.before (slice_set (machine_after p es).words (bit_word (blocks p) UnlogBits t) (with_bit (slice_index (machine_after p es).words (bit_word (blocks p) UnlogBits t)) (bit_place (blocks p) t)))

@@ -1,12 +1,11 @@
 -- A reference that is followed: its last value, and what the tracer did for it.
-use Rattle.std.proofs.Common.{◌≡◌, ◌≢◌, ℕ, ◌+◌, ◌<◌, not, IsTrue, nat_eq, List, [], ◌∷◌, ◌++◌, refl, sym, ap, ◌∙◌, subst, arith, Option, Some, None}
+use Rattle.std.proofs.Common.{◌≡◌, ◌≢◌, ℕ, ◌+◌, ◌<◌, nat_eq, List, [], ◌∷◌, ◌++◌, refl, sym, ap, ◌∙◌, subst, arith, Option, Some, None}
 use Rattle.std.specs.Prelude.{All, if◌then◌else◌}
-use Rattle.std.proofs.lemmas.Bool.{cond-true, not_from_false, ne_eqb, and_from, eq-eqb}
+use Rattle.std.proofs.lemmas.Bool.{cond-true, and_from, eq-eqb}
 use Rattle.std.proofs.lemmas.List.{append-nil, append_assoc}
 use Rattle.std.proofs.lemmas.List.Elements.{All-nil, All-cons, All-append, All-replicate}
-use Rattle.object_model.specs.Objects.{is_reference}
 use Rattle.trace_core.specs.Setups.{Setup, size, refs}
-use Rattle.trace_core.specs.Machine.{Stage, target, Event, ClaimCause, Claim, Copy, TakeBlock, IsSettled, forward, address_or_nil}
+use Rattle.trace_core.specs.Machine.{target, Event, ClaimCause, Claim, Copy, TakeBlock, IsSettled, forward}
 use Rattle.trace_core.specs.Traces.{stage_of, target_of}
 use Rattle.trace_core.specs.Views.{View, is_pair, hits, steps_at_claim, claimed_view, copied_view}
 use Rattle.object_model.specs.Times.{times}
@@ -17,24 +16,7 @@ use Rattle.plain_tracer.specs.declared.plain_trace.PlainTrace.{PlainTrace}
 use Rattle.plain_tracer.specs.declared.tokens.Won.{Won}
 use Rattle.plain_tracer.specs.declared.tokens.Grey.{Grey}
 use Rattle.trace_core.proofs.CountedRights.{times-cons, hits-cons, hits-here, hits-more}
-
--- a reference to an object, which is no nil
-pub reference-of : (x : ℕ) → x ≢ 0 → IsTrue (is_reference x)
-reference-of x some = not_from_false (nat_eq x 0) (ne_eqb x 0 some)
-
--- an object that has its target
-pub settled-at : (stage : ℕ → Stage) (x t : ℕ) → target (stage x) ≡ Some t → IsSettled stage x
-settled-at stage x t is = λ reference. (t, is)
-
-pub forward-at : (stage : ℕ → Stage) (x t : ℕ) → x ≢ 0 → target (stage x) ≡ Some t → t ≡ forward stage x
-forward-at stage x t some is = sym (cond-true (is_reference x) (address_or_nil (target (stage x))) x (reference-of x some) ∙ ap address_or_nil is)
-
--- nil has no target
-pub settled-nil : (stage : ℕ → Stage) (x : ℕ) → x ≡ 0 → IsSettled stage x
-settled-nil stage x none reference = absurd (let wrong : not (nat_eq x 0) ≡ not (nat_eq 0 0) = ap (λ y. not (nat_eq y 0)) none in cc)
-
-pub forward-nil : (stage : ℕ → Stage) (x : ℕ) → x ≡ 0 → 0 ≡ forward stage x
-forward-nil stage x none = sym (ap (forward stage) none)
+use Rattle.trace_core.proofs.LastValues.{settled-at, forward-at}
 
 module _ (p : Setup) (es : List Event) (v : View) (new : PlainTrace) (x value : ℕ) (cause : ClaimCause) where
   -- what has its last value is left as it is

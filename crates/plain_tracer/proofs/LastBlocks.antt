@@ -15,7 +15,7 @@ use Rattle.trace_core.proofs.CountedRights.{times-cons}
 use Rattle.trace_core.proofs.Idle.{one-if-true}
 use Rattle.trace_core.proofs.Law.{sound}
 use Rattle.trace_core.proofs.Clauses.{has-room}
-use Rattle.plain_tracer.proofs.Claimed.{moves-small}
+use Rattle.trace_core.proofs.TakenBlocks.{moves-small}
 
 -- an element of a list is the first one, or one of the others
 first-or-later : (b : ℕ) (l : List ℕ) → 0 < times b l → (0 < times b (take 1 l)) ⊎ (0 < times b (drop 1 l))

@@ -217,13 +217,13 @@ module _ (p : Setup) (es : List Event) (t : PlainTrace) (v : View) (tracks : Tra
       grows-by-marks = record { events = all-words.events; all = all-words.all; tracks = tracks-marks }
 
   -- the same from what was said of the tracer's own row
-  module _ (new : List ℕ) (is : MarksLines (state_over t.row.words.items t.row.layout 0 0) (state_over new t.row.layout 0 0) grey.target grey.size) where
+  module _ (new : List ℕ) (is : MarksLines (state_over t.row.words t.row.layout 0 0) (state_over new t.row.layout 0 0) grey.target grey.size) where
     marked : Marked (blocks p) grey.target grey.size m.words new
     marked = subst (λ ws. Marked (blocks p) grey.target grey.size ws new) (words-are p es t v tracks)
-        (subst (λ b. Marked b grey.target grey.size t.row.words.items new) (blocks-are p es t v tracks) is)
+        (subst (λ b. Marked b grey.target grey.size t.row.words new) (blocks-are p es t v tracks) is)
 
     pub lines-set : (k : ℕ) → TouchesLine (blocks p) grey.target grey.size k → IsTrue (bit_of (blocks p) LineWords new k)
     lines-set = marked.marked
 
-    pub grows-marks : ((i : ℕ) → slice_index t.row.words.items i < 2 ^ 64) → (t' : PlainTrace) → ChangesWords t t' new → MakesEvents p es t' v (Marks grey.object)
+    pub grows-marks : ((i : ℕ) → slice_index t.row.words i < 2 ^ 64) → (t' : PlainTrace) → ChangesWords t t' new → MakesEvents p es t' v (Marks grey.object)
     grows-marks fit = grows-by-marks new marked (λ i. subst (λ ws. slice_index ws i < 2 ^ 64) (words-are p es t v tracks) (fit i))

@@ -1,63 +1,22 @@
 -- What a tracer reads of an object that was held as the trace began.
-use Rattle.std.proofs.Common.{◌≡◌, ℕ, ◌+◌, ◌/◌, ◌%◌, ◌<◌, ◌≤◌, inl, inr, Bool, true, false, ◌&&◌, not, nat_le, List, length, get_or, slice_index, refl, sym, ap, ◌∙◌, subst, arith, Option, Some, None}
+use Rattle.std.proofs.Common.{◌≡◌, ℕ, ◌+◌, ◌<◌, Bool, true, false, ◌&&◌, not, nat_le, List, length, get_or, refl, sym, ap, ◌∙◌, subst, arith, Option, Some, None}
 use Rattle.std.specs.Prelude.{slice_get}
 use Rattle.std.proofs.lemmas.Bool.{and_right}
-use Rattle.std.proofs.lemmas.Grind.{get_or_default_zero}
 use Rattle.std.proofs.lemmas.Option.{slice_get_within, slice_get-get_or}
 use Rattle.heap_layout.specs.Zones.{row_words, block_at, IsAddress}
-use Rattle.ideal_heap.specs.Names.{IsName, name_of}
-use Rattle.object_model.specs.Objects.{IsHeld, state_of, word_at, refs_at, nums_at, size_at, is_pinned}
-use Rattle.object_model.specs.Lawful.{IsReadable, HasObject}
+use Rattle.object_model.specs.Objects.{IsHeld, state_of, word_at, refs_at, nums_at, is_pinned}
+use Rattle.object_model.specs.Lawful.{IsReadable}
 use Rattle.object_model.proofs.Marks as marks
 use Rattle.object_model.proofs.ObjectReads as reads
 use Rattle.trace_core.specs.Setups.{Setup, blocks, size, refs, may_be_moved}
 use Rattle.trace_core.specs.Machine.{Event}
-use Rattle.trace_core.specs.Traces.{IsTracing, machine_after, heap_after}
+use Rattle.trace_core.specs.Traces.{heap_after}
 use Rattle.trace_core.specs.Views.{View, hits}
 use Rattle.plain_tracer.specs.Tracers.{Tracks}
 use Rattle.plain_tracer.specs.declared.plain_trace.PlainTrace.{PlainTrace}
-use Rattle.trace_core.proofs.Law.{sound}
-use Rattle.trace_core.proofs.Clauses.{waits, starts-kept, pins, held-of}
+use Rattle.trace_core.proofs.Clauses.{pins, held-of}
 use Rattle.plain_tracer.proofs.TracedRows.{row-extent, blocks-are, words-are}
-
-module _ (p : Setup) (es : List Event) (trace : IsTracing p es) (x : ℕ) (held : IsHeld p.before x) where
-  -- name and shape are as they were
-  pub header-same : (o : ℕ) → o < 2 → word_at (heap_after p es) (x + o) ≡ word_at p.before (x + o)
-  header-same o l = elim (waits p es trace x o held (omega arith) (λ e. omega arith)) as (λ _. word_at (heap_after p es) (x + o) ≡ word_at p.before (x + o)) [
-    | inl same ↦ same
-    | inr scanned ↦ absurd (let late : 3 ≤ o = scanned.2 in omega arith)
-  ]
-
-  pub name-word : word_at (heap_after p es) x ≡ word_at p.before x
-  name-word = ap (slice_index (machine_after p es).words) (let same : x ≡ x + 0 = omega arith in same) ∙ header-same 0 (omega arith) ∙ ap (word_at p.before) (let same : x + 0 ≡ x = omega arith in same)
-
-  pub shape-word : word_at (heap_after p es) (x + 1) ≡ word_at p.before (x + 1)
-  shape-word = header-same 1 (omega arith)
-
-  pub refs-same : refs_at (heap_after p es) x ≡ refs p x
-  refs-same = ap (λ w. w % 65536) shape-word
-
-  pub nums-same : nums_at (heap_after p es) x ≡ nums_at p.before x
-  nums-same = ap (λ w. w / 65536) shape-word
-
-  pub size-same : size_at (heap_after p es) x ≡ size p x
-  size-same = ap (λ n. 3 + n + nums_at (heap_after p es) x) refs-same ∙ ap (λ n. 3 + refs p x + n) nums-same
-
-  object-same : HasObject (heap_after p es) x
-  object-same = let object = (trace.ready.lawful.order.objects.headers x held).object in record {
-    name = subst (λ w. IsName (name_of w)) (sym name-word) object.name;
-    refs = subst (λ n. n ≤ 1024) (sym refs-same) object.refs;
-    nums = subst (λ n. n ≤ 60000) (sym nums-same) object.nums;
-  }
-
-  pub readable-after : IsReadable (heap_after p es) x
-  readable-after = record {
-    extent = (sound p es trace).objects.long;
-    held = starts-kept p es trace x held;
-    object = object-same;
-    inside = (let ends : x + size p x ≤ row_words (blocks p) = reads.ends_in_row p.before trace.ready.lawful.order x held in
-        let same : size_at (heap_after p es) x ≡ size p x = size-same in omega arith);
-  }
+use Rattle.trace_core.proofs.HeaderWords.{refs-same, nums-same, readable-after}
 
 -- an object whose target is known was held
 pub known-held : (p : Setup) (es : List Event) (t : PlainTrace) (v : View) → Tracks p es t v → (x u : ℕ) → 0 < hits x u v.known → IsHeld p.before x
@@ -87,10 +46,10 @@ module _ (p : Setup) (es : List Event) (t : PlainTrace) (v : View) (tracks : Tra
   from-within b is = slice_get_within t.run.from.items b (p.from (block_at (blocks p) x)) (from-read b is)
 
   -- the word at an offset of the object is a word of the row
-  pub word-within : (o : ℕ) → o < size p x → x + o < length t.row.words.items
+  pub word-within : (o : ℕ) → o < size p x → x + o < length t.row.words
   word-within o l =
       let below : x + o < row_words (blocks p) = reads.in_row p.before tracks.trace.ready.lawful.order x o held l in
-      let extent : length t.row.words.items ≡ row_words t.row.layout.blocks = row-extent p es t v tracks in
+      let extent : length t.row.words ≡ row_words t.row.layout.blocks = row-extent p es t v tracks in
       let same : t.row.layout.blocks ≡ blocks p = blocks-are p es t v tracks in omega arith
 
   leaves-read : (b : ℕ) (leaves : Bool) → b ≡ block_at t.row.layout.blocks x → leaves ≡ get_or t.run.from.items b leaves → p.from (block_at (blocks p) x) ≡ leaves
@@ -118,6 +77,5 @@ module _ (p : Setup) (es : List Event) (t : PlainTrace) (v : View) (tracks : Tra
 
 -- the collector word that a tracer reads
 pub collector-read : (p : Setup) (es : List Event) (t : PlainTrace) (v : View) → Tracks p es t v → (x : ℕ) → IsHeld p.before x → (w : ℕ)
-    → w ≡ get_or t.row.words.items (x + 2) w → w ≡ word_at (heap_after p es) (x + 2)
-collector-read p es t v tracks x there w is = is ∙ get_or_default_zero t.row.words.items (x + 2) w (word-within p es t v tracks x there 2 (omega arith))
-    ∙ ap (λ ws. get_or ws (x + 2) 0) (words-are p es t v tracks)
+    → w ≡ get_or t.row.words (x + 2) 0 → w ≡ word_at (heap_after p es) (x + 2)
+collector-read p es t v tracks x there w is = is ∙ ap (λ ws. get_or ws (x + 2) 0) (words-are p es t v tracks)

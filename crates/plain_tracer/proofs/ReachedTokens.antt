@@ -18,8 +18,9 @@ use Rattle.plain_tracer.specs.declared.tokens.Reached.{Reached}
 use Rattle.plain_tracer.proofs.BitStores.{bit-read}
 use Rattle.trace_core.proofs.CountedRights.{hits-here}
 use Rattle.trace_core.proofs.DecidingBits.{marked, unmarked}
-use Rattle.plain_tracer.proofs.FollowedReferences.{settled-at, forward-at, at-once, by-claim}
+use Rattle.plain_tracer.proofs.FollowedReferences.{at-once, by-claim}
 use Rattle.plain_tracer.proofs.TracedRows.{blocks-are}
+use Rattle.trace_core.proofs.LastValues.{settled-at, forward-at}
 
 -- a token with its shape again
 pub grey-again : (p : Setup) (v : View) (grey : Grey) (r : Reached) → IsGrey p v grey → r.object ≡ grey.object → r.target ≡ grey.target → grey_of p r ≡ grey
@@ -36,7 +37,7 @@ one-pushed p out out' r is = ap (map (grey_of p)) is ∙ map-append (grey_of p) 
 -- The unlog bit of an object that stays was read, in the zone from this word on.
 module _ (p : Setup) (es : List Event) (t : PlainTrace) (v : View) (tracks : Tracks p es t v) (x : ℕ) (stays : StaysHere p v x)
     (zone : ℕ) (at : zone ≡ first t.row.layout.blocks UnlogBits) (found : Bool)
-    (is : found ≡ nat_eq (bit_at (slice_index t.row.words.items (zone + (x - heap_of t.row.layout.blocks) / 64)) ((x - heap_of t.row.layout.blocks) % 64)) 1) where
+    (is : found ≡ nat_eq (bit_at (slice_index t.row.words (zone + (x - heap_of t.row.layout.blocks) / 64)) ((x - heap_of t.row.layout.blocks) % 64)) 1) where
   unlog-read : is_unlogged (heap_after p es) x ≡ found
   unlog-read = sym (ap (λ s. is_unlogged s x) tracks.row)
       ∙ bit-read t UnlogBits zone x found (subst (λ b. IsAddress b x) (sym (blocks-are p es t v tracks)) stays.held.address) at is

@@ -1,7 +1,7 @@
 -- A field is scanned, or a global is set: the word that is read, and the event that comes after its reference is followed.
-use Rattle.std.proofs.Common.{◌≡◌, ◌≢◌, ℕ, ◌+◌, ◌<◌, ◌≤◌, ◌^◌, inl, inr, not, false, true≢false, nat_eq, List, [], ◌∷◌, ◌++◌, length, slice_index, slice_index_or, slice_set, refl, sym, ap, ◌∙◌, subst, arith}
+use Rattle.std.proofs.Common.{◌≡◌, ◌≢◌, ℕ, ◌+◌, ◌<◌, ◌≤◌, ◌^◌, inl, inr, not, false, true≢false, nat_eq, List, [], ◌∷◌, ◌++◌, length, slice_index, slice_set, refl, sym, ap, ◌∙◌, subst, arith}
 use Rattle.std.proofs.lemmas.Bool.{cases_eq, cond-false}
-use Rattle.std.proofs.lemmas.List.{append_assoc, get_or_read_under, set-get_or}
+use Rattle.std.proofs.lemmas.List.{append_assoc, set-get_or}
 use Rattle.std.proofs.lemmas.List.Elements.{All-nil, All-cons, All-append, All-weaker}
 use Rattle.heap_layout.specs.Zones.{row_words, IsAddress}
 use Rattle.object_model.specs.Objects.{word_at, global_at, ref_at, IsHeld, state_of, with_words}
@@ -22,9 +22,9 @@ use Rattle.trace_core.proofs.Puts.{put_here, put_else}
 use Rattle.trace_core.proofs.Steps.{copied-plain}
 use Rattle.trace_core.proofs.Law.{sound}
 use Rattle.trace_core.proofs.Clauses.{held-of, targets-inside, whole}
-use Rattle.plain_tracer.proofs.FollowedReferences.{reference-of}
 use Rattle.plain_tracer.proofs.StoredWords.{tracks-next}
 use Rattle.trace_core.proofs.ScanRights.{scanning-at, unset-at, holds-scanned, holds-set}
+use Rattle.trace_core.proofs.LastValues.{reference-of}
 
 -- a reference fits 32 bits
 pub low-reference : (p : Setup) → TraceMayBegin p → (n : ℕ) → IsRefField p.before n → n < 2 ^ 32
@@ -41,11 +41,11 @@ module _ (p : Setup) (es : List Event) (v : View) (t : PlainTrace) (tracks : Tra
   abbrev m : Machine
   m = machine_after p es
 
-  long : length t.row.words.items ≡ row_words (blocks p)
+  long : length t.row.words ≡ row_words (blocks p)
   long = ap (λ s. length s.words) tracks.row ∙ (sound p es tracks.trace).objects.long
 
   -- the row stays as long as it is
-  pub inside-again : (ds : List Event) (w : View) (t' : PlainTrace) → Tracks p ds t' w → (i : ℕ) → i < length t.row.words.items → i < length t'.row.words.items
+  pub inside-again : (ds : List Event) (w : View) (t' : PlainTrace) → Tracks p ds t' w → (i : ℕ) → i < length t.row.words → i < length t'.row.words
   inside-again ds w t' tracks' i inside = subst (λ n. i < n)
       (long ∙ sym (ap (λ s. length s.words) tracks'.row ∙ (sound p ds tracks'.trace).objects.long)) inside
 
@@ -60,7 +60,7 @@ module _ (p : Setup) (es : List Event) (v : View) (t : PlainTrace) (tracks : Tra
     field-held : IsHeld p.before grey.object
     field-held = marks.held p.before grey.object (held-of p es tracks.trace grey.object grey.target (ap target stage-now))
 
-    pub field-inside : grey.target + 3 + k < length t.row.words.items
+    pub field-inside : grey.target + 3 + k < length t.row.words
     field-inside =
         let few : k < refs p grey.object = next.field in
         let there : IsAddress (blocks p) (grey.target + 3 + k) =
@@ -69,7 +69,7 @@ module _ (p : Setup) (es : List Event) (v : View) (t : PlainTrace) (tracks : Tra
         let below : grey.target + 3 + k < row_words (blocks p) = there.below in
         let all = long in omega arith
 
-    field-word : slice_index t.row.words.items (grey.target + 3 + k) ≡ ref_at p.before grey.object k
+    field-word : slice_index t.row.words (grey.target + 3 + k) ≡ ref_at p.before grey.object k
     field-word =
         let few : k < refs p grey.object = next.field in
         let x : ℕ = grey.object in
@@ -80,9 +80,9 @@ module _ (p : Setup) (es : List Event) (v : View) (t : PlainTrace) (tracks : Tra
         ∙ copied-plain p x grey.target (3 + k) (λ e. omega arith) ∙ ap (word_at p.before) here
 
     -- the word n that is read there
-    module _ (n : ℕ) (is : n ≡ slice_index_or t.row.words.items (grey.target + 3 + k) n) where
+    module _ (n : ℕ) (is : n ≡ slice_index t.row.words (grey.target + 3 + k)) where
       pub field-read : n ≡ ref_at p.before grey.object k
-      field-read = get_or_read_under t.row.words.items at (length t.row.words.items) n 0 is field-inside refl ∙ field-word
+      field-read = is ∙ field-word
 
       pub field-refers : IsReferred n p es v
       field-refers = subst (IsRefField p.before) (sym field-read)
@@ -93,18 +93,18 @@ module _ (p : Setup) (es : List Event) (v : View) (t : PlainTrace) (tracks : Tra
 
   -- a global that is not set, at index i
   module _ (g i : ℕ) (unset : 0 < times g v.unset) (here : i ≡ 2 + g) where
-    pub global-inside : i < length t.row.words.items
+    pub global-inside : i < length t.row.words
     global-inside = let few = (unset-at p m v tracks.holds g unset).0 in let all = long in omega arith
 
-    global-word : slice_index t.row.words.items i ≡ global_at p.before g
+    global-word : slice_index t.row.words i ≡ global_at p.before g
     global-word = let rights = unset-at p m v tracks.holds g unset in
         ap (λ s. slice_index s.words i) tracks.row ∙ ap (slice_index m.words) here ∙ (sound p es tracks.trace).sides.globals.value g rights.0
         ∙ cond-false (m.set g) (forward m.stage (global_at p.before g)) (global_at p.before g) rights.1
 
     -- the word n that is read there
-    module _ (n : ℕ) (is : n ≡ slice_index_or t.row.words.items i n) where
+    module _ (n : ℕ) (is : n ≡ slice_index t.row.words i) where
       pub global-read : n ≡ global_at p.before g
-      global-read = get_or_read_under t.row.words.items i (length t.row.words.items) n 0 is global-inside refl ∙ global-word
+      global-read = is ∙ global-word
 
       pub global-refers : IsReferred n p es v
       global-refers = subst (IsRefField p.before) (sym global-read)
@@ -115,8 +115,8 @@ module _ (p : Setup) (es : List Event) (v : View) (t : PlainTrace) (tracks : Tra
       global-asks = ((unset-at p m v tracks.holds g unset).0, sym global-read)
 
 -- a word that has the value is not written
-changes-nothing : (t : PlainTrace) (i value : ℕ) → slice_index t.row.words.items i ≡ value → ChangesWords t t (slice_set t.row.words.items i value)
-changes-nothing t i value is = let ws = t.row.words.items in record {
+changes-nothing : (t : PlainTrace) (i value : ℕ) → slice_index t.row.words i ≡ value → ChangesWords t t (slice_set t.row.words i value)
+changes-nothing t i value is = let ws = t.row.words in record {
   row = ap (with_words (state_of t.row)) (sym (ap (slice_set ws i) (sym is) ∙ set-get_or ws i 0));
   run = refl;
   block = refl;
@@ -156,7 +156,7 @@ module _ (p : Setup) (es : List Event) (v : View) (mid new : PlainTrace) (refere
   -- a field whose reference stays has its last value
   pub field-stays : (grey : Grey) (k : ℕ) → IsNextField p v grey k → reference ≡ ref_at p.before grey.object k
       → Forwards p es v mid reference last (ByField grey.object k) out out' → last ≡ reference
-      → ChangesWords mid mid (slice_set mid.row.words.items (grey.target + 3 + k) last)
+      → ChangesWords mid mid (slice_set mid.row.words (grey.target + 3 + k) last)
   field-stays grey k next reads by stays =
       let more : hits grey.object k by.view.grey ≡ _ = by.pushes.grey grey.object k in
       let some : 0 < hits grey.object k v.grey = next.right in
@@ -168,7 +168,7 @@ module _ (p : Setup) (es : List Event) (v : View) (mid new : PlainTrace) (refere
   -- a global whose reference stays has its last value
   pub global-stays : (g i : ℕ) → 0 < times g v.unset → i ≡ 2 + g → reference ≡ global_at p.before g
       → Forwards p es v mid reference last (ByGlobal g) out out' → last ≡ reference
-      → ChangesWords mid mid (slice_set mid.row.words.items i last)
+      → ChangesWords mid mid (slice_set mid.row.words i last)
   global-stays g i unset here reads by stays = changes-nothing mid i last
       (global-word p (es ++ by.grows.events) by.view mid by.grows.tracks g i (subst (λ gs. 0 < times g gs) (sym by.pushes.unset) unset) here
       ∙ sym reads ∙ sym stays)
@@ -176,7 +176,7 @@ module _ (p : Setup) (es : List Event) (v : View) (mid new : PlainTrace) (refere
   -- the reference of a field is followed, and its last value stored
   pub scans-field : (grey : Grey) (k : ℕ) → IsNextField p v grey k → reference ≡ ref_at p.before grey.object k
       → Forwards p es v mid reference last (ByField grey.object k) out out'
-      → ChangesWords mid new (slice_set mid.row.words.items (grey.target + 3 + k) last) → ScansField p es v new grey k out out'
+      → ChangesWords mid new (slice_set mid.row.words (grey.target + 3 + k) last) → ScansField p es v new grey k out out'
   scans-field grey k next reads by changes =
       let x : ℕ = grey.object in
       let w : View = by.view in
@@ -209,7 +209,7 @@ module _ (p : Setup) (es : List Event) (v : View) (mid new : PlainTrace) (refere
   -- the reference of a global is followed, and its last value stored
   pub sets-global : (g i : ℕ) → 0 < times g v.unset → i ≡ 2 + g → reference ≡ global_at p.before g
       → Forwards p es v mid reference last (ByGlobal g) out out'
-      → ChangesWords mid new (slice_set mid.row.words.items i last) → SetsGlobal p es v new g out out'
+      → ChangesWords mid new (slice_set mid.row.words i last) → SetsGlobal p es v new g out out'
   sets-global g i unset here reads by changes =
       let w : View = by.view in
       let fs : List Event = by.grows.events in

@@ -39,12 +39,12 @@ module _ (p : Setup) (es : List Event) (v v' : View) (old new : PlainTrace) (e :
   ds = es ++ e ∷ []
 
   words-after : Tracks p es old v → at ≡ word_changed_by p m e → value ≡ stored p m e (slice_index m.words (word_changed_by p m e))
-      → slice_set old.row.words.items at value ≡ (next p m e).words
+      → slice_set old.row.words at value ≡ (next p m e).words
   words-after tracks here stores = ap (λ s. slice_set s.words at value) tracks.row ∙ ap (λ i. slice_set m.words i value) here
       ∙ ap (slice_set m.words (word_changed_by p m e)) stores
 
   pub tracks-next : Tracks p es old v → May p m e → owner_after p m e ≡ m.owner → taken_after m e ≡ m.taken → ((x : ℕ) → target (stage_after p m e x) ≡ target (m.stage x))
-      → at ≡ word_changed_by p m e → value ≡ stored p m e (slice_index m.words (word_changed_by p m e)) → ChangesWords old new (slice_set old.row.words.items at value)
+      → at ≡ word_changed_by p m e → value ≡ stored p m e (slice_index m.words (word_changed_by p m e)) → ChangesWords old new (slice_set old.row.words at value)
       → v'.blocks ≡ v.blocks → v'.sparse ≡ v.sparse → Holds p (next p m e) v' → Tracks p ds new v'
   tracks-next tracks may owner taken targets here stores changes same sparse holds =
       let now : machine_after p (es ++ e ∷ []) ≡ next p (machine_after p es) e = machine-next p es tracks.trace e in
@@ -53,7 +53,7 @@ module _ (p : Setup) (es : List Event) (v v' : View) (old new : PlainTrace) (e :
       record {
         trace = trace-next p es tracks.trace e may;
         run = subst (IsRunOf p) (sym changes.run) tracks.run;
-        row = changes.row ∙ ap (λ s. with_words s (slice_set old.row.words.items at value)) tracks.row
+        row = changes.row ∙ ap (λ s. with_words s (slice_set old.row.words at value)) tracks.row
             ∙ ap (with_words p.before) (words-after tracks here stores) ∙ sym (ap (heap_in p) now);
         holds = subst (λ n. Holds p n v') (sym now) holds;
         room = subst (λ bs. IsCopyRoom p (machine_after p (es ++ e ∷ [])) bs new.block new.room) (sym same)

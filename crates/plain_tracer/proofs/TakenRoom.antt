@@ -1,16 +1,14 @@
 -- A tracer takes a block to copy into.
-use Rattle.std.proofs.Common.{◌≡◌, ◌≢◌, ℕ, ◌+◌, ◌%◌, ◌<◌, ◌≤◌, inl, inr, ◌&&◌, IsTrue, nat_eq, nat_lt, List, [], ◌∷◌, ◌++◌, slice_set, refl, sym, ap, ◌∙◌, subst, arith, Option, Some, None}
+use Rattle.std.proofs.Common.{◌≡◌, ◌≢◌, ℕ, ◌+◌, ◌%◌, ◌<◌, ◌≤◌, inl, inr, nat_eq, nat_lt, List, [], ◌∷◌, ◌++◌, slice_set, refl, sym, ap, ◌∙◌, subst, arith}
 use Rattle.std.specs.Prelude.{take}
-use Rattle.std.proofs.lemmas.Bool.{cases_eq, cases_lt, and_parts, eqb-true, eq-eqb, ne_eqb, ltb-true}
-use Rattle.heap_layout.specs.Zones.{BlockWords, first, block_start, block_at}
-use Rattle.heap_layout.specs.declared.block.Kind.{Kind}
+use Rattle.std.proofs.lemmas.Bool.{cases_eq, cases_lt, and_parts, eq-eqb, ltb-true}
+use Rattle.heap_layout.specs.Zones.{BlockWords, first}
 use Rattle.heap_layout.specs.declared.block.Kind.TheVariants as kinds
-use Rattle.heap_layout.specs.Blocks.{kind_code, kind_of_code, code_of}
-use Rattle.heap_layout.proofs.BlockLemmas.{kind_of_code-kind_code, kind_code_most}
+use Rattle.heap_layout.specs.Blocks.{code_of}
 use Rattle.object_model.specs.Objects.{HasKind, block_word, state_of, with_words}
 use Rattle.trace_core.specs.Setups.{Setup, blocks}
-use Rattle.trace_core.specs.Machine.{Machine, target, Event, TakeBlock, next, taken_word, heap_in}
-use Rattle.trace_core.specs.Traces.{May, IsTracing, NoneIsFree, machine_after, heap_after}
+use Rattle.trace_core.specs.Machine.{Machine, target, Event, TakeBlock, next, heap_in}
+use Rattle.trace_core.specs.Traces.{May, NoneIsFree, machine_after, heap_after}
 use Rattle.trace_core.specs.Views.{View, Holds, left_view}
 use Rattle.object_model.specs.Times.{one_if, times}
 use Rattle.plain_tracer.specs.Tracers.{Tracks, TracerHolds, TakesCopyBlock, FindsNone}
@@ -20,57 +18,11 @@ use Rattle.plain_tracer.specs.declared.plain_trace.PlainTrace.{PlainTrace}
 use Rattle.trace_core.proofs.Puts.{put_here, put_else}
 use Rattle.trace_core.proofs.Law.{sound}
 use Rattle.trace_core.proofs.BlocksLeft.{left-more}
-use Rattle.trace_core.proofs.Clauses.{untaken-word, taken-block-word, has-room}
 use Rattle.trace_core.proofs.AppendedEvents.{machine-next, trace-next}
 use Rattle.trace_core.proofs.CountedRights.{times-cons}
 use Rattle.trace_core.proofs.Idle.{one-if-from, one-if-true}
 use Rattle.plain_tracer.proofs.TracedRows.{words-are, blocks-are}
-
-module _ (p : Setup) (es : List Event) (trace : IsTracing p es) where
-  abbrev m : Machine
-  m = machine_after p es
-
-  kind-zero : p.copy ≢ kinds.Free → kind_code p.copy ≢ 0
-  kind-zero copies zero = copies (same-kind (sym (kind_of_code-kind_code p.copy) ∙ ap kind_of_code zero))
-    where
-      same-kind : Some p.copy ≡ Some kinds.Free → p.copy ≡ kinds.Free
-      same-kind e = ap (λ (o : Option Kind). (elim o as (λ _. Kind) [ None ↦ kinds.Free | Some k ↦ k ])) e
-
-  -- a block that is Free was Free, and no worker took it
-  pub free-was : (b : ℕ) → HasKind (heap_after p es) b kinds.Free → HasKind p.before b kinds.Free × (m.taken b ≡ 0)
-  free-was b free =
-      let both = and_parts (nat_lt b (blocks p)) (nat_eq (block_word (heap_after p es) b % 256) 0) free in
-      let there : b < blocks p = ltb-true b (blocks p) both.0 in
-      let code : block_word (heap_after p es) b % 256 ≡ 0 = eqb-true (block_word (heap_after p es) b % 256) 0 both.1 in
-      elim (cases_eq (m.taken b) 0) as (λ _. HasKind p.before b kinds.Free × (m.taken b ≡ 0)) [
-        | inl none ↦ (subst (λ w. IsTrue (nat_lt b (blocks p) && nat_eq (w % 256) 0)) (untaken-word p es trace b there none) free, none)
-        | inr some ↦ (let taken : m.taken b ≢ 0 = some in
-            let word : block_word (heap_after p es) b ≡ taken_word p (m.taken b) = taken-block-word p es trace b there (omega arith) in
-            let most : kind_code p.copy ≤ 8 = kind_code_most p.copy in
-            absurd (kind-zero ((sound p es trace).sides.blocks.copies b (omega arith)) (omega arith)))
-      ]
-
-  -- a block that was Free and that no worker took is Free
-  pub free-still : (b : ℕ) → HasKind p.before b kinds.Free → m.taken b ≡ 0 → HasKind (heap_after p es) b kinds.Free
-  free-still b free none =
-      let both = and_parts (nat_lt b (blocks p)) (nat_eq (block_word p.before b % 256) 0) free in
-      subst (λ w. IsTrue (nat_lt b (blocks p) && nat_eq (w % 256) 0)) (sym (untaken-word p es trace b (ltb-true b (blocks p) both.0) none)) free
-
-  -- words of a block that no worker took are words of no target
-  pub unowned-block : (b o : ℕ) → m.taken b ≡ 0 → o < 4096 → m.owner (block_start (blocks p) b + o) ≡ None
-  unowned-block b o none l = by-owner (m.owner (block_start (blocks p) b + o)) refl
-    where
-      by-owner : (w : Option ℕ) → m.owner (block_start (blocks p) b + o) ≡ w → w ≡ None
-      by-owner None is = refl
-      by-owner (Some x) is =
-          let d = (sound p es trace).objects.owned (block_start (blocks p) b + o) x is in
-          let room = has-room p es trace x d.at d.same d.moved in
-          let from : d.at ≤ block_start (blocks p) b + o = d.from in
-          let below : block_start (blocks p) b + o < d.at + _ = d.below in
-          let base = room.address.from in
-          let within = room.within in
-          let same : block_at (blocks p) d.at ≡ b = omega (arith, from, below, base, within, l) in
-          let taken : 0 < m.taken b = subst (λ c. 0 < m.taken c) same room.block in absurd (omega arith)
+use Rattle.trace_core.proofs.TakenBlocks.{free-was, free-still, unowned-block, holds-taken}
 
 module _ (p : Setup) (es : List Event) (old new : PlainTrace) (b : ℕ) (v : View) (tracks : Tracks p es old v) (takes : TakesCopyBlock old new b) (copies : old.run.copy_kind ≢ kinds.Free) where
   abbrev was : Machine
@@ -88,13 +40,13 @@ module _ (p : Setup) (es : List Event) (old new : PlainTrace) (b : ℕ) (v : Vie
   pub may-take : May p was (TakeBlock b 1)
   may-take = (free-here.0, free-here.1, omega arith, tracks.trace.ready.some, λ e. copies (copy-kind ∙ e))
 
-  words-now : slice_set old.row.words.items (first old.row.layout.blocks BlockWords + b) (code_of (record { kind = old.run.copy_kind; class = 0; owner = 17 })) ≡ now.words
+  words-now : slice_set old.row.words (first old.row.layout.blocks BlockWords + b) (code_of (record { kind = old.run.copy_kind; class = 0; owner = 17 })) ≡ now.words
   words-now = ap (λ ws. slice_set ws (first old.row.layout.blocks BlockWords + b) (code_of (record { kind = old.run.copy_kind; class = 0; owner = 17 }))) (words-are p es old v tracks)
       ∙ ap (λ n. slice_set was.words (first n BlockWords + b) (code_of (record { kind = old.run.copy_kind; class = 0; owner = 17 }))) (blocks-are p es old v tracks)
       ∙ ap (λ k. slice_set was.words (first (blocks p) BlockWords + b) (code_of (record { kind = k; class = 0; owner = 17 }))) copy-kind
 
   row-now : state_of new.row ≡ heap_in p now
-  row-now = takes.row ∙ ap (λ s. with_words s (slice_set old.row.words.items (first old.row.layout.blocks BlockWords + b) (code_of (record { kind = old.run.copy_kind; class = 0; owner = 17 })))) tracks.row
+  row-now = takes.row ∙ ap (λ s. with_words s (slice_set old.row.words (first old.row.layout.blocks BlockWords + b) (code_of (record { kind = old.run.copy_kind; class = 0; owner = 17 })))) tracks.row
       ∙ ap (with_words p.before) words-now
 
   taken-now : (c : ℕ) → c ≢ b → now.taken c ≡ was.taken c
@@ -106,28 +58,16 @@ module _ (p : Setup) (es : List Event) (old new : PlainTrace) (b : ℕ) (v : Vie
   more-taken : (c : ℕ) → 0 < was.taken c → 0 < now.taken c
   more-taken c some = subst (λ n. 0 < n) (sym (taken-now c (λ e. let none : was.taken c ≡ 0 = ap was.taken e ∙ free-here.1 in omega arith))) some
 
-  counts : (c : ℕ) → times c (b ∷ v.blocks) ≡ one_if (nat_lt 0 (now.taken c))
-  counts c = elim (cases_eq c b) as (λ _. times c (b ∷ v.blocks) ≡ one_if (nat_lt 0 (now.taken c))) [
-    | inl e ↦ (let d : times c (b ∷ v.blocks) ≡ one_if (nat_eq c b) + times c v.blocks = times-cons b v.blocks c in
-        let here : one_if (nat_eq c b) ≡ 1 = one-if-true (nat_eq c b) (eq-eqb c b e) in
-        let before : times c v.blocks ≡ 0 = tracks.holds.blocks c ∙ ap (λ n. one_if (nat_lt 0 n)) (ap was.taken e ∙ free-here.1) in
-        let after : one_if (nat_lt 0 (now.taken c)) ≡ 1 = ap (λ n. one_if (nat_lt 0 n)) (ap now.taken e ∙ taken-here) in omega arith)
-    | inr ne ↦ (let d : times c (b ∷ v.blocks) ≡ one_if (nat_eq c b) + times c v.blocks = times-cons b v.blocks c in
-        let here : one_if (nat_eq c b) ≡ 0 = ap one_if (ne_eqb c b ne) in
-        let before : times c v.blocks ≡ one_if (nat_lt 0 (was.taken c)) = tracks.holds.blocks c in
-        let after : one_if (nat_lt 0 (now.taken c)) ≡ one_if (nat_lt 0 (was.taken c)) = ap (λ n. one_if (nat_lt 0 n)) (taken-now c ne) in omega arith)
-  ]
-
   holds-now : Holds p now (left_view b v)
-  holds-now = record {
-    won = tracks.holds.won;
-    grey = tracks.holds.grey;
-    copied = tracks.holds.copied;
-    unset = tracks.holds.unset;
-    set = tracks.holds.set;
-    asked = tracks.holds.asked;
-    known = tracks.holds.known;
-    blocks = counts;
+  holds-now = let holds = holds-taken p was v tracks.holds b 1 free-here.1 (omega arith) in record {
+    won = holds.won;
+    grey = holds.grey;
+    copied = holds.copied;
+    unset = holds.unset;
+    set = holds.set;
+    asked = holds.asked;
+    known = holds.known;
+    blocks = holds.blocks;
   }
 
   passed-now : (c : ℕ) → c < new.next_block → HasKind p.before c kinds.Free → 0 < now.taken c

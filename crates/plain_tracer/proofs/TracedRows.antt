@@ -11,16 +11,16 @@ use Rattle.plain_tracer.specs.declared.plain_trace.PlainTrace.{PlainTrace}
 use Rattle.trace_core.proofs.Law.{sound}
 
 module _ (p : Setup) (es : List Event) (t : PlainTrace) (v : View) (tracks : Tracks p es t v) where
-  pub words-are : t.row.words.items ≡ (machine_after p es).words
+  pub words-are : t.row.words ≡ (machine_after p es).words
   words-are = ap (λ s. s.words) tracks.row
 
   pub blocks-are : t.row.layout.blocks ≡ blocks p
   blocks-are = ap (λ s. s.blocks) tracks.row
 
-  pub row-extent : length t.row.words.items ≡ row_words t.row.layout.blocks
+  pub row-extent : length t.row.words ≡ row_words t.row.layout.blocks
   row-extent = ap length words-are ∙ (sound p es tracks.trace).objects.long ∙ ap row_words (sym blocks-are)
 
-pub tracing-extent : (t : PlainTrace) (Right : Setup → List Event → View → Type 0) → TracerHolds t Right → length t.row.words.items ≡ row_words t.row.layout.blocks
+pub tracing-extent : (t : PlainTrace) (Right : Setup → List Event → View → Type 0) → TracerHolds t Right → length t.row.words ≡ row_words t.row.layout.blocks
 tracing-extent t Right is = row-extent is.setup is.events t is.view is.tracks
 
 -- what follows from what is in an option, and from its being empty

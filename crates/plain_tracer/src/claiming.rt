@@ -42,7 +42,7 @@ impl PlainTrace {
             result }
         ensures keeps { KeepsRun self.old self.new }
     {
-        let word = self.row.words[x as usize + 2];
+        let word = self.row.words.get(x as usize + 2);
         if let Some(target) = claimed(word, self.run.number) {
             return Claim::Seen(target);
         }
@@ -128,7 +128,9 @@ impl PlainTrace {
         ensures keeps { KeepsRun self.old self.new }
     {
         let size = size_words(shape);
-        self.row.words[x as usize + 2] = encode(self.run.number, front);
+        self.row
+            .words
+            .set(x as usize + 2, encode(self.run.number, front));
         self.room.next += size;
         Won {
             object: x,
@@ -171,6 +173,8 @@ impl PlainTrace {
         ensures layout { self.new.row.layout ≡ self.old.row.layout }
         ensures keeps { KeepsRun self.old self.new }
     {
-        self.row.words[x as usize + 2] = encode(self.run.number, x);
+        self.row
+            .words
+            .set(x as usize + 2, encode(self.run.number, x));
     }
 }

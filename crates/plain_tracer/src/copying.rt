@@ -4,7 +4,7 @@
 //! Unlog bit and start bit of a copy change together, after its words (`move_object`).
 //! Never writes a word of an object that moves where it was.
 
-ghost use Rattle.std.specs.Prelude.{◌≡◌, ◌+◌, ◌*◌, ◌-◌, ◌/◌, ◌%◌, ◌^◌, ◌<◌, ◌≤◌, ◌++◌, ℕ, List, IsTrue, nat_eq, slice_index, slice_set};
+ghost use Rattle.std.specs.Prelude.{◌≡◌, ◌+◌, ◌*◌, ◌-◌, ◌/◌, ◌%◌, ◌≤◌, ◌++◌, ℕ, List, IsTrue, nat_eq, slice_index, slice_set};
 ghost use Rattle.std.specs.Int.{bit_at};
 ghost use Rattle.plain_tracer.specs.Prelude.{heap_of, first, IsAddress, LineWords, UnlogBits, bit_of, IsRowOf, with_bit, TouchesLine, Setup, blocks, Event, View, copied_view, IsWon, IsGrey, Tracks, TracerHolds, MakesEvents, ChangesWords, KeepsRun, Marks, copying, IsMarking, IsMoving, IsCopiedHere};
 
@@ -84,10 +84,9 @@ impl PlainTrace {
             → Tracks p (es ++ copying p object target) self.new (copied_view p object target v) }
         ensures keeps { KeepsRun self.old self.new }
     {
-        let at = object as usize;
         self.row
             .words
-            .copy_within(at..at + size as usize, target as usize);
+            .copy_within(object as usize, target as usize, size as usize);
         self.set_bit(layout, layout.unlog_base(), target);
         self.set_bit(layout, layout.start_base(), target);
     }
@@ -95,10 +94,10 @@ impl PlainTrace {
     /// Whether the bit of an address is set, in a zone that has a bit for each word of the heap.
     pub(crate) fn has_bit(&self, layout: Layout, zone: u32, address: u32) -> bool
         requires layout { layout.blocks ≡ self.now.row.layout.blocks }
-        requires extent { IsRowOf self.now.row.layout self.now.row.words.items }
+        requires extent { IsRowOf self.now.row.layout self.now.row.words }
         requires address { IsAddress self.now.row.layout.blocks address }
         requires zone { zone ≤ first self.now.row.layout.blocks UnlogBits }
-        ensures { result ≡ nat_eq (bit_at (slice_index self.now.row.words.items
+        ensures { result ≡ nat_eq (bit_at (slice_index self.now.row.words
             (zone + (address - heap_of self.now.row.layout.blocks) / BITS_PER_WORD))
             ((address - heap_of self.now.row.layout.blocks) % BITS_PER_WORD)) 1 }
     {
@@ -113,12 +112,12 @@ impl PlainTrace {
     /// Sets the bit of an address in a zone that has a bit for each word of the heap.
     fn set_bit(&mut self, layout: Layout, zone: u32, address: u32)
         requires layout { layout.blocks ≡ self.old.row.layout.blocks }
-        requires extent { IsRowOf self.old.row.layout self.old.row.words.items }
+        requires extent { IsRowOf self.old.row.layout self.old.row.words }
         requires address { IsAddress self.old.row.layout.blocks address }
         requires zone { zone ≤ first self.old.row.layout.blocks UnlogBits }
-        ensures { ChangesWords self.old self.new (slice_set self.old.row.words.items
+        ensures { ChangesWords self.old self.new (slice_set self.old.row.words
             (zone + (address - heap_of self.old.row.layout.blocks) / BITS_PER_WORD)
-            (with_bit (slice_index self.old.row.words.items
+            (with_bit (slice_index self.old.row.words
             (zone + (address - heap_of self.old.row.layout.blocks) / BITS_PER_WORD))
             ((address - heap_of self.old.row.layout.blocks) % BITS_PER_WORD))) }
     {
@@ -138,16 +137,11 @@ impl PlainTrace {
         ensures marked { (p : Setup) (es : List Event) (v : View) → Tracks p es self.old v
             → IsMarking p v grey.now → (k : ℕ)
             → TouchesLine (blocks p) grey.now.target grey.now.size k
-            → IsTrue (bit_of (blocks p) LineWords self.new.row.words.items k) }
+            → IsTrue (bit_of (blocks p) LineWords self.new.row.words k) }
         ensures keeps { KeepsRun self.old self.new }
     {
-        words_fit(&self.row.words);
+        self.row.words.words_fit();
         let layout = self.row.layout;
         line_bits::mark(&mut self.row.words, &layout, grey.target, grey.size);
     }
 }
-
-/// Each word has 64 bits, which a definition that speaks of numbers does not know.
-fn words_fit(words: &[u64])
-    ensures { (i : ℕ) → slice_index words.now i < 2 ^ 64 }
-{}

@@ -214,17 +214,18 @@ impl PlainTrace {
 
     /// Whether a block is Free.
     fn is_free(&self, block: u32) -> bool
-        requires extent { IsRowOf self.now.row.layout self.now.row.words.items }
+        requires extent { IsRowOf self.now.row.layout self.now.row.words }
         requires block { block < self.now.row.layout.blocks }
         ensures { IsTrue result ↔ HasKind (state_of self.now.row) block kinds.Free }
     {
-        self.row.words[self.row.layout.block_at(block) as usize] % CLASS_UNIT == Kind::Free as u64
+        let word = self.row.words.get(self.row.layout.block_at(block) as usize);
+        word % CLASS_UNIT == Kind::Free as u64
     }
 }
 
 /// Sets the unlog bits of these objects.
 fn set_unlogs(row: &mut Row, objects: &[u32])
-    requires extent { length row.old.words.items ≡ row_words row.old.layout.blocks }
+    requires extent { length row.old.words ≡ row_words row.old.layout.blocks }
     requires objects { (a : ℕ) → 0 < times a objects.now
         → IsAddress row.old.layout.blocks a }
     ensures { state_of row.new ≡ with_unlogs (state_of row.old) objects.now }
@@ -237,7 +238,7 @@ fn set_unlogs(row: &mut Row, objects: &[u32])
 
 /// Sets the unlog bit of an address.
 fn set_unlog(row: &mut Row, address: u32)
-    requires extent { length row.old.words.items ≡ row_words row.old.layout.blocks }
+    requires extent { length row.old.words ≡ row_words row.old.layout.blocks }
     requires address { IsAddress row.old.layout.blocks address }
     ensures { state_of row.new ≡ with_unlogs (state_of row.old) (address ∷ []) }
 {
@@ -248,7 +249,7 @@ fn set_unlog(row: &mut Row, address: u32)
 
 /// Clears all unlog bits, and if `lines` all line bits.
 fn clear_bits(row: &mut Row, lines: bool)
-    requires { length row.old.words.items ≡ row_words row.old.layout.blocks }
+    requires { length row.old.words ≡ row_words row.old.layout.blocks }
     ensures { state_of row.new ≡ without_unlogs (if lines then without_lines (state_of row.old)
         else state_of row.old) }
 {
@@ -257,15 +258,15 @@ fn clear_bits(row: &mut Row, lines: bool)
     }
     let from = row.layout.unlog_base() as usize;
     let to = row.layout.heap_base() as usize;
-    row.words[from..to].fill(0);
+    row.words.fill(from, to);
 }
 
 /// Clears all line bits.
 fn clear_lines(row: &mut Row)
-    requires { length row.old.words.items ≡ row_words row.old.layout.blocks }
+    requires { length row.old.words ≡ row_words row.old.layout.blocks }
     ensures { state_of row.new ≡ without_lines (state_of row.old) }
 {
     let from = row.layout.line_at(0) as usize;
     let to = row.layout.start_base() as usize;
-    row.words[from..to].fill(0);
+    row.words.fill(from, to);
 }

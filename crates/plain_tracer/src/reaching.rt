@@ -52,7 +52,7 @@ impl PlainTrace {
         ensures lines { IsTrue self.old.run.lines → (p : Setup) (es : List Event) (v : View)
             → Tracks p es self.old v → IsGrey p v grey → v.won ≡ [] → (k : ℕ)
             → TouchesLine (blocks p) grey.target grey.size k
-            → IsTrue (bit_of (blocks p) LineWords self.new.row.words.items k) }
+            → IsTrue (bit_of (blocks p) LineWords self.new.row.words k) }
         ensures capacity { vec_capacity out.new ≡ vec_capacity out.old }
         ensures keeps { KeepsRun self.old self.new }
     {
@@ -94,7 +94,7 @@ impl PlainTrace {
         ensures keeps { KeepsRun self.old self.new }
     {
         let at = grey.target as usize + HEADER_WORDS as usize + field as usize;
-        let reference = self.row.words[at] as u32;
+        let reference = self.row.words.get(at) as u32;
         let last = self.reach(reference, out);
         if last != reference {
             self.store(at, last);
@@ -116,7 +116,7 @@ impl PlainTrace {
         ensures keeps { KeepsRun self.old self.new }
     {
         let at = self.row.layout.global_at(root.global) as usize;
-        let reference = self.row.words[at] as u32;
+        let reference = self.row.words.get(at) as u32;
         let last = self.reach(reference, out);
         if last != reference {
             self.store(at, last);

@@ -27,7 +27,7 @@ impl PlainTrace {
         ensures lines { IsTrue self.old.run.lines → (p : Setup) (es : List Event) (v : View)
             → Tracks p es self.old v → IsGrey p v grey → (k : ℕ)
             → TouchesLine (blocks p) grey.target grey.size k
-            → IsTrue (bit_of (blocks p) LineWords self.new.row.words.items k) }
+            → IsTrue (bit_of (blocks p) LineWords self.new.row.words k) }
         ensures capacity { vec_capacity out.new ≡ vec_capacity out.old }
         ensures keeps { KeepsRun self.old self.new }
     {
@@ -66,7 +66,7 @@ impl PlainTrace {
         ensures keeps { KeepsRun self.old self.new }
     {
         let at = grey.target as usize + HEADER_WORDS as usize + field as usize;
-        let reference = self.row.words[at] as u32;
+        let reference = self.row.words.get(at) as u32;
         let last = self.follow(reference, out);
         if last != reference {
             self.store(at, last);
@@ -87,7 +87,7 @@ impl PlainTrace {
         ensures keeps { KeepsRun self.old self.new }
     {
         let at = self.row.layout.global_at(root.global) as usize;
-        let reference = self.row.words[at] as u32;
+        let reference = self.row.words.get(at) as u32;
         let last = self.follow(reference, out);
         if last != reference {
             self.store(at, last);
@@ -96,10 +96,10 @@ impl PlainTrace {
 
     /// Stores a word of the row.
     pub(crate) fn store(&mut self, at: usize, value: u32)
-        requires { at < length self.old.row.words.items }
-        ensures { ChangesWords self.old self.new (slice_set self.old.row.words.items at value) }
+        requires { at < length self.old.row.words }
+        ensures { ChangesWords self.old self.new (slice_set self.old.row.words at value) }
     {
-        self.row.words[at] = value as u64;
+        self.row.words.set(at, value as u64);
     }
 
     /// The last value of a field or global: the target of what it refers to, or nil. Claims and

@@ -134,8 +134,8 @@ impl<P: Plan> PlainWorld<P> {
             (epoch_of P.rules (heap_state heap) (map mutator_state mutators.items)) i [] }
     {
         let mut row = heap.into_row();
-        row.words[STOP_WORD] = 0;
-        row.words[BUDGET_WORD] = 0;
+        row.words.set(STOP_WORD, 0);
+        row.words.set(BUDGET_WORD, 0);
         let BlockNotes {
             counts,
             notes,
@@ -232,7 +232,7 @@ impl<P: Plan> PlainWorld<P> {
             ..
         } = self.row;
         // The Free blocks taken are the tickets drawn but for the unused ones.
-        counts.free = counts.free + unused_tickets(&seats) - row.words[BUDGET_WORD] as u32;
+        counts.free = counts.free + unused_tickets(&seats) - row.words.get(BUDGET_WORD) as u32;
         give_back::<P>(&mut row, &mut notes, &owned);
         owned.clear();
         let notes = BlockNotes {

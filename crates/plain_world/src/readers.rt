@@ -37,6 +37,6 @@ impl<P: Plan> PlainWorld<P> {
         requires { IsOpen P.rules self.now }
         ensures { result ≡ free_of (heap_of_world self.now) }
     {
-        self.row.counts.free + unused_tickets(&self.row.seats) - self.row.row.words[1] as u32
+        self.row.counts.free + unused_tickets(&self.row.seats) - self.row.row.words.get(1) as u32
     }
 }

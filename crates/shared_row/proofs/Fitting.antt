@@ -1,18 +1,16 @@
 -- Words that lie in memory fit 64 bits. Assumes `Logic`.
-use Rattle.std.proofs.Common.{ℕ, zero, suc, ◌+◌, ◌*◌, ◌^◌, ◌<◌, T, List, [], ◌∷◌, lit<, w64, length}
+use Rattle.std.proofs.Common.{ℕ, zero, suc, ◌+◌, ◌^◌, ◌<◌, T, List, [], ◌∷◌, lit<, w64}
 use seplogic.Ra.Ura.{Ura}
 use mir.Syntax.{ty_int}
 use mir.Val.{vint, has_ty, WT}
 use base.Fraction.{full_share}
-use base.Fml.{ftrue}
 use base.Logic.{ent, guard, guard_i}
 use types.Logic.{Logic, sem}
-use types.Kit.{‵, given, ◌$◌, ◌∵◌, !, qed, move, fsplit, fjoin, fpick, fpack, learn, check, use1, done}
+use types.Kit.{‵, given, ◌$◌, ◌∵◌, !, qed, move, fsplit, learn, check, use1, done}
 use types.SemTy.{cells}
 use denote.Builtin.{u64}
 use denote.Memory.{mem, part_at}
-use denote.RawPtr.{Ptr, block_of, count_of, InBlock}
-use denote.Steps.{nothing}
+use denote.RawPtr.{Ptr, block_of, count_of}
 use Rattle.core.proofs.tally.Steps.{word_out, word_in}
 use Rattle.atomic_table.specs.Seated.{word, strip}
 use Rattle.shared_row.specs.Words.{AllFit}

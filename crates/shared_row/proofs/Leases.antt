@@ -1,5 +1,5 @@
 -- The right to free a block: its machine value is a lease's, it is made of the allocator's token, and it may go to another thread. Assumes `Logic`.
-use Rattle.std.proofs.Common.{ℕ, ◌^◌, ◌<◌, List, [], ◌∷◌, refl, ◌≡◌, ap, ◌∙◌, ◌++◌, w64}
+use Rattle.std.proofs.Common.{ℕ, ◌^◌, ◌<◌, List, [], ◌∷◌, refl, ◌≡◌, ◌∙◌, ◌++◌, w64}
 use mir.Val.{Val, vint, vptr, vstruct, vnil, of_list}
 use types.Logic.{Logic}
 use types.Kit.{Goal, Step, step, Seq, Item, ‵, ◌$◌, drop, fsplit, fjoin, fpick, feq_l}

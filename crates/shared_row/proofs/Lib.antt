@@ -6,3 +6,4 @@ pub mod Sent
 pub mod Fitting
 mod Marking
 pub mod Granted
+mod Copied

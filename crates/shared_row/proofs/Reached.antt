@@ -3,13 +3,13 @@
 --     takes_seat      with the start read: a share of the age, and what the seat owns
 --     shuts_seat      the seat at what it has after a step, and the tokens of all lifetimes
 --     lets_go         the same after a step that tells what the seat has
-use Rattle.std.proofs.Common.{◌≡◌, ℕ, List, [], ◌∷◌, refl, sym}
+use Rattle.std.proofs.Common.{◌≡◌, ℕ, List, [], ◌∷◌, refl}
 use base.Fraction.{full_share}
 use base.Stored.{Gv}
 use mir.Val.{Val, vptr}
 use types.SemTy.{Body}
 use seplogic.Ra.Ura.{Ura}
-use base.Fml.{Lft, Share, GName, Fml, ftrue, fhide, fsep, feq, fobs, fbor, fobor, fauth, flft, fex}
+use base.Fml.{Lft, Share, GName, Fml, fhide, fsep, feq, fobs, fbor, fobor, fauth, flft, fex}
 use base.Logic.{guard_i}
 use types.Logic.{Logic, sem}
 use types.Kit.{Goal, Item, Seq, Step, Soaks, step, ‵, ◌⊛◌, given, ◌$◌, move, drop, join, split, fsplit, fpick, fjoin, fjoin3, feq_i, learn, use1, rewrite}

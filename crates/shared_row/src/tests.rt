@@ -52,37 +52,38 @@ fn take_turns(row: &Shared, seat: &mut RowSeat<()>, bit: u64, turns: u32) -> u64
     met
 }
 
+// Two threads take turns. The answer counts how often they met each other's sums.
 fn two_take_turns<R: Threads + Sync>(
     rt: &R,
     row: &Shared,
     mut seat: RowSeat<()>,
     bit: u64,
     turns: u32,
-) -> RowSeat<()>
+) -> (RowSeat<()>, u64)
     requires { (seat.table_id ≡ row.now.table_id) × (3 < row.now.table_id.words) }
-    ensures { result.table_id ≡ seat.table_id }
+    ensures { result.0.table_id ≡ seat.table_id }
 {
     let other = row.split::<AnyWords>(&mut seat);
-    let (mine, _) = join(
+    let ((mine, met), (_, others)) = join(
         rt,
-        move || -> RowSeat<()>
+        move || -> (RowSeat<()>, u64)
             requires { (seat.table_id ≡ row.now.table_id) × (3 < row.now.table_id.words) }
-            ensures { result.table_id ≡ seat.table_id }
+            ensures { result.0.table_id ≡ seat.table_id }
         {
             let mut seat = seat;
-            let _met = take_turns(row, &mut seat, bit, turns);
-            seat
+            let met = take_turns(row, &mut seat, bit, turns);
+            (seat, met)
         },
-        move || -> RowSeat<()>
+        move || -> (RowSeat<()>, u64)
             requires { (other.table_id ≡ row.now.table_id) × (3 < row.now.table_id.words) }
-            ensures { result.table_id ≡ other.table_id }
+            ensures { result.0.table_id ≡ other.table_id }
         {
             let mut seat = other;
-            let _met = take_turns(row, &mut seat, bit, turns);
-            seat
+            let met = take_turns(row, &mut seat, bit, turns);
+            (seat, met)
         },
     );
-    mine
+    (mine, met.wrapping_add(others))
 }
 
 #[test]
@@ -132,39 +133,45 @@ fn check_words<R: Abort>(rt: &R, row: &WordRow, sums: u64, bits: u64) {
 #[test]
 fn two_threads_race_and_hand_the_row_back(rt: HostRuntime) -> Result<(), Fail> {
     let mut row = WordRow::zeros(rt.alloc(), 4)?;
+    let mut met = 0u64;
     for _ in 0..100 {
         row.fill(0, 4);
         let (shared, seat) = row.share::<(), (), AnyWords>(&());
-        let seat = two_take_turns(&rt, &shared.words, seat, 5, 10_000);
+        let (seat, more) = two_take_turns(&rt, &shared.words, seat, 5, 10_000);
+        met = met.wrapping_add(more);
         row = shared.into_row(seat);
         check_words(&rt, &row, 20_000, 5);
     }
+    println!(rt; "two threads met in {met} of 2,000,000 sums")?;
     Ok(())
 }
 
 #[test]
 fn four_threads_race_and_hand_the_row_back(rt: HostRuntime) -> Result<(), Fail> {
     let mut row = WordRow::zeros(rt.alloc(), 4)?;
+    let mut met = 0u64;
     for _ in 0..100 {
         row.fill(0, 4);
         let (shared, mut seat) = row.share::<(), (), AnyWords>(&());
         let other = shared.words.split::<AnyWords>(&mut seat);
         let all = &shared.words;
         let host = &rt;
-        let (seat, _) = join(
+        let ((seat, more), (_, others)) = join(
             &rt,
-            move || -> RowSeat<()>
+            move || -> (RowSeat<()>, u64)
                 requires { (seat.table_id ≡ all.now.table_id) × (3 < all.now.table_id.words) }
-                ensures { result.table_id ≡ seat.table_id }
+                ensures { result.0.table_id ≡ seat.table_id }
             { two_take_turns(host, all, seat, 5, 10_000) },
-            move || -> RowSeat<()>
+            move || -> (RowSeat<()>, u64)
                 requires { (other.table_id ≡ all.now.table_id) × (3 < all.now.table_id.words) }
-                ensures { result.table_id ≡ other.table_id }
+                ensures { result.0.table_id ≡ other.table_id }
             { two_take_turns(host, all, other, 9, 10_000) },
         );
+        met = met.wrapping_add(more).wrapping_add(others);
         row = shared.into_row(seat);
         check_words(&rt, &row, 40_000, 13);
     }
+    println!(rt; "four threads met in {met} of 4,000,000 sums")?;
     Ok(())
 }
 
@@ -187,6 +194,11 @@ fn a_row_is_read_and_written_as_a_list(rt: HostRuntime) -> Result<(), Fail> {
         row.set(i, seed);
         list[i] = seed;
     }
+    assert!(rt; row.to_vec(rt.alloc())? == list);
+    row.copy_within(100, 150, 300);
+    list.copy_within(100..400, 150);
+    row.copy_within(500, 20, 490);
+    list.copy_within(500..990, 20);
     assert!(rt; row.to_vec(rt.alloc())? == list);
     row.fill(3, 700);
     row.fill(800, 800);

@@ -2,6 +2,8 @@
 
 ghost use Rattle.std.specs.Prelude.{◌≡◌, ℕ, ◌<◌, ◌^◌, List, length, slice_index, slice_set};
 
+use shared_row::WordRow;
+
 /// A row of 64-bit words.
 pub trait Words {
     // The words in order.
@@ -36,5 +38,21 @@ impl Words for Vec<u64> {
 
     fn set(&mut self, index: u32, value: u64) {
         self[index as usize] = value;
+    }
+}
+
+impl Words for WordRow {
+    ghost words = { λ row. row };
+
+    fn len(&self) -> usize {
+        WordRow::len(self)
+    }
+
+    fn get(&self, index: u32) -> u64 {
+        WordRow::get(self, index as usize)
+    }
+
+    fn set(&mut self, index: u32, value: u64) {
+        WordRow::set(self, index as usize, value);
     }
 }

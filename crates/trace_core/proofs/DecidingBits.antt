@@ -23,11 +23,11 @@ module _ (p : Setup) (es : List Event) (trace : IsTracing p es) (x : ℕ) (there
   abbrev before : ℕ
   before = word_at p.before (x + 2)
 
-  past : number_in before ≤ p.before.number
+  pub past : number_in before ≤ p.before.number
   past = (trace.ready.lawful.order.objects.headers x there).number
 
   -- the word of a claimed object that is not old
-  claimed-parts : (t : ℕ) → target_of p es x ≡ Some t → stays_old p x ≡ false → (number_in word ≡ collection p) × (target_in word ≡ t)
+  pub claimed-parts : (t : ℕ) → target_of p es x ≡ Some t → stays_old p x ≡ false → (number_in word ≡ collection p) × (target_in word ≡ t)
   claimed-parts t is young =
       let inside = targets-inside p es trace x t t is (record { from = omega arith; below = omega arith }) in
       let below : t < row_words (blocks p) = inside.below in
@@ -35,11 +35,11 @@ module _ (p : Setup) (es : List Event) (trace : IsTracing p es) (x : ℕ) (there
       parts-of (collection p) t word (omega arith) (collector p es trace x t is ∙ cond-false (stays_old p x) before (collector_word (collection p) t) young)
 
   -- the word of an old object, and of an unclaimed one
-  old-word : (t : ℕ) → target_of p es x ≡ Some t → IsTrue (stays_old p x) → word ≡ before
+  pub old-word : (t : ℕ) → target_of p es x ≡ Some t → IsTrue (stays_old p x) → word ≡ before
   old-word t is aged = collector p es trace x t is ∙ cond-true (stays_old p x) before (collector_word (collection p) t) aged
 
   -- which words are old for the base after the collection
-  old-from : IsTrue (is_old_word (base_after_trace p) before) → IsTrue (stays_old p x)
+  pub old-from : IsTrue (is_old_word (base_after_trace p) before) → IsTrue (stays_old p x)
   old-from is = elim (cases_Bool p.nursery) as (λ _. IsTrue (stays_old p x)) [
     | inl nursery ↦ and_from p.nursery (held p x && ages.is_old p.before x) nursery (and_from (held p x) (ages.is_old p.before x) there.start
         (subst (λ n. IsTrue (is_old_word n before)) (cond-true p.nursery p.before.base (collection p) nursery) is))
@@ -48,7 +48,7 @@ module _ (p : Setup) (es : List Event) (trace : IsTracing p es) (x : ℕ) (there
         let low : number_in before ≤ p.before.number = past in omega arith)
   ]
 
-  old-to : IsTrue (stays_old p x) → IsTrue (is_old_word (base_after_trace p) before)
+  pub old-to : IsTrue (stays_old p x) → IsTrue (is_old_word (base_after_trace p) before)
   old-to aged = subst (λ n. IsTrue (is_old_word n before)) (sym (cond-true p.nursery p.before.base (collection p) (nursery-of p trace.ready x aged))) (age-of p trace.ready x aged)
 
   -- the word has the number of this collection

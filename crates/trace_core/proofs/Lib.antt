@@ -11,7 +11,7 @@ mod SideLaw
 mod Reasons
 pub mod Law
 mod Once
-mod TakenStay
+pub mod TakenStay
 pub mod Clauses
 pub mod Finished
 pub mod Rows
@@ -30,3 +30,9 @@ pub mod Begun
 pub mod LineBits
 pub mod DecidingBits
 pub mod SameObjects
+pub mod ClaimRights
+pub mod CopyRights
+pub mod AskRights
+pub mod TakenBlocks
+pub mod HeaderWords
+pub mod LastValues

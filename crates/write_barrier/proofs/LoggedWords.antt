@@ -158,15 +158,15 @@ old-read s words base at a same-words same-base here =
 
 -- the start bits of word w of block k whose objects lack their unlog bits, as they are read
 pub bits-read : (s : HeapState) (words : List ℕ) (starts unlogs k w : ℕ) → words ≡ s.words → starts ≡ first s.blocks StartBits → unlogs ≡ first s.blocks UnlogBits
-    → k < s.blocks → w < 64 → slice_index words (unlogs + 64 * k + w) < 2 ^ 64 → (j : ℕ) → j < 64
-    → has_bit (bit_and (slice_index words (starts + 64 * k + w)) (bit_not w64 (slice_index words (unlogs + 64 * k + w)))) j ≡ lacks_unlog_bit s (64 * k + w) j
-bits-read s words starts unlogs k w same from other there inside fits =
+    → k < s.blocks → w < 64 → (start unlog : ℕ) → start ≡ slice_index words (starts + 64 * k + w) → unlog ≡ slice_index words (unlogs + 64 * k + w) → unlog < 2 ^ 64
+    → (j : ℕ) → j < 64 → has_bit (bit_and start (bit_not w64 unlog)) j ≡ lacks_unlog_bit s (64 * k + w) j
+bits-read s words starts unlogs k w same from other there inside start unlog first-read second-read fits =
     let i : ℕ = 64 * k + w in
-    let first-is : slice_index words (starts + 64 * k + w) ≡ word_at s (first s.blocks StartBits + i) =
-    ap (slice_index words) (let e : starts + 64 * k + w ≡ first s.blocks StartBits + i = omega (arith, from) in e) ∙ ap (λ l. slice_index l (first s.blocks StartBits + i)) same in
-    let second-is : slice_index words (unlogs + 64 * k + w) ≡ word_at s (first s.blocks UnlogBits + i) =
-    ap (slice_index words) (let e : unlogs + 64 * k + w ≡ first s.blocks UnlogBits + i = omega (arith, other) in e) ∙ ap (λ l. slice_index l (first s.blocks UnlogBits + i)) same in
-    without-bit s i (omega (arith, there, inside)) (slice_index words (starts + 64 * k + w)) (slice_index words (unlogs + 64 * k + w)) first-is second-is fits
+    let first-is : start ≡ word_at s (first s.blocks StartBits + i) =
+    first-read ∙ ap (slice_index words) (let e : starts + 64 * k + w ≡ first s.blocks StartBits + i = omega (arith, from) in e) ∙ ap (λ l. slice_index l (first s.blocks StartBits + i)) same in
+    let second-is : unlog ≡ word_at s (first s.blocks UnlogBits + i) =
+    second-read ∙ ap (slice_index words) (let e : unlogs + 64 * k + w ≡ first s.blocks UnlogBits + i = omega (arith, other) in e) ∙ ap (λ l. slice_index l (first s.blocks UnlogBits + i)) same in
+    without-bit s i (omega (arith, there, inside)) start unlog first-is second-is fits
 
 -- a word in which no object lacks its unlog bit
 pub none-in-word : (s : HeapState) (i bits : ℕ) (logged : List ℕ) → i < 64 * s.blocks → ((j : ℕ) → j < 64 → has_bit bits j ≡ lacks_unlog_bit s i j) → bits ≡ 0

@@ -87,12 +87,13 @@ fn add_block(heap: &Heap, block: u32, logged: &mut Vec<u32>) -> Result<(), Alloc
     if matches!(heap.block(block).kind, Kind::Free | Kind::LargeTail) {
         return Ok(());
     }
-    let words = heap.words().as_slice();
+    let words = heap.words();
     let from = BLOCK_BIT_WORDS * block;
     let starts = (heap.layout().start_base() + from) as usize;
     let unlogs = (heap.layout().unlog_base() + from) as usize;
     for word in 0..BLOCK_BIT_WORDS {
-        let bits = words[starts + word as usize] & !words[unlogs + word as usize];
+        let held = words.get(starts + word as usize);
+        let bits = held & !words.get(unlogs + word as usize);
         if bits != 0 {
             add_word(heap, from + word, bits, logged)?;
         }

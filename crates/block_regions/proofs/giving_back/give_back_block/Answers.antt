@@ -5,7 +5,6 @@ use Rattle.block_regions.specs.declared.block_notes.BlockNote.{BlockNote}
 use Rattle.block_regions.specs.declared.block_notes.BlockNote.TheVariants.{Unowned, Owned}
 use Rattle.object_model.specs.Objects.{HeapState, state_of, state_over, block_word}
 use Rattle.object_model.specs.Lawful.{IsReadableBlock}
-use Rattle.std.proofs.lemmas.List.{get_or_default}
 use Rattle.plan_api.specs.Relisting.{Relists}
 use Rattle.block_sweeps.specs.Sweeping.{AreApart}
 use Rattle.plan_api.proofs.BlockViews.{block-anyway}
@@ -28,13 +27,11 @@ relist_block-requires-clause-block g c =
     let row = c.args.row.now in
     let s : HeapState = state_of row in
     let k : ℕ = c.args.block in
-    let i : ℕ = c.block_at.result in
-    let at : i ≡ 18 + k = c.block_at.ensures in
-    let inside : i < length row.words.items = omega (arith, c.requires.order.row.extent, c.requires.block) in
-    let word : c.index_mut.result.now ≡ block_word s k
-    = c.index_mut.ensures.value ∙ get_or_default row.words.items i c.index_mut.result.now 0 inside ∙ ap (λ (n : ℕ). get_or row.words.items n 0) at in
-    let same : slice_set row.words.items i (c.index_mut.result.now % 65536) ≡ (without_owner s k).words
-    = ap (λ (n : ℕ). slice_set row.words.items n (c.index_mut.result.now % 65536)) at ∙ ap (λ (v : ℕ). slice_set row.words.items (18 + k) (v % 65536)) word in
+    let i : ℕ = c.block_at-at.result in
+    let at : i ≡ 18 + k = c.block_at-at.ensures in
+    let word : c.get.result ≡ block_word s k = c.get.ensures ∙ ap (λ (n : ℕ). get_or row.words n 0) at in
+    let same : c.set.new.self ≡ (without_owner s k).words
+    = c.set.ensures.words ∙ ap (λ (n : ℕ). slice_set row.words n (c.get.result % 65536)) at ∙ ap (λ (v : ℕ). slice_set row.words (18 + k) (v % 65536)) word in
     subst (λ (w : List ℕ). IsReadableBlock (state_over w row.layout 0 0) k) (sym same)
     (block-anyway (without_owner s k).words row.layout s.number s.base 0 0 k (readable-without s c.requires.order k c.requires.block c.requires.code))
 
@@ -43,13 +40,11 @@ relist_block-requires-clause-apart g c =
     let row = c.args.row.now in
     let s : HeapState = state_of row in
     let k : ℕ = c.args.block in
-    let i : ℕ = c.block_at.result in
-    let at : i ≡ 18 + k = c.block_at.ensures in
-    let inside : i < length row.words.items = omega (arith, c.requires.order.row.extent, c.requires.block) in
-    let word : c.index_mut.result.now ≡ block_word s k
-    = c.index_mut.ensures.value ∙ get_or_default row.words.items i c.index_mut.result.now 0 inside ∙ ap (λ (n : ℕ). get_or row.words.items n 0) at in
-    let same : slice_set row.words.items i (c.index_mut.result.now % 65536) ≡ (without_owner s k).words
-    = ap (λ (n : ℕ). slice_set row.words.items n (c.index_mut.result.now % 65536)) at ∙ ap (λ (v : ℕ). slice_set row.words.items (18 + k) (v % 65536)) word in
+    let i : ℕ = c.block_at-at.result in
+    let at : i ≡ 18 + k = c.block_at-at.ensures in
+    let word : c.get.result ≡ block_word s k = c.get.ensures ∙ ap (λ (n : ℕ). get_or row.words n 0) at in
+    let same : c.set.new.self ≡ (without_owner s k).words
+    = c.set.ensures.words ∙ ap (λ (n : ℕ). slice_set row.words n (c.get.result % 65536)) at ∙ ap (λ (v : ℕ). slice_set row.words (18 + k) (v % 65536)) word in
     subst (λ (w : List ℕ). AreApart (state_over w row.layout 0 0) k) (sym same)
     (apart-anyway (without_owner s k).words row.layout s.number s.base 0 0 k (apart-without s c.requires.order k c.requires.block))
 
@@ -80,16 +75,14 @@ returns g c =
     let row = c.args.row.now in
     let s : HeapState = state_of row in
     let k : ℕ = c.args.block in
-    let i : ℕ = c.block_at.result in
-    let at : i ≡ 18 + k = c.block_at.ensures in
-    let inside : i < length row.words.items = omega (arith, c.requires.order.row.extent, c.requires.block) in
-    let word : c.index_mut.result.now ≡ block_word s k
-    = c.index_mut.ensures.value ∙ get_or_default row.words.items i c.index_mut.result.now 0 inside ∙ ap (λ (n : ℕ). get_or row.words.items n 0) at in
-    let same : slice_set row.words.items i (c.index_mut.result.now % 65536) ≡ (without_owner s k).words
-    = ap (λ (n : ℕ). slice_set row.words.items n (c.index_mut.result.now % 65536)) at ∙ ap (λ (v : ℕ). slice_set row.words.items (18 + k) (v % 65536)) word in
+    let i : ℕ = c.block_at-at.result in
+    let at : i ≡ 18 + k = c.block_at-at.ensures in
+    let word : c.get.result ≡ block_word s k = c.get.ensures ∙ ap (λ (n : ℕ). get_or row.words n 0) at in
+    let same : c.set.new.self ≡ (without_owner s k).words
+    = c.set.ensures.words ∙ ap (λ (n : ℕ). slice_set row.words n (c.get.result % 65536)) at ∙ ap (λ (v : ℕ). slice_set row.words (18 + k) (v % 65536)) word in
     given c.in-Owned.owner c.least_left.result c.in-Owned.region note
-    (relists-anyway g.P.Plan.rules (without_owner s k).words c.relist_block.new.words.items row.layout 0 0 s.number s.base k
-    (subst (λ (w : List ℕ). Relists g.P.Plan.rules (state_over w row.layout 0 0) (state_over c.relist_block.new.words.items row.layout 0 0) k) same c.relist_block.ensures))
+    (relists-anyway g.P.Plan.rules (without_owner s k).words c.relist_block.new.words row.layout 0 0 s.number s.base k
+    (subst (λ (w : List ℕ). Relists g.P.Plan.rules (state_over w row.layout 0 0) (state_over c.relist_block.new.words row.layout 0 0) k) same c.relist_block.ensures))
     (refl, refl)
     (subst (λ (f : Kind). IsLeastLeft f c.in-Owned.region c.least_left.result) c.alloc_kind.ensures c.least_left.ensures)
     (set-changes notes k (Unowned c.least_left.result) there)

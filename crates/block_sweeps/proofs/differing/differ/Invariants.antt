@@ -1,5 +1,5 @@
-use Rattle.std.proofs.Common.{ℕ, ◌≡◌, ◌*◌, ◌<◌, slice_index}
+use Rattle.std.proofs.Common.{ℕ, ◌≡◌, ◌+◌, ◌*◌, ◌<◌, slice_index}
 use Rattle.block_sweeps.proofs.differing.differ.Given as goal
 
 abbrev pub invariant-loop-eight : goal.invariant-loop-eight
-invariant-loop-eight l = (i : ℕ) → i < 8 * l.eight → slice_index l.these i ≡ slice_index l.those i
+invariant-loop-eight l = (i : ℕ) → i < 8 * l.eight → slice_index l.words (l.these + i) ≡ slice_index l.words (l.those + i)

@@ -1,9 +1,25 @@
+use denote.Param.Send.{IsSend, sendable, param_send}
+use Rattle.collector.proofs.collecting.run_packets.Lts.{arg-11-2}
 use Rattle.std.proofs.Common.{length, inl}
 use Rattle.std.proofs.lemmas.List.Sorted.{IsPermutation-refl}
+use Rattle.std.proofs.Crossing.{crosses}
 use Rattle.work_packets.specs.Steps.{pushed_by_all}
 use Rattle.collector.specs.declared.worker.TracingWorker.{TracingWorker}
 use Rattle.collector.proofs.TwoBuckets.{awaits-all, takes-awaited, scans-left, only-one, one-home, nothing-awaited}
+use Rattle.collector.proofs.Crossing.{packets_are_sent, worker_is_sent}
 use Rattle.collector.proofs.collecting.run_packets.Goals as goal
+
+ruleset sends = (tt, crosses, sendable, packets_are_sent, worker_is_sent)
+
+pub run_bucket-requires-send-W : goal.run_bucket-requires-send-W
+run_bucket-requires-send-W g c κs within =
+    let worker : IsSend (arg-11-2 g.row.Q g.row.G g.row.R g.Q.laws g.G.laws g.R.laws g.Q.Pool-dict g.G.Gate-dict g.R.Threads-dict κs) = search sends depth 40 in
+    param_send 2 _ worker
+
+pub run_bucket-requires-2-send-W : goal.run_bucket-requires-2-send-W
+run_bucket-requires-2-send-W g c κs within =
+    let worker : IsSend (arg-11-2 g.row.Q g.row.G g.row.R g.Q.laws g.G.laws g.R.laws g.Q.Pool-dict g.G.Gate-dict g.R.Threads-dict κs) = search sends depth 40 in
+    param_send 2 _ worker
 
 pub run_bucket-requires-clause-takes : goal.run_bucket-requires-clause-takes
 run_bucket-requires-clause-takes g c κs within =

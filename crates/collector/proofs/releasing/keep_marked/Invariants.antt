@@ -5,5 +5,5 @@ use Rattle.collector.specs.Released.{UnlogBitsMarkSurvivors}
 use Rattle.collector.proofs.releasing.keep_marked.Given as goal
 
 abbrev pub invariant-loop-index : goal.invariant-loop-index
-invariant-loop-index l = (base : ℕ) → UnlogBitsMarkSurvivors base (state_over l.fn.words.items l.layout 0 0) l.block
-    → SweepsWords base (64 * l.block) (l.index - 64 * l.block) (state_over l.fn.words.items l.layout 0 0) (state_over l.words.items l.layout 0 0)
+invariant-loop-index l = (base : ℕ) → UnlogBitsMarkSurvivors base (state_over l.fn.words l.layout 0 0) l.block
+    → SweepsWords base (64 * l.block) (l.index - 64 * l.block) (state_over l.fn.words l.layout 0 0) (state_over l.words l.layout 0 0)

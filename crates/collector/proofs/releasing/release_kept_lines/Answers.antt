@@ -34,29 +34,29 @@ module _ (l : Layout) (k : ℕ) (old : List ℕ) (w : BlockWord) (there : k < l.
 
 pub relist_block-requires-clause-block : goal.relist_block-requires-clause-block
 relist_block-requires-clause-block g c =
-    let l = c.args.layout.now in let k = c.args.block in let old = c.args.words.now.items in let w = c.args.word.now in let b = c.requires.block in let r = g.P.Plan.rules in
+    let l = c.args.layout.now in let k = c.args.block in let old = c.args.words.now in let w = c.args.word.now in let b = c.requires.block in let r = g.P.Plan.rules in
     let some = c.sweep_by_bits.ensures.left c.if-sweep_by_bits.true r Full c.requires.shows.0 c.requires.shows.1 (any-flag l k old w b c.requires.valid c.requires.code c.requires.immix r Full false) in
-    readable r Full l c.requires.shows.0 k old c.sweep_by_bits.new.words.items b some (no-head l k old w b c.requires.valid c.requires.code c.requires.immix) (no-tail l k old w b c.requires.valid c.requires.code c.requires.immix)
+    readable r Full l c.requires.shows.0 k old c.sweep_by_bits.new.words b some (no-head l k old w b c.requires.valid c.requires.code c.requires.immix) (no-tail l k old w b c.requires.valid c.requires.code c.requires.immix)
     c.requires.releasable c.requires.extent (immix l k old w b c.requires.valid c.requires.code c.requires.immix)
 
 pub relist_block-requires-clause-apart : goal.relist_block-requires-clause-apart
 relist_block-requires-clause-apart g c =
-    let l = c.args.layout.now in let k = c.args.block in let old = c.args.words.now.items in let w = c.args.word.now in let b = c.requires.block in let r = g.P.Plan.rules in
+    let l = c.args.layout.now in let k = c.args.block in let old = c.args.words.now in let w = c.args.word.now in let b = c.requires.block in let r = g.P.Plan.rules in
     let some = c.sweep_by_bits.ensures.left c.if-sweep_by_bits.true r Full c.requires.shows.0 c.requires.shows.1 (any-flag l k old w b c.requires.valid c.requires.code c.requires.immix r Full false) in
-    apart r Full l c.requires.shows.0 k old c.sweep_by_bits.new.words.items b some (no-head l k old w b c.requires.valid c.requires.code c.requires.immix) (no-tail l k old w b c.requires.valid c.requires.code c.requires.immix)
+    apart r Full l c.requires.shows.0 k old c.sweep_by_bits.new.words b some (no-head l k old w b c.requires.valid c.requires.code c.requires.immix) (no-tail l k old w b c.requires.valid c.requires.code c.requires.immix)
     c.requires.releasable c.requires.extent (immix l k old w b c.requires.valid c.requires.code c.requires.immix)
 
 pub returns-then-not-bits_differ : goal.returns-then-not-bits_differ
 returns-then-not-bits_differ g c = λ collect base shows lines.
-    let l = c.args.layout.now in let k = c.args.block in let old = c.args.words.now.items in let w = c.args.word.now in let b = c.requires.block in let r = g.P.Plan.rules in
+    let l = c.args.layout.now in let k = c.args.block in let old = c.args.words.now in let w = c.args.word.now in let b = c.requires.block in let r = g.P.Plan.rules in
     let flag = any-flag l k old w b c.requires.valid c.requires.code c.requires.immix r collect false in
-    either r collect l base k old c.sweep_by_bits-left.new.words.items b (no-head l k old w b c.requires.valid c.requires.code c.requires.immix) (no-tail l k old w b c.requires.valid c.requires.code c.requires.immix)
+    either r collect l base k old c.sweep_by_bits-left.new.words b (no-head l k old w b c.requires.valid c.requires.code c.requires.immix) (no-tail l k old w b c.requires.valid c.requires.code c.requires.immix)
     (lines (λ a here held. (shows a here held).1 (all-unlogged (state_over old l 0 0) k b (c.bits_differ.ensures.none c.if-not-bits_differ.true) a here held)))
     c.sweep_by_bits-left.result (λ left. c.sweep_by_bits-left.ensures.left left r collect base shows flag) (λ none. c.sweep_by_bits-left.ensures.none none r collect base shows)
 
 pub returns-then-sweep_by_bits : goal.returns-then-sweep_by_bits
 returns-then-sweep_by_bits g c = λ collect base shows lines.
-    let l = c.args.layout.now in let k = c.args.block in let old = c.args.words.now.items in let w = c.args.word.now in let b = c.requires.block in let r = g.P.Plan.rules in
+    let l = c.args.layout.now in let k = c.args.block in let old = c.args.words.now in let w = c.args.word.now in let b = c.requires.block in let r = g.P.Plan.rules in
     let some = c.sweep_by_bits.ensures.left c.if-sweep_by_bits.true r collect base shows (any-flag l k old w b c.requires.valid c.requires.code c.requires.immix r collect false) in
-    relisted r collect l base k old c.sweep_by_bits.new.words.items b some (no-head l k old w b c.requires.valid c.requires.code c.requires.immix) (no-tail l k old w b c.requires.valid c.requires.code c.requires.immix)
-    c.requires.releasable c.requires.extent (immix l k old w b c.requires.valid c.requires.code c.requires.immix) c.requires.lines c.relist_block.new.words.items c.relist_block.ensures
+    relisted r collect l base k old c.sweep_by_bits.new.words b some (no-head l k old w b c.requires.valid c.requires.code c.requires.immix) (no-tail l k old w b c.requires.valid c.requires.code c.requires.immix)
+    c.requires.releasable c.requires.extent (immix l k old w b c.requires.valid c.requires.code c.requires.immix) c.requires.lines c.relist_block.new.words c.relist_block.ensures

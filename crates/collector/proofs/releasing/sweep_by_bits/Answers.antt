@@ -23,7 +23,7 @@ pub returns-then-not-has_object : goal.returns-then-not-has_object
 returns-then-not-has_object c = record {
   left = λ wrong. absurd (true≢false (sym wrong));
   none = λ _ r collect base shows.
-      freed r collect c.args.layout.now base c.args.block c.args.words.now.items c.keep_marked.new.words.items c.free_block.new.words.items
+      freed r collect c.args.layout.now base c.args.block c.args.words.now c.keep_marked.new.words c.free_block.new.words
       c.args.word.now c.requires.block c.requires.valid c.requires.code c.requires.head c.requires.tail shows (c.keep_marked.ensures base shows)
       (c.has_object.ensures.none c.if-not-has_object.true) c.free_block.ensures;
 }
@@ -31,9 +31,9 @@ returns-then-not-has_object c = record {
 pub returns-clause-left : goal.returns-clause-left
 returns-clause-left c = λ _ r collect base shows flag.
     let l = c.args.layout.now in
-    let mid : List ℕ = c.keep_marked.new.words.items in
-    let new : List ℕ = c.store.new.words.items in
-    let old : List ℕ = c.args.words.now.items in
+    let mid : List ℕ = c.keep_marked.new.words in
+    let new : List ℕ = c.store.new.words in
+    let old : List ℕ = c.args.words.now in
     let left = c.has_object.ensures.some c.if-not-has_object.false in
     let word = c.encode.ensures ∙ c.word_of_rest-left.ensures.code r collect (state_over old l 0 0) c.args.block c.requires.block c.requires.code flag in
     some r collect l base c.args.block old mid new c.args.word.now c.requires.block c.requires.valid c.requires.code c.requires.head c.requires.tail shows (c.keep_marked.ensures base shows)

@@ -25,12 +25,12 @@ affirmed true is = refl
 affirmed false is = absurd (let wrong : true ≡ false = is in cc)
 
 pub hole_in_block-requires-clause-block : goal.hole_in_block-requires-clause-block
-hole_in_block-requires-clause-block c = let row = c.args.row.now in block-anyway row.words.items row.layout row.number row.base 0 0 c.args.block c.requires.block
+hole_in_block-requires-clause-block c = let row = c.args.row.now in block-anyway row.words row.layout row.number row.base 0 0 c.args.block c.requires.block
 
 pub hole_in_block-requires-clause-apart : goal.hole_in_block-requires-clause-apart
 hole_in_block-requires-clause-apart c =
     let row = c.args.row.now in
-    apart-anyway row.words.items row.layout row.number row.base 0 0 c.args.block (orderly-apart (state_of row) c.args.block c.requires.order)
+    apart-anyway row.words row.layout row.number row.base 0 0 c.args.block (orderly-apart (state_of row) c.args.block c.requires.order)
 
 pub returns-then-ne : goal.returns-then-ne
 returns-then-ne c = (

@@ -13,7 +13,7 @@ use Rattle.plan_api.proofs.fit.has_run.Goals as goal
 pub returns-then-is_run_grantable : goal.returns-then-is_run_grantable
 returns-then-is_run_grantable c =
     let s : HeapState = heap_state c.args.heap.now in
-    let words = c.words.result.now.items in
+    let words = c.words.result.now in
     let l = c.layout.result.now in
     let n : ℕ = blocks_for_size c.args.size in
     let count : c.blocks_for-count.result ≡ n = c.blocks_for-count.ensures in

@@ -1,7 +1,6 @@
 -- The places become room again, and the block goes back.
-use Rattle.shared_row.proofs.Walked.{◌≡◌, ℕ, ◌+◌, ◌*◌, ◌%◌, ◌^◌, ◌<◌, List, [], ◌∷◌, sym, refl, ap, subst, arith, lit<, w64, a_type, dcons, dnil, named, Val, vunit, vint, vptr, inst_fn, SProp, ent, sep, emp, Lft, Fml, ftrue, fsep, flft, sem, ‵, raw, ◌⊛◌, given, mean, at_ret, ◌$◌, ◌∵◌, !, qed, by, move, keep, drop, split, split3, join, fsplit, fsplit3, fjoin, fjoin3, fpick, learn, use0, use3, rewrite, feq_i, flt_i, stop, fld, load, lit, unit_lit, of_opd, bin, no_more, and_then, first, blocks, exec, Calls-last, returns, enter, alloc_all, pass_all, free_all, look_at, get, through, sets, lands_last, is, env, agg, sub, whole, look_in, tables, yes, RattleType, owns, types_at, plain, Ptr, block_ptr, ptr_val, nothing, param, bounded, Stays, stay_dropped, walk_of, Goes-dropped, fact, fact_i, block_of, count_of, at_block, via, RefOf, usize, u64, mut_vals, mut_Tells, shr_vals, shr_Tells, uint_vals, uint_Tells, stay_ref, Goes-ref, bit_or, bit_and, opens, closes, obor_close, shr_bor-open, Valss, pick, some, later, await, use1, use2, fpack, of_list, vstruct, InBlock, Goes-dropped, alive, length, get_in, no, lit<, WT, heard, layouts, WpFn, id⊢, suffices, Share, calls_at_last, mem, ◌∙◌, Bool, true, replicate, length-replicate, get_or-replicate, ◌⊑◌, ◌++◌, cell_at, Is, shows, peeks, none, either, eqb, unit, tail, asks, always, Me, step, Allows, Splits, Joins, TableId, age, mine, proved, leaves, steps, glances, forks, two, absorbs, merged, after, fm, seq_cst, found, stored, finds, has_stored, loads, stores, adds, ors, ands, exchanges, Seat, Shared, invariant_of, BareFields, bare_val, finds_start, takes_seat, shuts_seat, lets_go, seated}
+use Rattle.shared_row.proofs.Walked.{◌≡◌, ℕ, ◌+◌, ◌*◌, ◌^◌, ◌<◌, List, [], ◌∷◌, sym, refl, ap, subst, arith, w64, Val, vunit, vint, vptr, inst_fn, SProp, ent, Lft, ftrue, flft, ‵, raw, ◌⊛◌, given, at_ret, ◌$◌, ◌∵◌, !, qed, by, move, keep, split, join, fsplit, fsplit3, fjoin, learn, use3, rewrite, feq_i, stop, fld, unit_lit, of_opd, bin, no_more, and_then, first, blocks, exec, returns, enter, alloc_all, pass_all, free_all, look_at, get, sets, lands_last, is, env, sub, whole, tables, yes, owns, types_at, plain, Ptr, block_ptr, nothing, Stays, stay_dropped, walk_of, Goes-dropped, fact, RefOf, later, await, use1, use2, Goes-dropped, length, get_in, no, WT, heard, WpFn, id⊢, suffices, Share, calls_at_last, mem, ◌∙◌, ◌⊑◌, ◌++◌, leaves, fm}
 use types.Kit.{feq_l}
-use denote.Triple.Call.{calls_at}
 use mir.Syntax.{ty_array, ty_unit}
 use mir.Val.{has_ty}
 use lib.Dec.{T as Holds}
@@ -10,15 +9,15 @@ use prog.Memory.{align, capped}
 use prog.Capped.{capped_fits}
 use types.Run.{size_word, align_word}
 use Rattle.core.proofs.mem.Param.{El, elτ}
-use Rattle.core.proofs.alloc.Calls.{Al, token, Takes, at_takes, Takes-goes, Takes-gives, Gives, at_gives, Gives-goes, Gives-Gives, Answered, Answer-typed, answers}
-use Rattle.core.proofs.slots.Bodies.{after as past, head, arm_body}
+use Rattle.core.proofs.alloc.Calls.{Al, token, Gives, at_gives, Gives-goes, Gives-Gives}
+use Rattle.core.proofs.slots.Bodies.{after as past}
 use Rattle.core.proofs.slots.Leases.{args, P, lease_val, uncapped, block_ty, block_size, block_align}
 use Rattle.core.proofs.slots.Opens.{row_val}
-use Rattle.core.proofs.slots.Places.{sz, of_room, to_room}
+use Rattle.core.proofs.slots.Places.{sz, to_room}
 use Rattle.core.specs.Mem.Slots.{slots_ptr, slots_len, slots_items, slots_filled, slots_counts}
 use Rattle.atomic_table.proofs.Walks.{proved_at}
-use Rattle.atomic_table.proofs.Raw.{Row, all as places, parts_typed, row_Typed, Row-seen, Into, at_into, Into-goes, Into-gives, From, at_from, Made, from_goes, from_gives}
-use Rattle.shared_row.proofs.Leases.{Rr, granted, right_made, right_had}
+use Rattle.atomic_table.proofs.Raw.{Row, all as places, parts_typed, Row-seen, Into, at_into, Into-goes, Into-gives}
+use Rattle.shared_row.proofs.Leases.{Rr, right_had}
 use Rattle.core.proofs.slots.Slots.into_raw_parts.Met as callee
 use Rattle.shared_row.specs.contracts.right.free.{ended, clauses}
 use Rattle.shared_row.specs.contracts.right.free.Key.{name as #self}

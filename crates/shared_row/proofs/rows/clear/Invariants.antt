@@ -1,7 +1,7 @@
 use Rattle.std.proofs.Common.{◌≡◌, ◌-◌, ◌≤◌, ◌++◌, take, drop}
 use mathlib.Core.Bool.{false}
 use lib.ListN.{replicate}
-use Rattle.core.specs.Mem.Slots.{slots_items, slots_filled, slots_len, SamePlaces}
+use Rattle.core.specs.Mem.Slots.{slots_items, slots_filled, SamePlaces}
 use Rattle.core.specs.Mem.Slots.Ownership.{Filled, SameOutside}
 use Rattle.shared_row.proofs.rows.clear.Given as goal
 

@@ -24,9 +24,10 @@ returns-then-matches c =
 
 pub add_word-requires-clause-bits : goal.add_word-requires-clause-bits
 add_word-requires-clause-bits c =
-    bits-read (heap_state c.args.heap.now) c.as_slice-words.result.now c.start_base.result c.unlog_base.result c.args.block c.loop-word.word
-    (c.as_slice-words.ensures.value ∙ c.words.ensures) (c.start_base.ensures ∙ ap (λ b. first b StartBits) c.layout.ensures)
-    (c.unlog_base.ensures ∙ ap (λ b. first b UnlogBits) c.layout-2.ensures) c.requires.block (omega (arith, c.loop-word-test.true)) (omega (arith, c.type_inv.words (c.unlog_base.result + 64 * c.args.block + c.loop-word.word)))
+    bits-read (heap_state c.args.heap.now) c.words-words.result.now c.start_base.result c.unlog_base.result c.args.block c.loop-word.word
+    c.words-words.ensures (c.start_base.ensures ∙ ap (λ b. first b StartBits) c.layout.ensures)
+    (c.unlog_base.ensures ∙ ap (λ b. first b UnlogBits) c.layout-2.ensures) c.requires.block (omega (arith, c.loop-word-test.true))
+    c.get-held.result c.get.result c.get-held.ensures c.get.ensures (omega arith)
 
 pub loop-word-preserved : goal.loop-word-preserved
 loop-word-preserved c =
@@ -37,8 +38,9 @@ loop-word-preserved c =
     elim c.if-bits-ne0.branch as (λ _. c.if-bits-ne0.logged.items ≡ logged_below s (heap_of s.blocks + 64 * (64 * c.args.block + (c.loop-word.word + 1)))) [
       | then-bits-ne0+in_ok-add_word w ↦ ap (λ v. v.items) w.logged-is ∙ w.in_ok-add_word.ensures ∙ ap (logged_below s) end
       | else-bits-ne0 w ↦ ap (λ v. v.items) w.logged-is
-          ∙ none-in-word s i _ c.loop-word.logged.items there (bits-read s c.as_slice-words.result.now c.start_base.result c.unlog_base.result c.args.block c.loop-word.word
-          (c.as_slice-words.ensures.value ∙ c.words.ensures) (c.start_base.ensures ∙ ap (λ b. first b StartBits) c.layout.ensures)
-          (c.unlog_base.ensures ∙ ap (λ b. first b UnlogBits) c.layout-2.ensures) c.requires.block (omega (arith, c.loop-word-test.true)) (omega (arith, c.type_inv.words (c.unlog_base.result + 64 * c.args.block + c.loop-word.word))))
+          ∙ none-in-word s i _ c.loop-word.logged.items there (bits-read s c.words-words.result.now c.start_base.result c.unlog_base.result c.args.block c.loop-word.word
+          c.words-words.ensures (c.start_base.ensures ∙ ap (λ b. first b StartBits) c.layout.ensures)
+          (c.unlog_base.ensures ∙ ap (λ b. first b UnlogBits) c.layout-2.ensures) c.requires.block (omega (arith, c.loop-word-test.true))
+          c.get-held.result c.get.result c.get-held.ensures c.get.ensures (omega arith))
           w.if-bits-ne0.false c.loop-word.invariant ∙ ap (logged_below s) end
     ]

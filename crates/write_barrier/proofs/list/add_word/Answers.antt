@@ -43,7 +43,7 @@ loop-rest-preserved c =
     let found = bit_at-trailing_zeros w64 rest (omega (arith, c.loop-rest-test.true)) c.loop-rest.invariant.fits in
     let base : c.heap_base.result ≡ heap_of s.blocks = c.heap_base.ensures ∙ ap heap_of c.layout.ensures in
     let at : c.heap_base.result + 64 * i + b ≡ address_of s i b = ap (λ n. n + 64 * i + b) base in
-    let read = c.is_old.ensures c.layout.result.now 0 ∙ old-read s c.words.result.now.items c.base-base.result (c.heap_base.result + 64 * i + b) (address_of s i b) c.words.ensures c.base-base.ensures at in
+    let read = c.is_old.ensures c.layout.result.now 0 ∙ old-read s c.words.result.now c.base-base.result (c.heap_base.result + 64 * i + b) (address_of s i b) c.words.ensures c.base-base.ensures at in
     elim c.if-is_old.branch as (λ _. WordLeft s i c.without-rest.result c.if-is_old.logged.items) [
       | then-is_old+in_ok-push w ↦
           subst₂ (WordLeft s i) (sym c.without-rest.ensures) (sym (ap (λ v. v.items) w.logged-is ∙ w.in_ok-push.ensures.items ∙ ap (λ n. old ++ n ∷ []) at))

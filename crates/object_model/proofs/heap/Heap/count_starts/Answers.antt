@@ -1,23 +1,19 @@
-use Rattle.std.proofs.Common.{◌≡◌, ◌+◌, ◌*◌, ◌^◌, ◌<◌, ◌≤◌, w64, get_or, length, slice_index, sym, ap, subst, ◌∙◌, arith}
+use Rattle.std.proofs.Common.{◌≡◌, ◌+◌, ◌*◌, ◌^◌, ◌≤◌, w64, get_or, slice_index, sym, ap, subst, ◌∙◌, arith}
 use Rattle.std.specs.Int.{trailing_zeros}
-use Rattle.std.proofs.lemmas.Grind.{get_or_default_zero}
 use Rattle.std.proofs.lemmas.Nat.Bits.{bit_at-trailing_zeros}
 use Rattle.object_model.specs.Heaps.{heap_state}
 use Rattle.object_model.specs.Objects.{IsHeld, size_at}
 use Rattle.object_model.specs.BitWords.{address_of}
-use Rattle.heap_layout.specs.Zones.{heap_of, first, row_words, StartBits}
+use Rattle.heap_layout.specs.Zones.{heap_of, first, StartBits}
 use Rattle.object_model.proofs.HeldWords.{start_word, cleared-less, CountsBut, none-counted, held-next, next-counted, few-counted, few-words}
 use Rattle.object_model.proofs.heap.Heap.count_starts.Goals as goal
 
 pub loop-rest-init : goal.loop-rest-init
 loop-rest-init c =
     let s = heap_state c.args.self.now in
-    let e : c.index-rest.result.now ≡ start_word s c.args.index =
+    let e : c.get-rest.result ≡ start_word s c.args.index =
     (let at : c.start_base.result + c.args.index ≡ first s.blocks StartBits + c.args.index = ap (λ n. n + c.args.index) (c.start_base.ensures ∙ ap (λ b. first b StartBits) c.layout-2.ensures) in
-    let long : length s.words ≡ row_words s.blocks = c.args.self.now.lawful.but_lines.order.row.extent in
-    let there : c.args.index < 64 * s.blocks = c.requires in
-    c.index-rest.ensures ∙ ap (λ l. get_or l (c.start_base.result + c.args.index) c.index-rest.result.now) c.words.ensures
-    ∙ get_or_default_zero s.words (c.start_base.result + c.args.index) c.index-rest.result.now (omega (arith, at, long, there)) ∙ ap (slice_index s.words) at) in
+    c.get-rest.ensures ∙ ap (λ l. get_or l (c.start_base.result + c.args.index) 0) c.words.ensures ∙ ap (slice_index s.words) at) in
     subst (λ r. CountsBut s c.args.index r 0 0) (sym e) (none-counted s c.args.index c.requires)
 
 pub overflow_add-objects : goal.overflow_add-objects

@@ -14,11 +14,11 @@ returns c =
     let s : HeapState = state_of c.args.self.now in
     let has : HasBits spec zone (heap_of s.blocks) = record { zone_is = marks.zone; heap_is = marks.heap; region = marks.region; bits = marks.bits } in
     record {
-      written = writes s c.write_words.new.words.items c.set.new.words.items
+      written = writes s c.write_words.new.words c.set.new.words
           c.args.address c.args.name.now c.args.shape.now.refs c.args.shape.now.nums zone (c.args.address - heap_of s.blocks)
           c.requires.address c.start_base.ensures refl
           (record { len = w.len; name = w.name; shape = w.shape; blank = w.blank; others = w.others })
-          (changes_bit spec zone (heap_of s.blocks) c.args.address has c.write_words.new.words.items c.set.new.words.items c.set.ensures.alone)
-          (sym (bit_is spec zone (heap_of s.blocks) c.args.address has c.set.new.words.items) ∙ c.set.ensures.set)
+          (changes_bit spec zone (heap_of s.blocks) c.args.address has c.write_words.new.words c.set.new.words c.set.ensures.alone)
+          (sym (bit_is spec zone (heap_of s.blocks) c.args.address has c.set.new.words) ∙ c.set.ensures.set)
           c.set.ensures.fit;
     }

@@ -19,7 +19,7 @@ pub write_object-requires-clause-extent : goal.write_object-requires-clause-exte
 write_object-requires-clause-extent c =
     let now = c.requires.room.some in
     let same : c.count-name.new.self.row ≡ c.args.self.now.row = c.count-name.ensures.row ∙ c.advance.ensures.row in
-    subst (λ (r : Row). length r.words.items ≡ row_words r.layout.blocks) (sym same) (extent now.epoch now.ideal now.log c.args.self.now now.at)
+    subst (λ (r : Row). length r.words ≡ row_words r.layout.blocks) (sym same) (extent now.epoch now.ideal now.log c.args.self.now now.at)
 
 pub write_object-requires-clause-address : goal.write_object-requires-clause-address
 write_object-requires-clause-address c =

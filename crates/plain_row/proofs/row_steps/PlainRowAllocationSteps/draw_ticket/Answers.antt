@@ -1,7 +1,6 @@
 use Rattle.std.proofs.Common.{◌≡◌, refl, sym, ◌∙◌, ap, subst, arith, List, ℕ, ◌+◌, ◌<◌, ◌≤◌, length}
 use Rattle.std.specs.Prelude.{Option, Some, slice_set}
 use Rattle.std.specs.Vec.{with_item}
-use Rattle.std.proofs.lemmas.List.{get_or_read}
 use Rattle.object_model.specs.Objects.{state_of, with_words, word_at}
 use Rattle.plain_row.specs.declared.plain_row.PlainRow.{PlainRow}
 use Rattle.local_allocators.specs.declared.local_seat.LocalSeat.{LocalSeat}
@@ -15,15 +14,15 @@ use Rattle.plain_row.specs.Steps.{books_of}
 use Rattle.plain_row.specs.SeatLaws.{goes-nothing}
 use Rattle.plain_row.proofs.row_steps.PlainRowAllocationSteps.draw_ticket.Goals as goal
 
-pub index-ticket-requires : goal.index-ticket-requires
-index-ticket-requires c = let many = few-words c.args.self.now c.requires.ready.between_calls.some in omega arith
+pub get-ticket-requires : goal.get-ticket-requires
+get-ticket-requires c = let many = few-words c.args.self.now c.requires.ready.between_calls.some in omega arith
 
 pub overflow_add-ticket : goal.overflow_add-ticket
 overflow_add-ticket c =
     let w = c.args.self.now in
-    let many : 1 < length w.row.words.items = few-words w c.requires.ready.between_calls.some in
+    let many : 1 < length w.row.words = few-words w c.requires.ready.between_calls.some in
     let small : word_at (state_of w.row) 1 ≤ 1040 = tickets-few w c.requires.ready.between_calls.some in
-    let same : c.index-ticket.result.now ≡ word_at (state_of w.row) 1 = get_or_read w.row.words.items _ _ many c.index-ticket.ensures 0 in
+    let same : c.get-ticket.result ≡ word_at (state_of w.row) 1 = c.get-ticket.ensures in
     omega arith
 
 pub store-requires : goal.store-requires
@@ -32,19 +31,19 @@ store-requires c = few-words c.args.self.now c.requires.ready.between_calls.some
 pub overflow_cast-ticket : goal.overflow_cast-ticket
 overflow_cast-ticket c =
     let w = c.args.self.now in
-    let many : 1 < length w.row.words.items = few-words w c.requires.ready.between_calls.some in
+    let many : 1 < length w.row.words = few-words w c.requires.ready.between_calls.some in
     let small : word_at (state_of w.row) 1 ≤ 1040 = tickets-few w c.requires.ready.between_calls.some in
-    let same : c.index-ticket.result.now ≡ word_at (state_of w.row) 1 = get_or_read w.row.words.items _ _ many c.index-ticket.ensures 0 in
+    let same : c.get-ticket.result ≡ word_at (state_of w.row) 1 = c.get-ticket.ensures in
     omega arith
 
 abbrev seat : goal.After-self-1 → LocalSeat
-seat c = record { ticket = Some c.index-ticket.result.now; blocks = c.index_mut-seat.result.now.blocks; over = c.index_mut-seat.result.now.over }
+seat c = record { ticket = Some c.get-ticket.result; blocks = c.index_mut-seat.result.now.blocks; over = c.index_mut-seat.result.now.over }
 
 abbrev end : goal.After-self-1 → PlainRow
 end c = record c.store.new.self { seats = with_item c.store.new.self.seats c.store.new.self.turn (seat c) }
 
-ticket-is : (c : goal.After-self-1) → c.index-ticket.result.now ≡ word_at (state_of c.args.self.now.row) 1
-ticket-is c = get_or_read c.args.self.now.row.words.items _ _ (few-words c.args.self.now c.requires.ready.between_calls.some) c.index-ticket.ensures 0
+ticket-is : (c : goal.After-self-1) → c.get-ticket.result ≡ word_at (state_of c.args.self.now.row) 1
+ticket-is c = c.get-ticket.ensures
 
 turn-inside : (c : goal.After-self-1) → c.args.self.now.turn < length c.args.self.now.seats.items
 turn-inside c = let e = c.requires.ready.turn.seats in let t = c.requires.ready.turn.turn in omega arith

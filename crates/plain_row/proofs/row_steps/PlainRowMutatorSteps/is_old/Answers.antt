@@ -9,14 +9,14 @@ use Rattle.plain_row.proofs.LoadSteps.{collector-word, readable}
 use Rattle.plain_row.proofs.row_steps.PlainRowMutatorSteps.is_old.Goals as goal
 
 pub is_old-requires-clause-word : goal.is_old-requires-clause-word
-is_old-requires-clause-word c = subst (λ (n : ℕ). n + 2 < length c.args.self.now.row.words.items) (sym c.register-address.ensures)
+is_old-requires-clause-word c = subst (λ (n : ℕ). n + 2 < length c.args.self.now.row.words) (sym c.register-address.ensures)
     (collector-word c.args.self.now c.requires.ready c.args.register c.requires.register c.requires.some)
 
 pub is_old-requires-clause-index : goal.is_old-requires-clause-index
 is_old-requires-clause-index c =
     let w : PlainRow = c.args.self.now in
-    let there : address_at w c.args.register + 2 < length w.row.words.items = collector-word w c.requires.ready c.args.register c.requires.register c.requires.some in
-    let extent : length w.row.words.items ≡ row_words w.row.layout.blocks = (readable w c.requires.ready c.args.register c.requires.register c.requires.some).extent in
+    let there : address_at w c.args.register + 2 < length w.row.words = collector-word w c.requires.ready c.args.register c.requires.register c.requires.some in
+    let extent : length w.row.words ≡ row_words w.row.layout.blocks = (readable w c.requires.ready c.args.register c.requires.register c.requires.some).extent in
     let most = w.row.layout.most in
     subst (λ (n : ℕ). n + 2 < 2 ^ 32) (sym c.register-address.ensures) (omega (arith, there, extent, most))
 

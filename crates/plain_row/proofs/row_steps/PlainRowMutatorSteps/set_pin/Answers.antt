@@ -7,13 +7,13 @@ pub bit_at-at-requires-clause-address : goal.bit_at-at-requires-clause-address
 bit_at-at-requires-clause-address c = subst (IsAddress c.args.self.now.row.layout.blocks) (sym c.register.ensures) (storing.held-in c.args.self.now c.requires.ready c.args.s c.requires.register c.requires.some).address
 
 pub test_bit-pinned-requires-clause-word : goal.test_bit-pinned-requires-clause-word
-test_bit-pinned-requires-clause-word c = subst (λ n. n < length c.args.self.now.row.words.items) (sym
+test_bit-pinned-requires-clause-word c = subst (λ n. n < length c.args.self.now.row.words) (sym
     (c.bit_at-at.ensures.word ∙ ap (λ n. n + (c.register.result - heap_of c.args.self.now.row.layout.blocks) / 64) c.pin_base.ensures
     ∙ ap (λ n. first c.args.self.now.row.layout.blocks PinBits + (n - heap_of c.args.self.now.row.layout.blocks) / 64) c.register.ensures))
     (storing.bit-inside c.args.self.now c.requires.ready c.args.s (first c.args.self.now.row.layout.blocks PinBits) c.requires.register c.requires.some (omega arith))
 
 pub set_bit-requires-clause-word : goal.set_bit-requires-clause-word
-set_bit-requires-clause-word c = subst (λ n. n < length c.args.self.now.row.words.items) (sym
+set_bit-requires-clause-word c = subst (λ n. n < length c.args.self.now.row.words) (sym
     (c.bit_at-at.ensures.word ∙ ap (λ n. n + (c.register.result - heap_of c.args.self.now.row.layout.blocks) / 64) c.pin_base.ensures
     ∙ ap (λ n. first c.args.self.now.row.layout.blocks PinBits + (n - heap_of c.args.self.now.row.layout.blocks) / 64) c.register.ensures))
     (storing.bit-inside c.args.self.now c.requires.ready c.args.s (first c.args.self.now.row.layout.blocks PinBits) c.requires.register c.requires.some (omega arith))

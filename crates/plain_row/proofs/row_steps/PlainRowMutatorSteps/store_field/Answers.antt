@@ -5,7 +5,7 @@ use Rattle.plain_row.proofs.StoreSteps as storing
 use Rattle.plain_row.proofs.row_steps.PlainRowMutatorSteps.store_field.Goals as goal
 
 pub store-requires : goal.store-requires
-store-requires c = subst (λ n. n < length c.args.self.now.row.words.items) (sym c.field-at.ensures)
+store-requires c = subst (λ n. n < length c.args.self.now.row.words) (sym c.field-at.ensures)
     (storing.field-inside c.args.self.now c.requires.ready c.args.s c.args.i c.args._shape.now c.requires.target c.requires.shape c.requires.field)
 
 pub returns-clause-ready : goal.returns-clause-ready

@@ -5,7 +5,7 @@ use Rattle.plain_row.proofs.StoreSteps as storing
 use Rattle.plain_row.proofs.row_steps.PlainRowMutatorSteps.store_global.Goals as goal
 
 pub store-requires : goal.store-requires
-store-requires c = subst (λ n. n < length c.args.self.now.row.words.items) (sym c.global_at-at.ensures) (storing.global-inside c.args.self.now c.requires.ready c.args.g c.requires.global)
+store-requires c = subst (λ n. n < length c.args.self.now.row.words) (sym c.global_at-at.ensures) (storing.global-inside c.args.self.now c.requires.ready c.args.g c.requires.global)
 
 pub returns-clause-ready : goal.returns-clause-ready
 returns-clause-ready c = (storing.shares c.args.self.now c.store.new.self c.requires.ready c.args.g c.args.s c.requires.global c.requires.register

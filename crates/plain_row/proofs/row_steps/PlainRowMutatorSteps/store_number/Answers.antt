@@ -4,7 +4,7 @@ use Rattle.plain_row.proofs.StoreSteps as storing
 use Rattle.plain_row.proofs.row_steps.PlainRowMutatorSteps.store_number.Goals as goal
 
 pub store-requires : goal.store-requires
-store-requires c = subst (λ n. n < length c.args.self.now.row.words.items) (sym c.number_word-at.ensures)
+store-requires c = subst (λ n. n < length c.args.self.now.row.words) (sym c.number_word-at.ensures)
     (storing.number-inside c.args.self.now c.requires.ready c.args.s c.args.j c.args.shape.now c.requires.register c.requires.shape c.requires.number)
 
 pub returns-clause-ready : goal.returns-clause-ready

@@ -1,4 +1,4 @@
-use Rattle.std.proofs.Common.{◌<◌, ◌^◌, slice_index, refl, subst}
+use Rattle.std.proofs.Common.{refl}
 use Rattle.plain_tracer.proofs.TracedRows.{tracing-extent}
 use Rattle.plain_tracer.proofs.LineMarks as marks
 use Rattle.plain_tracer.proofs.plain_trace.PlainTrace.mark_lines.Goals as goal
@@ -17,10 +17,10 @@ mark-requires-clause-last c = let r = c.requires in marks.end-inside r.setup r.e
 
 pub returns-clause-grows : goal.returns-clause-grows
 returns-clause-grows c = λ p es v tracks right.
-    marks.grows-marks p es c.args.self.now v tracks c.args.grey.now right c.mark.new.words.items c.mark.ensures
-    (λ i. subst (λ ws. slice_index ws i < 2 ^ 64) c.deref.ensures.value (c.words_fit.ensures i)) _
+    marks.grows-marks p es c.args.self.now v tracks c.args.grey.now right c.mark.new.words c.mark.ensures
+    c.words_fit.ensures _
     (record { row = refl; run = refl; block = refl; room = refl; next_block = refl; globals = refl; logged = refl })
 
 pub returns-clause-marked : goal.returns-clause-marked
 returns-clause-marked c = λ p es v tracks right.
-    marks.lines-set p es c.args.self.now v tracks c.args.grey.now right c.mark.new.words.items c.mark.ensures
+    marks.lines-set p es c.args.self.now v tracks c.args.grey.now right c.mark.new.words c.mark.ensures

@@ -6,10 +6,11 @@ use Rattle.trace_core.specs.Views.{claimed_view}
 use Rattle.plain_tracer.specs.Tracers.{Claims}
 use Rattle.trace_core.specs.CallEvents.{taken_in}
 use Rattle.trace_core.proofs.Clauses.{old-target}
-use Rattle.plain_tracer.proofs.FollowedReferences.{reference-of, settled-at, forward-at, settled-nil, forward-nil, at-once, won-token, by-claim}
+use Rattle.plain_tracer.proofs.FollowedReferences.{at-once, won-token, by-claim}
 use Rattle.plain_tracer.proofs.ReachedTokens.{grey-again, one-pushed}
 use Rattle.plain_tracer.proofs.TracedRows.{blocks-are}
 use Rattle.plain_tracer.proofs.plain_trace.PlainTrace.reach.Goals as goal
+use Rattle.trace_core.proofs.LastValues.{reference-of, settled-at, forward-at, settled-nil, forward-nil}
 
 pub returns-then-reference-eq0-clause-reaches : goal.returns-then-reference-eq0-clause-reaches
 returns-then-reference-eq0-clause-reaches c p es v cause tracks refers idle unasked asked = let x = c.args.reference in

@@ -3,14 +3,14 @@ use Rattle.trace_core.specs.Machine.{ByField}
 use Rattle.plain_tracer.proofs.ScanSteps.{low-reference, inside-again, field-inside, field-read, field-refers, field-asks, field-stays, scans-field}
 use Rattle.plain_tracer.proofs.plain_trace.PlainTrace.scan_field.Goals as goal
 
-pub index-requires : goal.index-requires
-index-requires c = let t = c.requires.tracing in
+pub get-reference-requires : goal.get-reference-requires
+get-reference-requires c = let t = c.requires.tracing in
     let inside = field-inside t.setup t.events t.view c.args.self.now t.tracks c.args.grey.now c.args.field t.right in omega arith
 
 pub overflow_cast-reference : goal.overflow_cast-reference
 overflow_cast-reference c = let t = c.requires.tracing in
-    let low : c.index.result.now < 2 ^ 32 = low-reference t.setup t.tracks.trace.ready c.index.result.now
-    (field-refers t.setup t.events t.view c.args.self.now t.tracks c.args.grey.now c.args.field t.right c.index.result.now c.index.ensures) in omega arith
+    let low : c.get-reference.result < 2 ^ 32 = low-reference t.setup t.tracks.trace.ready c.get-reference.result
+    (field-refers t.setup t.events t.view c.args.self.now t.tracks c.args.grey.now c.args.field t.right c.get-reference.result c.get-reference.ensures) in omega arith
 
 pub follow-last-requires-clause-tracing : goal.follow-last-requires-clause-tracing
 follow-last-requires-clause-tracing c = let t = c.requires.tracing in record {
@@ -18,40 +18,40 @@ follow-last-requires-clause-tracing c = let t = c.requires.tracing in record {
   events = t.events;
   view = t.view;
   tracks = t.tracks;
-  right = field-refers t.setup t.events t.view c.args.self.now t.tracks c.args.grey.now c.args.field t.right c.index.result.now c.index.ensures;
+  right = field-refers t.setup t.events t.view c.args.self.now t.tracks c.args.grey.now c.args.field t.right c.get-reference.result c.get-reference.ensures;
 }
 
 pub store-requires : goal.store-requires
 store-requires c = let t = c.requires.tracing in
-    let n = c.index.result.now in
+    let n = c.get-reference.result in
     let k = c.args.field in
     let grey = c.args.grey.now in
     let by = c.follow-last.ensures.follows t.setup t.events t.view (ByField grey.object k) t.tracks
-    (field-refers t.setup t.events t.view c.args.self.now t.tracks grey k t.right n c.index.ensures) (λ asked. refl)
-    (field-asks t.setup t.events t.view c.args.self.now t.tracks grey k t.right n c.index.ensures) in
+    (field-refers t.setup t.events t.view c.args.self.now t.tracks grey k t.right n c.get-reference.ensures) (λ asked. refl)
+    (field-asks t.setup t.events t.view c.args.self.now t.tracks grey k t.right n c.get-reference.ensures) in
     inside-again t.setup t.events t.view c.args.self.now t.tracks _ by.view c.follow-last.new.self by.grows.tracks (grey.target + 3 + k)
     (field-inside t.setup t.events t.view c.args.self.now t.tracks grey k t.right)
 
 pub returns-then-last-reference-clause-scans : goal.returns-then-last-reference-clause-scans
 returns-then-last-reference-clause-scans c p es v tracks next =
-    let n = c.index.result.now in
+    let n = c.get-reference.result in
     let k = c.args.field in
     let grey = c.args.grey.now in
     let by = c.follow-last.ensures.follows p es v (ByField grey.object k) tracks
-    (field-refers p es v c.args.self.now tracks grey k next n c.index.ensures) (λ asked. refl)
-    (field-asks p es v c.args.self.now tracks grey k next n c.index.ensures) in
+    (field-refers p es v c.args.self.now tracks grey k next n c.get-reference.ensures) (λ asked. refl)
+    (field-asks p es v c.args.self.now tracks grey k next n c.get-reference.ensures) in
     scans-field p es v c.follow-last.new.self c.store.new.self n c.follow-last.result c.args.out.now.items c.follow-last.new.out.items grey k next
-    (field-read p es v c.args.self.now tracks grey k next n c.index.ensures) by c.store.ensures
+    (field-read p es v c.args.self.now tracks grey k next n c.get-reference.ensures) by c.store.ensures
 
 pub returns-else-last-reference-clause-scans : goal.returns-else-last-reference-clause-scans
 returns-else-last-reference-clause-scans c p es v tracks next =
-    let n = c.index.result.now in
+    let n = c.get-reference.result in
     let k = c.args.field in
     let grey = c.args.grey.now in
     let mid = c.follow-last.new.self in
     let by = c.follow-last.ensures.follows p es v (ByField grey.object k) tracks
-    (field-refers p es v c.args.self.now tracks grey k next n c.index.ensures) (λ asked. refl)
-    (field-asks p es v c.args.self.now tracks grey k next n c.index.ensures) in
-    let reads = field-read p es v c.args.self.now tracks grey k next n c.index.ensures in
+    (field-refers p es v c.args.self.now tracks grey k next n c.get-reference.ensures) (λ asked. refl)
+    (field-asks p es v c.args.self.now tracks grey k next n c.get-reference.ensures) in
+    let reads = field-read p es v c.args.self.now tracks grey k next n c.get-reference.ensures in
     scans-field p es v mid mid n c.follow-last.result c.args.out.now.items c.follow-last.new.out.items grey k next reads by
     (field-stays p es v mid mid n c.follow-last.result c.args.out.now.items c.follow-last.new.out.items grey k next reads by c.if-last-reference.false)

@@ -3,8 +3,9 @@ use Rattle.trace_core.specs.Setups.{may_be_moved, size}
 use Rattle.plain_tracer.specs.Tracers.{Fronts, IsFront, IsNeeded}
 use Rattle.trace_core.specs.CallEvents.{block_taken, left_in_block}
 use Rattle.plain_tracer.proofs.ClaimedObjects.{waiting-size, front-differs}
-use Rattle.plain_tracer.proofs.Claimed.{copies-somewhere, moves-small, waiting-takes, asked-takes, wins-takes, wins-here}
+use Rattle.plain_tracer.proofs.Claimed.{waiting-takes, asked-takes, wins-takes, wins-here}
 use Rattle.plain_tracer.proofs.plain_trace.PlainTrace.win.Goals as goal
+use Rattle.trace_core.proofs.TakenBlocks.{copies-somewhere, moves-small}
 
 pub returns-then-not-may_move-clause-wins : goal.returns-then-not-may_move-clause-wins
 returns-then-not-may_move-clause-wins c = λ p es v cause tracks waiting asked. (

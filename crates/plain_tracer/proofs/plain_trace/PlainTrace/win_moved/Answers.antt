@@ -1,4 +1,4 @@
-use Rattle.std.proofs.Common.{◌≡◌, ◌+◌, ◌<◌, ◌≤◌, inr, refl, ap, ◌∙◌, arith, length, slice_set, vec_len}
+use Rattle.std.proofs.Common.{◌≡◌, ◌+◌, ◌<◌, ◌≤◌, inr, refl, ap, ◌∙◌, arith, length, slice_set}
 use Rattle.object_model.specs.Objects.{with_words, state_of}
 use Rattle.trace_core.specs.Setups.{size}
 use Rattle.trace_core.specs.Machine.{ByRoot}
@@ -15,11 +15,10 @@ encode-requires-clause-target c =
     let room : c.args.self.now.room.next + (3 + c.args.shape.now.refs + c.args.shape.now.nums) ≤ c.args.self.now.room.end = c.requires.room in
     front-below r.setup r.events c.args.self.now r.view r.tracks c.args.x c.args.front ByRoot waiting.held r.right.2 (omega arith) (omega arith)
 
-pub index_mut-requires : goal.index_mut-requires
-index_mut-requires c =
+pub set-requires : goal.set-requires
+set-requires c =
     let r = c.requires.tracing in
-    let within : c.args.x + 2 < length c.args.self.now.row.words.items = word-within r.setup r.events c.args.self.now r.view r.tracks c.args.x r.right.0.held 2 (omega arith) in
-    let many : vec_len c.args.self.now.row.words ≡ length c.args.self.now.row.words.items = c.args.self.now.row.words.ok.0 in omega arith
+    let within : c.args.x + 2 < length c.args.self.now.row.words = word-within r.setup r.events c.args.self.now r.view r.tracks c.args.x r.right.0.held 2 (omega arith) in omega arith
 
 pub returns-clause-wins : goal.returns-clause-wins
 returns-clause-wins c = λ p es v cause tracks waiting moves front asked.
@@ -34,6 +33,7 @@ returns-clause-wins c = λ p es v cause tracks waiting moves front asked.
       place = inr (record { room = λ none. front; block = λ b is. absurd (None-not-Some b is) });
       needed = none-needed p es c.args.self.now (size p c.args.x);
       tracks = tracks-to-front p es c.args.self.now v tracks c.args.x c.args.front cause waiting.held front (omega arith) (omega arith) _ waiting.unclaimed asked moves
-          (ap (λ n. with_words (state_of c.args.self.now.row) (slice_set c.args.self.now.row.words.items (c.args.x + 2) n)) c.encode.ensures)
+          (ap (with_words (state_of c.args.self.now.row)) c.set.ensures.words
+          ∙ ap (λ n. with_words (state_of c.args.self.now.row) (slice_set c.args.self.now.row.words (c.args.x + 2) n)) c.encode.ensures)
           refl refl refl (ap (λ n. c.args.self.now.room.next + n) size-is) refl;
     }

@@ -1,6 +1,7 @@
 use Rattle.std.proofs.Common.{refl, ◌∙◌, ap, List, map, length, bit_and, ◌==◌}
-use Rattle.std.specs.Prelude.{slice_get}
+use Rattle.std.specs.Prelude.{slice_get, slice_set}
 use Rattle.object_model.specs.Heaps.{heap_state}
+use Rattle.object_model.specs.Objects.{state_of, with_words}
 use Rattle.sessions.specs.Grants.{allowance_in}
 use Rattle.plan_api.specs.Counting.{session_counts}
 use Rattle.local_allocators.specs.declared.local_seat.LocalSeat.{LocalSeat}
@@ -14,7 +15,7 @@ use Rattle.plain_world.proofs.plain_world.PlainWorld.begin_seated.Goals as goal
 pub returns-clause-open : goal.returns-clause-open
 returns-clause-open g c = record {
   between_calls = begun.idle-begun g.P.Plan.rules (heap_state c.args.heap) (map mutator_state c.args.mutators.items) _ (record {
-    heap = ap without_stop c.into_row-row.ensures.state;
+    heap = ap (with_words (state_of c.into_row-row.result)) (c.set-2.ensures.words ∙ ap (λ ws. slice_set ws 1 0) c.set.ensures.words) ∙ ap without_stop c.into_row-row.ensures.state;
     mutators = refl;
     seats = c.requires.seats;
     known = c.args.notes;
@@ -43,7 +44,7 @@ returns-clause-tickets g c = λ k. ap (λ (xs : List LocalSeat). ticket_of (slic
 
 pub returns-clause-begins : goal.returns-clause-begins
 returns-clause-begins g c = begun.after-begun g.P.Plan.rules (heap_state c.args.heap) (map mutator_state c.args.mutators.items) _ (record {
-  heap = ap without_stop c.into_row-row.ensures.state;
+  heap = ap (with_words (state_of c.into_row-row.result)) (c.set-2.ensures.words ∙ ap (λ ws. slice_set ws 1 0) c.set.ensures.words) ∙ ap without_stop c.into_row-row.ensures.state;
   mutators = refl;
   seats = c.requires.seats;
   known = c.args.notes;

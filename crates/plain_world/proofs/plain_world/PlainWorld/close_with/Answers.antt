@@ -1,6 +1,5 @@
 use Rattle.std.proofs.Common.{◌≡◌, ◌≤◌, ◌<◌, ◌+◌, sym, ap, subst, ◌∙◌, ℕ, List, map, arith, length, sum_by, Bool, IsTrue}
 use Rattle.std.specs.Prelude.{vec_capacity}
-use Rattle.std.proofs.lemmas.List.{get_or_default}
 use Rattle.heap_layout.specs.declared.block.Kind.{Kind}
 use Rattle.ideal_heap.specs.Runs.{Entry, heap_after_run}
 use Rattle.object_model.specs.Ages.{RemembersYoung}
@@ -30,11 +29,11 @@ overflow_add-counts g c =
     let free : w.counts.free ≤ 1024 = few.free in
     omega arith
 
-pub index-requires : goal.index-requires
-index-requires g c =
+pub get-requires : goal.get-requires
+get-requires g c =
     let w = c.args.self.row in
     let words : 1 < length (state_of w.row).words = more-words w c.requires.open.between_calls.some in
-    omega (arith, w.row.words.ok.0)
+    omega arith
 
 pub overflow_cast-counts : goal.overflow_cast-counts
 overflow_cast-counts g c =
@@ -44,8 +43,7 @@ overflow_cast-counts g c =
     let unused : c.unused_tickets.result ≡ sum_by (λ x. tickets_in x.ticket) w.seats.items = c.unused_tickets.ensures ∙ ap (sum_by (λ x. tickets_in x.ticket)) c.deref.ensures.value in
     let some : sum_by (λ x. tickets_in x.ticket) w.seats.items ≤ 16 = few.unused in
     let free : w.counts.free ≤ 1024 = few.free in
-    let words : 1 < length (state_of w.row).words = more-words w is in
-    let budget : c.index.result.now ≡ word_at (state_of w.row) 1 = c.index.ensures ∙ get_or_default (state_of w.row).words 1 c.index.result.now 0 words in
+    let budget : c.get.result ≡ word_at (state_of w.row) 1 = c.get.ensures in
     let drawn : word_at (state_of w.row) 1 ≤ w.counts.free + sum_by (λ x. tickets_in x.ticket) w.seats.items = few.drawn in
     omega arith
 
@@ -57,8 +55,7 @@ overflow_sub-counts g c =
     let unused : c.unused_tickets.result ≡ sum_by (λ x. tickets_in x.ticket) w.seats.items = c.unused_tickets.ensures ∙ ap (sum_by (λ x. tickets_in x.ticket)) c.deref.ensures.value in
     let some : sum_by (λ x. tickets_in x.ticket) w.seats.items ≤ 16 = few.unused in
     let free : w.counts.free ≤ 1024 = few.free in
-    let words : 1 < length (state_of w.row).words = more-words w is in
-    let budget : c.index.result.now ≡ word_at (state_of w.row) 1 = c.index.ensures ∙ get_or_default (state_of w.row).words 1 c.index.result.now 0 words in
+    let budget : c.get.result ≡ word_at (state_of w.row) 1 = c.get.ensures in
     let drawn : word_at (state_of w.row) 1 ≤ w.counts.free + sum_by (λ x. tickets_in x.ticket) w.seats.items = few.drawn in
     omega arith
 
@@ -124,8 +121,7 @@ returns-clause-known g c =
     let unused : c.unused_tickets.result ≡ sum_by (λ x. tickets_in x.ticket) w.seats.items = c.unused_tickets.ensures ∙ ap (sum_by (λ x. tickets_in x.ticket)) c.deref.ensures.value in
     let some : sum_by (λ x. tickets_in x.ticket) w.seats.items ≤ 16 = few.unused in
     let free : w.counts.free ≤ 1024 = few.free in
-    let words : 1 < length (state_of w.row).words = more-words w is in
-    let budget : c.index.result.now ≡ word_at (state_of w.row) 1 = c.index.ensures ∙ get_or_default (state_of w.row).words 1 c.index.result.now 0 words in
+    let budget : c.get.result ≡ word_at (state_of w.row) 1 = c.get.ensures in
     let drawn : word_at (state_of w.row) 1 ≤ w.counts.free + sum_by (λ x. tickets_in x.ticket) w.seats.items = few.drawn in
     let new : HeapState = heap_state c.from_row.result in
     let gives : GivesBack (state_of w.row) new = subst (GivesBack (state_of w.row)) (sym c.from_row.ensures) c.give_back.ensures.gives in

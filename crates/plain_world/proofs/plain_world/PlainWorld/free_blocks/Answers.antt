@@ -1,6 +1,5 @@
 -- The Free blocks taken are the tickets drawn but for the unused ones.
 use Rattle.std.proofs.Common.{◌≡◌, ◌≤◌, ◌<◌, ◌+◌, ap, ◌∙◌, arith, length, sum_by}
-use Rattle.std.proofs.lemmas.List.{get_or_default}
 use Rattle.object_model.specs.Objects.{state_of, word_at}
 use Rattle.sessions.specs.Fitting.{free_of}
 use Rattle.sessions.specs.Grants.{BlockCounts}
@@ -19,11 +18,11 @@ overflow_add-result g c =
     let free : w.counts.free ≤ 1024 = few.free in
     omega arith
 
-pub index-requires : goal.index-requires
-index-requires g c =
+pub get-requires : goal.get-requires
+get-requires g c =
     let w = c.args.self.now.row in
     let words : 1 < length (state_of w.row).words = more-words w c.requires.between_calls.some in
-    omega (arith, w.row.words.ok.0)
+    omega arith
 
 pub overflow_cast-result : goal.overflow_cast-result
 overflow_cast-result g c =
@@ -33,8 +32,7 @@ overflow_cast-result g c =
     let unused : c.unused_tickets.result ≡ sum_by (λ x. tickets_in x.ticket) w.seats.items = c.unused_tickets.ensures ∙ ap (sum_by (λ x. tickets_in x.ticket)) c.deref.ensures.value in
     let some : sum_by (λ x. tickets_in x.ticket) w.seats.items ≤ 16 = few.unused in
     let free : w.counts.free ≤ 1024 = few.free in
-    let words : 1 < length (state_of w.row).words = more-words w is in
-    let budget : c.index.result.now ≡ word_at (state_of w.row) 1 = c.index.ensures ∙ get_or_default (state_of w.row).words 1 c.index.result.now 0 words in
+    let budget : c.get.result ≡ word_at (state_of w.row) 1 = c.get.ensures in
     let drawn : word_at (state_of w.row) 1 ≤ w.counts.free + sum_by (λ x. tickets_in x.ticket) w.seats.items = few.drawn in
     omega arith
 
@@ -46,8 +44,7 @@ overflow_sub-result g c =
     let unused : c.unused_tickets.result ≡ sum_by (λ x. tickets_in x.ticket) w.seats.items = c.unused_tickets.ensures ∙ ap (sum_by (λ x. tickets_in x.ticket)) c.deref.ensures.value in
     let some : sum_by (λ x. tickets_in x.ticket) w.seats.items ≤ 16 = few.unused in
     let free : w.counts.free ≤ 1024 = few.free in
-    let words : 1 < length (state_of w.row).words = more-words w is in
-    let budget : c.index.result.now ≡ word_at (state_of w.row) 1 = c.index.ensures ∙ get_or_default (state_of w.row).words 1 c.index.result.now 0 words in
+    let budget : c.get.result ≡ word_at (state_of w.row) 1 = c.get.ensures in
     let drawn : word_at (state_of w.row) 1 ≤ w.counts.free + sum_by (λ x. tickets_in x.ticket) w.seats.items = few.drawn in
     omega arith
 
@@ -59,8 +56,7 @@ returns g c =
     let unused : c.unused_tickets.result ≡ sum_by (λ x. tickets_in x.ticket) w.seats.items = c.unused_tickets.ensures ∙ ap (sum_by (λ x. tickets_in x.ticket)) c.deref.ensures.value in
     let some : sum_by (λ x. tickets_in x.ticket) w.seats.items ≤ 16 = few.unused in
     let free : w.counts.free ≤ 1024 = few.free in
-    let words : 1 < length (state_of w.row).words = more-words w is in
-    let budget : c.index.result.now ≡ word_at (state_of w.row) 1 = c.index.ensures ∙ get_or_default (state_of w.row).words 1 c.index.result.now 0 words in
+    let budget : c.get.result ≡ word_at (state_of w.row) 1 = c.get.ensures in
     let drawn : word_at (state_of w.row) 1 ≤ w.counts.free + sum_by (λ x. tickets_in x.ticket) w.seats.items = few.drawn in
     let before : w.counts.free ≡ free_of is.epoch.before = ap (λ (k : BlockCounts). k.free) is.at.lists.counts in
     let now : free_of is.epoch.before + sum_by (λ x. tickets_in x.ticket) w.seats.items ≡ free_of (heap_after is.epoch is.log) + word_at (state_of w.row) 1 =

@@ -19,4 +19,4 @@ evacuated Nursery s only = absurd (true≢false (sym (only refl)))
 pub returns : goal.returns
 returns c =
     let s = heap_state c.args.heap.now in
-    candidates-shown s c.words.result.now.items c.layout.result.now.blocks _ c.words.ensures c.layout.ensures c.in_ok-from.ensures ∙ evacuated c.args._collect s c.requires
+    candidates-shown s c.words.result.now c.layout.result.now.blocks _ c.words.ensures c.layout.ensures c.in_ok-from.ensures ∙ evacuated c.args._collect s c.requires

@@ -20,5 +20,5 @@ returns-in-Nursery c =
 pub returns-in_ok-from-in-Full : goal.returns-in_ok-from-in-Full
 returns-in_ok-from-in-Full c =
     let s = heap_state c.args.heap.now in
-    candidates-shown s c.words.result.now.items c.layout.result.now.blocks _ c.words.ensures c.layout.ensures c.in_ok-from-in-Full.ensures
+    candidates-shown s c.words.result.now c.layout.result.now.blocks _ c.words.ensures c.layout.ensures c.in_ok-from-in-Full.ensures
     ∙ ap (evacuated s) (sym c.in-Full.is)

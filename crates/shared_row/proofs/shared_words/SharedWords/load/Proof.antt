@@ -1,5 +1,5 @@
 -- A load, with which the seat goes.
-use Rattle.shared_row.proofs.Walked.{◌≡◌, ℕ, ◌+◌, ◌*◌, ◌%◌, ◌^◌, ◌<◌, List, [], ◌∷◌, sym, refl, ap, subst, arith, lit<, w64, a_type, dcons, dnil, named, Val, vunit, vint, vptr, inst_fn, SProp, ent, sep, emp, Lft, Fml, ftrue, fsep, flft, sem, ‵, raw, ◌⊛◌, given, mean, at_ret, ◌$◌, ◌∵◌, !, qed, by, move, keep, drop, split, split3, join, fsplit, fsplit3, fjoin, fjoin3, fpick, learn, use0, use3, rewrite, feq_i, flt_i, stop, fld, load, lit, unit_lit, of_opd, bin, no_more, and_then, first, blocks, exec, Calls-last, returns, enter, alloc_all, pass_all, free_all, look_at, get, through, sets, lands_last, is, env, agg, sub, whole, look_in, tables, yes, RattleType, owns, types_at, plain, Ptr, block_ptr, ptr_val, nothing, param, bounded, Stays, stay_dropped, walk_of, Goes-dropped, fact, fact_i, block_of, count_of, at_block, via, RefOf, usize, u64, mut_vals, mut_Tells, shr_vals, shr_Tells, uint_vals, uint_Tells, stay_ref, Goes-ref, bit_or, bit_and, opens, closes, obor_close, shr_bor-open, none, either, eqb, unit, tail, Me, step, Allows, TableId, age, proved, leaves, steps, after, fm, seq_cst, found, stored, finds, has_stored, loads, stores, adds, ors, ands, exchanges, Seat, Shared, finds_start, takes_seat, lets_go, seated}
+use Rattle.shared_row.proofs.Walked.{◌≡◌, ℕ, ◌+◌, ◌*◌, ◌^◌, ◌<◌, List, [], ◌∷◌, sym, refl, ap, arith, lit<, w64, a_type, dcons, dnil, named, Val, vint, vptr, inst_fn, SProp, emp, Fml, ftrue, fsep, flft, ‵, raw, ◌⊛◌, given, mean, at_ret, ◌$◌, ◌∵◌, !, qed, by, move, keep, drop, split, split3, fsplit, fsplit3, fjoin, learn, use0, use3, feq_i, flt_i, stop, fld, load, lit, of_opd, bin, no_more, and_then, first, blocks, exec, Calls-last, returns, enter, alloc_all, pass_all, free_all, look_at, get, through, sets, lands_last, is, env, agg, sub, whole, look_in, tables, yes, RattleType, owns, types_at, plain, Ptr, block_ptr, ptr_val, nothing, param, bounded, Stays, stay_dropped, walk_of, Goes-dropped, fact, fact_i, block_of, count_of, at_block, via, RefOf, usize, mut_vals, mut_Tells, shr_vals, shr_Tells, uint_vals, uint_Tells, stay_ref, Goes-ref, none, unit, tail, Me, step, Allows, TableId, age, proved, leaves, steps, after, fm, seq_cst, found, finds, loads, Seat, Shared, finds_start, takes_seat, lets_go, seated}
 use Rattle.shared_row.specs.contracts.shared_words.SharedWords.load.{ended, clauses}
 use Rattle.shared_row.specs.contracts.shared_words.SharedWords.load.Key.{name as #self}
 use Rattle.shared_row.proofs.shared_words.SharedWords.load.Statement.{statement}

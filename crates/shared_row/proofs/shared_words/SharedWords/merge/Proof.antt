@@ -1,5 +1,5 @@
 -- A load at which one seat takes in another's view.
-use Rattle.shared_row.proofs.Walked.{◌≡◌, ℕ, ◌+◌, ◌*◌, ◌%◌, ◌^◌, ◌<◌, List, [], ◌∷◌, sym, refl, ap, subst, arith, lit<, w64, a_type, dcons, dnil, named, Val, vunit, vint, vptr, inst_fn, SProp, ent, sep, emp, Lft, Fml, ftrue, fsep, flft, sem, ‵, raw, ◌⊛◌, given, mean, at_ret, ◌$◌, ◌∵◌, !, qed, by, move, keep, drop, split, split3, join, fsplit, fsplit3, fjoin, fjoin3, fpick, learn, use0, use3, rewrite, feq_i, flt_i, stop, fld, load, lit, unit_lit, of_opd, bin, no_more, and_then, first, blocks, exec, Calls-last, returns, enter, alloc_all, pass_all, free_all, look_at, get, through, sets, lands_last, is, env, agg, sub, whole, look_in, tables, yes, RattleType, owns, types_at, plain, Ptr, block_ptr, ptr_val, nothing, param, bounded, Stays, stay_dropped, walk_of, Goes-dropped, fact, fact_i, block_of, count_of, at_block, via, RefOf, usize, u64, mut_vals, mut_Tells, shr_vals, shr_Tells, uint_vals, uint_Tells, stay_ref, Goes-ref, bit_or, bit_and, opens, closes, obor_close, shr_bor-open, Valss, pick, some, later, await, use1, use2, fpack, of_list, vstruct, InBlock, Goes-dropped, alive, length, get_in, no, lit<, WT, heard, layouts, WpFn, id⊢, suffices, Share, calls_at_last, mem, ◌∙◌, Bool, true, replicate, length-replicate, get_or-replicate, ◌⊑◌, ◌++◌, cell_at, Is, shows, peeks, none, either, eqb, unit, tail, asks, always, Me, step, Allows, Splits, Joins, TableId, age, mine, proved, leaves, steps, glances, forks, two, absorbs, merged, after, fm, seq_cst, found, stored, finds, has_stored, loads, stores, adds, ors, ands, exchanges, Seat, Shared, invariant_of, BareFields, bare_val, finds_start, takes_seat, shuts_seat, lets_go, seated}
+use Rattle.shared_row.proofs.Walked.{◌≡◌, ℕ, ◌+◌, ◌*◌, ◌<◌, List, [], ◌∷◌, sym, refl, ap, subst, arith, lit<, a_type, dcons, dnil, named, Val, vunit, vptr, inst_fn, SProp, ent, sep, emp, Fml, ftrue, fsep, flft, sem, ‵, raw, ◌⊛◌, given, mean, at_ret, ◌$◌, ◌∵◌, !, qed, by, move, keep, drop, split, split3, join, fsplit, fsplit3, fjoin, fjoin3, learn, use0, use3, rewrite, feq_i, stop, fld, load, lit, unit_lit, of_opd, no_more, and_then, first, blocks, exec, Calls-last, returns, enter, alloc_all, pass_all, free_all, look_at, get, through, sets, lands_last, is, env, agg, sub, whole, look_in, tables, yes, RattleType, owns, types_at, plain, Ptr, block_ptr, ptr_val, nothing, param, bounded, Stays, stay_dropped, walk_of, Goes-dropped, fact, fact_i, block_of, count_of, at_block, via, RefOf, mut_vals, mut_Tells, shr_vals, shr_Tells, stay_ref, Goes-ref, opens, closes, Goes-dropped, lit<, mem, unit, tail, asks, always, Joins, TableId, age, mine, proved, leaves, absorbs, merged, fm, seq_cst, found, finds, loads, Seat, Shared, invariant_of, finds_start, takes_seat, shuts_seat, seated}
 use Rattle.shared_row.specs.contracts.shared_words.SharedWords.merge.{ended, clauses}
 use Rattle.shared_row.specs.contracts.shared_words.SharedWords.merge.Key.{name as #self}
 use Rattle.shared_row.proofs.shared_words.SharedWords.merge.Statement.{statement}

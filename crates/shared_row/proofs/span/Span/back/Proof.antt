@@ -1,15 +1,14 @@
 -- A span becomes full places, by the one call that makes them.
-use Rattle.shared_row.proofs.Walked.{◌≡◌, ℕ, ◌+◌, ◌*◌, ◌%◌, ◌^◌, ◌<◌, List, [], ◌∷◌, sym, refl, ap, subst, arith, lit<, w64, a_type, dcons, dnil, named, Val, vunit, vint, vptr, inst_fn, SProp, ent, sep, emp, Lft, Fml, ftrue, fsep, flft, sem, ‵, raw, ◌⊛◌, given, mean, at_ret, ◌$◌, ◌∵◌, !, qed, by, move, keep, drop, split, split3, join, fsplit, fsplit3, fjoin, fjoin3, fpick, learn, use0, use3, rewrite, feq_i, flt_i, stop, fld, load, lit, unit_lit, of_opd, bin, no_more, and_then, first, blocks, exec, Calls-last, returns, enter, alloc_all, pass_all, free_all, look_at, get, through, sets, lands_last, is, env, agg, sub, whole, look_in, tables, yes, RattleType, owns, types_at, plain, Ptr, block_ptr, ptr_val, nothing, param, bounded, Stays, stay_dropped, walk_of, Goes-dropped, fact, fact_i, block_of, count_of, at_block, via, RefOf, usize, u64, mut_vals, mut_Tells, shr_vals, shr_Tells, uint_vals, uint_Tells, stay_ref, Goes-ref, bit_or, bit_and, opens, closes, obor_close, shr_bor-open, Valss, pick, some, later, await, use1, use2, fpack, of_list, vstruct, InBlock, Goes-dropped, alive, length, get_in, no, lit<, WT, heard, layouts, WpFn, id⊢, suffices, Share, calls_at_last, mem, ◌∙◌, Bool, true, replicate, length-replicate, get_or-replicate, ◌⊑◌, ◌++◌, cell_at, Is, shows, peeks, none, either, eqb, unit, tail, asks, always, Me, step, Allows, Splits, Joins, TableId, age, mine, proved, leaves, steps, glances, forks, two, absorbs, merged, after, fm, seq_cst, found, stored, finds, has_stored, loads, stores, adds, ors, ands, exchanges, Seat, Shared, invariant_of, BareFields, bare_val, finds_start, takes_seat, shuts_seat, lets_go, seated}
+use Rattle.shared_row.proofs.Walked.{◌≡◌, ℕ, ◌*◌, ◌^◌, ◌<◌, List, [], ◌∷◌, sym, refl, ap, subst, w64, a_type, Val, vint, inst_fn, SProp, emp, Lft, ftrue, flft, ‵, raw, ◌⊛◌, given, at_ret, ◌$◌, ◌∵◌, !, qed, by, move, keep, split, join, fsplit, fjoin, learn, use0, rewrite, stop, fld, of_opd, no_more, and_then, first, blocks, exec, returns, enter, alloc_all, pass_all, free_all, look_at, get, sets, lands_last, is, env, sub, whole, tables, yes, RattleType, owns, types_at, plain, Ptr, block_ptr, ptr_val, nothing, param, Stays, stay_dropped, walk_of, Goes-dropped, fact, fact_i, block_of, count_of, at_block, usize, uint_vals, uint_Tells, pick, some, later, await, use1, use2, InBlock, Goes-dropped, length, get_in, no, WT, heard, layouts, Share, calls_at_last, mem, ◌∙◌, Bool, true, replicate, length-replicate, get_or-replicate, ◌⊑◌, tail, proved, leaves, fm}
 use Rattle.core.proofs.mem.Param.{El}
 use Rattle.core.proofs.slots.Opens.{row_val}
-use Rattle.core.specs.Mem.Slots.{slots_items, slots_filled, slots_ptr, slots_len, slots_counts, IsFull}
+use Rattle.core.specs.Mem.Slots.{slots_items, slots_ptr, slots_len, IsFull}
 use Rattle.core.proofs.slots.Slots.from_raw_parts.Met as callee
 use Rattle.atomic_table.specs.Seated.{strip}
-use Rattle.atomic_table.proofs.Walks.{proved_at}
 use Rattle.atomic_table.proofs.Dealing.{strip_lies}
-use Rattle.atomic_table.proofs.Raw.{Row, all as places, parts_typed, row_Typed, Row-seen, Into, at_into, Into-goes, Into-gives, to_strip, From, at_from, Made, from_goes, from_gives, of_strip}
+use Rattle.atomic_table.proofs.Raw.{Row, all as places, row_Typed, From, at_from, Made, from_goes, from_gives, of_strip}
 use Rattle.shared_row.specs.contracts.span.Span as span
-use Rattle.shared_row.proofs.Values.{SpanFields, span_val, span_made, span_told, span_fits}
+use Rattle.shared_row.proofs.Values.{span_val, span_told, span_fits}
 use mathlib.Core.Bool.{false}
 use lib.ListN.{get_or}
 use Rattle.shared_row.specs.contracts.span.Span.back.{ended, clauses}
