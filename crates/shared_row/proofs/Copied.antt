@@ -3,8 +3,8 @@ use Rattle.std.proofs.Common.{ℕ, ◌≡◌, ◌+◌, ◌-◌, ◌<◌, ◌^◌
 use Rattle.std.proofs.lemmas.Bool.{cases_lt}
 use Rattle.shared_row.specs.Words.{AllFit, IsCopied}
 
-pub copied-fit : (old new : List ℕ) (from to count : ℕ) → IsCopied old new from to count → AllFit old → AllFit new
-copied-fit old new from to count is fit i = elim (cases_lt i to) as (λ _. slice_index new i < 2 ^ 64) [
+pub copied_fit : (old new : List ℕ) (from to count : ℕ) → IsCopied old new from to count → AllFit old → AllFit new
+copied_fit old new from to count is fit i = elim (cases_lt i to) as (λ _. slice_index new i < 2 ^ 64) [
   | inl low ↦ subst (λ n. n < 2 ^ 64) (sym (is.others i (inl low))) (fit i)
   | inr above ↦ elim (cases_lt i (to + count)) as (λ _. slice_index new i < 2 ^ 64) [
     | inl within ↦ (let at : to + (i - to) ≡ i = omega arith in

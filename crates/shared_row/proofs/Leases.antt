@@ -14,7 +14,7 @@ use Rattle.core.specs.declared.alloc.Allocator.{Ghosts}
 use Rattle.core.proofs.mem.Param.{El, R}
 use Rattle.core.proofs.alloc.Calls.{Al, token}
 use Rattle.core.proofs.slots.Leases.{lease_val, block_ty, P}
-use Rattle.shared_row.specs.contracts.right.Right as right
+use Rattle.shared_row.specs.contracts.rows.Right as right
 
 module _ (T Z : RattleType) (g : Ghosts Z.Denot) where
   pub right_sent : Frees g g.dealloc_token → IsSend (right.the_row T Z g)

@@ -4,6 +4,5 @@ pub mod Reached
 pub mod Walked
 pub mod Sent
 pub mod Fitting
-mod Marking
-pub mod Granted
+mod Drawing
 mod Copied

@@ -14,7 +14,7 @@ use denote.Struct.Owning.{shape}
 use Rattle.core.specs.Mem.Slots.{slots_ptr, slots_len, slots_items, slots_filled}
 use Rattle.core.specs.Mem.Slots.Ownership.{bytes_of, slot, slots, slot_lent, slots_lent}
 use Rattle.core.specs.contracts.slots.Slots as places
-use Rattle.shared_row.specs.contracts.plain.WordRow as plain
+use Rattle.shared_row.specs.contracts.rows.WordRow as plain
 use Rattle.std.proofs.Crossing.{frees, send, sync}
 use Rattle.shared_row.proofs.Leases.{right_sent, right_shared}
 

@@ -5,14 +5,17 @@ use mir.Syntax.{Ty, ty_ptr, ty_struct, tcons, tnil}
 use mir.Val.{Val, vstruct, vcons, vnil, of_list, has_ty, WT}
 use base.Logic.{ent, emp}
 use types.Logic.{Logic, sem}
-use denote.Builtin.{unit}
+use denote.Builtin.{unit, u64}
 use denote.RattleType.{RattleType}
 use denote.Laws.{Is}
 use denote.Opens.{Opens}
 use denote.Copied.{Struct-Copied}
 use denote.RawPtr.{Ptr, block_ptr, null_ptr, ptr_val, InBlock}
 use denote.Shadow.{makes_shadow}
-use denote.Struct.Laws.{RawPtr-copy, field_copy}
+use denote.Struct.Laws.{RawPtr-copy, field_copy, u64-laws, u64-copy}
+use denote.Struct.Field.{u64-field}
+use denote.Param.Laws.{Laws, of_field}
+use denote.Param.Shared.{copy_shared}
 use denote.Struct.Struct.{Struct}
 use denote.Struct.Owning.{shape}
 use denote.Struct.Tuple.{Tuple}
@@ -20,16 +23,15 @@ use Rattle.core.specs.contracts.marker.PhantomData as tie
 use Rattle.atomic_table.specs.declared.shared.TableRule.{Ghosts}
 use Rattle.shared_row.specs.contracts.shared_words.SharedWords as bare
 use Rattle.shared_row.specs.contracts.shared_words.RowSeat as seat
-use Rattle.shared_row.specs.contracts.span.Span as span
+
+pub word_laws : Laws u64
+word_laws = of_field u64-field u64-laws refl (copy_shared u64-field u64-copy)
 
 abbrev pub seat_val : Val
 seat_val = vstruct (vcons (vstruct vnil) vnil)
 
 abbrev pub bare_val : Ptr → Val
 bare_val w = vstruct (vcons (ptr_val w) (vcons (vstruct vnil) vnil))
-
-abbrev pub span_val : Ptr → Val
-span_val w = vstruct (vcons (ptr_val w) vnil)
 
 abbrev pub opened_val : Ptr → Val
 opened_val w = vstruct (vcons (bare_val w) (vcons seat_val vnil))
@@ -44,14 +46,6 @@ bare_ty = ty_struct [] (tcons ty_ptr (tcons (ty_struct [] tnil) tnil))
 abbrev pub Fits : Ty → Val → Type 0
 Fits τ v = T (has_ty τ v) × WT v
 
-pub ptr_fits : (w : Ptr) → InBlock w → Fits ty_ptr (ptr_val w)
-ptr_fits (block_ptr b o) near = (tt, tt)
-ptr_fits null_ptr near = absurd near
-
-pub span_fits : (w : Ptr) → InBlock w → Fits (ty_struct [] (tcons ty_ptr tnil)) (span_val w)
-span_fits (block_ptr b o) near = (tt, (tt, tt))
-span_fits null_ptr near = absurd near
-
 pub bare_fits : (w : Ptr) → InBlock w → Fits bare_ty (bare_val w)
 bare_fits (block_ptr b o) near = (tt, (tt, (tt, tt)))
 bare_fits null_ptr near = absurd near
@@ -59,16 +53,6 @@ bare_fits null_ptr near = absurd near
 pub opened_fits : (w : Ptr) → InBlock w → Fits (ty_struct [] (tcons bare_ty (tcons seat_ty tnil))) (opened_val w)
 opened_fits (block_ptr b o) near = (tt, ((tt, (tt, tt)), ((tt, tt), tt)))
 opened_fits null_ptr near = absurd near
-
-module _ (R : RattleType) where
-  abbrev pub SpanFields : RattleType
-  SpanFields = Struct (shape (span.the_type R))
-
-  pub span_told : (w : Ptr) (vs : List Val) → Is SpanFields (w, tt) vs → vs ≡ span_val w ∷ []
-  span_told w vs is = is.1.0 ∙ ap (λ (us : List Val). vstruct (of_list (us ++ [])) ∷ []) is.1.1.0
-
-  pub span_made : {M : Type 1} {𝓤 : Ura M} (𝓛 : Logic 𝓤) (w : Ptr) → ent 𝓤 (emp 𝓤) (sem 𝓛 (SpanFields.own_val (w, tt) (span_val w ∷ [])))
-  span_made 𝓛 w = makes_shadow 𝓛 (SpanFields.own_val (w, tt) (span_val w ∷ [])) (λ vss. (tt, (tt, tt))) ((ptr_val w ∷ [], tt), (refl, (refl, tt)))
 
 module _ (V : RattleType) where
   abbrev pub SeatFields : RattleType

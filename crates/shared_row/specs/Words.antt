@@ -5,10 +5,6 @@ use Rattle.core.specs.Prelude.{ℕ, ◌≡◌, ◌+◌, ◌<◌, ◌≤◌, ◌^
 abbrev pub AllFit : List ℕ → Type 0
 AllFit words = (i : ℕ) → slice_index words i < 2 ^ 64
 
--- each is 0 or 1
-abbrev pub AreMarks : List ℕ → Type 0
-AreMarks words = (i : ℕ) → slice_index words i < 2
-
 -- the words from one index on are now at another index too, and the others are as they were
 pub record IsCopied (old new : List ℕ) (from to count : ℕ) : Type 0 where
   pub copied : (i : ℕ) → i < count → slice_index new (to + i) ≡ slice_index old (from + i)

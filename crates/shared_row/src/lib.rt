@@ -2,20 +2,10 @@
 //! with no copy. The way there and back takes no memory and cannot fail.
 #![tactic(auto)]
 
-mod handing_over;
-mod plain;
-mod right;
 mod rows;
-mod shared;
 mod shared_words;
-mod span;
 #[cfg(test)]
 mod tests;
-mod threads;
-mod worked;
 
-pub use plain::WordRow;
-pub use shared::SharedRow;
+pub use rows::{SharedRow, WordRow};
 pub use shared_words::{RowSeat, SharedWords};
-pub use threads::{rows_cross_threads, shared_rows_cross_threads};
-pub use worked::{Marks, claim, claim_both};

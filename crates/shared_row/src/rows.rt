@@ -1,19 +1,22 @@
-//! Plain reads and writes.
+//! The row while one owner has it, with plain reads and writes, and its way to threads and back.
 
-ghost use Rattle.std.specs.Prelude.{◌≡◌, ℕ, ◌+◌, ◌-◌, ◌<◌, ◌≤◌, ◌⊎◌, ◌++◌, length, slice_index};
-ghost use Rattle.std.specs.Prelude.{slice_set};
-ghost use Rattle.std.specs.Prelude.{take, drop, replicate, false, IfOk};
-ghost use Rattle.core.specs.Mem.Slots.{slots_items, slots_filled, slots_ptr, slots_len, IsFull};
-ghost use Rattle.core.specs.Mem.Slots.{SamePlaces};
-ghost use Rattle.core.specs.Mem.Slots.Ownership.{Filled, SameOutside};
+ghost use Rattle.std.specs.Prelude.{◌≡◌, ℕ, ◌+◌, ◌-◌, ◌<◌, ◌≤◌, ◌++◌, length, slice_index};
+ghost use Rattle.std.specs.Prelude.{slice_set, take, drop, replicate, false, IfOk, List, []};
+ghost use Rattle.core.specs.Allocator.{FitsBlock};
+ghost use Rattle.core.specs.Mem.Slots.{slots_items, slots_filled, slots_len, slots_ptr, IsFull};
+ghost use Rattle.core.specs.Mem.Slots.{Refills, SamePlaces};
+ghost use Rattle.core.specs.Mem.Slots.Ownership.{Filled, SameOutside, leased};
+ghost use Rattle.atomic_table.specs.Table.{Final, Seen, opening};
 ghost use Rattle.shared_row.specs.Words.{AllFit, IsCopied};
 
-use crate::plain::WordRow;
-use crate::right::take;
+use crate::shared_words::{RowSeat, SharedWords};
+use atomic_table::TableRule;
 use core::mem::replace_with;
 use core::slots::Slots;
-use std::alloc::{AllocError, Global};
+use std::alloc::{AllocError, Allocator, Global};
 use std::fmt;
+use std::marker::{Model, PhantomData};
+use std::mem::{align_of, size_of};
 
 // The words that a block may have: below 2 ^ 63 bytes.
 const MAX_WORDS: usize = 0x0fff_ffff_ffff_ffff;
@@ -22,21 +25,89 @@ const MAX_WORDS: usize = 0x0fff_ffff_ffff_ffff;
 // just given it.
 const CLEARED_WORDS: usize = 256;
 
-fn write_all(places: &mut Slots<u64>, words: &[u64])
-    requires { slots_len places.old ≡ length words.now }
-    ensures places { IsFull places.new × (slots_items places.new ≡ words.now) }
-    ensures same { (slots_ptr places.new ≡ slots_ptr places.old)
-        × (slots_len places.new ≡ slots_len places.old) }
+// The right to free a block of values, which threads may send each other.
+pub(crate) struct Right<T, A: Allocator> {
+    pub(crate) start: *mut T,
+    pub(crate) count: usize,
+    by: PhantomData<A>,
+    pub(crate) ghost heap: { A },
+}
+
+impl<T, A: Allocator> Model for Right<T, A> {
+    ghost also_owns = { λ r. leased (A.dealloc_token r.heap) T.row r.start r.count };
+}
+
+// Empty places in a new block, for values as the one given.
+pub(crate) fn take<T, A: Allocator>(
+    heap: &A,
+    count: usize,
+    _like: &T,
+) -> Result<(Slots<T>, Right<T, A>), AllocError>
+    requires { FitsBlock T.row count }
+    ensures { IfOk result (λ p. (slots_len p.0 ≡ count) × (p.1.start ≡ slots_ptr p.0)
+        × (p.1.count ≡ count) × (p.1.heap ≡ heap.now)) }
 {
-    let mut i = 0;
-    while i < words.len() {
-        places.put(i, words[i]);
-        i += 1;
+    match heap.allocate(count * size_of::<T>(), align_of::<T>()) {
+        Ok(block) => {
+            let start = block as *mut T;
+            let by = PhantomData;
+            let right = Right { start, count, by };
+            let places = unsafe { Slots::from_raw_parts(start, count) };
+            Ok((places, right))
+        }
+        Err(refused) => Err(refused),
     }
 }
 
-// Zeros from one place up to another. Callers hold the places by value, which keeps them in
-// registers: so the loop, which writes nothing else, becomes a `memset`.
+// The block goes back, whatever its places hold.
+pub(crate) fn free<T, A: Allocator>(heap: &A, places: Slots<T>, right: Right<T, A>)
+    requires { (right.start ≡ slots_ptr places) × (right.count ≡ slots_len places)
+        × (right.heap ≡ heap.now) }
+{
+    let _parts = unsafe { places.into_raw_parts() };
+    let Right {
+        start,
+        count,
+        by: _,
+    } = right;
+    unsafe {
+        heap.deallocate(start as *mut u8, count * size_of::<T>(), align_of::<T>());
+    }
+}
+
+/// Words in one block of memory. Clauses see it as their list, in which each is below 2 ^ 64.
+pub struct WordRow {
+    pub(crate) places: Slots<u64>,
+    pub(crate) right: Right<u64, Global>,
+    pub(crate) heap: Global,
+}
+
+impl Model for WordRow {
+    ghost use Rattle.core.specs.Prelude.{◌≡◌, ℕ, List};
+    ghost use Rattle.core.specs.Mem.Slots.{slots_items, slots_ptr, slots_len, IsFull};
+    ghost use Rattle.shared_row.specs.Words.{AllFit};
+
+    ghost Value = { List ℕ };
+
+    ghost view = { λ r. slots_items r.places };
+
+    ghost invariant = { λ r. IsFull r.places × AllFit (slots_items r.places)
+        × (r.right.start ≡ slots_ptr r.places) × (r.right.count ≡ slots_len r.places)
+        × (r.right.heap ≡ r.heap) };
+}
+
+impl Drop for WordRow {
+    fn drop(self) {
+        let WordRow {
+            places,
+            right,
+            heap,
+        } = self;
+        free(&heap, places, right);
+    }
+}
+
+// Zeros from one place up to another.
 #[inline(always)]
 fn clear(places: &mut Slots<u64>, from: usize, to: usize)
     requires { (from ≤ to) × (to ≤ slots_len places.old) × Filled (slots_filled places.old) 0 from }
@@ -54,30 +125,12 @@ fn clear(places: &mut Slots<u64>, from: usize, to: usize)
     }
 }
 
-// Zeros to all places, a part at a time.
-fn clear_all(places: Slots<u64>) -> Slots<u64>
-    ensures items { slots_items result ≡ replicate (slots_len places) 0 }
-    ensures full { IsFull result }
-    ensures same { SamePlaces places result }
-{
-    let count = places.len();
-    let mut places = places;
-    let mut done = 0;
-    while done < count {
-        let end = done + CLEARED_WORDS.min(count - done);
-        clear(&mut places, done, end);
-        done = end;
-    }
-    places
-}
-
 // Copies words down: the first one first.
 #[inline(always)]
 fn copy_down(places: &mut Slots<u64>, from: usize, to: usize, count: usize)
     requires { (to ≤ from) × (from + count ≤ slots_len places.old) × IsFull places.old }
     ensures copied { IsCopied (slots_items places.old) (slots_items places.new) from to count }
-    ensures full { IsFull places.new }
-    ensures same { SamePlaces places.old places.new }
+    ensures full { Refills places.old places.new }
 {
     let mut i = 0;
     while i < count {
@@ -92,8 +145,7 @@ fn copy_down(places: &mut Slots<u64>, from: usize, to: usize, count: usize)
 fn copy_up(places: &mut Slots<u64>, from: usize, to: usize, count: usize)
     requires { (from < to) × (to + count ≤ slots_len places.old) × IsFull places.old }
     ensures copied { IsCopied (slots_items places.old) (slots_items places.new) from to count }
-    ensures full { IsFull places.new }
-    ensures same { SamePlaces places.old places.new }
+    ensures full { Refills places.old places.new }
 {
     let mut left = count;
     while left > 0 {
@@ -103,38 +155,14 @@ fn copy_up(places: &mut Slots<u64>, from: usize, to: usize, count: usize)
     }
 }
 
-// Copies words, in the order in which none is written before it is read.
-fn copy_run(places: Slots<u64>, from: usize, to: usize, count: usize) -> Slots<u64>
-    requires { (from + count ≤ slots_len places) × (to + count ≤ slots_len places)
-        × IsFull places }
-    ensures copied { IsCopied (slots_items places) (slots_items result) from to count }
-    ensures full { IsFull result }
-    ensures same { SamePlaces places result }
-{
-    let mut places = places;
-    if to <= from {
-        copy_down(&mut places, from, to, count);
-    } else {
-        copy_up(&mut places, from, to, count);
-    }
-    places
-}
-
 impl WordRow {
     /// A row of these words.
     pub fn from_words(alloc: Global, words: &[u64]) -> Result<WordRow, AllocError>
         ensures { IfOk result (λ row. row ≡ words.now) }
     {
-        if words.len() > MAX_WORDS {
-            return Err(AllocError);
-        }
-        let (mut places, right) = take(&alloc, words.len(), &0)?;
-        write_all(&mut places, words);
-        Ok(WordRow {
-            places,
-            right,
-            heap: alloc,
-        })
+        let mut row = WordRow::zeros(alloc, words.len())?;
+        row.places.copy_in(0, words);
+        Ok(row)
     }
 
     /// A row of zeros.
@@ -144,9 +172,15 @@ impl WordRow {
         if count > MAX_WORDS {
             return Err(AllocError);
         }
-        let (places, right) = take(&alloc, count, &0)?;
+        let (mut places, right) = take(&alloc, count, &0)?;
+        let mut done = 0;
+        while done < count {
+            let end = done + CLEARED_WORDS.min(count - done);
+            clear(&mut places, done, end);
+            done = end;
+        }
         Ok(WordRow {
-            places: clear_all(places),
+            places,
             right,
             heap: alloc,
         })
@@ -187,44 +221,30 @@ impl WordRow {
         ensures count { length self.new ≡ length self.old }
         ensures fit { AllFit self.new }
     {
-        replace_with(
-            &mut self.places,
-            (),
-            move |places: Slots<u64>, _none: ()| -> (Slots<u64>, ())
-                requires { (from ≤ to) × (to ≤ slots_len places) × IsFull places }
-                ensures items { slots_items result.0
-                    ≡ take from (slots_items places) ++ replicate (to - from) 0
-                    ++ drop to (slots_items places) }
-                ensures full { IsFull result.0 }
-                ensures same { SamePlaces places result.0 }
-            {
-                let mut places = places;
-                clear(&mut places, from, to);
-                (places, ())
-            },
-        );
+        // The places by value, which keeps them in registers: so the loop becomes a `memset`.
+        replace_with(&mut self.places, (), |mut places, _| {
+            clear(&mut places, from, to);
+            (places, ())
+        });
     }
 
     /// The words from one index on are copied to another index. The two runs may overlap.
     #[inline]
+    #[tactic(auto, using(crate::proofs::Copied::copied_fit))]
     pub fn copy_within(&mut self, from: usize, to: usize, count: usize)
         requires { (from + count ≤ length self.old) × (to + count ≤ length self.old) }
         ensures copied { IsCopied self.old self.new from to count }
         ensures count { length self.new ≡ length self.old }
         ensures fit { AllFit self.new }
     {
-        replace_with(
-            &mut self.places,
-            (),
-            move |places: Slots<u64>, _none: ()| -> (Slots<u64>, ())
-                requires { (from + count ≤ slots_len places) × (to + count ≤ slots_len places)
-                    × IsFull places }
-                ensures copied { IsCopied (slots_items places) (slots_items result.0) from to
-                    count }
-                ensures full { IsFull result.0 }
-                ensures same { SamePlaces places result.0 }
-            { (copy_run(places, from, to, count), ()) },
-        );
+        replace_with(&mut self.places, (), |mut places, _| {
+            if to <= from {
+                copy_down(&mut places, from, to, count);
+            } else {
+                copy_up(&mut places, from, to, count);
+            }
+            (places, ())
+        });
     }
 
     /// The words in a list of their own.
@@ -244,10 +264,96 @@ impl WordRow {
     {
         let _count = self.places.len();
     }
+
+    /// From here on threads may step on the words, in the place where they lie. The rule holds of
+    /// them now.
+    pub fn share<V, K, P: TableRule<(), V, K>>(self, about: &K) -> (SharedRow<V, K, P>, RowSeat<V>)
+        requires { P.holds about.now (opening self [] (P.first about.now)) }
+        ensures row { (result.0.words.table_id.words ≡ length self)
+            × (result.0.words.table_id.slots ≡ 0) × (result.0.words.key ≡ about.now) }
+        ensures seat { (result.1.table_id ≡ result.0.words.table_id) × (result.1.id ≡ 0)
+            × (result.1.me ≡ (P.first about.now, [])) }
+    {
+        let WordRow {
+            places,
+            right,
+            heap,
+        } = self;
+        let count = places.len();
+        let (words, seat) = SharedWords::open(about, places);
+        (
+            SharedRow {
+                words,
+                count,
+                right,
+                heap,
+            },
+            seat,
+        )
+    }
 }
 
 impl fmt::Debug for WordRow {
+    ghost use Rattle.std.specs.Prelude.{◌++◌, length, codes, Some};
+    ghost use Rattle.std.specs.Fmt.{decimal};
+
+    ghost debug_output = { λ row. Some (codes "WordRow of " ++ decimal (length row)
+        ++ codes " words") };
+
     fn fmt<W: fmt::Write>(&self, f: &mut fmt::Formatter<W>) -> fmt::Result {
         write!(f, "WordRow of {} words", self.len())
     }
 }
+
+/// A row while threads share it. Its words have the steps, each through a `&`.
+pub struct SharedRow<V, K, P: TableRule<(), V, K>> {
+    pub words: SharedWords<V, K, P>,
+    pub(crate) count: usize,
+    pub(crate) right: Right<u64, Global>,
+    pub(crate) heap: Global,
+    ghost counted: { count ≡ words.table_id.words },
+    ghost leased: { (right.start ≡ words.start) × (right.count ≡ count) × (right.heap ≡ heap) },
+}
+
+impl<V, K, P: TableRule<(), V, K>> SharedRow<V, K, P> {
+    /// Plain memory again. The words are those of a state that keeps the rule, and in which the
+    /// seat has its view.
+    pub fn into_row(self, mut seat: RowSeat<V>) -> WordRow
+        requires { seat.table_id ≡ self.words.table_id }
+        ensures count { length result ≡ self.words.table_id.words }
+        ensures words { (xs : List (Unit {0}))
+            × Final (Seen (P.holds self.words.key) seat.id seat.me.0) result xs }
+    {
+        let SharedRow {
+            words,
+            count,
+            right,
+            heap,
+        } = self;
+        WordRow {
+            places: words.close(&mut seat, count),
+            right,
+            heap,
+        }
+    }
+}
+
+impl<V, K, P: TableRule<(), V, K>> Drop for SharedRow<V, K, P> {
+    fn drop(self) {
+        let SharedRow {
+            words,
+            count,
+            right,
+            heap,
+        } = self;
+        free(&heap, words.end(count), right);
+    }
+}
+
+unsafe impl<T, A: Allocator + Send> Send for Right<T, A> {}
+
+unsafe impl<T, A: Allocator + Send> Sync for Right<T, A> {}
+
+unsafe impl Send for WordRow {}
+
+unsafe impl Sync for WordRow {}

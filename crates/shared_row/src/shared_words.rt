@@ -1,18 +1,18 @@
 //! The words as threads see them, and what one thread knows. Every raw step stands here, in a
 //! function of one or two lines whose signature is safe.
 
-ghost use Rattle.std.specs.Prelude.{◌≡◌, ℕ, List, ◌<◌, ◌+◌, ◌%◌, ◌^◌, ◌==◌, [], length, bit_and};
-ghost use Rattle.std.specs.Prelude.{bit_or};
+ghost use Rattle.std.specs.Prelude.{◌≡◌, ℕ, List, ◌<◌, ◌+◌, ◌%◌, ◌^◌, ◌==◌, [], bit_and, bit_or};
 ghost use mathlib.Core.Option.{none};
 ghost use prog.Atomic.{either};
 ghost use denote.Builtin.{unit};
 ghost use Rattle.atomic_table.specs.Table.{Me, Final, Seen, Allows, Splits, Joins, step, opening};
 ghost use Rattle.atomic_table.specs.Seated.{TableId, table_id_coded, table_owns, table_shares};
 ghost use Rattle.atomic_table.specs.Seated.{seat_owns};
+ghost use Rattle.core.specs.Mem.Slots.{slots_items, slots_ptr, slots_len, IsFull};
 ghost use Rattle.shared_row.specs.Words.{AllFit};
 
-use crate::span::Span;
 use atomic_table::{Join, Play, Split, TableRule, exchange};
+use core::slots::Slots;
 use std::marker::{Brand, Model, PhantomData};
 use std::sync::atomic::Ordering::SeqCst;
 use std::sync::atomic::raw;
@@ -47,17 +47,18 @@ impl<V> Model for RowSeat<V> {
 }
 
 impl<V, K, P: TableRule<(), V, K>> SharedWords<V, K, P> {
-    pub(crate) fn open(about: &K, span: Span<u64>) -> (SharedWords<V, K, P>, RowSeat<V>)
-        requires { P.holds about.now (opening span.values [] (P.first about.now)) }
-        ensures row { (result.0.start ≡ span.start) × (result.0.key ≡ about.now)
-            × (result.0.table_id.words ≡ length span.values) × (result.0.table_id.slots ≡ 0) }
+    pub(crate) fn open(about: &K, places: Slots<u64>) -> (SharedWords<V, K, P>, RowSeat<V>)
+        requires { IsFull places
+            × P.holds about.now (opening (slots_items places) [] (P.first about.now)) }
+        ensures row { (result.0.start ≡ slots_ptr places) × (result.0.key ≡ about.now)
+            × (result.0.table_id.words ≡ slots_len places) × (result.0.table_id.slots ≡ 0) }
         ensures seat { (result.1.table_id ≡ result.0.table_id) × (result.1.id ≡ 0)
             × (result.1.me ≡ (P.first about.now, [])) }
     {
-        let Span { start } = span;
+        let parts = unsafe { places.into_raw_parts() };
         (
             SharedWords {
-                start,
+                start: parts.0,
                 tied: PhantomData,
             },
             RowSeat { tied: PhantomData },
@@ -65,29 +66,32 @@ impl<V, K, P: TableRule<(), V, K>> SharedWords<V, K, P> {
     }
 
     // The words are those of some state that keeps the rule and has the seat's view.
-    pub(crate) fn close(self, seat: &mut RowSeat<V>) -> Span<u64>
-        requires { seat.old.table_id ≡ self.table_id }
-        ensures row { (result.start ≡ self.start) × (length result.values ≡ self.table_id.words) }
+    pub(crate) fn close(self, seat: &mut RowSeat<V>, count: usize) -> Slots<u64>
+        requires { (seat.old.table_id ≡ self.table_id) × (count ≡ self.table_id.words) }
+        ensures places { (slots_ptr result ≡ self.start) × (slots_len result ≡ count)
+            × IsFull result }
         ensures words { (xs : List (Unit {0}))
-            × Final (Seen (P.holds self.key) seat.old.id seat.old.me.0) result.values xs }
-        ensures fit { AllFit result.values }
+            × Final (Seen (P.holds self.key) seat.old.id seat.old.me.0) (slots_items result) xs }
+        ensures fit { AllFit (slots_items result) }
     {
         let SharedWords { start, tied: _ } = self;
-        Span { start }
+        unsafe { Slots::from_raw_parts(start, count) }
     }
 
     // The same where no seat is at hand.
-    pub(crate) fn end(self) -> Span<u64>
-        ensures { (result.start ≡ self.start) × (length result.values ≡ self.table_id.words) }
+    pub(crate) fn end(self, count: usize) -> Slots<u64>
+        requires { count ≡ self.table_id.words }
+        ensures { (slots_ptr result ≡ self.start) × (slots_len result ≡ count) }
     {
         let SharedWords { start, tied: _ } = self;
-        Span { start }
+        unsafe { Slots::from_raw_parts(start, count) }
     }
 
     /// A load with no seat, which tells nothing.
     #[inline(always)]
     pub fn peek(&self, i: usize) -> u64
         requires { i < self.now.table_id.words }
+        ensures { result < 2 ^ 64 }
     {
         unsafe { raw::load::<Brand>(self.start.add(i), SeqCst) }
     }

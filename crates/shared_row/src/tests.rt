@@ -2,6 +2,9 @@
 
 ghost use Rattle.std.specs.Prelude.{◌≡◌, ◌<◌};
 
+mod threads;
+mod worked;
+
 use crate::{RowSeat, SharedWords, WordRow};
 use atomic_table::{Play, Split, TableRule};
 use std::alloc::{AllocError, Global};

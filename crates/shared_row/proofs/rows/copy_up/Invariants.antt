@@ -1,5 +1,5 @@
 use Rattle.std.proofs.Common.{ℕ, ◌≡◌, ◌+◌, ◌<◌, ◌≤◌, ◌⊎◌, slice_index}
-use Rattle.core.specs.Mem.Slots.{slots_items, SamePlaces, IsFull}
+use Rattle.core.specs.Mem.Slots.{slots_items, Refills}
 use Rattle.shared_row.proofs.rows.copy_up.Given as goal
 
 -- the words after those that are left are copied
@@ -8,8 +8,7 @@ invariant-loop-left l = record {
   few : l.left ≤ l.count;
   copied : (i : ℕ) → l.left ≤ i → i < l.count → slice_index (slots_items l.places) (l.to + i) ≡ slice_index (slots_items l.initial.places) (l.from + i);
   others : (i : ℕ) → (i < l.to + l.left) ⊎ (l.to + l.count ≤ i) → slice_index (slots_items l.places) i ≡ slice_index (slots_items l.initial.places) i;
-  full : IsFull l.places;
-  same : SamePlaces l.initial.places l.places;
+  full : Refills l.initial.places l.places;
 }
 
 abbrev pub decreases-loop-left : goal.decreases-loop-left

@@ -1,8 +1,0 @@
-use denote.RattleType.{RattleType}
-use denote.Param.Send.{IsSend, IsSync, Frees}
-use Rattle.core.specs.declared.alloc.Allocator.{Ghosts}
-use Rattle.shared_row.specs.contracts.right.Right.{the_row}
-use Rattle.shared_row.proofs.Leases.{right_shared}
-
-pub sync : (T A : RattleType) (g : Ghosts A.Denot) → IsSend A → Frees g g.dealloc_token → IsSync (the_row T A g)
-sync T A g s f = right_shared T A g f
