@@ -1,5 +1,5 @@
 -- What a contract says of a seat.
-use Rattle.std.specs.Prelude.{◌≡◌, List, All}
+use Rattle.std.specs.Prelude.{◌≡◌, List, All, false, replicate}
 use Rattle.sessions.specs.Plans.{Rules}
 use Rattle.mutator_core.specs.declared.state.Local.{Local}
 use Rattle.mutator_core.specs.Machine.{Epoch}
@@ -38,3 +38,7 @@ AreSeatsOf rules row seats = All (IsSeatOf rules row) seats
 
 abbrev pub AreAtRow : {P : Type 0} → RacingRow P → List MutatorSeat → Type 0
 AreAtRow row seats = All (IsAtRow row) seats
+
+-- the seat has a flag for each block of the heap, of which none is set
+abbrev pub HasNoFlagSet : {P : Type 0} → RacingRow P → MutatorSeat → Type 0
+HasNoFlagSet row seat = seat.flags.items ≡ replicate row.layout.blocks false

@@ -1,6 +1,6 @@
 //! How mutators begin to share a row, and how they end.
 
-ghost use Rattle.std.specs.Prelude.{◌≡◌, ◌⊎◌, ℕ, ◌<◌, List, IfOk, length, map};
+ghost use Rattle.std.specs.Prelude.{◌≡◌, ◌⊎◌, ℕ, ◌<◌, List, All, IfOk, false, length, map, replicate};
 ghost use Rattle.ideal_heap.specs.Ideal.{IdealHeap};
 ghost use Rattle.object_model.specs.Graphs.{AreDifferent, Represents, numbers_of};
 ghost use Rattle.mutator_core.specs.Epochs.{EpochMayBegin};
@@ -9,7 +9,7 @@ ghost use lib.ListN.{get_elem?};
 ghost use Rattle.mutator_calls.specs.declared.need.Mutator.{Mutator};
 ghost use Rattle.mutator_rule.specs.Views.{start_with, epoch_with, first_view, first_views, first_views_of};
 ghost use Rattle.mutator_rule.specs.Logs.{EndsWith, KnowsLog};
-ghost use Rattle.mutator_rule.specs.Seats.{known, AreSeatsOf, AreAtRow, start_of};
+ghost use Rattle.mutator_rule.specs.Seats.{known, AreSeatsOf, AreAtRow, HasNoFlagSet, start_of};
 
 use crate::racing_row::RacingRow;
 use crate::rule::{Deal, EpochRules, Gather};
@@ -20,6 +20,17 @@ use mutator_calls::Mutator;
 use shared_row::{RowSeat, WordRow};
 use std::alloc::{AllocError, Global};
 use std::snapshot::Snapshot;
+
+/// A flag for each block, none set.
+fn no_flags(alloc: Global, blocks: u32) -> Result<Vec<bool>, AllocError>
+    ensures { IfOk result (λ v. v.items ≡ replicate blocks false) }
+{
+    let mut flags = Vec::with_capacity(alloc, blocks as usize)?;
+    for _ in 0..blocks {
+        flags.push(false)?;
+    }
+    Ok(flags)
+}
 
 impl<P: EpochRules> RacingRow<P> {
     /// A seat for each mutator, with a view of the first seat's.
@@ -36,9 +47,11 @@ impl<P: EpochRules> RacingRow<P> {
             (first_view (start_of self.now) m) }
         ensures own { IfOk result (λ v. AreSeatsOf P.rules self.now v.items) }
         ensures views { IfOk result (λ v. map known v.items ≡ chief.me.0) }
+        ensures flags { IfOk result (λ v. All (HasNoFlagSet self.now) v.items) }
     {
         let mut seats = Vec::new(alloc);
         for i in 0..mutators.len() {
+            let flags = no_flags(alloc, self.layout.blocks())?;
             let seat = self.row.words.split::<Deal>(&mut chief);
             let Mutator {
                 number,
@@ -50,6 +63,7 @@ impl<P: EpochRules> RacingRow<P> {
                 registers,
                 number,
                 births,
+                flags,
             })?;
         }
         Ok(seats)
@@ -80,6 +94,7 @@ impl<P: EpochRules> RacingRow<P> {
         ensures seats { IfOk result (λ r. AreSeatsOf P.rules r.0 r.1.items) }
         ensures views { IfOk result (λ r. map known r.1.items
             ≡ first_views (start_with words layout.blocks number base mutators.now.items)) }
+        ensures flags { IfOk result (λ r. All (HasNoFlagSet r.0) r.1.items) }
     {
         let about = RowKey {
             words: Snapshot::of(&words),

@@ -32,6 +32,7 @@ impl<P: EpochRules> RacingRow<P> {
             ≡ (local_of me.old).births }
         requires inside { at < self.now.row.words.table_id.words }
         ensures own { IsSeatOf P.rules self.now me.new }
+        ensures flags { me.new.flags ≡ me.old.flags }
         ensures registers { me.new.registers ≡ me.old.registers }
         ensures step { MakesStep P.rules (known me.old) E.event result (known me.new) }
     {
@@ -55,6 +56,7 @@ impl<P: EpochRules> RacingRow<P> {
             ≡ (local_of me.old).births }
         requires inside { at < self.now.row.words.table_id.words }
         ensures own { IsSeatOf P.rules self.now me.new }
+        ensures flags { me.new.flags ≡ me.old.flags }
         ensures registers { me.new.registers ≡ me.old.registers }
         ensures step { MakesStep P.rules (known me.old) event.now result (known me.new) }
     {
@@ -85,6 +87,7 @@ impl<P: EpochRules> RacingRow<P> {
         requires inside { at < self.now.row.words.table_id.words }
         requires register { d < REGISTERS }
         ensures own { IsSeatOf P.rules self.now me.new }
+        ensures flags { me.new.flags ≡ me.old.flags }
         ensures registers { me.new.registers ≡ slice_set me.old.registers d result }
         ensures step { MakesStep P.rules (known me.old) E.event result (known me.new) }
     {
@@ -111,6 +114,7 @@ impl<P: EpochRules> RacingRow<P> {
         requires inside { at < self.now.row.words.table_id.words }
         requires register { d < REGISTERS }
         ensures own { IsSeatOf P.rules self.now me.new }
+        ensures flags { me.new.flags ≡ me.old.flags }
         ensures registers { me.new.registers ≡ slice_set me.old.registers d result }
         ensures step { MakesStep P.rules (known me.old) event.now result (known me.new) }
     {
@@ -142,6 +146,7 @@ impl<P: EpochRules> RacingRow<P> {
         requires inside { at < self.now.row.words.table_id.words }
         requires register { d < REGISTERS }
         ensures own { IsSeatOf P.rules self.now me.new }
+        ensures flags { me.new.flags ≡ me.old.flags }
         ensures registers { me.new.registers ≡ slice_set me.old.registers d value }
         ensures step { (found : ℕ)
             × MakesStep P.rules (known me.old) E.event found (known me.new) }
@@ -168,6 +173,7 @@ impl<P: EpochRules> RacingRow<P> {
         requires inside { at < self.now.row.words.table_id.words }
         requires register { d < REGISTERS }
         ensures own { IsSeatOf P.rules self.now me.new }
+        ensures flags { me.new.flags ≡ me.old.flags }
         ensures registers { me.new.registers ≡ slice_set me.old.registers d value }
         ensures step { (found : ℕ)
             × MakesStep P.rules (known me.old) event.now found (known me.new) }
@@ -192,6 +198,7 @@ impl<P: EpochRules> RacingRow<P> {
             ≡ (local_of me.old).births }
         requires inside { at < self.now.row.words.table_id.words }
         ensures own { IsSeatOf P.rules self.now me.new }
+        ensures flags { me.new.flags ≡ me.old.flags }
         ensures registers { me.new.registers ≡ me.old.registers }
         ensures step { (found : ℕ)
             × MakesStep P.rules (known me.old) E.event found (known me.new) }
@@ -218,6 +225,7 @@ impl<P: EpochRules> RacingRow<P> {
             ≡ (local_of me.old).births }
         requires inside { at < self.now.row.words.table_id.words }
         ensures own { IsSeatOf P.rules self.now me.new }
+        ensures flags { me.new.flags ≡ me.old.flags }
         ensures registers { me.new.registers ≡ me.old.registers }
         ensures step { (found : ℕ)
             × MakesStep P.rules (known me.old) event.now found (known me.new) }
@@ -249,6 +257,7 @@ impl<P: EpochRules> RacingRow<P> {
             ≡ (local_of me.old).births }
         requires inside { at < self.now.row.words.table_id.words }
         ensures own { IsSeatOf P.rules self.now me.new }
+        ensures flags { me.new.flags ≡ me.old.flags }
         ensures registers { me.new.registers ≡ me.old.registers }
         ensures step { MakesStep P.rules (known me.old) E.event result (known me.new) }
     {
@@ -281,6 +290,7 @@ impl<P: EpochRules> RacingRow<P> {
             ≡ (local_of me.old).births }
         requires inside { at < self.now.row.words.table_id.words }
         ensures own { IsSeatOf P.rules self.now me.new }
+        ensures flags { me.new.flags ≡ me.old.flags }
         ensures registers { me.new.registers ≡ me.old.registers }
         ensures step { MakesStep P.rules (known me.old) event.now result (known me.new) }
     {
@@ -304,6 +314,7 @@ impl<P: EpochRules> RacingRow<P> {
             ≡ (local_of me.old).births }
         requires inside { at < self.now.row.words.table_id.words }
         ensures own { IsSeatOf P.rules self.now me.new }
+        ensures flags { me.new.flags ≡ me.old.flags }
         ensures registers { me.new.registers ≡ me.old.registers }
         ensures step { MakesStep P.rules (known me.old) E.event result (known me.new) }
     {
@@ -329,6 +340,7 @@ impl<P: EpochRules> RacingRow<P> {
             ≡ (local_of me.old).births }
         requires inside { at < self.now.row.words.table_id.words }
         ensures own { IsSeatOf P.rules self.now me.new }
+        ensures flags { me.new.flags ≡ me.old.flags }
         ensures registers { me.new.registers ≡ me.old.registers }
         ensures step { MakesStep P.rules (known me.old) event.now result (known me.new) }
     {
@@ -358,6 +370,7 @@ impl<P: EpochRules> RacingRow<P> {
             ≡ (local_of me.old).births }
         requires inside { at < self.now.row.words.table_id.words }
         ensures own { IsSeatOf P.rules self.now me.new }
+        ensures flags { me.new.flags ≡ me.old.flags }
         ensures registers { me.new.registers ≡ me.old.registers }
         ensures step { MakesStep P.rules (known me.old) E.event result (known me.new) }
     {
@@ -383,6 +396,7 @@ impl<P: EpochRules> RacingRow<P> {
             ≡ (local_of me.old).births }
         requires inside { at < self.now.row.words.table_id.words }
         ensures own { IsSeatOf P.rules self.now me.new }
+        ensures flags { me.new.flags ≡ me.old.flags }
         ensures registers { me.new.registers ≡ me.old.registers }
         ensures step { MakesStep P.rules (known me.old) event.now result (known me.new) }
     {
@@ -412,6 +426,7 @@ impl<P: EpochRules> RacingRow<P> {
             ≡ (local_of me.old).births }
         requires inside { at < self.now.row.words.table_id.words }
         ensures own { IsSeatOf P.rules self.now me.new }
+        ensures flags { me.new.flags ≡ me.old.flags }
         ensures registers { me.new.registers ≡ me.old.registers }
         ensures step { MakesStep P.rules (known me.old) E.event result (known me.new) }
     {
@@ -437,9 +452,87 @@ impl<P: EpochRules> RacingRow<P> {
             ≡ (local_of me.old).births }
         requires inside { at < self.now.row.words.table_id.words }
         ensures own { IsSeatOf P.rules self.now me.new }
+        ensures flags { me.new.flags ≡ me.old.flags }
         ensures registers { me.new.registers ≡ me.old.registers }
         ensures step { MakesStep P.rules (known me.old) event.now result (known me.new) }
     {
         self.clear_as::<Brand>(me, at, mask, event)
+    }
+
+    #[inline(always)]
+    fn publish_as<E: PicksEvent>(
+        &self,
+        me: &mut MutatorSeat,
+        at: usize,
+        mask: u64,
+        d: u32,
+        address: u32,
+        _event: &Event,
+    )
+        requires event { E.event ≡ _event.now }
+        requires own { IsSeatOf P.rules self.now me.old }
+        requires may { MayStep (epoch_of_seat P.rules me.old) (local_of me.old) E.event }
+        requires place { word_of_event (epoch_of_seat P.rules me.old) (local_of me.old)
+            E.event ≡ at }
+        requires stored { stored (epoch_of_seat P.rules me.old) (local_of me.old) E.event
+            ≡ (λ n. bit_or n mask) }
+        requires loads { (n : ℕ)
+            → (local_after (epoch_of_seat P.rules me.old) (local_of me.old) E.event n).registers
+            ≡ slice_set (local_of me.old).registers d address }
+        requires births { (n : ℕ)
+            → (local_after (epoch_of_seat P.rules me.old) (local_of me.old) E.event n).births
+            ≡ (local_of me.old).births + 1 }
+        requires few { me.old.births + 1 < 2 ^ 32 }
+        requires inside { at < self.now.row.words.table_id.words }
+        requires register { d < REGISTERS }
+        ensures own { IsSeatOf P.rules self.now me.new }
+        ensures flags { me.new.flags ≡ me.old.flags }
+        ensures registers { me.new.registers ≡ slice_set me.old.registers d address }
+        ensures births { me.new.births ≡ me.old.births + 1 }
+        ensures step { (found : ℕ)
+            × MakesStep P.rules (known me.old) E.event found (known me.new) }
+    {
+        self.row
+            .words
+            .fetch_or::<FindsWord<P, E>>(&mut me.seat, at, mask);
+        me.registers[d as usize] = address;
+        me.births += 1;
+    }
+
+    /// A setting of bits that makes the event, the birth of an object: register `d` gets its
+    /// address.
+    #[inline(always)]
+    pub fn publish(
+        &self,
+        me: &mut MutatorSeat,
+        at: usize,
+        mask: u64,
+        d: u32,
+        address: u32,
+        event: &Event,
+    )
+        requires own { IsSeatOf P.rules self.now me.old }
+        requires may { MayStep (epoch_of_seat P.rules me.old) (local_of me.old) event.now }
+        requires place { word_of_event (epoch_of_seat P.rules me.old) (local_of me.old)
+            event.now ≡ at }
+        requires stored { stored (epoch_of_seat P.rules me.old) (local_of me.old) event.now
+            ≡ (λ n. bit_or n mask) }
+        requires loads { (n : ℕ)
+            → (local_after (epoch_of_seat P.rules me.old) (local_of me.old) event.now n).registers
+            ≡ slice_set (local_of me.old).registers d address }
+        requires births { (n : ℕ)
+            → (local_after (epoch_of_seat P.rules me.old) (local_of me.old) event.now n).births
+            ≡ (local_of me.old).births + 1 }
+        requires few { me.old.births + 1 < 2 ^ 32 }
+        requires inside { at < self.now.row.words.table_id.words }
+        requires register { d < REGISTERS }
+        ensures own { IsSeatOf P.rules self.now me.new }
+        ensures flags { me.new.flags ≡ me.old.flags }
+        ensures registers { me.new.registers ≡ slice_set me.old.registers d address }
+        ensures births { me.new.births ≡ me.old.births + 1 }
+        ensures step { (found : ℕ)
+            × MakesStep P.rules (known me.old) event.now found (known me.new) }
+    {
+        self.publish_as::<Brand>(me, at, mask, d, address, event);
     }
 }

@@ -1,7 +1,8 @@
 -- The world as an epoch begins, and lists of its seats.
-use Rattle.std.proofs.Common.{◌≡◌, refl, sym, ap, subst, ℕ, zero, suc, ◌<◌, ◌≤◌, IsTrue, List, [], ◌∷◌, ◌++◌, length, map, take, arith}
-use Rattle.std.specs.List.{All}
-use Rattle.std.proofs.lemmas.List.{length-map}
+use Rattle.std.proofs.Common.{◌≡◌, ◌∙◌, refl, sym, ap, subst, ℕ, zero, suc, ◌<◌, ◌≤◌, IsTrue, List, [], ◌∷◌, ◌++◌, length, map, take, arith}
+use Rattle.std.specs.List.{All, Contains}
+use Rattle.std.specs.Prelude.{Bool, true, false, Some, None, replicate, slice_get}
+use Rattle.std.proofs.lemmas.List.{length-map, length-replicate}
 use Rattle.std.proofs.lemmas.List.Elements.{All-nil, All-cons, All-head, All-tail}
 use mathlib.Core.Option.{some, some-injective, some-ne-none}
 use lib.ListN.{get_elem?, get_or}
@@ -15,6 +16,7 @@ use Rattle.object_model.specs.Graphs.{MutatorState, Represents, numbers_of}
 use Rattle.sessions.specs.Plans.{Rules, has_holes}
 use Rattle.sessions.specs.Collecting.{Remembers}
 use Rattle.mutator_calls.specs.declared.need.Mutator.{Mutator}
+use Rattle.mutator_core.specs.declared.state.OwnedBlock.{OwnedBlock}
 use Rattle.mutator_core.specs.Epochs.{EpochMayBegin}
 use Rattle.mutator_core.proofs.SomeIdeal.{some-ideal}
 use Rattle.mutator_rule.specs.declared.racing_row.RacingRow.{RacingRow}
@@ -22,9 +24,12 @@ use Rattle.mutator_rule.specs.declared.seat.MutatorSeat.{MutatorSeat}
 use Rattle.mutator_rule.specs.declared.views.EpochStart.{EpochStart}
 use Rattle.mutator_rule.specs.declared.views.MutatorView.{MutatorView}
 use Rattle.mutator_rule.specs.Views.{first_view}
+use Rattle.mutator_rule.proofs.Loops.{get-or-elem}
 use Rattle.mutator_core.specs.Machine.{mutator_of}
 use Rattle.mutator_rule.specs.Logs.{history_seen, own_entries}
-use Rattle.mutator_rule.specs.Seats.{known, IsSeatOf}
+use Rattle.mutator_rule.specs.Seats.{known, IsSeatOf, HasNoFlagSet, start_of}
+use Rattle.mutator_core.proofs.Lists.{contains-none}
+use Rattle.racing_world.specs.Logged.{logged_seen}
 use Rattle.racing_world.specs.RacingSeats.{MayCall}
 use Rattle.racing_world.specs.Calls.{number_of, IsFresh}
 use Rattle.racing_world.specs.Closing.{mutator_at}
@@ -53,22 +58,37 @@ first-known x xs g m ms e = let t : known x ∷ map known xs ≡ first_view g m 
 none-known : (x : MutatorSeat) (xs : List MutatorSeat) (g : EpochStart) → map known (x ∷ xs) ≡ map (first_view g) [] → ⊥
 none-known x xs g e = let t : known x ∷ map known xs ≡ [] = e in cc
 
-pub first-calls : {P : Type 0} (rules : Rules) (row : RacingRow P) (g : EpochStart) (xs : List MutatorSeat) (ms : List Mutator) → All (IsSeatOf rules row) xs → map known xs ≡ map (first_view g) ms → All (MayCall rules row) xs
-first-calls rules row g [] ms own e = All-nil (MayCall rules row)
-first-calls rules row g (x ∷ xs) [] own e = absurd (none-known x xs g e)
-first-calls rules row g (x ∷ xs) (m ∷ ms) own e =
+pub first-calls : {P : Type 0} (rules : Rules) (row : RacingRow P) (g : EpochStart) (xs : List MutatorSeat) (ms : List Mutator) → All (IsSeatOf rules row) xs → map known xs ≡ map (first_view g) ms → start_of row ≡ g → All (HasNoFlagSet row) xs → All (MayCall rules row) xs
+first-calls rules row g [] ms own e same flags = All-nil (MayCall rules row)
+first-calls rules row g (x ∷ xs) [] own e same flags = absurd (none-known x xs g e)
+first-calls rules row g (x ∷ xs) (m ∷ ms) own e same flags =
     let is = first-known x xs g m ms e in
-    All-cons (MayCall rules row) x xs (record {
-      own = All-head (IsSeatOf rules row) x xs own;
-      none = ap (λ (v : MutatorView). v.local.unpublished) is.0;
-      stored = ap (λ (v : MutatorView). v.local.pending) is.0;
-      untaken = ap (λ (v : MutatorView). v.local.owned) is.0;
-    }) (first-calls rules row g xs ms (All-tail (IsSeatOf rules row) x xs own) is.1)
+    All-cons (MayCall rules row) x xs ((
+      record {
+        own = All-head (IsSeatOf rules row) x xs own;
+        none = ap (λ (v : MutatorView). v.local.unpublished) is.0;
+        stored = ap (λ (v : MutatorView). v.local.pending) is.0;
+      },
+      record {
+        len = ap (λ (fs : List Bool). length fs) (All-head (HasNoFlagSet row) x xs flags) ∙ length-replicate row.layout.blocks false ∙ ap (λ l. l.blocks) row.laid ∙ ap (λ (h : EpochStart). h.blocks) same ∙ ap (λ (v : MutatorView). v.start.blocks) (sym is.0);
+        each = λ a there. absurd (contains-none a (subst (λ ls. Contains ls a) (ap (logged_seen rules) is.0) there));
+      },
+      record { each = λ o there free. absurd (contains-none o (subst (λ (os : List OwnedBlock). Contains os o) (ap (λ (v : MutatorView). v.local.owned) is.0) there)) },
+    )) (first-calls rules row g xs ms (All-tail (IsSeatOf rules row) x xs own) is.1 same (All-tail (HasNoFlagSet row) x xs flags))
 
-pub first-fresh : (rules : Rules) (g : EpochStart) (xs : List MutatorSeat) (ms : List Mutator) → map known xs ≡ map (first_view g) ms → All (IsFresh rules) xs
-first-fresh rules g [] ms e = All-nil (IsFresh rules)
-first-fresh rules g (x ∷ xs) [] e = absurd (none-known x xs g e)
-first-fresh rules g (x ∷ xs) (m ∷ ms) e =
+none-set : (n k : ℕ) → slice_get (replicate n false) k ≡ Some true → ⊥
+none-set zero k e = let wrong : None ≡ Some true = e in cc
+none-set (suc n) zero e = let wrong : Some false ≡ Some true = e in cc
+none-set (suc n) (suc k) e = none-set n k e
+
+-- a seat has so many flags, none set
+abbrev pub NoneOf : ℕ → MutatorSeat → Type 0
+NoneOf n seat = seat.flags.items ≡ replicate n false
+
+pub first-fresh : (rules : Rules) (n : ℕ) (g : EpochStart) (xs : List MutatorSeat) (ms : List Mutator) → map known xs ≡ map (first_view g) ms → All (NoneOf n) xs → All (IsFresh rules) xs
+first-fresh rules n g [] ms e flags = All-nil (IsFresh rules)
+first-fresh rules n g (x ∷ xs) [] e flags = absurd (none-known x xs g e)
+first-fresh rules n g (x ∷ xs) (m ∷ ms) e flags =
     let is = first-known x xs g m ms e in
     All-cons (IsFresh rules) x xs (record {
       steps = ap (λ (v : MutatorView). v.seen) is.0;
@@ -77,7 +97,8 @@ first-fresh rules g (x ∷ xs) (m ∷ ms) e =
       stop = ap (λ (v : MutatorView). v.local.stop) is.0;
       raised = ap (λ (v : MutatorView). v.local.raised) is.0;
       ticket = ap (λ (v : MutatorView). v.local.ticket) is.0;
-    }) (first-fresh rules g xs ms is.1)
+      flags = λ k set. none-set n k (ap (λ (fs : List Bool). slice_get fs k) (sym (All-head (NoneOf n) x xs flags)) ∙ set);
+    }) (first-fresh rules n g xs ms is.1 (All-tail (NoneOf n) x xs flags))
 
 pub first-states : (g : EpochStart) (xs : List MutatorSeat) (ms : List Mutator) → map known xs ≡ map (first_view g) ms → map mutator_at xs ≡ map mutator_state ms
 first-states g [] [] e = refl
@@ -110,3 +131,12 @@ taken-more f (y ∷ ys) (suc i) x few e = ap (λ zs. f y ∷ zs) (taken-more f y
 pub taken-all : {A B : Type 0} (f : A → B) (xs : List A) → take (length xs) (map f xs) ≡ map f xs
 taken-all f [] = refl
 taken-all f (x ∷ xs) = ap (λ ys. f x ∷ ys) (taken-all f xs)
+
+-- a place of the list that has an element is one of its places, and has one
+pub place-within : (xs : List MutatorSeat) (k : ℕ) (x : MutatorSeat) → get_elem? xs k ≡ some x → k < length xs
+place-within [] k x e = absurd (some-ne-none x (sym e))
+place-within (y ∷ ys) zero x e = omega arith
+place-within (y ∷ ys) (suc k) x e = let n = place-within ys k x e in omega arith
+
+pub same-place : (xs : List MutatorSeat) (k : ℕ) (x y : MutatorSeat) → k < length xs → y ≡ get_or xs k y → get_elem? xs k ≡ some x → x ≡ y
+same-place xs k x y few here e = some-injective x y (sym e ∙ get-or-elem xs k y few here)

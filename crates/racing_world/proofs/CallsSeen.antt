@@ -20,14 +20,15 @@ use Rattle.mutator_core.proofs.EpochEnds.{log-seen}
 use Rattle.mutator_core.proofs.Beginnings.{log-ends}
 use Rattle.mutator_core.proofs.Regions.{history-append}
 use Rattle.mutator_rule.specs.declared.views.EpochStart.{EpochStart}
+use Rattle.mutator_rule.specs.declared.views.MutatorView.{MutatorView}
 use Rattle.mutator_rule.specs.Views.{epoch_with, entries_by}
 use Rattle.mutator_rule.specs.Logs.{MakesEntries, history_seen, own_entries}
 use Rattle.mutator_rule.specs.Seats.{start_of}
 use Rattle.racing_world.specs.declared.racing.Racing.{Racing}
 use Rattle.racing_world.specs.declared.world.World.{World}
-use Rattle.racing_world.specs.RacingSeats.{entries_in, view, local, MayCall, IsReady, Makes, DoesEffect}
+use Rattle.racing_world.specs.RacingSeats.{entries_in, view, local, epoch_of_racing, Holdings, holdings, UsesItsBlocks, MayCall, IsAtRest, HasFlags, IsReady, Makes, DoesEffect}
 use Rattle.racing_world.specs.SeatLaws.{or-false}
-use Rattle.racing_world.specs.Calls.{epoch_of_world, SeesMore, EntersCommand, EntersNothing}
+use Rattle.racing_world.specs.Calls.{epoch_of_world, SeesMore, EntersOnce, EntersCommand, EntersNothing}
 
 -- lists that begin alike end alike
 same-end : {A : Type 0} (xs ys zs : List A) → xs ++ ys ≡ xs ++ zs → ys ≡ zs
@@ -61,7 +62,13 @@ stands-once m (x ∷ xs) e own = elim (cases_eq x.mutator m) as (λ _. StandsOnc
       })
 ]
 
-module _ {P : Type 0} (rules : Rules) (w : World P) (a b : Racing P) (here : a.row.now ≡ w.row) (ready : IsReady rules b) (es : List Entry) (made : Makes rules a es b) where
+-- what a mutator has for allocation stays, so each block that it took has an object still
+pub uses-kept : (rules : Rules) (a b : MutatorView) → b.start ≡ a.start → holdings b.local ≡ holdings a.local → UsesItsBlocks (epoch_with rules a.start) (holdings a.local) → UsesItsBlocks (epoch_with rules b.start) (holdings b.local)
+uses-kept rules a b start same uses = subst (λ (g : EpochStart). UsesItsBlocks (epoch_with rules g) (holdings b.local)) (sym start)
+    (subst (λ (h : Holdings). UsesItsBlocks (epoch_with rules a.start) h) (sym same) uses)
+
+module _ {P : Type 0} (rules : Rules) (w : World P) (a b : Racing P) (here : a.row.now ≡ w.row) (ready : IsReady rules b) (has : HasFlags rules a.seat.now) (uses : UsesItsBlocks (epoch_of_racing rules b) (holdings (local b)))
+    (es : List Entry) (made : Makes rules a es b) where
   abbrev p : Epoch
   p = epoch_with rules (view a).start
 
@@ -86,7 +93,7 @@ module _ {P : Type 0} (rules : Rules) (w : World P) (a b : Racing P) (here : a.r
   row-same = ap (λ r. r.now) made.row ∙ here
 
   call : MayCall rules w.row b.seat.now
-  call = subst (λ r. MayCall rules r b.seat.now) row-same ready
+  call = (subst (λ r. IsAtRest rules r b.seat.now) row-same ready, made.flags has, uses)
 
   pub sees-more : SeesMore rules w a.seat.now since b.seat.now
   sees-more = record {
@@ -94,37 +101,50 @@ module _ {P : Type 0} (rules : Rules) (w : World P) (a b : Racing P) (here : a.r
     number = goes.number;
     history = grown;
     run = λ i represents.
-        let same : (view b).start ≡ start_of w.row = call.own.1 in
+        let same : (view b).start ≡ start_of w.row = call.0.own.1 in
         let known = ready.own.2 in
         (log-ends (epoch_with rules (view b).start) i (view b).seen known.epoch.ready
         (subst (λ (g : EpochStart). Represents (epoch_with rules g).before (epoch_with rules g).mutators i) (sym same) represents) known.epoch.steps).run;
     stop = made.stop;
   }
 
-module _ {P : Type 0} (rules : Rules) (w : World P) (a b : Racing P) (here : a.row.now ≡ w.row) (ready : IsReady rules b) where
-  pub enters-command : (effect : Effect) (command : Command) (reply : Reply) → entries_in (local a).number effect ≡ entry (local a).number command reply ∷ [] → effect.raised ≡ false
-      → DoesEffect rules a effect b → EntersCommand rules w a.seat.now command reply b.seat.now
-  enters-command effect command reply is quiet does =
+module _ {P : Type 0} (rules : Rules) (w : World P) (a b : Racing P) (here : a.row.now ≡ w.row) (ready : IsReady rules b) (has : HasFlags rules a.seat.now) where
+  pub enters-one : (command : Command) (reply : Reply) → Makes rules a (entry (local a).number command reply ∷ []) b → UsesItsBlocks (epoch_of_racing rules b) (holdings (local b)) → (local b).raised ≡ (local a).raised
+      → EntersOnce rules w a.seat.now command reply b.seat.now
+  enters-one command reply made used raised =
       let es : List Entry = entry (local a).number command reply ∷ [] in
-      let made : Makes rules a es b = subst (λ xs. Makes rules a xs b) is does.makes in
-      let once : StandsOnce (local a).number (since rules w a b here ready es made) (entry (local a).number command reply) = stands-once (local a).number (since rules w a b here ready es made) _ (own-since rules w a b here ready es made) in
+      let once : StandsOnce (local a).number (since rules w a b here ready has used es made) (entry (local a).number command reply) = stands-once (local a).number (since rules w a b here ready has used es made) _ (own-since rules w a b here ready has used es made) in
       record {
         before = once.before;
         after = once.after;
-        sees = subst (λ xs. SeesMore rules w a.seat.now xs b.seat.now) once.is (sees-more rules w a b here ready es made);
+        sees = subst (λ xs. SeesMore rules w a.seat.now xs b.seat.now) once.is (sees-more rules w a b here ready has used es made);
         others_before = once.none_before;
         others_after = once.none_after;
         calls = made.goes.own;
-        raised = does.raised ∙ ap (λ v. (local a).raised || v) quiet ∙ or-false (local a).raised;
+        raised = raised;
       }
 
-  pub enters-nothing : Makes rules a [] b → EntersNothing rules w a.seat.now b.seat.now
-  enters-nothing made = record {
-    since = since rules w a b here ready [] made;
-    sees = sees-more rules w a b here ready [] made;
-    others = own-since rules w a b here ready [] made;
+  pub enters-none : Makes rules a [] b → UsesItsBlocks (epoch_of_racing rules b) (holdings (local b)) → EntersNothing rules w a.seat.now b.seat.now
+  enters-none made used = record {
+    since = since rules w a b here ready has used [] made;
+    sees = sees-more rules w a b here ready has used [] made;
+    others = own-since rules w a b here ready has used [] made;
     calls = made.goes.own ∙ append-nil (own_entries rules (view a));
   }
+
+-- the same of calls that allocate nothing
+module _ {P : Type 0} (rules : Rules) (w : World P) (a b : Racing P) (here : a.row.now ≡ w.row) (ready : IsReady rules b) (has : HasFlags rules a.seat.now) (uses : UsesItsBlocks (epoch_of_racing rules a) (holdings (local a))) where
+  pub enters-command : (effect : Effect) (command : Command) (reply : Reply) → entries_in (local a).number effect ≡ entry (local a).number command reply ∷ [] → effect.raised ≡ false
+      → DoesEffect rules a effect b → EntersCommand rules w a.seat.now command reply b.seat.now
+  enters-command effect command reply is quiet does =
+      let made : Makes rules a (entry (local a).number command reply ∷ []) b = subst (λ xs. Makes rules a xs b) is does.makes in (
+        enters-one rules w a b here ready has command reply made (uses-kept rules (view a) (view b) made.goes.start does.kept uses)
+            (does.raised ∙ ap (λ v. (local a).raised || v) quiet ∙ or-false (local a).raised),
+        does.kept,
+      )
+
+  pub enters-nothing : Makes rules a [] b → holdings (local b) ≡ holdings (local a) → EntersNothing rules w a.seat.now b.seat.now
+  enters-nothing made same = enters-none rules w a b here ready has made (uses-kept rules (view a) (view b) made.goes.start same uses)
 
 -- a stop that a seat has seen was raised by a mutator of the world, which is the caller only if it tried to
 module _ {P : Type 0} (rules : Rules) (w : World P) (b : Racing P) (here : b.row.now ≡ w.row) (ready : IsReady rules b) (m : ℕ) (stop : (local b).stop ≡ m) (some : m ≢ 0) where

@@ -1,37 +1,42 @@
 -- What the seats of a world say of its end.
-use Rattle.std.proofs.Common.{◌≡◌, inl, inr, ⊎_elim, refl, sym, ◌∙◌, ap, subst, ℕ, zero, suc, ◌+◌, ◌/◌, ◌<◌, ◌≤◌, ◌==◌, arith, cond, List, [], ◌∷◌, ◌++◌, length, map}
-use Rattle.std.specs.Prelude.{sum_by, Option, Some, None}
-use Rattle.std.specs.List.{Contains}
-use Rattle.std.proofs.lemmas.Bool.{cases_lt}
+use Rattle.std.proofs.Common.{◌≡◌, ◌⊎◌, IsTrue, inl, inr, ⊎_elim, refl, sym, ◌∙◌, ap, subst, ℕ, zero, suc, ◌+◌, ◌<◌, ◌≤◌, ◌==◌, arith, cond, List, [], ◌∷◌, ◌++◌, length, map}
+use Rattle.std.specs.Prelude.{sum_by, count_by, Option, Some, None}
+use Rattle.std.specs.List.{Contains, range_with_len}
+use Rattle.std.proofs.Math.Path.{fun_ext}
 use Rattle.std.proofs.lemmas.List.{append-nil}
 use Rattle.std.proofs.lemmas.List.Sums.{sum_by-cons}
 use Rattle.std.proofs.lemmas.List.Elements.{filter-append}
 use mathlib.Core.Option.{some, some-injective, some-ne-none}
 use lib.ListN.{get_elem?}
+use Rattle.heap_layout.specs.Blocks.{is_block_code}
+use Rattle.heap_layout.specs.Zones.{BlockWords, first}
+use Rattle.heap_layout.specs.declared.block.Kind.{Kind}
 use Rattle.heap_layout.specs.declared.block.Kind.TheVariants as kinds
+use Rattle.heap_layout.proofs.BlockLemmas.{is_block_code-code_of}
 use Rattle.ideal_heap.specs.Ideal.{IdealHeap}
 use Rattle.ideal_heap.specs.Runs.{Entry}
-use Rattle.object_model.specs.Objects.{HeapState, HasKind, owner_at, block_word, word_at}
-use Rattle.object_model.specs.Lawful.{LineBitsAreExact}
+use Rattle.object_model.specs.Objects.{HeapState, with_words, has_kind, HasKind, owner_at, block_word, word_at, is_unlogged}
+use Rattle.object_model.specs.Lawful.{IsWellFormed}
 use Rattle.object_model.specs.Graphs.{Represents, numbers_of}
-use Rattle.object_model.proofs.OneKind.{kind-within}
+use Rattle.object_model.proofs.Frames.{same-layout}
 use Rattle.sessions.specs.Fitting.{free_of}
 use Rattle.sessions.specs.Plans.{Rules}
+use Rattle.sessions.specs.Collecting.{is_logged_under}
 use Rattle.sessions.specs.Sessions.{Stopped}
 use Rattle.mutator_core.specs.declared.state.Local.{Local}
 use Rattle.mutator_core.specs.declared.state.LogEntry.{LogEntry}
-use Rattle.mutator_core.specs.declared.state.OwnedBlock.{OwnedBlock}
 use Rattle.mutator_core.specs.Machine.{Epoch, first_machine, mutator_of, nothing_unpublished}
+use Rattle.mutator_core.specs.Epochs.{IsOwned}
 use Rattle.mutator_core.specs.Guards.{allowance}
 use Rattle.mutator_core.specs.Closing.{IsBetweenCalls, GivesBack}
 use Rattle.mutator_core.specs.Histories.{history}
 use Rattle.mutator_core.specs.Logs.{AreBetweenCalls, IsListed, IsTaken, IsUntaken, machine_after, heap_after, local_after_log, mutators_after, history_of}
 use Rattle.mutator_core.specs.Tickets.{taken_by, drawn_by, allowed_to, tickets_in, tickets_below, smaller}
-use Rattle.mutator_core.proofs.Beginnings.{log-ends}
+use Rattle.mutator_core.proofs.Beginnings.{Ends, log-ends}
 use Rattle.mutator_core.proofs.Counted.{smaller-most}
 use Rattle.mutator_core.proofs.EpochEnds.{log-counted, log-seen, log-stopped}
-use Rattle.mutator_core.proofs.Lists.{contains-none}
-use Rattle.mutator_core.proofs.Regions.{history-append, block-owner, owner-lists, unowned-lines}
+use Rattle.mutator_core.proofs.GivenBack as back
+use Rattle.mutator_core.proofs.Regions.{history-append, block-owner, owner-lists}
 use Rattle.mutator_core.proofs.Sums.{sum-more}
 use Rattle.mutator_rule.specs.declared.seat.MutatorSeat.{MutatorSeat}
 use Rattle.mutator_rule.specs.declared.views.EpochStart.{EpochStart}
@@ -41,13 +46,17 @@ use Rattle.mutator_rule.specs.Logs.{Agrees, EndsWith}
 use Rattle.mutator_rule.specs.Seats.{known, local_of}
 use Rattle.mutator_rule.proofs.Pushes.{entries-of-others, nothing-more, steps-append}
 use Rattle.racing_world.specs.Calls.{history_at, calls_of, number_of}
+use Rattle.racing_world.specs.Logged.{logged_in}
+use Rattle.racing_world.specs.RacingSeats.{logged_at, holdings, UsesItsBlocks}
+use Rattle.racing_world.proofs.Logged.{logged-append, none-logged}
+use Rattle.racing_world.proofs.Cleared.{log-logged}
 use Rattle.racing_world.specs.Closing.{IsSeatAt, EndsEpoch}
 
--- a seat is between two calls
-pub record IsIdle (seat : MutatorSeat) : Type 0 where
+-- a seat is between two calls in the epoch
+pub record IsIdle (p : Epoch) (seat : MutatorSeat) : Type 0 where
   pub none : (local_of seat).unpublished ≡ nothing_unpublished
   pub stored : (local_of seat).pending ≡ 0
-  pub untaken : (local_of seat).owned ≡ []
+  pub used : UsesItsBlocks p (holdings (local_of seat))
 
 known-at : (seats : List MutatorSeat) (k : ℕ) (seat : MutatorSeat) → IsSeatAt seats k seat → get_elem? (map known seats) k ≡ some (known seat)
 known-at [] k seat e = absurd (some-ne-none seat (sym e))
@@ -103,7 +112,7 @@ empty-front : {A : Type 0} (xs ys : List A) → xs ++ ys ≡ [] → xs ≡ []
 empty-front [] ys e = refl
 empty-front (x ∷ xs) ys e = let wrong : x ∷ (xs ++ ys) ≡ [] = e in cc
 
-module _ (rules : Rules) (g : EpochStart) (seats : List MutatorSeat) (row : List ℕ) (ends : EndsWith rules g (map known seats) row) (idle : (k : ℕ) (seat : MutatorSeat) → IsSeatAt seats k seat → IsIdle seat)
+module _ (rules : Rules) (g : EpochStart) (seats : List MutatorSeat) (row : List ℕ) (ends : EndsWith rules g (map known seats) row) (idle : (k : ℕ) (seat : MutatorSeat) → IsSeatAt seats k seat → IsIdle (epoch_with rules g) seat)
     (listed : map number_of seats ≡ numbers_of (epoch_with rules g).mutators) (many : 0 < length seats) where
   abbrev p : Epoch
   p = epoch_with rules g
@@ -133,53 +142,33 @@ module _ (rules : Rules) (g : EpochStart) (seats : List MutatorSeat) (row : List
       subst (IsBetweenCalls p) (state-found m known) (record {
         none = rest.none;
         stored = rest.stored;
-        used = λ o there free. absurd (contains-none o (subst (λ (xs : List OwnedBlock). Contains xs o) rest.untaken there));
+        used = rest.used.each;
       })
 
-  nobody-owns : (k : ℕ) → k < p.before.blocks → owner_at s k ≡ 0
-  nobody-owns k inside =
-      let end = log-ends p ends.ideal log ends.epoch.ready ends.epoch.represents ends.epoch.steps in
-      elim (cases_lt 0 (owner_at s k)) as (λ _. owner_at s k ≡ 0) [
-        | inl owned ↦ ⊎_elim
-            (λ (no : IsUntaken p s k). no.unowned.owner)
-            (λ (yes : IsTaken p s k).
-            let member : Contains (numbers_of p.mutators) (owner_at s k) = yes.owner in
-            let f = found (owner_at s k) member in
-            let block : IsListed (local_after_log p log (owner_at s k)) k = owner-lists p ends.epoch.ready (machine_after p log) end.moment.epoch k inside owned in
-            absurd (contains-none block.block (subst (λ (xs : List OwnedBlock). Contains xs block.block) (ap (λ (l : Local). l.owned) (sym (state-found (owner_at s k) member)) ∙ (idle f.0 f.1 f.2).untaken) block.listed)))
-            (block-owner p ends.epoch.ready (machine_after p log) end.moment.epoch k inside)
-        | inr none ↦ omega arith
-      ]
+  abbrev ended : Ends p (first_machine p) ends.ideal log
+  ended = log-ends p ends.ideal log ends.epoch.ready ends.epoch.represents ends.epoch.steps
 
-  lines-exact : (k : ℕ) → LineBitsAreExact s k
-  lines-exact k =
-      let end = log-ends p ends.ideal log ends.epoch.ready ends.epoch.represents ends.epoch.steps in
-      let exact : k < p.before.blocks → LineBitsAreExact s k = λ inside. unowned-lines p ends.epoch.ready (machine_after p log) end.moment.epoch k (nobody-owns k inside) in
-      record {
-        marked = λ line is. (exact (kind-within s k kinds.Immix is)).marked line is;
-        touched = λ line is. (exact (kind-within s k kinds.Immix is)).touched line is;
-      }
+  -- each block word is one, and a block with an owner is of the kind that mutators fill
+  pub code-at : (k : ℕ) → k < p.before.blocks → IsTrue (is_block_code (block_word s k))
+  code-at k inside = ⊎_elim
+      (λ (no : IsUntaken p s k). no.unowned.code)
+      (λ (yes : IsTaken p s k).
+      let block : IsListed (local_after_log p log (owner_at s k)) k = owner-lists p ends.epoch.ready (machine_after p log) ended.moment.epoch k inside yes.some in
+      let is : IsOwned p s (local_after_log p log (owner_at s k)).number block.block = (ended.moment.epoch.knows (owner_at s k)).owned block.block block.listed in
+      subst (λ q. IsTrue (is_block_code (block_word s q))) block.same (is_block_code-code_of (record { kind = p.rules.fill; class = block.block.class; owner = (local_after_log p log (owner_at s k)).number }) (block_word s block.block.block) is.valid (sym is.word)))
+      (block-owner p ends.epoch.ready (machine_after p log) ended.moment.epoch k inside)
 
-  gives : GivesBack s s
-  gives =
-      let end = log-ends p ends.ideal log ends.epoch.ready ends.epoch.represents ends.epoch.steps in
-      record {
-        blocks = refl;
-        number = refl;
-        base = refl;
-        extent = refl;
-        words = end.moment.models.order.row.words;
-        owners = λ k inside. (let none : block_word s k / 65536 ≡ 0 = nobody-owns k inside in omega arith);
-        listed = λ k some. lines-exact k;
-        lines = λ k line inside few nobody. refl;
-        rest = λ i range. refl;
-      }
+  pub kind-at : (k : ℕ) → k < p.before.blocks → 0 < owner_at s k → HasKind s k p.rules.fill
+  kind-at k inside owned = ⊎_elim
+      (λ (no : IsUntaken p s k). absurd (let none : owner_at s k ≡ 0 = no.unowned.owner in omega arith))
+      (λ (yes : IsTaken p s k). yes.kind)
+      (block-owner p ends.epoch.ready (machine_after p log) ended.moment.epoch k inside)
+
+  pub order-at : IsWellFormed s
+  order-at = ended.moment.models.order
 
   abbrev part : List Entry
   part = history_of p log
-
-  stops-so : (i : IdealHeap) → Represents p.before p.mutators i → Stopped rules (numbers_of p.mutators) p.before i part s (mutators_after p log)
-  stops-so i represents = log-stopped p i log s (record { ready = ends.epoch.ready; represents = represents; steps = ends.epoch.steps }) between gives
 
   mutators-same : mutators_after p log ≡ map (λ (seat : MutatorSeat). mutator_of (local_of seat)) seats
   mutators-same = ap (λ (ns : List ℕ). map (λ m. mutator_of (local_after_log p log m)) ns) (sym listed) ∙ states-mapped (local_after_log p log) seats local-same
@@ -220,6 +209,18 @@ module _ (rules : Rules) (g : EpochStart) (seats : List MutatorSeat) (row : List
       (t.0, f.0, f.1, seen-same t.0 f.0 f.1 ∙ ap (history_of p) (ap (λ (v : MutatorView). v.seen) f.2 ∙ t.3)))
       (ends.longest (λ m. seats-counted seats m ∙ ap (times_in m) listed))
 
+  -- a seat has the steps of its mutator, so it logged what the mutator logged
+  logged-same : (k : ℕ) (seat : MutatorSeat) (at : IsSeatAt seats k seat) → logged_in p (first_machine p) (number_of seat) log ≡ logged_at rules seat
+  logged-same k seat at =
+      let m : ℕ = number_of seat in
+      let more : List LogEntry = rest k seat at in
+      let whole : (known seat).seen ++ more ≡ log = (agrees k seat at).1.prefix.1 in
+      ap (logged_in p (first_machine p) m) (sym whole) ∙ logged-append p (first_machine p) m (known seat).seen more
+      ∙ ap (λ ls. logged_in p (first_machine p) m (known seat).seen ++ ls) (none-logged p (machine_after p (known seat).seen) m more (nothing-more (steps_by m (known seat).seen) (steps_by m more)
+      (sym (steps-append m (known seat).seen more) ∙ ap (steps_by m) whole ∙ (agrees k seat at).1.own)))
+      ∙ append-nil (logged_in p (first_machine p) m (known seat).seen)
+      ∙ ap (λ (h : EpochStart). logged_in (epoch_with rules h) (first_machine (epoch_with rules h)) m (known seat).seen) (sym (agrees k seat at).0)
+
   abbrev budget : ℕ
   budget = word_at s 1
 
@@ -246,29 +247,59 @@ module _ (rules : Rules) (g : EpochStart) (seats : List MutatorSeat) (row : List
       let both = sum-both (λ m. taken_by (local_after_log p log m)) (λ m. counts (local_after_log p log m)) (numbers_of p.mutators) in
       omega (arith, good, free, own, both)
 
-  pub ends-epoch : EndsEpoch rules p seats s (map (λ (seat : MutatorSeat). mutator_of (local_of seat)) seats)
-  ends-epoch =
-      let counted = log-counted p ends.ideal log ends.epoch in
-      let saw = log-seen p ends.ideal log ends.epoch in
-      record {
-        history = part;
-        longest = longest-seen;
-        prefixes = λ k seat at. (later k seat at, grown k seat at);
-        calls = calls-same;
-        stopped = λ i represents. subst (Stopped rules (numbers_of p.mutators) p.before i part s) mutators-same (stops-so i represents);
-        budget = budget;
-        budget_word = refl;
-        most = budget-most;
-        drawn = λ k t seat at has. counted.drawn (number_of seat) t (ap (λ (l : Local). l.ticket) (sym (local-same k seat at)) ∙ has);
-        counted = tickets-counted;
-        seen = λ k block seat at has free.
-            let among : Contains (local_after_log p log (number_of seat)).blocks has.loaded = subst (λ (l : Local). Contains l.blocks has.loaded) (local-same k seat at) has.among in
-            (saw.blocks (number_of seat) has.loaded among).1.used has.used (subst (λ b. HasKind s b kinds.Free) (sym has.here) free);
-        stop = word_at s 0;
-        stop_word = refl;
-        stops = λ k seat at some. sym (saw.polled (number_of seat) (subst (λ (l : Local). 0 < l.stop) (local-same k seat at) some) ∙ ap (λ (l : Local). l.stop) (sym (local-same k seat at)));
-        raised = λ some. ⊎_elim
-            (λ none. absurd (let e : word_at s 0 ≡ 0 = none in omega arith))
-            (λ r. let f = found (word_at s 0) r.0 in (f.0, f.1, f.2, f.3, ap (λ (l : Local). l.raised) (state-found (word_at s 0) r.0) ∙ r.1))
-            saw.stop;
-      }
+  -- blocks are given back, and no word before the block words changes
+  module _ (new : HeapState) (gives : GivesBack s new) (front : (k : ℕ) → k < first p.before.blocks BlockWords → word_at new k ≡ word_at s k) where
+    same : new ≡ with_words p.before new.words
+    same = same-layout p.before new gives.blocks gives.number gives.base
+
+    given : GivesBack s (with_words p.before new.words)
+    given = subst (GivesBack s) same gives
+
+    kind-same : (k : ℕ) (kind : Kind) → has_kind new k kind ≡ has_kind s k kind
+    kind-same k kind = ap (λ (t : HeapState). has_kind t k kind) same ∙ back.kind-same p ends.epoch.ready (machine_after p log) _ ended.set ended.moment new.words given k kind
+
+    unlog-same : (a : ℕ) → is_unlogged new a ≡ is_unlogged s a
+    unlog-same a = ap (λ (t : HeapState). is_unlogged t a) same ∙ back.unlog-back p ends.epoch.ready (machine_after p log) _ ended.set ended.moment new.words given a
+
+    free-same : free_of new ≡ free_of s
+    free-same = ap (λ n. count_by (λ k. has_kind new k kinds.Free) (range_with_len 0 n)) gives.blocks ∙ ap (λ f. count_by f (range_with_len 0 p.before.blocks)) (fun_ext (λ k. kind-same k kinds.Free))
+
+    stops-so : (i : IdealHeap) → Represents p.before p.mutators i → Stopped rules (numbers_of p.mutators) p.before i part new (mutators_after p log)
+    stops-so i represents = log-stopped p i log new (record { ready = ends.epoch.ready; represents = represents; steps = ends.epoch.steps }) between gives
+
+    seats-logged : (a : ℕ) → IsTrue (is_logged_under rules new a) → IsTrue (is_logged_under rules p.before a) ⊎ ((k : ℕ) × (seat : MutatorSeat) × IsSeatAt seats k seat × Contains (logged_at rules seat) a)
+    seats-logged a is = ⊎_elim
+        (λ (before : IsTrue (is_logged_under rules p.before a)). inl before)
+        (λ (by : (m : ℕ) × Contains (numbers_of p.mutators) m × Contains (logged_in p (first_machine p) m log) a).
+        let f = found by.0 by.1 in
+        inr (f.0, f.1, f.2, subst (λ ls. Contains ls a) (logged-same f.0 f.1 f.2) (subst (λ m. Contains (logged_in p (first_machine p) m log) a) (sym f.3) by.2)))
+        (log-logged p ends.ideal log part (mutators_after p log) ends.epoch new gives.base unlog-same (stops-so ends.ideal ends.epoch.represents) a is)
+
+    pub ends-epoch : EndsEpoch rules p seats new (map (λ (seat : MutatorSeat). mutator_of (local_of seat)) seats)
+    ends-epoch =
+        let counted = log-counted p ends.ideal log ends.epoch in
+        let saw = log-seen p ends.ideal log ends.epoch in
+        record {
+          history = part;
+          longest = longest-seen;
+          prefixes = λ k seat at. (later k seat at, grown k seat at);
+          calls = calls-same;
+          stopped = λ i represents. subst (Stopped rules (numbers_of p.mutators) p.before i part new) mutators-same (stops-so i represents);
+          size = gives.blocks;
+          logged = seats-logged;
+          budget = budget;
+          budget_word = front 1 (omega arith);
+          most = budget-most;
+          drawn = λ k t seat at has. counted.drawn (number_of seat) t (ap (λ (l : Local). l.ticket) (sym (local-same k seat at)) ∙ has);
+          counted = tickets-counted ∙ ap (λ n. n + smaller budget (allowance p)) (sym free-same);
+          seen = λ k block seat at has free.
+              let among : Contains (local_after_log p log (number_of seat)).blocks has.loaded = subst (λ (l : Local). Contains l.blocks has.loaded) (local-same k seat at) has.among in
+              (saw.blocks (number_of seat) has.loaded among).1.used has.used (subst (λ b. HasKind s b kinds.Free) (sym has.here) (sym (kind-same block kinds.Free) ∙ free));
+          stop = word_at s 0;
+          stop_word = front 0 (omega arith);
+          stops = λ k seat at some. sym (saw.polled (number_of seat) (subst (λ (l : Local). 0 < l.stop) (local-same k seat at) some) ∙ ap (λ (l : Local). l.stop) (sym (local-same k seat at)));
+          raised = λ some. ⊎_elim
+              (λ none. absurd (let e : word_at s 0 ≡ 0 = none in omega arith))
+              (λ r. let f = found (word_at s 0) r.0 in (f.0, f.1, f.2, f.3, ap (λ (l : Local). l.raised) (state-found (word_at s 0) r.0) ∙ r.1))
+              saw.stop;
+        }

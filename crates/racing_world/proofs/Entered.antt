@@ -1,5 +1,6 @@
 -- The entries that a step makes, as the seat sees them.
 use Rattle.std.proofs.Common.{◌≡◌, ◌≢◌, ℕ, ◌<◌, eq-eqb, List, [], ◌∷◌, ◌++◌, refl, ap, sym, ◌∙◌, subst}
+use Rattle.std.proofs.lemmas.List.{append-nil}
 use Rattle.std.specs.Prelude.{Option, Some, Bool, true, false, if◌then◌else◌, MatchBool, nat_eq, slice_index, slice_set, ◌||◌}
 use Rattle.std.proofs.lemmas.Bool.{cond-true, cond-false, ne_eqb}
 use Rattle.ideal_heap.specs.declared.reply.Reply.TheVariants as r
@@ -22,32 +23,48 @@ use Rattle.mutator_core.specs.Logs.{machine_after, heap_after}
 use Rattle.mutator_core.proofs.Moments.{same-words}
 use Rattle.mutator_rule.specs.declared.views.MutatorView.{MutatorView}
 use Rattle.mutator_rule.specs.Views.{epoch_with}
-use Rattle.mutator_rule.specs.Logs.{MakesStep, entry_for}
+use Rattle.mutator_rule.specs.declared.views.EpochStart.{EpochStart}
+use Rattle.mutator_rule.specs.Logs.{MakesStep, KnowsLog, entry_for}
 use Rattle.mutator_rule.proofs.Pushes.{after-push}
 use Rattle.mutator_rule.proofs.StepsSeen.{step-reply, step-entries}
 use Rattle.racing_world.specs.declared.racing.Racing.{Racing}
-use Rattle.racing_world.specs.RacingSeats.{entries_in, view, local, address, epoch_of_racing, heap_seen, HasName, Makes, DoesEffect}
+use Rattle.racing_world.specs.Logged.{logged_by}
+use Rattle.racing_world.proofs.Logged.{step-logged, flags-kept}
+use Rattle.racing_world.specs.RacingSeats.{entries_in, view, local, holdings, logged_at, address, epoch_of_racing, heap_seen, HasName, Makes, DoesEffect}
 use Rattle.racing_world.specs.SeatLaws.{or-false}
 
-module _ {P : Type 0} (rules : Rules) (a b : Racing P) (x : Event) (n : ℕ) (seat : b.seat.ghost_name ≡ a.seat.ghost_name) (row : b.row ≡ a.row) (st : MakesStep rules (view a) x n (view b)) where
+module _ {P : Type 0} (rules : Rules) (a b : Racing P) (x : Event) (n : ℕ) (seat : b.seat.ghost_name ≡ a.seat.ghost_name) (row : b.row ≡ a.row) (flags : b.seat.now.flags ≡ a.seat.now.flags) (clears : logged_by (local a) x ≡ []) (st : MakesStep rules (view a) x n (view b)) where
   -- the reply of the step's entry, if it makes one
   abbrev pub reply : Reply
   reply = step-reply rules (view a) (view b) x n st
 
+  -- it logs nothing
+  pub logged-same : logged_at rules b.seat.now ≡ logged_at rules a.seat.now
+  logged-same = step-logged rules (view a) (view b) x n st ∙ ap (λ ls. logged_at rules a.seat.now ++ ls) clears ∙ append-nil (logged_at rules a.seat.now)
+
   pub step-makes : (0 < (local a).stop → (local b).stop ≡ (local a).stop) → Makes rules a (entries_with (local a).number (entry_of x) reply) b
-  step-makes stop = record { seat = seat; row = row; goes = step-entries rules (view a) (view b) x n st; stop = stop }
+  step-makes stop = record {
+    seat = seat;
+    row = row;
+    goes = step-entries rules (view a) (view b) x n st;
+    stop = stop;
+    flags = flags-kept rules a.seat.now b.seat.now st.start flags logged-same;
+    told = λ is. subst (λ (h : EpochStart). KnowsLog (epoch_with rules h) (view b)) (sym st.start) st.told;
+  }
 
   -- what an event leaves of the mutator's own state
   pub kept : {A : Type 0} (f : Local → A) → f (local_after (epoch_of_racing rules a) (local a) x n) ≡ f (local a) → f (local b) ≡ f (local a)
   kept f same = ap f st.local ∙ same
 
   -- a step of a command that tries to raise no stop
-  pub step-does : (effect : Effect) → entries_with (local a).number (entry_of x) reply ≡ entries_in (local a).number effect → effect.raised ≡ false
+  pub step-does : (effect : Effect) → entries_with (local a).number (entry_of x) reply ≡ entries_in (local a).number effect → effect.raised ≡ false → effect.logged ≡ []
       → (local_after (epoch_of_racing rules a) (local a) x n).stop ≡ (local a).stop → (local_after (epoch_of_racing rules a) (local a) x n).raised ≡ (local a).raised
-      → DoesEffect rules a effect b
-  step-does effect told quiet stop raised = record {
+      → holdings (local_after (epoch_of_racing rules a) (local a) x n) ≡ holdings (local a) → DoesEffect rules a effect b
+  step-does effect told quiet none stop raised holds = record {
     makes = subst (λ es. Makes rules a es b) told (step-makes (λ some. kept (λ l. l.stop) stop));
+    logged = logged-same ∙ sym (append-nil (logged_at rules a.seat.now)) ∙ ap (λ ls. logged_at rules a.seat.now ++ ls) (sym none);
     raised = kept (λ l. l.raised) raised ∙ sym (or-false (local a).raised) ∙ ap (λ v. (local a).raised || v) (sym quiet);
+    kept = kept holdings holds;
   }
 
 -- the attempt to raise a stop
@@ -55,14 +72,16 @@ pub or-true : (b : Bool) → (b || true) ≡ true
 or-true true = refl
 or-true false = refl
 
-pub raise-does : {P : Type 0} (rules : Rules) (a b : Racing P) (n : ℕ) → b.seat.ghost_name ≡ a.seat.ghost_name → b.row ≡ a.row → MakesStep rules (view a) e.Raise n (view b) → DoesEffect rules a raises b
-raise-does rules a b n seat row st = record {
-  makes = step-makes rules a b e.Raise n seat row st (λ some. kept rules a b e.Raise n seat row st (λ l. l.stop) refl);
+pub raise-does : {P : Type 0} (rules : Rules) (a b : Racing P) (n : ℕ) → b.seat.ghost_name ≡ a.seat.ghost_name → b.row ≡ a.row → b.seat.now.flags ≡ a.seat.now.flags → MakesStep rules (view a) e.Raise n (view b) → DoesEffect rules a raises b
+raise-does rules a b n seat row flags st = record {
+  makes = step-makes rules a b e.Raise n seat row flags refl st (λ some. kept rules a b e.Raise n seat row flags refl st (λ l. l.stop) refl);
+  logged = logged-same rules a b e.Raise n seat row flags refl st ∙ sym (append-nil (logged_at rules a.seat.now));
   raised = ap (λ (l : Local). l.raised) st.local ∙ sym (or-true (local a).raised);
+  kept = ap holdings st.local;
 }
 
 -- commands that have no effect
-module _ {P : Type 0} (rules : Rules) (a b : Racing P) (command : Command) (n : ℕ) (seat : b.seat.ghost_name ≡ a.seat.ghost_name) (row : b.row ≡ a.row) (st : MakesStep rules (view a) (e.Miss command) n (view b)) where
+module _ {P : Type 0} (rules : Rules) (a b : Racing P) (command : Command) (n : ℕ) (seat : b.seat.ghost_name ≡ a.seat.ghost_name) (row : b.row ≡ a.row) (flags : b.seat.now.flags ≡ a.seat.now.flags) (st : MakesStep rules (view a) (e.Miss command) n (view b)) where
   abbrev at : ℕ
   at = address_in (local a) (source command)
 
@@ -70,12 +89,12 @@ module _ {P : Type 0} (rules : Rules) (a b : Racing P) (command : Command) (n : 
   held = ap (λ (rs : List ℕ). slice_index rs (source command)) a.seat.now.held
 
   pub null-does : address a (source command) ≡ 0 → DoesEffect rules a (enters command r.Null) b
-  null-does nil = step-does rules a b (e.Miss command) n seat row st (enters command r.Null)
-      (ap (λ (y : Reply). entry (local a).number command y ∷ []) (cond-true (nat_eq at 0) r.Null r.Range (eq-eqb at 0 (held ∙ nil)))) refl refl refl
+  null-does nil = step-does rules a b (e.Miss command) n seat row flags refl st (enters command r.Null)
+      (ap (λ (y : Reply). entry (local a).number command y ∷ []) (cond-true (nat_eq at 0) r.Null r.Range (eq-eqb at 0 (held ∙ nil)))) refl refl refl refl refl
 
   pub range-does : address a (source command) ≢ 0 → DoesEffect rules a (enters command r.Range) b
-  range-does some = step-does rules a b (e.Miss command) n seat row st (enters command r.Range)
-      (ap (λ (y : Reply). entry (local a).number command y ∷ []) (cond-false (nat_eq at 0) r.Null r.Range (ne_eqb at 0 (λ zero. some (sym held ∙ zero))))) refl refl refl
+  range-does some = step-does rules a b (e.Miss command) n seat row flags refl st (enters command r.Range)
+      (ap (λ (y : Reply). entry (local a).number command y ∷ []) (cond-false (nat_eq at 0) r.Null r.Range (ne_eqb at 0 (λ zero. some (sym held ∙ zero))))) refl refl refl refl refl
 
 -- a load leaves the heap
 load-same : (rules : Rules) (a b : MutatorView) (x : Event) (n : ℕ) (st : MakesStep rules a x n b) → stored (epoch_with rules a.start) a.local x ≡ (λ k. k)
@@ -102,14 +121,14 @@ found-reply s t n same = go (nat_eq n 0)
 pub found-does : {P : Type 0} (rules : Rules) (a b : Racing P) (x : Event) (command : Command) (n d : ℕ) → entry_of x ≡ Some command
     → answer (epoch_of_racing rules a) (local a) x n ≡ Reference n → stored (epoch_of_racing rules a) (local a) x ≡ (λ k. k)
     → (local_after (epoch_of_racing rules a) (local a) x n).stop ≡ (local a).stop → (local_after (epoch_of_racing rules a) (local a) x n).raised ≡ (local a).raised
-    → b.seat.ghost_name ≡ a.seat.ghost_name → b.row ≡ a.row → MakesStep rules (view a) x n (view b) → address b d ≡ n
+    → holdings (local_after (epoch_of_racing rules a) (local a) x n) ≡ holdings (local a) → b.seat.ghost_name ≡ a.seat.ghost_name → b.row ≡ a.row → b.seat.now.flags ≡ a.seat.now.flags → logged_by (local a) x ≡ [] → MakesStep rules (view a) x n (view b) → address b d ≡ n
     → (y : Reply) × DoesEffect rules a (enters command y) b × IsFound (HasName rules b) (address b d) y
-found-does rules a b x command n d is told id stop raised seat row st at =
+found-does rules a b x command n d is told id stop raised holds seat row flags clears st at =
     let s : HeapState = heap_after (epoch_of_racing rules a) ((view a).seen ++ st.between) in
     let y : Reply = reply_in s (Reference n) in (
       y,
-      step-does rules a b x n seat row st (enters command y)
-          (ap (λ (o : Option Command). entries_with (local a).number o (reply rules a b x n seat row st)) is ∙ ap (λ (v : Answer). entry (local a).number command (reply_in s v) ∷ []) told)
-          refl stop raised,
+      step-does rules a b x n seat row flags clears st (enters command y)
+          (ap (λ (o : Option Command). entries_with (local a).number o (reply rules a b x n seat row flags clears st)) is ∙ ap (λ (v : Answer). entry (local a).number command (reply_in s v) ∷ []) told)
+          refl refl stop raised holds,
       subst (λ v. IsFound (HasName rules b) v y) (sym at) (found-reply s (heap_seen rules b) n (load-same rules (view a) (view b) x n st id)),
     )

@@ -1,10 +1,15 @@
+pub mod Logged
 pub mod Entered
 pub mod Looking
 pub mod Pinned
 pub mod CallsSeen
+pub mod GivenBack
+pub mod BlockCodes
+pub mod Allocated
 pub mod Closed
 pub mod Barrier
 pub mod YoungPlans
 pub mod Begun
 pub mod WorldEnds
 pub mod WorldLaws
+pub mod Cleared

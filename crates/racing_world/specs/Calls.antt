@@ -1,5 +1,5 @@
 -- What the calls of a world promise.
-use Rattle.std.specs.Prelude.{◌≡◌, ℕ, ◌<◌, Bool, false, None, List, [], ◌∷◌, ◌++◌}
+use Rattle.std.specs.Prelude.{◌≡◌, ℕ, ◌<◌, Bool, true, false, Some, None, slice_get, List, [], ◌∷◌, ◌++◌}
 use Rattle.ideal_heap.specs.Ideal.{IdealHeap}
 use Rattle.ideal_heap.specs.Runs.{Entry, entry, IsRun}
 use Rattle.ideal_heap.specs.declared.command.Command.{Command}
@@ -12,7 +12,7 @@ use Rattle.mutator_rule.specs.Views.{epoch_with, entries_by}
 use Rattle.mutator_rule.specs.Logs.{history_seen, own_entries}
 use Rattle.mutator_rule.specs.Seats.{known, local_of, start_of}
 use Rattle.racing_world.specs.declared.world.World.{World}
-use Rattle.racing_world.specs.RacingSeats.{MayCall}
+use Rattle.racing_world.specs.RacingSeats.{MayCall, holdings}
 
 -- the history that the seat has seen: entries of all mutators
 abbrev pub history_at : Rules → MutatorSeat → List Entry
@@ -32,8 +32,8 @@ stop_seen seat = (local_of seat).stop
 abbrev pub has_raised : MutatorSeat → Bool
 has_raised seat = (local_of seat).raised
 
--- The seat as its epoch begins: it has seen no step of anyone, so it has no call, ticket or stop, and
--- tried to raise none.
+-- The seat as its epoch begins: it has seen no step of anyone, so it has no call, ticket or stop,
+-- tried to raise none, and has no flag set.
 pub record IsFresh (rules : Rules) (seat : MutatorSeat) : Type 0 where
   pub steps : (known seat).seen ≡ []
   pub history : history_at rules seat ≡ []
@@ -41,6 +41,7 @@ pub record IsFresh (rules : Rules) (seat : MutatorSeat) : Type 0 where
   pub stop : stop_seen seat ≡ 0
   pub raised : has_raised seat ≡ false
   pub ticket : (local_of seat).ticket ≡ None
+  pub flags : (k : ℕ) → slice_get seat.flags.items k ≡ Some true → ⊥
 
 module _ {P : Type 0} where
   -- the epoch of the world: its plan's rules, and heap and mutators as it began
@@ -61,7 +62,7 @@ module _ {P : Type 0} where
 
   -- A call of the seat entered the command with this reply, once: others made the entries before it
   -- and after it that the seat has seen since.
-  pub record EntersCommand (rules : Rules) (w : World P) (old : MutatorSeat) (command : Command)
+  pub record EntersOnce (rules : Rules) (w : World P) (old : MutatorSeat) (command : Command)
       (reply : Reply) (new : MutatorSeat) : Type 0 where
     pub before : List Entry
     pub after : List Entry
@@ -71,6 +72,11 @@ module _ {P : Type 0} where
     pub calls : calls_of rules new
         ≡ calls_of rules old ++ entry (number_of old) command reply ∷ []
     pub raised : has_raised new ≡ has_raised old
+
+  -- The same of a command that allocates nothing.
+  abbrev pub EntersCommand : Rules → World P → MutatorSeat → Command → Reply → MutatorSeat → Type 0
+  EntersCommand rules w old command reply new = EntersOnce rules w old command reply new
+      × (holdings (local_of new) ≡ holdings (local_of old))
 
   -- A call of the seat entered nothing: others made what it has seen since.
   pub record EntersNothing (rules : Rules) (w : World P) (old new : MutatorSeat) : Type 0 where

@@ -1,5 +1,6 @@
 -- The end of a world.
-use Rattle.std.specs.Prelude.{◌≡◌, ℕ, ◌+◌, ◌<◌, ◌≤◌, true, Some, List, length, sum_by}
+use Rattle.std.specs.Prelude.{◌≡◌, ℕ, ◌+◌, ◌<◌, ◌≤◌, ◌⊎◌, true, IsTrue, Some, List, length, sum_by}
+use Rattle.std.specs.List.{Contains}
 use mathlib.Core.List.{IsPrefix}
 use mathlib.Core.Option.{some}
 use lib.ListN.{get_elem?}
@@ -11,6 +12,7 @@ use Rattle.object_model.specs.Objects.{HeapState, HasKind, word_at}
 use Rattle.object_model.specs.Graphs.{MutatorState, Represents, numbers_of}
 use Rattle.sessions.specs.Fitting.{free_of}
 use Rattle.sessions.specs.Plans.{Rules}
+use Rattle.sessions.specs.Collecting.{is_logged_under}
 use Rattle.sessions.specs.Sessions.{Stopped}
 use Rattle.mutator_core.specs.Machine.{Epoch, mutator_of}
 use Rattle.mutator_core.specs.Guards.{allowance}
@@ -19,6 +21,7 @@ use Rattle.mutator_core.specs.Tickets.{smaller, tickets_below}
 use Rattle.mutator_rule.specs.declared.seat.MutatorSeat.{MutatorSeat}
 use Rattle.mutator_rule.specs.Views.{entries_by}
 use Rattle.mutator_rule.specs.Seats.{local_of}
+use Rattle.racing_world.specs.RacingSeats.{logged_at}
 use Rattle.racing_world.specs.Calls.{history_at, calls_of, number_of, stop_seen, has_raised}
 
 -- the mutator of a seat, as it stands
@@ -44,6 +47,11 @@ pub record EndsEpoch (rules : Rules) (p : Epoch) (seats : List MutatorSeat) (new
   -- the heap is a stopped heap for every ideal heap that the epoch began with
   pub stopped : (i : IdealHeap) → Represents p.before p.mutators i
       → Stopped rules (numbers_of p.mutators) p.before i history new ms
+  pub size : new.blocks ≡ p.before.blocks
+  -- an object that is logged was so as the epoch began, or a seat logged it
+  pub logged : (a : ℕ) → IsTrue (is_logged_under rules new a)
+      → IsTrue (is_logged_under rules p.before a)
+      ⊎ ((k : ℕ) × (seat : MutatorSeat) × IsSeatAt seats k seat × Contains (logged_at rules seat) a)
   -- Each unused ticket of a seat is below the budget word, which is at most the allowance and the
   -- number of mutators together. The blocks that were Free and are no
   -- more, and the unused tickets, are as many as the smaller of budget word and allowance.
@@ -58,7 +66,8 @@ pub record EndsEpoch (rules : Rules) (p : Epoch) (seats : List MutatorSeat) (new
   -- a block that a seat saw as not Free is not Free
   pub seen : (k block : ℕ) (seat : MutatorSeat) → IsSeatAt seats k seat
       → HasSeenUsed (local_of seat) block → HasKind new block kinds.Free → ⊥
-  -- all stops that seats have seen are the one in the stop word, which the seat of its mutator raised
+  -- all stops that seats have seen are the one in the stop word, which the seat of its mutator
+  -- raised
   pub stop : ℕ
   pub stop_word : word_at new STOP_WORD ≡ stop
   pub stops : (k : ℕ) (seat : MutatorSeat) → IsSeatAt seats k seat → 0 < stop_seen seat

@@ -1,11 +1,13 @@
-//! The calls of the mutators of a world. None waits, so no lock can be in one, and none takes memory.
+//! The calls of the mutators of a world. None waits, so no lock can be in one; none takes memory.
 
 ghost use Rattle.std.specs.Prelude.{◌≡◌, ◌<◌, ℕ, true};
 ghost use Rattle.std.specs.List.{Contains};
 ghost use Rattle.ideal_heap.specs.declared.command.Command.TheVariants as command;
 ghost use Rattle.object_model.specs.Graphs.{numbers_of};
 ghost use Rattle.mutator_calls.specs.Stopping.{stop_of};
-ghost use Rattle.racing_world.specs.RacingSeats.{MayCall};
+ghost use Rattle.mutator_rule.specs.Seats.{local_of};
+ghost use Rattle.racing_world.specs.RacingSeats.{MayCall, holdings};
+ghost use Rattle.racing_world.specs.Barriers.{LogsWhereNeeded};
 ghost use Rattle.racing_world.specs.Calls.{EntersCommand, EntersNothing, epoch_of_world, number_of, stop_seen, has_raised};
 
 use crate::racing::Racing;
@@ -23,6 +25,7 @@ impl<P: Plan> World<P> {
         requires { MayCall P.rules self.now.row seat.old }
         ensures nothing { EntersNothing P.rules self.now seat.old seat.new }
         ensures kept { has_raised seat.new ≡ has_raised seat.old }
+        ensures holds { holdings (local_of seat.new) ≡ holdings (local_of seat.old) }
         ensures stop { stop_seen seat.new ≡ stop_of result }
         ensures mutator { (m : ℕ) → result ≡ Polled.Raised m
             → Contains (numbers_of (epoch_of_world P.rules self.now).mutators) m }
@@ -39,6 +42,7 @@ impl<P: Plan> World<P> {
     pub fn raise(&self, seat: &mut MutatorSeat)
         requires { MayCall P.rules self.now.row seat.old }
         ensures nothing { EntersNothing P.rules self.now seat.old seat.new }
+        ensures holds { holdings (local_of seat.new) ≡ holdings (local_of seat.old) }
         ensures raised { has_raised seat.new ≡ true }
     {
         calls::raise(&mut Racing {
@@ -67,7 +71,9 @@ impl<P: Plan> World<P> {
         requires call { MayCall P.rules self.now.row seat.old }
         requires target { s < REGISTERS }
         requires source { v < REGISTERS }
-        ensures { EntersCommand P.rules self.now seat.old (command.Put s i v) result seat.new }
+        ensures enters { EntersCommand P.rules self.now seat.old (command.Put s i v) result
+            seat.new }
+        ensures logs { LogsWhereNeeded P.rules seat.old s result seat.new }
     {
         let mut racing = Racing {
             row: &self.row,
@@ -119,7 +125,8 @@ impl<P: Plan> World<P> {
     pub fn swap(&self, seat: &mut MutatorSeat, s: u32, j: u32, was: u64, next: u64) -> Reply
         requires call { MayCall P.rules self.now.row seat.old }
         requires register { s < REGISTERS }
-        ensures { EntersCommand P.rules self.now seat.old (command.Swap s j was next) result seat.new }
+        ensures { EntersCommand P.rules self.now seat.old (command.Swap s j was next) result
+            seat.new }
     {
         let mut racing = Racing {
             row: &self.row,

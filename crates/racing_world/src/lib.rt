@@ -1,8 +1,11 @@
 //! A heap that mutators on threads share: each call is one body of `mutator_calls` over a seat.
 #![tactic(auto)]
 
+mod births;
 mod calls;
+mod giving_back;
 mod laws;
+mod new_objects;
 mod plan_rules;
 mod racing;
 mod world;

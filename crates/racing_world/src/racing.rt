@@ -10,7 +10,7 @@ ghost use Rattle.racing_world.specs.SeatLaws.{loads-nothing, loads-twice, does-b
 
 use crate::plan_rules::PlanRules;
 use bitflags::Flags;
-use heap_layout::STOP_WORD;
+use heap_layout::{STOP_WORD, block_of};
 use ideal_heap::{Command, Name, REGISTERS};
 use mutator_calls::MutatorSteps;
 use mutator_core::Event;
@@ -20,7 +20,7 @@ use plan_api::{Plan, PlanFlags};
 use side_meta::BITS_PER_WORD;
 
 // What the birth number of a name is multiplied by in the name's word.
-const BIRTH_UNIT: u64 = 32;
+pub(crate) const BIRTH_UNIT: u64 = 32;
 
 /// A mutator's seat, with the row that it is at.
 #[derive(Drop)]
@@ -42,7 +42,7 @@ impl<P: Plan> Racing<'_, '_, P> {
     /// The index of the word with the bit of an address, in a zone that has a bit for each word of
     /// the heap, and the position of the bit in the word.
     #[inline(always)]
-    fn bit_at(&self, zone: u32, address: u32) -> (usize, u32)
+    pub(crate) fn bit_at(&self, zone: u32, address: u32) -> (usize, u32)
         requires { heap_of self.now.row.now.layout.blocks ≤ address }
         ensures word { result.0
             ≡ zone + (address - heap_of self.now.row.now.layout.blocks) / BITS_PER_WORD }
@@ -91,7 +91,7 @@ impl<P: Plan> Racing<'_, '_, P> {
 
 /// The word with one bit set.
 #[inline(always)]
-fn one_bit(bit: u32) -> u64
+pub(crate) fn one_bit(bit: u32) -> u64
     requires { bit < BITS_PER_WORD }
     ensures { result ≡ 2 ^ bit }
 {
@@ -249,6 +249,7 @@ impl<P: Plan> MutatorSteps for Racing<'_, '_, P> {
     }
 
     fn log_and_store_field(&mut self, s: u32, i: u32, v: u32, _shape: &Shape) {
+        let block = block_of(&self.row.layout(), self.register(s));
         let (at, bit) = self.unlog_bit(s);
         self.row
             .clear(self.seat, at, all_but(bit), &Event::ClearUnlog(s as u64));
@@ -256,6 +257,7 @@ impl<P: Plan> MutatorSteps for Racing<'_, '_, P> {
         let value = self.register(v) as u64;
         let event = Event::Perform(Command::Put { s, i, v });
         self.row.put(self.seat, at, value, &event);
+        self.seat.set_flag(block as usize);
     }
 
     fn load_number(&mut self, s: u32, j: u32, shape: &Shape) -> u64 {

@@ -1,16 +1,20 @@
 //! A heap that mutators on threads share, from the beginning of an epoch to its end.
 
-ghost use Rattle.std.specs.Prelude.{◌≡◌, ◌<◌, ◌≤◌, length, map, All, IfOk};
+ghost use Rattle.std.specs.Prelude.{◌≡◌, ◌<◌, ◌≤◌, ℕ, Bool, List, Some, true, length, map, slice_get, All, IfOk};
 ghost use Rattle.object_model.specs.Heaps.{heap_state};
 ghost use Rattle.ideal_heap.specs.Ideal.{IdealHeap};
 ghost use Rattle.object_model.specs.Graphs.{Represents, numbers_of};
 ghost use Rattle.sessions.specs.Collecting.{Remembers};
+ghost use Rattle.sessions.specs.Fitting.{allowance_of};
+ghost use Rattle.mutator_core.specs.Guards.{allowance};
+ghost use Rattle.block_regions.specs.Notes.{FlagsCover};
 ghost use Rattle.heap_users.specs.Users.{mutator_state};
 ghost use Rattle.heap_users.specs.Beginnings.{MayUse, epoch_of};
 ghost use Rattle.racing_world.specs.RacingSeats.{MayCall};
 ghost use Rattle.racing_world.specs.Calls.{epoch_of_world, number_of, IsFresh};
-ghost use Rattle.racing_world.specs.Closing.{EndsEpoch, mutator_at};
+ghost use Rattle.racing_world.specs.Closing.{EndsEpoch, IsSeatAt, mutator_at};
 
+use crate::giving_back::give_back;
 use crate::plan_rules::PlanRules;
 use heap_layout::{BUDGET_WORD, STOP_WORD};
 use ideal_heap::MAX_MUTATORS;
@@ -37,6 +41,34 @@ fn mutators_of(alloc: Global, seats: &Vec<MutatorSeat>) -> Result<Vec<Mutator>, 
     Ok(mutators)
 }
 
+/// Sets each flag that is set in the other list, which is as long.
+fn add_flags(flags: &mut Vec<bool>, more: &Vec<bool>)
+    requires { length flags.old.items ≡ length more.now.items }
+    ensures len { length flags.new.items ≡ length flags.old.items }
+    ensures kept { (k : ℕ) → slice_get flags.old.items k ≡ Some true
+        → slice_get flags.new.items k ≡ Some true }
+    ensures added { (k : ℕ) → slice_get more.now.items k ≡ Some true
+        → slice_get flags.new.items k ≡ Some true }
+{
+    for k in 0..flags.len() {
+        flags[k] = flags[k] | more[k];
+    }
+}
+
+/// Sets each flag that a seat has set.
+fn join_flags(flags: &mut Vec<bool>, seats: &Vec<MutatorSeat>)
+    requires { All (λ seat. length flags.old.items ≡ length seat.flags.items) seats.now.items }
+    ensures len { length flags.new.items ≡ length flags.old.items }
+    ensures kept { (k : ℕ) → slice_get flags.old.items k ≡ Some true
+        → slice_get flags.new.items k ≡ Some true }
+    ensures joined { (j k : ℕ) (seat : MutatorSeat) → IsSeatAt seats.now.items j seat
+        → slice_get seat.flags.items k ≡ Some true → slice_get flags.new.items k ≡ Some true }
+{
+    for j in 0..seats.len() {
+        add_flags(flags, seats[j].flags());
+    }
+}
+
 impl<P: Plan> World<P> {
     /// Begins an epoch: no stop is raised, no ticket is drawn, and no block has an owner. Each
     /// mutator gets a seat, in the order of the list. Copies no word of the heap.
@@ -53,6 +85,8 @@ impl<P: Plan> World<P> {
         requires remembers { Remembers P.rules (heap_state heap) }
         ensures epoch { IfOk result (λ r. epoch_of_world P.rules r.0
             ≡ epoch_of P.rules (heap_state heap) (map mutator_state mutators.items)) }
+        ensures allowance { IfOk result (λ r. allowance (epoch_of_world P.rules r.0)
+            ≡ allowance_of P.rules.reserve (heap_state heap)) }
         ensures seats { IfOk result (λ r. All (MayCall P.rules r.0.row) r.1.items) }
         ensures numbers { IfOk result (λ r. map number_of r.1.items
             ≡ numbers_of (map mutator_state mutators.items)) }
@@ -63,6 +97,9 @@ impl<P: Plan> World<P> {
             → Represents (heap_state heap) (map mutator_state mutators.items) i
             → Represents (epoch_of_world P.rules r.0).before
             (epoch_of_world P.rules r.0).mutators i) }
+        ensures covers { IfOk result (λ r. (flags : List Bool)
+            → FlagsCover P.rules (heap_state heap) flags
+            → FlagsCover P.rules (epoch_of_world P.rules r.0).before flags) }
     {
         let mut row = heap.into_row();
         row.words.set(STOP_WORD, 0);
@@ -77,7 +114,8 @@ impl<P: Plan> World<P> {
         Ok((World { row }, seats))
     }
 
-    /// Ends the epoch, given the seats of all mutators in the order of `begin`. Copies no word of
+    /// Ends the epoch, given the seats of all mutators in the order of `begin`: each block loses its
+    /// owner, and the line bits of an Immix block that had one are written anew. Copies no word of
     /// the heap.
     ///
     /// Fails if memory runs out. The heap is lost then.
@@ -99,12 +137,38 @@ impl<P: Plan> World<P> {
         let base = self.row.base();
         let World { row } = self;
         let words = row.close(seats);
-        let row = Row {
+        let mut row = Row {
             words,
             layout,
             number,
             base,
         };
+        give_back::<P>(&mut row);
         Ok((Heap::from_row(row), mutators))
+    }
+
+    /// Ends the epoch as `close` does. To the flags of the epoch's beginning, one for each block,
+    /// it adds those of all seats: a block whose flag is not set has no logged object.
+    ///
+    /// Fails if memory runs out. The heap is lost then.
+    pub fn close_with(
+        self,
+        alloc: Global,
+        seats: Vec<MutatorSeat>,
+        flags: Vec<bool>,
+    ) -> Result<(Heap, Vec<Mutator>, Vec<bool>), AllocError>
+        requires some { 0 < length seats.items }
+        requires calls { All (MayCall P.rules self.row) seats.items }
+        requires all { map number_of seats.items
+            ≡ numbers_of (epoch_of_world P.rules self).mutators }
+        requires flags { FlagsCover P.rules (epoch_of_world P.rules self).before flags.items }
+        ensures ends { IfOk result (λ r. EndsEpoch P.rules (epoch_of_world P.rules self)
+            seats.items (heap_state r.0) (map mutator_state r.1.items)) }
+        ensures flags { IfOk result (λ r. FlagsCover P.rules (heap_state r.0) r.2.items) }
+    {
+        let mut flags = flags;
+        join_flags(&mut flags, &seats);
+        let (heap, mutators) = self.close(alloc, seats)?;
+        Ok((heap, mutators, flags))
     }
 }

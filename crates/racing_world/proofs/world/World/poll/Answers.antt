@@ -2,6 +2,8 @@ use Rattle.std.proofs.Common.{◌≡◌, refl, ap, sym, ◌∙◌, subst, rules}
 use Rattle.mutator_calls.specs.Stopping.{stop_of}
 use Rattle.mutator_rule.specs.declared.seat.MutatorSeat.{MutatorSeat}
 use Rattle.racing_world.specs.Calls.{EntersNothing, has_raised, stop_seen}
+use Rattle.mutator_rule.specs.Seats.{local_of}
+use Rattle.racing_world.specs.RacingSeats.{holdings}
 use Rattle.racing_world.proofs.CallsSeen.{enters-nothing, raised-known, raised-own}
 use Rattle.racing_world.proofs.world.World.poll.Goals as goal
 
@@ -10,7 +12,7 @@ returns-clause-nothing g c =
     let name = c.poll.ensures.looks.makes.seat in
     let same : c.poll.new.seat.seat.now ≡ c.seat-1.given.0 = search rules in
     subst (λ (seat : MutatorSeat). EntersNothing g.P.Plan.rules c.args.self.now c.args.seat.now seat) same
-    (enters-nothing g.P.Plan.rules c.args.self.now _ _ refl c.poll.ensures.ready c.poll.ensures.looks.makes)
+    (enters-nothing g.P.Plan.rules c.args.self.now _ _ refl c.poll.ensures.ready c.requires.1 c.requires.2 c.poll.ensures.looks.makes c.poll.ensures.looks.kept)
 
 pub returns-clause-kept : goal.returns-clause-kept
 returns-clause-kept g c =
@@ -30,3 +32,9 @@ returns-clause-mutator g c m is = raised-known g.P.Plan.rules c.args.self.now c.
 pub returns-clause-caller : goal.returns-clause-caller
 returns-clause-caller g c m is own = sym c.poll.ensures.looks.raised
     ∙ raised-own g.P.Plan.rules c.args.self.now c.poll.new.seat (ap (λ r. r.now) c.poll.ensures.looks.makes.row) c.poll.ensures.ready m (c.poll.ensures.stop ∙ ap stop_of is) (c.poll.ensures.raised m is) (own ∙ sym c.poll.ensures.looks.makes.goes.number)
+
+pub returns-clause-holds : goal.returns-clause-holds
+returns-clause-holds g c =
+    let name = c.poll.ensures.looks.makes.seat in
+    let same : c.poll.new.seat.seat.now ≡ c.seat-1.given.0 = search rules in
+    subst (λ (seat : MutatorSeat). holdings (local_of seat) ≡ holdings (local_of c.args.seat.now)) same c.poll.ensures.looks.kept
