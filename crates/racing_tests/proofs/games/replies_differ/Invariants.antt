@@ -1,0 +1,8 @@
+use Rattle.std.specs.Prelude.{◌≡◌}
+use Rattle.racing_world.specs.RacingSeats.{MayCall}
+use Rattle.racing_world.specs.Calls.{number_of}
+use Rattle.racing_tests.proofs.games.replies_differ.Given as goal
+
+abbrev pub invariant-loop-k : goal.invariant-loop-k
+invariant-loop-k g l = MayCall g.P.Plan.rules l.world.row l.seat
+    × (number_of l.seat ≡ number_of l.initial.seat)

@@ -1,0 +1,17 @@
+//! Tests of worlds that mutators share.
+#![tactic(auto)]
+
+#[cfg(test)]
+mod births;
+#[cfg(test)]
+mod games;
+#[cfg(test)]
+mod ideal;
+#[cfg(test)]
+mod orders;
+#[cfg(test)]
+mod races;
+#[cfg(test)]
+mod twins;
+#[cfg(test)]
+mod worlds;
