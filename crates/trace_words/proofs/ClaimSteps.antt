@@ -29,7 +29,7 @@ use Rattle.trace_core.proofs.Finished.{option-cases}
 use Rattle.trace_words.specs.declared.share.Share.{Share}
 use Rattle.trace_words.specs.Shares.{view_of, pooled, learns, claims_here}
 use Rattle.trace_words.specs.Rule.{TraceState, SeatShare, KeepsTrace}
-use Rattle.trace_words.specs.Steps.{ShowsBit, ShowsClaim, MayClaim, SawNoneFree, ClaimsHere}
+use Rattle.trace_words.specs.Steps.{ShowsBit, ShowsClaim, MayClaim, SawNoneFree, LacksRoom, ClaimsHere}
 use Rattle.trace_words.proofs.Pooled.{Alike}
 use Rattle.trace_words.proofs.RuleSteps.{share-with, same-counts, word-is, asked-by, event-only, nothing-made, nothing-seen}
 
@@ -69,8 +69,8 @@ module _ (p : Setup) (s : TraceState) (h : KeepsTrace p s) (id : ℕ) (v : Share
   -- a load after which one more target is known
   pub target-learnt : (i n : ℕ) (cs : List (ℕ × Unit {0})) (x t : ℕ) → n ≡ slice_index s.words i → target (m.stage x) ≡ Some t → KeepsTrace p (stepped s i n id cs (learns x t v) keeps)
   target-learnt i n cs x t still is = nothing-made p s h id v at i n cs (learns x t v) (record (pooled s.views) { known = (x, t) ∷ (pooled s.views).known }) still
-      (holds-known p m (pooled s.views) h.holds x t is) (like-known x t (pooled s.views) (view_of v)) (same-counts v (record (view_of v) { known = (x, t) ∷ v.known })) refl refl
-      (share-with p m v (record (view_of v) { known = (x, t) ∷ v.known }) live refl refl (h.shares id v at))
+      (holds-known p m (pooled s.views) h.holds x t is) (like-known x t (pooled s.views) (view_of v)) (same-counts v (record (view_of v) { known = (x, t) ∷ v.known }) v.made) refl refl refl
+      (share-with p m v (record (view_of v) { known = (x, t) ∷ v.known }) v.made live refl refl (h.shares id v at))
 
   -- An exchange that failed met the claim of another seat.
   module _ (x : ℕ) (cause : ClaimCause) (old : ℕ) (may : MayClaim p v x cause old) (miss : slice_index s.words (x + 2) ≢ old) where
@@ -113,7 +113,7 @@ module _ (p : Setup) (s : TraceState) (h : KeepsTrace p s) (id : ℕ) (v : Share
 
 module _ (p : Setup) where
   -- the exchange of a collector word claims an object that stays, or shows its target
-  pub claim-here : (slots id : ℕ) (me : SeatShare) (x : ℕ) (cause : ClaimCause) (old : ℕ) → MayClaim p me.0 x cause old → (IsTrue (may_be_moved p x) → SawNoneFree p me.0)
+  pub claim-here : (slots id : ℕ) (me : SeatShare) (x : ℕ) (cause : ClaimCause) (old : ℕ) → MayClaim p me.0 x cause old → (IsTrue (may_be_moved p x) → LacksRoom p me.0 x)
       → Allows (KeepsTrace p) slots id me (x + 2) (λ n. either (n == old) (collector_word (collection p) x) n) (ClaimsHere p x cause old me)
   claim-here slots id me x cause old may stays s h _ at _ =
       let n : ℕ = slice_index s.words (x + 2) in
@@ -125,7 +125,7 @@ module _ (p : Setup) where
         tt,
         event-only p s h id me.0 at (x + 2) (collector_word (collection p) x) me.1 (claimed_view p x x cause (view_of me.0)) (Claim x x cause) (claimed_view p x x cause (pooled s.views))
             may.live refl refl
-            (may-stay p h.events x cause may.held free (asked-by p s h id me.0 at x cause may.asks) (λ moves. none-free p s h id me.0 at may.live (stays moves))) refl refl
+            (may-stay p h.events x cause may.held free (asked-by p s h id me.0 at x cause may.asks) (λ moves. none-free p s h id me.0 at may.live (stays moves).none)) refl refl
             (holds-claimed p (machine_after p h.events) (pooled s.views) h.holds x x cause (unclaimed-stage ((machine_after p h.events).stage x) free))
             (like-claimed p x x cause (pooled s.views) (view_of me.0))
             (cond-true (nat_eq x x) (machine_after p h.events).owner _ (eq-eqb x x refl)) refl,

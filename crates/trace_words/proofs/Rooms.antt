@@ -20,20 +20,20 @@ use Rattle.trace_core.specs.Rooms.{IsFilled}
 use Rattle.trace_core.specs.Views.{View, claimed_view, taken_view, hits, is_pair}
 use Rattle.trace_core.proofs.ClaimRights.{unclaimed-stage, holds-claimed}
 use Rattle.trace_core.proofs.Clauses.{untaken-word}
-use Rattle.trace_core.proofs.CountedRights.{times-cons, count-append, hits-from, pair-parts}
+use Rattle.trace_core.proofs.CountedRights.{times-cons, count-append, hits-here, hits-more, hits-from, pair-parts}
 use Rattle.trace_core.proofs.Idle.{one-if-from, one-if-true}
 use Rattle.trace_core.proofs.Law.{sound}
 use Rattle.trace_core.proofs.Puts.{put_here, put_else, all_here, all_else}
 use Rattle.trace_core.proofs.TakenBlocks.{free-was, unowned-block, holds-taken}
 use Rattle.trace_words.specs.declared.share.Share.{Share}
-use Rattle.trace_words.specs.Shares.{SameCounts, view_of, pooled, total, learns, claims_moved, sees_busy, takes_after_full, takes_at_any_time}
+use Rattle.trace_words.specs.Shares.{SameCounts, listed, view_of, pooled, total, learns, claims_moved, sees_busy, takes_after_full, takes_at_any_time}
 use Rattle.trace_words.specs.Rule.{TraceState, SeatShare, KeepsTrace, IsShareOf, IsEndOf, rooms_at, free_at}
 use Rattle.trace_words.specs.Steps.{MayClaim, FitsRoom, ClaimsMoved, ShowsBlock, TakesBlock, MayLeave}
 use Rattle.trace_words.proofs.Pooled.{total-set, part-of, Alike, like-itself}
 use Rattle.trace_words.proofs.RuleSteps.{grows-next, share-stays, word-is, asked-by, event-made, nothing-made, nothing-seen}
 use Rattle.trace_words.proofs.ClaimSteps.{like-claimed, target-learnt, lost-number, lost-target, was-unclaimed}
 
-one-most : (b : Bool) → one_if b ≤ 1
+pub one-most : (b : Bool) → one_if b ≤ 1
 one-most true = omega arith
 one-most false = omega arith
 
@@ -154,6 +154,7 @@ module _ (p : Setup) (s : TraceState) (h : KeepsTrace p s) (id : ℕ) (v : Share
       busy = is.busy;
       lined = λ n few set-by. is.lined n few set-by;
       owned = is.owned;
+      owner = is.owner;
       full = is.full;
       room = λ some-word. (
         end.0,
@@ -163,10 +164,14 @@ module _ (p : Setup) (s : TraceState) (h : KeepsTrace p s) (id : ℕ) (v : Share
           words = end.1.words + size p x;
           front = (let e = end.1.front in omega arith);
           filled = filled-after end.0 end.1.words end.1.front end.1.filled;
+          owner = end.1.owner;
         },
       );
       listed = is.listed;
+      number = is.number;
+      numbers = is.numbers;
       one = is.one;
+      none = is.none;
       few = is.few;
       fewer = is.fewer;
     }
@@ -220,6 +225,12 @@ either-pair x y k l has = elim (cases_lt 0 (hits x y k)) as (λ _. (0 < hits x y
   | inr none ↦ inr (let a = count-append (is_pair x y) k l in omega arith)
 ]
 
+pub first-pair : (x y : ℕ) (k l : List (ℕ × ℕ)) → 0 < hits x y k → 0 < hits x y (k ++ l)
+first-pair x y k l has = let a = count-append (is_pair x y) k l in omega arith
+
+pub second-pair : (x y : ℕ) (k l : List (ℕ × ℕ)) → 0 < hits x y l → 0 < hits x y (k ++ l)
+second-pair x y k l has = let a = count-append (is_pair x y) k l in omega arith
+
 pub in-first : (c : ℕ) (k l : List ℕ) → 0 < times c k → 0 < times c (k ++ l)
 in-first c k l has = let a = count-append (nat_eq c) k l in omega arith
 
@@ -241,22 +252,32 @@ module _ (p : Setup) (s : TraceState) (h : KeepsTrace p s) (id : ℕ) (v : Share
   -- a load, or an exchange that failed, after which the block is known not to be Free
   pub busy-seen : (i n : ℕ) (cs : List (ℕ × Unit {0})) → n ≡ slice_index s.words i → (HasKind p.before b kinds.Free → 0 < machine.taken b) → KeepsTrace p (stepped s i n id cs (sees_busy b v) keeps)
   busy-seen i n cs still is-busy = let is = h.shares id v at in nothing-made p s h id v at i n cs (sees_busy b v) (pooled s.views) still h.holds (like-itself (pooled s.views) (view_of v))
-      (record { parts = refl; token = refl; gave = refl; took = refl }) refl refl (record {
+      (record { parts = refl; token = refl; gave = refl; took = refl; worker = refl; numbers = refl }) refl refl refl (record {
         token = λ none. absurd (omega arith);
         busy = λ c has free. ⊎_elim (λ (here : c ≡ b). subst (λ z. 0 < machine.taken z) (sym here) (is-busy (subst (λ z. HasKind p.before z kinds.Free) here free)))
             (λ (more : 0 < times c v.busy). is.busy c more free) (first-or-more c b v.busy has);
         lined = λ n few set-by. is.lined n few set-by;
         owned = is.owned;
+        owner = is.owner;
         full = is.full;
-        room = λ some-word. (let end = is.room some-word in (end.0, record { from = end.1.from; limit = end.1.limit; words = end.1.words; front = end.1.front; filled = end.1.filled }));
+        room = λ some-word. (let end = is.room some-word in (end.0, record { from = end.1.from; limit = end.1.limit; words = end.1.words; front = end.1.front; filled = end.1.filled; owner = end.1.owner }));
         listed = is.listed;
+        number = is.number;
+        numbers = is.numbers;
         one = is.one;
+        none = is.none;
         few = is.few;
         fewer = is.fewer;
       })
 
   -- a Free block that is taken
-  module _ (k : ℕ) (free : HasKind p.before b kinds.Free) (untaken : machine.taken b ≡ 0) (some-worker : 0 < k) (few : k ≤ p.workers) (copies : p.copy ≢ kinds.Free) where
+  module _ (free : HasKind p.before b kinds.Free) (untaken : machine.taken b ≡ 0) (some-worker : 0 < v.worker) (copies : p.copy ≢ kinds.Free) where
+    abbrev k : ℕ
+    k = v.worker
+
+    few : k ≤ p.workers
+    few = (h.shares id v at).number
+
     may-take : May p machine (TakeBlock b k)
     may-take = (free, untaken, some-worker, few, copies)
 
@@ -293,8 +314,8 @@ module _ (p : Setup) (s : TraceState) (h : KeepsTrace p s) (id : ℕ) (v : Share
               ])
         ]
 
-    room-new : (w : Share) → w.front ≡ block_start (blocks p) b → w.limit ≡ block_start (blocks p) b + 4096 → 0 < w.limit → (c : ℕ) × IsEndOf p later w c
-    room-new w front limit some-word = (b, record { from = (let f = front in omega arith); limit = limit; words = 0; front = (let f = front in omega arith); filled = λ o l. absurd (omega arith) })
+    room-new : (w : Share) → w.front ≡ block_start (blocks p) b → w.limit ≡ block_start (blocks p) b + 4096 → 0 < hits b w.worker w.owned → 0 < w.limit → (c : ℕ) × IsEndOf p later w c
+    room-new w front limit owner some-word = (b, record { from = (let f = front in omega arith); limit = limit; words = 0; front = (let f = front in omega arith); filled = λ o l. absurd (omega arith); owner = owner })
 
     was-so : IsShareOf p later v
     was-so = share-stays p machine later (grows-next p h.events h.trace (TakeBlock b k) may-take) v (h.shares id v at)
@@ -314,17 +335,25 @@ module _ (p : Setup) (s : TraceState) (h : KeepsTrace p s) (id : ℕ) (v : Share
         (subst (λ n. 0 < n) both.1 some-worker, ap (put machine.taken b k) (sym both.0) ∙ put_here machine.taken b k ∙ both.1))
         (λ (before : 0 < hits c j v.owned). was-so.owned c j before) (hits-from b k v.owned c j has)
 
-    share-full : MayLeave p v → IsShareOf p later (takes_after_full p b k v)
+    owner-later : (c : ℕ) → 0 < times c (b ∷ v.blocks) → (j : ℕ) × (0 < hits c j ((b, k) ∷ v.owned))
+    owner-later c has = ⊎_elim (λ (now : c ≡ b). (k, subst (λ z. 0 < hits z k ((b, k) ∷ v.owned)) (sym now) (hits-here b k v.owned)))
+        (λ (before : 0 < times c v.blocks). let was = was-so.owner c before in (was.0, hits-more b k v.owned c was.0 was.1)) (first-or-more c b v.blocks has)
+
+    share-full : MayLeave p v → IsShareOf p later (takes_after_full p b v)
     share-full leave = let is = was-so in record {
       token = λ none. absurd (omega arith);
       busy = is.busy;
       lined = λ n few set-by. is.lined n few set-by;
       owned = owned-later;
+      owner = owner-later;
+      number = is.number;
+      numbers = is.numbers;
       one = omega arith;
+      none = λ nobody. absurd (let some-number = some-worker in omega arith);
       few = (let some-more = is.fewer live in omega arith);
       fewer = is.fewer;
       full = λ c has. ⊎_elim (λ (now : 0 < times c v.filling). now-full leave c now) (λ (before : 0 < times c v.full). is.full c before) (either-list c v.filling v.full has);
-      room = λ some-word. room-new (takes_after_full p b k v) refl refl some-word;
+      room = λ some-word. room-new (takes_after_full p b v) refl refl (hits-here b k v.owned) some-word;
       listed = λ c has. ⊎_elim (λ (here : c ≡ b). inl (let one = times-cons b [] c in let same : one_if (nat_eq c b) ≡ 1 = one-if-true (nat_eq c b) (eq-eqb c b here) in omega arith))
           (λ (more : 0 < times c v.blocks). inr (⊎_elim (λ (f : 0 < times c v.filling). inr (inl (in-first c v.filling v.full f)))
           (λ (o : (0 < times c v.last) ⊎ ((0 < times c v.full) ⊎ (0 < times c v.sparse))). ⊎_elim (λ (f : 0 < times c v.last). inl f)
@@ -332,17 +361,21 @@ module _ (p : Setup) (s : TraceState) (h : KeepsTrace p s) (id : ℕ) (v : Share
           (first-or-more c b v.blocks has);
     }
 
-    share-sparse : IsShareOf p later (takes_at_any_time p b k v)
+    share-sparse : IsShareOf p later (takes_at_any_time p b v)
     share-sparse = let is = was-so in record {
       token = λ none. absurd (omega arith);
       busy = is.busy;
       lined = λ n few set-by. is.lined n few set-by;
       owned = owned-later;
+      owner = owner-later;
+      number = is.number;
+      numbers = is.numbers;
       one = omega arith;
+      none = λ nobody. absurd (let some-number = some-worker in omega arith);
       few = (let some-more = is.fewer live in omega arith);
       fewer = is.fewer;
       full = is.full;
-      room = λ some-word. room-new (takes_at_any_time p b k v) refl refl some-word;
+      room = λ some-word. room-new (takes_at_any_time p b v) refl refl (hits-here b k v.owned) some-word;
       listed = λ c has. ⊎_elim (λ (here : c ≡ b). inl (let one = times-cons b [] c in let same : one_if (nat_eq c b) ≡ 1 = one-if-true (nat_eq c b) (eq-eqb c b here) in omega arith))
           (λ (more : 0 < times c v.blocks). inr (⊎_elim (λ (f : 0 < times c v.filling). inr (inr (in-first c v.filling v.sparse f)))
           (λ (o : (0 < times c v.last) ⊎ ((0 < times c v.full) ⊎ (0 < times c v.sparse))). ⊎_elim (λ (f : 0 < times c v.last). inl f)
@@ -352,8 +385,8 @@ module _ (p : Setup) (s : TraceState) (h : KeepsTrace p s) (id : ℕ) (v : Share
 
     -- the exchange that takes the block
     pub block-taken : (i : ℕ) (cs : List (ℕ × Unit {0})) (w : Share) → first (blocks p) BlockWords + b ≡ i → Alike (pooled s.views) (taken_view b (pooled s.views)) (view_of v) (view_of w)
-        → w.front ≡ block_start (blocks p) b → w.limit ≡ block_start (blocks p) b + 4096 → SameCounts v w → IsShareOf p later w → KeepsTrace p (stepped s i (taken_word p k) id cs w keeps)
-    block-taken i cs w here like front limit same own = event-made p s h id v at i (taken_word p k) cs w (TakeBlock b k) (taken_view b (pooled s.views)) may-take here refl
+        → w.made ≡ listed (TakeBlock b k) ∷ v.made → w.front ≡ block_start (blocks p) b → w.limit ≡ block_start (blocks p) b + 4096 → SameCounts v w → IsShareOf p later w → KeepsTrace p (stepped s i (taken_word p k) id cs w keeps)
+    block-taken i cs w here like made front limit same own = event-made p s h id v at i (taken_word p k) cs w (TakeBlock b k) (taken_view b (pooled s.views)) made may-take here refl
         (holds-taken p machine (pooled s.views) h.holds b k untaken some-worker) like same own (rooms-taken w front limit)
 
 module _ (p : Setup) where
@@ -368,10 +401,10 @@ module _ (p : Setup) where
         claims_moved p x cause me.0,
         keeps,
         tt,
-        event-made p s h id me.0 at (x + 2) (collector_word (collection p) t) me.1 (claims_moved p x cause me.0) (Claim x t cause) (claimed_view p x t cause (pooled s.views))
+        event-made p s h id me.0 at (x + 2) (collector_word (collection p) t) me.1 (claims_moved p x cause me.0) (Claim x t cause) (claimed_view p x t cause (pooled s.views)) refl
             (may-move p s h id me.0 at x cause old may fits free) refl refl
             (holds-claimed p (machine_after p h.events) (pooled s.views) h.holds x t cause (unclaimed-stage ((machine_after p h.events).stage x) free))
-            (like-claimed p x t cause (pooled s.views) (view_of me.0)) (record { parts = refl; token = refl; gave = refl; took = refl })
+            (like-claimed p x t cause (pooled s.views) (view_of me.0)) (record { parts = refl; token = refl; gave = refl; took = refl; worker = refl; numbers = refl })
             (share-after p s h id me.0 at x cause old may fits free) (rooms-after p s h id me.0 at x cause old may fits),
         ((λ e. refl), λ ne. absurd (ne hit)),
       ))
@@ -394,27 +427,30 @@ module _ (p : Setup) where
       ]
 
   -- the exchange of a block word that is 0 takes the block
-  module _ (slots id : ℕ) (me : SeatShare) (b k : ℕ) (live : 0 < me.0.parts) (inside : b < blocks p) (some-worker : 0 < k) (few : k ≤ p.workers) (copies : p.copy ≢ kinds.Free) where
+  module _ (slots id : ℕ) (me : SeatShare) (b : ℕ) (live : 0 < me.0.parts) (inside : b < blocks p) (some-worker : 0 < me.0.worker) (copies : p.copy ≢ kinds.Free) where
+    abbrev number : ℕ
+    number = me.0.worker
+
     module _ (taken : Share → Share) (like : (V : View) → Alike V (taken_view b V) (view_of me.0) (view_of (taken me.0)))
-        (front : (taken me.0).front ≡ block_start (blocks p) b) (limit : (taken me.0).limit ≡ block_start (blocks p) b + 4096) (same : SameCounts me.0 (taken me.0))
+        (made : (taken me.0).made ≡ listed (TakeBlock b number) ∷ me.0.made) (front : (taken me.0).front ≡ block_start (blocks p) b) (limit : (taken me.0).limit ≡ block_start (blocks p) b + 4096) (same : SameCounts me.0 (taken me.0))
         (own : (s : TraceState) (h : KeepsTrace p s) → get_elem? s.views id ≡ some me.0 → HasKind p.before b kinds.Free → (machine_after p h.events).taken b ≡ 0
-        → IsShareOf p (next p (machine_after p h.events) (TakeBlock b k)) (taken me.0)) where
-      take-by : Allows (KeepsTrace p) slots id me (first (blocks p) BlockWords + b) (λ n. either (n == 0) (taken_word p k) n) (TakesBlock b taken me)
+        → IsShareOf p (next p (machine_after p h.events) (TakeBlock b number)) (taken me.0)) where
+      take-by : Allows (KeepsTrace p) slots id me (first (blocks p) BlockWords + b) (λ n. either (n == 0) (taken_word p number) n) (TakesBlock b taken me)
       take-by s h _ at _ =
           let i : ℕ = first (blocks p) BlockWords + b in let n : ℕ = slice_index s.words i in
           let word : block_word (heap_after p h.events) b ≡ n = sym (word-is p s h id me.0 at i) in
-          exchanged n 0 (taken_word p k) (λ r. (w : Share) × (a : Act (Unit {0})) × Valid s.homes me.1 a × KeepsTrace p (stepped s i r id me.1 w a) × TakesBlock b taken me n (w, carried_after me.1 a))
+          exchanged n 0 (taken_word p number) (λ r. (w : Share) × (a : Act (Unit {0})) × Valid s.homes me.1 a × KeepsTrace p (stepped s i r id me.1 w a) × TakesBlock b taken me n (w, carried_after me.1 a))
           (λ hit.
           let free-now : HasKind (heap_after p h.events) b kinds.Free = and_from (nat_lt b (blocks p)) (nat_eq (block_word (heap_after p h.events) b % 256) 0) (lt-ltb b (blocks p) inside)
           (eq-eqb (block_word (heap_after p h.events) b % 256) 0 (let z : block_word (heap_after p h.events) b ≡ 0 = word ∙ hit in omega arith)) in
           let was = free-was p h.events h.trace b free-now in
-          (taken me.0, keeps, tt, block-taken p s h id me.0 at live b k was.0 was.1 some-worker few copies i me.1 (taken me.0) refl (like (pooled s.views)) front limit same (own s h at was.0 was.1), ((λ e. refl), λ ne. absurd (ne hit))))
+          (taken me.0, keeps, tt, block-taken p s h id me.0 at live b was.0 was.1 some-worker copies i me.1 (taken me.0) refl (like (pooled s.views)) made front limit same (own s h at was.0 was.1), ((λ e. refl), λ ne. absurd (ne hit))))
           (λ miss. (sees_busy b me.0, keeps, tt, busy-seen p s h id me.0 at live b i n me.1 refl (not-free p s h id me.0 at live b n inside word miss), ((λ e. absurd (miss e)), λ ne. refl)))
 
-    pub take-after-full : MayLeave p me.0 → Allows (KeepsTrace p) slots id me (first (blocks p) BlockWords + b) (λ n. either (n == 0) (taken_word p k) n) (TakesBlock b (takes_after_full p b k) me)
-    take-after-full leave = take-by (takes_after_full p b k) (λ V. like-taken b V (view_of me.0)) refl refl (record { parts = refl; token = refl; gave = refl; took = refl })
-        (λ s h at free untaken. share-full p s h id me.0 at live b k free untaken some-worker few copies leave)
+    pub take-after-full : MayLeave p me.0 → Allows (KeepsTrace p) slots id me (first (blocks p) BlockWords + b) (λ n. either (n == 0) (taken_word p number) n) (TakesBlock b (takes_after_full p b) me)
+    take-after-full leave = take-by (takes_after_full p b) (λ V. like-taken b V (view_of me.0)) refl refl refl (record { parts = refl; token = refl; gave = refl; took = refl; worker = refl; numbers = refl })
+        (λ s h at free untaken. share-full p s h id me.0 at live b free untaken some-worker copies leave)
 
-    pub take-at-any-time : Allows (KeepsTrace p) slots id me (first (blocks p) BlockWords + b) (λ n. either (n == 0) (taken_word p k) n) (TakesBlock b (takes_at_any_time p b k) me)
-    take-at-any-time = take-by (takes_at_any_time p b k) (λ V. like-left b V (view_of me.0) (me.0.filling ++ me.0.sparse)) refl refl (record { parts = refl; token = refl; gave = refl; took = refl })
-        (λ s h at free untaken. share-sparse p s h id me.0 at live b k free untaken some-worker few copies)
+    pub take-at-any-time : Allows (KeepsTrace p) slots id me (first (blocks p) BlockWords + b) (λ n. either (n == 0) (taken_word p number) n) (TakesBlock b (takes_at_any_time p b) me)
+    take-at-any-time = take-by (takes_at_any_time p b) (λ V. like-left b V (view_of me.0) (me.0.filling ++ me.0.sparse)) refl refl refl (record { parts = refl; token = refl; gave = refl; took = refl; worker = refl; numbers = refl })
+        (λ s h at free untaken. share-sparse p s h id me.0 at live b free untaken some-worker copies)

@@ -200,15 +200,19 @@ module _ (p : Setup) where
         let set-bit : bit_at new (n % 64) ≡ 1 = omega (arith, bit, bit_at_or old mask (n % 64), bit_at-lt old (n % 64)) in
         ap (λ w. nat_eq (bit_at w (n % 64)) 1) (ap (slice_index (slice_set now.words word new)) here ∙ stored-word) ∙ eq-eqb (bit_at new (n % 64)) 1 set-bit
 
-    share-lined : IsShareOf p (next p now marked) (sets_lines word mask v)
+    share-lined : IsShareOf p (next p now marked) (sets_lines x word mask v)
     share-lined = let is = share-stays p now (next p now marked) (grows-next p h.events h.trace marked may-mark) v (h.shares id v at) in let live = may.live in record {
       token = λ none. absurd (omega arith);
       busy = is.busy;
       owned = is.owned;
+      owner = is.owner;
       full = is.full;
-      room = λ some-word. (let end = is.room some-word in (end.0, record { from = end.1.from; limit = end.1.limit; words = end.1.words; front = end.1.front; filled = end.1.filled }));
+      room = λ some-word. (let end = is.room some-word in (end.0, record { from = end.1.from; limit = end.1.limit; words = end.1.words; front = end.1.front; filled = end.1.filled; owner = end.1.owner }));
       listed = is.listed;
+      number = is.number;
+      numbers = is.numbers;
       one = is.one;
+      none = is.none;
       few = is.few;
       fewer = is.fewer;
       lined = λ n few set-by. (let i : ℕ = first (blocks p) LineWords + n / 64 in
@@ -217,15 +221,15 @@ module _ (p : Setup) where
     }
 
   pub mark-lines : (slots id : ℕ) (me : SeatShare) (x t word mask : ℕ) → MayMark p me.0 x t word mask
-      → Allows (KeepsTrace p) slots id me word (λ n. bit_or n mask) (λ n now. now ≡ (sets_lines word mask me.0, me.1))
+      → Allows (KeepsTrace p) slots id me word (λ n. bit_or n mask) (λ n now. now ≡ (sets_lines x word mask me.0, me.1))
   mark-lines slots id me x t word mask may s h _ at _ = (
-    sets_lines word mask me.0,
+    sets_lines x word mask me.0,
     keeps,
     tt,
-    event-made p s h id me.0 at word (bit_or (slice_index s.words word) mask) me.1 (sets_lines word mask me.0) (MarkLines x word mask) (pooled s.views)
+    event-made p s h id me.0 at word (bit_or (slice_index s.words word) mask) me.1 (sets_lines x word mask me.0) (MarkLines x word mask) (pooled s.views) refl
         (may-mark s h id me.0 at x t word mask may) refl (ap (λ n. bit_or n mask) (word-is p s h id me.0 at word))
         (record { won = h.holds.won; grey = h.holds.grey; copied = h.holds.copied; unset = h.holds.unset; set = h.holds.set; asked = h.holds.asked; known = h.holds.known; blocks = h.holds.blocks })
-        (like-itself (pooled s.views) (view_of me.0)) (record { parts = refl; token = refl; gave = refl; took = refl }) (share-lined s h id me.0 at x t word mask may)
-        (rooms-after p s h id me.0 at (sets_lines word mask me.0) (next p (machine_after p h.events) (MarkLines x word mask)) refl refl refl refl),
+        (like-itself (pooled s.views) (view_of me.0)) (record { parts = refl; token = refl; gave = refl; took = refl; worker = refl; numbers = refl }) (share-lined s h id me.0 at x t word mask may)
+        (rooms-after p s h id me.0 at (sets_lines x word mask me.0) (next p (machine_after p h.events) (MarkLines x word mask)) refl refl refl refl),
     refl,
   )

@@ -1,7 +1,8 @@
 -- How a racing trace begins and ends.
-use Rattle.std.proofs.Common.{◌≡◌, ℕ, zero, suc, ◌<◌, ◌≤◌, ◌⊎◌, inl, inr, ⊎_elim, Bool, false, true≢false, ◌&&◌, not, IsTrue, nat_eq, nat_lt, List, [], ◌∷◌, ◌++◌, append-nil, refl, sym, ap, ◌∙◌, subst, arith, Some}
+use Rattle.std.proofs.Common.{◌≡◌, ℕ, zero, suc, ◌+◌, ◌<◌, ◌≤◌, ◌⊎◌, inl, inr, ⊎_elim, Bool, false, true≢false, ◌&&◌, not, IsTrue, nat_eq, nat_lt, List, [], ◌∷◌, ◌++◌, append-nil, refl, sym, ap, ◌∙◌, subst, arith, Some}
 use Rattle.std.specs.Prelude.{count_by}
-use Rattle.std.proofs.lemmas.Bool.{cases_Bool, lt-ltb, and_from, and_parts, and_left, and_right, not_from_false, not-true, eq-eqb}
+use Rattle.std.specs.List.{range_with_len}
+use Rattle.std.proofs.lemmas.Bool.{cases_Bool, cases_eq, ne_eqb, ltb-true, lt-ltb, and_from, and_parts, and_left, and_right, not_from_false, not-true, eq-eqb}
 use mathlib.Core.Option.{some, some-injective, some-ne-none}
 use lib.ListN.{get_elem?}
 use Rattle.atomic_table.specs.Table.{opening, Final, Seen}
@@ -13,16 +14,18 @@ use Rattle.trace_core.specs.Traces.{IsTracing, IsFinished, machine_after, fields
 use Rattle.trace_core.specs.Rooms.{IsFilled}
 use Rattle.trace_core.specs.Views.{View, first_view, Holds, NothingIsLeft, hits, is_pair, is_stage_copied, is_scanning, is_copying}
 use Rattle.trace_core.specs.declared.run.TraceRun.{TraceRun}
+use Rattle.trace_core.proofs.CountedRights.{times-cons}
 use Rattle.trace_core.proofs.Clauses.{old-target, scanned-once, none-is-free}
-use Rattle.trace_core.proofs.FirstView.{first-holds}
+use Rattle.trace_core.proofs.FirstView.{first-holds, times-range}
 use Rattle.trace_core.proofs.Idle.{one-if-from, one-if-true, finishes}
 use Rattle.trace_core.proofs.Objects.{None-not-Some}
+use Rattle.trace_words.specs.declared.event.TraceEvent.{TraceEvent}
 use Rattle.trace_words.specs.declared.share.Share.{Share}
 use Rattle.trace_words.specs.Shares.{view_of, pooled, total, no_view, both_views, first_share}
-use Rattle.trace_words.specs.Rule.{TraceState, KeepsTrace, IsShareOf, HasNoRight}
+use Rattle.trace_words.specs.Rule.{TraceState, KeepsTrace, IsShareOf, HasNoRight, times_listed, times_made}
 use Rattle.trace_words.specs.Steps.{IsWhole, IsDone, ScansOnce, LeavesTrace}
 use Rattle.trace_words.proofs.Pooled.{part-of, pool-counts, holds-same}
-use Rattle.trace_words.proofs.Rooms.{no-room}
+use Rattle.trace_words.proofs.Rooms.{no-room, one-most}
 use Rattle.trace_words.proofs.SeatSteps.{share-of-none}
 
 -- One share alone has what all have, where each share without parts has nothing.
@@ -71,12 +74,17 @@ module _ (p : Setup) (s : TraceState) (h : KeepsTrace p s) (id : ℕ) (v : Share
     blocks = λ y. only (nat_eq y) (λ u. u.blocks) refl (λ u z. refl) (λ u is. is.blocks);
   })
 
+  -- it made each event
+  all-made : (test : TraceEvent → Bool) → times_listed test h.events ≡ times_made test v
+  all-made test = h.made test ∙ alone (λ z. z.parts) (times_made test) s.views (λ j u is empty. ap (count_by test) ((h.shares j u is).token empty).made) id v at all-parts
+
   -- each block that was taken is one of the share's
-  taken-is : (b : ℕ) → 0 < now.taken b → (0 < times b v.filling) ⊎ ((0 < times b v.last) ⊎ ((0 < times b v.sparse) ⊎ IsFilled p now b 2049))
+  taken-is : (b : ℕ) → 0 < now.taken b → (0 < times b v.last) ⊎ ((0 < times b v.sparse) ⊎ IsFilled p now b 2049)
   taken-is b took =
       let listed : times b v.blocks ≡ 1 = all-rights.blocks b ∙ one-if-true (nat_lt 0 (now.taken b)) (lt-ltb 0 (now.taken b) took) in let is = h.shares id v at in
-      ⊎_elim (λ (f : 0 < times b v.filling). inl f) (λ (q : (0 < times b v.last) ⊎ ((0 < times b v.full) ⊎ (0 < times b v.sparse))). inr (⊎_elim (λ (f : 0 < times b v.last). inl f)
-      (λ (o : (0 < times b v.full) ⊎ (0 < times b v.sparse)). inr (⊎_elim (λ (f : 0 < times b v.full). inr (is.full b f)) (λ (f : 0 < times b v.sparse). inl f) o)) q))
+      ⊎_elim (λ (f : 0 < times b v.filling). absurd (let none : times b v.filling ≡ 0 = ap (times b) (is.none whole.worker) in omega arith))
+      (λ (q : (0 < times b v.last) ⊎ ((0 < times b v.full) ⊎ (0 < times b v.sparse))). ⊎_elim (λ (f : 0 < times b v.last). inl f)
+      (λ (o : (0 < times b v.full) ⊎ (0 < times b v.sparse)). inr (⊎_elim (λ (f : 0 < times b v.full). inr (is.full b f)) (λ (f : 0 < times b v.sparse). inl f) o)) q)
       (is.listed b (omega arith))
 
 -- Where nothing is left to do for the one share that has all rights, the trace is finished.
@@ -135,16 +143,22 @@ closes p ws xs id v (s, (h, at), words, homes, more) = record {
   words_are = sym words ∙ h.words;
   lined = λ n few set-by. subst (λ l. IsTrue (bit_of (blocks p) LineWords l n)) (sym (sym words ∙ h.words)) ((h.shares id v at).lined n few set-by);
   stays = λ x is young moves b free. none-is-free p h.events h.trace x is young moves b free;
+  owner = (h.shares id v at).owner;
   owners = λ b k has. ((h.shares id v at).owned b k has).1;
   whole = λ is. record {
     holds = all-rights p s h id v at is;
     taken = taken-is p s h id v at is;
-    one = (h.shares id v at).one;
+    made = all-made p s h id v at is;
     few = (let all = is.parts in let kept = (h.shares id v at).fewer (omega arith) in omega arith);
     finished = λ done. is-finished p h.events h.trace v (all-rights p s h id v at is) done;
     once = λ done. is-scanned-once p h.events h.trace v (all-rights p s h id v at is) done;
   };
 }
+
+times-before : (a n g : ℕ) → g < a → times g (range_with_len a n) ≡ 0
+times-before a zero g before = refl
+times-before a (suc n) g before = let one = times-cons a (range_with_len (a + 1) n) g in let other : one_if (nat_eq g a) ≡ 0 = ap one_if (ne_eqb g a (λ e. omega arith)) in
+    let rest = times-before (a + 1) n g (omega arith) in omega arith
 
 -- The row begins with one share, which has all rights.
 module _ (p : Setup) (run : TraceRun) (ready : TraceMayBegin p) (logged : (x : ℕ) → times x run.logged.items ≡ one_if (was_logged p x)) where
@@ -154,8 +168,14 @@ module _ (p : Setup) (run : TraceRun) (ready : TraceMayBegin p) (logged : (x : �
   one-more : {A : Type 0} (test : A → Bool) (l : List A) → count_by test (l ++ []) ≡ count_by test l
   one-more test l = ap (count_by test) (append-nil l)
 
+  number-of : (k : ℕ) → 0 < times k (range_with_len 1 p.workers) → (0 < k) × (k ≤ p.workers)
+  number-of k has = elim (cases_eq k 0) as (λ _. (0 < k) × (k ≤ p.workers)) [
+    | inl nothing ↦ absurd (let none = times-before 1 p.workers k (omega arith) in omega arith)
+    | inr some-number ↦ (let right = times-range 1 p.workers k (omega arith) in let below = ltb-true k (1 + p.workers) (one-if-from _ (omega arith)) in (omega arith, omega arith))
+  ]
+
   the-share : (j : ℕ) (u : Share) → get_elem? (whole ∷ []) j ≡ some u → IsShareOf p (first_machine p) u
-  the-share zero u is = subst (IsShareOf p (first_machine p)) (some-injective whole u is) (share-of-none p (first_machine p) whole (inl (omega arith)) refl refl refl refl refl refl refl refl refl refl)
+  the-share zero u is = subst (IsShareOf p (first_machine p)) (some-injective whole u is) (share-of-none p (first_machine p) whole (inl (omega arith)) refl (omega arith) number-of refl refl refl refl refl refl refl refl refl refl)
   the-share (suc j) u is = absurd (some-ne-none u (sym is))
 
   pub begins : KeepsTrace p (opening p.before.words [] whole)
@@ -163,6 +183,8 @@ module _ (p : Setup) (run : TraceRun) (ready : TraceMayBegin p) (logged : (x : �
     events = [];
     trace = record { ready = ready; events = tt };
     words = refl;
+    made = λ test. refl;
+    numbers = λ k some-number. (let right = times-range 1 p.workers k (omega arith) in let most = one-most (nat_lt k (1 + p.workers)) in let c : one_if (nat_eq k 0) ≡ 0 = ap one_if (ne_eqb k 0 (λ e. omega arith)) in omega arith);
     holds = holds-same p (first_machine p) (first_view run) (pooled (whole ∷ [])) (first-holds p ready run logged) (record {
       won = λ x k. one-more (is_pair x k) (first_view run).won;
       grey = λ x k. one-more (is_pair x k) (first_view run).grey;

@@ -12,12 +12,12 @@ use Rattle.trace_core.specs.declared.run.TraceRun.{TraceRun}
 use Rattle.trace_core.proofs.CountedRights.{hits-from, pair-parts}
 use Rattle.trace_words.specs.Shares.{empty_share, first_share}
 use Rattle.trace_words.specs.Steps.{MayLeave, MayClaim, FitsRoom, MayCopy, MayScan, IsLast, MaySet, IsWhole, IsDone}
-use Rattle.trace_words.specs.WorkedShares.{begun, with_room, copied_to, moved, taken_in, set_below}
+use Rattle.trace_words.specs.WorkedShares.{begun, without_worker, helper, with_room, copied_to, moved, set_below}
 
 pub begins : (run : TraceRun) → run.logged.items ≡ 810 ∷ [] → first_share run 2 ≡ begun
-begins run logged = ap (λ (l : List ℕ). record empty_share { parts = 3; grey = map (λ x. (x, 0)) l; unset = range_with_len 0 16; known = map (λ x. (x, x)) l }) logged
+begins run logged = ap (λ (l : List ℕ). record empty_share { parts = 3; numbers = 1 ∷ 2 ∷ []; grey = map (λ x. (x, 0)) l; unset = range_with_len 0 16; known = map (λ x. (x, x)) l }) logged
 
-pub takes : MayLeave nursery_setup begun
+pub takes : MayLeave nursery_setup helper
 takes c has = absurd (omega (arith, has))
 
 pub claims : MayClaim nursery_setup with_room 814 (ByField 810 0) (word_at nursery_setup.before 816)
@@ -33,20 +33,23 @@ claims = record {
 pub moves : FitsRoom nursery_setup with_room 814
 moves = record { moves = refl; fits = omega arith }
 
-pub gives : (0 < hits 810 0 moved.grey) × (0 < hits 810 810 moved.known)
+pub seats : (1 < begun.parts) × (0 < times 2 begun.numbers)
+seats = (lit< tt, lit< tt)
+
+pub gives : (0 < hits 810 0 without_worker.grey) × (0 < hits 810 810 without_worker.known)
 gives = (lit< tt, lit< tt)
 
-pub scans : MayScan nursery_setup taken_in 810 810 0
+pub scans : MayScan nursery_setup moved 810 810 0
 scans = record { live = lit< tt; right = lit< tt; target = lit< tt; field = lit< tt }
 
-pub last : IsLast taken_in (ref_at nursery_setup.before 810 0) 4902
+pub last : IsLast moved (ref_at nursery_setup.before 810 0) 4902
 last = inr ((λ e. absurd (omega (arith, e))), lit< tt)
 
-abbrev all-below : (ℕ → Bool) → ℕ → Bool
+abbrev pub all-below : (ℕ → Bool) → ℕ → Bool
 all-below f zero = true
 all-below f (suc n) = all-below f n && f n
 
-below-all : (f : ℕ → Bool) (n : ℕ) → IsTrue (all-below f n) → (g : ℕ) → g < n → IsTrue (f g)
+pub below-all : (f : ℕ → Bool) (n : ℕ) → IsTrue (all-below f n) → (g : ℕ) → g < n → IsTrue (f g)
 below-all f zero all g l = absurd (omega arith)
 below-all f (suc n) all g l = let both = and_parts (all-below f n) (f n) all in
     elim (cases_eq g n) as (λ _. IsTrue (f g)) [
@@ -66,7 +69,7 @@ globals g l = let both = and_parts (nat_lt 0 (set_below g).parts) (nat_lt 0 (tim
     record { live = ltb-true 0 (set_below g).parts both.0; right = ltb-true 0 (times g (set_below g).unset) both.1 }
 
 pub whole : IsWhole nursery_setup (set_below 16)
-whole = record { parts = refl; token = refl; tokens = refl }
+whole = record { parts = refl; token = refl; worker = refl; tokens = refl }
 
 pub done : IsDone nursery_setup (set_below 16)
 done = record {

@@ -1,5 +1,5 @@
 -- What a share needs for a step, and what the step shows.
-use Rattle.std.specs.Prelude.{◌≡◌, ◌≢◌, ℕ, ◌+◌, ◌-◌, ◌*◌, ◌<◌, ◌≤◌, ◌⊎◌, false, true, IsTrue, List, [], length, count_by, Some}
+use Rattle.std.specs.Prelude.{◌≡◌, ◌≢◌, ℕ, ◌+◌, ◌-◌, ◌*◌, ◌<◌, ◌≤◌, ◌⊎◌, false, true, IsTrue, Bool, List, [], length, count_by, Some}
 use Rattle.std.specs.Int.{bit_at}
 use Rattle.forward_word.specs.CollectorWords.{number_in, target_in, is_old_word}
 use Rattle.heap_layout.specs.Zones.{InZone, LineWords, first, bit_of, block_start}
@@ -16,9 +16,10 @@ use Rattle.trace_core.specs.Traces.{IsTracing, IsFinished, machine_after, heap_a
 use Rattle.trace_core.specs.Outcomes.{base_after_trace}
 use Rattle.trace_core.specs.Rooms.{IsFilled, NoneFree}
 use Rattle.trace_core.specs.Views.{Holds, hits}
+use Rattle.trace_words.specs.declared.event.TraceEvent.{TraceEvent}
 use Rattle.trace_words.specs.declared.share.Share.{Share}
 use Rattle.trace_words.specs.Shares.{view_of, learns, claims_here, claims_moved, sees_busy}
-use Rattle.trace_words.specs.Rule.{SeatShare, HasLined}
+use Rattle.trace_words.specs.Rule.{SeatShare, HasLined, times_listed, times_made}
 
 -- A load of a word of unlog bits shows that an object has its target, itself, if its bit is set. A
 -- clear bit shows nothing.
@@ -52,9 +53,14 @@ pub record MayClaim (p : Setup) (v : Share) (x : ℕ) (cause : ClaimCause) (old 
   pub young : is_old_word (base_after_trace p) old ≡ false
   pub asks : AsksFor p v x cause
 
--- the share has seen that no block is Free
+-- The share has seen that no block is Free.
 abbrev pub SawNoneFree : Setup → Share → Type 0
 SawNoneFree p v = (b : ℕ) → b < blocks p → 0 < times b v.busy
+
+-- The object at x does not fit the room of the share, nor is there another block for it.
+pub record LacksRoom (p : Setup) (v : Share) (x : ℕ) : Type 0 where
+  pub tight : v.limit < v.front + size p x
+  pub none : SawNoneFree p v
 
 -- The object at x fits the room of the share, and may move.
 pub record FitsRoom (p : Setup) (v : Share) (x : ℕ) : Type 0 where
@@ -117,7 +123,7 @@ abbrev pub ShowsBlock : ℕ → SeatShare → ℕ → SeatShare → Type 0
 ShowsBlock b me found now =
     (found ≡ 0 → now ≡ me) × (found ≢ 0 → now ≡ (sees_busy b me.0, me.1))
 
--- The room of the share is the end of block c, in which an object that may move has no room.
+-- The room of the share is the end of block c, which some size up to MAX_MEDIUM_WORDS doesn't fit.
 pub record LeavesFull (p : Setup) (v : Share) (c : ℕ) : Type 0 where
   pub limit : v.limit ≡ block_start (blocks p) c + BLOCK_WORDS
   pub words : ℕ
@@ -132,10 +138,11 @@ abbrev pub TakesBlock : ℕ → (Share → Share) → SeatShare → ℕ → Seat
 TakesBlock b taken me found now =
     (found ≡ 0 → now ≡ (taken me.0, me.1)) × (found ≢ 0 → now ≡ (sees_busy b me.0, me.1))
 
--- The share has all parts, and took in as many tokens as it gave.
+-- The share is that of no worker. It has all parts, and took in as many tokens as it gave.
 pub record IsWhole (p : Setup) (v : Share) : Type 0 where
   pub parts : v.parts ≡ p.workers + 1
   pub token : v.token ≡ 0
+  pub worker : v.worker ≡ 0
   pub tokens : v.gave ≡ v.took
 
 -- Nothing is left to do for the share.
@@ -152,13 +159,14 @@ ScansOnce p es = (x t : ℕ) → target_of p es x ≡ Some t → keeps_its_words
 -- The share has all rights of the trace.
 pub record HasWholeTrace (p : Setup) (es : List Event) (v : Share) : Type 0 where
   pub holds : Holds p (machine_after p es) (view_of v)
-  -- each block that was taken is filled still, or was by a share as it was taken in, or has more
-  -- than MAX_MEDIUM_WORDS kept words, or was left with fewer on demand
-  pub taken : (b : ℕ) → 0 < (machine_after p es).taken b → (0 < times b v.filling)
-      ⊎ ((0 < times b v.last) ⊎ ((0 < times b v.sparse)
-      ⊎ IsFilled p (machine_after p es) b (MAX_MEDIUM_WORDS + 1)))
-  -- one block is filled still, and there is one of each worker that was taken in, at most
-  pub one : length v.filling ≤ 1
+  -- it made each event
+  pub made : (test : TraceEvent → Bool) → times_listed test es ≡ times_made test v
+  -- each block that was taken was filled still by a worker as it was taken in, or has more than
+  -- MAX_MEDIUM_WORDS kept words, or was left with fewer on demand
+  pub taken : (b : ℕ) → 0 < (machine_after p es).taken b → (0 < times b v.last)
+      ⊎ ((0 < times b v.sparse)
+      ⊎ IsFilled p (machine_after p es) b (MAX_MEDIUM_WORDS + 1))
+  -- the former are one for each worker, at most
   pub few : length v.last ≤ p.workers
   pub finished : IsDone p v → IsFinished p (machine_after p es)
   pub once : IsDone p v → ScansOnce p es
@@ -174,6 +182,7 @@ pub record LeavesTrace (p : Setup) (words : List ℕ) (v : Share) : Type 0 where
   -- An object that may move is in place only if no block is Free.
   pub stays : (x : ℕ) → target_of p events x ≡ Some x → stays_old p x ≡ false
       → IsTrue (may_be_moved p x) → NoneFree (heap_after p events)
-  -- blocks are owned by the workers for whom they were taken
+  -- each block that was taken to copy into is owned by the worker that took it
+  pub owner : (b : ℕ) → 0 < times b v.blocks → (k : ℕ) × (0 < hits b k v.owned)
   pub owners : (b k : ℕ) → 0 < hits b k v.owned → (machine_after p events).taken b ≡ k
   pub whole : IsWhole p v → HasWholeTrace p events v

@@ -8,7 +8,7 @@ ghost use Rattle.object_model.specs.BitWords.{bit_word};
 ghost use Rattle.object_model.specs.Objects.{IsHeld};
 ghost use Rattle.trace_core.specs.Setups.{blocks, collection, may_be_moved};
 ghost use Rattle.trace_words.specs.Rule.{setup_in};
-ghost use Rattle.trace_words.specs.Steps.{ShowsBit, ShowsClaim, MayClaim, SawNoneFree, FitsRoom, ClaimsHere, ClaimsMoved};
+ghost use Rattle.trace_words.specs.Steps.{ShowsBit, ShowsClaim, MayClaim, LacksRoom, FitsRoom, ClaimsHere, ClaimsMoved};
 
 use crate::rule::{About, TraceSeat, TraceWords};
 use crate::share::Share;
@@ -88,8 +88,8 @@ pub fn look_at_claim<C: About>(row: &TraceWords, seat: &mut TraceSeat, x: u32) -
     row.load::<LooksAtClaim<C>>(seat, x as usize + COLLECTOR_OFFSET as usize)
 }
 
-/// Claims the object at `x`, which stays: its collector word was `old`, and is to be `new`. Who
-/// meets another word lost, and knows the target from it.
+/// Claims the object at `x`, which stays: it may not move, or has no room. Its collector word was
+/// `old`, and is to be `new`. A tracer that meets another word lost, and knows the target from it.
 #[inline(always)]
 pub fn claim_in_place<C: About>(
     row: &TraceWords,
@@ -103,7 +103,8 @@ pub fn claim_in_place<C: About>(
     requires own { (seat.old.table_id ≡ row.now.table_id)
         × (x + COLLECTOR_OFFSET < row.now.table_id.words) }
     requires may { MayClaim C.setup seat.old.me.0 C.object C.cause old }
-    requires stays { IsTrue (may_be_moved C.setup C.object) → SawNoneFree C.setup seat.old.me.0 }
+    requires stays { IsTrue (may_be_moved C.setup C.object)
+        → LacksRoom C.setup seat.old.me.0 C.object }
     ensures own { seat.new.table_id ≡ seat.old.table_id }
     ensures claimed { ClaimsHere C.setup C.object C.cause old seat.old.me result seat.new.me }
 {

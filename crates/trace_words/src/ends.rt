@@ -28,9 +28,10 @@ pub fn share_row(
     words.share::<Share, TraceKey, TraceRule>(key)
 }
 
-/// Plain words again: those of the machine. If the seat took in those of all workers, and as many
-/// tokens as were given, and nothing is left for it to do, the trace is finished, and each field
-/// was scanned once.
+/// Plain words again: those of the machine. If this is the seat that the trace began with, which is
+/// no worker's, and it took in those of all workers and as many tokens as were given, it made each
+/// event. If nothing is left for it to do too, the trace is finished, and each field was scanned
+/// once. A worker's seat that took in all others isn't said to have the whole trace.
 pub fn take_row_back(row: SharedRow<Share, TraceKey, TraceRule>, seat: TraceSeat) -> WordRow
     requires own { seat.table_id ≡ row.words.table_id }
     ensures count { length result ≡ row.words.table_id.words }

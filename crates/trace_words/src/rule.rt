@@ -55,7 +55,7 @@ pub trait About {
     /// The number of a field, of a step of copying or of a global.
     ghost index: { ℕ };
 
-    /// The number of the worker for whom a block is taken.
+    /// The number of a worker that gets a seat.
     ghost worker: { ℕ };
 }
 

@@ -87,13 +87,16 @@ impl<C: About> Play<(), Share> for ReadsFrozen<C> {
         (found ≡ word_at C.setup.before step.word) × (now ≡ me) };
 }
 
-struct MarksLines;
+struct MarksLines<C> {
+    of: PhantomData<C>,
+}
 
-impl Play<(), Share> for MarksLines {
+impl<C: About> Play<(), Share> for MarksLines<C> {
     ghost use Rattle.std.specs.Prelude.{◌≡◌};
     ghost use Rattle.trace_words.specs.Shares.{sets_lines};
 
-    ghost then = { λ step me found now. now ≡ (sets_lines step.word step.first me.0, me.1) };
+    ghost then = { λ step me found now.
+        now ≡ (sets_lines C.object step.word step.first me.0, me.1) };
 }
 
 /// The field, at `at`, that is to be scanned next.
@@ -227,7 +230,8 @@ pub fn mark_lines<C: About>(row: &TraceWords, seat: &mut TraceSeat, word: usize,
     requires own { (seat.old.table_id ≡ row.now.table_id) × (word < row.now.table_id.words) }
     requires may { MayMark C.setup seat.old.me.0 C.object C.target word mask }
     ensures own { seat.new.table_id ≡ seat.old.table_id }
-    ensures share { seat.new.me ≡ (sets_lines word mask seat.old.me.0, seat.old.me.1) }
+    ensures share { seat.new.me
+        ≡ (sets_lines C.object word mask seat.old.me.0, seat.old.me.1) }
 {
-    row.fetch_or::<MarksLines>(seat, word, mask);
+    row.fetch_or::<MarksLines<C>>(seat, word, mask);
 }

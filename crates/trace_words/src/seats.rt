@@ -19,9 +19,9 @@ struct GivesParts<C> {
 impl<C: About> Split<Share> for GivesParts<C> {
     ghost use Rattle.trace_words.specs.Shares.{gives_parts, worker_share};
 
-    ghost left = { λ v. gives_parts C.index v };
+    ghost left = { λ v. gives_parts C.index C.worker v };
 
-    ghost right = { λ v. worker_share C.index };
+    ghost right = { λ v. worker_share C.index C.worker };
 }
 
 struct GivesScan<C> {
@@ -58,17 +58,18 @@ impl Join<Share> for TakesIn {
     ghost spent = { empty_share };
 }
 
-/// A seat for a worker, with some parts of the trace. A part is kept for each share that was taken
-/// in with a block that it was filling, and one more.
+/// A seat for a worker, with its number and some parts of the trace. A part is kept for each share
+/// that was taken in with a block that it was filling, and one more.
 pub fn give_parts<C: About>(row: &TraceWords, seat: &mut TraceSeat) -> TraceSeat
     requires about { setup_in row.now.key ≡ C.setup }
     requires own { (seat.old.table_id ≡ row.now.table_id) × (0 < row.now.table_id.words) }
     requires parts { (0 < C.index)
         × (length seat.old.me.0.last + C.index < seat.old.me.0.parts) }
+    requires number { 0 < times C.worker seat.old.me.0.numbers }
     ensures own { (seat.new.table_id ≡ seat.old.table_id)
-        × (seat.new.me ≡ (gives_parts C.index seat.old.me.0, seat.old.me.1)) }
+        × (seat.new.me ≡ (gives_parts C.index C.worker seat.old.me.0, seat.old.me.1)) }
     ensures worker { (result.table_id ≡ seat.old.table_id)
-        × (result.me ≡ (worker_share C.index, [])) }
+        × (result.me ≡ (worker_share C.index C.worker, [])) }
 {
     row.split::<GivesParts<C>>(seat)
 }

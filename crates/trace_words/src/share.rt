@@ -1,5 +1,6 @@
 //! What a seat has of a trace that several workers make.
 
+use crate::event::TraceEvent;
 use std::collections::LinkedList;
 
 /// What a seat has to do, has done and knows. No value of it is made: it is what clauses say of a
@@ -9,6 +10,12 @@ pub struct Share {
     pub parts: u64,
     /// 1 of a token, 0 else.
     pub token: u64,
+    /// Its worker's number. 0 of a token, and of the share that begins, which takes no block.
+    pub worker: u64,
+    /// Numbers of workers that it may give seats to.
+    pub numbers: LinkedList<u64>,
+    /// The events of the tracing machine that it made, and those of the shares that it took in.
+    pub made: LinkedList<TraceEvent>,
     /// How many tokens it gave, and how many it took in.
     pub gave: u64,
     pub took: u64,
@@ -29,9 +36,9 @@ pub struct Share {
     /// `MAX_MEDIUM_WORDS` kept words.
     pub filling: LinkedList<u64>,
     pub full: LinkedList<u64>,
-    /// Blocks that shares which it took in were filling.
+    /// Blocks that the shares it took in were filling then.
     pub last: LinkedList<u64>,
-    /// Its blocks, each with the number of the worker for whom it took it.
+    /// Blocks that it took, or a share that it took in, with the numbers of the workers.
     pub owned: LinkedList<(u64, u64)>,
     /// Words of line bits in which it set bits, with the masks.
     pub lined: LinkedList<(u64, u64)>,

@@ -2,4 +2,4 @@ use Rattle.trace_words.proofs.Rooms.{take-after-full}
 use Rattle.trace_words.proofs.blocks.take_block.Goals as goal
 
 pub compare_exchange-requires : goal.compare_exchange-requires
-compare_exchange-requires g c = (c.requires.own.0, c.requires.own.1, rw (c.requires.about.0, c.requires.about.1, c.requires.about.2) (take-after-full g.C.About.setup _ _ _ g.C.About.index g.C.About.worker c.requires.live c.requires.block c.requires.worker.0 c.requires.worker.1 c.requires.copies c.requires.full))
+compare_exchange-requires g c = (c.requires.own.0, c.requires.own.1, rw (c.requires.about.0, c.requires.about.1, c.requires.about.2) (take-after-full g.C.About.setup _ _ _ g.C.About.index c.requires.live c.requires.block c.requires.worker c.requires.copies c.requires.full))

@@ -1,8 +1,11 @@
-use Rattle.trace_words.proofs.WorkedSteps.{begins, takes, claims, moves, copies, gives, scans, last, globals, whole, done}
+use Rattle.trace_words.proofs.WorkedSteps.{begins, seats, takes, claims, moves, copies, gives, scans, last, globals, whole, done}
 use Rattle.trace_words.proofs.examples.share_makes_a_whole_trace.Goals as goal
 
 pub returns-clause-begins : goal.returns-clause-begins
 returns-clause-begins c = begins
+
+pub returns-clause-seats : goal.returns-clause-seats
+returns-clause-seats c = seats
 
 pub returns-clause-takes : goal.returns-clause-takes
 returns-clause-takes c = takes
