@@ -2,3 +2,4 @@ mod LargeObjects
 mod TracersGoOn
 mod TraceStarts
 mod NextBlocks
+mod RacingParts

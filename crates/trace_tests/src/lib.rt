@@ -16,6 +16,10 @@ mod nursery_tests;
 #[cfg(test)]
 mod old_views;
 #[cfg(test)]
+mod racing;
+#[cfg(test)]
+mod racing_tests;
+#[cfg(test)]
 mod roots;
 #[cfg(test)]
 mod tests;

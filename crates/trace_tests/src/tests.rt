@@ -25,14 +25,14 @@ pub(crate) fn word(words: &[u64], at: usize) -> u64 {
 }
 
 // Bit n of the bits that begin at a word.
-fn bit(words: &[u64], zone: usize, n: usize) -> bool
+pub(crate) fn bit(words: &[u64], zone: usize, n: usize) -> bool
     requires { zone < 1000000 }
 {
     word(words, zone + n / 64) >> (n % 64) & 1 == 1
 }
 
 // The target that the collector word of the object at an address has. Nil has nil.
-fn target(words: &[u64], at: u64) -> u64 {
+pub(crate) fn target(words: &[u64], at: u64) -> u64 {
     match at {
         0 => 0,
         _ => word(words, (at as usize).wrapping_add(2)) % (1 << 24),
@@ -90,7 +90,13 @@ fn unlogged(words: &[u64]) -> usize {
 }
 
 // Each object of a graph is at its target, and no other one has an unlog bit.
-fn check_objects(rt: &impl Abort, old: &[u64], new: &[u64], graph: &[Place], number: u64) {
+pub(crate) fn check_objects(
+    rt: &impl Abort,
+    old: &[u64],
+    new: &[u64],
+    graph: &[Place],
+    number: u64,
+) {
     assert_eq!(rt; unlogged(new), graph.len());
     for place in graph {
         let name = place.name;
@@ -100,7 +106,7 @@ fn check_objects(rt: &impl Abort, old: &[u64], new: &[u64], graph: &[Place], num
 }
 
 // Whether each global and register has its target.
-fn has_roots(old: &[u64], new: &[u64], registers: &[u32], last: &[u32]) -> bool {
+pub(crate) fn has_roots(old: &[u64], new: &[u64], registers: &[u32], last: &[u32]) -> bool {
     let targets = registers.iter().map(|r| target(new, u64::from(*r)));
     let globals = old.iter().skip(2).take(16).map(|g| target(new, *g));
     last.iter().map(|r| u64::from(*r)).eq(targets)
@@ -144,7 +150,7 @@ pub(crate) fn check_run(
 }
 
 /// Two objects that refer to each other move from 806 and 810.
-const CYCLE: &[Command] = &[
+pub(crate) const CYCLE: &[Command] = &[
     Command::New {
         d: 0,
         refs: 1,
@@ -191,7 +197,7 @@ const CYCLE_WORDS: &[(usize, u64)] = &[
 
 /// The object at 806 is pinned. The one at 810 moves to 4902, and the one at 814, to which both
 /// refer, to 4906. The one at 817, to which nothing refers, has no target.
-const PINNED: &[Command] = &[
+pub(crate) const PINNED: &[Command] = &[
     Command::New {
         d: 0,
         refs: 1,
@@ -241,7 +247,7 @@ const PINNED_WORDS: &[(usize, u64)] = &[
 ];
 
 /// Two registers, two globals and a field refer to one object, which moves once.
-const SHARED: &[Command] = &[
+pub(crate) const SHARED: &[Command] = &[
     Command::New {
         d: 1,
         refs: 2,
@@ -324,7 +330,7 @@ fn long_list(rt: HostRuntime) -> Result<(), Fail> {
 }
 
 // The lines of the words of objects, each an address and a size, are marked, and no others.
-fn check_lines(rt: &impl Abort, words: &[u64], objects: &[(usize, usize)]) {
+pub(crate) fn check_lines(rt: &impl Abort, words: &[u64], objects: &[(usize, usize)]) {
     for line in 0..1024 {
         let from = 806 + 16 * line;
         let mut touched = false;
@@ -337,7 +343,7 @@ fn check_lines(rt: &impl Abort, words: &[u64], objects: &[(usize, usize)]) {
 
 /// Objects of 4, 1,024, 3, 30 and 18 words at 806, 810, 1834, 1837 and 1867. The second and the
 /// last are pinned, and nothing refers to the third.
-const MARKED: &[Command] = &[
+pub(crate) const MARKED: &[Command] = &[
     Command::New {
         d: 0,
         refs: 0,

@@ -1,0 +1,3 @@
+pub mod Seats
+pub mod Ends
+pub mod WorkedRaces

@@ -1,0 +1,142 @@
+//! Claims: each object gets its target once, by one exchange of its collector word.
+
+ghost use Rattle.std.specs.Prelude.{◌≡◌, [], IsTrue};
+ghost use Rattle.object_model.specs.Objects.{IsHeld};
+ghost use Rattle.trace_core.specs.Machine.{ByRoot};
+ghost use Rattle.trace_core.specs.Setups.{may_be_moved, refs as refs_of, size};
+ghost use Rattle.trace_words.specs.Steps.{MayClaim, LacksRoom, FitsRoom, AsksFor};
+ghost use Rattle.trace_table.specs.Seats.{IsTable, IsSeat, setup_at, ClaimsFor};
+
+use crate::table::{TraceTable, WorkerSeat};
+use crate::tokens::{Claim, Found, Won};
+use forward_word::{encode, target_of};
+use object_model::size_words;
+use std::marker::Brand;
+use trace_words::{About, claim_and_move, claim_in_place};
+
+impl TraceTable {
+    /// Claims the object at `x` for a root that is no global. A root whose object was claimed
+    /// before is set when `ask` has said so.
+    pub fn claim(&self, seat: &mut WorkerSeat, x: u32) -> Claim
+        requires table { IsTable self.now }
+        requires seat { IsSeat self.now seat.old }
+        requires spent { seat.old.seat.me.0.won ≡ [] }
+        requires held { IsHeld (setup_at self.now).before x }
+        ensures seat { IsSeat self.now seat.new }
+        ensures claims { ClaimsFor (setup_at self.now) x ByRoot seat.old.seat.me.0
+            seat.new.seat.me.0 result }
+    {
+        self.claim_for::<Brand>(seat, x)
+    }
+
+    /// Claims the object at `x`, which something asks for.
+    pub(crate) fn claim_for<C: About>(&self, seat: &mut WorkerSeat, x: u32) -> Claim
+        requires about { (setup_at self.now ≡ C.setup) × (x ≡ C.object) }
+        requires table { IsTable self.now }
+        requires seat { IsSeat self.now seat.old }
+        requires spent { seat.old.seat.me.0.won ≡ [] }
+        requires held { IsHeld C.setup.before C.object }
+        requires asks { AsksFor C.setup seat.old.seat.me.0 C.object C.cause }
+        ensures seat { IsSeat self.now seat.new }
+        ensures claims { ClaimsFor C.setup C.object C.cause seat.old.seat.me.0
+            seat.new.seat.me.0 result }
+    {
+        match self.find::<C>(&mut seat.seat, x) {
+            Found::Old => Claim::Old,
+            Found::Seen(target) => Claim::Seen(target),
+            Found::Waits(word) => self.win::<C>(seat, x, word),
+        }
+    }
+
+    /// Gives the object at `x` its target, if no other does so first.
+    fn win<C: About>(&self, seat: &mut WorkerSeat, x: u32, word: u64) -> Claim
+        requires about { (setup_at self.now ≡ C.setup) × (x ≡ C.object) }
+        requires table { IsTable self.now }
+        requires seat { IsSeat self.now seat.old }
+        requires spent { seat.old.seat.me.0.won ≡ [] }
+        requires may { MayClaim C.setup seat.old.seat.me.0 C.object C.cause word }
+        ensures seat { IsSeat self.now seat.new }
+        ensures claims { ClaimsFor C.setup C.object C.cause seat.old.seat.me.0
+            seat.new.seat.me.0 result }
+    {
+        let shape = self.shape::<C>(&mut seat.seat, x);
+        let words = size_words(&shape);
+        let moves = self.may_move::<C>(&mut seat.seat, x, words);
+        if !moves {
+            return self.win_in_place::<C>(seat, x, word, words, shape.refs);
+        }
+        if self.has_room(seat, words) {
+            return self.win_moved::<C>(seat, x, word, words, shape.refs);
+        }
+        self.win_in_place::<C>(seat, x, word, words, shape.refs)
+    }
+
+    /// Claims the object at `x`, which stays: it may not move, or has no room.
+    fn win_in_place<C: About>(
+        &self,
+        seat: &mut WorkerSeat,
+        x: u32,
+        word: u64,
+        words: u32,
+        refs: u32,
+    ) -> Claim
+        requires about { (setup_at self.now ≡ C.setup) × (x ≡ C.object) }
+        requires shape { (words ≡ size C.setup C.object) × (refs ≡ refs_of C.setup C.object) }
+        requires table { IsTable self.now }
+        requires seat { IsSeat self.now seat.old }
+        requires spent { seat.old.seat.me.0.won ≡ [] }
+        requires may { MayClaim C.setup seat.old.seat.me.0 C.object C.cause word }
+        requires stays { IsTrue (may_be_moved C.setup C.object)
+            → LacksRoom C.setup seat.old.seat.me.0 C.object }
+        ensures seat { IsSeat self.now seat.new }
+        ensures claims { ClaimsFor C.setup C.object C.cause seat.old.seat.me.0
+            seat.new.seat.me.0 result }
+    {
+        let new = encode(self.run.number, x);
+        let met = claim_in_place::<C>(&self.row.words, &mut seat.seat, x, word, new);
+        if met != word {
+            return Claim::Seen(target_of(met));
+        }
+        Claim::Won(Won {
+            object: x,
+            target: x,
+            size: words,
+            refs,
+        })
+    }
+
+    /// Claims the object at `x`, which goes to the front of the room.
+    fn win_moved<C: About>(
+        &self,
+        seat: &mut WorkerSeat,
+        x: u32,
+        word: u64,
+        words: u32,
+        refs: u32,
+    ) -> Claim
+        requires about { (setup_at self.now ≡ C.setup) × (x ≡ C.object) }
+        requires shape { (words ≡ size C.setup C.object) × (refs ≡ refs_of C.setup C.object) }
+        requires table { IsTable self.now }
+        requires seat { IsSeat self.now seat.old }
+        requires spent { seat.old.seat.me.0.won ≡ [] }
+        requires may { MayClaim C.setup seat.old.seat.me.0 C.object C.cause word }
+        requires room { FitsRoom C.setup seat.old.seat.me.0 C.object }
+        ensures seat { IsSeat self.now seat.new }
+        ensures claims { ClaimsFor C.setup C.object C.cause seat.old.seat.me.0
+            seat.new.seat.me.0 result }
+    {
+        let target = seat.front;
+        let new = encode(self.run.number, target);
+        let met = claim_and_move::<C>(&self.row.words, &mut seat.seat, x, word, new);
+        if met != word {
+            return Claim::Seen(target_of(met));
+        }
+        seat.front = target + words;
+        Claim::Won(Won {
+            object: x,
+            target,
+            size: words,
+            refs,
+        })
+    }
+}

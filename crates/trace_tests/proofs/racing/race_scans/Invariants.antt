@@ -1,0 +1,11 @@
+use Rattle.std.proofs.Common.{All}
+use Rattle.trace_words.specs.Steps.{IsDone}
+use Rattle.trace_table.specs.Seats.{setup_at, IsSeat, IsGrey}
+use Rattle.trace_tests.proofs.racing.race_scans.Given as goal
+
+abbrev pub invariant-loop-scanned : goal.invariant-loop-scanned
+invariant-loop-scanned l = record {
+  seat : IsSeat l.table l.seat;
+  done : IsDone (setup_at l.table) l.seat.seat.me.0;
+  tokens : All (IsGrey l.table) l.stack.items;
+}
