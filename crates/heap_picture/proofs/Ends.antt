@@ -1,15 +1,14 @@
 -- How a run ends.
-use Rattle.std.proofs.Common.{◌≡◌, refl, subst, ℕ, inl, inr, Option, Some, None, Err}
+use Rattle.std.proofs.Common.{◌≡◌, refl, ℕ, inr, Option, Some, None, Err}
 use Rattle.std.specs.Prelude.{IfSome}
 use Rattle.outside.specs.Outside.{SinkState, SourceState, HasRisen}
 use Rattle.driver.specs.Printed.{WritesFaultLine}
-use Rattle.driver.specs.declared.status.Status.{Status}
 use Rattle.driver.specs.declared.status.Status.TheVariants as status
 use Rattle.heap_picture.specs.Asked.{Asked}
 use Rattle.heap_picture.specs.Reading.{text_read}
 use Rattle.heap_picture.specs.declared.pictures.PictureFault.{PictureFault}
 use Rattle.heap_picture.specs.declared.pictures.PictureFault.TheVariants as faults
-use Rattle.heap_picture.specs.Runs.{IsEnd, IsTooLong, Ran, Refused, Showed, fault_line, memory_line, status_of}
+use Rattle.heap_picture.specs.Runs.{IsEnd, IsTooLong, Ran, Showed, fault_line, memory_line, status_of}
 
 module _ (a : Asked) (files files' : SourceState) (out out' err err' : SinkState) where
   pub fault_ended : (fault : PictureFault) → (fault ≡ faults.Unread → HasRisen files.faults files'.faults)

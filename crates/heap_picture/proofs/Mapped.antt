@@ -1,6 +1,6 @@
 -- The lines of a map lead to the end of the text, and no others do.
-use Rattle.std.proofs.Common.{◌≡◌, refl, sym, ◌∙◌, ap, subst, ℕ, suc, ◌+◌, ◌-◌, ◌<◌, ◌≤◌, ◌^◌, arith, inl, inr, true, ◌&&◌, nat_eq, nat_lt, nat_le, List, [], ◌∷◌, ◌++◌, length, map, append_assoc, append-nil, length-append, Option, Some, None}
-use Rattle.std.specs.Prelude.{if◌then◌else◌, slice_get, option_and_then}
+use Rattle.std.proofs.Common.{◌≡◌, refl, sym, ◌∙◌, ap, subst, ℕ, suc, ◌+◌, ◌-◌, ◌*◌, ◌<◌, ◌≤◌, ◌^◌, arith, inl, inr, true, ◌&&◌, nat_eq, nat_lt, nat_le, List, [], ◌∷◌, ◌++◌, length, map, append_assoc, append-nil, length-append, Option, Some, None}
+use Rattle.std.specs.Prelude.{if◌then◌else◌, slice_get, slice_index_or, option_and_then}
 use Rattle.std.specs.List.{AllByRecursion}
 use Rattle.std.proofs.lemmas.Bool.{and_parts, and_from, eq-eqb, eqb-true, le-leb, leb-true, lt-ltb, ltb-true, or_cases, or_left, or_right}
 use Rattle.ideal_heap.specs.Names.{IsBefore}
@@ -9,20 +9,34 @@ use Rattle.heap_picture.specs.declared.reader.Report.{Report}
 use Rattle.heap_picture.specs.declared.reader.Stage.TheVariants as stages
 use Rattle.heap_picture.specs.Bars.{map_place}
 use Rattle.heap_picture.specs.Forms.{place_in}
-use Rattle.heap_picture.specs.Reading.{Begun, as_place, follows, is_after, is_name, is_next, lies_in, may_be_next}
+use Rattle.heap_picture.specs.Reading.{Begun, as_place, follows, have_sizes, is_after, is_free, is_name, is_next, leaves_room, lies_in, may_be_next, no_wants, own_blocks, new_blocks}
 use Rattle.heap_picture.specs.Texts.{Fits, IsPlaceIn, place_text}
 use Rattle.heap_picture.proofs.Choices.{chosen, then_read}
 use Rattle.heap_picture.proofs.Lies.{ends_within, lies_again, place_lies, word_few}
 use Rattle.heap_picture.proofs.Lines.{Leads}
 use Rattle.heap_picture.proofs.PlacesRead.{place_again, place_read}
+use Rattle.heap_picture.proofs.Taken.{Clear, FreeOf, free_again, free_is}
 
--- some lines of the map are read, and so many words are left
-abbrev pub mapped : Report → List Place → ℕ → Begun
-mapped r ps l = record { stage = stages.Map; report = r; places = ps; left = l }
+-- some lines of the map are read, and so many words, and blocks of large objects and of others, are left
+abbrev pub mapped : List ℕ → Report → List Place → ℕ → ℕ → ℕ → Begun
+mapped bs r ps l g h = record { stage = stages.Map; report = r; replied = 0; born = 0; births = bs; wanted = no_wants; places = ps; left = l; large = g; small = h }
+
+-- a `new` reply gave the name
+abbrev pub BornBy : List ℕ → Place → Type 0
+BornBy bs p = p.birth ≤ slice_index_or bs p.mutator 0
 
 abbrev pub words_in : List Place → ℕ
 words_in [] = 0
 words_in (p ∷ ps) = p.size + words_in ps
+
+abbrev pub blocks_of : List Place → ℕ
+blocks_of [] = 0
+blocks_of (p ∷ ps) = own_blocks p.size + blocks_of ps
+
+-- the blocks of small and medium objects that more places add
+abbrev pub added_to : List Place → List Place → ℕ
+added_to ps [] = 0
+added_to ps (p ∷ more) = new_blocks ps p + added_to (ps ++ p ∷ []) more
 
 -- the name comes after another, if there is one
 abbrev pub Precedes : Place → Place → Type 0
@@ -61,31 +75,46 @@ follows_again (Some last) p h = elim h as (λ _. is_after last p ≡ true) [
 ]
 
 -- the lines are those of more places, which complete the map
-pub record MapRead (lines : List (List ℕ)) (r : Report) (ps : List Place) (l : ℕ) (end : Begun) : Type 0 where
+pub record MapRead (lines : List (List ℕ)) (bs : List ℕ) (r : Report) (ps : List Place) (l g h : ℕ) (end : Begun) : Type 0 where
   pub more : List Place
   pub lines_are : lines ≡ map place_text more
-  pub end_is : end ≡ mapped r (ps ++ more) 0
+  pub end_is : end ≡ mapped bs r (ps ++ more) 0 (g - blocks_of more) (h - added_to ps more)
+  pub large : blocks_of more ≤ g
+  pub small : added_to ps more ≤ h
   pub live : length ps + length more ≡ r.live
   pub words : l ≡ words_in more
   pub each : AllByRecursion (IsPlaceIn r.mutators r.blocks) more
+  pub born : AllByRecursion (BornBy bs) more
+  pub clear : Clear ps more
   pub rise : Rises (last_of ps) more
 
 -- what the tests of a place say
-record Passes (r : Report) (ps : List Place) (l : ℕ) (p : Place) : Type 0 where
+record Passes (bs : List ℕ) (r : Report) (ps : List Place) (l g h : ℕ) (p : Place) : Type 0 where
   is_in : p.birth < 2 ^ 32 → IsPlaceIn r.mutators r.blocks p
+  named : BornBy bs p
   next : Follows (last_of ps) p
   few : length ps < r.live
   within : p.size ≤ l
+  large : own_blocks p.size ≤ g
+  small : new_blocks ps p ≤ h
+  free : FreeOf ps p
 
-passes : (r : Report) (ps : List Place) (l : ℕ) (p : Place) → may_be_next (mapped r ps l) p ≡ true → Passes r ps l p
-passes r ps l p e =
-    let t5 = and_parts (is_name r.mutators p && lies_in r.blocks p && nat_le 3 p.size && is_next ps p && nat_lt (length ps) r.live) (nat_le p.size l) e in
-    let t4 = and_parts (is_name r.mutators p && lies_in r.blocks p && nat_le 3 p.size && is_next ps p) (nat_lt (length ps) r.live) t5.0 in
-    let t3 = and_parts (is_name r.mutators p && lies_in r.blocks p && nat_le 3 p.size) (is_next ps p) t4.0 in
-    let t2 = and_parts (is_name r.mutators p && lies_in r.blocks p) (nat_le 3 p.size) t3.0 in
-    let t1 = and_parts (is_name r.mutators p) (lies_in r.blocks p) t2.0 in
-    let n2 = and_parts (nat_le 1 p.mutator && nat_le p.mutator r.mutators) (nat_le 1 p.birth) t1.0 in
+passes : (bs : List ℕ) (r : Report) (ps : List Place) (l g h : ℕ) (p : Place) → may_be_next (mapped bs r ps l g h) p ≡ true → Passes bs r ps l g h p
+passes bs r ps l g h p e =
+    let o : ℕ = r.live - length ps in
+    let t7 = and_parts (is_name r.mutators bs p && lies_in r.blocks p && nat_le 3 p.size && is_next ps p && leaves_room o l p && nat_le (own_blocks p.size) g && nat_le (new_blocks ps p) h) (is_free ps p) e in
+    let t6 = and_parts (is_name r.mutators bs p && lies_in r.blocks p && nat_le 3 p.size && is_next ps p && leaves_room o l p && nat_le (own_blocks p.size) g) (nat_le (new_blocks ps p) h) t7.0 in
+    let t5 = and_parts (is_name r.mutators bs p && lies_in r.blocks p && nat_le 3 p.size && is_next ps p && leaves_room o l p) (nat_le (own_blocks p.size) g) t6.0 in
+    let t4 = and_parts (is_name r.mutators bs p && lies_in r.blocks p && nat_le 3 p.size && is_next ps p) (leaves_room o l p) t5.0 in
+    let t3 = and_parts (is_name r.mutators bs p && lies_in r.blocks p && nat_le 3 p.size) (is_next ps p) t4.0 in
+    let t2 = and_parts (is_name r.mutators bs p && lies_in r.blocks p) (nat_le 3 p.size) t3.0 in
+    let t1 = and_parts (is_name r.mutators bs p) (lies_in r.blocks p) t2.0 in
+    let n3 = and_parts (nat_le 1 p.mutator && nat_le p.mutator r.mutators && nat_le 1 p.birth) (nat_le p.birth (slice_index_or bs p.mutator 0)) t1.0 in
+    let n2 = and_parts (nat_le 1 p.mutator && nat_le p.mutator r.mutators) (nat_le 1 p.birth) n3.0 in
     let n1 = and_parts (nat_le 1 p.mutator) (nat_le p.mutator r.mutators) n2.0 in
+    let r2 = and_parts (nat_lt 0 o && nat_le p.size l) (have_sizes (o - 1) (l - p.size)) t4.1 in
+    let r1 = and_parts (nat_lt 0 o) (nat_le p.size l) r2.0 in
+    let some : 0 < o = ltb-true 0 o r1.0 in
     let place = place_lies r.blocks p t1.1 in
     record {
       is_in = λ fits. record {
@@ -97,40 +126,59 @@ passes r ps l p e =
         short = place.1;
         lies = place.0;
       };
+      named = leb-true p.birth (slice_index_or bs p.mutator 0) n3.1;
       next = follows_is (last_of ps) p t3.1;
-      few = ltb-true (length ps) r.live t4.1;
-      within = leb-true p.size l t5.1;
+      few = omega (arith, some);
+      within = leb-true p.size l r1.1;
+      large = leb-true (own_blocks p.size) g t5.1;
+      small = leb-true (new_blocks ps p) h t6.1;
+      free = free_is ps p t7.1;
     }
 
-pub map_leads : (lines : List (List ℕ)) (r : Report) (ps : List Place) (l : ℕ) (end : Begun) → Leads lines (mapped r ps l) end → MapRead lines r ps l end
-map_leads [] r ps l end leads =
+pub map_leads : (lines : List (List ℕ)) (bs : List ℕ) (r : Report) (ps : List Place) (l g h : ℕ) (end : Begun) → Leads lines (mapped bs r ps l g h) end → MapRead lines bs r ps l g h end
+map_leads [] bs r ps l g h end leads =
     let both = and_parts (nat_eq (length ps) r.live) (nat_eq l 0) leads.1 in
     let all : length ps ≡ r.live = eqb-true (length ps) r.live both.0 in
     let none : l ≡ 0 = eqb-true l 0 both.1 in
     record {
       more = [];
       lines_are = refl;
-      end_is = sym leads.0 ∙ ap (mapped r ps) none ∙ ap (λ qs. mapped r qs 0) (sym (append-nil ps));
+      end_is = sym leads.0 ∙ ap (λ n. mapped bs r ps n g h) none ∙ ap (λ qs. mapped bs r qs 0 g h) (sym (append-nil ps)) ∙ ap (λ n. mapped bs r (ps ++ []) 0 n h) (let same : g ≡ g - 0 = omega arith in same)
+          ∙ ap (mapped bs r (ps ++ []) 0 (g - 0)) (let same : h ≡ h - 0 = omega arith in same);
+      large = omega arith;
+      small = omega arith;
       live = omega (arith, all);
       words = none;
       each = tt;
+      born = tt;
+      clear = tt;
       rise = tt;
     }
-map_leads (line ∷ lines) r ps l end leads =
-    let read = then_read (as_place (mapped r ps l)) (place_in line) leads.0 leads.1 in
+map_leads (line ∷ lines) bs r ps l g h end leads =
+    let read = then_read (as_place (mapped bs r ps l g h)) (place_in line) leads.0 leads.1 in
     let p : Place = read.0 in
     let place = place_read line p read.1 in
-    let taken = chosen (may_be_next (mapped r ps l) p) (mapped r (ps ++ p ∷ []) (l - p.size)) leads.0 read.2 in
-    let pass = passes r ps l p taken.0 in
-    let later = map_leads lines r (ps ++ p ∷ []) (l - p.size) end (subst (λ s. Leads lines s end) (sym taken.1) leads.2) in
+    let taken = chosen (may_be_next (mapped bs r ps l g h) p) (mapped bs r (ps ++ p ∷ []) (l - p.size) (g - own_blocks p.size) (h - new_blocks ps p)) leads.0 read.2 in
+    let pass = passes bs r ps l g h p taken.0 in
+    let new : ℕ = new_blocks ps p in
+    let room : new ≤ h = pass.small in
+    let own : ℕ = own_blocks p.size in
+    let fits : own ≤ g = pass.large in
+    let later = map_leads lines bs r (ps ++ p ∷ []) (l - p.size) (g - own) (h - new) end (subst (λ s. Leads lines s end) (sym taken.1) leads.2) in
     let longer : length (ps ++ p ∷ []) ≡ length ps + 1 = length-append ps (p ∷ []) in
     record {
       more = p ∷ later.more;
       lines_are = ap (λ x. x ∷ lines) place.0 ∙ ap (λ ls. place_text p ∷ ls) later.lines_are;
-      end_is = later.end_is ∙ ap (λ qs. mapped r qs 0) (append_assoc ps (p ∷ []) later.more);
+      end_is = later.end_is ∙ ap (λ qs. mapped bs r qs 0 (g - own - blocks_of later.more) (h - new - added_to (ps ++ p ∷ []) later.more)) (append_assoc ps (p ∷ []) later.more)
+          ∙ ap (λ n. mapped bs r (ps ++ p ∷ later.more) 0 n (h - new - added_to (ps ++ p ∷ []) later.more)) (let rest : ℕ = blocks_of later.more in let same : g - own - rest ≡ g - (own + rest) = omega arith in same)
+          ∙ ap (mapped bs r (ps ++ p ∷ later.more) 0 (g - (own + blocks_of later.more))) (let rest : ℕ = added_to (ps ++ p ∷ []) later.more in let same : h - new - rest ≡ h - (new + rest) = omega arith in same);
+      large = let rest : blocks_of later.more ≤ g - own = later.large in omega (arith, rest, fits);
+      small = let rest : added_to (ps ++ p ∷ []) later.more ≤ h - new = later.small in omega (arith, rest, room);
       live = let sum = later.live in omega (arith, sum, longer);
       words = let sum = later.words in let within = pass.within in omega (arith, sum, within);
       each = (pass.is_in (let born = place.1.birth in omega (arith, born)), later.each);
+      born = (pass.named, later.born);
+      clear = (pass.free, later.clear);
       rise = (pass.next, subst (λ o. Rises o later.more) (last_pushed ps p) later.rise);
     }
 
@@ -150,25 +198,55 @@ place_fits k b p few low is =
       size = omega (arith, short);
     }
 
-next_again : (r : Report) (ps : List Place) (l : ℕ) (p : Place) → IsPlaceIn r.mutators r.blocks p → Follows (last_of ps) p → length ps < r.live → p.size ≤ l
-    → may_be_next (mapped r ps l) p ≡ true
-next_again r ps l p is next few within =
-    let named : is_name r.mutators p ≡ true = and_from _ _ (and_from _ _ (le-leb 1 p.mutator is.least) (le-leb p.mutator r.mutators is.most)) (le-leb 1 p.birth is.born) in
-    and_from _ _ (and_from _ _ (and_from _ _ (and_from _ _ (and_from _ _ named (lies_again r.blocks p is.header is.short is.lies)) (le-leb 3 p.size is.header)) (follows_again (last_of ps) p next)) (lt-ltb (length ps) r.live few)) (le-leb p.size l within)
+-- places have words as their objects may have
+pub sizes_are : (k b : ℕ) (ps : List Place) → AllByRecursion (IsPlaceIn k b) ps → (3 * length ps ≤ words_in ps) × (words_in ps ≤ 61027 * length ps)
+sizes_are k b [] each = (omega arith, omega arith)
+sizes_are k b (p ∷ ps) each =
+    let least = each.0.header in
+    let most = each.0.short in
+    let rest = sizes_are k b ps each.1 in
+    let low = rest.0 in
+    let high = rest.1 in
+    (omega (arith, least, low), omega (arith, most, high))
 
-pub map_goes : (more : List Place) (r : Report) (ps : List Place) (l : ℕ) → r.mutators ≤ 16 → r.blocks ≤ 1024 → AllByRecursion (IsPlaceIn r.mutators r.blocks) more → Rises (last_of ps) more
-    → length ps + length more ≡ r.live → l ≡ words_in more → Leads (map place_text more) (mapped r ps l) (mapped r (ps ++ more) 0)
-map_goes [] r ps l few low each rise live words =
+pub sizes_again : (k b n w : ℕ) (ps : List Place) → AllByRecursion (IsPlaceIn k b) ps → n ≡ length ps → w ≡ words_in ps → have_sizes n w ≡ true
+sizes_again k b n w ps each count words =
+    let sizes = sizes_are k b ps each in
+    let low = sizes.0 in
+    let high = sizes.1 in
+    and_from _ _ (le-leb (3 * n) w (omega (arith, count, words, low))) (le-leb w (61027 * n) (omega (arith, count, words, high)))
+
+next_again : (bs : List ℕ) (r : Report) (ps : List Place) (l g h : ℕ) (p : Place) → IsPlaceIn r.mutators r.blocks p → BornBy bs p → FreeOf ps p → Follows (last_of ps) p → length ps < r.live → p.size ≤ l
+    → have_sizes (r.live - length ps - 1) (l - p.size) ≡ true → own_blocks p.size ≤ g → new_blocks ps p ≤ h → may_be_next (mapped bs r ps l g h) p ≡ true
+next_again bs r ps l g h p is named free next few within sizes large small =
+    let name : is_name r.mutators bs p ≡ true = and_from _ _ (and_from _ _ (and_from _ _ (le-leb 1 p.mutator is.least) (le-leb p.mutator r.mutators is.most)) (le-leb 1 p.birth is.born)) (le-leb p.birth (slice_index_or bs p.mutator 0) named) in
+    let room : leaves_room (r.live - length ps) l p ≡ true = and_from _ _ (and_from _ _ (lt-ltb 0 (r.live - length ps) (omega (arith, few))) (le-leb p.size l within)) sizes in
+    and_from _ _ (and_from _ _ (and_from _ _ (and_from _ _ (and_from _ _ (and_from _ _ (and_from _ _ name (lies_again r.blocks p is.header is.short is.lies)) (le-leb 3 p.size is.header)) (follows_again (last_of ps) p next)) room) (le-leb (own_blocks p.size) g large)) (le-leb (new_blocks ps p) h small)) (free_again ps p free)
+
+pub map_goes : (more : List Place) (bs : List ℕ) (r : Report) (ps : List Place) (l g h : ℕ) → r.mutators ≤ 16 → r.blocks ≤ 1024 → AllByRecursion (IsPlaceIn r.mutators r.blocks) more → AllByRecursion (BornBy bs) more
+    → Clear ps more → Rises (last_of ps) more
+    → length ps + length more ≡ r.live → l ≡ words_in more → blocks_of more ≤ g → added_to ps more ≤ h → Leads (map place_text more) (mapped bs r ps l g h) (mapped bs r (ps ++ more) 0 (g - blocks_of more) (h - added_to ps more))
+map_goes [] bs r ps l g h few low each named clear rise live words large small =
     let all : length ps ≡ r.live = omega (arith, live) in (
-      ap (mapped r ps) words ∙ ap (λ qs. mapped r qs 0) (sym (append-nil ps)),
+      ap (λ n. mapped bs r ps n g h) words ∙ ap (λ qs. mapped bs r qs 0 g h) (sym (append-nil ps)) ∙ ap (λ n. mapped bs r (ps ++ []) 0 n h) (let same : g ≡ g - 0 = omega arith in same)
+          ∙ ap (mapped bs r (ps ++ []) 0 (g - 0)) (let same : h ≡ h - 0 = omega arith in same),
       and_from _ _ (eq-eqb (length ps) r.live all) (eq-eqb l 0 words),
     )
-map_goes (p ∷ more) r ps l few low each rise live words =
+map_goes (p ∷ more) bs r ps l g h few low each named clear rise live words large small =
     let longer : length (ps ++ p ∷ []) ≡ length ps + 1 = length-append ps (p ∷ []) in
-    let next : may_be_next (mapped r ps l) p ≡ true = next_again r ps l p each.0 rise.0 (omega (arith, live)) (omega (arith, words)) in (
-      mapped r (ps ++ p ∷ []) (l - p.size),
-      ap (option_and_then (as_place (mapped r ps l))) (place_again p (place_fits r.mutators r.blocks p few low each.0))
-          ∙ ap (λ b. if b then Some (mapped r (ps ++ p ∷ []) (l - p.size)) else None) next,
-      subst (λ qs. Leads (map place_text more) (mapped r (ps ++ p ∷ []) (l - p.size)) (mapped r qs 0)) (append_assoc ps (p ∷ []) more)
-          (map_goes more r (ps ++ p ∷ []) (l - p.size) few low each.1 (subst (λ o. Rises o more) (sym (last_pushed ps p)) rise.1) (omega (arith, live, longer)) (omega (arith, words))),
+    let sizes : have_sizes (r.live - length ps - 1) (l - p.size) ≡ true = sizes_again r.mutators r.blocks (r.live - length ps - 1) (l - p.size) more each.1 (omega (arith, live)) (omega (arith, words)) in
+    let own : ℕ = own_blocks p.size in
+    let rest : ℕ = blocks_of more in
+    let all : own + rest ≤ g = large in
+    let new : ℕ = new_blocks ps p in
+    let later : ℕ = added_to (ps ++ p ∷ []) more in
+    let room : new + later ≤ h = small in
+    let next : may_be_next (mapped bs r ps l g h) p ≡ true = next_again bs r ps l g h p each.0 named.0 clear.0 rise.0 (omega (arith, live)) (omega (arith, words)) sizes (omega (arith, all)) (omega (arith, room)) in (
+      mapped bs r (ps ++ p ∷ []) (l - p.size) (g - own) (h - new),
+      ap (option_and_then (as_place (mapped bs r ps l g h))) (place_again p (place_fits r.mutators r.blocks p few low each.0))
+          ∙ ap (λ b. if b then Some (mapped bs r (ps ++ p ∷ []) (l - p.size) (g - own) (h - new)) else None) next,
+      subst (λ e. Leads (map place_text more) (mapped bs r (ps ++ p ∷ []) (l - p.size) (g - own) (h - new)) e)
+          (ap (λ qs. mapped bs r qs 0 (g - own - rest) (h - new - later)) (append_assoc ps (p ∷ []) more) ∙ ap (λ n. mapped bs r (ps ++ p ∷ more) 0 n (h - new - later)) (let same : g - own - rest ≡ g - (own + rest) = omega arith in same)
+          ∙ ap (mapped bs r (ps ++ p ∷ more) 0 (g - (own + rest))) (let same : h - new - later ≡ h - (new + later) = omega arith in same))
+          (map_goes more bs r (ps ++ p ∷ []) (l - p.size) (g - own) (h - new) few low each.1 named.1 clear.1 (subst (λ o. Rises o more) (sym (last_pushed ps p)) rise.1) (omega (arith, live, longer)) (omega (arith, words)) (omega (arith, all)) (omega (arith, room))),
     )

@@ -10,7 +10,8 @@ use Rattle.ideal_heap.specs.Runs.{is_full}
 use Rattle.ideal_heap.specs.declared.reply.Reply.{Reply}
 use Rattle.ideal_heap.specs.declared.reply.Reply.TheVariants as r
 use Rattle.trace_text.specs.Text.{IsPrintable, name_text, reply_text}
-use Rattle.heap_picture.specs.Forms.{LARGE, is_numbered_reply, is_plain_reply, one_number, reply_in, two_numbers}
+use Rattle.heap_picture.specs.Forms.{LARGE, is_numbered_reply, is_plain_reply, name_in, one_number, ref_in, reply_in, two_numbers}
+use Rattle.heap_picture.specs.declared.forms.Pair.{Pair}
 use Rattle.heap_picture.specs.Texts.{IsReplyLine}
 use Rattle.heap_picture.proofs.Numbers.{one_again, two_again}
 use Rattle.heap_picture.proofs.NumbersRead.{one_read, two_read}
@@ -98,3 +99,41 @@ reply_again r.Range fits = refl
 
 pub reply_printed : (line : List ℕ) (full : Bool) → IsReplyLine line full → reply_in line ≡ Some full
 reply_printed line full is = ap reply_in is.2 ∙ reply_again is.0 is.1 ∙ ap Some (sym is.3)
+
+-- the name of a `new` reply
+abbrev pub name_of : Reply → Option Pair
+name_of (r.New n) = Some (record { first = n.mutator; second = n.birth })
+name_of _ = None
+
+pub name_again : (x : Reply) → IsPrintable x → name_in (reply_text x) ≡ name_of x
+name_again (r.New n) fits =
+    ap (λ text. name_in (codes "new " ++ text)) (sym (name_is n.mutator n.birth))
+    ∙ two_again (codes "new ") (codes ".") LARGE n.mutator n.birth (omega (arith, fits.0)) (omega (arith, fits.1)) (omega arith) (λ _. refl)
+name_again r.Full fits = refl
+name_again (r.Ref n) fits = refl
+name_again r.Nil fits = refl
+name_again (r.Num n) fits = refl
+name_again r.Done fits = refl
+name_again r.Yes fits = refl
+name_again r.No fits = refl
+name_again r.Null fits = refl
+name_again r.Range fits = refl
+
+-- the name of a `ref` reply
+abbrev pub other_of : Reply → Option Pair
+other_of (r.Ref n) = Some (record { first = n.mutator; second = n.birth })
+other_of _ = None
+
+pub other_again : (x : Reply) → IsPrintable x → ref_in (reply_text x) ≡ other_of x
+other_again (r.Ref n) fits =
+    ap (λ text. ref_in (codes "ref " ++ text)) (sym (name_is n.mutator n.birth))
+    ∙ two_again (codes "ref ") (codes ".") LARGE n.mutator n.birth (omega (arith, fits.0)) (omega (arith, fits.1)) (omega arith) (λ _. refl)
+other_again (r.New n) fits = refl
+other_again r.Full fits = refl
+other_again r.Nil fits = refl
+other_again (r.Num n) fits = refl
+other_again r.Done fits = refl
+other_again r.Yes fits = refl
+other_again r.No fits = refl
+other_again r.Null fits = refl
+other_again r.Range fits = refl

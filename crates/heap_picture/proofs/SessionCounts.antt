@@ -1,13 +1,16 @@
 -- What a report counts of a session: sums over the replies of all mutators.
 use Rattle.std.proofs.Common.{◌≡◌, refl, sym, ◌∙◌, ap, subst, ℕ, zero, suc, ◌+◌, ◌<◌, ◌≤◌, arith, inl, inr, Bool, true, false, cond, nat_eq, List, [], ◌∷◌, length, map}
 use Rattle.std.specs.Prelude.{◌⊎◌}
-use Rattle.std.specs.List.{AllByRecursion, count_by, range_with_len}
+use Rattle.std.specs.List.{All, AllByRecursion, count_by, range_with_len}
 use Rattle.std.proofs.lemmas.Bool.{eqb-true, eqb-false, ne_eqb}
+use Rattle.std.proofs.lemmas.List.{length-map}
 use Rattle.std.proofs.lemmas.List.Sums.{sum_by-cons}
-use Rattle.ideal_heap.specs.Runs.{Entry, is_full, of_mutator, replies_of}
+use Rattle.std.proofs.lemmas.Option.{unwrap_or-slice_get}
+use Rattle.ideal_heap.specs.declared.command.Command.{Command}
+use Rattle.ideal_heap.specs.Runs.{Entry, IsMutator, commands_of, is_full, of_mutator, replies_of, trace_of}
 use Rattle.ideal_heap.specs.declared.reply.Reply.{Reply}
 use Rattle.trace_text.specs.Text.{IsPrintable}
-use Rattle.heap_picture.proofs.Mutators.{all_refusals, all_replies, one_if, refusals}
+use Rattle.heap_picture.proofs.Mutators.{IsShort, all_refusals, all_replies, one_if, refusals}
 
 -- a sum over replies, and over lists of them
 abbrev weigh : (Reply → ℕ) → List Reply → ℕ
@@ -24,7 +27,7 @@ weigh_done f [] = 0
 weigh_done f (e ∷ es) = f e.reply + weigh_done f es
 
 -- the replies of mutators a to a + n - 1
-abbrev dealt : ℕ → ℕ → List Entry → List (List Reply)
+abbrev pub dealt : ℕ → ℕ → List Entry → List (List Reply)
 dealt a n es = map (λ m. replies_of m es) (range_with_len a n)
 
 module _ (f : Reply → ℕ) where
@@ -100,6 +103,22 @@ module _ (n : ℕ) (es : List Entry) (each : AllByRecursion (λ (e : Entry). (1 
 
   pub full-counted : count_by (λ (e : Entry). is_full e.reply) es ≡ all_refusals (dealt 1 n es)
   full-counted = done-full es ∙ dealt-all (λ x. one_if (is_full x)) n es each ∙ all-full (dealt 1 n es)
+
+-- a mutator has a reply for each command of its trace
+trace-short : (traces : List (List Command)) → All (λ trace. length trace ≤ 1000000) traces → (m : ℕ) → IsMutator traces m → length (trace_of traces m) ≤ 1000000
+trace-short traces few zero is = absurd (let some = is.0 in omega (arith, some))
+trace-short traces few (suc k) is = subst (λ (trace : List Command). length trace ≤ 1000000) (sym (unwrap_or-slice_get traces k [])) (few k [] (let low = is.1 in omega (arith, low)))
+
+module _ (traces : List (List Command)) (few : All (λ trace. length trace ≤ 1000000) traces) (es : List Entry) (order : (m : ℕ) → IsMutator traces m → commands_of m es ≡ trace_of traces m) where
+  short-said : (m : ℕ) → IsMutator traces m → IsShort (replies_of m es)
+  short-said m is =
+      let short : length (trace_of traces m) ≤ 1000000 = trace-short traces few m is in
+      let said : length (replies_of m es) ≡ length (trace_of traces m) = length-map (of_mutator m es) (λ (e : Entry). e.reply) ∙ sym (length-map (of_mutator m es) (λ (e : Entry). e.command)) ∙ ap length (order m is) in
+      omega (arith, short, said)
+
+  pub all-short : (n a : ℕ) → 1 ≤ a → a + n ≤ length traces + 1 → AllByRecursion IsShort (dealt a n es)
+  all-short zero a some low = tt
+  all-short (suc n) a some low = (short-said a (some, omega (arith, low)), all-short n (a + 1) (omega arith) (omega (arith, low)))
 
 -- the replies of each mutator can be printed
 one-of-two : (b : Bool) (m : ℕ) (e : Entry) (es : List Entry) → IsPrintable e.reply → AllByRecursion IsPrintable (replies_of m es)

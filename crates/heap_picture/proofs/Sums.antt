@@ -1,5 +1,5 @@
 -- What a report counts, as sums over lists, and names in rising order.
-use Rattle.std.proofs.Common.{◌≡◌, refl, ◌∙◌, ap, zero, suc, ◌+◌, arith, inl, inr, List, [], ◌∷◌, length}
+use Rattle.std.proofs.Common.{◌≡◌, refl, ◌∙◌, ap, zero, suc, ◌+◌, arith, inl, inr, List, [], ◌∷◌, length, map}
 use Rattle.std.specs.Prelude.{Option, None, Some}
 use Rattle.std.specs.List.{All, AllByRecursion, AllPairs, count_by, sum_by}
 use Rattle.std.proofs.lemmas.List.Elements.{All-from_recursion, recursion_from_All}
@@ -9,8 +9,11 @@ use Rattle.ideal_heap.specs.Runs.{is_full}
 use Rattle.ideal_heap.specs.declared.reply.Reply.{Reply}
 use Rattle.trace_text.specs.Text.{IsPrintable}
 use Rattle.heap_picture.specs.declared.forms.Place.{Place}
-use Rattle.heap_picture.proofs.Mapped.{Precedes, Rises, words_in}
-use Rattle.heap_picture.proofs.Mutators.{all_refusals, all_replies, one_if, refusals}
+use Rattle.heap_picture.proofs.Mapped.{Precedes, Rises, blocks_of, words_in}
+use Rattle.heap_picture.proofs.Mutators.{all_refusals, all_replies, news, one_if, refusals}
+use Rattle.made_trace.specs.Counts.{is_new_reply}
+use Rattle.heap_picture.specs.Texts.{births_in, large_blocks}
+use Rattle.heap_picture.specs.Reading.{own_blocks}
 
 pub refusals_are : (rs : List Reply) → count_by is_full rs ≡ refusals rs
 refusals_are [] = refl
@@ -24,9 +27,24 @@ pub all_refusals_are : (all : List (List Reply)) → sum_by (count_by is_full) a
 all_refusals_are [] = refl
 all_refusals_are (rs ∷ all) = sum_by-cons (count_by is_full) rs all ∙ ap (λ n. n + sum_by (count_by is_full) all) (refusals_are rs) ∙ ap (λ n. refusals rs + n) (all_refusals_are all)
 
+pub news_are : (rs : List Reply) → count_by is_new_reply rs ≡ news rs
+news_are [] = refl
+news_are (x ∷ rs) = sum_by-cons (λ x. one_if (is_new_reply x)) x rs ∙ ap (λ n. one_if (is_new_reply x) + n) (news_are rs)
+
+all_news_are : (all : List (List Reply)) → map (count_by is_new_reply) all ≡ map news all
+all_news_are [] = refl
+all_news_are (rs ∷ all) = ap (λ n. n ∷ map (count_by is_new_reply) all) (news_are rs) ∙ ap (λ ns. news rs ∷ ns) (all_news_are all)
+
+pub births_are : (all : List (List Reply)) → births_in all ≡ 0 ∷ map news all
+births_are all = ap (λ ns. 0 ∷ ns) (all_news_are all)
+
 pub words_are : (ps : List Place) → sum_by (λ p. p.size) ps ≡ words_in ps
 words_are [] = refl
 words_are (p ∷ ps) = sum_by-cons (λ (p : Place). p.size) p ps ∙ ap (λ n. p.size + n) (words_are ps)
+
+pub large_are : (ps : List Place) → large_blocks ps ≡ blocks_of ps
+large_are [] = refl
+large_are (p ∷ ps) = sum_by-cons (λ (p : Place). own_blocks p.size) p ps ∙ ap (λ n. own_blocks p.size + n) (large_are ps)
 
 inner : (all : List (List Reply)) → AllByRecursion (AllByRecursion IsPrintable) all → AllByRecursion (All IsPrintable) all
 inner [] h = tt

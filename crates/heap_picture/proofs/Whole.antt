@@ -1,25 +1,30 @@
 -- A text is read exactly where it is that of a run with a map.
-use Rattle.std.proofs.Common.{◌≡◌, refl, sym, ◌∙◌, ap, subst, ℕ, ◌+◌, ◌<◌, ◌≤◌, ◌^◌, arith, List, [], ◌∷◌, ◌++◌, length, map, append_assoc, None, Ok}
-use Rattle.std.specs.Prelude.{codes}
+use Rattle.heap_picture.proofs.UsedBlocks.{small_are}
+use Rattle.std.proofs.Common.{◌≡◌, refl, sym, ◌∙◌, ap, subst, ℕ, ◌+◌, ◌-◌, ◌*◌, ◌<◌, ◌≤◌, ◌^◌, arith, inl, inr, true, ◌&&◌, ◌||◌, nat_eq, nat_lt, nat_le, List, [], ◌∷◌, ◌++◌, length, map, append_assoc, zero-add, None, Ok}
+use Rattle.std.specs.Prelude.{codes, slice_index_or}
+use Rattle.std.proofs.lemmas.List.{get_or-replicate, get_or_past}
 use Rattle.std.specs.List.{All, AllByRecursion, flat_map}
 use Rattle.std.proofs.lemmas.Grind.{flat_map-append}
+use Rattle.std.proofs.lemmas.Bool.{and_from, and_parts, cases_lt, eq-eqb, eqb-true, le-leb, leb-true, lt-ltb, ltb-true, or_cases, or_left, or_right}
 use Rattle.std.proofs.lemmas.List.Elements.{All-from_recursion, recursion_from_All}
 use Rattle.ideal_heap.specs.declared.reply.Reply.{Reply}
 use Rattle.trace_text.specs.Text.{IsPrintable, ended, replies_text, reply_text}
 use Rattle.driver.specs.Texts.{place_line}
+use Rattle.command_line.specs.declared.order.PlanName.{PlanName}
 use Rattle.heap_picture.specs.declared.forms.Place.{Place}
 use Rattle.heap_picture.specs.declared.reader.Report.{Report}
 use Rattle.heap_picture.specs.Bars.{map_place}
 use Rattle.heap_picture.specs.Forms.{LARGE}
-use Rattle.heap_picture.specs.Reading.{Begun, nothing, text_read}
-use Rattle.heap_picture.specs.Texts.{IsPlaceIn, IsRunText, Reports, count_lines, numbers_in, place_text, plan_line, replies_from, report_text, whole}
+use Rattle.heap_picture.specs.Reading.{Begun, has_young, have_sizes, blocks_in, may_collect, may_have_kinds, no_wants, nothing, strange_in, text_read}
+use Rattle.heap_picture.specs.Texts.{AllNamesInOrder, CountsCollections, HaveSizes, IsPlaceIn, IsRunText, Reports, births_in, count_lines, large_blocks, numbers_in, place_text, plan_line, replies_from, report_text, whole, small_blocks}
 use Rattle.heap_picture.proofs.LineTexts.{kinds_line_lacks, one_line, place_line_lacks, plan_line_lacks, reply_line_lacks, two_line}
 use Rattle.heap_picture.proofs.Lines.{IsLine, Leads, read_lines, text_of_lines}
-use Rattle.heap_picture.proofs.Mapped.{map_goes, map_leads, place_fits, words_in}
-use Rattle.heap_picture.proofs.Mutators.{all_refusals, all_replies, first_line, mutators_go, planned, refusals, replies_lead, reply_lines}
+use Rattle.heap_picture.proofs.Mapped.{BornBy, blocks_of, map_goes, map_leads, place_fits, sizes_again, words_in, added_to}
+use Rattle.heap_picture.proofs.Mutators.{IsShort, all_refusals, all_replies, first_line, mutators_go, news, planned, refusals, replies_lead, reply_lines}
 use Rattle.heap_picture.proofs.PlacesRead.{place_line_is}
 use Rattle.heap_picture.proofs.Reported.{Sized, mapping, report_goes, report_leads}
-use Rattle.heap_picture.proofs.Sums.{all_printable, all_refusals_are, all_replies_are, each_printable, from_pairs, in_pairs, words_are}
+use Rattle.heap_picture.proofs.Sums.{all_printable, all_refusals_are, all_replies_are, births_are, each_printable, from_pairs, in_pairs, large_are, words_are}
+use Rattle.heap_picture.proofs.Taken.{clear_again, clear_pairs}
 
 -- the lines of a text
 abbrev run_lines : Report → List (List Reply) → List Place → List (List ℕ)
@@ -53,41 +58,116 @@ sizes_fit : (r : Report) → Sized r → All (λ n. n ≤ LARGE) (numbers_in r)
 sizes_fit r s = All-from_recursion (λ n. n ≤ LARGE) (numbers_in r)
     (s.commands, (s.full, (s.nursery, (s.collected, (s.live, (s.live_words, (s.held, (s.held_words, (s.kinds.free, (s.kinds.bump, (s.kinds.young, (s.kinds.mature, (s.kinds.immix, (s.kinds.cells, (s.kinds.large, (s.kinds.kept, tt))))))))))))))))
 
+-- what is held beside the live objects
+record Held (r : Report) : Type 0 where
+  objects : r.live ≤ r.held
+  words : r.live_words ≤ r.held_words
+  others : HaveSizes (r.held - r.live) (r.held_words - r.live_words)
+
+held_by : (r : Report) → Sized r → Held r
+held_by r s =
+    let k : ℕ = r.held - r.live in
+    let w : ℕ = r.held_words - r.live_words in
+    let whole = and_parts (nat_le r.live r.held && nat_le r.live_words r.held_words && have_sizes k w) (nat_le r.held_words (4096 * r.blocks)) s.held_is in
+    let all = and_parts (nat_le r.live r.held && nat_le r.live_words r.held_words) (have_sizes k w) whole.0 in
+    let front = and_parts (nat_le r.live r.held) (nat_le r.live_words r.held_words) all.0 in
+    let sizes = and_parts (nat_le (3 * k) w) (nat_le w (61027 * k)) all.1 in
+    record {
+      objects = leb-true r.live r.held front.0;
+      words = leb-true r.live_words r.held_words front.1;
+      others = record { least = leb-true (3 * k) w sizes.0; most = leb-true w (61027 * k) sizes.1 };
+    }
+
+-- the kinds of the blocks
+record Filled (r : Report) : Type 0 where
+  all : blocks_in r.kinds ≡ r.blocks
+  of_plan : strange_in r.plan r.kinds ≡ 0
+  room : r.held_words ≤ 4096 * (r.blocks - r.kinds.free)
+
+filled_by : (r : Report) → may_have_kinds r r.kinds ≡ true → Filled r
+filled_by r e =
+    let whole = and_parts (nat_eq (blocks_in r.kinds) r.blocks && nat_eq (strange_in r.plan r.kinds) 0) (nat_le r.held_words (4096 * (r.blocks - r.kinds.free))) e in
+    let both = and_parts (nat_eq (blocks_in r.kinds) r.blocks) (nat_eq (strange_in r.plan r.kinds) 0) whole.0 in
+    record { all = eqb-true (blocks_in r.kinds) r.blocks both.0; of_plan = eqb-true (strange_in r.plan r.kinds) 0 both.1; room = leb-true r.held_words (4096 * (r.blocks - r.kinds.free)) whole.1 }
+
+-- the collections, as they are counted and as they are tested
+some_young : (plan : PlanName) (n c : ℕ) → (nat_eq n 0 || has_young plan && nat_lt 0 c) ≡ true → 0 < n → (has_young plan ≡ true) × (0 < c)
+some_young plan n c e some = elim (or_cases (nat_eq n 0) (has_young plan && nat_lt 0 c) e) as (λ _. (has_young plan ≡ true) × (0 < c)) [
+  | inl none ↦ absurd (let is : n ≡ 0 = eqb-true n 0 none in omega (arith, is, some))
+  | inr both ↦ (let parts = and_parts (has_young plan) (nat_lt 0 c) both in (parts.0, ltb-true 0 c parts.1))
+]
+
+made_by : (r : Report) → may_collect r (record { first = r.nursery; second = r.collected }) ≡ true → CountsCollections r
+made_by r e =
+    let last = and_parts (nat_le r.full r.collected && nat_le r.collected r.commands && nat_le r.nursery r.commands) (nat_eq r.nursery 0 || has_young r.plan && nat_lt 0 r.collected) e in
+    let three = and_parts (nat_le r.full r.collected && nat_le r.collected r.commands) (nat_le r.nursery r.commands) last.0 in
+    let two = and_parts (nat_le r.full r.collected) (nat_le r.collected r.commands) three.0 in
+    record {
+      young = λ some. (some_young r.plan r.nursery r.collected last.1 some).0;
+      first = λ some. (some_young r.plan r.nursery r.collected last.1 some).1;
+      refused = leb-true r.full r.collected two.0;
+      nursery = leb-true r.nursery r.commands three.1;
+      collected = leb-true r.collected r.commands two.1;
+    }
+
+made_again : (r : Report) → CountsCollections r → may_collect r (record { first = r.nursery; second = r.collected }) ≡ true
+made_again r counts =
+    and_from _ _ (and_from _ _ (and_from _ _ (le-leb r.full r.collected counts.refused) (le-leb r.collected r.commands counts.collected)) (le-leb r.nursery r.commands counts.nursery))
+    (elim (cases_lt 0 r.nursery) as (λ _. (nat_eq r.nursery 0 || has_young r.plan && nat_lt 0 r.collected) ≡ true) [
+      | inl some ↦ or_right (nat_eq r.nursery 0) _ (and_from _ _ (counts.young some) (lt-ltb 0 r.collected (counts.first some)))
+      | inr none ↦ or_left (nat_eq r.nursery 0) _ (eq-eqb r.nursery 0 (omega (arith, none)))
+    ])
+
 reports_are : (r : Report) (all : List (List Reply)) (ps : List Place) → Sized r → r.mutators ≡ length all → 0 < r.mutators → r.mutators ≤ 16 → r.commands ≡ all_replies all
-    → r.full ≡ all_refusals all → r.live ≡ length ps → r.live_words ≡ words_in ps → Reports r all ps
-reports_are r all ps sizes mutators some few commands full live words = record {
-  mutators = mutators;
-  some = omega (arith, some);
-  few = few;
-  commands = commands ∙ sym (all_replies_are all);
-  full = full ∙ sym (all_refusals_are all);
-  live = live;
-  words = words ∙ sym (words_are ps);
-  least = sizes.least;
-  most = sizes.most;
-  fit = sizes_fit r sizes;
-}
+    → r.full ≡ all_refusals all → r.live ≡ length ps → r.live_words ≡ words_in ps → blocks_of ps ≤ r.kinds.large → small_blocks r.blocks ps ≤ r.blocks - r.kinds.free - r.kinds.large → Reports r all ps
+reports_are r all ps sizes mutators some few commands full live words large small =
+    let held = held_by r sizes in
+    let filled = filled_by r sizes.kinds_are in
+    record {
+      mutators = mutators;
+      some = omega (arith, some);
+      few = few;
+      commands = commands ∙ sym (all_replies_are all);
+      full = full ∙ sym (all_refusals_are all);
+      live = live;
+      words = words ∙ sym (words_are ps);
+      held = held.objects;
+      held_words = held.words;
+      others = held.others;
+      room = filled.room;
+      collections = made_by r sizes.collections;
+      large = let same : large_blocks ps ≡ blocks_of ps = large_are ps in omega (arith, same, large);
+      small = small;
+      of_plan = filled.of_plan;
+      least = sizes.least;
+      most = sizes.most;
+      kinds = filled.all;
+      fit = sizes_fit r sizes;
+    }
 
 -- a text that is read, with what was read
 record Found (text : List ℕ) (end : Begun) : Type 0 where
   report : Report
   places : List Place
   is : IsRunText report places text
-  end_is : end ≡ whole report places
+  end_is : end ≡ whole report (births_in is.replies) places
 
 found : (text : List ℕ) (end : Begun) → text_read text ≡ Ok end → Found text end
 found text end e =
     let read = read_lines text end e in
-    let early = replies_lead read.lines 0 0 0 end read.leads in
-    let rep = report_leads early.rest early.plan early.mutators early.commands early.full end early.leads in
+    let early = replies_lead read.lines 0 0 0 0 0 [] no_wants end refl read.leads in
+    let rep = report_leads early.rest early.plan early.mutators early.commands early.full early.births end early.leads in
     let r : Report = rep.report in
-    let mapped = map_leads rep.rest r [] r.live_words end rep.leads in
+    let mapped = map_leads rep.rest early.births r [] r.live_words r.kinds.large (r.blocks - r.kinds.free - r.kinds.large) end rep.leads in
+    let small-is : small_blocks r.blocks mapped.more ≡ added_to [] mapped.more = small_are r.mutators r.blocks mapped.more mapped.each in
     let all : List (List Reply) = early.others in
     let ps : List Place = mapped.more in
     let lines-are : read.lines ≡ run_lines r all ps =
     early.lines_are ∙ ap (λ rs. map reply_text rs ++ (reply_lines 1 all ++ (plan_line early.plan ∷ early.rest))) (early.alone refl)
     ∙ ap (λ plan. reply_lines 1 all ++ (plan_line plan ∷ early.rest)) (sym rep.plan_is)
     ∙ ap (λ ls. reply_lines 1 all ++ (plan_line r.plan ∷ ls)) (rep.lines_are ∙ ap (λ ls. count_lines r ++ ls) mapped.lines_are) in
+    let births-are : early.births ≡ births_in all =
+    early.births_are ∙ ap (λ rs. (0 + news rs) ∷ map news all) (early.alone refl) ∙ ap (λ n. n ∷ map news all) (zero-add 0) ∙ sym (births_are all) in
     let none = ap length (early.alone refl) in
     let few : r.mutators ≤ 16 = let most = early.few (omega arith) in let same = rep.mutators_are in omega (arith, most, same) in
     let some : 0 < r.mutators = let more = early.some in let same = rep.mutators_are in omega (arith, more, same) in
@@ -97,25 +177,37 @@ found text end e =
       is = record {
         replies = all;
         printable = all_printable all early.also;
+        short = All-from_recursion IsShort all early.also_short;
+        named = subst (λ bs. AllNamesInOrder bs 1 all) births-are early.also_named;
         reports = reports_are r all ps rep.sizes (rep.mutators_are ∙ early.mutators_are ∙ omega arith) some few
             (rep.commands_are ∙ early.commands_are ∙ ap (λ rs. 0 + length rs + all_replies all) (early.alone refl) ∙ omega arith)
             (rep.full_is ∙ early.full_are ∙ ap (λ rs. 0 + refusals rs + all_refusals all) (early.alone refl) ∙ omega arith)
-            (let sum = mapped.live in omega (arith, sum)) mapped.words;
+            (let sum = mapped.live in omega (arith, sum)) mapped.words mapped.large (let low : added_to [] mapped.more ≤ r.blocks - r.kinds.free - r.kinds.large = mapped.small in omega (arith, small-is, low));
         each = All-from_recursion (IsPlaceIn r.mutators r.blocks) ps mapped.each;
+        born = subst (λ bs. All (BornBy bs) ps) births-are (All-from_recursion (BornBy early.births) ps mapped.born);
+        apart = clear_pairs [] ps mapped.clear;
         rise = in_pairs None ps mapped.rise;
         text_is = read.text_is ∙ ap (flat_map ended) lines-are ∙ run_joined r all ps;
       };
-      end_is = mapped.end_is;
+      end_is = mapped.end_is ∙ ap (λ n. record (whole r early.births ps) { large = r.kinds.large - n; small = r.blocks - r.kinds.free - r.kinds.large - added_to [] ps }) (sym (large_are ps))
+          ∙ ap (λ n. record (whole r early.births ps) { small = r.blocks - r.kinds.free - r.kinds.large - n }) (sym small-is) ∙ ap (λ bs. whole r bs ps) births-are;
     }
 
--- the end state has no more than a report and places
+-- nothing is wanted at the beginning
+none-wanted : (m : ℕ) → slice_index_or no_wants m 0 ≡ 0
+none-wanted m = elim (cases_lt m 17) as (λ _. slice_index_or no_wants m 0 ≡ 0) [
+  | inl low ↦ get_or-replicate 17 m 0 0 low
+  | inr past ↦ get_or_past no_wants m 0 past
+]
+
+-- the end state has no more than a report, births and places
 abbrev pub IsReadRun : List ℕ → Begun → Type 0
-IsReadRun text s = (s ≡ whole s.report s.places) × IsRunText s.report s.places text
+IsReadRun text s = (t : IsRunText s.report s.places text) × (s ≡ whole s.report (births_in t.replies) s.places)
 
 pub read_is_printed : (text : List ℕ) (s : Begun) → text_read text ≡ Ok s → IsReadRun text s
 read_is_printed text s e =
     let f = found text s e in
-    subst (IsReadRun text) (sym f.end_is) (refl, f.is)
+    subst (IsReadRun text) (sym f.end_is) (f.is, refl)
 
 -- what was printed is read
 append_lines : (xs ys : List (List ℕ)) → AllByRecursion IsLine xs → AllByRecursion IsLine ys → AllByRecursion IsLine (xs ++ ys)
@@ -165,11 +257,19 @@ place_lines_lack : (ps : List Place) (k b : ℕ) → k ≤ 16 → b ≤ 1024 →
 place_lines_lack [] k b few low h = tt
 place_lines_lack (p ∷ ps) k b few low h = (place_line_lacks p (place_fits k b p few low h.0), place_lines_lack ps k b few low h.1)
 
-sized_of : (r : Report) (all : List (List Reply)) (ps : List Place) → Reports r all ps → Sized r
-sized_of r all ps is =
+sized_of : (r : Report) (all : List (List Reply)) (ps : List Place) → Reports r all ps → AllByRecursion (IsPlaceIn r.mutators r.blocks) ps → Sized r
+sized_of r all ps is each =
     let f = recursion_from_All (λ n. n ≤ LARGE) (numbers_in r) is.fit in
     let few = is.few in
+    let others = is.others in
+    let k : ℕ = r.held - r.live in
+    let w : ℕ = r.held_words - r.live_words in
     record {
+      live_sizes = sizes_again r.mutators r.blocks r.live r.live_words ps each is.live (is.words ∙ words_are ps);
+      held_is = and_from _ _ (and_from _ _ (and_from _ _ (le-leb r.live r.held is.held) (le-leb r.live_words r.held_words is.held_words)) (and_from _ _ (le-leb (3 * k) w others.least) (le-leb w (61027 * k) others.most)))
+          (le-leb r.held_words (4096 * r.blocks) (let room = is.room in omega (arith, room)));
+      collections = made_again r is.collections;
+      kinds_are = and_from _ _ (and_from _ _ (eq-eqb (blocks_in r.kinds) r.blocks is.kinds) (eq-eqb (strange_in r.plan r.kinds) 0 is.of_plan)) (le-leb r.held_words (4096 * (r.blocks - r.kinds.free)) is.room);
       least = is.least;
       most = is.most;
       mutators = omega (arith, few);
@@ -193,13 +293,14 @@ sized_of r all ps is =
       };
     }
 
-pub printed_is_read : (r : Report) (ps : List Place) (text : List ℕ) → IsRunText r ps text → text_read text ≡ Ok (whole r ps)
+pub printed_is_read : (r : Report) (ps : List Place) (text : List ℕ) → (t : IsRunText r ps text) → text_read text ≡ Ok (whole r (births_in t.replies) ps)
 printed_is_read r ps text t =
     let all : List (List Reply) = t.replies in
     let reports = t.reports in
-    let sizes : Sized r = sized_of r all ps reports in
-    let prints = each_printable all t.printable in
     let each = recursion_from_All (IsPlaceIn r.mutators r.blocks) ps t.each in
+    let sizes : Sized r = sized_of r all ps reports each in
+    let prints = each_printable all t.printable in
+    let bs : List ℕ = births_in all in
     let rest = count_lines r ++ map place_text ps in
     let few = reports.few in
     let some = reports.some in
@@ -207,13 +308,17 @@ printed_is_read r ps text t =
     let c-is : r.commands ≡ 0 + all_replies all = reports.commands ∙ all_replies_are all ∙ omega arith in
     let f-is : r.full ≡ 0 + all_refusals all = reports.full ∙ all_refusals_are all ∙ omega arith in
     let low = sizes.commands in
-    let map-goes : Leads (map place_text ps) (mapping r) (whole r ps) =
-    map_goes ps r [] r.live_words few reports.most each (from_pairs ps t.rise) (omega arith ∙ sym reports.live) (reports.words ∙ words_are ps) in
-    let goes : Leads rest (planned r.plan r.mutators r.commands r.full) (whole r ps) = report_goes r (map place_text ps) (whole r ps) sizes map-goes in
-    let leads : Leads (run_lines r all ps) nothing (whole r ps) =
-    mutators_go all r.plan 0 0 0 rest (whole r ps) prints (omega (arith, k-is, some)) (omega (arith, k-is, few)) (omega arith) (omega (arith, c-is, low))
-    (subst (λ s. Leads rest s (whole r ps)) (ap (λ i. planned r.plan i r.commands r.full) k-is ∙ ap (λ i. planned r.plan (0 + length all) i r.full) c-is ∙ ap (planned r.plan (0 + length all) (0 + all_replies all)) f-is) goes) in
+    let end = whole r bs ps in
+    let small-is : small_blocks r.blocks ps ≡ added_to [] ps = small_are r.mutators r.blocks ps each in
+    let map-goes : Leads (map place_text ps) (mapping bs r) end =
+    subst (λ e. Leads (map place_text ps) (mapping bs r) e) (ap (λ n. record end { large = r.kinds.large - n; small = r.blocks - r.kinds.free - r.kinds.large - added_to [] ps }) (sym (large_are ps))
+    ∙ ap (λ n. record end { small = r.blocks - r.kinds.free - r.kinds.large - n }) (sym small-is))
+    (map_goes ps bs r [] r.live_words r.kinds.large (r.blocks - r.kinds.free - r.kinds.large) few reports.most each (recursion_from_All (BornBy bs) ps t.born) (clear_again ps t.apart) (from_pairs ps t.rise) (omega arith ∙ sym reports.live) (reports.words ∙ words_are ps) (let large = reports.large in let same : large_blocks ps ≡ blocks_of ps = large_are ps in omega (arith, large, same)) (let small = reports.small in omega (arith, small, small-is))) in
+    let goes : Leads rest (planned r.plan r.mutators r.commands r.full bs) end = report_goes r bs (map place_text ps) end sizes map-goes in
+    let leads : Leads (run_lines r all ps) nothing end =
+    mutators_go all r.plan 0 0 0 0 0 [] no_wants bs rest end prints (recursion_from_All IsShort all t.short) t.named (births_are all) refl refl (λ m. subst (λ (n : ℕ). n ≤ slice_index_or bs m 0) (sym (none-wanted m)) (omega arith)) (omega (arith, k-is, some)) (omega (arith, k-is, few)) (omega arith) (omega (arith, c-is, low))
+    (subst (λ s. Leads rest s end) (ap (λ i. planned r.plan i r.commands r.full bs) k-is ∙ ap (λ i. planned r.plan (0 + length all) i r.full bs) c-is ∙ ap (λ i. planned r.plan (0 + length all) (0 + all_replies all) i bs) f-is) goes) in
     let lines : AllByRecursion IsLine (run_lines r all ps) =
     append_lines (reply_lines 1 all) (plan_line r.plan ∷ rest) (mutator_lines_lack all 1 prints (omega (arith, k-is, few)))
     (plan_line_lacks r.plan, append_lines (count_lines r) (map place_text ps) (count_lines_lack r sizes) (place_lines_lack ps r.mutators r.blocks few reports.most each)) in
-    ap text_read (t.text_is ∙ sym (run_joined r all ps)) ∙ text_of_lines (run_lines r all ps) (whole r ps) lines leads
+    ap text_read (t.text_is ∙ sym (run_joined r all ps)) ∙ text_of_lines (run_lines r all ps) end lines leads

@@ -103,10 +103,18 @@ is_plain_reply line = bytes_eq line (codes "nil") || bytes_eq line (codes "ok")
     || bytes_eq line (codes "yes") || bytes_eq line (codes "no")
     || bytes_eq line (codes "null") || bytes_eq line (codes "range")
 
+-- the name in a `new` reply
+abbrev pub name_in : List ℕ → Option Pair
+name_in line = two_numbers (codes "new ") (codes ".") LARGE line
+
+-- the name in a `ref` reply
+abbrev pub ref_in : List ℕ → Option Pair
+ref_in line = two_numbers (codes "ref ") (codes ".") LARGE line
+
 -- a reply with a name or a number
 abbrev pub is_numbered_reply : List ℕ → Bool
-is_numbered_reply line = is_some (two_numbers (codes "new ") (codes ".") LARGE line)
-    || is_some (two_numbers (codes "ref ") (codes ".") LARGE line)
+is_numbered_reply line = is_some (name_in line)
+    || is_some (ref_in line)
     || is_some (one_number (codes "num ") LARGE line)
 
 -- the line is a reply: whether it says that the heap is full

@@ -1,9 +1,11 @@
 pub mod Forms
+pub mod Marks
 pub mod Reading
 pub mod Bars
 pub mod Drawn
 pub mod Asked
 pub mod Runs
+pub mod TextFiles
 pub mod Texts
 pub mod Sessions
 pub mod Worked

@@ -6,7 +6,7 @@ use Rattle.std.specs.declared.io.ErrorKind.TheVariants as kinds
 use Rattle.outside.specs.Outside.{SinkState, SourceState, HasRisen, AppendsText, AppendsPrefix}
 use Rattle.outside.specs.declared.reader.ReadFault.{ReadFault}
 use Rattle.outside.specs.declared.reader.ReadFault.TheVariants as read
-use Rattle.outside.specs.declared.reader.TheConstants.{MAX_FILE_BYTES}
+use Rattle.heap_picture.specs.declared.text_files.TheConstants.{MAX_TEXT_BYTES}
 use Rattle.driver.specs.declared.status.Status.{Status}
 use Rattle.driver.specs.declared.status.Status.TheVariants as status
 use Rattle.heap_picture.specs.declared.reader.TextFault.{TextFault}
@@ -47,7 +47,7 @@ abbrev pub unread_line : List ℕ → List ℕ
 unread_line file = codes "heap_view: cannot read " ++ (file ++ codes "\n")
 
 abbrev pub long_line : List ℕ → List ℕ
-long_line file = codes "heap_view: " ++ (file ++ codes " is longer than 16777216 bytes\n")
+long_line file = codes "heap_view: " ++ (file ++ codes " is longer than 500000000 bytes\n")
 
 -- the line of the text that is not so
 abbrev pub line_text : List ℕ → List ℕ → List ℕ
@@ -64,7 +64,7 @@ abbrev pub memory_line : List ℕ
 memory_line = codes "heap_view: out of memory\n"
 
 abbrev pub IsTooLong : List ℕ → Type 0
-IsTooLong bytes = MAX_FILE_BYTES < length bytes
+IsTooLong bytes = MAX_TEXT_BYTES < length bytes
 
 -- why a file that was not read has no picture
 abbrev pub reading_fault : ReadFault → PictureFault

@@ -51,7 +51,7 @@ fn write_length_fault<E: Sink>(err: &mut E, name: &str)
         &[
             b"heap_view: ".as_slice(),
             name.as_bytes(),
-            b" is longer than 16777216 bytes\n".as_slice(),
+            b" is longer than 500000000 bytes\n".as_slice(),
         ],
     )
 }

@@ -2,7 +2,7 @@
 
 ghost use Rattle.std.specs.Prelude.{◌≡◌, ◌≤◌, ◌++◌, length, drop, IfSome, option_map};
 ghost use Rattle.std.specs.List.{position_or_len};
-ghost use Rattle.heap_picture.specs.Forms.{LARGE, is_no_digit, is_plain_reply as says_plain, is_numbered_reply as says_number, kinds_in as kinds_of_line, number_after as number_behind, number_first as number_at_first, one_number as number_on_line, place_in as place_of_line, reply_in as reply_of_line, two_numbers as numbers_on_line};
+ghost use Rattle.heap_picture.specs.Forms.{LARGE, is_no_digit, is_plain_reply as says_plain, is_numbered_reply as says_number, kinds_in as kinds_of_line, name_in as name_of_line, ref_in as other_of_line, number_after as number_behind, number_first as number_at_first, one_number as number_on_line, place_in as place_of_line, reply_in as reply_of_line, two_numbers as numbers_on_line};
 ghost use Rattle.heap_picture.specs.Reading.{numbered};
 
 use trace_text::read_numeral;
@@ -161,13 +161,25 @@ fn is_plain_reply(line: &[u8]) -> bool
         || line == b"range".as_slice()
 }
 
+/// The name in a `new` reply.
+pub(crate) fn name_in(line: &[u8]) -> Option<Pair>
+    ensures { result ≡ name_of_line line.now }
+{
+    two_numbers(b"new ", b".", line)
+}
+
+/// The name in a `ref` reply.
+pub(crate) fn ref_in(line: &[u8]) -> Option<Pair>
+    ensures { result ≡ other_of_line line.now }
+{
+    two_numbers(b"ref ", b".", line)
+}
+
 // Whether the line is a reply with a name or a number.
 fn is_numbered_reply(line: &[u8]) -> bool
     ensures { result ≡ says_number line.now }
 {
-    two_numbers(b"new ", b".", line).is_some()
-        || two_numbers(b"ref ", b".", line).is_some()
-        || one_number(b"num ", line).is_some()
+    name_in(line).is_some() || ref_in(line).is_some() || one_number(b"num ", line).is_some()
 }
 
 // Whether the line is a reply, and if so, whether it says that the heap is full.

@@ -8,12 +8,13 @@ ghost use Rattle.command_line.specs.declared.order.PlanName.{PlanName as AnyPlan
 ghost use Rattle.driver.specs.MapPlaces.{HasWord, IsMapOf, LiesInBlocks};
 ghost use Rattle.driver.specs.Texts.{IsSessionText, map_part, place_line, replies_part, report_part};
 ghost use Rattle.ideal_heap.specs.Ideal.{IdealHeap};
+ghost use Rattle.sessions.specs.Plans.{rules_of};
 ghost use Rattle.sessions.specs.Sessions.{IsSound, IsWhole, Moment, Setting};
 ghost use Rattle.std.specs.List.{All, AllPairs, flat_map};
 ghost use Rattle.heap_picture.specs.Bars.{AreApart, BarCovers, Covers, cell_x, cell_y, map_place, rect, word_shown};
 ghost use Rattle.heap_picture.specs.Forms.{LARGE, is_no_digit, one_number, place_in, reply_in, two_numbers};
 ghost use Rattle.heap_picture.specs.Reading.{Begun, lies_in, text_read};
-ghost use Rattle.heap_picture.specs.Texts.{Fits, IsPlaceIn, IsReplyLine, IsRunText, place_text, replies_from, report_text, two_text, whole};
+ghost use Rattle.heap_picture.specs.Texts.{Fits, IsPlaceIn, IsReplyLine, IsRunText, births_in, place_text, replies_from, report_text, two_text, whole};
 ghost use Rattle.heap_picture.specs.Drawn.{bar_text, block_colour, picture_text};
 ghost use Rattle.heap_picture.specs.Sessions.{HasNumbers, places_of, replies_in, report_of};
 ghost use Rattle.heap_picture.specs.declared.colours.Colour.{Colour as AnyColour};
@@ -25,6 +26,7 @@ ghost use Rattle.trace_text.specs.Text.{ended};
 use driver::maps_show_the_ideal_heap;
 use heap_layout::MAX_BLOCKS;
 use ideal_heap::MAX_MUTATORS;
+use trace_text::MAX_COMMANDS;
 
 /// The bar of an object that lies in the heap's blocks has the squares of its words, and no others.
 pub fn bars_have_their_words()
@@ -46,11 +48,13 @@ pub fn places_lie_in_blocks()
     ensures most { (blocks : ℕ) (p : AnyPlace) → IsTrue (lies_in blocks p) → p.size ≤ 61027 }
 {}
 
-/// No two bars of a lawful map overlap.
+/// No two bars of a lawful map overlap, nor of a text that is read.
 pub fn bars_are_apart()
-    ensures { (h : IdealHeap) (mutators blocks : ℕ) (places : List AnyPlace)
+    ensures map { (h : IdealHeap) (mutators blocks : ℕ) (places : List AnyPlace)
         → IsMapOf h blocks (map map_place places) → All (IsPlaceIn mutators blocks) places
         → AllPairs AreApart places }
+    ensures read { (report : AnyReport) (places : List AnyPlace) (text : List ℕ)
+        → IsRunText report places text → AllPairs AreApart places }
 {}
 
 /// A bar has at most 200 bytes.
@@ -63,9 +67,9 @@ pub fn bars_are_short()
 /// Each line of the map has one bar, and each bar is of one line, in their order.
 pub fn lines_have_bars()
     ensures { (names : Option ℕ) (report : AnyReport) (places : List AnyPlace) (text : List ℕ)
-        → IsRunText report places text → (lines : List ℕ) × (head : List ℕ) × (end : List ℕ)
-        × (text ≡ lines ++ flat_map place_line (map map_place places))
-        × (picture_text names (whole report places)
+        → (t : IsRunText report places text) → (lines : List ℕ) × (head : List ℕ)
+        × (end : List ℕ) × (text ≡ lines ++ flat_map place_line (map map_place places))
+        × (picture_text names (whole report (births_in t.replies) places)
         ≡ head ++ flat_map (bar_text names (block_colour report.kinds)) places ++ end) }
 {}
 
@@ -93,8 +97,8 @@ pub fn replies_are_read_as_printed()
 {}
 
 /// What a picture's reader has of a session is what its text prints: the driver's replies, report
-/// and map. So the text of a whole session of at most 16 traces is read, with its report and its
-/// places.
+/// and map. So the text of a whole session under its plan, of at most 16 traces with at most
+/// 1,000,000 commands each, is read, with its report and its places.
 pub fn session_texts_are_read()
     ensures replies { (n : ℕ) (last : Moment)
         → replies_from 1 (replies_in n last) ≡ replies_part n last }
@@ -103,12 +107,13 @@ pub fn session_texts_are_read()
     ensures map { (last : Moment) (live : List ℕ)
         → flat_map place_line (map map_place (places_of last.heap live)) ≡ map_part last live }
     ensures read { (t : Setting) (plan : AnyPlanName) (last : Moment) (text : List ℕ)
-        → IsSound t last → IsWhole t last → 1 ≤ length t.traces
-        → length t.traces ≤ MAX_MUTATORS
+        → t.rules ≡ rules_of (plan_in plan) → IsSound t last → IsWhole t last
+        → 1 ≤ length t.traces → length t.traces ≤ MAX_MUTATORS
+        → All (λ trace. length trace ≤ MAX_COMMANDS) t.traces
         → (s : IsSessionText (plan_in plan) (length t.traces) true last text)
         → HasNumbers (report_of plan (length t.traces) last s.live) last.done
         → text_read text ≡ Ok (whole (report_of plan (length t.traces) last s.live)
-        (places_of last.heap s.live)) }
+        (births_in (replies_in (length t.traces) last)) (places_of last.heap s.live)) }
 {
     maps_show_the_ideal_heap();
 }
@@ -117,7 +122,9 @@ pub fn session_texts_are_read()
 /// report that counts them, and the lines of the places.
 pub fn run_texts_are_read_as_printed()
     ensures printed { (report : AnyReport) (places : List AnyPlace) (text : List ℕ)
-        → IsRunText report places text → text_read text ≡ Ok (whole report places) }
+        → (t : IsRunText report places text)
+        → text_read text ≡ Ok (whole report (births_in t.replies) places) }
     ensures read { (text : List ℕ) (s : Begun) → text_read text ≡ Ok s
-        → (s ≡ whole s.report s.places) × IsRunText s.report s.places text }
+        → (t : IsRunText s.report s.places text)
+        × (s ≡ whole s.report (births_in t.replies) s.places) }
 {}

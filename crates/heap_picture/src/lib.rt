@@ -10,11 +10,13 @@ mod forms;
 mod laws;
 mod parts;
 mod pictures;
+mod places;
 mod process;
 mod reader;
 mod runs;
 mod splitter;
 mod svg;
+mod text_files;
 mod words;
 
 pub use examples::{bars_by_example, colours_by_example, counts_by_example};
@@ -28,3 +30,4 @@ pub use process::program;
 pub use reader::{Reader, Report, TextFault, read_run};
 pub use runs::run;
 pub use svg::draw;
+pub use text_files::MAX_TEXT_BYTES;

@@ -8,9 +8,10 @@ ghost use Rattle.outside.specs.Outside.{HasRisen};
 
 use crate::reader::{TextFault, read_run};
 use crate::svg::draw;
+use crate::text_files::read_text;
 use crate::words::Asked;
 use driver::Status;
-use outside::{ReadFault, Sources, read_file};
+use outside::{ReadFault, Sources};
 use std::alloc::{AllocError, Global};
 
 /// Why there is no picture of a file.
@@ -93,8 +94,7 @@ pub(crate) fn picture_of_file<S: Sources>(
         → IfSome ((S.state sources.old).content (asked_seen asked.entry).file)
         (λ bytes. text_read bytes ≡ Err n) }
 {
-    let mut text = Vec::new(alloc);
-    read_file(alloc, sources, asked.file, &mut text)?;
+    let text = read_text(alloc, sources, asked.file)?;
     let run = read_run(alloc, &text)?;
     Ok(draw(alloc, &run, asked.names)?)
 }

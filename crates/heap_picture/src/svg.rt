@@ -283,7 +283,12 @@ pub fn draw(alloc: Global, run: &Reader, names: Option<u32>) -> Result<Vec<u8>, 
     draw_kinds(&report.kinds, &mut text)?;
     text.extend_from_slice(LEGEND)?;
     draw_cells(report.blocks, &mut text)?;
-    draw_objects(names, block_colour(&report.kinds), &run.places, &mut text)?;
+    draw_objects(
+        names,
+        block_colour(&report.kinds),
+        &run.places.items,
+        &mut text,
+    )?;
     text.extend_from_slice(b"</g></svg>\n")?;
     Ok(text)
 }

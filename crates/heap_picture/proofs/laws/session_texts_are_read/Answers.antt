@@ -12,5 +12,6 @@ pub returns-clause-map : goal.returns-clause-map
 returns-clause-map c last live = map-is last live
 
 pub returns-clause-read : goal.returns-clause-read
-returns-clause-read c t plan last text sound ended some few s fit =
-    sound-read t plan last text sound ended some few s (c.maps_show_the_ideal_heap.ensures.places t last s.live sound s.are).inside fit
+returns-clause-read c t plan last text same sound ended some few brief s fit =
+    let map = c.maps_show_the_ideal_heap.ensures.places t last s.live sound s.are in
+    sound-read t plan last text same sound ended some few brief s map.inside map.apart fit

@@ -1,0 +1,41 @@
+-- Which words of the heap places have.
+use Rattle.object_model.specs.declared.shape.TheConstants.{MAX_MEDIUM_WORDS}
+use Rattle.std.specs.Prelude.{◌≡◌, ℕ, ◌+◌, ◌*◌, Bool, false, ◌&&◌, List, nat_le, nat_lt, slice_index_or, if◌then◌else◌}
+use Rattle.std.specs.List.{list_any}
+use Rattle.heap_layout.specs.declared.layout.TheConstants.{BLOCK_WORDS}
+use Rattle.heap_picture.specs.declared.forms.Place.{Place}
+
+-- the first word of a place and the end of its words, counted from word 0 of block 0 on
+abbrev pub first_word : Place → ℕ
+first_word p = BLOCK_WORDS * p.block + p.word
+
+abbrev pub end_word : Place → ℕ
+end_word p = first_word p + p.size
+
+-- word i belongs to the place
+abbrev pub has_word : ℕ → Place → Bool
+has_word i p = nat_le (first_word p) i && nat_lt i (end_word p)
+
+-- word i belongs to one of the places
+abbrev pub is_taken : List Place → ℕ → Bool
+is_taken places i = list_any (has_word i) places
+
+-- how many blocks a small or medium object of this size has, which it shares with others
+abbrev pub shared_blocks : ℕ → ℕ
+shared_blocks size = if nat_le size MAX_MEDIUM_WORDS then 1 else 0
+
+-- block k has the object of the place, and may have others
+abbrev pub has_block : ℕ → Place → Bool
+has_block k p = nat_le p.block k && nat_lt k (p.block + shared_blocks p.size)
+
+-- block k has a small or medium object of the places
+abbrev pub is_used : List Place → ℕ → Bool
+is_used places k = list_any (has_block k) places
+
+-- exactly the blocks of small and medium objects are marked
+abbrev pub MarksBlocks : List Place → List Bool → Type 0
+MarksBlocks places marks = (k : ℕ) → slice_index_or marks k false ≡ is_used places k
+
+-- exactly the words of the places are marked
+abbrev pub MarksWords : List Place → List Bool → Type 0
+MarksWords places marks = (i : ℕ) → slice_index_or marks i false ≡ is_taken places i
