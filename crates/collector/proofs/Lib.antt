@@ -33,7 +33,7 @@ mod ServedItems
 mod HandedOn
 mod RootLists
 mod FirstItems
-mod CountedNotes
+pub mod CountedNotes
 pub mod Numbers
 mod ServesAppend
 mod RunningPackets

@@ -18,3 +18,5 @@ pub mod ManagedPlans
 pub mod FirstHeap
 pub mod EpochLaws
 pub mod Worlds
+pub mod CountedStops
+pub mod LastNotes

@@ -43,7 +43,7 @@ module _ {P : Type 0} (rules : Rules) (h : StoppedHeap P) (stopped : IsStopped r
   use-them : MayUse (heap_state h.heap) (map mutator_state h.mutators.items)
   use-them = may-use (heap_state h.heap) (map mutator_state h.mutators.items) (ideal_at stopped.now) (stands-represents rules h stopped.setting stopped.now stopped.stands)
 
-  sixteen : HaveRegisters (map mutator_state h.mutators.items)
+  pub sixteen : HaveRegisters (map mutator_state h.mutators.items)
   sixteen = registers-of (map mutator_state h.mutators.items) use-them.mutators.each
 
   pub roots-held : AreRoots (heap_state h.heap) (roots_of (map mutator_state h.mutators.items))

@@ -2,6 +2,7 @@
 pub use Rattle.block_regions.specs.Notes.{AreNotes, FillsHoles, FlagsCover, NoneIsLogged, PlacesInBlock, PlacesRun}
 pub use Rattle.block_sweeps.specs.Sweeping.{AreApart}
 pub use Rattle.collector.specs.Collected.{IsOffered}
+pub use Rattle.collector.specs.declared.outcome.Note.{Note}
 pub use Rattle.heap_layout.specs.Zones.{IsRowOf}
 pub use Rattle.heap_layout.specs.declared.block.Kind.{Kind}
 pub use Rattle.heap_users.specs.Beginnings.{MayUse}

@@ -3,9 +3,9 @@
 //! `collect` writes heap, registers, notes and one of the counts, which change together: registers
 //! are addresses of the new heap, and notes speak of its blocks. Never writes births.
 
-ghost use Rattle.std.specs.Prelude.{◌≡◌, ◌+◌, ◌*◌, ◌^◌, ◌<◌, ◌≤◌, [], map, length, vec_capacity, IfOk};
+ghost use Rattle.std.specs.Prelude.{◌≡◌, ◌+◌, ◌*◌, ◌^◌, ◌<◌, ◌≤◌, [], map, length, vec_capacity, IfOk, IfSome, IsTrue, Some, false};
 ghost use Rattle.std.specs.List.{AllByRecursion};
-ghost use Rattle.managed_heap.specs.Prelude.{Kind, Rules, heap_state, AreNotes, FlagsCover, NoneIsLogged, roots_of, Setting, Moment, MakesCollection, birth_count, mutator_state, IsOffered, collections_of, counted, HasCollected, IsStopped, HeapStandsAt};
+ghost use Rattle.managed_heap.specs.Prelude.{Full, Note, Kind, Rules, heap_state, AreNotes, FlagsCover, NoneIsLogged, roots_of, Setting, Moment, MakesCollection, birth_count, mutator_state, IsOffered, collections_of, counted, HasCollected, IsStopped, HeapStandsAt};
 
 use crate::stopped_heap::StoppedHeap;
 use block_regions::{BlockNote, BlockNotes};
@@ -139,5 +139,70 @@ impl<P: Plan> StoppedHeap<P> {
             plan,
         };
         Ok((stopped, after.note))
+    }
+
+    /// Makes a collection as `collect` does, with its note if `has_note` asks for one. A plan that
+    /// reclaims nothing counts all its objects for a note, and without one takes no time.
+    ///
+    /// Fails if memory runs out. The heap is lost then.
+    pub fn collect_noting<Q: Pool, G: Gate, R: Threads + Sync>(
+        self,
+        rt: &R,
+        kind: Collect,
+        pool: &Q,
+        gate: &G,
+        has_note: bool,
+    ) -> Result<(StoppedHeap<P>, Option<Note>), AllocError>
+        requires offered { IsOffered P.rules kind (heap_state self.heap) }
+        requires stopped { IsStopped P.rules self }
+        requires collections { collections_of self + 1 < 2 ^ NUMBER_BITS }
+        ensures stopped { IfOk result (λ r. IsStopped P.rules r.0) }
+        ensures collected { IfOk result (λ r. (note : Note)
+            × HasCollected P.rules kind self r.0 note × (IsTrue has_note → r.1 ≡ Some note)
+            × IfSome r.1 (λ told. told ≡ note)) }
+        ensures makes { (t : Setting) (now : Moment) → HeapStandsAt P.rules self t now
+            → IfOk result (λ r. (late : Moment) × MakesCollection t kind now late
+            × HeapStandsAt P.rules r.0 t late) }
+    {
+        let reclaims = P::collects();
+        if has_note || reclaims {
+            let (stopped, note) = self.collect(rt, kind, pool, gate)?;
+            return Ok((stopped, Some(note)));
+        }
+        Ok((self.count_collection(), None))
+    }
+
+    // Counts a full collection under a plan that reclaims nothing: the number of the heap rises.
+    fn count_collection(self) -> StoppedHeap<P>
+        requires none { P.rules.collects ≡ false }
+        requires stopped { IsStopped P.rules self }
+        requires collections { collections_of self + 1 < 2 ^ NUMBER_BITS }
+        ensures stopped { IsStopped P.rules result }
+        ensures collected { (note : Note) × HasCollected P.rules Full self result note }
+    {
+        let StoppedHeap {
+            alloc,
+            heap,
+            mutators,
+            mut notes,
+            roots,
+            nursery,
+            full,
+            plan,
+        } = self;
+        let mut row = heap.into_row();
+        row.number += 1;
+        let heap = Heap::from_row(row);
+        renew_notes(&mut notes, &heap);
+        StoppedHeap {
+            alloc,
+            heap,
+            mutators,
+            notes,
+            roots,
+            nursery,
+            full: full + 1,
+            plan,
+        }
     }
 }

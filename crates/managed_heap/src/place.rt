@@ -4,8 +4,8 @@
 //! births and register, and the notes: these change together. A refused need writes nothing.
 //! Collections are made by `collect.rt`.
 
-ghost use Rattle.std.specs.Prelude.{◌≡◌, ◌+◌, ◌≤◌, ◌<◌, ◌^◌, ℕ, length, slice_get, IfSome, IfNone, IfOk, OnErr};
-ghost use Rattle.managed_heap.specs.Prelude.{heap_state, size_of, session_counts, Fits, counts_of, Setting, Moment, Places, ServesNeed, Mutator, AreNotes, collections_of, IsManaged, IsHeapInOrder, IsStopped, HeapStandsAt, IsSpot, born_in, AddsBirths, AddsNeed, MutatorAllocatesAt, IfRefused, MakesRoomAtStop, MayAllocate, NotesLast, WritesNeed, Settles, IsNoteOfLast};
+ghost use Rattle.std.specs.Prelude.{◌≡◌, ◌+◌, ◌≤◌, ◌<◌, ◌^◌, ℕ, length, slice_get, IfSome, IfNone, IfOk, IsTrue, OnErr, Some};
+ghost use Rattle.managed_heap.specs.Prelude.{Note, heap_state, size_of, session_counts, Fits, counts_of, Setting, Moment, Places, ServesNeed, Mutator, AreNotes, collections_of, IsManaged, IsHeapInOrder, IsStopped, HeapStandsAt, IsSpot, born_in, AddsBirths, AddsNeed, MutatorAllocatesAt, IfRefused, MakesRoomAtStop, MayAllocate, NotesLast, WritesNeed, Settles, IsNoteOfLast};
 ghost use Rattle.managed_heap.specs.Prelude.placed;
 
 use crate::scheduler::Scheduler;
@@ -185,15 +185,16 @@ impl<P: Plan> StoppedHeap<P> {
     }
 
     /// The collections for an object of `size` words that does not fit: the one to try first, and a
-    /// full one if that was a nursery one and the object still does not fit. The note is of the
-    /// last one.
+    /// full one if that was a nursery one and the object still does not fit. The note, if
+    /// `has_note` asks for one, is of the last one.
     ///
     /// Fails if memory runs out. The heap is lost then.
     fn make_room<Q: Pool, G: Gate, R: Threads + Sync>(
         self,
         scheduler: &Scheduler<'_, R, Q, G>,
         size: u32,
-    ) -> Result<(StoppedHeap<P>, Note), AllocError>
+        has_note: bool,
+    ) -> Result<(StoppedHeap<P>, Option<Note>), AllocError>
         requires plan { IsManaged P.rules }
         requires stopped { IsStopped P.rules self }
         requires collections { collections_of self + 2 < 2 ^ NUMBER_BITS }
@@ -208,18 +209,19 @@ impl<P: Plan> StoppedHeap<P> {
         ensures births { IfOk result (λ r. (m : ℕ)
             → AddsBirths self.mutators.items m 0 r.0.mutators.items) }
         ensures counts { IfOk result (λ r. collections_of r.0 ≤ collections_of self + 2) }
-        ensures noted { IfOk result (λ r. IsNoteOfLast P.rules self r.0 r.1) }
+        ensures noted { IfOk result (λ r. (note : Note) × IsNoteOfLast P.rules self r.0 note
+            × (IsTrue has_note → r.1 ≡ Some note) × IfSome r.1 (λ told. told ≡ note)) }
     {
         let Scheduler { rt, pool, gate } = *scheduler;
         let first = P::kind(&self.heap);
-        let (mut stopped, note) = self.collect(rt, first, pool, gate)?;
+        let (mut stopped, note) = self.collect_noting(rt, first, pool, gate, has_note)?;
         if first == Collect::Full {
             return Ok((stopped, note));
         }
         if let Some(_spot) = stopped.find_place(size) {
             return Ok((stopped, note));
         }
-        let (stopped, note) = stopped.collect(rt, Collect::Full, pool, gate)?;
+        let (stopped, note) = stopped.collect_noting(rt, Collect::Full, pool, gate, has_note)?;
         Ok((stopped, note))
     }
 
@@ -250,8 +252,8 @@ impl<P: Plan> StoppedHeap<P> {
 
     /// Serves a need of mutator `number`. If the object does not fit, the collection to try first
     /// is made, and a full one if that was a nursery one and the object still does not fit. It is
-    /// placed if it fits then. The note is of the last collection, if one was made. Writes no
-    /// reply.
+    /// placed if it fits then. The note is of the last collection, if one was made and `has_note`
+    /// asks for one. Writes no reply.
     ///
     /// Fails if memory runs out in a collection. The heap is lost then.
     pub fn place_or_collect<Q: Pool, G: Gate, R: Threads + Sync>(
@@ -261,6 +263,7 @@ impl<P: Plan> StoppedHeap<P> {
         need: Need,
         pool: &Q,
         gate: &G,
+        has_note: bool,
     ) -> Result<(StoppedHeap<P>, Placed, Option<Note>), AllocError>
         requires plan { IsManaged P.rules }
         requires stopped { IsStopped P.rules self }
@@ -277,7 +280,8 @@ impl<P: Plan> StoppedHeap<P> {
         ensures refused { IfOk result (λ r. IfRefused r.1 (λ size.
             (size ≡ size_of need.refs need.nums) × (r.0.full ≡ self.full + 1)
             × (Fits P.rules (heap_state r.0.heap) size → ⊥))) }
-        ensures noted { IfOk result (λ r. NotesLast P.rules self r.0 r.2) }
+        ensures noted { IsTrue has_note → IfOk result (λ r. NotesLast P.rules self r.0 r.2) }
+        ensures told { IfOk result (λ r. IfSome r.2 (λ note. IsNoteOfLast P.rules self r.0 note)) }
         ensures lost { OnErr result (Fits P.rules (heap_state self.heap)
             (size_of need.refs need.nums) → ⊥) }
     {
@@ -288,8 +292,8 @@ impl<P: Plan> StoppedHeap<P> {
             return Ok((stopped, Placed::Placed(name), None));
         }
         let scheduler = Scheduler { rt, pool, gate };
-        let (stopped, note) = stopped.make_room(&scheduler, size)?;
+        let (stopped, note) = stopped.make_room(&scheduler, size, has_note)?;
         let (stopped, placed) = stopped.place_or_refuse(number, &need);
-        Ok((stopped, placed, Some(note)))
+        Ok((stopped, placed, note))
     }
 }

@@ -277,7 +277,7 @@ impl<P: Plan> ManagedHeap<P> {
             return Err(AllocError);
         };
         let Scheduler { rt, pool, gate } = *scheduler;
-        let (stopped, placed, note) = stopped.place_or_collect(rt, m + 1, need, pool, gate)?;
+        let (stopped, placed, note) = stopped.place_or_collect(rt, m + 1, need, pool, gate, true)?;
         self.words = count_words(kept_words(self.words, &note), &placed, size);
         self.go_on(stopped, seats);
         Ok(placed)

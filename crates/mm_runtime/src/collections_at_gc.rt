@@ -78,7 +78,7 @@ impl<P: Plan> Manager<P> {
             mut progress,
         } = self;
         let Scheduler { rt, pool, gate } = *scheduler;
-        let (heap, _) = heap.collect(rt, Collect::Full, pool, gate)?;
+        let (heap, _) = heap.collect_noting(rt, Collect::Full, pool, gate, false)?;
         reply_to_gcs(&mut progress, ends);
         Ok(Manager {
             alloc,

@@ -74,7 +74,7 @@ impl<P: Plan> Manager<P> {
             heap,
             mut progress,
         } = self;
-        let (heap, placed, _note) = heap.place_or_collect(rt, number, need, pool, gate)?;
+        let (heap, placed, _) = heap.place_or_collect(rt, number, need, pool, gate, false)?;
         reply_to(&mut progress, number, reply_for(&placed));
         let manager = Manager {
             alloc,

@@ -1,10 +1,10 @@
 -- A poll comes first, and changes nothing.
-use Rattle.std.proofs.Common.{◌≡◌, refl, sym, ◌∙◌, ap, subst, [], ◌∷◌, Some, None, arith}
+use Rattle.std.proofs.Common.{◌≡◌, refl, sym, ◌∙◌, ap, subst, [], Some, None, arith}
 use Rattle.std.specs.Prelude.{MatchOption}
 use Rattle.ideal_heap.specs.declared.command.Command.{Command}
 use Rattle.mutator_calls.specs.Effects.{raises}
 use Rattle.managed_heap.specs.Worlds.{stop_word}
-use Rattle.mm_runtime.specs.Parts.{AnswersMutator, EndsPart, GetsReply}
+use Rattle.mm_runtime.specs.Parts.{EndsPart, GetsReply}
 use Rattle.mm_runtime.proofs.WorldAnswers.{answers-effect}
 use Rattle.mm_runtime.proofs.AnswersInTurn.{answers-unchanged, answers-append, raised-word}
 use Rattle.mm_runtime.proofs.PolledStops.{number-some, word-same}

@@ -4,9 +4,11 @@ use Rattle.object_model.specs.Heaps.{heap_state}
 use Rattle.object_model.specs.Objects.{size_of}
 use Rattle.sessions.specs.Fitting.{Fits}
 use Rattle.managed_heap.specs.declared.place.Placed.TheVariants as answer
+use Rattle.managed_heap.specs.Needs.{IsNoteOfLast, NotesLast}
 use Rattle.managed_heap.specs.Stopped.{collections_of}
 use Rattle.managed_heap.proofs.NeedsWritten as putting
 use Rattle.managed_heap.proofs.BirthCounts.{may-kept}
+use Rattle.managed_heap.proofs.LastNotes.{if-told, last-of-need}
 use Rattle.managed_heap.proofs.Noted as noted
 use Rattle.managed_heap.proofs.ServedNeeds as serving
 use Rattle.managed_heap.proofs.stopped_heap.StoppedHeap.place_or_collect.Goals as goal
@@ -100,23 +102,19 @@ returns-clause-refused g c =
     c.in_ok-stopped.ensures.full c.place_or_refuse-stopped.ensures.refused
 
 pub returns-in-Some-clause-noted : goal.returns-in-Some-clause-noted
-returns-in-Some-clause-noted g c = serving.counts-found c.args.self c.find_place.new.self c.place_need-stopped.result.0 c.args.number c.find_place.ensures.rest c.place_need-stopped.ensures.counts
+returns-in-Some-clause-noted g c = λ _. serving.counts-found c.args.self c.find_place.new.self c.place_need-stopped.result.0 c.args.number c.find_place.ensures.rest c.place_need-stopped.ensures.counts
 
 pub returns-clause-noted : goal.returns-clause-noted
-returns-clause-noted g c =
-    let last = c.in_ok-stopped.ensures.noted in record {
-      kind = last.kind;
-      before = last.before;
-      after = last.after;
-      stands = λ t now stands. last.stands t now (noted.stands-found g.P.Plan.rules c.args.self c.find_place.new.self c.find_place.ensures.rest (noted.known-found g.P.Plan.rules c.args.self c.find_place.new.self c.find_place.ensures.rest c.find_place.ensures.notes c.find_place.ensures.flags c.requires.stopped.order.flags) t now stands);
-      collected = last.collected;
-      count = c.place_or_refuse-stopped.ensures.counts ∙ last.count;
-      more = (
-          let more : collections_of c.find_place.new.self < collections_of c.in_ok-stopped.stopped = last.more in
-          let found : collections_of c.find_place.new.self ≡ collections_of c.args.self = noted.counts-found c.args.self c.find_place.new.self c.find_place.ensures.rest in
-          let settled : collections_of c.place_or_refuse-stopped.result.0 ≡ collections_of c.in_ok-stopped.stopped = c.place_or_refuse-stopped.ensures.counts in
-          omega arith);
-    }
+returns-clause-noted g c = λ asked.
+    subst (NotesLast g.P.Plan.rules c.args.self c.place_or_refuse-stopped.result.0) (sym (c.in_ok-stopped.ensures.noted.2 asked)) (last-of-need g.P.Plan.rules c.args.self c.find_place.new.self c.in_ok-stopped.stopped c.place_or_refuse-stopped.result.0 c.in_ok-stopped.ensures.noted.0 c.find_place.ensures.rest
+    (noted.known-found g.P.Plan.rules c.args.self c.find_place.new.self c.find_place.ensures.rest c.find_place.ensures.notes c.find_place.ensures.flags c.requires.stopped.order.flags)
+    c.in_ok-stopped.ensures.noted.1 c.place_or_refuse-stopped.ensures.counts)
+
+pub returns-clause-told : goal.returns-clause-told
+returns-clause-told g c =
+    if-told (IsNoteOfLast g.P.Plan.rules c.args.self c.place_or_refuse-stopped.result.0) c.in_ok-stopped.note c.in_ok-stopped.ensures.noted.0 c.in_ok-stopped.ensures.noted.3 (last-of-need g.P.Plan.rules c.args.self c.find_place.new.self c.in_ok-stopped.stopped c.place_or_refuse-stopped.result.0 c.in_ok-stopped.ensures.noted.0 c.find_place.ensures.rest
+    (noted.known-found g.P.Plan.rules c.args.self c.find_place.new.self c.find_place.ensures.rest c.find_place.ensures.notes c.find_place.ensures.flags c.requires.stopped.order.flags)
+    c.in_ok-stopped.ensures.noted.1 c.place_or_refuse-stopped.ensures.counts)
 
 pub returns-in_err-stopped-clause-lost : goal.returns-in_err-stopped-clause-lost
 returns-in_err-stopped-clause-lost g c =

@@ -1,5 +1,5 @@
 -- A need is served between two epochs.
-use Rattle.std.proofs.Common.{◌≡◌, ◌+◌, ◌<◌, ◌≤◌, sym, ◌∙◌, ap, ℕ, inl, inr, arith, replicate}
+use Rattle.std.proofs.Common.{refl, ◌≡◌, ◌+◌, ◌<◌, ◌≤◌, sym, ◌∙◌, ap, ℕ, inl, inr, arith, replicate}
 use Rattle.std.proofs.lemmas.Result.{err_from_is_err_and}
 use Rattle.object_model.specs.Objects.{size_of}
 use Rattle.managed_value.specs.Histories.{collections_made, mutators_of_heap}
@@ -71,7 +71,7 @@ returns-clause-made g c =
     let what = c.in_ok-stopped.placed in
     let wanted : ℕ = size_of c.args.need.refs c.args.need.nums in
     served.serves-need g.P.Plan.rules c.args.self.now c.go_on.new.self c.in-Some.stopped c.in_ok-stopped.stopped c.in-Some.ensures.ends c.go_on.ensures.begins
-    c.args.m c.args.need c.requires.place c.requires.plan.fill c.in_ok-stopped.ensures.counts c.in_ok-stopped.note c.in_ok-stopped.ensures.noted what c.in_ok-stopped.ensures.serves c.in_ok-stopped.ensures.births
+    c.args.m c.args.need c.requires.place c.requires.plan.fill c.in_ok-stopped.ensures.counts c.in_ok-stopped.note (c.in_ok-stopped.ensures.noted refl) what c.in_ok-stopped.ensures.serves c.in_ok-stopped.ensures.births
     c.in_ok-stopped.ensures.refused
     (c.go_on.ensures.used ∙ c.count_words-self.ensures ∙ ap (λ (n : ℕ). used_with what n c.kept_words.result) c.size_words-size.ensures
     ∙ ap (λ (n : ℕ). used_with what wanted n) c.kept_words.ensures
@@ -82,7 +82,7 @@ returns-clause-stop g c =
     let what = c.in_ok-stopped.placed in
     let wanted : ℕ = size_of c.args.need.refs c.args.need.nums in
     served.serves-at-stop g.P.Plan.rules c.args.self.now c.go_on.new.self c.in-Some.stopped c.in_ok-stopped.stopped c.in-Some.ensures.ends c.go_on.ensures.begins
-    c.args.m c.args.need what c.in_ok-stopped.ensures.serves c.in_ok-stopped.note c.in_ok-stopped.ensures.noted
+    c.args.m c.args.need what c.in_ok-stopped.ensures.serves c.in_ok-stopped.note (c.in_ok-stopped.ensures.noted refl)
     (c.go_on.ensures.used ∙ c.count_words-self.ensures ∙ ap (λ (n : ℕ). used_with what n c.kept_words.result) c.size_words-size.ensures
     ∙ ap (λ (n : ℕ). used_with what wanted n) c.kept_words.ensures
     ∙ ap (λ (h : ManagedHeap g.row.P.Denot). used_with what wanted (kept_by c.in_ok-stopped.note h.words)) c.stop.ensures.lost)

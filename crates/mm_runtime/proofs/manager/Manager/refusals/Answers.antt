@@ -1,10 +1,9 @@
-use Rattle.std.proofs.Common.{◌≡◌, sym, ◌∙◌, ap, subst, ℕ, ◌+◌, ◌<◌, ◌≤◌, arith, length}
+use Rattle.std.proofs.Common.{◌≡◌, sym, ◌∙◌, ap, subst, ℕ, ◌+◌, arith, length}
 use Rattle.std.specs.Prelude.{count_by}
 use Rattle.std.proofs.lemmas.List.Sums.{count_by-le-length}
 use Rattle.ideal_heap.specs.Runs.{is_full}
 use Rattle.mm_runtime.specs.declared.progress.Progress.{Progress}
 use Rattle.mm_runtime.proofs.Waits as waits
-use Rattle.mm_runtime.proofs.Tally.{entries-are-replies}
 use Rattle.mm_runtime.proofs.ReplyCounts.{SumsFirst, one-summed, all-summed, replies-counted}
 use Rattle.mm_runtime.proofs.manager.Manager.refusals.Goals as goal
 
