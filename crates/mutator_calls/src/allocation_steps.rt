@@ -166,13 +166,16 @@ pub trait AllocationSteps: MutatorSteps {
             → offers_room self.old c n }
         ensures books { books self.new ≡ books self.old };
 
-    /// Draws a ticket: the budget word rises by 1. The ticket is the number that the step finds.
+    /// Draws a ticket: the budget word rises by 1. The ticket is the number that the step finds, and
+    /// the drawing is all that is done from there on.
     fn draw_ticket(&mut self) -> u32
         requires ready { Self.is_ready self.old }
         requires none { (books self.old).ticket ≡ None }
         ensures ready { Self.is_ready self.new }
         ensures goes { Self.makes_steps self.old (draws 1) self.new }
         ensures next { IsNextTicket Self.makes_steps has_budget self.old result }
+        ensures drawn { (later : Self) × Self.makes_steps self.old nothing later
+            × has_budget later result × Self.makes_steps later (draws 1) self.new }
         ensures full { (n : ℕ) → is_full self.old n → is_full self.new n }
         ensures stays { (n k : ℕ) → has_no_room self.old n k → has_no_room self.new n k }
         ensures lacked { (n k : ℕ) → allocates_in self.old n k → has_no_room self.new n k

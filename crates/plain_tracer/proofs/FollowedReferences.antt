@@ -5,7 +5,7 @@ use Rattle.std.proofs.lemmas.Bool.{cond-true, and_from, eq-eqb}
 use Rattle.std.proofs.lemmas.List.{append-nil, append_assoc}
 use Rattle.std.proofs.lemmas.List.Elements.{All-nil, All-cons, All-append, All-replicate}
 use Rattle.trace_core.specs.Setups.{Setup, size, refs}
-use Rattle.trace_core.specs.Machine.{target, Event, ClaimCause, Claim, Copy, TakeBlock, IsSettled, forward}
+use Rattle.trace_core.specs.Machine.{Event, ClaimCause, Claim, Copy, TakeBlock, IsSettled, forward}
 use Rattle.trace_core.specs.Traces.{stage_of, target_of}
 use Rattle.trace_core.specs.Views.{View, is_pair, hits, steps_at_claim, claimed_view, copied_view}
 use Rattle.object_model.specs.Times.{times}

@@ -102,3 +102,6 @@ returns-clause-books c =
 
 pub returns-clause-next : goal.returns-clause-next
 returns-clause-next c = record { later = c.args.self.now; steps = goes-nothing _ _ refl; budget = sym (ticket-is c) }
+
+pub returns-clause-drawn : goal.returns-clause-drawn
+returns-clause-drawn c = (c.args.self.now, goes-nothing _ _ refl, sym (ticket-is c), returns-clause-goes c)
