@@ -15,12 +15,16 @@ const GOOD: &str = "--plan nogc --heap 4 a";
 
 const UNREAD: &str = "--plan nogc --heap 4 b";
 
+const PAIR: &str = "--plan nogc --heap 4 a b";
+
+const PAIR_TRACES: &str = "new r0 0 1;write r0 0 5;share g0 r0;meet|meet;load r1 g0;read r1 0";
+
+const PAIR_TEXT: &str = "0|mutator 1\nnew 1.1\nok\nok\nok\nmutator 2\nok\nref 1.1\nnum 5\nplan";
+
 const LONGEST: &str = "4||mm_drive: a is longer than 16777216 bytes\n";
 
-const MOST: &str = "5||mm_drive: a: more than 1000000 commands\n";
-
 // A line, the beginning of file `a`, how often a piece follows it, and the report.
-const CONTENTS: [(&str, &str, usize, &str, &str); 11] = [
+const CONTENTS: [(&str, &str, usize, &str, &str); 7] = [
     // The last lines without a newline are accepted.
     (
         "--plan nogc --heap 1024 a",
@@ -34,42 +38,34 @@ const CONTENTS: [(&str, &str, usize, &str, &str); 11] = [
     (GOOD, "", 0, "", "5||mm_drive: a: line 1: header\n"),
     (
         GOOD,
-        "mmtrace 1\n\n",
+        "mmtrace 1\r\n",
         0,
         "",
-        "5||mm_drive: a: line 2: word\n",
-    ),
-    (
-        GOOD,
-        "mmtrace 1\nnew r0 1025 0\n",
-        0,
-        "",
-        "5||mm_drive: a: line 2: range\n",
-    ),
-    (
-        GOOD,
-        "mmtrace 1\nread r00 0\n",
-        0,
-        "",
-        "5||mm_drive: a: line 2: number\n",
-    ),
-    (
-        GOOD,
-        "mmtrace 1\nread r0 0\nread r0\n",
-        0,
-        "",
-        "5||mm_drive: a: line 3: count\n",
-    ),
-    (GOOD, "", 16_777_217, "\n", LONGEST),
-    (
-        GOOD,
-        "",
-        16_777_216,
-        "\n",
         "5||mm_drive: a: line 1: header\n",
     ),
-    (GOOD, "mmtrace 1\n", 1_000_001, "gc\n", MOST),
+    // The longest file, and one byte more.
+    (
+        GOOD,
+        "mmtrace 1\n",
+        2_796_201,
+        "xxxxxx",
+        "5||mm_drive: a: line 2: word\n",
+    ),
+    (GOOD, "mmtrace 1\nx", 2_796_201, "xxxxxx", LONGEST),
 ];
+
+// The commands of file `a`, and its fault.
+const BAD_TRACES: &str = "1000000*gc;bad|more than 1000000 commands
+1000001*gc|more than 1000000 commands
+1*;gc|line 2: word
+read  r0 0|line 2: count
+read r0  0|line 2: count
+read r0 0;read r0|line 3: count
+drop r16|line 2: range
+new r0 1025 0|line 2: range
+write r0 0 18446744073709551616|line 2: range
+read r00 0|line 2: number
+new r0 x 60001|line 2: number";
 
 // A text with a piece appended so many times.
 fn repeated(alloc: Global, head: &str, count: usize, piece: &str) -> Result<Vec<u8>, AllocError> {
@@ -86,6 +82,18 @@ fn contents(rt: HostRuntime) -> Result<(), Fail> {
     for (line, head, count, piece, want) in CONTENTS {
         let ran = run_line(&rt, alloc, line, repeated(alloc, head, count, piece)?)?;
         assert!(rt; ran.as_slice() == want.as_bytes(), "{line} {head} {want}");
+    }
+    Ok(())
+}
+
+#[test]
+fn bad_traces(rt: HostRuntime) -> Result<(), Fail> {
+    let alloc = rt.alloc();
+    for row in BAD_TRACES.lines() {
+        let (commands, fault) = row.split_once('|').unwrap_or(("", ""));
+        let ran = run_line(&rt, alloc, GOOD, trace_in(alloc, commands)?)?;
+        let want = format!(in alloc; "5||mm_drive: a: {fault}\n")?;
+        assert!(rt; ran.as_slice() == want.as_bytes(), "{row}");
     }
     Ok(())
 }
@@ -163,19 +171,22 @@ fn sink_of(alloc: Global, device: Device) -> Result<MemSink, AllocError> {
     MemSink::new(alloc, device.room, device.most.max(1), fails)
 }
 
-// Runs the program over these devices. One call of the source fails, none if its number is 0. File
-// `a` has the commands.
+// Runs the program over these devices. One call of the sources fails, none if its number is 0. Bars
+// separate the commands of files `a` and `b`.
 fn run_devices<R: Threads + Sync>(
     rt: &R,
     alloc: Global,
     line: &str,
-    commands: &str,
+    traces: &str,
     failing: u64,
     out: Device,
     err: Device,
 ) -> Result<Vec<u8>, AllocError> {
     let words = words_in(alloc, line)?;
-    let files = file_of(alloc, "a", trace_in(alloc, commands)?)?;
+    let mut files = Vec::new(alloc);
+    for (name, commands) in ["a", "b"].iter().zip(traces.split('|')) {
+        files.push((String::from_str(alloc, name)?, trace_in(alloc, commands)?))?;
+    }
     let mut sources = MemSources::new(files, [failing].to_vec(alloc)?);
     let mut out = sink_of(alloc, out)?;
     let mut err = sink_of(alloc, err)?;
@@ -191,30 +202,42 @@ fn run_devices<R: Threads + Sync>(
     report(alloc, number, out.bytes(), err.bytes())
 }
 
-// The report of a run of `FIRST` whose source and sink fail at this call. The source is opened,
-// gives a piece, and then the end. The sink takes a byte a call.
-fn report_of_failure(alloc: Global, call: usize) -> Result<Vec<u8>, AllocError> {
-    if call <= 3 {
-        return report(alloc, 3, b"", b"mm_drive: cannot read a\n");
-    }
+// The report of a run of `FIRST` whose sink takes as many bytes before it fails, if it does.
+fn report_of_failing_sink(alloc: Global, bytes: usize) -> Result<Vec<u8>, AllocError> {
     let whole = FIRST_TEXT.as_bytes();
-    match whole.get(..call - 1) {
-        Some(front) if call <= whole.len() => {
-            report(alloc, 6, front, b"mm_drive: write failed\n")
-        }
+    match whole.get(..bytes) {
+        Some(front) if bytes < whole.len() => report(alloc, 6, front, b"mm_drive: write failed\n"),
         _ => report(alloc, 0, whole, b""),
     }
 }
 
-// A failure at each call of the source and of the sink.
+// Each call of the sink fails once.
 #[test]
-fn failures(rt: HostRuntime) -> Result<(), Fail> {
+fn failing_outputs(rt: HostRuntime) -> Result<(), Fail> {
     let alloc = rt.alloc();
-    for call in 1..250usize {
-        let out = sink_that_fails(1, call as u64);
-        let ran = run_devices(&rt, alloc, GOOD, FIRST, call as u64, out, SOUND)?;
-        let want = report_of_failure(alloc, call)?;
-        assert!(rt; ran.as_slice() == want.as_slice(), "call {call}");
+    for most in [1usize, 7, 64] {
+        for calls in 0..FIRST_TEXT.len() / most + 2 {
+            let out = sink_that_fails(most, calls as u64 + 1);
+            let ran = run_devices(&rt, alloc, GOOD, FIRST, 0, out, SOUND)?;
+            let want = report_of_failing_sink(alloc, calls.saturating_mul(most))?;
+            assert!(rt; ran.as_slice() == want.as_slice(), "{most} {calls}");
+        }
+    }
+    Ok(())
+}
+
+// Each call of the sources fails once. A file is opened, gives a piece, and then the end.
+#[test]
+fn failing_sources(rt: HostRuntime) -> Result<(), Fail> {
+    let alloc = rt.alloc();
+    for call in 1..8u64 {
+        let ran = run_devices(&rt, alloc, PAIR, PAIR_TRACES, call, SOUND, SOUND)?;
+        let is_good = match call {
+            1..=3 => ran.as_slice() == b"3||mm_drive: cannot read a\n".as_slice(),
+            4..=6 => ran.as_slice() == b"3||mm_drive: cannot read b\n".as_slice(),
+            _ => ran.starts_with(PAIR_TEXT.as_bytes()),
+        };
+        assert!(rt; is_good, "{call}");
     }
     Ok(())
 }
@@ -248,7 +271,8 @@ fn failing_sinks(rt: HostRuntime) -> Result<(), Fail> {
         ),
         ("--plan nogc", "", SOUND, FULL, "2||"),
         (UNREAD, "", SOUND, FULL, "3||"),
-        (GOOD, "read r0", SOUND, FULL, "5||"),
+        (GOOD, "new r0 1025 0", SOUND, FULL, "5||"),
+        (GOOD, "new r0 1025 0", SOUND, sink_that_fails(100, 1), "5||"),
         (GOOD, FIRST, SOUND, FULL, &whole),
         (UNREAD, "", SOUND, sink_that_fails(100, 1), "3||"),
         (

@@ -1,5 +1,5 @@
 -- Replies that are counted by the indexes of their kinds.
-use Rattle.std.proofs.Common.{◌≡◌, refl, ap, ◌+◌, ◌∙◌, sym, ℕ, Bool, List, [], ◌∷◌, cond, count_by}
+use Rattle.std.proofs.Common.{◌≡◌, refl, ap, ◌+◌, ◌∙◌, sym, Bool, List, [], ◌∷◌, cond, count_by}
 use Rattle.std.proofs.lemmas.List.Sums.{sum_by-cons}
 use Rattle.ideal_heap.specs.declared.reply.Reply.{Reply}
 use Rattle.ideal_heap.specs.declared.reply.Reply.TheVariants as r

@@ -1,5 +1,5 @@
 -- What the tables of rows give is what the rows draw.
-use Rattle.std.proofs.Common.{◌≡◌, refl, sym, ap, ◌∙◌, subst, ℕ, zero, suc, ◌+◌, ◌*◌, ◌/◌, ◌%◌, ◌^◌, ◌-◌, ◌<◌, arith, bit_and}
+use Rattle.std.proofs.Common.{◌≡◌, ap, ◌∙◌, ℕ, zero, suc, ◌+◌, ◌*◌, ◌/◌, ◌%◌, ◌^◌, ◌-◌, ◌<◌, arith, bit_and}
 use Rattle.std.specs.Prelude.{get_or}
 use Rattle.std.proofs.lemmas.Nat.{and_mask}
 use Rattle.ideal_heap.specs.declared.command.Command.{Command}
@@ -7,7 +7,8 @@ use Rattle.ideal_heap.specs.declared.command.Command.TheVariants as commands
 use Rattle.stored_commands.specs.declared.form.Op.{Op}
 use Rattle.stored_commands.specs.declared.form.Op.TheVariants.{New, Get, Put, Read, Write, Add, Swap, Move, Load, Share, Pin, Other}
 use Rattle.stored_commands.specs.Forms.{command_of}
-use Rattle.made_trace.specs.declared.draws.TheConstants.{OPS, SECOND, THIRD, FOURTH, MULTIPLIERS, INCREMENTS}
+use Rattle.made_trace.specs.declared.draws.Row.{Row}
+use Rattle.made_trace.specs.declared.draws.TheConstants.{TABLE}
 use Rattle.made_trace.specs.Made.{next_state, in_row}
 
 -- steps of the generator as one
@@ -58,6 +59,10 @@ swap-drawn a b n m s =
     let high : (n % 4 + 65536 * (m % 4)) / 65536 ≡ m % 4 = omega arith in
     ap (λ v. with (commands.Swap a b v ((n % 4 + 65536 * (m % 4)) / 65536)) s) low ∙ ap (λ v. with (commands.Swap a b (n % 4) v) s) high
 
+-- the row with this number
+abbrev pub row-at : ℕ → Row
+row-at r = get_or TABLE r (record { op = Other; second = 0; third = 0; fourth = 0; multiplier = 0; increment = 0 })
+
 -- the command and the state that the tables give, for a row and the state after it was drawn
 abbrev pub tabled : ℕ → ℕ → Drawn
 tabled r x =
@@ -65,9 +70,9 @@ tabled r x =
     let second : ℕ = next_state first in
     let third : ℕ = next_state second in
     let fourth : ℕ = next_state third in (
-      command_of (get_or OPS r Other) (number first % 16) (bit_and (number second) (get_or SECOND r 0))
-          (bit_and (number third) (get_or THIRD r 0) + 65536 * bit_and (number fourth) (get_or FOURTH r 0)),
-      steps (get_or MULTIPLIERS r 0) (get_or INCREMENTS r 0) x,
+      command_of (row-at r).op (number first % 16) (bit_and (number second) (row-at r).second)
+          (bit_and (number third) (row-at r).third + 65536 * bit_and (number fourth) (row-at r).fourth),
+      steps (row-at r).multiplier (row-at r).increment x,
     )
 
 pub rows-drawn : (r x : ℕ) → r < 16 → tabled r x ≡ in_row r x
@@ -90,7 +95,7 @@ rows-drawn (suc (suc (suc (suc (suc (suc (suc (suc (suc (suc (suc (suc (suc (suc
 rows-drawn (suc (suc (suc (suc (suc (suc (suc (suc (suc (suc (suc (suc (suc (suc (suc (suc n)))))))))))))))) x within = absurd (omega (arith, within))
 
 -- no row is of another operation
-pub no-other : (r : ℕ) → r < 16 → get_or OPS r Other ≡ Other → ⊥
+pub no-other : (r : ℕ) → r < 16 → (row-at r).op ≡ Other → ⊥
 no-other zero within is = cc
 no-other (suc zero) within is = cc
 no-other (suc (suc zero)) within is = cc

@@ -5,7 +5,7 @@ use Rattle.std.proofs.lemmas.List.Elements.{All-append, All-cons, All-nil}
 use Rattle.ideal_heap.specs.declared.command.Command.{Command}
 use Rattle.ideal_heap.specs.Commands.{IsValid}
 use Rattle.ideal_heap.specs.declared.command.Command.TheVariants as commands
-use Rattle.made_trace.specs.Made.{Drawing, give, next_state, a_new, a_put, a_get, a_read, a_write, an_add, a_swap, a_move, a_load, a_share, a_pin, in_row, command_at, made_from, made_trace}
+use Rattle.made_trace.specs.Made.{Drawing, give, next_state, a_new, a_put, a_get, a_read, a_write, an_add, a_swap, a_move, a_load, a_share, in_row, command_at, made_from, made_trace}
 
 -- the first k commands of the made trace of n are made, and x is the state after them
 pub record MakesFirst (commands : List Command) (k n x : ℕ) : Type 0 where

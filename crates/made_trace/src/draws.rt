@@ -1,6 +1,6 @@
 //! Random commands.
 
-ghost use Rattle.std.specs.Prelude.{◌≡◌, ◌<◌, ◌/◌, ◌^◌};
+ghost use Rattle.std.specs.Prelude.{◌≡◌, ◌<◌, ◌/◌, ◌^◌, ℕ, MatchOption};
 ghost use Rattle.made_trace.specs.Made.{next_state, draw_below, in_row, command_at};
 
 use ideal_heap::{GLOBALS, REGISTERS};
@@ -41,73 +41,148 @@ const ROWS: u32 = 16;
 // All bits of a draw.
 const ALL_BITS: u32 = 2_147_483_647;
 
-// What the commands of each row do.
-static OPS: [Op; 16] = [
-    Op::New,
-    Op::New,
-    Op::New,
-    Op::New,
-    Op::Put,
-    Op::Put,
-    Op::Get,
-    Op::Get,
-    Op::Read,
-    Op::Write,
-    Op::Add,
-    Op::Swap,
-    Op::Move,
-    Op::Load,
-    Op::Share,
-    Op::Pin,
-];
+// The commands of a row: what they do, the bits of the second draw that are their second number,
+// and so on, and all draws of their arguments as one step of the generator. The first number is
+// always a register or a global.
+#[derive(Debug, Drop)]
+struct Row {
+    op: Op,
+    second: u32,
+    third: u32,
+    fourth: u32,
+    multiplier: u64,
+    increment: u64,
+}
 
-// The bits of the second draw that are the second number of a row's commands, and so on. The first
-// number is always a register or a global.
-const SECOND: [u32; 16] = [7, 7, 7, 7, 7, 7, 15, 15, 31, 31, 31, 31, 15, 15, 15, 0];
-
-const THIRD: [u32; 16] = [
-    31, 31, 31, 31, 15, 15, 7, 7, 0, ALL_BITS, ALL_BITS, 3, 0, 0, 0, 0,
-];
-
-const FOURTH: [u32; 16] = [0, 0, 0, 0, 0, 0, 0, 0, 0, 0, 0, 3, 0, 0, 0, 0];
-
-// All draws of a row's arguments as one step of the generator.
-const MULTIPLIERS: [u64; 16] = [
-    MULTIPLIER_3,
-    MULTIPLIER_3,
-    MULTIPLIER_3,
-    MULTIPLIER_3,
-    MULTIPLIER_3,
-    MULTIPLIER_3,
-    MULTIPLIER_3,
-    MULTIPLIER_3,
-    MULTIPLIER_2,
-    MULTIPLIER_3,
-    MULTIPLIER_3,
-    MULTIPLIER_4,
-    MULTIPLIER_2,
-    MULTIPLIER_2,
-    MULTIPLIER_2,
-    MULTIPLIER,
-];
-
-const INCREMENTS: [u64; 16] = [
-    INCREMENT_3,
-    INCREMENT_3,
-    INCREMENT_3,
-    INCREMENT_3,
-    INCREMENT_3,
-    INCREMENT_3,
-    INCREMENT_3,
-    INCREMENT_3,
-    INCREMENT_2,
-    INCREMENT_3,
-    INCREMENT_3,
-    INCREMENT_4,
-    INCREMENT_2,
-    INCREMENT_2,
-    INCREMENT_2,
-    INCREMENT,
+static TABLE: [Row; 16] = [
+    Row {
+        op: Op::New,
+        second: 7,
+        third: 31,
+        fourth: 0,
+        multiplier: MULTIPLIER_3,
+        increment: INCREMENT_3,
+    },
+    Row {
+        op: Op::New,
+        second: 7,
+        third: 31,
+        fourth: 0,
+        multiplier: MULTIPLIER_3,
+        increment: INCREMENT_3,
+    },
+    Row {
+        op: Op::New,
+        second: 7,
+        third: 31,
+        fourth: 0,
+        multiplier: MULTIPLIER_3,
+        increment: INCREMENT_3,
+    },
+    Row {
+        op: Op::New,
+        second: 7,
+        third: 31,
+        fourth: 0,
+        multiplier: MULTIPLIER_3,
+        increment: INCREMENT_3,
+    },
+    Row {
+        op: Op::Put,
+        second: 7,
+        third: 15,
+        fourth: 0,
+        multiplier: MULTIPLIER_3,
+        increment: INCREMENT_3,
+    },
+    Row {
+        op: Op::Put,
+        second: 7,
+        third: 15,
+        fourth: 0,
+        multiplier: MULTIPLIER_3,
+        increment: INCREMENT_3,
+    },
+    Row {
+        op: Op::Get,
+        second: 15,
+        third: 7,
+        fourth: 0,
+        multiplier: MULTIPLIER_3,
+        increment: INCREMENT_3,
+    },
+    Row {
+        op: Op::Get,
+        second: 15,
+        third: 7,
+        fourth: 0,
+        multiplier: MULTIPLIER_3,
+        increment: INCREMENT_3,
+    },
+    Row {
+        op: Op::Read,
+        second: 31,
+        third: 0,
+        fourth: 0,
+        multiplier: MULTIPLIER_2,
+        increment: INCREMENT_2,
+    },
+    Row {
+        op: Op::Write,
+        second: 31,
+        third: ALL_BITS,
+        fourth: 0,
+        multiplier: MULTIPLIER_3,
+        increment: INCREMENT_3,
+    },
+    Row {
+        op: Op::Add,
+        second: 31,
+        third: ALL_BITS,
+        fourth: 0,
+        multiplier: MULTIPLIER_3,
+        increment: INCREMENT_3,
+    },
+    Row {
+        op: Op::Swap,
+        second: 31,
+        third: 3,
+        fourth: 3,
+        multiplier: MULTIPLIER_4,
+        increment: INCREMENT_4,
+    },
+    Row {
+        op: Op::Move,
+        second: 15,
+        third: 0,
+        fourth: 0,
+        multiplier: MULTIPLIER_2,
+        increment: INCREMENT_2,
+    },
+    Row {
+        op: Op::Load,
+        second: 15,
+        third: 0,
+        fourth: 0,
+        multiplier: MULTIPLIER_2,
+        increment: INCREMENT_2,
+    },
+    Row {
+        op: Op::Share,
+        second: 15,
+        third: 0,
+        fourth: 0,
+        multiplier: MULTIPLIER_2,
+        increment: INCREMENT_2,
+    },
+    Row {
+        op: Op::Pin,
+        second: 0,
+        third: 0,
+        fourth: 0,
+        multiplier: MULTIPLIER,
+        increment: INCREMENT,
+    },
 ];
 
 // The state after this one.
@@ -134,24 +209,24 @@ pub(crate) struct Draws {
 }
 
 impl Draws {
-    // A random command. No branch depends on the draws: what they decide is read from tables.
+    // A random command. No branch depends on the draws: what they decide is read from a table.
     #[inline(always)]
     fn random(&mut self) -> PackedCommand
         ensures { (result, self.new.state) ≡ draw_below 16 in_row self.old.state }
     {
         let row_state = next(self.state);
-        let row = (number(row_state) % ROWS) as usize;
+        let row = &TABLE[(number(row_state) % ROWS) as usize];
         let first = next(row_state);
         let second = next(first);
         let third = next(second);
         let a = number(first) % REGISTERS as u32;
-        let b = number(second) & SECOND[row];
-        let c = number(third) & THIRD[row];
-        let d = number(next(third)) & FOURTH[row];
+        let b = number(second) & row.second;
+        let c = number(third) & row.third;
+        let d = number(next(third)) & row.fourth;
         self.state = row_state
-            .wrapping_mul(MULTIPLIERS[row])
-            .wrapping_add(INCREMENTS[row]);
-        PackedCommand::short(OPS[row], a as u8, b as u16, c + VALUE_UNIT * d)
+            .wrapping_mul(row.multiplier)
+            .wrapping_add(row.increment);
+        PackedCommand::short(row.op, a as u8, b as u16, c + VALUE_UNIT * d)
     }
 
     /// Command `k`, from 0 on.
@@ -159,16 +234,32 @@ impl Draws {
     pub(crate) fn command(&mut self, k: u32) -> PackedCommand
         ensures { (result, self.new.state) ≡ command_at k self.old.state }
     {
-        let place = k % RESET_PERIOD;
-        if place < REGISTERS_RESET {
-            return PackedCommand::short(Op::DropReg, place as u8, 0, 0);
-        }
-        if place < GLOBALS_RESET {
-            return PackedCommand::short(Op::Share, (place - REGISTERS_RESET) as u8, 0, 0);
-        }
-        if k % GC_PERIOD == GLOBALS_RESET {
-            return PackedCommand::short(Op::Gc, 0, 0, 0);
+        if k % RESET_PERIOD <= GLOBALS_RESET {
+            if let Some(command) = fixed_command(k) {
+                return command;
+            }
         }
         self.random()
     }
+}
+
+// Command `k`, if it is not random.
+#[cold]
+#[inline(never)]
+fn fixed_command(k: u32) -> Option<PackedCommand>
+    ensures { (x : ℕ) → MatchOption result (command_at k x ≡ draw_below 16 in_row x)
+        (λ c. (c, x) ≡ command_at k x) }
+{
+    let place = k % RESET_PERIOD;
+    if place < REGISTERS_RESET {
+        return Some(PackedCommand::short(Op::DropReg, place as u8, 0, 0));
+    }
+    if place < GLOBALS_RESET {
+        let global = (place - REGISTERS_RESET) as u8;
+        return Some(PackedCommand::short(Op::Share, global, 0, 0));
+    }
+    if k % GC_PERIOD == GLOBALS_RESET {
+        return Some(PackedCommand::short(Op::Gc, 0, 0, 0));
+    }
+    None
 }

@@ -15,7 +15,8 @@ use Rattle.trace_text.specs.declared.fault.Why.TheVariants as why
 use Rattle.trace_text.specs.Words.{Sort, most_of, word_of, sorts_of, command_of, op_in, arguments_in}
 use Rattle.trace_text.specs.Grammar.{◌>>=◌, argument, arguments, with_op, if_some, op_of, of_words, words_of, line}
 use Rattle.trace_text.specs.Text.{arguments_text, command_text}
-use Rattle.trace_text.proofs.Spelled.{Lacks, Lacks-append, argument_text, argument_again, argument_lacks, argument_is}
+use Rattle.trace_text.specs.Shortening.{Lacks}
+use Rattle.trace_text.proofs.Spelled.{Lacks-append, argument_text, argument_again, argument_lacks, argument_is}
 use Rattle.trace_text.proofs.WholeLines.{cut_at, cut_none}
 use Rattle.trace_text.proofs.ValidLemmas.{bind_ok, chosen_yes}
 

@@ -1,7 +1,8 @@
 -- The number of a numeral's digits, and the digits two at a time.
-use Rattle.std.proofs.Common.{◌≡◌, refl, sym, ◌∙◌, ap, ℕ, ◌+◌, ◌/◌, ◌%◌, ◌<◌, ◌≤◌, ◌^◌, List, [], ◌∷◌, ◌++◌, length, append_assoc, arith}
+use Rattle.std.proofs.Common.{◌≡◌, refl, sym, ◌∙◌, ap, ℕ, zero, suc, ◌+◌, ◌*◌, ◌/◌, ◌%◌, ◌<◌, ◌≤◌, ◌^◌, List, [], ◌∷◌, ◌++◌, length, get_or, append_assoc, arith}
 use Rattle.std.specs.Fmt.{decimal}
 use Rattle.std.proofs.lemmas.Fmt.{length-decimal-le, decimal_digit, decimal_step}
+use Rattle.trace_text.specs.declared.digits.TheConstants.{PAIRS}
 
 pub digit_count : (n : ℕ) → n < 2 ^ 64 → length (decimal n) ≤ 20
 digit_count n small = length-decimal-le 20 n (omega arith) (omega arith) small
@@ -22,6 +23,43 @@ more_digits n large small =
     ∙ ap (λ x. x ++ (48 + n % 10) ∷ []) (decimal_step (n / 10) (omega arith) (omega arith))
     ∙ append_assoc (decimal (n / 10 / 10)) ((48 + n / 10 % 10) ∷ []) ((48 + n % 10) ∷ [])
     ∙ rw (front, before, last) refl
+
+-- the two digits of each of `count` numbers, from n on
+pairs-from : ℕ → ℕ → List ℕ
+pairs-from n zero = []
+pairs-from n (suc count) = (48 + n / 10) ∷ (48 + n % 10) ∷ pairs-from (suc n) count
+
+pairs-are-digits : PAIRS.now ≡ pairs-from 0 100
+unfolding pairs-from
+pairs-are-digits = refl
+
+first-at : (n count i : ℕ) → i < count → get_or (pairs-from n count) (2 * i) 0 ≡ 48 + (n + i) / 10
+unfolding pairs-from
+first-at n zero i within = absurd (omega (arith, within))
+first-at n (suc count) zero within = let sum : n ≡ n + 0 = omega arith in ap (λ m. 48 + m / 10) sum
+first-at n (suc count) (suc i) within =
+    let place : 2 * suc i ≡ suc (suc (2 * i)) = omega arith in
+    let sum : suc n + i ≡ n + suc i = omega arith in
+    ap (λ p. get_or (pairs-from n (suc count)) p 0) place ∙ first-at (suc n) count i (omega (arith, within)) ∙ ap (λ m. 48 + m / 10) sum
+
+second-at : (n count i : ℕ) → i < count → get_or (pairs-from n count) (2 * i + 1) 0 ≡ 48 + (n + i) % 10
+unfolding pairs-from
+second-at n zero i within = absurd (omega (arith, within))
+second-at n (suc count) zero within = let sum : n ≡ n + 0 = omega arith in ap (λ m. 48 + m % 10) sum
+second-at n (suc count) (suc i) within =
+    let place : 2 * suc i + 1 ≡ suc (suc (2 * i + 1)) = omega arith in
+    let sum : suc n + i ≡ n + suc i = omega arith in
+    ap (λ p. get_or (pairs-from n (suc count)) p 0) place ∙ second-at (suc n) count i (omega (arith, within)) ∙ ap (λ m. 48 + m % 10) sum
+
+pub pair_is_digits : (n : ℕ) → n < 100 → get_or PAIRS.now (2 * n) 0 ∷ get_or PAIRS.now (2 * n + 1) 0 ∷ [] ≡ (48 + n / 10) ∷ (48 + n % 10) ∷ []
+pair_is_digits n small =
+    let digits : List ℕ = pairs-from 0 100 in
+    let same : 0 + n ≡ n = omega arith in
+    let first : get_or digits (2 * n) 0 ≡ 48 + n / 10 = first-at 0 100 n small ∙ ap (λ m. 48 + m / 10) same in
+    let second : get_or digits (2 * n + 1) 0 ≡ 48 + n % 10 = second-at 0 100 n small ∙ ap (λ m. 48 + m % 10) same in
+    ap (λ table. get_or table (2 * n) 0 ∷ get_or table (2 * n + 1) 0 ∷ []) pairs-are-digits
+    ∙ ap (λ digit. digit ∷ get_or digits (2 * n + 1) 0 ∷ []) first
+    ∙ ap (λ digit. (48 + n / 10) ∷ digit ∷ []) second
 
 -- a numeral is its first digits followed by its last two
 pub pair_more : (old front new : List ℕ) (n : ℕ) → 100 ≤ n → n < 2 ^ 64 → front ≡ old ++ decimal (n / 100) → new ≡ front ++ (48 + n % 100 / 10) ∷ (48 + n % 100 % 10) ∷ [] → new ≡ old ++ decimal n

@@ -5,6 +5,7 @@ mod NumeralLemmas
 mod PartLemmas
 mod ReaderLemmas
 pub mod ReplyTexts
+mod ShortLines
 mod Spelled
 mod TokenLemmas
 mod ValidLemmas

@@ -15,6 +15,7 @@ use Rattle.trace_text.specs.Words.{all_ops}
 use Rattle.trace_text.specs.Parts.{IsReadAs}
 use Rattle.trace_text.specs.Grammar.{line, lines_from, lines_of, with_header, trace, Gives, parts_at, without_empty_end}
 use Rattle.trace_text.specs.Readers.{with_prefix, end_of_lines, ReadsLines, HasWholeLines, HasRead}
+use Rattle.trace_text.specs.Shortening.{StandsFor}
 use Rattle.trace_text.proofs.WholeLines.{cut_more, keeps_end, ended_parts, some_part}
 
 with_prefix-one : {C : Type 0} (prefix : List C) (c : C) (r : Result (List C) TraceFault) → with_prefix prefix (with_prefix (c ∷ []) r) ≡ with_prefix (prefix ++ c ∷ []) r
@@ -68,6 +69,16 @@ read_begun old new text piece more_begun same had more =
     ∙ ap (λ l. end_of_lines old.lines (lines_of l)) (sym (append_assoc old.begun.items piece more) ∙ ap (λ l. l ++ more) (sym more_begun))
     ∙ sym (same (lines_of (new.begun.items ++ more)))
 
+-- the line that has begun is shortened
+pub read_shortened : (old new : TraceReader) (text : List ℕ) → new.lines ≡ old.lines → StandsFor old.begun.items new.begun.items → HasRead old text → HasRead new text
+read_shortened old new text same stands had more =
+    had more ∙ stands old.lines more ∙ ap (λ r. end_of_lines r (lines_of (new.begun.items ++ more))) (sym same)
+
+-- memory is taken for commands
+pub read_reserved : (old new : TraceReader) (text : List ℕ) → new.begun ≡ old.begun → ((ls : List (List ℕ)) → end_of_lines new.lines ls ≡ end_of_lines old.lines ls) → HasRead old text → HasRead new text
+read_reserved old new text begun same had more =
+    had more ∙ sym (same (lines_of (old.begun.items ++ more))) ∙ ap (λ b. end_of_lines new.lines (lines_of (b.items ++ more))) (sym begun)
+
 pub trace_is : (bytes : List ℕ) → trace bytes ≡ with_header (lines_of bytes)
 unfolding trace
 trace_is bytes = refl
@@ -91,6 +102,10 @@ ends r text result done had read is =
 pub on_ok : {X E A : Type 0} {Q : Type 0} (r : Result X E) (x a b : List A) → x ≡ (if is_ok r then a else b) → (x ≡ a → Q) → OnOk r Q
 on_ok (Ok y) x a b e f = f e
 on_ok (Err d) x a b e f = tt
+
+pub on_ok_then : {X E : Type 0} {P Q : Type 0} (r : Result X E) → OnOk r P → (P → Q) → OnOk r Q
+on_ok_then (Ok y) p f = f p
+on_ok_then (Err d) p f = tt
 
 -- a piece, its first line, the whole lines after it, and the rest
 pub in_three : (piece : List ℕ) (n m : ℕ) (rest : List ℕ) → rest ≡ take (length piece - n) (drop n piece) → piece ≡ take n piece ++ (take m rest ++ take (length rest - m) (drop m rest))

@@ -15,7 +15,8 @@ use Rattle.ideal_heap.specs.declared.reply.Reply.{Reply}
 use Rattle.ideal_heap.specs.declared.reply.Reply.TheVariants as r
 use Rattle.trace_text.specs.Grammar.{parts_at, lines_of}
 use Rattle.trace_text.specs.Text.{ended, name_text, reply_text, replies_text, mutator_text, IsPrintable, HasFullLine}
-use Rattle.trace_text.proofs.Spelled.{Lacks, Lacks-append}
+use Rattle.trace_text.specs.Shortening.{Lacks}
+use Rattle.trace_text.proofs.Spelled.{Lacks-append}
 use Rattle.trace_text.proofs.ValidLemmas.{by_recursion}
 use Rattle.trace_text.proofs.WholeLines.{AllLack, joined, cut_at, cut_none, lines_before}
 

@@ -2,7 +2,7 @@
 use Rattle.std.proofs.Common.{◌≡◌, refl, sym, ◌∙◌, ap, ℕ, zero, suc, ◌<◌, ◌≤◌, ◌^◌, inl, inr, arith, rules, Bool, true, false, cond, ◌&&◌, not, nat_eq, nat_lt, nat_le, List, [], ◌∷◌, ◌++◌, length, get_or, Option, Some, None, Ok}
 use Rattle.std.specs.Char.{is_ascii_digit}
 use Rattle.std.specs.Fmt.{decimal}
-use Rattle.std.specs.List.{AllByRecursion, list_all}
+use Rattle.std.specs.List.{list_all}
 use Rattle.std.specs.Str.Parse.{AllDigits, digits_value}
 use Rattle.std.proofs.lemmas.Bool.{and_parts, or_cases, not-true, eqb-true, eqb-false, ltb-true, le-leb, ne_eqb}
 use Rattle.std.proofs.lemmas.Fmt.{decimal_is_IsNumeral, digits_decimal, digits_value-decimal, decimal_nonempty, decimal_digit, first_decimal, decimal-digits_value}
@@ -10,12 +10,9 @@ use Rattle.std.proofs.lemmas.Str.Parse.{IsNumeralModel, numerals_by_value, digit
 use Rattle.trace_text.specs.declared.fault.Why.TheVariants as why
 use Rattle.trace_text.specs.Words.{Sort, Register, Global, RefCount, NumCount, RefIndex, NumIndex, Value, most_of, letter_of}
 use Rattle.trace_text.specs.Grammar.{is_numeral, numeral, numeral_after, checked, argument}
+use Rattle.trace_text.specs.Shortening.{Lacks}
 use Rattle.trace_text.proofs.NumeralLemmas.{good_numeral}
 use Rattle.trace_text.proofs.ValidLemmas.{chosen_yes, checked_most}
-
--- no byte of the text is this one
-abbrev pub Lacks : ℕ → List ℕ → Type 0
-Lacks at text = AllByRecursion (λ b. nat_eq b at ≡ false) text
 
 pub Lacks-append : (at : ℕ) (xs ys : List ℕ) → Lacks at xs → Lacks at ys → Lacks at (xs ++ ys)
 Lacks-append at [] ys h k = k

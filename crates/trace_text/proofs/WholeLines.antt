@@ -6,7 +6,7 @@ use Rattle.std.proofs.lemmas.List.Splits.{slice_split-cons_yes, slice_split-cons
 use Rattle.trace_text.specs.Grammar.{parts_at, lines_of, without_empty_end}
 use Rattle.trace_text.specs.Text.{ended}
 use Rattle.trace_text.proofs.PartLemmas.{line_before}
-use Rattle.trace_text.proofs.Spelled.{Lacks}
+use Rattle.trace_text.specs.Shortening.{Lacks}
 
 pub cut_at : (at : ℕ) (xs ys : List ℕ) → Lacks at xs → parts_at at (xs ++ at ∷ ys) ≡ xs ∷ parts_at at ys
 cut_at at [] ys lacks = slice_split-cons_yes _ at ys (eq-eqb at at refl)

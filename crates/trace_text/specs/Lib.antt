@@ -5,3 +5,4 @@ pub mod Ops
 pub mod Parts
 pub mod Arguments
 pub mod Readers
+pub mod Shortening

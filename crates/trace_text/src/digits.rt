@@ -8,6 +8,12 @@ use itoa::write_digits;
 // The most decimal digits of a 64-bit number.
 pub(crate) const MAX_DIGITS: usize = 20;
 
+// The two digits of each number below 100.
+const PAIRS: &[u8] =
+    b"00010203040506070809101112131415161718192021222324252627282930313233343536373839\
+    40414243444546474849505152535455565758596061626364656667686970717273747576777879\
+    8081828384858687888990919293949596979899";
+
 // Appends a short text, byte by byte.
 #[inline(always)]
 pub(crate) fn put(text: &[u8], to: &mut Vec<u8>)
@@ -43,8 +49,9 @@ fn put_pair(number: u64, to: &mut Vec<u8>)
     ensures len { vec_len to.new ≡ vec_len to.old + 2 }
     ensures capacity { vec_capacity to.old ≤ vec_capacity to.new }
 {
-    put_digit(number / 10, to);
-    put_digit(number % 10, to);
+    let at = 2 * number as usize;
+    to.push_reserved(PAIRS[at]);
+    to.push_reserved(PAIRS[at + 1]);
 }
 
 // Appends the numeral of a number below 100.

@@ -15,6 +15,7 @@ mod numerals;
 mod op;
 mod printer;
 mod reader;
+mod short_line;
 mod splitter;
 mod tokens;
 mod trace_reader;

@@ -8,20 +8,25 @@ ghost use Rattle.trace_text.specs.Readers.{HasRead, HasWholeLines};
 use crate::fault::TraceFault;
 use crate::limits::MAX_COMMANDS;
 use crate::line_reader::LineReader;
+use crate::short_line::shortened;
 use memchr::{memchr, memrchr};
 use std::alloc::{AllocError, Global};
 use stored_commands::StoredTrace;
 
 /// Reads a trace in the format `mmtrace 1` from its text, which comes in pieces of any size.
 ///
-/// It keeps the commands of the whole lines so far and the bytes after the last newline, and no
-/// other byte of the text.
+/// It keeps the commands of the whole lines so far and at most a piece of the text after the last
+/// newline: of a long line only what its fault depends on.
 #[derive(Debug, Drop)]
 pub struct TraceReader {
+    alloc: Global,
     pub(crate) lines: LineReader,
-    // The text after the last newline.
+    // The text after the last newline, or one that stands for it.
     pub(crate) begun: Vec<u8>,
 }
+
+// A line with more bytes is shortened as it is read.
+const LONG_LINE: usize = 1024;
 
 // The bytes up to the first newline and with it, 0 if there is none.
 fn first_line(text: &[u8]) -> usize
@@ -51,9 +56,23 @@ impl TraceReader {
         ensures { HasRead result [] }
     {
         TraceReader {
+            alloc,
             lines: LineReader::new(alloc),
             begun: Vec::new(alloc),
         }
+    }
+
+    // Adds a piece to the line that has begun.
+    fn begin_line(&mut self, piece: &[u8]) -> Result<(), AllocError>
+        ensures { OnOk result ((text : List ℕ) → HasRead self.old text
+            → HasRead self.new (text ++ piece.now)) }
+    {
+        self.begun.extend_from_slice(piece)?;
+        if self.begun.len() <= LONG_LINE {
+            return Ok(());
+        }
+        self.begun = shortened(self.alloc, &self.begun)?;
+        Ok(())
     }
 
     /// Reads the next piece of the text. After a bad line it reads no more lines.
@@ -66,7 +85,7 @@ impl TraceReader {
         self.lines.reserve(piece.len())?;
         let first = first_line(piece);
         if first == 0 {
-            return self.begun.extend_from_slice(piece);
+            return self.begin_line(piece);
         }
         self.begun.extend_from_slice(&piece[..first])?;
         self.lines.read(&self.begun)?;

@@ -1,5 +1,5 @@
 -- The tables give what the row draws.
-use Rattle.std.proofs.Common.{◌≡◌, ◌∙◌, ap, ◌<◌, ◌/◌, ◌%◌, ◌^◌, ℕ, arith}
+use Rattle.std.proofs.Common.{◌∙◌, ap, ◌/◌, ◌%◌, ◌^◌, ℕ, arith}
 use Rattle.made_trace.specs.Made.{in_row}
 use Rattle.made_trace.proofs.Drawing.{rows-drawn, no-other}
 use Rattle.made_trace.proofs.draws.Draws.random.Goals as goal
