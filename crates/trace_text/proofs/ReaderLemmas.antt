@@ -62,18 +62,6 @@ read_on old new middle text piece first whole tail parts ends between one two le
     ∙ sym (two (lines_of (tail ++ more)))
     ∙ ap (λ l. end_of_lines new.lines (lines_of (l ++ more))) (sym left)
 
--- no line is complete yet
-pub read_begun : (old new : TraceReader) (text piece : List ℕ) → new.begun.items ≡ old.begun.items ++ piece → ((ls : List (List ℕ)) → end_of_lines new.lines ls ≡ end_of_lines old.lines ls) → HasRead old text → HasRead new (text ++ piece)
-read_begun old new text piece more_begun same had more =
-    ap trace (append_assoc text piece more) ∙ had (piece ++ more)
-    ∙ ap (λ l. end_of_lines old.lines (lines_of l)) (sym (append_assoc old.begun.items piece more) ∙ ap (λ l. l ++ more) (sym more_begun))
-    ∙ sym (same (lines_of (new.begun.items ++ more)))
-
--- the line that has begun is shortened
-pub read_shortened : (old new : TraceReader) (text : List ℕ) → new.lines ≡ old.lines → StandsFor old.begun.items new.begun.items → HasRead old text → HasRead new text
-read_shortened old new text same stands had more =
-    had more ∙ stands old.lines more ∙ ap (λ r. end_of_lines r (lines_of (new.begun.items ++ more))) (sym same)
-
 -- memory is taken for commands
 pub read_reserved : (old new : TraceReader) (text : List ℕ) → new.begun ≡ old.begun → ((ls : List (List ℕ)) → end_of_lines new.lines ls ≡ end_of_lines old.lines ls) → HasRead old text → HasRead new text
 read_reserved old new text begun same had more =

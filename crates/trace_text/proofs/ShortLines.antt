@@ -372,9 +372,3 @@ with_byte text s t b short other goes pushed same most may = record {
 -- the next byte of a text, and the end
 pub next_byte : (text : List ℕ) (i : ℕ) (s : ShortLine) → i < length text → IsShort (take i text ++ get_or text i 0 ∷ []) s → IsShort (take (i + 1) text) s
 next_byte text i s within short = subst (λ (l : List ℕ). IsShort l s) (sym (take_more text i 0 within)) short
-
-pub whole_line : (text : List ℕ) (s : ShortLine) → IsShort (take (length text) text) s → StandsFor text s.bytes.items
-whole_line text s short = subst (λ (l : List ℕ). StandsFor l s.bytes.items) (take_all (length text) text (omega arith)) short.stands
-
-pub stands_itself : (text copy : List ℕ) → copy ≡ text → StandsFor text copy
-stands_itself text copy same r more = ap (λ l. end_of_lines r (lines_of (l ++ more))) (sym same)
