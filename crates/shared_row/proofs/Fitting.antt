@@ -1,18 +1,5 @@
 -- Words that lie in memory fit 64 bits. Assumes `Logic`.
-use Rattle.std.proofs.Common.{ℕ, zero, suc, ◌+◌, ◌^◌, ◌<◌, T, List, [], ◌∷◌, lit<, w64}
-use seplogic.Ra.Ura.{Ura}
-use mir.Syntax.{ty_int}
-use mir.Val.{vint, has_ty, WT}
-use base.Fraction.{full_share}
-use base.Logic.{ent, guard, guard_i}
-use types.Logic.{Logic, sem}
-use types.Kit.{‵, given, ◌$◌, ◌∵◌, !, qed, move, fsplit, learn, check, use1, done}
-use types.SemTy.{cells}
-use denote.Builtin.{u64}
-use denote.Memory.{mem, part_at}
-use denote.RawPtr.{Ptr, block_of, count_of}
-use Rattle.core.proofs.tally.Steps.{word_out, word_in}
-use Rattle.atomic_table.specs.Seated.{word, strip}
+use Rattle.shared_row.proofs.Names.{ℕ, zero, suc, ◌+◌, ◌^◌, ◌<◌, T, List, [], ◌∷◌, lit<, w64, Ura, ty_int, vint, has_ty, WT, full_share, ent, guard, guard_i, Logic, sem, ‵, given, ◌$◌, ◌∵◌, !, qed, move, fsplit, learn, check, use1, done, cells, u64, mem, part_at, Ptr, block_of, count_of, word_out, word_in, word, strip}
 use Rattle.shared_row.specs.Words.{AllFit}
 
 next_fits : (n : ℕ) (ns : List ℕ) → n < 2 ^ 64 → AllFit ns → AllFit (n ∷ ns)

@@ -1,19 +1,5 @@
 -- The right to free a block: its machine value is a lease's, it is made of the allocator's token, and it may go to another thread. Assumes `Logic`.
-use Rattle.std.proofs.Common.{ℕ, ◌^◌, ◌<◌, List, [], ◌∷◌, refl, ◌≡◌, ◌∙◌, ◌++◌, w64}
-use mir.Val.{Val, vint, vptr, vstruct, vnil, of_list}
-use types.Logic.{Logic}
-use types.Kit.{Goal, Step, step, Seq, Item, ‵, ◌$◌, drop, fsplit, fjoin, fpick, feq_l}
-use seplogic.Ra.Ura.{Ura}
-use denote.RattleType.{RattleType}
-use denote.Param.Send.{IsSend, IsSync, Frees, part_keyless}
-use denote.RawPtr.{block_ptr}
-use denote.Shadow.{pure_i}
-use denote.Struct.Struct.{Struct}
-use denote.Struct.Owning.{shape}
-use Rattle.core.specs.declared.alloc.Allocator.{Ghosts}
-use Rattle.core.proofs.mem.Param.{El, R}
-use Rattle.core.proofs.alloc.Calls.{Al, token}
-use Rattle.core.proofs.slots.Leases.{lease_val, block_ty, P}
+use Rattle.shared_row.proofs.Names.{ℕ, ◌^◌, ◌<◌, List, [], ◌∷◌, refl, ◌≡◌, ◌∙◌, ◌++◌, w64, Val, vint, vptr, vstruct, vnil, of_list, Logic, Goal, Step, kit_step as step, Seq, Item, ‵, ◌$◌, drop, fsplit, fjoin, fpick, feq_l, Ura, RattleType, IsSend, IsSync, Frees, part_keyless, block_ptr, pure_i, Struct, shape, AllocatorGhosts as Ghosts, El, R, Al, token, lease_val, block_ty, P}
 use Rattle.shared_row.specs.contracts.rows.Right as right
 
 module _ (T Z : RattleType) (g : Ghosts Z.Denot) where

@@ -3,33 +3,8 @@
 --     takes_seat      with the start read: a share of the age, and what the seat owns
 --     shuts_seat      the seat at what it has after a step, and the tokens of all lifetimes
 --     lets_go         the same after a step that tells what the seat has
-use Rattle.std.proofs.Common.{◌≡◌, ℕ, List, [], ◌∷◌, refl}
-use base.Fraction.{full_share}
-use base.Stored.{Gv}
-use mir.Val.{Val, vptr}
-use types.SemTy.{Body}
-use seplogic.Ra.Ura.{Ura}
-use base.Fml.{Lft, Share, GName, Fml, fhide, fsep, feq, fobs, fbor, fobor, fauth, flft, fex}
-use base.Logic.{guard_i}
-use types.Logic.{Logic, sem}
-use types.Kit.{Goal, Item, Seq, Step, Soaks, step, ‵, ◌⊛◌, given, ◌$◌, move, drop, join, split, fsplit, fpick, fjoin, fjoin3, feq_i, learn, use1, rewrite}
-use types.Tokens.{shr_bor-open, obor_close}
-use types.Within.{tokens_halve}
-use contract.Monad.{fact_use}
-use denote.Builtin.{unit}
-use denote.Laws.{Is, shows}
-use denote.Memory.{hidden_shr, cell_at, part_at, mem}
-use denote.Steps.{opens, closes, looks, shuts, peeks}
-use denote.Opens.{unhide, Shut}
-use denote.RattleType.{RattleType}
-use denote.RawPtr.{Ptr, block_ptr}
-use denote.Struct.Lending.{lent_out}
-use denote.Struct.Tuple.{Tuple}
+use Rattle.shared_row.proofs.Names.{◌≡◌, ℕ, List, [], ◌∷◌, refl, full_share, Gv, Val, vptr, Body, Ura, Lft, Share, GName, Fml, fhide, fsep, feq, fobs, fbor, fobor, fauth, flft, fex, guard_i, Logic, sem, Goal, Item, Seq, Step, Soaks, kit_step as step, ‵, ◌⊛◌, given, ◌$◌, move, drop, join, split, fsplit, fpick, fjoin, fjoin3, feq_i, learn, use1, rewrite, shr_bor-open, obor_close, tokens_halve, fact_use, unit, Is, shows, hidden_shr, cell_at, part_at, mem, opens, closes, looks, shuts, peeks, unhide, Shut, RattleType, Ptr, block_ptr, lent_out, Tuple, Me, RuleGhosts as Ghosts, TableId, Placed, age, common, seated_fact as fact, lasts, mine, placed}
 use Rattle.core.specs.contracts.marker.PhantomData as tie
-use Rattle.atomic_table.specs.Table.{Me}
-use Rattle.atomic_table.specs.declared.shared.TableRule.{Ghosts}
-use Rattle.atomic_table.specs.Seated.{TableId, Placed, age, common, fact, lasts, mine}
-use Rattle.atomic_table.proofs.Moves.{placed}
 use Rattle.shared_row.specs.contracts.shared_words.SharedWords as bare
 use Rattle.shared_row.specs.contracts.shared_words.RowSeat as seat
 use Rattle.shared_row.proofs.Values.{BareFields, SeatFields, bare_val, bare_told, bare_opens}

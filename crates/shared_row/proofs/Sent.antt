@@ -1,21 +1,7 @@
 -- Places may go to another thread, and be looked at by several, where what they hold may.
-use Rattle.std.proofs.Common.{List, [], ◌∷◌}
-use mathlib.Core.Bool.{Bool, true, false}
-use mir.Syntax.{Ty}
-use base.Fraction.{full_share}
-use base.Fml.{Fml, ftrue}
-use base.Shift.{Keyless}
-use denote.Builtin.{u64}
-use denote.RattleType.{RattleType}
-use denote.RawPtr.{Ptr, block_ptr, null_ptr, block_of, count_of, lies_at, room_for, in_block, ◌+ₚ◌}
-use denote.Param.Send.{IsSend, IsSync, Common, part_keyless, sendable}
-use denote.Struct.Struct.{Struct}
-use denote.Struct.Owning.{shape}
-use Rattle.core.specs.Mem.Slots.{slots_ptr, slots_len, slots_items, slots_filled}
-use Rattle.core.specs.Mem.Slots.Ownership.{bytes_of, slot, slots, slot_lent, slots_lent}
+use Rattle.shared_row.proofs.Names.{List, [], ◌∷◌, Bool, true, false, Ty, full_share, Fml, ftrue, Keyless, u64, RattleType, Ptr, block_ptr, null_ptr, block_of, count_of, lies_at, room_for, in_block, ◌+ₚ◌, IsSend, IsSync, Common, part_keyless, sendable, Struct, shape, slots_ptr, slots_len, slots_items, slots_filled, bytes_of, slot, slots, slot_lent, slots_lent, frees, send, sync}
 use Rattle.core.specs.contracts.slots.Slots as places
 use Rattle.shared_row.specs.contracts.rows.WordRow as plain
-use Rattle.std.proofs.Crossing.{frees, send, sync}
 use Rattle.shared_row.proofs.Leases.{right_sent, right_shared}
 
 module _ (R : RattleType) where

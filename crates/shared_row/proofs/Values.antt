@@ -1,26 +1,6 @@
 -- The machine values of the structs that hold a pointer or nothing, and what tells them. Assumes `Logic`.
-use Rattle.std.proofs.Common.{◌≡◌, T, List, [], ◌∷◌, ◌++◌, refl, ap, ◌∙◌}
-use seplogic.Ra.Ura.{Ura}
-use mir.Syntax.{Ty, ty_ptr, ty_struct, tcons, tnil}
-use mir.Val.{Val, vstruct, vcons, vnil, of_list, has_ty, WT}
-use base.Logic.{ent, emp}
-use types.Logic.{Logic, sem}
-use denote.Builtin.{unit, u64}
-use denote.RattleType.{RattleType}
-use denote.Laws.{Is}
-use denote.Opens.{Opens}
-use denote.Copied.{Struct-Copied}
-use denote.RawPtr.{Ptr, block_ptr, null_ptr, ptr_val, InBlock}
-use denote.Shadow.{makes_shadow}
-use denote.Struct.Laws.{RawPtr-copy, field_copy, u64-laws, u64-copy}
-use denote.Struct.Field.{u64-field}
-use denote.Param.Laws.{Laws, of_field}
-use denote.Param.Shared.{copy_shared}
-use denote.Struct.Struct.{Struct}
-use denote.Struct.Owning.{shape}
-use denote.Struct.Tuple.{Tuple}
+use Rattle.shared_row.proofs.Names.{◌≡◌, T, List, [], ◌∷◌, ◌++◌, refl, ap, ◌∙◌, Ura, Ty, ty_ptr, ty_struct, tcons, tnil, Val, vstruct, vcons, vnil, of_list, has_ty, WT, ent, emp, Logic, sem, unit, u64, RattleType, Is, Opens, Struct-Copied, Ptr, block_ptr, null_ptr, ptr_val, InBlock, makes_shadow, RawPtr-copy, field_copy, u64-laws, u64-copy, u64-field, Laws, of_field, copy_shared, Struct, shape, Tuple, RuleGhosts as Ghosts}
 use Rattle.core.specs.contracts.marker.PhantomData as tie
-use Rattle.atomic_table.specs.declared.shared.TableRule.{Ghosts}
 use Rattle.shared_row.specs.contracts.shared_words.SharedWords as bare
 use Rattle.shared_row.specs.contracts.shared_words.RowSeat as seat
 

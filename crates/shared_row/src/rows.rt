@@ -21,8 +21,7 @@ use std::mem::{align_of, size_of};
 // The words that a block may have: below 2 ^ 63 bytes.
 const MAX_WORDS: usize = 0x0fff_ffff_ffff_ffff;
 
-// The words that are cleared at once: half a page, which is still in the cache when the system has
-// just given it.
+// The words that are cleared at once: half a page, which the cache still holds.
 const CLEARED_WORDS: usize = 256;
 
 // The right to free a block of values, which threads may send each other.

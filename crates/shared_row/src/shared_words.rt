@@ -1,11 +1,12 @@
-//! The words as threads see them, and what one thread knows. Every raw step stands here, in a
-//! function of one or two lines whose signature is safe.
+//! The words as threads see them, and what one thread knows. Each raw step is a line or two here.
 
 ghost use Rattle.std.specs.Prelude.{◌≡◌, ℕ, List, ◌<◌, ◌+◌, ◌%◌, ◌^◌, ◌==◌, [], bit_and, bit_or};
+ghost use Rattle.std.specs.Prelude.{length, slice_index};
 ghost use mathlib.Core.Option.{none};
 ghost use prog.Atomic.{either};
 ghost use denote.Builtin.{unit};
-ghost use Rattle.atomic_table.specs.Table.{Me, Final, Seen, Allows, Splits, Joins, step, opening};
+ghost use Rattle.atomic_table.specs.Table.{State, Me, Final, Seen, Allows, Splits, Joins, step};
+ghost use Rattle.atomic_table.specs.Table.{opening};
 ghost use Rattle.atomic_table.specs.Seated.{TableId, table_id_coded, table_owns, table_shares};
 ghost use Rattle.atomic_table.specs.Seated.{seat_owns};
 ghost use Rattle.core.specs.Mem.Slots.{slots_items, slots_ptr, slots_len, IsFull};
@@ -87,11 +88,12 @@ impl<V, K, P: TableRule<(), V, K>> SharedWords<V, K, P> {
         unsafe { Slots::from_raw_parts(start, count) }
     }
 
-    /// A load with no seat, which tells nothing.
+    /// A load with no seat: the word is that of some state that keeps the rule.
     #[inline(always)]
     pub fn peek(&self, i: usize) -> u64
         requires { i < self.now.table_id.words }
-        ensures { result < 2 ^ 64 }
+        ensures { (s : State (Unit {0}) V) × P.holds self.now.key s
+            × (length s.words ≡ self.now.table_id.words) × (slice_index s.words i ≡ result) }
     {
         unsafe { raw::load::<Brand>(self.start.add(i), SeqCst) }
     }

@@ -1,23 +1,5 @@
 -- The places become room again, and the block goes back.
-use Rattle.shared_row.proofs.Walked.{◌≡◌, ℕ, ◌*◌, ◌^◌, ◌<◌, List, [], ◌∷◌, sym, refl, ap, subst, arith, w64, Val, vunit, vint, vptr, inst_fn, SProp, ent, Lft, ftrue, flft, ‵, raw, ◌⊛◌, given, at_ret, ◌$◌, ◌∵◌, !, qed, by, move, keep, split, join, fsplit, fsplit3, fjoin, learn, use3, rewrite, feq_i, stop, fld, unit_lit, of_opd, bin, no_more, and_then, first, blocks, exec, returns, enter, alloc_all, pass_all, free_all, look_at, get, sets, lands_last, is, env, sub, whole, tables, yes, owns, types_at, plain, Ptr, block_ptr, nothing, Stays, stay_dropped, walk_of, Goes-dropped, fact, RefOf, later, await, use1, use2, Goes-dropped, length, get_in, no, WT, heard, WpFn, id⊢, suffices, Share, calls_at_last, ◌∙◌, ◌⊑◌, ◌++◌, leaves, fm}
-use types.Kit.{feq_l}
-use mir.Syntax.{ty_array, ty_unit}
-use mir.Val.{has_ty}
-use lib.Dec.{T as Holds}
-use base.Fml.{Incl-trans, froom}
-use prog.Memory.{align, capped}
-use prog.Capped.{capped_fits}
-use types.Run.{size_word, align_word}
-use Rattle.core.proofs.mem.Param.{El, elτ}
-use Rattle.core.proofs.alloc.Calls.{Al, token, Gives, at_gives, Gives-goes, Gives-Gives}
-use Rattle.core.proofs.slots.Bodies.{after as past}
-use Rattle.core.proofs.slots.Leases.{args, P, lease_val, uncapped, block_ty, block_size, block_align}
-use Rattle.core.proofs.slots.Opens.{row_val}
-use Rattle.core.proofs.slots.Places.{sz, to_room}
-use Rattle.core.specs.Mem.Slots.{slots_ptr, slots_len, slots_items, slots_filled, slots_counts}
-use Rattle.atomic_table.proofs.Walks.{proved_at}
-use Rattle.atomic_table.proofs.Raw.{Row, all as places, parts_typed, Row-seen, Into, at_into, Into-goes, Into-gives}
-use Rattle.shared_row.proofs.Leases.{Rr, right_had}
+use Rattle.shared_row.proofs.Walked.{◌≡◌, ℕ, ◌*◌, ◌^◌, ◌<◌, List, [], ◌∷◌, sym, refl, ap, subst, arith, w64, Val, vunit, vint, vptr, inst_fn, SProp, ent, Lft, ftrue, flft, ‵, raw, ◌⊛◌, given, at_ret, ◌$◌, ◌∵◌, !, qed, by, move, keep, split, join, fsplit, fsplit3, fjoin, learn, use3, rewrite, feq_i, stop, fld, unit_lit, of_opd, bin, no_more, and_then, first, blocks, exec, returns, enter, alloc_all, pass_all, free_all, look_at, get, sets, lands_last, is, env, sub, whole, tables, yes, owns, types_at, plain, Ptr, block_ptr, nothing, Stays, stay_dropped, walk_of, Goes-dropped, fact, RefOf, later, await, use1, use2, length, get_in, no, WT, heard, WpFn, id⊢, suffices, Share, calls_at_last, ◌∙◌, ◌⊑◌, ◌++◌, leaves, fm, feq_l, ty_array, ty_unit, has_ty, T as Holds, Incl-trans, froom, align, capped, capped_fits, size_word, align_word, El, elτ, Al, token, Gives, at_gives, Gives-goes, Gives-Gives, past, args, P, lease_val, uncapped, block_ty, block_size, block_align, row_val, sz, to_room, slots_ptr, slots_len, slots_items, slots_filled, slots_counts, proved_at, Places as Row, places, parts_typed, Row-seen, Into, at_into, Into-goes, Into-gives, Rr, right_had}
 use Rattle.core.proofs.slots.Slots.into_raw_parts.Met as callee
 use Rattle.shared_row.specs.contracts.rows.free.{ended, clauses}
 use Rattle.shared_row.specs.contracts.rows.free.Key.{name as #self}

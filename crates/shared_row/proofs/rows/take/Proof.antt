@@ -1,36 +1,7 @@
 -- The allocator gives a block, whose room becomes empty places, or refuses.
-use Rattle.shared_row.proofs.Walked.{◌≡◌, ℕ, ◌*◌, ◌^◌, ◌<◌, List, [], ◌∷◌, sym, refl, ap, subst, arith, lit<, w64, named, Val, vint, vptr, inst_fn, SProp, emp, Lft, ftrue, flft, ‵, raw, ◌⊛◌, given, at_ret, ◌$◌, ◌∵◌, !, qed, by, move, keep, drop, split, join, fsplit, fjoin, fjoin3, learn, use0, rewrite, feq_i, stop, fld, lit, of_opd, bin, no_more, and_then, first, blocks, exec, returns, enter, alloc_all, pass_all, free_all, look_at, get, sets, lands_last, is, env, agg, whole, tables, yes, RattleType, owns, types_at, plain, Ptr, block_ptr, nothing, param, Stays, stay_dropped, walk_of, Goes-dropped, fact, fact_i, RefOf, usize, shr_vals, shr_Tells, uint_vals, uint_Tells, Valss, pick, some, later, await, use1, use2, fpack, vstruct, Goes-dropped, length, get_in, lit<, WT, heard, Share, calls_at_last, ◌∙◌, Bool, true, replicate, length-replicate, ◌⊑◌, proved, leaves, fm}
-use denote.Triple.Call.{calls_at}
-use mir.Syntax.{ty_array}
-use base.Fml.{Incl-trans, froom}
-use prog.Memory.{align, capped}
-use prog.Capped.{capped_fits}
-use types.Run.{size_word, align_word}
-use Rattle.core.proofs.mem.Param.{El, elτ}
-use Rattle.core.proofs.alloc.Calls.{Al, Takes, at_takes, Takes-goes, Takes-gives, Answered, Answer-typed, answers}
-use Rattle.core.proofs.slots.Bodies.{after as past, head, arm_body}
-use Rattle.core.proofs.slots.Leases.{args, P, lease_val, uncapped, block_ty, block_size, block_align}
-use Rattle.core.proofs.slots.Opens.{row_val}
-use Rattle.core.proofs.slots.Places.{sz, of_room}
-use Rattle.core.specs.Mem.Slots.{slots_ptr, slots_len}
-use Rattle.atomic_table.proofs.Raw.{Row, all as places, row_Typed, From, at_from, Made, from_goes, from_gives}
-use Rattle.shared_row.proofs.Leases.{Rr, granted, right_made}
-use prog.Wp.{Wp, after_seq, at_return}
-use types.Kit.{Post as After, any_q}
-use types.Match.{live, vrt, in_variant}
-use types.Run.{switches_on}
-use types.ByLocal.{get_tag, lands_as, sets_last}
-use mir.Syntax.{Body}
-use mir.Val.{vcons, vnil}
-use mathlib.Core.Bool.{false}
+use Rattle.shared_row.proofs.Walked.{◌≡◌, ℕ, ◌*◌, ◌^◌, ◌<◌, List, [], ◌∷◌, sym, refl, ap, subst, arith, lit<, w64, named, Val, vint, vptr, inst_fn, SProp, emp, Lft, ftrue, flft, ‵, raw, ◌⊛◌, given, at_ret, ◌$◌, ◌∵◌, !, qed, by, move, keep, drop, split, join, fsplit, fjoin, fjoin3, learn, use0, rewrite, feq_i, stop, fld, lit, of_opd, bin, no_more, and_then, first, blocks, exec, returns, enter, alloc_all, pass_all, free_all, look_at, get, sets, lands_last, is, env, agg, whole, tables, yes, RattleType, owns, types_at, plain, Ptr, block_ptr, nothing, param, Stays, stay_dropped, walk_of, Goes-dropped, fact, fact_i, RefOf, usize, shr_vals, shr_Tells, uint_vals, uint_Tells, Valss, pick, some, later, await, use1, use2, fpack, vstruct, length, get_in, WT, heard, Share, calls_at_last, ◌∙◌, Bool, true, replicate, length-replicate, ◌⊑◌, proved, leaves, fm, calls_at, ty_array, Incl-trans, froom, align, capped, capped_fits, size_word, align_word, El, elτ, Al, Takes, at_takes, Takes-goes, Takes-gives, Answered, Answer-typed, answers, past, head, arm_body, args, P, lease_val, uncapped, block_ty, block_size, block_align, row_val, sz, of_room, slots_ptr, slots_len, Places as Row, places, row_Typed, From, at_from, Made, from_goes, from_gives, Rr, granted, right_made, Wp, after_seq, at_return, After, any_q, live, vrt, in_variant, switches_on, get_tag, lands_as, sets_last, CodeBody as Body, vcons, vnil, false, Is, owned, Struct, Struct-Makes, within_struct as within, Tuple, tuple_type, Ok, Err, ok_of, err_of}
 use denote.Struct.Declared as Declared
-use denote.Laws.{Is}
-use denote.Steps.{owned}
-use denote.Struct.Struct.{Struct, Struct-Makes, within}
-use denote.Struct.Tuple.{Tuple, tuple_type}
-use Rattle.core.specs.declared.result.Result.TheVariants.{Ok, Err}
 use Rattle.core.proofs.slots.Slots.from_raw_parts.Met as callee
-use Rattle.core.proofs.once.Made.{ok_of, err_of}
 use Rattle.core.specs.contracts.result.Result as RS
 use Rattle.core.specs.contracts.alloc.AllocError as AE
 use Rattle.shared_row.specs.contracts.rows.take.{ended, clauses}

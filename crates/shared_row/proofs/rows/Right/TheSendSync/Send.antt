@@ -1,6 +1,4 @@
-use denote.RattleType.{RattleType}
-use denote.Param.Send.{IsSend, Frees}
-use Rattle.core.specs.declared.alloc.Allocator.{Ghosts}
+use Rattle.shared_row.proofs.Names.{RattleType, IsSend, Frees, AllocatorGhosts as Ghosts}
 use Rattle.shared_row.specs.contracts.rows.Right.{the_row}
 use Rattle.shared_row.proofs.Leases.{right_sent}
 

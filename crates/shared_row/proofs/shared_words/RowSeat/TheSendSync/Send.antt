@@ -1,7 +1,4 @@
-use denote.Builtin.{unit}
-use denote.RattleType.{RattleType}
-use denote.Param.Send.{IsSend, sendable}
-use Rattle.atomic_table.proofs.Sent.{seat_keyless}
+use Rattle.shared_row.proofs.Names.{unit, RattleType, IsSend, sendable, seat_keyless}
 use Rattle.shared_row.specs.contracts.shared_words.RowSeat.{the_row}
 
 pub send : (V : RattleType) → IsSend (the_row V)

@@ -1,16 +1,6 @@
 -- A `&` to the shared words holds their invariant and a share of their age.
-use Rattle.std.proofs.Common.{[], ◌∷◌}
-use denote.Builtin.{unit}
-use denote.Struct.Tuple.{Tuple}
-use denote.RattleType.{RattleType}
-use denote.Param.Laws.{Laws}
-use denote.Param.Shared.{copy_shared}
-use denote.Struct.Field.{RawPtr-field}
-use denote.Struct.Laws.{RawPtr-copy, field_copy}
-use denote.Struct.Lending.{of_Lends}
+use Rattle.shared_row.proofs.Names.{[], ◌∷◌, unit, Tuple, RattleType, Laws, copy_shared, RawPtr-field, RawPtr-copy, field_copy, of_Lends, RuleGhosts as Ghosts, shown_laws, lends_shown}
 use Rattle.core.specs.contracts.marker.PhantomData as tie
-use Rattle.atomic_table.specs.declared.shared.TableRule.{Ghosts}
-use Rattle.atomic_table.proofs.Shown.{shown_laws, lends_shown}
 use Rattle.shared_row.specs.contracts.shared_words.SharedWords as bare
 use Rattle.shared_row.proofs.shared_words.SharedWords.TheLaw.Statement.{statement}
 

@@ -1,8 +1,4 @@
-use denote.Builtin.{unit}
-use denote.RattleType.{RattleType}
-use denote.Param.Send.{IsSend, sendable}
-use Rattle.atomic_table.specs.declared.shared.TableRule.{Ghosts}
-use Rattle.atomic_table.proofs.Sent.{owns_keyless}
+use Rattle.shared_row.proofs.Names.{unit, RattleType, IsSend, sendable, RuleGhosts as Ghosts, owns_keyless}
 use Rattle.shared_row.specs.contracts.shared_words.SharedWords.{the_row}
 
 pub send : (V K P : RattleType) (g : Ghosts P.Denot unit.Denot V.Denot K.Denot) → IsSend (the_row V K P g)

@@ -1,10 +1,4 @@
-use denote.Builtin.{unit}
-use denote.RattleType.{RattleType}
-use denote.Param.Send.{IsSend, IsSync, sendable}
-use denote.Struct.Struct.{Struct}
-use denote.Struct.Owning.{shape}
-use Rattle.atomic_table.specs.declared.shared.TableRule.{Ghosts}
-use Rattle.atomic_table.proofs.Sent.{shares_keyless}
+use Rattle.shared_row.proofs.Names.{unit, RattleType, IsSend, IsSync, sendable, Struct, shape, RuleGhosts as Ghosts, shares_keyless}
 use Rattle.shared_row.specs.contracts.shared_words.SharedWords.{the_row, the_type}
 
 pub sync : (V K P : RattleType) (g : Ghosts P.Denot unit.Denot V.Denot K.Denot) → IsSync (the_row V K P g)

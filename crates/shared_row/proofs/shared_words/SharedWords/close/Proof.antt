@@ -1,20 +1,6 @@
 -- The words' age ends, and what it lent comes back, in a state that has the seat's view.
-use Rattle.shared_row.proofs.Walked.{◌≡◌, ℕ, List, [], ◌∷◌, sym, refl, a_type, dcons, dnil, named, Val, vptr, inst_fn, SProp, emp, Fml, ftrue, fsep, flft, ‵, raw, ◌⊛◌, given, ◌$◌, ◌∵◌, !, qed, by, move, keep, drop, split, split3, join, fsplit, fsplit3, fjoin, fjoin3, learn, use0, rewrite, feq_i, stop, fld, of_opd, no_more, and_then, returns, enter, alloc_all, pass_all, free_all, look_at, get, sets, sub, whole, tables, RattleType, owns, types_at, plain, Ptr, nothing, param, bounded, Stays, stay_dropped, walk_of, Goes-dropped, fact, fact_i, u64, mut_vals, mut_Tells, stay_ref, Goes-ref, opens, closes, pick, some, later, await, use1, use2, InBlock, Goes-dropped, length, get_in, no, unit, TableId, mine, proved, leaves, Seat, Shared, bare_val, ◌*◌, ◌^◌, ◌<◌, ap, subst, w64, vint, at_ret, first, blocks, exec, lands_last, is, env, yes, block_ptr, ptr_val, block_of, count_of, at_block, usize, uint_vals, uint_Tells, WT, calls_at_last, mem, ◌∙◌, Bool, true, replicate, length-replicate, get_or-replicate, tail, fm}
-use Rattle.atomic_table.specs.Table.{Final, Seen}
-use Rattle.atomic_table.specs.Seated.{strip, table_owns}
-use Rattle.atomic_table.proofs.Dealing.{strip_lies, table_lies, gathers_with}
-use base.Fraction.{full_share}
-use contract.BorrowLft.{⊑_static}
-use mathlib.Core.Bool.{false}
-use lib.ListN.{get_or}
-use Rattle.core.proofs.mem.Param.{El}
-use Rattle.core.proofs.slots.Opens.{row_val}
-use Rattle.core.specs.Mem.Slots.{slots_ptr, slots_len, slots_items, IsFull}
+use Rattle.shared_row.proofs.Walked.{◌≡◌, ℕ, List, [], ◌∷◌, sym, refl, a_type, dcons, dnil, named, Val, vptr, inst_fn, SProp, emp, Fml, ftrue, fsep, flft, ‵, raw, ◌⊛◌, given, ◌$◌, ◌∵◌, !, qed, by, move, keep, drop, split, split3, join, fsplit, fsplit3, fjoin, fjoin3, learn, use0, rewrite, feq_i, stop, fld, of_opd, no_more, and_then, returns, enter, alloc_all, pass_all, free_all, look_at, get, sets, sub, whole, tables, RattleType, owns, types_at, plain, Ptr, nothing, param, bounded, Stays, stay_dropped, walk_of, Goes-dropped, fact, fact_i, u64, mut_vals, mut_Tells, stay_ref, Goes-ref, opens, closes, pick, some, later, await, use1, use2, InBlock, length, get_in, no, unit, TableId, mine, proved, leaves, Seat, Shared, bare_val, ◌*◌, ◌^◌, ◌<◌, ap, subst, w64, vint, at_ret, first, blocks, exec, lands_last, is, env, yes, block_ptr, ptr_val, block_of, count_of, at_block, usize, uint_vals, uint_Tells, WT, calls_at_last, mem, ◌∙◌, Bool, true, replicate, length-replicate, get_or-replicate, tail, fm, Final, Seen, strip, table_owns, strip_lies, table_lies, gathers_with, full_share, ⊑_static, false, get_or, El, row_val, slots_ptr, slots_len, slots_items, IsFull, Places, places, row_Typed, From, at_from, Made, from_goes, from_gives, of_strip, word_laws, bare_told, bare_fits, AllFit, strip_fits}
 use Rattle.core.proofs.slots.Slots.from_raw_parts.Met as callee
-use Rattle.atomic_table.proofs.Raw.{Row as Places, all as places, row_Typed, From, at_from, Made, from_goes, from_gives, of_strip}
-use Rattle.shared_row.proofs.Values.{word_laws, bare_told, bare_fits}
-use Rattle.shared_row.specs.Words.{AllFit}
-use Rattle.shared_row.proofs.Fitting.{strip_fits}
 use Rattle.shared_row.specs.contracts.shared_words.SharedWords.close.{ended, clauses}
 use Rattle.shared_row.specs.contracts.shared_words.SharedWords.close.Key.{name as #self}
 use Rattle.shared_row.proofs.shared_words.SharedWords.close.Statement.{statement}

@@ -1,16 +1,6 @@
 -- The words' age ends, and what it lent comes back.
-use Rattle.shared_row.proofs.Walked.{◌≡◌, ℕ, ◌*◌, ◌^◌, ◌<◌, List, [], ◌∷◌, sym, refl, ap, subst, w64, a_type, dcons, dnil, Val, vint, inst_fn, SProp, emp, Fml, ftrue, flft, ‵, raw, ◌⊛◌, given, at_ret, ◌$◌, ◌∵◌, !, qed, by, move, keep, drop, split, split3, fsplit, fjoin, learn, use0, rewrite, stop, fld, of_opd, no_more, and_then, first, blocks, exec, returns, enter, alloc_all, pass_all, free_all, look_at, get, sets, lands_last, is, env, sub, whole, tables, yes, no, RattleType, owns, types_at, plain, Ptr, block_ptr, ptr_val, nothing, param, bounded, Stays, stay_dropped, walk_of, Goes-dropped, fact, fact_i, block_of, count_of, at_block, usize, u64, uint_vals, uint_Tells, pick, some, later, await, use1, use2, InBlock, alive, length, get_in, WT, calls_at_last, mem, ◌∙◌, Bool, true, replicate, length-replicate, unit, tail, TableId, proved, leaves, fm, Seat, Shared, bare_val}
-use Rattle.atomic_table.specs.Table.{Final}
-use Rattle.atomic_table.specs.Seated.{strip, table_owns}
-use Rattle.atomic_table.proofs.Dealing.{strip_lies, table_lies, gathers}
-use base.Fraction.{full_share}
-use contract.BorrowLft.{⊑_static}
-use Rattle.core.proofs.mem.Param.{El}
-use Rattle.core.proofs.slots.Opens.{row_val}
-use Rattle.core.specs.Mem.Slots.{slots_ptr, slots_len}
+use Rattle.shared_row.proofs.Walked.{◌≡◌, ℕ, ◌*◌, ◌^◌, ◌<◌, List, [], ◌∷◌, sym, refl, ap, subst, w64, a_type, dcons, dnil, Val, vint, inst_fn, SProp, emp, Fml, ftrue, flft, ‵, raw, ◌⊛◌, given, at_ret, ◌$◌, ◌∵◌, !, qed, by, move, keep, drop, split, split3, fsplit, fjoin, learn, use0, rewrite, stop, fld, of_opd, no_more, and_then, first, blocks, exec, returns, enter, alloc_all, pass_all, free_all, look_at, get, sets, lands_last, is, env, sub, whole, tables, yes, no, RattleType, owns, types_at, plain, Ptr, block_ptr, ptr_val, nothing, param, bounded, Stays, stay_dropped, walk_of, Goes-dropped, fact, fact_i, block_of, count_of, at_block, usize, u64, uint_vals, uint_Tells, pick, some, later, await, use1, use2, InBlock, alive, length, get_in, WT, calls_at_last, mem, ◌∙◌, Bool, true, replicate, length-replicate, unit, tail, TableId, proved, leaves, fm, Seat, Shared, bare_val, Final, strip, table_owns, strip_lies, table_lies, gathers, full_share, ⊑_static, El, row_val, slots_ptr, slots_len, Places, places, row_Typed, From, at_from, Made, from_goes, from_gives, of_strip, word_laws, bare_told, bare_fits}
 use Rattle.core.proofs.slots.Slots.from_raw_parts.Met as callee
-use Rattle.atomic_table.proofs.Raw.{Row as Places, all as places, row_Typed, From, at_from, Made, from_goes, from_gives, of_strip}
-use Rattle.shared_row.proofs.Values.{word_laws, bare_told, bare_fits}
 use Rattle.shared_row.specs.contracts.shared_words.SharedWords.end.{ended, clauses}
 use Rattle.shared_row.specs.contracts.shared_words.SharedWords.end.Key.{name as #self}
 use Rattle.shared_row.proofs.shared_words.SharedWords.end.Statement.{statement}

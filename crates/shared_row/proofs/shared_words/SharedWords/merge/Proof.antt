@@ -1,5 +1,5 @@
 -- A load at which one seat takes in another's view.
-use Rattle.shared_row.proofs.Walked.{◌≡◌, ℕ, ◌+◌, ◌*◌, ◌<◌, List, [], ◌∷◌, sym, refl, ap, subst, arith, lit<, a_type, dcons, dnil, named, Val, vunit, vptr, inst_fn, SProp, ent, sep, emp, Fml, ftrue, fsep, flft, sem, ‵, raw, ◌⊛◌, given, mean, at_ret, ◌$◌, ◌∵◌, !, qed, by, move, keep, drop, split, split3, join, fsplit, fsplit3, fjoin, fjoin3, learn, use0, use3, rewrite, feq_i, stop, fld, load, lit, unit_lit, of_opd, no_more, and_then, first, blocks, exec, Calls-last, returns, enter, alloc_all, pass_all, free_all, look_at, get, through, sets, lands_last, is, env, agg, sub, whole, look_in, tables, yes, RattleType, owns, types_at, plain, Ptr, block_ptr, ptr_val, nothing, param, bounded, Stays, stay_dropped, walk_of, Goes-dropped, fact, fact_i, block_of, count_of, at_block, via, RefOf, mut_vals, mut_Tells, shr_vals, shr_Tells, stay_ref, Goes-ref, opens, closes, Goes-dropped, lit<, unit, tail, asks, always, Joins, TableId, age, mine, proved, leaves, absorbs, merged, fm, seq_cst, found, finds, loads, Seat, Shared, invariant_of, finds_start, takes_seat, shuts_seat, seated}
+use Rattle.shared_row.proofs.Walked.{◌≡◌, ℕ, ◌+◌, ◌*◌, ◌<◌, List, [], ◌∷◌, sym, refl, ap, subst, arith, lit<, a_type, dcons, dnil, named, Val, vunit, vptr, inst_fn, SProp, ent, sep, emp, Fml, ftrue, fsep, flft, sem, ‵, raw, ◌⊛◌, given, mean, at_ret, ◌$◌, ◌∵◌, !, qed, by, move, keep, drop, split, split3, join, fsplit, fsplit3, fjoin, fjoin3, learn, use0, use3, rewrite, feq_i, stop, fld, load, lit, unit_lit, of_opd, no_more, and_then, first, blocks, exec, Calls-last, returns, enter, alloc_all, pass_all, free_all, look_at, get, through, sets, lands_last, is, env, agg, sub, whole, look_in, tables, yes, RattleType, owns, types_at, plain, Ptr, block_ptr, ptr_val, nothing, param, bounded, Stays, stay_dropped, walk_of, Goes-dropped, fact, fact_i, block_of, count_of, at_block, via, RefOf, mut_vals, mut_Tells, shr_vals, shr_Tells, stay_ref, Goes-ref, opens, closes, unit, tail, asks, always, Joins, TableId, age, mine, proved, leaves, absorbs, merged, fm, seq_cst, found, finds, loads, Seat, Shared, invariant_of, finds_start, takes_seat, shuts_seat, seated}
 use Rattle.shared_row.specs.contracts.shared_words.SharedWords.merge.{ended, clauses}
 use Rattle.shared_row.specs.contracts.shared_words.SharedWords.merge.Key.{name as #self}
 use Rattle.shared_row.proofs.shared_words.SharedWords.merge.Statement.{statement}

@@ -1,19 +1,7 @@
 -- The words go under the invariant, and the first seat is made.
-use Rattle.shared_row.proofs.Walked.{◌≡◌, ℕ, ◌*◌, ◌^◌, ◌<◌, List, [], ◌∷◌, sym, refl, subst, arith, lit<, a_type, dcons, dnil, Val, vptr, inst_fn, SProp, ent, emp, ftrue, fsep, flft, ‵, raw, ◌⊛◌, given, at_ret, ◌$◌, ◌∵◌, !, qed, by, move, keep, drop, split, join, fsplit, fsplit3, fjoin, fjoin3, learn, use0, feq_i, stop, fld, of_opd, no_more, and_then, first, blocks, exec, returns, enter, alloc_all, pass_all, free_all, look_at, get, sets, lands_last, is, env, agg, sub, whole, tables, yes, RattleType, owns, types_at, plain, Ptr, block_ptr, nothing, param, bounded, Stays, stay_dropped, walk_of, Goes-dropped, fact, fact_i, RefOf, u64, Valss, pick, some, later, await, use1, use2, fpack, of_list, vstruct, InBlock, alive, length, get_in, lit<, mem, WT, WpFn, id⊢, suffices, calls_at_last, Bool, ◌∙◌, ◌++◌, tail, unit, TableId, mine, leaves, fm, Seat, Shared, BareFields, bare_val}
-use types.Kit.{feq_l}
-use base.Fraction.{full_share}
-use contract.BorrowLft.{⊑_static}
+use Rattle.shared_row.proofs.Walked.{◌≡◌, ℕ, ◌*◌, ◌^◌, ◌<◌, List, [], ◌∷◌, sym, refl, subst, arith, lit<, a_type, dcons, dnil, Val, vptr, inst_fn, SProp, ent, emp, ftrue, fsep, flft, ‵, raw, ◌⊛◌, given, at_ret, ◌$◌, ◌∵◌, !, qed, by, move, keep, drop, split, join, fsplit, fsplit3, fjoin, fjoin3, learn, use0, feq_i, stop, fld, of_opd, no_more, and_then, first, blocks, exec, returns, enter, alloc_all, pass_all, free_all, look_at, get, sets, lands_last, is, env, agg, sub, whole, tables, yes, RattleType, owns, types_at, plain, Ptr, block_ptr, nothing, param, bounded, Stays, stay_dropped, walk_of, Goes-dropped, fact, fact_i, RefOf, u64, Valss, pick, some, later, await, use1, use2, fpack, of_list, vstruct, InBlock, alive, length, get_in, mem, WT, WpFn, id⊢, suffices, calls_at_last, Bool, ◌∙◌, ◌++◌, tail, unit, TableId, mine, leaves, fm, Seat, Shared, BareFields, bare_val, feq_l, full_share, ⊑_static, slots_items, slots_filled, slots_ptr, slots_len, slots_counts, IsFull, El, row_val, proved_at, places, parts_typed, Row-seen, Into, at_into, Into-goes, Into-gives, to_strip, opening, strip, table_owns, deals, word_laws, SeatFields, seat_val, seat_made, bare_made, bare_fits, opened_val, opened_fits}
 use Rattle.core.specs.contracts.slots.Slots as slots
-use Rattle.core.specs.Mem.Slots.{slots_items, slots_filled, slots_ptr, slots_len, slots_counts, IsFull}
 use Rattle.core.proofs.slots.Slots.into_raw_parts.Met as callee
-use Rattle.core.proofs.mem.Param.{El}
-use Rattle.core.proofs.slots.Opens.{row_val}
-use Rattle.atomic_table.proofs.Walks.{proved_at}
-use Rattle.atomic_table.proofs.Raw.{all as places, parts_typed, Row-seen, Into, at_into, Into-goes, Into-gives, to_strip}
-use Rattle.atomic_table.specs.Table.{opening}
-use Rattle.atomic_table.specs.Seated.{strip, table_owns}
-use Rattle.atomic_table.proofs.Dealing.{deals}
-use Rattle.shared_row.proofs.Values.{word_laws, SeatFields, seat_val, seat_made, bare_made, bare_fits, opened_val, opened_fits}
 use Rattle.shared_row.specs.contracts.shared_words.SharedWords.open.{ended, clauses}
 use Rattle.shared_row.specs.contracts.shared_words.SharedWords.open.Key.{name as #self}
 use Rattle.shared_row.proofs.shared_words.SharedWords.open.Statement.{statement}

@@ -1,7 +1,5 @@
 -- A load that no seat goes with.
-use Rattle.shared_row.proofs.Walked.{ℕ, ◌+◌, ◌*◌, ◌^◌, ◌<◌, List, [], ◌∷◌, refl, ap, arith, lit<, w64, a_type, dcons, dnil, named, Val, vint, vptr, inst_fn, SProp, emp, Fml, ftrue, fsep, flft, ‵, raw, ◌⊛◌, given, mean, at_ret, ◌$◌, ◌∵◌, !, qed, by, move, keep, drop, split, join, fsplit, fjoin, learn, use0, use3, feq_i, flt_i, stop, fld, load, lit, of_opd, bin, no_more, and_then, first, blocks, exec, Calls-last, returns, enter, alloc_all, pass_all, free_all, look_at, get, through, sets, lands_last, is, env, agg, sub, whole, look_in, tables, yes, RattleType, owns, types_at, plain, Ptr, block_ptr, ptr_val, nothing, param, bounded, Stays, stay_dropped, walk_of, Goes-dropped, fact, fact_i, block_of, count_of, at_block, via, RefOf, usize, shr_vals, shr_Tells, uint_vals, uint_Tells, obor_close, shr_bor-open, Goes-dropped, lit<, unit, tail, TableId, age, proved, leaves, glances, fm, seq_cst, found, finds, loads, Seat, Shared, BareFields, bare_val, finds_start}
-use denote.Steps.{shuts}
-use types.Within.{tokens_halve}
+use Rattle.shared_row.proofs.Walked.{ℕ, ◌+◌, ◌*◌, ◌^◌, ◌<◌, List, [], ◌∷◌, refl, ap, arith, lit<, w64, a_type, dcons, dnil, named, Val, vint, vptr, inst_fn, SProp, emp, Fml, ftrue, fsep, flft, ‵, raw, ◌⊛◌, given, mean, at_ret, ◌$◌, ◌∵◌, !, qed, by, move, keep, drop, split, join, fsplit, fjoin, learn, fpick, use0, use3, feq_i, flt_i, stop, fld, load, lit, of_opd, bin, no_more, and_then, first, blocks, exec, Calls-last, returns, enter, alloc_all, pass_all, free_all, look_at, get, through, sets, lands_last, is, env, agg, sub, whole, look_in, tables, yes, RattleType, owns, types_at, plain, Ptr, block_ptr, ptr_val, nothing, param, bounded, Stays, stay_dropped, walk_of, Goes-dropped, fact, fact_i, block_of, count_of, at_block, via, RefOf, usize, shr_vals, shr_Tells, uint_vals, uint_Tells, obor_close, shr_bor-open, tail, TableId, age, proved, leaves, Has, finds_word, seated_fact, fm, seq_cst, found, finds, loads, Seat, Shared, BareFields, bare_val, finds_start, shuts, tokens_halve}
 use Rattle.shared_row.specs.contracts.shared_words.SharedWords.peek.{ended, clauses}
 use Rattle.shared_row.specs.contracts.shared_words.SharedWords.peek.Key.{name as #self}
 use Rattle.shared_row.proofs.shared_words.SharedWords.peek.Statement.{statement}
@@ -25,11 +23,11 @@ peek_spec 𝓤 𝓛 𝓜 𝓡 wired U Q P _ _ _ g d _ =
     sets ! (is ! (of_opd ! (load ! (through ! refl (fld ! refl (stop !))) (look_in ! 0 (sub ! 0 refl (whole !))))) (ap ptr_val (at_block w at.0))) refl (tt, tt) $
     sets ! (bin ! (get ! refl) (lit ! tt) (record { fits = small })) refl (tt, record { fits = small }) $ sets ! (bin ! (get ! refl) (get ! refl) tt) refl (tt, tt) $
     move ! (1 ∷ []) $ split ! $ move ! (2 ∷ 0 ∷ 1 ∷ []) $ shuts ! tt (BareFields W X Y g) s (w, (tt, tt)) (bare_val w ∷ []) b o $ move ! (2 ∷ 0 ∷ []) $
-    shr_bor-open ! tt (tokens_halve 𝓛 (age z)) (λ q. let out : ℕ → Fml = λ n. fsep (flft (age z) q) ftrue in nothing ! $ move ! (3 ∷ 2 ∷ 0 ∷ []) $
-    use3 𝓛 (raw (𝓣.C _ (vptr (block_of w) e ∷ seq_cst ∷ []) (λ u. mean 𝓛 (found out u)))) (via 𝓤 _ (glances 𝓛 unit W.coded (g.holds t.key) w w z q i inside) (loads 𝓛 𝓜 𝓡 (code.calls-core::raw_atomic::load 𝓡.env wired) (block_ptr (block_of w) e) out)) $
+    shr_bor-open ! tt (tokens_halve 𝓛 (age z)) (λ q. let Told : ℕ → Type 0 = Has 𝓛 W (g.holds t.key) w z q i in let out : ℕ → Fml = λ n. fsep (flft (age z) q) (seated_fact (Told n)) in nothing ! $ move ! (3 ∷ 2 ∷ 0 ∷ []) $
+    use3 𝓛 (raw (𝓣.C _ (vptr (block_of w) e ∷ seq_cst ∷ []) (λ u. mean 𝓛 (found out u)))) (via 𝓤 _ (finds_word 𝓛 W (g.holds t.key) w z q i inside) (loads 𝓛 𝓜 𝓡 (code.calls-core::raw_atomic::load 𝓡.env wired) (block_ptr (block_of w) e) out)) $
     sets ! (agg ! (and_then ! (lit ! tt) (no_more !))) refl (tt, (record { fits = lit< tt }, tt)) $
     Calls-last ! (fm 𝓛 𝓜 𝓡) (found out) (and_then ! (get ! refl) (and_then ! (get ! refl) (no_more !))) (λ u. finds ! out (λ n fits.
     lands_last ! refl (tt, record { fits = fits }) $ exec ! 𝓣.C 𝓣.Λ Ev (tail fn.body) (at_ret Ev Post) $ sets ! (of_opd ! (get ! refl)) refl (tt, record { fits = fits }) $
-    fsplit ! $ move ! (2 ∷ 0 ∷ []) $ obor_close ! tt $ drop ! $ nothing ! $ nothing ! $ fjoin ! $ nothing ! $ fjoin ! $ move ! (1 ∷ 3 ∷ []) $ join ! $
-    use0 𝓛 (raw (fact 𝓤 (n < 2 ^ 64))) (fact_i 𝓤 (n < 2 ^ 64) (emp 𝓤) fits) $ flt_i ! n (2 ^ 64) fits $ feq_i ! (List Val) (vint w64 n ∷ []) (vint w64 n ∷ []) refl $ fjoin ! $
-    returns ! (look_at ! 0 refl) $ free_all ! refl $ keep ! (2 ∷ 3 ∷ 0 ∷ 1 ∷ []) $ by ! (leaves 𝓛 En hs c y (vint w64 n) n (tt, (tt, tt)) (tt, (tt, tt))))))))))
+    fsplit ! $ move ! (1 ∷ []) $ fpick ! (λ so. drop ! $ move ! (1 ∷ 0 ∷ []) $ obor_close ! tt $ drop ! $ nothing ! $ nothing ! $ fjoin ! $ nothing ! $ fjoin ! $ move ! (1 ∷ 2 ∷ []) $ join ! $
+    use0 𝓛 (raw (fact 𝓤 (Told n))) (fact_i 𝓤 (Told n) (emp 𝓤) so) $ flt_i ! n (2 ^ 64) fits $ feq_i ! (List Val) (vint w64 n ∷ []) (vint w64 n ∷ []) refl $ fjoin ! $
+    returns ! (look_at ! 0 refl) $ free_all ! refl $ keep ! (2 ∷ 3 ∷ 0 ∷ 1 ∷ []) $ by ! (leaves 𝓛 En hs c y (vint w64 n) n (tt, (tt, tt)) (tt, (tt, tt)))))))))))

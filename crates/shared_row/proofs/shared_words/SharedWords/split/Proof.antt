@@ -1,7 +1,5 @@
 -- A load at which the seat's view is cut in two.
-use Rattle.shared_row.proofs.Walked.{◌≡◌, ℕ, ◌+◌, ◌*◌, ◌<◌, [], ◌∷◌, sym, refl, ap, subst, arith, lit<, a_type, dcons, dnil, named, Val, vptr, inst_fn, SProp, ent, sep, emp, Fml, ftrue, fsep, flft, sem, ‵, raw, ◌⊛◌, given, mean, at_ret, ◌$◌, ◌∵◌, !, qed, by, move, keep, drop, split, split3, fsplit, fsplit3, fjoin, fpick, learn, use0, use3, stop, fld, load, lit, of_opd, no_more, and_then, first, blocks, exec, Calls-last, returns, enter, alloc_all, pass_all, free_all, look_at, get, through, sets, lands_last, is, env, agg, sub, whole, look_in, tables, yes, RattleType, owns, types_at, plain, Ptr, block_ptr, ptr_val, nothing, param, bounded, Stays, stay_dropped, walk_of, Goes-dropped, fact, fact_i, block_of, count_of, at_block, via, RefOf, mut_vals, mut_Tells, shr_vals, shr_Tells, stay_ref, Goes-ref, Goes-dropped, lit<, unit, tail, asks, always, Splits, TableId, age, mine, proved, leaves, forks, two, fm, seq_cst, found, finds, loads, Seat, Shared, invariant_of, finds_start, takes_seat, shuts_seat, seated}
-use Rattle.shared_row.proofs.Values.{SeatFields, seat_val, seat_made}
-use base.Fml.{fex}
+use Rattle.shared_row.proofs.Walked.{◌≡◌, ℕ, ◌+◌, ◌*◌, ◌<◌, [], ◌∷◌, sym, refl, ap, subst, arith, lit<, a_type, dcons, dnil, named, Val, vptr, inst_fn, SProp, ent, sep, emp, Fml, ftrue, fsep, flft, sem, ‵, raw, ◌⊛◌, given, mean, at_ret, ◌$◌, ◌∵◌, !, qed, by, move, keep, drop, split, split3, fsplit, fsplit3, fjoin, fpick, learn, use0, use3, stop, fld, load, lit, of_opd, no_more, and_then, first, blocks, exec, Calls-last, returns, enter, alloc_all, pass_all, free_all, look_at, get, through, sets, lands_last, is, env, agg, sub, whole, look_in, tables, yes, RattleType, owns, types_at, plain, Ptr, block_ptr, ptr_val, nothing, param, bounded, Stays, stay_dropped, walk_of, Goes-dropped, fact, fact_i, block_of, count_of, at_block, via, RefOf, mut_vals, mut_Tells, shr_vals, shr_Tells, stay_ref, Goes-ref, unit, tail, asks, always, Splits, TableId, age, mine, proved, leaves, forks, two, fm, seq_cst, found, finds, loads, Seat, Shared, invariant_of, finds_start, takes_seat, shuts_seat, seated, SeatFields, seat_val, seat_made, fex}
 use Rattle.shared_row.specs.contracts.shared_words.SharedWords.split.{ended, clauses}
 use Rattle.shared_row.specs.contracts.shared_words.SharedWords.split.Key.{name as #self}
 use Rattle.shared_row.proofs.shared_words.SharedWords.split.Statement.{statement}
