@@ -3,6 +3,8 @@
 
 mod pool;
 #[cfg(test)]
+mod steal_tests;
+#[cfg(test)]
 mod tests;
 
-pub use pool::{PlainPool, Pool, Style};
+pub use pool::{PlainPool, Pool, StealPool, Style};

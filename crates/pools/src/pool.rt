@@ -8,13 +8,16 @@ ghost use Rattle.pools.specs.declared.pool.Style.TheVariants as styles;
 
 use std::alloc::AllocError;
 use std::thread::Threads;
-use work_packets::{Bucket, Gate, Packet, PacketWorker, run_plain_split};
+use steal_pool::run_steal;
+use work_packets::{Bucket, Gate, Packet, PacketWorker, run_alone as run_by_one, run_plain_split};
 
 /// How the packets of a bucket come to the workers.
 #[derive(Clone, Copy, Debug, PartialEq, Eq)]
 pub enum Style {
     /// The first packets are dealt, and each worker runs its own and all that it pushes.
     Plain,
+    /// As `Plain`, and a worker that has none left steals from the others.
+    Steal,
 }
 
 /// Runs the packets of a collection, bucket by bucket.
@@ -64,7 +67,41 @@ pub trait Pool {
         self.note(b);
         match self.style() {
             Style::Plain => run_plain_split(rt, b, workers, first, gate),
+            Style::Steal => run_steal(rt, b, workers, first, gate),
         }
+    }
+
+    /// Runs a bucket as `run_bucket` does, by one worker and in the caller's thread. All styles are
+    /// one then.
+    final fn run_alone<T: Drop, W: PacketWorker<T>, G: Gate>(
+        &self,
+        b: Bucket,
+        worker: W,
+        first: Vec<Packet<T>>,
+        gate: &G,
+    ) -> Result<(W, Vec<Packet<T>>), AllocError>
+        requires bucket { All (λ p. p.bucket ≡ b) first.items }
+        requires items { All HasItems first.items }
+        requires takes { All (W.takes (W.home worker)) first.items }
+        requires awaits { (start : W.Start) × AwaitsAll W.awaits start worker first.items }
+        ensures home { IfOk result (λ r. W.home r.0 ≡ W.home worker) }
+        ensures items { IfOk result (λ r. All HasItems r.1.items) }
+        ensures takes { IfOk result (λ r. All (W.takes (W.home worker)) r.1.items) }
+        ensures once { IfOk result (λ r. (logs : List (List (Step W T)))
+            × RunsBucket W.steps (record {
+              bucket = b;
+              before = worker ∷ [];
+              first = first.items;
+              logs = logs;
+              after = r.0 ∷ [];
+              later = r.1.items;
+            })) }
+        ensures awaits { IfOk result (λ r. (start : W.Start)
+            → AwaitsAll W.awaits start worker first.items
+            → AwaitsAll W.awaits start r.0 r.1.items) }
+    {
+        self.note(b);
+        run_by_one(b, worker, first, gate)
     }
 }
 
@@ -77,6 +114,20 @@ impl Pool for PlainPool {
         ensures { result ≡ styles.Plain }
     {
         Style::Plain
+    }
+
+    fn note(&self, _b: Bucket) {}
+}
+
+/// The pool whose workers steal packets from one another.
+#[derive(Clone, Copy, Debug)]
+pub struct StealPool;
+
+impl Pool for StealPool {
+    fn style(&self) -> Style
+        ensures { result ≡ styles.Steal }
+    {
+        Style::Steal
     }
 
     fn note(&self, _b: Bucket) {}

@@ -11,7 +11,9 @@ use std::alloc::{AllocError, Global};
 use std::sync::atomic::{AtomicU64, Ordering};
 use std::test::Fail;
 use std::thread::Threads;
-use work_packets::{Bucket, Gate, OpenGate, Packet, PacketWorker, Point, workers_are_reached};
+use work_packets::{
+    Bucket, Gate, MeetGate, OpenGate, Packet, PacketWorker, Point, workers_are_reached,
+};
 
 // Pushes a packet whose one item is the height of the tree that it stands for.
 fn push_tree(packets: &mut Vec<Packet<u32>>, bucket: Bucket, height: u32) -> Result<(), AllocError>
@@ -27,10 +29,10 @@ fn push_tree(packets: &mut Vec<Packet<u32>>, bucket: Bucket, height: u32) -> Res
 
 // For a packet of height n + 1 it pushes two of height n for this bucket, and one for `Release`.
 #[derive(Debug, Drop)]
-struct TreeWorker {
+pub(crate) struct TreeWorker {
     number: u32,
     highest: u32,
-    ran: u64,
+    pub(crate) ran: u64,
     left: u64,
 }
 
@@ -83,9 +85,9 @@ impl PacketWorker<u32> for TreeWorker {
     }
 }
 
-const HIGHEST: u32 = 10;
+pub(crate) const HIGHEST: u32 = 16;
 
-fn workers(alloc: Global, count: usize) -> Result<Vec<TreeWorker>, AllocError>
+pub(crate) fn workers(alloc: Global, count: usize) -> Result<Vec<TreeWorker>, AllocError>
     ensures count { IfOk result (λ ws. length ws.items ≡ count) }
     ensures home { IfOk result (λ ws. All (λ w. w.highest ≡ HIGHEST) ws.items) }
 {
@@ -103,21 +105,25 @@ fn workers(alloc: Global, count: usize) -> Result<Vec<TreeWorker>, AllocError>
     Ok(workers)
 }
 
-// A packet of `Closure` for each of these heights.
-fn forest(alloc: Global, heights: &[u32]) -> Result<Vec<Packet<u32>>, AllocError>
-    ensures bucket { IfOk result (λ ps. All (λ p. p.bucket ≡ buckets.Closure) ps.items) }
+// A packet of the bucket for each of these heights.
+pub(crate) fn forest(
+    alloc: Global,
+    bucket: Bucket,
+    heights: &[u32],
+) -> Result<Vec<Packet<u32>>, AllocError>
+    ensures bucket { IfOk result (λ ps. All (λ p. p.bucket ≡ bucket) ps.items) }
     ensures items { IfOk result (λ ps. All HasItems ps.items) }
     ensures takes { IfOk result
         (λ ps. All (λ p. All (λ x. x ≤ HIGHEST) p.items.items) ps.items) }
 {
     let mut packets = Vec::new(alloc);
     for height in heights {
-        push_tree(&mut packets, Bucket::Closure, (*height).min(HIGHEST))?;
+        push_tree(&mut packets, bucket, (*height).min(HIGHEST))?;
     }
     Ok(packets)
 }
 
-fn ran(workers: &Vec<TreeWorker>) -> u64 {
+pub(crate) fn ran(workers: &Vec<TreeWorker>) -> u64 {
     let mut ran: u64 = 0;
     for worker in workers {
         ran = ran.saturating_add(worker.ran);
@@ -171,7 +177,7 @@ impl Gate for CountingGate {
 }
 
 // Runs trees of these heights: the workers, and the packets for `Release`.
-fn run_forest<Q: Pool, G: Gate, R: Threads + Sync>(
+pub(crate) fn run_forest<Q: Pool, G: Gate, R: Threads + Sync>(
     rt: &R,
     alloc: Global,
     pool: &Q,
@@ -187,7 +193,7 @@ fn run_forest<Q: Pool, G: Gate, R: Threads + Sync>(
         (λ r. All (λ p. All (λ x. x ≤ HIGHEST) p.items.items) r.1.items) }
 {
     let workers = workers(alloc, count)?;
-    let first = forest(alloc, heights)?;
+    let first = forest(alloc, Bucket::Closure, heights)?;
     let ran = pool.run_bucket(rt, Bucket::Closure, workers, first, gate)?;
     Ok(ran)
 }
@@ -380,7 +386,7 @@ fn run_alone<Q: Pool, R: Threads + Sync>(
     ensures none { IfOk result (λ r. r.1.items ≡ []) }
     ensures waiting { IfOk result (λ r. All (λ w. w.waiting ≡ 0) r.0.items) }
 {
-    let first = forest(alloc, heights)?;
+    let first = forest(alloc, Bucket::Closure, heights)?;
     let workers = tally_worker(alloc, &first)?;
     let (workers, later) = pool.run_bucket(rt, Bucket::Closure, workers, first, &OpenGate)?;
     let ran = pool.run_bucket(rt, Bucket::Release, workers, later, &OpenGate)?;
@@ -400,5 +406,33 @@ fn one_worker_knows_what_it_awaits(rt: HostRuntime) -> Result<(), Fail> {
         }
         assert!(rt; later.is_empty());
     }
+    Ok(())
+}
+
+// Two workers run a packet each, and one waits for the other, the first for the second or the other
+// way round.
+#[test]
+fn two_workers_meet(rt: HostRuntime) -> Result<(), Fail> {
+    for (first, second) in [(17u32, 18u32), (18, 17)] {
+        let gate = MeetGate::new(first, second, Point::Packet);
+        let (workers, later) = run_forest(&rt, rt.alloc(), &PlainPool, &gate, 2, &[0, 0])?;
+        assert_eq!(rt; ran(&workers), 2);
+        assert!(rt; later.is_empty());
+        assert!(rt; !gate.missed());
+    }
+    Ok(())
+}
+
+// The second worker has no packet, so the first does not meet it, at this point or at another one.
+#[test]
+fn worker_that_never_comes_is_missed(rt: HostRuntime) -> Result<(), Fail> {
+    let gate = MeetGate::new(17, 18, Point::Packet);
+    let (workers, _later) = run_forest(&rt, rt.alloc(), &PlainPool, &gate, 2, &[1])?;
+    assert_eq!(rt; ran(&workers), 3);
+    assert!(rt; gate.missed());
+    let gate = MeetGate::new(17, 18, Point::Claim);
+    let (workers, _later) = run_forest(&rt, rt.alloc(), &PlainPool, &gate, 2, &[1])?;
+    assert_eq!(rt; ran(&workers), 3);
+    assert!(rt; !gate.missed());
     Ok(())
 }

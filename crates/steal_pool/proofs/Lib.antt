@@ -9,4 +9,3 @@ mod Rounds
 mod Joined
 mod Ended
 mod Yields
-mod Trees

@@ -6,7 +6,5 @@ mod rule;
 mod seats;
 mod serve;
 mod steal;
-#[cfg(test)]
-mod tests;
 
 pub use steal::{MAX_WORKERS, run_steal};

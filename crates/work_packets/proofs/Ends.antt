@@ -27,6 +27,9 @@ module _ {X : Type 0} where
   all-right P xs ys h = subst (All P) (drop-append_seam xs ys) (All-drop P (length xs) (xs ++ ys) h)
 
 module _ {T W H S : Type 0} (home : W → H) (takes : H → Packet T → Type 0) (awaits : S → W → List (Packet T) → Type 0) (b : Bucket) where
+  pub one-runnable : (s : Share T W) → All (λ p. p.bucket ≡ b) s.packets.items → All HasItems s.packets.items → All (takes (home s.worker)) s.packets.items → ((start : S) × AwaitsAll awaits start s.worker s.packets.items) → IsRunnable home takes awaits b s
+  one-runnable s bucket sized taken awaited = record { in_bucket = bucket; sized = sized; taken = taken; awaited = awaited }
+
   pub runnable : (h : H) (shares : List (Share T W)) → All (λ w. home w ≡ h) (map (λ s. s.worker) shares) → All (λ p. p.bucket ≡ b) (packets_in shares) → All HasItems (packets_in shares) → All (takes h) (packets_in shares)
       → All (λ s. (start : S) × AwaitsAll awaits start s.worker s.packets.items) shares → All (IsRunnable home takes awaits b) shares
   runnable h [] own bucket sized taken awaited = All-nil _
@@ -65,6 +68,16 @@ module _ {T W H S : Type 0} (home : W → H) (takes : H → Packet T → Type 0)
           left = subst (λ l. IsPermutation l (f.later.items ++ flat_map (λ f. f.later.items) fs)) (sym after) (IsPermutation-append _ _ _ _ z.0.runs.left rest.1.left);
           order = All-append (λ p. IsSameOrLater b p.bucket) (pushed log) (pushed_by_all logs) z.0.runs.order rest.1.order;
         },
+      )
+
+  -- one worker
+  pub one-runs : (s : Share T W) (f : Finished T W) → Finishes home takes awaits b steps s f
+      → (logs : List (List (Step W T))) × RunsBucket steps (record { bucket = b; before = s.worker ∷ []; first = s.packets.items; logs = logs; after = f.worker ∷ []; later = f.later.items })
+  one-runs s f fin =
+      let o = bucket-runs (s ∷ []) (f ∷ []) (fin, tt) in (
+        o.0,
+        subst (λ l. RunsBucket steps (record { bucket = b; before = s.worker ∷ []; first = l; logs = o.0; after = f.worker ∷ []; later = f.later.items })) (append-nil s.packets.items)
+            (subst (λ l. RunsBucket steps (record { bucket = b; before = s.worker ∷ []; first = s.packets.items ++ []; logs = o.0; after = f.worker ∷ []; later = l })) (append-nil f.later.items) o.1),
       )
 
   pub homes-stay : (h : H) (shares : List (Share T W)) (fs : List (Finished T W)) → AllZip (Finishes home takes awaits b steps) shares fs → All (λ w. home w ≡ h) (map (λ s. s.worker) shares)

@@ -6,3 +6,4 @@ pub mod DealtPackets
 pub mod Ends
 pub mod Reached
 pub mod Balances
+mod Idle

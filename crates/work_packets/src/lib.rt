@@ -4,6 +4,7 @@
 
 mod gate;
 mod laws;
+mod meet_gate;
 mod packet;
 mod plain_split;
 mod share;
@@ -14,7 +15,8 @@ pub use laws::{
     buckets_have_an_order, packets_are_small, packets_carry_a_balance, runs_lose_nothing,
     workers_are_reached,
 };
+pub use meet_gate::{MAX_TURNS, MeetGate};
 pub use packet::{Bucket, MAX_ITEMS, Packet};
-pub use plain_split::run_plain_split;
+pub use plain_split::{run_alone, run_plain_split};
 pub use share::{Share, deal};
 pub use worker::PacketWorker;

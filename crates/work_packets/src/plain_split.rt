@@ -1,7 +1,7 @@
 //! The plain split of a bucket: its first packets are dealt to the workers, and each worker runs
 //! its own and all that it pushes for this bucket.
 
-ghost use Rattle.std.specs.Prelude.{◌≡◌, ◌+◌, ◌<◌, ◌≤◌, List, [], ◌∷◌, ◌++◌, length, All, IfOk, map, Ok};
+ghost use Rattle.std.specs.Prelude.{◌≡◌, ◌+◌, ◌<◌, ◌≤◌, min, max, List, [], ◌∷◌, ◌++◌, length, All, IfOk, map, Ok};
 ghost use Rattle.std.specs.List.{flat_map};
 ghost use Rattle.std.specs.List.Sorted.{IsPermutation};
 ghost use Rattle.std.specs.Thread.{IsSync, IsSend};
@@ -100,10 +100,17 @@ fn gather<T: Drop, W: Drop>(
     Ok((workers, packets))
 }
 
+/// The workers that get packets: one for each packet, but one at least and all of them at most.
+fn busy_count(workers: usize, packets: usize) -> usize
+    ensures { result ≡ min workers (max 1 packets) }
+{
+    workers.min(packets.max(1))
+}
+
 /// Runs a bucket from its first packets on, and hands back the workers and the packets for later
 /// buckets. The first packets are dealt evenly, and each worker runs its own and all that it pushes
 /// for this bucket. The caller does the work of one worker, and that of those for which no thread
-/// can be started.
+/// can be started. A worker that gets no packet has no thread.
 pub fn run_plain_split<T: Send + Drop, W: PacketWorker<T>, G: Gate, R: Threads + Sync>(
     rt: &R,
     b: Bucket,
@@ -135,7 +142,10 @@ pub fn run_plain_split<T: Send + Drop, W: PacketWorker<T>, G: Gate, R: Threads +
         → AwaitsAll W.awaits start w first.items
         → (v : W) × (r.0.items ≡ v ∷ []) × AwaitsAll W.awaits start v r.1.items) }
 {
-    let shares = deal(workers, first)?;
+    let busy = busy_count(workers.len(), first.len());
+    let mut active = workers;
+    let mut idle = active.split_off(busy)?;
+    let shares = deal(active, first)?;
     let results = thread::map_vec(
         rt,
         shares,
@@ -146,5 +156,44 @@ pub fn run_plain_split<T: Send + Drop, W: PacketWorker<T>, G: Gate, R: Threads +
                 (λ f. Finishes W.home W.takes W.awaits b W.steps share f) }
         { run_share(b, gate, share) },
     )?;
-    gather(results)
+    let gathered = gather(results)?;
+    let (mut all, later) = gathered;
+    all.append(&mut idle)?;
+    Ok((all, later))
+}
+
+/// Runs a bucket as `run_plain_split` does, by one worker and in the caller's thread.
+pub fn run_alone<T: Drop, W: PacketWorker<T>, G: Gate>(
+    b: Bucket,
+    worker: W,
+    first: Vec<Packet<T>>,
+    gate: &G,
+) -> Result<(W, Vec<Packet<T>>), AllocError>
+    requires bucket { All (λ p. p.bucket ≡ b) first.items }
+    requires items { All HasItems first.items }
+    requires takes { All (W.takes (W.home worker)) first.items }
+    requires awaits { (start : W.Start) × AwaitsAll W.awaits start worker first.items }
+    ensures home { IfOk result (λ r. W.home r.0 ≡ W.home worker) }
+    ensures items { IfOk result (λ r. All HasItems r.1.items) }
+    ensures takes { IfOk result (λ r. All (W.takes (W.home worker)) r.1.items) }
+    ensures once { IfOk result (λ r. (logs : List (List (Step W T)))
+        × RunsBucket W.steps (record {
+          bucket = b;
+          before = worker ∷ [];
+          first = first.items;
+          logs = logs;
+          after = r.0 ∷ [];
+          later = r.1.items;
+        })) }
+    ensures awaits { IfOk result (λ r. (start : W.Start)
+        → AwaitsAll W.awaits start worker first.items
+        → AwaitsAll W.awaits start r.0 r.1.items) }
+{
+    let share = Share {
+        number: 1,
+        worker,
+        packets: first,
+    };
+    let finished = run_share(b, gate, share)?;
+    Ok((finished.worker, finished.later))
 }
