@@ -28,7 +28,7 @@ module _ (p : Setup) (v : Share) (token : Won) (won : IsWon p v token) where
 -- a step that is not the last one
 pub copies-next : (x k : ℕ) (v w u : Share) → Copying x k v w → u ≡ copies_on x k w → Copying x (k + 1) v u
 copies-next x k v w u by is = subst (Copying x (k + 1) v) (sym is) (record {
-  keeps = record { parts = by.keeps.parts; token = by.keeps.token; worker = by.keeps.worker; numbers = by.keeps.numbers; unset = by.keeps.unset; last = by.keeps.last; known = by.keeps.known; lined = by.keeps.lined; busy = by.keeps.busy };
+  keeps = record { parts = by.keeps.parts; token = by.keeps.token; worker = by.keeps.worker; numbers = by.keeps.numbers; unset = by.keeps.unset; last = by.keeps.last; known = by.keeps.known; lined = by.keeps.lined; busy = by.keeps.busy; sparse = by.keeps.sparse };
   room = record { parts = by.room.parts; worker = by.room.worker; front = by.room.front; limit = by.room.limit; filling = by.room.filling };
   gave = by.gave;
   took = by.took;
@@ -50,7 +50,7 @@ copied-parts x v w by = ap (λ (u : Share). u.parts) by.after ∙ by.copying.roo
 pub copies-given : (x : ℕ) (v w u : Share) → Copied x v w → u ≡ gives_scan x w → Copies x v u
 copies-given x v w u by is = let b : Share = by.before in let k : ℕ = by.steps in let c = by.copying in
     subst (Copies x v) (sym (is ∙ ap (gives_scan x) by.after)) (record {
-      keeps = record { parts = c.keeps.parts; token = c.keeps.token; worker = c.keeps.worker; numbers = c.keeps.numbers; unset = c.keeps.unset; last = c.keeps.last; known = c.keeps.known; lined = c.keeps.lined; busy = c.keeps.busy };
+      keeps = record { parts = c.keeps.parts; token = c.keeps.token; worker = c.keeps.worker; numbers = c.keeps.numbers; unset = c.keeps.unset; last = c.keeps.last; known = c.keeps.known; lined = c.keeps.lined; busy = c.keeps.busy; sparse = c.keeps.sparse };
       room = record { parts = c.room.parts; worker = c.room.worker; front = c.room.front; limit = c.room.limit; filling = c.room.filling };
       gave = ap (λ n. n + 1) c.gave;
       took = c.took;

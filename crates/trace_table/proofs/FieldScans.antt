@@ -1,5 +1,6 @@
 -- The share of a seat that scans an object.
-use Rattle.std.proofs.Common.{◌≡◌, ◌≢◌, ℕ, ◌+◌, ◌<◌, ◌≤◌, ◌^◌, inl, inr, nat_eq, List, [], ◌∷◌, ◌++◌, length-append, append-nil, append_assoc, map, refl, sym, ap, ◌∙◌, subst, arith}
+use Rattle.std.proofs.Common.{◌≡◌, ◌≢◌, ℕ, ◌+◌, ◌<◌, ◌≤◌, ◌^◌, ◌⊎◌, inl, inr, nat_eq, List, [], ◌∷◌, ◌++◌, length-append, append-nil, append_assoc, map, refl, sym, ap, ◌∙◌, subst, subst₂, arith}
+use Rattle.std.proofs.lemmas.List.Elements.{All-nil, All-cons, All-append, All-weaker}
 use Rattle.std.proofs.lemmas.Bool.{cases_Bool, cases_eq}
 use Rattle.object_model.specs.Objects.{IsHeld, ref_at}
 use Rattle.object_model.specs.Lawful.{IsRefField}
@@ -8,14 +9,14 @@ use Rattle.trace_core.specs.Setups.{Setup, TraceMayBegin, blocks, refs}
 use Rattle.trace_core.specs.Machine.{ClaimCause, ByRoot}
 use Rattle.trace_core.specs.CallEvents.{IsNoRoot}
 use Rattle.trace_core.specs.Views.{hits, is_pair, without, steps_at_claim}
-use Rattle.trace_core.proofs.CountedRights.{hits-here, hits-cons, hits-without, pair-parts, times-cons, count-append}
+use Rattle.trace_core.proofs.CountedRights.{hits-here, hits-cons, hits-from, hits-without, pair-parts, times-cons, count-append}
 use Rattle.trace_core.proofs.LastValues.{reference-of}
 use Rattle.trace_words.specs.declared.share.Share.{Share}
 use Rattle.trace_words.specs.Shares.{scans_field, both_shares, scan_token}
 use Rattle.trace_words.specs.Steps.{IsDone, IsLast, MayScan}
 use Rattle.trace_table.specs.declared.tokens.Grey.{Grey}
 use Rattle.trace_table.specs.declared.tokens.Won.{Won}
-use Rattle.trace_table.specs.Seats.{Keeps, Looks, SameRoom, Wins, IsWon, Copies, Pushes, Follows, IsScanning, Scans}
+use Rattle.trace_table.specs.Seats.{Keeps, Looks, SameRoom, Wins, IsWon, Copies, Pushes, Follows, IsScanning, ScansNoOther, Scans}
 use Rattle.trace_table.proofs.SeatShares.{keeps-trans, looks-not}
 use Rattle.trace_table.proofs.Copyings.{first-gone}
 
@@ -48,6 +49,7 @@ pub pushes-none : (v w : Share) (out : List Grey) → Looks v w → Pushes v w o
 pushes-none v w out looks = record {
   keeps = looks.keeps;
   pushed = [];
+  targets = All-nil (λ g. 0 < hits g.object g.target w.known);
   out = sym (append-nil out);
   gave = (let a = looks.gave in omega arith);
   copied = λ x. (let a : times x w.copied ≡ times x v.copied = ap (times x) looks.copied in omega arith);
@@ -65,11 +67,13 @@ follows-known r t v w out spent looks known = record {
 
 -- an object was claimed and copied, and its token pushed
 pub follows-won : (p : Setup) (r : ℕ) (cause : ClaimCause) → IsNoRoot r cause → (v w u : Share) (token : Won) (out out' : List Grey) (grey : Grey) → Wins p r cause v w token → Copies token.object w u → grey.object ≡ token.object
-    → out' ≡ out ++ grey ∷ [] → Follows r token.target v u out out'
-follows-won p r cause none v w u token out out' grey wins copies object pushed = record {
+    → grey.target ≡ token.target → out' ≡ out ++ grey ∷ [] → Follows r token.target v u out out'
+follows-won p r cause none v w u token out out' grey wins copies object target pushed = record {
   pushes = record {
     keeps = keeps-trans v w u wins.keeps copies.keeps;
     pushed = grey ∷ [];
+    targets = All-cons (λ g. 0 < hits g.object g.target u.known) grey []
+        (subst₂ (λ x t. 0 < hits x t u.known) (sym (object ∙ wins.object)) (sym target) (copies.keeps.known r token.target wins.target)) (All-nil (λ g. 0 < hits g.object g.target u.known));
     out = pushed;
     gave = (let a = wins.gave in let b = copies.gave in omega arith);
     copied = λ x. (let a = times-cons token.object w.copied x in let b = times-cons grey.object [] x in let c : times x u.copied ≡ times x (token.object ∷ w.copied) = ap (times x) copies.copied in
@@ -87,6 +91,8 @@ pub pushes-trans : (u v w : Share) (a b c : List Grey) → Pushes u v a b → Pu
 pushes-trans u v w a b c p q = record {
   keeps = keeps-trans u v w p.keeps q.keeps;
   pushed = p.pushed ++ q.pushed;
+  targets = All-append (λ g. 0 < hits g.object g.target w.known) p.pushed q.pushed
+      (All-weaker (λ g. 0 < hits g.object g.target v.known) (λ g. 0 < hits g.object g.target w.known) (λ g has. q.keeps.known g.object g.target has) p.pushed p.targets) q.targets;
   out = q.out ∙ ap (λ l. l ++ q.pushed) p.out ∙ append_assoc a p.pushed q.pushed;
   gave = (let d = p.gave in let e = q.gave in let f = length-append p.pushed q.pushed in omega arith);
   copied = λ x. (let d = p.copied x in let e = q.copied x in let f : times x (objects (p.pushed ++ q.pushed)) ≡ times x (objects p.pushed ++ objects q.pushed) = ap (times x) (objects-append p.pushed q.pushed) in
@@ -97,8 +103,9 @@ pushes-trans u v w a b c p q = record {
 -- a field was scanned after that
 pub pushes-scanned : (x k : ℕ) (v w u : Share) (a b : List Grey) → Pushes v w a b → u ≡ scans_field x k w → Pushes v u a b
 pushes-scanned x k v w u a b p is = subst (λ (z : Share). Pushes v z a b) (sym is) (record {
-  keeps = record { parts = p.keeps.parts; token = p.keeps.token; worker = p.keeps.worker; numbers = p.keeps.numbers; unset = p.keeps.unset; last = p.keeps.last; known = p.keeps.known; lined = p.keeps.lined; busy = p.keeps.busy };
+  keeps = record { parts = p.keeps.parts; token = p.keeps.token; worker = p.keeps.worker; numbers = p.keeps.numbers; unset = p.keeps.unset; last = p.keeps.last; known = p.keeps.known; lined = p.keeps.lined; busy = p.keeps.busy; sparse = p.keeps.sparse };
   pushed = p.pushed;
+  targets = p.targets;
   out = p.out;
   gave = p.gave;
   copied = p.copied;
@@ -109,7 +116,7 @@ pub room-scanned : (x k : ℕ) (v w : Share) → w ≡ scans_field x k v → Sam
 room-scanned x k v w is = subst (SameRoom v) (sym is) (record { parts = refl; worker = refl; front = refl; limit = refl; filling = refl })
 
 pub keeps-scanned : (x k : ℕ) (v w : Share) → w ≡ scans_field x k v → Keeps v w
-keeps-scanned x k v w is = subst (Keeps v) (sym is) (record { parts = refl; token = refl; worker = refl; numbers = refl; unset = refl; last = refl; known = λ y t has. has; lined = λ i m has. has; busy = λ b has. has })
+keeps-scanned x k v w is = subst (Keeps v) (sym is) (record { parts = refl; token = refl; worker = refl; numbers = refl; unset = refl; last = refl; known = λ y t has. has; lined = λ i m has. has; busy = λ b has. has; sparse = refl })
 
 module _ (p : Setup) (x t k : ℕ) where
   pub may-scan : (v : Share) → 0 < v.parts → k < refs p x → IsScanning p x t k v → MayScan p v x t k
@@ -149,6 +156,7 @@ taken-keeps x t v w is = subst (Keeps v) (sym is) (record {
   known = λ y u has. (let a = count-append (is_pair y u) v.known ((x, t) ∷ []) in omega arith);
   lined = λ i m has. (let a = count-append (is_pair i m) v.lined [] in omega arith);
   busy = λ b has. (let a = count-append (nat_eq b) v.busy [] in omega arith);
+  sparse = append-nil v.sparse;
 })
 
 module _ (p : Setup) (x t : ℕ) (v : Share) where
@@ -171,6 +179,7 @@ module _ (p : Setup) (x t : ℕ) (v : Share) where
     pushes = record {
       keeps = taken-keeps x t v both refl;
       pushed = [];
+      targets = All-nil (λ g. 0 < hits g.object g.target both.known);
       out = sym (append-nil out);
       gave = omega arith;
       copied = λ y. (let a = count-append (nat_eq y) v.copied [] in omega arith);
@@ -217,3 +226,29 @@ scans-on x k n v w u a b scans is = record { pushes = pushes-scanned x k v w u a
 
 pub scans-trans : (n : ℕ) (u v w : Share) (a b c : List Grey) → Scans n u v a b → Scans 0 v w b c → Scans n u w a c
 scans-trans n u v w a b c p q = record { pushes = pushes-trans u v w a b c p.pushes q.pushes; took = (let d = p.took in let e = q.took in omega arith) }
+
+-- no object but one comes to those that are scanned
+pub others-none : (x : ℕ) (v w : Share) → w.grey ≡ v.grey → ScansNoOther x v w
+others-none x v w is y k has = inr (subst (λ l. 0 < hits y k l) is has)
+
+pub others-trans : (x : ℕ) (u v w : Share) → ScansNoOther x u v → ScansNoOther x v w → ScansNoOther x u w
+others-trans x u v w a b y k has = elim (b y k has) as (λ _. (y ≡ x) ⊎ (0 < hits y k u.grey)) [
+  | inl here ↦ inl here
+  | inr there ↦ a y k there
+]
+
+pub others-scanned : (x k : ℕ) (u v w : Share) → 0 < hits x k v.grey → w ≡ scans_field x k v → v.grey ≡ u.grey → ScansNoOther x u w
+others-scanned x k u v w right is same y j has =
+    let now : 0 < hits y j ((x, k + 1) ∷ without (is_pair x k) v.grey) = subst (λ (z : Share). 0 < hits y j z.grey) is has in
+    elim (hits-from x (k + 1) (without (is_pair x k) v.grey) y j now) as (λ _. (y ≡ x) ⊎ (0 < hits y j u.grey)) [
+      | inl here ↦ inl (sym (pair-parts x (k + 1) y j here).0)
+      | inr there ↦ inr (subst (λ l. 0 < hits y j l) same (let a = hits-without x k v.grey right y j in omega arith))
+    ]
+
+pub others-taken : (x t : ℕ) (v : Share) → ScansNoOther x v (both_shares v (scan_token x t))
+others-taken x t v y j has =
+    let both = count-append (is_pair y j) v.grey ((x, 0) ∷ []) in
+    elim (cases_Bool (is_pair y j (x, 0))) as (λ _. (y ≡ x) ⊎ (0 < hits y j v.grey)) [
+      | inl here ↦ inl (sym (pair-parts x 0 y j here).0)
+      | inr other ↦ inr (let one = hits-cons x 0 [] y j in let none = ap one_if other in omega arith)
+    ]

@@ -59,8 +59,10 @@ module _ (p : Setup) (g : ℕ) where
             known = λ x t has. from.pushes.keeps.known x t (let c = count-append (is_pair x t) v.known [] in omega arith);
             lined = λ i m has. from.pushes.keeps.lined i m (let c = count-append (is_pair i m) v.lined [] in omega arith);
             busy = λ c has. from.pushes.keeps.busy c (let d = count-append (nat_eq c) v.busy [] in omega arith);
+            sparse = from.pushes.keeps.sparse ∙ append-nil v.sparse;
           };
           pushed = from.pushes.pushed;
+          targets = from.pushes.targets;
           out = from.pushes.out;
           gave = (let c = from.pushes.gave in omega arith);
           copied = λ x. (let c = from.pushes.copied x in let d = count-append (nat_eq x) v.copied [] in omega arith);

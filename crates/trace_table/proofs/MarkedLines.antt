@@ -19,7 +19,7 @@ use Rattle.trace_table.proofs.FieldScans.{pushes-none, scans-trans}
 
 pub looks-lined : (x word mask : ℕ) (v w : Share) → w ≡ sets_lines x word mask v → Looks v w
 looks-lined x word mask v w is = subst (Looks v) (sym is) (record {
-  keeps = record { parts = refl; token = refl; worker = refl; numbers = refl; unset = refl; last = refl; known = λ y t has. has; lined = λ i m has. hits-more word mask v.lined i m has; busy = λ c has. has };
+  keeps = record { parts = refl; token = refl; worker = refl; numbers = refl; unset = refl; last = refl; known = λ y t has. has; lined = λ i m has. hits-more word mask v.lined i m has; busy = λ c has. has; sparse = refl };
   gave = refl;
   took = refl;
   won = refl;

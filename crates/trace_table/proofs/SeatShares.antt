@@ -13,14 +13,14 @@ use Rattle.trace_core.proofs.CountedRights.{hits-here, hits-more, times-cons}
 use Rattle.trace_core.proofs.Idle.{one-if-true}
 use Rattle.trace_words.specs.declared.share.Share.{Share}
 use Rattle.trace_words.specs.Rule.{SeatShare}
-use Rattle.trace_words.specs.Shares.{learns, sees_busy, claims_here, claims_moved}
+use Rattle.trace_words.specs.Shares.{learns, sees_busy, claims_here, claims_moved, asks_for}
 use Rattle.trace_words.specs.Steps.{MayClaim, AsksFor, IsDone}
 use Rattle.trace_table.specs.declared.table.TraceTable.{TraceTable}
 use Rattle.trace_table.specs.declared.table.WorkerSeat.{WorkerSeat}
 use Rattle.trace_table.specs.declared.tokens.Claim.{Claim}
 use Rattle.trace_table.specs.declared.tokens.Claim.TheVariants as claims
 use Rattle.trace_table.specs.declared.tokens.Won.{Won}
-use Rattle.trace_table.specs.Seats.{IsSeat, setup_at, Keeps, Looks, SameRoom, Wins, IsShapeOf, ClaimsFor}
+use Rattle.trace_table.specs.Seats.{IsSeat, setup_at, Keeps, Looks, SameRoom, Asks, Wins, IsShapeOf, ClaimsFor}
 
 -- the share of a seat that became this
 pub share-is : (a b : SeatShare) → a ≡ b → a.0 ≡ b.0
@@ -57,7 +57,7 @@ seen-more b v w is seen c below = subst (λ (u : Share). 0 < times c u.busy) (sy
     ])
 
 pub keeps-not : (v : Share) → Keeps v v
-keeps-not v = record { parts = refl; token = refl; worker = refl; numbers = refl; unset = refl; last = refl; known = λ x t has. has; lined = λ i m has. has; busy = λ b has. has }
+keeps-not v = record { parts = refl; token = refl; worker = refl; numbers = refl; unset = refl; last = refl; known = λ x t has. has; lined = λ i m has. has; busy = λ b has. has; sparse = refl }
 
 pub keeps-trans : (u v w : Share) → Keeps u v → Keeps v w → Keeps u w
 keeps-trans u v w a b = record {
@@ -70,6 +70,7 @@ keeps-trans u v w a b = record {
   known = λ x t has. b.known x t (a.known x t has);
   lined = λ i m has. b.lined i m (a.lined i m has);
   busy = λ c has. b.busy c (a.busy c has);
+  sparse = b.sparse ∙ a.sparse;
 }
 
 pub looks-not : (v w : Share) → w ≡ v → Looks v w
@@ -93,7 +94,7 @@ room-busy b v w is = same-room v (sees_busy b v) w is (record { parts = refl; wo
 pub looks-learnt : (x t : ℕ) (v w : Share) → w ≡ learns x t v → Looks v w × (0 < hits x t w.known)
 looks-learnt x t v w is = subst (λ (u : Share). Looks v u × (0 < hits x t u.known)) (sym is) (
   record {
-    keeps = record { parts = refl; token = refl; worker = refl; numbers = refl; unset = refl; last = refl; known = λ y u has. hits-more x t v.known y u has; lined = λ i m has. has; busy = λ c has. has };
+    keeps = record { parts = refl; token = refl; worker = refl; numbers = refl; unset = refl; last = refl; known = λ y u has. hits-more x t v.known y u has; lined = λ i m has. has; busy = λ c has. has; sparse = refl };
     gave = refl;
     took = refl;
     won = refl;
@@ -110,7 +111,7 @@ room-learnt x t v w is = same-room v (learns x t v) w is (record { parts = refl;
 -- an object is claimed where it is
 pub wins-here : (p : Setup) (x : ℕ) (cause : ClaimCause) (v w : Share) (token : Won) → w ≡ claims_here p x cause v → v.won ≡ [] → token.object ≡ x → token.target ≡ x → IsShapeOf p token → Wins p x cause v w token
 wins-here p x cause v w token is spent object target shape = subst (λ (u : Share). Wins p x cause v u token) (sym is) (record {
-  keeps = record { parts = refl; token = refl; worker = refl; numbers = refl; unset = refl; last = refl; known = λ y u has. hits-more x x v.known y u has; lined = λ i m has. has; busy = λ c has. has };
+  keeps = record { parts = refl; token = refl; worker = refl; numbers = refl; unset = refl; last = refl; known = λ y u has. hits-more x x v.known y u has; lined = λ i m has. has; busy = λ c has. has; sparse = refl };
   gave = refl;
   took = refl;
   won = ap (λ l. (x, steps_at_claim p x x) ∷ l) spent ∙ ap (λ n. (x, steps_at_claim p x n) ∷ []) (sym target);
@@ -128,7 +129,7 @@ room-here p x cause v w is = same-room v (claims_here p x cause v) w is (record 
 -- an object is claimed for the front of the room
 pub wins-moved : (p : Setup) (x : ℕ) (cause : ClaimCause) (v w : Share) (token : Won) → w ≡ claims_moved p x cause v → v.won ≡ [] → token.object ≡ x → token.target ≡ v.front → IsShapeOf p token → Wins p x cause v w token
 wins-moved p x cause v w token is spent object target shape = subst (λ (u : Share). Wins p x cause v u token) (sym is) (record {
-  keeps = record { parts = refl; token = refl; worker = refl; numbers = refl; unset = refl; last = refl; known = λ y u has. hits-more x v.front v.known y u has; lined = λ i m has. has; busy = λ c has. has };
+  keeps = record { parts = refl; token = refl; worker = refl; numbers = refl; unset = refl; last = refl; known = λ y u has. hits-more x v.front v.known y u has; lined = λ i m has. has; busy = λ c has. has; sparse = refl };
   gave = refl;
   took = refl;
   won = ap (λ l. (x, steps_at_claim p x v.front) ∷ l) spent ∙ ap (λ n. (x, steps_at_claim p x n) ∷ []) (sym target);
@@ -208,3 +209,18 @@ done-known p v w done looks = record {
   unset = looks.keeps.unset ∙ done.unset;
   grey = λ x k some. done.grey x k (subst (λ g. 0 < hits x k g) looks.grey some);
 }
+
+-- a root asks
+pub asks-known : (x t : ℕ) (v w : Share) → w ≡ asks_for x t v → Asks x v w
+asks-known x t v w is = subst (Asks x v) (sym is) (record {
+  keeps = record { parts = refl; token = refl; worker = refl; numbers = refl; unset = refl; last = refl; known = λ y u has. hits-more x t v.known y u has; lined = λ i m has. has; busy = λ c has. has; sparse = refl };
+  gave = refl;
+  took = refl;
+  won = refl;
+  grey = refl;
+  copied = refl;
+  asked = refl;
+})
+
+pub room-asked : (x t : ℕ) (v w : Share) → w ≡ asks_for x t v → SameRoom v w
+room-asked x t v w is = same-room v (asks_for x t v) w is (record { parts = refl; worker = refl; front = refl; limit = refl; filling = refl })

@@ -1,5 +1,5 @@
 -- A table, the seats of its workers and its tokens, and what calls do to the share of a seat.
-use Rattle.std.specs.Prelude.{◌≡◌, ◌≢◌, ℕ, ◌+◌, ◌<◌, ◌≤◌, false, List, [], ◌∷◌, ◌++◌, length, map}
+use Rattle.std.specs.Prelude.{◌≡◌, ◌≢◌, ℕ, ◌+◌, ◌<◌, ◌≤◌, ◌⊎◌, false, List, [], ◌∷◌, ◌++◌, All, length, map}
 use Rattle.forward_word.specs.CollectorWords.{number_in, is_old_word}
 use Rattle.heap_layout.specs.Zones.{row_words, heap_of, block_start}
 use Rattle.heap_layout.specs.declared.layout.TheConstants.{BLOCK_WORDS, GLOBALS}
@@ -75,6 +75,7 @@ pub record Keeps (v w : Share) : Type 0 where
   pub known : (x t : ℕ) → 0 < hits x t v.known → 0 < hits x t w.known
   pub lined : (i m : ℕ) → 0 < hits i m v.lined → 0 < hits i m w.lined
   pub busy : (b : ℕ) → 0 < times b v.busy → 0 < times b w.busy
+  pub sparse : w.sparse ≡ v.sparse
 
 -- nothing but what it knows, its room, and the lines that it marked has changed
 pub record Looks (v w : Share) : Type 0 where
@@ -115,6 +116,16 @@ pub record Wins (p : Setup) (x : ℕ) (cause : ClaimCause) (v w : Share) (token 
   pub target : 0 < hits x token.target w.known
   pub object : token.object ≡ x
   pub shape : IsShapeOf p token
+
+-- A root asked for the object at x.
+pub record Asks (x : ℕ) (v w : Share) : Type 0 where
+  pub keeps : Keeps v w
+  pub gave : w.gave ≡ v.gave
+  pub took : w.took ≡ v.took
+  pub won : w.won ≡ v.won
+  pub grey : w.grey ≡ v.grey
+  pub copied : w.copied ≡ v.copied
+  pub asked : w.asked ≡ x ∷ v.asked
 
 -- the share is to copy the object of the token next
 pub record IsWon (p : Setup) (v : Share) (token : Won) : Type 0 where
@@ -181,6 +192,7 @@ pub record Pushes (v w : Share) (before after : List Grey) : Type 0 where
   pub out : after ≡ before ++ pushed
   pub gave : w.gave ≡ v.gave + length pushed
   pub copied : (x : ℕ) → times x w.copied ≡ times x (map (λ g. g.object) pushed) + times x v.copied
+  pub targets : All (λ g. 0 < hits g.object g.target w.known) pushed
   pub asked : w.asked ≡ v.asked
 
 -- A reference to the object at r was followed. Its target is t.
@@ -198,6 +210,10 @@ pub record IsScanning (p : Setup) (x t k : ℕ) (v : Share) : Type 0 where
   pub won : v.won ≡ []
   pub unset : v.unset ≡ []
   pub rest : (y j : ℕ) → 0 < hits y j (without (is_pair x k) v.grey) → j ≡ refs p y
+
+-- the share has no object to scan, or scanned, but this one, and those that it had
+abbrev pub ScansNoOther : ℕ → Share → Share → Type 0
+ScansNoOther x v w = (y k : ℕ) → 0 < hits y k w.grey → (y ≡ x) ⊎ (0 < hits y k v.grey)
 
 -- fields were scanned, n tokens were taken in, and others pushed
 pub record Scans (n : ℕ) (v w : Share) (before after : List Grey) : Type 0 where

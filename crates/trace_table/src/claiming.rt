@@ -1,18 +1,19 @@
 //! Claims: each object gets its target once, by one exchange of its collector word.
 
-ghost use Rattle.std.specs.Prelude.{◌≡◌, [], IsTrue};
+ghost use Rattle.std.specs.Prelude.{◌≡◌, ◌<◌, [], IsTrue};
 ghost use Rattle.object_model.specs.Objects.{IsHeld};
 ghost use Rattle.trace_core.specs.Machine.{ByRoot};
 ghost use Rattle.trace_core.specs.Setups.{may_be_moved, refs as refs_of, size};
 ghost use Rattle.trace_words.specs.Steps.{MayClaim, LacksRoom, FitsRoom, AsksFor};
-ghost use Rattle.trace_table.specs.Seats.{IsTable, IsSeat, setup_at, ClaimsFor};
+ghost use Rattle.trace_core.specs.Views.{hits};
+ghost use Rattle.trace_table.specs.Seats.{IsTable, IsSeat, setup_at, Asks, ClaimsFor};
 
 use crate::table::{TraceTable, WorkerSeat};
 use crate::tokens::{Claim, Found, Won};
 use forward_word::{encode, target_of};
 use object_model::size_words;
 use std::marker::Brand;
-use trace_words::{About, claim_and_move, claim_in_place};
+use trace_words::{About, ask, claim_and_move, claim_in_place};
 
 impl TraceTable {
     /// Claims the object at `x` for a root that is no global. A root whose object was claimed
@@ -27,6 +28,31 @@ impl TraceTable {
             seat.new.seat.me.0 result }
     {
         self.claim_for::<Brand>(seat, x)
+    }
+
+    /// A root that is no global asks for the object at `x`, whose target the seat knows.
+    pub fn ask(&self, seat: &mut WorkerSeat, x: u32, target: u32)
+        requires table { IsTable self.now }
+        requires seat { IsSeat self.now seat.old }
+        requires held { IsHeld (setup_at self.now).before x }
+        requires knows { 0 < hits x target seat.old.seat.me.0.known }
+        ensures seat { IsSeat self.now seat.new }
+        ensures asks { Asks x seat.old.seat.me.0 seat.new.seat.me.0 }
+    {
+        self.ask_known::<Brand>(seat, x, target);
+    }
+
+    /// The same, with a target that the caller picks.
+    fn ask_known<C: About>(&self, seat: &mut WorkerSeat, x: u32, target: u32)
+        requires about { (setup_at self.now ≡ C.setup) × (x ≡ C.object) × (target ≡ C.target) }
+        requires table { IsTable self.now }
+        requires seat { IsSeat self.now seat.old }
+        requires held { IsHeld C.setup.before C.object }
+        requires knows { 0 < hits C.object C.target seat.old.seat.me.0.known }
+        ensures seat { IsSeat self.now seat.new }
+        ensures asks { Asks x seat.old.seat.me.0 seat.new.seat.me.0 }
+    {
+        ask::<C>(&self.row.words, &mut seat.seat, x);
     }
 
     /// Claims the object at `x`, which something asks for.

@@ -148,7 +148,7 @@ impl TraceTable {
     }
 }
 
-/// What a row is told of its trace.
+/// What a row knows of its trace.
 fn key_of(
     words: &WordRow,
     blocks: u32,

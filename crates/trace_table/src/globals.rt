@@ -84,6 +84,7 @@ impl TraceTable {
         ensures scans { Scans 1 seat.old.seat.me.0 seat.new.seat.me.0 out.old.items
             out.new.items }
         ensures set { 0 < times root.global seat.new.seat.me.0.set }
+        ensures grey { seat.new.seat.me.0.grey ≡ seat.old.seat.me.0.grey }
         ensures tokens { All (IsGrey self.now) out.new.items }
         ensures more { vec_len out.new ≤ vec_len out.old + 1 }
         ensures capacity { vec_capacity out.new ≡ vec_capacity out.old }
@@ -108,6 +109,7 @@ impl TraceTable {
         ensures done { IsDone C.setup seat.new.seat.me.0 }
         ensures sets { Sets C.index seat.old.seat.me.0 seat.new.seat.me.0 out.old.items
             out.new.items }
+        ensures grey { seat.new.seat.me.0.grey ≡ seat.old.seat.me.0.grey }
         ensures tokens { All (IsGrey self.now) out.old.items
             → All (IsGrey self.now) out.new.items }
         ensures more { vec_len out.new ≤ vec_len out.old + 1 }

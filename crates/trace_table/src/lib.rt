@@ -8,6 +8,7 @@ mod ends;
 mod globals;
 mod lines;
 mod logged;
+mod looking;
 mod reading;
 mod scanning;
 mod table;

@@ -9,7 +9,8 @@ ghost use Rattle.trace_core.specs.Machine.{ByField};
 ghost use Rattle.trace_core.specs.Setups.{blocks, refs as refs_of};
 ghost use Rattle.trace_words.specs.Rule.{HasLined};
 ghost use Rattle.trace_words.specs.Steps.{AsksFor, IsDone};
-ghost use Rattle.trace_table.specs.Seats.{IsTable, IsSeat, IsGrey, setup_at, Follows, IsScanning, Scans};
+ghost use Rattle.trace_table.specs.Seats.{IsTable, IsSeat, IsGrey, setup_at, Follows, IsScanning, ScansNoOther, Scans};
+ghost use Rattle.trace_core.specs.Views.{hits};
 
 use crate::table::{TraceTable, WorkerSeat};
 use crate::tokens::{Claim, Grey};
@@ -34,6 +35,8 @@ impl TraceTable {
         ensures done { IsDone (setup_at self.now) seat.new.seat.me.0 }
         ensures scans { Scans 1 seat.old.seat.me.0 seat.new.seat.me.0 out.old.items
             out.new.items }
+        ensures knows { 0 < hits grey.object grey.target seat.new.seat.me.0.known }
+        ensures others { ScansNoOther grey.object seat.old.seat.me.0 seat.new.seat.me.0 }
         ensures lines { IsTrue self.now.run.lines → (line : ℕ)
             → TouchesLine (blocks (setup_at self.now)) grey.target grey.size line
             → HasLined (setup_at self.now) seat.new.seat.me.0 line }
@@ -79,6 +82,7 @@ impl TraceTable {
             seat.new.seat.me.0 }
         ensures scans { Scans 0 seat.old.seat.me.0 seat.new.seat.me.0 out.old.items
             out.new.items }
+        ensures others { ScansNoOther C.object seat.old.seat.me.0 seat.new.seat.me.0 }
         ensures tokens { All (IsGrey self.now) out.old.items
             → All (IsGrey self.now) out.new.items }
         ensures more { vec_len out.new ≤ vec_len out.old + 1 }

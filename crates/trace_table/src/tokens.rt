@@ -1,6 +1,6 @@
 //! Tokens of a racing trace, and what a call answers.
 
-ghost use Rattle.std.specs.Prelude.{◌≡◌};
+ghost use Rattle.std.specs.Prelude.{◌≡◌, not, nat_eq};
 
 use trace_words::TraceSeat;
 
@@ -55,6 +55,20 @@ impl Grey {
         ensures { result ≡ self.now.target }
     {
         self.target
+    }
+
+    /// The number of words of the object.
+    pub fn size(&self) -> u32
+        ensures { result ≡ self.now.size }
+    {
+        self.size
+    }
+
+    /// Whether the object leaves its place.
+    pub fn has_moved(&self) -> bool
+        ensures { result ≡ not (nat_eq self.now.target self.now.object) }
+    {
+        self.target != self.object
     }
 
     /// How many reference fields are to be scanned.

@@ -28,7 +28,7 @@ pub returns-in-Won-clause-follows : goal.returns-in-Won-clause-follows
 returns-in-Won-clause-follows g c = let v : Share = c.args.seat.now.seat.me.0 in let w : Share = c.claim_for.new.seat.seat.me.0 in
     let is = subst (λ (a : Claim). ClaimsFor g.C.About.setup g.C.About.object g.C.About.cause v w a) c.in-Won.is c.claim_for.ensures.claims in
     subst (λ t. Follows g.C.About.object t v c.copy-grey.new.seat.seat.me.0 c.args.out.now.items c.push_reserved.new.self.items) (sym (c.at-target.ensures ∙ c.copy-grey.ensures.object.1))
-    (follows-won g.C.About.setup g.C.About.object g.C.About.cause c.requires.no_root v w _ _ c.args.out.now.items _ c.copy-grey.result is c.copy-grey.ensures.copies c.copy-grey.ensures.object.0 c.push_reserved.ensures.items)
+    (follows-won g.C.About.setup g.C.About.object g.C.About.cause c.requires.no_root v w _ _ c.args.out.now.items _ c.copy-grey.result is c.copy-grey.ensures.copies c.copy-grey.ensures.object.0 c.copy-grey.ensures.object.1 c.push_reserved.ensures.items)
 
 pub returns-in-Won-clause-tokens : goal.returns-in-Won-clause-tokens
 returns-in-Won-clause-tokens g c all = let P : Grey → Type 0 = IsGrey c.args.self.now in

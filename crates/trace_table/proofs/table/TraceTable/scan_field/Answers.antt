@@ -9,7 +9,7 @@ use Rattle.trace_words.specs.Steps.{AsksFor, IsLast}
 use Rattle.trace_table.specs.Seats.{setup_at, IsScanning}
 use Rattle.trace_table.proofs.SeatShares.{share-is, seat-same}
 use Rattle.trace_table.proofs.Copyings.{seat-kept}
-use Rattle.trace_table.proofs.FieldScans.{may-scan, still-scanning, next-scanning, held-field, low-field, last-field, room-scanned, keeps-scanned, scans-none, scans-followed, scans-on}
+use Rattle.trace_table.proofs.FieldScans.{may-scan, still-scanning, next-scanning, held-field, low-field, last-field, room-scanned, keeps-scanned, scans-none, scans-followed, scans-on, others-scanned}
 use Rattle.trace_table.proofs.table.TraceTable.scan_field.Goals as goal
 
 pub read_field-reference-requires-clause-may : goal.read_field-reference-requires-clause-may
@@ -98,3 +98,17 @@ returns-else-last-reference-clause-scanning g c = let p : Setup = g.C.About.setu
 pub returns-else-last-reference-clause-scans : goal.returns-else-last-reference-clause-scans
 returns-else-last-reference-clause-scans g c = let x : ℕ = g.C.About.object in let k : ℕ = g.C.About.index in let v : Share = c.args.seat.now.seat.me.0 in
     scans-on x k 0 v c.follow_field-last.new.seat.seat.me.0 _ _ _ (scans-followed _ _ v _ _ _ _ (share-is _ _ c.read_field-reference.ensures.field.1) c.follow_field-last.ensures.follows) (share-is _ _ c.scan_field.ensures.share)
+
+pub returns-then-reference-eq0-clause-others : goal.returns-then-reference-eq0-clause-others
+returns-then-reference-eq0-clause-others g c = let x : ℕ = g.C.About.object in let k : ℕ = g.C.About.index in let v : Share = c.args.seat.now.seat.me.0 in
+    others-scanned x k v v _ c.requires.scanning.right (share-is _ _ c.keep_field.ensures.share ∙ ap (scans_field x k) (share-is _ _ c.read_field-reference.ensures.field.1)) refl
+
+pub returns-then-last-reference-clause-others : goal.returns-then-last-reference-clause-others
+returns-then-last-reference-clause-others g c = let x : ℕ = g.C.About.object in let k : ℕ = g.C.About.index in let v : Share = c.args.seat.now.seat.me.0 in
+    let same = c.follow_field-last.ensures.follows.grey ∙ ap (λ (u : Share). u.grey) (share-is _ _ c.read_field-reference.ensures.field.1) in
+    others-scanned x k v c.follow_field-last.new.seat.seat.me.0 _ (subst (λ l. 0 < hits x k l) (sym same) c.requires.scanning.right) (share-is _ _ c.keep_field-then-last-reference.ensures.share) same
+
+pub returns-else-last-reference-clause-others : goal.returns-else-last-reference-clause-others
+returns-else-last-reference-clause-others g c = let x : ℕ = g.C.About.object in let k : ℕ = g.C.About.index in let v : Share = c.args.seat.now.seat.me.0 in
+    let same = c.follow_field-last.ensures.follows.grey ∙ ap (λ (u : Share). u.grey) (share-is _ _ c.read_field-reference.ensures.field.1) in
+    others-scanned x k v c.follow_field-last.new.seat.seat.me.0 _ (subst (λ l. 0 < hits x k l) (sym same) c.requires.scanning.right) (share-is _ _ c.scan_field.ensures.share) same

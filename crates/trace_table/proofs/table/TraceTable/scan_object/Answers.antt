@@ -3,10 +3,10 @@ use Rattle.trace_core.specs.Setups.{Setup}
 use Rattle.trace_words.specs.declared.share.Share.{Share}
 use Rattle.trace_words.specs.Rule.{SeatShare}
 use Rattle.trace_words.specs.Shares.{both_shares, scan_token}
-use Rattle.trace_table.specs.Seats.{setup_at, IsScanning, Scans}
+use Rattle.trace_table.specs.Seats.{setup_at, IsScanning, ScansNoOther, Scans}
 use Rattle.trace_table.proofs.SeatShares.{share-is, done-known}
 use Rattle.trace_table.proofs.Copyings.{seat-kept}
-use Rattle.trace_table.proofs.FieldScans.{begins-scanning, scans-taken, scans-trans, ends-scanning, taken-room, taken-keeps}
+use Rattle.trace_table.proofs.FieldScans.{begins-scanning, scans-taken, scans-trans, ends-scanning, taken-room, taken-keeps, others-taken, others-none, others-trans}
 use Rattle.trace_table.proofs.MarkedLines.{scans-marked}
 use Rattle.trace_table.proofs.table.TraceTable.scan_object.Goals as goal
 
@@ -16,6 +16,7 @@ loop-k-init c = let p : Setup = setup_at c.args.self.now in let x : ℕ = c.args
       seat = seat-kept c.args.self.now c.args.seat.now _ c.requires.seat c.take_in.ensures.own refl refl refl refl (taken-room x t v _ is) (taken-keeps x t v _ is);
       scanning = subst (IsScanning p x t 0) (sym is) (begins-scanning p x t v c.requires.done);
       scans = subst (λ (u : Share). Scans 1 v u c.args.out.now.items c.args.out.now.items) (sym is) (scans-taken p x t v c.args.out.now.items);
+      others = subst (ScansNoOther x v) (sym is) (others-taken x t v);
       tokens = c.requires.tokens;
       room = omega arith;
       capacity = refl;
@@ -26,6 +27,7 @@ loop-k-preserved c = let room : vec_len c.loop-k.out ≤ vec_len c.args.out.now 
   seat = c.scan_field.ensures.seat;
   scanning = c.scan_field.ensures.scanning;
   scans = scans-trans 1 _ _ _ _ _ _ c.loop-k.invariant.scans c.scan_field.ensures.scans;
+  others = others-trans c.args.grey.object c.args.seat.now.seat.me.0 c.loop-k.seat.seat.me.0 c.scan_field.new.seat.seat.me.0 c.loop-k.invariant.others c.scan_field.ensures.others;
   tokens = c.scan_field.ensures.tokens c.loop-k.invariant.tokens;
   room = omega arith;
   capacity = c.scan_field.ensures.capacity ∙ c.loop-k.invariant.capacity;
@@ -42,3 +44,9 @@ returns-then-self-clause-scans c = scans-marked 1 _ _ _ _ _ c.loop-k.invariant.s
 pub returns-else-self-clause-done : goal.returns-else-self-clause-done
 returns-else-self-clause-done c = let p : Setup = setup_at c.args.self.now in let last : c.loop-k.k ≡ c.args.grey.refs = omega arith in
     ends-scanning p c.args.grey.object c.args.grey.target c.loop-k.seat.seat.me.0 (subst (λ n. IsScanning p c.args.grey.object c.args.grey.target n c.loop-k.seat.seat.me.0) (last ∙ c.requires.grey.refs) c.loop-k.invariant.scanning)
+
+pub returns-then-self-clause-knows : goal.returns-then-self-clause-knows
+returns-then-self-clause-knows c = c.mark_object.ensures.looks.keeps.known c.args.grey.object c.args.grey.target c.loop-k.invariant.scanning.target
+
+pub returns-then-self-clause-others : goal.returns-then-self-clause-others
+returns-then-self-clause-others c = others-trans c.args.grey.object c.args.seat.now.seat.me.0 c.loop-k.seat.seat.me.0 c.mark_object.new.seat.seat.me.0 c.loop-k.invariant.others (others-none c.args.grey.object c.loop-k.seat.seat.me.0 c.mark_object.new.seat.seat.me.0 c.mark_object.ensures.looks.grey)

@@ -78,3 +78,14 @@ returns-else-last-reference-clause-done g c = let p : Setup = g.C.About.setup in
 pub returns-else-last-reference-clause-sets : goal.returns-else-last-reference-clause-sets
 returns-else-last-reference-clause-sets g c = sets-followed g.C.About.index _ _ c.args.seat.now.seat.me.0 _ c.follow_global-last.new.seat.seat.me.0 _ _ _
     (share-is _ _ c.read_global-reference.ensures.global.1) c.follow_global-last.ensures.follows (share-is _ _ c.set_global.ensures.share)
+
+pub returns-then-reference-eq0-clause-grey : goal.returns-then-reference-eq0-clause-grey
+returns-then-reference-eq0-clause-grey g c = ap (λ (u : Share). u.grey) (share-is _ _ c.keep_global.ensures.share) ∙ ap (λ (u : Share). u.grey) (share-is _ _ c.read_global-reference.ensures.global.1)
+
+pub returns-then-last-reference-clause-grey : goal.returns-then-last-reference-clause-grey
+returns-then-last-reference-clause-grey g c = ap (λ (u : Share). u.grey) (share-is _ _ c.keep_global-then-last-reference.ensures.share)
+    ∙ c.follow_global-last.ensures.follows.grey ∙ ap (λ (u : Share). u.grey) (share-is _ _ c.read_global-reference.ensures.global.1)
+
+pub returns-else-last-reference-clause-grey : goal.returns-else-last-reference-clause-grey
+returns-else-last-reference-clause-grey g c = ap (λ (u : Share). u.grey) (share-is _ _ c.set_global.ensures.share)
+    ∙ c.follow_global-last.ensures.follows.grey ∙ ap (λ (u : Share). u.grey) (share-is _ _ c.read_global-reference.ensures.global.1)

@@ -1,4 +1,4 @@
-use Rattle.std.proofs.Common.{◌≡◌, ℕ, ◌<◌, ◌∙◌, refl, sym, ap, subst}
+use Rattle.std.proofs.Common.{◌≡◌, ℕ, ◌<◌, ◌∙◌, append-nil, refl, sym, ap, subst}
 use Rattle.object_model.specs.Times.{times}
 use Rattle.trace_words.specs.declared.share.Share.{Share}
 use Rattle.trace_words.specs.Rule.{SeatShare}
@@ -26,3 +26,7 @@ returns-clause-scans c = let v : Share = c.args.seat.now.seat.me.0 in let i : �
 pub returns-clause-set : goal.returns-clause-set
 returns-clause-set c = let i : ℕ = c.args.root.global in
     subst (λ (u : Share). 0 < times i u.set) (sym c.settle_global.ensures.sets.set) (times-here i c.settle_global.ensures.sets.now.set)
+
+pub returns-clause-grey : goal.returns-clause-grey
+returns-clause-grey c = let v : Share = c.args.seat.now.seat.me.0 in let i : ℕ = c.args.root.global in
+    c.settle_global.ensures.grey ∙ ap (λ (u : Share). u.grey) (share-is _ _ c.take_in.ensures.share ∙ ap (λ (m : SeatShare). both_shares v m.0) c.requires.root.me) ∙ append-nil v.grey

@@ -1,0 +1,15 @@
+mod RootLists
+mod Accounting
+mod Joined
+mod AddressSums
+mod Whole
+mod Bucketed
+mod RacedTogether
+mod Finishing
+mod Crossing
+mod FirstPackets
+mod Enlisted
+mod Running
+mod Settled
+mod HandedOut
+mod Dismissed

@@ -1,0 +1,192 @@
+//! How a worker serves items. It keeps the targets of the roots that it served, and the tokens that
+//! it won.
+
+ghost use Rattle.std.specs.Prelude.{◌≡◌, ◌≢◌, ℕ, ◌+◌, ◌<◌, List, [], ◌∷◌, ◌++◌, All, IfOk, map, length, slice_index, vec_len, vec_capacity};
+ghost use Rattle.object_model.specs.Objects.{IsHeld};
+ghost use Rattle.object_model.specs.Times.{times};
+ghost use Rattle.trace_table.specs.Seats.{IsGlobalRoot, IsGrey, IsTable, setup_at};
+ghost use Rattle.trace_table.specs.declared.tokens.Grey.{Grey};
+ghost use Rattle.racing_collector.specs.declared.served.Served.{Served};
+ghost use Rattle.racing_collector.specs.Items.{IsItemOf, registers, tokens};
+ghost use Rattle.racing_collector.specs.Accounts.{Accounts, IsRacer, places, IsTargetOf};
+
+use crate::item::RaceItem;
+use crate::racing::Racing;
+use crate::served::Served;
+use std::alloc::AllocError;
+use trace_table::{Claim, GlobalRoot, Grey, WorkerSeat};
+
+impl Racing {
+    /// Looks ahead at the objects of a packet.
+    pub(crate) fn look_ahead(&self, items: &[RaceItem])
+        requires table { IsTable self.now.table }
+        requires items { All (IsItemOf self.now) items.now }
+    {
+        for item in items {
+            if let RaceItem::Object(grey) = item {
+                self.table.look_ahead(grey);
+            }
+        }
+    }
+
+    /// Serves an item. All memory is reserved before a token is taken in or an object claimed.
+    ///
+    /// Fails if memory runs out. Then the worker has nothing to do, as before.
+    pub(crate) fn serve(
+        &self,
+        seat: &mut WorkerSeat,
+        item: RaceItem,
+        served: &mut Vec<Served>,
+        won: &mut Vec<Grey>,
+    ) -> Result<(), AllocError>
+        requires racer { IsRacer self.now seat.old }
+        requires item { IsItemOf self.now item }
+        requires greys { All (IsGrey self.now.table) won.old.items }
+        ensures racer { IsRacer self.now seat.new }
+        ensures greys { IfOk result (λ _. All (IsGrey self.now.table) won.new.items) }
+        ensures took { IfOk result (λ _. seat.new.seat.me.0.took
+            ≡ seat.old.seat.me.0.took + tokens (item ∷ [])) }
+        ensures gave { IfOk result (λ _. seat.new.seat.me.0.gave + length won.old.items
+            ≡ seat.old.seat.me.0.gave + length won.new.items) }
+        ensures places { IfOk result (λ _. (i : ℕ) → times i (places served.new.items)
+            ≡ times i (places served.old.items) + registers i (item ∷ [])) }
+        ensures accounts { IfOk result (λ _. (greys : List Grey)
+            → Accounts self.now seat.old.seat.me.0 served.old.items (greys ++ won.old.items)
+            → Accounts self.now seat.new.seat.me.0 served.new.items (greys ++ won.new.items)) }
+    {
+        match item {
+            RaceItem::Register(place) => {
+                self.serve_root(seat, place, served, won)?;
+                Ok(())
+            }
+            RaceItem::Global(root) => {
+                self.serve_global(seat, root, won)?;
+                Ok(())
+            }
+            RaceItem::Object(grey) => {
+                self.serve_object(seat, grey, won)?;
+                Ok(())
+            }
+        }
+    }
+
+    /// Keeps the target of the root at a place.
+    fn serve_root(
+        &self,
+        seat: &mut WorkerSeat,
+        place: u32,
+        served: &mut Vec<Served>,
+        won: &mut Vec<Grey>,
+    ) -> Result<(), AllocError>
+        requires racer { IsRacer self.now seat.old }
+        requires place { place < length self.now.roots.items }
+        requires greys { All (IsGrey self.now.table) won.old.items }
+        ensures racer { IsRacer self.now seat.new }
+        ensures greys { IfOk result (λ _. All (IsGrey self.now.table) won.new.items) }
+        ensures took { IfOk result (λ _. seat.new.seat.me.0.took ≡ seat.old.seat.me.0.took) }
+        ensures gave { IfOk result (λ _. seat.new.seat.me.0.gave + length won.old.items
+            ≡ seat.old.seat.me.0.gave + length won.new.items) }
+        ensures places { IfOk result (λ _. places served.new.items
+            ≡ places served.old.items ++ place ∷ []) }
+        ensures accounts { IfOk result (λ _. (greys : List Grey)
+            → Accounts self.now seat.old.seat.me.0 served.old.items (greys ++ won.old.items)
+            → Accounts self.now seat.new.seat.me.0 served.new.items (greys ++ won.new.items)) }
+    {
+        served.reserve(1)?;
+        won.reserve(1)?;
+        let root = self.roots[place as usize];
+        if root == 0 {
+            served.push_reserved(Served { place, target: 0 });
+            return Ok(());
+        }
+        let target = self.claim_root(seat, root, won);
+        served.push_reserved(Served { place, target });
+        Ok(())
+    }
+
+    /// The target of the object to which a root refers. The root asks for it.
+    fn claim_root(&self, seat: &mut WorkerSeat, root: u32, won: &mut Vec<Grey>) -> u32
+        requires racer { IsRacer self.now seat.old }
+        requires held { IsHeld (setup_at self.now.table).before root }
+        requires room { vec_len won.old < vec_capacity won.old }
+        requires greys { All (IsGrey self.now.table) won.old.items }
+        requires listed { (i : ℕ) × (slice_index self.now.roots.items i ≡ root) }
+        ensures racer { IsRacer self.now seat.new }
+        ensures greys { All (IsGrey self.now.table) won.new.items }
+        ensures took { seat.new.seat.me.0.took ≡ seat.old.seat.me.0.took }
+        ensures gave { seat.new.seat.me.0.gave + length won.old.items
+            ≡ seat.old.seat.me.0.gave + length won.new.items }
+        ensures target { IsTargetOf seat.new.seat.me.0 root result }
+        ensures asked { 0 < times root seat.new.seat.me.0.asked }
+        ensures accounts { (greys : List Grey) (served : List Served)
+            → Accounts self.now seat.old.seat.me.0 served (greys ++ won.old.items)
+            → Accounts self.now seat.new.seat.me.0 served (greys ++ won.new.items) }
+    {
+        match self.table.claim(seat, root) {
+            Claim::Old => {
+                self.table.ask(seat, root, root);
+                root
+            }
+            Claim::Seen(target) => {
+                self.table.ask(seat, root, target);
+                target
+            }
+            Claim::Won(object) => {
+                let grey = self.table.copy(seat, object);
+                let target = grey.at();
+                won.push_reserved(grey);
+                target
+            }
+        }
+    }
+
+    /// Sets a global.
+    fn serve_global(
+        &self,
+        seat: &mut WorkerSeat,
+        root: GlobalRoot,
+        won: &mut Vec<Grey>,
+    ) -> Result<(), AllocError>
+        requires racer { IsRacer self.now seat.old }
+        requires item { IsGlobalRoot self.now.table root }
+        requires greys { All (IsGrey self.now.table) won.old.items }
+        ensures racer { IsRacer self.now seat.new }
+        ensures greys { IfOk result (λ _. All (IsGrey self.now.table) won.new.items) }
+        ensures took { IfOk result (λ _. seat.new.seat.me.0.took
+            ≡ seat.old.seat.me.0.took + 1) }
+        ensures gave { IfOk result (λ _. seat.new.seat.me.0.gave + length won.old.items
+            ≡ seat.old.seat.me.0.gave + length won.new.items) }
+        ensures accounts { IfOk result (λ _. (greys : List Grey) (served : List Served)
+            → Accounts self.now seat.old.seat.me.0 served (greys ++ won.old.items)
+            → Accounts self.now seat.new.seat.me.0 served (greys ++ won.new.items)) }
+    {
+        won.reserve(1)?;
+        self.table.trace_global(seat, root, won);
+        Ok(())
+    }
+
+    /// Scans an object.
+    fn serve_object(
+        &self,
+        seat: &mut WorkerSeat,
+        grey: Grey,
+        won: &mut Vec<Grey>,
+    ) -> Result<(), AllocError>
+        requires racer { IsRacer self.now seat.old }
+        requires item { IsGrey self.now.table grey }
+        requires greys { All (IsGrey self.now.table) won.old.items }
+        ensures racer { IsRacer self.now seat.new }
+        ensures greys { IfOk result (λ _. All (IsGrey self.now.table) won.new.items) }
+        ensures took { IfOk result (λ _. seat.new.seat.me.0.took
+            ≡ seat.old.seat.me.0.took + 1) }
+        ensures gave { IfOk result (λ _. seat.new.seat.me.0.gave + length won.old.items
+            ≡ seat.old.seat.me.0.gave + length won.new.items) }
+        ensures accounts { IfOk result (λ _. (greys : List Grey) (served : List Served)
+            → Accounts self.now seat.old.seat.me.0 served (greys ++ won.old.items)
+            → Accounts self.now seat.new.seat.me.0 served (greys ++ won.new.items)) }
+    {
+        won.reserve(grey.refs() as usize)?;
+        self.table.scan_object(seat, grey, won);
+        Ok(())
+    }
+}
