@@ -32,7 +32,8 @@ use Rattle.collector.specs.declared.packet_tracer.PacketTracer.{PacketTracer}
 use Rattle.collector.specs.declared.worker.TracingStart.{TracingStart}
 use Rattle.collector.specs.Items.{registers, globals, objects, items_of, tokens_of, IsObject}
 use Rattle.collector.specs.Serving.{HasRights, IsTargetOf, HasItsLines, ServesItems}
-use Rattle.collector.specs.Tallies.{total, unclaimed, Counts, IsTally}
+use Rattle.racing_collector.specs.Together.{total}
+use Rattle.collector.specs.Tallies.{unclaimed, Counts, IsTally}
 use Rattle.collector.specs.Awaited.{IsAwaited}
 use Rattle.collector.specs.Working.{RunsPacket, AwaitsPackets, IsOfTrace, unclaimed_by}
 use Rattle.collector.proofs.ItemCounts.{all-left, all-right, all-both, registers-append, globals-append, objects-append, tokens-append, no-registers, no-globals, length-tokens, scans-of, copies-of, objects-pushed, tokens-there, SameItems, packets-same}

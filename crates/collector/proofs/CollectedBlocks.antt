@@ -20,11 +20,11 @@ use Rattle.trace_core.proofs.Rows.{row}
 use Rattle.trace_core.proofs.Releasable.{copy-low}
 use Rattle.collector.proofs.EvacuatedKinds.{evacuated-kind}
 use Rattle.collector.proofs.Given.{IsSetupUnder, kind-given}
-use Rattle.collector.proofs.KeptBlocks.{after-same}
+use Rattle.block_release.proofs.KeptBlocks.{after-same}
 use Rattle.block_sweeps.proofs.LargeRuns.{tail-of, tail-empty, one-large, head-object, object}
-use Rattle.collector.proofs.Fates as fates
-use Rattle.collector.proofs.Fates.{IsAllReleased, IsInUse, IsInLargeUse}
-use Rattle.collector.proofs.ReleasedBlocks as released_blocks
+use Rattle.block_release.proofs.Fates as fates
+use Rattle.block_release.proofs.Fates.{IsAllReleased, IsInUse, IsInLargeUse}
+use Rattle.block_release.proofs.ReleasedBlocks as released_blocks
 
 -- in any row whose blocks were released, a block without words of held objects is Free
 module _ {r : Rules} {c : Collect} {base : ℕ} {s : HeapState} {v : List ℕ} {number age : ℕ} (all : IsAllReleased r c base s v number age) where
@@ -109,6 +109,19 @@ module _ {q : Plan} {c : Collect} {p : Setup} {u : List ℕ} (under : IsSetupUnd
 
   large-before : (k : ℕ) → IsInLargeUse r c (base_after_trace p) after now k → HasKind after k kinds.LargeTail
   large-before k large = tail-of after all.before.blocks large.first k large.head large.past large.below
+
+  -- a block that was Free and that no worker took stays Free
+  pub still-free : (k : ℕ) → HasKind old k kinds.Free → taken k ≡ 0 → HasKind now k kinds.Free
+  still-free k free none =
+      let there : k < blocks p = kind-within old k kinds.Free free in
+      let still : HasKind after k kinds.Free = kind-from after k kinds.Free there (ap (λ w. w % 256) (untaken-word k there none) ∙ kind-code old k kinds.Free free) in
+      elim (fates.fate all k there) as (λ _. HasKind now k kinds.Free) [
+        | inl was ↦ fates.freed-free all k there was
+        | inr some ↦ elim some as (λ _. HasKind now k kinds.Free) [
+          | inl used ↦ absurd (fates.used-not-free all k used still)
+          | inr large ↦ absurd (let e = one-kind after k kinds.Free kinds.LargeTail still (large-before k large) in omega arith)
+        ]
+      ]
 
   used-word : (k : ℕ) → k < blocks p → taken k ≡ 0 → IsInUse r c (base_after_trace p) after now k → block_word now k ≡ word_after r c old k
   used-word k there none used = used.word ∙ after-same r old after k refl (untaken-word k there none) c

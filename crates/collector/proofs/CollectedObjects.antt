@@ -24,9 +24,9 @@ use Rattle.trace_core.proofs.Rows.{row}
 use Rattle.trace_core.proofs.Clauses.{held-of}
 use Rattle.trace_core.proofs.Finished.{preserved, kept-exactly, kept-reachable, lives, has-target, claimed-number, old-stays}
 use Rattle.collector.proofs.Given.{IsSetupUnder, old-given, reachable-before, reachable-given, moves-given}
-use Rattle.collector.proofs.Fates as fates
-use Rattle.collector.proofs.Fates.{IsAllReleased}
-use Rattle.collector.proofs.ReleasedObjects as released
+use Rattle.block_release.proofs.Fates as fates
+use Rattle.block_release.proofs.Fates.{IsAllReleased}
+use Rattle.block_release.proofs.ReleasedObjects as released
 
 module _ {q : Plan} {c : Collect} {p : Setup} {u : List ℕ} (under : IsSetupUnder q c p u) {es : List Event} (trace : IsTracing p es) (finished : IsFinished p (machine_after p es))
     {v : List ℕ} (all : IsAllReleased (rules_of q) c (base_after_trace p) (heap_after p es) v (collection p) (base_after_trace p)) where

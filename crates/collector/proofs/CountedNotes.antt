@@ -14,7 +14,8 @@ use Rattle.object_model.specs.declared.collect.Collect.TheVariants.{Full}
 use Rattle.object_model.proofs.Counts.{counted}
 use Rattle.object_model.proofs.HeldCounts.{below-none, no-start, held-count, held-words}
 use Rattle.collector.specs.declared.outcome.Note.{Note}
-use Rattle.collector.specs.Tallies.{total, stays_in_place, IsNote}
+use Rattle.racing_collector.specs.Together.{total}
+use Rattle.collector.specs.Tallies.{stays_in_place, IsNote}
 
 -- A collection that reclaims nothing preserves what is held, where it is.
 sum-same : (f g : ℕ → ℕ) → ((a : ℕ) → f a ≡ g a) → (ns : List ℕ) → sum_by f ns ≡ sum_by g ns

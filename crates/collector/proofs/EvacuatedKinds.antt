@@ -27,20 +27,29 @@ module _ (s : HeapState) (k : ℕ) where
   young : HasKind s k kinds.Young → IsTrue (is_kept_kind s k)
   young is = or_left _ _ (or_left _ _ (or-right _ _ is))
 
+  -- a plan that holds back copies evacuates blocks of the kinds that are Kept
+  pub copied-kind : (q : Plan) (c : Collect) → (rules_of q).reserve ≡ plans.Copies → IsTrue (is_evacuated (rules_of q) c s k) → IsTrue (is_kept_kind s k)
+  copied-kind plans.NoGc c copies is = absurd (true≢false (sym is))
+  copied-kind plans.MarkSweep c copies is = absurd (true≢false (sym is))
+  copied-kind plans.SemiSpace Full copies is = elim (or_cases (has_kind s k kinds.Bump || has_kind s k kinds.Bump) (has_kind s k kinds.Kept) is) as (λ _. IsTrue (is_kept_kind s k)) [
+    | inl filled ↦ elim (or_cases (has_kind s k kinds.Bump) (has_kind s k kinds.Bump) filled) as (λ _. IsTrue (is_kept_kind s k)) [ inl one ↦ bump one | inr one ↦ bump one ]
+    | inr still ↦ or-right _ _ still
+  ]
+  copied-kind plans.SemiSpace Nursery copies is = absurd (true≢false (sym is))
+  copied-kind plans.GenCopy Full copies is = elim (or_cases (has_kind s k kinds.Young || has_kind s k kinds.Mature) (has_kind s k kinds.Kept) is) as (λ _. IsTrue (is_kept_kind s k)) [
+    | inl filled ↦ elim (or_cases (has_kind s k kinds.Young) (has_kind s k kinds.Mature) filled) as (λ _. IsTrue (is_kept_kind s k)) [ inl one ↦ young one | inr one ↦ or_left _ _ (or-right _ _ one) ]
+    | inr still ↦ or-right _ _ still
+  ]
+  copied-kind plans.GenCopy Nursery copies is = young is
+  copied-kind plans.Immix c copies is = absurd (let wrong : plans.Headroom ≡ plans.Copies = copies in cc)
+  copied-kind plans.StickyImmix c copies is = absurd (let wrong : plans.Headroom ≡ plans.Copies = copies in cc)
+
   -- an evacuated block that is not Immix is of a kind that is Kept
   pub evacuated-kind : (q : Plan) (c : Collect) → IsTrue (is_evacuated (rules_of q) c s k) → (HasKind s k kinds.Immix → ⊥) → IsTrue (is_kept_kind s k)
   evacuated-kind plans.NoGc c is other = absurd (true≢false (sym is))
   evacuated-kind plans.MarkSweep c is other = absurd (true≢false (sym is))
-  evacuated-kind plans.SemiSpace Full is other = elim (or_cases (has_kind s k kinds.Bump || has_kind s k kinds.Bump) (has_kind s k kinds.Kept) is) as (λ _. IsTrue (is_kept_kind s k)) [
-    | inl filled ↦ elim (or_cases (has_kind s k kinds.Bump) (has_kind s k kinds.Bump) filled) as (λ _. IsTrue (is_kept_kind s k)) [ inl one ↦ bump one | inr one ↦ bump one ]
-    | inr still ↦ or-right _ _ still
-  ]
-  evacuated-kind plans.SemiSpace Nursery is other = absurd (true≢false (sym is))
-  evacuated-kind plans.GenCopy Full is other = elim (or_cases (has_kind s k kinds.Young || has_kind s k kinds.Mature) (has_kind s k kinds.Kept) is) as (λ _. IsTrue (is_kept_kind s k)) [
-    | inl filled ↦ elim (or_cases (has_kind s k kinds.Young) (has_kind s k kinds.Mature) filled) as (λ _. IsTrue (is_kept_kind s k)) [ inl one ↦ young one | inr one ↦ or_left _ _ (or-right _ _ one) ]
-    | inr still ↦ or-right _ _ still
-  ]
-  evacuated-kind plans.GenCopy Nursery is other = young is
+  evacuated-kind plans.SemiSpace c is other = copied-kind plans.SemiSpace c refl is
+  evacuated-kind plans.GenCopy c is other = copied-kind plans.GenCopy c refl is
   evacuated-kind plans.Immix Full is other = absurd (other (candidate-immix s k is))
   evacuated-kind plans.Immix Nursery is other = absurd (true≢false (sym is))
   evacuated-kind plans.StickyImmix Full is other = absurd (other (candidate-immix s k is))

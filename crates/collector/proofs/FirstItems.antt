@@ -25,7 +25,7 @@ use Rattle.trace_core.proofs.Begun.{HasList, held-begun}
 use Rattle.collector.specs.declared.item.Item.{Item}
 use Rattle.collector.specs.declared.item.Item.TheVariants.{Register, Global, Object}
 use Rattle.collector.specs.declared.packet_tracer.PacketTracer.{PacketTracer}
-use Rattle.collector.specs.declared.tally.Tally.{Tally}
+use Rattle.racing_collector.specs.declared.tally.Tally.{Tally}
 use Rattle.collector.specs.Items.{registers, globals, objects, tokens_of, is_register, is_global, is_object, IsObject}
 use Rattle.collector.specs.Serving.{HasRights}
 use Rattle.collector.specs.Awaited.{IsAwaited}

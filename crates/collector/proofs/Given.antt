@@ -16,7 +16,7 @@ use Rattle.sessions.specs.Collecting as collecting
 use Rattle.sessions.specs.Collecting.{is_evacuated}
 use Rattle.trace_core.specs.Setups.{Setup, blocks, size, may_be_moved}
 use Rattle.trace_core.specs.Runs.{is_nursery}
-use Rattle.collector.proofs.Spans.{address-block}
+use Rattle.block_release.proofs.Spans.{address-block}
 use Rattle.collector.proofs.EvacuatedKinds.{moves-evacuated}
 
 -- these words make the same heap but for line bits and unlog bits

@@ -20,7 +20,7 @@ use Rattle.trace_core.proofs.CountedRights.{count-append}
 use Rattle.work_packets.specs.declared.packet.Packet.{Packet}
 use Rattle.collector.specs.declared.item.Item.{Item}
 use Rattle.collector.specs.declared.item.Item.TheVariants.{Register, Global, Object}
-use Rattle.collector.specs.declared.tally.Tally.{Tally}
+use Rattle.racing_collector.specs.declared.tally.Tally.{Tally}
 use Rattle.collector.specs.Items.{items_of, tokens_of, IsObject}
 use Rattle.collector.specs.Serving.{AreShaped}
 use Rattle.collector.specs.Tallies.{Counts, capped, has_moved}

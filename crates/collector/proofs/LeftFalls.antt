@@ -15,7 +15,7 @@ use Rattle.plain_tracer.specs.declared.plain_trace.PlainTrace.{PlainTrace}
 use Rattle.trace_core.proofs.Clauses.{held-of, targets-inside, collector, unclaimed, whole, starts-from, starts-kept, old-target}
 use Rattle.trace_core.proofs.Finished.{parts-of}
 use Rattle.collector.specs.Tallies as tallies
-use Rattle.collector.specs.Tallies.{total}
+use Rattle.racing_collector.specs.Together.{total}
 use Rattle.collector.proofs.TallySums.{total-same, total-both}
 use Rattle.plain_tracer.proofs.TracedObjects.{copied-held}
 

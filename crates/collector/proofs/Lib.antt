@@ -1,22 +1,3 @@
-mod Metadata
-mod Alike
-mod KeptBlocks
-mod Releases
-mod Bare
-mod Beside
-mod Releasables
-mod Steps
-mod InOrder
-mod BlockReads
-mod UnlogBits
-mod MarkedBlocks
-mod SweptBlocks
-mod EvacuationFlags
-mod Spans
-mod Fates
-mod ReleasedBlocks
-mod ReleasedObjects
-mod LawfulReleases
 mod EvacuatedKinds
 mod Given
 mod CollectedObjects
@@ -24,26 +5,28 @@ mod CollectedBlocks
 mod StillFree
 mod Turns
 mod WholeCollections
-pub mod FinishedTraces
 mod Prepared
-mod WholeNotes
-mod ReleaseLoop
+pub mod WholeNotes
 mod ServedRoots
 mod ServedItems
 mod HandedOn
 mod RootLists
 mod FirstItems
 pub mod CountedNotes
-pub mod Numbers
 mod ServesAppend
 mod RunningPackets
 pub mod ItemCounts
 pub mod AwaitedSteps
 pub mod TallySums
+mod NumberSums
+mod CopiedWords
+mod FewBlocks
+mod SessionBlocks
 pub mod LeftFalls
 pub mod NextTally
+pub mod OneWorker
+pub mod FinishedTraces
 mod TwoBuckets
 pub mod Offered
 pub mod ItsLines
-mod MarkedLines
 mod Crossing

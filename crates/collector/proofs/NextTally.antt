@@ -22,8 +22,9 @@ use Rattle.trace_core.proofs.WithoutLines as lines
 use Rattle.trace_core.proofs.SameObjects as objects
 use Rattle.trace_core.proofs.SetUnlogs.{same-objects}
 use Rattle.trace_core.proofs.Begun.{by-begun, keeps-objects}
-use Rattle.collector.specs.declared.tally.Tally.{Tally}
-use Rattle.collector.specs.Tallies.{total, has_moved, Counts, IsTally}
+use Rattle.racing_collector.specs.declared.tally.Tally.{Tally}
+use Rattle.racing_collector.specs.Together.{total}
+use Rattle.collector.specs.Tallies.{has_moved, Counts, IsTally}
 use Rattle.collector.proofs.TallySums.{total-same, total-most, total-more, total-copied, sum-equal, count-next}
 use Rattle.plain_tracer.proofs.TracedObjects.{one-if-few, target-grows, copied-target, copied-held, copied-once, token-held}
 
@@ -50,7 +51,7 @@ module _ (s : HeapState) (run : TraceRun) (lawful : IsLawfulButLines s) (listed 
   lawful-lines : IsLawfulButLines (without_lines s)
   lawful-lines = lines.without_lines-lawful s lawful
 
-  size-same : (a : ℕ) → IsHeld p.before a → size p a ≡ size_at s a
+  pub size-same : (a : ℕ) → IsHeld p.before a → size p a ≡ size_at s a
   size-same = by-begun s run (λ h. (a : ℕ) → IsHeld h a → size_at h a ≡ size_at s a)
       (λ a there. let before = frames.held-before (without_lines s) _ (keeps-objects (without_lines s) lawful-lines) a there in
       frames.size-after (without_lines s) _ (keeps-objects (without_lines s) lawful-lines) a before

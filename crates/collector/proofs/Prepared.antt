@@ -14,7 +14,8 @@ use Rattle.plan_api.specs.Flags.{flags_of}
 use Rattle.trace_core.specs.Setups.{is_copy_kind}
 use Rattle.trace_core.specs.Runs.{MayRun, is_nursery}
 use Rattle.trace_core.specs.declared.run.TraceRun.{TraceRun}
-use Rattle.collector.specs.Collected.{IsRunUnder, IsOffered}
+use Rattle.block_release.specs.Knowing.{IsRunUnder}
+use Rattle.collector.specs.Collected.{IsOffered}
 use Rattle.object_model.specs.Ages.{ListsLogged}
 
 -- plans fill blocks of these kinds with copies, and evacuate none if they fill none

@@ -26,9 +26,9 @@ use Rattle.trace_core.proofs.CountedRights.{count-cons, times-without}
 use Rattle.trace_core.proofs.Finished.{option-cases, preserved}
 use Rattle.trace_core.proofs.Rows.{row, owner-lives}
 use Rattle.collector.proofs.Given.{IsSetupUnder, old-given, moves-given}
-use Rattle.collector.proofs.Fates as fates
-use Rattle.collector.proofs.Fates.{IsAllReleased}
-use Rattle.collector.proofs.ReleasedBlocks as released_blocks
+use Rattle.block_release.proofs.Fates as fates
+use Rattle.block_release.proofs.Fates.{IsAllReleased}
+use Rattle.block_release.proofs.ReleasedBlocks as released_blocks
 
 -- a list loses one element
 length-without : (g : ℕ → Bool) (l : List ℕ) → 0 < count_by g l → length l ≡ length (without g l) + 1

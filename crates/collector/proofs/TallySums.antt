@@ -11,16 +11,17 @@ use Rattle.object_model.specs.Times.{one_if, times}
 use Rattle.plain_tracer.specs.TokenRights.{copied_in}
 use Rattle.plain_tracer.specs.declared.tokens.Grey.{Grey}
 use Rattle.trace_core.proofs.CountedRights.{times-cons}
-use Rattle.collector.specs.Tallies.{total, capped}
+use Rattle.racing_collector.specs.Together.{total}
+use Rattle.collector.specs.Tallies.{capped}
 
 -- sums over the addresses from a on
-abbrev sum_over : (ℕ → ℕ) → ℕ → ℕ → ℕ
+abbrev pub sum_over : (ℕ → ℕ) → ℕ → ℕ → ℕ
 sum_over f a n = sum_by f (range_with_len a n)
 
-sum-first : (f : ℕ → ℕ) (a n : ℕ) → sum_over f a (suc n) ≡ f a + sum_over f (a + 1) n
+pub sum-first : (f : ℕ → ℕ) (a n : ℕ) → sum_over f a (suc n) ≡ f a + sum_over f (a + 1) n
 sum-first f a n = sum_by-cons f a (range_with_len (a + 1) n)
 
-sum-same : (f g : ℕ → ℕ) (a n : ℕ) → ((i : ℕ) → a ≤ i → i < a + n → f i ≡ g i) → sum_over f a n ≡ sum_over g a n
+pub sum-same : (f g : ℕ → ℕ) (a n : ℕ) → ((i : ℕ) → a ≤ i → i < a + n → f i ≡ g i) → sum_over f a n ≡ sum_over g a n
 sum-same f g a zero same = refl
 sum-same f g a (suc n) same =
     let left : sum_over f a (suc n) ≡ f a + sum_over f (a + 1) n = sum-first f a n in
@@ -29,7 +30,7 @@ sum-same f g a (suc n) same =
     let rest : sum_over f (a + 1) n ≡ sum_over g (a + 1) n = sum-same f g (a + 1) n (λ i from below. same i (omega arith) (omega arith)) in
     omega arith
 
-sum-both : (f g : ℕ → ℕ) (a n : ℕ) → sum_over (λ i. f i + g i) a n ≡ sum_over f a n + sum_over g a n
+pub sum-both : (f g : ℕ → ℕ) (a n : ℕ) → sum_over (λ i. f i + g i) a n ≡ sum_over f a n + sum_over g a n
 sum-both f g a zero = refl
 sum-both f g a (suc n) =
     let all : sum_over (λ i. f i + g i) a (suc n) ≡ f a + g a + sum_over (λ i. f i + g i) (a + 1) n = sum-first (λ i. f i + g i) a n in
@@ -38,7 +39,7 @@ sum-both f g a (suc n) =
     let rest : sum_over (λ i. f i + g i) (a + 1) n ≡ sum_over f (a + 1) n + sum_over g (a + 1) n = sum-both f g (a + 1) n in
     omega arith
 
-sum-none : (f : ℕ → ℕ) (a n : ℕ) → ((i : ℕ) → a ≤ i → i < a + n → f i ≡ 0) → sum_over f a n ≡ 0
+pub sum-none : (f : ℕ → ℕ) (a n : ℕ) → ((i : ℕ) → a ≤ i → i < a + n → f i ≡ 0) → sum_over f a n ≡ 0
 sum-none f a zero none = refl
 sum-none f a (suc n) none =
     let all : sum_over f a (suc n) ≡ f a + sum_over f (a + 1) n = sum-first f a n in
@@ -47,7 +48,7 @@ sum-none f a (suc n) none =
     omega arith
 
 -- the sum of what is at one address
-abbrev only : (ℕ → ℕ) → ℕ → ℕ → ℕ
+abbrev pub only : (ℕ → ℕ) → ℕ → ℕ → ℕ
 only weight x i = one_if (nat_eq i x) * weight i
 
 only-there : (weight : ℕ → ℕ) (x : ℕ) → only weight x x ≡ weight x
@@ -56,7 +57,7 @@ only-there weight x = let one : one_if (nat_eq x x) * weight x ≡ 1 * weight x 
 only-else : (weight : ℕ → ℕ) (x i : ℕ) → i ≢ x → only weight x i ≡ 0
 only-else weight x i ne = let none : one_if (nat_eq i x) * weight i ≡ 0 * weight i = ap (λ b. one_if b * weight i) (ne_eqb i x ne) in omega arith
 
-sum-only : (weight : ℕ → ℕ) (x a n : ℕ) → a ≤ x → x < a + n → sum_over (only weight x) a n ≡ weight x
+pub sum-only : (weight : ℕ → ℕ) (x a n : ℕ) → a ≤ x → x < a + n → sum_over (only weight x) a n ≡ weight x
 sum-only weight x a zero from below = absurd (omega arith)
 sum-only weight x a (suc n) from below =
     let all : sum_over (only weight x) a (suc n) ≡ only weight x a + sum_over (only weight x) (a + 1) n = sum-first (only weight x) a n in

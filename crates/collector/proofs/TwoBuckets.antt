@@ -1,8 +1,8 @@
 -- The one worker of a trace runs the packets of roots and then those that scan objects, and awaits nothing more.
-use Rattle.std.proofs.Common.{◌≡◌, refl, sym, subst, ap, ◌∙◌, ℕ, ◌<◌, ◌⊎◌, inl, inr, arith, true, false, List, [], ◌∷◌, ◌++◌, length, Some}
+use Rattle.std.proofs.Common.{◌≡◌, refl, subst, ℕ, ◌<◌, ◌⊎◌, inl, inr, arith, true, false, List, [], ◌∷◌, length}
 use Rattle.std.specs.Prelude.{All}
 use Rattle.std.specs.List.Sorted.{IsPermutation}
-use Rattle.std.proofs.lemmas.List.Elements.{All-nil, All-cons, All-head, All-pop, filter_passes}
+use Rattle.std.proofs.lemmas.List.Elements.{All-nil, All-cons, All-head, filter_passes}
 use Rattle.std.proofs.lemmas.List.Sorted.{All-permutation, IsPermutation-refl}
 use Rattle.work_packets.specs.declared.packet.Bucket.{Bucket}
 use Rattle.work_packets.specs.declared.packet.Bucket.TheVariants.{Roots, Closure}
@@ -71,26 +71,13 @@ none-of (p ∷ later) after of = absurd (after-closure p.bucket (All-head (λ p.
 pub none-left : (ps later : List (Packet Item)) → IsPermutation (packets_after Closure ps) later → All IsOfTrace later → later ≡ []
 none-left ps later left of = none-of later (all-after ps later Closure left) of
 
--- a list of one
-module _ {X : Type 0} where
-  pub only-one : (xs ys : List X) (x : X) → xs ≡ [] → ys ≡ xs ++ x ∷ [] → ys ≡ x ∷ []
-  only-one xs ys x none more = more ∙ ap (λ l. l ++ x ∷ []) none
-
-  pub holds-of-one : (P : X → Type 0) (xs : List X) (x : X) → xs ≡ x ∷ [] → P x → All P xs
-  holds-of-one P xs x one holds = subst (All P) (sym one) (All-cons P x [] holds (All-nil P))
-
--- the workers of a trace
+-- the worker of a trace
 module _ {W : Type 0} (trace : W → PacketTracer) where
-  pub one-home : (ws : List W) (w : W) → ws ≡ w ∷ [] → All (λ v. length (trace v).roots.items ≡ length (trace w).roots.items) ws
-  one-home ws w one = holds-of-one (λ v. length (trace v).roots.items ≡ length (trace w).roots.items) ws w one refl
-
   abbrev pub Waits : TracingStart → W → List (Packet Item) → Type 0
   Waits start w ps = AwaitsPackets start (trace w) ps
 
-  -- after the scans, the one worker that is popped awaits nothing
-  pub nothing-awaited : (start : TracingStart) (ws rest : List W) (v w : W) (ps later : List (Packet Item)) → ws ≡ v ∷ [] → ws ≡ rest ++ w ∷ []
-      → AwaitsAll Waits start v later → IsPermutation (packets_after Closure ps) later → AwaitsPackets start (trace w) []
-  nothing-awaited start ws rest v w ps later one popped all left =
-      let aw : AwaitsPackets start (trace v) later = all later (IsPermutation-refl later) in
-      let done : AwaitsPackets start (trace v) [] = subst (AwaitsPackets start (trace v)) (none-left ps later left aw.buckets) aw in
-      (All-pop (λ u. AwaitsPackets start (trace u) []) ws rest (Some w) popped (holds-of-one (λ u. AwaitsPackets start (trace u) []) ws v one done)).1
+  -- after the scans it awaits nothing
+  pub nothing-awaited : (start : TracingStart) (w : W) (ps later : List (Packet Item)) → AwaitsAll Waits start w later → IsPermutation (packets_after Closure ps) later → AwaitsPackets start (trace w) []
+  nothing-awaited start w ps later all left =
+      let aw : AwaitsPackets start (trace w) later = all later (IsPermutation-refl later) in
+      subst (AwaitsPackets start (trace w)) (none-left ps later left aw.buckets) aw

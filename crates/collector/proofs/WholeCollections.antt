@@ -1,5 +1,5 @@
 -- A finished trace and the release of all blocks make a collection.
-use Rattle.std.proofs.Common.{◌≡◌, refl, sym, ◌∙◌, ap, ap₂, subst, subst₂, ℕ, ◌+◌, ◌^◌, ◌<◌, ◌≤◌, arith, Bool, false, IsTrue, nat_lt, List, [], map, length, Option, Some, None}
+use Rattle.std.proofs.Common.{◌≡◌, refl, sym, ◌∙◌, ap, ap₂, subst, subst₂, ℕ, ◌+◌, ◌^◌, ◌<◌, ◌≤◌, ◌⊎◌, inl, inr, lit<, arith, Bool, false, IsTrue, nat_lt, List, [], map, length, Option, Some, None}
 use Rattle.std.specs.Prelude.{if◌then◌else◌, slice_get, unwrap_or}
 use Rattle.std.proofs.lemmas.Bool.{cond-true, cond-false}
 use Rattle.heap_layout.specs.declared.block.Kind.TheVariants as kinds
@@ -16,7 +16,7 @@ use Rattle.trace_core.specs.Setups.{Setup, blocks, collection}
 use Rattle.trace_core.specs.Machine.{Event}
 use Rattle.trace_core.specs.Traces.{IsTracing, IsFinished, machine_after, heap_after, stage_of}
 use Rattle.trace_core.specs.Outcomes.{base_after_trace, image, HaveAsked, NoOthersAsked}
-use Rattle.trace_core.specs.Rooms.{AreLeft}
+use Rattle.trace_core.specs.Rooms.{AreLeft, IsFilled}
 use Rattle.trace_core.specs.Runs.{is_nursery, is_some_true, without_lines, without_unlogs, with_unlogs, setup_of, MayRun}
 use Rattle.trace_core.specs.Views.{View, Holds}
 use Rattle.trace_core.specs.declared.run.TraceRun.{TraceRun}
@@ -25,14 +25,16 @@ use Rattle.trace_core.proofs.Begun as begins
 use Rattle.trace_core.proofs.SetUnlogs as sets
 use Rattle.object_model.specs.Times.{times}
 use Rattle.trace_core.proofs.Begun.{by-begun}
-use Rattle.collector.specs.Released.{ReleasesBelow, AreReleased, with_numbers}
-use Rattle.collector.specs.Collected.{IsRunUnder, FillsBlocks, FillsInTurn}
+use Rattle.block_release.specs.Released.{ReleasesBelow, AreReleased, with_numbers}
+use Rattle.block_release.specs.Knowing.{IsRunUnder}
+use Rattle.racing_collector.specs.Together.{FillsBlocks}
+use Rattle.collector.specs.Collected.{FillsInTurn}
 use Rattle.collector.proofs.Given.{SameButBits, IsSetupUnder}
-use Rattle.collector.proofs.Fates.{IsAllReleased}
-use Rattle.collector.proofs.InOrder.{released}
-use Rattle.collector.proofs.LawfulReleases.{all-numbered, lawful}
+use Rattle.block_release.proofs.Fates.{IsAllReleased}
+use Rattle.block_release.proofs.InOrder.{released}
+use Rattle.block_release.proofs.LawfulReleases.{all-numbered, lawful}
 use Rattle.collector.proofs.CollectedObjects.{kept, precise, aged, none-logged, unlogged, has-number, claimed-here, old-stay}
-use Rattle.collector.proofs.CollectedBlocks.{block-after}
+use Rattle.collector.proofs.CollectedBlocks.{block-after, still-free}
 use Rattle.collector.proofs.StillFree.{in-place}
 use Rattle.collector.proofs.Turns.{fills-in-turn}
 
@@ -50,6 +52,12 @@ module _ {q : Plan} {c : Collect} {p : Setup} {u : List ℕ} (under : IsSetupUnd
   base-by Full full = cond-false p.nursery p.before.base (collection p) full
   base-by Nursery nursery = cond-true p.nursery p.before.base (collection p) nursery
 
+  full : (b : ℕ) → 0 < (machine_after p es).taken b → (0 < times b fills.last) ⊎ ((n : ℕ) × (2048 < n) × IsFilled p (machine_after p es) b n)
+  full b taken = elim (fills.full b taken) as (λ _. (0 < times b fills.last) ⊎ ((n : ℕ) × (2048 < n) × IsFilled p (machine_after p es) b n)) [
+    | inl last ↦ inl last
+    | inr filled ↦ inr (2049, lit< tt, filled)
+  ]
+
   collects : Collects (rules_of q) p.workers c (with_words p.before u) roots (with v (blocks p) (collection p) (base_after_trace p)) (map (image (stage_of p es)) roots)
   collects = record {
     target = image (stage_of p es);
@@ -66,7 +74,7 @@ module _ {q : Plan} {c : Collect} {p : Setup} {u : List ℕ} (under : IsSetupUnd
     base = base-by c under.nursery;
     layout = refl;
     moved = λ a some young moves same.
-        let most : still_free (with_words p.before u) (with v (blocks p) (collection p) (base_after_trace p)) ≤ length fills.last = in-place under trace finished all fills.last fills.full a some young moves same in
+        let most : still_free (with_words p.before u) (with v (blocks p) (collection p) (base_after_trace p)) ≤ length fills.last = in-place under trace finished all fills.last full a some young moves same in
         let few : length fills.last ≤ p.workers = fills.few in omega (arith, most, few);
   }
 
@@ -114,16 +122,7 @@ module _ (s : HeapState) (run : TraceRun) (w : ℕ) where
         let numbers = numbered p is in
         subst₂ (λ n b. IsLawful (with_numbers new n b)) (sym numbers.number) (sym numbers.base) (lawful p es trace finished r c new fits (releases p numbers es r c new trace finished below))
 
-module _ (q : Plan) (c : Collect) (s : HeapState) (run : TraceRun) (w : ℕ) (lawful-before : IsLawful s) (may : MayRun s run) (shown : IsRunUnder (rules_of q) c s run) where
-  abbrev r : Rules
-  r = rules_of q
-
-  abbrev Makes : Setup → Type 0
-  Makes p = (es : List Event) (roots : List ℕ) (new : HeapState) → IsTracing p es → IsFinished p (machine_after p es)
-      → HaveAsked roots (machine_after p es).asked → NoOthersAsked roots (machine_after p es).asked → FillsBlocks p (machine_after p es)
-      → ReleasesBelow r c run.base (heap_after p es) new s.blocks
-      → CollectsBy (image (stage_of p es)) r w c s roots (with_numbers new run.number run.base) (map (image (stage_of p es)) roots)
-
+module _ (s : HeapState) (run : TraceRun) (w : ℕ) (lawful-before : IsLawful s) (may : MayRun s run) where
   -- with unlog bits cleared, and with line bits cleared before
   unlogs : SameButBits (without_unlogs s) s.words
   unlogs = let lawful = lawful-before.but_lines in let keeps = begins.keeps-objects s lawful in record {
@@ -165,6 +164,28 @@ module _ (q : Plan) (c : Collect) (s : HeapState) (run : TraceRun) (w : ℕ) (la
         blocks = λ k there. sym (sets.word-same s lawful run.logged.items held k there);
       }
 
+  -- how one worker filled blocks
+  abbrev Turns : Setup → Type 0
+  Turns p = (es : List Event) (v : View) → IsTracing p es → IsFinished p (machine_after p es) → Holds p (machine_after p es) v → AreLeft p (machine_after p es) [] v.blocks
+      → ((b d : ℕ) → 0 < (machine_after p es).taken b → d < b → HasKind p.before d kinds.Free → 0 < (machine_after p es).taken d) → FillsInTurn s (image (stage_of p es))
+
+  turns-by : (h : HeapState) → SameButBits h s.words → with_words h s.words ≡ s → Turns (setup s run w h)
+  turns-by h like same es v trace finished holds left lowest = subst (λ old. FillsInTurn old (image (stage_of (setup s run w h) es))) same
+      (fills-in-turn (setup s run w h) s.words like es trace finished v holds left lowest)
+
+  pub turns : (p : Setup) → p ≡ setup_of s run w → Turns p
+  turns p is = subst Turns (sym is) (by-heap s run w Turns (turns-by (without_unlogs (without_lines s)) both refl) (turns-by (without_unlogs s) unlogs refl) (λ young. turns-by (with_unlogs s run.logged.items) (marked young) refl))
+
+module _ (q : Plan) (c : Collect) (s : HeapState) (run : TraceRun) (w : ℕ) (lawful-before : IsLawful s) (may : MayRun s run) (shown : IsRunUnder (rules_of q) c s run) where
+  abbrev r : Rules
+  r = rules_of q
+
+  abbrev Makes : Setup → Type 0
+  Makes p = (es : List Event) (roots : List ℕ) (new : HeapState) → IsTracing p es → IsFinished p (machine_after p es)
+      → HaveAsked roots (machine_after p es).asked → NoOthersAsked roots (machine_after p es).asked → FillsBlocks p (machine_after p es)
+      → ReleasesBelow r c run.base (heap_after p es) new s.blocks
+      → CollectsBy (image (stage_of p es)) r w c s roots (with_numbers new run.number run.base) (map (image (stage_of p es)) roots)
+
   module _ (h : HeapState) (like : SameButBits h s.words) (same : with_words h s.words ≡ s) where
     abbrev p : Setup
     p = setup s run w h
@@ -195,16 +216,22 @@ module _ (q : Plan) (c : Collect) (s : HeapState) (run : TraceRun) (w : ℕ) (la
         (collects under trace finished (all-numbered p es trace finished r c new (collection p) (base_after_trace p) are) roots asked no-others fills, refl))))
 
   pub makes : (p : Setup) → p ≡ setup_of s run w → Makes p
-  makes p is = subst Makes (sym is) (by-heap s run w Makes (of-setup (without_unlogs (without_lines s)) both refl) (of-setup (without_unlogs s) unlogs refl) (λ young. of-setup (with_unlogs s run.logged.items) (marked young) refl))
+  makes p is = subst Makes (sym is) (by-heap s run w Makes (of-setup (without_unlogs (without_lines s)) (both s run w lawful-before may) refl) (of-setup (without_unlogs s) (unlogs s run w lawful-before may) refl) (λ young. of-setup (with_unlogs s run.logged.items) (marked s run w lawful-before may young) refl))
 
-  -- how one worker filled blocks
-  abbrev Turns : Setup → Type 0
-  Turns p = (es : List Event) (v : View) → IsTracing p es → IsFinished p (machine_after p es) → Holds p (machine_after p es) v → AreLeft p (machine_after p es) [] v.blocks
-      → ((b d : ℕ) → 0 < (machine_after p es).taken b → d < b → HasKind p.before d kinds.Free → 0 < (machine_after p es).taken d) → FillsInTurn s (image (stage_of p es))
+  -- a block that was Free and that no worker took stays Free
+  abbrev Frees : Setup → Type 0
+  Frees p = (es : List Event) (new : HeapState) → IsTracing p es → IsFinished p (machine_after p es) → ReleasesBelow r c run.base (heap_after p es) new s.blocks
+      → (k : ℕ) → HasKind s k kinds.Free → (machine_after p es).taken k ≡ 0 → HasKind new k kinds.Free
 
-  turns-by : (h : HeapState) → SameButBits h s.words → with_words h s.words ≡ s → Turns (setup s run w h)
-  turns-by h like same es v trace finished holds left lowest = subst (λ old. FillsInTurn old (image (stage_of (setup s run w h) es))) same
-      (fills-in-turn (setup s run w h) s.words like es trace finished v holds left lowest)
+  module _ (h : HeapState) (like : SameButBits h s.words) (same : with_words h s.words ≡ s) where
+    frees-by : Frees (setup s run w h)
+    frees-by es new trace finished below k free none =
+        let p : Setup = setup s run w h in
+        let are : AreReleased r c (base_after_trace p) (heap_after p es) new (blocks p) = releases s run w may p (numbers h like same) es r c new trace finished below in
+        subst (λ n. HasKind (with new.words n (collection p) (base_after_trace p)) k kinds.Free) (sym are.blocks)
+        (still-free (under h like same) trace finished (all-numbered p es trace finished r c new (collection p) (base_after_trace p) are) k
+        (subst (λ old. HasKind old k kinds.Free) (sym same) free) none)
 
-  pub turns : (p : Setup) → p ≡ setup_of s run w → Turns p
-  turns p is = subst Turns (sym is) (by-heap s run w Turns (turns-by (without_unlogs (without_lines s)) both refl) (turns-by (without_unlogs s) unlogs refl) (λ young. turns-by (with_unlogs s run.logged.items) (marked young) refl))
+  pub frees : (p : Setup) → p ≡ setup_of s run w → Frees p
+  frees p is = subst Frees (sym is) (by-heap s run w Frees (frees-by (without_unlogs (without_lines s)) (both s run w lawful-before may) refl)
+      (frees-by (without_unlogs s) (unlogs s run w lawful-before may) refl) (λ young. frees-by (with_unlogs s run.logged.items) (marked s run w lawful-before may young) refl))

@@ -1,6 +1,5 @@
--- How a collection under a plan is described to a tracer, and how it fills blocks.
-use Rattle.std.specs.Prelude.{◌≡◌, ◌≢◌, ℕ, ◌+◌, ◌<◌, ◌≤◌, ◌⊎◌, Bool, true, false, IsTrue, List, [], ◌∷◌, length, map}
-use Rattle.std.specs.List.{range_with_len}
+-- Which collections may be made of a heap, and how one fills blocks.
+use Rattle.std.specs.Prelude.{◌≡◌, ◌≢◌, ℕ, ◌+◌, ◌/◌, ◌<◌, ◌≤◌, ◌⊎◌, ◌||◌, Bool, true, false, IsTrue, List, [], ◌∷◌}
 use Rattle.heap_layout.specs.Zones.{block_at, block_start}
 use Rattle.heap_layout.specs.declared.layout.TheConstants.{BLOCK_WORDS}
 use Rattle.heap_layout.specs.declared.block.Kind.TheVariants as kinds
@@ -8,14 +7,13 @@ use Rattle.object_model.specs.declared.collect.Collect.{Collect}
 use Rattle.object_model.specs.declared.collect.Collect.TheVariants.{Nursery}
 use Rattle.object_model.specs.Ages.{RemembersYoung}
 use Rattle.object_model.specs.declared.shape.TheConstants.{MAX_MEDIUM_WORDS}
-use Rattle.object_model.specs.Objects.{HeapState, HasKind, IsInExtentOf, size_at}
-use Rattle.sessions.specs.Plans.{Rules}
+use Rattle.object_model.specs.Counting.{kind_count}
+use Rattle.object_model.specs.Objects.{HeapState, has_kind, HasKind, IsInExtentOf, size_at}
+use Rattle.sessions.specs.Plans.{Rules, Copies}
+use Rattle.sessions.specs.Fitting.{used_of}
 use Rattle.sessions.specs.Collecting.{CollectsIf, is_evacuated}
-use Rattle.trace_core.specs.Setups.{Setup}
-use Rattle.trace_core.specs.Machine.{Machine}
 use Rattle.object_model.specs.Times.{times}
-use Rattle.trace_core.specs.Rooms.{IsFilled}
-use Rattle.trace_core.specs.declared.run.TraceRun.{TraceRun}
+use Rattle.collector.specs.declared.outcome.Note.{Note}
 
 -- A collection of this kind may be made of this heap under these rules: a full one of any heap, a
 -- nursery one under rules with young objects, after a full one, if the heap remembers its young
@@ -24,24 +22,6 @@ pub record IsOffered (r : Rules) (c : Collect) (s : HeapState) : Type 0 where
   pub young : c ≡ Nursery → IsTrue r.young
   pub base : c ≡ Nursery → 0 < s.base
   pub remembers : c ≡ Nursery → RemembersYoung s
-
--- The description is of a collection of this kind under these rules: which blocks the rules
--- evacuate, the kind of blocks that workers fill, and whether lines are marked. Only rules with
--- young objects have nursery collections.
-pub record IsRunUnder (r : Rules) (c : Collect) (s : HeapState) (run : TraceRun) : Type 0 where
-  pub collect : run.collect ≡ c
-  pub young : c ≡ Nursery → IsTrue r.young
-  pub from : run.from.items ≡ map (is_evacuated r c s) (range_with_len 0 s.blocks)
-  pub copy : run.copy_kind ≡ r.copy
-  pub lines : run.lines ≡ r.lines
-
--- Each block that was taken to copy into has more than 2,048 words of targets, but for at most as
--- many as there are workers.
-pub record FillsBlocks (p : Setup) (m : Machine) : Type 0 where
-  pub last : List ℕ
-  pub few : length last ≤ p.workers
-  pub full : (b : ℕ) → 0 < m.taken b → (0 < times b last)
-      ⊎ ((n : ℕ) × (MAX_MEDIUM_WORDS < n) × IsFilled p m b n)
 
 -- The word at this address belongs to an object that moved.
 abbrev pub IsCopiedAt : HeapState → (ℕ → ℕ) → ℕ → Type 0
@@ -76,9 +56,23 @@ pub record FillsInTurn (old : HeapState) (target : ℕ → ℕ) : Type 0 where
   pub lowest : (b c : ℕ) → 0 < times b taken → c < b → HasKind old c kinds.Free → 0 < times c taken
   pub turns : AreFilledInTurn old target taken
 
--- how a collection fills blocks; one that reclaims nothing fills none
+-- how a collection by one worker fills blocks; of more workers nothing is said, and one that
+-- reclaims nothing fills none
 abbrev pub FillsIf : (collects : Bool) (r : Rules) (w : ℕ) (c : Collect) (s : HeapState)
     (roots : List ℕ)
     (new : HeapState) (roots' : List ℕ) → CollectsIf collects r w c s roots new roots' → Type 0
-FillsIf true r w c s roots new roots' made = FillsInTurn s made.target
+FillsIf true r w c s roots new roots' made = w ≡ 1 → FillsInTurn s made.target
 FillsIf false r w c s roots new roots' made = Unit {0}
+
+-- each block of the heap is Free, of a large object, or evacuated
+abbrev pub EvacuatesAll : Rules → Collect → HeapState → Type 0
+EvacuatesAll r c s = (k : ℕ) → k < s.blocks → HasKind s k kinds.Free
+    ⊎ (IsTrue (has_kind s k kinds.LargeHead || has_kind s k kinds.LargeTail)
+    ⊎ IsTrue (is_evacuated r c s k))
+
+-- If each block of the old heap was Free, large or evacuated, under a plan that holds back copies,
+-- then the blocks in use, large ones not counted, are at most one for each MAX_MEDIUM_WORDS words
+-- kept, one for each worker, and the Kept ones.
+abbrev pub LeavesFewBlocks : Rules → ℕ → Collect → HeapState → HeapState → Note → Type 0
+LeavesFewBlocks r w c old new note = r.reserve ≡ Copies → EvacuatesAll r c old
+    → used_of new ≤ note.kept_words / MAX_MEDIUM_WORDS + w + kind_count new kinds.Kept

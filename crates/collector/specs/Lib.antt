@@ -1,10 +1,10 @@
 pub mod Awaited
 pub mod Collected
+pub mod Finished
 pub mod Items
-pub mod Released
-pub mod Knowing
 pub mod RootPackets
 pub mod Serving
 pub mod Tallies
 pub mod Working
+pub mod WorkedBounds
 pub mod Prelude

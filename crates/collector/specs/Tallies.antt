@@ -1,7 +1,5 @@
 -- Counts of the objects that a collection preserves.
 use Rattle.std.specs.Prelude.{◌≡◌, ℕ, true, false, ◌+◌, ◌*◌, ◌-◌, ◌^◌, Bool, ◌&&◌, not, nat_eq, nat_lt, nat_le, List, length, count_by, sum_by, if◌then◌else◌}
-use Rattle.std.specs.List.{range_with_len}
-use Rattle.heap_layout.specs.Zones.{row_words}
 use Rattle.heap_layout.specs.declared.block.Kind.TheVariants as kinds
 use Rattle.object_model.specs.Objects.{HeapState, has_kind, is_start, number_at, size_at, block_count}
 use Rattle.object_model.specs.Ages.{is_old}
@@ -9,14 +7,11 @@ use Rattle.object_model.specs.declared.collect.Collect.{Collect}
 use Rattle.object_model.specs.declared.collect.Collect.TheVariants.{Nursery, Full}
 use Rattle.object_model.specs.Times.{one_if, times}
 use Rattle.plain_tracer.specs.declared.tokens.Grey.{Grey}
-use Rattle.collector.specs.declared.tally.Tally.{Tally}
+use Rattle.racing_collector.specs.Together.{total}
+use Rattle.racing_collector.specs.declared.tally.Tally.{Tally}
 use Rattle.collector.specs.declared.outcome.Note.{Note}
 use Rattle.sessions.specs.Plans.{Rules}
 use Rattle.sessions.specs.Collecting.{CollectsIf}
-
--- the sum over all addresses of a heap of b blocks
-abbrev pub total : ℕ → (ℕ → ℕ) → ℕ
-total b f = sum_by f (range_with_len 0 (row_words b))
 
 -- the largest number, if the sum is larger
 abbrev pub capped : ℕ → ℕ → ℕ

@@ -1,21 +1,21 @@
 //! A whole collection.
 
 ghost use Rattle.std.specs.Prelude.{◌≡◌, ◌+◌, ◌*◌, ◌^◌, ◌<◌, ◌≤◌, ◌⊎◌, ◌∷◌, [], ℕ, List, All, IfOk, IsTrue, length, true, false, if◌then◌else◌};
-ghost use Rattle.collector.specs.Prelude.{Full, Nursery, CoverLogged, IsHeld, heap_state, IsCollection, Collects, OnlyCounts, MayRun, is_nursery, ListsLogged, IsOffered, IsRunUnder, FillsInTurn, FillsIf, items_of, AreRootItems, AreRootPackets, IsAwaited, AwaitsPackets, AwaitsNothing, IsNote, NotesIf, stays_in_place, AreRoots, TracingStart};
+ghost use Rattle.collector.specs.Prelude.{Full, Nursery, CoverLogged, IsHeld, heap_state, IsCollection, Collects, OnlyCounts, MayRun, is_nursery, ListsLogged, IsOffered, IsRunUnder, IsFinishedTrace, FillsInTurn, FillsIf, LeavesFewBlocks, items_of, AreRootItems, AreRootPackets, IsAwaited, AwaitsPackets, AwaitsNothing, IsNote, NotesIf, stays_in_place, AreRoots, TracingStart};
 
 use crate::item::Item;
 use crate::outcome::{Collected, Note};
 use crate::packet_tracer::PacketTracer;
-use crate::releasing::{known_after, release_by};
 use crate::roots::{MAX_ROOTS, root_packets};
-use crate::tally::Tally;
 use crate::worker::TracingWorker;
 use bitflags::Flags;
+use block_release::{known_after, release_by};
 use forward_word::NUMBER_BITS;
 use object_model::{Collect, Heap};
 use plain_tracer::PlainTrace;
 use plan_api::{Plan, PlanFlags, block_counts};
 use pools::Pool;
+use racing_collector::{MAX_WORKERS, Tally, TracedTogether, trace_together};
 use std::alloc::{AllocError, Global};
 use std::thread::Threads;
 use trace_core::TraceRun;
@@ -27,8 +27,8 @@ use write_barrier::{all_flags, logged_in_flagged};
 /// collection the logged objects, and the blocks are released. Old objects stay in a nursery
 /// collection, dead ones too. Under NoGC the collection number rises, and nothing else changes.
 ///
-/// `roots` are the mutators' registers. There is one worker, which takes a block to copy into only
-/// for an object that does not fit the last one, and then the lowest Free one.
+/// `roots` are the mutators' registers. One worker takes a block to copy into only for an object that
+/// does not fit the last one, and then the lowest Free one. Several share the work.
 ///
 /// Fails if memory runs out. The heap is lost then.
 pub fn collect<P: Plan, Q: Pool, G: Gate, R: Threads + Sync>(
@@ -42,16 +42,19 @@ pub fn collect<P: Plan, Q: Pool, G: Gate, R: Threads + Sync>(
     gate: &G,
 ) -> Result<Collected, AllocError>
     requires offered { IsOffered P.rules collect (heap_state heap) }
-    requires one { workers ≡ 1 }
+    requires some { 1 ≤ workers }
+    requires most { workers ≤ MAX_WORKERS }
     requires few { length roots.items ≤ MAX_ROOTS }
     requires held { AreRoots (heap_state heap) roots.items }
     requires number { (heap_state heap).number + 1 < 2 ^ NUMBER_BITS }
-    ensures { IfOk result (λ c. (made : IsCollection P.rules workers collect (heap_state heap)
-        roots.items (heap_state c.heap) c.roots.items)
+    ensures collected { IfOk result (λ c. (made : IsCollection P.rules workers collect
+        (heap_state heap) roots.items (heap_state c.heap) c.roots.items)
         × NotesIf P.rules.collects P.rules workers collect (heap_state heap) roots.items
         (heap_state c.heap) c.roots.items made c.note
         × FillsIf P.rules.collects P.rules workers collect (heap_state heap) roots.items
         (heap_state c.heap) c.roots.items made) }
+    ensures blocks { IfOk result (λ c. LeavesFewBlocks P.rules workers collect (heap_state heap)
+        (heap_state c.heap) c.note) }
 {
     let flags = all_flags(alloc, &heap)?;
     collect_flagged::<P, Q, G, R>(rt, alloc, heap, roots, &flags, collect, workers, pool, gate)
@@ -73,24 +76,26 @@ pub fn collect_flagged<P: Plan, Q: Pool, G: Gate, R: Threads + Sync>(
 ) -> Result<Collected, AllocError>
     requires offered { IsOffered P.rules collect (heap_state heap) }
     requires flags { IsTrue P.rules.young → CoverLogged (heap_state heap) flags.now }
-    requires one { workers ≡ 1 }
+    requires some { 1 ≤ workers }
+    requires most { workers ≤ MAX_WORKERS }
     requires few { length roots.items ≤ MAX_ROOTS }
     requires held { AreRoots (heap_state heap) roots.items }
     requires number { (heap_state heap).number + 1 < 2 ^ NUMBER_BITS }
-    ensures { IfOk result (λ c. (made : IsCollection P.rules workers collect (heap_state heap)
-        roots.items (heap_state c.heap) c.roots.items)
+    ensures collected { IfOk result (λ c. (made : IsCollection P.rules workers collect
+        (heap_state heap) roots.items (heap_state c.heap) c.roots.items)
         × NotesIf P.rules.collects P.rules workers collect (heap_state heap) roots.items
         (heap_state c.heap) c.roots.items made c.note
         × FillsIf P.rules.collects P.rules workers collect (heap_state heap) roots.items
         (heap_state c.heap) c.roots.items made) }
+    ensures blocks { IfOk result (λ c. LeavesFewBlocks P.rules workers collect (heap_state heap)
+        (heap_state c.heap) c.note) }
 {
     let reclaims = P::collects();
     if !reclaims {
         return Ok(count_only(heap, roots, collect));
     }
     let run = prepare::<P>(alloc, &heap, flags, collect)?;
-    let (trace, first) = begin(alloc, heap, run, roots)?;
-    let trace = run_packets(rt, trace, first, pool, gate)?;
+    let trace = trace_heap(rt, alloc, heap, run, roots, workers, pool, gate)?;
     Ok(finish::<P>(trace))
 }
 
@@ -181,6 +186,54 @@ fn logged_for(
     }
 }
 
+/// A whole tracing, by a plain tracer if there is one worker.
+///
+/// Fails if memory runs out.
+fn trace_heap<Q: Pool, G: Gate, R: Threads + Sync>(
+    rt: &R,
+    alloc: Global,
+    heap: Heap,
+    run: TraceRun,
+    roots: Vec<u32>,
+    workers: u32,
+    pool: &Q,
+    gate: &G,
+) -> Result<TracedTogether, AllocError>
+    requires may { MayRun (heap_state heap) run }
+    requires some { 1 ≤ workers }
+    requires most { workers ≤ MAX_WORKERS }
+    requires few { length roots.items ≤ MAX_ROOTS }
+    requires held { AreRoots (heap_state heap) roots.items }
+    ensures { IfOk result (λ t. IsFinishedTrace (heap_state heap) run workers roots.items t) }
+{
+    if workers == 1 {
+        return trace_by_one(alloc, heap, run, roots, pool, gate);
+    }
+    let trace = trace_together(rt, alloc, heap, run, roots, workers, pool, gate)?;
+    Ok(trace)
+}
+
+/// A whole tracing by one worker.
+///
+/// Fails if memory runs out.
+fn trace_by_one<Q: Pool, G: Gate>(
+    alloc: Global,
+    heap: Heap,
+    run: TraceRun,
+    roots: Vec<u32>,
+    pool: &Q,
+    gate: &G,
+) -> Result<TracedTogether, AllocError>
+    requires may { MayRun (heap_state heap) run }
+    requires few { length roots.items ≤ MAX_ROOTS }
+    requires held { AreRoots (heap_state heap) roots.items }
+    ensures { IfOk result (λ t. IsFinishedTrace (heap_state heap) run 1 roots.items t) }
+{
+    let (trace, first) = begin(alloc, heap, run, roots)?;
+    let trace = run_packets(trace, first, pool, gate)?;
+    Ok(close(trace))
+}
+
 /// The tracing as it begins, and the packets of its roots.
 fn begin(
     alloc: Global,
@@ -216,8 +269,7 @@ fn begin(
 }
 
 /// Runs the packets of the roots, and then all that scan objects.
-fn run_packets<Q: Pool, G: Gate, R: Threads + Sync>(
-    rt: &R,
+fn run_packets<Q: Pool, G: Gate>(
     trace: PacketTracer,
     first: Vec<Packet<Item>>,
     pool: &Q,
@@ -228,31 +280,21 @@ fn run_packets<Q: Pool, G: Gate, R: Threads + Sync>(
     ensures { IfOk result (λ t. (start : TracingStart) → AwaitsPackets start trace first.items
         → AwaitsPackets start t []) }
 {
-    let alloc = *first.allocator();
-    let mut workers = Vec::with_capacity(alloc, 1)?;
-    workers.push_reserved(TracingWorker {
+    let worker = TracingWorker {
         trace,
         gate,
         who: 17,
-    });
-    let (workers, scans) = pool.run_bucket(rt, Bucket::Roots, workers, first, gate)?;
-    let (mut workers, _none) = pool.run_bucket(rt, Bucket::Closure, workers, scans, gate)?;
-    let Some(worker) = workers.pop() else {
-        unreachable!();
     };
+    let (worker, scans) = pool.run_alone(Bucket::Roots, worker, first, gate)?;
+    let (worker, _none) = pool.run_alone(Bucket::Closure, worker, scans, gate)?;
     Ok(worker.trace)
 }
 
-/// The heap after a tracing of which nothing is left to do.
-fn finish<P: Plan>(trace: PacketTracer) -> Collected
-    requires { (start : TracingStart) × AwaitsNothing start trace
-        × IsRunUnder P.rules start.run.collect (heap_state start.heap) start.run }
-    ensures { (start : TracingStart) → AwaitsNothing start trace → P.rules.collects ≡ true
-        → IsRunUnder P.rules start.run.collect (heap_state start.heap) start.run
-        → (made : Collects P.rules 1 start.run.collect (heap_state start.heap)
-        start.roots.items (heap_state result.heap) result.roots.items)
-        × IsNote start.run.collect (heap_state start.heap) made.target
-        (heap_state result.heap) result.note × FillsInTurn (heap_state start.heap) made.target }
+/// The tracing of which nothing is left to do.
+fn close(trace: PacketTracer) -> TracedTogether
+    requires { (start : TracingStart) × AwaitsNothing start trace }
+    ensures { (start : TracingStart) → AwaitsNothing start trace
+        → IsFinishedTrace (heap_state start.heap) start.run 1 start.roots.items result }
 {
     let PacketTracer {
         tracer,
@@ -260,7 +302,34 @@ fn finish<P: Plan>(trace: PacketTracer) -> Collected
         tally,
         ..
     } = trace;
-    let traced = tracer.close();
+    TracedTogether {
+        traced: tracer.close(),
+        roots,
+        tally,
+    }
+}
+
+/// The heap after a finished tracing, by any number of workers.
+fn finish<P: Plan>(trace: TracedTogether) -> Collected
+    requires { (start : TracingStart) × (w : ℕ)
+        × IsFinishedTrace (heap_state start.heap) start.run w start.roots.items trace
+        × IsRunUnder P.rules start.run.collect (heap_state start.heap) start.run }
+    ensures { (start : TracingStart) (w : ℕ)
+        → IsFinishedTrace (heap_state start.heap) start.run w start.roots.items trace
+        → IsRunUnder P.rules start.run.collect (heap_state start.heap) start.run
+        → (made : Collects P.rules w start.run.collect (heap_state start.heap)
+        start.roots.items (heap_state result.heap) result.roots.items)
+        × IsNote start.run.collect (heap_state start.heap) made.target
+        (heap_state result.heap) result.note
+        × (w ≡ 1 → FillsInTurn (heap_state start.heap) made.target)
+        × LeavesFewBlocks P.rules w start.run.collect (heap_state start.heap)
+        (heap_state result.heap) result.note }
+{
+    let TracedTogether {
+        traced,
+        roots,
+        tally,
+    } = trace;
     let collect = traced.run.collect;
     let known = known_after(collect, traced.run.lines);
     let heap = release_by::<P>(traced, known);

@@ -1,4 +1,4 @@
-//! Whole collections: the tracing of a heap by packets of work, and the release of its blocks.
+//! Whole collections: the tracing of a heap by packets of work, then the release of its blocks.
 #![tactic(auto)]
 
 mod collecting;
@@ -6,7 +6,6 @@ mod item;
 mod laws;
 mod outcome;
 mod packet_tracer;
-mod releasing;
 mod roots;
 mod tally;
 mod worker;
@@ -14,9 +13,8 @@ mod worker;
 pub use collecting::{collect, collect_flagged};
 pub use item::Item;
 pub use laws::{
-    blocks_are_released_in_order, flags_show_evacuation, line_bits_show_what_lives,
-    offered_collections, released_heaps_are_lawful, released_traces_are_collections,
-    releases_ignore_numbers, unlog_bits_show_what_lives,
+    few_blocks_by_example, offered_collections, released_traces_are_collections,
+    sessions_evacuate_all_blocks,
 };
 pub use outcome::{Collected, Note};
-pub use releasing::release;
+pub use racing_collector::MAX_WORKERS;

@@ -11,8 +11,9 @@ ghost use Rattle.collector.specs.Prelude.buckets;
 ghost use Rattle.collector.specs.Prelude.items;
 
 use crate::item::Item;
-use crate::tally::Tally;
+use crate::tally::{add, known};
 use plain_tracer::{Claim, Grey, PlainTrace, Reached};
+use racing_collector::Tally;
 use std::alloc::AllocError;
 use std::mem;
 use work_packets::{Bucket, MAX_ITEMS, Packet};
@@ -113,7 +114,7 @@ impl PacketTracer {
         ensures roots { IfOk result (λ _. self.new.roots ≡ self.old.roots) }
     {
         // Counting no token leaves each count, since it fits its type.
-        self.tally.known();
+        known(self.tally);
         while !self.won.is_empty() {
             let packet = self.next_packet()?;
             pushed.push(packet)?;
@@ -183,7 +184,7 @@ fn fill(tracer: &PlainTrace, items: &mut Vec<Item>, won: &mut Vec<Reached>, tall
         words += grey.size() as u64;
         items.push_reserved(Item::Object(grey));
     }
-    tally.add(items.len() as u32, moved, words);
+    add(tally, items.len() as u32, moved, words);
 }
 
 /// 1 if the object leaves its place, else 0.

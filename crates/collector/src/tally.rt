@@ -1,32 +1,24 @@
-//! Counts of the objects that a collection preserves.
+//! Counting the objects that one worker preserves.
 
 ghost use Rattle.std.specs.Prelude.{◌≡◌, ◌+◌, ◌-◌, ◌^◌, ◌<◌};
 ghost use Rattle.collector.specs.Prelude.{capped};
 
-/// How many objects were copied or claimed in place, how many of them moved, and their words.
-#[derive(Clone, Copy, Debug, PartialEq, Eq)]
-pub struct Tally {
-    pub kept: u32,
-    pub moved: u32,
-    pub words: u64,
-}
+use racing_collector::Tally;
 
-impl Tally {
-    /// Each count fits its type.
-    pub(crate) fn known(self)
-        ensures kept { self.kept < 2 ^ 32 }
-        ensures moved { self.moved < 2 ^ 32 }
-        ensures words { self.words < 2 ^ 64 }
-    {}
+/// Each count fits its type.
+pub(crate) fn known(tally: Tally)
+    ensures kept { tally.kept < 2 ^ 32 }
+    ensures moved { tally.moved < 2 ^ 32 }
+    ensures words { tally.words < 2 ^ 64 }
+{}
 
-    /// Counts objects: how many they are, how many of them moved, and their words.
-    pub(crate) fn add(&mut self, kept: u32, moved: u32, words: u64)
-        ensures kept { self.new.kept ≡ capped (2 ^ 32 - 1) (self.old.kept + kept) }
-        ensures moved { self.new.moved ≡ capped (2 ^ 32 - 1) (self.old.moved + moved) }
-        ensures words { self.new.words ≡ capped (2 ^ 64 - 1) (self.old.words + words) }
-    {
-        self.kept = self.kept.saturating_add(kept);
-        self.moved = self.moved.saturating_add(moved);
-        self.words = self.words.saturating_add(words);
-    }
+/// Counts objects: how many they are, how many of them moved, and their words.
+pub(crate) fn add(tally: &mut Tally, kept: u32, moved: u32, words: u64)
+    ensures kept { tally.new.kept ≡ capped (2 ^ 32 - 1) (tally.old.kept + kept) }
+    ensures moved { tally.new.moved ≡ capped (2 ^ 32 - 1) (tally.old.moved + moved) }
+    ensures words { tally.new.words ≡ capped (2 ^ 64 - 1) (tally.old.words + words) }
+{
+    tally.kept = tally.kept.saturating_add(kept);
+    tally.moved = tally.moved.saturating_add(moved);
+    tally.words = tally.words.saturating_add(words);
 }

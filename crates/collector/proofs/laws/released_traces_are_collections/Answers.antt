@@ -3,7 +3,7 @@ use Rattle.sessions.specs.Plans.{rules_of}
 use Rattle.sessions.specs.Collecting.{CollectsIf}
 use Rattle.trace_core.specs.Traces.{stage_of}
 use Rattle.trace_core.specs.Outcomes.{image}
-use Rattle.collector.specs.Released.{with_numbers}
+use Rattle.block_release.specs.Released.{with_numbers}
 use Rattle.collector.proofs.WholeCollections.{makes, lawful-after}
 use Rattle.collector.proofs.laws.released_traces_are_collections.Goals as goal
 

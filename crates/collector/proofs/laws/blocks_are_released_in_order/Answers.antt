@@ -1,8 +1,0 @@
-use Rattle.collector.proofs.InOrder.{next, released}
-use Rattle.collector.proofs.laws.blocks_are_released_in_order.Goals as goal
-
-pub returns-clause-next : goal.returns-clause-next
-returns-clause-next c = next
-
-pub returns-clause-released : goal.returns-clause-released
-returns-clause-released c = released
