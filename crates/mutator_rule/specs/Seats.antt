@@ -1,5 +1,5 @@
 -- What a contract says of a seat.
-use Rattle.std.specs.Prelude.{◌≡◌, List, All, false, replicate}
+use Rattle.std.specs.Prelude.{◌≡◌, ℕ, List, All}
 use Rattle.sessions.specs.Plans.{Rules}
 use Rattle.mutator_core.specs.declared.state.Local.{Local}
 use Rattle.mutator_core.specs.Machine.{Epoch}
@@ -7,6 +7,7 @@ use Rattle.mutator_rule.specs.declared.racing_row.RacingRow.{RacingRow}
 use Rattle.mutator_rule.specs.declared.seat.MutatorSeat.{MutatorSeat}
 use Rattle.mutator_rule.specs.declared.views.EpochStart.{EpochStart}
 use Rattle.mutator_rule.specs.declared.views.MutatorView.{MutatorView}
+use Rattle.mutator_rule.specs.FirstNotes.{AreFirstNotes}
 use Rattle.mutator_rule.specs.Views.{first_of, start_in, epoch_with}
 use Rattle.mutator_rule.specs.Logs.{KnowsLog}
 
@@ -39,6 +40,12 @@ AreSeatsOf rules row seats = All (IsSeatOf rules row) seats
 abbrev pub AreAtRow : {P : Type 0} → RacingRow P → List MutatorSeat → Type 0
 AreAtRow row seats = All (IsAtRow row) seats
 
--- the seat has a flag for each block of the heap, of which none is set
-abbrev pub HasNoFlagSet : {P : Type 0} → RacingRow P → MutatorSeat → Type 0
-HasNoFlagSet row seat = seat.flags.items ≡ replicate row.layout.blocks false
+-- the mutator's notes are those of the epoch's beginning
+abbrev pub HasFirstNotes : {P : Type 0} → RacingRow P → ℕ → MutatorSeat → Type 0
+HasFirstNotes row allowance seat = AreFirstNotes row.layout.blocks allowance seat.notes
+
+-- From the one state to the other the mutator changed at most its notes.
+pub record KeepsKnown (old new : MutatorSeat) : Type 0 where
+  pub known_stays : known new ≡ known old
+  pub table : new.seat.table_id ≡ old.seat.table_id
+  pub registers : new.registers ≡ old.registers

@@ -1,6 +1,6 @@
 //! How mutators begin to share a row, and how they end.
 
-ghost use Rattle.std.specs.Prelude.{◌≡◌, ◌⊎◌, ℕ, ◌<◌, List, All, IfOk, false, length, map, replicate};
+ghost use Rattle.std.specs.Prelude.{◌≡◌, ◌⊎◌, ℕ, ◌<◌, List, All, IfOk, length, map};
 ghost use Rattle.ideal_heap.specs.Ideal.{IdealHeap};
 ghost use Rattle.object_model.specs.Graphs.{AreDifferent, Represents, numbers_of};
 ghost use Rattle.mutator_core.specs.Epochs.{EpochMayBegin};
@@ -9,28 +9,18 @@ ghost use lib.ListN.{get_elem?};
 ghost use Rattle.mutator_calls.specs.declared.need.Mutator.{Mutator};
 ghost use Rattle.mutator_rule.specs.Views.{start_with, epoch_with, first_view, first_views, first_views_of};
 ghost use Rattle.mutator_rule.specs.Logs.{EndsWith, KnowsLog};
-ghost use Rattle.mutator_rule.specs.Seats.{known, AreSeatsOf, AreAtRow, HasNoFlagSet, start_of};
+ghost use Rattle.mutator_rule.specs.Seats.{known, AreSeatsOf, AreAtRow, HasFirstNotes, start_of};
 
 use crate::racing_row::RacingRow;
 use crate::rule::{Deal, EpochRules, Gather};
 use crate::seat::MutatorSeat;
+use crate::seat_notes::first_notes;
 use crate::views::{RowKey, SeatView};
 use heap_layout::Layout;
 use mutator_calls::Mutator;
 use shared_row::{RowSeat, WordRow};
 use std::alloc::{AllocError, Global};
 use std::snapshot::Snapshot;
-
-/// A flag for each block, none set.
-fn no_flags(alloc: Global, blocks: u32) -> Result<Vec<bool>, AllocError>
-    ensures { IfOk result (λ v. v.items ≡ replicate blocks false) }
-{
-    let mut flags = Vec::with_capacity(alloc, blocks as usize)?;
-    for _ in 0..blocks {
-        flags.push(false)?;
-    }
-    Ok(flags)
-}
 
 impl<P: EpochRules> RacingRow<P> {
     /// A seat for each mutator, with a view of the first seat's.
@@ -39,6 +29,7 @@ impl<P: EpochRules> RacingRow<P> {
         alloc: Global,
         mut chief: RowSeat<SeatView>,
         mutators: &Vec<Mutator>,
+        allowance: u32,
     ) -> Result<Vec<MutatorSeat>, AllocError>
         requires own { chief.table_id ≡ self.now.row.words.table_id }
         requires views { chief.me.0 ≡ first_views_of (start_of self.now) mutators.now.items }
@@ -47,11 +38,11 @@ impl<P: EpochRules> RacingRow<P> {
             (first_view (start_of self.now) m) }
         ensures own { IfOk result (λ v. AreSeatsOf P.rules self.now v.items) }
         ensures views { IfOk result (λ v. map known v.items ≡ chief.me.0) }
-        ensures flags { IfOk result (λ v. All (HasNoFlagSet self.now) v.items) }
+        ensures notes { IfOk result (λ v. All (HasFirstNotes self.now allowance) v.items) }
     {
         let mut seats = Vec::new(alloc);
         for i in 0..mutators.len() {
-            let flags = no_flags(alloc, self.layout.blocks())?;
+            let notes = first_notes(alloc, self.layout.blocks(), allowance)?;
             let seat = self.row.words.split::<Deal>(&mut chief);
             let Mutator {
                 number,
@@ -63,14 +54,14 @@ impl<P: EpochRules> RacingRow<P> {
                 registers,
                 number,
                 births,
-                flags,
+                notes,
             })?;
         }
         Ok(seats)
     }
 
-    /// Mutators share the row from now on. Each gets a seat, in the order of the list. Copies no
-    /// word.
+    /// Mutators share the row from now on. Each gets a seat, in the order of the list, and notes
+    /// the allowance. Copies no word.
     ///
     /// Fails if memory runs out. The row is lost then.
     pub fn begin(
@@ -80,6 +71,7 @@ impl<P: EpochRules> RacingRow<P> {
         number: u64,
         base: u64,
         mutators: &Vec<Mutator>,
+        allowance: u32,
     ) -> Result<(RacingRow<P>, Vec<MutatorSeat>), AllocError>
         requires ready { EpochMayBegin (epoch_with P.rules
             (start_with words layout.blocks number base mutators.now.items)) }
@@ -94,7 +86,7 @@ impl<P: EpochRules> RacingRow<P> {
         ensures seats { IfOk result (λ r. AreSeatsOf P.rules r.0 r.1.items) }
         ensures views { IfOk result (λ r. map known r.1.items
             ≡ first_views (start_with words layout.blocks number base mutators.now.items)) }
-        ensures flags { IfOk result (λ r. All (HasNoFlagSet r.0) r.1.items) }
+        ensures notes { IfOk result (λ r. All (HasFirstNotes r.0 allowance) r.1.items) }
     {
         let about = RowKey {
             words: Snapshot::of(&words),
@@ -110,7 +102,7 @@ impl<P: EpochRules> RacingRow<P> {
             number,
             base,
         };
-        let seats = row.deal(alloc, chief, mutators)?;
+        let seats = row.deal(alloc, chief, mutators, allowance)?;
         Ok((row, seats))
     }
 

@@ -5,10 +5,12 @@ mod ends;
 mod racing_row;
 mod rule;
 mod seat;
+mod seat_notes;
 mod steps;
 mod views;
 
 pub use racing_row::RacingRow;
 pub use rule::{EpochRules, OneLog};
 pub use seat::MutatorSeat;
+pub use seat_notes::SeatNotes;
 pub use views::{EpochStart, MutatorView, RowKey, SeatView};

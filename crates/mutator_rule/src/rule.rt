@@ -1,4 +1,4 @@
-//! The rule of the row, and what a step tells.
+//! The rule of the row, and what a step says.
 
 ghost use Rattle.sessions.specs.Plans.{Rules};
 
@@ -38,7 +38,7 @@ impl PicksEvent for Brand {
     ghost event = { e.Poll };
 }
 
-/// A step that makes the event and tells the word that it found.
+/// A step that makes the event and gives the word that it found.
 pub(crate) struct FindsWord<P, E> {
     made: PhantomData<(P, E)>,
 }

@@ -1,22 +1,23 @@
 //! A mutator's seat.
 
-ghost use Rattle.std.specs.Prelude.{◌≡◌, ◌<◌, [], ◌∷◌, slice_index, slice_set, true};
+ghost use Rattle.std.specs.Prelude.{◌≡◌, ◌<◌, [], ◌∷◌, slice_index};
 ghost use Rattle.mutator_rule.specs.Views.{first_of};
 
+use crate::seat_notes::SeatNotes;
 use crate::views::SeatView;
 use ideal_heap::REGISTERS;
 use mutator_calls::Mutator;
 use shared_row::RowSeat;
 
-/// A mutator at a row that others share: its registers, what it knows of the row, and a flag for
-/// each block.
+/// A mutator at a row that others share: its registers, what it knows of the row, and what it notes
+/// for itself.
 #[derive(Drop)]
 pub struct MutatorSeat {
     pub(crate) seat: RowSeat<SeatView>,
     pub(crate) registers: [u32; REGISTERS],
     pub(crate) number: u32,
     pub(crate) births: u32,
-    pub(crate) flags: Vec<bool>,
+    pub(crate) notes: SeatNotes,
     ghost one: { seat.me.0 ≡ first_of seat.me.0 ∷ [] },
     ghost free: { seat.me.1 ≡ [] },
     ghost numbered: { (first_of seat.me.0).local.number ≡ number },
@@ -50,25 +51,12 @@ impl MutatorSeat {
         self.registers[register as usize]
     }
 
-    /// The flags of blocks, of which the steps of a seat set none.
+    /// What the mutator notes for itself, which the steps of a seat leave.
     #[inline(always)]
-    pub fn flags(&self) -> &Vec<bool>
-        ensures { result.now ≡ self.now.flags }
+    pub fn notes(&self) -> &SeatNotes
+        ensures { result.now ≡ self.now.notes }
     {
-        &self.flags
-    }
-
-    /// Sets the flag of a block, if the heap has it.
-    #[inline(always)]
-    pub fn set_flag(&mut self, block: usize)
-        ensures known { first_of self.new.seat.me.0 ≡ first_of self.old.seat.me.0 }
-        ensures row { self.new.seat.table_id ≡ self.old.seat.table_id }
-        ensures registers { self.new.registers ≡ self.old.registers }
-        ensures flags { self.new.flags.items ≡ slice_set self.old.flags.items block true }
-    {
-        if block < self.flags.len() {
-            self.flags[block] = true;
-        }
+        &self.notes
     }
 
     pub(crate) fn into_row_seat(self) -> RowSeat<SeatView>

@@ -1,4 +1,4 @@
-//! The atomic steps of a seat. Each makes the event that it is handed, which has no use at run time.
+//! The atomic steps of a seat. Each makes the event that it is handed, without use at run time.
 
 ghost use Rattle.std.specs.Prelude.{◌≡◌, ◌<◌, ◌+◌, ◌%◌, ◌^◌, ◌==◌, ℕ, slice_set, bit_or, bit_and};
 ghost use prog.Atomic.{either};
@@ -32,7 +32,7 @@ impl<P: EpochRules> RacingRow<P> {
             ≡ (local_of me.old).births }
         requires inside { at < self.now.row.words.table_id.words }
         ensures own { IsSeatOf P.rules self.now me.new }
-        ensures flags { me.new.flags ≡ me.old.flags }
+        ensures notes { me.new.notes ≡ me.old.notes }
         ensures registers { me.new.registers ≡ me.old.registers }
         ensures step { MakesStep P.rules (known me.old) E.event result (known me.new) }
     {
@@ -56,7 +56,7 @@ impl<P: EpochRules> RacingRow<P> {
             ≡ (local_of me.old).births }
         requires inside { at < self.now.row.words.table_id.words }
         ensures own { IsSeatOf P.rules self.now me.new }
-        ensures flags { me.new.flags ≡ me.old.flags }
+        ensures notes { me.new.notes ≡ me.old.notes }
         ensures registers { me.new.registers ≡ me.old.registers }
         ensures step { MakesStep P.rules (known me.old) event.now result (known me.new) }
     {
@@ -87,7 +87,7 @@ impl<P: EpochRules> RacingRow<P> {
         requires inside { at < self.now.row.words.table_id.words }
         requires register { d < REGISTERS }
         ensures own { IsSeatOf P.rules self.now me.new }
-        ensures flags { me.new.flags ≡ me.old.flags }
+        ensures notes { me.new.notes ≡ me.old.notes }
         ensures registers { me.new.registers ≡ slice_set me.old.registers d result }
         ensures step { MakesStep P.rules (known me.old) E.event result (known me.new) }
     {
@@ -114,7 +114,7 @@ impl<P: EpochRules> RacingRow<P> {
         requires inside { at < self.now.row.words.table_id.words }
         requires register { d < REGISTERS }
         ensures own { IsSeatOf P.rules self.now me.new }
-        ensures flags { me.new.flags ≡ me.old.flags }
+        ensures notes { me.new.notes ≡ me.old.notes }
         ensures registers { me.new.registers ≡ slice_set me.old.registers d result }
         ensures step { MakesStep P.rules (known me.old) event.now result (known me.new) }
     {
@@ -146,7 +146,7 @@ impl<P: EpochRules> RacingRow<P> {
         requires inside { at < self.now.row.words.table_id.words }
         requires register { d < REGISTERS }
         ensures own { IsSeatOf P.rules self.now me.new }
-        ensures flags { me.new.flags ≡ me.old.flags }
+        ensures notes { me.new.notes ≡ me.old.notes }
         ensures registers { me.new.registers ≡ slice_set me.old.registers d value }
         ensures step { (found : ℕ)
             × MakesStep P.rules (known me.old) E.event found (known me.new) }
@@ -173,7 +173,7 @@ impl<P: EpochRules> RacingRow<P> {
         requires inside { at < self.now.row.words.table_id.words }
         requires register { d < REGISTERS }
         ensures own { IsSeatOf P.rules self.now me.new }
-        ensures flags { me.new.flags ≡ me.old.flags }
+        ensures notes { me.new.notes ≡ me.old.notes }
         ensures registers { me.new.registers ≡ slice_set me.old.registers d value }
         ensures step { (found : ℕ)
             × MakesStep P.rules (known me.old) event.now found (known me.new) }
@@ -198,7 +198,7 @@ impl<P: EpochRules> RacingRow<P> {
             ≡ (local_of me.old).births }
         requires inside { at < self.now.row.words.table_id.words }
         ensures own { IsSeatOf P.rules self.now me.new }
-        ensures flags { me.new.flags ≡ me.old.flags }
+        ensures notes { me.new.notes ≡ me.old.notes }
         ensures registers { me.new.registers ≡ me.old.registers }
         ensures step { (found : ℕ)
             × MakesStep P.rules (known me.old) E.event found (known me.new) }
@@ -225,7 +225,7 @@ impl<P: EpochRules> RacingRow<P> {
             ≡ (local_of me.old).births }
         requires inside { at < self.now.row.words.table_id.words }
         ensures own { IsSeatOf P.rules self.now me.new }
-        ensures flags { me.new.flags ≡ me.old.flags }
+        ensures notes { me.new.notes ≡ me.old.notes }
         ensures registers { me.new.registers ≡ me.old.registers }
         ensures step { (found : ℕ)
             × MakesStep P.rules (known me.old) event.now found (known me.new) }
@@ -257,7 +257,7 @@ impl<P: EpochRules> RacingRow<P> {
             ≡ (local_of me.old).births }
         requires inside { at < self.now.row.words.table_id.words }
         ensures own { IsSeatOf P.rules self.now me.new }
-        ensures flags { me.new.flags ≡ me.old.flags }
+        ensures notes { me.new.notes ≡ me.old.notes }
         ensures registers { me.new.registers ≡ me.old.registers }
         ensures step { MakesStep P.rules (known me.old) E.event result (known me.new) }
     {
@@ -290,7 +290,7 @@ impl<P: EpochRules> RacingRow<P> {
             ≡ (local_of me.old).births }
         requires inside { at < self.now.row.words.table_id.words }
         ensures own { IsSeatOf P.rules self.now me.new }
-        ensures flags { me.new.flags ≡ me.old.flags }
+        ensures notes { me.new.notes ≡ me.old.notes }
         ensures registers { me.new.registers ≡ me.old.registers }
         ensures step { MakesStep P.rules (known me.old) event.now result (known me.new) }
     {
@@ -314,7 +314,7 @@ impl<P: EpochRules> RacingRow<P> {
             ≡ (local_of me.old).births }
         requires inside { at < self.now.row.words.table_id.words }
         ensures own { IsSeatOf P.rules self.now me.new }
-        ensures flags { me.new.flags ≡ me.old.flags }
+        ensures notes { me.new.notes ≡ me.old.notes }
         ensures registers { me.new.registers ≡ me.old.registers }
         ensures step { MakesStep P.rules (known me.old) E.event result (known me.new) }
     {
@@ -340,7 +340,7 @@ impl<P: EpochRules> RacingRow<P> {
             ≡ (local_of me.old).births }
         requires inside { at < self.now.row.words.table_id.words }
         ensures own { IsSeatOf P.rules self.now me.new }
-        ensures flags { me.new.flags ≡ me.old.flags }
+        ensures notes { me.new.notes ≡ me.old.notes }
         ensures registers { me.new.registers ≡ me.old.registers }
         ensures step { MakesStep P.rules (known me.old) event.now result (known me.new) }
     {
@@ -370,7 +370,7 @@ impl<P: EpochRules> RacingRow<P> {
             ≡ (local_of me.old).births }
         requires inside { at < self.now.row.words.table_id.words }
         ensures own { IsSeatOf P.rules self.now me.new }
-        ensures flags { me.new.flags ≡ me.old.flags }
+        ensures notes { me.new.notes ≡ me.old.notes }
         ensures registers { me.new.registers ≡ me.old.registers }
         ensures step { MakesStep P.rules (known me.old) E.event result (known me.new) }
     {
@@ -396,7 +396,7 @@ impl<P: EpochRules> RacingRow<P> {
             ≡ (local_of me.old).births }
         requires inside { at < self.now.row.words.table_id.words }
         ensures own { IsSeatOf P.rules self.now me.new }
-        ensures flags { me.new.flags ≡ me.old.flags }
+        ensures notes { me.new.notes ≡ me.old.notes }
         ensures registers { me.new.registers ≡ me.old.registers }
         ensures step { MakesStep P.rules (known me.old) event.now result (known me.new) }
     {
@@ -426,7 +426,7 @@ impl<P: EpochRules> RacingRow<P> {
             ≡ (local_of me.old).births }
         requires inside { at < self.now.row.words.table_id.words }
         ensures own { IsSeatOf P.rules self.now me.new }
-        ensures flags { me.new.flags ≡ me.old.flags }
+        ensures notes { me.new.notes ≡ me.old.notes }
         ensures registers { me.new.registers ≡ me.old.registers }
         ensures step { MakesStep P.rules (known me.old) E.event result (known me.new) }
     {
@@ -452,7 +452,7 @@ impl<P: EpochRules> RacingRow<P> {
             ≡ (local_of me.old).births }
         requires inside { at < self.now.row.words.table_id.words }
         ensures own { IsSeatOf P.rules self.now me.new }
-        ensures flags { me.new.flags ≡ me.old.flags }
+        ensures notes { me.new.notes ≡ me.old.notes }
         ensures registers { me.new.registers ≡ me.old.registers }
         ensures step { MakesStep P.rules (known me.old) event.now result (known me.new) }
     {
@@ -486,7 +486,7 @@ impl<P: EpochRules> RacingRow<P> {
         requires inside { at < self.now.row.words.table_id.words }
         requires register { d < REGISTERS }
         ensures own { IsSeatOf P.rules self.now me.new }
-        ensures flags { me.new.flags ≡ me.old.flags }
+        ensures notes { me.new.notes ≡ me.old.notes }
         ensures registers { me.new.registers ≡ slice_set me.old.registers d address }
         ensures births { me.new.births ≡ me.old.births + 1 }
         ensures step { (found : ℕ)
@@ -527,7 +527,7 @@ impl<P: EpochRules> RacingRow<P> {
         requires inside { at < self.now.row.words.table_id.words }
         requires register { d < REGISTERS }
         ensures own { IsSeatOf P.rules self.now me.new }
-        ensures flags { me.new.flags ≡ me.old.flags }
+        ensures notes { me.new.notes ≡ me.old.notes }
         ensures registers { me.new.registers ≡ slice_set me.old.registers d address }
         ensures births { me.new.births ≡ me.old.births + 1 }
         ensures step { (found : ℕ)

@@ -27,7 +27,7 @@ pub struct MutatorView {
 /// The views that a seat of the row has: one, but while an epoch begins or ends.
 pub type SeatView = LinkedList<MutatorView>;
 
-/// What the row's rule is told once.
+/// What the row's rule knows from the beginning.
 #[derive(Drop)]
 pub struct RowKey {
     pub words: Snapshot<WordRow>,

@@ -149,7 +149,7 @@ pub(crate) fn reply_to<P: Plan>(
     }
 }
 
-/// A number that tells replies apart.
+/// A number by which replies differ.
 pub(crate) fn code_of(reply: &Reply) -> u64 {
     match *reply {
         Reply::Nil => 1,

@@ -40,6 +40,7 @@ use Rattle.racing_world.proofs.Pinned.{blocks-same}
 use Rattle.mutator_rule.proofs.StepsSeen.{step-entries}
 use Rattle.racing_world.specs.declared.racing.Racing.{Racing}
 use Rattle.racing_world.specs.Logged.{logged_seen}
+use Rattle.racing_world.specs.Rooms.{KeepsRooms}
 use Rattle.racing_world.specs.RacingSeats.{view, local, holdings, logged_at, address, epoch_of_racing, heap_seen, HasFlags, IsAged, IsMarked, MayStoreUnlogged, OnlyLoads, DoesEffect, IsReady}
 use Rattle.racing_world.specs.Barriers.{LogsWhereNeeded, NeedsNoLog}
 use Rattle.racing_world.proofs.Logged.{step-logged, flags-grown}
@@ -138,14 +139,14 @@ register-address rules a ready s at few some is =
     subst (λ b. IsAddress b at) (sym (blocks-same rules a ready)) (subst (IsAddress (epoch_of_racing rules a).before.blocks) (loc ∙ sym is) held.address)
 
 -- there is a flag for each block
-pub has-block : {P : Type 0} (rules : Rules) (a : Racing P) (ready : IsReady rules a) (block : ℕ) → block < a.row.now.layout.blocks → HasFlags rules a.seat.now → block < length a.seat.now.flags.items
+pub has-block : {P : Type 0} (rules : Rules) (a : Racing P) (ready : IsReady rules a) (block : ℕ) → block < a.row.now.layout.blocks → HasFlags rules a.seat.now → block < length a.seat.now.notes.flags.items
 has-block rules a ready block within has = subst (λ n. block < n) (blocks-same rules a ready ∙ sym has.len) within
 
 -- the barrier and the store after it
-pub log-store-does : {P : Type 0} (rules : Rules) (a b : Racing P) (mid last : MutatorView) (s i v n k block : ℕ) → b.seat.ghost_name ≡ a.seat.ghost_name → b.row ≡ a.row
-    → b.seat.now.flags.items ≡ slice_set a.seat.now.flags.items block true → block ≡ block_at (epoch_of_racing rules a).before.blocks (address a s) → (HasFlags rules a.seat.now → block < length a.seat.now.flags.items)
+pub log-store-does : {P : Type 0} (rules : Rules) (a b : Racing P) (mid last : MutatorView) (s i v n k block : ℕ) → b.seat.ghost_name ≡ a.seat.ghost_name → b.row ≡ a.row → KeepsRooms a.seat.now.notes b.seat.now.notes
+    → b.seat.now.notes.flags.items ≡ slice_set a.seat.now.notes.flags.items block true → block ≡ block_at (epoch_of_racing rules a).before.blocks (address a s) → (HasFlags rules a.seat.now → block < length a.seat.now.notes.flags.items)
     → MakesStep rules (view a) (e.ClearUnlog s) n mid → MakesStep rules mid (e.Perform (c.Put s i v)) k last → view b ≡ last → DoesEffect rules a (logs (address a s ∷ []) (c.Put s i v) r.Done) b
-log-store-does rules a b mid last s i v n k block seat row flags here few one stored same = record {
+log-store-does rules a b mid last s i v n k block seat row rooms flags here few one stored same = record {
   makes = record {
     seat = seat;
     row = row;
@@ -157,6 +158,7 @@ log-store-does rules a b mid last s i v n k block seat row flags here few one st
   logged = grown;
   raised = ap (λ (l : Local). l.raised) two.local ∙ ap (λ (l : Local). l.raised) one.local ∙ sym (or-false (local a).raised);
   kept = ap holdings two.local ∙ ap holdings one.local;
+  rooms = rooms;
 }
   where
     two : MakesStep rules mid (e.Perform (c.Put s i v)) k (view b)

@@ -1,5 +1,5 @@
 -- The world as an epoch begins, and lists of its seats.
-use Rattle.std.proofs.Common.{◌≡◌, ◌∙◌, refl, sym, ap, subst, ℕ, zero, suc, ◌<◌, ◌≤◌, IsTrue, List, [], ◌∷◌, ◌++◌, length, map, take, arith}
+use Rattle.std.proofs.Common.{◌≡◌, ◌∙◌, refl, sym, ap, subst, ℕ, zero, suc, ◌<◌, ◌≤◌, IsTrue, List, [], ◌∷◌, ◌++◌, length, map, take, arith, inr}
 use Rattle.std.specs.List.{All, Contains}
 use Rattle.std.specs.Prelude.{Bool, true, false, Some, None, replicate, slice_get}
 use Rattle.std.proofs.lemmas.List.{length-map, length-replicate}
@@ -23,13 +23,23 @@ use Rattle.mutator_rule.specs.declared.racing_row.RacingRow.{RacingRow}
 use Rattle.mutator_rule.specs.declared.seat.MutatorSeat.{MutatorSeat}
 use Rattle.mutator_rule.specs.declared.views.EpochStart.{EpochStart}
 use Rattle.mutator_rule.specs.declared.views.MutatorView.{MutatorView}
-use Rattle.mutator_rule.specs.Views.{first_view}
+use Rattle.mutator_rule.specs.Views.{first_view, epoch_with}
 use Rattle.mutator_rule.proofs.Loops.{get-or-elem}
 use Rattle.mutator_core.specs.Machine.{mutator_of}
 use Rattle.mutator_rule.specs.Logs.{history_seen, own_entries}
-use Rattle.mutator_rule.specs.Seats.{known, IsSeatOf, HasNoFlagSet, start_of}
+use Rattle.mutator_rule.specs.Seats.{known, IsSeatOf, HasFirstNotes, start_of}
 use Rattle.mutator_core.proofs.Lists.{contains-none}
 use Rattle.racing_world.specs.Logged.{logged_seen}
+use Rattle.mutator_core.specs.Guards.{allowance}
+use Rattle.mutator_core.specs.Logs.{heap_after}
+use Rattle.block_regions.proofs.NoteLemmas.{small-hole}
+use Rattle.block_regions.proofs.Lists.{get-copy}
+use Rattle.block_regions.specs.declared.block_notes.BlockNote.{BlockNote}
+use Rattle.block_regions.specs.declared.block_notes.BlockNote.TheVariants.{Unowned, Owned}
+use Rattle.local_allocators.specs.declared.local_seat.LocalSeat.{LocalSeat}
+use Rattle.mutator_rule.specs.declared.seat_notes.SeatNotes.{SeatNotes}
+use Rattle.mutator_rule.specs.FirstNotes.{AreFirstNotes, first_local_seat}
+use Rattle.racing_world.specs.Rooms.{HasRoomsIn, holdings}
 use Rattle.racing_world.specs.RacingSeats.{MayCall}
 use Rattle.racing_world.specs.Calls.{number_of, IsFresh}
 use Rattle.racing_world.specs.Closing.{mutator_at}
@@ -58,7 +68,28 @@ first-known x xs g m ms e = let t : known x ∷ map known xs ≡ first_view g m 
 none-known : (x : MutatorSeat) (xs : List MutatorSeat) (g : EpochStart) → map known (x ∷ xs) ≡ map (first_view g) [] → ⊥
 none-known x xs g e = let t : known x ∷ map known xs ≡ [] = e in cc
 
-pub first-calls : {P : Type 0} (rules : Rules) (row : RacingRow P) (g : EpochStart) (xs : List MutatorSeat) (ms : List Mutator) → All (IsSeatOf rules row) xs → map known xs ≡ map (first_view g) ms → start_of row ≡ g → All (HasNoFlagSet row) xs → All (MayCall rules row) xs
+-- the notes of the beginning are right
+pub first-rooms : (rules : Rules) (g : EpochStart) (m : Mutator) (n : SeatNotes) (v : MutatorView) → first_view g m ≡ v → (blocks : ℕ) → blocks ≡ g.blocks → AreFirstNotes blocks (allowance (epoch_with rules g)) n
+    → HasRoomsIn (epoch_with rules v.start) (heap_after (epoch_with rules v.start) v.seen) (holdings v.local) n.blocks.items n.local n.allowance
+first-rooms rules g m n v is blocks same first =
+    subst (λ (u : MutatorView). HasRoomsIn (epoch_with rules u.start) (heap_after (epoch_with rules u.start) u.seen) (holdings u.local) n.blocks.items n.local n.allowance) is (record {
+      allows = first.allowed;
+      ticket = ap (λ (l : LocalSeat). l.ticket) first.local;
+      len = ap (λ (xs : List BlockNote). length xs) first.blocks_noted ∙ length-replicate blocks (Unowned 4097) ∙ same;
+      unowned = λ k least note. inr (λ at size more hole. small-hole rules.fill (epoch_with rules g).before k at size
+          (let e : Unowned least ≡ Unowned 4097 = get-copy blocks (Unowned 4097) (Unowned least) k (ap (λ (xs : List BlockNote). slice_get xs k) (sym first.blocks_noted) ∙ note) in
+          let few : least ≡ 4097 = cc in omega arith) hole);
+      owned = λ k owner region note. absurd (
+          let wrong : Owned owner region ≡ Unowned 4097 = get-copy blocks (Unowned 4097) (Owned owner region) k (ap (λ (xs : List BlockNote). slice_get xs k) (sym first.blocks_noted) ∙ note) in cc);
+      classes = ap (λ (l : LocalSeat). length l.blocks) first.local;
+      each = λ class k note. absurd (none-there class k (ap (λ (l : LocalSeat). slice_get l.blocks class) (sym first.local) ∙ note));
+      over = λ k note. absurd (let wrong : None ≡ Some k = ap (λ (l : LocalSeat). l.over) (sym first.local) ∙ note in cc);
+    })
+  where
+    none-there : (class k : ℕ) → slice_get (first_local_seat).blocks class ≡ Some (Some k) → ⊥
+    none-there class k note = let wrong : Some k ≡ None = get-copy 19 None (Some k) class note in cc
+
+pub first-calls : {P : Type 0} (rules : Rules) (row : RacingRow P) (g : EpochStart) (xs : List MutatorSeat) (ms : List Mutator) → All (IsSeatOf rules row) xs → map known xs ≡ map (first_view g) ms → start_of row ≡ g → All (HasFirstNotes row (allowance (epoch_with rules g))) xs → All (MayCall rules row) xs
 first-calls rules row g [] ms own e same flags = All-nil (MayCall rules row)
 first-calls rules row g (x ∷ xs) [] own e same flags = absurd (none-known x xs g e)
 first-calls rules row g (x ∷ xs) (m ∷ ms) own e same flags =
@@ -70,11 +101,12 @@ first-calls rules row g (x ∷ xs) (m ∷ ms) own e same flags =
         stored = ap (λ (v : MutatorView). v.local.pending) is.0;
       },
       record {
-        len = ap (λ (fs : List Bool). length fs) (All-head (HasNoFlagSet row) x xs flags) ∙ length-replicate row.layout.blocks false ∙ ap (λ l. l.blocks) row.laid ∙ ap (λ (h : EpochStart). h.blocks) same ∙ ap (λ (v : MutatorView). v.start.blocks) (sym is.0);
+        len = ap (λ (fs : List Bool). length fs) (All-head (HasFirstNotes row (allowance (epoch_with rules g))) x xs flags).flags ∙ length-replicate row.layout.blocks false ∙ ap (λ l. l.blocks) row.laid ∙ ap (λ (h : EpochStart). h.blocks) same ∙ ap (λ (v : MutatorView). v.start.blocks) (sym is.0);
         each = λ a there. absurd (contains-none a (subst (λ ls. Contains ls a) (ap (logged_seen rules) is.0) there));
       },
       record { each = λ o there free. absurd (contains-none o (subst (λ (os : List OwnedBlock). Contains os o) (ap (λ (v : MutatorView). v.local.owned) is.0) there)) },
-    )) (first-calls rules row g xs ms (All-tail (IsSeatOf rules row) x xs own) is.1 same (All-tail (HasNoFlagSet row) x xs flags))
+      first-rooms rules g m x.notes (known x) (sym is.0) row.layout.blocks (ap (λ l. l.blocks) row.laid ∙ ap (λ (h : EpochStart). h.blocks) same) (All-head (HasFirstNotes row (allowance (epoch_with rules g))) x xs flags),
+    )) (first-calls rules row g xs ms (All-tail (IsSeatOf rules row) x xs own) is.1 same (All-tail (HasFirstNotes row (allowance (epoch_with rules g))) x xs flags))
 
 none-set : (n k : ℕ) → slice_get (replicate n false) k ≡ Some true → ⊥
 none-set zero k e = let wrong : None ≡ Some true = e in cc
@@ -83,7 +115,7 @@ none-set (suc n) (suc k) e = none-set n k e
 
 -- a seat has so many flags, none set
 abbrev pub NoneOf : ℕ → MutatorSeat → Type 0
-NoneOf n seat = seat.flags.items ≡ replicate n false
+NoneOf n seat = seat.notes.flags.items ≡ replicate n false
 
 pub first-fresh : (rules : Rules) (n : ℕ) (g : EpochStart) (xs : List MutatorSeat) (ms : List Mutator) → map known xs ≡ map (first_view g) ms → All (NoneOf n) xs → All (IsFresh rules) xs
 first-fresh rules n g [] ms e flags = All-nil (IsFresh rules)

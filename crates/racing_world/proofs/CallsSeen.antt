@@ -26,6 +26,8 @@ use Rattle.mutator_rule.specs.Logs.{MakesEntries, history_seen, own_entries}
 use Rattle.mutator_rule.specs.Seats.{start_of}
 use Rattle.racing_world.specs.declared.racing.Racing.{Racing}
 use Rattle.racing_world.specs.declared.world.World.{World}
+use Rattle.racing_world.specs.Rooms.{HasRooms, KeepsRooms}
+use Rattle.racing_world.proofs.RoomsKept.{rooms-kept}
 use Rattle.racing_world.specs.RacingSeats.{entries_in, view, local, epoch_of_racing, Holdings, holdings, UsesItsBlocks, MayCall, IsAtRest, HasFlags, IsReady, Makes, DoesEffect}
 use Rattle.racing_world.specs.SeatLaws.{or-false}
 use Rattle.racing_world.specs.Calls.{epoch_of_world, SeesMore, EntersOnce, EntersCommand, EntersNothing}
@@ -67,7 +69,7 @@ pub uses-kept : (rules : Rules) (a b : MutatorView) → b.start ≡ a.start → 
 uses-kept rules a b start same uses = subst (λ (g : EpochStart). UsesItsBlocks (epoch_with rules g) (holdings b.local)) (sym start)
     (subst (λ (h : Holdings). UsesItsBlocks (epoch_with rules a.start) h) (sym same) uses)
 
-module _ {P : Type 0} (rules : Rules) (w : World P) (a b : Racing P) (here : a.row.now ≡ w.row) (ready : IsReady rules b) (has : HasFlags rules a.seat.now) (uses : UsesItsBlocks (epoch_of_racing rules b) (holdings (local b)))
+module _ {P : Type 0} (rules : Rules) (w : World P) (a b : Racing P) (here : a.row.now ≡ w.row) (ready : IsReady rules b) (has : HasFlags rules a.seat.now) (uses : UsesItsBlocks (epoch_of_racing rules b) (holdings (local b))) (rooms : HasRooms rules b.seat.now)
     (es : List Entry) (made : Makes rules a es b) where
   abbrev p : Epoch
   p = epoch_with rules (view a).start
@@ -93,7 +95,7 @@ module _ {P : Type 0} (rules : Rules) (w : World P) (a b : Racing P) (here : a.r
   row-same = ap (λ r. r.now) made.row ∙ here
 
   call : MayCall rules w.row b.seat.now
-  call = (subst (λ r. IsAtRest rules r b.seat.now) row-same ready, made.flags has, uses)
+  call = (subst (λ r. IsAtRest rules r b.seat.now) row-same ready, made.flags has, uses, rooms)
 
   pub sees-more : SeesMore rules w a.seat.now since b.seat.now
   sees-more = record {
@@ -109,42 +111,43 @@ module _ {P : Type 0} (rules : Rules) (w : World P) (a b : Racing P) (here : a.r
   }
 
 module _ {P : Type 0} (rules : Rules) (w : World P) (a b : Racing P) (here : a.row.now ≡ w.row) (ready : IsReady rules b) (has : HasFlags rules a.seat.now) where
-  pub enters-one : (command : Command) (reply : Reply) → Makes rules a (entry (local a).number command reply ∷ []) b → UsesItsBlocks (epoch_of_racing rules b) (holdings (local b)) → (local b).raised ≡ (local a).raised
+  pub enters-one : (command : Command) (reply : Reply) → Makes rules a (entry (local a).number command reply ∷ []) b → UsesItsBlocks (epoch_of_racing rules b) (holdings (local b)) → HasRooms rules b.seat.now → (local b).raised ≡ (local a).raised
       → EntersOnce rules w a.seat.now command reply b.seat.now
-  enters-one command reply made used raised =
+  enters-one command reply made used rooms raised =
       let es : List Entry = entry (local a).number command reply ∷ [] in
-      let once : StandsOnce (local a).number (since rules w a b here ready has used es made) (entry (local a).number command reply) = stands-once (local a).number (since rules w a b here ready has used es made) _ (own-since rules w a b here ready has used es made) in
+      let once : StandsOnce (local a).number (since rules w a b here ready has used rooms es made) (entry (local a).number command reply) = stands-once (local a).number (since rules w a b here ready has used rooms es made) _ (own-since rules w a b here ready has used rooms es made) in
       record {
         before = once.before;
         after = once.after;
-        sees = subst (λ xs. SeesMore rules w a.seat.now xs b.seat.now) once.is (sees-more rules w a b here ready has used es made);
+        sees = subst (λ xs. SeesMore rules w a.seat.now xs b.seat.now) once.is (sees-more rules w a b here ready has used rooms es made);
         others_before = once.none_before;
         others_after = once.none_after;
         calls = made.goes.own;
         raised = raised;
       }
 
-  pub enters-none : Makes rules a [] b → UsesItsBlocks (epoch_of_racing rules b) (holdings (local b)) → EntersNothing rules w a.seat.now b.seat.now
-  enters-none made used = record {
-    since = since rules w a b here ready has used [] made;
-    sees = sees-more rules w a b here ready has used [] made;
-    others = own-since rules w a b here ready has used [] made;
+  pub enters-none : Makes rules a [] b → UsesItsBlocks (epoch_of_racing rules b) (holdings (local b)) → HasRooms rules b.seat.now → EntersNothing rules w a.seat.now b.seat.now
+  enters-none made used rooms = record {
+    since = since rules w a b here ready has used rooms [] made;
+    sees = sees-more rules w a b here ready has used rooms [] made;
+    others = own-since rules w a b here ready has used rooms [] made;
     calls = made.goes.own ∙ append-nil (own_entries rules (view a));
   }
 
 -- the same of calls that allocate nothing
-module _ {P : Type 0} (rules : Rules) (w : World P) (a b : Racing P) (here : a.row.now ≡ w.row) (ready : IsReady rules b) (has : HasFlags rules a.seat.now) (uses : UsesItsBlocks (epoch_of_racing rules a) (holdings (local a))) where
+module _ {P : Type 0} (rules : Rules) (w : World P) (a b : Racing P) (here : a.row.now ≡ w.row) (ready : IsReady rules b) (has : HasFlags rules a.seat.now) (uses : UsesItsBlocks (epoch_of_racing rules a) (holdings (local a))) (rooms : HasRooms rules a.seat.now) where
   pub enters-command : (effect : Effect) (command : Command) (reply : Reply) → entries_in (local a).number effect ≡ entry (local a).number command reply ∷ [] → effect.raised ≡ false
       → DoesEffect rules a effect b → EntersCommand rules w a.seat.now command reply b.seat.now
   enters-command effect command reply is quiet does =
       let made : Makes rules a (entry (local a).number command reply ∷ []) b = subst (λ xs. Makes rules a xs b) is does.makes in (
         enters-one rules w a b here ready has command reply made (uses-kept rules (view a) (view b) made.goes.start does.kept uses)
+            (rooms-kept rules a.seat.now b.seat.now _ made.goes ready.own.2 does.kept does.rooms rooms)
             (does.raised ∙ ap (λ v. (local a).raised || v) quiet ∙ or-false (local a).raised),
         does.kept,
       )
 
-  pub enters-nothing : Makes rules a [] b → holdings (local b) ≡ holdings (local a) → EntersNothing rules w a.seat.now b.seat.now
-  enters-nothing made same = enters-none rules w a b here ready has made (uses-kept rules (view a) (view b) made.goes.start same uses)
+  pub enters-nothing : Makes rules a [] b → holdings (local b) ≡ holdings (local a) → KeepsRooms a.seat.now.notes b.seat.now.notes → EntersNothing rules w a.seat.now b.seat.now
+  enters-nothing made same keeps = enters-none rules w a b here ready has made (uses-kept rules (view a) (view b) made.goes.start same uses) (rooms-kept rules a.seat.now b.seat.now [] made.goes ready.own.2 same keeps rooms)
 
 -- a stop that a seat has seen was raised by a mutator of the world, which is the caller only if it tried to
 module _ {P : Type 0} (rules : Rules) (w : World P) (b : Racing P) (here : b.row.now ≡ w.row) (ready : IsReady rules b) (m : ℕ) (stop : (local b).stop ≡ m) (some : m ≢ 0) where

@@ -33,7 +33,7 @@ use Rattle.mutator_core.specs.Histories.{history}
 use Rattle.mutator_core.specs.Logs.{AreBetweenCalls, IsListed, IsTaken, IsUntaken, machine_after, heap_after, local_after_log, mutators_after, history_of}
 use Rattle.mutator_core.specs.Tickets.{taken_by, drawn_by, allowed_to, tickets_in, tickets_below, smaller}
 use Rattle.mutator_core.proofs.Beginnings.{Ends, log-ends}
-use Rattle.mutator_core.proofs.Counted.{smaller-most}
+use Rattle.racing_world.proofs.Budgets.{budget-few}
 use Rattle.mutator_core.proofs.EpochEnds.{log-counted, log-seen, log-stopped}
 use Rattle.mutator_core.proofs.GivenBack as back
 use Rattle.mutator_core.proofs.Regions.{history-append, block-owner, owner-lists}
@@ -102,11 +102,6 @@ states-mapped : (at : ℕ → Local) (seats : List MutatorSeat) → ((k : ℕ) (
     → map (λ m. mutator_of (at m)) (map number_of seats) ≡ map (λ (seat : MutatorSeat). mutator_of (local_of seat)) seats
 states-mapped at [] each = refl
 states-mapped at (x ∷ xs) each = (λ k. mutator_of (sym (each 0 x refl) k) ∷ states-mapped at xs (λ j seat e. each (suc j) seat e) k)
-
--- a ticket that may be used is a ticket
-ticket-least : (most : ℕ) (o : Option ℕ) → tickets_in o ≤ tickets_below most o + 1
-ticket-least most None = omega arith
-ticket-least most (Some t) = omega arith
 
 empty-front : {A : Type 0} (xs ys : List A) → xs ++ ys ≡ [] → xs ≡ []
 empty-front [] ys e = refl
@@ -228,14 +223,7 @@ module _ (rules : Rules) (g : EpochStart) (seats : List MutatorSeat) (row : List
   counts l = tickets_below (allowance p) l.ticket
 
   budget-most : budget ≤ allowance p + length (numbers_of p.mutators)
-  budget-most =
-      let counted = log-counted p ends.ideal log ends.epoch in
-      let all = counted.budget in
-      let good = counted.allowed in
-      let least = smaller-most budget (allowance p) in
-      let more = sum-more (λ m. drawn_by (local_after_log p log m)) (λ m. allowed_to (allowance p) (local_after_log p log m))
-      (λ m. let t = ticket-least (allowance p) (local_after_log p log m).ticket in omega arith) (numbers_of p.mutators) in
-      omega (arith, all, good, least, more)
+  budget-most = budget-few p ends.ideal log ends.epoch
 
   tickets-counted : free_of p.before + sum_by (λ (seat : MutatorSeat). counts (local_of seat)) seats ≡ free_of s + smaller budget (allowance p)
   tickets-counted =
@@ -281,6 +269,7 @@ module _ (rules : Rules) (g : EpochStart) (seats : List MutatorSeat) (row : List
         let saw = log-seen p ends.ideal log ends.epoch in
         record {
           history = part;
+          mutators = refl;
           longest = longest-seen;
           prefixes = λ k seat at. (later k seat at, grown k seat at);
           calls = calls-same;

@@ -30,10 +30,16 @@ use Rattle.mutator_rule.proofs.StepsSeen.{step-reply, step-entries}
 use Rattle.racing_world.specs.declared.racing.Racing.{Racing}
 use Rattle.racing_world.specs.Logged.{logged_by}
 use Rattle.racing_world.proofs.Logged.{step-logged, flags-kept}
+use Rattle.mutator_rule.specs.declared.seat_notes.SeatNotes.{SeatNotes}
+use Rattle.racing_world.specs.Rooms.{KeepsRooms}
 use Rattle.racing_world.specs.RacingSeats.{entries_in, view, local, holdings, logged_at, address, epoch_of_racing, heap_seen, HasName, Makes, DoesEffect}
 use Rattle.racing_world.specs.SeatLaws.{or-false}
 
-module _ {P : Type 0} (rules : Rules) (a b : Racing P) (x : Event) (n : ℕ) (seat : b.seat.ghost_name ≡ a.seat.ghost_name) (row : b.row ≡ a.row) (flags : b.seat.now.flags ≡ a.seat.now.flags) (clears : logged_by (local a) x ≡ []) (st : MakesStep rules (view a) x n (view b)) where
+-- notes that stay, stay but for their flags
+pub rooms-same : (x y : SeatNotes) → y ≡ x → KeepsRooms x y
+rooms-same x y same = subst (λ (z : SeatNotes). KeepsRooms x z) (sym same) refl
+
+module _ {P : Type 0} (rules : Rules) (a b : Racing P) (x : Event) (n : ℕ) (seat : b.seat.ghost_name ≡ a.seat.ghost_name) (row : b.row ≡ a.row) (notes : b.seat.now.notes ≡ a.seat.now.notes) (clears : logged_by (local a) x ≡ []) (st : MakesStep rules (view a) x n (view b)) where
   -- the reply of the step's entry, if it makes one
   abbrev pub reply : Reply
   reply = step-reply rules (view a) (view b) x n st
@@ -48,7 +54,7 @@ module _ {P : Type 0} (rules : Rules) (a b : Racing P) (x : Event) (n : ℕ) (se
     row = row;
     goes = step-entries rules (view a) (view b) x n st;
     stop = stop;
-    flags = flags-kept rules a.seat.now b.seat.now st.start flags logged-same;
+    flags = flags-kept rules a.seat.now b.seat.now st.start (ap (λ (v : SeatNotes). v.flags) notes) logged-same;
     told = λ is. subst (λ (h : EpochStart). KnowsLog (epoch_with rules h) (view b)) (sym st.start) st.told;
   }
 
@@ -65,6 +71,7 @@ module _ {P : Type 0} (rules : Rules) (a b : Racing P) (x : Event) (n : ℕ) (se
     logged = logged-same ∙ sym (append-nil (logged_at rules a.seat.now)) ∙ ap (λ ls. logged_at rules a.seat.now ++ ls) (sym none);
     raised = kept (λ l. l.raised) raised ∙ sym (or-false (local a).raised) ∙ ap (λ v. (local a).raised || v) (sym quiet);
     kept = kept holdings holds;
+    rooms = rooms-same a.seat.now.notes b.seat.now.notes notes;
   }
 
 -- the attempt to raise a stop
@@ -72,16 +79,17 @@ pub or-true : (b : Bool) → (b || true) ≡ true
 or-true true = refl
 or-true false = refl
 
-pub raise-does : {P : Type 0} (rules : Rules) (a b : Racing P) (n : ℕ) → b.seat.ghost_name ≡ a.seat.ghost_name → b.row ≡ a.row → b.seat.now.flags ≡ a.seat.now.flags → MakesStep rules (view a) e.Raise n (view b) → DoesEffect rules a raises b
-raise-does rules a b n seat row flags st = record {
-  makes = step-makes rules a b e.Raise n seat row flags refl st (λ some. kept rules a b e.Raise n seat row flags refl st (λ l. l.stop) refl);
-  logged = logged-same rules a b e.Raise n seat row flags refl st ∙ sym (append-nil (logged_at rules a.seat.now));
+pub raise-does : {P : Type 0} (rules : Rules) (a b : Racing P) (n : ℕ) → b.seat.ghost_name ≡ a.seat.ghost_name → b.row ≡ a.row → b.seat.now.notes ≡ a.seat.now.notes → MakesStep rules (view a) e.Raise n (view b) → DoesEffect rules a raises b
+raise-does rules a b n seat row notes st = record {
+  makes = step-makes rules a b e.Raise n seat row notes refl st (λ some. kept rules a b e.Raise n seat row notes refl st (λ l. l.stop) refl);
+  logged = logged-same rules a b e.Raise n seat row notes refl st ∙ sym (append-nil (logged_at rules a.seat.now));
   raised = ap (λ (l : Local). l.raised) st.local ∙ sym (or-true (local a).raised);
   kept = ap holdings st.local;
+  rooms = rooms-same a.seat.now.notes b.seat.now.notes notes;
 }
 
 -- commands that have no effect
-module _ {P : Type 0} (rules : Rules) (a b : Racing P) (command : Command) (n : ℕ) (seat : b.seat.ghost_name ≡ a.seat.ghost_name) (row : b.row ≡ a.row) (flags : b.seat.now.flags ≡ a.seat.now.flags) (st : MakesStep rules (view a) (e.Miss command) n (view b)) where
+module _ {P : Type 0} (rules : Rules) (a b : Racing P) (command : Command) (n : ℕ) (seat : b.seat.ghost_name ≡ a.seat.ghost_name) (row : b.row ≡ a.row) (notes : b.seat.now.notes ≡ a.seat.now.notes) (st : MakesStep rules (view a) (e.Miss command) n (view b)) where
   abbrev at : ℕ
   at = address_in (local a) (source command)
 
@@ -89,11 +97,11 @@ module _ {P : Type 0} (rules : Rules) (a b : Racing P) (command : Command) (n : 
   held = ap (λ (rs : List ℕ). slice_index rs (source command)) a.seat.now.held
 
   pub null-does : address a (source command) ≡ 0 → DoesEffect rules a (enters command r.Null) b
-  null-does nil = step-does rules a b (e.Miss command) n seat row flags refl st (enters command r.Null)
+  null-does nil = step-does rules a b (e.Miss command) n seat row notes refl st (enters command r.Null)
       (ap (λ (y : Reply). entry (local a).number command y ∷ []) (cond-true (nat_eq at 0) r.Null r.Range (eq-eqb at 0 (held ∙ nil)))) refl refl refl refl refl
 
   pub range-does : address a (source command) ≢ 0 → DoesEffect rules a (enters command r.Range) b
-  range-does some = step-does rules a b (e.Miss command) n seat row flags refl st (enters command r.Range)
+  range-does some = step-does rules a b (e.Miss command) n seat row notes refl st (enters command r.Range)
       (ap (λ (y : Reply). entry (local a).number command y ∷ []) (cond-false (nat_eq at 0) r.Null r.Range (ne_eqb at 0 (λ zero. some (sym held ∙ zero))))) refl refl refl refl refl
 
 -- a load leaves the heap
@@ -121,14 +129,14 @@ found-reply s t n same = go (nat_eq n 0)
 pub found-does : {P : Type 0} (rules : Rules) (a b : Racing P) (x : Event) (command : Command) (n d : ℕ) → entry_of x ≡ Some command
     → answer (epoch_of_racing rules a) (local a) x n ≡ Reference n → stored (epoch_of_racing rules a) (local a) x ≡ (λ k. k)
     → (local_after (epoch_of_racing rules a) (local a) x n).stop ≡ (local a).stop → (local_after (epoch_of_racing rules a) (local a) x n).raised ≡ (local a).raised
-    → holdings (local_after (epoch_of_racing rules a) (local a) x n) ≡ holdings (local a) → b.seat.ghost_name ≡ a.seat.ghost_name → b.row ≡ a.row → b.seat.now.flags ≡ a.seat.now.flags → logged_by (local a) x ≡ [] → MakesStep rules (view a) x n (view b) → address b d ≡ n
+    → holdings (local_after (epoch_of_racing rules a) (local a) x n) ≡ holdings (local a) → b.seat.ghost_name ≡ a.seat.ghost_name → b.row ≡ a.row → b.seat.now.notes ≡ a.seat.now.notes → logged_by (local a) x ≡ [] → MakesStep rules (view a) x n (view b) → address b d ≡ n
     → (y : Reply) × DoesEffect rules a (enters command y) b × IsFound (HasName rules b) (address b d) y
-found-does rules a b x command n d is told id stop raised holds seat row flags clears st at =
+found-does rules a b x command n d is told id stop raised holds seat row notes clears st at =
     let s : HeapState = heap_after (epoch_of_racing rules a) ((view a).seen ++ st.between) in
     let y : Reply = reply_in s (Reference n) in (
       y,
-      step-does rules a b x n seat row flags clears st (enters command y)
-          (ap (λ (o : Option Command). entries_with (local a).number o (reply rules a b x n seat row flags clears st)) is ∙ ap (λ (v : Answer). entry (local a).number command (reply_in s v) ∷ []) told)
+      step-does rules a b x n seat row notes clears st (enters command y)
+          (ap (λ (o : Option Command). entries_with (local a).number o (reply rules a b x n seat row notes clears st)) is ∙ ap (λ (v : Answer). entry (local a).number command (reply_in s v) ∷ []) told)
           refl refl stop raised holds,
       subst (λ v. IsFound (HasName rules b) v y) (sym at) (found-reply s (heap_seen rules b) n (load-same rules (view a) (view b) x n st id)),
     )

@@ -6,6 +6,7 @@ pub mod CallsSeen
 pub mod GivenBack
 pub mod BlockCodes
 pub mod Allocated
+pub mod Budgets
 pub mod Closed
 pub mod Barrier
 pub mod YoungPlans
@@ -13,3 +14,11 @@ pub mod Begun
 pub mod WorldEnds
 pub mod WorldLaws
 pub mod Cleared
+pub mod RoomsKept
+pub mod OwnRegions
+pub mod RoomsNoted
+pub mod Noted
+pub mod RoomsMade
+pub mod FreeTaken
+pub mod NewAnswered
+pub mod Searched

@@ -53,7 +53,7 @@ step-logged rules a b x n st =
     ∙ ap (λ (l : Local). logged_by l x) st.before)
 
 -- flags that stay are right where nothing more was logged
-pub flags-kept : (rules : Rules) (a b : MutatorSeat) → (known b).start ≡ (known a).start → b.flags ≡ a.flags → logged_at rules b ≡ logged_at rules a → HasFlags rules a → HasFlags rules b
+pub flags-kept : (rules : Rules) (a b : MutatorSeat) → (known b).start ≡ (known a).start → b.notes.flags ≡ a.notes.flags → logged_at rules b ≡ logged_at rules a → HasFlags rules a → HasFlags rules b
 flags-kept rules a b start flags logged has = record {
   len = (λ k. length (flags k).items) ∙ has.len ∙ (λ k. (epoch_with rules (sym start k)).before.blocks);
   each = λ o there. (λ k. slice_get (flags k).items (block_at (epoch_with rules (start k)).before.blocks o)) ∙ has.each o (subst (λ ls. Contains ls o) logged there);
@@ -84,15 +84,15 @@ slice-set-long (x ∷ xs) zero = refl
 slice-set-long (x ∷ xs) (suc k) = ap suc (slice-set-long xs k)
 
 -- an object more was logged, in a block whose flag was set
-pub flags-grown : (rules : Rules) (a b : MutatorSeat) (o block : ℕ) → (known b).start ≡ (known a).start → b.flags.items ≡ slice_set a.flags.items block true → logged_at rules b ≡ logged_at rules a ++ o ∷ []
-    → block ≡ block_at (epoch_of_seat rules a).before.blocks o → block < length a.flags.items → HasFlags rules a → HasFlags rules b
+pub flags-grown : (rules : Rules) (a b : MutatorSeat) (o block : ℕ) → (known b).start ≡ (known a).start → b.notes.flags.items ≡ slice_set a.notes.flags.items block true → logged_at rules b ≡ logged_at rules a ++ o ∷ []
+    → block ≡ block_at (epoch_of_seat rules a).before.blocks o → block < length a.notes.flags.items → HasFlags rules a → HasFlags rules b
 flags-grown rules a b o block start flags logged here few has = record {
-  len = ap (λ (xs : List Bool). length xs) flags ∙ slice-set-long a.flags.items block ∙ has.len ∙ (λ k. (epoch_with rules (sym start k)).before.blocks);
+  len = ap (λ (xs : List Bool). length xs) flags ∙ slice-set-long a.notes.flags.items block ∙ has.len ∙ (λ k. (epoch_with rules (sym start k)).before.blocks);
   each = λ q there. (λ k. slice_get (flags k) (block_at (epoch_with rules (start k)).before.blocks q))
       ∙ ⊎_elim
-      (λ (was : Contains (logged_at rules a) q). slice-set-keeps a.flags.items block (block_at (epoch_of_seat rules a).before.blocks q) (has.each q was))
+      (λ (was : Contains (logged_at rules a) q). slice-set-keeps a.notes.flags.items block (block_at (epoch_of_seat rules a).before.blocks q) (has.each q was))
       (λ (last : Contains (o ∷ []) q). let same : o ≡ q = ⊎_elim (λ (e : q ≡ o). sym e) (λ none. absurd (contains-none q none)) (contains-cases o [] q last) in
-      ap (slice_get (slice_set a.flags.items block true)) (ap (block_at (epoch_of_seat rules a).before.blocks) (sym same) ∙ sym here) ∙ slice-set-at a.flags.items block few)
+      ap (slice_get (slice_set a.notes.flags.items block true)) (ap (block_at (epoch_of_seat rules a).before.blocks) (sym same) ∙ sym here) ∙ slice-set-at a.notes.flags.items block few)
       (contains-either (logged_at rules a) (o ∷ []) q (subst (λ ls. Contains ls q) logged there));
 }
 

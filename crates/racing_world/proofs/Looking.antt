@@ -27,7 +27,7 @@ use Rattle.mutator_rule.proofs.Moments.{register-held}
 use Rattle.racing_world.specs.declared.racing.Racing.{Racing}
 use Rattle.racing_world.specs.Logged.{logged_by}
 use Rattle.racing_world.specs.RacingSeats.{view, local, holdings, address, epoch_of_racing, heap_seen, IsAged, IsMarked, OnlyLoads, Makes}
-use Rattle.racing_world.proofs.Entered.{step-makes, reply, kept, logged-same}
+use Rattle.racing_world.proofs.Entered.{step-makes, reply, kept, logged-same, rooms-same}
 
 -- unlog bits are only cleared
 log-unlogs : (p : Epoch) → EpochMayBegin p → (log : List LogEntry) (h : Machine) (i : IdealHeap) (set : ℕ → Type 0) → Holds p h i set → IsLog p h log
@@ -106,33 +106,34 @@ module _ {P : Type 0} (rules : Rules) (a b : Racing P) (x : Event) (n : ℕ) (st
       (ap (λ (h : HeapState). is_unlogged h (address a s)) (sym (heap-same rules a (view b) x n st told)) ∙ ap (is_unlogged (heap_seen rules b)) (sym (there s)) ∙ is)
 
 -- a step without an entry that leaves the registers is a load
-step-loads-with : {P : Type 0} (rules : Rules) (a b : Racing P) (x : Event) (n : ℕ) → entry_of x ≡ None → b.seat.ghost_name ≡ a.seat.ghost_name → b.row ≡ a.row → b.seat.now.flags ≡ a.seat.now.flags → logged_by (local a) x ≡ [] → MakesStep rules (view a) x n (view b)
+step-loads-with : {P : Type 0} (rules : Rules) (a b : Racing P) (x : Event) (n : ℕ) → entry_of x ≡ None → b.seat.ghost_name ≡ a.seat.ghost_name → b.row ≡ a.row → b.seat.now.notes ≡ a.seat.now.notes → logged_by (local a) x ≡ [] → MakesStep rules (view a) x n (view b)
     → KnowsLog (epoch_of_racing rules a) (view a) → b.seat.now.registers ≡ a.seat.now.registers → (0 < (local a).stop → (local b).stop ≡ (local a).stop)
     → (local_after (epoch_of_racing rules a) (local a) x n).raised ≡ (local a).raised → holdings (local_after (epoch_of_racing rules a) (local a) x n) ≡ holdings (local a) → OnlyLoads rules a b
-step-loads-with rules a b x n none seat row flags clears st told same stop raised holds = record {
-  makes = subst (λ (o : Option Command). Makes rules a (entries_with (local a).number o (reply rules a b x n seat row flags clears st)) b) none (step-makes rules a b x n seat row flags clears st stop);
-  logged = logged-same rules a b x n seat row flags clears st;
-  raised = kept rules a b x n seat row flags clears st (λ l. l.raised) raised;
-  kept = kept rules a b x n seat row flags clears st holdings holds;
+step-loads-with rules a b x n none seat row notes clears st told same stop raised holds = record {
+  makes = subst (λ (o : Option Command). Makes rules a (entries_with (local a).number o (reply rules a b x n seat row notes clears st)) b) none (step-makes rules a b x n seat row notes clears st stop);
+  logged = logged-same rules a b x n seat row notes clears st;
+  raised = kept rules a b x n seat row notes clears st (λ l. l.raised) raised;
+  kept = kept rules a b x n seat row notes clears st holdings holds;
+  rooms = rooms-same a.seat.now.notes b.seat.now.notes notes;
   registers = same;
   ages = step-ages rules a b x n st told same;
   marks = step-marks rules a b x n st told same;
 }
 
-pub step-loads : {P : Type 0} (rules : Rules) (a b : Racing P) (x : Event) (n : ℕ) → entry_of x ≡ None → b.seat.ghost_name ≡ a.seat.ghost_name → b.row ≡ a.row → b.seat.now.flags ≡ a.seat.now.flags → logged_by (local a) x ≡ [] → MakesStep rules (view a) x n (view b)
+pub step-loads : {P : Type 0} (rules : Rules) (a b : Racing P) (x : Event) (n : ℕ) → entry_of x ≡ None → b.seat.ghost_name ≡ a.seat.ghost_name → b.row ≡ a.row → b.seat.now.notes ≡ a.seat.now.notes → logged_by (local a) x ≡ [] → MakesStep rules (view a) x n (view b)
     → KnowsLog (epoch_of_racing rules a) (view a) → b.seat.now.registers ≡ a.seat.now.registers → (local_after (epoch_of_racing rules a) (local a) x n).stop ≡ (local a).stop
     → (local_after (epoch_of_racing rules a) (local a) x n).raised ≡ (local a).raised → holdings (local_after (epoch_of_racing rules a) (local a) x n) ≡ holdings (local a) → OnlyLoads rules a b
-step-loads rules a b x n none seat row flags clears st told same stop raised holds =
-    step-loads-with rules a b x n none seat row flags clears st told same (λ some. kept rules a b x n seat row flags clears st (λ l. l.stop) stop) raised holds
+step-loads rules a b x n none seat row notes clears st told same stop raised holds =
+    step-loads-with rules a b x n none seat row notes clears st told same (λ some. kept rules a b x n seat row notes clears st (λ l. l.stop) stop) raised holds
 
 -- a load of the stop word: a stop that was seen stands
-pub poll-loads : {P : Type 0} (rules : Rules) (a b : Racing P) (n : ℕ) → b.seat.ghost_name ≡ a.seat.ghost_name → b.row ≡ a.row → b.seat.now.flags ≡ a.seat.now.flags → MakesStep rules (view a) e.Poll n (view b)
+pub poll-loads : {P : Type 0} (rules : Rules) (a b : Racing P) (n : ℕ) → b.seat.ghost_name ≡ a.seat.ghost_name → b.row ≡ a.row → b.seat.now.notes ≡ a.seat.now.notes → MakesStep rules (view a) e.Poll n (view b)
     → KnowsLog (epoch_of_racing rules a) (view a) → b.seat.now.registers ≡ a.seat.now.registers → OnlyLoads rules a b
-poll-loads rules a b n seat row flags st told same =
+poll-loads rules a b n seat row notes st told same =
     let p : Epoch = epoch_of_racing rules a in
     let log : List LogEntry = (view a).seen ++ st.between in
     let m : ℕ = (local a).number in
-    step-loads-with rules a b e.Poll n refl seat row flags refl st told same
+    step-loads-with rules a b e.Poll n refl seat row notes refl st told same
     (λ some. ap (λ (l : Local). l.stop) st.local ∙ st.word
     ∙ (log-seen p st.told.ideal log (just-before rules a (view b) e.Poll n st told)).polled m (subst (λ (l : Local). 0 < l.stop) (sym st.before) some)
     ∙ ap (λ (l : Local). l.stop) st.before)

@@ -80,7 +80,7 @@ module _ {P : Type 0} (rules : Rules) (row : RacingRow P) (seats : List MutatorS
 
 -- the flag of a block in which a seat logged an object
 pub seat-flag : {P : Type 0} (rules : Rules) (row : RacingRow P) (seats : List MutatorSeat) → All (MayCall rules row) seats → (k : ℕ) (seat : MutatorSeat) → IsSeatAt seats k seat → (a : ℕ) → Contains (logged_at rules seat) a
-    → slice_get seat.flags.items (block_at (epoch_with rules (start_of row)).before.blocks a) ≡ Some true
+    → slice_get seat.notes.flags.items (block_at (epoch_with rules (start_of row)).before.blocks a) ≡ Some true
 seat-flag rules row seats calls k seat at a there =
     let may = all-at-place (MayCall rules row) seats k seat calls at in
-    (λ j. slice_get seat.flags.items (block_at (epoch_with rules (sym may.0.own.1 j)).before.blocks a)) ∙ may.1.each a there
+    (λ j. slice_get seat.notes.flags.items (block_at (epoch_with rules (sym may.0.own.1 j)).before.blocks a)) ∙ may.1.each a there

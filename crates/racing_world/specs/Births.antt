@@ -35,37 +35,6 @@ born l a d refs nums = record l {
   unpublished = nothing_unpublished;
 }
 
--- the mutator has no unused ticket
-abbrev pub HasNoTicket : MutatorSeat → Type 0
-HasNoTicket seat = (local_of seat).ticket ≡ None
-
--- what a mutator has after it drew a ticket
-abbrev pub with_drawn : Holdings → ℕ → Holdings
-with_drawn h ticket = record h { ticket = Some ticket }
-
--- what it has after it took a Free block for this class, with its ticket, and made an object
--- there, and after it made an object in a block that it has
-abbrev pub with_block : Holdings → ℕ → ℕ → Extent → Holdings
-with_block h block class x = record {
-  owned = (record { block = block; class = class }) ∷ h.owned;
-  granted = block ∷ h.granted;
-  made = x ∷ h.made;
-  ticket = None;
-}
-
+-- what a mutator has after it made an object in a block that it has
 abbrev pub with_object : Holdings → Extent → Holdings
 with_object h x = record h { made = x ∷ h.made }
-
--- The mutator took the block when it was Free, and has objects there. The last of them ends at the
--- offset `next`.
-pub record IsFront (p : Epoch) (h : Holdings) (block next : ℕ) : Type 0 where
-  pub there : block < p.before.blocks
-  pub free : HasKind p.before block kinds.Free
-  pub class : ℕ
-  pub mine : Contains h.owned (record { block = block; class = class })
-  pub last : Extent
-  pub made : Contains h.made last
-  pub here : block_at p.before.blocks last.address ≡ block
-  pub end : last.address + last.size ≡ block_start p.before.blocks block + next
-  pub before : (x : Extent) → Contains h.made x → block_at p.before.blocks x.address ≡ block
-      → x.address + x.size ≤ block_start p.before.blocks block + next

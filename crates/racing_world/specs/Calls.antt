@@ -41,7 +41,7 @@ pub record IsFresh (rules : Rules) (seat : MutatorSeat) : Type 0 where
   pub stop : stop_seen seat ≡ 0
   pub raised : has_raised seat ≡ false
   pub ticket : (local_of seat).ticket ≡ None
-  pub flags : (k : ℕ) → slice_get seat.flags.items k ≡ Some true → ⊥
+  pub flags : (k : ℕ) → slice_get seat.notes.flags.items k ≡ Some true → ⊥
 
 module _ {P : Type 0} where
   -- the epoch of the world: its plan's rules, and heap and mutators as it began

@@ -1,5 +1,5 @@
 -- The end of a world.
-use Rattle.std.specs.Prelude.{◌≡◌, ℕ, ◌+◌, ◌<◌, ◌≤◌, ◌⊎◌, true, IsTrue, Some, List, length, sum_by}
+use Rattle.std.specs.Prelude.{◌≡◌, ℕ, ◌+◌, ◌<◌, ◌≤◌, ◌⊎◌, true, IsTrue, Some, List, length, map, sum_by}
 use Rattle.std.specs.List.{Contains}
 use mathlib.Core.List.{IsPrefix}
 use mathlib.Core.Option.{some}
@@ -39,6 +39,8 @@ pub record EndsEpoch (rules : Rules) (p : Epoch) (seats : List MutatorSeat) (new
   pub history : List Entry
   pub longest : (k : ℕ) × (seat : MutatorSeat) × IsSeatAt seats k seat
       × (history_at rules seat ≡ history)
+  -- the mutators are those of the seats
+  pub mutators : ms ≡ map mutator_at seats
   -- each seat has seen a beginning of it, and its calls are the mutator's entries in it
   pub prefixes : (k : ℕ) (seat : MutatorSeat) → IsSeatAt seats k seat
       → IsPrefix (history_at rules seat) history

@@ -1,8 +1,12 @@
 pub mod Logged
+pub mod Rooms
 pub mod RacingSeats
 pub mod Barriers
 pub mod SeatLaws
 pub mod Births
+pub mod Looks
+pub mod Searches
 pub mod Calls
 pub mod Closing
 pub mod GivingBack
+pub mod Answers

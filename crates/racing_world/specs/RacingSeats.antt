@@ -25,6 +25,7 @@ use Rattle.mutator_rule.specs.declared.views.MutatorView.{MutatorView}
 use Rattle.mutator_rule.specs.Logs.{MakesEntries, KnowsLog}
 use Rattle.mutator_rule.specs.Seats.{known, local_of, epoch_of_seat, IsSeatOf}
 use Rattle.racing_world.specs.Logged.{logged_seen}
+pub use Rattle.racing_world.specs.Rooms.{Holdings, holdings, UsesItsBlocks, HasRooms, KeepsRooms}
 use Rattle.side_meta.specs.declared.word.TheConstants.{BITS_PER_WORD}
 use Rattle.racing_world.specs.declared.racing.Racing.{Racing}
 
@@ -39,9 +40,9 @@ logged_at rules seat = logged_seen rules (known seat)
 -- There is a flag for each block, and each object that the seat's mutator logged begins in a block
 -- whose flag is set.
 pub record HasFlags (rules : Rules) (seat : MutatorSeat) : Type 0 where
-  pub len : length seat.flags.items ≡ (epoch_of_seat rules seat).before.blocks
+  pub len : length seat.notes.flags.items ≡ (epoch_of_seat rules seat).before.blocks
   pub each : (a : ℕ) → Contains (logged_at rules seat) a
-      → slice_get seat.flags.items (block_at (epoch_of_seat rules seat).before.blocks a) ≡ Some true
+      → slice_get seat.notes.flags.items (block_at (epoch_of_seat rules seat).before.blocks a) ≡ Some true
 
 -- The seat is one of the row, and no call is under way: no object is unpublished, and no object is
 -- logged for a store to come.
@@ -51,28 +52,11 @@ pub record IsAtRest {P : Type 0} (rules : Rules) (row : RacingRow P) (seat : Mut
     pub none : (local_of seat).unpublished ≡ nothing_unpublished
     pub stored : (local_of seat).pending ≡ 0
 
--- What a mutator has for allocation: the blocks that it took, those of them that were Free, its
--- objects there, and its unused ticket.
-pub record Holdings : Type 0 where
-  pub owned : List OwnedBlock
-  pub granted : List ℕ
-  pub made : List Extent
-  pub ticket : Option ℕ
-
-abbrev pub holdings : Local → Holdings
-holdings l =
-    record { owned = l.owned; granted = l.granted; made = l.made; ticket = l.ticket }
-
--- each block that the mutator took when it was Free has an object that it allocated
-pub record UsesItsBlocks (p : Epoch) (h : Holdings) : Type 0 where
-  pub each : (o : OwnedBlock) → Contains h.owned o → HasKind p.before o.block kinds.Free
-      → (x : Extent) × Contains h.made x × (block_at p.before.blocks x.address ≡ o.block)
-
--- The seat is between two calls at the row, has flags of the blocks in which it logged objects, and
--- no Free block that it took is empty.
+-- The seat is between two calls at the row, has flags of the blocks in which it logged objects, no
+-- Free block that it took is empty, and what it notes of its rooms is right.
 abbrev pub MayCall : {P : Type 0} → Rules → RacingRow P → MutatorSeat → Type 0
 MayCall rules row seat = IsAtRest rules row seat × HasFlags rules seat
-    × UsesItsBlocks (epoch_of_seat rules seat) (holdings (local_of seat))
+    × UsesItsBlocks (epoch_of_seat rules seat) (holdings (local_of seat)) × HasRooms rules seat
 
 module _ {P : Type 0} where
   -- what the seat knows, the mutator's state, and its epoch
@@ -131,13 +115,14 @@ module _ {P : Type 0} where
     pub told : KnowsLog (epoch_of_racing rules a) (view a)
         → KnowsLog (epoch_of_racing rules b) (view b)
 
-  -- The same of an effect: it tells which objects were logged, and whether the mutator tried to
+  -- The same of an effect: it says which objects were logged, and whether the mutator tried to
   -- raise a stop. Nothing is allocated.
   pub record DoesEffect (rules : Rules) (a : Racing P) (e : Effect) (b : Racing P) : Type 0 where
     pub makes : Makes rules a (entries_in (local a).number e) b
     pub logged : logged_at rules b.seat.now ≡ logged_at rules a.seat.now ++ e.logged
     pub raised : (local b).raised ≡ ((local a).raised || e.raised)
     pub kept : holdings (local b) ≡ holdings (local a)
+    pub rooms : KeepsRooms a.seat.now.notes b.seat.now.notes
 
   -- From the one state to the other the mutator only loaded words. What is old or not logged after
   -- it was so before.
@@ -146,6 +131,7 @@ module _ {P : Type 0} where
     pub logged : logged_at rules b.seat.now ≡ logged_at rules a.seat.now
     pub raised : (local b).raised ≡ (local a).raised
     pub kept : holdings (local b) ≡ holdings (local a)
+    pub rooms : KeepsRooms a.seat.now.notes b.seat.now.notes
     pub registers : b.seat.now.registers ≡ a.seat.now.registers
     pub ages : (s : ℕ) → IsAged rules b s → IsAged rules a s
     pub marks : (s : ℕ) → IsMarked rules b s → IsMarked rules a s

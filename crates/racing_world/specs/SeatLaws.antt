@@ -9,6 +9,8 @@ use Rattle.mutator_calls.specs.Effects.{Effect, Answered, nothing, and_then}
 use Rattle.mutator_rule.specs.declared.views.MutatorView.{MutatorView}
 use Rattle.mutator_rule.specs.Logs.{MakesEntries, own_entries}
 use Rattle.racing_world.specs.declared.racing.Racing.{Racing}
+use Rattle.mutator_rule.specs.declared.seat_notes.SeatNotes.{SeatNotes}
+use Rattle.racing_world.specs.Rooms.{KeepsRooms}
 use Rattle.racing_world.specs.RacingSeats.{entries_in, view, local, logged_at, address, HasShape, Makes, DoesEffect, OnlyLoads, IsAged, IsMarked}
 
 pub or-false : (b : Bool) → (b || false) ≡ b
@@ -18,6 +20,9 @@ or-false false = refl
 or-or : (a b c : Bool) → ((a || b) || c) ≡ (a || (b || c))
 or-or true b c = refl
 or-or false b c = refl
+
+pub rooms-both : (x y z : SeatNotes) → KeepsRooms x y → KeepsRooms y z → KeepsRooms x z
+rooms-both x y z one two = two ∙ (λ k. record (one k) { flags = z.flags })
 
 pub entries-both : (rules : Rules) (a b c : MutatorView) (es fs : List Entry)
     → MakesEntries rules a es b → MakesEntries rules b fs c → MakesEntries rules a (es ++ fs) c
@@ -69,6 +74,7 @@ module _ {P : Type 0} (rules : Rules) where
     logged = refl;
     raised = refl;
     kept = refl;
+    rooms = refl;
     registers = refl;
     ages = λ s is. is;
     marks = λ s is. is;
@@ -81,6 +87,7 @@ module _ {P : Type 0} (rules : Rules) where
     logged = y.logged ∙ x.logged;
     raised = y.raised ∙ x.raised;
     kept = y.kept ∙ x.kept;
+    rooms = rooms-both a.seat.now.notes b.seat.now.notes c.seat.now.notes x.rooms y.rooms;
     registers = y.registers ∙ x.registers;
     ages = λ s is. x.ages s (y.ages s is);
     marks = λ s is. x.marks s (y.marks s is);
@@ -100,6 +107,7 @@ module _ {P : Type 0} (rules : Rules) where
         raised = y.raised ∙ ap (λ v. v || f.raised) x.raised ∙ or-or
             (local a).raised e.raised f.raised;
         kept = y.kept ∙ x.kept;
+        rooms = rooms-both a.seat.now.notes b.seat.now.notes c.seat.now.notes x.rooms y.rooms;
       }
 
   pub loads-do-nothing : (a b : Racing P) → OnlyLoads rules a b → DoesEffect rules a nothing b
@@ -109,6 +117,7 @@ module _ {P : Type 0} (rules : Rules) where
         (logged_at rules a.seat.now));
     raised = x.raised ∙ sym (or-false (local a).raised);
     kept = x.kept;
+    rooms = x.rooms;
   }
 
   pub loads-registers : (a b : Racing P) (s : ℕ) → OnlyLoads rules a b → address b s ≡ address a s

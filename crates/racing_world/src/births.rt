@@ -1,5 +1,5 @@
-//! The steps of a mutator that allocates: it draws a ticket, takes a Free block, stores the words of
-//! an object, and sets its start bit last.
+//! The steps of a mutator that allocates: it draws a ticket, takes a Free block, stores the words
+//! of an object, and sets its start bit last.
 
 ghost use Rattle.std.specs.Prelude.{◌≡◌, ◌≢◌, ◌+◌, ◌<◌, ◌≤◌, ◌^◌, ℕ, [], ◌∷◌, None, true, false};
 ghost use Rattle.std.specs.List.{Contains};
@@ -15,6 +15,7 @@ ghost use Rattle.mutator_core.specs.Machine.{birth_word, next_name, taken};
 ghost use Rattle.mutator_core.specs.Guards.{HasTicket, MayBegin, MayInitialize};
 ghost use Rattle.mutator_core.specs.Seen.{HasSeenUsed};
 ghost use Rattle.mutator_core.specs.declared.state.Extent.{Extent};
+ghost use Rattle.mutator_core.specs.declared.state.OwnedBlock.{OwnedBlock};
 ghost use Rattle.mutator_rule.specs.Seats.{IsSeatOf};
 ghost use Rattle.racing_world.specs.RacingSeats.{IsReady, Makes, local, holdings, epoch_of_racing};
 ghost use Rattle.racing_world.specs.Births.{with_ticket, writing, born};
@@ -53,6 +54,8 @@ impl<P: Plan> Racing<'_, '_, P> {
         ensures ready { IsReady P.rules self.new }
         ensures makes { Makes P.rules self.old [] self.new }
         ensures drawn { local self.new ≡ with_ticket (local self.old) result }
+        ensures fits { result < 2 ^ 32 }
+        ensures notes { self.new.seat.now.notes ≡ self.old.seat.now.notes }
     {
         self.row.add(self.seat, BUDGET_WORD, 1, &Event::DrawTicket)
     }
@@ -76,6 +79,12 @@ impl<P: Plan> Racing<'_, '_, P> {
             → holdings (local self.new) ≡ holdings (local self.old) }
         ensures used { result ≡ false → HasSeenUsed (local self.new) block }
         ensures raised { (local self.new).raised ≡ (local self.old).raised }
+        ensures births { (local self.new).births ≡ (local self.old).births }
+        ensures still { (k : ℕ) → HasSeenUsed (local self.old) k
+            → HasSeenUsed (local self.new) k }
+        ensures nobody { (o : OwnedBlock) → result ≡ true → Contains (local self.old).owned o
+            → o.block ≢ block }
+        ensures notes { self.new.seat.now.notes ≡ self.old.seat.now.notes }
     {
         let at = self.row.layout().block_at(block) as usize;
         let class = P::class_for(size);
@@ -108,6 +117,7 @@ impl<P: Plan> Racing<'_, '_, P> {
         ensures makes { Makes P.rules self.old [] self.new }
         ensures wrote { local self.new
             ≡ writing (local self.old) address shape.now.refs shape.now.nums (offset + 1) }
+        ensures notes { self.new.seat.now.notes ≡ self.old.seat.now.notes }
     {
         let value = initial_word(name, shape, offset);
         let event = Event::Initialize {
@@ -130,6 +140,7 @@ impl<P: Plan> Racing<'_, '_, P> {
         ensures makes { Makes P.rules self.old [] self.new }
         ensures wrote { local self.new ≡ writing (local self.old) address shape.now.refs
             shape.now.nums (size_of shape.now.refs shape.now.nums) }
+        ensures notes { self.new.seat.now.notes ≡ self.old.seat.now.notes }
     {
         let size = size_words(shape);
         self.store_word(address, shape, name, 0);
@@ -151,6 +162,7 @@ impl<P: Plan> Racing<'_, '_, P> {
             (command.New d shape.now.refs shape.now.nums) (reply.New result) ∷ []) self.new }
         ensures born { local self.new
             ≡ born (local self.old) address d shape.now.refs shape.now.nums }
+        ensures notes { self.new.seat.now.notes ≡ self.old.seat.now.notes }
     {
         let name = Name {
             mutator: self.seat.number(),

@@ -5,9 +5,12 @@ mod births;
 mod calls;
 mod giving_back;
 mod laws;
+mod looks;
 mod new_objects;
 mod plan_rules;
 mod racing;
+mod rooms;
+mod search;
 mod world;
 
 pub use laws::{seats_see_one_history, stores_follow_the_barrier};

@@ -57,21 +57,23 @@ fn add_flags(flags: &mut Vec<bool>, more: &Vec<bool>)
 
 /// Sets each flag that a seat has set.
 fn join_flags(flags: &mut Vec<bool>, seats: &Vec<MutatorSeat>)
-    requires { All (λ seat. length flags.old.items ≡ length seat.flags.items) seats.now.items }
+    requires { All (λ seat. length flags.old.items ≡ length seat.notes.flags.items)
+        seats.now.items }
     ensures len { length flags.new.items ≡ length flags.old.items }
     ensures kept { (k : ℕ) → slice_get flags.old.items k ≡ Some true
         → slice_get flags.new.items k ≡ Some true }
     ensures joined { (j k : ℕ) (seat : MutatorSeat) → IsSeatAt seats.now.items j seat
-        → slice_get seat.flags.items k ≡ Some true → slice_get flags.new.items k ≡ Some true }
+        → slice_get seat.notes.flags.items k ≡ Some true → slice_get flags.new.items k ≡ Some true }
 {
     for j in 0..seats.len() {
-        add_flags(flags, seats[j].flags());
+        add_flags(flags, &seats[j].notes().flags);
     }
 }
 
 impl<P: Plan> World<P> {
     /// Begins an epoch: no stop is raised, no ticket is drawn, and no block has an owner. Each
-    /// mutator gets a seat, in the order of the list. Copies no word of the heap.
+    /// mutator gets a seat, in the order of the list. Copies no word of the heap, and reads the
+    /// block words, for the allowance.
     ///
     /// Fails if memory runs out. The heap and the mutators are lost then.
     pub fn begin(
@@ -101,6 +103,7 @@ impl<P: Plan> World<P> {
             → FlagsCover P.rules (heap_state heap) flags
             → FlagsCover P.rules (epoch_of_world P.rules r.0).before flags) }
     {
+        let allowance = P::allowance(&heap);
         let mut row = heap.into_row();
         row.words.set(STOP_WORD, 0);
         row.words.set(BUDGET_WORD, 0);
@@ -110,13 +113,15 @@ impl<P: Plan> World<P> {
             number,
             base,
         } = row;
-        let (row, seats) = RacingRow::begin(alloc, words, layout, number, base, &mutators)?;
+        let (row, seats) = RacingRow::begin(
+            alloc, words, layout, number, base, &mutators, allowance,
+        )?;
         Ok((World { row }, seats))
     }
 
-    /// Ends the epoch, given the seats of all mutators in the order of `begin`: each block loses its
-    /// owner, and the line bits of an Immix block that had one are written anew. Copies no word of
-    /// the heap.
+    /// Ends the epoch, given the seats of all mutators in the order of `begin`: each block loses
+    /// its owner, and the line bits of an Immix block that had one are written anew. Copies no word
+    /// of the heap.
     ///
     /// Fails if memory runs out. The heap is lost then.
     pub fn close(

@@ -1,8 +1,7 @@
 use Rattle.std.specs.Prelude.{◌≡◌}
 use Rattle.racing_world.specs.RacingSeats.{MayCall}
-use Rattle.racing_world.specs.Births.{HasNoTicket}
 use Rattle.racing_world.specs.Calls.{number_of}
 use Rattle.racing_tests.proofs.births.fill.Given as goal
 
 abbrev pub invariant-loop : goal.invariant-loop
-invariant-loop g l = MayCall g.P.Plan.rules l.world.row l.seat × (number_of l.seat ≡ number_of l.fn.seat) × HasNoTicket l.seat
+invariant-loop g l = MayCall g.P.Plan.rules l.world.row l.seat × (number_of l.seat ≡ number_of l.fn.seat)

@@ -8,5 +8,5 @@ abbrev pub invariant-loop-j : goal.invariant-loop-j
 invariant-loop-j l = record {
   len : length l.flags.items ≡ length l.initial.flags.items;
   kept : (k : ℕ) → slice_get l.initial.flags.items k ≡ Some true → slice_get l.flags.items k ≡ Some true;
-  joined : (j k : ℕ) (seat : MutatorSeat) → j < l.j → IsSeatAt l.seats.items j seat → slice_get seat.flags.items k ≡ Some true → slice_get l.flags.items k ≡ Some true;
+  joined : (j k : ℕ) (seat : MutatorSeat) → j < l.j → IsSeatAt l.seats.items j seat → slice_get seat.notes.flags.items k ≡ Some true → slice_get l.flags.items k ≡ Some true;
 }

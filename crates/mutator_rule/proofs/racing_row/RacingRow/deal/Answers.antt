@@ -1,14 +1,14 @@
-use Rattle.std.proofs.Common.{◌≡◌, ℕ, ◌<◌, List, [], ◌∷◌, ◌++◌, length, map, take, drop, ap, sym, ◌∙◌, subst, rules, arith, add-one}
+use Rattle.std.proofs.Common.{◌≡◌, ◌<◌, List, [], ◌∷◌, ◌++◌, length, map, take, drop, ap, sym, ◌∙◌, subst, rules, arith, add-one}
 use Rattle.std.specs.List.{All}
-use Rattle.std.specs.Prelude.{false, replicate}
 use Rattle.std.proofs.lemmas.List.{map-append}
 use Rattle.std.proofs.lemmas.List.Elements.{All-push}
 use Rattle.atomic_table.specs.Table.{Me}
 use Rattle.mutator_rule.specs.declared.views.MutatorView.{MutatorView}
 use Rattle.mutator_rule.specs.declared.seat.MutatorSeat.{MutatorSeat}
-use Rattle.mutator_rule.specs.Views.{first_of, first_view, first_views_of, epoch_with}
+use Rattle.mutator_rule.specs.Views.{first_of, first_view, epoch_with}
 use Rattle.mutator_rule.specs.Logs.{KnowsLog}
-use Rattle.mutator_rule.specs.Seats.{known, AreSeatsOf, IsSeatOf, HasNoFlagSet, start_of}
+use Rattle.mutator_rule.specs.Seats.{known, AreSeatsOf, IsSeatOf, HasFirstNotes, start_of}
+use Rattle.mutator_rule.specs.FirstNotes.{AreFirstNotes}
 use Rattle.mutator_rule.proofs.SeatsDealt.{deals}
 use Rattle.mutator_rule.proofs.Loops.{one_view, drop_more, take_more_view, first_fresh, first_length, get-or-elem}
 use Rattle.mutator_rule.proofs.racing_row.RacingRow.deal.Goals as goal
@@ -50,7 +50,8 @@ loop-i-preserved g c =
     record {
       table = search rules;
       left = ap (λ (m : Me (Unit {0}) (List MutatorView)). m.0) c.split-seat.ensures.2 ∙ ap (λ (l : List MutatorView). drop 1 l) c.loop-i.invariant.left ∙ drop_more ps c.loop-i.i ∙ ap (λ k. drop k ps) (sym (add-one c.loop-i.i));
-      flags = subst (λ (l : List MutatorSeat). All (HasNoFlagSet c.args.self.now) l) (sym c.in_ok-push.ensures.items) (All-push (HasNoFlagSet c.args.self.now) c.loop-i.seats.items _ c.loop-i.invariant.flags (c.in_ok-flags.ensures ∙ ap (λ b. replicate b false) c.blocks-in-loop-i.ensures));
+      notes = subst (λ (l : List MutatorSeat). All (HasFirstNotes c.args.self.now c.args.allowance) l) (sym c.in_ok-push.ensures.items)
+          (All-push (HasFirstNotes c.args.self.now c.args.allowance) c.loop-i.seats.items _ c.loop-i.invariant.notes (subst (λ b. AreFirstNotes b c.args.allowance c.in_ok-notes.notes) c.blocks-in-loop-i.ensures c.in_ok-notes.ensures));
       own = subst (λ (l : List MutatorSeat). AreSeatsOf g.P.EpochRules.rules c.args.self.now l) (sym c.in_ok-push.ensures.items) (All-push (IsSeatOf g.P.EpochRules.rules c.args.self.now) c.loop-i.seats.items _ c.loop-i.invariant.own (table, ap (λ (q : MutatorView). q.start) part, subst (λ (q : MutatorView). KnowsLog (epoch_with g.P.EpochRules.rules q.start) q) (sym part) (c.requires.told c.loop-i.i c.index.result.now (get-or-elem c.args.mutators.now.items c.loop-i.i c.index.result.now within c.index.ensures))));
       done = ap (λ (l : List MutatorSeat). map known l) c.in_ok-push.ensures.items ∙ map-append known c.loop-i.seats.items _
           ∙ ap (λ (l : List MutatorView). l ++ first_of c.split-seat.result.me.0 ∷ []) c.loop-i.invariant.done

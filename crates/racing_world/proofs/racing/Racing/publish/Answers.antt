@@ -26,4 +26,4 @@ returns-clause-makes g c =
     ap next_name c.store_words.ensures.wrote ∙ (λ k. record { mutator = (seat.numbered ∙ sym c.number.ensures) k; birth = (seat.born ∙ sym c.births.ensures) k + 1 }) in
     let number : (local c.store_words.new.self).number ≡ (local c.args.self.now).number = ap (λ (l : Local). l.number) c.store_words.ensures.wrote in
     then-enters g.P.Plan.rules c.args.self.now c.store_words.new.self _ _ _ _ _ _ number (ap (λ (n : Name). reply.New n) named) c.store_words.ensures.makes
-    (step-makes g.P.Plan.rules _ _ _ _ (search rules) (search rules) c.publish.ensures.flags refl c.publish.ensures.step.1 (λ some. ap (λ (l : Local). l.stop) c.publish.ensures.step.1.local))
+    (step-makes g.P.Plan.rules _ _ _ _ (search rules) (search rules) c.publish.ensures.notes refl c.publish.ensures.step.1 (λ some. ap (λ (l : Local). l.stop) c.publish.ensures.step.1.local))

@@ -10,7 +10,7 @@ use Rattle.mutator_core.specs.Machine.{taken}
 use Rattle.racing_world.specs.RacingSeats.{epoch_of_racing, view, local}
 use Rattle.std.proofs.lemmas.Bool.{eqb-false}
 use Rattle.racing_world.proofs.Entered.{step-makes}
-use Rattle.racing_world.proofs.Allocated.{owner-few, free-before, none-made, has-taken, take-keeps, seen-used, holds-same}
+use Rattle.racing_world.proofs.Allocated.{owner-few, free-before, none-made, has-taken, take-keeps, seen-used, holds-same, none-owned, still-seen}
 use Rattle.racing_world.proofs.racing.Racing.take_free.Goals as goal
 
 pub encode-word-requires : goal.encode-word-requires
@@ -37,7 +37,7 @@ exchange-found-requires-clause-stored g c = ap {B = ℕ → ℕ} (λ w n. either
     ((λ k. code_of (record { kind = sym c.alloc_kind.ensures k; class = c.class_for-class.result; owner = (c.args.self.now.seat.now.numbered ∙ sym c.number.ensures) k })) ∙ sym c.encode-word.ensures)
 
 pub returns-clause-makes : goal.returns-clause-makes
-returns-clause-makes g c = step-makes g.P.Plan.rules _ _ _ _ (search rules) (search rules) c.exchange-found.ensures.flags refl c.exchange-found.ensures.step
+returns-clause-makes g c = step-makes g.P.Plan.rules _ _ _ _ (search rules) (search rules) c.exchange-found.ensures.notes refl c.exchange-found.ensures.step
     (λ some. take-keeps g.P.Plan.rules c.args.self.now _ c.args.block c.class_for-class.result c.exchange-found.result c.requires.block c.requires.ready.own.2 c.exchange-found.ensures.step (λ (l : Local). l.stop) refl refl)
 
 pub returns-clause-ready : goal.returns-clause-ready
@@ -65,3 +65,12 @@ returns-clause-used g c is = seen-used g.P.Plan.rules c.args.self.now _ c.args.b
 
 pub returns-clause-raised : goal.returns-clause-raised
 returns-clause-raised g c = take-keeps g.P.Plan.rules c.args.self.now _ c.args.block c.class_for-class.result c.exchange-found.result c.requires.block c.requires.ready.own.2 c.exchange-found.ensures.step (λ (l : Local). l.raised) refl refl
+
+pub returns-clause-births : goal.returns-clause-births
+returns-clause-births g c = take-keeps g.P.Plan.rules c.args.self.now _ c.args.block c.class_for-class.result c.exchange-found.result c.requires.block c.requires.ready.own.2 c.exchange-found.ensures.step (λ (l : Local). l.births) refl refl
+
+pub returns-clause-still : goal.returns-clause-still
+returns-clause-still g c k saw = still-seen g.P.Plan.rules c.args.self.now _ c.args.block c.class_for-class.result c.exchange-found.result c.requires.block c.requires.ready.own.2 c.exchange-found.ensures.step k saw
+
+pub returns-clause-nobody : goal.returns-clause-nobody
+returns-clause-nobody g c o is among = none-owned g.P.Plan.rules c.args.self.now _ c.args.block c.class_for-class.result c.exchange-found.result c.requires.block c.requires.ready.own.2 c.exchange-found.ensures.step (eqb-true c.exchange-found.result 0 is) o among

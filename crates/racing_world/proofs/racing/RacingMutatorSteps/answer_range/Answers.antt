@@ -3,4 +3,4 @@ use Rattle.racing_world.proofs.Entered.{range-does}
 use Rattle.racing_world.proofs.racing.RacingMutatorSteps.answer_range.Goals as goal
 
 pub returns-clause-goes : goal.returns-clause-goes
-returns-clause-goes g c = range-does g.P.Plan.rules _ _ _ _ (search rules) (search rules) c.look.ensures.flags c.look.ensures.step c.requires.shape.some
+returns-clause-goes g c = range-does g.P.Plan.rules _ _ _ _ (search rules) (search rules) c.look.ensures.notes c.look.ensures.step c.requires.shape.some

@@ -8,6 +8,6 @@ use Rattle.racing_world.proofs.Pinned.{unpin-reply}
 use Rattle.racing_world.proofs.racing.RacingMutatorSteps.clear_pin.Goals as goal
 
 pub returns-clause-goes : goal.returns-clause-goes
-returns-clause-goes g c = step-does g.P.Plan.rules _ _ _ _ (search rules) (search rules) c.clear-word.ensures.flags refl c.clear-word.ensures.step _
+returns-clause-goes g c = step-does g.P.Plan.rules _ _ _ _ (search rules) (search rules) c.clear-word.ensures.notes refl c.clear-word.ensures.step _
     (ap (λ (y : Reply). entry (local c.args.self.now).number (command.Unpin c.args.s) y ∷ []) (unpin-reply c.clear-word.result _ _ _ c.pin_bit-at.ensures.place (search rules)))
     refl refl refl refl refl

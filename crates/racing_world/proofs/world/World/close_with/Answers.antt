@@ -13,7 +13,7 @@ use Rattle.racing_world.proofs.WorldEnds.{seat-flag}
 use Rattle.racing_world.proofs.world.World.close_with.Goals as goal
 
 pub join_flags-requires : goal.join_flags-requires
-join_flags-requires g c = All-weaker (MayCall g.P.Plan.rules c.args.self.row) (λ (seat : MutatorSeat). length c.args.flags.items ≡ length seat.flags.items)
+join_flags-requires g c = All-weaker (MayCall g.P.Plan.rules c.args.self.row) (λ (seat : MutatorSeat). length c.args.flags.items ≡ length seat.notes.flags.items)
     (λ (seat : MutatorSeat) may. c.requires.flags.len ∙ (λ k. (epoch_with g.P.Plan.rules (sym may.0.own.1 k)).before.blocks) ∙ sym may.1.len) c.args.seats.items c.requires.calls
 
 pub returns-clause-flags : goal.returns-clause-flags

@@ -11,4 +11,4 @@ returns g c =
     let name = does.makes.seat in
     let same : c.get.new.seat.seat.now ≡ c.seat-1.given.0 = search rules in
     subst (λ (seat : MutatorSeat). EntersCommand g.P.Plan.rules c.args.self.now c.args.seat.now (command.Get c.args.d c.args.s c.args.i) c.get.result seat) same
-    (enters-command g.P.Plan.rules c.args.self.now _ _ refl c.get.ensures.ready c.requires.call.1 c.requires.call.2 _ _ _ refl refl does)
+    (enters-command g.P.Plan.rules c.args.self.now _ _ refl c.get.ensures.ready c.requires.call.1 c.requires.call.2 c.requires.call.3 _ _ _ refl refl does)

@@ -11,4 +11,4 @@ returns g c =
     let name = does.makes.seat in
     let same : c.load.new.seat.seat.now ≡ c.seat-1.given.0 = search rules in
     subst (λ (seat : MutatorSeat). EntersCommand g.P.Plan.rules c.args.self.now c.args.seat.now (command.Load c.args.d c.args.g) c.load.result seat) same
-    (enters-command g.P.Plan.rules c.args.self.now _ _ refl c.load.ensures.ready c.requires.call.1 c.requires.call.2 _ _ _ refl refl does)
+    (enters-command g.P.Plan.rules c.args.self.now _ _ refl c.load.ensures.ready c.requires.call.1 c.requires.call.2 c.requires.call.3 _ _ _ refl refl does)

@@ -12,7 +12,7 @@ returns-clause-nothing g c =
     let name = c.poll.ensures.looks.makes.seat in
     let same : c.poll.new.seat.seat.now ≡ c.seat-1.given.0 = search rules in
     subst (λ (seat : MutatorSeat). EntersNothing g.P.Plan.rules c.args.self.now c.args.seat.now seat) same
-    (enters-nothing g.P.Plan.rules c.args.self.now _ _ refl c.poll.ensures.ready c.requires.1 c.requires.2 c.poll.ensures.looks.makes c.poll.ensures.looks.kept)
+    (enters-nothing g.P.Plan.rules c.args.self.now _ _ refl c.poll.ensures.ready c.requires.1 c.requires.2 c.requires.3 c.poll.ensures.looks.makes c.poll.ensures.looks.kept c.poll.ensures.looks.rooms)
 
 pub returns-clause-kept : goal.returns-clause-kept
 returns-clause-kept g c =

@@ -13,7 +13,7 @@ returns-clause-enters g c =
     let name = does.makes.seat in
     let same : c.put.new.seat.seat.now ≡ c.seat-1.given.0 = search rules in
     subst (λ (seat : MutatorSeat). EntersCommand g.P.Plan.rules c.args.self.now c.args.seat.now (command.Put c.args.s c.args.i c.args.v) c.put.result seat) same
-    (enters-command g.P.Plan.rules c.args.self.now _ _ refl c.put.ensures.ready c.requires.call.1 c.requires.call.2 _ _ _ refl refl does)
+    (enters-command g.P.Plan.rules c.args.self.now _ _ refl c.put.ensures.ready c.requires.call.1 c.requires.call.2 c.requires.call.3 _ _ _ refl refl does)
 
 pub returns-clause-logs : goal.returns-clause-logs
 returns-clause-logs g c =

@@ -12,7 +12,7 @@ returns-clause-nothing g c =
     let name = c.raise.ensures.goes.makes.seat in
     let same : c.raise.new.seat.seat.now ≡ c.seat-1.given.0 = search rules in
     subst (λ (seat : MutatorSeat). EntersNothing g.P.Plan.rules c.args.self.now c.args.seat.now seat) same
-    (enters-nothing g.P.Plan.rules c.args.self.now _ _ refl c.raise.ensures.ready c.requires.1 c.requires.2 c.raise.ensures.goes.makes c.raise.ensures.goes.kept)
+    (enters-nothing g.P.Plan.rules c.args.self.now _ _ refl c.raise.ensures.ready c.requires.1 c.requires.2 c.requires.3 c.raise.ensures.goes.makes c.raise.ensures.goes.kept c.raise.ensures.goes.rooms)
 
 pub returns-clause-raised : goal.returns-clause-raised
 returns-clause-raised g c =

@@ -1,0 +1,6 @@
+use Rattle.std.proofs.Common.{refl, rules}
+use Rattle.racing_world.proofs.Looking.{step-loads}
+use Rattle.racing_world.proofs.racing.Racing.look_block.Goals as goal
+
+pub returns-clause-looks : goal.returns-clause-looks
+returns-clause-looks g c = step-loads g.P.Plan.rules _ _ _ _ refl (search rules) (search rules) c.look.ensures.notes refl c.look.ensures.step c.requires.ready.own.2 c.look.ensures.registers refl refl refl

@@ -1,0 +1,204 @@
+//! The regions of a mutator: allocation in one, and the taking of blocks.
+//!
+//! What a mutator notes of its rooms is for itself. Other mutators see block words alone, and an
+//! object when its start bit is set.
+
+ghost use Rattle.std.specs.Prelude.{◌≡◌, ◌≢◌, ◌+◌, ◌<◌, ◌≤◌, ◌^◌, ℕ, [], ◌∷◌, Some, None, true, false, IfSome, IfNone, slice_get, if◌then◌else◌};
+ghost use Rattle.std.specs.List.{Contains};
+ghost use Rattle.heap_layout.specs.Zones.{block_at, block_start};
+ghost use Rattle.heap_layout.specs.declared.region.Region.{Region};
+ghost use Rattle.heap_layout.specs.declared.block.Kind.TheVariants as kinds;
+ghost use Rattle.ideal_heap.specs.Runs.{entry};
+ghost use Rattle.ideal_heap.specs.declared.command.Command.TheVariants as command;
+ghost use Rattle.ideal_heap.specs.declared.reply.Reply.TheVariants as reply;
+ghost use Rattle.object_model.specs.Objects.{HasKind, size_of};
+ghost use Rattle.sessions.specs.Fitting.{class_for};
+ghost use Rattle.block_regions.specs.declared.block_notes.BlockNote.TheVariants.{Owned};
+ghost use Rattle.mutator_core.specs.Machine.{next_name};
+ghost use Rattle.mutator_core.specs.Guards.{HasTicket};
+ghost use Rattle.mutator_core.specs.Seen.{HasSeenUsed};
+ghost use Rattle.mutator_core.specs.declared.state.Extent.{Extent};
+ghost use Rattle.racing_world.specs.RacingSeats.{IsReady, Makes, local, holdings, epoch_of_racing};
+ghost use Rattle.mutator_rule.specs.Seats.{KeepsKnown};
+ghost use Rattle.racing_world.specs.Rooms.{IsOwnRegion, HasRooms, UsesItsBlocks, UsesOthers};
+ghost use Rattle.racing_world.specs.Searches.{HasFound, NotesOwn};
+ghost use Rattle.racing_world.specs.Births.{with_object};
+
+use crate::racing::Racing;
+use block_regions::BlockNote;
+use heap_layout::{BLOCK_WORDS, CLASSES, Kind, Region};
+use ideal_heap::{MAX_NUMS, MAX_REFS, Name, REGISTERS};
+use local_allocators::block_for;
+use object_model::{MAX_MEDIUM_WORDS, Shape, size_words};
+use plan_api::Plan;
+
+impl<P: Plan> Racing<'_, '_, P> {
+    /// What an object of `size` words at the start of a region of the mutator leaves of it.
+    fn rest_of(&self, region: &Region, size: u32) -> Region
+        requires room { region.now.next + size ≤ region.now.end }
+        requires end { region.now.end ≤ BLOCK_WORDS }
+        ensures plain { P.rules.fill ≢ kinds.Cells
+            → result ≡ (record { next = region.now.next + size; end = region.now.end }) }
+        ensures cells { P.rules.fill ≡ kinds.Cells
+            → result ≡ (record { next = BLOCK_WORDS; end = BLOCK_WORDS }) }
+    {
+        if P::alloc_kind() == Kind::Cells {
+            return Region {
+                next: BLOCK_WORDS,
+                end: BLOCK_WORDS,
+            };
+        }
+        Region {
+            next: region.next + size,
+            end: region.end,
+        }
+    }
+
+    /// Allocates an object at the start of a region of the mutator, which is that of the block.
+    /// Register `d` holds the object. Its name is the mutator's next.
+    fn allocate_in(
+        &mut self,
+        block: u32,
+        owner: u32,
+        region: &Region,
+        d: u32,
+        shape: &Shape,
+    ) -> Name
+        requires ready { IsReady P.rules self.old }
+        requires rooms { HasRooms P.rules self.old.seat.now }
+        requires note { slice_get self.old.seat.now.notes.blocks.items block
+            ≡ Some (Owned owner region.now) }
+        requires own { IsOwnRegion (epoch_of_racing P.rules self.old) (holdings (local self.old))
+            block (class_for P.rules.fill (size_of shape.now.refs shape.now.nums)) region.now }
+        requires room { region.now.next + size_of shape.now.refs shape.now.nums
+            ≤ region.now.end }
+        requires register { d < REGISTERS }
+        requires refs { shape.now.refs ≤ MAX_REFS }
+        requires nums { shape.now.nums ≤ MAX_NUMS }
+        requires small { size_of shape.now.refs shape.now.nums ≤ MAX_MEDIUM_WORDS }
+        requires births { (local self.old).births + 1 < 2 ^ 32 }
+        ensures ready { IsReady P.rules self.new }
+        ensures rooms { HasRooms P.rules self.new.seat.now }
+        ensures name { result ≡ next_name (local self.old) }
+        ensures makes { Makes P.rules self.old (entry (local self.old).number
+            (command.New d shape.now.refs shape.now.nums) (reply.New result) ∷ []) self.new }
+        ensures holds { holdings (local self.new)
+            ≡ with_object (holdings (local self.old)) (record {
+              address = block_start (epoch_of_racing P.rules self.old).before.blocks block
+                  + region.now.next;
+              size = size_of shape.now.refs shape.now.nums;
+            }) }
+        ensures uses { UsesOthers (epoch_of_racing P.rules self.old) (holdings (local self.old))
+            block → UsesItsBlocks (epoch_of_racing P.rules self.old) (holdings (local self.new)) }
+        ensures births { (local self.new).births ≡ (local self.old).births + 1 }
+        ensures raised { (local self.new).raised ≡ (local self.old).raised }
+    {
+        let address = self.row.layout().address(block, region.next);
+        let name = self.publish(d, address, shape);
+        let rest = self.rest_of(region, size_words(shape));
+        self.seat.note_block(
+            block,
+            BlockNote::Owned {
+                owner,
+                region: rest,
+            },
+        );
+        name
+    }
+
+    /// Allocates an object in the region for its size, if the region has room. Else nothing
+    /// changes.
+    pub(crate) fn allocate_here(&mut self, d: u32, shape: &Shape) -> Option<Name>
+        requires ready { IsReady P.rules self.old }
+        requires rooms { HasRooms P.rules self.old.seat.now }
+        requires register { d < REGISTERS }
+        requires refs { shape.now.refs ≤ MAX_REFS }
+        requires nums { shape.now.nums ≤ MAX_NUMS }
+        requires small { size_of shape.now.refs shape.now.nums ≤ MAX_MEDIUM_WORDS }
+        requires births { (local self.old).births + 1 < 2 ^ 32 }
+        ensures ready { IsReady P.rules self.new }
+        ensures rooms { HasRooms P.rules self.new.seat.now }
+        ensures name { IfSome result (λ name. name ≡ next_name (local self.old)) }
+        ensures makes { IfSome result (λ name. Makes P.rules self.old (entry
+            (local self.old).number (command.New d shape.now.refs shape.now.nums)
+            (reply.New name) ∷ []) self.new) }
+        ensures uses { IfSome result (λ name.
+            UsesItsBlocks (epoch_of_racing P.rules self.old) (holdings (local self.old))
+            → UsesItsBlocks (epoch_of_racing P.rules self.old) (holdings (local self.new))) }
+        ensures births { IfSome result (λ name.
+            (local self.new).births ≡ (local self.old).births + 1) }
+        ensures raised { IfSome result (λ name.
+            (local self.new).raised ≡ (local self.old).raised) }
+        ensures same { IfNone result (self.new ≡ self.old) }
+    {
+        let size = size_words(shape);
+        let notes = self.seat.notes();
+        let block = block_for(&notes.blocks, &notes.local, P::alloc_kind(), size)?;
+        let BlockNote::Owned { owner, region } = notes.blocks[block as usize] else {
+            return None;
+        };
+        let left = region.end - region.next;
+        if left < size {
+            return None;
+        }
+        Some(self.allocate_in(block, owner, &region, d, shape))
+    }
+
+    /// Allocates an object in the region of a block, which was found to have room.
+    pub(crate) fn allocate_found(&mut self, block: u32, d: u32, shape: &Shape) -> Name
+        requires ready { IsReady P.rules self.old }
+        requires rooms { HasRooms P.rules self.old.seat.now }
+        requires found { HasFound P.rules self.old
+            (class_for P.rules.fill (size_of shape.now.refs shape.now.nums)) block
+            (size_of shape.now.refs shape.now.nums) }
+        requires register { d < REGISTERS }
+        requires refs { shape.now.refs ≤ MAX_REFS }
+        requires nums { shape.now.nums ≤ MAX_NUMS }
+        requires small { size_of shape.now.refs shape.now.nums ≤ MAX_MEDIUM_WORDS }
+        requires births { (local self.old).births + 1 < 2 ^ 32 }
+        ensures ready { IsReady P.rules self.new }
+        ensures rooms { HasRooms P.rules self.new.seat.now }
+        ensures name { result ≡ next_name (local self.old) }
+        ensures makes { Makes P.rules self.old (entry (local self.old).number
+            (command.New d shape.now.refs shape.now.nums) (reply.New result) ∷ []) self.new }
+        ensures uses { UsesOthers (epoch_of_racing P.rules self.old) (holdings (local self.old))
+            block → UsesItsBlocks (epoch_of_racing P.rules self.old) (holdings (local self.new)) }
+        ensures births { (local self.new).births ≡ (local self.old).births + 1 }
+        ensures raised { (local self.new).raised ≡ (local self.old).raised }
+    {
+        let BlockNote::Owned { owner, region } = self.seat.notes().blocks[block as usize] else {
+            unreachable!()
+        };
+        self.allocate_in(block, owner, &region, d, shape)
+    }
+
+    /// Notes that the mutator allocates objects of the class in the block, which it took, from now
+    /// on; or, if `over`, that its overflow region is there. It has this ticket then.
+    pub(crate) fn note_own(
+        &mut self,
+        over: bool,
+        block: u32,
+        class: u32,
+        region: Region,
+        ticket: Option<u32>,
+    )
+        requires class { class < CLASSES }
+        ensures known { KeepsKnown self.old.seat.now self.new.seat.now }
+        ensures row { self.new.row ≡ self.old.row }
+        ensures seat { self.new.seat.ghost_name ≡ self.old.seat.ghost_name }
+        ensures notes { NotesOwn self.old.seat.now.notes self.new.seat.now.notes over block class
+            (Owned self.old.seat.now.number region) ticket }
+    {
+        let mut local = self.seat.notes().local;
+        local.ticket = ticket;
+        if over {
+            local.over = Some(block);
+        } else {
+            local.blocks[class as usize] = Some(block);
+        }
+        let owner = self.seat.number();
+        self.seat
+            .note_block(block, BlockNote::Owned { owner, region });
+        self.seat.note_local(local);
+    }
+}
